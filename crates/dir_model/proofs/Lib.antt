@@ -1,0 +1,10 @@
+pub mod Texts
+pub mod Hex
+pub mod Once
+pub mod Chains
+pub mod Holdings
+pub mod Owner
+pub mod Asked
+pub mod Between
+pub mod Begun
+pub mod Quiet

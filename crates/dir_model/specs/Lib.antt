@@ -1,0 +1,14 @@
+pub mod Words
+pub mod Filled
+pub mod Pods
+pub mod Areas
+pub mod Histories
+pub mod Tests
+pub mod State
+pub mod Trace
+pub mod Replies
+pub mod Causes
+pub mod Calls
+pub mod Local
+pub mod Quiet
+pub mod Between

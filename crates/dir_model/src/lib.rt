@@ -1,0 +1,29 @@
+//! The shared data folder: its places and names, its trace, and the state that a trace leaves.
+#![tactic(auto)]
+
+mod area;
+mod event;
+mod file_name;
+mod fill;
+mod history;
+mod intent;
+mod memory;
+mod name;
+mod opening;
+mod pod;
+mod prefix;
+mod request;
+mod spot;
+
+pub use area::{Area, Phase, phase_of};
+pub use event::Event;
+pub use file_name::FileName;
+pub use history::{History, Reserved};
+pub use intent::{Draw, Intent, Kind};
+pub use memory::NoMemory;
+pub use name::Name;
+pub use opening::{Holding, Opening};
+pub use pod::PodId;
+pub use prefix::PodPrefix;
+pub use request::{DirError, Reply, Request};
+pub use spot::{Handle, Mode, Spot, Which};

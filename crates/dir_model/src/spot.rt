@@ -1,0 +1,29 @@
+use crate::area::Area;
+use crate::name::Name;
+
+/// A location in the data folder: an area, and the name of a folder in it.
+#[derive(Clone, Copy, PartialEq, Eq)]
+pub struct Spot {
+    pub area: Area,
+    pub name: Name,
+}
+
+/// An open handle of one process.
+#[derive(Clone, Copy, Debug, PartialEq, Eq)]
+pub struct Handle {
+    pub number: u32,
+}
+
+/// Which lock of a folder.
+#[derive(Clone, Copy, Debug, PartialEq, Eq)]
+pub enum Which {
+    /// The lock on the folder itself. It follows the folder through moves.
+    Own,
+}
+
+/// How a lock is held. Exclusive conflicts with everything, shared with exclusive alone.
+#[derive(Clone, Copy, Debug, PartialEq, Eq)]
+pub enum Mode {
+    Shared,
+    Exclusive,
+}

@@ -1,0 +1,23 @@
+use Rattle.std.proofs.Common.{◌≡◌, ◌++◌, ◌-◌, ℕ, List, length, take, drop, arith, sym, ap, ◌∙◌, append_assoc, length-drop}
+use Rattle.std.proofs.lemmas.List.{take-append-drop}
+use Rattle.std.proofs.Math.Seq.{take-add}
+use Rattle.std.proofs.lemmas.Grind.{common_steps}
+use Rattle.dir_trait.proofs.sink.write_whole.Goals as goal
+
+all_left : (k : ℕ) (xs : List ℕ) → take (length xs - k) (drop k xs) ≡ drop k xs
+all_left k xs = grind (arith, common_steps)
+
+pub returns-in_err-count-clause-part : goal.returns-in_err-count-clause-part
+returns-in_err-count-clause-part g c t = record {
+  part = take c.pieces.at c.args.text.now;
+  rest = drop c.pieces.at c.args.text.now;
+  parted = sym (take-append-drop c.pieces.at c.args.text.now);
+  grown = c.in_err-count.ensures.unwritten t ∙ c.pieces.invariant.written t;
+}
+
+pub pieces-preserved : goal.pieces-preserved
+pieces-preserved g c = record {
+  within = omega (arith, c.in_ok-count.ensures.most, length-drop c.pieces.at c.args.text.now, c.pieces.invariant.within);
+  faults = omega (arith, c.write.ensures.faults, c.pieces.invariant.faults);
+  written = λ t. (c.in_ok-count.ensures.written t ∙ ap (λ b. g.S.Sink.bytes c.pieces.sink ++ take c.in_ok-count.count b) (all_left c.pieces.at c.args.text.now)) ∙ (ap (λ b. b ++ take c.in_ok-count.count (drop c.pieces.at c.args.text.now)) (c.pieces.invariant.written t) ∙ (append_assoc (g.S.Sink.bytes c.args.sink.now) (take c.pieces.at c.args.text.now) (take c.in_ok-count.count (drop c.pieces.at c.args.text.now)) ∙ ap (λ b. g.S.Sink.bytes c.args.sink.now ++ b) (sym (take-add c.pieces.at c.in_ok-count.count c.args.text.now))));
+}

@@ -1,0 +1,14 @@
+pub mod Sinks
+pub use Rattle.dir_model.specs.Words
+pub use Rattle.dir_model.specs.Pods
+pub use Rattle.dir_model.specs.Areas
+pub use Rattle.dir_model.specs.Histories
+pub use Rattle.dir_model.specs.Tests
+pub use Rattle.dir_model.specs.State
+pub use Rattle.dir_model.specs.Trace
+pub use Rattle.dir_model.specs.Replies
+pub use Rattle.dir_model.specs.Causes
+pub use Rattle.dir_model.specs.Calls
+pub use Rattle.dir_model.specs.Local
+pub use Rattle.dir_model.specs.Quiet
+pub use Rattle.dir_model.specs.Between
