@@ -7,8 +7,6 @@ use Rattle.dir_model.specs.declared.request.Request.TheVariants.{TryLock}
 use Rattle.dir_model.specs.declared.request.Reply.{Reply}
 use Rattle.dir_model.specs.declared.request.Reply.TheVariants.{Refused}
 use Rattle.dir_model.specs.Calls.{CallStep}
-use Rattle.dir_model.specs.Calls.{Extends, AtOwnStep}
-use Rattle.dir_model.specs.State.{stands}
 use Rattle.dir_model.proofs.Chains.{nothing_yet, and_call, at_before, found, missed}
 use Rattle.dir_model.proofs.Asked.{told_free, told_held}
 use Rattle.dir_model.proofs.Between.{asked_before}

@@ -1,4 +1,4 @@
-use Rattle.std.proofs.Common.{sym, inr}
+use Rattle.std.proofs.Common.{inr}
 use Rattle.dir_model.proofs.Between.{at_weaker, settle, asked_before}
 use Rattle.phase_read.specs.Read.{HasPhase}
 use Rattle.phase_read.proofs.Places.{has_phase}

@@ -1,9 +1,6 @@
-use Rattle.std.proofs.Common.{◌≡◌, ◌+◌, ◌∙◌, ℕ, List, false, arith, ap, sym, subst, Some, Ok}
-use Rattle.dir_model.specs.Areas.{rank}
+use Rattle.std.proofs.Common.{◌≡◌, ◌∙◌, ℕ, List, false, arith, ap, subst, Ok}
 use Rattle.dir_model.specs.State.{stands}
 use Rattle.dir_model.specs.Calls.{AtOwnStep}
-use Rattle.dir_model.specs.Replies.{is_look}
-use Rattle.dir_model.specs.declared.area.Phase.{Phase}
 use Rattle.dir_model.specs.declared.spot.Spot.{Spot}
 use Rattle.dir_model.proofs.Chains.{and_more, at_after, at_before}
 use Rattle.phase_read.specs.Read.{pod_spot, Tells, HasPhase}
