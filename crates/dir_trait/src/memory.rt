@@ -1,0 +1,7 @@
+//! The outside in memory: a data folder whose trace can be read, and a sink that keeps its bytes.
+mod compare;
+mod own;
+mod past;
+mod planned;
+mod step;
+mod table;
