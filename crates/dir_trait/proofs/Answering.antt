@@ -1,5 +1,5 @@
 -- The state's own answer is one that the state allows.
-use Rattle.std.proofs.Common.{◌≡◌, ℕ, ◌^◌, nat_lt, Bool, true, false, not, ◌&&◌, ◌||◌, ◌==◌, cond, Option, Some, None, is_some, List, length, ◌+◌, find, [], ◌∷◌, refl, sym, ap, ◌∙◌}
+use Rattle.std.proofs.Common.{◌≡◌, ◌⊎◌, inl, inr, ℕ, ◌^◌, nat_lt, Bool, true, false, not, ◌&&◌, ◌||◌, ◌==◌, cond, Option, Some, None, is_some, List, length, ◌+◌, find, [], ◌∷◌, refl, sym, ap, subst, ◌∙◌}
 use Rattle.std.specs.List.{range_with_len}
 use Rattle.dir_model.specs.declared.opening.Holding.{Holding}
 use Rattle.dir_model.specs.declared.spot.Handle.{Handle}
@@ -7,13 +7,16 @@ use Rattle.dir_model.specs.declared.request.DirError.{DirError}
 use Rattle.dir_model.specs.declared.request.DirError.TheVariants.{Missing, Exists, NotEmpty, Locked, Failed, NoMemory}
 use Rattle.dir_model.specs.declared.request.Request.{Request}
 use Rattle.dir_model.specs.declared.request.Request.TheVariants.{Begin, MakeFolder, MoveFolder, Open, TryLock, Close, Finish, Kill}
-use Rattle.dir_model.specs.declared.request.Reply.TheVariants.{Refused}
+use Rattle.dir_model.specs.declared.request.Reply.{Reply}
+use Rattle.dir_model.specs.declared.request.Reply.TheVariants.{Done, Opened, Refused}
+use Rattle.dir_model.specs.declared.spot.Spot.{Spot}
 use Rattle.dir_model.specs.Tests.{is_error}
 use Rattle.dir_model.specs.State.{Namespace, DirState, has_open}
-use Rattle.dir_model.specs.Replies.{refusal, is_reply, is_open, is_fallible}
+use Rattle.dir_model.specs.Replies.{refusal, is_reply, is_open, is_fallible, is_fault, may_refuse}
 use Rattle.dir_model.specs.Calls.{may_step, is_allowed, event}
 use Rattle.dir_model.specs.Local.{is_open_among}
 use Rattle.dir_model.proofs.Chains.{and_both}
+use Rattle.dir_trait.specs.Memories.{answer_or_failure, is_plain, is_opening}
 use Rattle.dir_trait.specs.Schedules.{is_taken, handle_at, free_handle, answer_by, answer}
 
 -- what a search finds passes the test
@@ -93,3 +96,116 @@ answer_allowed s p hs request may =
 -- a call that may fail may always be refused so
 pub failure_allowed : (s : DirState) (p : ℕ) (request : Request) → may_step s p request ≡ true → is_fallible request ≡ true → is_allowed s (event p request (Refused Failed 0)) ≡ true
 failure_allowed s p request may fallible = and_both (may_step s p request) (is_reply s p request (Refused Failed 0)) may (rw fallible refl)
+
+-- the own answer is one that the state allows
+pub own_allowed : (fails : Bool) (s : DirState) (p : ℕ) (hs : List Holding) (request : Request) (reply : Reply) → may_step s p request ≡ true → (fails ≡ true → is_fallible request ≡ true) → reply ≡ answer_or_failure fails s p hs request → is_allowed s (event p request reply) ≡ true
+own_allowed true s p hs request reply may fallible is = rw is (failure_allowed s p request may (fallible refl))
+own_allowed false s p hs request reply may fallible is = rw is (answer_allowed s p hs request may)
+
+-- a refusal by the state is one of those that the call may give
+cond_error : (b : Bool) (e error : DirError) → cond b (Some e) None ≡ Some error → error ≡ e
+cond_error true e error h = cc
+cond_error false e error h = cc
+
+cond_no_error : (b : Bool) (e error : DirError) → cond b None (Some e) ≡ Some error → error ≡ e
+cond_no_error true e error h = cc
+cond_no_error false e error h = cc
+
+move_error : (from to : Bool) (error : DirError) → cond from (cond to (Some Exists) None) (Some Missing) ≡ Some error → (error ≡ Exists) ⊎ (error ≡ Missing)
+move_error true true error h = inl cc
+move_error true false error h = cc
+move_error false to error h = inr cc
+
+none_error : {X : Type 0} (error : DirError) → None ≡ Some error → X
+none_error error h = cc
+
+-- the refusals that come from the state
+abbrev IsRefusal : Request → DirError → Type 0
+IsRefusal request error = (may_refuse request error ≡ true) × (is_fault error ≡ false)
+
+refused_move : (spot to : Spot) (error : DirError) → (error ≡ Exists) ⊎ (error ≡ Missing) → IsRefusal (MoveFolder spot to) error
+refused_move spot to error (inl is) = rw is (refl, refl)
+refused_move spot to error (inr is) = rw is (refl, refl)
+
+refusal_named : (s : DirState) (p : ℕ) (request : Request) (error : DirError) → refusal s p request ≡ Some error → IsRefusal request error
+refusal_named s p (MakeFolder spot) error h = rw (cond_error _ _ _ h) (refl, refl)
+refusal_named s p (MoveFolder from to) error h = refused_move from to error (move_error _ _ error h)
+refusal_named s p (Open spot which) error h = rw (cond_no_error _ _ _ h) (refl, refl)
+refusal_named s p (TryLock handle mode) error h = rw (cond_error _ _ _ h) (refl, refl)
+refusal_named s p _ error h = none_error error h
+
+-- what an answer says
+pub record SaysOf (request : Request) (fails : Bool) (hs : List Holding) (reply : Reply) : Type 0 where
+  pub refusals : (error : DirError) (left : ℕ) → reply ≡ Refused error left → may_refuse request error ≡ true
+  pub nothing : (error : DirError) (left : ℕ) → reply ≡ Refused error left → left ≡ 0
+  pub failed : (left : ℕ) → reply ≡ Refused Failed left → fails ≡ true
+  pub unopened : (handle : Handle) → reply ≡ Opened handle → is_open_among handle hs ≡ false
+  pub plain : is_open request ≡ false → is_plain reply ≡ true
+  pub opening : is_open request ≡ true → is_opening reply ≡ true
+
+open_may_run_out : (request : Request) → is_open request ≡ true → may_refuse request NoMemory ≡ true
+open_may_run_out (Begin intent) h = cc
+open_may_run_out (MakeFolder spot) h = cc
+open_may_run_out (MoveFolder from to) h = cc
+open_may_run_out (Open spot which) h = refl
+open_may_run_out (TryLock handle mode) h = cc
+open_may_run_out (Close handle) h = cc
+open_may_run_out Finish h = cc
+open_may_run_out Kill h = cc
+
+fallible_may_fail : (request : Request) → is_fallible request ≡ true → may_refuse request Failed ≡ true
+fallible_may_fail (Begin intent) h = cc
+fallible_may_fail (MakeFolder spot) h = refl
+fallible_may_fail (MoveFolder from to) h = refl
+fallible_may_fail (Open spot which) h = refl
+fallible_may_fail (TryLock handle mode) h = refl
+fallible_may_fail (Close handle) h = cc
+fallible_may_fail Finish h = cc
+fallible_may_fail Kill h = cc
+
+says_by : (request : Request) (hs : List Holding) (r : Option DirError) (o : Bool) (h : Option Handle) → ((error : DirError) → r ≡ Some error → IsRefusal request error) → is_open request ≡ o → ((handle : Handle) → h ≡ Some handle → is_open_among handle hs ≡ false) → SaysOf request false hs (answer_by r o h)
+says_by request hs (Some error) o h named opens free = record {
+  refusals = λ e left is. let same : error ≡ e = cc in subst (λ (x : DirError). may_refuse request x ≡ true) same (named error refl).0;
+  nothing = λ e left is. cc;
+  failed = λ left is. let same : error ≡ Failed = cc in let n : is_fault Failed ≡ false = subst (λ (x : DirError). is_fault x ≡ false) same (named error refl).1 in cc;
+  unopened = λ handle is. cc;
+  plain = λ no. refl;
+  opening = λ no. refl;
+}
+says_by request hs None false h named opens free = record {
+  refusals = λ e left is. cc;
+  nothing = λ e left is. cc;
+  failed = λ left is. cc;
+  unopened = λ handle is. cc;
+  plain = λ no. refl;
+  opening = λ is. let clash : false ≡ true = sym opens ∙ is in cc;
+}
+says_by request hs None true None named opens free = record {
+  refusals = λ e left is. let same : NoMemory ≡ e = cc in subst (λ (x : DirError). may_refuse request x ≡ true) same (open_may_run_out request opens);
+  nothing = λ e left is. cc;
+  failed = λ left is. cc;
+  unopened = λ handle is. cc;
+  plain = λ no. let clash : true ≡ false = sym opens ∙ no in cc;
+  opening = λ is. refl;
+}
+says_by request hs None true (Some handle) named opens free = record {
+  refusals = λ e left is. cc;
+  nothing = λ e left is. cc;
+  failed = λ left is. cc;
+  unopened = λ x is. let same : handle ≡ x = cc in subst (λ (y : Handle). is_open_among y hs ≡ false) same (free handle refl);
+  plain = λ no. let clash : true ≡ false = sym opens ∙ no in cc;
+  opening = λ is. refl;
+}
+
+pub own_says : (fails : Bool) (s : DirState) (p : ℕ) (hs : List Holding) (request : Request) (reply : Reply) → (fails ≡ true → is_fallible request ≡ true) → reply ≡ answer_or_failure fails s p hs request → SaysOf request fails hs reply
+own_says true s p hs request reply fallible is = record {
+  refusals = λ e left r. let same : Failed ≡ e = cc in subst (λ (x : DirError). may_refuse request x ≡ true) same (fallible_may_fail request (fallible refl));
+  nothing = λ e left r. cc;
+  failed = λ left r. refl;
+  unopened = λ handle r. cc;
+  plain = λ no. rw is refl;
+  opening = λ no. rw is refl;
+}
+own_says false s p hs request reply fallible is =
+    subst (λ (r : Reply). SaysOf request false hs r) (sym is)
+    (says_by request hs (refusal s p request) (is_open request) (free_handle s.namespace p hs) (λ error r. refusal_named s p request error r) refl (λ handle found. free_unheld s.namespace p hs handle found))

@@ -1,3 +1,4 @@
 pub mod Pasts
 pub mod Answering
 pub mod Meanwhile
+pub mod Calling

@@ -67,7 +67,7 @@ interlude_event me h e other allowed = record {
 }
 
 module _ (me : ℕ) (s : DirState) (step : Planned) where
-  abbrev step_event : Event
+  abbrev pub step_event : Event
   step_event = event step.process step.request (answer s step.process [] step.request)
 
   pub possible_other : is_possible me s step ≡ true → (step.process == me) ≡ false

@@ -1,5 +1,5 @@
 -- What contracts see of a directory in memory, and what a call leaves there.
-use Rattle.std.specs.Prelude.{◌≡◌, ◌⊎◌, ℕ, ◌+◌, ◌-◌, ◌≤◌, ◌^◌, ◌==◌, min, Bool, true, false, not, ◌&&◌, cond, List, [], ◌∷◌, ◌++◌}
+use Rattle.std.specs.Prelude.{◌≡◌, ◌⊎◌, ℕ, ◌+◌, ◌-◌, ◌≤◌, ◌^◌, ◌==◌, min, Bool, true, false, not, ◌&&◌, ◌||◌, cond, List, [], ◌∷◌, ◌++◌}
 use Rattle.std.specs.List.{list_any}
 use Rattle.dir_model.specs.Histories.{Reserved}
 use Rattle.dir_model.specs.declared.event.Event.{Event}
@@ -7,7 +7,7 @@ use Rattle.dir_model.specs.declared.opening.Holding.{Holding}
 use Rattle.dir_model.specs.declared.request.DirError.TheVariants.{Failed, NoMemory}
 use Rattle.dir_model.specs.declared.request.Request.{Request}
 use Rattle.dir_model.specs.declared.request.Reply.{Reply}
-use Rattle.dir_model.specs.declared.request.Reply.TheVariants.{Done, Refused}
+use Rattle.dir_model.specs.declared.request.Reply.TheVariants.{Done, Opened, Refused}
 use Rattle.dir_model.specs.State.{DirState, has_begun, has_ended}
 use Rattle.dir_model.specs.Trace.{state_after}
 use Rattle.dir_model.specs.Replies.{is_fallible}
@@ -83,6 +83,21 @@ given_up m request = record m { trace = m.trace ++ event m.process request Done 
 -- a begin comes first, and every other request from an active process
 abbrev pub may_ask : Local → Request → Bool
 may_ask m request = cond (is_begin request) (not m.begun) (m.begun && not m.finished)
+
+-- a call that has a number
+abbrev pub is_numbered : Request → Bool
+is_numbered request = is_begin request || is_fallible request
+
+-- the replies that stand for an answer that carries nothing, or a handle
+abbrev pub is_plain : Reply → Bool
+is_plain Done = true
+is_plain (Opened handle) = false
+is_plain (Refused error left) = left == 0
+
+abbrev pub is_opening : Reply → Bool
+is_opening Done = false
+is_opening (Opened handle) = true
+is_opening (Refused error left) = left == 0
 
 -- the trace is a run in which this process has begun and ended as it knows, and while it is active there is room
 -- for the events that give up its handles and itself

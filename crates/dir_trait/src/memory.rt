@@ -1,5 +1,6 @@
 //! The outside in memory: a data folder whose trace can be read, and a sink that keeps its bytes.
 mod compare;
+mod dir;
 mod own;
 mod past;
 mod planned;

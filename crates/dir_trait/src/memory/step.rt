@@ -28,8 +28,8 @@ fn first_step(past: &mut Past, me: u32, pending: &mut Vec<Planned>) -> Result<()
     Ok(())
 }
 
-/// The steps that are due come. Where memory runs out, the others are still due.
-pub fn others_step(
+// The steps that are due come. Where memory runs out, the others are still due.
+fn others_step(
     past: &mut Past,
     me: u32,
     pending: &mut Vec<Planned>,
@@ -59,8 +59,8 @@ fn reply_to(past: &Past, own: &OwnView, me: u32, fails: bool, request: &Request)
     past.answer(me, &own.held, request)
 }
 
-/// This process's own step. Where memory runs out, nothing has changed.
-pub fn own_step(
+// This process's own step. Where memory runs out, nothing has changed.
+fn own_step(
     past: &mut Past,
     own: &mut OwnView,
     me: u32,
@@ -91,4 +91,34 @@ pub fn own_step(
         reply,
     });
     Ok(answer)
+}
+
+/// One call: the steps that are due come, and then its own. Where memory runs out, a beginning of
+/// those came, and the others are still due.
+pub fn one_step(
+    past: &mut Past,
+    own: &mut OwnView,
+    pending: &mut Vec<Planned>,
+    me: u32,
+    calls: u64,
+    fails: bool,
+    request: Request,
+) -> Result<Reply, NoMemory>
+    requires may { may_step (state_after past.old.items) me request ≡ true }
+    requires fallible { fails ≡ true → is_fallible request ≡ true }
+    ensures reply { IfOk result (λ reply. reply ≡ answer_or_failure fails (state_after (with_due me (calls + 1) past.old.items pending.old.items)) me own.old.held.items request) }
+    ensures grown { IfOk result (λ reply. past.new.items ≡ with_due me (calls + 1) past.old.items pending.old.items ++ event me request reply ∷ []) }
+    ensures steps { OnOk result (pending.new.items ≡ not_due (calls + 1) pending.old.items) }
+    ensures run { OnOk result (IsRun past.new.items) }
+    ensures local { IfOk result (λ reply. local_of own.new ≡ local_replied (local_of own.old) request reply) }
+    ensures room { OnOk result (vec_len own.new.held + 1 ≤ past.new.spare) }
+    ensures interlude { OnErr result (Interlude me past.old.items past.new.items) }
+    ensures due { OnErr result (with_due me (calls + 1) past.new.items pending.new.items ≡ with_due me (calls + 1) past.old.items pending.old.items) }
+    ensures later { OnErr result (not_due (calls + 1) pending.new.items ≡ not_due (calls + 1) pending.old.items) }
+    ensures kept { OnErr result (past.old.spare ≤ past.new.spare) }
+    ensures own_same { OnErr result (local_of own.new ≡ local_of own.old) }
+    ensures own_len { OnErr result (vec_len own.new.held ≡ vec_len own.old.held) }
+{
+    others_step(past, me, pending, calls)?;
+    own_step(past, own, me, fails, request)
 }
