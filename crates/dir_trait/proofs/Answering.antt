@@ -1,5 +1,5 @@
 -- The state's own answer is one that the state allows.
-use Rattle.std.proofs.Common.{◌≡◌, ◌⊎◌, inl, inr, ℕ, ◌^◌, nat_lt, Bool, true, false, not, ◌&&◌, ◌||◌, ◌==◌, cond, Option, Some, None, is_some, List, length, ◌+◌, find, [], ◌∷◌, refl, sym, ap, subst, ◌∙◌}
+use Rattle.std.proofs.Common.{◌≡◌, ◌⊎◌, inl, inr, ℕ, ◌^◌, nat_lt, Bool, true, false, not, ◌||◌, cond, Option, Some, None, List, length, ◌+◌, find, [], ◌∷◌, refl, sym, ap, subst, ◌∙◌}
 use Rattle.std.specs.List.{range_with_len}
 use Rattle.dir_model.specs.declared.opening.Holding.{Holding}
 use Rattle.dir_model.specs.declared.spot.Handle.{Handle}
@@ -8,7 +8,7 @@ use Rattle.dir_model.specs.declared.request.DirError.TheVariants.{Missing, Exist
 use Rattle.dir_model.specs.declared.request.Request.{Request}
 use Rattle.dir_model.specs.declared.request.Request.TheVariants.{Begin, MakeFolder, MoveFolder, Open, TryLock, Close, Finish, Kill}
 use Rattle.dir_model.specs.declared.request.Reply.{Reply}
-use Rattle.dir_model.specs.declared.request.Reply.TheVariants.{Done, Opened, Refused}
+use Rattle.dir_model.specs.declared.request.Reply.TheVariants.{Opened, Refused}
 use Rattle.dir_model.specs.declared.spot.Spot.{Spot}
 use Rattle.dir_model.specs.Tests.{is_error}
 use Rattle.dir_model.specs.State.{Namespace, DirState, has_open}

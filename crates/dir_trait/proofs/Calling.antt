@@ -1,5 +1,5 @@
 -- What a call of a directory in memory leaves.
-use Rattle.std.proofs.Common.{◌≡◌, ◌⊎◌, inl, inr, ℕ, ◌+◌, ◌-◌, ◌≤◌, ◌^◌, min, Result, Ok, Err, IfOk, IfErr, Bool, true, false, not, ◌&&◌, ◌||◌, ◌==◌, cond, List, [], ◌∷◌, ◌++◌, arith, refl, sym, ap, subst, ◌∙◌, append-nil}
+use Rattle.std.proofs.Common.{◌≡◌, inl, inr, ℕ, ◌+◌, ◌≤◌, Result, Ok, Err, IfOk, IfErr, Bool, true, false, not, ◌&&◌, ◌==◌, cond, List, [], ◌∷◌, ◌++◌, arith, refl, sym, ap, subst, ◌∙◌, append-nil}
 use Rattle.std.specs.List.{list_any}
 use Rattle.dir_model.specs.declared.event.Event.{Event}
 use Rattle.dir_model.specs.declared.spot.Handle.{Handle}
@@ -13,14 +13,14 @@ use Rattle.dir_model.specs.State.{Namespace, DirState, empty_state, has_begun, h
 use Rattle.dir_model.specs.Trace.{replied, state_next, states_next, state_after}
 use Rattle.dir_model.specs.Replies.{is_fallible, is_open, is_late_reply, may_refuse, done_reply, opened_reply}
 use Rattle.dir_model.specs.Causes.{Rose}
-use Rattle.dir_model.specs.Calls.{Interference, IsRun, is_run_from, is_allowed, may_step, is_begin, is_kill, event, CallStep, TookPlace, LeftNothing}
+use Rattle.dir_model.specs.Calls.{IsRun, is_run_from, is_allowed, may_step, is_begin, is_kill, event, CallStep}
 use Rattle.dir_model.specs.Local.{Local, IsActive, is_open_among, local_replied}
 use Rattle.dir_model.proofs.Chains.{and_left, and_right, state_after-push}
 use Rattle.dir_model.proofs.Owner.{any_last, same_self}
 use Rattle.dir_trait.specs.declared.memory.planned.Planned.{Planned}
-use Rattle.dir_trait.specs.Schedules.{is_due, is_possible, step_events, answer, with_due, not_due}
+use Rattle.dir_trait.specs.Schedules.{is_due, is_possible, step_events, with_due, not_due}
 use Rattle.dir_trait.specs.Interludes.{Interlude}
-use Rattle.dir_trait.specs.Memories.{Memory, raised, is_to_fail, before_call, answer_or_failure, next_reply, after_call, Answered, RanOut, Follows, may_ask, is_numbered, is_plain, is_opening}
+use Rattle.dir_trait.specs.Memories.{Memory, raised, is_to_fail, before_call, answer_or_failure, Follows, may_ask, is_numbered, is_plain, is_opening}
 use Rattle.dir_trait.proofs.Meanwhile.{interlude_same, interlude_more, interlude_event, step_event, possible_other, possible_allowed}
 use Rattle.dir_trait.proofs.Answering.{SaysOf, own_says}
 
@@ -123,11 +123,11 @@ follows_step old request reply new numbered run (inl a) =
       run = run;
     }
 follows_step old request reply new numbered run (inr r) = record {
-    before = new.trace;
-    meanwhile = r.meanwhile;
-    own = inr (record { why = inr r.replied; late = rw r.replied (late_no_memory request numbered); same = refl });
-    run = run;
-  }
+  before = new.trace;
+  meanwhile = r.meanwhile;
+  own = inr (record { why = inr r.replied; late = rw r.replied (late_no_memory request numbered); same = refl });
+  run = run;
+}
 
 -- what a call with a number says by its reply
 pub record CallSays (old : Memory) (request : Request) (reply : Reply) (new : Memory) : Type 0 where
@@ -167,15 +167,15 @@ follows_says old request reply new numbered (inl a) =
       opening = s.opening;
     }
 follows_says old request reply new numbered (inr r) = record {
-    same = ap (λ (m : Memory). m.process) r.same;
-    counted = omega (arith, raised_most old.calls, ap (λ (m : Memory). m.calls) r.same);
-    local = ap (λ (m : Memory). m.local) r.same ∙ sym (ap (λ (x : Reply). local_replied old.local request x) r.replied);
-    refusals = λ error left is. ran_out_refusal request error left numbered (sym r.replied ∙ is);
-    failed = λ left is. let clash : Refused NoMemory 0 ≡ Refused Failed left = sym r.replied ∙ is in cc;
-    unopened = λ handle is. let clash : Refused NoMemory 0 ≡ Opened handle = sym r.replied ∙ is in cc;
-    plain = λ no. rw r.replied refl;
-    opening = λ no. rw r.replied refl;
-  }
+  same = ap (λ (m : Memory). m.process) r.same;
+  counted = omega (arith, raised_most old.calls, ap (λ (m : Memory). m.calls) r.same);
+  local = ap (λ (m : Memory). m.local) r.same ∙ sym (ap (λ (x : Reply). local_replied old.local request x) r.replied);
+  refusals = λ error left is. ran_out_refusal request error left numbered (sym r.replied ∙ is);
+  failed = λ left is. let clash : Refused NoMemory 0 ≡ Refused Failed left = sym r.replied ∙ is in cc;
+  unopened = λ handle is. let clash : Refused NoMemory 0 ≡ Opened handle = sym r.replied ∙ is in cc;
+  plain = λ no. rw r.replied refl;
+  opening = λ no. rw r.replied refl;
+}
 
 pub answered_by : (old : Memory) (request : Request) (reply : Reply) (fails : Bool) (trace : List Event) (faults calls : ℕ) (local : Local) (pending : List Planned) → fails ≡ is_to_fail old request → reply ≡ answer_or_failure fails (state_after (before_call old)) old.process old.local.holdings request → trace ≡ before_call old ++ event old.process request reply ∷ [] → faults ≡ cond fails (raised old.faults) old.faults → calls ≡ raised old.calls → local ≡ local_replied old.local request reply → pending ≡ not_due (old.calls + 1) old.pending → Follows old request reply (record { trace = trace; process = old.process; faults = faults; calls = calls; local = local; pending = pending; failing = old.failing })
 answered_by old request reply fails trace faults calls local pending f r t fs cs l p = inl (record {
@@ -202,3 +202,16 @@ module _ (old : Memory) (request : Request) (reply : Reply) (new : Memory) (says
   pub opened_unopened : (r : Result Handle DirError) → opened_reply r ≡ reply → IfOk r (λ handle. is_open_among handle old.local.holdings ≡ false)
   opened_unopened (Ok handle) is = says.unopened handle (sym is)
   opened_unopened (Err e) is = tt
+
+-- an active process may give up a handle, or itself
+giving_up : (h : List Event) (me : ℕ) (m : Local) → IsActive m → has_begun (state_after h).namespace me ≡ m.begun → has_ended (state_after h).namespace me ≡ m.finished → lives (state_after h).namespace me ≡ true
+giving_up h me m active begun ended = rw (begun, ended, active.begun, active.unfinished) refl
+
+pub close_allowed : (h : List Event) (me : ℕ) (m : Local) (handle : Handle) → IsActive m → has_begun (state_after h).namespace me ≡ m.begun → has_ended (state_after h).namespace me ≡ m.finished → is_allowed (state_after h) (event me (Close handle) Done) ≡ true
+close_allowed h me m handle active begun ended = rw (giving_up h me m active begun ended) refl
+
+pub finish_allowed : (h : List Event) (me : ℕ) (m : Local) → IsActive m → has_begun (state_after h).namespace me ≡ m.begun → has_ended (state_after h).namespace me ≡ m.finished → is_allowed (state_after h) (event me Finish Done) ≡ true
+finish_allowed h me m active begun ended = rw (giving_up h me m active begun ended) refl
+
+pub done_step : (h : List Event) (me : ℕ) (request : Request) (new : List Event) → is_allowed (state_after h) (event me request Done) ≡ true → IsRun new → new ≡ h ++ event me request Done ∷ [] → CallStep me h request Done new
+done_step h me request new allowed run grown = record { before = h; meanwhile = (interlude_same me h).meanwhile; own = inl (record { allowed = allowed; grown = grown }); run = run }

@@ -2,3 +2,4 @@ pub mod Pasts
 pub mod Answering
 pub mod Meanwhile
 pub mod Calling
+pub mod Places

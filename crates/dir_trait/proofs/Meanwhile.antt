@@ -1,17 +1,17 @@
 -- What others' steps leave to this process.
-use Rattle.std.proofs.Common.{◌≡◌, ℕ, Bool, true, false, not, ◌&&◌, ◌||◌, ◌==◌, cond, Result, Ok, Err, OnOk, OnErr, List, [], ◌∷◌, ◌++◌, refl, sym, ap, subst, ◌∙◌, append_assoc, append-nil}
-use Rattle.std.specs.List.{list_any, AllByRecursion}
+use Rattle.std.proofs.Common.{◌≡◌, ℕ, Bool, true, false, not, ◌&&◌, ◌==◌, Result, Ok, Err, OnOk, OnErr, List, [], ◌∷◌, ◌++◌, refl, sym, ap, subst, ◌∙◌, append_assoc, append-nil}
+use Rattle.std.specs.List.{list_any}
 use Rattle.dir_model.specs.declared.event.Event.{Event}
 use Rattle.dir_model.specs.declared.request.Request.{Request}
 use Rattle.dir_model.specs.declared.request.Request.TheVariants.{Begin, Open, Finish, Kill}
 use Rattle.dir_model.specs.declared.request.Reply.{Reply}
 use Rattle.dir_model.specs.declared.request.Reply.TheVariants.{Done, Opened, Refused}
 use Rattle.dir_model.specs.State.{Namespace, DirState, has_begun, has_ended}
-use Rattle.dir_model.specs.Trace.{replied, state_next, state_after}
-use Rattle.dir_model.specs.Calls.{Interference, IsRun, is_foreign, is_kill, is_allowed, may_step, event}
+use Rattle.dir_model.specs.Trace.{replied, state_after}
+use Rattle.dir_model.specs.Calls.{is_foreign, is_allowed, may_step, event}
 use Rattle.dir_model.proofs.Chains.{and_left, and_right, run-push, state_after-push, All_both}
 use Rattle.dir_trait.specs.declared.memory.planned.Planned.{Planned}
-use Rattle.dir_trait.specs.Schedules.{is_met, is_possible, step_events, answer, is_due, is_any_due, with_due, not_due}
+use Rattle.dir_trait.specs.Schedules.{is_met, is_possible, answer, is_due, is_any_due, with_due, not_due}
 use Rattle.dir_trait.specs.Interludes.{Interlude, TakesFirst}
 use Rattle.dir_trait.proofs.Answering.{answer_allowed}
 

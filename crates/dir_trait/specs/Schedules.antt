@@ -1,5 +1,5 @@
 -- The steps of others that come before a call of a directory in memory.
-use Rattle.std.specs.Prelude.{◌≡◌, ℕ, ◌+◌, ◌^◌, ◌==◌, nat_lt, nat_le, Bool, true, false, not, ◌&&◌, ◌||◌, cond, Option, Some, None, is_some, List, [], ◌∷◌, ◌++◌, length, find}
+use Rattle.std.specs.Prelude.{ℕ, ◌+◌, ◌^◌, ◌==◌, nat_lt, nat_le, Bool, true, false, not, ◌&&◌, ◌||◌, cond, Option, Some, None, is_some, List, [], ◌∷◌, ◌++◌, length, find}
 use Rattle.std.specs.List.{list_any, range_with_len}
 use Rattle.dir_model.specs.declared.event.Event.{Event}
 use Rattle.dir_model.specs.declared.opening.Holding.{Holding}

@@ -4,5 +4,9 @@ mod dir;
 mod own;
 mod past;
 mod planned;
+mod sink;
 mod step;
 mod table;
+
+pub use dir::MemoryDir;
+pub use sink::MemorySink;

@@ -44,7 +44,11 @@ pub fn is_here(spot: &Spot, place: &Option<Spot>) -> bool
 pub fn moved_place(place: Option<Spot>, from: &Spot, to: &Spot) -> Option<Spot>
     ensures { result ≡ moved from.now to.now place }
 {
-    if is_here(from, &place) { Some(*to) } else { place }
+    if is_here(from, &place) {
+        Some(*to)
+    } else {
+        place
+    }
 }
 
 /// Whether it is this handle of this process.

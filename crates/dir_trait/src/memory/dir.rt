@@ -4,12 +4,13 @@ ghost use Rattle.std.specs.List.{list_any};
 ghost use Rattle.dir_model.specs.Replies.{done_reply, opened_reply, is_fallible};
 ghost use Rattle.dir_trait.specs.Memories.{raised, is_plain, is_opening};
 
+use crate::dir::Dir;
 use crate::memory::own::OwnView;
 use crate::memory::past::Past;
-use crate::memory::planned::{Planned, is_next};
+use crate::memory::planned::{Planned, is_listed};
 use crate::memory::step::one_step;
 use dir_model::{
-    DirError, Handle, History, Intent, Mode, NoMemory, Reply, Request, Spot, Which,
+    DirError, Event, Handle, History, Intent, Mode, NoMemory, Reply, Request, Spot, Which,
 };
 use std::alloc::Global;
 use std::marker::Model;
@@ -105,12 +106,6 @@ fn fails_next(failing: &[u64], calls: u64, request: &Request) -> bool
     is_fallible(request) && listed
 }
 
-fn is_listed(failing: &[u64], calls: u64) -> bool
-    ensures { result ≡ list_any (λ number. number == calls + 1) failing.now }
-{
-    failing.iter().any(|number| is_next(*number, calls))
-}
-
 fn is_fallible(request: &Request) -> bool
     ensures { result ≡ is_fallible request.now }
 {
@@ -126,7 +121,11 @@ fn is_fallible(request: &Request) -> bool
 fn raised_if(count: u64, rises: bool) -> u64
     ensures { result ≡ cond rises (raised count) count }
 {
-    if rises { count.saturating_add(1) } else { count }
+    if rises {
+        count.saturating_add(1)
+    } else {
+        count
+    }
 }
 
 // The answer that the reply stands for.
@@ -193,5 +192,142 @@ impl MemoryDir {
         ensures follows { Follows self.old request (opened_reply result) self.new }
     {
         opened_of(self.call(request))
+    }
+}
+
+impl Dir for MemoryDir {
+    ghost use Rattle.std.specs.Prelude.{◌≡◌, ◌+◌, ◌≤◌, true, IfErr, IfOk, IsErrOf};
+    ghost use Rattle.dir_model.specs.Causes.{Rose};
+    ghost use Rattle.dir_model.specs.Calls.{CallStep};
+    ghost use Rattle.dir_model.specs.Replies.{done_reply, opened_reply, may_refuse};
+    ghost use Rattle.dir_model.specs.Local.{nothing_local, local_replied, IsActive, IsUnopened, IsOpen, IsUnlocked};
+    ghost use Rattle.dir_trait.specs.Memories.{Follows, given_up};
+
+    ghost observed = { true };
+
+    ghost trace = { λ d. d.trace };
+
+    ghost local = { λ d. d.local };
+
+    ghost process = { λ d. d.process };
+
+    ghost faults = { λ d. d.faults };
+
+    ghost calls = { λ d. d.calls };
+
+    fn faults(&self) -> u64 {
+        self.faults
+    }
+
+    fn process(&self) -> u32 {
+        self.process
+    }
+
+    fn begin(&mut self, _alloc: Global, intent: Intent) -> Result<(), DirError>
+        requires fresh { self.old.local ≡ nothing_local }
+        ensures counted { self.new.calls ≤ self.old.calls + 1 }
+        ensures same { self.new.process ≡ self.old.process }
+        ensures faults { self.old.faults ≤ self.new.faults }
+        ensures failed { IsErrOf result DirError.Failed → Rose self.old.faults self.new.faults }
+        ensures refusals { IfErr result (λ e. may_refuse (Request.Begin intent) e ≡ true) }
+        ensures local { self.new.local ≡ local_replied self.old.local (Request.Begin intent) (done_reply result) }
+        ensures step { true ≡ true → CallStep self.old.process self.old.trace (Request.Begin intent) (done_reply result) self.new.trace }
+        ensures follows { Follows self.old (Request.Begin intent) (done_reply result) self.new }
+    {
+        self.plain_call(Request::Begin(intent))
+    }
+
+    fn make_folder(&mut self, _alloc: Global, spot: Spot) -> Result<(), DirError>
+        requires active { IsActive self.old.local }
+        ensures counted { self.new.calls ≤ self.old.calls + 1 }
+        ensures same { self.new.process ≡ self.old.process }
+        ensures faults { self.old.faults ≤ self.new.faults }
+        ensures failed { IsErrOf result DirError.Failed → Rose self.old.faults self.new.faults }
+        ensures refusals { IfErr result (λ e. may_refuse (Request.MakeFolder spot) e ≡ true) }
+        ensures local { self.new.local ≡ local_replied self.old.local (Request.MakeFolder spot) (done_reply result) }
+        ensures step { true ≡ true → CallStep self.old.process self.old.trace (Request.MakeFolder spot) (done_reply result) self.new.trace }
+        ensures follows { Follows self.old (Request.MakeFolder spot) (done_reply result) self.new }
+    {
+        self.plain_call(Request::MakeFolder(spot))
+    }
+
+    fn move_folder(&mut self, _alloc: Global, from: Spot, to: Spot) -> Result<(), DirError>
+        requires active { IsActive self.old.local }
+        ensures counted { self.new.calls ≤ self.old.calls + 1 }
+        ensures same { self.new.process ≡ self.old.process }
+        ensures faults { self.old.faults ≤ self.new.faults }
+        ensures failed { IsErrOf result DirError.Failed → Rose self.old.faults self.new.faults }
+        ensures refusals { IfErr result (λ e. may_refuse (Request.MoveFolder from to) e ≡ true) }
+        ensures local { self.new.local ≡ local_replied self.old.local (Request.MoveFolder from to) (done_reply result) }
+        ensures step { true ≡ true → CallStep self.old.process self.old.trace (Request.MoveFolder from to) (done_reply result) self.new.trace }
+        ensures follows { Follows self.old (Request.MoveFolder from to) (done_reply result) self.new }
+    {
+        self.plain_call(Request::MoveFolder { from, to })
+    }
+
+    fn open(&mut self, _alloc: Global, spot: Spot, which: Which) -> Result<Handle, DirError>
+        requires active { IsActive self.old.local }
+        ensures counted { self.new.calls ≤ self.old.calls + 1 }
+        ensures same { self.new.process ≡ self.old.process }
+        ensures faults { self.old.faults ≤ self.new.faults }
+        ensures failed { IsErrOf result DirError.Failed → Rose self.old.faults self.new.faults }
+        ensures refusals { IfErr result (λ e. may_refuse (Request.Open spot which) e ≡ true) }
+        ensures unopened { IfOk result (λ handle. IsUnopened self.old.local handle) }
+        ensures local { self.new.local ≡ local_replied self.old.local (Request.Open spot which) (opened_reply result) }
+        ensures step { true ≡ true → CallStep self.old.process self.old.trace (Request.Open spot which) (opened_reply result) self.new.trace }
+        ensures follows { Follows self.old (Request.Open spot which) (opened_reply result) self.new }
+    {
+        self.open_call(Request::Open { spot, which })
+    }
+
+    fn try_lock(&mut self, _alloc: Global, handle: Handle, mode: Mode) -> Result<(), DirError>
+        requires active { IsActive self.old.local }
+        requires open { IsOpen self.old.local handle }
+        requires unlocked { IsUnlocked self.old.local handle }
+        ensures counted { self.new.calls ≤ self.old.calls + 1 }
+        ensures same { self.new.process ≡ self.old.process }
+        ensures faults { self.old.faults ≤ self.new.faults }
+        ensures failed { IsErrOf result DirError.Failed → Rose self.old.faults self.new.faults }
+        ensures refusals { IfErr result (λ e. may_refuse (Request.TryLock handle mode) e ≡ true) }
+        ensures local { self.new.local ≡ local_replied self.old.local (Request.TryLock handle mode) (done_reply result) }
+        ensures step { true ≡ true → CallStep self.old.process self.old.trace (Request.TryLock handle mode) (done_reply result) self.new.trace }
+        ensures follows { Follows self.old (Request.TryLock handle mode) (done_reply result) self.new }
+    {
+        self.plain_call(Request::TryLock { handle, mode })
+    }
+
+    fn close(&mut self, handle: Handle)
+        requires active { IsActive self.old.local }
+        requires open { IsOpen self.old.local handle }
+        ensures counted { self.new.calls ≤ self.old.calls + 1 }
+        ensures same { self.new.process ≡ self.old.process }
+        ensures faults { self.new.faults ≡ self.old.faults }
+        ensures local { self.new.local ≡ local_replied self.old.local (Request.Close handle) (Reply.Done) }
+        ensures step { true ≡ true → CallStep self.old.process self.old.trace (Request.Close handle) (Reply.Done) self.new.trace }
+        ensures follows { self.new ≡ given_up self.old (Request.Close handle) }
+    {
+        self.own.note_closed(handle);
+        self.past.add(Event {
+            process: self.process,
+            request: Request::Close(handle),
+            reply: Reply::Done,
+        });
+    }
+
+    fn finish(&mut self)
+        requires active { IsActive self.old.local }
+        ensures counted { self.new.calls ≤ self.old.calls + 1 }
+        ensures same { self.new.process ≡ self.old.process }
+        ensures faults { self.new.faults ≡ self.old.faults }
+        ensures local { self.new.local ≡ local_replied self.old.local (Request.Finish) (Reply.Done) }
+        ensures step { true ≡ true → CallStep self.old.process self.old.trace (Request.Finish) (Reply.Done) self.new.trace }
+        ensures follows { self.new ≡ given_up self.old (Request.Finish) }
+    {
+        self.own.note_finished();
+        self.past.add(Event {
+            process: self.process,
+            request: Request::Finish,
+            reply: Reply::Done,
+        });
     }
 }

@@ -1,6 +1,6 @@
 // What a process knows by its own answers.
-ghost use Rattle.std.specs.Prelude.{◌≡◌, ◌+◌, ◌<◌, ◌≤◌, ◌==◌, ◌∷◌, Some, None, position, remove, slice_get, vec_len, vec_capacity};
-ghost use Rattle.dir_model.specs.Local.{place_of, lock_at};
+ghost use Rattle.std.specs.Prelude.{◌≡◌, ◌+◌, ◌<◌, ◌≤◌, ◌==◌, ◌∷◌, true, Some, None, position, remove, slice_get, vec_len, vec_capacity};
+ghost use Rattle.dir_model.specs.Local.{place_of, lock_at, is_open_among};
 
 use dir_model::{Handle, Holding, Mode, Reply, Request, Spot, Which};
 use std::alloc::Global;
@@ -15,7 +15,7 @@ pub struct OwnView {
 
 impl OwnView {
     ghost use Rattle.std.specs.Prelude.{◌≡◌, ◌+◌, ◌<◌, ◌≤◌, vec_len, vec_capacity};
-    ghost use Rattle.dir_model.specs.Local.{nothing_local, local_done, local_opened, local_replied};
+    ghost use Rattle.dir_model.specs.Local.{nothing_local, local_done, local_opened, local_replied, without, IsOpen};
     ghost use Rattle.dir_trait.specs.Owns.{local_of};
 
     /// It hasn't begun. Takes no memory.
@@ -47,12 +47,26 @@ impl OwnView {
             Request::Begin(_) => self.begun = true,
             Request::TryLock { handle, mode } => lock_held(&mut self.held, *handle, *mode),
             Request::Close(handle) => drop_held(&mut self.held, *handle),
-            Request::Finish => {
-                self.finished = true;
-                self.held.clear();
-            }
+            Request::Finish => self.note_finished(),
             _ => (),
         }
+    }
+
+    /// An open handle is given up. Takes no memory.
+    pub fn note_closed(&mut self, handle: Handle)
+        requires { IsOpen (local_of self.old) handle }
+        ensures local { local_of self.new ≡ without (local_of self.old) handle }
+        ensures fewer { vec_len self.new.held + 1 ≤ vec_len self.old.held }
+    {
+        drop_held(&mut self.held, handle);
+    }
+
+    /// The process has ended, and its handles with it. Takes no memory.
+    pub fn note_finished(&mut self)
+        ensures { local_of self.new ≡ local_done (local_of self.old) Request.Finish }
+    {
+        self.finished = true;
+        self.held.clear();
     }
 
     fn note_opened(&mut self, request: &Request, handle: Handle)
@@ -116,6 +130,7 @@ fn lock_held(held: &mut Vec<Holding>, handle: Handle, mode: Mode)
 fn drop_held(held: &mut Vec<Holding>, handle: Handle)
     ensures items { held.new.items ≡ remove held.old.items (place_of handle held.old.items) }
     ensures fewer { vec_len held.new ≤ vec_len held.old }
+    ensures open { is_open_among handle held.old.items ≡ true → vec_len held.new + 1 ≤ vec_len held.old }
 {
     if let Some(place) = place_of(held, handle) {
         let _gone = held.remove(place);

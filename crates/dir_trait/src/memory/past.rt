@@ -5,8 +5,8 @@ ghost use Rattle.dir_model.specs.Trace.{state_next};
 ghost use Rattle.dir_trait.specs.Tables.{table_state};
 ghost use Rattle.dir_trait.specs.Schedules.{answer_by};
 
-use crate::memory::table::Table;
 use crate::memory::planned::Planned;
+use crate::memory::table::Table;
 use dir_model::{DirError, Event, Handle, History, Holding, NoMemory, Reply, Request};
 use std::alloc::Global;
 use std::marker::Model;
@@ -52,8 +52,16 @@ fn add_both(events: &mut History, table: &mut Table, event: Event)
     ensures state { table_state table.new ≡ state_next (table_state table.old) event }
 {
     table.apply(&event);
-    let Event { process, request, reply } = event;
-    events.add(Event { process, request, reply });
+    let Event {
+        process,
+        request,
+        reply,
+    } = event;
+    events.add(Event {
+        process,
+        request,
+        reply,
+    });
 }
 
 impl Past {

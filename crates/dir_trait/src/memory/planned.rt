@@ -1,5 +1,6 @@
 // Steps that other processes are to take.
 ghost use Rattle.std.specs.Prelude.{◌≡◌, ◌+◌, ◌==◌, nat_le};
+ghost use Rattle.std.specs.List.{list_any};
 
 use dir_model::Request;
 
@@ -18,11 +19,18 @@ pub fn is_up_to_next(number: u64, calls: u64) -> bool
     number.saturating_sub(1) <= calls
 }
 
-/// Whether the number is that of the call after so many.
-pub fn is_next(number: u64, calls: u64) -> bool
+// Whether the number is that of the call after so many.
+fn is_next(number: u64, calls: u64) -> bool
     ensures { result ≡ (number == calls + 1) }
 {
     number > calls && number - 1 == calls
+}
+
+/// Whether the call after so many is listed.
+pub fn is_listed(failing: &[u64], calls: u64) -> bool
+    ensures { result ≡ list_any (λ number. number == calls + 1) failing.now }
+{
+    failing.iter().any(|number| is_next(*number, calls))
 }
 
 impl Planned {

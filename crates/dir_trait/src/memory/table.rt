@@ -210,14 +210,17 @@ impl Table {
     pub fn has_open(&self, process: u32, handle: Handle) -> bool
         ensures { result ≡ has_open (namespace_of self.now) process handle }
     {
-        self.openings.iter().any(|opening| is_this(process, handle, opening))
+        self.openings
+            .iter()
+            .any(|opening| is_this(process, handle, opening))
     }
 
     /// Whether the process has this handle open, and it holds no lock.
     pub fn has_unlocked(&self, process: u32, handle: Handle) -> bool
         ensures { result ≡ is_met (namespace_of self.now) process (Request.TryLock handle Mode.Shared) }
     {
-        self.openings.iter().any(|opening| is_this(process, handle, opening) && opening.lock.is_none())
+        self.openings.iter().any(|opening| is_this(process, handle, opening)
+            && opening.lock.is_none())
     }
 
     fn is_taken(&self, process: u32, held: &[Holding], number: usize) -> bool
@@ -305,5 +308,9 @@ fn end_all(openings: &mut Vec<Opening>, process: u32)
 fn missing_unless(stands: bool) -> Option<DirError>
     ensures { result ≡ cond stands None (Some DirError.Missing) }
 {
-    if stands { None } else { Some(DirError::Missing) }
+    if stands {
+        None
+    } else {
+        Some(DirError::Missing)
+    }
 }

@@ -1,4 +1,4 @@
-use Rattle.std.proofs.Common.{rules, not}
+use Rattle.std.proofs.Common.{rules}
 use Rattle.std.proofs.lemmas.Fn.{filter_same}
 use Rattle.dir_trait.proofs.memory.table.close_all.Goals as goal
 

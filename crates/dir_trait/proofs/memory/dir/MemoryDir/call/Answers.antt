@@ -1,4 +1,4 @@
-use Rattle.std.proofs.Common.{◌≡◌, ◌+◌, subst, ◌∙◌, List}
+use Rattle.std.proofs.Common.{◌+◌, subst, ◌∙◌, List}
 use Rattle.dir_model.specs.declared.event.Event.{Event}
 use Rattle.dir_trait.specs.Interludes.{Interlude}
 use Rattle.dir_trait.specs.Schedules.{with_due}
@@ -23,5 +23,5 @@ pub returns-clause-follows : goal.returns-clause-follows
 returns-clause-follows c =
     subst (λ (m : Memory). Follows m c.args.request c.in-Ok.reply (record { trace = c.one_step-answered.new.past.items; process = c.self.inside.process; faults = c.raised_if-self-inside.result; calls = c.saturating_add-self-inside.result; local = local_of c.one_step-answered.new.own; pending = c.one_step-answered.new.pending.items; failing = c.self.inside.failing.items })) c.self.view_is
     (answered_by (record { trace = c.self.inside.past.items; process = c.self.inside.process; faults = c.self.inside.faults; calls = c.self.inside.calls; local = local_of c.self.inside.own; pending = c.self.inside.pending.items; failing = c.self.inside.failing.items })
-      c.args.request c.in-Ok.reply c.fails_next-fails.result c.one_step-answered.new.past.items c.raised_if-self-inside.result c.saturating_add-self-inside.result (local_of c.one_step-answered.new.own) c.one_step-answered.new.pending.items
-      (rw c.deref.ensures.value at c.fails_next-fails.ensures) c.in-Ok.ensures.reply c.in-Ok.ensures.grown c.raised_if-self-inside.ensures c.saturating_add-self-inside.ensures c.in-Ok.ensures.local c.in-Ok.ensures.steps)
+    c.args.request c.in-Ok.reply c.fails_next-fails.result c.one_step-answered.new.past.items c.raised_if-self-inside.result c.saturating_add-self-inside.result (local_of c.one_step-answered.new.own) c.one_step-answered.new.pending.items
+    (rw c.deref.ensures.value at c.fails_next-fails.ensures) c.in-Ok.ensures.reply c.in-Ok.ensures.grown c.raised_if-self-inside.ensures c.saturating_add-self-inside.ensures c.in-Ok.ensures.local c.in-Ok.ensures.steps)
