@@ -1,0 +1,5 @@
+pub mod Pasts
+pub mod Answering
+pub mod Meanwhile
+pub mod Calling
+pub mod Places
