@@ -1,0 +1,170 @@
+// What a program is given when it starts.
+ghost use Rattle.std.specs.Prelude.{◌≡◌, IfOk};
+ghost use Rattle.uuid.specs.Parts.{with_version, with_variant};
+ghost use Rattle.dir_model.specs.Local.{nothing_local};
+ghost use Rattle.dir_host.specs.Setup.{setup_status, setup_line};
+
+use crate::dir::HostDir;
+use crate::place::{AREAS, path_of_area};
+use dir_trait::{Dir, Draw, PodId};
+use std::alloc::{AllocError, Global};
+use std::env::VarError;
+use std::fs::File;
+use std::io::{ErrorKind, Read};
+use std::rt::{Clock, Env, Files};
+use std::time::{SystemTime, UNIX_EPOCH};
+use std::{env, fs, io};
+use uuid::{Builder, Variant, Version};
+
+/// Why a program ends before its command.
+#[derive(Clone, Copy, Debug, PartialEq, Eq)]
+pub enum SetupError {
+    /// A word of the command line isn't UTF-8.
+    Usage,
+    /// The data folder, the clock or the random bytes can't be had.
+    DirFault,
+    /// Memory ran out.
+    NoMemory,
+}
+
+impl SetupError {
+    /// The exit status.
+    pub fn status(self) -> u8
+        ensures { result ≡ setup_status self }
+    {
+        match self {
+            SetupError::Usage => 1,
+            SetupError::DirFault => 9,
+            SetupError::NoMemory => 14,
+        }
+    }
+
+    /// The line for standard error, with its line feed.
+    pub fn line(self) -> &'static str
+        ensures { result.now ≡ setup_line self }
+    {
+        match self {
+            SetupError::Usage => "rkt: usage\n",
+            SetupError::DirFault => "rkt: directory fault\n",
+            SetupError::NoMemory => "rkt: out of memory\n",
+        }
+    }
+}
+
+impl From<AllocError> for SetupError {
+    fn from(_error: AllocError) -> SetupError {
+        SetupError::NoMemory
+    }
+}
+
+impl From<io::Error> for SetupError {
+    fn from(error: io::Error) -> SetupError {
+        match error.kind() {
+            ErrorKind::OutOfMemory => SetupError::NoMemory,
+            _ => SetupError::DirFault,
+        }
+    }
+}
+
+/// What a command is run with: the moment in seconds, random bytes, and the data folder.
+#[derive(Drop)]
+pub struct Outside<R: Files<File = File> + Drop> {
+    pub now: u64,
+    pub draw: Draw,
+    pub dir: HostDir<R>,
+}
+
+/// The words of the command line, without the program's name. `Usage` where one isn't UTF-8.
+pub fn read_words<R: Env + AllocGlobal>(rt: &R) -> Result<Vec<String>, SetupError> {
+    let mut words = Vec::new(rt.alloc());
+    let given = match env::args(rt) {
+        Ok(given) => given,
+        Err(error) if error.kind() == ErrorKind::InvalidData => return Err(SetupError::Usage),
+        Err(error) => return Err(SetupError::from(error)),
+    };
+    for word in given.skip(1) {
+        words.push(word).map_err(AllocError::from)?;
+    }
+    Ok(words)
+}
+
+/// The absolute path of the data folder: that of `RKT_DIR`, or `rkt` where it is unset or empty,
+/// seen from the current folder.
+fn find_root<R: Env + AllocGlobal>(rt: &R) -> Result<String, SetupError> {
+    let named = match env::var(rt, "RKT_DIR") {
+        Ok(named) if !named.is_empty() => named,
+        Ok(_) | Err(VarError::NotPresent) => String::from_str(rt.alloc(), "rkt")?,
+        Err(VarError::OutOfMemory) => return Err(SetupError::NoMemory),
+        Err(VarError::NotUnicode) => return Err(SetupError::DirFault),
+    };
+    if named.starts_with('/') {
+        return Ok(named);
+    }
+    let current = env::current_dir(rt)?;
+    let current = current.as_str();
+    Ok(format!(in rt.alloc(); "{current}/{named}")?)
+}
+
+/// Makes the areas that are missing, and the folders above them.
+fn make_areas<R: Files + AllocGlobal>(rt: &R, root: &str) -> Result<(), SetupError> {
+    for area in AREAS {
+        let path = path_of_area(rt.alloc(), root, area)?;
+        fs::create_dir_all(rt, path.as_str())?;
+    }
+    Ok(())
+}
+
+/// The seconds since 1970, or 0 where the clock stands before.
+fn read_clock<R: Clock>(rt: &R) -> Result<u64, SetupError> {
+    match SystemTime::now(rt) {
+        Ok(now) => match now.duration_since(UNIX_EPOCH) {
+            Ok(since) => Ok(since.as_secs()),
+            Err(_) => Ok(0),
+        },
+        Err(error) if error.kind() == ErrorKind::InvalidData => Ok(0),
+        Err(error) => Err(SetupError::from(error)),
+    }
+}
+
+/// A pod's identity of random bytes: a UUID of version 4, by RFC 9562.
+fn pod_of(random: [u8; 16]) -> PodId
+    ensures { result.bytes ≡ with_version (with_variant random Variant.RFC4122) Version.Random }
+{
+    PodId {
+        bytes: Builder::from_random_bytes(random).into_uuid().into_bytes(),
+    }
+}
+
+/// 96 bytes of the system's random source, of which the first 16 are an identity.
+fn draw_random<R: Files>(rt: &R) -> Result<Draw, SetupError> {
+    let mut source = File::open(rt, "/dev/urandom")?;
+    let mut identity = [0; 16];
+    source.read_exact(&mut identity)?;
+    let mut token = [0; 16];
+    source.read_exact(&mut token)?;
+    let mut key = [0; 64];
+    source.read_exact(&mut key)?;
+    Ok(Draw {
+        uuid: pod_of(identity),
+        token,
+        key,
+    })
+}
+
+/// Finds the data folder and makes its missing areas, reads the clock and draws random bytes. The
+/// directory is that of a process with this number, which hasn't begun.
+pub fn assemble<R: Files<File = File> + Env + Clock + AllocGlobal + Drop>(
+    rt: R,
+    process: u32,
+) -> Result<Outside<R>, SetupError>
+    ensures local { IfOk result (λ outside. ⟦<HostDir<R> as Dir>⟧.local outside.dir ≡ nothing_local) }
+    ensures process { IfOk result (λ outside. ⟦<HostDir<R> as Dir>⟧.process outside.dir ≡ process) }
+    ensures faults { IfOk result (λ outside. ⟦<HostDir<R> as Dir>⟧.faults outside.dir ≡ 0) }
+{
+    let root = find_root(&rt)?;
+    make_areas(&rt, root.as_str())?;
+    let now = read_clock(&rt)?;
+    let draw = draw_random(&rt)?;
+    let dir = HostDir::new(rt.alloc(), rt, root, process);
+    Ok(Outside { now, draw, dir })
+}

@@ -1,0 +1,80 @@
+// A stream of the host is a `Sink`.
+ghost use Rattle.std.specs.Prelude.{◌≡◌, ◌≤◌, ◌<◌, length, IfOk};
+
+use dir_trait::{Sink, SinkError};
+use std::alloc::Global;
+use std::io;
+use std::io::{ErrorKind, Write};
+
+/// Standard output or standard error, or another writer. Each write that fails is counted once.
+#[derive(Drop)]
+pub struct HostSink<W: Write + Drop> {
+    writer: W,
+    faults: u64,
+}
+
+impl<W: Write + Drop> HostSink<W> {
+    /// A sink that writes here, and hasn't failed.
+    pub fn new(writer: W) -> HostSink<W>
+        ensures { ⟦<HostSink<W> as Sink>⟧.faults result ≡ 0 }
+    {
+        HostSink { writer, faults: 0 }
+    }
+}
+
+/// Writes a part of the piece, and asks again where a signal came between.
+fn write_part<W: Write>(writer: &mut W, piece: &[u8]) -> io::Result<usize>
+    ensures { IfOk result (λ n. n ≤ length piece.now) }
+{
+    for _ in 0..u64::MAX {
+        match writer.write(piece) {
+            Ok(count) => return Ok(count),
+            Err(error) if error.kind() == ErrorKind::Interrupted => {}
+            Err(error) => return Err(error),
+        }
+    }
+    Err(io::Error::from(ErrorKind::Interrupted))
+}
+
+/// How many bytes were written, at least 1, or why none was.
+fn written<W: Write>(writer: &mut W, piece: &[u8]) -> Result<usize, SinkError>
+    ensures most { IfOk result (λ n. n ≤ length piece.now) }
+    ensures some { IfOk result (λ n. 0 < n) }
+{
+    match write_part(writer, piece) {
+        Ok(0) => Err(SinkError::Failed),
+        Ok(count) => Ok(count),
+        Err(error) => match error.kind() {
+            ErrorKind::OutOfMemory => Err(SinkError::NoMemory),
+            _ => Err(SinkError::Failed),
+        },
+    }
+}
+
+impl<W: Write + Drop> Sink for HostSink<W> {
+    ghost use Rattle.std.specs.Prelude.{false, []};
+
+    ghost observed = { false };
+
+    ghost bytes = { λ _. [] };
+
+    ghost faults = { λ s. s.faults };
+
+    fn faults(&self) -> u64 {
+        self.faults
+    }
+
+    fn write(&mut self, _alloc: Global, piece: &[u8]) -> Result<usize, SinkError> {
+        if piece.is_empty() {
+            return Ok(0);
+        }
+        match written(&mut self.writer, piece) {
+            Ok(count) => Ok(count),
+            Err(SinkError::NoMemory) => Err(SinkError::NoMemory),
+            Err(SinkError::Failed) => {
+                self.faults = self.faults.saturating_add(1);
+                Err(SinkError::Failed)
+            }
+        }
+    }
+}

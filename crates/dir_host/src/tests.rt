@@ -1,0 +1,200 @@
+// The answers of a folder of the host, on the file system that the tests run on.
+ghost use Rattle.dir_model.specs.Local.{IsActive};
+
+use crate::{HostDir, HostSink};
+use dir_trait::{
+    Area, Dir, DirError, Intent, Kind, Mode, PodId, PodPrefix, Sink, SinkError, Spot, Which,
+    write_whole,
+};
+use std::alloc::Global;
+use std::io::{ErrorKind, Write};
+use std::os::unix::fs::symlink;
+use std::test::Fail;
+use std::{env, fs, io};
+
+fn pod(area: Area) -> Spot {
+    Spot {
+        area,
+        name: PodId { bytes: [7; 16] }.name(),
+    }
+}
+
+fn intent() -> Intent {
+    Intent {
+        kind: Kind::Status,
+        word: PodPrefix::empty(),
+        now: 0,
+        grace: 0,
+        expire: 0,
+        draw: PodId { bytes: [7; 16] },
+        token: [0; 16],
+    }
+}
+
+/// Opens a folder, closes it, and says why it couldn't be opened.
+fn look<D: Dir>(dir: &mut D, alloc: Global, area: Area) -> Option<DirError>
+    requires { IsActive (D.local dir.old) }
+    ensures { IsActive (D.local dir.new) }
+{
+    match dir.open(alloc, pod(area), Which::Own) {
+        Ok(handle) => {
+            dir.close(handle);
+            None
+        }
+        Err(error) => Some(error),
+    }
+}
+
+/// Opens a folder and locks it, and says why it couldn't be. The handle stays open.
+fn lock<D: Dir>(dir: &mut D, alloc: Global, area: Area, mode: Mode) -> Option<DirError>
+    requires { IsActive (D.local dir.old) }
+    ensures { IsActive (D.local dir.new) }
+{
+    match dir.open(alloc, pod(area), Which::Own) {
+        Ok(handle) => dir.try_lock(alloc, handle, mode).err(),
+        Err(error) => Some(error),
+    }
+}
+
+/// A new data folder with two areas.
+fn folder(rt: &HostRuntime, name: &str) -> io::Result<String> {
+    let current = env::current_dir(rt)?;
+    let current = current.as_str();
+    let root = format!(in rt.alloc(); "{current}/{name}")?;
+    for area in ["pods/embryo", "pods/prepare"] {
+        let path = format!(in rt.alloc(); "{root}/{area}")?;
+        fs::create_dir_all(rt, path.as_str())?;
+    }
+    Ok(root)
+}
+
+#[test]
+fn folders_are_made_moved_and_locked(rt: HostRuntime) -> Result<(), Fail> {
+    let alloc = rt.alloc();
+    let root = folder(&rt, "folders_are_made")?;
+    let mut dir = HostDir::new(alloc, &rt, root.clone()?, 1);
+    let mut other = HostDir::new(alloc, &rt, root.clone()?, 2);
+    assert!(rt; dir.begin(alloc, intent()).is_ok() && other.begin(alloc, intent()).is_ok());
+    let (here, there) = (pod(Area::Embryo), pod(Area::Prepare));
+    assert_eq!(rt;
+        look(&mut dir, alloc, Area::Embryo),
+        Some(DirError::Missing)
+    );
+    assert_eq!(rt; dir.make_folder(alloc, here), Ok(()));
+    assert_eq!(rt; dir.make_folder(alloc, here), Err(DirError::Exists));
+    assert_eq!(rt; lock(&mut dir, alloc, Area::Embryo, Mode::Exclusive), None);
+    assert_eq!(rt; dir.move_folder(alloc, here, there), Ok(()));
+    assert_eq!(rt; dir.move_folder(alloc, here, there), Err(DirError::Missing));
+    assert_eq!(rt; dir.make_folder(alloc, here), Ok(()));
+    assert_eq!(rt; dir.move_folder(alloc, here, there), Err(DirError::Exists));
+    assert_eq!(rt;
+        lock(&mut other, alloc, Area::Prepare, Mode::Shared),
+        Some(DirError::Locked)
+    );
+    dir.finish();
+    assert_eq!(rt; lock(&mut other, alloc, Area::Prepare, Mode::Shared), None);
+    assert_eq!(rt; lock(&mut other, alloc, Area::Prepare, Mode::Shared), None);
+    assert_eq!(rt; other.faults(), 0);
+    fs::remove_dir_all(&rt, root.as_str())?;
+    Ok(())
+}
+
+#[test]
+fn a_file_or_a_link_is_no_folder(rt: HostRuntime) -> Result<(), Fail> {
+    let alloc = rt.alloc();
+    let root = folder(&rt, "no_folders")?;
+    let root = root.as_str();
+    let mut dir = HostDir::new(alloc, &rt, String::from_str(alloc, root)?, 1);
+    assert!(rt; dir.begin(alloc, intent()).is_ok());
+    let (here, there) = (pod(Area::Embryo), pod(Area::Prepare));
+    let name = "07070707-0707-0707-0707-070707070707";
+    fs::write(
+        &rt,
+        format!(in alloc; "{root}/pods/prepare/{name}")?.as_str(),
+        "",
+    )?;
+    assert_eq!(rt;
+        look(&mut dir, alloc, Area::Prepare),
+        Some(DirError::Missing)
+    );
+    assert_eq!(rt; dir.make_folder(alloc, there), Err(DirError::Exists));
+    assert_eq!(rt; dir.make_folder(alloc, here), Ok(()));
+    assert_eq!(rt; dir.move_folder(alloc, here, there), Err(DirError::Exists));
+    assert_eq!(rt; dir.move_folder(alloc, there, here), Err(DirError::Missing));
+    fs::remove_file(
+        &rt,
+        format!(in alloc; "{root}/pods/prepare/{name}")?.as_str(),
+    )?;
+    symlink(
+        &rt,
+        "../embryo",
+        format!(in alloc; "{root}/pods/prepare/{name}")?.as_str(),
+    )?;
+    assert_eq!(rt;
+        look(&mut dir, alloc, Area::Prepare),
+        Some(DirError::Missing)
+    );
+    assert_eq!(rt; dir.faults(), 0);
+    fs::remove_dir_all(&rt, root)?;
+    Ok(())
+}
+
+#[test]
+fn an_area_that_is_no_directory_is_a_fault(rt: HostRuntime) -> Result<(), Fail> {
+    let alloc = rt.alloc();
+    let root = folder(&rt, "faults")?;
+    let root = root.as_str();
+    let mut dir = HostDir::new(alloc, &rt, String::from_str(alloc, root)?, 1);
+    assert!(rt; dir.begin(alloc, intent()).is_ok());
+    let (here, there) = (pod(Area::Embryo), pod(Area::Run));
+    assert_eq!(rt; look(&mut dir, alloc, Area::Run), Some(DirError::Failed));
+    assert_eq!(rt; dir.faults(), 1);
+    fs::write(&rt, format!(in alloc; "{root}/pods/run")?.as_str(), "")?;
+    assert_eq!(rt; look(&mut dir, alloc, Area::Run), Some(DirError::Failed));
+    assert_eq!(rt; dir.make_folder(alloc, there), Err(DirError::Failed));
+    assert_eq!(rt; dir.make_folder(alloc, here), Ok(()));
+    assert_eq!(rt; dir.move_folder(alloc, here, there), Err(DirError::Failed));
+    assert_eq!(rt; dir.faults(), 4);
+    fs::remove_dir_all(&rt, root)?;
+    Ok(())
+}
+
+/// Is interrupted at its first write, takes two bytes at each of the next two, and is full then.
+#[derive(Drop)]
+struct Small {
+    writes: u8,
+}
+
+impl Write for Small {
+    fn write(&mut self, buf: &[u8]) -> io::Result<usize> {
+        self.writes = self.writes.saturating_add(1);
+        match self.writes {
+            1 => Err(io::Error::from(ErrorKind::Interrupted)),
+            2 | 3 => Ok(buf.len().min(2)),
+            4 => Ok(0),
+            _ => Err(io::Error::from(ErrorKind::StorageFull)),
+        }
+    }
+
+    fn flush(&mut self) -> io::Result<()> {
+        Ok(())
+    }
+}
+
+#[test]
+fn a_full_stream_is_a_fault(rt: HostRuntime) {
+    let alloc = rt.alloc();
+    let mut sink = HostSink::new(Small { writes: 0 });
+    assert_eq!(rt; sink.write(alloc, b""), Ok(0));
+    assert_eq!(rt; sink.write(alloc, b"abc"), Ok(2));
+    assert_eq!(rt;
+        write_whole(alloc, &mut sink, b"abc"),
+        Err(SinkError::Failed)
+    );
+    assert_eq!(rt; sink.faults(), 1);
+    assert_eq!(rt;
+        write_whole(alloc, &mut sink, b"abc"),
+        Err(SinkError::Failed)
+    );
+    assert_eq!(rt; sink.faults(), 2);
+}
