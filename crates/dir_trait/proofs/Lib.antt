@@ -3,3 +3,4 @@ pub mod Answering
 pub mod Meanwhile
 pub mod Calling
 pub mod Places
+pub mod Ended

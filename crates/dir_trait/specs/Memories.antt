@@ -1,18 +1,19 @@
 -- What contracts see of a directory in memory, and what a call leaves there.
-use Rattle.std.specs.Prelude.{◌≡◌, ◌⊎◌, ℕ, ◌+◌, ◌-◌, ◌≤◌, ◌^◌, ◌==◌, min, Bool, true, false, not, ◌&&◌, ◌||◌, cond, List, [], ◌∷◌, ◌++◌}
-use Rattle.std.specs.List.{list_any}
+use Rattle.std.specs.Prelude.{◌≡◌, ◌⊎◌, ℕ, ◌+◌, ◌-◌, ◌≤◌, ◌^◌, ◌==◌, min, Bool, true, false, not, ◌&&◌, ◌||◌, cond, List, [], ◌∷◌, ◌++◌, insert, nat_lt, nat_le}
+use Rattle.std.specs.List.{list_any, position_or_len}
 use Rattle.dir_model.specs.Histories.{Reserved}
 use Rattle.dir_model.specs.declared.event.Event.{Event}
 use Rattle.dir_model.specs.declared.opening.Holding.{Holding}
 use Rattle.dir_model.specs.declared.request.DirError.TheVariants.{Failed, NoMemory}
 use Rattle.dir_model.specs.declared.request.Request.{Request}
+use Rattle.dir_model.specs.declared.request.Request.TheVariants.{Kill}
 use Rattle.dir_model.specs.declared.request.Reply.{Reply}
 use Rattle.dir_model.specs.declared.request.Reply.TheVariants.{Done, Opened, Refused}
 use Rattle.dir_model.specs.State.{DirState, has_begun, has_ended}
 use Rattle.dir_model.specs.Trace.{state_after}
 use Rattle.dir_model.specs.Replies.{is_fallible}
 use Rattle.dir_model.specs.Calls.{Interference, IsRun, is_begin, event}
-use Rattle.dir_model.specs.Local.{Local, IsActive, local_replied}
+use Rattle.dir_model.specs.Local.{Local, nothing_local, IsActive, local_replied}
 use Rattle.dir_trait.specs.declared.memory.planned.Planned.{Planned}
 use Rattle.dir_trait.specs.Schedules.{answer, with_due, not_due}
 
@@ -83,6 +84,33 @@ given_up m request = record m { trace = m.trace ++ event m.process request Done 
 -- a begin comes first, and every other request from an active process
 abbrev pub may_ask : Local → Request → Bool
 may_ask m request = cond (is_begin request) (not m.begun) (m.begun && not m.finished)
+
+-- the schedule with one step more, after each that comes before the same call or an earlier one
+abbrev pub placed : Planned → List Planned → List Planned
+placed step pending = insert pending (position_or_len (λ other. nat_lt step.before other.before) pending) step
+
+-- a step before a call that has passed never comes
+abbrev pub scheduled : Memory → Planned → Memory
+scheduled m step = cond (nat_le step.before m.calls) m (record m { pending = placed step m.pending })
+
+-- a process that has begun and not finished is killed
+abbrev pub is_active : Local → Bool
+is_active m = m.begun && not m.finished
+
+abbrev pub kill_of : Bool → ℕ → List Event
+kill_of active process = cond active (event process Kill Done ∷ []) []
+
+-- the same data folder for another process, whose calls are counted anew
+abbrev pub passed_on : Memory → ℕ → Memory
+passed_on m process = record {
+  trace = m.trace ++ kill_of (is_active m.local) m.process;
+  process = process;
+  faults = m.faults;
+  calls = 0;
+  local = nothing_local;
+  pending = [];
+  failing = [];
+}
 
 -- a call that has a number
 abbrev pub is_numbered : Request → Bool

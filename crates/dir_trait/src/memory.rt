@@ -10,3 +10,6 @@ mod table;
 
 pub use dir::MemoryDir;
 pub use sink::MemorySink;
+
+#[cfg(test)]
+mod tests;

@@ -41,10 +41,12 @@ impl Model for MemoryDir {
 }
 
 impl MemoryDir {
-    ghost use Rattle.std.specs.Prelude.{◌≡◌, ◌≤◌, [], true, IfOk};
+    ghost use Rattle.std.specs.Prelude.{◌≡◌, ◌≤◌, ◌++◌, ◌∷◌, [], true, false, IfOk};
     ghost use Rattle.dir_model.specs.Calls.{IsRun};
     ghost use Rattle.dir_model.specs.Local.{nothing_local};
-    ghost use Rattle.dir_trait.specs.Memories.{Follows, may_ask, is_numbered};
+    ghost use Rattle.dir_model.specs.State.{has_begun};
+    ghost use Rattle.dir_model.specs.Trace.{state_after};
+    ghost use Rattle.dir_trait.specs.Memories.{Follows, may_ask, is_numbered, scheduled, passed_on};
 
     /// The empty data folder, before this process has begun: nothing is scheduled, and no call is
     /// to fail. Refused only where memory ran out.
@@ -60,6 +62,71 @@ impl MemoryDir {
             pending: Vec::new(alloc),
             failing: Vec::new(alloc),
         })
+    }
+
+    /// Lets another process take a step just before this process's call with that number, counted
+    /// from 1, which is `begin`; `faults`, `process`, `close` and `finish` aren't counted. Steps
+    /// before the same call come in the order of scheduling, and a step before a call that has
+    /// passed never comes. Its reply is the state's. A step that isn't possible then leaves no
+    /// event: one of this process's own number, of a process that hasn't begun or is over, a lock
+    /// by a handle that isn't open or holds one, the close of a handle that isn't open. Refused
+    /// only where memory ran out.
+    pub fn schedule(
+        self,
+        _alloc: Global,
+        before: u64,
+        process: u32,
+        request: Request,
+    ) -> Result<MemoryDir, NoMemory>
+        ensures { IfOk result (λ d. d ≡ scheduled self (record { before = before; process = process; request = request })) }
+    {
+        let mut dir = self;
+        if before > dir.calls {
+            let step = Planned {
+                before,
+                process,
+                request,
+            };
+            step.place_in(&mut dir.pending)?;
+        }
+        Ok(dir)
+    }
+
+    /// The call with that number fails: it answers `Failed`, the count of faults rises, and nothing
+    /// changes. Steps that were scheduled before it still come. A `begin` never fails. Refused only
+    /// where memory ran out.
+    pub fn fail(self, _alloc: Global, call: u64) -> Result<MemoryDir, NoMemory>
+        requires { 2 ≤ call }
+        ensures { IfOk result (λ d. d ≡ record self { failing = self.failing ++ call ∷ [] }) }
+    {
+        let mut dir = self;
+        dir.failing.push(call)?;
+        Ok(dir)
+    }
+
+    /// The same data folder for another process, which never began: nothing is scheduled, no call
+    /// is to fail, its calls are counted from 1, and the count of faults goes on. If this process
+    /// has begun and not finished, it is killed. Takes no memory.
+    pub fn next_process(self, process: u32) -> MemoryDir
+        requires { has_begun (state_after self.trace).namespace process ≡ false }
+        ensures { result ≡ passed_on self process }
+    {
+        let mut dir = self;
+        let active = dir.own.begun && !dir.own.finished;
+        dir.past.end(dir.process, active);
+        dir.own.forget();
+        dir.process = process;
+        dir.calls = 0;
+        dir.pending.clear();
+        dir.failing.clear();
+        dir
+    }
+
+    /// Whether the process has begun.
+    pub fn has_begun(&self, process: u32) -> bool
+        ensures { result ≡ has_begun (state_after self.now.trace).namespace process }
+    {
+        self.past.has_begun(process)
     }
 
     /// The events so far, of all processes, the oldest first.

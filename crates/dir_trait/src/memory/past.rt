@@ -67,7 +67,8 @@ fn add_both(events: &mut History, table: &mut Table, event: Event)
 impl Past {
     ghost use Rattle.dir_model.specs.Trace.{state_after};
     ghost use Rattle.dir_model.specs.Calls.{IsRun, is_allowed, may_step};
-    ghost use Rattle.dir_model.specs.State.{has_begun};
+    ghost use Rattle.dir_model.specs.State.{has_begun, lives};
+    ghost use Rattle.dir_trait.specs.Memories.{kill_of};
     ghost use Rattle.dir_trait.specs.Schedules.{answer, is_met, is_possible, step_events};
     ghost use Rattle.dir_trait.specs.Interludes.{Interlude};
 
@@ -115,6 +116,22 @@ impl Past {
         self.reserve(more)?;
         self.add(event);
         Ok(())
+    }
+
+    /// An active process is killed, for which there is room. Takes no memory.
+    pub fn end(&mut self, process: u32, active: bool)
+        requires room { active ≡ true → 0 < self.old.spare }
+        requires lives { active ≡ true → lives (state_after self.old.items).namespace process ≡ true }
+        ensures grown { self.new.items ≡ self.old.items ++ kill_of active process }
+        ensures run { IsRun self.old.items → IsRun self.new.items }
+    {
+        if active {
+            self.add(Event {
+                process,
+                request: Request::Kill,
+                reply: Reply::Done,
+            });
+        }
     }
 
     /// Whether the process has begun.

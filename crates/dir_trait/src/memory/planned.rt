@@ -1,8 +1,8 @@
 // Steps that other processes are to take.
-ghost use Rattle.std.specs.Prelude.{◌≡◌, ◌+◌, ◌==◌, nat_le};
-ghost use Rattle.std.specs.List.{list_any};
+ghost use Rattle.std.specs.Prelude.{◌≡◌, ◌+◌, ◌==◌, ◌≤◌, nat_le, nat_lt, length, position};
+ghost use Rattle.std.specs.List.{list_any, position_or_len};
 
-use dir_model::Request;
+use dir_model::{NoMemory, Request};
 
 /// A step of another process, before this process's call with that number.
 #[derive(Drop)]
@@ -34,7 +34,8 @@ pub fn is_listed(failing: &[u64], calls: u64) -> bool
 }
 
 impl Planned {
-    ghost use Rattle.std.specs.Prelude.{◌≡◌, ◌+◌};
+    ghost use Rattle.std.specs.Prelude.{◌≡◌, ◌+◌, OnOk};
+    ghost use Rattle.dir_trait.specs.Memories.{placed};
     ghost use Rattle.dir_trait.specs.Schedules.{is_due, is_any_due};
 
     fn is_due(&self, calls: u64) -> bool
@@ -52,4 +53,27 @@ impl Planned {
             [first, ..] => first.is_due(calls),
         }
     }
+
+    /// Adds the step to a schedule, after each that comes before the same call or an earlier one.
+    /// Refused only where memory ran out.
+    pub fn place_in(self, pending: &mut Vec<Planned>) -> Result<(), NoMemory>
+        ensures { OnOk result (pending.new.items ≡ placed self pending.old.items) }
+    {
+        let place = place_of(pending, self.before);
+        pending.insert(place, self)?;
+        Ok(())
+    }
+}
+
+fn place_of(pending: &[Planned], before: u64) -> usize
+    ensures place { result ≡ position_or_len (λ other. nat_lt before other.before) pending.now }
+    ensures within { result ≤ length pending.now }
+{
+    first_later(pending, before).unwrap_or(pending.len())
+}
+
+fn first_later(pending: &[Planned], before: u64) -> Option<usize>
+    ensures { result ≡ position (λ other. nat_lt before other.before) pending.now }
+{
+    pending.iter().position(|other| before < other.before)
 }
