@@ -55,6 +55,14 @@ pub fn run(alloc: Global, words: &[&str], dir: &mut MemoryDir) -> Result<Ran, No
     Ok(Ran { status, out, err })
 }
 
+/// Whether `status` of the one pod of the tests prints this line.
+pub fn shows(alloc: Global, dir: MemoryDir, line: &str) -> Result<bool, NoMemory>
+    requires { dir.local ≡ nothing_local }
+{
+    let mut dir = dir;
+    Ok(run(alloc, &["status", POD], &mut dir)?.is(0, line, ""))
+}
+
 /// `status` of the one pod of the tests, with its output somewhere else.
 pub fn run_into<O: Sink>(
     alloc: Global,

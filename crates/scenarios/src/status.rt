@@ -1,8 +1,10 @@
 // The command `status` among the steps of others.
 use crate::byte_sink::ByteSink;
-use crate::stage::{POD, left_in, owned_in, run, run_into, spot, with_kill, with_move};
-use dir_trait::memory::{MemoryDir, MemorySink};
-use dir_trait::{Area, Handle, Mode, Request, Which};
+use crate::stage::{
+    POD, intent, left_in, owned_in, run, run_into, shows, spot, with_kill, with_move,
+};
+use dir_trait::memory::MemorySink;
+use dir_trait::{Area, Handle, Kind, Mode, Request, Which};
 use std::test::Fail;
 
 const PLACES: [(Area, &str, &str); 6] = [
@@ -25,14 +27,10 @@ const PLACES: [(Area, &str, &str); 6] = [
 #[test]
 fn each_place_has_its_phase(rt: HostRuntime) -> Result<(), Fail> {
     for (area, owned, left) in PLACES {
-        let mut dir = owned_in(rt.alloc(), area)?;
-        let ran = run(rt.alloc(), &["status", POD], &mut dir)?;
-        let is = ran.is(0, owned, "");
-        assert!(rt; is);
-        let mut dir = left_in(rt.alloc(), area)?;
-        let ran = run(rt.alloc(), &["status", POD], &mut dir)?;
-        let is = ran.is(0, left, "");
-        assert!(rt; is);
+        let while_owned = shows(rt.alloc(), owned_in(rt.alloc(), area)?, owned)?;
+        assert!(rt; while_owned);
+        let when_left = shows(rt.alloc(), left_in(rt.alloc(), area)?, left)?;
+        assert!(rt; when_left);
     }
     Ok(())
 }
@@ -56,9 +54,8 @@ const MOVES: [(Area, Area, u64, &str); 11] = [
 fn a_pod_that_moves_meanwhile_is_found(rt: HostRuntime) -> Result<(), Fail> {
     for (from, to, before, text) in MOVES {
         let dir = owned_in(rt.alloc(), from)?;
-        let mut dir = with_move(rt.alloc(), dir, before, from, to)?;
-        let ran = run(rt.alloc(), &["status", POD], &mut dir)?;
-        let is = ran.is(0, text, "");
+        let dir = with_move(rt.alloc(), dir, before, from, to)?;
+        let is = shows(rt.alloc(), dir, text)?;
         assert!(rt; is);
     }
     Ok(())
@@ -66,14 +63,11 @@ fn a_pod_that_moves_meanwhile_is_found(rt: HostRuntime) -> Result<(), Fail> {
 
 // Calls 5, 6 and 7 are the first open in run, the request for the lock and the second open.
 #[test]
-fn an_owner_that_is_killed_counts_until_the_lock_is_asked_for(
-    rt: HostRuntime,
-) -> Result<(), Fail> {
+fn an_owner_that_is_killed_counts_until_the_lock_is_asked_for(rt: HostRuntime) -> Result<(), Fail> {
     for (before, text) in [(6, "state=exited\n"), (7, "state=running\n")] {
         let dir = owned_in(rt.alloc(), Area::Run)?;
-        let mut dir = with_kill(rt.alloc(), dir, before)?;
-        let ran = run(rt.alloc(), &["status", POD], &mut dir)?;
-        let is = ran.is(0, text, "");
+        let dir = with_kill(rt.alloc(), dir, before)?;
+        let is = shows(rt.alloc(), dir, text)?;
         assert!(rt; is);
     }
     Ok(())
@@ -82,7 +76,7 @@ fn an_owner_that_is_killed_counts_until_the_lock_is_asked_for(
 #[test]
 fn another_reader_is_no_owner(rt: HostRuntime) -> Result<(), Fail> {
     let dir = left_in(rt.alloc(), Area::Run)?;
-    let begin = Request::Begin(crate::stage::intent(dir_trait::Kind::Status));
+    let begin = Request::Begin(intent(Kind::Status));
     let dir = dir.schedule(rt.alloc(), 3, 3, begin)?;
     let look = Request::Open {
         spot: spot(Area::Run),
@@ -93,9 +87,8 @@ fn another_reader_is_no_owner(rt: HostRuntime) -> Result<(), Fail> {
         handle: Handle { number: 0 },
         mode: Mode::Shared,
     };
-    let mut dir = dir.schedule(rt.alloc(), 3, 3, lock)?;
-    let ran = run(rt.alloc(), &["status", POD], &mut dir)?;
-    let is = ran.is(0, "state=exited\n", "");
+    let dir = dir.schedule(rt.alloc(), 3, 3, lock)?;
+    let is = shows(rt.alloc(), dir, "state=exited\n")?;
     assert!(rt; is);
     Ok(())
 }
@@ -112,9 +105,7 @@ fn a_call_that_fails_is_a_directory_fault_and_the_next_process_reads(
         let is = ran.is(9, "", "rkt: directory fault\n");
         assert!(rt; is);
         assert!(rt; !dir.has_begun(3));
-        let mut dir = dir.next_process(3);
-        let ran = run(rt.alloc(), &["status", POD], &mut dir)?;
-        let is = ran.is(0, "state=garbage\n", "");
+        let is = shows(rt.alloc(), dir.next_process(3), "state=garbage\n")?;
         assert!(rt; is);
     }
     Ok(())
@@ -134,9 +125,7 @@ fn an_output_that_fails_is_an_output_fault(rt: HostRuntime) -> Result<(), Fail> 
 }
 
 #[test]
-fn an_output_that_takes_a_byte_gets_the_whole_or_a_beginning(
-    rt: HostRuntime,
-) -> Result<(), Fail> {
+fn an_output_that_takes_a_byte_gets_the_whole_or_a_beginning(rt: HostRuntime) -> Result<(), Fail> {
     let whole: &[u8] = b"state=exited\n";
     let begun: &[u8] = b"s";
     for (failing, wanted, bytes) in [(0, 0, whole), (2, 12, begun)] {
