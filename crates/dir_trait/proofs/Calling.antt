@@ -18,10 +18,11 @@ use Rattle.dir_model.specs.Local.{Local, IsActive, is_open_among, local_replied}
 use Rattle.dir_model.proofs.Chains.{and_left, and_right, state_after-push}
 use Rattle.dir_model.proofs.Owner.{any_last, same_self}
 use Rattle.dir_trait.specs.declared.memory.planned.Planned.{Planned}
-use Rattle.dir_trait.specs.Schedules.{is_due, is_possible, step_events, with_due, not_due}
+use Rattle.dir_trait.specs.Schedules.{is_due, is_possible, step_events, with_due, not_due, IsOrdered, NoneDue}
 use Rattle.dir_trait.specs.Interludes.{Interlude}
 use Rattle.dir_trait.specs.Memories.{Memory, raised, is_to_fail, before_call, answer_or_failure, Follows, may_ask, is_numbered, is_plain, is_opening}
 use Rattle.dir_trait.proofs.Meanwhile.{interlude_same, interlude_more, interlude_event, step_event, possible_other, possible_allowed}
+use Rattle.dir_trait.proofs.Ordered.{none_left}
 use Rattle.dir_trait.proofs.Answering.{SaysOf, own_says}
 
 -- the steps that are due are others'
@@ -177,10 +178,11 @@ follows_says old request reply new numbered (inr r) = record {
   opening = λ no. rw r.replied refl;
 }
 
-pub answered_by : (old : Memory) (request : Request) (reply : Reply) (fails : Bool) (trace : List Event) (faults calls : ℕ) (local : Local) (pending : List Planned) → fails ≡ is_to_fail old request → reply ≡ answer_or_failure fails (state_after (before_call old)) old.process old.local.holdings request → trace ≡ before_call old ++ event old.process request reply ∷ [] → faults ≡ cond fails (raised old.faults) old.faults → calls ≡ raised old.calls → local ≡ local_replied old.local request reply → pending ≡ not_due (old.calls + 1) old.pending → Follows old request reply (record { trace = trace; process = old.process; faults = faults; calls = calls; local = local; pending = pending; failing = old.failing })
-answered_by old request reply fails trace faults calls local pending f r t fs cs l p = inl (record {
+pub answered_by : (old : Memory) (request : Request) (reply : Reply) (fails : Bool) (trace : List Event) (faults calls : ℕ) (local : Local) (pending : List Planned) → fails ≡ is_to_fail old request → reply ≡ answer_or_failure fails (state_after (before_call old)) old.process old.local.holdings request → trace ≡ before_call old ++ event old.process request reply ∷ [] → faults ≡ cond fails (raised old.faults) old.faults → calls ≡ raised old.calls → local ≡ local_replied old.local request reply → pending ≡ not_due (old.calls + 1) old.pending → IsOrdered old.pending → Follows old request reply (record { trace = trace; process = old.process; faults = faults; calls = calls; local = local; pending = pending; failing = old.failing })
+answered_by old request reply fails trace faults calls local pending f r t fs cs l p o = inl (record {
   replied = r ∙ ap (λ b. answer_or_failure b (state_after (before_call old)) old.process old.local.holdings request) f;
   after = rw (t, fs, cs, l, p, f) refl;
+  left = subst (λ (steps : List Planned). NoneDue (old.calls + 1) steps) (sym p) (none_left (old.calls + 1) old.pending o);
 })
 
 -- what the answers of a call say, by the reply that they stand for

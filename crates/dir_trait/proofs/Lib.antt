@@ -4,3 +4,4 @@ pub mod Meanwhile
 pub mod Calling
 pub mod Places
 pub mod Ended
+pub mod Ordered

@@ -1,6 +1,6 @@
 -- What contracts see of a directory in memory, and what a call leaves there.
-use Rattle.std.specs.Prelude.{◌≡◌, ◌⊎◌, ℕ, ◌+◌, ◌-◌, ◌≤◌, ◌^◌, ◌==◌, min, Bool, true, false, not, ◌&&◌, ◌||◌, cond, List, [], ◌∷◌, ◌++◌, insert, nat_lt, nat_le}
-use Rattle.std.specs.List.{list_any, position_or_len}
+use Rattle.std.specs.Prelude.{◌≡◌, ◌⊎◌, ℕ, ◌+◌, ◌-◌, ◌≤◌, ◌^◌, ◌==◌, min, Bool, true, false, not, ◌&&◌, ◌||◌, cond, List, [], ◌∷◌, ◌++◌, nat_le}
+use Rattle.std.specs.List.{list_any}
 use Rattle.dir_model.specs.Histories.{Reserved}
 use Rattle.dir_model.specs.declared.event.Event.{Event}
 use Rattle.dir_model.specs.declared.opening.Holding.{Holding}
@@ -15,7 +15,7 @@ use Rattle.dir_model.specs.Replies.{is_fallible}
 use Rattle.dir_model.specs.Calls.{Interference, IsRun, is_begin, event}
 use Rattle.dir_model.specs.Local.{Local, nothing_local, IsActive, local_replied}
 use Rattle.dir_trait.specs.declared.memory.planned.Planned.{Planned}
-use Rattle.dir_trait.specs.Schedules.{answer, with_due, not_due}
+use Rattle.dir_trait.specs.Schedules.{answer, with_due, not_due, placed, IsOrdered, NoneDue}
 
 -- the trace, the process with its faults and calls so far and what it has open, the steps of others that are to
 -- come, in their order, and the numbers of the calls that are to fail
@@ -64,6 +64,8 @@ after_call m request reply = record {
 pub record Answered (old : Memory) (request : Request) (reply : Reply) (new : Memory) : Type 0 where
   pub replied : reply ≡ next_reply old request
   pub after : new ≡ after_call old request reply
+  -- the steps that are left come before later calls
+  pub left : NoneDue (old.calls + 1) new.pending
 
 -- memory ran out: a beginning of the steps that were due came, and the others come before the next call
 pub record RanOut (old : Memory) (reply : Reply) (new : Memory) : Type 0 where
@@ -84,10 +86,6 @@ given_up m request = record m { trace = m.trace ++ event m.process request Done 
 -- a begin comes first, and every other request from an active process
 abbrev pub may_ask : Local → Request → Bool
 may_ask m request = cond (is_begin request) (not m.begun) (m.begun && not m.finished)
-
--- the schedule with one step more, after each that comes before the same call or an earlier one
-abbrev pub placed : Planned → List Planned → List Planned
-placed step pending = insert pending (position_or_len (λ other. nat_lt step.before other.before) pending) step
 
 -- a step before a call that has passed never comes
 abbrev pub scheduled : Memory → Planned → Memory
@@ -129,7 +127,8 @@ is_opening (Refused error left) = left == 0
 
 -- the trace is a run in which this process has begun and ended as it knows, and while it is active there is room
 -- for the events that give up its handles and itself
-pub record IsMemory (past : Reserved Event) (process : ℕ) (local : Local) (held : ℕ) : Type 0 where
+pub record IsMemory (past : Reserved Event) (process : ℕ) (local : Local) (held : ℕ) (pending : List Planned) : Type 0 where
+  pub ordered : IsOrdered pending
   pub run : IsRun past.items
   pub begun : has_begun (state_after past.items).namespace process ≡ local.begun
   pub ended : has_ended (state_after past.items).namespace process ≡ local.finished

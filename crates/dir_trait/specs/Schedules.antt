@@ -1,6 +1,6 @@
 -- The steps of others that come before a call of a directory in memory.
-use Rattle.std.specs.Prelude.{ℕ, ◌+◌, ◌^◌, ◌==◌, nat_lt, nat_le, Bool, true, false, not, ◌&&◌, ◌||◌, cond, Option, Some, None, is_some, List, [], ◌∷◌, ◌++◌, length, find}
-use Rattle.std.specs.List.{list_any, range_with_len}
+use Rattle.std.specs.Prelude.{◌≡◌, ℕ, ◌+◌, ◌^◌, ◌==◌, nat_lt, nat_le, Bool, true, false, not, ◌&&◌, ◌||◌, cond, Option, Some, None, is_some, List, [], ◌∷◌, ◌++◌, length, find}
+use Rattle.std.specs.List.{list_any, range_with_len, AllByRecursion}
 use Rattle.dir_model.specs.declared.event.Event.{Event}
 use Rattle.dir_model.specs.declared.opening.Holding.{Holding}
 use Rattle.dir_model.specs.declared.spot.Handle.{Handle}
@@ -73,3 +73,17 @@ not_due number (step ∷ steps) = cond (is_due number step) (not_due number step
 abbrev pub is_any_due : ℕ → List Planned → Bool
 is_any_due number [] = false
 is_any_due number (step ∷ steps) = is_due number step
+
+-- the steps stand in the order of the calls that they come before
+abbrev pub IsOrdered : List Planned → Type 0
+IsOrdered [] = Unit {0}
+IsOrdered (step ∷ steps) = AllByRecursion (λ later. nat_le step.before later.before ≡ true) steps × IsOrdered steps
+
+-- no step is due before the call with this number
+abbrev pub NoneDue : ℕ → List Planned → Type 0
+NoneDue number steps = AllByRecursion (λ step. is_due number step ≡ false) steps
+
+-- the schedule with one step more, after each that comes before the same call or an earlier one
+abbrev pub placed : Planned → List Planned → List Planned
+placed step [] = step ∷ []
+placed step (other ∷ others) = cond (nat_lt step.before other.before) (step ∷ other ∷ others) (other ∷ placed step others)

@@ -37,7 +37,7 @@ impl Model for MemoryDir {
 
     ghost view = { λ d. record { trace = d.past.items; process = d.process; faults = d.faults; calls = d.calls; local = local_of d.own; pending = d.pending.items; failing = d.failing.items } };
 
-    ghost invariant = { λ d. IsMemory d.past d.process (local_of d.own) (vec_len d.own.held) };
+    ghost invariant = { λ d. IsMemory d.past d.process (local_of d.own) (vec_len d.own.held) d.pending.items };
 }
 
 impl MemoryDir {

@@ -34,9 +34,8 @@ pub fn is_listed(failing: &[u64], calls: u64) -> bool
 }
 
 impl Planned {
-    ghost use Rattle.std.specs.Prelude.{◌≡◌, ◌+◌, OnOk};
-    ghost use Rattle.dir_trait.specs.Memories.{placed};
-    ghost use Rattle.dir_trait.specs.Schedules.{is_due, is_any_due};
+    ghost use Rattle.std.specs.Prelude.{◌≡◌, ◌+◌, OnOk, OnErr};
+    ghost use Rattle.dir_trait.specs.Schedules.{is_due, is_any_due, placed, IsOrdered};
 
     fn is_due(&self, calls: u64) -> bool
         ensures { result ≡ is_due (calls + 1) self.now }
@@ -57,7 +56,9 @@ impl Planned {
     /// Adds the step to a schedule, after each that comes before the same call or an earlier one.
     /// Refused only where memory ran out.
     pub fn place_in(self, pending: &mut Vec<Planned>) -> Result<(), NoMemory>
-        ensures { OnOk result (pending.new.items ≡ placed self pending.old.items) }
+        ensures placed { OnOk result (pending.new.items ≡ placed self pending.old.items) }
+        ensures ordered { OnOk result (IsOrdered pending.old.items → IsOrdered pending.new.items) }
+        ensures same { OnErr result (pending.new.items ≡ pending.old.items) }
     {
         let place = place_of(pending, self.before);
         pending.insert(place, self)?;

@@ -4,7 +4,7 @@ ghost use Rattle.dir_model.specs.Trace.{state_after};
 ghost use Rattle.dir_model.specs.Replies.{is_fallible};
 ghost use Rattle.dir_model.specs.Calls.{IsRun, may_step, event};
 ghost use Rattle.dir_model.specs.Local.{local_replied};
-ghost use Rattle.dir_trait.specs.Schedules.{is_any_due, with_due, not_due};
+ghost use Rattle.dir_trait.specs.Schedules.{is_any_due, with_due, not_due, IsOrdered};
 ghost use Rattle.dir_trait.specs.Interludes.{Interlude, TakesFirst};
 ghost use Rattle.dir_trait.specs.Memories.{answer_or_failure};
 ghost use Rattle.dir_trait.specs.Owns.{local_of};
@@ -18,6 +18,7 @@ fn first_step(past: &mut Past, me: u32, pending: &mut Vec<Planned>) -> Result<()
     requires { 0 < vec_len pending.old }
     ensures ok { OnOk result (TakesFirst me past.old.items pending.old.items past.new.items pending.new.items) }
     ensures fewer { OnOk result (vec_len pending.new < vec_len pending.old) }
+    ensures ordered { IsOrdered pending.old.items → IsOrdered pending.new.items }
     ensures steps { OnErr result (pending.new.items ≡ pending.old.items) }
     ensures err { OnErr result (past.new.items ≡ past.old.items) }
     ensures interlude { Interlude me past.old.items past.new.items }
@@ -38,6 +39,7 @@ fn others_step(
     ensures interlude { Interlude me past.old.items past.new.items }
     ensures due { with_due me (calls + 1) past.new.items pending.new.items ≡ with_due me (calls + 1) past.old.items pending.old.items }
     ensures later { not_due (calls + 1) pending.new.items ≡ not_due (calls + 1) pending.old.items }
+    ensures ordered { IsOrdered pending.old.items → IsOrdered pending.new.items }
     ensures all { OnOk result (is_any_due (calls + 1) pending.new.items ≡ false) }
     ensures kept { past.old.spare ≤ past.new.spare }
 {
@@ -115,6 +117,7 @@ pub fn one_step(
     ensures interlude { OnErr result (Interlude me past.old.items past.new.items) }
     ensures due { OnErr result (with_due me (calls + 1) past.new.items pending.new.items ≡ with_due me (calls + 1) past.old.items pending.old.items) }
     ensures later { OnErr result (not_due (calls + 1) pending.new.items ≡ not_due (calls + 1) pending.old.items) }
+    ensures ordered { IsOrdered pending.old.items → IsOrdered pending.new.items }
     ensures kept { OnErr result (past.old.spare ≤ past.new.spare) }
     ensures own_same { OnErr result (local_of own.new ≡ local_of own.old) }
     ensures own_len { OnErr result (vec_len own.new.held ≡ vec_len own.old.held) }

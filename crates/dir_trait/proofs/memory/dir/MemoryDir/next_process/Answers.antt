@@ -14,6 +14,7 @@ invariant_of-dir c =
     let before : has_begun (state_after c.dir.inside.past.items).namespace c.args.process ≡ false = subst (λ (h : List Event). has_begun (state_after h).namespace c.args.process ≡ false) (sym (ap (λ (m : Memory). m.trace) c.dir.view_is)) c.requires in
     let unborn : has_begun (state_after c.end.new.self.items).namespace c.args.process ≡ false = ap (λ (h : List Event). has_begun (state_after h).namespace c.args.process) c.end.ensures.grown ∙ kill_unborn c.if-dir.active c.dir.inside.past.items c.dir.inside.process c.args.process before in
     record {
+      ordered = rw c.clear.ensures.items tt;
       run = run;
       begun = unborn ∙ sym (ap (λ (m : Local). m.begun) c.forget.ensures);
       ended = unborn_unended c.end.new.self.items c.args.process run unborn ∙ sym (ap (λ (m : Local). m.finished) c.forget.ensures);

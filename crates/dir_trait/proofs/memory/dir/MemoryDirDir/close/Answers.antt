@@ -14,6 +14,7 @@ invariant_of-self c =
     let me = c.self.inside.process in
     let active : IsActive (local_of c.self.inside.own) = subst IsActive (sym (ap (λ (m : Memory). m.local) c.self.view_is)) c.requires.active in
     record {
+      ordered = c.self.invariant.ordered;
       run = c.add.ensures.run;
       begun = begun_after me c.self.inside.past.items (local_of c.self.inside.own) (local_of c.note_closed.new.self) (Close c.args.handle) Done c.add.new.self.items c.self.invariant.begun (ap (λ (r : Reserved Event). r.items) c.add.ensures.grown) c.note_closed.ensures.local;
       ended = ended_after me c.self.inside.past.items (local_of c.self.inside.own) (local_of c.note_closed.new.self) (Close c.args.handle) Done c.add.new.self.items refl c.self.invariant.ended (ap (λ (r : Reserved Event). r.items) c.add.ensures.grown) c.note_closed.ensures.local;

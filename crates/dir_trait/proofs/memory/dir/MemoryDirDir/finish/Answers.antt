@@ -12,6 +12,7 @@ pub invariant_of-self : goal.invariant_of-self
 invariant_of-self c =
     let me = c.self.inside.process in
     record {
+      ordered = c.self.invariant.ordered;
       run = c.add.ensures.run;
       begun = begun_after me c.self.inside.past.items (local_of c.self.inside.own) (local_of c.note_finished.new.self) Finish Done c.add.new.self.items c.self.invariant.begun (ap (λ (r : Reserved Event). r.items) c.add.ensures.grown) c.note_finished.ensures;
       ended = ended_after me c.self.inside.past.items (local_of c.self.inside.own) (local_of c.note_finished.new.self) Finish Done c.add.new.self.items refl c.self.invariant.ended (ap (λ (r : Reserved Event). r.items) c.add.ensures.grown) c.note_finished.ensures;
