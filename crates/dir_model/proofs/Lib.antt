@@ -8,3 +8,4 @@ pub mod Asked
 pub mod Between
 pub mod Begun
 pub mod Quiet
+pub mod PodTexts

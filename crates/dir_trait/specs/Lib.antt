@@ -1,4 +1,11 @@
 pub mod Sinks
+pub mod Tables
+pub mod Pasts
+pub mod Schedules
+pub mod Interludes
+pub mod Memories
+pub mod Owns
+pub mod MemorySinks
 pub use Rattle.dir_model.specs.Words
 pub use Rattle.dir_model.specs.Pods
 pub use Rattle.dir_model.specs.Areas

@@ -3,6 +3,7 @@
 #![tactic(auto)]
 
 mod dir;
+pub mod memory;
 mod sink;
 
 pub use dir::Dir;

@@ -1,0 +1,6 @@
+pub mod Pasts
+pub mod Answering
+pub mod Meanwhile
+pub mod Calling
+pub mod Places
+pub mod Ended

@@ -1,0 +1,10 @@
+//! How a pod's phase is read, among the events of other processes.
+#![tactic(auto)]
+
+mod found;
+mod probe;
+mod read;
+
+pub use found::{Found, LookError};
+pub use probe::look;
+pub use read::read_phase;

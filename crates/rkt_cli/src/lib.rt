@@ -1,0 +1,15 @@
+//! The top call: the words of a command line, what the command does, what it writes and its status.
+#![tactic(auto)]
+
+mod line;
+mod output;
+mod perform;
+mod print;
+mod refusal;
+mod status;
+mod top;
+
+pub use line::{Line, read_line};
+pub use output::Output;
+pub use refusal::Refusal;
+pub use top::rkt;

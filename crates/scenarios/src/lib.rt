@@ -1,0 +1,11 @@
+//! Tests over the whole engine: what users see, and what happens among the steps of others.
+#![tactic(auto)]
+
+#[cfg(test)]
+mod byte_sink;
+#[cfg(test)]
+mod stage;
+#[cfg(test)]
+mod status;
+#[cfg(test)]
+mod words;

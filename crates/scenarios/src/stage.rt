@@ -1,0 +1,161 @@
+// What the tests set up, and one run of the program on it.
+ghost use Rattle.std.specs.Prelude.{◌≡◌, IfOk};
+ghost use Rattle.dir_trait.specs.Local.{nothing_local};
+
+use dir_trait::memory::{MemoryDir, MemorySink};
+use dir_trait::{
+    Area, Draw, Handle, Intent, Kind, Mode, NoMemory, PodId, PodPrefix, Request, Sink, Spot, Which,
+};
+use rkt_cli::rkt;
+use std::alloc::Global;
+
+pub const POD: &str = "00000000-0000-4000-8000-000000000001";
+
+/// How a run ended, and what it wrote.
+#[derive(Drop)]
+pub struct Ran {
+    pub status: u8,
+    pub out: MemorySink,
+    pub err: MemorySink,
+}
+
+impl Ran {
+    /// Whether it ended and wrote so.
+    pub fn is(&self, status: u8, out: &str, err: &str) -> bool {
+        self.status == status
+            && self.out.bytes() == out.as_bytes()
+            && self.err.bytes() == err.as_bytes()
+    }
+}
+
+pub fn draw() -> Draw {
+    Draw {
+        uuid: PodId { bytes: [7; 16] },
+        token: [17; 16],
+        key: [0; 64],
+    }
+}
+
+fn texts(alloc: Global, words: &[&str]) -> Result<Vec<String>, NoMemory> {
+    let mut list = Vec::new(alloc);
+    for word in words {
+        list.push(String::from_str(alloc, *word)?)?;
+    }
+    Ok(list)
+}
+
+/// The program on these words.
+pub fn run(alloc: Global, words: &[&str], dir: &mut MemoryDir) -> Result<Ran, NoMemory>
+    requires { dir.old.local ≡ nothing_local }
+{
+    let words = texts(alloc, words)?;
+    let mut out = MemorySink::new(alloc);
+    let mut err = MemorySink::new(alloc);
+    let status = rkt(alloc, &words, 100, &draw(), dir, &mut out, &mut err);
+    Ok(Ran { status, out, err })
+}
+
+/// `status` of the one pod of the tests, with its output somewhere else.
+pub fn run_into<O: Sink>(
+    alloc: Global,
+    dir: &mut MemoryDir,
+    out: &mut O,
+) -> Result<(u8, MemorySink), NoMemory>
+    requires { dir.old.local ≡ nothing_local }
+{
+    let words = texts(alloc, &["status", POD])?;
+    let mut err = MemorySink::new(alloc);
+    let status = rkt(alloc, &words, 100, &draw(), dir, out, &mut err);
+    Ok((status, err))
+}
+
+fn pod() -> PodId {
+    PodId {
+        bytes: [0, 0, 0, 0, 0, 0, 64, 0, 128, 0, 0, 0, 0, 0, 0, 1],
+    }
+}
+
+pub fn spot(area: Area) -> Spot {
+    Spot {
+        area,
+        name: pod().name(),
+    }
+}
+
+pub fn intent(kind: Kind) -> Intent {
+    Intent {
+        kind,
+        word: PodPrefix::empty(),
+        now: 5,
+        grace: 0,
+        expire: 0,
+        draw: pod(),
+        token: [1; 16],
+    }
+}
+
+/// A move of the pod by process 2 before a call.
+pub fn with_move(
+    alloc: Global,
+    dir: MemoryDir,
+    before: u64,
+    from: Area,
+    to: Area,
+) -> Result<MemoryDir, NoMemory>
+    requires { dir.local ≡ nothing_local }
+    ensures { IfOk result (λ d. d.local ≡ nothing_local) }
+{
+    dir.schedule(
+        alloc,
+        before,
+        2,
+        Request::MoveFolder {
+            from: spot(from),
+            to: spot(to),
+        },
+    )
+}
+
+/// The end of process 2 before a call.
+pub fn with_kill(alloc: Global, dir: MemoryDir, before: u64) -> Result<MemoryDir, NoMemory>
+    requires { dir.local ≡ nothing_local }
+    ensures { IfOk result (λ d. d.local ≡ nothing_local) }
+{
+    dir.schedule(alloc, before, 2, Request::Kill)
+}
+
+/// The pod stands in an area, and process 2 holds its lock exclusively.
+pub fn owned_in(alloc: Global, area: Area) -> Result<MemoryDir, NoMemory>
+    ensures { IfOk result (λ d. d.local ≡ nothing_local) }
+{
+    let dir = MemoryDir::new(alloc, 1)?;
+    let dir = dir.schedule(alloc, 2, 2, Request::Begin(intent(Kind::Prepare)))?;
+    let dir = dir.schedule(alloc, 2, 2, Request::MakeFolder(spot(Area::Embryo)))?;
+    let dir = dir.schedule(
+        alloc,
+        2,
+        2,
+        Request::Open {
+            spot: spot(Area::Embryo),
+            which: Which::Own,
+        },
+    )?;
+    let dir = dir.schedule(
+        alloc,
+        2,
+        2,
+        Request::TryLock {
+            handle: Handle { number: 0 },
+            mode: Mode::Exclusive,
+        },
+    )?;
+    with_move(alloc, dir, 2, Area::Embryo, area)
+}
+
+/// The pod stands in an area, and its owner was killed.
+pub fn left_in(alloc: Global, area: Area) -> Result<MemoryDir, NoMemory>
+    ensures { IfOk result (λ d. d.local ≡ nothing_local) }
+{
+    let dir = owned_in(alloc, area)?;
+    with_kill(alloc, dir, 2)
+}

@@ -1,0 +1,151 @@
+// The command `status` among the steps of others.
+use crate::byte_sink::ByteSink;
+use crate::stage::{POD, left_in, owned_in, run, run_into, spot, with_kill, with_move};
+use dir_trait::memory::{MemoryDir, MemorySink};
+use dir_trait::{Area, Handle, Mode, Request, Which};
+use std::test::Fail;
+
+const PLACES: [(Area, &str, &str); 6] = [
+    (Area::Embryo, "state=embryo\n", "state=embryo\n"),
+    (
+        Area::Prepare,
+        "state=preparing\n",
+        "state=aborted prepare\n",
+    ),
+    (Area::Prepared, "state=prepared\n", "state=prepared\n"),
+    (Area::Run, "state=running\n", "state=exited\n"),
+    (
+        Area::ExitedGarbage,
+        "state=deleting\n",
+        "state=exited garbage\n",
+    ),
+    (Area::Garbage, "state=deleting\n", "state=garbage\n"),
+];
+
+#[test]
+fn each_place_has_its_phase(rt: HostRuntime) -> Result<(), Fail> {
+    for (area, owned, left) in PLACES {
+        let mut dir = owned_in(rt.alloc(), area)?;
+        let ran = run(rt.alloc(), &["status", POD], &mut dir)?;
+        let is = ran.is(0, owned, "");
+        assert!(rt; is);
+        let mut dir = left_in(rt.alloc(), area)?;
+        let ran = run(rt.alloc(), &["status", POD], &mut dir)?;
+        let is = ran.is(0, left, "");
+        assert!(rt; is);
+    }
+    Ok(())
+}
+
+// The pod stands in the first place, held by its owner, and moves before that call.
+const MOVES: [(Area, Area, u64, &str); 11] = [
+    (Area::Embryo, Area::Prepare, 2, "state=preparing\n"),
+    (Area::Embryo, Area::Prepare, 3, "state=embryo\n"),
+    (Area::Prepare, Area::Prepared, 3, "state=prepared\n"),
+    (Area::Prepare, Area::Prepared, 4, "state=prepared\n"),
+    (Area::Prepare, Area::Prepared, 5, "state=prepared\n"),
+    (Area::Prepared, Area::Run, 4, "state=running\n"),
+    (Area::Prepared, Area::Run, 5, "state=prepared\n"),
+    (Area::Run, Area::ExitedGarbage, 6, "state=deleting\n"),
+    (Area::Run, Area::ExitedGarbage, 7, "state=deleting\n"),
+    (Area::ExitedGarbage, Area::Garbage, 7, "state=deleting\n"),
+    (Area::ExitedGarbage, Area::Garbage, 8, "state=deleting\n"),
+];
+
+#[test]
+fn a_pod_that_moves_meanwhile_is_found(rt: HostRuntime) -> Result<(), Fail> {
+    for (from, to, before, text) in MOVES {
+        let dir = owned_in(rt.alloc(), from)?;
+        let mut dir = with_move(rt.alloc(), dir, before, from, to)?;
+        let ran = run(rt.alloc(), &["status", POD], &mut dir)?;
+        let is = ran.is(0, text, "");
+        assert!(rt; is);
+    }
+    Ok(())
+}
+
+// Calls 5, 6 and 7 are the first open in run, the request for the lock and the second open.
+#[test]
+fn an_owner_that_is_killed_counts_until_the_lock_is_asked_for(
+    rt: HostRuntime,
+) -> Result<(), Fail> {
+    for (before, text) in [(6, "state=exited\n"), (7, "state=running\n")] {
+        let dir = owned_in(rt.alloc(), Area::Run)?;
+        let mut dir = with_kill(rt.alloc(), dir, before)?;
+        let ran = run(rt.alloc(), &["status", POD], &mut dir)?;
+        let is = ran.is(0, text, "");
+        assert!(rt; is);
+    }
+    Ok(())
+}
+
+#[test]
+fn another_reader_is_no_owner(rt: HostRuntime) -> Result<(), Fail> {
+    let dir = left_in(rt.alloc(), Area::Run)?;
+    let begin = Request::Begin(crate::stage::intent(dir_trait::Kind::Status));
+    let dir = dir.schedule(rt.alloc(), 3, 3, begin)?;
+    let look = Request::Open {
+        spot: spot(Area::Run),
+        which: Which::Own,
+    };
+    let dir = dir.schedule(rt.alloc(), 3, 3, look)?;
+    let lock = Request::TryLock {
+        handle: Handle { number: 0 },
+        mode: Mode::Shared,
+    };
+    let mut dir = dir.schedule(rt.alloc(), 3, 3, lock)?;
+    let ran = run(rt.alloc(), &["status", POD], &mut dir)?;
+    let is = ran.is(0, "state=exited\n", "");
+    assert!(rt; is);
+    Ok(())
+}
+
+// A read of a pod in garbage is calls 2 to 9.
+#[test]
+fn a_call_that_fails_is_a_directory_fault_and_the_next_process_reads(
+    rt: HostRuntime,
+) -> Result<(), Fail> {
+    for call in 2..10 {
+        let dir = left_in(rt.alloc(), Area::Garbage)?;
+        let mut dir = dir.fail(rt.alloc(), call)?;
+        let ran = run(rt.alloc(), &["status", POD], &mut dir)?;
+        let is = ran.is(9, "", "rkt: directory fault\n");
+        assert!(rt; is);
+        assert!(rt; !dir.has_begun(3));
+        let mut dir = dir.next_process(3);
+        let ran = run(rt.alloc(), &["status", POD], &mut dir)?;
+        let is = ran.is(0, "state=garbage\n", "");
+        assert!(rt; is);
+    }
+    Ok(())
+}
+
+#[test]
+fn an_output_that_fails_is_an_output_fault(rt: HostRuntime) -> Result<(), Fail> {
+    let mut dir = left_in(rt.alloc(), Area::Run)?;
+    let mut out = MemorySink::new(rt.alloc()).fail(rt.alloc(), 1)?;
+    let (status, err) = run_into(rt.alloc(), &mut dir, &mut out)?;
+    assert_eq!(rt; status, 12);
+    let silent = out.bytes() == b"".as_slice();
+    assert!(rt; silent);
+    let said = err.bytes() == b"rkt: output fault\n".as_slice();
+    assert!(rt; said);
+    Ok(())
+}
+
+#[test]
+fn an_output_that_takes_a_byte_gets_the_whole_or_a_beginning(
+    rt: HostRuntime,
+) -> Result<(), Fail> {
+    let whole: &[u8] = b"state=exited\n";
+    let begun: &[u8] = b"s";
+    for (failing, wanted, bytes) in [(0, 0, whole), (2, 12, begun)] {
+        let mut dir = left_in(rt.alloc(), Area::Run)?;
+        let mut out = ByteSink::new(rt.alloc(), failing);
+        let (status, _) = run_into(rt.alloc(), &mut dir, &mut out)?;
+        assert_eq!(rt; status, wanted);
+        let same = out.bytes.as_slice() == bytes;
+        assert!(rt; same);
+    }
+    Ok(())
+}

@@ -1,0 +1,34 @@
+// Command lines.
+use crate::stage::{POD, run};
+use dir_trait::memory::MemoryDir;
+use std::test::Fail;
+
+#[test]
+fn an_empty_folder_has_no_pod(rt: HostRuntime) -> Result<(), Fail> {
+    let mut dir = MemoryDir::new(rt.alloc(), 1)?;
+    let ran = run(rt.alloc(), &["status", POD], &mut dir)?;
+    let is = ran.is(2, "", "rkt: no such pod\n");
+    assert!(rt; is);
+    Ok(())
+}
+
+#[test]
+fn other_words_are_usage_and_call_nothing(rt: HostRuntime) -> Result<(), Fail> {
+    let lines: [&[&str]; 7] = [
+        &[],
+        &["frob"],
+        &["status"],
+        &["status", POD, POD],
+        &["status", "00000000-0000-4000-8000-00000000000A"],
+        &["status", "00000000-0000-4000-8000-0000"],
+        &["list"],
+    ];
+    for line in lines {
+        let mut dir = MemoryDir::new(rt.alloc(), 1)?;
+        let ran = run(rt.alloc(), line, &mut dir)?;
+        let is = ran.is(1, "", "rkt: usage\n");
+        assert!(rt; is);
+        assert_eq!(rt; dir.history().len(), 0);
+    }
+    Ok(())
+}
