@@ -1,5 +1,8 @@
 -- Why a program ends before its command.
-use Rattle.std.specs.Prelude.{ℕ, List, ◌++◌, ◌∷◌, [], codes}
+use Rattle.std.specs.Prelude.{◌≡◌, ◌↔◌, ℕ, List, ◌++◌, ◌∷◌, [], codes}
+use Rattle.std.specs.IoError.{error_kind}
+use Rattle.std.specs.declared.io.Error.{Error}
+use Rattle.std.specs.declared.io.ErrorKind.TheVariants.{OutOfMemory}
 use Rattle.dir_host.specs.declared.outside.SetupError.{SetupError}
 use Rattle.dir_host.specs.declared.outside.SetupError.TheVariants.{Usage, DirFault, NoMemory}
 
@@ -17,3 +20,8 @@ setup_text NoMemory = codes "out of memory"
 -- what standard error is told
 abbrev pub setup_line : SetupError → List ℕ
 setup_line error = codes "rkt: " ++ setup_text error ++ 10 ∷ []
+
+-- the system's error means want of memory, and else that the folder, the clock or the bytes can't be had
+pub record StandsFor (given : Error) (error : SetupError) : Type 0 where
+  pub memory : (error ≡ NoMemory) ↔ (error_kind given ≡ OutOfMemory)
+  pub words : error ≡ Usage → ⊥

@@ -1,8 +1,9 @@
 // What a program is given when it starts.
-ghost use Rattle.std.specs.Prelude.{◌≡◌, IfOk};
+ghost use Rattle.std.specs.Prelude.{◌≡◌, IfOk, IsErrOf};
 ghost use Rattle.uuid.specs.Parts.{with_version, with_variant};
 ghost use Rattle.dir_model.specs.Local.{nothing_local};
-ghost use Rattle.dir_host.specs.Setup.{setup_status, setup_line};
+ghost use Rattle.dir_host.specs.Setup.{setup_status, setup_line, StandsFor};
+ghost use Rattle.dir_host.specs.declared.outside.SetupError.TheVariants.{NoMemory};
 
 use crate::dir::HostDir;
 use crate::place::{AREAS, path_of_area};
@@ -52,12 +53,16 @@ impl SetupError {
 }
 
 impl From<AllocError> for SetupError {
+    ghost from_gives = { λ _ error. error ≡ NoMemory };
+
     fn from(_error: AllocError) -> SetupError {
         SetupError::NoMemory
     }
 }
 
 impl From<io::Error> for SetupError {
+    ghost from_gives = { StandsFor };
+
     fn from(error: io::Error) -> SetupError {
         match error.kind() {
             ErrorKind::OutOfMemory => SetupError::NoMemory,
@@ -90,7 +95,9 @@ pub fn read_words<R: Env + AllocGlobal>(rt: &R) -> Result<Vec<String>, SetupErro
 
 /// The absolute path of the data folder: that of `RKT_DIR`, or `rkt` where it is unset or empty,
 /// seen from the current folder.
-fn find_root<R: Env + AllocGlobal>(rt: &R) -> Result<String, SetupError> {
+fn find_root<R: Env + AllocGlobal>(rt: &R) -> Result<String, SetupError>
+    ensures { IsErrOf result SetupError.Usage → ⊥ }
+{
     let named = match env::var(rt, "RKT_DIR") {
         Ok(named) if !named.is_empty() => named,
         Ok(_) | Err(VarError::NotPresent) => String::from_str(rt.alloc(), "rkt")?,
@@ -106,7 +113,9 @@ fn find_root<R: Env + AllocGlobal>(rt: &R) -> Result<String, SetupError> {
 }
 
 /// Makes the areas that are missing, and the folders above them.
-fn make_areas<R: Files + AllocGlobal>(rt: &R, root: &str) -> Result<(), SetupError> {
+fn make_areas<R: Files + AllocGlobal>(rt: &R, root: &str) -> Result<(), SetupError>
+    ensures { IsErrOf result SetupError.Usage → ⊥ }
+{
     for area in AREAS {
         let path = path_of_area(rt.alloc(), root, area)?;
         fs::create_dir_all(rt, path.as_str())?;
@@ -115,7 +124,9 @@ fn make_areas<R: Files + AllocGlobal>(rt: &R, root: &str) -> Result<(), SetupErr
 }
 
 /// The seconds since 1970, or 0 where the clock stands before.
-fn read_clock<R: Clock>(rt: &R) -> Result<u64, SetupError> {
+fn read_clock<R: Clock>(rt: &R) -> Result<u64, SetupError>
+    ensures { IsErrOf result SetupError.Usage → ⊥ }
+{
     match SystemTime::now(rt) {
         Ok(now) => match now.duration_since(UNIX_EPOCH) {
             Ok(since) => Ok(since.as_secs()),
@@ -136,7 +147,9 @@ fn pod_of(random: [u8; 16]) -> PodId
 }
 
 /// 96 bytes of the system's random source, of which the first 16 are an identity.
-fn draw_random<R: Files>(rt: &R) -> Result<Draw, SetupError> {
+fn draw_random<R: Files>(rt: &R) -> Result<Draw, SetupError>
+    ensures { IsErrOf result SetupError.Usage → ⊥ }
+{
     let mut source = File::open(rt, "/dev/urandom")?;
     let mut identity = [0; 16];
     source.read_exact(&mut identity)?;
@@ -157,6 +170,7 @@ pub fn assemble<R: Files<File = File> + Env + Clock + AllocGlobal + Drop>(
     rt: R,
     process: u32,
 ) -> Result<Outside<R>, SetupError>
+    ensures words { IsErrOf result SetupError.Usage → ⊥ }
     ensures local { IfOk result (λ outside. ⟦<HostDir<R> as Dir>⟧.local outside.dir ≡ nothing_local) }
     ensures process { IfOk result (λ outside. ⟦<HostDir<R> as Dir>⟧.process outside.dir ≡ process) }
     ensures faults { IfOk result (λ outside. ⟦<HostDir<R> as Dir>⟧.faults outside.dir ≡ 0) }

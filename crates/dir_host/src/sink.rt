@@ -1,5 +1,6 @@
 // A stream of the host is a `Sink`.
-ghost use Rattle.std.specs.Prelude.{◌≡◌, ◌≤◌, ◌<◌, length, IfOk};
+ghost use Rattle.std.specs.Prelude.{◌≡◌, ◌≤◌, ◌<◌, ◌↔◌, length, IfOk};
+ghost use Rattle.std.specs.IoError.{error_kind};
 
 use dir_trait::{Sink, SinkError};
 use std::alloc::Global;
@@ -36,6 +37,16 @@ fn write_part<W: Write>(writer: &mut W, piece: &[u8]) -> io::Result<usize>
     Err(io::Error::from(ErrorKind::Interrupted))
 }
 
+/// What a write that failed means.
+fn sink_error(error: io::Error) -> SinkError
+    ensures { (result ≡ SinkError.NoMemory) ↔ (error_kind error ≡ ErrorKind.OutOfMemory) }
+{
+    match error.kind() {
+        ErrorKind::OutOfMemory => SinkError::NoMemory,
+        _ => SinkError::Failed,
+    }
+}
+
 /// How many bytes were written, at least 1, or why none was.
 fn written<W: Write>(writer: &mut W, piece: &[u8]) -> Result<usize, SinkError>
     ensures most { IfOk result (λ n. n ≤ length piece.now) }
@@ -44,10 +55,7 @@ fn written<W: Write>(writer: &mut W, piece: &[u8]) -> Result<usize, SinkError>
     match write_part(writer, piece) {
         Ok(0) => Err(SinkError::Failed),
         Ok(count) => Ok(count),
-        Err(error) => match error.kind() {
-            ErrorKind::OutOfMemory => Err(SinkError::NoMemory),
-            _ => Err(SinkError::Failed),
-        },
+        Err(error) => Err(sink_error(error)),
     }
 }
 

@@ -1,6 +1,7 @@
 // What the system is asked, and what its answers mean. Nothing here counts faults: `Failed` is
 // counted by the directory that hands it on.
-ghost use Rattle.std.specs.Prelude.{◌≡◌, ◌⊎◌, true, IfErr};
+ghost use Rattle.std.specs.Prelude.{◌≡◌, ◌⊎◌, ◌↔◌, true, IfErr};
+ghost use Rattle.std.specs.IoError.{error_kind};
 ghost use Rattle.dir_model.specs.Replies.{is_fault, may_refuse};
 
 use crate::place::{path_of_area, path_of_folder};
@@ -27,7 +28,8 @@ fn short(_error: AllocError) -> DirError
 
 /// A failure of the system, where it means nothing else.
 fn fault(error: io::Error) -> DirError
-    ensures { is_fault result ≡ true }
+    ensures fault { is_fault result ≡ true }
+    ensures memory { (result ≡ DirError.NoMemory) ↔ (error_kind error ≡ ErrorKind.OutOfMemory) }
 {
     match error.kind() {
         ErrorKind::OutOfMemory => DirError::NoMemory,

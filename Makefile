@@ -1,0 +1,34 @@
+# Proves, builds, runs, tests and installs rkt. All that it needs is the kit's command `rt` on PATH.
+#
+#   make                            proves and builds build/rkt
+#   make run WORDS="status UUID"    runs it on these words, on the data folder RKT_DIR (build/data where that is unset)
+#   make test                       proves, tests and runs everything
+#   make install PREFIX=/usr/local  copies it to PREFIX/bin
+
+PREFIX ?= /usr/local
+WORDS ?= --help
+RKT_DIR ?= build/data
+
+SOURCES := crates.txt $(shell find crates -name out -prune -o -type f -print)
+
+.PHONY: all run test install clean
+
+all: build/rkt
+
+build/rkt: $(SOURCES)
+	cd crates/rkt && rt run -- --version
+	mkdir -p build
+	cp crates/rkt/out/rkt $@
+
+run: build/rkt
+	@RKT_DIR="$(RKT_DIR)" build/rkt $(WORDS); status=$$?; echo "status $$status"; exit $$status
+
+test:
+	rt ci
+
+install: build/rkt
+	install -d "$(DESTDIR)$(PREFIX)/bin"
+	install -m 755 build/rkt "$(DESTDIR)$(PREFIX)/bin/rkt"
+
+clean:
+	rm -rf build

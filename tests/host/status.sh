@@ -1,0 +1,271 @@
+#!/usr/bin/env bash
+# The built program on data folders of this host: the texts of a pod's phases, with and without
+# locks of another process, and what bad words, bad folders and bad streams get.
+set -u
+export LC_ALL=C
+unset RKT_DIR
+cd "$(dirname "$0")/../.." || exit 1
+
+built=$PWD/crates/rkt/out/rkt
+pod=00000000-0000-4000-8000-000000000001
+checks=0
+failures=0
+
+if [ ! -x "$built" ]; then
+    echo "status.sh: $built is missing: build the program first" >&2
+    exit 1
+fi
+tmp=$(mktemp -d) || exit 1
+trap 'chmod -R u+rwx "$tmp"; rm -rf "$tmp"' EXIT
+chmod 755 "$tmp"
+cp "$built" "$tmp/rkt-program"
+rkt=$tmp/rkt-program
+
+skip() {
+    echo "status.sh: skipped: $1"
+}
+
+fail() {
+    echo "status.sh: FAILED: $1" >&2
+    failures=$((failures + 1))
+}
+
+# same NAME WANTED GIVEN
+same() {
+    checks=$((checks + 1))
+    [ "$2" = "$3" ] || fail "$1: wanted '$2', got '$3'"
+}
+
+# expect NAME STATUS OUT ERR COMMAND..: OUT and ERR are whole lines, or empty.
+expect() {
+    local name=$1 wanted="$2|$3|$4" status out err
+    shift 4
+    "$@" >"$tmp/out" 2>"$tmp/err" 9<&-
+    status=$?
+    out=$(cat "$tmp/out" && echo .)
+    err=$(cat "$tmp/err" && echo .)
+    out=${out%.}
+    err=${err%.}
+    same "$name" "$wanted" "$status|${out%$'\n'}|${err%$'\n'}"
+    case $out$err in
+        '' | *$'\n') ;;
+        *) fail "$name: the last line has no line feed" ;;
+    esac
+}
+
+in_folder() {
+    local folder=$1
+    shift
+    (cd "$folder" && "$@")
+}
+
+usage() {
+    local name=$1
+    shift
+    RKT_DIR=$tmp/usage expect "usage: $name" 1 '' 'rkt: usage' "$rkt" "$@"
+}
+
+dir_fault() {
+    RKT_DIR=$2 expect "directory fault: $1" 9 '' 'rkt: directory fault' "$rkt" status $pod
+}
+
+areas() {
+    (cd "$1" && find . -mindepth 2 -type d | sort | tr '\n' ' ')
+}
+
+all_areas='./pods/embryo ./pods/exited-garbage ./pods/garbage ./pods/prepare ./pods/prepared ./pods/run ./store/images ./store/incoming ./store/removed ./store/trees '
+
+# The phases, by the pod's place and by who holds its lock.
+places=(embryo prepare prepared run exited-garbage garbage)
+free=('embryo' 'aborted prepare' 'prepared' 'exited' 'exited garbage' 'garbage')
+held=('embryo' 'preparing' 'prepared' 'running' 'deleting' 'deleting')
+
+export RKT_DIR=$tmp/data
+expect 'an empty folder' 2 '' 'rkt: no such pod' "$rkt" status $pod
+for i in "${!places[@]}"; do
+    folder=$RKT_DIR/pods/${places[$i]}/$pod
+    mkdir -p "$folder"
+    expect "${places[$i]}, not locked" 0 "state=${free[$i]}" '' "$rkt" status $pod
+    if command -v flock >/dev/null; then
+        exec 9<"$folder"
+        flock -n -x 9 || fail "${places[$i]}: no exclusive lock"
+        expect "${places[$i]}, locked exclusively" 0 "state=${held[$i]}" '' "$rkt" status $pod
+        flock -n -s 9 || fail "${places[$i]}: no shared lock"
+        expect "${places[$i]}, locked shared" 0 "state=${free[$i]}" '' "$rkt" status $pod
+        flock -n -x 9 || fail "${places[$i]}: a lock of the program is left"
+        exec 9<&-
+        expect "${places[$i]}, unlocked again" 0 "state=${free[$i]}" '' "$rkt" status $pod
+    else
+        skip "locks at ${places[$i]}: there is no flock"
+    fi
+    rmdir "$folder"
+done
+expect 'the folder is gone' 2 '' 'rkt: no such pod' "$rkt" status $pod
+
+# Something else at a pod's place is no pod.
+: >"$RKT_DIR/pods/embryo/$pod"
+expect 'a file at a pod'"'"'s place' 2 '' 'rkt: no such pod' "$rkt" status $pod
+rm "$RKT_DIR/pods/embryo/$pod"
+ln -s ../embryo "$RKT_DIR/pods/run/$pod"
+expect 'a link at a pod'"'"'s place' 2 '' 'rkt: no such pod' "$rkt" status $pod
+rm "$RKT_DIR/pods/run/$pod"
+if command -v mkfifo >/dev/null; then
+    mkfifo "$RKT_DIR/pods/garbage/$pod"
+    expect 'a pipe at a pod'"'"'s place' 2 '' 'rkt: no such pod' timeout 20 "$rkt" status $pod
+    rm "$RKT_DIR/pods/garbage/$pod"
+else
+    skip 'a pipe at a pod'"'"'s place: there is no mkfifo'
+fi
+
+# It changes nothing.
+mkdir -p "$RKT_DIR/pods/prepared/$pod/stage1" "$RKT_DIR/pods/run/00000000-0000-4000-8000-000000000002"
+echo text >"$RKT_DIR/pods/prepared/$pod/pod"
+listing() {
+    (cd "$RKT_DIR" && find . -printf '%p %y %m %u %s %i %T@ %C@\n' | sort)
+}
+if listing >/dev/null 2>&1; then
+    before=$(listing)
+    expect 'a pod with files' 0 'state=prepared' '' "$rkt" status $pod
+    expect 'no other pod' 2 '' 'rkt: no such pod' "$rkt" status 00000000-0000-4000-8000-000000000003
+    same 'status changes nothing' "$before" "$(listing)"
+else
+    skip 'that nothing changes: find has no -printf'
+fi
+rm -r "$RKT_DIR/pods/prepared/$pod"
+unset RKT_DIR
+
+# The words. Even a faulty command line makes the areas.
+usage 'no words'
+usage 'an unknown word' frob
+usage 'an empty word' ''
+usage 'status alone' status
+usage 'too many words' status $pod $pod
+usage 'an option' status --help
+usage 'help with more' --help --version
+usage 'an upper-case uuid' status 00000000-0000-4000-8000-00000000000A
+usage 'a short uuid' status 00000000-0000-4000-8000-00000000000
+usage 'a part of a uuid' status 0000
+usage 'a uuid without hyphens' status 00000000000040008000000000000001
+usage 'a uuid in braces' status "{$pod}"
+usage 'a word that is not UTF-8' $'\xff'
+usage 'a second word that is not UTF-8' status $'00000000-0000-4000-8000-00000000000\xff'
+same 'faulty words make the areas' "$all_areas" "$(areas "$tmp/usage")"
+rm -r "$tmp/usage"
+RKT_DIR=$tmp/usage "$rkt" $'\xff' 2>/dev/null
+same 'a word that is not UTF-8 makes the areas' "$all_areas" "$(areas "$tmp/usage")"
+
+# Help and version ask the host for nothing.
+for word in --help --version; do
+    RKT_DIR=$tmp/file/none "$rkt" $word >"$tmp/out" 2>"$tmp/err"
+    same "$word: status" 0 $?
+    same "$word: errors" '' "$(cat "$tmp/err")"
+    [ -s "$tmp/out" ] || fail "$word prints nothing"
+    mkdir -p "$tmp/alone"
+    in_folder "$tmp/alone" "$rkt" $word >/dev/null
+    same "$word makes nothing" '' "$(ls -A "$tmp/alone")"
+done
+
+# Where the data folder is.
+mkdir "$tmp/here"
+where() {
+    in_folder "$tmp/here" "$rkt" status $pod 2>/dev/null
+    same "$1" "$all_areas" "$(areas "$tmp/here/$2")"
+    rm -rf "$tmp/here"
+    mkdir "$tmp/here"
+}
+where 'RKT_DIR unset' rkt
+RKT_DIR='' where 'RKT_DIR empty' rkt
+RKT_DIR=own where 'RKT_DIR relative' own
+RKT_DIR=../here/./own where 'RKT_DIR relative, with dots' own
+RKT_DIR=a/b/c where 'RKT_DIR with missing parents' a/b/c
+RKT_DIR=$tmp/here/deep/er/ where 'RKT_DIR absolute, with missing parents' deep/er
+mkdir -p "$tmp/here/rkt/pods/run/$pod"
+expect 'a pod below the current folder' 0 'state=exited' '' in_folder "$tmp/here" "$rkt" status $pod
+
+# Data folders that can't be used.
+: >"$tmp/file"
+dir_fault 'the data folder is a file' "$tmp/file"
+dir_fault 'the data folder is below a file' "$tmp/file/data"
+dir_fault 'the data folder is not UTF-8' "$tmp/"$'\xff'
+dir_fault 'the path is too long' "$tmp/$(printf 'x%.0s' {1..5000})"
+ln -s nowhere "$tmp/link"
+dir_fault 'the data folder is a link to nothing' "$tmp/link"
+for area in pods store pods/embryo pods/prepare pods/prepared pods/run pods/exited-garbage pods/garbage \
+    store/incoming store/images store/trees store/removed; do
+    rm -rf "$tmp/bad"
+    mkdir -p "$tmp/bad/$(dirname $area)"
+    : >"$tmp/bad/$area"
+    dir_fault "$area is a file" "$tmp/bad"
+done
+RKT_DIR=$tmp/bad expect 'a faulty word on a bad folder' 9 '' 'rkt: directory fault' "$rkt" frob
+mkdir "$tmp/gone"
+expect 'the current folder is gone' 9 '' 'rkt: directory fault' in_folder "$tmp/gone" sh -c 'rmdir "$0" && exec "$@"' "$tmp/gone" "$rkt" status $pod
+
+# Folders that another user may not use.
+as_user=()
+if [ "$(id -u)" -eq 0 ]; then
+    as_user=(setpriv --reuid=65534 --regid=65534 --clear-groups)
+fi
+if [ ${#as_user[@]} -eq 0 ] || "${as_user[@]}" "$rkt" --version >/dev/null 2>&1; then
+    mkdir -p "$tmp/others/pods"
+    RKT_DIR=$tmp/others "$rkt" status $pod 2>/dev/null
+    mkdir "$tmp/others/pods/run/$pod"
+    RKT_DIR=$tmp/others expect 'a folder of another user' 0 'state=exited' '' "${as_user[@]}" "$rkt" status $pod
+    chmod 000 "$tmp/others/pods/run/$pod"
+    RKT_DIR=$tmp/others expect 'an unreadable pod' 9 '' 'rkt: directory fault' "${as_user[@]}" "$rkt" status $pod
+    chmod 755 "$tmp/others/pods/run/$pod"
+    chmod 000 "$tmp/others/pods/prepare"
+    RKT_DIR=$tmp/others expect 'an unreadable area' 9 '' 'rkt: directory fault' "${as_user[@]}" "$rkt" status $pod
+    chmod 755 "$tmp/others/pods/prepare"
+    chmod 555 "$tmp/others"
+    rmdir "$tmp/others/store/trees"
+    chmod 555 "$tmp/others/store"
+    RKT_DIR=$tmp/others expect 'an area that may not be made' 9 '' 'rkt: directory fault' "${as_user[@]}" "$rkt" status $pod
+else
+    skip 'unreadable folders: root may read all, and there is no setpriv'
+fi
+
+# Streams that can't be written.
+export RKT_DIR=$tmp/streams
+mkdir -p "$RKT_DIR/pods/run/$pod"
+to_full() { "$@" >/dev/full; }
+to_closed() { "$@" >&-; }
+# A pipe whose one reader has closed it.
+to_nobody() {
+    mkfifo "$tmp/pipe"
+    exec 8<>"$tmp/pipe" 7>"$tmp/pipe" 8<&-
+    "$@" >&7 7>&-
+    local status=$?
+    exec 7>&-
+    return $status
+}
+err_closed() { "$@" 2>&-; }
+err_full() { "$@" 2>/dev/full; }
+streamed() {
+    local name=$1 wanted=$2 text=$3 status
+    shift 3
+    "$@" >"$tmp/out" 2>"$tmp/err"
+    status=$?
+    same "$name" "$wanted|$text" "$status|$(cat "$tmp/out" "$tmp/err")"
+}
+if [ -c /dev/full ]; then
+    streamed 'a full output' 12 'rkt: output fault' to_full "$rkt" status $pod
+    streamed 'a full output for the help' 12 'rkt: output fault' to_full "$rkt" --help
+    streamed 'a full output for the version' 12 'rkt: output fault' to_full "$rkt" --version
+    streamed 'a full output that nothing is written to' 1 'rkt: usage' to_full "$rkt" frob
+    streamed 'full errors' 1 '' err_full "$rkt" frob
+    streamed 'full errors that nothing is written to' 0 'state=exited' err_full "$rkt" status $pod
+else
+    skip 'full streams: there is no /dev/full'
+fi
+streamed 'a closed output' 12 'rkt: output fault' to_closed "$rkt" status $pod
+streamed 'a closed output for the help' 12 'rkt: output fault' to_closed "$rkt" --help
+if command -v mkfifo >/dev/null; then
+    streamed 'an output that nobody reads' 12 'rkt: output fault' to_nobody "$rkt" status $pod
+else
+    skip 'an output that nobody reads: there is no mkfifo'
+fi
+streamed 'closed errors' 2 '' err_closed "$rkt" status 00000000-0000-4000-8000-000000000009
+
+echo "status.sh: $checks checks, $failures failed"
+[ $failures -eq 0 ]
