@@ -1,12 +1,19 @@
 //! Names, image IDs, references, labels, and the readers of JSON fields.
 #![tactic(auto)]
 
+pub mod ac_identifier;
+pub mod ac_name;
 pub mod memory;
+pub mod name_error;
 pub mod sequence;
 pub mod text;
 pub mod try_copy;
+mod word_scan;
 
+pub use ac_identifier::AcIdentifier;
+pub use ac_name::AcName;
 pub use memory::NoMemory;
+pub use name_error::NameError;
 pub use sequence::{Sequence, Texts};
 pub use text::Text;
 pub use try_copy::TryCopy;
