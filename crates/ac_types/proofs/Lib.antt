@@ -1,1 +1,3 @@
+pub mod LabelPlaces
+pub mod LeastPlace
 pub mod Words

@@ -1,2 +1,4 @@
+pub mod FirstBelow
+pub mod Labels
 pub mod Names
 pub mod Separators

@@ -3,6 +3,8 @@
 
 pub mod ac_identifier;
 pub mod ac_name;
+pub mod label;
+pub mod labels;
 pub mod memory;
 pub mod name_error;
 pub mod sequence;
@@ -12,6 +14,8 @@ mod word_scan;
 
 pub use ac_identifier::AcIdentifier;
 pub use ac_name::AcName;
+pub use label::{Label, LabelFault};
+pub use labels::Labels;
 pub use memory::NoMemory;
 pub use name_error::NameError;
 pub use sequence::{Sequence, Texts};
