@@ -5,7 +5,8 @@ use Rattle.std.proofs.Common.{Bor, nat_eq}
 use Rattle.std.proofs.lemmas.Bool.Decides.{nat_tests}
 use Rattle.std.specs.List.{list_any}
 use Rattle.std.proofs.lemmas.List.{get_or-map, length-map}
-use Rattle.ac_types.specs.Labels.{name_at, value_at, place_of, same_text, is_reserved, came_before, name_fault, architectures, platform_fault}
+use Rattle.ac_types.specs.Labels.{name_at, value_at, place_of, is_reserved, came_before, name_fault, architectures, platform_fault}
+use Rattle.std.specs.Str.{bytes_eq}
 use Rattle.ac_types.specs.declared.label.Label.{Label}
 use Rattle.ac_types.specs.declared.label.LabelFault.TheVariants.{LabelTwice, LabelName, BadArch}
 use Rattle.ac_types.proofs.LeastPlace.{first_none, first_found}
@@ -19,16 +20,16 @@ value_read ls k l h is = get_or-map (λ (m : Label). m.value) ls k l [] h ∙ ap
 
 -- the names before a place are all others than this
 abbrev pub AllOthers : List ℕ → List Label → ℕ → Type 0
-AllOthers name ls i = (k : ℕ) → k < i → same_text (name_at ls k) name ≡ false
+AllOthers name ls i = (k : ℕ) → k < i → bytes_eq (name_at ls k) name ≡ false
 
 pub place_found : (name : List ℕ) (ls : List Label) (i : ℕ) → AllOthers name ls i → i < length ls
-    → same_text (name_at ls i) name ≡ true → Some i ≡ place_of name ls
+    → bytes_eq (name_at ls i) name ≡ true → Some i ≡ place_of name ls
 place_found name ls i others within here =
-    sym (first_found (λ k. same_text (name_at ls k) name) (length ls) i others within here)
+    sym (first_found (λ k. bytes_eq (name_at ls k) name) (length ls) i others within here)
 
 pub place_none : (name : List ℕ) (ls : List Label) (i : ℕ) → AllOthers name ls i → length ls ≤ i → None ≡ place_of name ls
 place_none name ls i others past =
-    sym (first_none (λ k. same_text (name_at ls k) name) (length ls) (λ k h. others k (omega arith)))
+    sym (first_none (λ k. bytes_eq (name_at ls k) name) (length ls) (λ k h. others k (omega arith)))
 
 -- the names before a place may all stand
 abbrev pub AllStand : List Label → ℕ → Type 0
@@ -59,9 +60,9 @@ both_stand ls i one other = rw (one, other) refl
 
 -- what a look among the labels before a place says, by the name that was read there
 pub before : (ls : List Label) (i : ℕ) {name : List ℕ} {b : Bool} → name_at ls i ≡ name
-    → list_any (λ (l : Label). same_text l.name name) (take i ls) ≡ b → came_before ls i ≡ b
+    → list_any (λ (l : Label). bytes_eq l.name name) (take i ls) ≡ b → came_before ls i ≡ b
 before ls i {name} {b} is found =
-    ap (λ (n : List ℕ). list_any (λ (l : Label). same_text l.name n) (take i ls)) is
+    ap (λ (n : List ℕ). list_any (λ (l : Label). bytes_eq l.name n) (take i ls)) is
     ∙ found
 
 -- a test of the texts that references show
@@ -74,7 +75,7 @@ any_now p (t ∷ ts) = ap (λ (b : Bool). p t.now || b) (any_now p ts)
 pub arch_judged : (ls : List Label) (os arch : ℕ) (known : List (List ℕ)) (b : Bool)
     → Some os ≡ place_of (codes "os") ls → Some arch ≡ place_of (codes "arch") ls
     → known ≡ architectures (value_at ls os) → 0 < length known
-    → list_any (λ (a : List ℕ). same_text a (value_at ls arch)) known ≡ b
+    → list_any (λ (a : List ℕ). bytes_eq a (value_at ls arch)) known ≡ b
     → platform_fault ls ≡ (if b then None else Some (BadArch arch))
 arch_judged ls os arch [] b at_os at_arch is some among = absurd (omega arith)
 arch_judged ls os arch (a ∷ known) b at_os at_arch is some among =
@@ -88,11 +89,11 @@ pub platform_judged : (ls : List Label) (os arch : ℕ) (known : List (Bor (List
     → Some os ≡ place_of (codes "os") ls → Some arch ≡ place_of (codes "arch") ls
     → name ≡ value_at ls os → value ≡ value_at ls arch
     → map (λ (t : Bor (List ℕ)). t.now) known ≡ architectures name → nat_eq (length known) 0 ≡ false
-    → list_any (λ (t : Bor (List ℕ)). same_text t.now value) known ≡ b
+    → list_any (λ (t : Bor (List ℕ)). bytes_eq t.now value) known ≡ b
     → platform_fault ls ≡ (if b then None else Some (BadArch arch))
 platform_judged ls os arch known b {name} {value} at_os at_arch name_is value_is is some among =
     let more : 0 < length known = grind (arith, nat_tests) in
     arch_judged ls os arch (map (λ (t : Bor (List ℕ)). t.now) known) b at_os at_arch (is ∙ ap architectures name_is)
         (rw length-map more)
-        (sym (any_now (λ (a : List ℕ). same_text a (value_at ls arch)) known)
-        ∙ ap (λ (v : List ℕ). list_any (λ (t : Bor (List ℕ)). same_text t.now v) known) (sym value_is) ∙ among)
+        (sym (any_now (λ (a : List ℕ). bytes_eq a (value_at ls arch)) known)
+        ∙ ap (λ (v : List ℕ). list_any (λ (t : Bor (List ℕ)). bytes_eq t.now v) known) (sym value_is) ∙ among)

@@ -1,3 +1,4 @@
+pub mod IdTexts
 pub mod LabelPlaces
 pub mod LeastPlace
 pub mod Words

@@ -1,16 +1,12 @@
 -- Labels: their values by name, and which lists of labels may stand.
-use Rattle.std.specs.Prelude.{ℕ, Bool, ◌||◌, nat_eq, List, [], ◌∷◌, Option, Some, None, option_map, map, take, length, codes, slice_index_or, if◌then◌else◌}
+use Rattle.std.specs.Prelude.{ℕ, Bool, ◌||◌, List, [], ◌∷◌, Option, Some, None, option_map, map, take, length, codes, slice_index_or, if◌then◌else◌}
 use Rattle.std.specs.List.{list_any}
 use Rattle.std.specs.Option.{option_or}
+use Rattle.std.specs.Str.{bytes_eq}
 use Rattle.ac_types.specs.FirstBelow.{first_below}
 use Rattle.ac_types.specs.declared.label.Label.{Label}
 use Rattle.ac_types.specs.declared.label.LabelFault.{LabelFault}
 use Rattle.ac_types.specs.declared.label.LabelFault.TheVariants.{LabelTwice, LabelName, BadOs, BadArch}
-use lib.Pointwise.{pointwise}
-
--- the two texts have the same bytes
-abbrev pub same_text : List ℕ → List ℕ → Bool
-same_text = pointwise nat_eq
 
 -- the name and the value of the label at a place
 abbrev pub name_at : List Label → ℕ → List ℕ
@@ -20,7 +16,7 @@ value_at ls k = slice_index_or (map (λ (l : Label). l.value) ls) k []
 
 -- the place of the first label of that name
 abbrev pub place_of : List ℕ → List Label → Option ℕ
-place_of name ls = first_below (λ k. same_text (name_at ls k) name) (length ls)
+place_of name ls = first_below (λ k. bytes_eq (name_at ls k) name) (length ls)
 
 -- the value of the first label of that name
 abbrev pub value_of : List ℕ → List Label → Option (List ℕ)
@@ -28,11 +24,11 @@ value_of name ls = option_map (value_at ls) (place_of name ls)
 
 -- a label before that place has the same name
 abbrev pub came_before : List Label → ℕ → Bool
-came_before ls k = list_any (λ (l : Label). same_text l.name (name_at ls k)) (take k ls)
+came_before ls k = list_any (λ (l : Label). bytes_eq l.name (name_at ls k)) (take k ls)
 
 -- the label at that place is named `name`
 abbrev pub is_reserved : List Label → ℕ → Bool
-is_reserved ls k = same_text (name_at ls k) (codes "name")
+is_reserved ls k = bytes_eq (name_at ls k) (codes "name")
 
 -- the first label that is named `name`, or whose name came before
 abbrev pub name_fault : List Label → Option LabelFault
@@ -43,17 +39,17 @@ name_fault ls =
 -- the architectures of an operating system; none where it is not known
 abbrev pub architectures : List ℕ → List (List ℕ)
 architectures os =
-    if same_text os (codes "linux") then
+    if bytes_eq os (codes "linux") then
         codes "amd64" ∷ codes "i386" ∷ codes "aarch64" ∷ codes "aarch64_be" ∷ codes "armv6l" ∷ codes "armv7l"
         ∷ codes "armv7b" ∷ codes "ppc64" ∷ codes "ppc64le" ∷ codes "s390x" ∷ []
-    else if same_text os (codes "freebsd") then codes "amd64" ∷ codes "i386" ∷ codes "arm" ∷ []
-    else if same_text os (codes "darwin") then codes "x86_64" ∷ codes "i386" ∷ []
+    else if bytes_eq os (codes "freebsd") then codes "amd64" ∷ codes "i386" ∷ codes "arm" ∷ []
+    else if bytes_eq os (codes "darwin") then codes "x86_64" ∷ codes "i386" ∷ []
     else []
 
 -- the fault of the label `arch` at a place, if there is one: it is not among those known
 abbrev pub arch_fault : List (List ℕ) → List Label → Option ℕ → Option LabelFault
 arch_fault known ls None = None
-arch_fault known ls (Some k) = if list_any (λ a. same_text a (value_at ls k)) known then None else Some (BadArch k)
+arch_fault known ls (Some k) = if list_any (λ a. bytes_eq a (value_at ls k)) known then None else Some (BadArch k)
 
 -- an operating system at a place that is not known, or else the fault of `arch`
 abbrev pub platform_fault_of : List (List ℕ) → ℕ → List Label → Option LabelFault

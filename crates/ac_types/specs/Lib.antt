@@ -1,4 +1,5 @@
 pub mod FirstBelow
+pub mod Ids
 pub mod Labels
 pub mod Names
 pub mod Separators

@@ -1,7 +1,8 @@
 ghost use Rattle.std.specs.Prelude.{◌≡◌, Some, None, MatchResult, option_map, ◌<◌, ◌≤◌, length, map, MatchOption, ⊤};
 ghost use Rattle.ac_types.specs.declared.label.Label.{Label};
 ghost use Rattle.std.specs.List.{list_any};
-ghost use Rattle.ac_types.specs.Labels.{architectures, label_fault, name_fault, place_of, platform_fault, same_text, value_of};
+ghost use Rattle.std.specs.Str.{bytes_eq};
+ghost use Rattle.ac_types.specs.Labels.{architectures, label_fault, name_fault, place_of, platform_fault, value_of};
 
 use crate::label::{Label, LabelFault};
 use crate::sequence::Sequence;
@@ -45,7 +46,7 @@ fn place_of(labels: &[Label], name: &str) -> Option<usize>
 }
 
 fn has_name(labels: &[Label], name: &str) -> bool
-    ensures { result ≡ list_any (λ (l : Label). same_text l.name name.now) labels.now }
+    ensures { result ≡ list_any (λ (l : Label). bytes_eq l.name name.now) labels.now }
 {
     labels.iter().any(|label| label.name.as_str() == name)
 }
@@ -85,7 +86,7 @@ fn check_platform(labels: &[Label]) -> Result<(), LabelFault>
 }
 
 fn is_among(texts: &[&str], text: &str) -> bool
-    ensures { result ≡ list_any (λ t. same_text t.now text.now) texts.now }
+    ensures { result ≡ list_any (λ t. bytes_eq t.now text.now) texts.now }
 {
     texts.iter().any(|t| *t == text)
 }

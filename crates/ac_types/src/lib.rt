@@ -3,21 +3,26 @@
 
 pub mod ac_identifier;
 pub mod ac_name;
+mod hex_digits;
+pub mod image_id;
 pub mod label;
 pub mod labels;
 pub mod memory;
 pub mod name_error;
 pub mod sequence;
+pub mod store_key;
 pub mod text;
 pub mod try_copy;
 mod word_scan;
 
 pub use ac_identifier::AcIdentifier;
 pub use ac_name::AcName;
+pub use image_id::{BadId, ImageId};
 pub use label::{Label, LabelFault};
 pub use labels::Labels;
 pub use memory::NoMemory;
 pub use name_error::NameError;
 pub use sequence::{Sequence, Texts};
+pub use store_key::StoreKey;
 pub use text::Text;
 pub use try_copy::TryCopy;
