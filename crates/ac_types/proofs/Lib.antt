@@ -1,3 +1,4 @@
+pub mod Elements
 pub mod IdTexts
 pub mod LabelPlaces
 pub mod LeastPlace

@@ -1,5 +1,9 @@
+pub mod FaultNumbers
+pub mod FieldForms
 pub mod FirstBelow
 pub mod Ids
+pub mod JsonPaths
 pub mod Labels
 pub mod Names
+pub mod Outcomes
 pub mod Separators

@@ -3,8 +3,11 @@
 
 pub mod ac_identifier;
 pub mod ac_name;
+pub mod fault;
+pub mod field_readers;
 mod hex_digits;
 pub mod image_id;
+pub mod json_path;
 pub mod label;
 pub mod labels;
 pub mod memory;
@@ -17,7 +20,10 @@ mod word_scan;
 
 pub use ac_identifier::AcIdentifier;
 pub use ac_name::AcName;
+pub use fault::{Fault, FaultKind, ReadError};
+pub use field_readers::{fault_at, field, field_fault, flag_field, list_field, text_field, whole_field};
 pub use image_id::{BadId, ImageId};
+pub use json_path::{element_path, field_path};
 pub use label::{Label, LabelFault};
 pub use labels::Labels;
 pub use memory::NoMemory;
