@@ -38,7 +38,7 @@ pub text_read : (n : ℕ) (bytes : List ℕ) → AreBytes n bytes → id_read n 
 unfolding id_read id_text
 text_read n bytes are =
     let same : bytes_eq (encode_lower bytes) (encode_lower bytes) ≡ true =
-        (bytes_eq-Decides (encode_lower bytes) (encode_lower bytes)).1 refl in
+    (bytes_eq-Decides (encode_lower bytes) (encode_lower bytes)).1 refl in
     rw (decode_sized-encode_lower bytes n are.0 are.1, same) refl
 
 pub no_text : (n : ℕ) (text : List ℕ) → id_read n text ≡ None → (bytes : List ℕ) → AreBytes n bytes → text ≢ id_text bytes
@@ -88,6 +88,7 @@ no_key text long short key are (inr (more, m, is)) =
   where
     len : length (key ++ more) ≡ 64
     len = omega (arith, length-append key more, are.0, m.0)
+
     small : (k : ℕ) → get_or (key ++ more) k 0 < 256
     small k = by_side k (cases_lt k (length key))
       where

@@ -94,6 +94,6 @@ pub platform_judged : (ls : List Label) (os arch : ℕ) (known : List (Bor (List
 platform_judged ls os arch known b {name} {value} at_os at_arch name_is value_is is some among =
     let more : 0 < length known = grind (arith, nat_tests) in
     arch_judged ls os arch (map (λ (t : Bor (List ℕ)). t.now) known) b at_os at_arch (is ∙ ap architectures name_is)
-        (rw length-map more)
-        (sym (any_now (λ (a : List ℕ). bytes_eq a (value_at ls arch)) known)
-        ∙ ap (λ (v : List ℕ). list_any (λ (t : Bor (List ℕ)). bytes_eq t.now v) known) (sym value_is) ∙ among)
+    (rw length-map more)
+    (sym (any_now (λ (a : List ℕ). bytes_eq a (value_at ls arch)) known)
+    ∙ ap (λ (v : List ℕ). list_any (λ (t : Bor (List ℕ)). bytes_eq t.now v) known) (sym value_is) ∙ among)

@@ -135,11 +135,14 @@ pub stopped : (s : Separators) (inside : Bool) (bs : List ℕ) (i : ℕ) → i <
     → IsScanned (separates s) inside (take i bs)
     → (are_words (separates s) bs ≡ false) × IsLongestBeginning (separates s) bs i
 stopped s inside bs i within may before =
-    let past = ends_there s inside bs i within may before in
-    ( sym (whole (separates s) bs (length bs) (omega arith)) ∙ past (length bs) (omega arith) within []
-    , ( omega arith
-      , begins (separates s) (a_word s) inside (take i bs) before
-      , λ m small (rest, e). not_past m small rest e (cases_lt i m)))
+    let past = ends_there s inside bs i within may before in (
+      sym (whole (separates s) bs (length bs) (omega arith)) ∙ past (length bs) (omega arith) within [],
+      (
+        omega arith,
+        begins (separates s) (a_word s) inside (take i bs) before,
+        λ m small (rest, e). not_past m small rest e (cases_lt i m),
+      ),
+    )
   where
     not_past : (m : ℕ) → m ≤ length bs → (rest : List ℕ) → are_words (separates s) (take m bs ++ rest) ≡ true
         → (i < m) ⊎ (m ≤ i) → m ≤ i
@@ -154,8 +157,11 @@ read_whole sep bs n h scanned = sym (whole sep bs n h) ∙ scanned []
 -- all bytes were read, and words have to follow
 pub broken_off : (s : Separators) (bs : List ℕ) (n : ℕ) → length bs ≤ n → IsScanned (separates s) false (take n bs)
     → (are_words (separates s) bs ≡ false) × IsLongestBeginning (separates s) bs (length bs)
-broken_off s bs n h scanned =
-    ( sym (whole (separates s) bs n h) ∙ scanned []
-    , ( omega arith
-      , rw (take_all (length bs) bs (omega arith), ← take_all n bs h) (begins (separates s) (a_word s) false (take n bs) scanned)
-      , λ m small _. small))
+broken_off s bs n h scanned = (
+  sym (whole (separates s) bs n h) ∙ scanned [],
+  (
+    omega arith,
+    rw (take_all (length bs) bs (omega arith), ← take_all n bs h) (begins (separates s) (a_word s) false (take n bs) scanned),
+    λ m small _. small,
+  ),
+)

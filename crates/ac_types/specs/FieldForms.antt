@@ -34,6 +34,7 @@ text at d = wanted at (as_str d)
 abbrev pub filled : List ℕ → List ℕ → Outcome (List ℕ)
 filled at [] = fails at Missing
 filled at (b ∷ bs) = reads (b ∷ bs)
+
 abbrev pub filled_text : List ℕ → Data → Outcome (List ℕ)
 filled_text at d = text at d >>= filled at
 
@@ -49,6 +50,7 @@ members at d = wanted at (as_object d)
 abbrev pub elements : Items → List Data
 elements no_items = []
 elements (item d ds) = d ∷ elements ds
+
 abbrev pub list : List ℕ → Data → Outcome (List Data)
 list at d = wanted at (option_map elements (as_array d))
 
@@ -57,6 +59,7 @@ abbrev pub at_most : ℕ → List ℕ → Num → Outcome ℕ
 at_most max at (unsigned n) = if nat_le n max then reads n else fails at OutOfRange
 at_most max at (negative z) = fails at OutOfRange
 at_most max at (float x) = fails at Fraction
+
 abbrev pub whole : ℕ → List ℕ → Data → Outcome ℕ
 whole max at d = wanted at (as_number d) >>= at_most max at
 
@@ -64,6 +67,7 @@ whole max at d = wanted at (as_number d) >>= at_most max at
 abbrev pub optional_at : {A : Type 0} → (List ℕ → Data → Outcome A) → List ℕ → Option Data → Outcome (Option A)
 optional_at form path None = reads None
 optional_at form path (Some d) = form path d >>= λ value. reads (Some value)
+
 abbrev pub optional : {A : Type 0} → (List ℕ → Data → Outcome A) → List ℕ → List ℕ → Data → Outcome (Option A)
 optional form at name d = optional_at form (field_path at name) (present name d)
 
@@ -71,6 +75,7 @@ optional form at name d = optional_at form (field_path at name) (present name d)
 abbrev pub default_at : {A : Type 0} → A → (List ℕ → Data → Outcome A) → List ℕ → Option Data → Outcome A
 default_at standard form path None = reads standard
 default_at standard form path (Some d) = form path d
+
 abbrev pub default : {A : Type 0} → A → (List ℕ → Data → Outcome A) → List ℕ → List ℕ → Data → Outcome A
 default standard form at name d = default_at standard form (field_path at name) (present name d)
 
@@ -78,6 +83,7 @@ default standard form at name d = default_at standard form (field_path at name) 
 abbrev pub required_at : {A : Type 0} → (List ℕ → Data → Outcome A) → List ℕ → Option Data → Outcome A
 required_at form path None = fails path Missing
 required_at form path (Some d) = form path d
+
 abbrev pub required : {A : Type 0} → (List ℕ → Data → Outcome A) → List ℕ → List ℕ → Data → Outcome A
 required form at name d = required_at form (field_path at name) (present name d)
 

@@ -11,6 +11,7 @@ use Rattle.ac_types.specs.declared.label.LabelFault.TheVariants.{LabelTwice, Lab
 -- the name and the value of the label at a place
 abbrev pub name_at : List Label → ℕ → List ℕ
 name_at ls k = slice_index_or (map (λ (l : Label). l.name) ls) k []
+
 abbrev pub value_at : List Label → ℕ → List ℕ
 value_at ls k = slice_index_or (map (λ (l : Label). l.value) ls) k []
 
@@ -34,14 +35,14 @@ is_reserved ls k = bytes_eq (name_at ls k) (codes "name")
 abbrev pub name_fault : List Label → Option LabelFault
 name_fault ls =
     option_map (λ k. if is_reserved ls k then LabelName k else LabelTwice k)
-        (first_below (λ k. is_reserved ls k || came_before ls k) (length ls))
+    (first_below (λ k. is_reserved ls k || came_before ls k) (length ls))
 
 -- the architectures of an operating system; none where it is not known
 abbrev pub architectures : List ℕ → List (List ℕ)
 architectures os =
     if bytes_eq os (codes "linux") then
-        codes "amd64" ∷ codes "i386" ∷ codes "aarch64" ∷ codes "aarch64_be" ∷ codes "armv6l" ∷ codes "armv7l"
-        ∷ codes "armv7b" ∷ codes "ppc64" ∷ codes "ppc64le" ∷ codes "s390x" ∷ []
+    codes "amd64" ∷ codes "i386" ∷ codes "aarch64" ∷ codes "aarch64_be" ∷ codes "armv6l" ∷ codes "armv7l"
+    ∷ codes "armv7b" ∷ codes "ppc64" ∷ codes "ppc64le" ∷ codes "s390x" ∷ []
     else if bytes_eq os (codes "freebsd") then codes "amd64" ∷ codes "i386" ∷ codes "arm" ∷ []
     else if bytes_eq os (codes "darwin") then codes "x86_64" ∷ codes "i386" ∷ []
     else []

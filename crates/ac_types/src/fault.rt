@@ -152,7 +152,12 @@ impl fmt::Display for ReadError {
     fn fmt<W: fmt::Write>(&self, f: &mut fmt::Formatter<W>) -> fmt::Result {
         match self {
             ReadError::Bad(fault) => {
-                write!(f, "refusal {} at {}", fault.kind.number(), fault.path.as_str())
+                write!(
+                    f,
+                    "refusal {} at {}",
+                    fault.kind.number(),
+                    fault.path.as_str()
+                )
             }
             ReadError::NoMemory => write!(f, "out of memory"),
         }

@@ -115,10 +115,18 @@ fn whole_number(value: &Value, max: u64) -> Result<u64, FaultKind>
     ensures { (at : List ℕ) → MatchResult result (λ n. whole max at (view value.now) ≡ reads n) (λ kind. whole max at (view value.now) ≡ fails at kind) }
 {
     if let Some(number) = value.as_u64() {
-        return if number <= max { Ok(number) } else { Err(FaultKind::OutOfRange) };
+        return if number <= max {
+            Ok(number)
+        } else {
+            Err(FaultKind::OutOfRange)
+        };
     }
     if value.as_i64().is_some() {
         return Err(FaultKind::OutOfRange);
     }
-    Err(if value.is_number() { FaultKind::Fraction } else { FaultKind::WrongKind })
+    Err(if value.is_number() {
+        FaultKind::Fraction
+    } else {
+        FaultKind::WrongKind
+    })
 }

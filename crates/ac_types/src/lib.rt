@@ -21,7 +21,9 @@ mod word_scan;
 pub use ac_identifier::AcIdentifier;
 pub use ac_name::AcName;
 pub use fault::{Fault, FaultKind, ReadError};
-pub use field_readers::{fault_at, field, field_fault, flag_field, list_field, text_field, whole_field};
+pub use field_readers::{
+    fault_at, field, field_fault, flag_field, list_field, text_field, whole_field,
+};
 pub use image_id::{BadId, ImageId};
 pub use json_path::{element_path, field_path};
 pub use label::{Label, LabelFault};

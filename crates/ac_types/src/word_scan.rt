@@ -50,11 +50,7 @@ fn first_bad_byte(bytes: &[u8], separators: Separators) -> Option<usize>
 }
 
 /// Whether the text is words with one separator between two of them, of at most `limit` bytes.
-pub(crate) fn check_words(
-    text: &str,
-    separators: Separators,
-    limit: usize,
-) -> Result<(), NameError>
+pub(crate) fn check_words(text: &str, separators: Separators, limit: usize) -> Result<(), NameError>
     ensures ok { MatchResult result (λ _. are_words (separates separators) text.now ≡ true) (λ _. ⊤) }
     ensures short { MatchResult result (λ _. length text.now ≤ limit) (λ _. ⊤) }
     ensures err { MatchResult result (λ _. ⊤) (IsNameFault (separates separators) limit text.now) }
