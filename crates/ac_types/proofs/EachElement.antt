@@ -1,11 +1,13 @@
 -- Reading the elements of a list one after the other.
 use Rattle.std.proofs.Common.{◌≡◌, ℕ, ◌<◌, ◌≤◌, ◌+◌, List, [], ◌∷◌, ◌++◌, get_or, drop, length, map, refl, sym, ◌∙◌, ap, subst, arith}
-use Rattle.std.proofs.lemmas.List.{drop_more, drop-past, get_or-map, length-map, map-append}
+use Rattle.std.proofs.lemmas.List.{drop_more, drop_all, get_or-map, length-map, length-append, map-append}
 use Rattle.serde_json.specs.Data.{Data, null}
 use Rattle.serde_json.specs.View.{view}
 use Rattle.serde_json.specs.declared.value.Value.{Value}
 use Rattle.ac_types.specs.JsonPaths.{element_path}
-use Rattle.ac_types.specs.Outcomes.{Outcome, reads, fails, ◌>>=◌}
+use Rattle.ac_types.specs.Outcomes.{Outcome, reads, fails, ◌>>=◌, IsFaultOf}
+use Rattle.ac_types.specs.declared.fault.ReadError.{ReadError}
+use Rattle.ac_types.specs.declared.fault.ReadError.TheVariants.{Bad, NoMemory}
 use Rattle.ac_types.specs.FieldForms.{each_after}
 use Rattle.ac_types.specs.declared.fault.FaultKind.{FaultKind}
 
@@ -52,5 +54,22 @@ read_fault form at vs before i v path kind within is read so_far =
 pub read_all : {A : Type 0} (form : List A → List ℕ → Data → Outcome A) (at : List ℕ) (vs : List Value) (before : List A)
     (i : ℕ) → length vs ≤ i → IsReadUpTo form at vs before i → each_after form at [] (map view vs) ≡ reads before
 read_all form at vs before i past so_far =
-    let none : drop i (map view vs) ≡ [] = drop-past i (map view vs) (rw length-map past) in
+    let none : drop i (map view vs) ≡ [] = drop_all i (map view vs) (rw length-map past) in
     sym so_far.1 ∙ ap (λ (ds : List Data). each_after form at before ds) none
+
+-- a fault of one reading that is a fault of another
+pub fault_kept : {A B : Type 0} (one : Outcome A) (other : Outcome B) (error : ReadError)
+    → ((path : List ℕ) (kind : FaultKind) → one ≡ fails path kind → other ≡ fails path kind)
+    → IsFaultOf one error → IsFaultOf other error
+fault_kept one other (Bad fault) kept is = kept fault.path fault.kind is
+fault_kept one other NoMemory kept is = tt
+
+-- the same, where a call shows the values that it keeps
+pub shown_next : {A B : Type 0} (shown : B → A) (form : List A → List ℕ → Data → Outcome A) (at : List ℕ) (vs : List Value)
+    (items : List B) (i : ℕ) (v : Value) (item : B) (now : List B) → i < length vs → v ≡ get_or vs i v
+    → form (map shown items) (element_path at i) (view v) ≡ reads (shown item) → now ≡ items ++ item ∷ []
+    → IsReadUpTo form at vs (map shown items) i → IsReadUpTo form at vs (map shown now) (i + 1)
+shown_next {A} {B} shown form at vs items i v item now within is read added so_far =
+    let P : List A → Type 0 = λ xs. IsReadUpTo form at vs xs (i + 1) in
+    subst P (sym (ap (map shown) added ∙ map-append shown items (item ∷ [])))
+        (read_next form at vs (map shown items) i v (shown item) within is read so_far)

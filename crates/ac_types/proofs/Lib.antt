@@ -1,4 +1,5 @@
-pub mod Elements
+pub mod EachElement
+pub mod JsonLists
 pub mod IdTexts
 pub mod LabelPlaces
 pub mod LeastPlace

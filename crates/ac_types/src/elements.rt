@@ -3,9 +3,10 @@ ghost use Rattle.serde_json.specs.Data.{Data};
 ghost use Rattle.serde_json.specs.View.{view};
 ghost use Rattle.ac_types.specs.Outcomes.{Outcome, Answers};
 ghost use Rattle.ac_types.specs.FieldForms.{each};
+ghost use Rattle.ac_types.specs.JsonPaths.{element_path};
 
 use crate::fault::ReadError;
-use crate::json_path::element_path;
+use crate::json_path;
 use crate::sequence::Sequence;
 use serde_json::Value;
 use std::alloc::Global;
@@ -39,9 +40,22 @@ pub fn read_each<T: FromElement>(
 {
     let mut items = Sequence::new(alloc);
     for (i, value) in list.iter().enumerate() {
-        let path = element_path(alloc, at, i)?;
-        let item = T::read(alloc, value, path.as_str())?;
-        items = items.push(item)?;
+        match read_element(alloc, value, at, i) {
+            Ok(item) => items = items.push(item)?,
+            Err(error) => return Err(error),
+        }
     }
     Ok(items)
+}
+
+fn read_element<T: FromElement>(
+    alloc: Global,
+    value: &Value,
+    at: &str,
+    place: usize,
+) -> Result<T, ReadError>
+    ensures { Answers T.shown (T.form (element_path at.now place) (view value.now)) result }
+{
+    let path = json_path::element_path(alloc, at, place)?;
+    T::read(alloc, value, path.as_str())
 }

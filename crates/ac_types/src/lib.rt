@@ -3,6 +3,7 @@
 
 pub mod ac_identifier;
 pub mod ac_name;
+pub mod elements;
 pub mod fault;
 pub mod field_readers;
 mod hex_digits;
@@ -20,6 +21,7 @@ mod word_scan;
 
 pub use ac_identifier::AcIdentifier;
 pub use ac_name::AcName;
+pub use elements::{FromElement, read_each};
 pub use fault::{Fault, FaultKind, ReadError};
 pub use field_readers::{
     fault_at, field, field_fault, flag_field, list_field, text_field, whole_field,

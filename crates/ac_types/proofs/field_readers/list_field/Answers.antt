@@ -1,7 +1,7 @@
 use Rattle.std.proofs.Common.{◌≡◌, Some, sym, refl}
 use Rattle.serde_json.specs.View.{view}
 use Rattle.ac_types.specs.FieldForms.{present}
-use Rattle.ac_types.proofs.Elements.{list_shown}
+use Rattle.ac_types.proofs.JsonLists.{list_shown}
 use Rattle.ac_types.proofs.field_readers.list_field.Goals as goal
 
 pub returns-in-Some-as_array : goal.returns-in-Some-as_array
