@@ -9,6 +9,8 @@ use Rattle.ac_types.specs.Outcomes.{Outcome, reads, fails, ◌>>=◌, IsFaultOf}
 use Rattle.ac_types.specs.declared.fault.ReadError.{ReadError}
 use Rattle.ac_types.specs.declared.fault.ReadError.TheVariants.{Bad, NoMemory}
 use Rattle.ac_types.specs.FieldForms.{each_after}
+use Rattle.ac_types.specs.SeenTexts.{HasSeen}
+use Rattle.ac_types.specs.declared.seen_texts.SeenTexts.{SeenTexts}
 use Rattle.ac_types.specs.declared.fault.FaultKind.{FaultKind}
 
 -- what the elements from a place on come to, after those before it
@@ -73,3 +75,13 @@ shown_next {A} {B} shown form at vs items i v item now within is read added so_f
     let P : List A → Type 0 = λ xs. IsReadUpTo form at vs xs (i + 1) in
     subst P (sym (ap (map shown) added ∙ map-append shown items (item ∷ [])))
         (read_next form at vs (map shown items) i v (shown item) within is read so_far)
+
+-- the names of the values that are kept, with one more
+pub names_next : {A B : Type 0} (shown : B → A) (name_of : A → List ℕ) (seen : SeenTexts) (items : List B) (item : B)
+    (now : List B) → now ≡ items ++ item ∷ []
+    → HasSeen seen (map name_of (map shown items) ++ name_of (shown item) ∷ [])
+    → HasSeen seen (map name_of (map shown now))
+names_next shown name_of seen items item now added has =
+    let P : List (List ℕ) → Type 0 = λ ns. HasSeen seen ns in
+    subst P (sym (ap (map name_of) (ap (map shown) added ∙ map-append shown items (item ∷ []))
+        ∙ map-append name_of (map shown items) (shown item ∷ []))) has

@@ -3,4 +3,5 @@ pub mod JsonLists
 pub mod IdTexts
 pub mod LabelPlaces
 pub mod LeastPlace
+pub mod TextsSeen
 pub mod Words

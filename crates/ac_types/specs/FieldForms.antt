@@ -1,7 +1,8 @@
 -- The forms of a field in the format tables: its kind, and whether it may be absent.
-use Rattle.std.specs.Prelude.{◌≡◌, ℕ, Bool, nat_le, List, [], ◌∷◌, ◌++◌, length, Option, Some, None, option_map, if◌then◌else◌}
+use Rattle.std.specs.Prelude.{◌≡◌, ℕ, Bool, true, false, codes, map, nat_le, List, [], ◌∷◌, ◌++◌, length, Option, Some, None, option_map, if◌then◌else◌}
 use Rattle.serde_json.specs.Data.{Data, null, boolean, number, string, array, object, Num, unsigned, negative, float, Items, no_items, item, Members}
 use Rattle.serde_json.specs.Find.{get, as_str, as_array, as_object, as_bool, as_number}
+use Rattle.ac_types.specs.SeenTexts.{is_among}
 use Rattle.ac_types.specs.JsonPaths.{field_path, element_path}
 use Rattle.ac_types.specs.Outcomes.{Outcome, reads, fails, ◌>>=◌}
 use Rattle.ac_types.specs.declared.fault.FaultKind.{FaultKind}
@@ -96,3 +97,15 @@ each_after form at before (d ∷ ds) =
 -- the elements of a list in order, each read in this form
 abbrev pub each : {A : Type 0} → (List ℕ → Data → Outcome A) → List ℕ → List Data → Outcome (List A)
 each form at ds = each_after (λ _. form) at [] ds
+
+-- an element whose name came before is refused at its `name`, after its fields were read
+abbrev pub unless_among : {A : Type 0} → FaultKind → List ℕ → Bool → A → Outcome A
+unless_among kind path true value = fails path kind
+unless_among kind path false value = reads value
+abbrev pub named_once : {A : Type 0} → FaultKind → (A → List ℕ) → (List ℕ → Data → Outcome A) → List A → List ℕ → Data → Outcome A
+named_once kind name_of form before at d =
+    form at d >>= λ value. unless_among kind (field_path at (codes "name")) (is_among (name_of value) (map name_of before)) value
+
+-- the elements of a list in order, with a name that came before refused in this way
+abbrev pub each_named : {A : Type 0} → FaultKind → (A → List ℕ) → (List ℕ → Data → Outcome A) → List ℕ → List Data → Outcome (List A)
+each_named kind name_of form at ds = each_after (named_once kind name_of form) at [] ds

@@ -6,4 +6,5 @@ pub mod JsonPaths
 pub mod Labels
 pub mod Names
 pub mod Outcomes
+pub mod SeenTexts
 pub mod Separators

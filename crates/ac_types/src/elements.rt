@@ -1,12 +1,15 @@
-ghost use Rattle.std.specs.Prelude.{◌≡◌, ℕ, List, map};
+ghost use Rattle.std.specs.Prelude.{◌≡◌, ℕ, List, [], ◌∷◌, ◌++◌, map, IfOk};
 ghost use Rattle.serde_json.specs.Data.{Data};
 ghost use Rattle.serde_json.specs.View.{view};
 ghost use Rattle.ac_types.specs.Outcomes.{Outcome, Answers};
-ghost use Rattle.ac_types.specs.FieldForms.{each};
+ghost use Rattle.ac_types.specs.FieldForms.{each, each_named, named_once};
 ghost use Rattle.ac_types.specs.JsonPaths.{element_path};
+ghost use Rattle.ac_types.specs.SeenTexts.{HasSeen};
 
-use crate::fault::ReadError;
+use crate::fault::{FaultKind, ReadError};
+use crate::field_readers::field_fault;
 use crate::json_path;
+use crate::seen_texts::SeenTexts;
 use crate::sequence::Sequence;
 use serde_json::Value;
 use std::alloc::Global;
@@ -25,9 +28,17 @@ pub trait FromElement: Drop {
 
     ghost form: { List ℕ → Data → Outcome Shown };
 
+    ghost name_of: { Shown → List ℕ };
+
     /// Reads the value at a path: its first fault otherwise, or `NoMemory`.
     fn read(alloc: Global, value: &Value, at: &str) -> Result<Self, ReadError>
         ensures { Answers shown (form at.now (view value.now)) result };
+}
+
+/// What is read from an element that has a name.
+pub trait NamedElement: FromElement {
+    fn name(&self) -> &str
+        ensures { result.now ≡ Self.name_of (Self.shown self.now) };
 }
 
 /// The elements of the list at a path, in order; the first fault of the first that has one.
@@ -58,4 +69,46 @@ fn read_element<T: FromElement>(
 {
     let path = json_path::element_path(alloc, at, place)?;
     T::read(alloc, value, path.as_str())
+}
+
+/// The same, where no name may come twice: the fault `twice` stands at the `name` of the element
+/// whose name came before, after the faults of its fields.
+pub fn read_named<T: NamedElement>(
+    alloc: Global,
+    list: &[Value],
+    at: &str,
+    twice: FaultKind,
+) -> Result<Sequence<T>, ReadError>
+    ensures { Answers (map T.shown) (each_named twice T.name_of T.form at.now (map view list.now)) result }
+{
+    let mut seen = SeenTexts::new(alloc);
+    let mut items = Sequence::new(alloc);
+    for (i, value) in list.iter().enumerate() {
+        match read_new(alloc, value, at, i, twice, &mut seen) {
+            Ok(item) => items = items.push(item)?,
+            Err(error) => return Err(error),
+        }
+    }
+    Ok(items)
+}
+
+fn read_new<T: NamedElement>(
+    alloc: Global,
+    value: &Value,
+    at: &str,
+    place: usize,
+    twice: FaultKind,
+    seen: &mut SeenTexts,
+) -> Result<T, ReadError>
+    ensures answers { (before : List T.Shown) → HasSeen seen.old (map T.name_of before)
+        → Answers T.shown (named_once twice T.name_of T.form before (element_path at.now place) (view value.now)) result }
+    ensures seen { IfOk result (λ item. (names : List (List ℕ)) → HasSeen seen.old names → HasSeen seen.new (names ++ T.name_of (T.shown item) ∷ [])) }
+{
+    let path = json_path::element_path(alloc, at, place)?;
+    let item: T = T::read(alloc, value, path.as_str())?;
+    if seen.add(alloc, item.name())? {
+        Ok(item)
+    } else {
+        Err(field_fault(alloc, path.as_str(), "name", twice))
+    }
 }
