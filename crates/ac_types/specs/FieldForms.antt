@@ -4,7 +4,7 @@ use Rattle.serde_json.specs.Data.{Data, null, boolean, number, string, array, ob
 use Rattle.serde_json.specs.Find.{get, as_str, as_array, as_object, as_bool, as_number}
 use Rattle.ac_types.specs.SeenTexts.{is_among}
 use Rattle.ac_types.specs.JsonPaths.{field_path, element_path}
-use Rattle.ac_types.specs.Outcomes.{Outcome, reads, fails, ◌>>=◌}
+use Rattle.ac_types.specs.Outcomes.{Outcome, reads, fails, ◌>>=◌, ◌>>◌}
 use Rattle.ac_types.specs.declared.fault.FaultKind.{FaultKind}
 use Rattle.ac_types.specs.declared.fault.FaultKind.TheVariants.{Missing, WrongKind, Fraction, OutOfRange}
 
@@ -109,3 +109,11 @@ named_once kind name_of form before at d =
 -- the elements of a list in order, with a name that came before refused in this way
 abbrev pub each_named : {A : Type 0} → FaultKind → (A → List ℕ) → (List ℕ → Data → Outcome A) → List ℕ → List Data → Outcome (List A)
 each_named kind name_of form at ds = each_after (named_once kind name_of form) at [] ds
+
+-- a value of any kind
+abbrev pub any : List ℕ → Data → Outcome Data
+any at d = reads d
+
+-- an object, as itself
+abbrev pub an_object : List ℕ → Data → Outcome Data
+an_object at d = members at d >> reads d

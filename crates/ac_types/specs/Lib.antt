@@ -4,6 +4,7 @@ pub mod FirstBelow
 pub mod Ids
 pub mod JsonPaths
 pub mod Labels
+pub mod NameForms
 pub mod Names
 pub mod Outcomes
 pub mod SeenTexts

@@ -111,7 +111,7 @@ pub fn whole_field(
     }
 }
 
-fn whole_number(value: &Value, max: u64) -> Result<u64, FaultKind>
+pub(crate) fn whole_number(value: &Value, max: u64) -> Result<u64, FaultKind>
     ensures { (at : List ℕ) → MatchResult result (λ n. whole max at (view value.now) ≡ reads n) (λ kind. whole max at (view value.now) ≡ fails at kind) }
 {
     if let Some(number) = value.as_u64() {
