@@ -7,5 +7,6 @@ pub mod Labels
 pub mod NameForms
 pub mod Names
 pub mod Outcomes
+pub mod References
 pub mod SeenTexts
 pub mod Separators

@@ -8,11 +8,13 @@ pub mod fault;
 pub mod field_readers;
 mod hex_digits;
 pub mod image_id;
+pub mod image_ref;
 pub mod json_path;
 pub mod label;
 pub mod labels;
 pub mod memory;
 pub mod name_error;
+mod ref_parts;
 pub mod required_readers;
 pub mod seen_texts;
 pub mod sequence;
@@ -30,6 +32,7 @@ pub use field_readers::{
     fault_at, field, field_fault, flag_field, list_field, text_field, whole_field,
 };
 pub use image_id::{BadId, ImageId};
+pub use image_ref::{ImageRef, RefError};
 pub use json_path::{element_path, field_path};
 pub use label::{Label, LabelFault};
 pub use labels::Labels;
