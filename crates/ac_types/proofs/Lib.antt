@@ -4,5 +4,6 @@ pub mod IdTexts
 pub mod LabelPlaces
 pub mod LeastPlace
 pub mod NameFaults
+pub mod RefSteps
 pub mod TextsSeen
 pub mod Words

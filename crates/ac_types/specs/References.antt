@@ -7,6 +7,8 @@ use Rattle.ac_types.specs.Names.{are_words, is_separator}
 use Rattle.ac_types.specs.SeenTexts.{is_among}
 use Rattle.ac_types.specs.declared.label.Label.{Label}
 use Rattle.ac_types.specs.declared.image_ref.ImageRef.{ImageRef}
+use Rattle.ac_types.specs.declared.image_ref.RefError.{RefError}
+use Rattle.ac_types.specs.declared.image_ref.RefError.TheVariants.{BadRef, NoMemory}
 use Rattle.ac_types.specs.declared.image_ref.ImageRef.TheVariants.{Named, ById}
 
 -- the text is an AC Identifier
@@ -34,6 +36,19 @@ unless_named names (Some l) = if bytes_eq l.name (codes "name") || is_among l.na
 abbrev pub label_part : List Label → List ℕ → Option Label
 label_part before part = unless_named (map (λ (l : Label). l.name) before) (label_of (cut 61 part))
 
+-- a call answers what was read, or the place that wasn't readable, or that memory ran out
+abbrev pub IsRefused : {A : Type 0} → Result A ℕ → RefError → Type 0
+IsRefused read (BadRef place) = read ≡ Err place
+IsRefused read NoMemory = Unit {0}
+abbrev pub IsRead : {A : Type 0} → Result A ℕ → Result A RefError → Type 0
+IsRead read (Ok value) = read ≡ Ok value
+IsRead read (Err error) = IsRefused read error
+
+-- the bytes of parts, each with its comma
+abbrev pub parts_size : List (List ℕ) → ℕ
+parts_size [] = 0
+parts_size (part ∷ parts) = (length part + 1) + parts_size parts
+
 -- the labels of parts, after those before; the place of the first part that isn't readable
 abbrev pub and_more : (Label → Result (List Label) ℕ) → ℕ → Option Label → Result (List Label) ℕ
 and_more next place None = Err place
@@ -50,6 +65,11 @@ head_part part (Some (name, version)) =
     if is_identifier name then
         (if is_filled version then Ok (name, record { name = codes "version"; value = version } ∷ []) else Err (length name + 1))
     else Err 0
+
+-- the labels that a version is
+abbrev pub version_labels : Option (List ℕ) → List Label
+version_labels None = []
+version_labels (Some version) = record { name = codes "version"; value = version } ∷ []
 
 -- a reference by name, from the parts between its commas
 abbrev pub with_name : List ℕ → Result (List Label) ℕ → Result ImageRef ℕ
