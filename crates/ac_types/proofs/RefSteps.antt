@@ -1,5 +1,7 @@
 -- Reading the parts of a reference one after the other.
-use Rattle.std.proofs.Common.{◌≡◌, ℕ, ◌<◌, ◌≤◌, ◌+◌, List, [], ◌∷◌, ◌++◌, Option, Some, None, Result, Ok, Err, Bor, get_or, drop, length, map, refl, sym, ◌∙◌, ap, subst, inl, inr, ◌⊎◌}
+use Rattle.std.proofs.Common.{◌≡◌, ℕ, ◌<◌, ◌≤◌, ◌+◌, List, [], ◌∷◌, ◌++◌, Option, Some, None, Result, Ok, Err, Bor, get_or, drop, length, map, refl, sym, ◌∙◌, ap, subst, inl, inr, ◌⊎◌, suc, Bool, true, false, arith}
+use Rattle.std.specs.List.{slice_split, onto_first}
+use Rattle.std.proofs.lemmas.List.Splits.{slice_split-cons_yes, slice_split-cons_no, length-slice_split}
 use Rattle.std.proofs.lemmas.List.{drop_more, drop_all, get_or-map, length-map, map-append}
 use Rattle.ac_types.specs.References.{labels_from, and_more, label_part, parts_size, IsRefused}
 use Rattle.ac_types.specs.SeenTexts.{HasSeen}
@@ -63,3 +65,20 @@ pub seen_next : (seen : SeenTexts) (before now : List Label) (l : Label) → now
 seen_next seen before now l added has =
     let P : List (List ℕ) → Type 0 = λ ns. HasSeen seen ns in
     subst P (sym (ap (map (λ (x : Label). x.name)) added ∙ map-append (λ (x : Label). x.name) before (l ∷ []))) has
+
+-- the parts of a text and the commas between them are the text
+grow : (x : ℕ) (parts : List (List ℕ)) → 0 < length parts → parts_size (onto_first x parts) ≡ suc (parts_size parts)
+grow x [] some = absurd (omega arith)
+grow x (p ∷ ps) some = omega arith
+
+some_part : (test : ℕ → Bool) (t : List ℕ) → 0 < length (slice_split test t)
+some_part test t = omega (arith, length-slice_split test t)
+
+pub parts_size_split : (test : ℕ → Bool) (t : List ℕ) → parts_size (slice_split test t) ≡ length t + 1
+parts_size_split test [] = refl
+parts_size_split test (x ∷ xs) = by_test (test x) refl (parts_size_split test xs) (some_part test xs)
+  where
+    by_test : (b : Bool) → test x ≡ b → parts_size (slice_split test xs) ≡ length xs + 1 → 0 < length (slice_split test xs)
+        → parts_size (slice_split test (x ∷ xs)) ≡ length (x ∷ xs) + 1
+    by_test true e ih some = rw (slice_split-cons_yes test x xs e) (omega (arith, ih))
+    by_test false e ih some = rw (slice_split-cons_no test x xs e) (omega (arith, ih, grow x (slice_split test xs) some))

@@ -1,11 +1,13 @@
 ghost use Rattle.std.specs.Prelude.{◌≡◌, IfOk};
+ghost use Rattle.ac_types.specs.References.{IsRead, reference};
 ghost use Rattle.ac_types.specs.declared.image_ref.RefError.TheVariants.{NoMemory};
 
 use crate::ac_identifier::AcIdentifier;
 use crate::labels::Labels;
 use crate::memory;
+use crate::ref_parts::{read_digits_ref, read_named_ref};
 use crate::try_copy::TryCopy;
-use std::alloc::AllocError;
+use std::alloc::{AllocError, Global};
 use std::error::Error;
 use std::fmt;
 
@@ -19,6 +21,20 @@ pub enum ImageRef {
 }
 
 impl ImageRef {
+    /// The reference that a word is: `name[:version][,label=value]*`, with identifiers for names,
+    /// a version and values that are not empty, and no name twice or `name`; a version is the
+    /// first label, named `version`. A word that begins with `sha512-` is by ID, with 2 to 128
+    /// lower-case hex digits. `BadRef` at the place where the first unreadable part begins:
+    /// 0 for the name and for an ID, else the byte behind its `:` or `,`.
+    pub fn parse(alloc: Global, word: &str) -> Result<ImageRef, RefError>
+        ensures { IsRead (reference word.now) result }
+    {
+        match word.as_bytes().strip_prefix(b"sha512-") {
+            Some(digits) => read_digits_ref(digits),
+            None => read_named_ref(alloc, word),
+        }
+    }
+
     /// An equal reference.
     pub fn copy(&self) -> Result<ImageRef, memory::NoMemory>
         ensures { IfOk result (λ copy. copy ≡ self.now) }

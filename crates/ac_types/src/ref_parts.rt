@@ -222,10 +222,18 @@ fn read_parts(alloc: Global, parts: &[&str]) -> Result<ImageRef, RefError>
     }
 }
 
+fn end_of(word: &str) -> usize
+    ensures { result ≡ length word.now + 1 }
+{
+    word.len() + 1
+}
+
 /// The reference by name that a word is.
 pub(crate) fn read_named_ref(alloc: Global, word: &str) -> Result<ImageRef, RefError>
     ensures { IsRead (named (slice_split (λ b. b == 44) word.now)) result }
 {
+    // Each place in the word, and the one behind it, is a number that `usize` has.
+    let _end = end_of(word);
     match parts_of(alloc, word) {
         Ok(parts) => read_parts(alloc, parts.as_slice()),
         Err(_) => Err(RefError::NoMemory),
