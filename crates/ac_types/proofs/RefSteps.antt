@@ -18,12 +18,12 @@ texts ps = map (λ (p : Bor (List ℕ)). p.now) ps
 next_part : (place : ℕ) (before : List Label) (ps : List (Bor (List ℕ))) (i : ℕ) (p : Bor (List ℕ)) → i < length ps
     → labels_from place before (drop i (texts ps))
     ≡ and_more (λ l. labels_from (place + (length (get_or ps i p).now + 1)) (before ++ l ∷ []) (drop (i + 1) (texts ps))) place
-        (label_part before (get_or ps i p).now)
+    (label_part before (get_or ps i p).now)
 next_part place before ps i p within =
     let more : i < length (texts ps) = rw length-map within in
     let here : get_or (texts ps) i [] ≡ (get_or ps i p).now = get_or-map (λ (q : Bor (List ℕ)). q.now) ps i p [] within in
     ap (labels_from place before)
-        (drop_more (texts ps) i [] more ∙ ap (λ (t : List ℕ). t ∷ drop (i + 1) (texts ps)) here)
+    (drop_more (texts ps) i [] more ∙ ap (λ (t : List ℕ). t ∷ drop (i + 1) (texts ps)) here)
 
 pub part_read : (place begin : ℕ) (before first : List Label) (ps : List (Bor (List ℕ))) (i : ℕ) (p : Bor (List ℕ)) (l : Label)
     (now : List Label) → i < length ps → label_part before (get_or ps i p).now ≡ Some l → now ≡ before ++ l ∷ []

@@ -102,6 +102,7 @@ each form at ds = each_after (λ _. form) at [] ds
 abbrev pub unless_among : {A : Type 0} → FaultKind → List ℕ → Bool → A → Outcome A
 unless_among kind path true value = fails path kind
 unless_among kind path false value = reads value
+
 abbrev pub named_once : {A : Type 0} → FaultKind → (A → List ℕ) → (List ℕ → Data → Outcome A) → List A → List ℕ → Data → Outcome A
 named_once kind name_of form before at d =
     form at d >>= λ value. unless_among kind (field_path at (codes "name")) (is_among (name_of value) (map name_of before)) value

@@ -20,11 +20,9 @@ pub trait FromElement: Drop {
     ghost use Rattle.serde_json.specs.Data.{Data};
     ghost use Rattle.ac_types.specs.Outcomes.{Outcome};
 
-
     ghost Shown: { Type 0 };
 
     ghost shown: { Self → Shown };
-
 
     ghost form: { List ℕ → Data → Outcome Shown };
 
