@@ -1,8 +1,8 @@
 -- Reading the parts of a reference one after the other.
-use Rattle.std.proofs.Common.{◌≡◌, ℕ, ◌<◌, ◌≤◌, ◌+◌, List, [], ◌∷◌, ◌++◌, Option, Some, None, Result, Ok, Err, Bor, get_or, drop, length, map, refl, sym, ◌∙◌, ap, subst, inl, inr, ◌⊎◌, suc, Bool, true, false, arith}
+use Rattle.std.proofs.Common.{◌≡◌, ℕ, ◌<◌, ◌+◌, List, [], ◌∷◌, ◌++◌, Some, None, Err, Bor, get_or, drop, length, map, refl, sym, ◌∙◌, ap, subst, inl, inr, ◌⊎◌, suc, Bool, true, false, arith}
 use Rattle.std.specs.List.{slice_split, onto_first}
 use Rattle.std.proofs.lemmas.List.Splits.{slice_split-cons_yes, slice_split-cons_no, length-slice_split}
-use Rattle.std.proofs.lemmas.List.{drop_more, drop_all, get_or-map, length-map, map-append}
+use Rattle.std.proofs.lemmas.List.{drop_more, get_or-map, length-map, map-append}
 use Rattle.ac_types.specs.References.{labels_from, and_more, label_part, parts_size, IsRefused}
 use Rattle.ac_types.specs.SeenTexts.{HasSeen}
 use Rattle.ac_types.specs.declared.image_ref.RefError.{RefError}

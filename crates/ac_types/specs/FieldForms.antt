@@ -1,5 +1,5 @@
 -- The forms of a field in the format tables: its kind, and whether it may be absent.
-use Rattle.std.specs.Prelude.{◌≡◌, ℕ, Bool, true, false, codes, map, nat_le, List, [], ◌∷◌, ◌++◌, length, Option, Some, None, option_map, if◌then◌else◌}
+use Rattle.std.specs.Prelude.{ℕ, Bool, true, false, codes, map, nat_le, List, [], ◌∷◌, ◌++◌, length, Option, Some, None, option_map, if◌then◌else◌}
 use Rattle.serde_json.specs.Data.{Data, null, boolean, number, string, array, object, Num, unsigned, negative, float, Items, no_items, item, Members}
 use Rattle.serde_json.specs.Find.{get, as_str, as_array, as_object, as_bool, as_number}
 use Rattle.ac_types.specs.SeenTexts.{is_among}

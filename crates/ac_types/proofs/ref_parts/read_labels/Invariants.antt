@@ -1,4 +1,4 @@
-use Rattle.std.proofs.Common.{◌≡◌, ◌<◌, ◌+◌, ◌^◌, ℕ, List, map, drop, length, Bor}
+use Rattle.std.proofs.Common.{◌≡◌, ◌<◌, ◌+◌, ◌^◌, ℕ, List, map, drop, Bor}
 use Rattle.ac_types.specs.References.{labels_from, parts_size}
 use Rattle.ac_types.specs.SeenTexts.{HasSeen}
 use Rattle.ac_types.specs.declared.label.Label.{Label}
