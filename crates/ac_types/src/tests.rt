@@ -1,7 +1,7 @@
 use crate::{
     AcIdentifier, AcName, FaultKind, FromElement, ImageId, ImageRef, Label, LabelFault, Labels,
     NameError, NamedElement, ReadError, RefError, Sequence, StoreKey, Text, field, flag_field,
-    list_field, read_named, required_name, required_whole, whole_field,
+    list_field, read_named, required_name, required_whole, text_field, whole_field,
 };
 use serde_json::Value;
 use std::alloc::Global;
@@ -233,5 +233,38 @@ fn a_field_is_read_or_refused_at_its_path(rt: HostRuntime) -> Result<(), Fail> {
             FaultKind::WrongKind
         )
     );
+    Ok(())
+}
+
+fn same_name(alloc: Global, text: &str) -> Result<bool, Fail> {
+    Ok(AcName::parse(alloc, text)?.copy()?.as_str() == text)
+}
+
+fn same_reference(alloc: Global, word: &str) -> Result<bool, Fail> {
+    match ImageRef::parse(alloc, word)?.copy()? {
+        ImageRef::Named { name, labels } => {
+            Ok(name.copy()?.as_str() == "a" && labels.get("os") == Some("linux"))
+        }
+        _ => Ok(false),
+    }
+}
+
+fn same_error(alloc: Global, value: &Value) -> Result<bool, Fail> {
+    match text_field(alloc, value, "app", "flag") {
+        Err(error) => Ok(is_fault(
+            Err::<(), ReadError>(error.copy()?),
+            "app.flag",
+            FaultKind::WrongKind,
+        )),
+        Ok(_) => Ok(false),
+    }
+}
+
+#[test]
+fn a_copy_is_equal(rt: HostRuntime) -> Result<(), Fail> {
+    let alloc = rt.alloc();
+    assert!(rt; same_name(alloc, "a-b")?);
+    assert!(rt; same_reference(alloc, "a,os=linux")?);
+    assert!(rt; same_error(alloc, &Value::from_str(alloc, PORTS)?)?);
     Ok(())
 }
