@@ -1,0 +1,12 @@
+pub mod FaultNumbers
+pub mod FieldForms
+pub mod FirstBelow
+pub mod Ids
+pub mod JsonPaths
+pub mod Labels
+pub mod NameForms
+pub mod Names
+pub mod Outcomes
+pub mod References
+pub mod SeenTexts
+pub mod Separators

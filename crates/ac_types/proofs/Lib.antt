@@ -1,0 +1,10 @@
+pub mod EachElement
+pub mod JsonLists
+pub mod IdTexts
+pub mod LabelPlaces
+pub mod LeastPlace
+pub mod NameFaults
+pub mod OutcomeLaws
+pub mod RefSteps
+pub mod TextsSeen
+pub mod Words

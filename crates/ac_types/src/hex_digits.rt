@@ -1,0 +1,39 @@
+ghost use Rattle.std.specs.Prelude.{◌≡◌, ◌≤◌, Some, None, MatchBool, length};
+ghost use Rattle.std.specs.Str.{bytes_eq};
+ghost use Rattle.hex.specs.Hex.{encode_lower};
+ghost use Rattle.ac_types.specs.Ids.{hex_read, id_read};
+
+/// Whether the text is `sha512-` and the lower-case hex digits of as many bytes as there is room
+/// for, which are then written there.
+pub(crate) fn read_id(text: &str, room: &mut [u8]) -> bool
+    requires { length room.old ≤ 64 }
+    ensures { MatchBool result (id_read (length room.old) text.now ≡ Some room.new) (id_read (length room.old) text.now ≡ None) }
+{
+    match text.as_bytes().strip_prefix(b"sha512-") {
+        Some(digits) => read_digits(digits, room),
+        None => false,
+    }
+}
+
+fn read_digits(digits: &[u8], room: &mut [u8]) -> bool
+    requires { length room.old ≤ 64 }
+    ensures { MatchBool result (hex_read (length room.old) digits.now ≡ Some room.new) (hex_read (length room.old) digits.now ≡ None) }
+{
+    if hex::decode_to_slice(digits, room).is_err() {
+        return false;
+    }
+    are_digits_of(digits, room)
+}
+
+/// Digits of either case decode, so those that were read are written again.
+fn are_digits_of(digits: &[u8], bytes: &[u8]) -> bool
+    requires { length bytes.now ≤ 64 }
+    ensures { result ≡ bytes_eq digits.now (encode_lower bytes.now) }
+{
+    let mut buffer = [0; 128];
+    let again = &mut buffer[..2 * bytes.len()];
+    match hex::encode_to_slice(bytes, again) {
+        Ok(()) => digits == &*again,
+        Err(_) => unreachable!(),
+    }
+}
