@@ -1,0 +1,12 @@
+//! Absolute paths, maps from paths to entries, overlay and whitelist.
+#![tactic(auto)]
+
+pub mod abs_path;
+pub mod entry;
+pub mod listed;
+pub mod path_error;
+
+pub use abs_path::AbsPath;
+pub use entry::{Entry, Meta};
+pub use listed::{Listed, ListedPaths};
+pub use path_error::PathError;
