@@ -1,13 +1,9 @@
 -- Absolute paths, as bytes.
 use Rattle.std.specs.Prelude.{◌≡◌, ℕ, ◌==◌, Bool, not, ◌&&◌, ◌||◌, nat_lt, nat_eq, List, length, drop, slice_index, codes, if◌then◌else◌, Option, None, Some, IsUtf8}
 use Rattle.std.specs.List.{slice_split, list_any, starts_with}
-use lib.Pointwise.{pointwise}
+use Rattle.std.specs.Str.{bytes_eq}
 use Rattle.path_map.specs.declared.path_error.PathError.{PathError}
 use Rattle.path_map.specs.declared.path_error.PathError.TheVariants.{NotAbsolute, DotSegment, SegmentLength, PathLength}
-
--- the two texts have the same bytes
-abbrev pub same_bytes : List ℕ → List ℕ → Bool
-same_bytes = pointwise nat_eq
 
 -- the parts between the slashes, after the slash in front
 abbrev pub segments : List ℕ → List (List ℕ)
@@ -15,7 +11,7 @@ segments bs = slice_split (λ b. b == 47) (drop 1 bs)
 
 -- the segment is `.` or `..`, or has a NUL
 abbrev pub is_dot_segment : List ℕ → Bool
-is_dot_segment segment = same_bytes segment (codes ".") || same_bytes segment (codes "..") || list_any (λ b. b == 0) segment
+is_dot_segment segment = bytes_eq segment (codes ".") || bytes_eq segment (codes "..") || list_any (λ b. b == 0) segment
 
 -- the segment is empty or longer than 255 bytes
 abbrev pub has_bad_length : List ℕ → Bool

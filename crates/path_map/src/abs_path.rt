@@ -5,7 +5,8 @@ ghost use Rattle.std.specs.Cmp.Lexicographic.{slice_cmp, texts_po, texts_ties};
 ghost use Rattle.std.specs.Cmp.Rules.{comparing};
 ghost use Rattle.std.proofs.Common.{rules};
 ghost use Rattle.std.proofs.lemmas.Cmp.{nat_list_cmp_total, nat_list_eq_equiv};
-ghost use Rattle.path_map.specs.Paths.{path_fault, same_bytes, lies_below, IsAbsPath, is_dot_segment, has_bad_length};
+ghost use Rattle.std.specs.Str.{bytes_eq};
+ghost use Rattle.path_map.specs.Paths.{path_fault, lies_below, IsAbsPath, is_dot_segment, has_bad_length};
 
 use crate::path_error::PathError;
 use ac_types::{NoMemory, Text, TryCopy};
@@ -150,7 +151,7 @@ impl TryCopy for AbsPath {
 }
 
 impl PartialEq for AbsPath {
-    ghost eq = { same_bytes };
+    ghost eq = { bytes_eq };
 
     ghost laws = { Prim.search (comparing, rules) };
 

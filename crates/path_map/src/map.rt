@@ -1,0 +1,74 @@
+ghost use Rattle.std.specs.Prelude.{◌≡◌, ℕ, ◌+◌, [], List, length, IsSome, IfOk, OnOk};
+ghost use Rattle.std.specs.Option.{option_copied};
+ghost use Rattle.path_map.specs.Entries.{entry_at, with_entry, without_entry, IsPathMap};
+
+use crate::abs_path::AbsPath;
+use crate::entry::Entry;
+use crate::path_iter::PathIter;
+use ac_types::{NoMemory, TryCopy};
+use std::alloc::Global;
+use std::collections::BTreeMap;
+use std::marker::Model;
+
+/// What stands at the paths of a tree; the root itself has no entry. Contracts see
+/// the paths with their entries, in byte order of paths.
+#[derive(Drop)]
+pub struct PathMap {
+    entries: BTreeMap<AbsPath, Entry>,
+}
+
+impl Model for PathMap {
+    ghost use Rattle.std.specs.Prelude.{ℕ, List};
+    ghost use Rattle.path_map.specs.Entries.{Entries, IsPathMap};
+
+    ghost Value = { Entries };
+
+    ghost view = { λ m. m.entries.entries };
+
+    ghost invariant = { λ m. IsPathMap m.entries.entries };
+}
+
+impl PathMap {
+    /// The empty map.
+    pub fn new(alloc: Global) -> PathMap
+        ensures { result ≡ [] }
+    {
+        PathMap {
+            entries: BTreeMap::new(alloc),
+        }
+    }
+
+    /// What stands at a path.
+    pub fn get(&self, path: &AbsPath) -> Option<&Entry>
+        ensures { option_copied result ≡ entry_at self.now path.now }
+    {
+        self.entries.get(path)
+    }
+
+    /// All entries, each once, in byte order of paths.
+    pub fn iter(&self) -> PathIter<'_>
+        ensures entries { result ≡ self.now }
+        ensures kind { IsPathMap self.now }
+    {
+        PathIter::new(self.entries.iter())
+    }
+
+    /// Puts an entry at a path.
+    pub(crate) fn put(&mut self, path: AbsPath, entry: Entry) -> Result<(), NoMemory>
+        ensures { OnOk result
+            ((q : List ℕ) → entry_at self.new q ≡ with_entry (entry_at self.old) path entry q) }
+    {
+        // The clause of `as_str` says that it is a path.
+        let _text = path.as_str();
+        self.entries.insert(path, entry)?;
+        Ok(())
+    }
+
+    /// Takes what stands at a path away.
+    pub(crate) fn take(&mut self, path: &AbsPath)
+        ensures value { (q : List ℕ) → entry_at self.new q ≡ without_entry (entry_at self.old) path.now q }
+        ensures shorter { IsSome (entry_at self.old path.now) → length self.new + 1 ≡ length self.old }
+    {
+        self.entries.remove(path);
+    }
+}
