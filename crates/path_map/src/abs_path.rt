@@ -1,4 +1,4 @@
-ghost use Rattle.std.specs.Prelude.{◌≡◌, ◌↔◌, ◌⊎◌, ◌==◌, ◌≤◌, IsTrue, IfOk, IfErr, IfSome, None, length, slice_index};
+ghost use Rattle.std.specs.Prelude.{◌≡◌, ◌↔◌, ◌⊎◌, ◌==◌, ◌≤◌, ◌<◌, ◌++◌, ◌∷◌, [], IsTrue, IfOk, IfErr, IfSome, MatchOption, None, length, slice_index, take};
 ghost use Rattle.std.specs.List.{slice_split, list_any};
 ghost use Rattle.std.specs.Ordering.{nat_cmp, as_partial_cmp};
 ghost use Rattle.std.specs.Cmp.Lexicographic.{slice_cmp, texts_po, texts_ties};
@@ -69,6 +69,34 @@ impl AbsPath {
         self == other || lies_below(self.as_str(), other.as_str())
     }
 
+    /// The ancestor that ends before the slash at a place.
+    pub(crate) fn ancestor(&self, alloc: Global, place: usize) -> Result<AbsPath, NoMemory>
+        requires inside { 0 < place }
+        requires slash { slice_index self.now place ≡ 47 }
+        ensures { IfOk result (λ ancestor. ancestor ≡ take place self.now) }
+    {
+        Ok(AbsPath {
+            text: Text::of(alloc, &self.text.as_str()[..place])?,
+        })
+    }
+
+    /// The least path below this one: a segment of the byte 1. There is none below a
+    /// path that has no room for it.
+    pub(crate) fn least_below(&self, alloc: Global) -> Result<Option<AbsPath>, NoMemory>
+        ensures { IfOk result (λ least. MatchOption least
+            (4094 < length self.now)
+            (λ path. path ≡ self.now ++ 47 ∷ 1 ∷ [])) }
+    {
+        if self.text.as_str().len() > MAX_PATH - 2 {
+            return Ok(None);
+        }
+        let mut text = String::from_str(alloc, self.text.as_str())?;
+        text.push_str("/\u{1}")?;
+        Ok(Some(AbsPath {
+            text: Text::of(alloc, text.as_str())?,
+        }))
+    }
+
     /// An equal path.
     pub fn copy(&self) -> Result<AbsPath, NoMemory>
         ensures { IfOk result (λ copy. copy ≡ self.now) }
@@ -136,7 +164,7 @@ fn has_bad_length(segment: &[u8]) -> bool
 
 /// Whether a path lies below another.
 #[tactic(auto, unfolding(crate::specs::Paths::lies_below))]
-fn lies_below(path: &str, other: &str) -> bool
+pub(crate) fn lies_below(path: &str, other: &str) -> bool
     ensures { result ≡ lies_below path.now other.now }
 {
     let path = path.as_bytes();

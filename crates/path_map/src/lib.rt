@@ -3,8 +3,10 @@
 
 pub mod abs_path;
 pub mod entry;
+pub mod keep;
 pub mod listed;
 pub mod map;
+pub mod overlay;
 pub mod path_error;
 pub mod path_iter;
 

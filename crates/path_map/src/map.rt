@@ -1,8 +1,9 @@
-ghost use Rattle.std.specs.Prelude.{◌≡◌, ℕ, ◌+◌, [], List, length, IsSome, IfOk, OnOk};
+ghost use Rattle.std.specs.Prelude.{◌≡◌, ℕ, ◌+◌, [], List, length, IsSome, IsTrue, IfOk, OnOk, MatchOption, None};
 ghost use Rattle.std.specs.Option.{option_copied};
 ghost use Rattle.path_map.specs.Entries.{entry_at, with_entry, without_entry, IsPathMap};
+ghost use Rattle.path_map.specs.Paths.{lies_below};
 
-use crate::abs_path::AbsPath;
+use crate::abs_path::{AbsPath, lies_below};
 use crate::entry::Entry;
 use crate::path_iter::PathIter;
 use ac_types::{NoMemory, TryCopy};
@@ -70,5 +71,29 @@ impl PathMap {
         ensures shorter { IsSome (entry_at self.old path.now) → length self.new + 1 ≡ length self.old }
     {
         self.entries.remove(path);
+    }
+
+    /// The first path below another at which something stands.
+    pub(crate) fn first_below(
+        &self,
+        alloc: Global,
+        path: &AbsPath,
+    ) -> Result<Option<AbsPath>, NoMemory>
+        ensures { IfOk result (λ found. MatchOption found
+            ((q : List ℕ) → IsTrue (lies_below q path.now) → entry_at self.now q ≡ None)
+            (λ first. IsTrue (lies_below first path.now) × IsSome (entry_at self.now first))) }
+    {
+        let entries = &self.entries;
+        let other = path.as_str();
+        let Some(least) = path.least_below(alloc)? else {
+            return Ok(None);
+        };
+        let Some((found, _)) = entries.range(least..).next() else {
+            return Ok(None);
+        };
+        if !lies_below(found.as_str(), other) {
+            return Ok(None);
+        }
+        Ok(Some(found.copy()?))
     }
 }
