@@ -16,6 +16,11 @@ is_directory (Dir meta) = true
 is_directory (File meta size sha) = false
 is_directory (Link meta target) = false
 
+-- a directory stands there
+abbrev pub is_directory_at : Option Entry → Bool
+is_directory_at None = false
+is_directory_at (Some entry) = is_directory entry
+
 -- paths and what stands at them, one after the other
 abbrev pub Entries : Type 0
 Entries = List (List ℕ × Entry)

@@ -1,10 +1,10 @@
 -- Laying entries over a tree.
-use Rattle.std.specs.Prelude.{ℕ, Bool, not, ◌&&◌, List, length, Option, None, Some, if◌then◌else◌, ◌==◌}
+use Rattle.std.specs.Prelude.{ℕ, Bool, IsTrue, IsSome, not, ◌&&◌, List, length, Option, None, Some, if◌then◌else◌, ◌==◌}
 use Rattle.std.specs.Str.{bytes_eq}
 use Rattle.path_map.specs.declared.entry.Entry.{Entry}
 use Rattle.path_map.specs.declared.entry.Entry.TheVariants.{Dir, File, Link}
 use Rattle.path_map.specs.Paths.{lies_below}
-use Rattle.path_map.specs.Entries.{Tree, is_directory}
+use Rattle.path_map.specs.Entries.{Tree, is_directory, is_directory_at}
 
 -- the path is an ancestor of the other, and not the root, which has no entry
 unfoldable pub is_ancestor : List ℕ → List ℕ → Bool
@@ -40,3 +40,7 @@ overlaid tree path entry q =
     if bytes_eq path q then Some entry
     else (if not (is_directory entry) && lies_below q path then None
     else with_ancestors tree path q)
+
+-- each ancestor of a path at which something stands is a directory
+abbrev pub HasParents : Tree → Type 0
+HasParents tree = (q path : List ℕ) → IsSome (tree path) → IsTrue (is_ancestor q path) → IsTrue (is_directory_at (tree q))

@@ -1,16 +1,11 @@
 -- Keeping what a whitelist names.
-use Rattle.std.specs.Prelude.{ℕ, Bool, true, false, not, ◌&&◌, ◌||◌, List, [], ◌∷◌, Option, None, Some, if◌then◌else◌}
+use Rattle.std.specs.Prelude.{ℕ, Bool, false, not, ◌&&◌, ◌||◌, List, [], ◌∷◌, Option, None, Some, if◌then◌else◌}
 use Rattle.std.specs.List.{list_any}
 use Rattle.std.specs.Str.{bytes_eq}
 use Rattle.path_map.specs.declared.entry.Entry.{Entry}
 use Rattle.path_map.specs.declared.listed.Listed.{Listed}
-use Rattle.path_map.specs.Entries.{Tree, is_directory}
+use Rattle.path_map.specs.Entries.{Tree, is_directory, is_directory_at}
 use Rattle.path_map.specs.Overlay.{is_ancestor, directory_at}
-
--- a directory stands there
-abbrev pub is_directory_at : Option Entry → Bool
-is_directory_at None = false
-is_directory_at (Some entry) = is_directory entry
 
 -- an entry at a listed path stays: a directory always, another where no slash was listed
 abbrev pub stays : Option Entry → Listed → Bool

@@ -1,8 +1,8 @@
 use Rattle.std.proofs.Common.{◌≡◌, ◌<◌, ◌≢◌, ℕ, length, get_or, take, subst, sym, ap, ◌∙◌, arith, rules, cond}
-use Rattle.path_map.specs.Entries.{entry_at}
+use Rattle.path_map.specs.Entries.{entry_at, is_directory_at}
 use Rattle.std.specs.Str.{bytes_eq}
 use Rattle.path_map.specs.Overlay.{is_ancestor}
-use Rattle.path_map.specs.Whitelist.{is_directory_at, with_kept_directory}
+use Rattle.path_map.specs.Whitelist.{with_kept_directory}
 use Rattle.path_map.proofs.Whitelists.{cond-and}
 use Rattle.path_map.proofs.Ancestors.{walk_begins, walk_passes, walk_turns, walk_ends}
 use Rattle.path_map.proofs.map.PathMap.keep_ancestors.Goals as goal

@@ -1,6 +1,5 @@
 use Rattle.std.proofs.Common.{◌≡◌, ℕ, List, cond}
-use Rattle.path_map.specs.Entries.{entry_at}
-use Rattle.path_map.specs.Whitelist.{is_directory_at}
+use Rattle.path_map.specs.Entries.{entry_at, is_directory_at}
 use Rattle.path_map.proofs.Ancestors.{so_far}
 use Rattle.path_map.proofs.map.PathMap.keep_ancestors.Given as goal
 
