@@ -1,5 +1,8 @@
 ghost use Rattle.std.specs.Prelude.{◌≡◌, ℕ, ◌+◌, [], List, length, IsSome, IsTrue, IfOk, OnOk, MatchOption, None};
 ghost use Rattle.std.specs.Option.{option_copied};
+ghost use Rattle.std.specs.Ordering.{nat_cmp};
+ghost use Rattle.std.specs.Cmp.Lexicographic.{slice_cmp};
+ghost use Rattle.std.specs.BTreeMap.{insert_entry};
 ghost use Rattle.path_map.specs.Entries.{entry_at, with_entry, without_entry, IsPathMap};
 ghost use Rattle.path_map.specs.Paths.{lies_below};
 
@@ -15,6 +18,7 @@ use std::marker::Model;
 /// the paths with their entries, in byte order of paths.
 #[derive(Drop)]
 pub struct PathMap {
+    alloc: Global,
     entries: BTreeMap<AbsPath, Entry>,
 }
 
@@ -35,6 +39,7 @@ impl PathMap {
         ensures { result ≡ [] }
     {
         PathMap {
+            alloc,
             entries: BTreeMap::new(alloc),
         }
     }
@@ -54,10 +59,23 @@ impl PathMap {
         PathIter::new(self.entries.iter())
     }
 
+    /// An equal map.
+    pub fn copy(&self) -> Result<PathMap, NoMemory>
+        ensures { IfOk result (λ copy. copy ≡ self.now) }
+    {
+        let mut copied = PathMap::new(self.alloc);
+        for (path, entry) in self.iter() {
+            copied.put(path.copy()?, entry.copy()?)?;
+        }
+        Ok(copied)
+    }
+
     /// Puts an entry at a path.
     pub(crate) fn put(&mut self, path: AbsPath, entry: Entry) -> Result<(), NoMemory>
-        ensures { OnOk result
+        ensures tree { OnOk result
             ((q : List ℕ) → entry_at self.new q ≡ with_entry (entry_at self.old) path entry q) }
+        ensures entries { OnOk result
+            (self.new ≡ insert_entry (slice_cmp nat_cmp) self.old path entry) }
     {
         // The clause of `as_str` says that it is a path.
         let _text = path.as_str();
@@ -95,5 +113,11 @@ impl PathMap {
             return Ok(None);
         }
         Ok(Some(found.copy()?))
+    }
+}
+
+impl TryCopy for PathMap {
+    fn try_copy(&self) -> Result<PathMap, NoMemory> {
+        self.copy()
     }
 }
