@@ -1,12 +1,11 @@
 -- A walk over the ancestors of a path, from the shortest on.
-use Rattle.std.proofs.Common.{◌≡◌, ℕ, zero, suc, ◌+◌, ◌<◌, ◌≤◌, Bool, true, false, cond, not, ◌&&◌, ◌==◌, eqb, ltb, List, [], ◌∷◌, ◌++◌, length, get_or, take, drop, Option, None, Some, sym, refl, ap, subst, ◌∙◌, ◌⊎◌, inl, inr, ⊎_elim, arith, length-append, length-take}
+use Rattle.std.proofs.Common.{◌≡◌, ℕ, zero, suc, ◌+◌, ◌<◌, ◌≤◌, true, false, cond, ◌&&◌, eqb, ltb, List, ◌∷◌, length, get_or, take, drop, Option, sym, refl, ap, subst, ◌∙◌, ⊎_elim, arith, length-append, length-take}
 use Rattle.std.specs.Str.{bytes_eq}
-use Rattle.std.proofs.lemmas.Bool.{cases_lt, cases_Bool, cases_order, eqb-true, ne_eqb, and_parts, and_from, not-true, not_from_false, lt-ltb, le-ltb, and_left, and_right, cond-true, cond-false, false_from_ne_true, both_ways}
-use Rattle.std.proofs.lemmas.List.{take_at, get_or_at, take_all}
+use Rattle.std.proofs.lemmas.Bool.{cases_lt, cases_Bool, cases_order, ne_eqb, and_parts, and_from, not-true, not_from_false, lt-ltb, le-ltb, and_left, and_right, cond-true, cond-false, false_from_ne_true, both_ways}
+use Rattle.std.proofs.lemmas.List.{take_at, get_or_at}
 use Rattle.std.proofs.lemmas.Slice.Eq.{bytes_eq-Decides}
 use Rattle.path_map.specs.declared.entry.Entry.{Entry}
 use Rattle.path_map.specs.Entries.{Tree}
-use Rattle.path_map.specs.Paths.{lies_below}
 use Rattle.path_map.specs.Overlay.{is_ancestor}
 use Rattle.path_map.proofs.Below.{below_rest, below_at}
 use Rattle.path_map.proofs.Segments.{at_slash}

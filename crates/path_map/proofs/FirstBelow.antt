@@ -1,5 +1,5 @@
 -- The first path below another, found from the least that may be there.
-use Rattle.std.proofs.Common.{◌≡◌, ℕ, ◌+◌, ◌<◌, ◌≤◌, Bool, true, false, List, [], ◌∷◌, ◌++◌, length, Option, None, Some, IsSome, sym, refl, ap, subst, ◌∙◌, ⊎_elim, arith, nat_cmp, Less, Equal, Greater, length-append}
+use Rattle.std.proofs.Common.{◌≡◌, ℕ, ◌<◌, ◌≤◌, true, false, List, [], ◌∷◌, ◌++◌, length, Option, None, Some, IsSome, sym, refl, ap, subst, ◌∙◌, ⊎_elim, arith, nat_cmp, Less, Equal, Greater, length-append}
 use Rattle.std.specs.Ordering.{is_gt}
 use Rattle.std.specs.Cmp.Lexicographic.{slice_cmp}
 use Rattle.std.proofs.lemmas.Bool.Decides.{nat_tests}
@@ -9,7 +9,7 @@ use Rattle.path_map.specs.Paths.{lies_below, IsAbsPath}
 use Rattle.path_map.specs.Entries.{Entries, entry_at, IsPathMap}
 use Rattle.path_map.specs.declared.entry.Entry.{Entry}
 use Rattle.path_map.proofs.Below.{below_rest, below_at}
-use Rattle.path_map.proofs.Segments.{first_byte, sound_from, IsSound}
+use Rattle.path_map.proofs.Segments.{first_byte, sound_from}
 
 cmp_equal : (x y : ℕ) → x ≡ y → nat_cmp x y ≡ Equal
 cmp_equal x y h = grind (arith, nat_tests)

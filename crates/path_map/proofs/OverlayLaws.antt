@@ -1,15 +1,14 @@
 -- What laying an entry over a tree does, place by place, and the laws of it.
-use Rattle.std.proofs.Common.{◌≡◌, ◌≢◌, ℕ, ◌<◌, Bool, true, false, cond, not, ◌&&◌, eqb, List, length, Option, None, Some, IsSome, IsTrue, sym, refl, ap, subst, ◌∙◌, ◌⊎◌, inl, inr, ⊎_elim, arith}
+use Rattle.std.proofs.Common.{◌≡◌, ◌≢◌, ℕ, true, false, not, ◌&&◌, eqb, List, length, Option, None, Some, IsSome, sym, refl, ap, subst, ◌∙◌, ◌⊎◌, ⊎_elim}
 use Rattle.std.specs.Str.{bytes_eq}
-use Rattle.std.proofs.lemmas.Bool.{cases_Bool, cases_lt, and_parts, and_from, and_left, and_right, not_from_false, not_from_true, not-true, ne_eqb, cond-true, cond-false, false_from_ne_true, both_ways}
+use Rattle.std.proofs.lemmas.Bool.{cases_Bool, and_parts, and_from, and_left, and_right, not_from_false, not_from_true, not-true, cond-true, cond-false, false_from_ne_true, both_ways}
 use Rattle.std.proofs.lemmas.Slice.Eq.{bytes_eq-Decides}
 use Rattle.path_map.specs.declared.entry.Entry.{Entry}
 use Rattle.path_map.specs.declared.entry.Entry.TheVariants.{Dir, File, Link}
 use Rattle.path_map.specs.Entries.{Tree, is_directory, is_directory_at}
 use Rattle.path_map.specs.Paths.{lies_below}
-use Rattle.path_map.specs.Overlay.{is_ancestor, directory_at, with_ancestors, cleared_below, overlaid, HasParents}
-use Rattle.path_map.proofs.Below.{below_itself, below_trans, below_both, below_longer}
-use Rattle.path_map.proofs.Whitelists.{directory_at_again}
+use Rattle.path_map.specs.Overlay.{is_ancestor, directory_at, cleared_below, overlaid, HasParents}
+use Rattle.path_map.proofs.Below.{below_itself, below_trans, below_both}
 
 -- an ancestor is a path above, and not the root
 pub below_ancestor : (q path : List ℕ) → is_ancestor q path ≡ true → lies_below path q ≡ true

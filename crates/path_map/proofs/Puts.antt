@@ -1,13 +1,13 @@
 -- A map after a path's entry was put or taken away.
-use Rattle.std.proofs.Common.{◌≡◌, ℕ, List, Option, Some, None, IsSome, true, false, cond, sym, subst, ap, ◌∙◌, ◌⊎◌, ⊎_elim, inl, inr}
+use Rattle.std.proofs.Common.{◌≡◌, ℕ, List, Option, Some, IsSome, cond, sym, subst, ap, ◌∙◌, ⊎_elim}
 use Rattle.std.specs.Ordering.{nat_cmp}
 use Rattle.std.specs.Cmp.Lexicographic.{slice_cmp, texts_ties}
 use Rattle.std.specs.Str.{bytes_eq}
 use Rattle.std.specs.BTreeMap.{is_at}
-use Rattle.std.proofs.lemmas.Bool.{cases_Bool, cond-true, cond-false}
+use Rattle.std.proofs.lemmas.Bool.{cases_Bool, cond-false}
 use Rattle.std.proofs.lemmas.Slice.Eq.{bytes_eq-Decides}
 use Rattle.path_map.specs.declared.entry.Entry.{Entry}
-use Rattle.path_map.specs.Entries.{Entries, Tree, entry_at, with_entry, without_entry, IsPathMap}
+use Rattle.path_map.specs.Entries.{Tree, with_entry}
 use Rattle.path_map.specs.Paths.{IsAbsPath}
 
 -- what the map says of the key is said by the bytes

@@ -1,8 +1,8 @@
 -- The segments of a path, of its ancestors and of what goes on below it.
-use Rattle.std.proofs.Common.{◌≡◌, ℕ, zero, suc, ◌+◌, ◌<◌, ◌≤◌, Bool, true, false, cond, not, ◌||◌, ◌==◌, eqb, List, [], ◌∷◌, ◌++◌, length, get_or, take, drop, Option, None, Some, sym, refl, ap, subst, ◌∙◌, ⊎_elim, arith, IsUtf8, length-append, length-take, slice_index}
+use Rattle.std.proofs.Common.{◌≡◌, ℕ, zero, suc, ◌+◌, ◌<◌, ◌≤◌, Bool, true, false, cond, not, ◌||◌, ◌==◌, List, [], ◌∷◌, ◌++◌, length, get_or, take, drop, None, Some, sym, refl, ap, subst, ◌∙◌, ⊎_elim, arith, length-append, length-take, slice_index}
 use Rattle.std.specs.List.{slice_split, onto_first, list_any}
 use Rattle.std.proofs.lemmas.Bool.{cases_lt, eqb-true, ltb-false, le-ltb, eq-eqb, or_parts, or_from}
-use Rattle.std.proofs.lemmas.List.{get_or_past, take-append-drop, drop_more, drop-append-le, get_or-take, append_assoc, get_or_append_left}
+use Rattle.std.proofs.lemmas.List.{get_or_past, take-append-drop, drop_more, drop-append-le, get_or-take, get_or_append_left}
 use Rattle.std.proofs.lemmas.List.Folds.{list_any-append}
 use Rattle.std.proofs.lemmas.Str.{IsUtf8-take, IsCharBoundary-before_ascii, IsUtf8-append, IsUtf8-from_ascii}
 use Rattle.path_map.specs.declared.path_error.PathError.{PathError}

@@ -1,13 +1,12 @@
 -- The laws of a whitelist.
-use Rattle.std.proofs.Common.{◌≡◌, ◌≢◌, ℕ, Bool, true, false, cond, not, ◌&&◌, ◌||◌, List, [], ◌∷◌, Option, None, Some, IsSome, IsTrue, sym, refl, ap, subst, ◌∙◌, ◌⊎◌, inl, inr, ⊎_elim}
+use Rattle.std.proofs.Common.{◌≡◌, ℕ, Bool, true, false, cond, ◌&&◌, ◌||◌, List, [], ◌∷◌, Option, None, Some, IsSome, sym, refl, ap, subst, ◌∙◌, ⊎_elim}
 use Rattle.std.specs.List.{list_any}
 use Rattle.std.specs.Str.{bytes_eq}
-use Rattle.std.proofs.lemmas.Bool.{cases_Bool, and_parts, and_from, or_cases, or_left, or_right, cond-true, cond-false, both_ways}
+use Rattle.std.proofs.lemmas.Bool.{cases_Bool, and_parts, and_from, or_cases, or_left, or_right, cond-true, cond-false}
 use Rattle.std.proofs.lemmas.Slice.Eq.{bytes_eq-Decides}
 use Rattle.path_map.specs.declared.entry.Entry.{Entry}
 use Rattle.path_map.specs.declared.listed.Listed.{Listed}
-use Rattle.path_map.specs.Entries.{Tree, is_directory, is_directory_at}
-use Rattle.path_map.specs.Paths.{lies_below}
+use Rattle.path_map.specs.Entries.{Tree, is_directory_at}
 use Rattle.path_map.specs.Overlay.{is_ancestor, directory_at, HasParents}
 use Rattle.path_map.specs.Whitelist.{stays, keeps, filtered, asks_directory, with_directories, whitelisted}
 use Rattle.path_map.proofs.OverlayLaws.{ancestor_trans, is_directory-directory_at, directory_stays}

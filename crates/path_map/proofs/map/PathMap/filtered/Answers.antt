@@ -1,4 +1,3 @@
-use Rattle.std.proofs.Common.{◌≡◌, ℕ, subst, sym, ap, ◌∙◌}
 use Rattle.path_map.specs.Entries.{entry_at}
 use Rattle.path_map.proofs.Whitelists.{filtered_more}
 use Rattle.path_map.proofs.map.PathMap.filtered.Goals as goal

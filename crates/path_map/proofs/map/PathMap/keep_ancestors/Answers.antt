@@ -1,4 +1,4 @@
-use Rattle.std.proofs.Common.{◌≡◌, ◌<◌, ◌≢◌, ℕ, length, get_or, take, subst, sym, ap, ◌∙◌, arith, rules, cond}
+use Rattle.std.proofs.Common.{◌≡◌, ◌<◌, length, get_or, take, subst, sym, ap, ◌∙◌, arith, rules, cond}
 use Rattle.path_map.specs.Entries.{entry_at, is_directory_at}
 use Rattle.std.specs.Str.{bytes_eq}
 use Rattle.path_map.specs.Overlay.{is_ancestor}

@@ -1,4 +1,4 @@
-use Rattle.std.proofs.Common.{◌≡◌, ◌<◌, ◌≢◌, ℕ, length, get_or, take, subst, sym, ap, ◌∙◌, arith, rules, Some, cond}
+use Rattle.std.proofs.Common.{◌≡◌, ◌<◌, length, get_or, take, subst, sym, ap, ◌∙◌, arith, rules, Some}
 use Rattle.path_map.specs.Entries.{entry_at}
 use Rattle.path_map.specs.Overlay.{directory_at, with_directory}
 use Rattle.path_map.proofs.Ancestors.{walk_begins, walk_passes, walk_turns, walk_ends}

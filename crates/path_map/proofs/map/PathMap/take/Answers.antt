@@ -1,4 +1,3 @@
-use Rattle.std.proofs.Common.{None}
 use Rattle.path_map.proofs.Puts.{at_bytes}
 use Rattle.path_map.proofs.map.PathMap.take.Goals as goal
 
