@@ -1,19 +1,20 @@
 -- Listings: the texts of trees.
-use Rattle.std.specs.Prelude.{◌≡◌, ◌≢◌, ℕ, ◌+◌, ◌-◌, ◌<◌, ◌≤◌, ◌==◌, Bool, true, false, not, ◌&&◌, ◌||◌, List, [], ◌∷◌, ◌++◌, length, count_by, slice_index, if◌then◌else◌, Option, ⊤, ◌⊎◌, nat_lt, MatchBool, MatchOption}
+use Rattle.std.specs.Prelude.{◌≡◌, ◌≢◌, ℕ, ◌+◌, ◌-◌, ◌<◌, ◌≤◌, ◌==◌, Bool, true, false, not, ◌&&◌, ◌||◌, List, [], ◌∷◌, ◌++◌, length, count_by, slice_index, if◌then◌else◌, Option, ⊤, ◌⊎◌, nat_lt, MatchBool, MatchOption, map}
 use Rattle.std.specs.List.{flat_map, list_any, slice_get}
 use Rattle.std.specs.Option.{option_map_or}
 use Rattle.std.specs.Ordering.{nat_cmp}
 use Rattle.std.specs.declared.cmp.Ordering.TheVariants.{Less}
 use Rattle.std.specs.Cmp.Lexicographic.{slice_cmp}
 use Rattle.std.specs.Str.{bytes_eq}
-use Rattle.path_map.specs.Entries.{is_directory}
+use Rattle.path_map.specs.declared.entry.Entry.{Entry}
+use Rattle.path_map.specs.Entries.{Entries, is_directory}
 use Rattle.tree_digest.specs.declared.line.ListingLine.{ListingLine}
 use Rattle.tree_digest.specs.declared.line_fault.LineFault.{LineFault}
 use Rattle.tree_digest.specs.declared.line_fault.LineFault.TheVariants.{Bad, TooLong, NoMemory as OutOfMemory}
 use Rattle.tree_digest.specs.declared.listing_error.ListingError.{ListingError}
 use Rattle.tree_digest.specs.declared.listing_error.ListingError.TheVariants.{BadLine, NotSorted, NoParent, TooMany, FileTooLong, NoMemory}
 use Rattle.tree_digest.specs.Fields.{HasNone}
-use Rattle.tree_digest.specs.Lines.{IsLine, line_text, is_too_long}
+use Rattle.tree_digest.specs.Lines.{IsLine, IsEntry, line_text, is_too_long}
 
 -- the text of a list of lines: one after the other
 abbrev pub listing_text : List ListingLine → List ℕ
@@ -106,3 +107,14 @@ Fits text = (line_count text ≤ 65536) × (length text ≤ 33554432)
 -- the first fault of a text: too many lines, too many bytes, or at the first line that has one
 abbrev pub Fails : List ℕ → ListingError → Type 0
 Fails text error = IsTooMany text error ⊎ (Fits text × StopsAt text error)
+
+-- the entries of lines, and the lines of entries
+abbrev pub entries_of : List ListingLine → Entries
+entries_of lines = map (λ line. (line.path, line.entry)) lines
+
+abbrev pub lines_of : Entries → List ListingLine
+lines_of entries = map (λ e. record { path = e.0; entry = e.1 }) entries
+
+-- the entry is one that a line may hold, and its file isn't too long
+abbrev pub IsListable : Entry → Type 0
+IsListable entry = IsEntry entry × (is_too_long entry ≡ false)
