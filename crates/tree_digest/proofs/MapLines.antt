@@ -48,7 +48,7 @@ none_at_later (line ∷ lines) q h =
     (ap is_eq (nat_list_cmp_total.antisymm q line.path ∙ ap ordering_reverse h.0))
     ∙ none_at_later lines q h.1
 
-is_equal : (o : Ordering) → is_eq o ≡ true → o ≡ Equal
+pub is_equal : (o : Ordering) → is_eq o ≡ true → o ≡ Equal
 is_equal Less h = cc
 is_equal Equal h = refl
 is_equal Greater h = cc
@@ -73,18 +73,18 @@ before_longer (x ∷ p) c rest =
     let same : nat_cmp x x ≡ Equal = tied_itself nat_cmp_total x in
     rw same (before_longer p c rest)
 
-before_below : (q p : List ℕ) → lies_below q p ≡ true → slice_cmp nat_cmp p q ≡ Less
+pub before_below : (q p : List ℕ) → lies_below q p ≡ true → slice_cmp nat_cmp p q ≡ Less
 before_below q p h =
     let rest = below_rest q p h in
     subst (λ t. slice_cmp nat_cmp p t ≡ Less) (sym rest.1) (before_longer p 47 rest.0)
 
-differ_if_less : (a b : List ℕ) → slice_cmp nat_cmp a b ≡ Less → a ≢ b
+pub differ_if_less : (a b : List ℕ) → slice_cmp nat_cmp a b ≡ Less → a ≢ b
 differ_if_less a b less e =
     let equal : slice_cmp nat_cmp a b ≡ Equal = subst (λ t. slice_cmp nat_cmp a t ≡ Equal) e (tied_itself nat_list_cmp_total a) in
     let bad : Less ≡ Equal = sym less ∙ equal in
     cc
 
-last_push : (lines : List ListingLine) (line : ListingLine) → last_path (lines ++ line ∷ []) ≡ line.path
+pub last_push : (lines : List ListingLine) (line : ListingLine) → last_path (lines ++ line ∷ []) ≡ line.path
 last_push lines line =
     ap (λ (o : Option ListingLine). option_map_or (λ (l : ListingLine). l.path) o []) (get_last lines line)
   where

@@ -7,6 +7,7 @@ use Rattle.std.specs.declared.cmp.Ordering.TheVariants.{Less}
 use Rattle.std.specs.Cmp.Lexicographic.{slice_cmp}
 use Rattle.std.specs.Str.{bytes_eq}
 use Rattle.path_map.specs.declared.entry.Entry.{Entry}
+use Rattle.path_map.specs.declared.entry.Entry.TheVariants.{Dir, File, Link}
 use Rattle.path_map.specs.Entries.{Entries, is_directory}
 use Rattle.tree_digest.specs.declared.line.ListingLine.{ListingLine}
 use Rattle.tree_digest.specs.declared.line_fault.LineFault.{LineFault}
@@ -14,7 +15,7 @@ use Rattle.tree_digest.specs.declared.line_fault.LineFault.TheVariants.{Bad, Too
 use Rattle.tree_digest.specs.declared.listing_error.ListingError.{ListingError}
 use Rattle.tree_digest.specs.declared.listing_error.ListingError.TheVariants.{BadLine, NotSorted, NoParent, TooMany, FileTooLong, NoMemory}
 use Rattle.tree_digest.specs.Fields.{HasNone}
-use Rattle.tree_digest.specs.Lines.{IsLine, IsEntry, line_text, is_too_long}
+use Rattle.tree_digest.specs.Lines.{IsLine, line_text, is_too_long}
 
 -- the text of a list of lines: one after the other
 abbrev pub listing_text : List ListingLine → List ℕ
@@ -115,6 +116,13 @@ entries_of lines = map (λ line. (line.path, line.entry)) lines
 abbrev pub lines_of : Entries → List ListingLine
 lines_of entries = map (λ e. record { path = e.0; entry = e.1 }) entries
 
--- the entry is one that a line may hold, and its file isn't too long
+-- the entry may stand in a listing: a mode of four octal digits, a file of at most 1,073,741,824
+-- bytes, a target of 1 to 4,095 bytes without NUL
 abbrev pub IsListable : Entry → Type 0
-IsListable entry = IsEntry entry × (is_too_long entry ≡ false)
+IsListable (Dir meta) = meta.mode < 4096
+IsListable (File meta size sha) = (meta.mode < 4096) × (size ≤ 1073741824)
+IsListable (Link meta target) = (meta.mode < 4096) × (1 ≤ length target) × (length target ≤ 4095) × HasNone 0 target
+
+-- too many lines, or too long a text of them
+abbrev pub IsTooLarge : List ListingLine → ListingError → Type 0
+IsTooLarge lines error = MatchBool (nat_lt 65536 (length lines)) (error ≡ TooMany 65536) ((33554432 < length (listing_text lines)) × (error ≡ TooMany 33554432))
