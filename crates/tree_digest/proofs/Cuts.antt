@@ -138,8 +138,8 @@ has_none_or_last c [] = inl refl
 has_none_or_last c (x ∷ t) =
     ⊎_elim
     (λ none. ⊎_elim
-        (λ same. inr ([], t, ap (λ y. y ∷ t) (eqb-true x c same), none))
-        (λ other. inl (or_from _ _ other none))
-        (cases_Bool (eqb x c)))
+    (λ same. inr ([], t, ap (λ y. y ∷ t) (eqb-true x c same), none))
+    (λ other. inl (or_from _ _ other none))
+    (cases_Bool (eqb x c)))
     (λ last. inr (x ∷ last.0, last.1, ap (λ u. x ∷ u) last.2, last.3))
     (has_none_or_last c t)

@@ -69,8 +69,8 @@ dir_listed [] q h = h
 dir_listed (e ∷ es) q h =
     ⊎_elim
     (λ at.
-        let path : q ≡ e.0 = exact_bytes q e.0 (is_equal _ at) in
-        or_left _ _ (and_from _ _ ((bytes_eq-Decides e.0 q).1 (sym path)) (sym (ap is_directory_at (cond-true (is_at (slice_cmp nat_cmp q) e.0) (Some e.1) (entry_at es q) at)) ∙ h)))
+    let path : q ≡ e.0 = exact_bytes q e.0 (is_equal _ at) in
+    or_left _ _ (and_from _ _ ((bytes_eq-Decides e.0 q).1 (sym path)) (sym (ap is_directory_at (cond-true (is_at (slice_cmp nat_cmp q) e.0) (Some e.1) (entry_at es q) at)) ∙ h)))
     (λ off. or_right _ _ (dir_listed es q (sym (ap is_directory_at (cond-false (is_at (slice_cmp nat_cmp q) e.0) (Some e.1) (entry_at es q) off)) ∙ h)))
     (cases_Bool (is_at (slice_cmp nat_cmp q) e.0))
 
@@ -122,30 +122,31 @@ module _ (es : Entries) (good : IsPathMap es) (parents : HasParents (entry_at es
       let from = sorted_rest before (e ∷ rest) sorted in
       let later = sorted_head (slice_cmp nat_cmp) e.0 (keys_of rest) from in
       let more : lines_of (before ++ e ∷ []) ≡ lines_of before ++ line_of e ∷ [] = map-append line_of before (e ∷ []) in
-      let last : last_path (lines_of (before ++ e ∷ [])) ≡ e.0 = ap last_path more ∙ last_push (lines_of before) (line_of e) in
-      (record {
-        line = record {
-          path = good.paths e.0 some;
-          entry = all_here (λ (f : List ℕ × Entry). IsEntry f.1) before rest e (subst (All (λ (f : List ℕ × Entry). IsEntry f.1)) (sym eq) valid);
-        };
-        short = listable_short e.1 (all_here (λ (f : List ℕ × Entry). IsListable f.1) before rest e (subst (All (λ (f : List ℕ × Entry). IsListable f.1)) (sym eq) listable));
-        rises = above;
-        parents = λ parent name ends.
-            ⊎_elim
-            (λ root. or_left _ _ root)
-            (λ below.
-                let lies = below_at e.0 parent name ends.text in
-                let dir = dir_listed es parent (parents parent e.0 some (ancestor_from parent e.0 below lies)) in
-                let parts = sym (list_any-append (λ (l : ListingLine). bytes_eq l.path parent && is_directory l.entry) (lines_of before) (lines_of (e ∷ rest))) ∙ ap (list_any (λ (l : ListingLine). bytes_eq l.path parent && is_directory l.entry)) (sym (map-append line_of before (e ∷ rest)) ∙ ap lines_of eq) ∙ dir in
-                let less = before_below e.0 parent lies in
-                or_right _ _ (⊎_elim
-                    (λ there. there)
-                    (λ no. absurd (not_later (e ∷ rest) parent (less, all_after rest parent e.0 less later) no))
-                    (or_cases (has_directory (lines_of before) parent) (has_directory (lines_of (e ∷ rest)) parent) parts)))
-            (cases_Bool (eqb (length parent) 0));
-      },
-      subst (λ b. AllFollow b (lines_of rest)) more
-          (follow_rest (before ++ e ∷ []) rest (append_assoc before (e ∷ []) rest ∙ eq) (subst (λ p. HeadAbove p rest) (sym last) (head_above e rest from))))
+      let last : last_path (lines_of (before ++ e ∷ [])) ≡ e.0 = ap last_path more ∙ last_push (lines_of before) (line_of e) in (
+        record {
+          line = record {
+            path = good.paths e.0 some;
+            entry = all_here (λ (f : List ℕ × Entry). IsEntry f.1) before rest e (subst (All (λ (f : List ℕ × Entry). IsEntry f.1)) (sym eq) valid);
+          };
+          short = listable_short e.1 (all_here (λ (f : List ℕ × Entry). IsListable f.1) before rest e (subst (All (λ (f : List ℕ × Entry). IsListable f.1)) (sym eq) listable));
+          rises = above;
+          parents = λ parent name ends.
+              ⊎_elim
+              (λ root. or_left _ _ root)
+              (λ below.
+              let lies = below_at e.0 parent name ends.text in
+              let dir = dir_listed es parent (parents parent e.0 some (ancestor_from parent e.0 below lies)) in
+              let parts = sym (list_any-append (λ (l : ListingLine). bytes_eq l.path parent && is_directory l.entry) (lines_of before) (lines_of (e ∷ rest))) ∙ ap (list_any (λ (l : ListingLine). bytes_eq l.path parent && is_directory l.entry)) (sym (map-append line_of before (e ∷ rest)) ∙ ap lines_of eq) ∙ dir in
+              let less = before_below e.0 parent lies in
+              or_right _ _ (⊎_elim
+              (λ there. there)
+              (λ no. absurd (not_later (e ∷ rest) parent (less, all_after rest parent e.0 less later) no))
+              (or_cases (has_directory (lines_of before) parent) (has_directory (lines_of (e ∷ rest)) parent) parts)))
+              (cases_Bool (eqb (length parent) 0));
+        },
+        subst (λ b. AllFollow b (lines_of rest)) more
+            (follow_rest (before ++ e ∷ []) rest (append_assoc before (e ∷ []) rest ∙ eq) (subst (λ p. HeadAbove p rest) (sym last) (head_above e rest from))),
+      )
 
   first_above : (fs : Entries) → fs ≡ es → HeadAbove [] fs
   first_above [] eq = tt

@@ -9,7 +9,7 @@ use Rattle.std.specs.Ordering.{is_eq, ordering_reverse}
 use Rattle.std.specs.declared.cmp.Ordering.{Ordering}
 use Rattle.std.specs.Option.{option_map_or}
 use Rattle.std.specs.Str.{bytes_eq}
-use Rattle.std.proofs.lemmas.Bool.{cases_Bool, cases_lt, or_parts, or_left, or_right, or_cases, and_parts, and_from, cond-true, cond-false, both_ways, false_from_ne_true, eqb-true, eq-eqb, ne_eqb}
+use Rattle.std.proofs.lemmas.Bool.{ltb-false, cases_Bool, cases_lt, or_parts, or_left, or_right, or_cases, and_parts, and_from, cond-true, cond-false, both_ways, false_from_ne_true, eqb-true, eq-eqb, ne_eqb}
 use Rattle.std.proofs.lemmas.Cmp.{nat_list_cmp_total, nat_cmp_total, tied_itself}
 use Rattle.std.proofs.lemmas.List.{append-nil, map-append}
 use Rattle.std.proofs.lemmas.List.Folds.{list_any-append}
@@ -18,7 +18,12 @@ use Rattle.std.proofs.lemmas.Slice.Eq.{bytes_eq-Decides}
 use Rattle.path_map.specs.declared.entry.Entry.{Entry}
 use Rattle.path_map.specs.Entries.{Entries, Tree, entry_at, is_directory, is_directory_at}
 use Rattle.path_map.specs.Paths.{lies_below}
-use Rattle.path_map.specs.Overlay.{is_ancestor, overlaid, directory_at}
+use Rattle.path_map.specs.Overlay.{is_ancestor, overlaid, directory_at, HasParents}
+use Rattle.path_map.specs.declared.entry.Entry.TheVariants.{Dir, File, Link}
+use Rattle.std.specs.List.{All}
+use Rattle.std.proofs.lemmas.List.Elements.{All-nil, All-cons}
+use Rattle.tree_digest.specs.Lines.{IsEntry, is_too_long}
+use Rattle.tree_digest.specs.Listings.{IsListable}
 use Rattle.path_map.proofs.Below.{below_rest, below_at}
 use Rattle.path_map.proofs.OverlayLaws.{by_place, laid_here, laid_below, laid_above, laid_apart, directory_stays, below_ancestor, ancestor_some, ancestor_from}
 use Rattle.tree_digest.specs.declared.line.ListingLine.{ListingLine}
@@ -93,6 +98,7 @@ last_push lines line =
     at [] (suc n) e = absurd (omega arith)
     at (l ∷ ls) zero e = absurd (omega arith)
     at (l ∷ ls) (suc n) e = at ls n (omega arith)
+
     get_last : (ls : List ListingLine) (l : ListingLine) → slice_get (lines ++ line ∷ []) (length (lines ++ line ∷ []) - 1) ≡ Some line
     get_last ls l = at lines (length (lines ++ line ∷ []) - 1) (omega (arith, length-append lines (line ∷ [])))
 
@@ -124,15 +130,15 @@ ancestors_there lines line known next q up =
     let rest = below_rest line.path q (below_ancestor q line.path up) in
     ⊎_elim
     (λ none.
-        ⊎_elim (λ root. absurd (both_ways _ some root)) (λ there. there)
-        (or_cases (eqb (length q) 0) (has_directory lines q) (next.parents q rest.0 (record { text = rest.1; last = none }))))
+    ⊎_elim (λ root. absurd (both_ways _ some root)) (λ there. there)
+    (or_cases (eqb (length q) 0) (has_directory lines q) (next.parents q rest.0 (record { text = rest.1; last = none }))))
     (λ last.
-        let parent = q ++ 47 ∷ last.0 in
-        let text : line.path ≡ parent ++ 47 ∷ last.1 = rest.1 ∙ ap (λ t. q ++ 47 ∷ t) last.2 ∙ sym (append_assoc q (47 ∷ last.0) (47 ∷ last.1)) in
-        ⊎_elim
-        (λ root. absurd (omega (arith, eqb-true (length parent) 0 root, length-append q (47 ∷ last.0))))
-        (λ there. known.parents q parent (directory_line lines parent there) (ancestor_from q parent some (below_at parent q last.0 refl)))
-        (or_cases (eqb (length parent) 0) (has_directory lines parent) (next.parents parent last.1 (record { text = text; last = last.3 }))))
+    let parent = q ++ 47 ∷ last.0 in
+    let text : line.path ≡ parent ++ 47 ∷ last.1 = rest.1 ∙ ap (λ t. q ++ 47 ∷ t) last.2 ∙ sym (append_assoc q (47 ∷ last.0) (47 ∷ last.1)) in
+    ⊎_elim
+    (λ root. absurd (omega (arith, eqb-true (length parent) 0 root, length-append q (47 ∷ last.0))))
+    (λ there. known.parents q parent (directory_line lines parent there) (ancestor_from q parent some (below_at parent q last.0 refl)))
+    (or_cases (eqb (length parent) 0) (has_directory lines parent) (next.parents parent last.1 (record { text = text; last = last.3 }))))
     (has_none_or_last 47 rest.0)
 
 has_more : (f : ListingLine → Bool) (lines : List ListingLine) (line : ListingLine) → list_any f (lines ++ line ∷ []) ≡ (list_any f lines || (f line || false))
@@ -150,25 +156,26 @@ known_more lines line known next = record {
   parents = λ q path there up.
       sym_or (λ l. bytes_eq l.path q && is_directory l.entry)
       (⊎_elim
-          (λ old. known.parents q path old up)
-          (λ new. ancestors_there lines line known next q (subst (λ t. is_ancestor q t ≡ true) (sym ((bytes_eq-Decides line.path path).0 (or_nothing _ new))) up))
-          (or_cases _ _ (sym (has_more (λ l. bytes_eq l.path path) lines line) ∙ there)));
+      (λ old. known.parents q path old up)
+      (λ new. ancestors_there lines line known next q (subst (λ t. is_ancestor q t ≡ true) (sym ((bytes_eq-Decides line.path path).0 (or_nothing _ new))) up))
+      (or_cases _ _ (sym (has_more (λ l. bytes_eq l.path path) lines line) ∙ there)));
   directories = λ q there.
       ⊎_elim
       (λ old.
-          let dir = known.directories q old in
-          let other : line.path ≢ q = λ e.
-              not_none (entry_at (entries_of lines) q) dir (subst (λ t. entry_at (entries_of lines) t ≡ None) e (none_at_later lines line.path (known.below line.path next.rises))) in
-          ap is_directory_at (at_more lines line q other) ∙ dir)
+      let dir = known.directories q old in
+      let other : line.path ≢ q = λ e.
+      not_none (entry_at (entries_of lines) q) dir (subst (λ t. entry_at (entries_of lines) t ≡ None) e (none_at_later lines line.path (known.below line.path next.rises))) in
+      ap is_directory_at (at_more lines line q other) ∙ dir)
       (λ new.
-          let both = and_parts _ _ (or_nothing _ new) in
-          let here : line.path ≡ q = (bytes_eq-Decides line.path q).0 both.0 in
-          ap is_directory_at (ap (entry_at (entries_of (lines ++ line ∷ []))) (sym here) ∙ at_last lines line (known.below line.path next.rises)) ∙ both.1)
+      let both = and_parts _ _ (or_nothing _ new) in
+      let here : line.path ≡ q = (bytes_eq-Decides line.path q).0 both.0 in
+      ap is_directory_at (ap (entry_at (entries_of (lines ++ line ∷ []))) (sym here) ∙ at_last lines line (known.below line.path next.rises)) ∙ both.1)
       (or_cases _ _ (sym (has_more (λ l. bytes_eq l.path q && is_directory l.entry) lines line) ∙ there));
 }
   where
     sym_or : (f : ListingLine → Bool) → list_any f lines ≡ true → list_any f (lines ++ line ∷ []) ≡ true
     sym_or f h = has_more f lines line ∙ or_left _ _ h
+
     not_none : (o : Option Entry) → is_directory_at o ≡ true → o ≡ None → ⊥
     not_none None h e = cc
     not_none (Some x) h e = cc
@@ -191,12 +198,12 @@ lay_next lines line known next tree so q =
     by_place line.path line.entry q
     (λ here. laid_here tree line.path line.entry q here ∙ sym (ap (entry_at (entries_of (lines ++ line ∷ []))) (sym here) ∙ at_last lines line all))
     (λ kind below.
-        let less = before_below q line.path below in
-        laid_below tree line.path line.entry q kind below ∙ sym (at_more lines line q (differ_if_less line.path q less) ∙ none_at_later lines q (below_more lines line.path q all less)))
+    let less = before_below q line.path below in
+    laid_below tree line.path line.entry q kind below ∙ sym (at_more lines line q (differ_if_less line.path q less) ∙ none_at_later lines q (below_more lines line.path q all less)))
     (λ up.
-        let dir = ap is_directory_at (so q) ∙ known.directories q (ancestors_there lines line known next q up) in
-        let less = before_below line.path q (below_ancestor q line.path up) in
-        laid_above tree line.path line.entry q up ∙ directory_stays (tree q) dir ∙ so q ∙ sym (at_more lines line q (λ e. differ_if_less q line.path less (sym e))))
+    let dir = ap is_directory_at (so q) ∙ known.directories q (ancestors_there lines line known next q up) in
+    let less = before_below line.path q (below_ancestor q line.path up) in
+    laid_above tree line.path line.entry q up ∙ directory_stays (tree q) dir ∙ so q ∙ sym (at_more lines line q (λ e. differ_if_less q line.path less (sym e))))
     (λ other clear apart. laid_apart tree line.path line.entry q other clear apart ∙ so q ∙ sym (at_more lines line q other))
 
 -- the paths of lines rise
@@ -205,13 +212,46 @@ all_above : (path : List ℕ) (before lines : List ListingLine) → AllFollow be
     → AllByRecursion (λ p. slice_cmp nat_cmp path p ≡ Less) (keys_of (entries_of lines))
 all_above path before [] all reach = tt
 all_above path before (l ∷ lines) all reach =
-    let here = reach l.path all.0.rises in
-    (here, all_above path (before ++ l ∷ []) lines all.1 (λ p less.
-        nat_list_cmp_total.trans path l.path p here (ap (λ t. slice_cmp nat_cmp t p) (sym (last_push before l)) ∙ less)))
+    let here = reach l.path all.0.rises in (
+      here,
+      all_above path (before ++ l ∷ []) lines all.1 (λ p less.
+          nat_list_cmp_total.trans path l.path p here (ap (λ t. slice_cmp nat_cmp t p) (sym (last_push before l)) ∙ less)),
+    )
 
 pub rising_lines : (before lines : List ListingLine) → AllFollow before lines → IsStrictlySortedBy (slice_cmp nat_cmp) (keys_of (entries_of lines))
 unfolding IsStrictlySortedBy
 rising_lines before [] all = tt
-rising_lines before (l ∷ lines) all =
-    (all_above l.path (before ++ l ∷ []) lines all.1 (λ p less. ap (λ t. slice_cmp nat_cmp t p) (sym (last_push before l)) ∙ less),
-     rising_lines (before ++ l ∷ []) lines all.1)
+rising_lines before (l ∷ lines) all = (
+  all_above l.path (before ++ l ∷ []) lines all.1 (λ p less. ap (λ t. slice_cmp nat_cmp t p) (sym (last_push before l)) ∙ less),
+  rising_lines (before ++ l ∷ []) lines all.1,
+)
+
+known_all : (before lines : List ListingLine) → IsKnown before → AllFollow before lines → IsKnown (before ++ lines)
+known_all before [] known all = subst IsKnown (sym (append-nil before)) known
+known_all before (l ∷ lines) known all =
+    subst IsKnown (append_assoc before (l ∷ []) lines) (known_all (before ++ l ∷ []) lines (known_more before l known all.0) all.1)
+
+some_listed : (lines : List ListingLine) (path : List ℕ) → IsSome (entry_at (entries_of lines) path) → has_line lines path ≡ true
+some_listed [] path h = cc
+some_listed (line ∷ lines) path h =
+    ⊎_elim
+    (λ at. or_left _ _ ((bytes_eq-Decides line.path path).1 (sym (exact_bytes path line.path (is_equal _ at)))))
+    (λ off. or_right _ _ (some_listed lines path (subst IsSome (cond-false (is_at (slice_cmp nat_cmp path) line.path) (Some line.entry) (entry_at (entries_of lines) path) off) h)))
+    (cases_Bool (is_at (slice_cmp nat_cmp path) line.path))
+
+-- the map of a listing has the parents of its entries
+pub listing_has_parents : (lines : List ListingLine) → AllFollow [] lines → HasParents (entry_at (entries_of lines))
+listing_has_parents lines all =
+    let known = known_all [] lines none_known all in
+    λ q path some up. known.directories q (known.parents q path (some_listed lines path some) up)
+
+entry_listable : (entry : Entry) → IsEntry entry → is_too_long entry ≡ false → IsListable entry
+entry_listable (Dir meta) h short = h.mode
+entry_listable (File meta size sha) h short = (h.0.mode, ltb-false 1073741824 size short)
+entry_listable (Link meta target) h short = (h.0.mode, h.1.some, h.1.short, h.1.no_nul)
+
+-- and only entries that a listing may hold
+pub listing_is_listable : (before lines : List ListingLine) → AllFollow before lines → All (λ (e : List ℕ × Entry). IsListable e.1) (entries_of lines)
+listing_is_listable before [] all = All-nil (λ (e : List ℕ × Entry). IsListable e.1)
+listing_is_listable before (l ∷ lines) all =
+    All-cons (λ (e : List ℕ × Entry). IsListable e.1) (l.path, l.entry) (entries_of lines) (entry_listable l.entry all.0.line.entry all.0.short) (listing_is_listable (before ++ l ∷ []) lines all.1)

@@ -8,5 +8,5 @@ use Rattle.tree_digest.proofs.maps.copied_lines.Given as goal
 abbrev pub invariant-loop-path : goal.invariant-loop-path
 invariant-loop-path l = record {
   lines : l.lines.items ++ lines_of l.path-iterator ≡ lines_of l.map;
-  valid : All (λ (line : ListingLine). IsListable line.entry → IsEntry line.entry) l.lines.items
+  valid : All (λ (line : ListingLine). IsListable line.entry → IsEntry line.entry) l.lines.items;
 }

@@ -5,5 +5,5 @@ use Rattle.tree_digest.proofs.maps.text_fits.Given as goal
 abbrev pub invariant-loop-line : goal.invariant-loop-line
 invariant-loop-line l = record {
   total : l.total ≡ length (listing_text (take l.line-index l.lines));
-  small : l.total ≤ 33554432
+  small : l.total ≤ 33554432;
 }

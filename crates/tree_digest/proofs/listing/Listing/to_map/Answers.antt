@@ -26,5 +26,5 @@ pub returns : goal.returns
 returns c =
     same_from_tree c.loop-line.map (entries_of c.args.self.now) c.iter-entries.ensures.kind.rising (rising_lines [] c.args.self.now c.as_slice-lines.ensures.kind.follow)
     (λ q.
-        c.loop-line.invariant q
-        ∙ ap (λ ls. entry_at (entries_of ls) q) (take_all c.loop-line.line-index c.as_slice-lines.result.now c.loop-line-test.false ∙ c.as_slice-lines.ensures.lines))
+    c.loop-line.invariant q
+    ∙ ap (λ ls. entry_at (entries_of ls) q) (take_all c.loop-line.line-index c.as_slice-lines.result.now c.loop-line-test.false ∙ c.as_slice-lines.ensures.lines))
