@@ -1,0 +1,10 @@
+pub mod AppData
+pub mod AppForm
+pub mod EnvForm
+pub mod ExecForm
+pub mod HandlerForm
+pub mod IsolatorForm
+pub mod ListForms
+pub mod MountForm
+pub mod Places
+pub mod PortForm
