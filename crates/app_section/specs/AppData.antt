@@ -39,5 +39,5 @@ app_data a = record {
   environment = a.environment;
   mount_points = a.mount_points;
   ports = a.ports;
-  isolators = map isolator_data a.isolators
+  isolators = map isolator_data a.isolators;
 }

@@ -1,7 +1,7 @@
 -- The app's section: its fields in the order in which they are read.
 use Rattle.std.specs.Prelude.{ℕ, List, [], codes}
 use Rattle.serde_json.specs.Data.{Data}
-use Rattle.ac_types.specs.FieldForms.{required, optional, default, filled_text, whole, list, members, each, each_named}
+use Rattle.ac_types.specs.FieldForms.{required, optional, default, filled_text, whole, list, an_object, each, each_named}
 use Rattle.ac_types.specs.Outcomes.{Outcome, reads, ◌>>=◌, ◌>>◌}
 use Rattle.ac_types.specs.declared.fault.FaultKind.{FaultKind}
 use Rattle.ac_types.specs.declared.fault.FaultKind.TheVariants.{BadHandler, NameTwice}
@@ -17,7 +17,7 @@ use Rattle.app_section.specs.PortForm.{port_range}
 
 unfoldable pub app : List ℕ → Data → Outcome AppData
 app at d =
-    members at d
+    an_object at d
     >> default [] exec at (codes "exec") d >>= λ words.
     required filled_text at (codes "user") d >>= λ user.
     required filled_text at (codes "group") d >>= λ group.
@@ -38,5 +38,5 @@ app at d =
       environment = environment;
       mount_points = mount_points;
       ports = ports;
-      isolators = isolators
+      isolators = isolators;
     })

@@ -2,7 +2,7 @@
 use Rattle.std.specs.Prelude.{ℕ, Bool, true, false, ◌&&◌, ◌||◌, ◌==◌, nat_le, List, [], ◌∷◌, codes}
 use Rattle.std.specs.List.{list_any, list_all}
 use Rattle.serde_json.specs.Data.{Data}
-use Rattle.ac_types.specs.FieldForms.{required, text, filled_text, members}
+use Rattle.ac_types.specs.FieldForms.{required, text, filled_text, an_object}
 use Rattle.ac_types.specs.Outcomes.{Outcome, reads, fails, ◌>>=◌, ◌>>◌}
 use Rattle.ac_types.specs.declared.fault.FaultKind.TheVariants.{BadEnvName}
 use Rattle.app_section.specs.Places.{has_nul}
@@ -33,12 +33,13 @@ env_name at d = filled_text at d >>= λ t. if_good at (is_env_name t) t
 abbrev pub unless_nul : List ℕ → Bool → List ℕ → Outcome (List ℕ)
 unless_nul at true t = fails at BadEnvName
 unless_nul at false t = reads t
+
 abbrev pub env_value : List ℕ → Data → Outcome (List ℕ)
 env_value at d = text at d >>= λ t. unless_nul at (has_nul t) t
 
 unfoldable pub env_var : List ℕ → Data → Outcome EnvVar
 env_var at d =
-    members at d
+    an_object at d
     >> required env_name at (codes "name") d >>= λ name.
     required env_value at (codes "value") d >>= λ value.
     reads (record { name = name; value = value })

@@ -30,5 +30,6 @@ exec at d = list at d >>= words at
 abbrev pub some_words : List ℕ → List Data → Outcome (List (List ℕ))
 some_words at [] = fails at Missing
 some_words at (d ∷ ds) = words at (d ∷ ds)
+
 abbrev pub filled_exec : List ℕ → Data → Outcome (List (List ℕ))
 filled_exec at d = list at d >>= some_words at

@@ -2,7 +2,7 @@
 use Rattle.std.specs.Prelude.{ℕ, List, [], ◌∷◌, Option, Some, None, codes, if◌then◌else◌}
 use Rattle.std.specs.Str.{bytes_eq}
 use Rattle.serde_json.specs.Data.{Data}
-use Rattle.ac_types.specs.FieldForms.{required, filled_text, members}
+use Rattle.ac_types.specs.FieldForms.{required, filled_text, an_object}
 use Rattle.ac_types.specs.JsonPaths.{field_path}
 use Rattle.ac_types.specs.Outcomes.{Outcome, reads, fails, ◌>>=◌, ◌>>◌}
 use Rattle.ac_types.specs.declared.fault.FaultKind.TheVariants.{BadHandler}
@@ -30,7 +30,7 @@ known_kind at (Some kind) = reads kind
 -- the kind is judged after the fields were read
 unfoldable pub handler : List ℕ → Data → Outcome Handler
 handler at d =
-    members at d
+    an_object at d
     >> required filled_text at (codes "name") d >>= λ name.
     required filled_exec at (codes "exec") d >>= λ exec.
     known_kind (field_path at (codes "name")) (kind_of name) >>= λ kind.

@@ -64,5 +64,6 @@ held at (Some t) = reads t
 -- a text that is a place, and one where an empty text counts as missing
 abbrev pub place_field : List ℕ → Data → Outcome (List ℕ)
 place_field at d = text at d >>= λ t. held at (place_text t)
+
 abbrev pub filled_place : List ℕ → Data → Outcome (List ℕ)
 filled_place at d = filled_text at d >>= λ t. held at (place_text t)

@@ -1,7 +1,7 @@
 -- A range of ports.
 use Rattle.std.specs.Prelude.{ℕ, ◌+◌, Bool, true, false, nat_le, zero, suc, List, Option, Some, None, codes}
 use Rattle.serde_json.specs.Data.{Data}
-use Rattle.ac_types.specs.FieldForms.{required, optional, default, flag, whole, filled_text, members}
+use Rattle.ac_types.specs.FieldForms.{required, optional, default, flag, whole, filled_text, an_object}
 use Rattle.ac_types.specs.NameForms.{filled_name}
 use Rattle.ac_types.specs.Outcomes.{Outcome, reads, fails, ◌>>=◌, ◌>>◌}
 use Rattle.ac_types.specs.declared.fault.FaultKind.TheVariants.{PortRange}
@@ -18,7 +18,7 @@ count_field at d = optional (whole 65535) at (codes "count") d >>= λ count. rea
 
 unfoldable pub port_fields : List ℕ → Data → Outcome Port
 port_fields at d =
-    members at d
+    an_object at d
     >> required filled_name at (codes "name") d >>= λ name.
     required filled_text at (codes "protocol") d >>= λ protocol.
     required (whole 65535) at (codes "port") d >>= λ first.

@@ -13,8 +13,7 @@ use crate::isolator::{Isolator, copy_isolators};
 use crate::mount_point::MountPoint;
 use crate::places::optional_place;
 use crate::port::Port;
-use ac_types::{FaultKind, NoMemory, ReadError, Sequence, Text, Texts};
-use ac_types::{filled_text, object_value};
+use ac_types::{FaultKind, NoMemory, ReadError, Sequence, Text, Texts, filled_text, object_value};
 use serde_json::Value;
 use std::alloc::Global;
 
@@ -38,16 +37,22 @@ pub struct App {
 impl App {
     /// The app that the JSON at a path is. Otherwise the first fault in the order of the fields,
     /// or `NoMemory`.
+    #[tactic(auto, unfolding(crate::specs::AppForm::app))]
     pub fn read(alloc: Global, value: &Value, at: &str) -> Result<App, ReadError>
         ensures { Answers app_data (app at.now (view value.now)) result }
     {
-        let value = object_value(alloc, value, at)?;
+        object_value(alloc, value, at)?;
         let exec = exec_field(alloc, value, at)?;
         let user = filled_text(alloc, value, at, "user")?;
         let group = filled_text(alloc, value, at, "group")?;
-        let supplementary_gids = group_ids(alloc, value, at)?;
-        let event_handlers =
-            named_list_of(alloc, value, at, "eventHandlers", FaultKind::BadHandler)?;
+        let supplementary_gids = group_ids(alloc, value, at, "supplementaryGIDs")?;
+        let event_handlers = named_list_of(
+            alloc,
+            value,
+            at,
+            "eventHandlers",
+            FaultKind::BadHandler,
+        )?;
         let working_directory = optional_place(alloc, value, at, "workingDirectory")?;
         let environment = list_of(alloc, value, at, "environment")?;
         let mount_points = named_list_of(alloc, value, at, "mountPoints", FaultKind::NameTwice)?;

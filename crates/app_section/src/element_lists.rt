@@ -4,8 +4,10 @@ ghost use Rattle.ac_types.specs.FieldForms.{default};
 ghost use Rattle.ac_types.specs.Outcomes.{Answers};
 ghost use Rattle.app_section.specs.ListForms.{list_of, named_list_of};
 
-use ac_types::{FaultKind, FromElement, NamedElement, ReadError, Sequence};
-use ac_types::{field_path, list_field, read_each, read_named};
+use ac_types::{
+    FaultKind, FromElement, NamedElement, ReadError, Sequence, field_path, list_field, read_each,
+    read_named,
+};
 use serde_json::Value;
 use std::alloc::Global;
 

@@ -1,11 +1,14 @@
 ghost use Rattle.std.specs.Prelude.{◌≡◌, IfOk};
+ghost use Rattle.std.specs.List.{list_all};
 ghost use Rattle.serde_json.specs.View.{view};
 ghost use Rattle.ac_types.specs.Outcomes.{Answers};
 ghost use Rattle.app_section.specs.EnvForm.{is_env_name, is_first_byte, is_later_byte};
 ghost use Rattle.app_section.specs.Places.{has_nul};
 
-use ac_types::{FaultKind, FromElement, NoMemory, ReadError, Text, TryCopy};
-use ac_types::{field_fault, filled_text, object_value, required_text};
+use ac_types::{
+    FaultKind, FromElement, NoMemory, ReadError, Text, TryCopy, field_fault, filled_text,
+    object_value, required_text,
+};
 use serde_json::Value;
 use std::alloc::Global;
 
@@ -49,8 +52,9 @@ impl FromElement for EnvVar {
 
     ghost name_of = { λ e. e.name };
 
+    #[tactic(auto, unfolding(crate::specs::EnvForm::env_var))]
     fn read(alloc: Global, value: &Value, at: &str) -> Result<EnvVar, ReadError> {
-        let value = object_value(alloc, value, at)?;
+        object_value(alloc, value, at)?;
         let name = filled_text(alloc, value, at, "name")?;
         if !is_env_name(name) {
             return Err(field_fault(alloc, at, "name", FaultKind::BadEnvName));
@@ -70,9 +74,15 @@ fn is_env_name(name: &str) -> bool
     ensures { result ≡ is_env_name name.now }
 {
     match name.as_bytes().split_first() {
-        Some((first, rest)) => is_first_byte(*first) && rest.iter().all(|b| is_later_byte(*b)),
+        Some((first, rest)) => is_first_byte(*first) && are_later_bytes(rest),
         None => false,
     }
+}
+
+fn are_later_bytes(bytes: &[u8]) -> bool
+    ensures { result ≡ list_all is_later_byte bytes.now }
+{
+    bytes.iter().all(|b| is_later_byte(*b))
 }
 
 fn is_first_byte(byte: u8) -> bool

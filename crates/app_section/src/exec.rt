@@ -7,8 +7,10 @@ ghost use Rattle.app_section.specs.ExecForm.{word, words, exec, filled_exec};
 
 use crate::env_var::has_nul;
 use crate::places::program_text;
-use ac_types::{FaultKind, ReadError, Text, Texts};
-use ac_types::{element_path, fault_at, field_fault, field_path, list_field, text_value};
+use ac_types::{
+    FaultKind, ReadError, Text, Texts, element_path, fault_at, field_fault, field_path, list_field,
+    text_value,
+};
 use serde_json::Value;
 use std::alloc::Global;
 

@@ -1,27 +1,27 @@
-ghost use Rattle.std.specs.Prelude.{◌≡◌, List, map, [], codes, IfOk};
+ghost use Rattle.std.specs.Prelude.{◌≡◌, List, map, [], IfOk};
 ghost use Rattle.serde_json.specs.View.{view};
 ghost use Rattle.ac_types.specs.FieldForms.{default, whole, each};
 ghost use Rattle.ac_types.specs.JsonPaths.{element_path};
 ghost use Rattle.ac_types.specs.Outcomes.{Gives};
 ghost use Rattle.app_section.specs.ListForms.{list_of};
 
-use ac_types::{NoMemory, ReadError, Sequence};
-use ac_types::{element_path, field_path, list_field, whole_value};
+use ac_types::{NoMemory, ReadError, Sequence, element_path, field_path, list_field, whole_value};
 use serde_json::Value;
 use std::alloc::Global;
 
-/// The IDs in the field `supplementaryGIDs` of the object at a path: none where it is absent.
+/// The IDs in a field of the object at a path: none where it is absent.
 pub(crate) fn group_ids(
     alloc: Global,
     value: &Value,
     at: &str,
+    name: &str,
 ) -> Result<Sequence<u32>, ReadError>
-    ensures { Gives (default [] (list_of (whole 4294967295)) at.now (codes "supplementaryGIDs") (view value.now)) result }
+    ensures { Gives (default [] (list_of (whole 4294967295)) at.now name.now (view value.now)) result }
 {
-    match list_field(alloc, value, at, "supplementaryGIDs") {
+    match list_field(alloc, value, at, name) {
         Ok(None) => Ok(Sequence::new(alloc)),
         Ok(Some(list)) => {
-            let path = field_path(alloc, at, "supplementaryGIDs")?;
+            let path = field_path(alloc, at, name)?;
             read_ids(alloc, list.as_slice(), path.as_str())
         }
         Err(error) => Err(error),

@@ -4,8 +4,10 @@ ghost use Rattle.ac_types.specs.Outcomes.{Answers};
 ghost use Rattle.app_section.specs.HandlerForm.{kind_name, kind_of};
 
 use crate::exec::required_exec;
-use ac_types::{FaultKind, FromElement, NamedElement, NoMemory, ReadError, Texts, TryCopy};
-use ac_types::{field_fault, filled_text, object_value};
+use ac_types::{
+    FaultKind, FromElement, NamedElement, NoMemory, ReadError, Texts, TryCopy, field_fault,
+    filled_text, object_value,
+};
 use serde_json::Value;
 use std::alloc::Global;
 
@@ -79,8 +81,9 @@ impl FromElement for Handler {
 
     ghost name_of = { λ h. kind_name h.kind };
 
+    #[tactic(auto, unfolding(crate::specs::HandlerForm::handler))]
     fn read(alloc: Global, value: &Value, at: &str) -> Result<Handler, ReadError> {
-        let value = object_value(alloc, value, at)?;
+        object_value(alloc, value, at)?;
         let name = filled_text(alloc, value, at, "name")?;
         let exec = required_exec(alloc, value, at)?;
         match HandlerKind::of_name(name) {

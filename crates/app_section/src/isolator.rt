@@ -4,8 +4,10 @@ ghost use Rattle.ac_types.specs.Outcomes.{Answers};
 ghost use Rattle.app_section.specs.AppData.{isolator_data};
 
 use crate::whole_numbers::has_float;
-use ac_types::{AcIdentifier, FaultKind, FromElement, NoMemory, ReadError, Sequence};
-use ac_types::{field_fault, object_value, required_field, required_identifier};
+use ac_types::{
+    AcIdentifier, FaultKind, FromElement, NoMemory, ReadError, Sequence, field_fault, object_value,
+    required_field, required_identifier,
+};
 use serde_json::Value;
 use std::alloc::Global;
 
@@ -30,10 +32,7 @@ impl Isolator {
 }
 
 /// The isolators of a slice, each copied.
-pub fn copy_isolators(
-    alloc: Global,
-    isolators: &[Isolator],
-) -> Result<Sequence<Isolator>, NoMemory>
+pub fn copy_isolators(alloc: Global, isolators: &[Isolator]) -> Result<Sequence<Isolator>, NoMemory>
     ensures { IfOk result (λ copies. map isolator_data copies ≡ map isolator_data isolators.now) }
 {
     let mut copies = Sequence::new(alloc);
@@ -55,8 +54,9 @@ impl FromElement for Isolator {
 
     ghost name_of = { λ i. i.name };
 
+    #[tactic(auto, unfolding(crate::specs::IsolatorForm::isolator))]
     fn read(alloc: Global, value: &Value, at: &str) -> Result<Isolator, ReadError> {
-        let value = object_value(alloc, value, at)?;
+        object_value(alloc, value, at)?;
         let name = required_identifier(alloc, value, at, "name")?;
         let found = required_field(alloc, value, at, "value")?;
         if has_float(found) {

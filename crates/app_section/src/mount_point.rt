@@ -3,8 +3,10 @@ ghost use Rattle.serde_json.specs.View.{view};
 ghost use Rattle.ac_types.specs.Outcomes.{Answers};
 
 use crate::places::required_place;
-use ac_types::{AcName, FromElement, NamedElement, NoMemory, ReadError, Text, TryCopy};
-use ac_types::{flag_field, object_value, required_name};
+use ac_types::{
+    AcName, FromElement, NamedElement, NoMemory, ReadError, Text, TryCopy, flag_field,
+    object_value, required_name,
+};
 use serde_json::Value;
 use std::alloc::Global;
 
@@ -48,8 +50,9 @@ impl FromElement for MountPoint {
 
     ghost name_of = { λ m. m.name };
 
+    #[tactic(auto, unfolding(crate::specs::MountForm::mount_point))]
     fn read(alloc: Global, value: &Value, at: &str) -> Result<MountPoint, ReadError> {
-        let value = object_value(alloc, value, at)?;
+        object_value(alloc, value, at)?;
         let name = required_name(alloc, value, at, "name")?;
         let path = required_place(alloc, value, at, "path")?;
         let read_only = flag_field(alloc, value, at, "readOnly")?;

@@ -1,24 +1,19 @@
 ghost use Rattle.std.specs.Prelude.{◌≡◌, ◌++◌, ◌∷◌, [], ℕ, List, IfOk, MatchOption, codes, filter, map, string_bytes};
 ghost use Rattle.std.specs.List.{flat_map, slice_split, list_any};
+ghost use Rattle.std.specs.Str.{bytes_eq};
 ghost use Rattle.serde_json.specs.View.{view};
 ghost use Rattle.ac_types.specs.FieldForms.{required, optional};
 ghost use Rattle.ac_types.specs.Outcomes.{Answers, Gives};
-ghost use Rattle.app_section.specs.Places.{is_rooted, has_parent, is_dropped, is_slash, with_slash, place_text, program_text, joined, filled_place, place_field};
+ghost use Rattle.app_section.specs.Places.{is_rooted, is_dropped, is_slash, with_slash, place_text, program_text, joined, filled_place, place_field};
 
 use crate::env_var::has_nul;
-use ac_types::{FaultKind, NoMemory, ReadError, Text};
-use ac_types::{field_fault, filled_text, text_field};
+use ac_types::{FaultKind, NoMemory, ReadError, Text, field_fault, filled_text, text_field};
 use serde_json::Value;
-use std::alloc::Global;
+use std::alloc::{AllocError, Global};
 
 /// The place in a field of the object at a path, which must be there. `BadPath` for a text that
 /// is no place.
-pub fn required_place(
-    alloc: Global,
-    value: &Value,
-    at: &str,
-    name: &str,
-) -> Result<Text, ReadError>
+pub fn required_place(alloc: Global, value: &Value, at: &str, name: &str) -> Result<Text, ReadError>
     ensures { Gives (required filled_place at.now name.now (view value.now)) result }
 {
     match filled_text(alloc, value, at, name) {
@@ -54,6 +49,7 @@ pub fn optional_place(
 
 /// The word as it is held, where it is a program word: a place, or a text with no `/` that isn't
 /// empty and holds no NUL.
+#[tactic(auto, unfolding(crate::specs::Places::program_text))]
 pub(crate) fn program_text(alloc: Global, word: &str) -> Result<Option<Text>, NoMemory>
     ensures { IfOk result (λ held. held ≡ program_text word.now) }
 {
@@ -67,6 +63,7 @@ pub(crate) fn program_text(alloc: Global, word: &str) -> Result<Option<Text>, No
 }
 
 /// The place that the text is, with its empty segments and those that are `.` left out.
+#[tactic(auto, unfolding(crate::specs::Places::place_text))]
 fn place_text(alloc: Global, text: &str) -> Result<Option<Text>, NoMemory>
     ensures { IfOk result (λ held. held ≡ place_text text.now) }
 {
@@ -80,13 +77,10 @@ fn place_text(alloc: Global, text: &str) -> Result<Option<Text>, NoMemory>
     Ok(Some(joined(alloc, segments.as_slice())?))
 }
 
-fn segments_of<'a>(alloc: Global, text: &'a str) -> Result<Vec<&'a str>, NoMemory>
+fn segments_of(alloc: Global, text: &str) -> Result<Vec<&str>, AllocError>
     ensures { IfOk result (λ found. map (λ s. s.now) found.items ≡ slice_split is_slash text.now) }
 {
-    match text.split('/').collect(alloc) {
-        Ok(found) => Ok(found),
-        Err(_) => Err(NoMemory),
-    }
+    text.split('/').collect(alloc)
 }
 
 fn joined(alloc: Global, segments: &[&str]) -> Result<Text, NoMemory>
@@ -114,7 +108,7 @@ fn with_segment(place: String, segment: &str) -> Result<String, NoMemory>
 }
 
 fn has_parent(segments: &[&str]) -> bool
-    ensures { result ≡ has_parent (map (λ s. s.now) segments.now) }
+    ensures { result ≡ list_any (λ s. bytes_eq s.now (codes "..")) segments.now }
 {
     segments.iter().any(|segment| *segment == "..")
 }

@@ -1,11 +1,13 @@
-ghost use Rattle.std.specs.Prelude.{◌≡◌, IfOk};
+ghost use Rattle.std.specs.Prelude.{◌≡◌, ◌+◌, nat_le, IfOk};
 ghost use Rattle.serde_json.specs.View.{view};
 ghost use Rattle.ac_types.specs.Outcomes.{Answers};
 ghost use Rattle.app_section.specs.PortForm.{port_fields};
 
 use crate::small_numbers::{port_count, required_port};
-use ac_types::{AcName, FaultKind, FromElement, NamedElement, NoMemory, ReadError, Text, TryCopy};
-use ac_types::{fault_at, filled_text, flag_field, object_value, required_name};
+use ac_types::{
+    AcName, FaultKind, FromElement, NamedElement, NoMemory, ReadError, Text, TryCopy, fault_at,
+    filled_text, flag_field, object_value, required_name,
+};
 use serde_json::Value;
 use std::alloc::Global;
 
@@ -53,9 +55,10 @@ impl FromElement for Port {
 
     ghost name_of = { λ p. p.name };
 
+    #[tactic(auto, unfolding(crate::specs::PortForm::port_range))]
     fn read(alloc: Global, value: &Value, at: &str) -> Result<Port, ReadError> {
         let found = read_fields(alloc, value, at)?;
-        if u32::from(found.port) + u32::from(found.count) > 65_536 {
+        if !ends_within(found.port, found.count) {
             return Err(fault_at(alloc, at, FaultKind::PortRange));
         }
         Ok(found)
@@ -68,10 +71,18 @@ impl NamedElement for Port {
     }
 }
 
+/// Whether the last port, `port + count - 1`, is at most 65,535.
+fn ends_within(port: u16, count: u16) -> bool
+    ensures { result ≡ nat_le (port + count) 65536 }
+{
+    u32::from(port) + u32::from(count) <= 65_536
+}
+
+#[tactic(auto, unfolding(crate::specs::PortForm::port_fields))]
 fn read_fields(alloc: Global, value: &Value, at: &str) -> Result<Port, ReadError>
     ensures { Answers (λ p. p) (port_fields at.now (view value.now)) result }
 {
-    let value = object_value(alloc, value, at)?;
+    object_value(alloc, value, at)?;
     let name = required_name(alloc, value, at, "name")?;
     let protocol = filled_text(alloc, value, at, "protocol")?;
     let port = required_port(alloc, value, at)?;
