@@ -3,6 +3,7 @@ ghost use Rattle.serde_json.specs.View.{view};
 ghost use Rattle.ac_types.specs.Outcomes.{Answers};
 ghost use Rattle.app_section.specs.AppData.{app_data};
 ghost use Rattle.app_section.specs.AppForm.{app};
+ghost use Rattle.app_section.specs.AppObject.{app_object};
 
 use crate::element_lists::{list_of, named_list_of};
 use crate::env_var::EnvVar;
@@ -13,6 +14,7 @@ use crate::isolator::{Isolator, copy_isolators};
 use crate::mount_point::MountPoint;
 use crate::places::optional_place;
 use crate::port::Port;
+use crate::written_app::app_value;
 use ac_types::{FaultKind, NoMemory, ReadError, Sequence, Text, Texts, filled_text, object_value};
 use serde_json::Value;
 use std::alloc::Global;
@@ -70,6 +72,14 @@ impl App {
             ports,
             isolators,
         })
+    }
+
+    /// The object that is written for the app: its keys in byte order, without the fields that are
+    /// absent or empty.
+    pub fn value(&self, alloc: Global) -> Result<Value, NoMemory>
+        ensures { IfOk result (λ v. view v ≡ app_object (app_data self.now)) }
+    {
+        app_value(alloc, self)
     }
 
     /// An equal app.
