@@ -1,5 +1,5 @@
 -- The app's section: its fields in the order in which they are read.
-use Rattle.std.specs.Prelude.{ℕ, List, [], codes}
+use Rattle.std.specs.Prelude.{◌≡◌, ℕ, List, [], codes}
 use Rattle.serde_json.specs.Data.{Data}
 use Rattle.ac_types.specs.FieldForms.{required, optional, default, filled_text, whole, list, an_object, each, each_named}
 use Rattle.ac_types.specs.Outcomes.{Outcome, reads, ◌>>=◌, ◌>>◌}
@@ -40,3 +40,11 @@ app at d =
       ports = ports;
       isolators = isolators;
     })
+
+-- the app was read from some JSON
+abbrev pub WasRead : AppData → Type 0
+WasRead a = (at : List ℕ) × ((d : Data) × (app at d ≡ reads a))
+
+-- the JSON is read as the app, at each path
+abbrev pub IsReadAs : Data → AppData → Type 0
+IsReadAs d a = (at : List ℕ) → app at d ≡ reads a
