@@ -15,6 +15,7 @@ use Rattle.app_section.specs.MountForm.{mount_point}
 use Rattle.app_section.specs.Places.{place_field}
 use Rattle.app_section.specs.PortForm.{port_range}
 
+-- an app, field by field
 unfoldable pub app : List ℕ → Data → Outcome AppData
 app at d =
     an_object at d

@@ -48,13 +48,7 @@ impl App {
         let user = filled_text(alloc, value, at, "user")?;
         let group = filled_text(alloc, value, at, "group")?;
         let supplementary_gids = group_ids(alloc, value, at, "supplementaryGIDs")?;
-        let event_handlers = named_list_of(
-            alloc,
-            value,
-            at,
-            "eventHandlers",
-            FaultKind::BadHandler,
-        )?;
+        let handlers = named_list_of(alloc, value, at, "eventHandlers", FaultKind::BadHandler)?;
         let working_directory = optional_place(alloc, value, at, "workingDirectory")?;
         let environment = list_of(alloc, value, at, "environment")?;
         let mount_points = named_list_of(alloc, value, at, "mountPoints", FaultKind::NameTwice)?;
@@ -65,7 +59,7 @@ impl App {
             user: Text::of(alloc, user)?,
             group: Text::of(alloc, group)?,
             supplementary_gids,
-            event_handlers,
+            event_handlers: handlers,
             working_directory,
             environment,
             mount_points,
