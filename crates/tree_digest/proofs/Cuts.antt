@@ -1,13 +1,12 @@
 -- Where a text is cut at a byte.
-use Rattle.std.proofs.Common.{◌≡◌, ℕ, zero, suc, ◌+◌, ◌/◌, ◌%◌, ◌<◌, ◌≤◌, Bool, true, false, ◌||◌, ◌==◌, eqb, List, [], ◌∷◌, ◌++◌, length, get_or, take, drop, ◌-◌, ◌≢◌, sym, refl, ap, subst, ◌∙◌, ◌⊎◌, inl, inr, ⊎_elim, arith, slice_index}
-use Rattle.std.specs.List.{list_any, All}
+use Rattle.std.proofs.Common.{◌≡◌, ℕ, zero, suc, ◌+◌, ◌/◌, ◌%◌, ◌<◌, ◌≤◌, true, false, ◌==◌, eqb, List, [], ◌∷◌, ◌++◌, length, get_or, take, drop, ◌-◌, ◌≢◌, sym, refl, ap, subst, ◌∙◌, ◌⊎◌, inl, inr, ⊎_elim, arith}
+use Rattle.std.specs.List.{All}
 use Rattle.std.proofs.lemmas.Bool.{cases_lt, or_parts, or_from, ne_eqb, eq-eqb, eqb-true, both_ways, cases_Bool, false_from_ne_true}
 use Rattle.std.proofs.lemmas.List.Folds.{list_any_none, list_any-append, list_any_more}
 use Rattle.std.proofs.lemmas.List.{take-append-drop, drop_more, take_rest, take_all, get_or_past}
-use Rattle.std.proofs.lemmas.List.Elements.{All-nil, All-cons}
 use Rattle.hex.specs.Hex.{encode_with, encode_lower, lower_digits}
 use Rattle.percent_encoding.specs.AsciiSet.{should_percent_encode}
-use Rattle.percent_encoding.proofs.PercentLemmas.{All-percent_encode, IsEscapeByte}
+use Rattle.percent_encoding.proofs.PercentLemmas.{All-percent_encode}
 use Rattle.tree_digest.specs.declared.escapes.TheConstants.{ESCAPED}
 use Rattle.tree_digest.specs.Fields.{octal_text, decimal_text, escaped, field, HasNone}
 use Rattle.tree_digest.proofs.Decimals.{decimal_digits}

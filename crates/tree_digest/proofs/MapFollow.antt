@@ -1,13 +1,13 @@
 -- The entries of a map as the lines of a listing.
-use Rattle.std.proofs.Common.{◌≡◌, ◌≢◌, ℕ, ◌+◌, ◌<◌, ◌≤◌, Bool, true, false, ltb, ◌&&◌, ◌||◌, eqb, List, [], ◌∷◌, ◌++◌, map, length, get_or, take, drop, Option, Some, None, IsSome, nat_cmp, Less, sym, refl, ap, subst, ◌∙◌, ◌⊎◌, ⊎_elim, arith, append_assoc, length-append}
+use Rattle.std.proofs.Common.{◌≡◌, ℕ, ◌≤◌, true, false, ◌&&◌, eqb, List, [], ◌∷◌, ◌++◌, length, get_or, take, drop, Option, Some, None, IsSome, nat_cmp, Less, sym, refl, ap, subst, ◌∙◌, ⊎_elim, arith, append_assoc, length-append}
 use Rattle.std.specs.Cmp.Lexicographic.{slice_cmp}
-use Rattle.std.specs.List.{All, AllByRecursion, list_any, flat_map}
+use Rattle.std.specs.List.{All, AllByRecursion, list_any}
 use Rattle.std.specs.List.Sorted.{IsStrictlySortedBy}
 use Rattle.std.specs.Map.{keys_of}
 use Rattle.std.specs.BTreeMap.{is_at}
 use Rattle.std.specs.Ordering.{is_eq, ordering_reverse}
 use Rattle.std.specs.Str.{bytes_eq}
-use Rattle.std.proofs.lemmas.Bool.{cases_Bool, or_left, or_right, or_cases, and_parts, and_from, cond-true, cond-false, both_ways, le-ltb}
+use Rattle.std.proofs.lemmas.Bool.{cases_Bool, or_left, or_right, or_cases, and_parts, and_from, cond-true, cond-false, le-ltb}
 use Rattle.std.proofs.lemmas.Cmp.{nat_list_cmp_total, tied_itself}
 use Rattle.std.proofs.lemmas.List.{map-append, get_or_at, take-append-drop, get_or-map, length-map}
 use Rattle.std.proofs.lemmas.Grind.{flat_map-append}
@@ -17,7 +17,6 @@ use Rattle.std.proofs.lemmas.Map.Lookups.{exact_bytes}
 use Rattle.std.proofs.lemmas.Slice.Eq.{bytes_eq-Decides}
 use Rattle.path_map.specs.declared.entry.Entry.{Entry}
 use Rattle.path_map.specs.declared.entry.Entry.TheVariants.{Dir, File, Link}
-use Rattle.path_map.specs.Paths.{IsAbsPath}
 use Rattle.path_map.specs.Entries.{Entries, entry_at, is_directory, is_directory_at, IsPathMap}
 use Rattle.path_map.specs.Overlay.{HasParents}
 use Rattle.path_map.proofs.Below.{below_at}
@@ -25,7 +24,7 @@ use Rattle.path_map.proofs.OverlayLaws.{ancestor_from}
 use Rattle.path_map.proofs.Segments.{sound_from, path_some}
 use Rattle.tree_digest.specs.declared.line.ListingLine.{ListingLine}
 use Rattle.tree_digest.specs.Lines.{IsEntry, is_too_long, line_text}
-use Rattle.tree_digest.specs.Listings.{AllFollow, Follows, EndsIn, last_path, has_directory, is_parent, lines_of, listing_text, IsListable}
+use Rattle.tree_digest.specs.Listings.{AllFollow, last_path, has_directory, lines_of, listing_text, IsListable}
 use Rattle.tree_digest.proofs.MapLines.{last_push, before_below, differ_if_less, is_equal}
 
 -- the line of an entry

@@ -1,24 +1,24 @@
 -- The lines of a listing as the entries of a map.
-use Rattle.std.proofs.Common.{◌≡◌, ◌≢◌, ℕ, zero, suc, ◌+◌, ◌-◌, ◌<◌, ◌≤◌, Bool, true, false, cond, not, ◌&&◌, ◌||◌, ◌==◌, eqb, List, [], ◌∷◌, ◌++◌, map, length, get_or, take, drop, Option, Some, None, IsSome, nat_cmp, Less, Equal, Greater, sym, refl, ap, subst, ◌∙◌, ◌⊎◌, inl, inr, ⊎_elim, arith, append_assoc, length-append}
+use Rattle.std.proofs.Common.{◌≡◌, ◌≢◌, ℕ, zero, suc, ◌-◌, ◌<◌, Bool, true, false, cond, ◌&&◌, ◌||◌, eqb, List, [], ◌∷◌, ◌++◌, length, get_or, take, Option, Some, None, IsSome, nat_cmp, Less, Equal, Greater, sym, refl, ap, subst, ◌∙◌, ⊎_elim, arith, append_assoc, length-append}
 use Rattle.std.specs.Cmp.Lexicographic.{slice_cmp}
 use Rattle.std.specs.List.{AllByRecursion, list_any, slice_get}
 use Rattle.std.specs.List.Sorted.{IsStrictlySortedBy}
-use Rattle.std.specs.Map.{keys_of, lookup}
+use Rattle.std.specs.Map.{keys_of}
 use Rattle.std.specs.BTreeMap.{is_at}
 use Rattle.std.specs.Ordering.{is_eq, ordering_reverse}
 use Rattle.std.specs.declared.cmp.Ordering.{Ordering}
 use Rattle.std.specs.Option.{option_map_or}
 use Rattle.std.specs.Str.{bytes_eq}
-use Rattle.std.proofs.lemmas.Bool.{ltb-false, cases_Bool, cases_lt, or_parts, or_left, or_right, or_cases, and_parts, and_from, cond-true, cond-false, both_ways, false_from_ne_true, eqb-true, eq-eqb, ne_eqb}
+use Rattle.std.proofs.lemmas.Bool.{ltb-false, cases_Bool, or_left, or_right, or_cases, and_parts, cond-true, cond-false, both_ways, false_from_ne_true, eqb-true}
 use Rattle.std.proofs.lemmas.Cmp.{nat_list_cmp_total, nat_cmp_total, tied_itself}
-use Rattle.std.proofs.lemmas.List.{append-nil, map-append}
+use Rattle.std.proofs.lemmas.List.{append-nil}
 use Rattle.std.proofs.lemmas.List.Folds.{list_any-append}
 use Rattle.std.proofs.lemmas.Map.Lookups.{exact_bytes}
 use Rattle.std.proofs.lemmas.Slice.Eq.{bytes_eq-Decides}
 use Rattle.path_map.specs.declared.entry.Entry.{Entry}
-use Rattle.path_map.specs.Entries.{Entries, Tree, entry_at, is_directory, is_directory_at}
+use Rattle.path_map.specs.Entries.{Tree, entry_at, is_directory, is_directory_at}
 use Rattle.path_map.specs.Paths.{lies_below}
-use Rattle.path_map.specs.Overlay.{is_ancestor, overlaid, directory_at, HasParents}
+use Rattle.path_map.specs.Overlay.{is_ancestor, overlaid, HasParents}
 use Rattle.path_map.specs.declared.entry.Entry.TheVariants.{Dir, File, Link}
 use Rattle.std.specs.List.{All}
 use Rattle.std.proofs.lemmas.List.Elements.{All-nil, All-cons}
@@ -27,10 +27,8 @@ use Rattle.tree_digest.specs.Listings.{IsListable}
 use Rattle.path_map.proofs.Below.{below_rest, below_at}
 use Rattle.path_map.proofs.OverlayLaws.{by_place, laid_here, laid_below, laid_above, laid_apart, directory_stays, below_ancestor, ancestor_some, ancestor_from}
 use Rattle.tree_digest.specs.declared.line.ListingLine.{ListingLine}
-use Rattle.tree_digest.specs.Fields.{HasNone}
-use Rattle.std.proofs.lemmas.Map.Keys.{sorted_head, sorted_tail}
-use Rattle.tree_digest.specs.Listings.{AllFollow, Follows, Rises, EndsIn, last_path, has_directory, is_parent, entries_of}
-use Rattle.tree_digest.proofs.Cuts.{cut_once, last_once, has_none_or_last}
+use Rattle.tree_digest.specs.Listings.{AllFollow, Follows, last_path, has_directory, entries_of}
+use Rattle.tree_digest.proofs.Cuts.{has_none_or_last}
 
 -- each path of the lines is below another
 abbrev pub AllBelow : List ListingLine → List ℕ → Type 0

@@ -1,4 +1,4 @@
-use Rattle.std.proofs.Common.{◌≡◌, ◌++◌, ◌∷◌, [], List, ℕ, get_or, length, subst, sym, ap, ◌∙◌, arith, rules}
+use Rattle.std.proofs.Common.{◌≡◌, ◌++◌, ◌∷◌, [], List, ℕ, subst, sym, ap, ◌∙◌, rules}
 use Rattle.std.specs.List.{All}
 use Rattle.path_map.specs.declared.entry.Entry.{Entry}
 use Rattle.tree_digest.specs.Lines.{IsEntry}

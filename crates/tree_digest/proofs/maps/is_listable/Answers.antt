@@ -1,4 +1,4 @@
-use Rattle.std.proofs.Common.{◌≡◌, IsUtf8, subst, sym}
+use Rattle.std.proofs.Common.{IsUtf8, subst, sym}
 use Rattle.tree_digest.specs.Fields.{IsTarget}
 use Rattle.tree_digest.proofs.maps.is_listable.Goals as goal
 

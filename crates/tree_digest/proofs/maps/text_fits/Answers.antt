@@ -1,4 +1,4 @@
-use Rattle.std.proofs.Common.{◌≡◌, ◌<◌, ◌++◌, ◌∷◌, ◌+◌, [], length, take, false, true, sym, ap, ◌∙◌, arith, rules, length-append}
+use Rattle.std.proofs.Common.{◌≡◌, ◌++◌, ◌∷◌, ◌+◌, [], length, take, sym, ap, ◌∙◌, arith, rules, length-append}
 use Rattle.std.proofs.lemmas.List.{take_more}
 use Rattle.tree_digest.specs.Lines.{line_text}
 use Rattle.tree_digest.specs.Listings.{listing_text}

@@ -1,4 +1,4 @@
-use Rattle.std.proofs.Common.{◌≡◌, [], length, get_or, subst, sym, rules}
+use Rattle.std.proofs.Common.{◌≡◌, [], get_or, subst, sym, rules}
 use Rattle.tree_digest.specs.Listings.{AllFollow}
 use Rattle.tree_digest.proofs.ListingTexts.{valid_at, mode_fits}
 use Rattle.tree_digest.proofs.listing.Listing.of_map.Goals as goal

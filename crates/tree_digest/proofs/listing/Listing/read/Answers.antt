@@ -1,5 +1,4 @@
-use Rattle.std.proofs.Common.{◌≤◌, length, count_by, ◌==◌, sym, ap, ◌∙◌, arith}
-use Rattle.tree_digest.specs.Listings.{listing_text}
+use Rattle.std.proofs.Common.{length, count_by, ◌==◌, ap, ◌∙◌, arith}
 use Rattle.tree_digest.proofs.ListingTexts.{lines_counted}
 use Rattle.tree_digest.proofs.listing.Listing.read.Goals as goal
 
