@@ -1,8 +1,7 @@
 -- An app that was read, read from what is written for it.
-use Rattle.std.proofs.Common.{◌≡◌, ℕ, Bool, List, [], ◌∷◌, map, Option, Some, None, option_map, codes, refl, sym, ◌∙◌, ap, subst}
-use Rattle.serde_json.specs.Data.{Data, string, object}
-use Rattle.ac_types.specs.FieldForms.{present, unless_null, filled_text, whole, list, an_object, required, optional, default, each, each_named, named_once}
-use Rattle.ac_types.specs.JsonPaths.{field_path}
+use Rattle.std.proofs.Common.{◌≡◌, ℕ, List, [], Option, Some, None, option_map, codes, refl, ◌∙◌, ap}
+use Rattle.serde_json.specs.Data.{Data, string}
+use Rattle.ac_types.specs.FieldForms.{present, unless_null, filled_text, whole, an_object, required, optional, default, each, each_named, named_once}
 use Rattle.ac_types.specs.Outcomes.{Outcome, reads, fails, ◌>>=◌, ◌>>◌}
 use Rattle.ac_types.specs.declared.fault.FaultKind.TheVariants.{BadHandler, NameTwice}
 use Rattle.app_section.specs.AppData.{AppData, IsolatorData}
@@ -22,7 +21,7 @@ use Rattle.app_section.specs.declared.handler.Handler.{Handler}
 use Rattle.app_section.specs.declared.mount_point.MountPoint.{MountPoint}
 use Rattle.app_section.specs.declared.port.Port.{Port}
 use Rattle.app_section.proofs.Chains.{Again, no_fault, same_read, each_again}
-use Rattle.app_section.proofs.FieldsAgain.{found, value_of, found_alone, present_in, required_again, optional_again, filled_text_again, place_field_again, whole_again, AgainList, list_field_again, named_again}
+use Rattle.app_section.proofs.FieldsAgain.{value_of, found_alone, present_in, required_again, optional_again, filled_text_again, place_field_again, whole_again, AgainList, list_field_again, named_again}
 use Rattle.app_section.proofs.ElementsAgain.{words_again, env_again, handler_again, mount_again, port_again, isolator_again}
 
 abbrev app_of : List (List ℕ) → List ℕ → List ℕ → List ℕ → List Handler → Option (List ℕ) → List EnvVar → List MountPoint

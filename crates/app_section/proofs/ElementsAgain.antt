@@ -1,9 +1,9 @@
 -- The elements of the section's lists, read from what is written for them.
-use Rattle.std.proofs.Common.{◌≡◌, ℕ, zero, suc, ◌+◌, Bool, true, false, List, [], ◌∷◌, map, Option, Some, None, codes, nat_le, refl, sym, ◌∙◌, ap, subst}
-use Rattle.serde_json.specs.Data.{Data, null, boolean, number, string, array, object, unsigned}
+use Rattle.std.proofs.Common.{◌≡◌, ℕ, zero, suc, ◌+◌, Bool, true, false, List, [], ◌∷◌, Option, Some, None, codes, nat_le, refl, ◌∙◌, ap, subst}
+use Rattle.serde_json.specs.Data.{Data, null, boolean, number, string, array, object}
 use Rattle.serde_json.specs.Find.{get}
 use Rattle.serde_json.specs.Written.{has_float}
-use Rattle.ac_types.specs.FieldForms.{present, unless_null, text, filled, filled_text, flag, whole, wanted, list, an_object, required, required_at, optional, optional_at, default, default_at}
+use Rattle.ac_types.specs.FieldForms.{present, unless_null, text, filled, filled_text, flag, whole, list, an_object, required, required_at, optional, optional_at, default}
 use Rattle.ac_types.specs.JsonPaths.{field_path}
 use Rattle.ac_types.specs.NameForms.{filled_name, filled_identifier}
 use Rattle.ac_types.specs.Outcomes.{Outcome, reads, fails, ◌>>=◌, ◌>>◌}
@@ -24,7 +24,7 @@ use Rattle.app_section.specs.declared.handler.HandlerKind.TheVariants.{PreStart,
 use Rattle.app_section.specs.declared.mount_point.MountPoint.{MountPoint}
 use Rattle.app_section.specs.declared.port.Port.{Port}
 use Rattle.app_section.proofs.Chains.{Again, AgainAfter, no_fault, split, same_read, each_again, none_from_none}
-use Rattle.app_section.proofs.FieldsAgain.{found, found_alone, present_in, required_again, optional_read, flag_again, text_again, filled_text_again, name_again, identifier_again, held_is, filled_place_again, whole_again, AgainList, list_again}
+use Rattle.app_section.proofs.FieldsAgain.{found_alone, present_in, required_again, optional_read, flag_again, filled_text_again, name_again, identifier_again, held_is, filled_place_again, whole_again, AgainList, list_again}
 use Rattle.app_section.proofs.PlacesAgain.{program_again}
 
 -- ---- environment variables

@@ -1,13 +1,12 @@
 -- The fields of an object, read from what is written for them.
-use Rattle.std.proofs.Common.{◌≡◌, ℕ, zero, suc, Bool, true, false, List, [], ◌∷◌, map, Option, Some, None, option_map, Ordering, Less, Equal, Greater, codes, nat_le, refl, sym, ◌∙◌, ap, subst, true≢false}
+use Rattle.std.proofs.Common.{◌≡◌, ℕ, Bool, true, false, List, [], ◌∷◌, map, Option, Some, None, option_map, Ordering, Less, Equal, Greater, codes, nat_le, refl, sym, ◌∙◌, ap, subst, true≢false}
 use Rattle.std.specs.Prelude.{if◌then◌else◌}
 use Rattle.std.specs.Ordering.{nat_cmp, match_ordering}
 use Rattle.std.specs.Cmp.Lexicographic.{slice_cmp}
-use Rattle.serde_json.specs.Data.{Data, null, boolean, number, string, array, object, Num, unsigned, negative, float, Members, no_members, member}
+use Rattle.serde_json.specs.Data.{Data, string, object, Num, unsigned, negative, float}
 use Rattle.serde_json.specs.Find.{get_member, as_number}
 use Rattle.serde_json.specs.View.{items_of}
-use Rattle.serde_json.specs.Written.{has_float}
-use Rattle.ac_types.specs.FieldForms.{present, unless_null, text, filled, filled_text, flag, whole, at_most, wanted, list, elements, required, required_at, optional, optional_at, default, default_at, each, each_named, named_once, unless_among}
+use Rattle.ac_types.specs.FieldForms.{present, unless_null, text, filled, filled_text, flag, whole, at_most, wanted, list, elements, required, required_at, optional, optional_at, default, default_at, named_once, unless_among}
 use Rattle.ac_types.specs.JsonPaths.{field_path}
 use Rattle.ac_types.specs.NameForms.{words, if_words, name_text, identifier_text, filled_name, filled_identifier}
 use Rattle.ac_types.specs.Names.{is_hyphen, is_separator}

@@ -1,10 +1,10 @@
 -- A place or a program word, as it is held, is read as itself.
-use Rattle.std.proofs.Common.{◌≡◌, ℕ, ◌==◌, Bool, true, false, ◌||◌, ◌&&◌, not, List, [], ◌∷◌, ◌++◌, Option, Some, None, codes, refl, sym, ◌∙◌, ap, subst, true≢false}
+use Rattle.std.proofs.Common.{◌≡◌, ℕ, ◌==◌, Bool, true, false, ◌||◌, ◌&&◌, not, List, [], ◌∷◌, ◌++◌, Some, None, codes, refl, sym, ◌∙◌, ap, subst, true≢false}
 use Rattle.std.specs.Prelude.{if◌then◌else◌}
 use Rattle.std.specs.List.{list_any, slice_split, flat_map, onto_first}
 use Rattle.std.specs.Str.{bytes_eq}
 use Rattle.std.proofs.lemmas.List.Folds.{list_any-append}
-use Rattle.app_section.specs.Places.{is_slash, is_rooted, has_nul, has_parent, is_dropped, with_slash, or_root, joined, is_place, place_text, is_bare_word, program_text}
+use Rattle.app_section.specs.Places.{is_slash, is_rooted, has_nul, has_parent, is_dropped, with_slash, or_root, joined, place_text, is_bare_word, program_text}
 
 neither : (a b : Bool) → (a || b) ≡ false → (a ≡ false) × (b ≡ false)
 neither true b h = absurd (true≢false h)

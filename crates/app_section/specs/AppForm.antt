@@ -1,9 +1,8 @@
 -- The app's section: its fields in the order in which they are read.
 use Rattle.std.specs.Prelude.{◌≡◌, ℕ, List, [], codes}
 use Rattle.serde_json.specs.Data.{Data}
-use Rattle.ac_types.specs.FieldForms.{required, optional, default, filled_text, whole, list, an_object, each, each_named}
+use Rattle.ac_types.specs.FieldForms.{required, optional, default, filled_text, whole, an_object}
 use Rattle.ac_types.specs.Outcomes.{Outcome, reads, ◌>>=◌, ◌>>◌}
-use Rattle.ac_types.specs.declared.fault.FaultKind.{FaultKind}
 use Rattle.ac_types.specs.declared.fault.FaultKind.TheVariants.{BadHandler, NameTwice}
 use Rattle.app_section.specs.AppData.{AppData}
 use Rattle.app_section.specs.EnvForm.{env_var}

@@ -1,6 +1,6 @@
 -- The app's section as it is written.
-use Rattle.std.specs.Prelude.{ℕ, List, [], ◌∷◌, Option, Some, None, option_map, codes}
-use Rattle.serde_json.specs.Data.{Data, Num, unsigned, number, string, object}
+use Rattle.std.specs.Prelude.{ℕ, List, [], ◌∷◌, Some, option_map, codes}
+use Rattle.serde_json.specs.Data.{Data, unsigned, number, string, object}
 use Rattle.app_section.specs.AppData.{AppData, IsolatorData}
 use Rattle.app_section.specs.HandlerForm.{kind_name}
 use Rattle.app_section.specs.Objects.{Field, written, if_true, if_filled, list_data}

@@ -1,5 +1,5 @@
 -- A program word and its arguments.
-use Rattle.std.specs.Prelude.{ℕ, Bool, true, false, List, [], ◌∷◌, codes}
+use Rattle.std.specs.Prelude.{ℕ, Bool, true, false, List, [], ◌∷◌}
 use Rattle.serde_json.specs.Data.{Data}
 use Rattle.ac_types.specs.FieldForms.{text, list, each_after}
 use Rattle.ac_types.specs.Outcomes.{Outcome, reads, fails, ◌>>=◌}
