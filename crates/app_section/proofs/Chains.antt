@@ -14,11 +14,6 @@ pub split : {A B : Type 0} (m : Outcome A) (next : A → Outcome B) (b : B) → 
 split (reads a) next b h = (a, refl, h)
 split (fails path kind) next b h = no_fault h
 
--- a part of the value that is read
-abbrev pub part : {A B : Type 0} → (A → B) → Outcome A → Outcome B
-part f (reads a) = reads (f a)
-part f (fails path kind) = fails path kind
-
 -- what is written is read as what was written, where that was read before
 abbrev pub Again : {A : Type 0} → (List ℕ → Data → Outcome A) → (A → Data) → Type 0
 Again {A} form write =
