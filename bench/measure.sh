@@ -1,0 +1,17 @@
+#!/bin/sh
+# Times the calls of path_map and tree_digest at large sizes, and sha512sum on the same
+# listing. It takes the built program `measure`, which `rt run` in crates/measure leaves.
+program=${1:-crates/measure/out/measure}
+for words in "lay 16384" "lay 65536" "lay 262144" "keep 65536" "keep 262144" "read 65536" "links 16384" "links 65536"; do
+    echo "== $words"
+    # shellcheck disable=SC2086
+    /usr/bin/time -f '%U s of processor, %M KiB' "$program" $words
+done
+listing=$(mktemp)
+awk 'BEGIN {
+    for (i = 0; i < 480; i++) target = target "x"
+    for (i = 0; i < 65536; i++) printf "l 0777 0 0 %s /l%08x\n", target, i
+}' > "$listing"
+echo "== sha512sum"
+/usr/bin/time -f '%U s of processor, %M KiB' sha512sum "$listing"
+rm -f "$listing"
