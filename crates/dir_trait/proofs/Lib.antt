@@ -5,3 +5,4 @@ pub mod Calling
 pub mod Places
 pub mod Ended
 pub mod Ordered
+pub mod BundleTrees

@@ -1,11 +1,15 @@
 //! The outside of the engine as traits: the shared data folder among the calls of other
-//! processes, and where a command's text goes.
+//! processes, bundles of files, and where a command's text goes.
 #![tactic(auto)]
 
+mod bundle;
 mod dir;
 pub mod memory;
+mod node;
+mod sequence;
 mod sink;
 
+pub use bundle::{Bundle, BundleError, BundleItem, BundleKind};
 pub use dir::Dir;
 pub use dir_model::{
     Area, DirError, Draw, Event, FileName, Handle, History, Holding, Intent, Kind, Mode, Name,
