@@ -13,13 +13,13 @@ abbrev pub decided_node : Option Entry → List ℕ → Option Node
 decided_node None q = empty_tree q
 decided_node (Some entry) q = cond (same_bytes entry.path q) (Some entry.node) (cond (lies_below entry.path q) (Some Directory) None)
 
-step : (a b c : Bool) (node directory : Node) (older : Option Node) (X : Option Entry → Option Node) (entry : Entry) (rest : Option Entry)
-    → X (Some entry) ≡ cond a (Some node) (cond b (Some directory) None) → older ≡ X rest
-    → cond a (Some node) (cond b (Some directory) (cond c None older)) ≡ X (cond ((a || b) || c) (Some entry) rest)
-step true b c node directory older X entry rest own more = sym own
-step false true c node directory older X entry rest own more = sym own
-step false false true node directory older X entry rest own more = sym own
-step false false false node directory older X entry rest own more = more
+step : (a b c : Bool) (node folder : Node) (older : Option Node) (X : Option Entry → Option Node) (entry : Entry) (rest : Option Entry)
+    → X (Some entry) ≡ cond a (Some node) (cond b (Some folder) None) → older ≡ X rest
+    → cond a (Some node) (cond b (Some folder) (cond c None older)) ≡ X (cond ((a || b) || c) (Some entry) rest)
+step true b c node folder older X entry rest own more = sym own
+step false true c node folder older X entry rest own more = sym own
+step false false true node folder older X entry rest own more = sym own
+step false false false node folder older X entry rest own more = more
 
 pub tree_decided : (entries : List Entry) (q : List ℕ) → tree_of entries q ≡ decided_node (find (is_decisive q) entries) q
 tree_decided [] q = refl
