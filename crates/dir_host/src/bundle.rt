@@ -2,8 +2,8 @@
 ghost use Rattle.std.specs.Prelude.{◌≡◌, ◌≤◌};
 ghost use Rattle.dir_model.specs.Causes.{Rose};
 
-use crate::files::{read_file, read_target};
-use dir_trait::{Bundle, BundleError};
+use crate::files::{list_folder, read_file, read_target};
+use dir_trait::{Bundle, BundleError, BundleItems};
 use std::alloc::Global;
 use std::fs::File;
 use std::rt::Files;
@@ -36,6 +36,11 @@ fn counted(faults: &mut u64, error: BundleError) -> BundleError
         *faults = faults.saturating_add(1);
     }
     error
+}
+
+/// The path, where the empty one is the current folder's.
+fn path_or_here(path: &str) -> &str {
+    if path.is_empty() { "." } else { path }
 }
 
 impl<R: Files<File = File> + AllocGlobal + Clone + Drop> Bundle for HostBundle<R> {
@@ -72,6 +77,13 @@ impl<R: Files<File = File> + AllocGlobal + Clone + Drop> Bundle for HostBundle<R
     ) -> Result<usize, BundleError> {
         match read_target(&self.rt, path, room) {
             Ok(count) => Ok(count),
+            Err(error) => Err(counted(&mut self.faults, error)),
+        }
+    }
+
+    fn list(&mut self, alloc: Global, path: &str) -> Result<BundleItems, BundleError> {
+        match list_folder(&self.rt, alloc, path_or_here(path)) {
+            Ok(items) => Ok(items),
             Err(error) => Err(counted(&mut self.faults, error)),
         }
     }

@@ -2,10 +2,13 @@
 // the bundle that hands it on.
 ghost use Rattle.std.specs.Prelude.{◌≡◌, ◌≤◌, length, IfOk};
 ghost use Rattle.std.specs.IoError.{error_kind};
+ghost use Rattle.dir_trait.specs.Bundles.{IsListing};
 ghost use Rattle.dir_host.specs.Refusals.{bundle_error};
 
-use dir_trait::BundleError;
-use std::fs::File;
+use dir_trait::{BundleError, BundleItems, BundleKind, FileName, NoMemory, listing_of};
+use std::alloc::{AllocError, Global};
+use std::collections::BTreeMap;
+use std::fs::{DirEntry, File, FileType};
 use std::io::ErrorKind;
 use std::os::unix::fs::FileExt;
 use std::rt::Files;
@@ -97,4 +100,58 @@ pub fn read_target<R: Files + AllocGlobal>(
         Ok(_) => Err(BundleError::Missing),
         Err(error) => Err(refusal(error)),
     }
+}
+
+fn short(_error: NoMemory) -> BundleError {
+    BundleError::NoMemory
+}
+
+fn kind_of(kind: FileType) -> BundleKind {
+    if kind.is_dir() {
+        BundleKind::Dir
+    } else if kind.is_file() {
+        BundleKind::File
+    } else if kind.is_symlink() {
+        BundleKind::Link
+    } else {
+        BundleKind::Other
+    }
+}
+
+/// Adds an entry of a directory, unless it has gone since.
+fn add<R: Files + Clone + Drop>(
+    kinds: &mut BTreeMap<FileName, BundleKind>,
+    entry: &DirEntry<R, Global>,
+) -> Result<(), BundleError> {
+    let Some(name) = FileName::of(entry.file_name()) else {
+        return Ok(());
+    };
+    match entry.file_type() {
+        Ok(kind) => match kinds.insert(name, kind_of(kind)) {
+            Ok(_) => Ok(()),
+            Err(_) => Err(BundleError::NoMemory),
+        },
+        Err(error) if error.kind() == ErrorKind::NotFound => Ok(()),
+        Err(error) => Err(refusal(error)),
+    }
+}
+
+/// The entries of a directory, in byte order of their names. A name that isn't UTF-8 is left out.
+pub fn list_folder<R: Files + AllocGlobal + Clone + Drop>(
+    rt: &R,
+    alloc: Global,
+    path: &str,
+) -> Result<BundleItems, BundleError>
+    ensures { IfOk result IsListing }
+{
+    let mut kinds = BTreeMap::new(alloc);
+    let entries = fs::read_dir(rt, path).map_err(refusal)?;
+    for entry in entries {
+        match entry {
+            Ok(entry) => add(&mut kinds, &entry)?,
+            Err(error) if error.kind() == ErrorKind::InvalidFilename => {}
+            Err(error) => return Err(refusal(error)),
+        }
+    }
+    listing_of(alloc, &kinds).map_err(short)
 }

@@ -6,12 +6,7 @@ use Rattle.dir_trait.specs.declared.node.Node.{Node}
 use Rattle.dir_trait.specs.declared.node.Node.TheVariants.{Directory}
 use Rattle.dir_trait.specs.declared.memory.entry.Entry.{Entry}
 use Rattle.dir_trait.specs.Bundles.{file_bytes, link_target}
-use Rattle.dir_trait.specs.MemoryBundles.{lies_below, is_directory, empty_tree, tree_of, is_decisive, own_node}
-
--- the node that stands at a path by the entry that decides it
-abbrev pub decided_node : Option Entry → List ℕ → Option Node
-decided_node None q = empty_tree q
-decided_node (Some entry) q = cond (same_bytes entry.path q) (Some entry.node) (cond (lies_below entry.path q) (Some Directory) None)
+use Rattle.dir_trait.specs.MemoryBundles.{lies_below, is_directory, empty_tree, tree_of, is_decisive, decided_node, own_node}
 
 step : (a b c : Bool) (node folder : Node) (older : Option Node) (X : Option Entry → Option Node) (entry : Entry) (rest : Option Entry)
     → X (Some entry) ≡ cond a (Some node) (cond b (Some folder) None) → older ≡ X rest

@@ -6,3 +6,5 @@ pub mod Places
 pub mod Ended
 pub mod Ordered
 pub mod BundleTrees
+pub mod BundlePaths
+pub mod BundleListings

@@ -1,8 +1,9 @@
 // A bundle: a tree of files that is read and never changed.
-ghost use Rattle.std.specs.Prelude.{◌≡◌, ◌≤◌, ℕ, Bool, true, length, None, IfOk, IsErrOf, IsSomeAnd};
+ghost use Rattle.std.specs.Prelude.{◌≡◌, ◌≢◌, ◌≤◌, ℕ, Bool, true, length, None, Some, IfOk, IsErrOf, IsSomeAnd};
 ghost use Rattle.dir_model.specs.Causes.{Rose};
-ghost use Rattle.dir_trait.specs.Bundles.{file_bytes, link_target, Fills};
+ghost use Rattle.dir_trait.specs.Bundles.{kind_at, file_bytes, link_target, Fills, IsListing, Lists};
 
+use crate::sequence::Sequence;
 use dir_model::FileName;
 use std::alloc::Global;
 
@@ -33,6 +34,9 @@ pub struct BundleItem {
     pub name: FileName,
     pub kind: BundleKind,
 }
+
+/// The entries of a directory.
+pub type BundleItems = Sequence<BundleItem>;
 
 /// A tree of files that is read and never changed. The empty path names its own root.
 pub trait Bundle {
@@ -72,4 +76,15 @@ pub trait Bundle {
         ensures read { IfOk result (λ n. observed ≡ true
             → IsSomeAnd (link_target (tree self.old path.now)) (λ target. Fills target 0 room.old n room.new)) }
         ensures missing { IsErrOf result BundleError.Missing → observed ≡ true → link_target (tree self.old path.now) ≡ None };
+
+    /// The entries of the directory at a path, in byte order of their names, each name once. `Missing`
+    /// where no directory stands there.
+    fn list(&mut self, alloc: Global, path: &str) -> Result<BundleItems, BundleError>
+        ensures faults { faults self.old ≤ faults self.new }
+        ensures failed { IsErrOf result BundleError.Failed → Rose (faults self.old) (faults self.new) }
+        ensures ordered { IfOk result IsListing }
+        ensures same { observed ≡ true → tree self.new ≡ tree self.old }
+        ensures listed { IfOk result (λ items. observed ≡ true → Lists (tree self.old) path.now items) }
+        ensures missing { IsErrOf result BundleError.Missing → observed ≡ true
+            → kind_at (tree self.old path.now) ≢ Some BundleKind.Dir };
 }

@@ -4,6 +4,7 @@ mod bundle;
 mod compare;
 mod dir;
 mod entry;
+mod listing;
 mod own;
 mod past;
 mod planned;

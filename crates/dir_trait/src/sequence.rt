@@ -20,6 +20,15 @@ impl<T> Model for Sequence<T> {
     ghost view = { λ s. s.items.items };
 }
 
+impl<T> Sequence<T> {
+    /// The elements of a vector. Takes no memory.
+    pub fn from_vec(items: Vec<T>) -> Sequence<T>
+        ensures { result ≡ items.items }
+    {
+        Sequence { items }
+    }
+}
+
 impl<T: Copy> Sequence<T> {
     /// The elements of a slice. Refused only where memory ran out.
     pub fn of(alloc: Global, slice: &[T]) -> Result<Sequence<T>, NoMemory>

@@ -2,8 +2,9 @@
 ghost use Rattle.std.specs.Prelude.{◌≡◌, ◌≤◌, ◌-◌, ◌++◌, min, length, take, drop};
 ghost use Rattle.dir_trait.specs.Bundles.{Fills};
 
-use crate::bundle::{Bundle, BundleError};
+use crate::bundle::{Bundle, BundleError, BundleItems, BundleKind};
 use crate::memory::entry::{Entry, file_at, link_at};
+use crate::memory::listing::list_at;
 use crate::memory::planned::is_listed;
 use crate::node::Node;
 use crate::sequence::Bytes;
@@ -132,9 +133,9 @@ fn fill_from(room: &mut [u8], bytes: &[u8], at: u64) -> usize
 }
 
 impl Bundle for MemoryBundle {
-    ghost use Rattle.std.specs.Prelude.{◌≡◌, ◌≤◌, ◌↔◌, true, length, None, IfOk, IsErrOf, IsSomeAnd};
+    ghost use Rattle.std.specs.Prelude.{◌≡◌, ◌≢◌, ◌≤◌, ◌↔◌, true, length, None, Some, IfOk, IsErrOf, IsSomeAnd};
     ghost use Rattle.dir_model.specs.Causes.{Rose};
-    ghost use Rattle.dir_trait.specs.Bundles.{file_bytes, link_target, Fills};
+    ghost use Rattle.dir_trait.specs.Bundles.{kind_at, file_bytes, link_target, Fills, IsListing, Lists};
     ghost use Rattle.dir_trait.specs.MemoryBundles.{tree_of, is_call_to_fail, after_call};
 
     ghost observed = { true };
@@ -198,5 +199,22 @@ impl Bundle for MemoryBundle {
             Some(target) => Ok(fill_from(room, target, 0)),
             None => Err(BundleError::Missing),
         }
+    }
+
+    fn list(&mut self, alloc: Global, path: &str) -> Result<BundleItems, BundleError>
+        ensures faults { self.old.faults ≤ self.new.faults }
+        ensures failed { IsErrOf result BundleError.Failed → Rose self.old.faults self.new.faults }
+        ensures ordered { IfOk result IsListing }
+        ensures same { true ≡ true → tree_of self.new.entries ≡ tree_of self.old.entries }
+        ensures listed { IfOk result (λ items. true ≡ true → Lists (tree_of self.old.entries) path.now items) }
+        ensures missing { IsErrOf result BundleError.Missing → true ≡ true
+            → kind_at (tree_of self.old.entries path.now) ≢ Some BundleKind.Dir }
+        ensures fails { IsErrOf result BundleError.Failed ↔ (is_call_to_fail self.old ≡ true) }
+        ensures after { self.new ≡ after_call self.old }
+    {
+        if self.fails_now() {
+            return Err(BundleError::Failed);
+        }
+        list_at(alloc, &self.entries, path.as_bytes())
     }
 }

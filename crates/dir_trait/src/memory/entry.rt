@@ -1,9 +1,10 @@
 // What was put into a bundle in memory, and what stands there by it.
-ghost use Rattle.std.specs.Prelude.{◌≡◌, find};
+ghost use Rattle.std.specs.Prelude.{◌≡◌, ◌<◌, find, length, Some, IsTrue};
 ghost use Rattle.std.specs.Option.{option_copied};
-ghost use Rattle.dir_trait.specs.Bundles.{file_bytes, link_target};
-ghost use Rattle.dir_trait.specs.MemoryBundles.{lies_below, is_directory, is_decisive, own_node, tree_of};
+ghost use Rattle.dir_trait.specs.Bundles.{kind_at, file_bytes, link_target};
+ghost use Rattle.dir_trait.specs.MemoryBundles.{lies_below, is_directory, empty_tree, is_decisive, decided_node, own_node, tree_of};
 
+use crate::bundle::BundleKind;
 use crate::node::Node;
 use crate::sequence::Bytes;
 
@@ -14,9 +15,11 @@ pub struct Entry {
     pub node: Node,
 }
 
+/// Whether a path lies below a directory.
 #[tactic(auto, unfolding(crate::specs::MemoryBundles::lies_below))]
-fn lies_below(path: &[u8], directory: &[u8]) -> bool
-    ensures { result ≡ lies_below path.now directory.now }
+pub fn lies_below(path: &[u8], directory: &[u8]) -> bool
+    ensures below { result ≡ lies_below path.now directory.now }
+    ensures longer { IsTrue result → length directory.now < length path.now }
 {
     if directory.is_empty() {
         return !path.is_empty();
@@ -43,6 +46,32 @@ fn newest<'a>(entries: &'a [Entry], path: &[u8]) -> Option<&'a Entry>
     ensures { option_copied result ≡ find (is_decisive path.now) entries.now }
 {
     entries.iter().find(|entry| is_decisive(path, entry))
+}
+
+fn decided_kind(entry: &Entry, path: &[u8]) -> Option<BundleKind>
+    ensures { result ≡ kind_at (decided_node (Some entry.now) path.now) }
+{
+    let own = entry.path.as_slice();
+    if own == path {
+        return Some(entry.node.kind());
+    }
+    lies_below(own, path).then_some(BundleKind::Dir)
+}
+
+fn root_kind(path: &[u8]) -> Option<BundleKind>
+    ensures { result ≡ kind_at (empty_tree path.now) }
+{
+    path.is_empty().then_some(BundleKind::Dir)
+}
+
+/// The kind of what stands at a path.
+pub fn kind_at(entries: &[Entry], path: &[u8]) -> Option<BundleKind>
+    ensures { result ≡ kind_at (tree_of entries.now path.now) }
+{
+    match newest(entries, path) {
+        Some(entry) => decided_kind(entry, path),
+        None => root_kind(path),
+    }
 }
 
 /// The node that was put at the path itself and stands there.
