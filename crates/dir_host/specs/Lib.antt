@@ -1,3 +1,4 @@
 pub mod Places
 pub mod OpenFolders
 pub mod Setup
+pub mod Refusals

@@ -1,14 +1,17 @@
-//! The outside on a host: the shared data folder, the streams that a command writes to, and what
-//! a program is given when it starts.
+//! The outside on a host: the shared data folder, bundles of files, the streams that a command writes
+//! to, and what a program is given when it starts.
 #![tactic(auto)]
 
+mod bundle;
 mod dir;
+mod files;
 mod open_folders;
 mod outside;
 mod place;
 mod sink;
 mod system;
 
+pub use bundle::HostBundle;
 pub use dir::HostDir;
 pub use outside::{Outside, SetupError, assemble, read_words};
 pub use sink::HostSink;

@@ -5,3 +5,6 @@ pub mod Calling
 pub mod Places
 pub mod Ended
 pub mod Ordered
+pub mod BundleTrees
+pub mod BundlePaths
+pub mod BundleListings

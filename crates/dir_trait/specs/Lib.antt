@@ -6,6 +6,8 @@ pub mod Interludes
 pub mod Memories
 pub mod Owns
 pub mod MemorySinks
+pub mod Bundles
+pub mod MemoryBundles
 pub use Rattle.dir_model.specs.Words
 pub use Rattle.dir_model.specs.Pods
 pub use Rattle.dir_model.specs.Areas

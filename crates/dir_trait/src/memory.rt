@@ -1,6 +1,10 @@
-//! The outside in memory: a data folder whose trace can be read, and a sink that keeps its bytes.
+//! The outside in memory: a data folder whose trace can be read, a bundle of what was put into it, and
+//! a sink that keeps its bytes.
+mod bundle;
 mod compare;
 mod dir;
+mod entry;
+mod listing;
 mod own;
 mod past;
 mod planned;
@@ -8,6 +12,7 @@ mod sink;
 mod step;
 mod table;
 
+pub use bundle::MemoryBundle;
 pub use dir::MemoryDir;
 pub use sink::MemorySink;
 

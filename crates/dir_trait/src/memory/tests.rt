@@ -1,4 +1,5 @@
 use super::*;
+use crate::bundle::{Bundle, BundleError, BundleItem, BundleKind};
 use crate::dir::Dir;
 use crate::sink::{Sink, SinkError};
 use dir_model::{Area, Intent, Kind, Name, PodId, PodPrefix, Request, Spot, Which};
@@ -56,5 +57,35 @@ fn a_sink_keeps_its_bytes(rt: HostRuntime) -> Result<(), Fail> {
     assert!(rt; sink.write(alloc, b"de") == Err(SinkError::Failed));
     assert!(rt; sink.write(alloc, b"f") == Ok(1));
     assert!(rt; sink.bytes() == b"abcf".as_slice() && sink.faults() == 1);
+    Ok(())
+}
+
+fn is_item(item: Option<&BundleItem>, name: &str, kind: BundleKind) -> bool {
+    item.is_some_and(|item| item.name.as_str() == name && item.kind == kind)
+}
+
+#[test]
+fn a_bundle_is_read_and_listed(rt: HostRuntime) -> Result<(), Fail> {
+    let alloc = rt.alloc();
+    let mut bundle = MemoryBundle::new(alloc)
+        .link(alloc, "rootfs/tmp", "var/tmp")?
+        .file(alloc, "rootfs/etc/motd", b"hello")?
+        .dir(alloc, "rootfs/bin")?
+        .other(alloc, "rootfs/null")?
+        .fail(alloc, 3)?;
+    let mut room = [0; 4];
+    assert!(rt; bundle.read(alloc, "rootfs/etc/motd", 1, &mut room) == Ok(4));
+    assert!(rt; room.as_slice() == b"ello".as_slice());
+    assert!(rt; bundle.read_link(alloc, "rootfs/tmp", &mut room) == Ok(4));
+    assert!(rt; room.as_slice() == b"var/".as_slice());
+    assert!(rt; bundle.read(alloc, "rootfs", 0, &mut room) == Err(BundleError::Failed));
+    assert!(rt; bundle.read(alloc, "rootfs", 0, &mut room) == Err(BundleError::Missing));
+    let items = bundle.list(alloc, "rootfs").ok().ok_or("a listing")?.copy()?;
+    let items = items.as_slice();
+    assert!(rt; items.len() == 4 && bundle.faults() == 1);
+    assert!(rt; is_item(items.get(0), "bin", BundleKind::Dir));
+    assert!(rt; is_item(items.get(1), "etc", BundleKind::Dir));
+    assert!(rt; is_item(items.get(2), "null", BundleKind::Other));
+    assert!(rt; is_item(items.get(3), "tmp", BundleKind::Link));
     Ok(())
 }

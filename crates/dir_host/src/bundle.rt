@@ -1,0 +1,90 @@
+// The files of the host are a `Bundle`.
+ghost use Rattle.std.specs.Prelude.{◌≡◌, ◌≤◌};
+ghost use Rattle.dir_model.specs.Causes.{Rose};
+
+use crate::files::{list_folder, read_file, read_target};
+use dir_trait::{Bundle, BundleError, BundleItems};
+use std::alloc::Global;
+use std::fs::File;
+use std::rt::Files;
+
+/// The files of the host. A path is any of the host's, seen from the current folder. Symbolic links are
+/// followed, but not by `read_link` and `list` at the last name. Each failure of the system is counted
+/// once.
+#[derive(Drop)]
+pub struct HostBundle<R: Files<File = File> + AllocGlobal + Clone + Drop> {
+    rt: R,
+    faults: u64,
+}
+
+impl<R: Files<File = File> + AllocGlobal + Clone + Drop> HostBundle<R> {
+    /// All files that the system has. The bundle hasn't failed.
+    pub fn new(rt: R) -> HostBundle<R>
+        ensures { ⟦<HostBundle<R> as Bundle>⟧.faults result ≡ 0 }
+    {
+        HostBundle { rt, faults: 0 }
+    }
+}
+
+/// Counts a failure, and hands the refusal on.
+fn counted(faults: &mut u64, error: BundleError) -> BundleError
+    ensures same { result ≡ error }
+    ensures kept { faults.old ≤ faults.new }
+    ensures rose { error ≡ BundleError.Failed → Rose faults.old faults.new }
+{
+    if error == BundleError::Failed {
+        *faults = faults.saturating_add(1);
+    }
+    error
+}
+
+/// The path, where the empty one is the current folder's.
+fn path_or_here(path: &str) -> &str {
+    if path.is_empty() { "." } else { path }
+}
+
+impl<R: Files<File = File> + AllocGlobal + Clone + Drop> Bundle for HostBundle<R> {
+    ghost use Rattle.std.specs.Prelude.{false, None};
+
+    ghost observed = { false };
+
+    ghost tree = { λ _ _. None };
+
+    ghost faults = { λ b. b.faults };
+
+    fn faults(&self) -> u64 {
+        self.faults
+    }
+
+    fn read(
+        &mut self,
+        _alloc: Global,
+        path: &str,
+        at: u64,
+        room: &mut [u8],
+    ) -> Result<usize, BundleError> {
+        match read_file(&self.rt, path, at, room) {
+            Ok(count) => Ok(count),
+            Err(error) => Err(counted(&mut self.faults, error)),
+        }
+    }
+
+    fn read_link(
+        &mut self,
+        _alloc: Global,
+        path: &str,
+        room: &mut [u8],
+    ) -> Result<usize, BundleError> {
+        match read_target(&self.rt, path, room) {
+            Ok(count) => Ok(count),
+            Err(error) => Err(counted(&mut self.faults, error)),
+        }
+    }
+
+    fn list(&mut self, alloc: Global, path: &str) -> Result<BundleItems, BundleError> {
+        match list_folder(&self.rt, alloc, path_or_here(path)) {
+            Ok(items) => Ok(items),
+            Err(error) => Err(counted(&mut self.faults, error)),
+        }
+    }
+}

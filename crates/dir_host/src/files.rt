@@ -1,0 +1,157 @@
+// What the system is asked of the files of a bundle. Nothing here counts faults: `Failed` is counted by
+// the bundle that hands it on.
+ghost use Rattle.std.specs.Prelude.{◌≡◌, ◌≤◌, length, IfOk};
+ghost use Rattle.std.specs.IoError.{error_kind};
+ghost use Rattle.dir_trait.specs.Bundles.{IsListing};
+ghost use Rattle.dir_host.specs.Refusals.{bundle_error};
+
+use dir_trait::{BundleError, BundleItems, BundleKind, FileName, NoMemory, listing_of};
+use std::alloc::{AllocError, Global};
+use std::collections::BTreeMap;
+use std::fs::{DirEntry, File, FileType};
+use std::io::ErrorKind;
+use std::os::unix::fs::FileExt;
+use std::rt::Files;
+use std::{fs, io};
+
+/// What a failure of the system means.
+fn refusal(error: io::Error) -> BundleError
+    ensures { result ≡ bundle_error (error_kind error) }
+{
+    match error.kind() {
+        ErrorKind::NotFound | ErrorKind::NotADirectory | ErrorKind::IsADirectory => {
+            BundleError::Missing
+        }
+        ErrorKind::OutOfMemory => BundleError::NoMemory,
+        _ => BundleError::Failed,
+    }
+}
+
+/// Opens a regular file. Looks first, since to open a pipe would wait for its other end.
+fn open_file<R: Files<File = File>>(rt: &R, path: &str) -> Result<File, BundleError> {
+    match fs::metadata(rt, path) {
+        Ok(metadata) if metadata.is_file() => File::open(rt, path).map_err(refusal),
+        Ok(_) => Err(BundleError::Missing),
+        Err(error) => Err(refusal(error)),
+    }
+}
+
+/// Reads a part of the file, and asks again where a signal came between. No file has a byte from 2^63
+/// on.
+fn read_part(file: &File, at: u64, room: &mut [u8]) -> io::Result<usize>
+    ensures { IfOk result (λ n. n ≤ length room.old) }
+{
+    if at > i64::MAX as u64 {
+        return Ok(0);
+    }
+    for _ in 0..u64::MAX {
+        match file.read_at(room, at) {
+            Ok(count) => return Ok(count),
+            Err(error) if error.kind() == ErrorKind::Interrupted => {}
+            Err(error) => return Err(error),
+        }
+    }
+    Err(io::Error::from(ErrorKind::Interrupted))
+}
+
+/// Fills the room with the bytes of a file from a place on, and answers how many it filled.
+pub fn read_file<R: Files<File = File>>(
+    rt: &R,
+    path: &str,
+    at: u64,
+    room: &mut [u8],
+) -> Result<usize, BundleError>
+    ensures { IfOk result (λ n. n ≤ length room.old) }
+{
+    let file = open_file(rt, path)?;
+    let mut count = 0;
+    'parts: while count < room.len() {
+        match read_part(&file, at.saturating_add(count as u64), &mut room[count..]) {
+            Ok(0) => return Ok(count),
+            Ok(more) => count += more,
+            Err(error) => return Err(refusal(error)),
+        }
+    }
+    Ok(count)
+}
+
+/// Writes the bytes over the front of the room, as far as they fit, and answers how many did.
+fn fill(room: &mut [u8], bytes: &[u8]) -> usize
+    ensures { result ≤ length room.old }
+{
+    let count = bytes.len().min(room.len());
+    room[..count].copy_from_slice(&bytes[..count]);
+    count
+}
+
+/// Fills the room with the target of a symbolic link, and answers how many bytes it filled.
+pub fn read_target<R: Files + AllocGlobal>(
+    rt: &R,
+    path: &str,
+    room: &mut [u8],
+) -> Result<usize, BundleError>
+    ensures { IfOk result (λ n. n ≤ length room.old) }
+{
+    match fs::symlink_metadata(rt, path) {
+        Ok(metadata) if metadata.is_symlink() => match fs::read_link(rt, path) {
+            Ok(target) => Ok(fill(room, target.as_str().as_bytes())),
+            Err(error) => Err(refusal(error)),
+        },
+        Ok(_) => Err(BundleError::Missing),
+        Err(error) => Err(refusal(error)),
+    }
+}
+
+fn short(_error: NoMemory) -> BundleError {
+    BundleError::NoMemory
+}
+
+fn kind_of(kind: FileType) -> BundleKind {
+    if kind.is_dir() {
+        BundleKind::Dir
+    } else if kind.is_file() {
+        BundleKind::File
+    } else if kind.is_symlink() {
+        BundleKind::Link
+    } else {
+        BundleKind::Other
+    }
+}
+
+/// Adds an entry of a directory, unless it has gone since.
+fn add<R: Files + Clone + Drop>(
+    kinds: &mut BTreeMap<FileName, BundleKind>,
+    entry: &DirEntry<R, Global>,
+) -> Result<(), BundleError> {
+    let Some(name) = FileName::of(entry.file_name()) else {
+        return Ok(());
+    };
+    match entry.file_type() {
+        Ok(kind) => match kinds.insert(name, kind_of(kind)) {
+            Ok(_) => Ok(()),
+            Err(_) => Err(BundleError::NoMemory),
+        },
+        Err(error) if error.kind() == ErrorKind::NotFound => Ok(()),
+        Err(error) => Err(refusal(error)),
+    }
+}
+
+/// The entries of a directory, in byte order of their names. A name that isn't UTF-8 is left out.
+pub fn list_folder<R: Files + AllocGlobal + Clone + Drop>(
+    rt: &R,
+    alloc: Global,
+    path: &str,
+) -> Result<BundleItems, BundleError>
+    ensures { IfOk result IsListing }
+{
+    let mut kinds = BTreeMap::new(alloc);
+    let entries = fs::read_dir(rt, path).map_err(refusal)?;
+    for entry in entries {
+        match entry {
+            Ok(entry) => add(&mut kinds, &entry)?,
+            Err(error) if error.kind() == ErrorKind::InvalidFilename => {}
+            Err(error) => return Err(refusal(error)),
+        }
+    }
+    listing_of(alloc, &kinds).map_err(short)
+}

@@ -1,0 +1,67 @@
+-- What stands in a bundle, and what its calls answer.
+use Rattle.std.specs.Prelude.{◌≡◌, ℕ, ◌-◌, ◌==◌, min, if◌then◌else◌, List, [], ◌∷◌, ◌++◌, length, take, drop, map, All, Contains, Option, Some, None, IsSome, option_map}
+use Rattle.std.specs.List.Sorted.{IsStrictlySortedBy}
+use Rattle.std.specs.Ordering.{nat_cmp}
+use Rattle.std.specs.Cmp.Lexicographic.{slice_cmp}
+use Rattle.dir_model.specs.Words.{IsFileName}
+use Rattle.dir_trait.specs.declared.bundle.BundleItem.{BundleItem}
+use Rattle.dir_trait.specs.declared.bundle.BundleKind.{BundleKind}
+use Rattle.dir_trait.specs.declared.bundle.BundleKind.TheVariants as kinds
+use Rattle.dir_trait.specs.declared.node.Node.{Node}
+use Rattle.dir_trait.specs.declared.node.Node.TheVariants.{Directory, File, Link, Other}
+
+-- what stands at each path. The empty path is the bundle's own root
+abbrev pub Tree : Type 0
+Tree = List ℕ → Option Node
+
+abbrev pub kind_of : Node → BundleKind
+kind_of Directory = kinds.Dir
+kind_of (File bytes) = kinds.File
+kind_of (Link target) = kinds.Link
+kind_of Other = kinds.Other
+
+-- the kind of what stands there
+abbrev pub kind_at : Option Node → Option BundleKind
+kind_at node = option_map kind_of node
+
+-- the bytes of the file that stands there
+abbrev pub file_bytes : Option Node → Option (List ℕ)
+file_bytes None = None
+file_bytes (Some Directory) = None
+file_bytes (Some (File bytes)) = Some bytes
+file_bytes (Some (Link target)) = None
+file_bytes (Some Other) = None
+
+-- the target of the link that stands there
+abbrev pub link_target : Option Node → Option (List ℕ)
+link_target None = None
+link_target (Some Directory) = None
+link_target (Some (File bytes)) = None
+link_target (Some (Link target)) = Some target
+link_target (Some Other) = None
+
+-- n of the bytes from a place on were written over the front of a room: as many as fit, of those that there are
+pub record Fills (bytes : List ℕ) (at : ℕ) (old : List ℕ) (n : ℕ) (new : List ℕ) : Type 0 where
+  pub count : n ≡ min (length old) (length bytes - at)
+  pub room : new ≡ take n (drop at bytes) ++ drop n old
+
+-- how the paths of what stands in a directory begin
+abbrev pub directory_prefix : List ℕ → List ℕ
+directory_prefix directory = if length directory == 0 then [] else directory ++ 47 ∷ []
+
+-- the path of a name in a directory
+abbrev pub child_path : List ℕ → List ℕ → List ℕ
+child_path directory name = directory_prefix directory ++ name
+
+abbrev pub item_of : List ℕ × BundleKind → BundleItem
+item_of named = record { name = named.0; kind = named.1 }
+
+-- in byte order of the names, and each name once
+abbrev pub IsListing : List BundleItem → Type 0
+IsListing items = IsStrictlySortedBy (slice_cmp nat_cmp) (map (λ item. item.name) items)
+
+-- a directory stands at the path, each item is the name and kind of what stands in it, and no name is left out
+pub record Lists (tree : Tree) (path : List ℕ) (items : List BundleItem) : Type 0 where
+  pub directory : kind_at (tree path) ≡ Some kinds.Dir
+  pub each : All (λ item. kind_at (tree (child_path path item.name)) ≡ Some item.kind) items
+  pub whole : (name : List ℕ) → IsFileName name → IsSome (tree (child_path path name)) → Contains (map (λ item. item.name) items) name

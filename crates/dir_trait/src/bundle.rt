@@ -1,0 +1,90 @@
+// A bundle: a tree of files that is read and never changed.
+ghost use Rattle.std.specs.Prelude.{◌≡◌, ◌≢◌, ◌≤◌, ℕ, Bool, true, length, None, Some, IfOk, IsErrOf, IsSomeAnd};
+ghost use Rattle.dir_model.specs.Causes.{Rose};
+ghost use Rattle.dir_trait.specs.Bundles.{kind_at, file_bytes, link_target, Fills, IsListing, Lists};
+
+use crate::sequence::Sequence;
+use dir_model::FileName;
+use std::alloc::Global;
+
+/// Why a bundle gave nothing.
+#[derive(Clone, Copy, Debug, PartialEq, Eq)]
+pub enum BundleError {
+    /// Nothing of the wanted kind stands at the path.
+    Missing,
+    /// The bundle failed.
+    Failed,
+    /// Memory ran out.
+    NoMemory,
+}
+
+/// What kind of thing stands at a path. A symbolic link isn't followed.
+#[derive(Clone, Copy, Debug, PartialEq, Eq)]
+pub enum BundleKind {
+    Dir,
+    File,
+    Link,
+    /// Neither of these, as a device or a socket.
+    Other,
+}
+
+/// What a listing tells of one entry of a directory.
+#[derive(Clone, Copy, PartialEq, Eq)]
+pub struct BundleItem {
+    pub name: FileName,
+    pub kind: BundleKind,
+}
+
+/// The entries of a directory.
+pub type BundleItems = Sequence<BundleItem>;
+
+/// A tree of files that is read and never changed. The empty path names its own root.
+pub trait Bundle {
+    ghost use Rattle.dir_trait.specs.Bundles.{Tree};
+
+    /// Whether its tree is observed. A bundle of the host observes none.
+    ghost observed: { Bool };
+
+    /// What stands at each path, where it is observed.
+    ghost tree: { Self → Tree };
+
+    /// How often the bundle failed.
+    ghost faults: { Self → ℕ };
+
+    /// How often the bundle failed so far. The count never falls.
+    fn faults(&self) -> u64
+        ensures { result ≡ faults self.now };
+
+    /// Fills the room with the bytes of the file at a path, from byte `at` on, and answers how many it
+    /// filled: fewer than the room has only at the file's end. `Missing` where no file stands there.
+    fn read(&mut self, alloc: Global, path: &str, at: u64, room: &mut [u8]) -> Result<usize, BundleError>
+        ensures faults { faults self.old ≤ faults self.new }
+        ensures failed { IsErrOf result BundleError.Failed → Rose (faults self.old) (faults self.new) }
+        ensures most { IfOk result (λ n. n ≤ length room.old) }
+        ensures same { observed ≡ true → tree self.new ≡ tree self.old }
+        ensures read { IfOk result (λ n. observed ≡ true
+            → IsSomeAnd (file_bytes (tree self.old path.now)) (λ bytes. Fills bytes at room.old n room.new)) }
+        ensures missing { IsErrOf result BundleError.Missing → observed ≡ true → file_bytes (tree self.old path.now) ≡ None };
+
+    /// Fills the room with the target of the symbolic link at a path, as far as it fits, and answers how
+    /// many bytes it filled. `Missing` where no link stands there.
+    fn read_link(&mut self, alloc: Global, path: &str, room: &mut [u8]) -> Result<usize, BundleError>
+        ensures faults { faults self.old ≤ faults self.new }
+        ensures failed { IsErrOf result BundleError.Failed → Rose (faults self.old) (faults self.new) }
+        ensures most { IfOk result (λ n. n ≤ length room.old) }
+        ensures same { observed ≡ true → tree self.new ≡ tree self.old }
+        ensures read { IfOk result (λ n. observed ≡ true
+            → IsSomeAnd (link_target (tree self.old path.now)) (λ target. Fills target 0 room.old n room.new)) }
+        ensures missing { IsErrOf result BundleError.Missing → observed ≡ true → link_target (tree self.old path.now) ≡ None };
+
+    /// The entries of the directory at a path, in byte order of their names, each name once. `Missing`
+    /// where no directory stands there.
+    fn list(&mut self, alloc: Global, path: &str) -> Result<BundleItems, BundleError>
+        ensures faults { faults self.old ≤ faults self.new }
+        ensures failed { IsErrOf result BundleError.Failed → Rose (faults self.old) (faults self.new) }
+        ensures ordered { IfOk result IsListing }
+        ensures same { observed ≡ true → tree self.new ≡ tree self.old }
+        ensures listed { IfOk result (λ items. observed ≡ true → Lists (tree self.old) path.now items) }
+        ensures missing { IsErrOf result BundleError.Missing → observed ≡ true
+            → kind_at (tree self.old path.now) ≢ Some BundleKind.Dir };
+}
