@@ -1,0 +1,4 @@
+pub mod Entries
+pub mod Overlay
+pub mod Paths
+pub mod Whitelist

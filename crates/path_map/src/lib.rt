@@ -1,0 +1,21 @@
+//! Absolute paths, maps from paths to entries, overlay and whitelist.
+#![tactic(auto)]
+
+pub mod abs_path;
+pub mod entry;
+pub mod keep;
+pub mod listed;
+pub mod map;
+pub mod overlay;
+pub mod path_error;
+pub mod path_iter;
+
+pub use abs_path::AbsPath;
+pub use entry::{Entry, Meta};
+pub use listed::{Listed, ListedPaths};
+pub use map::PathMap;
+pub use path_error::PathError;
+pub use path_iter::PathIter;
+
+#[cfg(test)]
+mod tests;

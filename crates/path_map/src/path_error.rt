@@ -1,0 +1,44 @@
+use ac_types::NoMemory;
+use std::error::Error;
+use std::fmt;
+
+/// Why a text is no absolute path.
+#[derive(Clone, Copy, Debug, PartialEq, Eq)]
+pub enum PathError {
+    /// It doesn't begin with a slash.
+    NotAbsolute,
+    /// A segment is `.` or `..`, or has a NUL.
+    DotSegment,
+    /// A segment is empty or longer than 255 bytes.
+    SegmentLength,
+    /// It is longer than 4,096 bytes.
+    PathLength,
+    /// Memory ran out.
+    NoMemory,
+}
+
+impl From<NoMemory> for PathError {
+    ghost use Rattle.std.specs.Prelude.{◌≡◌};
+    ghost use Rattle.path_map.specs.declared.path_error.PathError.TheVariants.{NoMemory as OutOfMemory};
+
+    ghost from_gives = { λ _ e. e ≡ OutOfMemory };
+
+    fn from(_error: NoMemory) -> PathError {
+        PathError::NoMemory
+    }
+}
+
+impl fmt::Display for PathError {
+    fn fmt<W: fmt::Write>(&self, f: &mut fmt::Formatter<W>) -> fmt::Result {
+        let text = match self {
+            PathError::NotAbsolute => "not an absolute path",
+            PathError::DotSegment => "a segment of dots or with a NUL",
+            PathError::SegmentLength => "an empty or too long segment",
+            PathError::PathLength => "too long a path",
+            PathError::NoMemory => "out of memory",
+        };
+        write!(f, "{text}")
+    }
+}
+
+impl Error for PathError {}

@@ -1,0 +1,6 @@
+pub mod Cuts
+pub mod Decimals
+pub mod LineTexts
+pub mod ListingTexts
+pub mod Takes
+pub mod Texts

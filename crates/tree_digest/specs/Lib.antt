@@ -1,0 +1,4 @@
+pub mod Fields
+pub mod FileChecks
+pub mod Lines
+pub mod Listings
