@@ -3,8 +3,11 @@
 
 pub mod dep_error;
 pub mod dep_tree;
+pub mod selection;
 pub mod stored;
+mod wanted;
 
 pub use dep_error::DepError;
 pub use dep_tree::{DepNode, DepNodes, DepTree, Places};
+pub use selection::{best, best_dependency};
 pub use stored::Stored;
