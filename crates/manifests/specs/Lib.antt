@@ -1,0 +1,2 @@
+pub mod ImageData
+pub mod PodData
