@@ -93,7 +93,7 @@ module _ (tree : DepTree) (list : List Stored) (maps : List Entries) (count : 鈩
   flattened made all (suc levels) n inside reach = (
     renderings_at made (node_at tree n).children,
     parts_of (位 child part. IsFlattened tree list maps levels child part) (位 child. (n < child) 脳 (child < length tree.nodes)) made
-    (位 c both. flattened made all levels c both.1 (omega (arith, both.0, reach)))
-    (node_at tree n).children (ordered.children n inside),
+        (位 c both. flattened made all levels c both.1 (omega (arith, both.0, reach)))
+        (node_at tree n).children (ordered.children n inside),
     all n (omega arith) inside,
   )
