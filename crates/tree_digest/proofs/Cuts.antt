@@ -1,13 +1,12 @@
 -- Where a text is cut at a byte.
-use Rattle.std.proofs.Common.{◌≡◌, ℕ, zero, suc, ◌+◌, ◌/◌, ◌%◌, ◌<◌, ◌≤◌, Bool, true, false, ◌||◌, ◌==◌, eqb, List, [], ◌∷◌, ◌++◌, length, get_or, take, drop, ◌-◌, ◌≢◌, sym, refl, ap, subst, ◌∙◌, ⊎_elim, arith, slice_index}
-use Rattle.std.specs.List.{list_any, All}
+use Rattle.std.proofs.Common.{◌≡◌, ℕ, zero, suc, ◌+◌, ◌/◌, ◌%◌, ◌<◌, ◌≤◌, true, false, ◌==◌, eqb, List, [], ◌∷◌, ◌++◌, length, get_or, take, drop, ◌-◌, ◌≢◌, sym, refl, ap, subst, ◌∙◌, ◌⊎◌, inl, inr, ⊎_elim, arith}
+use Rattle.std.specs.List.{All}
 use Rattle.std.proofs.lemmas.Bool.{cases_lt, or_parts, or_from, ne_eqb, eq-eqb, eqb-true, both_ways, cases_Bool, false_from_ne_true}
 use Rattle.std.proofs.lemmas.List.Folds.{list_any_none, list_any-append, list_any_more}
 use Rattle.std.proofs.lemmas.List.{take-append-drop, drop_more, take_rest, take_all, get_or_past}
-use Rattle.std.proofs.lemmas.List.Elements.{All-nil, All-cons}
 use Rattle.hex.specs.Hex.{encode_with, encode_lower, lower_digits}
 use Rattle.percent_encoding.specs.AsciiSet.{should_percent_encode}
-use Rattle.percent_encoding.proofs.PercentLemmas.{All-percent_encode, IsEscapeByte}
+use Rattle.percent_encoding.proofs.PercentLemmas.{All-percent_encode}
 use Rattle.tree_digest.specs.declared.escapes.TheConstants.{ESCAPED}
 use Rattle.tree_digest.specs.Fields.{octal_text, decimal_text, escaped, field, HasNone}
 use Rattle.tree_digest.proofs.Decimals.{decimal_digits}
@@ -131,3 +130,15 @@ last_once c (x ∷ a) b (y ∷ xs) ys h k e =
     let others : a ++ c ∷ b ≡ xs ++ c ∷ ys = cc in
     let front : a ≡ xs = last_once c a b xs ys h k others in
     cc
+
+-- a byte is nowhere in a text, or there is a last one
+pub has_none_or_last : (c : ℕ) (t : List ℕ) → HasNone c t ⊎ ((a : List ℕ) × (b : List ℕ) × (t ≡ a ++ c ∷ b) × HasNone c b)
+has_none_or_last c [] = inl refl
+has_none_or_last c (x ∷ t) =
+    ⊎_elim
+    (λ none. ⊎_elim
+    (λ same. inr ([], t, ap (λ y. y ∷ t) (eqb-true x c same), none))
+    (λ other. inl (or_from _ _ other none))
+    (cases_Bool (eqb x c)))
+    (λ last. inr (x ∷ last.0, last.1, ap (λ u. x ∷ u) last.2, last.3))
+    (has_none_or_last c t)

@@ -1,6 +1,6 @@
 -- The texts of lines.
-use Rattle.std.proofs.Common.{◌≡◌, ◌≢◌, ℕ, ◌<◌, ◌≤◌, true, false, ltb, min, List, [], ◌∷◌, ◌++◌, length, get_or, Err, sym, refl, ap, subst, ◌∙◌, arith, append_assoc}
-use Rattle.std.specs.List.{list_any, All}
+use Rattle.std.proofs.Common.{◌≡◌, ◌≢◌, ℕ, ◌<◌, ◌≤◌, true, false, ltb, min, List, [], ◌∷◌, ◌++◌, length, get_or, Err, sym, refl, ap, arith, append_assoc}
+use Rattle.std.specs.List.{All}
 use Rattle.std.proofs.lemmas.Bool.{or_parts, eq-eqb, both_ways, lt-ltb, le-ltb}
 use Rattle.hex.specs.Hex.{encode_lower}
 use Rattle.path_map.specs.declared.entry.Meta.{Meta}
@@ -10,7 +10,7 @@ use Rattle.tree_digest.specs.declared.line.ListingLine.{ListingLine}
 use Rattle.tree_digest.specs.declared.line_fault.LineFault.{LineFault}
 use Rattle.tree_digest.specs.declared.line_fault.LineFault.TheVariants.{Bad, TooLong, NoMemory}
 use Rattle.tree_digest.specs.Fields.{octal_text, decimal_text, escaped, field, HasNone, IsTarget}
-use Rattle.tree_digest.specs.Lines.{entry_text, meta_text, IsMeta, IsEntry, IsLine, IsLineOf, ReadsLine, is_too_long}
+use Rattle.tree_digest.specs.Lines.{entry_text, meta_text, IsMeta, IsEntry, IsLineOf, ReadsLine}
 use Rattle.tree_digest.proofs.Cuts.{cut_once, octal_clear, decimal_clear, hex_clear_end, escaped_clear_end, none_both}
 
 -- what follows an entry is its path

@@ -1,13 +1,13 @@
 -- Taking the first line of a text.
-use Rattle.std.proofs.Common.{◌≡◌, ◌≢◌, ℕ, ◌+◌, List, [], ◌∷◌, ◌++◌, length, true, false, Some, Err, sym, refl, ap, subst, ◌∙◌, ◌⊎◌, inl, inr, ⊎_elim, append_assoc}
+use Rattle.std.proofs.Common.{◌≡◌, ◌≢◌, ℕ, ◌+◌, List, [], ◌∷◌, ◌++◌, length, false, Some, Err, sym, ap, subst, ◌∙◌, ◌⊎◌, inl, inr, ⊎_elim, append_assoc}
 use Rattle.tree_digest.specs.declared.line.ListingLine.{ListingLine}
 use Rattle.tree_digest.specs.declared.line_fault.LineFault.{LineFault}
 use Rattle.tree_digest.specs.declared.line_fault.LineFault.TheVariants.{Bad, TooLong, NoMemory as OutOfMemory}
 use Rattle.tree_digest.specs.declared.listing_error.ListingError.{ListingError}
-use Rattle.tree_digest.specs.declared.listing_error.ListingError.TheVariants.{BadLine, NotSorted, NoParent, TooMany, FileTooLong, NoMemory}
-use Rattle.tree_digest.specs.Fields.{HasNone, escaped}
-use Rattle.tree_digest.specs.Lines.{IsLine, IsLineOf, ReadsLine, line_text, line_fields, is_too_long}
-use Rattle.tree_digest.specs.Listings.{FailsAt, FailsInLine, FailsInOrder, Rises, EndsIn, is_parent}
+use Rattle.tree_digest.specs.declared.listing_error.ListingError.TheVariants.{NoMemory}
+use Rattle.tree_digest.specs.Fields.{HasNone}
+use Rattle.tree_digest.specs.Lines.{IsLineOf, ReadsLine, line_text, line_fields, is_too_long}
+use Rattle.tree_digest.specs.Listings.{FailsAt, FailsInLine, FailsInOrder}
 use Rattle.tree_digest.proofs.Cuts.{cut_once}
 use Rattle.tree_digest.proofs.LineTexts.{entry_clear, has_cut}
 

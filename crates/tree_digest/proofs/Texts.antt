@@ -1,5 +1,5 @@
 -- The bytes of a text.
-use Rattle.std.proofs.Common.{◌≡◌, ℕ, ◌+◌, ◌/◌, ◌%◌, ◌<◌, ◌≤◌, true, ltb, length, get_or, List, [], ◌∷◌, ◌++◌, subst, sym, refl, ap, ◌∙◌, ⊎_elim, arith, IsUtf8}
+use Rattle.std.proofs.Common.{◌≡◌, ℕ, ◌+◌, ◌/◌, ◌<◌, true, ltb, length, get_or, List, [], ◌∷◌, subst, sym, refl, ap, ◌∙◌, ⊎_elim, arith, IsUtf8}
 use Rattle.std.specs.List.{All}
 use Rattle.std.proofs.lemmas.List.{get_or_past}
 use Rattle.std.proofs.lemmas.Bool.{cases_lt, and_parts, cond_both, ltb-true}
@@ -8,7 +8,7 @@ use Rattle.percent_encoding.specs.Percent.{percent_decode}
 use Rattle.percent_encoding.proofs.PercentLemmas.{round_trip}
 use Rattle.tree_digest.specs.declared.escapes.TheConstants.{ESCAPED}
 use Rattle.tree_digest.specs.Fields.{escaped}
-use lib.Utf8.{scalar, scalars, encode, encodes, scalar_cases, next}
+use lib.Utf8.{scalars, encode, encodes, scalar_cases, next}
 
 one : (a : ℕ) → a < 256 → All (λ b. b < 256) (a ∷ [])
 one a h = All-cons (λ b. b < 256) a [] h (All-nil (λ b. b < 256))

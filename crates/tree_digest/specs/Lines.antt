@@ -1,5 +1,5 @@
 -- The lines of a listing.
-use Rattle.std.specs.Prelude.{◌≡◌, ℕ, ◌<◌, ◌≤◌, Bool, false, nat_lt, List, [], ◌∷◌, ◌++◌, length, ⊤, true, Result, Ok, Err}
+use Rattle.std.specs.Prelude.{◌≡◌, ℕ, ◌<◌, Bool, false, nat_lt, List, [], ◌∷◌, ◌++◌, length, ⊤, true, Result, Ok, Err}
 use Rattle.std.specs.List.{All}
 use Rattle.hex.specs.Hex.{encode_lower}
 use Rattle.path_map.specs.declared.entry.Meta.{Meta}

@@ -1,12 +1,14 @@
 -- Listings: the texts of trees.
-use Rattle.std.specs.Prelude.{◌≡◌, ◌≢◌, ℕ, ◌+◌, ◌-◌, ◌<◌, ◌≤◌, ◌==◌, Bool, true, false, not, ◌&&◌, ◌||◌, List, [], ◌∷◌, ◌++◌, length, count_by, slice_index, if◌then◌else◌, Option, ⊤, ◌⊎◌, nat_lt, MatchBool, MatchOption}
+use Rattle.std.specs.Prelude.{◌≡◌, ◌≢◌, ℕ, ◌+◌, ◌-◌, ◌<◌, ◌≤◌, ◌==◌, Bool, true, false, ◌&&◌, ◌||◌, List, [], ◌∷◌, ◌++◌, length, count_by, slice_index, if◌then◌else◌, Option, ⊤, ◌⊎◌, nat_lt, MatchBool, MatchOption, map}
 use Rattle.std.specs.List.{flat_map, list_any, slice_get}
 use Rattle.std.specs.Option.{option_map_or}
 use Rattle.std.specs.Ordering.{nat_cmp}
 use Rattle.std.specs.declared.cmp.Ordering.TheVariants.{Less}
 use Rattle.std.specs.Cmp.Lexicographic.{slice_cmp}
 use Rattle.std.specs.Str.{bytes_eq}
-use Rattle.path_map.specs.Entries.{is_directory}
+use Rattle.path_map.specs.declared.entry.Entry.{Entry}
+use Rattle.path_map.specs.declared.entry.Entry.TheVariants.{Dir, File, Link}
+use Rattle.path_map.specs.Entries.{Entries, is_directory}
 use Rattle.tree_digest.specs.declared.line.ListingLine.{ListingLine}
 use Rattle.tree_digest.specs.declared.line_fault.LineFault.{LineFault}
 use Rattle.tree_digest.specs.declared.line_fault.LineFault.TheVariants.{Bad, TooLong, NoMemory as OutOfMemory}
@@ -106,3 +108,21 @@ Fits text = (line_count text ≤ 65536) × (length text ≤ 33554432)
 -- the first fault of a text: too many lines, too many bytes, or at the first line that has one
 abbrev pub Fails : List ℕ → ListingError → Type 0
 Fails text error = IsTooMany text error ⊎ (Fits text × StopsAt text error)
+
+-- the entries of lines, and the lines of entries
+abbrev pub entries_of : List ListingLine → Entries
+entries_of lines = map (λ line. (line.path, line.entry)) lines
+
+abbrev pub lines_of : Entries → List ListingLine
+lines_of entries = map (λ e. record { path = e.0; entry = e.1 }) entries
+
+-- the entry may stand in a listing: a mode of four octal digits, a file of at most 1,073,741,824
+-- bytes, a target of 1 to 4,095 bytes without NUL
+abbrev pub IsListable : Entry → Type 0
+IsListable (Dir meta) = meta.mode < 4096
+IsListable (File meta size sha) = (meta.mode < 4096) × (size ≤ 1073741824)
+IsListable (Link meta target) = (meta.mode < 4096) × (1 ≤ length target) × (length target ≤ 4095) × HasNone 0 target
+
+-- too many lines, or too long a text of them
+abbrev pub IsTooLarge : List ListingLine → ListingError → Type 0
+IsTooLarge lines error = MatchBool (nat_lt 65536 (length lines)) (error ≡ TooMany 65536) ((33554432 < length (listing_text lines)) × (error ≡ TooMany 33554432))

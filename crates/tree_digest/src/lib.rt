@@ -7,6 +7,7 @@ pub mod line;
 pub mod line_fault;
 pub mod listing;
 pub mod listing_error;
+pub mod maps;
 pub mod numbers;
 pub mod read_fields;
 pub mod read_line;

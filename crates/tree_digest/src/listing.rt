@@ -31,6 +31,14 @@ impl Model for Listing {
 }
 
 impl Listing {
+    /// The listing of some lines.
+    pub(crate) fn new(alloc: Global, lines: Vec<ListingLine>) -> Listing
+        requires { IsListing lines.items }
+        ensures { result ≡ lines.items }
+    {
+        Listing { alloc, lines }
+    }
+
     /// The listing that a text is. Else the first of these is answered: `TooMany` for
     /// more than 65,536 lines, a last one without an end counted, or 33,554,432 bytes; at
     /// the first line with a fault `BadLine`, `FileTooLong`, `NotSorted`, `NoParent`.
@@ -42,7 +50,7 @@ impl Listing {
             return Err(error);
         }
         match read_lines(alloc, bytes) {
-            Ok(lines) => Ok(Listing { alloc, lines }),
+            Ok(lines) => Ok(Listing::new(alloc, lines)),
             Err(error) => Err(error),
         }
     }

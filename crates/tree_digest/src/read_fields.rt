@@ -95,7 +95,7 @@ fn sha_of(digits: &[u8]) -> Option<[u8; 64]>
 }
 
 /// Bytes are below 256, as the clause says.
-fn fit_bytes(bytes: &[u8])
+pub(crate) fn fit_bytes(bytes: &[u8])
     ensures { All (λ b. b < 256) bytes.now }
 {
     let _length = bytes.len();

@@ -23,6 +23,13 @@ fn sha(digits: &str) -> Result<[u8; 64], Fail> {
     Ok(bytes)
 }
 
+/// The listing of the map of a listing.
+fn again(alloc: Global, listing: &Listing) -> Result<Listing, ListingError> {
+    let _lines = listing.as_slice();
+    let map = listing.to_map(alloc)?;
+    Listing::of_map(alloc, &map)
+}
+
 #[test]
 fn a_listing_is_read_and_written(rt: HostRuntime) -> Result<(), Fail> {
     let alloc = rt.alloc();
@@ -35,6 +42,8 @@ fn a_listing_is_read_and_written(rt: HostRuntime) -> Result<(), Fail> {
     assert!(&rt; listing.copy()?.digest(alloc)? == sha(DIGEST)?);
     let line = listing.as_slice().first().ok_or("a line")?.copy()?;
     assert!(&rt; line.path.as_str() == "/bin");
+    let again = again(alloc, &listing)?;
+    assert!(&rt; again.write(alloc)?.as_slice() == text.as_bytes());
     let empty = Listing::read(alloc, b"")?;
     assert!(&rt; empty.digest(alloc)? == sha(NIL)?);
     Ok(())

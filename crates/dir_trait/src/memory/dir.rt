@@ -298,7 +298,7 @@ impl Dir for MemoryDir {
         ensures failed { IsErrOf result DirError.Failed → Rose self.old.faults self.new.faults }
         ensures refusals { IfErr result (λ e. may_refuse (Request.Begin intent) e ≡ true) }
         ensures local { self.new.local ≡ local_replied self.old.local (Request.Begin intent) (done_reply result) }
-        ensures step { true ≡ true → CallStep self.old.process self.old.trace (Request.Begin intent) (done_reply result) self.new.trace }
+        ensures step { CallStep self.old.process self.old.trace (Request.Begin intent) (done_reply result) self.new.trace }
         ensures follows { Follows self.old (Request.Begin intent) (done_reply result) self.new }
     {
         self.plain_call(Request::Begin(intent))
@@ -312,7 +312,7 @@ impl Dir for MemoryDir {
         ensures failed { IsErrOf result DirError.Failed → Rose self.old.faults self.new.faults }
         ensures refusals { IfErr result (λ e. may_refuse (Request.MakeFolder spot) e ≡ true) }
         ensures local { self.new.local ≡ local_replied self.old.local (Request.MakeFolder spot) (done_reply result) }
-        ensures step { true ≡ true → CallStep self.old.process self.old.trace (Request.MakeFolder spot) (done_reply result) self.new.trace }
+        ensures step { CallStep self.old.process self.old.trace (Request.MakeFolder spot) (done_reply result) self.new.trace }
         ensures follows { Follows self.old (Request.MakeFolder spot) (done_reply result) self.new }
     {
         self.plain_call(Request::MakeFolder(spot))
@@ -326,7 +326,7 @@ impl Dir for MemoryDir {
         ensures failed { IsErrOf result DirError.Failed → Rose self.old.faults self.new.faults }
         ensures refusals { IfErr result (λ e. may_refuse (Request.MoveFolder from to) e ≡ true) }
         ensures local { self.new.local ≡ local_replied self.old.local (Request.MoveFolder from to) (done_reply result) }
-        ensures step { true ≡ true → CallStep self.old.process self.old.trace (Request.MoveFolder from to) (done_reply result) self.new.trace }
+        ensures step { CallStep self.old.process self.old.trace (Request.MoveFolder from to) (done_reply result) self.new.trace }
         ensures follows { Follows self.old (Request.MoveFolder from to) (done_reply result) self.new }
     {
         self.plain_call(Request::MoveFolder { from, to })
@@ -341,7 +341,7 @@ impl Dir for MemoryDir {
         ensures refusals { IfErr result (λ e. may_refuse (Request.Open spot which) e ≡ true) }
         ensures unopened { IfOk result (λ handle. IsUnopened self.old.local handle) }
         ensures local { self.new.local ≡ local_replied self.old.local (Request.Open spot which) (opened_reply result) }
-        ensures step { true ≡ true → CallStep self.old.process self.old.trace (Request.Open spot which) (opened_reply result) self.new.trace }
+        ensures step { CallStep self.old.process self.old.trace (Request.Open spot which) (opened_reply result) self.new.trace }
         ensures follows { Follows self.old (Request.Open spot which) (opened_reply result) self.new }
     {
         self.open_call(Request::Open { spot, which })
@@ -357,7 +357,7 @@ impl Dir for MemoryDir {
         ensures failed { IsErrOf result DirError.Failed → Rose self.old.faults self.new.faults }
         ensures refusals { IfErr result (λ e. may_refuse (Request.TryLock handle mode) e ≡ true) }
         ensures local { self.new.local ≡ local_replied self.old.local (Request.TryLock handle mode) (done_reply result) }
-        ensures step { true ≡ true → CallStep self.old.process self.old.trace (Request.TryLock handle mode) (done_reply result) self.new.trace }
+        ensures step { CallStep self.old.process self.old.trace (Request.TryLock handle mode) (done_reply result) self.new.trace }
         ensures follows { Follows self.old (Request.TryLock handle mode) (done_reply result) self.new }
     {
         self.plain_call(Request::TryLock { handle, mode })
@@ -370,7 +370,7 @@ impl Dir for MemoryDir {
         ensures same { self.new.process ≡ self.old.process }
         ensures faults { self.new.faults ≡ self.old.faults }
         ensures local { self.new.local ≡ local_replied self.old.local (Request.Close handle) (Reply.Done) }
-        ensures step { true ≡ true → CallStep self.old.process self.old.trace (Request.Close handle) (Reply.Done) self.new.trace }
+        ensures step { CallStep self.old.process self.old.trace (Request.Close handle) (Reply.Done) self.new.trace }
         ensures follows { self.new ≡ given_up self.old (Request.Close handle) }
     {
         self.own.note_closed(handle);
@@ -387,7 +387,7 @@ impl Dir for MemoryDir {
         ensures same { self.new.process ≡ self.old.process }
         ensures faults { self.new.faults ≡ self.old.faults }
         ensures local { self.new.local ≡ local_replied self.old.local (Request.Finish) (Reply.Done) }
-        ensures step { true ≡ true → CallStep self.old.process self.old.trace (Request.Finish) (Reply.Done) self.new.trace }
+        ensures step { CallStep self.old.process self.old.trace (Request.Finish) (Reply.Done) self.new.trace }
         ensures follows { self.new ≡ given_up self.old (Request.Finish) }
     {
         self.own.note_finished();

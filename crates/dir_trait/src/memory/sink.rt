@@ -79,8 +79,8 @@ impl Sink for MemorySink {
         ensures failed { IsErrOf result SinkError.Failed → Rose self.old.faults self.new.faults }
         ensures most { IfOk result (λ n. n ≤ length piece.now) }
         ensures some { IfOk result (λ n. 0 < length piece.now → 0 < n) }
-        ensures written { IfOk result (λ n. true ≡ true → self.new.bytes ≡ self.old.bytes ++ take n piece.now) }
-        ensures unwritten { IfErr result (λ e. true ≡ true → self.new.bytes ≡ self.old.bytes) }
+        ensures written { IfOk result (λ n. self.new.bytes ≡ self.old.bytes ++ take n piece.now) }
+        ensures unwritten { IfErr result (λ e. self.new.bytes ≡ self.old.bytes) }
         ensures writes { Writes self.old piece.now result self.new }
     {
         let fails = is_listed(&self.failing, self.writes);

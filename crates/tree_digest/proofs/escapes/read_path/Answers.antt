@@ -1,5 +1,5 @@
-use Rattle.std.proofs.Common.{◌≡◌, string_bytes, subst, sym, ap, ◌∙◌, None, rules}
-use Rattle.path_map.specs.Paths.{IsAbsPath, path_fault}
+use Rattle.std.proofs.Common.{◌≡◌, sym, ap, ◌∙◌, rules}
+use Rattle.path_map.specs.Paths.{path_fault}
 use Rattle.tree_digest.specs.Fields.{escaped}
 use Rattle.tree_digest.proofs.Texts.{escaped_same}
 use Rattle.tree_digest.proofs.escapes.read_path.Goals as goal

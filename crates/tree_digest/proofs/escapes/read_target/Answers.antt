@@ -1,4 +1,4 @@
-use Rattle.std.proofs.Common.{◌≡◌, string_bytes, subst, sym, ◌∙◌, true, false, rules}
+use Rattle.std.proofs.Common.{◌≡◌, subst, sym, ◌∙◌, rules}
 use Rattle.tree_digest.specs.Fields.{escaped, IsTarget}
 use Rattle.tree_digest.proofs.Texts.{escaped_same}
 use Rattle.tree_digest.proofs.escapes.read_target.Goals as goal

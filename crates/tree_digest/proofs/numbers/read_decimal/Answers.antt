@@ -1,7 +1,6 @@
-use Rattle.std.proofs.Common.{◌≡◌, ◌<◌, ◌≤◌, ◌≢◌, ◌+◌, ◌-◌, ◌*◌, ℕ, List, length, get_or, take, min, subst, sym, ap, ◌∙◌, ⊎_elim, arith, rules}
+use Rattle.std.proofs.Common.{◌≡◌, ◌<◌, ◌≤◌, ◌+◌, ◌-◌, ◌*◌, length, get_or, take, subst, sym, ap, ◌∙◌, arith, rules}
 use Rattle.std.specs.Str.Parse.{digits_value}
 use Rattle.std.proofs.lemmas.Int.Digits.{digits_value_more}
-use Rattle.std.proofs.lemmas.List.{take_all}
 use Rattle.tree_digest.specs.Fields.{decimal_text}
 use Rattle.tree_digest.proofs.Decimals.{decimal_some, decimal_zero, decimal_from_zero, decimal_digits, decimal_grows, value_digit, single, digit_low, digit_none}
 use Rattle.tree_digest.proofs.numbers.read_decimal.Goals as goal

@@ -1,4 +1,4 @@
-use Rattle.std.proofs.Common.{◌≡◌, ◌<◌, ℕ, min, take}
+use Rattle.std.proofs.Common.{◌≡◌, ◌<◌, min, take}
 use Rattle.std.specs.Str.Parse.{digits_value}
 use Rattle.tree_digest.proofs.Decimals.{IsDecimal}
 use Rattle.tree_digest.proofs.numbers.read_decimal.Given as goal

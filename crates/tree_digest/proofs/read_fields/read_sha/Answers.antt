@@ -1,4 +1,4 @@
-use Rattle.std.proofs.Common.{sym, ◌∙◌, arith}
+use Rattle.std.proofs.Common.{sym, ◌∙◌}
 use Rattle.hex.specs.Hex.{encode_lower}
 use Rattle.tree_digest.proofs.Cuts.{cut_once, hex_clear_space}
 use Rattle.tree_digest.proofs.read_fields.read_sha.Goals as goal

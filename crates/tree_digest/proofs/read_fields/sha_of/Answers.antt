@@ -1,5 +1,4 @@
-use Rattle.std.proofs.Common.{◌≡◌, Ok, true, false, List, ℕ, sym, refl, ap, subst, ◌∙◌, arith, rules}
-use Rattle.std.specs.Result.{MatchResult}
+use Rattle.std.proofs.Common.{◌≡◌, Ok, true, false, sym, refl, ap, ◌∙◌}
 use Rattle.hex.specs.Hex.{encode_lower, decode_sized}
 use Rattle.hex.proofs.HexLemmas.{decode_sized-encode_lower}
 use Rattle.tree_digest.proofs.Texts.{byte_at}

@@ -1,9 +1,9 @@
-use Rattle.std.proofs.Common.{◌≡◌, ◌∷◌, Err, sym, ap, subst, ◌∙◌, arith}
+use Rattle.std.proofs.Common.{◌∷◌, Err, sym, ap, ◌∙◌, arith}
 use Rattle.hex.specs.Hex.{encode_lower}
 use Rattle.path_map.specs.declared.entry.Entry.TheVariants.{File}
-use Rattle.tree_digest.specs.Fields.{decimal_text, escaped, field, HasNone}
+use Rattle.tree_digest.specs.Fields.{decimal_text, escaped, field}
 use Rattle.tree_digest.proofs.Cuts.{cut_once, decimal_clear, hex_clear_space}
-use Rattle.tree_digest.proofs.LineTexts.{reads_fault, meta_once, file_of, file_text_is, long_size, short_size, short_test}
+use Rattle.tree_digest.proofs.LineTexts.{reads_fault, meta_once, file_of, file_text_is, long_size}
 use Rattle.tree_digest.proofs.read_line.read_file.Goals as goal
 
 pub returns-in_default-read_number : goal.returns-in_default-read_number

@@ -1,5 +1,4 @@
-use Rattle.std.proofs.Common.{◌≡◌, ◌==◌, ◌||◌, true, false, length, slice_index, sym, refl, ap, subst, ◌∙◌, inl, inr, rules}
-use Rattle.std.specs.HashSet.{contains_text}
+use Rattle.std.proofs.Common.{◌≡◌, ◌==◌, ◌||◌, true, false, length, slice_index, sym, refl, ap, subst, ◌∙◌, inr, rules}
 use Rattle.path_map.proofs.Segments.{sound_from}
 use Rattle.tree_digest.specs.Listings.{Rises, EndsIn, is_parent}
 use Rattle.tree_digest.proofs.Cuts.{last_once}

@@ -1,6 +1,5 @@
-use Rattle.std.proofs.Common.{◌≡◌, ◌++◌, ◌∷◌, ◌+◌, ◌-◌, ◌<◌, ◌≤◌, length, get_or, take, drop, sym, ap, ◌∙◌, arith, rules, length-drop}
+use Rattle.std.proofs.Common.{◌≡◌, ◌++◌, ◌∷◌, ◌+◌, ◌<◌, ◌≤◌, length, take, drop, sym, ap, ◌∙◌, arith, rules, length-drop}
 use Rattle.std.proofs.lemmas.List.{get_or-drop}
-use Rattle.tree_digest.specs.Listings.{EndsIn}
 use Rattle.tree_digest.proofs.Cuts.{parted_at, none_from_places, end_inside}
 use Rattle.tree_digest.proofs.take_line.parent_of.Goals as goal
 

@@ -1,10 +1,9 @@
-use Rattle.std.proofs.Common.{◌≤◌, length, count_by, ◌==◌, sym, ap, ◌∙◌, arith}
-use Rattle.tree_digest.specs.Listings.{listing_text}
+use Rattle.std.proofs.Common.{length, count_by, ◌==◌, ap, ◌∙◌, arith}
 use Rattle.tree_digest.proofs.ListingTexts.{lines_counted}
 use Rattle.tree_digest.proofs.listing.Listing.read.Goals as goal
 
-pub invariant_of-result : goal.invariant_of-result
-invariant_of-result c =
+pub new-requires : goal.new-requires
+new-requires c =
     let text = c.in-Ok.ensures.ok.1 in
     let counted = ap (count_by (λ b. b == 10)) text ∙ lines_counted c.in-Ok.lines.items in
     record {

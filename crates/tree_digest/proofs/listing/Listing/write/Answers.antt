@@ -1,6 +1,5 @@
-use Rattle.std.proofs.Common.{◌<◌, length, get_or, subst, sym, [], rules}
-use Rattle.tree_digest.specs.declared.line.ListingLine.{ListingLine}
-use Rattle.tree_digest.specs.Lines.{IsLine, mode_of}
+use Rattle.std.proofs.Common.{subst, sym, []}
+use Rattle.tree_digest.specs.Lines.{IsLine}
 use Rattle.tree_digest.specs.Listings.{AllFollow}
 use Rattle.tree_digest.proofs.ListingTexts.{valid_at, mode_fits}
 use Rattle.tree_digest.proofs.listing.Listing.write.Goals as goal

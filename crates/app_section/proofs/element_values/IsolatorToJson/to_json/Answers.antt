@@ -1,0 +1,13 @@
+use Rattle.std.proofs.Common.{◌∙◌, ap, refl, codes, List, ℕ, Some}
+use Rattle.serde_json.specs.Data.{object, string}
+use Rattle.app_section.specs.AppData.{isolator_data}
+use Rattle.app_section.specs.AppObject.{isolator_fields, isolator_object}
+use Rattle.app_section.proofs.OrderedFields.{in_order, put_next}
+use Rattle.app_section.proofs.element_values.IsolatorToJson.to_json.Goals as goal
+
+pub returns : goal.returns
+unfolding isolator_object
+returns c =
+    let name = put_next (codes "name") (ap (λ (t : List ℕ). Some (string t)) c.as_str.ensures.text) c.new-object.ensures c.in_ok-object.ensures in
+    let value = put_next (codes "value") (ap Some c.in_ok-clone.ensures.cases) name c.in_ok-object-2.ensures in
+    c.finish.ensures ∙ ap object (value ∙ in_order (isolator_fields (isolator_data c.args.self.now)) refl)

@@ -1,0 +1,12 @@
+pub mod AppData
+pub mod AppForm
+pub mod AppObject
+pub mod EnvForm
+pub mod ExecForm
+pub mod HandlerForm
+pub mod IsolatorForm
+pub mod ListForms
+pub mod MountForm
+pub mod Objects
+pub mod Places
+pub mod PortForm

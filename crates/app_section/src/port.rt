@@ -1,0 +1,98 @@
+ghost use Rattle.std.specs.Prelude.{◌≡◌, ◌+◌, nat_le, IfOk};
+ghost use Rattle.serde_json.specs.View.{view};
+ghost use Rattle.ac_types.specs.Outcomes.{Answers};
+ghost use Rattle.app_section.specs.PortForm.{port_fields};
+
+use crate::small_numbers::{port_count, required_port};
+use ac_types::{
+    AcName, FaultKind, FromElement, NamedElement, NoMemory, ReadError, Text, TryCopy, fault_at,
+    filled_text, flag_field, object_value, required_name,
+};
+use serde_json::Value;
+use std::alloc::Global;
+
+/// Ports on which an app listens: `count` of them from `port` on.
+#[derive(Drop)]
+pub struct Port {
+    pub name: AcName,
+    pub protocol: Text,
+    pub port: u16,
+    /// One at least.
+    pub count: u16,
+    pub socket_activated: bool,
+}
+
+impl Port {
+    /// An equal port.
+    pub fn copy(&self) -> Result<Port, NoMemory>
+        ensures { IfOk result (λ copy. copy ≡ self.now) }
+    {
+        Ok(Port {
+            name: self.name.copy()?,
+            protocol: self.protocol.copy()?,
+            port: self.port,
+            count: self.count,
+            socket_activated: self.socket_activated,
+        })
+    }
+}
+
+impl TryCopy for Port {
+    fn try_copy(&self) -> Result<Port, NoMemory> {
+        self.copy()
+    }
+}
+
+impl FromElement for Port {
+    ghost use Rattle.app_section.specs.declared.port.Port.{Port};
+    ghost use Rattle.app_section.specs.PortForm.{port_range};
+
+    ghost Shown = { Port };
+
+    ghost shown = { λ p. p };
+
+    ghost form = { port_range };
+
+    ghost name_of = { λ p. p.name };
+
+    #[tactic(auto, unfolding(crate::specs::PortForm::port_range))]
+    fn read(alloc: Global, value: &Value, at: &str) -> Result<Port, ReadError> {
+        let found = read_fields(alloc, value, at)?;
+        if !ends_within(found.port, found.count) {
+            return Err(fault_at(alloc, at, FaultKind::PortRange));
+        }
+        Ok(found)
+    }
+}
+
+impl NamedElement for Port {
+    fn name(&self) -> &str {
+        self.name.as_str()
+    }
+}
+
+/// Whether the last port, `port + count - 1`, is at most 65,535.
+fn ends_within(port: u16, count: u16) -> bool
+    ensures { result ≡ nat_le (port + count) 65536 }
+{
+    u32::from(port) + u32::from(count) <= 65_536
+}
+
+#[tactic(auto, unfolding(crate::specs::PortForm::port_fields))]
+fn read_fields(alloc: Global, value: &Value, at: &str) -> Result<Port, ReadError>
+    ensures { Answers (λ p. p) (port_fields at.now (view value.now)) result }
+{
+    object_value(alloc, value, at)?;
+    let name = required_name(alloc, value, at, "name")?;
+    let protocol = filled_text(alloc, value, at, "protocol")?;
+    let port = required_port(alloc, value, at)?;
+    let count = port_count(alloc, value, at)?;
+    let socket_activated = flag_field(alloc, value, at, "socketActivated")?;
+    Ok(Port {
+        name,
+        protocol: Text::of(alloc, protocol)?,
+        port,
+        count,
+        socket_activated,
+    })
+}
