@@ -57,7 +57,13 @@ pub trait Bundle {
 
     /// Fills the room with the bytes of the file at a path, from byte `at` on, and answers how many it
     /// filled: fewer than the room has only at the file's end. `Missing` where no file stands there.
-    fn read(&mut self, alloc: Global, path: &str, at: u64, room: &mut [u8]) -> Result<usize, BundleError>
+    fn read(
+        &mut self,
+        alloc: Global,
+        path: &str,
+        at: u64,
+        room: &mut [u8],
+    ) -> Result<usize, BundleError>
         ensures faults { faults self.old ≤ faults self.new }
         ensures failed { IsErrOf result BundleError.Failed → Rose (faults self.old) (faults self.new) }
         ensures most { IfOk result (λ n. n ≤ length room.old) }
@@ -68,7 +74,12 @@ pub trait Bundle {
 
     /// Fills the room with the target of the symbolic link at a path, as far as it fits, and answers how
     /// many bytes it filled. `Missing` where no link stands there.
-    fn read_link(&mut self, alloc: Global, path: &str, room: &mut [u8]) -> Result<usize, BundleError>
+    fn read_link(
+        &mut self,
+        alloc: Global,
+        path: &str,
+        room: &mut [u8],
+    ) -> Result<usize, BundleError>
         ensures faults { faults self.old ≤ faults self.new }
         ensures failed { IsErrOf result BundleError.Failed → Rose (faults self.old) (faults self.new) }
         ensures most { IfOk result (λ n. n ≤ length room.old) }

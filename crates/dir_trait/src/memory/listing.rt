@@ -109,7 +109,10 @@ fn look_in(
     }
 }
 
-fn add(kinds: &mut BTreeMap<FileName, BundleKind>, found: Option<BundleItem>) -> Result<(), NoMemory>
+fn add(
+    kinds: &mut BTreeMap<FileName, BundleKind>,
+    found: Option<BundleItem>,
+) -> Result<(), NoMemory>
     ensures { OnOk result ((name : List ℕ) → get (slice_cmp nat_cmp) kinds.new name ≡ kind_with found name (get (slice_cmp nat_cmp) kinds.old name)) }
 {
     let Some(item) = found else {
@@ -136,11 +139,7 @@ fn kinds_in(
 }
 
 // What stands directly in a directory. Refused only where memory ran out.
-fn list_in(
-    alloc: Global,
-    entries: &[Entry],
-    directory: &[u8],
-) -> Result<BundleItems, NoMemory>
+fn list_in(alloc: Global, entries: &[Entry], directory: &[u8]) -> Result<BundleItems, NoMemory>
     requires { kind_at (tree_of entries.now directory.now) ≡ Some BundleKind.Dir }
     ensures ordered { IfOk result IsListing }
     ensures listed { IfOk result (Lists (tree_of entries.now) directory.now) }
@@ -156,11 +155,7 @@ fn is_directory_at(entries: &[Entry], path: &[u8]) -> bool
 }
 
 /// The listing of the directory at a path. `Missing` where no directory stands there.
-pub fn list_at(
-    alloc: Global,
-    entries: &[Entry],
-    path: &[u8],
-) -> Result<BundleItems, BundleError>
+pub fn list_at(alloc: Global, entries: &[Entry], path: &[u8]) -> Result<BundleItems, BundleError>
     ensures never { IsErrOf result BundleError.Failed → ⊥ }
     ensures ordered { IfOk result IsListing }
     ensures listed { IfOk result (Lists (tree_of entries.now) path.now) }

@@ -80,7 +80,11 @@ fn a_bundle_is_read_and_listed(rt: HostRuntime) -> Result<(), Fail> {
     assert!(rt; room.as_slice() == b"var/".as_slice());
     assert!(rt; bundle.read(alloc, "rootfs", 0, &mut room) == Err(BundleError::Failed));
     assert!(rt; bundle.read(alloc, "rootfs", 0, &mut room) == Err(BundleError::Missing));
-    let items = bundle.list(alloc, "rootfs").ok().ok_or("a listing")?.copy()?;
+    let items = bundle
+        .list(alloc, "rootfs")
+        .ok()
+        .ok_or("a listing")?
+        .copy()?;
     let items = items.as_slice();
     assert!(rt; items.len() == 4 && bundle.faults() == 1);
     assert!(rt; is_item(items.get(0), "bin", BundleKind::Dir));
