@@ -1,10 +1,10 @@
-// The answers of a folder of the host, on the file system that the tests run on.
+// The answers of folders and files of the host, on the file system that the tests run on.
 ghost use Rattle.dir_model.specs.Local.{IsActive};
 
-use crate::{HostDir, HostSink};
+use crate::{HostBundle, HostDir, HostSink};
 use dir_trait::{
-    Area, Dir, DirError, Intent, Kind, Mode, PodId, PodPrefix, Sink, SinkError, Spot, Which,
-    write_whole,
+    Area, Bundle, BundleError, BundleItem, BundleKind, Dir, DirError, Intent, Kind, Mode, PodId,
+    PodPrefix, Sink, SinkError, Spot, Which, write_whole,
 };
 use std::alloc::Global;
 use std::io::{ErrorKind, Write};
@@ -197,4 +197,46 @@ fn a_full_stream_is_a_fault(rt: HostRuntime) {
         Err(SinkError::Failed)
     );
     assert_eq!(rt; sink.faults(), 2);
+}
+
+fn is_item(item: Option<&BundleItem>, name: &str, kind: BundleKind) -> bool {
+    item.is_some_and(|item| item.name.as_str() == name && item.kind == kind)
+}
+
+#[test]
+fn files_of_the_host_are_read_and_listed(rt: HostRuntime) -> Result<(), Fail> {
+    let alloc = rt.alloc();
+    let root = folder(&rt, "a_bundle")?;
+    let root = root.as_str();
+    let file = format!(in alloc; "{root}/id")?;
+    let link = format!(in alloc; "{root}/a_link")?;
+    fs::write(&rt, file.as_str(), "sha512")?;
+    symlink(&rt, "a_bundle/id", link.as_str())?;
+    let mut bundle = HostBundle::new(&rt);
+    let mut room = [0; 4];
+    assert_eq!(rt; bundle.read(alloc, file.as_str(), 4, &mut room), Ok(2));
+    assert!(rt; room.as_slice() == b"12\0\0".as_slice());
+    assert_eq!(rt;
+        bundle.read(alloc, "/dev/null", 0, &mut room),
+        Err(BundleError::Missing)
+    );
+    assert_eq!(rt; bundle.read_link(alloc, link.as_str(), &mut room), Ok(4));
+    assert!(rt; room.as_slice() == b"a_bu".as_slice());
+    assert_eq!(rt;
+        bundle.read_link(alloc, root, &mut room),
+        Err(BundleError::Missing)
+    );
+    let items = bundle.list(alloc, root).ok().ok_or("a listing")?;
+    let items = items.as_slice();
+    assert!(rt; items.len() == 3 && bundle.faults() == 0);
+    assert!(rt; is_item(items.get(0), "a_link", BundleKind::Link));
+    assert!(rt; is_item(items.get(1), "id", BundleKind::File));
+    assert!(rt; is_item(items.get(2), "pods", BundleKind::Dir));
+    assert_eq!(rt;
+        bundle.read(alloc, "a\0b", 0, &mut room),
+        Err(BundleError::Failed)
+    );
+    assert_eq!(rt; bundle.faults(), 1);
+    fs::remove_dir_all(&rt, root)?;
+    Ok(())
 }
