@@ -32,18 +32,19 @@ next_element form at vs before i v within is so_far =
     let more : i < length (map view vs) = rw length-map within in
     let here : get_or (map view vs) i null ≡ view v = get_or-map view vs i v null within ∙ ap view (sym is) in
     let cut : drop i (map view vs) ≡ view v ∷ drop (i + 1) (map view vs) =
-        drop_more (map view vs) i null more ∙ ap (λ (d : Data). d ∷ drop (i + 1) (map view vs)) here in
+    drop_more (map view vs) i null more ∙ ap (λ (d : Data). d ∷ drop (i + 1) (map view vs)) here in
     ap (λ (n : ℕ). form before (element_path at n) (view v) >>= λ a. each_after form at (before ++ a ∷ []) (drop (i + 1) (map view vs)))
-        (sym so_far.0)
+    (sym so_far.0)
     ∙ ap (λ (ds : List Data). each_after form at before ds) (sym cut) ∙ so_far.1
 
 pub read_next : {A : Type 0} (form : List A → List ℕ → Data → Outcome A) (at : List ℕ) (vs : List Value) (before : List A)
     (i : ℕ) (v : Value) (a : A) → i < length vs → v ≡ get_or vs i v → form before (element_path at i) (view v) ≡ reads a
     → IsReadUpTo form at vs before i → IsReadUpTo form at vs (before ++ a ∷ []) (i + 1)
-read_next form at vs before i v a within is read so_far =
-    ( omega (arith, length-append before (a ∷ []), so_far.0)
-    , ap (λ (o : Outcome _). o >>= λ x. each_after form at (before ++ x ∷ []) (drop (i + 1) (map view vs))) (sym read)
-      ∙ next_element form at vs before i v within is so_far)
+read_next form at vs before i v a within is read so_far = (
+  omega (arith, length-append before (a ∷ []), so_far.0),
+  ap (λ (o : Outcome _). o >>= λ x. each_after form at (before ++ x ∷ []) (drop (i + 1) (map view vs))) (sym read)
+      ∙ next_element form at vs before i v within is so_far,
+)
 
 pub read_fault : {A : Type 0} (form : List A → List ℕ → Data → Outcome A) (at : List ℕ) (vs : List Value) (before : List A)
     (i : ℕ) (v : Value) (path : List ℕ) (kind : FaultKind) → i < length vs → v ≡ get_or vs i v
@@ -74,7 +75,7 @@ pub shown_next : {A B : Type 0} (shown : B → A) (form : List A → List ℕ �
 shown_next {A} {B} shown form at vs items i v item now within is read added so_far =
     let P : List A → Type 0 = λ xs. IsReadUpTo form at vs xs (i + 1) in
     subst P (sym (ap (map shown) added ∙ map-append shown items (item ∷ [])))
-        (read_next form at vs (map shown items) i v (shown item) within is read so_far)
+    (read_next form at vs (map shown items) i v (shown item) within is read so_far)
 
 -- the names of the values that are kept, with one more
 pub names_next : {A B : Type 0} (shown : B → A) (name_of : A → List ℕ) (seen : SeenTexts) (items : List B) (item : B)
@@ -84,4 +85,4 @@ pub names_next : {A B : Type 0} (shown : B → A) (name_of : A → List ℕ) (se
 names_next shown name_of seen items item now added has =
     let P : List (List ℕ) → Type 0 = λ ns. HasSeen seen ns in
     subst P (sym (ap (map name_of) (ap (map shown) added ∙ map-append shown items (item ∷ []))
-        ∙ map-append name_of (map shown items) (shown item ∷ []))) has
+    ∙ map-append name_of (map shown items) (shown item ∷ []))) has

@@ -1,5 +1,5 @@
 -- The text of some bytes is the text of no others.
-use Rattle.std.proofs.Common.{◌≡◌, ◌≢◌, ◌⊎◌, ℕ, ◌+◌, ◌-◌, ◌*◌, ◌≤◌, Bool, true, false, List, [], ◌++◌, take, drop, length, Option, Some, None, Result, Ok, Err, codes, refl, sym, ◌∙◌, ap, subst, inl, inr, arith, get_or, ◌<◌}
+use Rattle.std.proofs.Common.{◌≡◌, ◌≢◌, ◌⊎◌, ℕ, ◌+◌, ◌-◌, ◌≤◌, Bool, true, false, List, ◌++◌, take, drop, length, Some, None, Result, Ok, Err, codes, refl, sym, ◌∙◌, ap, subst, inl, inr, arith, get_or, ◌<◌}
 use Rattle.std.specs.Prelude.{if◌then◌else◌}
 use Rattle.std.specs.Str.{bytes_eq}
 use Rattle.std.proofs.lemmas.Slice.Eq.{bytes_eq-Decides}
@@ -7,10 +7,10 @@ use Rattle.std.proofs.Math.ListN.{get_or-append}
 use Rattle.std.proofs.Math.Seq.{get_or-append_right}
 use Rattle.std.proofs.lemmas.Bool.{cases_lt}
 use Rattle.std.proofs.lemmas.List.{take-append-drop, length-drop, get_or-drop, length-append}
-use Rattle.hex.specs.Hex.{decode_sized, encode_lower, IsBytes}
+use Rattle.hex.specs.Hex.{decode_sized, encode_lower}
 use Rattle.hex.specs.declared.error.FromHexError.{FromHexError}
 use Rattle.hex.proofs.HexLemmas.{decode_sized-encode_lower, decode_sized-ok, decode_sized-twice, decode_of-ok}
-use Rattle.ac_types.specs.Ids.{id_text, AreBytes, written_as, hex_read, id_read, half, key_read, IsKeyText}
+use Rattle.ac_types.specs.Ids.{id_text, AreBytes, written_as, hex_read, id_read, key_read, IsKeyText}
 
 -- what was read is written so
 exact : (digits bytes : List ℕ) (r : Result (List ℕ) FromHexError) → written_as digits r ≡ Some bytes → digits ≡ encode_lower bytes

@@ -4,6 +4,7 @@ pub mod IdTexts
 pub mod LabelPlaces
 pub mod LeastPlace
 pub mod NameFaults
+pub mod OutcomeLaws
 pub mod RefSteps
 pub mod TextsSeen
 pub mod Words

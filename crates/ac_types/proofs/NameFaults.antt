@@ -1,11 +1,11 @@
 -- The fault of a refused name, as the fault of a reading.
-use Rattle.std.proofs.Common.{◌≡◌, ◌≢◌, ◌⊎◌, ◌<◌, ◌≤◌, ℕ, Bool, true, false, ◌&&◌, nat_le, List, [], ◌∷◌, Option, Some, None, length, refl, sym, ◌∙◌, ap, subst, inl, inr, arith}
+use Rattle.std.proofs.Common.{◌≡◌, ◌≢◌, ℕ, Bool, false, nat_le, List, [], ◌∷◌, Option, Some, None, length, refl, sym, ◌∙◌, ap, subst, inl, inr, arith}
 use Rattle.std.proofs.lemmas.Bool.Decides.{nat_tests}
 use Rattle.serde_json.specs.Data.{Data}
-use Rattle.ac_types.specs.Names.{are_words, IsNameFault, IsBadByteAt}
+use Rattle.ac_types.specs.Names.{IsNameFault, IsBadByteAt}
 use Rattle.ac_types.specs.JsonPaths.{field_path}
 use Rattle.ac_types.specs.FieldForms.{required, required_at, present}
-use Rattle.ac_types.specs.NameForms.{words, if_words, IsNameFaultAt}
+use Rattle.ac_types.specs.NameForms.{words, IsNameFaultAt}
 use Rattle.ac_types.specs.Outcomes.{Outcome, reads, fails, ◌>>=◌, IsFault, IsFaultOf}
 use Rattle.ac_types.specs.declared.fault.FaultKind.{FaultKind}
 use Rattle.ac_types.specs.declared.fault.FaultKind.TheVariants as kind

@@ -1,8 +1,8 @@
 -- Reading the parts of a reference one after the other.
-use Rattle.std.proofs.Common.{◌≡◌, ℕ, ◌<◌, ◌≤◌, ◌+◌, List, [], ◌∷◌, ◌++◌, Option, Some, None, Result, Ok, Err, Bor, get_or, drop, length, map, refl, sym, ◌∙◌, ap, subst, inl, inr, ◌⊎◌, suc, Bool, true, false, arith}
+use Rattle.std.proofs.Common.{◌≡◌, ℕ, ◌<◌, ◌+◌, List, [], ◌∷◌, ◌++◌, Some, None, Err, Bor, get_or, drop, length, map, refl, sym, ◌∙◌, ap, subst, inl, inr, ◌⊎◌, suc, Bool, true, false, arith}
 use Rattle.std.specs.List.{slice_split, onto_first}
 use Rattle.std.proofs.lemmas.List.Splits.{slice_split-cons_yes, slice_split-cons_no, length-slice_split}
-use Rattle.std.proofs.lemmas.List.{drop_more, drop_all, get_or-map, length-map, map-append}
+use Rattle.std.proofs.lemmas.List.{drop_more, get_or-map, length-map, map-append}
 use Rattle.ac_types.specs.References.{labels_from, and_more, label_part, parts_size, IsRefused}
 use Rattle.ac_types.specs.SeenTexts.{HasSeen}
 use Rattle.ac_types.specs.declared.image_ref.RefError.{RefError}
@@ -18,12 +18,12 @@ texts ps = map (λ (p : Bor (List ℕ)). p.now) ps
 next_part : (place : ℕ) (before : List Label) (ps : List (Bor (List ℕ))) (i : ℕ) (p : Bor (List ℕ)) → i < length ps
     → labels_from place before (drop i (texts ps))
     ≡ and_more (λ l. labels_from (place + (length (get_or ps i p).now + 1)) (before ++ l ∷ []) (drop (i + 1) (texts ps))) place
-        (label_part before (get_or ps i p).now)
+    (label_part before (get_or ps i p).now)
 next_part place before ps i p within =
     let more : i < length (texts ps) = rw length-map within in
     let here : get_or (texts ps) i [] ≡ (get_or ps i p).now = get_or-map (λ (q : Bor (List ℕ)). q.now) ps i p [] within in
     ap (labels_from place before)
-        (drop_more (texts ps) i [] more ∙ ap (λ (t : List ℕ). t ∷ drop (i + 1) (texts ps)) here)
+    (drop_more (texts ps) i [] more ∙ ap (λ (t : List ℕ). t ∷ drop (i + 1) (texts ps)) here)
 
 pub part_read : (place begin : ℕ) (before first : List Label) (ps : List (Bor (List ℕ))) (i : ℕ) (p : Bor (List ℕ)) (l : Label)
     (now : List Label) → i < length ps → label_part before (get_or ps i p).now ≡ Some l → now ≡ before ++ l ∷ []

@@ -1,12 +1,12 @@
 -- A scan from the left against the pattern of names.
-use Rattle.std.proofs.Common.{◌≡◌, ◌≢◌, ℕ, Bool, true, false, ◌&&◌, ◌||◌, List, [], ◌∷◌, ◌++◌, refl, sym, ◌∙◌, arith}
+use Rattle.std.proofs.Common.{◌≡◌, ℕ, Bool, true, false, ◌&&◌, ◌||◌, List, [], ◌∷◌, ◌++◌, refl, sym, ◌∙◌, arith}
 use Rattle.std.proofs.Common.{ap, get_or, take, drop, length, ◌<◌, ◌≤◌, ◌+◌}
 use Rattle.std.proofs.lemmas.Bool.Decides.{nat_tests}
 use Rattle.std.proofs.lemmas.List.{take_more, take-append-drop, take-take, take_all}
 use mathlib.Core.List.{append_assoc}
 use Rattle.std.proofs.lemmas.Bool.{cases_lt}
 use Rattle.std.proofs.Common.{inl, inr, ◌⊎◌, append-nil}
-use Rattle.ac_types.specs.Names.{is_word_byte, are_words, is_hyphen, is_separator, BeginsWords, IsLongestBeginning}
+use Rattle.ac_types.specs.Names.{is_word_byte, are_words, BeginsWords, IsLongestBeginning}
 use Rattle.ac_types.specs.Separators.{separates}
 use Rattle.ac_types.specs.declared.word_scan.Separators.{Separators}
 use Rattle.ac_types.specs.declared.word_scan.Separators.TheVariants.{Hyphen, Any}

@@ -1,5 +1,5 @@
 -- The forms of a field in the format tables: its kind, and whether it may be absent.
-use Rattle.std.specs.Prelude.{◌≡◌, ℕ, Bool, true, false, codes, map, nat_le, List, [], ◌∷◌, ◌++◌, length, Option, Some, None, option_map, if◌then◌else◌}
+use Rattle.std.specs.Prelude.{ℕ, Bool, true, false, codes, map, nat_le, List, [], ◌∷◌, ◌++◌, length, Option, Some, None, option_map, if◌then◌else◌}
 use Rattle.serde_json.specs.Data.{Data, null, boolean, number, string, array, object, Num, unsigned, negative, float, Items, no_items, item, Members}
 use Rattle.serde_json.specs.Find.{get, as_str, as_array, as_object, as_bool, as_number}
 use Rattle.ac_types.specs.SeenTexts.{is_among}
@@ -102,6 +102,7 @@ each form at ds = each_after (λ _. form) at [] ds
 abbrev pub unless_among : {A : Type 0} → FaultKind → List ℕ → Bool → A → Outcome A
 unless_among kind path true value = fails path kind
 unless_among kind path false value = reads value
+
 abbrev pub named_once : {A : Type 0} → FaultKind → (A → List ℕ) → (List ℕ → Data → Outcome A) → List A → List ℕ → Data → Outcome A
 named_once kind name_of form before at d =
     form at d >>= λ value. unless_among kind (field_path at (codes "name")) (is_among (name_of value) (map name_of before)) value

@@ -14,6 +14,7 @@ use Rattle.ac_types.specs.declared.name_error.NameError.TheVariants as name_erro
 abbrev pub if_words : List ℕ → Bool → List ℕ → Outcome (List ℕ)
 if_words at true name = reads name
 if_words at false name = fails at BadByte
+
 abbrev pub words : (ℕ → Bool) → ℕ → List ℕ → List ℕ → Outcome (List ℕ)
 words separates limit at [] = fails at Empty
 words separates limit at (b ∷ bs) =
@@ -22,12 +23,14 @@ words separates limit at (b ∷ bs) =
 -- an AC Name, and an AC Identifier
 abbrev pub name_text : List ℕ → List ℕ → Outcome (List ℕ)
 name_text at t = words is_hyphen 200 at t
+
 abbrev pub identifier_text : List ℕ → List ℕ → Outcome (List ℕ)
 identifier_text at t = words is_separator 1024 at t
 
 -- a text that is a name, where an empty one counts as missing
 abbrev pub filled_name : List ℕ → Data → Outcome (List ℕ)
 filled_name at d = filled_text at d >>= name_text at
+
 abbrev pub filled_identifier : List ℕ → Data → Outcome (List ℕ)
 filled_identifier at d = filled_text at d >>= identifier_text at
 

@@ -1,5 +1,5 @@
 -- References to images: `name[:version][,label=value]*`, or the first digits of an ID.
-use Rattle.std.specs.Prelude.{◌≡◌, ℕ, ◌+◌, ◌-◌, Bool, true, false, not, ◌&&◌, ◌||◌, ◌==◌, nat_le, nat_lt, List, [], ◌∷◌, ◌++◌, length, map, drop, take, Option, Some, None, Result, Ok, Err, codes, if◌then◌else◌}
+use Rattle.std.specs.Prelude.{◌≡◌, ℕ, ◌+◌, Bool, true, false, ◌&&◌, ◌||◌, ◌==◌, nat_le, nat_lt, List, [], ◌∷◌, ◌++◌, length, map, drop, take, Option, Some, None, Result, Ok, Err, codes, if◌then◌else◌}
 use Rattle.std.specs.List.{list_all, slice_split, position_or_len, before_first, after_first}
 use Rattle.std.specs.Str.{bytes_eq}
 use Rattle.std.proofs.Math.ListN.{replicate}
@@ -33,6 +33,7 @@ label_of (Some (name, value)) = if is_identifier name && is_filled value then So
 abbrev pub unless_named : List (List ℕ) → Option Label → Option Label
 unless_named names None = None
 unless_named names (Some l) = if bytes_eq l.name (codes "name") || is_among l.name names then None else Some l
+
 abbrev pub label_part : List Label → List ℕ → Option Label
 label_part before part = unless_named (map (λ (l : Label). l.name) before) (label_of (cut 61 part))
 
@@ -40,6 +41,7 @@ label_part before part = unless_named (map (λ (l : Label). l.name) before) (lab
 abbrev pub IsRefused : {A : Type 0} → Result A ℕ → RefError → Type 0
 IsRefused read (BadRef place) = read ≡ Err place
 IsRefused read NoMemory = Unit {0}
+
 abbrev pub IsRead : {A : Type 0} → Result A ℕ → Result A RefError → Type 0
 IsRead read (Ok value) = read ≡ Ok value
 IsRead read (Err error) = IsRefused read error
@@ -53,6 +55,7 @@ parts_size (part ∷ parts) = (length part + 1) + parts_size parts
 abbrev pub and_more : (Label → Result (List Label) ℕ) → ℕ → Option Label → Result (List Label) ℕ
 and_more next place None = Err place
 and_more next place (Some l) = next l
+
 abbrev pub labels_from : ℕ → List Label → List (List ℕ) → Result (List Label) ℕ
 labels_from place before [] = Ok before
 labels_from place before (part ∷ parts) =
@@ -63,7 +66,7 @@ abbrev pub head_part : List ℕ → Option (List ℕ × List ℕ) → Result (Li
 head_part part None = if is_identifier part then Ok (part, []) else Err 0
 head_part part (Some (name, version)) =
     if is_identifier name then
-        (if is_filled version then Ok (name, record { name = codes "version"; value = version } ∷ []) else Err (length name + 1))
+    (if is_filled version then Ok (name, record { name = codes "version"; value = version } ∷ []) else Err (length name + 1))
     else Err 0
 
 -- the labels that a version is
@@ -75,9 +78,11 @@ version_labels (Some version) = record { name = codes "version"; value = version
 abbrev pub with_name : List ℕ → Result (List Label) ℕ → Result ImageRef ℕ
 with_name name (Ok labels) = Ok (Named name labels)
 with_name name (Err place) = Err place
+
 abbrev pub after_head : List ℕ → List (List ℕ) → Result (List ℕ × List Label) ℕ → Result ImageRef ℕ
 after_head part parts (Ok (name, labels)) = with_name name (labels_from (length part + 1) labels parts)
 after_head part parts (Err place) = Err place
+
 abbrev pub named : List (List ℕ) → Result ImageRef ℕ
 named [] = Err 0
 named (part ∷ parts) = after_head part parts (head_part part (cut 58 part))
@@ -85,6 +90,7 @@ named (part ∷ parts) = after_head part parts (head_part part (cut 58 part))
 -- a reference by ID: 2 to 128 lower-case hex digits
 abbrev pub is_lower_digit : ℕ → Bool
 is_lower_digit b = (nat_le 48 b && nat_le b 57) || (nat_le 97 b && nat_le b 102)
+
 abbrev pub by_id : List ℕ → Result ImageRef ℕ
 by_id digits =
     if nat_le 2 (length digits) && nat_le (length digits) 128 && list_all is_lower_digit digits

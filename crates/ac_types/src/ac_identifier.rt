@@ -1,9 +1,4 @@
-ghost use Rattle.std.specs.Prelude.{◌≡◌, IfOk, IfErr, true, ◌≤◌, length};
-ghost use Rattle.std.specs.Ordering.{nat_cmp, as_partial_cmp};
-ghost use Rattle.std.specs.Cmp.Lexicographic.{slice_cmp, texts_po, texts_ties};
-ghost use Rattle.std.specs.Cmp.Rules.{comparing};
-ghost use Rattle.std.proofs.Common.{rules};
-ghost use Rattle.std.proofs.lemmas.Cmp.{nat_list_cmp_total, nat_list_eq_equiv};
+ghost use Rattle.std.specs.Prelude.{◌≡◌, IfOk, IfErr};
 ghost use Rattle.ac_types.specs.Names.{IsAcIdentifier, IsNameFault, is_separator};
 
 use crate::memory::NoMemory;
@@ -16,8 +11,8 @@ use std::marker::Model;
 
 const MAX_BYTES: usize = 1024;
 
-/// An AC Identifier of App Container 0.8: words of lower-case letters and digits with one of the separators `-`, `.`, `_`, `~` and `/`
-/// between two of them, of at most 1024 bytes. Contracts see its bytes.
+/// An AC Identifier of App Container 0.8: words of lower-case letters and digits with one of `-`,
+/// `.`, `_`, `~` and `/` between two of them, of at most 1,024 bytes. Contracts see its bytes.
 #[derive(Drop)]
 pub struct AcIdentifier {
     text: Text,
@@ -35,9 +30,9 @@ impl Model for AcIdentifier {
 }
 
 impl AcIdentifier {
-    /// The name that the text is. `Empty` for the empty text; `BadByte` for another that is no
-    /// name, at the length of its longest prefix that is a prefix of words joined by separators, or
-    /// at 1024 for words that are longer; `NoMemory` only for a name.
+    /// The identifier that the text is. `Empty` for the empty text; `BadByte` for another that is
+    /// none, at the length of its longest prefix that is a prefix of words joined by separators,
+    /// or at 1,024 for words that are longer; `NoMemory` only for an identifier.
     pub fn parse(alloc: Global, text: &str) -> Result<AcIdentifier, NameError>
         ensures ok { IfOk result (λ n. n ≡ text.now) }
         ensures kind { IfOk result (λ _. IsAcIdentifier text.now) }
@@ -49,7 +44,7 @@ impl AcIdentifier {
         })
     }
 
-    /// The name's bytes.
+    /// The identifier's bytes.
     pub fn as_str(&self) -> &str
         ensures text { result.now ≡ self.now }
         ensures kind { IsAcIdentifier self.now }
@@ -57,7 +52,7 @@ impl AcIdentifier {
         self.text.as_str()
     }
 
-    /// An equal name.
+    /// An equal identifier.
     pub fn copy(&self) -> Result<AcIdentifier, NoMemory>
         ensures { IfOk result (λ copy. copy ≡ self.now) }
     {

@@ -14,17 +14,17 @@ use crate::sequence::Sequence;
 use serde_json::Value;
 use std::alloc::Global;
 
-/// What is read from one element of a JSON list.
+/// What is read from one element of a JSON list. `Shown` is what the relation of the format has
+/// in its place: the type itself, or a record with data where the type holds JSON. `form` is that
+/// relation, and `name_of` the name by which an element comes once, where elements have one.
 pub trait FromElement: Drop {
     ghost use Rattle.std.specs.Prelude.{List, ℕ};
     ghost use Rattle.serde_json.specs.Data.{Data};
     ghost use Rattle.ac_types.specs.Outcomes.{Outcome};
 
-
     ghost Shown: { Type 0 };
 
     ghost shown: { Self → Shown };
-
 
     ghost form: { List ℕ → Data → Outcome Shown };
 
@@ -37,6 +37,7 @@ pub trait FromElement: Drop {
 
 /// What is read from an element that has a name.
 pub trait NamedElement: FromElement {
+    /// The name's bytes.
     fn name(&self) -> &str
         ensures { result.now ≡ Self.name_of (Self.shown self.now) };
 }

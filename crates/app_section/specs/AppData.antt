@@ -9,10 +9,12 @@ use Rattle.app_section.specs.declared.mount_point.MountPoint.{MountPoint}
 use Rattle.app_section.specs.declared.port.Port.{Port}
 use Rattle.app_section.specs.declared.app.App.{App}
 
+-- an isolator, with its JSON as data
 pub record IsolatorData : Type 0 where
   pub name : List ℕ
   pub value : Data
 
+-- an app, with its isolators so
 pub record AppData : Type 0 where
   pub exec : List (List ℕ)
   pub user : List ℕ
@@ -25,9 +27,11 @@ pub record AppData : Type 0 where
   pub ports : List Port
   pub isolators : List IsolatorData
 
+-- how contracts see an isolator
 abbrev pub isolator_data : Isolator → IsolatorData
 isolator_data i = record { name = i.name; value = view i.value }
 
+-- how contracts see an app
 abbrev pub app_data : App → AppData
 app_data a = record {
   exec = a.exec;

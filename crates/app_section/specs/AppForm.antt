@@ -1,9 +1,8 @@
 -- The app's section: its fields in the order in which they are read.
-use Rattle.std.specs.Prelude.{ℕ, List, [], codes}
+use Rattle.std.specs.Prelude.{◌≡◌, ℕ, List, [], codes}
 use Rattle.serde_json.specs.Data.{Data}
-use Rattle.ac_types.specs.FieldForms.{required, optional, default, filled_text, whole, list, an_object, each, each_named}
+use Rattle.ac_types.specs.FieldForms.{required, optional, default, filled_text, whole, an_object}
 use Rattle.ac_types.specs.Outcomes.{Outcome, reads, ◌>>=◌, ◌>>◌}
-use Rattle.ac_types.specs.declared.fault.FaultKind.{FaultKind}
 use Rattle.ac_types.specs.declared.fault.FaultKind.TheVariants.{BadHandler, NameTwice}
 use Rattle.app_section.specs.AppData.{AppData}
 use Rattle.app_section.specs.EnvForm.{env_var}
@@ -15,6 +14,7 @@ use Rattle.app_section.specs.MountForm.{mount_point}
 use Rattle.app_section.specs.Places.{place_field}
 use Rattle.app_section.specs.PortForm.{port_range}
 
+-- an app, field by field
 unfoldable pub app : List ℕ → Data → Outcome AppData
 app at d =
     an_object at d
@@ -40,3 +40,11 @@ app at d =
       ports = ports;
       isolators = isolators;
     })
+
+-- the app was read from some JSON
+abbrev pub WasRead : AppData → Type 0
+WasRead a = (at : List ℕ) × ((d : Data) × (app at d ≡ reads a))
+
+-- the JSON is read as the app, at each path
+abbrev pub IsReadAs : Data → AppData → Type 0
+IsReadAs d a = (at : List ℕ) → app at d ≡ reads a

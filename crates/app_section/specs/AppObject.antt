@@ -1,6 +1,6 @@
 -- The app's section as it is written.
-use Rattle.std.specs.Prelude.{ℕ, List, [], ◌∷◌, Option, Some, None, option_map, codes}
-use Rattle.serde_json.specs.Data.{Data, Num, unsigned, number, string, object}
+use Rattle.std.specs.Prelude.{ℕ, List, [], ◌∷◌, Some, option_map, codes}
+use Rattle.serde_json.specs.Data.{Data, unsigned, number, string, object}
 use Rattle.app_section.specs.AppData.{AppData, IsolatorData}
 use Rattle.app_section.specs.HandlerForm.{kind_name}
 use Rattle.app_section.specs.Objects.{Field, written, if_true, if_filled, list_data}
@@ -9,9 +9,11 @@ use Rattle.app_section.specs.declared.handler.Handler.{Handler}
 use Rattle.app_section.specs.declared.mount_point.MountPoint.{MountPoint}
 use Rattle.app_section.specs.declared.port.Port.{Port}
 
+-- a whole number
 abbrev pub whole_data : ℕ → Data
 whole_data n = number (unsigned n)
 
+-- a variable
 abbrev pub env_fields : EnvVar → List Field
 env_fields v =
     (codes "name", Some (string v.name))
@@ -21,6 +23,7 @@ env_fields v =
 unfoldable pub env_object : EnvVar → Data
 env_object v = object (written (env_fields v))
 
+-- a handler
 abbrev pub handler_fields : Handler → List Field
 handler_fields h =
     (codes "exec", Some (list_data string h.exec))
@@ -30,6 +33,7 @@ handler_fields h =
 unfoldable pub handler_object : Handler → Data
 handler_object h = object (written (handler_fields h))
 
+-- a mount point
 abbrev pub mount_fields : MountPoint → List Field
 mount_fields m =
     (codes "name", Some (string m.name))
@@ -40,7 +44,7 @@ mount_fields m =
 unfoldable pub mount_object : MountPoint → Data
 mount_object m = object (written (mount_fields m))
 
--- the count is written always
+-- a port range; its count is written always
 abbrev pub port_fields : Port → List Field
 port_fields p =
     (codes "count", Some (whole_data p.count))
@@ -53,7 +57,7 @@ port_fields p =
 unfoldable pub port_object : Port → Data
 port_object p = object (written (port_fields p))
 
--- the value is written always, with all that it holds
+-- an isolator; its value is written always, with all that it holds
 abbrev pub isolator_fields : IsolatorData → List Field
 isolator_fields i =
     (codes "name", Some (string i.name))
@@ -63,7 +67,7 @@ isolator_fields i =
 unfoldable pub isolator_object : IsolatorData → Data
 isolator_object i = object (written (isolator_fields i))
 
--- fields that are absent or empty are left out
+-- an app; fields that are absent or empty are left out
 abbrev pub app_fields : AppData → List Field
 app_fields a =
     (codes "environment", if_filled env_object a.environment)

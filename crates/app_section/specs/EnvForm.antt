@@ -1,6 +1,6 @@
 -- An environment variable.
 use Rattle.std.specs.Prelude.{ℕ, Bool, true, false, ◌&&◌, ◌||◌, ◌==◌, nat_le, List, [], ◌∷◌, codes}
-use Rattle.std.specs.List.{list_any, list_all}
+use Rattle.std.specs.List.{list_all}
 use Rattle.serde_json.specs.Data.{Data}
 use Rattle.ac_types.specs.FieldForms.{required, text, filled_text, an_object}
 use Rattle.ac_types.specs.Outcomes.{Outcome, reads, fails, ◌>>=◌, ◌>>◌}
@@ -21,6 +21,7 @@ abbrev pub is_env_name : List ℕ → Bool
 is_env_name [] = false
 is_env_name (b ∷ bs) = is_first_byte b && list_all is_later_byte bs
 
+-- the text, where it is good
 abbrev pub if_good : List ℕ → Bool → List ℕ → Outcome (List ℕ)
 if_good at true t = reads t
 if_good at false t = fails at BadEnvName
@@ -29,14 +30,16 @@ if_good at false t = fails at BadEnvName
 abbrev pub env_name : List ℕ → Data → Outcome (List ℕ)
 env_name at d = filled_text at d >>= λ t. if_good at (is_env_name t) t
 
--- a text without NUL
+-- the text, unless it holds a NUL
 abbrev pub unless_nul : List ℕ → Bool → List ℕ → Outcome (List ℕ)
 unless_nul at true t = fails at BadEnvName
 unless_nul at false t = reads t
 
+-- a text without NUL, which may be empty
 abbrev pub env_value : List ℕ → Data → Outcome (List ℕ)
 env_value at d = text at d >>= λ t. unless_nul at (has_nul t) t
 
+-- a variable
 unfoldable pub env_var : List ℕ → Data → Outcome EnvVar
 env_var at d =
     an_object at d

@@ -1,5 +1,5 @@
 -- An event handler.
-use Rattle.std.specs.Prelude.{ℕ, List, [], ◌∷◌, Option, Some, None, codes, if◌then◌else◌}
+use Rattle.std.specs.Prelude.{ℕ, List, Option, Some, None, codes, if◌then◌else◌}
 use Rattle.std.specs.Str.{bytes_eq}
 use Rattle.serde_json.specs.Data.{Data}
 use Rattle.ac_types.specs.FieldForms.{required, filled_text, an_object}
@@ -23,11 +23,12 @@ kind_of name =
     else if bytes_eq name (codes "post-stop") then Some PostStop
     else None
 
+-- the kind, where it is known
 abbrev pub known_kind : List ℕ → Option HandlerKind → Outcome HandlerKind
 known_kind at None = fails at BadHandler
 known_kind at (Some kind) = reads kind
 
--- the kind is judged after the fields were read
+-- a handler; its kind is judged after its fields were read
 unfoldable pub handler : List ℕ → Data → Outcome Handler
 handler at d =
     an_object at d

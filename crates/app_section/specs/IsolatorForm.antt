@@ -8,14 +8,16 @@ use Rattle.ac_types.specs.Outcomes.{Outcome, reads, fails, ◌>>=◌, ◌>>◌}
 use Rattle.ac_types.specs.declared.fault.FaultKind.TheVariants.{Fraction}
 use Rattle.app_section.specs.AppData.{IsolatorData}
 
--- JSON whose numbers are whole at each depth
+-- the JSON, unless a number of it is a fraction
 abbrev pub unless_float : List ℕ → Bool → Data → Outcome Data
 unless_float at true d = fails at Fraction
 unless_float at false d = reads d
 
+-- JSON whose numbers are whole at each depth
 abbrev pub whole_json : List ℕ → Data → Outcome Data
 whole_json at d = unless_float at (has_float d) d
 
+-- its fields in order
 unfoldable pub isolator : List ℕ → Data → Outcome IsolatorData
 isolator at d =
     an_object at d

@@ -7,6 +7,7 @@ use Rattle.ac_types.specs.Outcomes.{Outcome, reads, ◌>>=◌, ◌>>◌}
 use Rattle.app_section.specs.Places.{filled_place}
 use Rattle.app_section.specs.declared.mount_point.MountPoint.{MountPoint}
 
+-- its fields in order
 unfoldable pub mount_point : List ℕ → Data → Outcome MountPoint
 mount_point at d =
     an_object at d

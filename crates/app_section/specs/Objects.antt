@@ -17,14 +17,16 @@ written [] = no_members
 written ((name, None) ∷ fields) = written fields
 written ((name, Some d) ∷ fields) = member name d (written fields)
 
--- a truth value is left out where it is false, a list where it is empty
+-- a truth value is left out where it is false
 abbrev pub if_true : Bool → Option Data
 if_true true = Some (boolean true)
 if_true false = None
 
+-- a list, each element written in this way
 abbrev pub list_data : {A : Type 0} → (A → Data) → List A → Data
 list_data write xs = array (items_of (map write xs))
 
+-- a list is left out where it is empty
 abbrev pub unless_empty : Items → Option Data
 unless_empty no_items = None
 unless_empty (item d ds) = Some (array (item d ds))
@@ -46,10 +48,11 @@ abbrev pub put_all : List Field → Members → Members
 put_all [] ms = ms
 put_all ((name, value) ∷ fields) ms = put_all fields (put_field name value ms)
 
--- the names come in byte order, each once
+-- the name comes after that of the field, in byte order
 abbrev pub comes_after : List ℕ → Field → Bool
 comes_after name f = match_ordering (slice_cmp nat_cmp name f.0) false false true
 
+-- each name comes after all those before it
 abbrev pub ordered_after : List Field → List Field → Bool
 ordered_after done [] = true
 ordered_after done (f ∷ fields) = list_all (comes_after f.0) done && ordered_after (done ++ f ∷ []) fields

@@ -1,5 +1,5 @@
 -- Places, which are absolute paths with no step upward, and program words.
-use Rattle.std.specs.Prelude.{ℕ, Bool, true, false, not, ◌&&◌, ◌||◌, ◌==◌, List, [], ◌∷◌, ◌++◌, Option, Some, None, codes, if◌then◌else◌}
+use Rattle.std.specs.Prelude.{ℕ, Bool, false, not, ◌&&◌, ◌||◌, ◌==◌, List, [], ◌∷◌, Option, Some, None, codes, if◌then◌else◌}
 use Rattle.std.specs.List.{list_any, flat_map, slice_split}
 use Rattle.std.specs.Str.{bytes_eq}
 use Rattle.serde_json.specs.Data.{Data}
@@ -7,6 +7,7 @@ use Rattle.ac_types.specs.FieldForms.{text, filled_text}
 use Rattle.ac_types.specs.Outcomes.{Outcome, reads, fails, ◌>>=◌}
 use Rattle.ac_types.specs.declared.fault.FaultKind.TheVariants.{BadPath}
 
+-- the byte is `/`
 abbrev pub is_slash : ℕ → Bool
 is_slash b = b == 47
 
@@ -61,9 +62,10 @@ abbrev pub held : List ℕ → Option (List ℕ) → Outcome (List ℕ)
 held at None = fails at BadPath
 held at (Some t) = reads t
 
--- a text that is a place, and one where an empty text counts as missing
+-- a text that is a place
 abbrev pub place_field : List ℕ → Data → Outcome (List ℕ)
 place_field at d = text at d >>= λ t. held at (place_text t)
 
+-- the same, where an empty text counts as missing
 abbrev pub filled_place : List ℕ → Data → Outcome (List ℕ)
 filled_place at d = filled_text at d >>= λ t. held at (place_text t)

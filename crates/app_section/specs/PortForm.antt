@@ -13,9 +13,11 @@ or_one None = 1
 or_one (Some zero) = 1
 or_one (Some (suc n)) = suc n
 
+-- how many ports there are
 abbrev pub count_field : List ℕ → Data → Outcome ℕ
 count_field at d = optional (whole 65535) at (codes "count") d >>= λ count. reads (or_one count)
 
+-- its fields in order
 unfoldable pub port_fields : List ℕ → Data → Outcome Port
 port_fields at d =
     an_object at d

@@ -2,7 +2,7 @@ ghost use Rattle.std.specs.Prelude.{◌≡◌, IfOk};
 ghost use Rattle.serde_json.specs.View.{view};
 ghost use Rattle.ac_types.specs.Outcomes.{Answers};
 ghost use Rattle.app_section.specs.AppData.{app_data};
-ghost use Rattle.app_section.specs.AppForm.{app};
+ghost use Rattle.app_section.specs.AppForm.{app, IsReadAs, WasRead};
 ghost use Rattle.app_section.specs.AppObject.{app_object};
 
 use crate::element_lists::{list_of, named_list_of};
@@ -48,13 +48,7 @@ impl App {
         let user = filled_text(alloc, value, at, "user")?;
         let group = filled_text(alloc, value, at, "group")?;
         let supplementary_gids = group_ids(alloc, value, at, "supplementaryGIDs")?;
-        let event_handlers = named_list_of(
-            alloc,
-            value,
-            at,
-            "eventHandlers",
-            FaultKind::BadHandler,
-        )?;
+        let handlers = named_list_of(alloc, value, at, "eventHandlers", FaultKind::BadHandler)?;
         let working_directory = optional_place(alloc, value, at, "workingDirectory")?;
         let environment = list_of(alloc, value, at, "environment")?;
         let mount_points = named_list_of(alloc, value, at, "mountPoints", FaultKind::NameTwice)?;
@@ -65,7 +59,7 @@ impl App {
             user: Text::of(alloc, user)?,
             group: Text::of(alloc, group)?,
             supplementary_gids,
-            event_handlers,
+            event_handlers: handlers,
             working_directory,
             environment,
             mount_points,
@@ -75,9 +69,10 @@ impl App {
     }
 
     /// The object that is written for the app: its keys in byte order, without the fields that are
-    /// absent or empty.
+    /// absent or empty. Reading the object of an app that was read gives the app again.
     pub fn value(&self, alloc: Global) -> Result<Value, NoMemory>
-        ensures { IfOk result (λ v. view v ≡ app_object (app_data self.now)) }
+        ensures object { IfOk result (λ v. view v ≡ app_object (app_data self.now)) }
+        ensures reads_back { IfOk result (λ v. WasRead (app_data self.now) → IsReadAs (view v) (app_data self.now)) }
     {
         app_value(alloc, self)
     }

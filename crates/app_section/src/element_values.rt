@@ -1,6 +1,4 @@
 //! The elements of the section's lists as they are written.
-ghost use Rattle.std.specs.Prelude.{◌≡◌, IfOk};
-ghost use Rattle.serde_json.specs.View.{view};
 
 use crate::env_var::EnvVar;
 use crate::handler::Handler;

@@ -1,7 +1,5 @@
 ghost use Rattle.std.specs.Prelude.{◌≡◌, IfOk};
 ghost use Rattle.std.specs.List.{list_all};
-ghost use Rattle.serde_json.specs.View.{view};
-ghost use Rattle.ac_types.specs.Outcomes.{Answers};
 ghost use Rattle.app_section.specs.EnvForm.{is_env_name, is_first_byte, is_later_byte};
 ghost use Rattle.app_section.specs.Places.{has_nul};
 
@@ -40,7 +38,6 @@ impl TryCopy for EnvVar {
 }
 
 impl FromElement for EnvVar {
-    ghost use Rattle.std.specs.Prelude.{[]};
     ghost use Rattle.app_section.specs.declared.env_var.EnvVar.{EnvVar};
     ghost use Rattle.app_section.specs.EnvForm.{env_var};
 

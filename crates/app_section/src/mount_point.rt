@@ -1,6 +1,4 @@
 ghost use Rattle.std.specs.Prelude.{◌≡◌, IfOk};
-ghost use Rattle.serde_json.specs.View.{view};
-ghost use Rattle.ac_types.specs.Outcomes.{Answers};
 
 use crate::places::required_place;
 use ac_types::{

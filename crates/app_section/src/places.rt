@@ -1,9 +1,9 @@
-ghost use Rattle.std.specs.Prelude.{◌≡◌, ◌++◌, ◌∷◌, [], ℕ, List, IfOk, MatchOption, codes, filter, map, string_bytes};
-ghost use Rattle.std.specs.List.{flat_map, slice_split, list_any};
+ghost use Rattle.std.specs.Prelude.{◌≡◌, ◌++◌, IfOk, codes, map, string_bytes};
+ghost use Rattle.std.specs.List.{slice_split, list_any};
 ghost use Rattle.std.specs.Str.{bytes_eq};
 ghost use Rattle.serde_json.specs.View.{view};
 ghost use Rattle.ac_types.specs.FieldForms.{required, optional};
-ghost use Rattle.ac_types.specs.Outcomes.{Answers, Gives};
+ghost use Rattle.ac_types.specs.Outcomes.{Gives};
 ghost use Rattle.app_section.specs.Places.{is_rooted, is_dropped, is_slash, with_slash, place_text, program_text, joined, filled_place, place_field};
 
 use crate::env_var::has_nul;

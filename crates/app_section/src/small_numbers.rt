@@ -1,6 +1,6 @@
-ghost use Rattle.std.specs.Prelude.{◌≡◌, codes};
+ghost use Rattle.std.specs.Prelude.{codes};
 ghost use Rattle.serde_json.specs.View.{view};
-ghost use Rattle.ac_types.specs.FieldForms.{required, whole, optional};
+ghost use Rattle.ac_types.specs.FieldForms.{required, whole};
 ghost use Rattle.ac_types.specs.Outcomes.{Gives};
 ghost use Rattle.app_section.specs.PortForm.{count_field};
 

@@ -10,10 +10,10 @@ returns-in-Err g c =
     let form = named_once c.args.twice g.T.FromElement.name_of g.T.FromElement.form in
     let before = map g.T.FromElement.shown c.loop-i.items in
     fault_kept (form before (element_path c.args.at.now c.loop-i.i) (view c.index-list-i.result))
-        (each_named c.args.twice g.T.FromElement.name_of g.T.FromElement.form c.args.at.now (map view c.args.list.now)) c.in-Err.error
-        (λ path kind is. read_fault form c.args.at.now c.args.list.now before
-            c.loop-i.i c.index-list-i.result path kind c.loop-i-test.true c.index-list-i.is is c.loop-i.invariant.read)
-        (c.in-Err.ensures.answers before c.loop-i.invariant.seen)
+    (each_named c.args.twice g.T.FromElement.name_of g.T.FromElement.form c.args.at.now (map view c.args.list.now)) c.in-Err.error
+    (λ path kind is. read_fault form c.args.at.now c.args.list.now before
+    c.loop-i.i c.index-list-i.result path kind c.loop-i-test.true c.index-list-i.is is c.loop-i.invariant.read)
+    (c.in-Err.ensures.answers before c.loop-i.invariant.seen)
 
 pub loop-i-preserved : goal.loop-i-preserved
 loop-i-preserved g c =
@@ -25,5 +25,5 @@ loop-i-preserved g c =
           (c.in-Ok.ensures.answers before c.loop-i.invariant.seen) c.in_ok-items-in-Ok.ensures c.loop-i.invariant.read;
       seen = names_next g.T.FromElement.shown g.T.FromElement.name_of c.read_new.new.seen c.loop-i.items c.in-Ok.item
           c.in_ok-items-in-Ok.items c.in_ok-items-in-Ok.ensures
-          (c.in-Ok.ensures.seen (map g.T.FromElement.name_of before) c.loop-i.invariant.seen)
+          (c.in-Ok.ensures.seen (map g.T.FromElement.name_of before) c.loop-i.invariant.seen);
     }

@@ -8,5 +8,5 @@ abbrev pub invariant-loop-i : goal.invariant-loop-i
 invariant-loop-i g l = record {
   read : IsReadUpTo (named_once l.twice g.T.FromElement.name_of g.T.FromElement.form) l.at l.list
       (map g.T.FromElement.shown l.items) l.i;
-  seen : HasSeen l.seen (map g.T.FromElement.name_of (map g.T.FromElement.shown l.items))
+  seen : HasSeen l.seen (map g.T.FromElement.name_of (map g.T.FromElement.shown l.items));
 }

@@ -1,4 +1,4 @@
-use Rattle.std.proofs.Common.{◌≡◌, ◌∙◌, sym, List, ℕ, take, drop, codes, true, false, ap, refl}
+use Rattle.std.proofs.Common.{◌≡◌, sym, take, drop, codes, true, false, refl}
 use Rattle.std.specs.Str.{bytes_eq}
 use Rattle.ac_types.specs.Ids.{id_read}
 use Rattle.ac_types.proofs.hex_digits.read_id.Goals as goal

@@ -1,5 +1,4 @@
-use Rattle.std.proofs.Common.{ℕ, List, sym, ◌∙◌, ap, below_more, codes, ◌≡◌, ◌||◌, false}
-use Rattle.ac_types.specs.Labels.{is_reserved, came_before}
+use Rattle.std.proofs.Common.{ℕ, List, sym, ◌∙◌, ap, below_more, codes}
 use Rattle.std.specs.Str.{bytes_eq}
 use Rattle.ac_types.proofs.LabelPlaces.{name_read, no_name_fault, reserved_found, twice_found, both_stand, before}
 use Rattle.ac_types.proofs.labels.check_names.Goals as goal

@@ -6,4 +6,4 @@ use Rattle.ac_types.proofs.ref_parts.parts_of.Goals as goal
 pub returns : goal.returns
 returns c =
     map_from_collect _ c.collect.ensures.ran
-        (YieldsList-from_str_split 44 c.args.word.now (lit< tt) c.split.ensures.text c.split.ensures.has_more c.split.ensures.pattern)
+    (YieldsList-from_str_split 44 c.args.word.now (lit< tt) c.split.ensures.text c.split.ensures.has_more c.split.ensures.pattern)

@@ -1,4 +1,4 @@
-use Rattle.std.proofs.Common.{◌≡◌, List, ℕ, Option, Ok, Err, IfOk, subst}
+use Rattle.std.proofs.Common.{◌≡◌, List, ℕ, Option, Ok, IfOk, subst}
 use Rattle.std.specs.Prelude.{IfErr}
 use Rattle.ac_types.specs.References.{head_part, version_labels, IsRefused}
 use Rattle.ac_types.proofs.ref_parts.read_head.Goals as goal

@@ -13,5 +13,5 @@ returns-in-Err-parse c =
     let path = field_path c.args.at.now c.args.name.now in
     let P : Outcome (List ℕ) → Type 0 = λ o. IsFaultOf o c.name_fault.result in
     subst P
-        (sym (required_then filled_text identifier_text c.args.at.now c.args.name.now (view c.args.value.now) c.in-Ok.text.now c.in-Ok.ensures))
-        (name_refused is_separator 1024 path c.in-Ok.text.now c.in-Err-parse.error c.name_fault.result c.in-Err-parse.ensures.err c.name_fault.ensures)
+    (sym (required_then filled_text identifier_text c.args.at.now c.args.name.now (view c.args.value.now) c.in-Ok.text.now c.in-Ok.ensures))
+    (name_refused is_separator 1024 path c.in-Ok.text.now c.in-Err-parse.error c.name_fault.result c.in-Err-parse.ensures.err c.name_fault.ensures)

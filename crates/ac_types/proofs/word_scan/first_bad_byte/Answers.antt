@@ -1,5 +1,4 @@
-use Rattle.std.proofs.Common.{◌∙◌, sym, subst, ◌≡◌, true, false, Bool, ◌||◌, ◌&&◌, get_or, take, ◌+◌}
-use Rattle.ac_types.specs.Names.{is_word_byte}
+use Rattle.std.proofs.Common.{◌∙◌, sym, subst, Bool, take, ◌+◌}
 use Rattle.ac_types.specs.Separators.{separates}
 use Rattle.ac_types.proofs.Words.{IsScanned, stopped, scanned_more, read_whole, broken_off}
 use Rattle.ac_types.proofs.word_scan.first_bad_byte.Goals as goal

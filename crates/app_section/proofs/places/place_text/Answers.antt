@@ -1,8 +1,5 @@
-use Rattle.std.proofs.Common.{◌≡◌, ◌∙◌, sym, ap, subst, true, false, Bool, List, ℕ, Bor, map, codes, Some, None}
-use Rattle.std.specs.Prelude.{if◌then◌else◌}
-use Rattle.std.specs.List.{list_any, slice_split}
-use Rattle.std.specs.Str.{bytes_eq}
-use Rattle.app_section.specs.Places.{place_text, joined, is_slash}
+use Rattle.std.proofs.Common.{◌∙◌, sym, ap, true, false, List, ℕ, Bor, map, Some}
+use Rattle.app_section.specs.Places.{joined}
 use Rattle.app_section.proofs.PlaceTexts.{judged}
 use Rattle.app_section.proofs.places.place_text.Goals as goal
 

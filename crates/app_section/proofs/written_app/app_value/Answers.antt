@@ -1,5 +1,5 @@
-use Rattle.std.proofs.Common.{◌≡◌, ◌∙◌, ap, refl, take, drop}
-use Rattle.serde_json.specs.Data.{Members, object, no_members}
+use Rattle.std.proofs.Common.{◌∙◌, ap, refl, drop}
+use Rattle.serde_json.specs.Data.{object}
 use Rattle.app_section.specs.AppData.{app_data}
 use Rattle.app_section.specs.AppObject.{app_fields, app_object}
 use Rattle.app_section.specs.Objects.{put_all}

@@ -1,6 +1,6 @@
-use Rattle.std.proofs.Common.{◌≡◌, ◌∙◌, ap, subst, codes, List, ℕ, Some, IfOk, map}
-use Rattle.serde_json.specs.Data.{Data, Members, string}
-use Rattle.app_section.specs.AppData.{isolator_data, IsolatorData}
+use Rattle.std.proofs.Common.{◌≡◌, ap, subst, codes, List, ℕ, Some, IfOk, map}
+use Rattle.serde_json.specs.Data.{Members, string}
+use Rattle.app_section.specs.AppData.{isolator_data}
 use Rattle.app_section.specs.AppObject.{env_object, handler_object, isolator_object}
 use Rattle.app_section.specs.Objects.{built, put_field, if_filled}
 use Rattle.app_section.specs.declared.isolator.Isolator.{Isolator}

@@ -1,5 +1,5 @@
-use Rattle.std.proofs.Common.{◌≡◌, ◌∙◌, ap, refl, subst, codes, List, ℕ, Some, IfOk, option_map}
-use Rattle.serde_json.specs.Data.{Data, Members, string}
+use Rattle.std.proofs.Common.{◌≡◌, ap, refl, subst, codes, List, ℕ, Some, IfOk, option_map}
+use Rattle.serde_json.specs.Data.{Members, string}
 use Rattle.app_section.specs.AppObject.{mount_object, port_object, whole_data}
 use Rattle.app_section.specs.Objects.{built, put_field, if_filled}
 use Rattle.app_section.proofs.OrderedFields.{put_next}

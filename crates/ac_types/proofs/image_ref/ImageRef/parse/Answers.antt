@@ -1,9 +1,6 @@
-use Rattle.std.proofs.Common.{◌≡◌, ◌∙◌, ap, sym, subst, true, false, take, drop, codes, List, ℕ, Ok, Err, Result, Bool, refl}
-use Rattle.std.specs.Prelude.{if◌then◌else◌}
+use Rattle.std.proofs.Common.{◌≡◌, true, false, take, drop, codes}
 use Rattle.std.specs.Str.{bytes_eq}
-use Rattle.std.specs.List.{slice_split}
-use Rattle.ac_types.specs.References.{IsRead, reference, by_id, named}
-use Rattle.ac_types.specs.declared.image_ref.ImageRef.{ImageRef}
+use Rattle.ac_types.specs.References.{reference}
 use Rattle.ac_types.proofs.image_ref.ImageRef.parse.Goals as goal
 
 pub returns-in-Some : goal.returns-in-Some

@@ -1,5 +1,5 @@
-use Rattle.std.proofs.Common.{◌≡◌, ◌∙◌, List, ℕ, sym, subst, Some, None, take, rules, refl, ap}
-use Rattle.ac_types.specs.Ids.{IsKeyText, key_read}
+use Rattle.std.proofs.Common.{◌∙◌, List, ℕ, sym, subst, Some, ap}
+use Rattle.ac_types.specs.Ids.{IsKeyText}
 use Rattle.ac_types.proofs.IdTexts.{short_key, long_key, no_key, key_of_id, key_alone, key_none}
 use Rattle.ac_types.proofs.store_key.StoreKey.parse.Goals as goal
 
