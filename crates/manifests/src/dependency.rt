@@ -1,6 +1,13 @@
 ghost use Rattle.std.specs.Prelude.{◌≡◌, IfOk};
 
-use ac_types::{AcIdentifier, ImageId, Labels, NoMemory, Sequence, TryCopy};
+use crate::ids::optional_id;
+use crate::labels_reader::labels_field;
+use ac_types::{
+    AcIdentifier, FromElement, ImageId, Labels, NoMemory, ReadError, Sequence, TryCopy,
+    object_value, required_identifier, whole_field,
+};
+use serde_json::Value;
+use std::alloc::Global;
 
 /// An image on which another stands.
 #[derive(Drop)]
@@ -34,5 +41,33 @@ impl Dependency {
 impl TryCopy for Dependency {
     fn try_copy(&self) -> Result<Dependency, NoMemory> {
         self.copy()
+    }
+}
+
+impl FromElement for Dependency {
+    ghost use Rattle.manifests.specs.declared.dependency.Dependency.{Dependency};
+    ghost use Rattle.manifests.specs.DependencyForm.{dependency};
+
+    ghost Shown = { Dependency };
+
+    ghost shown = { λ d. d };
+
+    ghost form = { dependency };
+
+    ghost name_of = { λ d. d.image_name };
+
+    #[tactic(auto, unfolding(crate::specs::DependencyForm::dependency))]
+    fn read(alloc: Global, value: &Value, at: &str) -> Result<Dependency, ReadError> {
+        object_value(alloc, value, at)?;
+        let image_name = required_identifier(alloc, value, at, "imageName")?;
+        let image_id = optional_id(alloc, value, at, "imageID")?;
+        let labels = labels_field(alloc, value, at, "labels")?;
+        let size = whole_field(alloc, value, at, "size", u64::MAX)?;
+        Ok(Dependency {
+            image_name,
+            image_id,
+            labels,
+            size,
+        })
     }
 }
