@@ -42,11 +42,11 @@ behind_more numbers nodes n more (Ok r) =
 next_branch : (grow : Grows) (first : ℕ) (ds : List Dependency) (numbers : List ℕ) (nodes : List DepNode) (i : ℕ) (d : Dependency)
     → i < length ds → d ≡ get_or ds i d → IsGrownTo grow first ds numbers nodes i
     → branches grow first ds ≡ behind numbers nodes
-      (and_then (grow (first + length nodes) d) (λ made.
-      and_then (branches grow (first + length nodes + length made) (drop (i + 1) ds)) (λ r. Ok ((first + length nodes) ∷ r.0, made ++ r.1))))
+    (and_then (grow (first + length nodes) d) (λ made.
+    and_then (branches grow (first + length nodes + length made) (drop (i + 1) ds)) (λ r. Ok ((first + length nodes) ∷ r.0, made ++ r.1))))
 next_branch grow first ds numbers nodes i d within is far =
     let cut : drop i ds ≡ d ∷ drop (i + 1) ds =
-        drop_more ds i d within ∙ ap (λ (e : Dependency). e ∷ drop (i + 1) ds) (sym is) in
+    drop_more ds i d within ∙ ap (λ (e : Dependency). e ∷ drop (i + 1) ds) (sym is) in
     far.same ∙ ap (λ (rest : List Dependency). behind numbers nodes (branches grow (first + length nodes) rest)) cut
 
 grown_more : (grow : Grows) (first : ℕ) (ds : List Dependency) (numbers : List ℕ) (nodes : List DepNode) (i : ℕ) (d : Dependency)
@@ -58,11 +58,11 @@ grown_more grow first ds numbers nodes i d made {numbers_now} {nodes_now} within
     let n = first + length nodes in
     let count : n + length made ≡ first + length (nodes ++ made) = omega (arith, length-append nodes made) in
     let same : branches grow first ds ≡ behind (numbers ++ n ∷ []) (nodes ++ made) (branches grow (first + length (nodes ++ made)) (drop (i + 1) ds)) =
-        next_branch grow first ds numbers nodes i d within is far
-        ∙ ap (λ (g : Result (List DepNode) DepError). behind numbers nodes
-            (and_then g (λ ms. and_then (branches grow (n + length ms) (drop (i + 1) ds)) (λ r. Ok (n ∷ r.0, ms ++ r.1))))) grown
-        ∙ behind_more numbers nodes n made (branches grow (n + length made) (drop (i + 1) ds))
-        ∙ ap (λ (m : ℕ). behind (numbers ++ n ∷ []) (nodes ++ made) (branches grow m (drop (i + 1) ds))) count in
+    next_branch grow first ds numbers nodes i d within is far
+    ∙ ap (λ (g : Result (List DepNode) DepError). behind numbers nodes
+    (and_then g (λ ms. and_then (branches grow (n + length ms) (drop (i + 1) ds)) (λ r. Ok (n ∷ r.0, ms ++ r.1))))) grown
+    ∙ behind_more numbers nodes n made (branches grow (n + length made) (drop (i + 1) ds))
+    ∙ ap (λ (m : ℕ). behind (numbers ++ n ∷ []) (nodes ++ made) (branches grow m (drop (i + 1) ds))) count in
     let there : IsGrownTo grow first ds (numbers ++ n ∷ []) (nodes ++ made) (i + 1) = record { same = same; few = omega (arith, count) } in
     let P : List ℕ → Type 0 = λ ns. IsGrownTo grow first ds ns nodes_now (i + 1) in
     let Q : List DepNode → Type 0 = λ ms. IsGrownTo grow first ds (numbers ++ n ∷ []) ms (i + 1) in
@@ -85,7 +85,7 @@ grown_fault grow first ds numbers nodes i d e within is grown far =
     let n = first + length nodes in
     next_branch grow first ds numbers nodes i d within is far
     ∙ ap (λ (g : Result (List DepNode) DepError). behind numbers nodes
-        (and_then g (λ ms. and_then (branches grow (n + length ms) (drop (i + 1) ds)) (λ r. Ok (n ∷ r.0, ms ++ r.1))))) grown
+    (and_then g (λ ms. and_then (branches grow (n + length ms) (drop (i + 1) ds)) (λ r. Ok (n ∷ r.0, ms ++ r.1))))) grown
 
 grown_all : (grow : Grows) (first : ℕ) (ds : List Dependency) (numbers : List ℕ) (nodes : List DepNode) (i : ℕ)
     → length ds ≤ i → IsGrownTo grow first ds numbers nodes i → branches grow first ds ≡ Ok (numbers, nodes)
@@ -134,7 +134,7 @@ tree_fault levels images above way made i ds numbers nodes k d n e some way_is d
     ∙ ap (λ (w : List ℕ). with_root i (branches (grow_below (levels - 1) images w) (made + 1) (dependencies_at images i))) (sym way_is)
     ∙ ap (λ (x : List Dependency). with_root i (branches (grow_below (levels - 1) images way) (made + 1) x)) (sym ds_are)
     ∙ ap (with_root i) (grown_fault (grow_below (levels - 1) images way) (made + 1) ds numbers nodes k d e within is
-        (ap (λ (m : ℕ). grow_below (levels - 1) images way m d) (sym n_is) ∙ fault) far))
+    (ap (λ (m : ℕ). grow_below (levels - 1) images way m d) (sym n_is) ∙ fault) far))
 
 -- the fault of a dependency's image, and that of the image's own tree
 pub image_fault : (levels : ℕ) (images : List Stored) (way : List ℕ) (n : ℕ) (d : Dependency) (e : DepError)

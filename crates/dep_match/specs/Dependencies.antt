@@ -32,6 +32,7 @@ unless_faulty images way levels made name (Some i) =
     else if levels == 0 then Err TooDeep
     else if nat_le 256 made then Err TooMany
     else Ok i
+
 abbrev pub next_image : List Stored → List ℕ → ℕ → ℕ → Dependency → Result ℕ DepError
 next_image images way levels made d =
     unless_faulty images way levels made d.image_name (best_match (matches_dependency d) images)
@@ -53,8 +54,8 @@ unfoldable pub subtree : ℕ → List Stored → List ℕ → ℕ → ℕ → Re
 subtree zero images above made i = Err TooDeep
 subtree (suc levels) images above made i =
     with_root i (branches
-      (λ n d. and_then (next_image images (above ++ i ∷ []) levels n d) (subtree levels images (above ++ i ∷ []) n))
-      (made + 1) (dependencies_at images i))
+    (λ n d. and_then (next_image images (above ++ i ∷ []) levels n d) (subtree levels images (above ++ i ∷ []) n))
+    (made + 1) (dependencies_at images i))
 
 -- the tree below the top, of 32 levels at most
 abbrev pub dependency_tree : List Stored → ℕ → Result (List DepNode) DepError
