@@ -13,3 +13,6 @@ pub use dep_tree::{DepNode, DepNodes, DepTree, Places};
 pub use dependencies::closure;
 pub use selection::{best, best_dependency};
 pub use stored::Stored;
+
+#[cfg(test)]
+mod tests;
