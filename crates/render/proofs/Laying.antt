@@ -39,7 +39,11 @@ test_at : (p q : List ℕ) → bytes_eq p q ≡ false → is_at (slice_cmp nat_c
 test_at p q off =
     false_from_ne_true _ (λ on. both_ways _ off ((bytes_eq-Decides p q).1 (sym (here q p (texts_ties q p ∙ on)))))
 
-test_here : (p q : List ℕ) → p ≡ q → is_at (slice_cmp nat_cmp q) p ≡ true
+-- the test of a look-up at another key
+pub test_at_key : (p q : List ℕ) → p ≢ q → is_at (slice_cmp nat_cmp q) p ≡ false
+test_at_key p q other = test_at p q (false_from_ne_true _ (λ on. other (here p q on)))
+
+pub test_here : (p q : List ℕ) → p ≡ q → is_at (slice_cmp nat_cmp q) p ≡ true
 test_here p q same = ap (λ (k : List ℕ). is_at (slice_cmp nat_cmp q) k) same ∙ ap is_eq (tied_itself nat_list_cmp_total q)
 
 -- the origin of one entry more was noted

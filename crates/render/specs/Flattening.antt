@@ -1,16 +1,16 @@
 -- The rendering of a tree of images.
-use Rattle.std.specs.Prelude.{◌≡◌, ℕ, ◌<◌, ◌≤◌, zero, suc, Bool, true, false, List, [], map, length, sum, Option, None, Some, if◌then◌else◌, slice_index_or}
+use Rattle.std.specs.Prelude.{◌≡◌, ℕ, ◌<◌, ◌≤◌, zero, suc, IsTrue, Bool, true, false, List, [], map, length, sum, Option, None, Some, if◌then◌else◌, slice_index_or}
 use Rattle.std.specs.List.{All, AllZip}
 use Rattle.path_map.specs.declared.entry.Entry.{Entry}
 use Rattle.path_map.specs.declared.entry.Entry.TheVariants.{Dir, File, Link}
 use Rattle.path_map.specs.declared.listed.Listed.{Listed}
-use Rattle.path_map.specs.Entries.{Entries, entry_at, IsPathMap}
+use Rattle.path_map.specs.Entries.{Entries, Tree, entry_at, IsPathMap}
 use Rattle.path_map.specs.Whitelist.{whitelisted}
 use Rattle.dep_match.specs.declared.dep_tree.DepNode.{DepNode}
 use Rattle.dep_match.specs.declared.dep_tree.DepTree.{DepTree}
 use Rattle.dep_match.specs.declared.stored.Stored.{Stored}
 use Rattle.render.specs.declared.rendering.Rendering.{Rendering}
-use Rattle.render.specs.Origins.{origin_at, laid_origins}
+use Rattle.render.specs.Origins.{OriginMap, origin_at, laid_origins}
 use Rattle.render.specs.Layers.{empty_tree, no_origins, laid, layered, layered_origins}
 
 -- a file stands there
@@ -24,13 +24,19 @@ is_file_at (Some (Link meta target)) = false
 abbrev pub source_at : Rendering → List ℕ → Option ℕ
 source_at r path = if is_file_at (entry_at r.map path) then origin_at r.origins path else None
 
--- the node of a number
-abbrev pub node_at : DepTree → ℕ → DepNode
-node_at tree n = slice_index_or tree.nodes n (record { image = 0; children = [] })
-
 -- the entries of an image
 abbrev pub entries_of : List Entries → ℕ → Entries
 entries_of maps image = slice_index_or maps image []
+
+-- each file of a tree has an origin, and is that image's own entry
+abbrev pub HasSources : List Entries → Tree → OriginMap → Type 0
+HasSources maps tree origins =
+    (q : List ℕ) → IsTrue (is_file_at (tree q))
+    → (image : ℕ) × (origins q ≡ Some image) × (entry_at (entries_of maps image) q ≡ tree q)
+
+-- the node of a number
+abbrev pub node_at : DepTree → ℕ → DepNode
+node_at tree n = slice_index_or tree.nodes n (record { image = 0; children = [] })
 
 -- the whitelist of an image
 abbrev pub whitelist_of : List Stored → ℕ → List Listed
@@ -39,6 +45,11 @@ whitelist_of list image = slice_index_or (map (λ (s : Stored). s.manifest.path_
 -- how many entries the maps of some nodes have together
 abbrev pub all_entries : List DepNode → List Entries → ℕ
 all_entries nodes maps = sum (map (λ (node : DepNode). length (entries_of maps node.image)) nodes)
+
+-- a node of that number has one of so many images, and its children come after it, within so many nodes
+pub record IsOrderedNode (n nodes count : ℕ) (node : DepNode) : Type 0 where
+  pub image : node.image < count
+  pub children : All (λ child. (n < child) × (child < nodes)) node.children
 
 -- a tree over so many images, each node before its children
 pub record IsOrderedTree (tree : DepTree) (count : ℕ) : Type 0 where
