@@ -124,13 +124,15 @@ module _ (maps : List Entries) where
       let own = entries_of maps image in
       let none : HasSources maps empty_tree no_origins = λ q h. cc in
       let mine : HasSources maps (entry_at own) (λ _. Some image) = λ q h. (image, refl, refl) in
-      let laid_all = laid_sources (layered empty_tree below) (layered_origins no_origins below) (λ _. Some image) own kind.rising (layered_sources empty_tree no_origins below none all) mine in
-      (layer.kind, λ q h.
-      let same = layer.entries q in
-      let kept = whitelist_keeps_files whitelist (laid (layered empty_tree below) own) q (ap is_file_at (sym same) ∙ h) in
-      let whole = same ∙ kept in
-      let from = laid_all q (ap is_file_at (sym whole) ∙ h) in
-      (from.0, layer.origins q ∙ from.1, from.2 ∙ sym whole))
+      let laid_all = laid_sources (layered empty_tree below) (layered_origins no_origins below) (λ _. Some image) own kind.rising (layered_sources empty_tree no_origins below none all) mine in (
+        layer.kind,
+        λ q h.
+            let same = layer.entries q in
+            let kept = whitelist_keeps_files whitelist (laid (layered empty_tree below) own) q (ap is_file_at (sym same) ∙ h) in
+            let whole = same ∙ kept in
+            let from = laid_all q (ap is_file_at (sym whole) ∙ h) in
+            (from.0, layer.origins q ∙ from.1, from.2 ∙ sym whole),
+      )
 
   each_sources : (R : ℕ → Rendering → Type 0) → ((n : ℕ) (r : Rendering) → R n r → HasOwnSources r) → (cs : List ℕ) (below : List Rendering) → AllZip R cs below → AllByRecursion HasOwnSources below
   each_sources R h [] [] all = tt
