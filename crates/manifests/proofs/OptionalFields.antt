@@ -1,5 +1,5 @@
 -- A field that may be absent, read in two steps.
-use Rattle.std.proofs.Common.{◌≡◌, ℕ, List, Option, Some, None, ◌∙◌, ap}
+use Rattle.std.proofs.Common.{◌≡◌, ℕ, List, Option, Some, None, ap}
 use Rattle.serde_json.specs.Data.{Data}
 use Rattle.ac_types.specs.FieldForms.{optional, optional_at, present}
 use Rattle.ac_types.specs.JsonPaths.{field_path}

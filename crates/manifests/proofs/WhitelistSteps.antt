@@ -1,9 +1,7 @@
 -- Reading the texts of a whitelist one after the other.
 use Rattle.std.proofs.Common.{◌≡◌, ℕ, ◌<◌, ◌≤◌, ◌+◌, List, [], ◌∷◌, ◌++◌, Option, Some, None, get_or, length, map, refl, sym, ◌∙◌, ap}
-use Rattle.serde_json.specs.Data.{Data}
 use Rattle.serde_json.specs.View.{view}
 use Rattle.serde_json.specs.declared.value.Value.{Value}
-use Rattle.ac_types.specs.FieldForms.{each}
 use Rattle.ac_types.specs.JsonPaths.{element_path}
 use Rattle.ac_types.specs.Outcomes.{Outcome, reads, fails, ◌>>=◌}
 use Rattle.ac_types.specs.declared.fault.FaultKind.{FaultKind}

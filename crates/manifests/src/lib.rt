@@ -34,3 +34,6 @@ pub use pod_reader::read_pod;
 pub use runtime_app::{RuntimeApp, RuntimeApps};
 pub use runtime_image::RuntimeImage;
 pub use volume::{Volume, VolumeKind, Volumes};
+
+#[cfg(test)]
+mod tests;

@@ -1,4 +1,4 @@
-use Rattle.std.proofs.Common.{◌≡◌, ℕ, List, Some, ◌∙◌, ap}
+use Rattle.std.proofs.Common.{ℕ, List, Some, ◌∙◌, ap}
 use Rattle.serde_json.specs.View.{view}
 use Rattle.ac_types.proofs.EachElement.{fault_kept}
 use Rattle.ac_types.proofs.NameFaults.{name_refused}

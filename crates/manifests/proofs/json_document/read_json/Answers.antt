@@ -1,4 +1,4 @@
-use Rattle.std.proofs.Common.{◌≡◌, ap, sym, ◌∙◌, codes, true, false, true≢false}
+use Rattle.std.proofs.Common.{ap, sym, ◌∙◌, codes, true≢false}
 use Rattle.serde_json.specs.Errors.{IsMemory}
 use Rattle.serde_json.specs.View.{view}
 use Rattle.ac_types.proofs.NameFaults.{fault_named}

@@ -1,4 +1,4 @@
-use Rattle.std.proofs.Common.{ℕ, List, map, sym, subst, ◌+◌}
+use Rattle.std.proofs.Common.{List, map, sym, subst, ◌+◌}
 use Rattle.serde_json.specs.View.{view}
 use Rattle.ac_types.specs.JsonPaths.{element_path}
 use Rattle.ac_types.specs.FieldForms.{each}

@@ -1,4 +1,4 @@
-use Rattle.std.proofs.Common.{List, ◌∷◌, [], ℕ, map, subst, sym}
+use Rattle.std.proofs.Common.{List, map, subst, sym}
 use Rattle.serde_json.specs.View.{view}
 use Rattle.ac_types.specs.JsonPaths.{element_path}
 use Rattle.ac_types.proofs.EachElement.{fault_kept}
