@@ -1,5 +1,5 @@
 -- The renderings of the nodes of a tree, made from the last to the first.
-use Rattle.std.proofs.Common.{◌≡◌, ◌≢◌, ℕ, zero, suc, ◌+◌, ◌<◌, ◌≤◌, List, [], ◌∷◌, map, length, get_or, set, sym, refl, ap, subst, ◌∙◌, ⊎_elim, arith}
+use Rattle.std.proofs.Common.{◌≡◌, ℕ, zero, suc, ◌+◌, ◌<◌, ◌≤◌, List, [], ◌∷◌, length, get_or, set, sym, refl, ap, subst, ◌∙◌, ⊎_elim, arith}
 use Rattle.std.proofs.Math.Path.{ap₂}
 use Rattle.std.specs.List.{All, AllZip}
 use Rattle.std.proofs.lemmas.Bool.{cases_lt}
@@ -93,7 +93,7 @@ module _ (tree : DepTree) (list : List Stored) (maps : List Entries) (count : �
   flattened made all (suc levels) n inside reach = (
     renderings_at made (node_at tree n).children,
     parts_of (λ child part. IsFlattened tree list maps levels child part) (λ child. (n < child) × (child < length tree.nodes)) made
-    (λ c both. flattened made all levels c both.1 (omega (arith, both.0, reach)))
-    (node_at tree n).children (ordered.children n inside),
+        (λ c both. flattened made all levels c both.1 (omega (arith, both.0, reach)))
+        (node_at tree n).children (ordered.children n inside),
     all n (omega arith) inside,
   )

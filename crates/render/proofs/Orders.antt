@@ -1,6 +1,5 @@
 -- The order of a tree, node by node.
 use Rattle.std.proofs.Common.{◌≡◌, ℕ, ◌<◌, ◌≤◌, Bool, true, not, eqb, List, [], length, get_or, sym, ap, subst, ◌∙◌, ⊎_elim, arith}
-use Rattle.std.specs.List.{All}
 use Rattle.std.proofs.lemmas.Bool.{cases_lt, both_ways, not-true, not_from_false, false_from_ne_true}
 use Rattle.std.proofs.lemmas.Bool.Decides.{Decides-eqb}
 use Rattle.std.proofs.lemmas.List.Elements.{All-from_get_or}
@@ -44,8 +43,7 @@ pub node_there : (tree : DepTree) (nodes : List DepNode) (n count : ℕ) (node :
     → (IsOrderedNode n (length nodes) count node → IsOrderedNode n (length tree.nodes) count (node_at tree n))
     × (IsOrderedNode n (length tree.nodes) count (node_at tree n) → IsOrderedNode n (length nodes) count node)
 node_there tree nodes n count node same inside is =
-    let read = node_read tree nodes n node same inside is in
-    (
+    let read = node_read tree nodes n node same inside is in (
       λ o. subst (λ (x : DepNode). IsOrderedNode n (length tree.nodes) count x) read (subst (λ (ns : List DepNode). IsOrderedNode n (length ns) count node) same o),
       λ o. subst (λ (ns : List DepNode). IsOrderedNode n (length ns) count node) (sym same) (subst (λ (x : DepNode). IsOrderedNode n (length tree.nodes) count x) (sym read) o),
     )

@@ -1,7 +1,5 @@
 -- The source of a file is the image whose own entry it is.
-use Rattle.std.proofs.Common.{◌≡◌, ◌≢◌, ℕ, zero, suc, Bool, true, false, cond, List, [], ◌∷◌, length, Option, Some, None, is_some, nat_cmp, sym, refl, ap, subst, ◌∙◌, ◌⊎◌, inl, inr, ⊎_elim}
-use mathlib.Core.Path.{fun_ext}
-use Rattle.std.specs.Ordering.{is_eq}
+use Rattle.std.proofs.Common.{◌≡◌, ◌≢◌, ℕ, zero, suc, Bool, true, false, cond, List, [], ◌∷◌, length, Option, Some, None, is_some, nat_cmp, sym, refl, ap, ◌∙◌, ◌⊎◌, inl, inr, ⊎_elim}
 use Rattle.std.specs.Cmp.Lexicographic.{slice_cmp}
 use Rattle.std.specs.List.{AllZip, AllByRecursion}
 use Rattle.std.specs.List.Sorted.{IsStrictlySortedBy}
@@ -12,7 +10,6 @@ use Rattle.std.proofs.lemmas.Cmp.{nat_list_cmp_total, eq_by_cmp_equiv}
 use Rattle.std.proofs.lemmas.Map.{lookup-none}
 use Rattle.std.proofs.lemmas.Map.Entries.{none_past_head, lookup_head, lookup_tail}
 use Rattle.std.proofs.lemmas.Map.Keys.{sorted_tail, IsDistinct-from_sorted}
-use Rattle.std.proofs.lemmas.Map.Lookups.{exact_bytes}
 use Rattle.path_map.specs.declared.entry.Entry.{Entry}
 use Rattle.path_map.specs.declared.entry.Entry.TheVariants.{Dir, File, Link}
 use Rattle.path_map.specs.declared.listed.Listed.{Listed}
@@ -124,13 +121,15 @@ module _ (maps : List Entries) where
       let own = entries_of maps image in
       let none : HasSources maps empty_tree no_origins = λ q h. cc in
       let mine : HasSources maps (entry_at own) (λ _. Some image) = λ q h. (image, refl, refl) in
-      let laid_all = laid_sources (layered empty_tree below) (layered_origins no_origins below) (λ _. Some image) own kind.rising (layered_sources empty_tree no_origins below none all) mine in
-      (layer.kind, λ q h.
-      let same = layer.entries q in
-      let kept = whitelist_keeps_files whitelist (laid (layered empty_tree below) own) q (ap is_file_at (sym same) ∙ h) in
-      let whole = same ∙ kept in
-      let from = laid_all q (ap is_file_at (sym whole) ∙ h) in
-      (from.0, layer.origins q ∙ from.1, from.2 ∙ sym whole))
+      let laid_all = laid_sources (layered empty_tree below) (layered_origins no_origins below) (λ _. Some image) own kind.rising (layered_sources empty_tree no_origins below none all) mine in (
+        layer.kind,
+        λ q h.
+            let same = layer.entries q in
+            let kept = whitelist_keeps_files whitelist (laid (layered empty_tree below) own) q (ap is_file_at (sym same) ∙ h) in
+            let whole = same ∙ kept in
+            let from = laid_all q (ap is_file_at (sym whole) ∙ h) in
+            (from.0, layer.origins q ∙ from.1, from.2 ∙ sym whole),
+      )
 
   each_sources : (R : ℕ → Rendering → Type 0) → ((n : ℕ) (r : Rendering) → R n r → HasOwnSources r) → (cs : List ℕ) (below : List Rendering) → AllZip R cs below → AllByRecursion HasOwnSources below
   each_sources R h [] [] all = tt

@@ -62,7 +62,12 @@ impl Rendering {
     }
 
     /// Lays the entries of an image over this one, in path order.
-    pub(crate) fn lay_image(self, alloc: Global, own: &PathMap, image: usize) -> Result<Rendering, NoMemory>
+    pub(crate) fn lay_image(
+        self,
+        alloc: Global,
+        own: &PathMap,
+        image: usize,
+    ) -> Result<Rendering, NoMemory>
         ensures entries { IfOk result (λ r. (q : List ℕ) → entry_at r.map q ≡ laid (entry_at self.map) own.now q) }
         ensures origins { IfOk result (λ r. (q : List ℕ) → origin_at r.origins q
             ≡ laid_origins (origin_at self.origins) own.now (λ _. Some image) q) }

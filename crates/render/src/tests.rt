@@ -84,7 +84,12 @@ fn tree_of(alloc: Global, children: usize) -> Result<DepTree, Fail> {
 }
 
 /// The rendering of a tree in order.
-fn rendered(alloc: Global, tree: &DepTree, list: &[Stored], maps: &[PathMap]) -> Result<Rendering, Fail> {
+fn rendered(
+    alloc: Global,
+    tree: &DepTree,
+    list: &[Stored],
+    maps: &[PathMap],
+) -> Result<Rendering, Fail> {
     if !is_ordered(tree, list.len()) || maps.len() != list.len() {
         return Err(Fail::from("order"));
     }
@@ -149,6 +154,10 @@ fn each_whitelist_is_applied(rt: HostRuntime) -> Result<(), Fail> {
     let text = shown(alloc, &rendering)?;
     assert!(&rt; text.as_str() == "d/bin f/bin/run d/etc m/var m/var/tmp ");
     assert!(&rt; rendering.source(&AbsPath::parse(alloc, "/bin/run")?) == Some(0));
-    assert!(&rt; rendering.source(&AbsPath::parse(alloc, "/etc/motd")?).is_none());
+    assert!(&rt;
+        rendering
+            .source(&AbsPath::parse(alloc, "/etc/motd")?)
+            .is_none()
+    );
     Ok(())
 }

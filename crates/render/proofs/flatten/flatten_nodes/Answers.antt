@@ -1,4 +1,4 @@
-use Rattle.std.proofs.Common.{◌≡◌, ◌-◌, ◌<◌, length, subst, sym, ap, ◌∙◌, arith}
+use Rattle.std.proofs.Common.{◌≡◌, ◌-◌, ◌<◌, length, sym, ap, ◌∙◌, arith}
 use Rattle.render.proofs.Nodes.{node_read, kids_within, image_within, new_layer, layers_more}
 use Rattle.render.proofs.flatten.flatten_nodes.Goals as goal
 
@@ -37,7 +37,7 @@ loop-done-preserved c =
     record {
       len = c.loop-done.invariant.len;
       layers = λ n above inside.
-      layers_more tree list maps (length list) c.requires.tree made place r size within'
-      (λ m low in'. c.loop-done.invariant.layers m (omega (arith, low, c.loop-done-test.true)) in')
-      new n (omega (arith, above)) inside;
+          layers_more tree list maps (length list) c.requires.tree made place r size within'
+          (λ m low in'. c.loop-done.invariant.layers m (omega (arith, low, c.loop-done-test.true)) in')
+          new n (omega (arith, above)) inside;
     }

@@ -21,8 +21,7 @@ returns c =
     let i = c.loop-child.child-index in
     let same : c.as_slice-child-items.result.now ≡ places = c.as_slice-child-items.ensures in
     let all : take i places ≡ places = take_all i places (omega (arith, ap length same, c.loop-child-test.false)) in
-    let test = Decides-ltb c.args.node.now.image c.args.images in
-    (
+    let test = Decides-ltb c.args.node.now.image c.args.images in (
       λ less. record {
         image = test.0 less;
         children = subst (λ (ps : List ℕ). All (λ child. (c.args.place < child) × (child < c.args.nodes)) ps) all c.loop-child.invariant;
