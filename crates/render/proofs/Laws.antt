@@ -1,10 +1,9 @@
 -- The laws of a rendering.
-use Rattle.std.proofs.Common.{◌≡◌, ℕ, zero, suc, ◌<◌, ◌≤◌, List, [], ◌∷◌, length, Option, None, Some, IsSome, sym, refl, ap, subst, ◌∙◌, arith}
+use Rattle.std.proofs.Common.{ℕ, zero, suc, List, [], ◌∷◌, length, sym, subst}
 use mathlib.Core.Path.{fun_ext}
 use Rattle.path_map.specs.declared.listed.Listed.{Listed}
 use Rattle.path_map.specs.Entries.{Entries, Tree, entry_at}
 use Rattle.path_map.specs.Overlay.{overlaid, HasParents}
-use Rattle.path_map.specs.Whitelist.{whitelisted}
 use Rattle.path_map.proofs.OverlayLaws.{overlay_keeps_parents}
 use Rattle.path_map.proofs.WhitelistLaws.{keep_keeps_parents}
 use Rattle.dep_match.specs.declared.dep_tree.DepTree.{DepTree}

@@ -1,5 +1,5 @@
 -- The renderings of the nodes of a tree, made from the last to the first.
-use Rattle.std.proofs.Common.{◌≡◌, ◌≢◌, ℕ, zero, suc, ◌+◌, ◌<◌, ◌≤◌, List, [], ◌∷◌, map, length, get_or, set, sym, refl, ap, subst, ◌∙◌, ⊎_elim, arith}
+use Rattle.std.proofs.Common.{◌≡◌, ℕ, zero, suc, ◌+◌, ◌<◌, ◌≤◌, List, [], ◌∷◌, length, get_or, set, sym, refl, ap, subst, ◌∙◌, ⊎_elim, arith}
 use Rattle.std.proofs.Math.Path.{ap₂}
 use Rattle.std.specs.List.{All, AllZip}
 use Rattle.std.proofs.lemmas.Bool.{cases_lt}

@@ -1,6 +1,6 @@
 -- Laying maps over each other.
-use Rattle.std.specs.Prelude.{ℕ, List, [], ◌∷◌, Option, None}
-use Rattle.path_map.specs.Entries.{Entries, Tree, entry_at}
+use Rattle.std.specs.Prelude.{List, [], ◌∷◌, None}
+use Rattle.path_map.specs.Entries.{Entries, Tree}
 use Rattle.path_map.specs.Overlay.{overlaid}
 use Rattle.render.specs.declared.rendering.Rendering.{Rendering}
 use Rattle.render.specs.Origins.{OriginMap, origin_at, laid_origins}

@@ -1,4 +1,4 @@
-use Rattle.std.proofs.Common.{◌≡◌, ◌-◌, ◌<◌, length, subst, sym, ap, ◌∙◌, arith}
+use Rattle.std.proofs.Common.{◌≡◌, ◌-◌, ◌<◌, length, sym, ap, ◌∙◌, arith}
 use Rattle.render.proofs.Nodes.{node_read, kids_within, image_within, new_layer, layers_more}
 use Rattle.render.proofs.flatten.flatten_nodes.Goals as goal
 

@@ -1,4 +1,4 @@
-use Rattle.std.proofs.Common.{◌≡◌, ◌-◌, length}
+use Rattle.std.proofs.Common.{◌≡◌, ◌-◌}
 use Rattle.std.specs.Prelude.{vec_len}
 use Rattle.render.specs.Flattening.{AreLayered}
 use Rattle.render.proofs.flatten.flatten_nodes.Given as goal

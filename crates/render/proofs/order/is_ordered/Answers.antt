@@ -1,8 +1,6 @@
-use Rattle.std.proofs.Common.{◌≡◌, ◌<◌, List, length, subst, ap, ⊎_elim, arith}
+use Rattle.std.proofs.Common.{◌≡◌, ◌<◌, length, subst, ap, ⊎_elim, arith}
 use Rattle.std.proofs.lemmas.Bool.{cases_lt, both_ways}
-use Rattle.dep_match.specs.declared.dep_tree.DepNode.{DepNode}
 use Rattle.render.specs.Flattening.{node_at, IsOrderedNode}
-use Rattle.render.proofs.Nodes.{node_read}
 use Rattle.render.proofs.Orders.{tree_from_nodes, node_from_tree, node_there, some_from, from_some}
 use Rattle.render.proofs.order.is_ordered.Goals as goal
 

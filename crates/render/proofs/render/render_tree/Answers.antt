@@ -1,4 +1,4 @@
-use Rattle.std.proofs.Common.{◌≡◌, length, subst, sym, arith}
+use Rattle.std.proofs.Common.{length, subst, sym, arith}
 use Rattle.render.specs.declared.rendering.Rendering.{Rendering}
 use Rattle.render.specs.Flattening.{IsRendering}
 use Rattle.render.proofs.Laying.{rendering_read}
