@@ -1,34 +1,29 @@
-"""Times the program on data folders and files of several sizes; see programs.sh."""
+"""Times the program on data folders of several sizes; see programs.sh."""
 import os
 import statistics
 import subprocess
 import sys
-import time
 
 RUNS = 50
 WORK = sys.argv[1]
 RKT = os.path.join(WORK, "rkt")
 FLOOR = os.path.join(WORK, "floor")
+LAUNCH = os.path.join(WORK, "launch")
 
 
 def once(command, env):
-    start = time.perf_counter()
-    child = subprocess.Popen(command, env=env, stdout=subprocess.DEVNULL, stderr=subprocess.DEVNULL)
-    _, _, usage = os.wait4(child.pid, 0)
-    return time.perf_counter() - start, usage.ru_maxrss
+    answer = subprocess.run([LAUNCH, *command], env=env, stdout=subprocess.PIPE, check=True)
+    taken, memory = answer.stdout.split()
+    return int(taken), int(memory)
 
 
 def measure(name, command, env=None):
     env = dict(os.environ, **(env or {}))
-    pairs = []
-    for _ in range(RUNS):
-        floor, _ = once([FLOOR], env)
-        taken, memory = once(command, env)
-        pairs.append((floor, taken, memory))
-    floor = statistics.median(p[0] for p in pairs)
-    taken = statistics.median(p[1] for p in pairs)
-    memory = max(p[2] for p in pairs)
-    print(f"{name:44} {taken * 1000:8.2f} ms {taken / floor:6.2f} x floor {memory / 1024:7.1f} MB")
+    rounds = [(once([FLOOR], env)[0], *once(command, env)) for _ in range(RUNS)]
+    ratio = statistics.median(r[1] / r[0] for r in rounds)
+    taken = statistics.median(r[1] for r in rounds)
+    memory = max(r[2] for r in rounds)
+    print(f"{name:28} {taken / 1000:8.2f} ms {ratio:6.2f} x floor {memory / 1024:7.1f} MB")
 
 
 def pods(count):

@@ -9,5 +9,6 @@ program=$PWD/crates/rkt/out/rkt
 work=$(mktemp -d)
 trap 'rm -rf "$work"' EXIT
 gcc -O2 -o "$work/floor" bench/floor.c
+gcc -O2 -o "$work/launch" bench/launch.c
 cp "$program" "$work/rkt"
 exec python3 bench/programs.py "$work"
