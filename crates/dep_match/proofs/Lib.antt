@@ -1,3 +1,0 @@
-pub mod BestSoFar
-pub mod References
-pub mod Trees

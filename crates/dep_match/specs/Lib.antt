@@ -1,2 +1,0 @@
-pub mod Dependencies
-pub mod Selection

@@ -1,6 +1,0 @@
-pub mod Laws
-pub mod Laying
-pub mod Nodes
-pub mod Noting
-pub mod Orders
-pub mod SourceLaws

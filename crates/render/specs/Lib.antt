@@ -1,3 +1,0 @@
-pub mod Flattening
-pub mod Layers
-pub mod Origins
