@@ -75,7 +75,7 @@ fn words_and_users(rt: HostRuntime) -> Result<(), Fail> {
 }
 
 #[test]
-fn handlers_and_variables(rt: HostRuntime) -> Result<(), Fail> {
+fn event_handlers(rt: HostRuntime) -> Result<(), Fail> {
     let rows = [
         (
             "\"eventHandlers\":[{\"name\":\"pre-start\",\"exec\":[\"/pre\"]},{\"name\":\"post-stop\",\"exec\":[\"/post\"]}]",
@@ -103,6 +103,17 @@ fn handlers_and_variables(rt: HostRuntime) -> Result<(), Fail> {
             "app.eventHandlers[0].name",
         ),
         ("\"eventHandlers\":{}", 10, "app.eventHandlers"),
+    ];
+    for (fields, number, path) in rows {
+        let is = field_comes_to(rt.alloc(), fields, number, path)?;
+        assert!(rt; is, "{fields}");
+    }
+    Ok(())
+}
+
+#[test]
+fn environment_variables(rt: HostRuntime) -> Result<(), Fail> {
+    let rows = [
         (
             "\"environment\":[{\"name\":\"_A.b-1\",\"value\":\"\"}]",
             0,
@@ -133,7 +144,7 @@ fn handlers_and_variables(rt: HostRuntime) -> Result<(), Fail> {
 }
 
 #[test]
-fn mounts_ports_and_isolators(rt: HostRuntime) -> Result<(), Fail> {
+fn mount_points(rt: HostRuntime) -> Result<(), Fail> {
     let rows = [
         (
             "\"mountPoints\":[{\"name\":\"data\",\"path\":\"/data\",\"readOnly\":true}]",
@@ -160,6 +171,17 @@ fn mounts_ports_and_isolators(rt: HostRuntime) -> Result<(), Fail> {
             17,
             "app.mountPoints[1].name",
         ),
+    ];
+    for (fields, number, path) in rows {
+        let is = field_comes_to(rt.alloc(), fields, number, path)?;
+        assert!(rt; is, "{fields}");
+    }
+    Ok(())
+}
+
+#[test]
+fn ports(rt: HostRuntime) -> Result<(), Fail> {
+    let rows = [
         (
             "\"ports\":[{\"name\":\"p\",\"protocol\":\"tcp\",\"port\":65535,\"count\":1}]",
             0,
@@ -190,6 +212,17 @@ fn mounts_ports_and_isolators(rt: HostRuntime) -> Result<(), Fail> {
             17,
             "app.ports[1].name",
         ),
+    ];
+    for (fields, number, path) in rows {
+        let is = field_comes_to(rt.alloc(), fields, number, path)?;
+        assert!(rt; is, "{fields}");
+    }
+    Ok(())
+}
+
+#[test]
+fn isolators(rt: HostRuntime) -> Result<(), Fail> {
+    let rows = [
         (
             "\"isolators\":[{\"name\":\"resource/cpu\",\"value\":{\"limit\":[1,{\"x\":2}]}}]",
             0,
