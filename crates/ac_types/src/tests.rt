@@ -212,6 +212,13 @@ fn a_field_is_read_or_refused_at_its_path(rt: HostRuntime) -> Result<(), Fail> {
             FaultKind::Missing
         )
     );
+    Ok(())
+}
+
+#[test]
+fn a_list_is_refused_at_its_first_fault(rt: HostRuntime) -> Result<(), Fail> {
+    let alloc = rt.alloc();
+    let value = Value::from_str(alloc, PORTS)?;
     assert!(rt;
         is_fault(
             ports(alloc, &value, "ports"),

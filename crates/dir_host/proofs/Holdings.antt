@@ -6,6 +6,7 @@ use Rattle.std.proofs.lemmas.Option.{slice_get-map}
 use Rattle.dir_model.specs.declared.spot.Handle.{Handle}
 use Rattle.dir_model.specs.declared.spot.Mode.{Mode}
 use Rattle.dir_model.specs.Local.{is_number, is_open_among, place_of, lock_at, held_in}
+use Rattle.dir_trait.proofs.Places.{found_within}
 use Rattle.dir_host.specs.declared.open_folders.OpenFolder.{OpenFolder}
 use Rattle.dir_host.specs.OpenFolders.{holdings_of}
 
@@ -17,15 +18,6 @@ any_map f p (x ∷ xs) = ap (λ b. p (f x) || b) (any_map f p xs)
 place_map : {X Y : Type 0} (f : X → Y) (p : Y → Bool) (xs : List X) → position_or_len p (map f xs) ≡ position_or_len (λ x. p (f x)) xs
 place_map f p [] = refl
 place_map f p (x ∷ xs) = ap (λ n. cond (not (p (f x))) (1 + n) 0) (place_map f p xs)
-
--- where a test passes somewhere, its first place is within the list
-found_within : {X : Type 0} (p : X → Bool) (xs : List X) → list_any p xs ≡ true → position_or_len p xs < length xs
-found_within p [] h = cc
-found_within p (x ∷ xs) h = at_head (p x) h (λ later. found_within p xs later)
-  where
-    at_head : (b : Bool) → (b || list_any p xs) ≡ true → (list_any p xs ≡ true → position_or_len p xs < length xs) → cond (not b) (1 + position_or_len p xs) 0 < length (x ∷ xs)
-    at_head true h later = omega arith
-    at_head false h later = omega (arith, later h)
 
 pub holdings_any : (handle : Handle) (folders : List OpenFolder) → is_open_among handle (holdings_of folders) ≡ list_any (λ f. is_number handle f.holding) folders
 holdings_any handle folders = any_map (λ f. f.holding) (is_number handle) folders

@@ -3,7 +3,7 @@ use Rattle.std.proofs.Common.{◌≡◌, ℕ, ◌+◌, ◌<◌, ◌≤◌, nat_l
 use Rattle.std.specs.List.{list_any, position_or_len, position}
 use Rattle.std.proofs.lemmas.Bool.Decides.{nat_tests}
 
-found_within : {X : Type 0} (p : X → Bool) (xs : List X) → list_any p xs ≡ true → position_or_len p xs < length xs
+pub found_within : {X : Type 0} (p : X → Bool) (xs : List X) → list_any p xs ≡ true → position_or_len p xs < length xs
 found_within p [] h = cc
 found_within p (x ∷ xs) h = at_head (p x) h (λ later. found_within p xs later)
   where
