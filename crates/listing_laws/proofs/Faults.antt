@@ -12,7 +12,7 @@ use Rattle.tree_digest.proofs.ListingTexts.{line_some, lines_counted}
 use Rattle.listing_laws.proofs.OneText.{first_line_same}
 
 -- the line that a listing goes on with doesn't fail
-next_is_right : (before : List ListingLine) (line : ListingLine) (rest : List ℕ) (error : ListingError) → Follows before line → FailsAt before (line_text line ++ rest) error → ⊥
+pub next_is_right : (before : List ListingLine) (line : ListingLine) (rest : List ℕ) (error : ListingError) → Follows before line → FailsAt before (line_text line ++ rest) error → ⊥
 next_is_right before line rest (BadLine n) next fails = fails.1 line rest next.line refl
 next_is_right before line rest (FileTooLong n) next fails =
     let other = fails.1 in
