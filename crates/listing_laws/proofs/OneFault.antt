@@ -1,13 +1,13 @@
 -- A text has at most one first fault.
-use Rattle.std.proofs.Common.{◌≡◌, ℕ, ◌+◌, ◌<◌, ◌≤◌, Bool, true, false, ltb, List, [], ◌∷◌, ◌++◌, length, sym, refl, ap, subst, ◌∙◌, ◌⊎◌, inl, inr, ⊎_elim, arith, append_assoc}
+use Rattle.std.proofs.Common.{◌≡◌, ℕ, ◌<◌, Bool, true, false, ltb, List, [], ◌∷◌, ◌++◌, length, sym, ap, subst, ◌∙◌, ⊎_elim, arith, append_assoc}
 use Rattle.std.specs.Bool.{MatchBool}
 use Rattle.std.proofs.lemmas.Bool.{both_ways, MatchBool-at_false, le-ltb}
 use Rattle.std.proofs.lemmas.List.{append-nil}
 use Rattle.tree_digest.specs.declared.line.ListingLine.{ListingLine}
 use Rattle.tree_digest.specs.declared.listing_error.ListingError.{ListingError}
 use Rattle.tree_digest.specs.declared.listing_error.ListingError.TheVariants.{BadLine, NotSorted, NoParent, TooMany, FileTooLong, NoMemory}
-use Rattle.tree_digest.specs.Lines.{IsLine, line_text, is_too_long}
-use Rattle.tree_digest.specs.Listings.{AllFollow, FailsAt, StopsAt, Fails, Fits, IsTooMany, Rises, EndsIn, is_parent, listing_text, line_count}
+use Rattle.tree_digest.specs.Lines.{line_text, is_too_long}
+use Rattle.tree_digest.specs.Listings.{AllFollow, FailsAt, Fails, Fits, IsTooMany, Rises, listing_text, line_count}
 use Rattle.listing_laws.proofs.OneText.{first_line_same}
 use Rattle.listing_laws.proofs.Faults.{next_is_right}
 
@@ -66,7 +66,7 @@ stops_once known [] (y ∷ ys) a b e f all some same h k = absurd (stops_here kn
 stops_once known (x ∷ xs) [] a b e f all some same h k = absurd (stops_here known x xs b a f all (sym same) k)
 stops_once known (x ∷ xs) (y ∷ ys) a b e f all some same h k =
     let first = first_line_same x y (listing_text xs ++ a) (listing_text ys ++ b) all.0.line some.0.line
-        (sym (append_assoc (line_text x) (listing_text xs) a) ∙ same ∙ append_assoc (line_text y) (listing_text ys) b) in
+    (sym (append_assoc (line_text x) (listing_text xs) a) ∙ same ∙ append_assoc (line_text y) (listing_text ys) b) in
     let next : AllFollow (known ++ y ∷ []) xs = subst (λ (l : ListingLine). AllFollow (known ++ l ∷ []) xs) first.0 all.1 in
     let here : FailsAt (known ++ y ∷ xs) a e = subst (λ (l : ListingLine). FailsAt (known ++ l ∷ xs) a e) first.0 h in
     stops_once (known ++ y ∷ []) xs ys a b e f next some.1 first.1

@@ -1,5 +1,5 @@
 -- What reading says of a beginning of a listing's text.
-use Rattle.std.proofs.Common.{◌≡◌, ℕ, zero, suc, ◌+◌, ◌-◌, ◌<◌, ◌≤◌, Bool, true, false, cond, eqb, ◌||◌, List, [], ◌∷◌, ◌++◌, length, get_or, count_by, Result, Ok, Err, IfOk, sym, refl, ap, subst, ◌∙◌, ◌⊎◌, inl, inr, ⊎_elim, arith, length-append, append_assoc}
+use Rattle.std.proofs.Common.{◌≡◌, ℕ, ◌+◌, ◌-◌, ◌<◌, ◌≤◌, false, cond, eqb, ◌||◌, List, [], ◌∷◌, ◌++◌, length, get_or, count_by, Result, Ok, Err, IfOk, sym, refl, ap, subst, ◌∙◌, ◌⊎◌, inl, inr, ⊎_elim, arith, length-append, append_assoc}
 use Rattle.std.specs.Result.{IfErr, MatchResult}
 use Rattle.std.proofs.lemmas.Bool.{or_parts, or_from, cond-false, ne_eqb}
 use Rattle.std.proofs.lemmas.List.{append-nil, get_or-append_right}
@@ -10,9 +10,9 @@ use Rattle.tree_digest.specs.declared.listing_error.ListingError.TheVariants.{Ba
 use Rattle.tree_digest.specs.Fields.{HasNone}
 use Rattle.tree_digest.specs.Lines.{line_text, line_fields}
 use Rattle.tree_digest.specs.Listings.{AllFollow, Fails, IsListing, listing_text, line_count}
-use Rattle.tree_digest.proofs.Cuts.{in_tail, read_clear}
+use Rattle.tree_digest.proofs.Cuts.{has_cut, read_clear}
 use Rattle.tree_digest.proofs.LineTexts.{entry_clear}
-use Rattle.tree_digest.proofs.ListingTexts.{line_some, lines_counted}
+use Rattle.tree_digest.proofs.ListingTexts.{lines_counted, none_counted}
 use Rattle.tree_digest.proofs.Takes.{none_is_no_line}
 use Rattle.listing_laws.proofs.OneFault.{one_first_fault}
 
@@ -48,8 +48,8 @@ two_parts (x ∷ a) b (y ∷ c) d e =
     let same : x ≡ y = cc in
     let others : a ++ b ≡ c ++ d = cc in
     ⊎_elim
-    (λ l. inl (record { more = l.more; long = ap (λ t. y ∷ t) l.long ∙ ap (λ (z : ℕ). z ∷ (a ++ l.more)) (sym same); rest = l.rest }))
-    (λ s. inr (record { first = s.first; more = s.more; short = ap (λ t. x ∷ t) s.short ∙ ap (λ (z : ℕ). z ∷ (c ++ s.first ∷ s.more)) same }))
+    (λ l. let long : c ≡ a ++ l.more = l.long in inl (record { more = l.more; long = cc; rest = l.rest }))
+    (λ s. let short : a ≡ c ++ s.first ∷ s.more = s.short in inr (record { first = s.first; more = s.more; short = cc }))
     (two_parts a b c d others)
 
 -- what is short of a line has no line end
@@ -70,27 +70,29 @@ parted known (l ∷ lines) front back all e =
     (λ longer.
     let rest = parted (known ++ l ∷ []) lines longer.more back all.1 longer.rest in
     record {
-        whole = l ∷ rest.whole;
-        part = rest.part;
-        follow = (all.0, rest.follow);
-        text = longer.long ∙ ap (λ t. line_text l ++ t) rest.text ∙ sym (append_assoc (line_text l) (listing_text rest.whole) rest.part);
-        clear = rest.clear;
-        fewer = omega (arith, rest.fewer);
-        next = λ some. omega (arith, rest.next some) })
+      whole = l ∷ rest.whole;
+      part = rest.part;
+      follow = (all.0, rest.follow);
+      text = longer.long ∙ ap (λ t. line_text l ++ t) rest.text ∙ sym (append_assoc (line_text l) (listing_text rest.whole) rest.part);
+      clear = rest.clear;
+      fewer = omega (arith, rest.fewer);
+      next = λ some. omega (arith, rest.next some);
+    })
     (λ shorter.
     record {
-        whole = [];
-        part = front;
-        follow = tt;
-        text = refl;
-        clear = short_of_end (line_fields l) front shorter.first shorter.more (entry_clear l.entry l.path) shorter.short;
-        fewer = omega arith;
-        next = λ some. omega arith })
+      whole = [];
+      part = front;
+      follow = tt;
+      text = refl;
+      clear = short_of_end (line_fields l) front shorter.first shorter.more (entry_clear l.entry l.path) shorter.short;
+      fewer = omega arith;
+      next = λ some. omega arith;
+    })
     (two_parts (line_text l) (listing_text lines) front back e)
 
 -- a text that ends has nothing after its last line end
 nothing_after : (xs part line : List ℕ) → HasNone 10 part → 0 < length part → xs ++ part ≡ line ++ 10 ∷ [] → ⊥
-nothing_after [] part line none some e = in_tail 10 line [] (subst (HasNone 10) e none)
+nothing_after [] part line none some e = has_cut 10 line [] (subst (HasNone 10) e none)
 nothing_after (x ∷ xs) part [] none some e = omega (arith, ap length e, length-append xs part, some)
 nothing_after (x ∷ xs) part (y ∷ line) none some e =
     let others : xs ++ part ≡ line ++ 10 ∷ [] = cc in
@@ -110,13 +112,15 @@ pub an_ended_beginning_is_a_listing : (lines : List ListingLine) (front back : L
 an_ended_beginning_is_a_listing lines front back listing e ended =
     let cut = parted [] lines front back listing.follow e in
     let none = no_part (listing_text cut.whole) cut.part cut.clear (subst IsEnded cut.text ended) in
-    let text : front ≡ listing_text cut.whole = cut.text ∙ ap (λ t. listing_text cut.whole ++ t) none ∙ append-nil (listing_text cut.whole) in
-    (cut.whole,
-    record {
+    let text : front ≡ listing_text cut.whole = cut.text ∙ ap (λ t. listing_text cut.whole ++ t) none ∙ append-nil (listing_text cut.whole) in (
+      cut.whole,
+      record {
         follow = cut.follow;
         count = omega (arith, cut.fewer, listing.count);
-        size = omega (arith, ap length text, ap length e, length-append front back, listing.size) },
-    text)
+        size = omega (arith, ap length text, ap length e, length-append front back, listing.size);
+      },
+      text,
+    )
 
 -- the text of a listing is empty or ends with a line end
 pub a_listing_is_ended : (lines : List ListingLine) → IsEnded (listing_text lines)
@@ -128,24 +132,18 @@ a_listing_is_ended (l ∷ lines) =
     (λ line. inr (line_text l ++ line.0, ap (λ t. line_text l ++ t) line.1 ∙ sym (append_assoc (line_text l) line.0 (10 ∷ []))))
     (a_listing_is_ended lines)
 
--- a text without line ends counts none
-counts_none : (part : List ℕ) → HasNone 10 part → count_by (λ b. eqb b 10) part ≡ 0
-counts_none [] none = refl
-counts_none (p ∷ part) none =
-    ap (λ b. cond b 1 0 + count_by (λ c. eqb c 10) part) (or_parts _ _ none).0 ∙ counts_none part (or_parts _ _ none).1
-
 -- the last line of a text that doesn't end with a line end is counted too
 counted : (lines : List ListingLine) (p : ℕ) (part : List ℕ) → HasNone 10 (p ∷ part) → line_count (listing_text lines ++ p ∷ part) ≡ length lines + 1
 counted lines p part none =
     let text = listing_text lines ++ p ∷ part in
     let size = length-append (listing_text lines) (p ∷ part) in
     let last : get_or text (length text - 1) 0 ≡ get_or (p ∷ part) (length text - 1 - length (listing_text lines)) 0 =
-        get_or-append_right (listing_text lines) (p ∷ part) (length (listing_text lines)) (length text - 1) 0 refl (omega (arith, size)) in
+    get_or-append_right (listing_text lines) (p ∷ part) (length (listing_text lines)) (length text - 1) 0 refl (omega (arith, size)) in
     let flag : (eqb (length text) 0 || eqb (get_or text (length text - 1) 0) 10) ≡ false =
-        or_from _ _ (ne_eqb (length text) 0 (λ e. omega (arith, size, e)))
-        (ap (λ b. eqb b 10) last ∙ read_clear 10 (p ∷ part) none (omega arith) (length text - 1 - length (listing_text lines))) in
+    or_from _ _ (ne_eqb (length text) 0 (λ e. omega (arith, size, e)))
+    (ap (λ b. eqb b 10) last ∙ read_clear 10 (p ∷ part) none (omega arith) (length text - 1 - length (listing_text lines))) in
     ap (λ n. count_by (λ b. eqb b 10) text + n) (cond-false (eqb (length text) 0 || eqb (get_or text (length text - 1) 0) 10) 0 1 flag)
-    ∙ omega (arith, sum_by-append (λ b. cond (eqb b 10) 1 0) (listing_text lines) (p ∷ part), lines_counted lines, counts_none (p ∷ part) none)
+    ∙ omega (arith, sum_by-append (λ b. cond (eqb b 10) 1 0) (listing_text lines) (p ∷ part), lines_counted lines, none_counted 10 (p ∷ part) none)
 
 -- any other beginning fails at its last line
 fails_at_last : (lines whole : List ListingLine) (front back part : List ℕ) → IsListing lines → listing_text lines ≡ front ++ back → AllFollow [] whole → front ≡ listing_text whole ++ part → HasNone 10 part
@@ -154,14 +152,17 @@ fails_at_last lines whole front back [] listing e follow text none fewer unended
     absurd (unended (subst IsEnded (sym (append-nil (listing_text whole)) ∙ sym text) (a_listing_is_ended whole)))
 fails_at_last lines whole front back (p ∷ part) listing e follow text none fewer unended =
     let count : line_count front ≡ length whole + 1 = ap line_count text ∙ counted whole p part none in
-    inr ((omega (arith, count, fewer (omega arith), listing.count), omega (arith, ap length e, length-append front back, listing.size)),
-    record {
+    inr (
+      (omega (arith, count, fewer (omega arith), listing.count), omega (arith, ap length e, length-append front back, listing.size)),
+      record {
         before = whole;
         after = p ∷ part;
         some = omega arith;
         follow = follow;
         is = text;
-        fault = (count, none_is_no_line (p ∷ part) none) })
+        fault = (count, λ line rest valid. none_is_no_line (p ∷ part) none line rest);
+      },
+    )
 
 pub another_beginning_has_a_bad_last_line : (lines : List ListingLine) (front back : List ℕ) → IsListing lines → listing_text lines ≡ front ++ back → (IsEnded front → ⊥)
     → Fails front (BadLine (line_count front))
