@@ -1,3 +1,1 @@
-pub mod JsonTexts
-pub mod OptionalFields
 pub mod WhitelistSteps
