@@ -1,0 +1,4 @@
+pub mod LastByte
+pub mod RequiredFields
+pub mod SameData
+pub mod WhitelistSteps

@@ -1,0 +1,9 @@
+pub mod DocumentData
+pub mod ImageData
+pub mod ImageForm
+pub mod MountForm
+pub mod PodData
+pub mod PodForm
+pub mod RuntimeAppForm
+pub mod VolumeForm
+pub mod WhitelistForm
