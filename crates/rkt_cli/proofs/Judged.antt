@@ -5,7 +5,7 @@ use Rattle.std.proofs.lemmas.Grind.{common_steps}
 use Rattle.ac_types.specs.declared.fault.FaultKind.TheVariants.{TooLong}
 use Rattle.ac_types.specs.Outcomes.{fails}
 use Rattle.manifests.specs.DocumentData.{any_manifest}
-use Rattle.manifests.specs.DocumentForm.{document}
+use Rattle.manifest_parts.specs.DocumentForm.{document}
 use Rattle.rkt_cli.specs.Validate.{file_outcome, manifest_outcome, most_read}
 
 too_long : (bytes : List ℕ) → nat_le (length bytes) 1048576 ≡ false → any_manifest bytes ≡ fails (codes "$") TooLong

@@ -8,4 +8,6 @@ mod stage;
 #[cfg(test)]
 mod status;
 #[cfg(test)]
+mod validate;
+#[cfg(test)]
 mod words;
