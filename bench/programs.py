@@ -1,4 +1,5 @@
-"""Times the program on data folders of several sizes; see programs.sh."""
+"""Times the program on data folders and manifests of several sizes; see programs.sh."""
+import json
 import os
 import statistics
 import subprocess
@@ -33,6 +34,21 @@ def pods(count):
     return folder
 
 
+def manifest(annotations):
+    """An image manifest with that many annotations of some 45 bytes each."""
+    document = {
+        "acKind": "ImageManifest",
+        "acVersion": "0.8.0",
+        "name": "example.com/measured",
+        "labels": [{"name": "version", "value": "1.0.0"}, {"name": "os", "value": "linux"}],
+        "annotations": [{"name": f"note-{i:05}", "value": f"a text {i:05}"} for i in range(annotations)],
+    }
+    path = os.path.join(WORK, f"manifest{annotations}.json")
+    with open(path, "w", encoding="ascii") as file:
+        json.dump(document, file, separators=(",", ":"))
+    return path
+
+
 def main():
     print(f"program {os.path.getsize(RKT) / 1024:.0f} KiB, medians of {RUNS} runs")
     measure("empty C program", [FLOOR])
@@ -40,6 +56,10 @@ def main():
         folder = pods(count)
         measure(f"status among {count} pods", [RKT, "status", f"00000000-0000-4000-8000-{count - 1:012x}"],
                 {"RKT_DIR": folder})
+    folder = pods(1)
+    for annotations in (20, 20000):
+        path = manifest(annotations)
+        measure(f"validate of {os.path.getsize(path):,} bytes", [RKT, "validate", path], {"RKT_DIR": folder})
 
 
 main()

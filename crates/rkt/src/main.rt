@@ -5,7 +5,7 @@ ghost use Rattle.std.specs.Prelude.{◌≡◌, ◌⊎◌, ◌++◌, true};
 ghost use Rattle.dir_trait.specs.Causes.{Rose};
 ghost use Rattle.dir_host.specs.Setup.{setup_status};
 
-use dir_host::{HostSink, Outside, SetupError, assemble, read_words};
+use dir_host::{HostBundle, HostSink, Outside, SetupError, assemble, read_words};
 use dir_trait::{Sink, SinkError, write_whole};
 use rkt_cli::rkt;
 use std::alloc::Global;
@@ -16,11 +16,18 @@ const VERSION: &str = "rkt 0.1.0\n";
 
 const HELP: &str = "\
 usage: rkt status UUID
+       rkt validate FILE
        rkt --help
        rkt --version
 
 rkt status UUID prints the phase of a pod as a line state=PHASE, and changes
 nothing of the pod. UUID has 36 characters, hyphenated, in lower case.
+
+rkt validate FILE reads FILE as an image manifest or a pod manifest of App
+Container 0.8, as its acKind says, and prints a line valid ImageManifest NAME
+or valid PodManifest N, N being the number of its apps. Of a bad manifest it
+tells the place and the number of the first fault. A FILE that begins with -
+is named as ./-..
 
 RKT_DIR names the data folder. Where it is unset or empty, the data folder is
 rkt in the current folder. Whatever is missing of it is made.
@@ -29,9 +36,12 @@ exit status
   0   done
   1   usage: the words are none of the above
   2   no such pod
+  6   bad manifest
   9   directory fault: the data folder can't be made, read or locked
+  10  bundle fault: the file can't be read
   12  output fault: standard output can't be written
   14  out of memory
+  15  no file: no regular file stands at the path
 ";
 
 /// The text that answers these words, before anything is asked of the host.
@@ -79,8 +89,17 @@ fn run<O: Sink, E: Sink>(
 ) -> Result<u8, SetupError> {
     let Outside { now, draw, mut dir } = assemble(rt, process::id(rt.process()))?;
     let words = words?;
-    let words = words.as_slice();
-    Ok(rkt(rt.alloc(), words, now, &draw, &mut dir, out, err))
+    let mut bundle = HostBundle::new(rt);
+    Ok(rkt(
+        rt.alloc(),
+        words.as_slice(),
+        now,
+        &draw,
+        &mut dir,
+        &mut bundle,
+        out,
+        err,
+    ))
 }
 
 fn main(rt: HostRuntime) -> ExitCode {

@@ -1,5 +1,8 @@
 pub mod Words
-pub mod Messages
+pub mod Judged
+pub mod Files
+pub mod Ends
 pub mod Sessions
+pub mod Outcomes
 pub mod Rows
 pub mod QuietRun

@@ -14,7 +14,7 @@ use Rattle.dir_model.proofs.Chains.{step_extends, and_more, nothing_yet, state_a
 use Rattle.dir_model.proofs.Begun.{unborn_owns_nothing}
 use Rattle.dir_model.proofs.Quiet.{same_rest, all_left, quiet_within}
 use Rattle.rkt_cli.specs.declared.line.Line.{Line}
-use Rattle.rkt_cli.specs.Moments.{DirAt, Outcome}
+use Rattle.rkt_cli.specs.Moments.{Outside, Outcome}
 use Rattle.rkt_cli.specs.Commands.{asks}
 use Rattle.rkt_cli.specs.Runs.{InProcess}
 
@@ -72,28 +72,28 @@ module _ (me : ℕ) (old new : List Event) (intent : Intent) (s : CallStep me ol
 abbrev pub any_call : Request → Bool
 any_call r = true
 
-module _ {line : Line} {intent : Intent} {b a : DirAt} {o : Outcome} (s : InProcess line intent b a o) (t : b.observed ≡ true) where
-  pub begin_part : (asked : Request → Bool) → asked (Begin intent) ≡ true → Extends asked b.process b.trace s.begun.trace
-  begin_part asked is = step_extends asked b.process b.trace (Begin intent) Done s.begun.trace is (s.begins t)
+module _ {line : Line} {intent : Intent} {b a : Outside} {o : Outcome} (s : InProcess line intent b a o) (t : b.dir.observed ≡ true) where
+  pub begin_part : (asked : Request → Bool) → asked (Begin intent) ≡ true → Extends asked b.dir.process b.dir.trace s.begun.dir.trace
+  begin_part asked is = step_extends asked b.dir.process b.dir.trace (Begin intent) Done s.begun.dir.trace is (s.begins t)
 
-  pub act_part : Extends (asks line) b.process s.begun.trace s.ended.trace
-  act_part = subst (λ (p : ℕ). Extends (asks line) p s.begun.trace s.ended.trace) s.me (s.did.extends (s.told ∙ t))
+  pub act_part : Extends (asks line) b.dir.process s.begun.dir.trace s.ended.dir.trace
+  act_part = subst (λ (p : ℕ). Extends (asks line) p s.begun.dir.trace s.ended.dir.trace) s.me (s.did.extends (s.told ∙ t))
 
-  pub finish_part : (asked : Request → Bool) → asked Finish ≡ true → Extends asked b.process s.ended.trace a.trace
-  finish_part asked is = step_extends asked b.process s.ended.trace Finish Done a.trace is (subst (λ (p : ℕ). CallStep p s.ended.trace Finish Done a.trace) (s.did.same ∙ s.me) (s.finishes t))
+  pub finish_part : (asked : Request → Bool) → asked Finish ≡ true → Extends asked b.dir.process s.ended.dir.trace a.dir.trace
+  finish_part asked is = step_extends asked b.dir.process s.ended.dir.trace Finish Done a.dir.trace is (subst (λ (p : ℕ). CallStep p s.ended.dir.trace Finish Done a.dir.trace) (s.did.same ∙ s.me) (s.finishes t))
 
   -- nobody else stepped at the begin, nor meanwhile
-  pub quiet_begin : Quiet b.process b.trace a.trace → Quiet b.process b.trace s.begun.trace
+  pub quiet_begin : Quiet b.dir.process b.dir.trace a.dir.trace → Quiet b.dir.process b.dir.trace s.begun.dir.trace
   quiet_begin q =
       let first = begin_part any_call refl in
-      quiet_within q (nothing_yet {asks = any_call}) (and_more (weaken (asks line) any_call b.process s.begun.trace s.ended.trace (λ r h. refl) act_part) refl (finish_part any_call refl)) first.more first.grown
+      quiet_within q (nothing_yet {asks = any_call}) (and_more (weaken (asks line) any_call b.dir.process s.begun.dir.trace s.ended.dir.trace (λ r h. refl) act_part) refl (finish_part any_call refl)) first.more first.grown
 
-  pub quiet_act : Quiet b.process b.trace a.trace → Quiet b.process s.begun.trace s.ended.trace
+  pub quiet_act : Quiet b.dir.process b.dir.trace a.dir.trace → Quiet b.dir.process s.begun.dir.trace s.ended.dir.trace
   quiet_act q = quiet_within q (begin_part any_call refl) (finish_part any_call refl) act_part.more act_part.grown
 
   -- the state is then the same, but that this process has begun
-  pub state_begun : Quiet b.process b.trace a.trace → state_after s.begun.trace ≡ state_next (state_after b.trace) (event b.process (Begin intent) Done)
-  state_begun q = ap state_after (began_alone b.process b.trace s.begun.trace intent (s.begins t) (quiet_begin q)) ∙ state_after-push b.trace (event b.process (Begin intent) Done)
+  pub state_begun : Quiet b.dir.process b.dir.trace a.dir.trace → state_after s.begun.dir.trace ≡ state_next (state_after b.dir.trace) (event b.dir.process (Begin intent) Done)
+  state_begun q = ap state_after (began_alone b.dir.process b.dir.trace s.begun.dir.trace intent (s.begins t) (quiet_begin q)) ∙ state_after-push b.dir.trace (event b.dir.process (Begin intent) Done)
 
-  pub idle : Quiet b.process b.trace a.trace → OwnsNothing b.process (state_after b.trace).namespace
-  idle q = held_nothing b.process b.trace s.begun.trace intent (s.begins t) (quiet_begin q)
+  pub idle : Quiet b.dir.process b.dir.trace a.dir.trace → OwnsNothing b.dir.process (state_after b.dir.trace).namespace
+  idle q = held_nothing b.dir.process b.dir.trace s.begun.dir.trace intent (s.begins t) (quiet_begin q)

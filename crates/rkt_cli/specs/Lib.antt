@@ -3,6 +3,7 @@ pub mod Lines
 pub mod Moments
 pub mod Ends
 pub mod Status
+pub mod Validate
 pub mod Commands
 pub mod Runs
 pub mod Rows

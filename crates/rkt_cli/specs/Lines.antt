@@ -1,10 +1,29 @@
 -- Which command the words are.
-use Rattle.std.specs.Prelude.{ℕ, cond, Option, None, option_map, List, [], ◌∷◌, bytes_eq, codes}
+use Rattle.std.specs.Prelude.{◌≡◌, ℕ, Bool, true, false, not, ◌&&◌, ◌==◌, cond, Option, Some, None, option_map, List, [], ◌∷◌, bytes_eq, codes, Result, Ok, Err}
 use Rattle.dir_trait.specs.Pods.{pod_of}
 use Rattle.rkt_cli.specs.declared.line.Line.{Line}
-use Rattle.rkt_cli.specs.declared.line.Line.TheVariants.{Status}
+use Rattle.rkt_cli.specs.declared.line.Line.TheVariants.{Status, Validate}
+use Rattle.rkt_cli.specs.declared.line.WordsError.{WordsError}
+use Rattle.rkt_cli.specs.declared.line.WordsError.TheVariants.{Usage, NoMemory}
 
--- `status` and the text of a pod; any other words are no command
+-- a word that isn't empty and isn't an option
+abbrev pub is_file_word : List ℕ → Bool
+is_file_word [] = false
+is_file_word (first ∷ rest) = not (first == 45)
+
+-- a command and its word
+abbrev pub command_of : List ℕ → List ℕ → Option Line
+command_of command word =
+    cond (bytes_eq command (codes "status")) (option_map Status (pod_of word))
+    (cond (bytes_eq command (codes "validate") && is_file_word word) (Some (Validate word)) None)
+
+-- `status` and the text of a pod, or `validate` and the path of a file; any other words are no command
 abbrev pub line_of : List (List ℕ) → Option Line
-line_of (command ∷ pod ∷ []) = cond (bytes_eq command (codes "status")) (option_map Status (pod_of pod)) None
+line_of (command ∷ word ∷ []) = command_of command word
 line_of _ = None
+
+-- what was read is the line; usage says that there is none, and memory may run out where there is one
+abbrev pub IsReading : Option Line → Result Line WordsError → Type 0
+IsReading line (Ok read) = line ≡ Some read
+IsReading line (Err Usage) = line ≡ None
+IsReading line (Err NoMemory) = (read : Line) × (line ≡ Some read)

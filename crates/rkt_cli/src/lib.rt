@@ -8,8 +8,9 @@ mod print;
 mod refusal;
 mod status;
 mod top;
+mod validate;
 
-pub use line::{Line, read_line};
+pub use line::{Line, WordsError, read_line};
 pub use output::Output;
 pub use refusal::Refusal;
 pub use top::rkt;

@@ -1,32 +1,70 @@
 // The words of a command line.
-ghost use Rattle.std.specs.Prelude.{◌≡◌, map, string_bytes};
-ghost use Rattle.rkt_cli.specs.Lines.{line_of};
+ghost use Rattle.std.specs.Prelude.{◌≡◌, Some, map, string_bytes};
+ghost use Rattle.rkt_cli.specs.Lines.{is_file_word, command_of, line_of, IsReading};
 
+use ac_types::Text;
 use dir_trait::PodId;
+use std::alloc::Global;
 
 /// A command with its words.
-#[derive(Clone, Copy, Debug, PartialEq, Eq)]
+#[derive(Drop)]
 pub enum Line {
     /// `status UUID`: print the phase of a pod.
     Status(PodId),
+    /// `validate FILE`: judge a file of the bundle as a manifest.
+    Validate(Text),
 }
 
-/// The command that the words are. None where they are none: an unknown word, too few or too many
-/// words, or a uuid that isn't whole, hyphenated and in lower case.
-pub fn read_line(words: &[String]) -> Option<Line>
-    ensures { result ≡ line_of (map string_bytes words.now) }
+/// Why words weren't read.
+#[derive(Clone, Copy, Debug, PartialEq, Eq)]
+pub enum WordsError {
+    /// The words are no command.
+    Usage,
+    /// Memory ran out.
+    NoMemory,
+}
+
+fn is_file(word: &str) -> bool
+    ensures { result ≡ is_file_word word.now }
+{
+    match word.as_bytes() {
+        [] => false,
+        [first, ..] => *first != b'-',
+    }
+}
+
+fn file_line(alloc: Global, word: &str) -> Result<Line, WordsError>
+    ensures { IsReading (Some (Line.Validate word.now)) result }
+{
+    match Text::of(alloc, word) {
+        Ok(path) => Ok(Line::Validate(path)),
+        Err(_) => Err(WordsError::NoMemory),
+    }
+}
+
+fn read_command(alloc: Global, command: &str, word: &str) -> Result<Line, WordsError>
+    ensures { IsReading (command_of command.now word.now) result }
+{
+    if command == "status" {
+        return match PodId::parse(word) {
+            Some(pod) => Ok(Line::Status(pod)),
+            None => Err(WordsError::Usage),
+        };
+    }
+    if command == "validate" && is_file(word) {
+        return file_line(alloc, word);
+    }
+    Err(WordsError::Usage)
+}
+
+/// The command that the words are. `Usage` where they are none: an unknown word, too few or too many
+/// words, a uuid that isn't whole, hyphenated and in lower case, or a file that is empty or an option.
+/// `NoMemory` only where they are one.
+pub fn read_line(alloc: Global, words: &[String]) -> Result<Line, WordsError>
+    ensures { IsReading (line_of (map string_bytes words.now)) result }
 {
     match words {
-        [command, pod] => {
-            if command.as_str() == "status" {
-                match PodId::parse(pod.as_str()) {
-                    Some(pod) => Some(Line::Status(pod)),
-                    None => None,
-                }
-            } else {
-                None
-            }
-        }
-        _ => None,
+        [command, word] => read_command(alloc, command.as_str(), word.as_str()),
+        _ => Err(WordsError::Usage),
     }
 }

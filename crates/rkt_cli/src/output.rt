@@ -1,5 +1,6 @@
 // What a command prints.
-ghost use Rattle.std.specs.Prelude.{◌≡◌, ◌++◌, [], OnOk};
+ghost use Rattle.std.specs.Prelude.{◌≡◌, ◌++◌, [], IfOk, OnOk};
+ghost use Rattle.std.specs.Fmt.{decimal};
 
 use std::alloc::{AllocError, Global};
 use std::marker::Model;
@@ -28,12 +29,37 @@ impl Output {
         }
     }
 
+    /// The text of one piece. Refused only where memory ran out.
+    pub fn of(alloc: Global, piece: &str) -> Result<Output, AllocError>
+        ensures { IfOk result (λ o. o ≡ piece.now) }
+    {
+        let mut output = Output::new(alloc);
+        output.push(piece)?;
+        Ok(output)
+    }
+
+    /// Appends another text. Refused only where memory ran out.
+    pub fn append(&mut self, other: &Output) -> Result<(), AllocError>
+        ensures { OnOk result (self.new ≡ self.old ++ other.now) }
+    {
+        self.text.extend_from_slice(other.as_slice())?;
+        Ok(())
+    }
+
     /// Appends a piece. Refused only where memory ran out.
     pub fn push(&mut self, piece: &str) -> Result<(), AllocError>
         ensures { OnOk result (self.new ≡ self.old ++ piece.now) }
     {
         self.text.extend_from_slice(piece.as_bytes())?;
         Ok(())
+    }
+
+    /// Appends a number in decimal. Refused only where memory ran out.
+    pub fn push_number(&mut self, alloc: Global, number: u64) -> Result<(), AllocError>
+        ensures { OnOk result (self.new ≡ self.old ++ decimal number) }
+    {
+        let digits = format!(in alloc; "{number}")?;
+        self.push(digits.as_str())
     }
 
     /// The text's bytes.

@@ -1,63 +1,96 @@
-// What a command line does to the directory.
-ghost use Rattle.std.specs.Prelude.{◌≡◌, ◌⊎◌};
+// What a command line does to the directory and the bundle.
+ghost use Rattle.std.specs.Prelude.{◌≡◌, true, false, Some, IsSome, IsNone};
 ghost use Rattle.dir_trait.specs.Local.{IsActive, nothing_local};
-ghost use Rattle.rkt_cli.specs.Moments.{dir_at};
-ghost use Rattle.rkt_cli.specs.Commands.{intent_of};
+ghost use Rattle.rkt_cli.specs.Moments.{dir_at, bundle_at, outside_at};
+ghost use Rattle.rkt_cli.specs.Commands.{uses_dir, reads_bundle, intent_of};
 ghost use Rattle.rkt_cli.specs.Runs.{Did, Performs};
 
 use crate::line::Line;
 use crate::output::Output;
 use crate::refusal::Refusal;
 use crate::status::pod_status;
-use dir_trait::{Dir, Draw, Intent, Kind, PodPrefix};
+use crate::validate::validate;
+use dir_trait::{Bundle, Dir, Draw, Intent, Kind, PodPrefix};
 use std::alloc::Global;
 
-// What a process says of a line when it begins.
-fn line_intent(line: Line, now: u64, draw: &Draw) -> Intent
-    ensures { result ≡ intent_of line now draw.now }
+// What a process says of a line when it begins. None where the command needs no process.
+fn line_intent(line: &Line, now: u64, draw: &Draw) -> Option<Intent>
+    ensures intent { result ≡ intent_of line.now now draw.now }
+    ensures some { IsSome result → uses_dir line.now ≡ true }
+    ensures none { IsNone result → uses_dir line.now ≡ false }
 {
     match line {
-        Line::Status(pod) => Intent {
+        Line::Status(pod) => Some(Intent {
             kind: Kind::Status,
-            word: PodPrefix::of(pod),
+            word: PodPrefix::of(*pod),
             now,
             grace: 0,
             expire: 0,
             draw: draw.uuid,
             token: draw.token,
-        },
+        }),
+        Line::Validate(_) => None,
     }
 }
 
-// The command itself, between the begin and the finish.
-fn act<D: Dir>(alloc: Global, line: Line, dir: &mut D) -> Result<Output, Refusal>
-    requires { IsActive (D.local dir.old) }
+// The command itself, between the begin and the finish where it needs a process.
+fn act<D: Dir, B: Bundle>(
+    alloc: Global,
+    line: &Line,
+    dir: &mut D,
+    bundle: &mut B,
+) -> Result<Output, Refusal>
+    requires { uses_dir line.now ≡ true → IsActive (D.local dir.old) }
     ensures local { D.local dir.new ≡ D.local dir.old }
-    ensures did { Did line (dir_at D.observed (D.process dir.old) (D.trace dir.old) (D.faults dir.old)) (dir_at D.observed (D.process dir.new) (D.trace dir.new) (D.faults dir.new)) result }
+    ensures apart { uses_dir line.now ≡ false → dir.new ≡ dir.old }
+    ensures unread { reads_bundle line.now ≡ false → bundle.new ≡ bundle.old }
+    ensures did { Did line.now (outside_at (dir_at D.observed (D.process dir.old) (D.trace dir.old) (D.faults dir.old)) (bundle_at B.observed (B.tree bundle.old) (B.faults bundle.old))) (outside_at (dir_at D.observed (D.process dir.new) (D.trace dir.new) (D.faults dir.new)) (bundle_at B.observed (B.tree bundle.new) (B.faults bundle.new))) result }
 {
     match line {
-        Line::Status(pod) => pod_status(alloc, pod, dir),
+        Line::Status(pod) => pod_status(alloc, *pod, dir),
+        Line::Validate(path) => validate(alloc, path, bundle),
     }
 }
 
-/// A process begins, does what the line says, and finishes. Where it can't begin, it does nothing
-/// more.
-pub fn perform<D: Dir>(
+// A process begins, does what the line says, and finishes. Where it can't begin, it does nothing more.
+fn act_in_process<D: Dir, B: Bundle>(
     alloc: Global,
-    line: Line,
-    now: u64,
-    draw: &Draw,
+    line: &Line,
+    intent: Intent,
     dir: &mut D,
+    bundle: &mut B,
 ) -> Result<Output, Refusal>
     requires fresh { D.local dir.old ≡ nothing_local }
-    ensures { Performs line (intent_of line now draw.now) (dir_at D.observed (D.process dir.old) (D.trace dir.old) (D.faults dir.old)) (dir_at D.observed (D.process dir.new) (D.trace dir.new) (D.faults dir.new)) result }
+    requires uses { uses_dir line.now ≡ true }
+    ensures unread { reads_bundle line.now ≡ false → bundle.new ≡ bundle.old }
+    ensures performs { Performs line.now (Some intent) (outside_at (dir_at D.observed (D.process dir.old) (D.trace dir.old) (D.faults dir.old)) (bundle_at B.observed (B.tree bundle.old) (B.faults bundle.old))) (outside_at (dir_at D.observed (D.process dir.new) (D.trace dir.new) (D.faults dir.new)) (bundle_at B.observed (B.tree bundle.new) (B.faults bundle.new))) result }
 {
-    match dir.begin(alloc, line_intent(line, now, draw)) {
+    match dir.begin(alloc, intent) {
         Ok(()) => {
-            let outcome = act(alloc, line, dir);
+            let outcome = act(alloc, line, dir, bundle);
             dir.finish();
             outcome
         }
         Err(_) => Err(Refusal::NoMemory),
+    }
+}
+
+/// Does what the line says, in a process of the directory where the command needs one.
+pub fn perform<D: Dir, B: Bundle>(
+    alloc: Global,
+    line: &Line,
+    now: u64,
+    draw: &Draw,
+    dir: &mut D,
+    bundle: &mut B,
+) -> Result<Output, Refusal>
+    requires fresh { D.local dir.old ≡ nothing_local }
+    ensures apart { uses_dir line.now ≡ false → dir.new ≡ dir.old }
+    ensures unread { reads_bundle line.now ≡ false → bundle.new ≡ bundle.old }
+    ensures performs { Performs line.now (intent_of line.now now draw.now) (outside_at (dir_at D.observed (D.process dir.old) (D.trace dir.old) (D.faults dir.old)) (bundle_at B.observed (B.tree bundle.old) (B.faults bundle.old))) (outside_at (dir_at D.observed (D.process dir.new) (D.trace dir.new) (D.faults dir.new)) (bundle_at B.observed (B.tree bundle.new) (B.faults bundle.new))) result }
+{
+    match line_intent(line, now, draw) {
+        Some(intent) => act_in_process(alloc, line, intent, dir, bundle),
+        None => act(alloc, line, dir, bundle),
     }
 }

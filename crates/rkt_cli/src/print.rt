@@ -30,28 +30,33 @@ pub fn print<O: Sink>(
 }
 
 // Writes a refusal's message, or a part of it from its start.
-fn write_message<E: Sink>(alloc: Global, err: &mut E, refusal: Refusal) -> Result<(), SinkError>
+fn write_message<E: Sink>(alloc: Global, err: &mut E, refusal: &Refusal) -> Result<(), SinkError>
     ensures faults { E.faults err.old ≤ E.faults err.new }
     ensures cause { IsErrOf result SinkError.Failed → Rose (E.faults err.old) (E.faults err.new) }
-    ensures whole { OnOk result (E.observed ≡ true → E.bytes err.new ≡ E.bytes err.old ++ message refusal) }
-    ensures part { E.observed ≡ true → WritesPart (E.bytes err.old) (message refusal) (E.bytes err.new) }
+    ensures whole { OnOk result (E.observed ≡ true → E.bytes err.new ≡ E.bytes err.old ++ message refusal.now) }
+    ensures part { E.observed ≡ true → WritesPart (E.bytes err.old) (message refusal.now) (E.bytes err.new) }
 {
-    write_whole(alloc, err, b"rkt: ")?;
-    write_whole(alloc, err, refusal.text().as_bytes())?;
-    write_whole(alloc, err, b"\n")
+    match refusal {
+        // Said without memory.
+        Refusal::NoMemory => write_whole(alloc, err, b"rkt: out of memory\n"),
+        _ => match refusal.line(alloc) {
+            Ok(line) => write_whole(alloc, err, line.as_slice()),
+            Err(_) => Err(SinkError::NoMemory),
+        },
+    }
 }
 
 /// Says why a command wasn't done. What becomes of the message changes no status.
-pub fn complain<E: Sink>(alloc: Global, err: &mut E, refusal: Refusal)
-    ensures { Complained refusal (sink_at E.observed (E.bytes err.old) (E.faults err.old)) (sink_at E.observed (E.bytes err.new) (E.faults err.new)) }
+pub fn complain<E: Sink>(alloc: Global, err: &mut E, refusal: &Refusal)
+    ensures { Complained refusal.now (sink_at E.observed (E.bytes err.old) (E.faults err.old)) (sink_at E.observed (E.bytes err.new) (E.faults err.new)) }
 {
     let _ = write_message(alloc, err, refusal);
 }
 
 /// Says how it ended, and gives the status.
-pub fn report<E: Sink>(alloc: Global, err: &mut E, end: Result<(), Refusal>) -> u8
-    ensures status { result ≡ end_status end }
-    ensures said { Reported end (sink_at E.observed (E.bytes err.old) (E.faults err.old)) (sink_at E.observed (E.bytes err.new) (E.faults err.new)) }
+pub fn report<E: Sink>(alloc: Global, err: &mut E, end: &Result<(), Refusal>) -> u8
+    ensures status { result ≡ end_status end.now }
+    ensures said { Reported end.now (sink_at E.observed (E.bytes err.old) (E.faults err.old)) (sink_at E.observed (E.bytes err.new) (E.faults err.new)) }
 {
     match end {
         Ok(()) => 0,

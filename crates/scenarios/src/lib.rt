@@ -10,4 +10,6 @@ mod stage;
 #[cfg(test)]
 mod status;
 #[cfg(test)]
+mod validate;
+#[cfg(test)]
 mod words;

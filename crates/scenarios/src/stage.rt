@@ -2,7 +2,7 @@
 ghost use Rattle.std.specs.Prelude.{◌≡◌, IfOk};
 ghost use Rattle.dir_trait.specs.Local.{nothing_local};
 
-use dir_trait::memory::{MemoryDir, MemorySink};
+use dir_trait::memory::{MemoryBundle, MemoryDir, MemorySink};
 use dir_trait::{
     Area, Draw, Handle, Intent, Kind, Mode, NoMemory, PodId, PodPrefix, Request, Sink, Spot, Which,
 };
@@ -44,15 +44,36 @@ fn texts(alloc: Global, words: &[&str]) -> Result<Vec<String>, NoMemory> {
     Ok(list)
 }
 
-/// The program on these words.
-pub fn run(alloc: Global, words: &[&str], dir: &mut MemoryDir) -> Result<Ran, NoMemory>
+/// The program on these words, with a directory and a bundle.
+pub fn run_with(
+    alloc: Global,
+    words: &[&str],
+    dir: &mut MemoryDir,
+    bundle: &mut MemoryBundle,
+) -> Result<Ran, NoMemory>
     requires { dir.old.local ≡ nothing_local }
 {
     let words = texts(alloc, words)?;
     let mut out = MemorySink::new(alloc);
     let mut err = MemorySink::new(alloc);
-    let status = rkt(alloc, &words, 100, &draw(), dir, &mut out, &mut err);
+    let status = rkt(
+        alloc,
+        &words,
+        100,
+        &draw(),
+        dir,
+        bundle,
+        &mut out,
+        &mut err,
+    );
     Ok(Ran { status, out, err })
+}
+
+/// The program on these words, with an empty bundle.
+pub fn run(alloc: Global, words: &[&str], dir: &mut MemoryDir) -> Result<Ran, NoMemory>
+    requires { dir.old.local ≡ nothing_local }
+{
+    run_with(alloc, words, dir, &mut MemoryBundle::new(alloc))
 }
 
 /// Whether `status` of the one pod of the tests prints this line.
@@ -63,17 +84,19 @@ pub fn shows(alloc: Global, dir: MemoryDir, line: &str) -> Result<bool, NoMemory
     Ok(run(alloc, &["status", POD], &mut dir)?.is(0, line, ""))
 }
 
-/// `status` of the one pod of the tests, with its output somewhere else.
+/// The program on these words, with its output somewhere else.
 pub fn run_into<O: Sink>(
     alloc: Global,
+    words: &[&str],
     dir: &mut MemoryDir,
+    bundle: &mut MemoryBundle,
     out: &mut O,
 ) -> Result<(u8, MemorySink), NoMemory>
     requires { dir.old.local ≡ nothing_local }
 {
-    let words = texts(alloc, &["status", POD])?;
+    let words = texts(alloc, words)?;
     let mut err = MemorySink::new(alloc);
-    let status = rkt(alloc, &words, 100, &draw(), dir, out, &mut err);
+    let status = rkt(alloc, &words, 100, &draw(), dir, bundle, out, &mut err);
     Ok((status, err))
 }
 

@@ -1,11 +1,27 @@
 // The command `status` among the steps of others.
+ghost use Rattle.std.specs.Prelude.{◌≡◌};
+ghost use Rattle.dir_trait.specs.Local.{nothing_local};
+
 use crate::byte_sink::ByteSink;
 use crate::stage::{
     POD, intent, left_in, owned_in, run, run_into, shows, spot, with_kill, with_move,
 };
-use dir_trait::memory::MemorySink;
-use dir_trait::{Area, Handle, Kind, Mode, Request, Which};
+use dir_trait::memory::{MemoryBundle, MemoryDir, MemorySink};
+use dir_trait::{Area, Handle, Kind, Mode, NoMemory, Request, Sink, Which};
+use std::alloc::Global;
 use std::test::Fail;
+
+/// `status` of the one pod of the tests, with its output somewhere else.
+fn into<O: Sink>(
+    alloc: Global,
+    dir: &mut MemoryDir,
+    out: &mut O,
+) -> Result<(u8, MemorySink), NoMemory>
+    requires { dir.old.local ≡ nothing_local }
+{
+    let mut bundle = MemoryBundle::new(alloc);
+    run_into(alloc, &["status", POD], dir, &mut bundle, out)
+}
 
 const PLACES: [(Area, &str, &str); 6] = [
     (Area::Embryo, "state=embryo\n", "state=embryo\n"),
@@ -115,7 +131,7 @@ fn a_call_that_fails_is_a_directory_fault_and_the_next_process_reads(
 fn an_output_that_fails_is_an_output_fault(rt: HostRuntime) -> Result<(), Fail> {
     let mut dir = left_in(rt.alloc(), Area::Run)?;
     let mut out = MemorySink::new(rt.alloc()).fail(rt.alloc(), 1)?;
-    let (status, err) = run_into(rt.alloc(), &mut dir, &mut out)?;
+    let (status, err) = into(rt.alloc(), &mut dir, &mut out)?;
     assert_eq!(rt; status, 12);
     let silent = out.bytes() == b"".as_slice();
     assert!(rt; silent);
@@ -131,7 +147,7 @@ fn an_output_that_takes_a_byte_gets_the_whole_or_a_beginning(rt: HostRuntime) ->
     for (failing, wanted, bytes) in [(0, 0, whole), (2, 12, begun)] {
         let mut dir = left_in(rt.alloc(), Area::Run)?;
         let mut out = ByteSink::new(rt.alloc(), failing);
-        let (status, _) = run_into(rt.alloc(), &mut dir, &mut out)?;
+        let (status, _) = into(rt.alloc(), &mut dir, &mut out)?;
         assert_eq!(rt; status, wanted);
         let same = out.bytes.as_slice() == bytes;
         assert!(rt; same);

@@ -14,7 +14,7 @@ fn an_empty_folder_has_no_pod(rt: HostRuntime) -> Result<(), Fail> {
 
 #[test]
 fn other_words_are_usage_and_call_nothing(rt: HostRuntime) -> Result<(), Fail> {
-    let lines: [&[&str]; 7] = [
+    let lines: [&[&str]; 13] = [
         &[],
         &["frob"],
         &["status"],
@@ -22,6 +22,12 @@ fn other_words_are_usage_and_call_nothing(rt: HostRuntime) -> Result<(), Fail> {
         &["status", "00000000-0000-4000-8000-00000000000A"],
         &["status", "00000000-0000-4000-8000-0000"],
         &["list"],
+        &["validate"],
+        &["validate", ""],
+        &["validate", "-"],
+        &["validate", "--strict"],
+        &["validate", "a", "b"],
+        &["Validate", "a"],
     ];
     for line in lines {
         let mut dir = MemoryDir::new(rt.alloc(), 1)?;

@@ -15,4 +15,4 @@ complained refusal b a (Err sink_error.Failed) faults cause whole part = record 
 complained refusal b a (Err sink_error.NoMemory) faults cause whole part = record { refused = Some sink_error.NoMemory; faults = faults; cause = λ is. cc; whole = λ is. cc; part = part }
 
 pub returns : goal.returns
-returns g c = complained c.args.refusal _ _ c.write_message.result c.write_message.ensures.faults c.write_message.ensures.cause c.write_message.ensures.whole c.write_message.ensures.part
+returns g c = complained c.args.refusal.now _ _ c.write_message.result c.write_message.ensures.faults c.write_message.ensures.cause c.write_message.ensures.whole c.write_message.ensures.part

@@ -1,0 +1,68 @@
+-- A file that was read, or not, and what `validate` owes.
+use Rattle.std.proofs.Common.{arith, ◌≡◌, ◌⊎◌, inl, inr, ◌≤◌, ℕ, Bool, true, false, List, take, Option, Some, None, option_map, IsSomeAnd, Ok, Err, IsErrOf, IfErr, refl, sym, ap, subst, ◌∙◌}
+use Rattle.dir_model.specs.Causes.{Rose}
+use Rattle.dir_model.proofs.Chains.{nothing_yet}
+use Rattle.dir_trait.specs.Bundles.{file_bytes}
+use Rattle.dir_trait.specs.declared.bundle.BundleError.{BundleError}
+use Rattle.dir_trait.specs.declared.bundle.BundleError.TheVariants.{Missing, Failed}
+use Rattle.dir_trait.specs.declared.bundle.BundleError.TheVariants as bundle_error
+use Rattle.manifests.specs.DocumentData.{any_manifest}
+use Rattle.rkt_cli.specs.declared.line.Line.{Line}
+use Rattle.rkt_cli.specs.declared.line.Line.TheVariants.{Validate}
+use Rattle.rkt_cli.specs.declared.refusal.Refusal.{Refusal}
+use Rattle.rkt_cli.specs.declared.refusal.Refusal.TheVariants.{Usage, NoPod, BadManifest, DirFault, BundleFault, OutFault, NoMemory, NoFile}
+use Rattle.rkt_cli.specs.Moments.{DirAt, BundleAt, Outcome, outside_at}
+use Rattle.rkt_cli.specs.Ends.{OwnEnd}
+use Rattle.rkt_cli.specs.Validate.{ValidateDoes, IsRefusalOf, validate_refusal, manifest_outcome, most_read}
+use Rattle.rkt_cli.specs.Commands.{may}
+use Rattle.rkt_cli.specs.Runs.{Did}
+
+front_of : (bytes : List ℕ) (file : Option (List ℕ)) → IsSomeAnd file (λ f. bytes ≡ take most_read f) → Some bytes ≡ option_map (take most_read) file
+front_of bytes None read = absurd read
+front_of bytes (Some f) read = ap Some read
+
+pub was_read : (path bytes : List ℕ) (b : BundleAt) (o : Outcome) → (o ≡ manifest_outcome (any_manifest bytes)) ⊎ (o ≡ Err NoMemory) → (b.observed ≡ true → IsSomeAnd (file_bytes (b.tree path)) (λ f. bytes ≡ take most_read f)) → OwnEnd o ≡ true → ValidateDoes path b o
+was_read path bytes b o (inl e) read own = record { found = Some bytes; told = λ t. front_of bytes (file_bytes (b.tree path)) (read t); is = e }
+was_read path bytes b o (inr e) read own = let clash : true ≡ false = sym own ∙ ap OwnEnd e in cc
+
+refused_end : (r refusal : Refusal) {X : Type 0} → r ≡ refusal → OwnEnd (Err r) ≡ true → OwnEnd (Err refusal) ≡ false → X
+refused_end r refusal e own other = let clash : true ≡ false = sym own ∙ (ap (λ (x : Refusal). OwnEnd (Err x)) e ∙ other) in cc
+
+pub was_refused : (path : List ℕ) (b : BundleAt) (error : BundleError) (r : Refusal) → IsRefusalOf path error r → (error ≡ Missing → b.observed ≡ true → file_bytes (b.tree path) ≡ None) → OwnEnd (Err r) ≡ true → ValidateDoes path b (Err r)
+was_refused path b Missing r (inl e) none own = record { found = None; told = λ t. sym (ap (option_map (take most_read)) (none refl t)); is = ap Err e }
+was_refused path b Missing r (inr e) none own = refused_end r NoMemory e own refl
+was_refused path b Failed r e none own = refused_end r BundleFault e own refl
+was_refused path b bundle_error.NoMemory r e none own = refused_end r NoMemory e own refl
+
+never_dir : (o : Outcome) {X : Type 0} → IfErr o (λ r. validate_refusal r ≡ true) → IsErrOf o DirFault → X
+never_dir (Ok text) known is = cc
+never_dir (Err r) known is = let e : DirFault ≡ r = cc in let clash : false ≡ true = ap validate_refusal e ∙ known in cc
+
+may_refuse : (path : List ℕ) (r : Refusal) → validate_refusal r ≡ true → may (Validate path) r ≡ true
+may_refuse path Usage known = known
+may_refuse path NoPod known = known
+may_refuse path (BadManifest at number) known = known
+may_refuse path DirFault known = known
+may_refuse path BundleFault known = known
+may_refuse path OutFault known = known
+may_refuse path NoMemory known = known
+may_refuse path (NoFile named) known = known
+
+may_end : (path : List ℕ) (o : Outcome) → IfErr o (λ r. validate_refusal r ≡ true) → IfErr o (λ r. may (Validate path) r ≡ true)
+may_end path (Ok text) known = known
+may_end path (Err r) known = may_refuse path r known
+
+pub validate_did : (line : Line) (path : List ℕ) (dir : DirAt) (b a : BundleAt) (o : Outcome) → line ≡ Validate path → b.faults ≤ a.faults → (IsErrOf o BundleFault → Rose b.faults a.faults) → IfErr o (λ r. validate_refusal r ≡ true) → (OwnEnd o ≡ true → ValidateDoes path b o) → Did line (outside_at dir b) (outside_at dir a) o
+validate_did line path dir b a o is faults cause known does = subst (λ (l : Line). Did l (outside_at dir b) (outside_at dir a) o) (sym is) did
+  where
+    did : Did (Validate path) (outside_at dir b) (outside_at dir a) o
+    did = record {
+      same = refl;
+      faults = omega arith;
+      cause = never_dir o known;
+      bundle_faults = faults;
+      bundle_cause = cause;
+      refusals = may_end path o known;
+      extends = λ t. nothing_yet;
+      does = does;
+    }
