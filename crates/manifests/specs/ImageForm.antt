@@ -1,0 +1,42 @@
+-- The image manifest: its fields in the order in which they are read.
+use Rattle.std.specs.Prelude.{ℕ, List, [], codes}
+use Rattle.serde_json.specs.Data.{Data}
+use Rattle.ac_types.specs.FieldForms.{required, optional, default}
+use Rattle.ac_types.specs.NameForms.{filled_identifier}
+use Rattle.ac_types.specs.Outcomes.{Outcome, reads, ◌>>=◌, ◌>>◌}
+use Rattle.app_section.specs.AppForm.{app}
+use Rattle.app_section.specs.ListForms.{list_of}
+use Rattle.manifests.specs.AnnotationForm.{annotation}
+use Rattle.manifests.specs.DependencyForm.{dependency}
+use Rattle.manifests.specs.DocumentForm.{document}
+use Rattle.manifests.specs.HeadForms.{ac_kind, ac_version}
+use Rattle.manifests.specs.ImageData.{ImageData}
+use Rattle.manifests.specs.LabelsForm.{labels}
+use Rattle.manifests.specs.WhitelistForm.{whitelist}
+
+-- what follows the kind
+unfoldable pub image_fields : Data → Outcome ImageData
+image_fields d =
+    required ac_version (codes "$") (codes "acVersion") d >>= λ version.
+    required filled_identifier (codes "$") (codes "name") d >>= λ name.
+    default [] labels (codes "$") (codes "labels") d >>= λ ls.
+    optional app (codes "$") (codes "app") d >>= λ section.
+    default [] (list_of dependency) (codes "$") (codes "dependencies") d >>= λ dependencies.
+    default [] whitelist (codes "$") (codes "pathWhitelist") d >>= λ paths.
+    default [] (list_of annotation) (codes "$") (codes "annotations") d >>= λ annotations.
+    reads (record {
+      ac_version = version;
+      name = name;
+      labels = ls;
+      app = section;
+      dependencies = dependencies;
+      path_whitelist = paths;
+      annotations = annotations;
+    })
+
+abbrev pub image_kind : Data → Outcome (List ℕ)
+image_kind d = required (ac_kind (codes "ImageManifest")) (codes "$") (codes "acKind") d
+
+-- the image manifest that some bytes are
+unfoldable pub image_manifest : List ℕ → Outcome ImageData
+image_manifest bytes = document bytes >>= λ d. image_kind d >> image_fields d
