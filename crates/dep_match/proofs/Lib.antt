@@ -1,3 +1,3 @@
 pub mod BestSoFar
-pub mod References
+pub mod OrderedTrees
 pub mod Trees

@@ -1,5 +1,5 @@
 -- Which images of a list a reference or a dependency matches, and which of the matches is best.
-use Rattle.std.specs.Prelude.{ℕ, ◌≤◌, Bool, true, not, ◌&&◌, List, take, Option, Some, None, slice_index_or}
+use Rattle.std.specs.Prelude.{ℕ, Bool, true, not, ◌&&◌, List, take, Option, Some, None, slice_index_or}
 use Rattle.std.specs.List.{list_any, list_all, filter, position}
 use Rattle.std.specs.Ordering.{nat_cmp, ordering_then, is_gt}
 use Rattle.std.specs.Cmp.Lexicographic.{slice_cmp}
@@ -37,11 +37,6 @@ abbrev pub matches : ImageRef → Stored → Bool
 matches (Named name labels) image = is_called name labels image
 matches (ById digits len) image = bytes_eq (take len (digits_of image.id)) (take len digits)
 
--- a reference has room for its digits
-abbrev pub HasDigits : ImageRef → Type 0
-HasDigits (Named name labels) = Unit {0}
-HasDigits (ById digits len) = len ≤ 128
-
 -- the ID is the one that is given, where one is
 abbrev pub has_id : Option ImageId → ImageId → Bool
 has_id None id = true
@@ -73,7 +68,3 @@ outranks_place images (Some place) image = outranks image (slice_index_or images
 abbrev pub accepts : Wanted → Stored → Bool
 accepts (Reference r) = matches r.now
 accepts (Dependent d) = matches_dependency d.now
-
-abbrev pub HasRoom : Wanted → Type 0
-HasRoom (Reference r) = HasDigits r.now
-HasRoom (Dependent d) = Unit {0}

@@ -2,6 +2,7 @@
 
 ghost use Rattle.std.specs.Prelude.{◌≡◌, ◌<◌, ◌≤◌, ◌+◌, ◌++◌, ◌∷◌, [], length, IfOk, IfErr};
 ghost use Rattle.dep_match.specs.Dependencies.{dependencies_at, dependency_tree, next_image, subtree, IsFault};
+ghost use Rattle.dep_match.specs.TreeOrder.{IsOrderedTree};
 
 use crate::dep_error::DepError;
 use crate::dep_tree::{DepNode, DepNodes, DepTree};
@@ -25,6 +26,7 @@ const MAX_NODES: usize = 256;
 pub fn closure(alloc: Global, list: &[Stored], top: usize) -> Result<DepTree, DepError>
     requires { top < length list.now }
     ensures ok { IfOk result (λ tree. dependency_tree list.now top ≡ Ok tree.nodes) }
+    ensures order { IfOk result (λ tree. IsOrderedTree (length list.now) tree.nodes) }
     ensures err { IfErr result (IsFault (dependency_tree list.now top)) }
 {
     let nodes = subtree(alloc, list, &[], top, 0, MAX_DEPTH)?;

@@ -13,6 +13,3 @@ pub use dep_tree::{DepNode, DepNodes, DepTree, Places};
 pub use dependencies::closure;
 pub use selection::{best, best_dependency};
 pub use stored::Stored;
-
-#[cfg(test)]
-mod tests;

@@ -2,7 +2,7 @@
 
 ghost use Rattle.std.specs.Prelude.{◌≡◌, ◌<◌, ◌↔◌, ◌&&◌, None, [], length, IfSome};
 ghost use Rattle.std.specs.List.{filter};
-ghost use Rattle.dep_match.specs.Selection.{accepts, best_match, matches, matches_dependency, outranks, outranks_place, HasDigits, HasRoom};
+ghost use Rattle.dep_match.specs.Selection.{accepts, best_match, matches, matches_dependency, outranks, outranks_place};
 
 use crate::stored::Stored;
 use crate::wanted::{Wanted, accepts};
@@ -15,7 +15,6 @@ use manifests::Dependency;
 /// name and each of the labels with its value, and digits when its ID begins with them. Takes no
 /// memory.
 pub fn best(list: &[Stored], wanted: &ImageRef) -> Option<usize>
-    requires { HasDigits wanted.now }
     ensures place { result ≡ best_match (matches wanted.now) list.now }
     ensures within { IfSome result (λ place. place < length list.now) }
     ensures none { (result ≡ None) ↔ (filter (matches wanted.now) list.now ≡ []) }
@@ -34,7 +33,6 @@ pub fn best_dependency(list: &[Stored], wanted: &Dependency) -> Option<usize>
 }
 
 fn best_of(list: &[Stored], wanted: &Wanted) -> Option<usize>
-    requires { HasRoom wanted.now }
     ensures place { result ≡ best_match (accepts wanted.now) list.now }
     ensures within { IfSome result (λ place. place < length list.now) }
     ensures none { (result ≡ None) ↔ (filter (accepts wanted.now) list.now ≡ []) }
@@ -50,8 +48,7 @@ fn best_of(list: &[Stored], wanted: &Wanted) -> Option<usize>
 
 /// Whether the image is looked for, and outranks the one at that place, where there is one.
 fn is_better(list: &[Stored], image: &Stored, best: Option<usize>, wanted: &Wanted) -> bool
-    requires room { HasRoom wanted.now }
-    requires within { IfSome best (λ place. place < length list.now) }
+    requires { IfSome best (λ place. place < length list.now) }
     ensures { result ≡ (accepts wanted.now image.now && outranks_place list.now best image.now) }
 {
     accepts(wanted, image) && outranks_place(list, best, image)

@@ -1,10 +1,10 @@
 //! Whether an image is one that is looked for.
 
-ghost use Rattle.std.specs.Prelude.{◌≡◌, ◌≤◌, ◌&&◌, take};
+ghost use Rattle.std.specs.Prelude.{◌≡◌, ◌&&◌, take};
 ghost use Rattle.std.specs.List.{list_all};
 ghost use Rattle.std.specs.Str.{bytes_eq};
 ghost use Rattle.ac_types.specs.declared.label.Label.{Label};
-ghost use Rattle.dep_match.specs.Selection.{accepts, digits_of, has_id, has_label, is_called, is_same_label, HasRoom};
+ghost use Rattle.dep_match.specs.Selection.{accepts, digits_of, has_id, has_label, is_called, is_same_label};
 
 use crate::stored::Stored;
 use ac_types::{AcIdentifier, ImageId, ImageRef, Label};
@@ -19,7 +19,6 @@ pub(crate) enum Wanted<'a> {
 
 /// Whether the image is one that is looked for.
 pub(crate) fn accepts(wanted: &Wanted, image: &Stored) -> bool
-    requires { HasRoom wanted.now }
     ensures { result ≡ accepts wanted.now image.now }
 {
     match wanted {
@@ -71,12 +70,18 @@ fn has_id(wanted: &Option<ImageId>, id: ImageId) -> bool
 }
 
 fn begins_with(id: ImageId, digits: &[u8; 128], len: usize) -> bool
-    requires { len ≤ 128 }
     ensures { result ≡ bytes_eq (take len (digits_of id)) (take len digits.now) }
 {
     let mut text = [0; 128];
     match hex::encode_to_slice(id.bytes.as_slice(), &mut text[..]) {
-        Ok(()) => text[..len] == digits[..len],
+        Ok(()) => have_one_front(&text, digits, len),
         Err(_) => unreachable!(),
     }
+}
+
+fn have_one_front(text: &[u8; 128], other: &[u8; 128], len: usize) -> bool
+    ensures { result ≡ bytes_eq (take len text.now) (take len other.now) }
+{
+    let len = len.min(128);
+    text[..len] == other[..len]
 }

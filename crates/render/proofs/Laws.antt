@@ -6,11 +6,12 @@ use Rattle.path_map.specs.Entries.{Entries, Tree, entry_at}
 use Rattle.path_map.specs.Overlay.{overlaid, HasParents}
 use Rattle.path_map.proofs.OverlayLaws.{overlay_keeps_parents}
 use Rattle.path_map.proofs.WhitelistLaws.{keep_keeps_parents}
-use Rattle.dep_match.specs.declared.dep_tree.DepTree.{DepTree}
+use Rattle.dep_match.specs.declared.dep_tree.DepNode.{DepNode}
 use Rattle.dep_match.specs.declared.stored.Stored.{Stored}
 use Rattle.render.specs.declared.rendering.Rendering.{Rendering}
 use Rattle.render.specs.Layers.{empty_tree, laid, layered}
-use Rattle.render.specs.Flattening.{node_at, whitelist_of, entries_of, IsLayered, IsFlattened, IsRendering}
+use Rattle.dep_match.specs.TreeOrder.{node_at}
+use Rattle.render.specs.Flattening.{whitelist_of, entries_of, IsLayered, IsFlattened, IsRendering}
 
 no_parents : HasParents empty_tree
 no_parents q path some above = cc
@@ -29,11 +30,11 @@ layer_parents whitelist own image below r layer =
     (keep_keeps_parents whitelist (laid (layered empty_tree below) own) (laid_parents (layered empty_tree below) own (layered_parents empty_tree below no_parents)))
 
 -- in a rendering each ancestor of an entry is a directory
-pub flattening_has_parents : (tree : DepTree) (list : List Stored) (maps : List Entries) (levels n : ℕ) (r : Rendering) → IsFlattened tree list maps levels n r → HasParents (entry_at r.map)
-flattening_has_parents tree list maps zero n r flat = absurd flat
-flattening_has_parents tree list maps (suc levels) n r flat =
-    let image = (node_at tree n).image in
+pub flattening_has_parents : (nodes : List DepNode) (list : List Stored) (maps : List Entries) (levels n : ℕ) (r : Rendering) → IsFlattened nodes list maps levels n r → HasParents (entry_at r.map)
+flattening_has_parents nodes list maps zero n r flat = absurd flat
+flattening_has_parents nodes list maps (suc levels) n r flat =
+    let image = (node_at nodes n).image in
     layer_parents (whitelist_of list image) (entries_of maps image) image flat.0 r flat.2
 
-pub rendering_has_parents : (tree : DepTree) (list : List Stored) (maps : List Entries) (r : Rendering) → IsRendering tree list maps r → HasParents (entry_at r.map)
-rendering_has_parents tree list maps r rendering = flattening_has_parents tree list maps (length tree.nodes) 0 r rendering
+pub rendering_has_parents : (nodes : List DepNode) (list : List Stored) (maps : List Entries) (r : Rendering) → IsRendering nodes list maps r → HasParents (entry_at r.map)
+rendering_has_parents nodes list maps r rendering = flattening_has_parents nodes list maps (length nodes) 0 r rendering

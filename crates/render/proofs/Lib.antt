@@ -1,6 +1,8 @@
+pub mod Files
+pub mod LaidItself
 pub mod Laws
+pub mod Layers
 pub mod Laying
-pub mod Nodes
+pub mod Levels
 pub mod Noting
-pub mod Orders
 pub mod SourceLaws

@@ -2,17 +2,12 @@
 #![tactic(auto)]
 
 pub mod flatten;
-pub mod order;
 pub mod origins;
 pub mod render;
 pub mod render_error;
 pub mod rendering;
 pub mod room;
 
-pub use order::is_ordered;
 pub use render::render_tree;
 pub use render_error::RenderError;
 pub use rendering::Rendering;
-
-#[cfg(test)]
-mod tests;

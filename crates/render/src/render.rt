@@ -1,7 +1,8 @@
 ghost use Rattle.std.specs.Prelude.{◌≡◌, ◌↔◌, ◌<◌, length, IfOk};
-ghost use Rattle.render.specs.Flattening.{all_entries, IsOrderedTree, IsRendering};
+ghost use Rattle.dep_match.specs.TreeOrder.{IsOrderedTree};
+ghost use Rattle.render.specs.Flattening.{all_entries, IsRendering};
 
-use crate::flatten::flatten_nodes;
+use crate::flatten::flatten;
 use crate::render_error::RenderError;
 use crate::rendering::Rendering;
 use crate::room::fits;
@@ -12,21 +13,22 @@ use std::alloc::Global;
 /// What the root of an image holds: of each node of its tree the children are laid over
 /// each other in their order, then the image's own entries over them, and then the
 /// image's whitelist is applied. `maps` has the entries of each image of the list.
-/// `TooManyEntries` where the maps of all nodes together have more than 262,144 entries.
+/// `TooManyEntries` exactly where the maps of all nodes together have more than 262,144
+/// entries; `NoMemory` at any other time.
 pub fn render_tree(
     alloc: Global,
     tree: &DepTree,
     list: &[Stored],
     maps: &[PathMap],
 ) -> Result<Rendering, RenderError>
-    requires tree { IsOrderedTree tree.now (length list.now) }
+    requires tree { IsOrderedTree (length list.now) tree.now.nodes }
     requires maps { length maps.now ≡ length list.now }
-    ensures rendering { IfOk result (λ r. IsRendering tree.now list.now maps.now r) }
+    ensures rendering { IfOk result (λ r. IsRendering tree.now.nodes list.now maps.now r) }
     ensures too_many { (result ≡ Err RenderError.TooManyEntries) ↔ (262144 < all_entries tree.now.nodes maps.now) }
 {
-    if !fits(tree.nodes.as_slice(), maps) {
+    let nodes = tree.nodes.as_slice();
+    if !fits(nodes, maps) {
         return Err(RenderError::TooManyEntries);
     }
-    let mut made = flatten_nodes(alloc, tree, list, maps)?;
-    Ok(made.remove(0))
+    Ok(flatten(alloc, nodes, list, maps, 0)?)
 }

@@ -1,9 +1,9 @@
-ghost use Rattle.std.specs.Prelude.{◌≡◌, ℕ, List, [], Some, IfOk};
+ghost use Rattle.std.specs.Prelude.{◌≡◌, ◌↔◌, ℕ, List, [], Some, IfOk, IsTrue};
 ghost use Rattle.path_map.specs.Entries.{entry_at, IsPathMap};
+ghost use Rattle.path_map.specs.Overlay.{HasParents};
 ghost use Rattle.path_map.specs.Whitelist.{whitelisted};
 ghost use Rattle.render.specs.Origins.{origin_at, laid_origins};
-ghost use Rattle.render.specs.Layers.{laid};
-ghost use Rattle.render.specs.Flattening.{source_at};
+ghost use Rattle.render.specs.Layers.{laid, is_file_at, source_at};
 
 use crate::origins::Origins;
 use ac_types::NoMemory;
@@ -46,8 +46,28 @@ impl Rendering {
         }
     }
 
+    /// Lays another over this one. Over the empty root it stays as it is.
+    pub(crate) fn lay(self, alloc: Global, upper: Rendering) -> Result<Rendering, NoMemory>
+        requires kind { IsPathMap upper.map }
+        requires parents { HasParents (entry_at upper.map) }
+        ensures entries { IfOk result (λ r. (q : List ℕ) → entry_at r.map q ≡ laid (entry_at self.map) upper.map q) }
+        ensures sources { IfOk result (λ r. (q : List ℕ) → IsTrue (is_file_at (entry_at r.map q))
+            → origin_at r.origins q ≡ laid_origins (origin_at self.origins) upper.map (source_at upper) q) }
+    {
+        if self.is_empty() {
+            return Ok(upper);
+        }
+        self.lay_entries(alloc, &upper)
+    }
+
+    fn is_empty(&self) -> bool
+        ensures { IsTrue result ↔ (self.now.map ≡ []) }
+    {
+        self.map.iter().next().is_none()
+    }
+
     /// Lays the entries of another over this one, in path order.
-    pub(crate) fn lay(self, alloc: Global, upper: &Rendering) -> Result<Rendering, NoMemory>
+    fn lay_entries(self, alloc: Global, upper: &Rendering) -> Result<Rendering, NoMemory>
         ensures entries { IfOk result (λ r. (q : List ℕ) → entry_at r.map q ≡ laid (entry_at self.map) upper.now.map q) }
         ensures origins { IfOk result (λ r. (q : List ℕ) → origin_at r.origins q
             ≡ laid_origins (origin_at self.origins) upper.now.map (origin_at upper.now.origins) q) }

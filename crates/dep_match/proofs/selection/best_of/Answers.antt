@@ -7,8 +7,8 @@ use Rattle.dep_match.proofs.selection.best_of.Goals.{then-is_better, else-is_bet
 pub loop-i-init : goal.loop-i-init
 loop-i-init c = none_so_far (accepts c.args.wanted.now) outranks c.args.list.now
 
-pub is_better-requires-clause-within : goal.is_better-requires-clause-within
-is_better-requires-clause-within c =
+pub is_better-requires : goal.is_better-requires
+is_better-requires c =
     best_within (accepts c.args.wanted.now) outranks c.args.list.now c.loop-i.i c.loop-i.best (omega arith) c.loop-i.invariant
 
 pub loop-i-preserved : goal.loop-i-preserved

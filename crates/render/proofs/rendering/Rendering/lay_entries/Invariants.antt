@@ -2,7 +2,7 @@ use Rattle.std.proofs.Common.{◌≡◌, ℕ, List}
 use Rattle.path_map.specs.Entries.{entry_at}
 use Rattle.render.specs.Origins.{origin_at, laid_origins}
 use Rattle.render.specs.Layers.{laid}
-use Rattle.render.proofs.rendering.Rendering.lay.Given as goal
+use Rattle.render.proofs.rendering.Rendering.lay_entries.Given as goal
 
 abbrev pub invariant-loop-path : goal.invariant-loop-path
 invariant-loop-path l = record {
