@@ -1,5 +1,5 @@
 -- Which file stands at a path after laying and filtering.
-use Rattle.std.proofs.Common.{◌≡◌, ◌≢◌, ℕ, Bool, true, false, cond, List, [], ◌∷◌, Option, Some, None, is_some, nat_cmp, sym, refl, ap, ◌∙◌, ◌⊎◌, inl, inr, ⊎_elim}
+use Rattle.std.proofs.Common.{◌≡◌, ◌≢◌, ℕ, Bool, true, false, cond, List, [], ◌∷◌, Option, Some, None, is_some, Result, Ok, Err, IfOk, IsTrue, nat_cmp, sym, refl, ap, ◌∙◌, ◌⊎◌, inl, inr, ⊎_elim}
 use Rattle.std.specs.Cmp.Lexicographic.{slice_cmp}
 use Rattle.std.specs.List.{list_any}
 use Rattle.std.specs.List.Sorted.{IsStrictlySortedBy}
@@ -11,7 +11,7 @@ use Rattle.std.proofs.lemmas.Map.Keys.{sorted_tail}
 use Rattle.path_map.specs.declared.entry.Entry.{Entry}
 use Rattle.path_map.specs.declared.entry.Entry.TheVariants.{Dir, File, Link}
 use Rattle.path_map.specs.declared.listed.Listed.{Listed}
-use Rattle.path_map.specs.Entries.{Entries, Tree, entry_at}
+use Rattle.path_map.specs.Entries.{Entries, Tree, entry_at, IsPathMap}
 use Rattle.path_map.specs.Overlay.{directory_at, overlaid}
 use Rattle.path_map.specs.Whitelist.{keeps, asks_directory, whitelisted}
 use Rattle.path_map.proofs.OverlayLaws.{by_place, laid_here, laid_below, laid_above, laid_apart}
@@ -40,7 +40,7 @@ whitelist_keeps_files (l ∷ list) tree q h =
     file_kept (list_any (λ m. asks_directory m q) (l ∷ list)) (list_any (λ m. keeps tree m q) (l ∷ list)) (tree q) h
 
 -- where a file stands after an entry was laid, it is the entry, or what stood there
-overpub laid_file : (tree : Tree) (p : List ℕ) (e : Entry) (q : List ℕ) → is_file_at (overlaid tree p e q) ≡ true
+overlaid_file : (tree : Tree) (p : List ℕ) (e : Entry) (q : List ℕ) → is_file_at (overlaid tree p e q) ≡ true
     → ((p ≡ q) × (overlaid tree p e q ≡ Some e)) ⊎ ((p ≢ q) × (overlaid tree p e q ≡ tree q))
 overlaid_file tree p e q h =
     by_place p e q
@@ -104,3 +104,13 @@ laid_agree tree new es one other upper under sorted is low high q h =
 -- where a file stands its source is its origin
 pub source_is : (r : Rendering) → AgreeOnFiles (entry_at r.map) (origin_at r.origins) (source_at r)
 source_is r q h = sym (cond-true _ (origin_at r.origins q) None h)
+
+-- what was laid has the sources, where it has the origins
+pub sources_from_origins : {E : Type 0} (tree : Tree) (origins : OriginMap) (upper : Rendering) (result : Result Rendering E) → IsPathMap upper.map
+    → IfOk result (λ r. (q : List ℕ) → entry_at r.map q ≡ laid tree upper.map q)
+    → IfOk result (λ r. (q : List ℕ) → origin_at r.origins q ≡ laid_origins origins upper.map (origin_at upper.origins) q)
+    → IfOk result (λ r. (q : List ℕ) → IsTrue (is_file_at (entry_at r.map q)) → origin_at r.origins q ≡ laid_origins origins upper.map (source_at upper) q)
+sources_from_origins tree origins upper (Err e) kind entries from = tt
+sources_from_origins tree origins upper (Ok r) kind entries from = λ q h.
+    from q
+    ∙ laid_agree tree (entry_at r.map) upper.map origins origins (origin_at upper.origins) (source_at upper) kind.rising entries (λ p file. refl) (source_is upper) q h

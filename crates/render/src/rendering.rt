@@ -91,6 +91,7 @@ impl Rendering {
         ensures entries { IfOk result (λ r. (q : List ℕ) → entry_at r.map q ≡ laid (entry_at self.map) own.now q) }
         ensures origins { IfOk result (λ r. (q : List ℕ) → origin_at r.origins q
             ≡ laid_origins (origin_at self.origins) own.now (λ _. Some image) q) }
+        ensures kind { IfOk result (λ _. IsPathMap own.now) }
     {
         let mut map = self.map;
         let mut origins = self.origins;
