@@ -1,3 +1,4 @@
-pub mod JsonTexts
-pub mod OptionalFields
+pub mod LastByte
+pub mod RequiredFields
+pub mod SameData
 pub mod WhitelistSteps

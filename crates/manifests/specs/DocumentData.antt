@@ -6,7 +6,7 @@ use Rattle.ac_types.specs.FieldForms.{required, filled_text}
 use Rattle.ac_types.specs.Outcomes.{Outcome, reads, fails, ◌>>=◌}
 use Rattle.ac_types.specs.JsonPaths.{field_path}
 use Rattle.ac_types.specs.declared.fault.FaultKind.TheVariants.{WrongAcKind}
-use Rattle.manifests.specs.DocumentForm.{document}
+use Rattle.manifest_parts.specs.DocumentForm.{document}
 use Rattle.manifests.specs.ImageData.{ImageData, image_data}
 use Rattle.manifests.specs.ImageForm.{image_fields}
 use Rattle.manifests.specs.PodData.{PodData, pod_data}

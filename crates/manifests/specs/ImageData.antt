@@ -3,8 +3,8 @@ use Rattle.std.specs.Prelude.{ℕ, List, Option, option_map}
 use Rattle.ac_types.specs.declared.label.Label.{Label}
 use Rattle.path_map.specs.declared.listed.Listed.{Listed}
 use Rattle.app_section.specs.AppData.{AppData, app_data}
-use Rattle.manifests.specs.declared.annotation.Annotation.{Annotation}
-use Rattle.manifests.specs.declared.dependency.Dependency.{Dependency}
+use Rattle.manifest_parts.specs.declared.annotation.Annotation.{Annotation}
+use Rattle.manifest_parts.specs.declared.dependency.Dependency.{Dependency}
 use Rattle.manifests.specs.declared.image_manifest.ImageManifest.{ImageManifest}
 
 pub record ImageData : Type 0 where

@@ -6,12 +6,12 @@ use Rattle.ac_types.specs.NameForms.{filled_identifier}
 use Rattle.ac_types.specs.Outcomes.{Outcome, reads, ◌>>=◌, ◌>>◌}
 use Rattle.app_section.specs.AppForm.{app}
 use Rattle.app_section.specs.ListForms.{list_of}
-use Rattle.manifests.specs.AnnotationForm.{annotation}
-use Rattle.manifests.specs.DependencyForm.{dependency}
-use Rattle.manifests.specs.DocumentForm.{document}
-use Rattle.manifests.specs.HeadForms.{ac_kind, ac_version}
+use Rattle.manifest_parts.specs.AnnotationForm.{annotation}
+use Rattle.manifest_parts.specs.DependencyForm.{dependency}
+use Rattle.manifest_parts.specs.DocumentForm.{document}
+use Rattle.manifest_parts.specs.HeadForms.{ac_kind, ac_version}
 use Rattle.manifests.specs.ImageData.{ImageData}
-use Rattle.manifests.specs.LabelsForm.{labels}
+use Rattle.manifest_parts.specs.LabelsForm.{labels}
 use Rattle.manifests.specs.WhitelistForm.{whitelist}
 
 -- what follows the kind

@@ -1,12 +1,12 @@
 -- A pod manifest as contracts see it: the JSON of its isolators as data.
 use Rattle.std.specs.Prelude.{ℕ, Bool, List, Option, map, option_map}
 use Rattle.app_section.specs.AppData.{AppData, IsolatorData, app_data, isolator_data}
-use Rattle.manifests.specs.declared.annotation.Annotation.{Annotation}
+use Rattle.manifest_parts.specs.declared.annotation.Annotation.{Annotation}
 use Rattle.manifests.specs.declared.mount.Mount.{Mount}
 use Rattle.manifests.specs.declared.pod_manifest.PodManifest.{PodManifest}
-use Rattle.manifests.specs.declared.pod_port.PodPort.{PodPort}
+use Rattle.manifest_parts.specs.declared.pod_port.PodPort.{PodPort}
 use Rattle.manifests.specs.declared.runtime_app.RuntimeApp.{RuntimeApp}
-use Rattle.manifests.specs.declared.runtime_image.RuntimeImage.{RuntimeImage}
+use Rattle.manifest_parts.specs.declared.runtime_image.RuntimeImage.{RuntimeImage}
 use Rattle.manifests.specs.declared.volume.Volume.{Volume}
 
 pub record RuntimeAppData : Type 0 where

@@ -5,12 +5,12 @@ use Rattle.ac_types.specs.FieldForms.{required, default}
 use Rattle.ac_types.specs.Outcomes.{Outcome, reads, ◌>>=◌, ◌>>◌}
 use Rattle.app_section.specs.IsolatorForm.{isolator}
 use Rattle.app_section.specs.ListForms.{list_of}
-use Rattle.manifests.specs.AnnotationForm.{annotation}
-use Rattle.manifests.specs.DistinctForms.{distinct_list}
-use Rattle.manifests.specs.DocumentForm.{document}
-use Rattle.manifests.specs.HeadForms.{ac_kind, ac_version}
+use Rattle.manifest_parts.specs.AnnotationForm.{annotation}
+use Rattle.manifest_parts.specs.DistinctForms.{distinct_list}
+use Rattle.manifest_parts.specs.DocumentForm.{document}
+use Rattle.manifest_parts.specs.HeadForms.{ac_kind, ac_version}
 use Rattle.manifests.specs.PodData.{PodData}
-use Rattle.manifests.specs.PodPortForm.{pod_port}
+use Rattle.manifest_parts.specs.PodPortForm.{pod_port}
 use Rattle.manifests.specs.RuntimeAppForm.{runtime_app}
 use Rattle.manifests.specs.VolumeForm.{volume}
 

@@ -9,10 +9,10 @@ use Rattle.ac_types.specs.SeenTexts.{is_among}
 use Rattle.ac_types.specs.declared.fault.FaultKind.TheVariants.{AppTwice}
 use Rattle.app_section.specs.AppForm.{app}
 use Rattle.app_section.specs.ListForms.{list_of}
-use Rattle.manifests.specs.AnnotationForm.{annotation}
+use Rattle.manifest_parts.specs.AnnotationForm.{annotation}
 use Rattle.manifests.specs.MountForm.{mount}
 use Rattle.manifests.specs.PodData.{RuntimeAppData}
-use Rattle.manifests.specs.RuntimeImageForm.{runtime_image}
+use Rattle.manifest_parts.specs.RuntimeImageForm.{runtime_image}
 
 -- its name, which no app before has
 unfoldable pub app_name : List (List ℕ) → List ℕ → Data → Outcome (List ℕ)

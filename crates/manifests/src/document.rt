@@ -4,10 +4,10 @@ ghost use Rattle.manifests.specs.DocumentData.{any_manifest, document_data, fiel
 
 use crate::image_manifest::ImageManifest;
 use crate::image_reader::read_image_fields;
-use crate::json_document::read_object;
 use crate::pod_manifest::PodManifest;
 use crate::pod_reader::read_pod_fields;
 use ac_types::{FaultKind, ReadError, field_fault, filled_text};
+use manifest_parts::read_object;
 use serde_json::Value;
 use std::alloc::Global;
 

@@ -1,11 +1,10 @@
 ghost use Rattle.std.specs.Prelude.{◌≡◌, IfOk};
 ghost use Rattle.manifests.specs.ImageData.{image_data};
 
-use crate::annotation::Annotations;
-use crate::dependency::Dependencies;
-use crate::runtime_app::copy_app;
+use crate::app_field::copy_app;
 use ac_types::{AcIdentifier, Labels, NoMemory, Text};
 use app_section::App;
+use manifest_parts::{Annotations, Dependencies};
 use path_map::ListedPaths;
 use std::alloc::Global;
 

@@ -3,14 +3,12 @@ ghost use Rattle.ac_types.specs.Outcomes.{Answers};
 ghost use Rattle.manifests.specs.ImageData.{image_data};
 ghost use Rattle.manifests.specs.ImageForm.{image_fields, image_manifest};
 
-use crate::fields::optional_app;
-use crate::heads::{required_kind, required_version};
+use crate::app_field::optional_app;
 use crate::image_manifest::ImageManifest;
-use crate::json_document::read_object;
-use crate::labels_reader::labels_field;
 use crate::whitelist::whitelist_field;
 use ac_types::{ReadError, required_identifier};
 use app_section::list_of;
+use manifest_parts::{labels_field, read_object, required_kind, required_version};
 use serde_json::Value;
 use std::alloc::Global;
 

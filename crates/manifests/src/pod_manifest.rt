@@ -1,12 +1,11 @@
 ghost use Rattle.std.specs.Prelude.{◌≡◌, IfOk};
 ghost use Rattle.manifests.specs.PodData.{pod_data};
 
-use crate::annotation::Annotations;
-use crate::pod_port::PodPorts;
 use crate::runtime_app::{RuntimeApps, copy_apps};
 use crate::volume::Volumes;
 use ac_types::{NoMemory, Sequence, Text};
 use app_section::{Isolator, copy_isolators};
+use manifest_parts::{Annotations, PodPorts};
 use std::alloc::Global;
 
 /// Apps that run together, and what they share.

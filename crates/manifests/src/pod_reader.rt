@@ -3,12 +3,12 @@ ghost use Rattle.ac_types.specs.Outcomes.{Answers};
 ghost use Rattle.manifests.specs.PodData.{pod_data};
 ghost use Rattle.manifests.specs.PodForm.{pod_fields, pod_manifest};
 
-use crate::distinct::{distinct_list, required_distinct_list};
-use crate::heads::{required_kind, required_version};
-use crate::json_document::read_object;
 use crate::pod_manifest::PodManifest;
 use ac_types::ReadError;
 use app_section::list_of;
+use manifest_parts::{
+    distinct_list, read_object, required_distinct_list, required_kind, required_version,
+};
 use serde_json::Value;
 use std::alloc::Global;
 

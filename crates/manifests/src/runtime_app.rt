@@ -6,18 +6,16 @@ ghost use Rattle.ac_types.specs.SeenTexts.{HasSeen};
 ghost use Rattle.app_section.specs.AppData.{app_data};
 ghost use Rattle.manifests.specs.PodData.{runtime_app_data};
 ghost use Rattle.manifests.specs.RuntimeAppForm.{app_name, named_app};
-ghost use Rattle.manifests.specs.RuntimeImageForm.{runtime_image};
+ghost use Rattle.manifest_parts.specs.RuntimeImageForm.{runtime_image};
 
-use crate::annotation::Annotations;
-use crate::distinct::DistinctElement;
-use crate::fields::optional_app;
+use crate::app_field::{copy_app, optional_app};
 use crate::mount::Mounts;
-use crate::runtime_image::{RuntimeImage, read_runtime_image};
 use ac_types::{
     AcName, FaultKind, NoMemory, ReadError, SeenTexts, Sequence, field_fault, field_path,
     flag_field, object_value, required_field, required_name,
 };
 use app_section::{App, list_of};
+use manifest_parts::{Annotations, DistinctElement, RuntimeImage, read_runtime_image};
 use serde_json::Value;
 use std::alloc::Global;
 
@@ -49,16 +47,6 @@ impl RuntimeApp {
             mounts: self.mounts.copy()?,
             annotations: self.annotations.copy()?,
         })
-    }
-}
-
-/// An equal section of an app, where there is one.
-pub(crate) fn copy_app(alloc: Global, app: &Option<App>) -> Result<Option<App>, NoMemory>
-    ensures { IfOk result (λ copy. option_map app_data copy ≡ option_map app_data app.now) }
-{
-    match app {
-        Some(app) => Ok(Some(app.copy(alloc)?)),
-        None => Ok(None),
     }
 }
 

@@ -3,12 +3,12 @@ ghost use Rattle.serde_json.specs.View.{view};
 ghost use Rattle.ac_types.specs.Outcomes.{Gives};
 ghost use Rattle.manifests.specs.VolumeForm.{volume_fields};
 
-use crate::distinct::DistinctElement;
 use crate::volume_kinds::read_kind;
 use ac_types::{
     AcName, FaultKind, NoMemory, ReadError, SeenTexts, Sequence, Text, TryCopy, fault_at,
     filled_text, object_value, required_name,
 };
+use manifest_parts::DistinctElement;
 use serde_json::Value;
 use std::alloc::Global;
 

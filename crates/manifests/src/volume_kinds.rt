@@ -7,10 +7,10 @@ ghost use Rattle.ac_types.specs.Outcomes.{Gives};
 ghost use Rattle.app_section.specs.Places.{filled_place};
 ghost use Rattle.manifests.specs.VolumeForm.{empty, host, is_mode, is_octal, kind_of, mode, or_bad_volume};
 
-use crate::fields::id_or_zero;
 use crate::volume::VolumeKind;
 use ac_types::{FaultKind, ReadError, Text, fault_at, flag_field, text_field};
 use app_section::required_place;
+use manifest_parts::id_or_zero;
 use serde_json::Value;
 use std::alloc::Global;
 

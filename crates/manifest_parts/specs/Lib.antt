@@ -1,0 +1,9 @@
+pub mod AnnotationForm
+pub mod DependencyForm
+pub mod DistinctForms
+pub mod DocumentForm
+pub mod HeadForms
+pub mod IdForms
+pub mod LabelsForm
+pub mod PodPortForm
+pub mod RuntimeImageForm
