@@ -6,7 +6,7 @@ use Rattle.std.proofs.lemmas.Bool.{cases_lt}
 use Rattle.std.proofs.lemmas.List.{get_or_append_left, get_or-append_right, length-append}
 use Rattle.std.proofs.lemmas.List.Elements.{All-append}
 use Rattle.std.proofs.lemmas.List.Quantifiers.{position-Some}
-use Rattle.manifests.specs.declared.dependency.Dependency.{Dependency}
+use Rattle.manifest_parts.specs.declared.dependency.Dependency.{Dependency}
 use Rattle.dep_match.specs.Dependencies.{and_then, branches, with_root, subtree, dependency_tree, next_image, unless_faulty, dependencies_at, key_at}
 use Rattle.dep_match.specs.Selection.{best_match, matches_dependency}
 use Rattle.dep_match.specs.TreeOrder.{node_at, AreOrdered, IsOrderedTree}

@@ -3,7 +3,7 @@ use Rattle.std.specs.Prelude.{◌≡◌, ◌⊎◌, ℕ, ◌+◌, ◌==◌, nat_
 use Rattle.std.specs.List.{list_any}
 use Rattle.std.proofs.Common.{zero, suc}
 use Rattle.ac_types.specs.declared.store_key.StoreKey.{StoreKey}
-use Rattle.manifests.specs.declared.dependency.Dependency.{Dependency}
+use Rattle.manifest_parts.specs.declared.dependency.Dependency.{Dependency}
 use Rattle.dep_match.specs.Selection.{best_match, matches_dependency}
 use Rattle.dep_match.specs.declared.dep_error.DepError.{DepError}
 use Rattle.dep_match.specs.declared.dep_error.DepError.TheVariants.{NoDependency, Cycle, TooDeep, TooMany, NoMemory}

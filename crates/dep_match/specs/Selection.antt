@@ -10,7 +10,7 @@ use Rattle.ac_types.specs.declared.image_id.ImageId.{ImageId}
 use Rattle.ac_types.specs.declared.image_ref.ImageRef.{ImageRef}
 use Rattle.ac_types.specs.declared.image_ref.ImageRef.TheVariants.{Named, ById}
 use Rattle.ac_types.specs.declared.label.Label.{Label}
-use Rattle.manifests.specs.declared.dependency.Dependency.{Dependency}
+use Rattle.manifest_parts.specs.declared.dependency.Dependency.{Dependency}
 use Rattle.dep_match.specs.declared.stored.Stored.{Stored}
 use Rattle.dep_match.specs.declared.wanted.Wanted.{Wanted}
 use Rattle.dep_match.specs.declared.wanted.Wanted.TheVariants.{Reference, Dependent}

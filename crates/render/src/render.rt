@@ -1,5 +1,7 @@
 ghost use Rattle.std.specs.Prelude.{◌≡◌, ◌↔◌, ◌<◌, length, IfOk};
 ghost use Rattle.dep_match.specs.TreeOrder.{IsOrderedTree};
+ghost use Rattle.path_map.specs.Entries.{entry_at};
+ghost use Rattle.path_map.specs.Overlay.{HasParents};
 ghost use Rattle.render.specs.Flattening.{all_entries, IsRendering};
 
 use crate::flatten::flatten;
@@ -24,6 +26,7 @@ pub fn render_tree(
     requires tree { IsOrderedTree (length list.now) tree.now.nodes }
     requires maps { length maps.now ≡ length list.now }
     ensures rendering { IfOk result (λ r. IsRendering tree.now.nodes list.now maps.now r) }
+    ensures parents { IfOk result (λ r. HasParents (entry_at r.map)) }
     ensures too_many { (result ≡ Err RenderError.TooManyEntries) ↔ (262144 < all_entries tree.now.nodes maps.now) }
 {
     let nodes = tree.nodes.as_slice();
