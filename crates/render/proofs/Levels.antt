@@ -1,6 +1,6 @@
 -- The flattening of a node from those of its children.
 use Rattle.std.proofs.Common.{◌≡◌, ℕ, zero, suc, ◌+◌, ◌-◌, ◌<◌, ◌≤◌, List, [], ◌∷◌, ◌++◌, length, get_or, take, Some, Result, Ok, Err, IfOk, IsTrue, sym, ap, subst, ◌∙◌, arith}
-use Rattle.std.specs.List.{AllZip}
+use Rattle.std.specs.List.{AllZip, AllByRecursion}
 use Rattle.std.proofs.lemmas.List.{get_or_read, get_or-map, take_all, take_more}
 use Rattle.path_map.specs.declared.listed.Listed.{Listed}
 use Rattle.path_map.specs.Entries.{Entries, entry_at, IsPathMap}
@@ -9,9 +9,10 @@ use Rattle.dep_match.specs.declared.dep_tree.DepNode.{DepNode}
 use Rattle.dep_match.specs.declared.stored.Stored.{Stored}
 use Rattle.dep_match.specs.TreeOrder.{node_at, IsOrderedTree}
 use Rattle.render.specs.declared.rendering.Rendering.{Rendering}
-use Rattle.render.specs.Flattening.{entries_of, whitelist_of, IsLayered, IsNodeLayered, IsFlattened}
+use Rattle.render.specs.Flattening.{entries_of, whitelist_of, HasSources, IsLayered, IsNodeLayered, IsFlattened}
 use Rattle.render.specs.Origins.{origin_at, laid_origins}
 use Rattle.render.specs.Layers.{laid, is_file_at, source_at}
+use Rattle.render.proofs.SourceLaws.{HasOwnSources, layer_sources}
 use Rattle.render.proofs.Layers.{AreLaid, one_more, kept_whole}
 
 -- a node that was read
@@ -79,6 +80,7 @@ module _ (nodes : List DepNode) (list : List Stored) (maps : List Entries) where
     pub below : List Rendering
     pub parts : AllZip (λ child part. IsFlattened nodes list maps levels child part) children below
     pub laid : AreLaid below whole
+    pub owned : AllByRecursion (HasOwnSources maps) below
 
   -- the whole of a node
   pub flattened : (levels n : ℕ) (r : Rendering) (below : List Rendering) → 0 < levels
@@ -89,13 +91,17 @@ module _ (nodes : List DepNode) (list : List Stored) (maps : List Entries) where
       let e : suc levels - 1 ≡ levels = omega arith in
       (below, subst (λ (l : ℕ). AllZip (λ child part. IsFlattened nodes list maps l child part) (node_at nodes n).children below) e parts, layer)
 
+  all_push : (P : Rendering → Type 0) (rs : List Rendering) (r : Rendering) → AllByRecursion P rs → P r → AllByRecursion P (rs ++ r ∷ [])
+  all_push P [] r all one = (one, tt)
+  all_push P (s ∷ rs) r all one = (all.0, all_push P rs r all.1 one)
+
   -- one part more was laid
   pub one_more_part : (levels : ℕ) (children items : List ℕ) (i : ℕ) (part whole new : Rendering) → items ≡ children → i < length items
-      → IsFlattened nodes list maps levels (get_or items i 0) part → ArePartsLaid levels (take i children) whole
+      → IsFlattened nodes list maps levels (get_or items i 0) part → HasSources maps (entry_at part.map) (source_at part) → ArePartsLaid levels (take i children) whole
       → ((q : List ℕ) → entry_at new.map q ≡ laid (entry_at whole.map) part.map q)
       → ((q : List ℕ) → IsTrue (is_file_at (entry_at new.map q)) → origin_at new.origins q ≡ laid_origins (origin_at whole.origins) part.map (source_at part) q)
       → ArePartsLaid levels (take (i + 1) children) new
-  one_more_part levels children items i part whole new same h flat far entries sources =
+  one_more_part levels children items i part whole new same h flat owned far entries sources =
       let child = get_or children i 0 in
       let inside : i < length children = subst (λ (cs : List ℕ). i < length cs) same h in
       let mine = subst (λ (cs : List ℕ). IsFlattened nodes list maps levels (get_or cs i 0) part) same flat in
@@ -104,6 +110,7 @@ module _ (nodes : List DepNode) (list : List Stored) (maps : List Entries) where
         parts = subst (λ (cs : List ℕ). AllZip (λ c r. IsFlattened nodes list maps levels c r) cs (far.below ++ part ∷ [])) (sym (take_more children i 0 inside))
             (parts_push (λ c r. IsFlattened nodes list maps levels c r) (take i children) far.below child part far.parts mine);
         laid = one_more far.below part whole new (flattened_kind levels child part mine) far.laid entries sources;
+        owned = all_push (HasOwnSources maps) far.below part far.owned (flattened_kind levels child part mine, owned);
       }
 
   -- the whole of a node that was read, once all parts were laid
@@ -116,13 +123,23 @@ module _ (nodes : List DepNode) (list : List Stored) (maps : List Entries) where
       → IfOk result (λ r. (q : List ℕ) → entry_at r.map q ≡ whitelisted whitelist (entry_at whole.map) q)
       → IfOk result (λ r. r.origins ≡ whole.origins)
       → IfOk result (λ r. IsPathMap r.map)
-      → IfOk result (λ r. IsFlattened nodes list maps (length nodes - n) n r)
+      → IfOk result (λ r. IsFlattened nodes list maps (length nodes - n) n r × HasSources maps (entry_at r.map) (source_at r))
   whole_if n i node items stored whitelist own under whole (Err e) inside is in_list in_maps listed owned kind same past far entries origins kept from path_map = tt
   whole_if n i node items stored whitelist own under whole (Ok r) inside is in_list in_maps listed owned kind same past far entries origins kept from path_map =
       let read = node_read nodes n node inside is in
       let all : take i node.children ≡ (node_at nodes n).children =
       take_all i node.children (subst (λ (cs : List ℕ). length cs ≤ i) same past) ∙ ap (λ (x : DepNode). x.children) read in
       let parts = subst (λ (cs : List ℕ). AllZip (λ c r. IsFlattened nodes list maps (length nodes - n - 1) c r) cs far.below) all far.parts in
-      flattened (length nodes - n) n r far.below (omega (arith, inside)) parts
-      (node_layered nodes list maps n node stored whitelist own far.below r read in_list in_maps listed owned
-      (kept_whole whitelist own node.image far.below under whole r kind far.laid entries origins kept from path_map))
+      let layer = node_layered nodes list maps n node stored whitelist own far.below r read in_list in_maps listed owned
+      (kept_whole whitelist own node.image far.below under whole r kind far.laid entries origins kept from path_map) in
+      let image = (node_at nodes n).image in
+      let read_kind : IsPathMap (entries_of maps node.image) = subst IsPathMap (get_or_read maps node.image own in_maps owned []) kind in
+      let own_kind = subst (λ (x : DepNode). IsPathMap (entries_of maps x.image)) read read_kind in (
+        flattened (length nodes - n) n r far.below (omega (arith, inside)) parts layer,
+        (layer_sources maps (whitelist_of list image) image far.below r own_kind far.owned layer).1,
+      )
+
+-- what is so of an Ok is so where more is
+pub ok_more : {A E : Type 0} (P Q : A → Type 0) (result : Result A E) → ((a : A) → P a → Q a) → IfOk result P → IfOk result Q
+ok_more P Q (Ok a) h some = h a some
+ok_more P Q (Err e) h some = tt

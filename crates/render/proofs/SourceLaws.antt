@@ -1,6 +1,6 @@
 -- The source of a file is the image whose own entry it is.
 use Rattle.std.proofs.Common.{◌≡◌, ℕ, zero, suc, true, List, [], ◌∷◌, length, Some, is_some, sym, refl, ap, ◌∙◌, ⊎_elim}
-use Rattle.std.specs.List.{AllZip, AllByRecursion}
+use Rattle.std.specs.List.{AllByRecursion}
 use Rattle.std.specs.List.Sorted.{IsStrictlySortedBy}
 use Rattle.std.specs.Map.{keys_of}
 use Rattle.std.specs.Cmp.Lexicographic.{slice_cmp}
@@ -8,13 +8,10 @@ use Rattle.std.specs.Ordering.{nat_cmp}
 use Rattle.std.proofs.lemmas.Bool.{cond-true, cond-false}
 use Rattle.path_map.specs.declared.listed.Listed.{Listed}
 use Rattle.path_map.specs.Entries.{Entries, Tree, entry_at, IsPathMap}
-use Rattle.dep_match.specs.declared.dep_tree.DepNode.{DepNode}
-use Rattle.dep_match.specs.declared.stored.Stored.{Stored}
-use Rattle.dep_match.specs.TreeOrder.{node_at}
 use Rattle.render.specs.declared.rendering.Rendering.{Rendering}
 use Rattle.render.specs.Origins.{OriginMap, laid_origins}
 use Rattle.render.specs.Layers.{empty_tree, no_origins, laid, layered, layered_origins, is_file_at, source_at}
-use Rattle.render.specs.Flattening.{HasSources, entries_of, whitelist_of, IsLayered, IsFlattened, IsRendering}
+use Rattle.render.specs.Flattening.{HasSources, entries_of, IsLayered}
 use Rattle.render.proofs.Files.{laid_file, whitelist_keeps_files}
 
 module _ (maps : List Entries) where
@@ -30,20 +27,19 @@ module _ (maps : List Entries) where
       (from.0, cond-false _ (upper q) (origins q) none.0 ∙ from.1, from.2 ∙ none.1))
       (laid_file tree es q s h)
 
-  HasOwnSources : Rendering → Type 0
+  -- a map, each of whose files is from an image and is that image's own entry
+  abbrev pub HasOwnSources : Rendering → Type 0
   HasOwnSources r = IsPathMap r.map × HasSources maps (entry_at r.map) (source_at r)
 
   layered_sources : (tree : Tree) (origins : OriginMap) (below : List Rendering) → HasSources maps tree origins → AllByRecursion HasOwnSources below
       → HasSources maps (layered tree below) (layered_origins origins below)
-  unfolding HasOwnSources
   layered_sources tree origins [] low all = low
   layered_sources tree origins (r ∷ below) low all =
       layered_sources (laid tree r.map) (laid_origins origins r.map (source_at r)) below
       (laid_sources tree origins (source_at r) r.map all.0.0.rising low all.0.1) all.1
 
-  layer_sources : (whitelist : List Listed) (image : ℕ) (below : List Rendering) (r : Rendering) → IsPathMap (entries_of maps image) → AllByRecursion HasOwnSources below
+  pub layer_sources : (whitelist : List Listed) (image : ℕ) (below : List Rendering) (r : Rendering) → IsPathMap (entries_of maps image) → AllByRecursion HasOwnSources below
       → IsLayered whitelist (entries_of maps image) image below r → HasOwnSources r
-  unfolding HasOwnSources
   layer_sources whitelist image below r kind all layer =
       let own = entries_of maps image in
       let none : HasSources maps empty_tree no_origins = λ q h. cc in
@@ -57,23 +53,3 @@ module _ (maps : List Entries) where
             let from = laid_all q (ap is_file_at (sym whole) ∙ h) in
             (from.0, layer.sources q h ∙ from.1, from.2 ∙ sym whole),
       )
-
-  each_sources : (R : ℕ → Rendering → Type 0) → ((n : ℕ) (r : Rendering) → R n r → HasOwnSources r) → (cs : List ℕ) (below : List Rendering) → AllZip R cs below → AllByRecursion HasOwnSources below
-  each_sources R h [] [] all = tt
-  each_sources R h [] (r ∷ below) all = absurd all
-  each_sources R h (c ∷ cs) [] all = absurd all
-  each_sources R h (c ∷ cs) (r ∷ below) all = (h c r all.0, each_sources R h cs below all.1)
-
-  module _ (nodes : List DepNode) (list : List Stored) (kinds : (image : ℕ) → IsPathMap (entries_of maps image)) where
-    flattening_sources : (levels n : ℕ) (r : Rendering) → IsFlattened nodes list maps levels n r → HasOwnSources r
-    flattening_sources zero n r flat = absurd flat
-    flattening_sources (suc levels) n r flat =
-        let image = (node_at nodes n).image in
-        layer_sources (whitelist_of list image) image flat.0 r (kinds image)
-        (each_sources (λ child part. IsFlattened nodes list maps levels child part) (λ child part below. flattening_sources levels child part below) (node_at nodes n).children flat.0 flat.1)
-        flat.2
-
-    -- each file of a rendering has an origin, and is that image's own entry
-    pub rendering_has_sources : (r : Rendering) → IsRendering nodes list maps r → HasSources maps (entry_at r.map) (source_at r)
-    unfolding HasOwnSources
-    rendering_has_sources r rendering = (flattening_sources (length nodes) 0 r rendering).1

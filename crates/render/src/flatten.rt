@@ -1,6 +1,8 @@
 ghost use Rattle.std.specs.Prelude.{◌≡◌, ◌<◌, ◌-◌, length, IfOk};
 ghost use Rattle.dep_match.specs.TreeOrder.{IsOrderedTree};
-ghost use Rattle.render.specs.Flattening.{IsFlattened};
+ghost use Rattle.path_map.specs.Entries.{entry_at};
+ghost use Rattle.render.specs.Layers.{source_at};
+ghost use Rattle.render.specs.Flattening.{HasSources, IsFlattened};
 
 use crate::rendering::Rendering;
 use ac_types::NoMemory;
@@ -21,7 +23,8 @@ pub(crate) fn flatten(
     requires order { IsOrderedTree (length list.now) nodes.now }
     requires maps { length maps.now ≡ length list.now }
     requires within { place < length nodes.now }
-    ensures { IfOk result (λ r. IsFlattened nodes.now list.now maps.now (length nodes.now - place) place r) }
+    ensures flattening { IfOk result (λ r. IsFlattened nodes.now list.now maps.now (length nodes.now - place) place r) }
+    ensures sources { IfOk result (λ r. HasSources maps.now (entry_at r.map) (source_at r)) }
 {
     let node = &nodes[place];
     let mut whole = Rendering::new(alloc);

@@ -2,7 +2,8 @@ ghost use Rattle.std.specs.Prelude.{◌≡◌, ◌↔◌, ◌<◌, length, IfOk}
 ghost use Rattle.dep_match.specs.TreeOrder.{IsOrderedTree};
 ghost use Rattle.path_map.specs.Entries.{entry_at};
 ghost use Rattle.path_map.specs.Overlay.{HasParents};
-ghost use Rattle.render.specs.Flattening.{all_entries, IsRendering};
+ghost use Rattle.render.specs.Layers.{source_at};
+ghost use Rattle.render.specs.Flattening.{all_entries, HasSources, IsRendering};
 
 use crate::flatten::flatten;
 use crate::render_error::RenderError;
@@ -26,6 +27,7 @@ pub fn render_tree(
     requires tree { IsOrderedTree (length list.now) tree.now.nodes }
     requires maps { length maps.now ≡ length list.now }
     ensures rendering { IfOk result (λ r. IsRendering tree.now.nodes list.now maps.now r) }
+    ensures sources { IfOk result (λ r. HasSources maps.now (entry_at r.map) (source_at r)) }
     ensures parents { IfOk result (λ r. HasParents (entry_at r.map)) }
     ensures too_many { (result ≡ Err RenderError.TooManyEntries) ↔ (262144 < all_entries tree.now.nodes maps.now) }
 {
