@@ -1,0 +1,3 @@
+pub mod BestSoFar
+pub mod OrderedTrees
+pub mod Trees

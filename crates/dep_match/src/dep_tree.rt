@@ -1,0 +1,23 @@
+use ac_types::Sequence;
+
+/// Places in a list. Contracts see numbers.
+pub type Places = Sequence<usize>;
+
+/// An image in a tree of dependencies.
+#[derive(Drop)]
+pub struct DepNode {
+    /// The image's place in the list of images.
+    pub image: usize,
+    /// The places of the nodes of its dependencies, in their order.
+    pub children: Places,
+}
+
+/// The nodes of a tree. Contracts see its elements.
+pub type DepNodes = Sequence<DepNode>;
+
+/// An image, the images on which it stands, those on which they stand, and so on.
+#[derive(Drop)]
+pub struct DepTree {
+    /// The nodes in the order of making, depth first; node 0 is the top.
+    pub nodes: DepNodes,
+}

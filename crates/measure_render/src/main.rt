@@ -1,0 +1,168 @@
+//! Renders images over each other, as many and as large as it is told, to measure the time.
+#![tactic(auto)]
+
+use ac_types::{AcIdentifier, ImageId, NoMemory, Sequence, StoreKey, Text};
+use anyhow::Result;
+use dep_match::{Stored, closure};
+use manifests::{Dependencies, Dependency, ImageManifest};
+use path_map::{AbsPath, Entry, Meta, PathMap};
+use render::render_tree;
+use std::alloc::Global;
+use std::env;
+
+/// Which image needs which, and where the files lie.
+#[derive(Clone, Copy)]
+enum Shape {
+    /// The first image needs all others; each has the files.
+    Flat,
+    /// Each image needs the next; each has the files.
+    Chain,
+    /// Each image needs a small one and then the next; the last has the files.
+    Late,
+}
+
+/// So many images, besides the small one, with so many files.
+#[derive(Clone, Copy)]
+struct Plan {
+    shape: Shape,
+    images: u32,
+    files: u32,
+}
+
+fn dependency(alloc: Global, number: u32) -> Result<Dependency> {
+    let name = format!(in alloc; "n{number}")?;
+    Ok(Dependency {
+        image_name: AcIdentifier::parse(alloc, name.as_str())?,
+        image_id: None,
+        labels: Sequence::new(alloc),
+        size: None,
+    })
+}
+
+/// Dependencies on the images from a number on, up to another.
+fn dependencies(alloc: Global, from: u32, to: u32) -> Result<Dependencies> {
+    let mut list = Sequence::new(alloc);
+    for number in from..to {
+        list = list.push(dependency(alloc, number)?)?;
+    }
+    Ok(list)
+}
+
+/// What the image of a number needs.
+fn needs(alloc: Global, plan: Plan, number: u32) -> Result<Dependencies> {
+    let next = number.saturating_add(1);
+    if matches!(plan.shape, Shape::Flat) {
+        let to = if number == 0 { plan.images } else { 0 };
+        return dependencies(alloc, 1, to);
+    }
+    if next >= plan.images {
+        return Ok(Sequence::new(alloc));
+    }
+    if matches!(plan.shape, Shape::Chain) {
+        return dependencies(alloc, next, next.saturating_add(1));
+    }
+    let small = Sequence::new(alloc).push(dependency(alloc, plan.images)?)?;
+    Ok(small.push(dependency(alloc, next)?)?)
+}
+
+/// How many files the image of a number has.
+fn files_of(plan: Plan, number: u32) -> u32 {
+    if matches!(plan.shape, Shape::Late) && number.saturating_add(1) != plan.images {
+        return if number == plan.images { 1 } else { 0 };
+    }
+    plan.files
+}
+
+/// The files of an image, in a directory of its own.
+fn map_of(alloc: Global, number: u32, files: u32) -> Result<PathMap> {
+    let mut map = PathMap::new(alloc);
+    for file in 0..files {
+        let path = format!(in alloc; "/d{number}/f{file}")?;
+        let meta = Meta {
+            mode: 0o644,
+            uid: 0,
+            gid: 0,
+        };
+        let entry = Entry::File {
+            meta,
+            size: 0,
+            sha: [0; 64],
+        };
+        map = map.overlay(alloc, AbsPath::parse(alloc, path.as_str())?, entry)?;
+    }
+    Ok(map)
+}
+
+fn image(alloc: Global, plan: Plan, number: u32) -> Result<Stored> {
+    let name = format!(in alloc; "n{number}")?;
+    Ok(Stored {
+        key: StoreKey { bytes: [0; 32] },
+        id: ImageId { bytes: [0; 64] },
+        manifest: ImageManifest {
+            ac_version: Text::of(alloc, "0.8.0")?,
+            name: AcIdentifier::parse(alloc, name.as_str())?,
+            labels: Sequence::new(alloc),
+            app: None,
+            dependencies: needs(alloc, plan, number)?,
+            path_whitelist: Sequence::new(alloc),
+            annotations: Sequence::new(alloc),
+        },
+        moment: 0,
+    })
+}
+
+/// Renders the first of some images, and prints how many nodes and entries there are.
+fn render(rt: &(impl Print + Alloc<A = Global>), list: &[Stored], maps: &[PathMap]) -> Result<()> {
+    let alloc = rt.alloc();
+    if list.is_empty() || maps.len() != list.len() {
+        return Ok(());
+    }
+    let Ok(tree) = closure(alloc, list, 0) else {
+        println!(rt; "no tree")?;
+        return Ok(());
+    };
+    let nodes = tree.nodes.as_slice().len();
+    let rendering = render_tree(alloc, &tree, list, maps)?;
+    let mut entries: usize = 0;
+    for _ in rendering.map().iter() {
+        entries = entries.saturating_add(1);
+    }
+    println!(rt; "{nodes} nodes, {entries} entries")?;
+    Ok(())
+}
+
+fn run(rt: &(impl Print + Alloc<A = Global>), plan: Plan) -> Result<()> {
+    let alloc = rt.alloc();
+    let mut list = Vec::new(alloc);
+    let mut maps = Vec::new(alloc);
+    for number in 0..plan.images.saturating_add(1) {
+        list.push(image(alloc, plan, number)?).map_err(NoMemory::from)?;
+        let map = map_of(alloc, number, files_of(plan, number))?;
+        maps.push(map).map_err(NoMemory::from)?;
+    }
+    render(rt, list.as_slice(), maps.as_slice())
+}
+
+fn main(rt: HostRuntime) -> Result<()> {
+    let mut plan = Plan {
+        shape: Shape::Flat,
+        images: 8,
+        files: 64,
+    };
+    for (place, arg) in env::args(&rt)?.enumerate() {
+        let word = arg.as_str();
+        if place == 1 && word == "chain" {
+            plan.shape = Shape::Chain;
+        }
+        if place == 1 && word == "late" {
+            plan.shape = Shape::Late;
+        }
+        if place == 2 {
+            plan.images = word.parse::<u32>()?;
+        }
+        if place == 3 {
+            plan.files = word.parse::<u32>()?;
+        }
+    }
+    run(&rt, plan)
+}

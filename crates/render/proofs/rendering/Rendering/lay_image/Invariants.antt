@@ -1,0 +1,11 @@
+use Rattle.std.proofs.Common.{◌≡◌, ℕ, List, Some}
+use Rattle.path_map.specs.Entries.{entry_at}
+use Rattle.render.specs.Origins.{origin_at, laid_origins}
+use Rattle.render.specs.Layers.{laid}
+use Rattle.render.proofs.rendering.Rendering.lay_image.Given as goal
+
+abbrev pub invariant-loop-path : goal.invariant-loop-path
+invariant-loop-path l = record {
+  entries : (q : List ℕ) → laid (entry_at l.map) l.path-iterator q ≡ laid (entry_at l.initial.map) l.own q;
+  origins : (q : List ℕ) → laid_origins (origin_at l.origins) l.path-iterator (λ _. Some l.image) q ≡ laid_origins (origin_at l.initial.origins) l.own (λ _. Some l.image) q;
+}

@@ -1,0 +1,13 @@
+//! Laying an image's files over those of the images on which it stands.
+#![tactic(auto)]
+
+pub mod flatten;
+pub mod origins;
+pub mod render;
+pub mod render_error;
+pub mod rendering;
+pub mod room;
+
+pub use render::render_tree;
+pub use render_error::RenderError;
+pub use rendering::Rendering;
