@@ -91,7 +91,7 @@ entry_next at d (Some l) more h later other before =
     each_after (λ (read : List (Option Listed)). listed) other (before ++ a ∷ []) (map listed_data (entries more)))
     (entry_again at d l h (element_path other (length before)))
     ∙ later other (before ++ Some l ∷ [])
-    ∙ ap (λ (ls : List (Option Listed)). reads ls) (sym (append_assoc before (Some l ∷ []) (map (λ (e : Listed). Some e) (entries more))))
+    ∙ ap (λ (ls : List (Option Listed)). reads ls) (append_assoc before (Some l ∷ []) (map (λ (e : Listed). Some e) (entries more)))
 
 found_again : (at : List ℕ) (before : List (Option Listed)) (ds : List Data) (all : List (Option Listed))
     → each_after (λ (read : List (Option Listed)). listed) at before ds ≡ reads all

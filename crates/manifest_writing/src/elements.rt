@@ -1,4 +1,7 @@
 //! The elements of both manifests as they are written.
+ghost use Rattle.std.specs.Prelude.{◌≡◌, ◌++◌, codes, IfOk};
+ghost use Rattle.std.specs.String.{string_bytes};
+ghost use Rattle.manifest_writing.specs.ElementObjects.{listed_bytes};
 
 use crate::lists::{Written, with_list};
 use crate::optional_fields::{with_id, with_optional_id, with_optional_name, with_optional_number};
@@ -55,13 +58,31 @@ impl Written for Listed {
 
     ghost json = { λ l. listed_data l };
 
+    #[tactic(auto, unfolding(crate::specs::ElementObjects::listed_data))]
     fn written(&self, alloc: Global) -> Result<Value, NoMemory> {
-        let mut text = String::from_str(alloc, self.path.as_str())?;
-        if self.empty {
-            text.push_str("/")?;
-        }
+        let text = path_text(alloc, self)?;
         Ok(Value::String(text))
     }
+}
+
+/// The text of a path in a whitelist.
+fn path_text(alloc: Global, listed: &Listed) -> Result<String, NoMemory>
+    ensures { IfOk result (λ text. string_bytes text ≡ listed_bytes listed.now) }
+{
+    let text = String::from_str(alloc, listed.path.as_str())?;
+    if listed.empty {
+        with_slash(text)
+    } else {
+        Ok(text)
+    }
+}
+
+fn with_slash(text: String) -> Result<String, NoMemory>
+    ensures { IfOk result (λ more. string_bytes more ≡ string_bytes text ++ codes "/") }
+{
+    let mut text = text;
+    text.push_str("/")?;
+    Ok(text)
 }
 
 impl Written for Mount {
