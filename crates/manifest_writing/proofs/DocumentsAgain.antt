@@ -1,16 +1,16 @@
 -- A document and its first fields, read from what is written for them.
-use Rattle.std.proofs.Common.{◌≡◌, ◌≤◌, ℕ, Bool, true, false, nat_le, List, length, Some, None, Result, Ok, Err, codes, refl, ◌∙◌, ap, subst, arith}
+use Rattle.std.proofs.Common.{◌≡◌, ◌≤◌, ℕ, true, nat_le, List, length, Some, Result, Ok, Err, refl, ◌∙◌, ap, subst}
 use Rattle.std.specs.Str.{IsUtf8}
 use Rattle.std.proofs.lemmas.Bool.{le-leb}
-use Rattle.serde_json.specs.Data.{Data, Members, string, object}
+use Rattle.serde_json.specs.Data.{Members, string, object}
 use Rattle.serde_json.specs.Read.{read}
 use Rattle.semver.specs.Parse.{Parts, version_parts}
 use Rattle.semver.specs.declared.error.Error.{Error}
-use Rattle.ac_types.specs.FieldForms.{filled_text, an_object}
+use Rattle.ac_types.specs.FieldForms.{filled_text}
 use Rattle.ac_types.specs.Outcomes.{Outcome, reads, fails, ◌>>=◌, ◌>>◌}
 use Rattle.app_section.proofs.Chains.{Again, no_fault, split, same_read}
 use Rattle.app_section.proofs.FieldsAgain.{filled_text_again}
-use Rattle.manifest_parts.specs.DocumentForm.{document, json_of}
+use Rattle.manifest_parts.specs.DocumentForm.{document}
 use Rattle.manifest_parts.specs.HeadForms.{ac_version, version_text, if_version}
 use Rattle.manifest_parts.proofs.JsonTexts.{json_read}
 

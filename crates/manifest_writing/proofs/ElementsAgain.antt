@@ -2,8 +2,7 @@
 use Rattle.std.proofs.Common.{◌≡◌, ℕ, Bool, true, false, List, [], ◌∷◌, Option, Some, None, option_map, codes, refl, ◌∙◌, ap, subst}
 use Rattle.serde_json.specs.Data.{Data, string}
 use Rattle.ac_types.specs.FieldForms.{present, unless_null, text, whole, an_object, required, optional, default}
-use Rattle.ac_types.specs.NameForms.{filled_name, filled_identifier, identifier, identifier_text, words, if_words}
-use Rattle.ac_types.specs.Names.{is_separator}
+use Rattle.ac_types.specs.NameForms.{filled_name, filled_identifier, identifier, identifier_text, if_words}
 use Rattle.ac_types.specs.Outcomes.{Outcome, reads, fails, ◌>>=◌, ◌>>◌}
 use Rattle.ac_types.specs.declared.image_id.ImageId.{ImageId}
 use Rattle.ac_types.specs.declared.label.Label.{Label}

@@ -1,5 +1,5 @@
 -- Labels and image IDs, read from what is written for them.
-use Rattle.std.proofs.Common.{◌≡◌, ℕ, List, [], ◌∷◌, map, Option, Some, None, codes, refl, sym, ◌∙◌, ap, subst}
+use Rattle.std.proofs.Common.{◌≡◌, ℕ, List, map, Option, Some, None, codes, refl, sym, ◌∙◌, ap, subst}
 use Rattle.serde_json.specs.Data.{Data, string}
 use Rattle.ac_types.specs.FieldForms.{present, text, filled, filled_text, an_object, required, each}
 use Rattle.ac_types.specs.Ids.{id_text, id_read}
@@ -11,7 +11,7 @@ use Rattle.ac_types.specs.declared.label.Label.{Label}
 use Rattle.ac_types.specs.declared.label.LabelFault.{LabelFault}
 use Rattle.ac_types.proofs.IdTexts.{read_text}
 use Rattle.app_section.proofs.Chains.{Again, no_fault, split, same_read, each_again}
-use Rattle.app_section.proofs.FieldsAgain.{present_in, required_again, text_again, filled_text_again, identifier_again, AgainList}
+use Rattle.app_section.proofs.FieldsAgain.{present_in, required_again, text_again, identifier_again, AgainList}
 use Rattle.manifest_parts.specs.IdForms.{if_id, image_id, filled_id}
 use Rattle.manifest_parts.specs.LabelsForm.{label, labels_of, if_standing}
 use Rattle.manifest_writing.specs.ElementObjects.{label_fields, label_object, id_data}

@@ -1,7 +1,7 @@
 -- A pod manifest, read from what is written for it.
-use Rattle.std.proofs.Common.{◌≡◌, ◌≤◌, ℕ, Bool, true, false, List, [], ◌∷◌, length, map, Option, Some, None, codes, refl, ◌∙◌, ap}
+use Rattle.std.proofs.Common.{◌≡◌, ◌≤◌, ℕ, List, [], length, Some, codes, refl, ◌∙◌, ap}
 use Rattle.std.specs.Str.{IsUtf8}
-use Rattle.serde_json.specs.Data.{Data, string, object}
+use Rattle.serde_json.specs.Data.{Data, string}
 use Rattle.serde_json.specs.Read.{read}
 use Rattle.ac_types.specs.FieldForms.{present, unless_null, list, required, required_at, default, each}
 use Rattle.ac_types.specs.JsonPaths.{field_path}

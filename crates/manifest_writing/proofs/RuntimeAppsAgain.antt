@@ -1,5 +1,5 @@
 -- The apps of a pod, read from what is written for them.
-use Rattle.std.proofs.Common.{◌≡◌, ℕ, Bool, true, false, List, [], ◌∷◌, map, Option, Some, None, option_map, codes, refl, ◌∙◌, ap, subst}
+use Rattle.std.proofs.Common.{◌≡◌, ℕ, Bool, false, List, [], map, Option, Some, None, option_map, codes, refl, ◌∙◌, ap, subst}
 use Rattle.serde_json.specs.Data.{Data, string}
 use Rattle.ac_types.specs.FieldForms.{present, unless_null, flag, an_object, required, optional, default, unless_among}
 use Rattle.ac_types.specs.JsonPaths.{field_path}

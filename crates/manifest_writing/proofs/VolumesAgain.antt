@@ -1,9 +1,9 @@
 -- Volumes, read from what is written for them.
-use Rattle.std.proofs.Common.{◌≡◌, ◌⊎◌, inl, inr, ℕ, Bool, true, false, List, [], ◌∷◌, map, Option, Some, None, codes, refl, sym, ◌∙◌, ap, subst}
+use Rattle.std.proofs.Common.{◌≡◌, ◌⊎◌, inl, inr, ℕ, Bool, true, false, List, map, Option, Some, None, codes, refl, ◌∙◌, ap, subst}
 use Rattle.std.specs.Prelude.{if◌then◌else◌}
 use Rattle.std.specs.Str.{bytes_eq}
 use Rattle.serde_json.specs.Data.{Data, string, object}
-use Rattle.ac_types.specs.FieldForms.{present, unless_null, text, filled_text, flag, whole, an_object, required, required_at, default, default_at, unless_among}
+use Rattle.ac_types.specs.FieldForms.{present, text, filled_text, flag, whole, an_object, required, required_at, default, default_at, unless_among}
 use Rattle.ac_types.specs.JsonPaths.{field_path}
 use Rattle.ac_types.specs.NameForms.{filled_name}
 use Rattle.ac_types.specs.Outcomes.{Outcome, reads, fails, ◌>>=◌, ◌>>◌}

@@ -1,12 +1,12 @@
 -- A whitelist, read from what is written for it: each path is written as it was read, and the root not at all.
-use Rattle.std.proofs.Common.{◌≡◌, ℕ, ◌+◌, ◌-◌, ◌<◌, ◌≤◌, ◌==◌, Bool, true, false, List, [], ◌∷◌, ◌++◌, map, length, take, drop, slice_index, get_or, Option, Some, None, codes, refl, sym, ◌∙◌, ap, subst, append_assoc, true≢false, arith}
+use Rattle.std.proofs.Common.{◌≡◌, ℕ, ◌+◌, ◌-◌, ◌<◌, Bool, true, false, List, [], ◌∷◌, ◌++◌, map, length, take, drop, slice_index, get_or, Option, Some, None, codes, refl, sym, ◌∙◌, ap, subst, append_assoc, true≢false, arith}
 use Rattle.std.specs.Prelude.{if◌then◌else◌}
 use Rattle.std.specs.Str.{bytes_eq}
 use Rattle.std.proofs.lemmas.Bool.{eqb-true}
-use Rattle.serde_json.specs.Data.{Data, string}
-use Rattle.ac_types.specs.FieldForms.{text, list, each, each_after}
+use Rattle.serde_json.specs.Data.{Data}
+use Rattle.ac_types.specs.FieldForms.{text, each, each_after}
 use Rattle.ac_types.specs.JsonPaths.{element_path}
-use Rattle.ac_types.specs.Outcomes.{Outcome, reads, fails, ◌>>=◌}
+use Rattle.ac_types.specs.Outcomes.{Outcome, reads, ◌>>=◌}
 use Rattle.path_map.specs.Paths.{path_fault}
 use Rattle.path_map.specs.declared.listed.Listed.{Listed}
 use Rattle.path_map.specs.declared.path_error.PathError.{PathError}

@@ -1,5 +1,5 @@
 -- The elements of both manifests as they are written: their fields in byte order of names.
-use Rattle.std.specs.Prelude.{ℕ, Bool, List, [], ◌∷◌, ◌++◌, Some, option_map, codes, if◌then◌else◌}
+use Rattle.std.specs.Prelude.{ℕ, List, [], ◌∷◌, ◌++◌, Some, option_map, codes, if◌then◌else◌}
 use Rattle.serde_json.specs.Data.{Data, string, object}
 use Rattle.ac_types.specs.Ids.{id_text}
 use Rattle.ac_types.specs.declared.image_id.ImageId.{ImageId}

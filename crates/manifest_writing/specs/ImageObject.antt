@@ -1,5 +1,5 @@
 -- An image manifest as it is written.
-use Rattle.std.specs.Prelude.{ℕ, List, [], ◌∷◌, Some, option_map, codes}
+use Rattle.std.specs.Prelude.{List, [], ◌∷◌, Some, option_map, codes}
 use Rattle.serde_json.specs.Data.{Data, string, object}
 use Rattle.app_section.specs.AppObject.{app_object}
 use Rattle.app_section.specs.Objects.{Field, written, if_filled}

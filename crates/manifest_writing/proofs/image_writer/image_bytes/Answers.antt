@@ -1,10 +1,7 @@
-use Rattle.std.proofs.Common.{◌≡◌, ◌∙◌, ◌≤◌, ap, sym, subst, Some, false}
+use Rattle.std.proofs.Common.{◌≡◌, ◌≤◌, subst, Some}
 use Rattle.serde_json.specs.Data.{Data, depth}
 use Rattle.serde_json.specs.Read.{read}
-use Rattle.serde_json.specs.View.{view}
-use Rattle.serde_json.specs.Written.{has_float, compact_text}
 use Rattle.manifests.specs.ImageData.{image_data}
-use Rattle.manifest_writing.specs.ImageObject.{image_object}
 use Rattle.manifest_writing.specs.WrittenTexts.{IsCompactText}
 use Rattle.manifest_writing.proofs.ImageAgain.{image_again}
 use Rattle.manifest_writing.proofs.image_writer.image_bytes.Goals as goal

@@ -1,10 +1,7 @@
-use Rattle.std.proofs.Common.{◌≡◌, ◌∙◌, ◌≤◌, ap, sym, subst, Some, false}
+use Rattle.std.proofs.Common.{◌≡◌, ◌≤◌, subst, Some}
 use Rattle.serde_json.specs.Data.{Data, depth}
 use Rattle.serde_json.specs.Read.{read}
-use Rattle.serde_json.specs.View.{view}
-use Rattle.serde_json.specs.Written.{has_float, compact_text}
 use Rattle.manifests.specs.PodData.{pod_data}
-use Rattle.manifest_writing.specs.PodObject.{pod_object}
 use Rattle.manifest_writing.specs.WrittenTexts.{IsCompactText}
 use Rattle.manifest_writing.proofs.PodAgain.{pod_again}
 use Rattle.manifest_writing.proofs.pod_writer.pod_bytes.Goals as goal

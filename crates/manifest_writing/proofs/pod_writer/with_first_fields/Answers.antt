@@ -1,6 +1,5 @@
 use Rattle.std.proofs.Common.{◌≡◌, ◌∙◌, ap, refl, subst, codes, map, List, ℕ, Some, IfOk}
 use Rattle.serde_json.specs.Data.{Data, Members, string}
-use Rattle.serde_json.specs.View.{view}
 use Rattle.app_section.specs.Objects.{built, put_field, if_filled, list_data}
 use Rattle.app_section.proofs.OrderedFields.{put_next}
 use Rattle.app_section.proofs.WrittenLists.{list_view, once}

@@ -1,4 +1,4 @@
-use Rattle.std.proofs.Common.{◌≡◌, ap, refl, subst, codes, map, List, ℕ, Some, IfOk}
+use Rattle.std.proofs.Common.{◌≡◌, ap, refl, subst, codes, map, List, IfOk}
 use Rattle.serde_json.specs.Data.{Members}
 use Rattle.app_section.specs.AppData.{isolator_data}
 use Rattle.app_section.specs.AppObject.{isolator_object}

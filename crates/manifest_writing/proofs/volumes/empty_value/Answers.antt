@@ -1,5 +1,5 @@
-use Rattle.std.proofs.Common.{◌∙◌, ap, refl, codes, List, ℕ, Some}
-use Rattle.serde_json.specs.Data.{object, string}
+use Rattle.std.proofs.Common.{◌∙◌, ap, refl, codes, ℕ, Some}
+use Rattle.serde_json.specs.Data.{object}
 use Rattle.app_section.specs.AppObject.{whole_data}
 use Rattle.manifest_writing.specs.VolumeObject.{empty_fields}
 use Rattle.app_section.proofs.OrderedFields.{in_order, put_next}

@@ -1,5 +1,5 @@
-use Rattle.std.proofs.Common.{◌∙◌, ap, refl, codes, List, ℕ, Some}
-use Rattle.serde_json.specs.Data.{object, string}
+use Rattle.std.proofs.Common.{◌∙◌, ap, refl, codes}
+use Rattle.serde_json.specs.Data.{object}
 use Rattle.manifest_writing.specs.VolumeObject.{host_fields}
 use Rattle.app_section.proofs.OrderedFields.{in_order, put_next}
 use Rattle.manifest_writing.proofs.volumes.host_value.Goals as goal

@@ -1,5 +1,5 @@
-use Rattle.std.proofs.Common.{◌∙◌, ap, refl, codes, List, ℕ, Some}
-use Rattle.serde_json.specs.Data.{object, string}
+use Rattle.std.proofs.Common.{◌∙◌, ap, refl, codes}
+use Rattle.serde_json.specs.Data.{object}
 use Rattle.app_section.specs.Objects.{if_filled}
 use Rattle.manifest_writing.specs.ElementObjects.{label_object, runtime_image_fields, runtime_image_object}
 use Rattle.app_section.proofs.OrderedFields.{in_order, put_next}
