@@ -11,3 +11,5 @@ mod ordinary;
 mod outcome;
 #[cfg(test)]
 mod pods;
+#[cfg(test)]
+mod writing;

@@ -1,0 +1,9 @@
+pub mod DocumentsAgain
+pub mod ElementsAgain
+pub mod ImageAgain
+pub mod LabelsAgain
+pub mod LeftOut
+pub mod PodAgain
+pub mod RuntimeAppsAgain
+pub mod VolumesAgain
+pub mod WhitelistAgain

@@ -1,0 +1,20 @@
+use Rattle.std.proofs.Common.{◌≡◌, ◌≤◌, subst, Some}
+use Rattle.serde_json.specs.Data.{Data, depth}
+use Rattle.serde_json.specs.Read.{read}
+use Rattle.manifests.specs.PodData.{pod_data}
+use Rattle.manifest_writing.specs.WrittenTexts.{IsCompactText}
+use Rattle.manifest_writing.proofs.PodAgain.{pod_again}
+use Rattle.manifest_writing.proofs.pod_writer.pod_bytes.Goals as goal
+
+pub returns-clause-text : goal.returns-clause-text
+returns-clause-text c =
+    let P : Data → Type 0 = λ d. IsCompactText d c.in_ok-to_vec.field-0.items in
+    subst P c.in_ok-value.ensures c.in_ok-to_vec.ensures.text
+
+pub returns-clause-reads_back : goal.returns-clause-reads_back
+returns-clause-reads_back c = λ was limits.
+    let m = pod_data c.args.manifest.now in
+    let bytes = c.in_ok-to_vec.field-0.items in
+    let P : Data → Type 0 = λ d. depth d ≤ 127 → read bytes ≡ Some d in
+    let back = subst P c.in_ok-value.ensures c.in_ok-to_vec.ensures.reads_back in
+    pod_again m bytes limits.short c.in_ok-to_vec.ensures.utf8 (back limits.flat) was

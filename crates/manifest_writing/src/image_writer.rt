@@ -1,0 +1,75 @@
+ghost use Rattle.std.specs.Prelude.{◌≡◌, take, drop, IfOk};
+ghost use Rattle.serde_json.specs.Data.{no_members};
+ghost use Rattle.serde_json.specs.View.{view};
+ghost use Rattle.ac_types.specs.Outcomes.{reads};
+ghost use Rattle.app_section.specs.Objects.{built, put_all};
+ghost use Rattle.manifests.specs.ImageData.{image_data};
+ghost use Rattle.manifests.specs.ImageForm.{image_manifest};
+ghost use Rattle.manifest_writing.specs.ImageObject.{image_members, image_object};
+ghost use Rattle.manifest_writing.specs.WrittenTexts.{ImageWasRead, IsCompactText, KeepsLimits};
+
+use crate::lists::with_list;
+use crate::optional_fields::with_app;
+use ac_types::NoMemory;
+use app_section::ObjectBuilder;
+use manifests::ImageManifest;
+use serde_json::Value;
+use std::alloc::Global;
+
+/// The bytes of an image manifest: the text of its object, without spaces. Reading the bytes of a
+/// manifest that was read gives it again, where they keep the limits of a document.
+pub fn image_bytes(alloc: Global, manifest: &ImageManifest) -> Result<Vec<u8>, NoMemory>
+    ensures text { IfOk result (λ bytes. IsCompactText (image_object (image_data manifest.now)) bytes.items) }
+    ensures reads_back { IfOk result (λ bytes. ImageWasRead (image_data manifest.now)
+        → KeepsLimits (image_object (image_data manifest.now)) bytes.items
+        → image_manifest bytes.items ≡ reads (image_data manifest.now)) }
+{
+    let value = image_value(alloc, manifest)?;
+    Ok(value.to_vec(alloc)?)
+}
+
+fn image_value(alloc: Global, manifest: &ImageManifest) -> Result<Value, NoMemory>
+    ensures { IfOk result (λ v. view v ≡ image_object (image_data manifest.now)) }
+{
+    let object = with_first_fields(alloc, manifest)?;
+    let object = with_last_fields(alloc, manifest, object)?;
+    Ok(object.finish())
+}
+
+fn with_first_fields(alloc: Global, manifest: &ImageManifest) -> Result<ObjectBuilder, NoMemory>
+    ensures { IfOk result (λ b. built b ≡ put_all (take 4 (image_members (image_data manifest.now))) no_members) }
+{
+    let object = ObjectBuilder::new(alloc);
+    let object = object.text(alloc, "acKind", "ImageManifest")?;
+    let object = object.text(alloc, "acVersion", manifest.ac_version.as_str())?;
+    let object = with_list(
+        alloc,
+        object,
+        "annotations",
+        manifest.annotations.as_slice(),
+    )?;
+    with_app(alloc, object, "app", &manifest.app)
+}
+
+fn with_last_fields(
+    alloc: Global,
+    manifest: &ImageManifest,
+    object: ObjectBuilder,
+) -> Result<ObjectBuilder, NoMemory>
+    ensures { IfOk result (λ b. built b ≡ put_all (drop 4 (image_members (image_data manifest.now))) (built object)) }
+{
+    let object = with_list(
+        alloc,
+        object,
+        "dependencies",
+        manifest.dependencies.as_slice(),
+    )?;
+    let object = with_list(alloc, object, "labels", manifest.labels.as_slice())?;
+    let object = object.text(alloc, "name", manifest.name.as_str())?;
+    with_list(
+        alloc,
+        object,
+        "pathWhitelist",
+        manifest.path_whitelist.as_slice(),
+    )
+}
