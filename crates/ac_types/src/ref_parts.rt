@@ -36,7 +36,8 @@ fn cut_at_equals(text: &str) -> Option<(&str, &str)>
 
 /// The label that a name and a value are, where they are.
 fn label_of(alloc: Global, name: &str, value: &str) -> Result<Option<Label>, NoMemory>
-    ensures { IfOk result (λ o. o ≡ label_of (Some (name.now, value.now))) }
+    ensures label { IfOk result (λ o. o ≡ label_of (Some (name.now, value.now))) }
+    ensures memory { IfErr result (λ _. is_identifier name.now ≡ true) }
 {
     if value.is_empty() {
         return Ok(None);
@@ -146,6 +147,7 @@ fn identifier(alloc: Global, text: &str) -> Result<AcIdentifier, RefError>
     ensures name { IfOk result (λ name. name ≡ text.now) }
     ensures ok { IfOk result (λ _. is_identifier text.now ≡ true) }
     ensures err { IfErr result (λ e. (e ≡ RefError.NoMemory) ⊎ ((e ≡ RefError.BadRef 0) × (is_identifier text.now ≡ false))) }
+    ensures memory { IfErr result (λ e. e ≡ RefError.NoMemory → is_identifier text.now ≡ true) }
 {
     match AcIdentifier::parse(alloc, text) {
         Ok(name) => Ok(name),

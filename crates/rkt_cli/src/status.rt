@@ -39,6 +39,7 @@ fn found_text(alloc: Global, found: Found) -> Result<Output, Refusal>
 
 fn look_refusal(error: LookError) -> Refusal
     ensures fault { result ≡ Refusal.DirFault → error ≡ LookError.DirFault }
+    ensures memory { result ≡ Refusal.NoMemory → error ≡ LookError.NoMemory }
     ensures is { (result ≡ Refusal.DirFault) ⊎ (result ≡ Refusal.NoMemory) }
 {
     match error {

@@ -6,10 +6,12 @@ use Rattle.std.proofs.lemmas.List.Folds.{list_any_none, list_any-append, list_an
 use Rattle.std.proofs.lemmas.List.{take-append-drop, drop_more, take_rest, take_all, get_or_past}
 use Rattle.hex.specs.Hex.{encode_with, encode_lower, lower_digits}
 use Rattle.percent_encoding.specs.AsciiSet.{should_percent_encode}
+use Rattle.percent_encoding.specs.Percent.{percent_encode}
 use Rattle.percent_encoding.proofs.PercentLemmas.{All-percent_encode}
 use Rattle.tree_digest.specs.declared.escapes.TheConstants.{ESCAPED}
 use Rattle.tree_digest.specs.Fields.{octal_text, decimal_text, escaped, field, HasNone}
 use Rattle.tree_digest.proofs.Decimals.{decimal_digits}
+use Rattle.tree_digest.proofs.EscapedBytes.{escaped_is}
 
 -- a text is cut at the first of a byte in one way
 pub cut_once : (c : ℕ) (a b xs ys : List ℕ) → HasNone c a → HasNone c xs → a ++ c ∷ b ≡ xs ++ c ∷ ys → (a ≡ xs) × (b ≡ ys)
@@ -66,12 +68,12 @@ pub hex_clear_end : (bs : List ℕ) → HasNone 10 (encode_lower bs)
 hex_clear_end bs = hex_clear_by 10 refl (omega arith) bs
 
 escaped_clear : (c : ℕ) → should_percent_encode ESCAPED c ≡ true → c < 37 → (text : List ℕ) → HasNone c (escaped text)
-unfolding escaped
 escaped_clear c is low text =
-    none_from_all c (escaped text)
+    subst (HasNone c) (escaped_is text)
+    (none_from_all c (percent_encode ESCAPED text)
     (All-percent_encode (λ b. eqb b c ≡ false) ESCAPED text
     (λ b kept. false_from_ne_true _ (λ e. both_ways _ kept (subst (λ (x : ℕ). should_percent_encode ESCAPED x ≡ true) (sym (eqb-true b c e)) is)))
-    (λ b escape. ne_eqb _ _ (λ e. ⊎_elim (λ h. omega arith) (λ o. ⊎_elim (λ h. omega arith) (λ h. omega arith) o) escape)))
+    (λ b escape. ne_eqb _ _ (λ e. ⊎_elim (λ h. omega arith) (λ o. ⊎_elim (λ h. omega arith) (λ h. omega arith) o) escape))))
 
 pub escaped_clear_space : (text : List ℕ) → HasNone 32 (escaped text)
 unfolding should_percent_encode

@@ -1,5 +1,6 @@
 pub mod Cuts
 pub mod Decimals
+pub mod EscapedBytes
 pub mod LineTexts
 pub mod ListingTexts
 pub mod MapFollow

@@ -8,6 +8,7 @@ use Rattle.percent_encoding.specs.Percent.{percent_decode}
 use Rattle.percent_encoding.proofs.PercentLemmas.{round_trip}
 use Rattle.tree_digest.specs.declared.escapes.TheConstants.{ESCAPED}
 use Rattle.tree_digest.specs.Fields.{escaped}
+use Rattle.tree_digest.proofs.EscapedBytes.{escaped_is}
 use lib.Utf8.{scalars, encode, encodes, scalar_cases, next}
 
 one : (a : ℕ) → a < 256 → All (λ b. b < 256) (a ∷ [])
@@ -38,11 +39,14 @@ encodes_small (c ∷ cs) e =
 pub text_small : (bs : List ℕ) → IsUtf8 bs → All (λ b. b < 256) bs
 text_small bs text = subst (All (λ b. b < 256)) text.1.1 (encodes_small text.0 text.1.0)
 
+-- what is escaped is decoded again
+pub decoded : (text : List ℕ) → IsUtf8 text → percent_decode (escaped text) ≡ text
+decoded text valid = ap percent_decode (sym (escaped_is text)) ∙ round_trip ESCAPED text refl (text_small text valid)
+
 -- no two texts have one escaping
 pub escaped_same : (a b : List ℕ) → IsUtf8 a → IsUtf8 b → escaped a ≡ escaped b → a ≡ b
-unfolding escaped
 escaped_same a b h k e =
-    sym (round_trip ESCAPED a refl (text_small a h)) ∙ ap percent_decode e ∙ round_trip ESCAPED b refl (text_small b k)
+    sym (decoded a h) ∙ ap percent_decode e ∙ decoded b k
 
 -- each place of bytes reads a byte, or zero past the end
 pub byte_at : (bs : List ℕ) → All (λ b. b < 256) bs → (i : ℕ) → get_or bs i 0 < 256

@@ -1,7 +1,8 @@
 use Rattle.std.proofs.Common.{rules}
-use Rattle.tree_digest.specs.Fields.{escaped}
+use Rattle.tree_digest.proofs.EscapedBytes.{escaped_is}
 use Rattle.tree_digest.proofs.escapes.write_escaped.Goals as goal
 
 pub returns : goal.returns
-unfolding escaped
-returns c = search rules
+returns c =
+    let is = escaped_is c.args.text.now in
+    search rules
