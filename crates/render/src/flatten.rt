@@ -33,5 +33,6 @@ pub(crate) fn flatten(
         whole = whole.lay(alloc, part)?;
     }
     let whole = whole.lay_image(alloc, &maps[node.image], node.image)?;
-    whole.keep(alloc, list[node.image].manifest.path_whitelist.as_slice())
+    let whitelist = list[node.image].manifest.path_whitelist.as_slice();
+    whole.keep(alloc, whitelist)
 }

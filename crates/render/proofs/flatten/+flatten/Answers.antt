@@ -35,8 +35,8 @@ pub returns-clause-flattening : goal.returns-clause-flattening
 returns-clause-flattening t c =
     let known = image_within c.args.nodes.now (length c.args.list.now) c.args.place c.index-nodes-place.result c.requires.order c.requires.within c.index-nodes-place.is in
     ok_more _ _ c.keep.result (λ r both. both.0) (whole_if c.args.nodes.now c.args.list.now c.args.maps.now c.args.place c.loop-child.child-index c.index-nodes-place.result c.as_slice-child-items.result.now
-    c.index-list-node.result c.as_slice.result.now c.index-maps-node.result c.loop-child.whole c.in_ok-whole-2.whole c.keep.result
-    c.requires.within c.index-nodes-place.is known (omega (arith, known, c.requires.maps)) c.as_slice.ensures c.index-maps-node.is c.in_ok-whole-2.ensures.kind
+    c.index-list-node.result c.as_slice-whitelist.result.now c.index-maps-node.result c.loop-child.whole c.in_ok-whole-2.whole c.keep.result
+    c.requires.within c.index-nodes-place.is known (omega (arith, known, c.requires.maps)) c.as_slice-whitelist.ensures c.index-maps-node.is c.in_ok-whole-2.ensures.kind
     c.as_slice-child-items.ensures c.loop-child-test.false c.loop-child.invariant c.in_ok-whole-2.ensures.entries c.in_ok-whole-2.ensures.origins
     c.keep.ensures.entries c.keep.ensures.origins c.keep.ensures.kind)
 
@@ -44,7 +44,7 @@ pub returns-clause-sources : goal.returns-clause-sources
 returns-clause-sources t c =
     let known = image_within c.args.nodes.now (length c.args.list.now) c.args.place c.index-nodes-place.result c.requires.order c.requires.within c.index-nodes-place.is in
     ok_more _ _ c.keep.result (λ r both. both.1) (whole_if c.args.nodes.now c.args.list.now c.args.maps.now c.args.place c.loop-child.child-index c.index-nodes-place.result c.as_slice-child-items.result.now
-    c.index-list-node.result c.as_slice.result.now c.index-maps-node.result c.loop-child.whole c.in_ok-whole-2.whole c.keep.result
-    c.requires.within c.index-nodes-place.is known (omega (arith, known, c.requires.maps)) c.as_slice.ensures c.index-maps-node.is c.in_ok-whole-2.ensures.kind
+    c.index-list-node.result c.as_slice-whitelist.result.now c.index-maps-node.result c.loop-child.whole c.in_ok-whole-2.whole c.keep.result
+    c.requires.within c.index-nodes-place.is known (omega (arith, known, c.requires.maps)) c.as_slice-whitelist.ensures c.index-maps-node.is c.in_ok-whole-2.ensures.kind
     c.as_slice-child-items.ensures c.loop-child-test.false c.loop-child.invariant c.in_ok-whole-2.ensures.entries c.in_ok-whole-2.ensures.origins
     c.keep.ensures.entries c.keep.ensures.origins c.keep.ensures.kind)
