@@ -1,5 +1,5 @@
 -- Reading and writing undo each other.
-use Rattle.std.proofs.Common.{◌≡◌, List, [], Result, Ok, Err, IfOk, sym, ⊎_elim, ◌⊎◌}
+use Rattle.std.proofs.Common.{◌≡◌, List, Result, Ok, Err, IfOk, sym, ⊎_elim, ◌⊎◌}
 use Rattle.std.specs.Result.{IfErr, MatchResult}
 use Rattle.tree_digest.specs.declared.line.ListingLine.{ListingLine}
 use Rattle.tree_digest.specs.declared.listing_error.ListingError.{ListingError}

@@ -1,18 +1,17 @@
 -- The text of a listing has no fault.
-use Rattle.std.proofs.Common.{◌≡◌, ℕ, ◌+◌, ◌-◌, ◌<◌, ◌≤◌, Bool, true, false, cond, ltb, eqb, ◌||◌, List, [], ◌∷◌, ◌++◌, length, get_or, take, drop, sym, refl, ap, subst, ◌∙◌, ◌⊎◌, inl, inr, ⊎_elim, arith, length-append, append_assoc, count_by}
-use Rattle.std.specs.Bool.{MatchBool}
+use Rattle.std.proofs.Common.{◌≡◌, ℕ, ◌+◌, ◌-◌, ◌<◌, true, false, eqb, ◌||◌, List, [], ◌∷◌, ◌++◌, length, get_or, sym, refl, ap, subst, ◌∙◌, ◌⊎◌, inl, inr, ⊎_elim, arith, length-append, append_assoc, count_by}
 use Rattle.std.proofs.lemmas.Bool.{both_ways, MatchBool-at_false, le-ltb, cases_lt, or_left, or_right, eq-eqb, cond-true}
 use Rattle.std.proofs.lemmas.List.{append-nil, get_or_append_left, get_or_at, get_or-append_right}
 use Rattle.tree_digest.specs.declared.line.ListingLine.{ListingLine}
 use Rattle.tree_digest.specs.declared.listing_error.ListingError.{ListingError}
 use Rattle.tree_digest.specs.declared.listing_error.ListingError.TheVariants.{BadLine, NotSorted, NoParent, TooMany, FileTooLong, NoMemory}
-use Rattle.tree_digest.specs.Lines.{IsLine, line_text, line_fields, is_too_long}
-use Rattle.tree_digest.specs.Listings.{AllFollow, Follows, FailsAt, StopsAt, Fails, IsTooMany, IsListing, Rises, EndsIn, is_parent, listing_text, line_count}
-use Rattle.tree_digest.proofs.ListingTexts.{line_some, lines_counted}
+use Rattle.tree_digest.specs.Lines.{line_text, line_fields, is_too_long}
+use Rattle.tree_digest.specs.Listings.{AllFollow, Follows, FailsAt, Fails, IsListing, Rises, EndsIn, is_parent, listing_text, line_count}
+use Rattle.tree_digest.proofs.ListingTexts.{lines_counted}
 use Rattle.listing_laws.proofs.OneText.{first_line_same}
 
 -- the line that a listing goes on with doesn't fail
-next_is_right : (before : List ListingLine) (line : ListingLine) (rest : List ℕ) (error : ListingError) → Follows before line → FailsAt before (line_text line ++ rest) error → ⊥
+pub next_is_right : (before : List ListingLine) (line : ListingLine) (rest : List ℕ) (error : ListingError) → Follows before line → FailsAt before (line_text line ++ rest) error → ⊥
 next_is_right before line rest (BadLine n) next fails = fails.1 line rest next.line refl
 next_is_right before line rest (FileTooLong n) next fails =
     let other = fails.1 in

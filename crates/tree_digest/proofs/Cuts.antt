@@ -50,7 +50,7 @@ pub decimal_clear : (c n : ℕ) → c < 48 → HasNone c (decimal_text n)
 decimal_clear c n low =
     none_from_all c (decimal_text n) (λ k d within. ne_eqb _ _ (λ e. omega (arith, (decimal_digits n k d within).0)))
 
-read_clear : (c : ℕ) (t : List ℕ) → HasNone c t → 0 < c → (k : ℕ) → eqb (get_or t k 0) c ≡ false
+pub read_clear : (c : ℕ) (t : List ℕ) → HasNone c t → 0 < c → (k : ℕ) → eqb (get_or t k 0) c ≡ false
 read_clear c [] h some k = ne_eqb 0 c (λ e. omega arith)
 read_clear c (x ∷ t) h some zero = (or_parts _ _ h).0
 read_clear c (x ∷ t) h some (suc k) = read_clear c t (or_parts _ _ h).1 some k
@@ -108,9 +108,10 @@ line_at t n inside at =
     sym (take-append-drop n t)
     ∙ ap (λ r. take n t ++ r) (drop_more t n 0 inside ∙ ap (λ b. b ∷ drop (n + 1) t) at ∙ ap (λ r. 10 ∷ r) (sym (take_rest t (n + 1))))
 
-in_tail : (c : ℕ) (a b : List ℕ) → HasNone c (a ++ c ∷ b) → ⊥
-in_tail c [] b h = both_ways _ (or_parts _ _ h).0 (eq-eqb c c refl)
-in_tail c (x ∷ a) b h = in_tail c a b (or_parts _ _ h).1
+-- a text that has a byte has it
+pub has_cut : (c : ℕ) (a b : List ℕ) → HasNone c (a ++ c ∷ b) → ⊥
+has_cut c [] b h = both_ways _ (or_parts _ _ h).0 (eq-eqb c c refl)
+has_cut c (x ∷ a) b h = has_cut c a b (or_parts _ _ h).1
 
 -- bytes that differ from one at each place
 pub none_from_places : (c : ℕ) (t : List ℕ) → ((k : ℕ) → k < length t → get_or t k 0 ≢ c) → HasNone c t
@@ -123,10 +124,10 @@ pub last_once : (c : ℕ) (a b xs ys : List ℕ) → HasNone c b → HasNone c y
 last_once c [] b [] ys h k e = refl
 last_once c [] b (x ∷ xs) ys h k e =
     let others : b ≡ xs ++ c ∷ ys = cc in
-    absurd (in_tail c xs ys (subst (HasNone c) others h))
+    absurd (has_cut c xs ys (subst (HasNone c) others h))
 last_once c (x ∷ a) b [] ys h k e =
     let others : ys ≡ a ++ c ∷ b = cc in
-    absurd (in_tail c a b (subst (HasNone c) others k))
+    absurd (has_cut c a b (subst (HasNone c) others k))
 last_once c (x ∷ a) b (y ∷ xs) ys h k e =
     let first : x ≡ y = cc in
     let others : a ++ c ∷ b ≡ xs ++ c ∷ ys = cc in

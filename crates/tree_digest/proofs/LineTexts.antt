@@ -1,7 +1,7 @@
 -- The texts of lines.
 use Rattle.std.proofs.Common.{◌≡◌, ◌≢◌, ℕ, ◌<◌, ◌≤◌, true, false, ltb, min, List, [], ◌∷◌, ◌++◌, length, get_or, Err, sym, refl, ap, arith, append_assoc}
 use Rattle.std.specs.List.{All}
-use Rattle.std.proofs.lemmas.Bool.{or_parts, eq-eqb, both_ways, lt-ltb, le-ltb}
+use Rattle.std.proofs.lemmas.Bool.{lt-ltb, le-ltb}
 use Rattle.hex.specs.Hex.{encode_lower}
 use Rattle.path_map.specs.declared.entry.Meta.{Meta}
 use Rattle.path_map.specs.declared.entry.Entry.{Entry}
@@ -86,11 +86,6 @@ file_of text line is = file_by text line.path line.entry is.0.entry is.1
 
 pub link_of : (text : List ℕ) (line : ListingLine) → IsLineOf (108 ∷ 32 ∷ text) line → IsLinkOf text line.entry line.path
 link_of text line is = link_by text line.path line.entry is.0.entry is.1
-
--- a text that has a byte has it
-pub has_cut : (c : ℕ) (a b : List ℕ) → HasNone c (a ++ c ∷ b) → ⊥
-has_cut c [] b h = both_ways _ (or_parts _ _ h).0 (eq-eqb c c refl)
-has_cut c (x ∷ a) b h = has_cut c a b (or_parts _ _ h).1
 
 -- a file's text from its parts
 pub file_text_is : (text sizes digits rest path sha : List ℕ) (meta : Meta) (n : ℕ) → text ≡ meta_text meta sizes → sizes ≡ field (decimal_text n) digits → digits ≡ field (encode_lower sha) rest → rest ≡ escaped path

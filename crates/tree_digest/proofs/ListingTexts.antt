@@ -37,13 +37,14 @@ valid_at before [] i d all inside = absurd (omega arith)
 valid_at before (l ∷ lines) zero d all inside = all.0.line
 valid_at before (l ∷ lines) (suc i) d all inside = valid_at (before ++ l ∷ []) lines i d all.1 (omega arith)
 
--- a listing has as many line ends as lines
-none_counted : (c : ℕ) (t : List ℕ) → HasNone c t → count_by (λ b. b == c) t ≡ 0
+-- a text without a byte counts none
+pub none_counted : (c : ℕ) (t : List ℕ) → HasNone c t → count_by (λ b. b == c) t ≡ 0
 none_counted c [] h = refl
 none_counted c (x ∷ t) h =
     let split = or_parts _ _ h in
     sum_by-append (λ b. cond (b == c) 1 0) (x ∷ []) t ∙ omega (arith, none_counted c t split.1, cond-false {A = ℕ} (x == c) 1 0 split.0)
 
+-- a listing has as many line ends as lines
 line_counted : (line : ListingLine) → count_by (λ b. b == 10) (line_text line) ≡ 1
 unfolding line_text
 line_counted line =

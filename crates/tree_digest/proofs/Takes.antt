@@ -8,8 +8,8 @@ use Rattle.tree_digest.specs.declared.listing_error.ListingError.TheVariants.{No
 use Rattle.tree_digest.specs.Fields.{HasNone}
 use Rattle.tree_digest.specs.Lines.{IsLineOf, ReadsLine, line_text, line_fields, is_too_long}
 use Rattle.tree_digest.specs.Listings.{FailsAt, FailsInLine, FailsInOrder}
-use Rattle.tree_digest.proofs.Cuts.{cut_once}
-use Rattle.tree_digest.proofs.LineTexts.{entry_clear, has_cut}
+use Rattle.tree_digest.proofs.Cuts.{cut_once, has_cut}
+use Rattle.tree_digest.proofs.LineTexts.{entry_clear}
 
 -- a line and what follows it
 pub line_then : (line : ListingLine) (rest : List ℕ) → line_text line ++ rest ≡ line_fields line ++ 10 ∷ rest
