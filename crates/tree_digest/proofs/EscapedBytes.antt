@@ -1,10 +1,9 @@
 -- The set of the code holds exactly the bytes that are written as escapes.
-use Rattle.std.proofs.Common.{◌≡◌, ℕ, ◌<◌, ◌≤◌, ◌==◌, Bool, true, false, not, ◌&&◌, cond, List, [], ◌∷◌, ◌++◌, zero, suc, refl, subst, ⊎_elim, arith}
-use Rattle.std.specs.List.{flat_map}
+use Rattle.std.proofs.Common.{◌≡◌, ℕ, ◌<◌, ◌≤◌, Bool, true, false, not, ◌&&◌, cond, List, [], ◌∷◌, zero, suc, refl, subst, ⊎_elim, arith}
 use Rattle.std.proofs.lemmas.Bool.{cases_lt, and_parts}
 use Rattle.std.proofs.lemmas.Bool.Decides.{nat_tests}
 use Rattle.percent_encoding.specs.AsciiSet.{should_percent_encode}
-use Rattle.percent_encoding.specs.Percent.{percent_encode, encode_byte}
+use Rattle.percent_encoding.specs.Percent.{percent_encode}
 use Rattle.tree_digest.specs.declared.escapes.TheConstants.{ESCAPED}
 use Rattle.tree_digest.specs.Fields.{escaped, is_escaped}
 
