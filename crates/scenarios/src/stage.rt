@@ -56,16 +56,7 @@ pub fn run_with(
     let words = texts(alloc, words)?;
     let mut out = MemorySink::new(alloc);
     let mut err = MemorySink::new(alloc);
-    let status = rkt(
-        alloc,
-        &words,
-        100,
-        &draw(),
-        dir,
-        bundle,
-        &mut out,
-        &mut err,
-    );
+    let status = rkt(alloc, &words, 100, &draw(), dir, bundle, &mut out, &mut err);
     Ok(Ran { status, out, err })
 }
 

@@ -6,18 +6,13 @@ use dir_trait::memory::{MemoryBundle, MemoryDir, MemorySink};
 use std::alloc::Global;
 use std::test::Fail;
 
-const IMAGE: &str = r#"{"acKind":"ImageManifest","acVersion":"0.8.0","name":"example.com/base","labels":[{"name":"version","value":"1.0.0"},{"name":"os","value":"linux"},{"name":"arch","value":"amd64"}]}"#;
+const IMAGE: &str =
+    r#"{"acKind":"ImageManifest","acVersion":"0.8.0","name":"example.com/base","labels":[{"name":"version","value":"1.0.0"},{"name":"os","value":"linux"},{"name":"arch","value":"amd64"}]}"#;
 
 const POD: &str = r#"{"acKind":"PodManifest","acVersion":"0.8.0","apps":[]}"#;
 
 /// Whether `validate` of a file with these bytes ends and writes so, and calls nothing of the directory.
-fn answers(
-    alloc: Global,
-    bytes: &str,
-    status: u8,
-    out: &str,
-    err: &str,
-) -> Result<bool, NoMemory> {
+fn answers(alloc: Global, bytes: &str, status: u8, out: &str, err: &str) -> Result<bool, NoMemory> {
     let mut dir = MemoryDir::new(alloc, 1)?;
     let mut bundle = MemoryBundle::new(alloc).file(alloc, "b/m.json", bytes.as_bytes())?;
     let ran = run_with(alloc, &["validate", "b/m.json"], &mut dir, &mut bundle)?;
