@@ -1,7 +1,7 @@
 -- A loop that keeps the place of the best element that passes a test.
-use Rattle.std.proofs.Common.{◌≡◌, ℕ, zero, suc, ◌<◌, ◌≤◌, ◌+◌, Bool, true, false, ◌&&◌, ◌||◌, cond, List, [], ◌∷◌, length, get_or, Option, Some, None, refl, sym, ap, ◌∙◌, subst, arith, below_more, ⊎_elim, ◌↔◌, Less, Equal, Greater, Ordering}
+use Rattle.std.proofs.Common.{◌≡◌, ℕ, suc, ◌<◌, ◌≤◌, ◌+◌, Bool, true, false, ◌&&◌, ◌||◌, cond, List, [], ◌∷◌, length, get_or, Option, Some, None, refl, sym, ap, ◌∙◌, arith, below_more, ⊎_elim, ◌↔◌, Less, Equal, Greater, Ordering}
 use Rattle.std.specs.Prelude.{not, IfSome}
-use Rattle.std.specs.List.{list_any, filter, position, position_or_len, All}
+use Rattle.std.specs.List.{list_any, filter, position, position_or_len}
 use Rattle.std.specs.Ordering.{is_gt, ordering_reverse}
 use Rattle.std.specs.Cmp.{IsTotalOrder}
 use Rattle.std.proofs.lemmas.Bool.{both_ways, false_from_ne_true, true_from_ne_false, and_parts, and_cases, lt-ltb, le-ltb}

@@ -1,10 +1,9 @@
 -- A loop that grows the trees of dependencies one after the other.
-use Rattle.std.proofs.Common.{◌≡◌, ◌⊎◌, inl, inr, ⊎_elim, ℕ, zero, suc, ◌<◌, ◌≤◌, ◌+◌, ◌-◌, List, [], ◌∷◌, ◌++◌, length, drop, get_or, map, Result, Ok, Err, refl, sym, ap, ◌∙◌, subst, arith, add-zero}
-use Rattle.std.proofs.lemmas.List.{drop_more, drop_all, append_assoc, append-nil, length-append, get_or-map, length-map}
+use Rattle.std.proofs.Common.{◌≡◌, inl, inr, ℕ, zero, suc, ◌<◌, ◌≤◌, ◌+◌, ◌-◌, List, [], ◌∷◌, ◌++◌, length, drop, get_or, Result, Ok, Err, refl, sym, ap, ◌∙◌, subst, arith, add-zero}
+use Rattle.std.proofs.lemmas.List.{drop_more, drop_all, append_assoc, append-nil, length-append}
 use Rattle.manifest_parts.specs.declared.dependency.Dependency.{Dependency}
-use Rattle.dep_match.specs.Dependencies.{and_then, branches, with_root, subtree, next_image, dependencies_at, key_at, IsFault}
+use Rattle.dep_match.specs.Dependencies.{and_then, branches, with_root, subtree, next_image, dependencies_at, IsFault}
 use Rattle.dep_match.specs.declared.dep_error.DepError.{DepError}
-use Rattle.dep_match.specs.declared.dep_error.DepError.TheVariants.{NoMemory}
 use Rattle.dep_match.specs.declared.dep_tree.DepNode.{DepNode}
 use Rattle.dep_match.specs.declared.stored.Stored.{Stored}
 

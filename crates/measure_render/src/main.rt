@@ -136,7 +136,8 @@ fn run(rt: &(impl Print + Alloc<A = Global>), plan: Plan) -> Result<()> {
     let mut list = Vec::new(alloc);
     let mut maps = Vec::new(alloc);
     for number in 0..plan.images.saturating_add(1) {
-        list.push(image(alloc, plan, number)?).map_err(NoMemory::from)?;
+        list.push(image(alloc, plan, number)?)
+            .map_err(NoMemory::from)?;
         let map = map_of(alloc, number, files_of(plan, number))?;
         maps.push(map).map_err(NoMemory::from)?;
     }

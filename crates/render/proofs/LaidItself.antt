@@ -1,12 +1,12 @@
 -- A map whose entries have their ancestors, laid over the empty tree, is the map.
-use Rattle.std.proofs.Common.{◌≡◌, ◌≢◌, ℕ, Bool, true, false, cond, List, [], ◌∷◌, ◌++◌, Option, Some, None, IsSome, is_some, nat_cmp, Less, Greater, Equal, Ordering, sym, refl, ap, subst, ◌∙◌, ⊎_elim, arith}
+use Rattle.std.proofs.Common.{◌≡◌, ◌≢◌, ℕ, true, cond, List, [], ◌∷◌, ◌++◌, Option, Some, None, IsSome, is_some, nat_cmp, Less, Greater, Equal, Ordering, sym, refl, ap, subst, ◌∙◌, ⊎_elim, arith}
 use Rattle.std.specs.Cmp.Lexicographic.{slice_cmp}
 use Rattle.std.specs.List.{AllByRecursion}
 use Rattle.std.specs.List.Sorted.{IsStrictlySortedBy}
 use Rattle.std.specs.Map.{keys_of}
 use Rattle.std.specs.BTreeMap.{is_at}
 use Rattle.std.specs.Ordering.{ordering_reverse}
-use Rattle.std.proofs.lemmas.Bool.{cases_Bool, cond-true, cond-false, both_ways}
+use Rattle.std.proofs.lemmas.Bool.{cases_Bool, both_ways}
 use Rattle.std.proofs.lemmas.Bool.Decides.{nat_tests}
 use Rattle.std.proofs.lemmas.Cmp.{nat_list_cmp_total, eq_by_cmp_equiv}
 use Rattle.std.proofs.lemmas.Map.{lookup-none}
@@ -14,12 +14,12 @@ use Rattle.std.proofs.lemmas.Map.Entries.{none_below_head, none_past_head, looku
 use Rattle.std.proofs.lemmas.Map.Keys.{sorted_head, sorted_tail, IsDistinct-from_sorted}
 use Rattle.path_map.specs.declared.entry.Entry.{Entry}
 use Rattle.path_map.specs.Paths.{lies_below}
-use Rattle.path_map.specs.Entries.{Entries, Tree, entry_at, is_directory, is_directory_at, IsPathMap}
-use Rattle.path_map.specs.Overlay.{is_ancestor, overlaid, directory_at, HasParents}
+use Rattle.path_map.specs.Entries.{Entries, Tree, entry_at, is_directory_at}
+use Rattle.path_map.specs.Overlay.{is_ancestor, overlaid, HasParents}
 use Rattle.path_map.proofs.Below.{below_rest}
 use Rattle.path_map.proofs.OverlayLaws.{by_place, laid_here, laid_below, laid_above, laid_apart, below_ancestor, directory_stays}
 use Rattle.render.specs.Layers.{empty_tree, laid}
-use Rattle.render.proofs.Laying.{test_at_key, test_here, key_here}
+use Rattle.render.proofs.Laying.{test_here, key_here}
 
 -- the order of paths
 abbrev path_cmp : List ℕ → List ℕ → Ordering

@@ -1,5 +1,5 @@
 -- Laying the renderings of the children one after the other, then the own entries, then the whitelist.
-use Rattle.std.proofs.Common.{◌≡◌, ℕ, true, List, [], ◌∷◌, ◌++◌, Some, Result, Ok, Err, IfOk, IsTrue, sym, refl, ap, ◌∙◌}
+use Rattle.std.proofs.Common.{◌≡◌, ℕ, true, List, [], ◌∷◌, ◌++◌, Some, IsTrue, sym, refl, ap, ◌∙◌}
 use mathlib.Core.Path.{fun_ext}
 use Rattle.path_map.specs.declared.listed.Listed.{Listed}
 use Rattle.path_map.specs.Entries.{Entries, Tree, entry_at, IsPathMap}

@@ -1,5 +1,5 @@
 -- Laying maps over each other, one entry after the other.
-use Rattle.std.proofs.Common.{◌≡◌, ◌≢◌, ℕ, ◌+◌, ◌<◌, Bool, true, false, cond, List, [], ◌∷◌, ◌++◌, length, get_or, take, Option, Some, Result, Ok, Err, IfOk, is_some, nat_cmp, sym, refl, ap, ◌∙◌, ⊎_elim}
+use Rattle.std.proofs.Common.{◌≡◌, ◌≢◌, ℕ, Bool, true, false, cond, List, ◌∷◌, Option, Some, is_some, nat_cmp, sym, refl, ap, ◌∙◌, ⊎_elim}
 use mathlib.Core.Path.{fun_ext}
 use Rattle.std.specs.Ordering.{is_eq}
 use Rattle.std.specs.Cmp.Lexicographic.{slice_cmp, texts_ties}

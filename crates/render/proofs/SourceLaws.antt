@@ -1,5 +1,5 @@
 -- The source of a file is the image whose own entry it is.
-use Rattle.std.proofs.Common.{◌≡◌, ℕ, zero, suc, true, List, [], ◌∷◌, length, Some, is_some, sym, refl, ap, ◌∙◌, ⊎_elim}
+use Rattle.std.proofs.Common.{ℕ, List, [], ◌∷◌, Some, sym, refl, ap, ◌∙◌, ⊎_elim}
 use Rattle.std.specs.List.{AllByRecursion}
 use Rattle.std.specs.List.Sorted.{IsStrictlySortedBy}
 use Rattle.std.specs.Map.{keys_of}

@@ -1,5 +1,5 @@
 -- Laying maps over each other, and the images that the files are from.
-use Rattle.std.specs.Prelude.{ℕ, Bool, true, false, List, [], ◌∷◌, Option, Some, None, if◌then◌else◌}
+use Rattle.std.specs.Prelude.{Bool, true, false, List, [], ◌∷◌, Option, Some, None, if◌then◌else◌}
 use Rattle.path_map.specs.declared.entry.Entry.{Entry}
 use Rattle.path_map.specs.declared.entry.Entry.TheVariants.{Dir, File, Link}
 use Rattle.path_map.specs.Entries.{Entries, Tree, entry_at}

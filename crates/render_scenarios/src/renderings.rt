@@ -103,13 +103,7 @@ fn letter(entry: &Entry) -> &'static str {
                 "d"
             }
         }
-        Entry::File { size, .. } => {
-            if *size == 3 {
-                "F"
-            } else {
-                "f"
-            }
-        }
+        Entry::File { size, .. } => { if *size == 3 { "F" } else { "f" } }
         Entry::Link { .. } => "l",
     }
 }

@@ -93,7 +93,11 @@ fn way(alloc: Global, deep: u8, last: &str) -> Result<Vec<Stored>, Fail> {
         let next = i.saturating_add(1);
         let name = format!(in alloc; "n{i}")?;
         let next_name = format!(in alloc; "n{next}")?;
-        let need = if next < deep { next_name.as_str() } else { last };
+        let need = if next < deep {
+            next_name.as_str()
+        } else {
+            last
+        };
         list.push(dependent(alloc, next, name.as_str(), &[need], 1)?)?;
     }
     list.push(dependent(alloc, 0, "leaf", &[], 1)?)?;

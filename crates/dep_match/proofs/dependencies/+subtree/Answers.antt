@@ -1,4 +1,4 @@
-use Rattle.std.proofs.Common.{◌≡◌, ◌∙◌, ◌+◌, ◌-◌, length, sym, arith}
+use Rattle.std.proofs.Common.{◌≡◌, ◌∙◌, ◌+◌, ◌-◌, length, arith}
 use Rattle.std.proofs.lemmas.Result.{err_from_is_err_and}
 use Rattle.dep_match.proofs.Trees.{grow_below, grown_next, tree_made, tree_fault, image_fault, below_fault, subtree_is}
 use Rattle.dep_match.proofs.dependencies.+subtree.Goals as goal

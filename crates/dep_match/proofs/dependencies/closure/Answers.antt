@@ -1,4 +1,4 @@
-use Rattle.std.proofs.Common.{◌≡◌, ap, ◌∙◌, sym}
+use Rattle.std.proofs.Common.{ap, ◌∙◌, sym}
 use Rattle.std.specs.Prelude.{List, Ok}
 use Rattle.dep_match.specs.declared.dep_tree.DepNode.{DepNode}
 use Rattle.dep_match.proofs.OrderedTrees.{tree_ordered}

@@ -1,4 +1,4 @@
-use Rattle.std.proofs.Common.{ℕ, Option, true, false, sym, ◌∙◌, ◌≡◌, ◌&&◌, ◌+◌, length, arith, ap, subst}
+use Rattle.std.proofs.Common.{ℕ, Option, sym, ◌∙◌, ◌&&◌, ◌+◌, arith, ap, subst}
 use Rattle.dep_match.specs.Selection.{accepts, outranks}
 use Rattle.dep_match.proofs.BestSoFar.{IsBestSoFar, none_so_far, keeps, takes, best_is, best_none, best_within, outranks_ranks, place_outranked}
 use Rattle.dep_match.proofs.selection.best_of.Goals as goal

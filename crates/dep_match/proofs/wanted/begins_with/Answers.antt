@@ -1,4 +1,3 @@
-use Rattle.std.proofs.Common.{◌≡◌, ap, ◌∙◌}
 use Rattle.dep_match.specs.Selection.{digits_of}
 use Rattle.dep_match.proofs.wanted.begins_with.Goals as goal
 
