@@ -56,7 +56,7 @@ def main():
         folder = pods(count)
         measure(f"status among {count} pods", [RKT, "status", f"00000000-0000-4000-8000-{count - 1:012x}"],
                 {"RKT_DIR": folder})
-    folder = pods(1)
+    folder = os.path.join(WORK, "data1")
     for annotations in (20, 20000):
         path = manifest(annotations)
         measure(f"validate of {os.path.getsize(path):,} bytes", [RKT, "validate", path], {"RKT_DIR": folder})

@@ -85,7 +85,7 @@ output_of line intent db da (Ok text) b a (Err r) status d p is t = by (p.cause 
 told : (path : List ℕ) (bundle : BundleAt) (o : Outcome) (out_b out_a err_b err_a : SinkAt) (end : End) (status : ℕ) → o ≡ sequential_validate path bundle.tree → Printed o out_b out_a end → Reported end err_b err_a → status ≡ end_status end → IsJudgement (Some (Validate path)) bundle.tree status out_b out_a err_b err_a
 told path bundle o out_b out_a err_b err_a end status same p said is =
     subst (λ (x : Outcome). (status ≡ 10) ⊎ (status ≡ 14) ⊎ ((status ≡ 12) × IsOk x) ⊎ IsAnswer x status out_b out_a err_b err_a) same
-      (elim (answered o out_b out_a err_b err_a end status p said is) [ inl e ↦ inr (inl e) | inr (inl x) ↦ inr (inr (inl (x.0, x.1))) | inr (inr x) ↦ inr (inr (inr x)) ])
+    (elim (answered o out_b out_a err_b err_a end status p said is) [ inl e ↦ inr (inl e) | inr (inl x) ↦ inr (inr (inl (x.0, x.1))) | inr (inr x) ↦ inr (inr (inr x)) ])
 
 -- a file was judged, or the bundle failed, the line wasn't written or memory ran out
 judgement_of : (path : List ℕ) (intent : Option Intent) (db da : Outside) (o : Outcome) (out_b out_a err_b err_a : SinkAt) (end : End) (status : ℕ) → Performs (Validate path) intent db da o → Printed o out_b out_a end → Reported end err_b err_a → status ≡ end_status end → db.bundle.observed ≡ true → IsJudgement (Some (Validate path)) db.bundle.tree status out_b out_a err_b err_a

@@ -10,12 +10,12 @@ carried most ended old new is next = subst (λ (f : Option (List ℕ)). IsBegun 
 
 pub pieces-preserved : goal.pieces-preserved
 pieces-preserved g c = (
-    c.in_ok-read_piece.ensures.most,
-    search rules,
-    search rules,
-    λ t. c.in_ok-read_piece.ensures.same t ∙ c.pieces.invariant.3 t,
-    λ t. still_begun _ _ _ _ (carried _ _ _ _ (ap (λ tree. file_bytes (tree c.args.path.now)) (c.pieces.invariant.3 t)) (c.in_ok-read_piece.ensures.read t) (c.pieces.invariant.4 t)),
-  )
+  c.in_ok-read_piece.ensures.most,
+  search rules,
+  search rules,
+  λ t. c.in_ok-read_piece.ensures.same t ∙ c.pieces.invariant.3 t,
+  λ t. still_begun _ _ _ _ (carried _ _ _ _ (ap (λ tree. file_bytes (tree c.args.path.now)) (c.pieces.invariant.3 t)) (c.in_ok-read_piece.ensures.read t) (c.pieces.invariant.4 t)),
+)
 
 pub returns-then-branch-clause-read : goal.returns-then-branch-clause-read
 returns-then-branch-clause-read g c t =
