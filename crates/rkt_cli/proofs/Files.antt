@@ -1,5 +1,5 @@
 -- A file that was read, or not, and what `validate` owes.
-use Rattle.std.proofs.Common.{arith, ◌≡◌, ◌⊎◌, inl, inr, ◌≤◌, ℕ, Bool, true, false, List, take, Option, Some, None, option_map, IsSomeAnd, Ok, Err, IsErrOf, IfErr, refl, sym, ap, subst, ◌∙◌}
+use Rattle.std.proofs.Common.{arith, ◌≡◌, ◌⊎◌, inl, inr, ◌≤◌, ℕ, true, false, List, take, Option, Some, None, option_map, IsSomeAnd, Ok, Err, IsErrOf, IfErr, refl, sym, ap, subst, ◌∙◌}
 use Rattle.dir_model.specs.Causes.{Rose}
 use Rattle.dir_model.proofs.Chains.{nothing_yet}
 use Rattle.dir_trait.specs.Bundles.{file_bytes}

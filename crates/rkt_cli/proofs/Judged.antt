@@ -1,5 +1,5 @@
 -- The first bytes of a file are judged as the whole is.
-use Rattle.std.proofs.Common.{arith, ◌≡◌, ◌+◌, ℕ, Bool, true, false, nat_le, List, length, take, Option, Some, None, option_map, Ok, Err, codes, refl, sym, ap, ◌∙◌}
+use Rattle.std.proofs.Common.{arith, ◌≡◌, ◌+◌, ℕ, Bool, true, false, nat_le, List, length, take, Option, Some, None, option_map, codes, refl, sym, ap, ◌∙◌}
 use Rattle.std.proofs.lemmas.Bool.Decides.{nat_tests}
 use Rattle.std.proofs.lemmas.Grind.{common_steps}
 use Rattle.ac_types.specs.declared.fault.FaultKind.TheVariants.{TooLong}

@@ -1,8 +1,8 @@
 -- What a command came to, whatever it is.
-use Rattle.std.proofs.Common.{arith, ◌≡◌, ◌⊎◌, inl, inr, ◌≤◌, ℕ, Bool, true, false, List, ◌++◌, take, Option, Some, None, option_map, Ok, Err, IsOk, IsErrOf, IfErr, refl, sym, ap, subst, ◌∙◌}
+use Rattle.std.proofs.Common.{arith, ◌≡◌, ◌⊎◌, inl, inr, ◌≤◌, ℕ, true, false, List, ◌++◌, take, Option, Some, None, option_map, Ok, Err, IsOk, IsErrOf, IfErr, refl, sym, ap, subst, ◌∙◌}
 use Rattle.dir_model.specs.declared.intent.Intent.{Intent}
 use Rattle.dir_model.specs.Causes.{Rose}
-use Rattle.dir_trait.specs.Bundles.{Tree, file_bytes}
+use Rattle.dir_trait.specs.Bundles.{file_bytes}
 use Rattle.ac_types.specs.FaultNumbers.{number_of}
 use Rattle.ac_types.specs.declared.fault.FaultKind.{FaultKind}
 use Rattle.ac_types.specs.Outcomes.{reads, fails}

@@ -1,5 +1,5 @@
 -- Where nobody else steps and nothing fails, a run gives what the state and the bundle before it say.
-use Rattle.std.proofs.Common.{◌≡◌, ◌⊎◌, inl, inr, ℕ, Bool, true, false, List, [], ◌++◌, Option, Some, None, Ok, Err, IsErrOf, IsOk, refl, sym, ap, subst, ◌∙◌}
+use Rattle.std.proofs.Common.{◌≡◌, ◌⊎◌, inl, inr, ℕ, true, false, List, Option, Some, None, Ok, Err, IsOk, refl, sym, ap, subst, ◌∙◌}
 use Rattle.dir_model.specs.declared.intent.Draw.{Draw}
 use Rattle.dir_model.specs.declared.intent.Intent.{Intent}
 use Rattle.dir_model.specs.State.{Namespace, DirState}
@@ -14,12 +14,11 @@ use Rattle.phase_read.proofs.Quiet.{read_quiet}
 use Rattle.rkt_cli.specs.declared.line.Line.{Line}
 use Rattle.rkt_cli.specs.declared.line.Line.TheVariants.{Status, Validate}
 use Rattle.rkt_cli.specs.declared.refusal.Refusal.TheVariants.{Usage, NoPod, BadManifest, DirFault, BundleFault, OutFault, NoMemory, NoFile}
-use Rattle.rkt_cli.specs.Texts.{status_of}
 use Rattle.rkt_cli.specs.Moments.{BundleAt, Outside, SinkAt, Outcome}
 use Rattle.rkt_cli.specs.Ends.{OwnEnd}
 use Rattle.rkt_cli.specs.Status.{read_outcome}
-use Rattle.rkt_cli.specs.Commands.{uses_dir, Does, sequential_outcome}
-use Rattle.rkt_cli.specs.Runs.{Did, Performs, InProcess, End, Printed, end_status, RanAs}
+use Rattle.rkt_cli.specs.Commands.{uses_dir, sequential_outcome}
+use Rattle.rkt_cli.specs.Runs.{Did, Performs, InProcess, Printed, end_status, RanAs}
 use Rattle.rkt_cli.specs.Rows.{sequential_run, IsAnswer, IsUndisturbed}
 use Rattle.rkt_cli.proofs.Judged.{judged_whole}
 use Rattle.rkt_cli.proofs.Outcomes.{rose_wider, rose_between, answered}

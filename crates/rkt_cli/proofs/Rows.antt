@@ -12,22 +12,20 @@ use Rattle.dir_model.specs.State.{stands}
 use Rattle.dir_model.specs.Causes.{Rose}
 use Rattle.dir_model.specs.Calls.{Extends, AtOwnStep, is_begin}
 use Rattle.dir_model.proofs.Chains.{and_more, nothing_yet, step_extends, at_after, at_before}
-use Rattle.dir_trait.specs.Bundles.{Tree}
 use Rattle.phase_read.specs.declared.found.Found.{Found}
 use Rattle.phase_read.specs.declared.found.Found.TheVariants.{At, Gone}
 use Rattle.phase_read.specs.Read.{IsRead, pod_spot}
 use Rattle.rkt_cli.specs.declared.line.Line.{Line}
 use Rattle.rkt_cli.specs.declared.line.Line.TheVariants.{Status, Validate}
-use Rattle.rkt_cli.specs.declared.refusal.Refusal.{Refusal}
 use Rattle.rkt_cli.specs.declared.refusal.Refusal.TheVariants.{Usage, NoPod, BadManifest, DirFault, BundleFault, OutFault, NoMemory, NoFile}
 use Rattle.rkt_cli.specs.Texts.{status_of, state_text}
 use Rattle.rkt_cli.specs.Moments.{DirAt, BundleAt, Outside, SinkAt, Outcome}
 use Rattle.rkt_cli.specs.Status.{read_outcome}
 use Rattle.rkt_cli.specs.Validate.{sequential_validate}
-use Rattle.rkt_cli.specs.Commands.{intent_of, asks, may}
+use Rattle.rkt_cli.specs.Commands.{intent_of, asks}
 use Rattle.rkt_cli.specs.Runs.{Performs, End, Printed, Reported, Complained, end_status, RanLine, RanAs}
 use Rattle.rkt_cli.specs.Rows.{IsStatus, IsMissing, IsBadManifest, IsNoFile, IsJudgement, asks_in, Prints, IsOutput, IsComplaint, IsAnswer}
-use Rattle.rkt_cli.proofs.Ends.{absurd_number, end_of, end_at, bad_manifest_end, no_file_end, status_known, refusal_status, Unwritten, from_end}
+use Rattle.rkt_cli.proofs.Ends.{absurd_number, end_at, bad_manifest_end, no_file_end, status_known, refusal_status, Unwritten, from_end}
 use Rattle.rkt_cli.proofs.Outcomes.{fault_cause, bundle_cause, refusals_of, answered, does_validate, validate_told, file_prints, unreadable, no_such_file}
 use Rattle.rkt_cli.proofs.Sessions.{any_call, weaken, begin_part, act_part, finish_part}
 

@@ -1,4 +1,4 @@
-use Rattle.std.proofs.Common.{rules, ◌≡◌, ◌≤◌, ◌<◌, ℕ, Bool, List, Option, IsSomeAnd, length, ap, subst, ◌∙◌}
+use Rattle.std.proofs.Common.{rules, ◌≡◌, ℕ, Bool, List, Option, IsSomeAnd, ap, subst, ◌∙◌}
 use Rattle.dir_trait.specs.Bundles.{file_bytes}
 use Rattle.bundle_read.specs.Fronts.{IsBegun, IsFront}
 use Rattle.bundle_read.proofs.Pieces.{still_begun, ended_whole, full_whole}

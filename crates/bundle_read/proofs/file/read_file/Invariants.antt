@@ -1,4 +1,4 @@
-use Rattle.std.proofs.Common.{◌≡◌, ◌≤◌, ◌<◌, ℕ, true, length, vec_len, ◌-◌}
+use Rattle.std.proofs.Common.{◌≡◌, ◌≤◌, ◌<◌, true, length, vec_len, ◌-◌}
 use Rattle.dir_trait.specs.Bundles.{file_bytes}
 use Rattle.bundle_read.specs.Fronts.{IsBegun}
 use Rattle.bundle_read.proofs.file.read_file.Given as goal
