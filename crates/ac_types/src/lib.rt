@@ -48,6 +48,3 @@ pub use store_key::StoreKey;
 pub use text::Text;
 pub use try_copy::TryCopy;
 pub use value_readers::{filled_value, object_value, text_value, whole_value};
-
-#[cfg(test)]
-mod tests;

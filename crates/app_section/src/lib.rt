@@ -29,6 +29,3 @@ pub use places::{optional_place, required_place};
 pub use port::Port;
 pub use to_json::{ToJson, json_of_each};
 pub use written_app::with_isolators;
-
-#[cfg(test)]
-mod tests;

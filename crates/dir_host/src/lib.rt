@@ -15,6 +15,3 @@ pub use bundle::HostBundle;
 pub use dir::HostDir;
 pub use outside::{Outside, SetupError, assemble, read_words};
 pub use sink::HostSink;
-
-#[cfg(test)]
-mod tests;

@@ -15,6 +15,3 @@ mod table;
 pub use bundle::MemoryBundle;
 pub use dir::MemoryDir;
 pub use sink::MemorySink;
-
-#[cfg(test)]
-mod tests;

@@ -16,6 +16,3 @@ pub use listed::{Listed, ListedPaths};
 pub use map::PathMap;
 pub use path_error::PathError;
 pub use path_iter::PathIter;
-
-#[cfg(test)]
-mod tests;

@@ -4,6 +4,8 @@
 #[cfg(test)]
 mod byte_sink;
 #[cfg(test)]
+mod memory;
+#[cfg(test)]
 mod stage;
 #[cfg(test)]
 mod status;

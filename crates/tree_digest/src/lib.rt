@@ -19,6 +19,3 @@ pub use file_check::FileCheck;
 pub use line::ListingLine;
 pub use listing::Listing;
 pub use listing_error::ListingError;
-
-#[cfg(test)]
-mod tests;

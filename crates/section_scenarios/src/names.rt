@@ -1,4 +1,4 @@
-use crate::{
+use ac_types::{
     AcIdentifier, AcName, FaultKind, FromElement, ImageId, ImageRef, Label, LabelFault, Labels,
     NameError, NamedElement, ReadError, RefError, Sequence, StoreKey, Text, field, flag_field,
     list_field, read_named, required_name, required_whole, text_field, whole_field,
@@ -142,7 +142,7 @@ impl FromElement for Port {
     ghost use Rattle.ac_types.specs.Outcomes.{reads, ◌>>=◌};
     ghost use Rattle.ac_types.specs.FieldForms.{required, whole};
     ghost use Rattle.ac_types.specs.NameForms.{filled_name};
-    ghost use Rattle.ac_types.specs.declared.tests.Port.{Port};
+    ghost use Rattle.section_scenarios.specs.declared.names.Port.{Port};
 
     ghost Shown = { Port };
 

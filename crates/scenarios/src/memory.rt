@@ -1,8 +1,8 @@
-use super::*;
-use crate::bundle::{Bundle, BundleError, BundleItem, BundleKind};
-use crate::dir::Dir;
-use crate::sink::{Sink, SinkError};
-use dir_model::{Area, Intent, Kind, Name, PodId, PodPrefix, Request, Spot, Which};
+use dir_trait::memory::{MemoryBundle, MemoryDir, MemorySink};
+use dir_trait::{
+    Area, Bundle, BundleError, BundleItem, BundleKind, Dir, Intent, Kind, Name, PodId, PodPrefix,
+    Request, Sink, SinkError, Spot, Which,
+};
 use std::test::Fail;
 
 fn spot(area: Area, name: &str) -> Result<Spot, Fail> {

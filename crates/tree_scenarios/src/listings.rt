@@ -1,6 +1,6 @@
-use crate::{FileCheck, Listing, ListingError};
 use std::alloc::Global;
 use std::test::Fail;
+use tree_digest::{FileCheck, Listing, ListingError};
 
 /// The hex digits of the SHA-512 of `abc`.
 const ABC: &str =

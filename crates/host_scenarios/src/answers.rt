@@ -1,7 +1,7 @@
 // The answers of folders and files of the host, on the file system that the tests run on.
 ghost use Rattle.dir_model.specs.Local.{IsActive};
 
-use crate::{HostBundle, HostDir, HostSink};
+use dir_host::{HostBundle, HostDir, HostSink};
 use dir_trait::{
     Area, Bundle, BundleError, BundleItem, BundleKind, Dir, DirError, Intent, Kind, Mode, PodId,
     PodPrefix, Sink, SinkError, Spot, Which, write_whole,

@@ -1,5 +1,5 @@
-use crate::{AbsPath, Entry, Listed, Meta, PathError, PathMap};
 use ac_types::Text;
+use path_map::{AbsPath, Entry, Listed, Meta, PathError, PathMap};
 use std::alloc::Global;
 use std::test::Fail;
 

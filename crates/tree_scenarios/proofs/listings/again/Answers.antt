@@ -5,7 +5,7 @@ use Rattle.path_map.specs.Entries.{entry_at}
 use Rattle.path_map.specs.Overlay.{HasParents}
 use Rattle.tree_digest.specs.Listings.{IsListable}
 use Rattle.tree_digest.proofs.MapLines.{listing_has_parents, listing_is_listable}
-use Rattle.tree_digest.proofs.tests.again.Goals as goal
+use Rattle.tree_scenarios.proofs.listings.again.Goals as goal
 
 pub of_map-requires-clause-parents : goal.of_map-requires-clause-parents
 of_map-requires-clause-parents c =

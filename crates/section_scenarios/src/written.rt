@@ -1,5 +1,5 @@
-use crate::App;
 use ac_types::{FaultKind, ReadError};
+use app_section::App;
 use serde_json::Value;
 use std::alloc::Global;
 
