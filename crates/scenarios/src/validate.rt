@@ -180,6 +180,14 @@ fn an_output_that_fails_is_an_output_fault(rt: HostRuntime) -> Result<(), Fail> 
     assert!(rt; silent);
     let said = err.bytes() == b"rkt: output fault\n".as_slice();
     assert!(rt; said);
+    Ok(())
+}
+
+#[test]
+fn an_output_that_fails_later_gets_a_beginning(rt: HostRuntime) -> Result<(), Fail> {
+    let mut dir = MemoryDir::new(rt.alloc(), 1)?;
+    let mut bundle = stocked(rt.alloc())?;
+    let words = ["validate", "../m.json"];
     let mut out = ByteSink::new(rt.alloc(), 3);
     let (status, _) = run_into(rt.alloc(), &words, &mut dir, &mut bundle, &mut out)?;
     assert_eq!(rt; status, 12);
