@@ -27,7 +27,7 @@ rkt validate FILE reads FILE as an image manifest or a pod manifest of App
 Container 0.8, as its acKind says, and prints a line valid ImageManifest NAME
 or valid PodManifest N, N being the number of its apps. Of a bad manifest it
 tells the place and the number of the first fault. A FILE that begins with -
-is named as ./-..
+is named with its folder, as ./-x.
 
 RKT_DIR names the data folder. Where it is unset or empty, the data folder is
 rkt in the current folder. Whatever is missing of it is made.
