@@ -2,56 +2,11 @@
 # The built program on data folders of this host: the texts of a pod's phases, with and without
 # locks of another process, and what bad words, bad folders and bad streams get.
 set -u
-export LC_ALL=C
 unset RKT_DIR
 cd "$(dirname "$0")/../.." || exit 1
+. tests/host/checks.bash
 
-built=$PWD/crates/rkt/out/rkt
 pod=00000000-0000-4000-8000-000000000001
-checks=0
-failures=0
-
-if [ ! -x "$built" ]; then
-    echo "status.sh: $built is missing: build the program first" >&2
-    exit 1
-fi
-tmp=$(mktemp -d) || exit 1
-trap 'chmod -R u+rwx "$tmp"; rm -rf "$tmp"' EXIT
-chmod 755 "$tmp"
-cp "$built" "$tmp/rkt-program"
-rkt=$tmp/rkt-program
-
-skip() {
-    echo "status.sh: skipped: $1"
-}
-
-fail() {
-    echo "status.sh: FAILED: $1" >&2
-    failures=$((failures + 1))
-}
-
-# same NAME WANTED GIVEN
-same() {
-    checks=$((checks + 1))
-    [ "$2" = "$3" ] || fail "$1: wanted '$2', got '$3'"
-}
-
-# expect NAME STATUS OUT ERR COMMAND..: OUT and ERR are whole lines, or empty.
-expect() {
-    local name=$1 wanted="$2|$3|$4" status out err
-    shift 4
-    "$@" >"$tmp/out" 2>"$tmp/err" 9<&-
-    status=$?
-    out=$(cat "$tmp/out" && echo .)
-    err=$(cat "$tmp/err" && echo .)
-    out=${out%.}
-    err=${err%.}
-    same "$name" "$wanted" "$status|${out%$'\n'}|${err%$'\n'}"
-    case $out$err in
-        '' | *$'\n') ;;
-        *) fail "$name: the last line has no line feed" ;;
-    esac
-}
 
 in_folder() {
     local folder=$1
@@ -267,5 +222,4 @@ else
 fi
 streamed 'closed errors' 2 '' err_closed "$rkt" status 00000000-0000-4000-8000-000000000009
 
-echo "status.sh: $checks checks, $failures failed"
-[ $failures -eq 0 ]
+finish

@@ -2,46 +2,12 @@
 # The built program on manifests of this host: what `validate` prints of good ones, of bad ones, and of
 # paths at which no file stands or can be read.
 set -u
-export LC_ALL=C
 cd "$(dirname "$0")/../.." || exit 1
+. tests/host/checks.bash
 
-built=$PWD/crates/rkt/out/rkt
-checks=0
-failures=0
-
-if [ ! -x "$built" ]; then
-    echo "validate.sh: $built is missing: build the program first" >&2
-    exit 1
-fi
-tmp=$(mktemp -d) || exit 1
-trap 'chmod -R u+rwx "$tmp"; rm -rf "$tmp"' EXIT
-chmod 755 "$tmp"
-cp "$built" "$tmp/rkt-program"
-rkt=$tmp/rkt-program
 export RKT_DIR=$tmp/data
 mkdir "$tmp/work"
 cd "$tmp/work" || exit 1
-
-skip() {
-    echo "validate.sh: skipped: $1"
-}
-
-# expect NAME STATUS OUT ERR COMMAND..: OUT and ERR are whole lines, or empty.
-expect() {
-    local name=$1 wanted="$2|$3|$4" status out err
-    shift 4
-    "$@" >"$tmp/out" 2>"$tmp/err"
-    status=$?
-    out=$(cat "$tmp/out" && echo .)
-    err=$(cat "$tmp/err" && echo .)
-    out=${out%.}
-    err=${err%.}
-    checks=$((checks + 1))
-    if [ "$wanted" != "$status|${out%$'\n'}|${err%$'\n'}" ]; then
-        echo "validate.sh: FAILED: $name: wanted '$wanted', got '$status|$out|$err'" >&2
-        failures=$((failures + 1))
-    fi
-}
 
 # valid NAME LINE TEXT
 valid() {
@@ -264,5 +230,4 @@ before=$(find "$RKT_DIR" -printf '%p %y %m %i %T@ %C@\n' 2>/dev/null | sort)
 expect 'beside pods' 0 'valid PodManifest 3' '' "$rkt" validate pod.json
 expect 'nothing in the data folder changes' 0 "$before" '' sh -c 'find "$0" -printf "%p %y %m %i %T@ %C@\n" 2>/dev/null | sort' "$RKT_DIR"
 
-echo "validate.sh: $checks checks, $failures failed"
-[ $failures -eq 0 ]
+finish

@@ -1,0 +1,55 @@
+# What the scripts of this folder share: a copy of the built program in a folder of its own, and counted
+# checks. It is read at the top of the repository.
+export LC_ALL=C
+script=$(basename "$0")
+built=$PWD/crates/rkt/out/rkt
+checks=0
+failures=0
+
+if [ ! -x "$built" ]; then
+    echo "$script: $built is missing: build the program first" >&2
+    exit 1
+fi
+tmp=$(mktemp -d) || exit 1
+trap 'chmod -R u+rwx "$tmp"; rm -rf "$tmp"' EXIT
+chmod 755 "$tmp"
+cp "$built" "$tmp/rkt-program"
+rkt=$tmp/rkt-program
+
+skip() {
+    echo "$script: skipped: $1"
+}
+
+fail() {
+    echo "$script: FAILED: $1" >&2
+    failures=$((failures + 1))
+}
+
+# same NAME WANTED GIVEN
+same() {
+    checks=$((checks + 1))
+    [ "$2" = "$3" ] || fail "$1: wanted '$2', got '$3'"
+}
+
+# expect NAME STATUS OUT ERR COMMAND..: OUT and ERR are whole lines, or empty.
+expect() {
+    local name=$1 wanted="$2|$3|$4" status out err
+    shift 4
+    "$@" >"$tmp/out" 2>"$tmp/err" 9<&-
+    status=$?
+    out=$(cat "$tmp/out" && echo .)
+    err=$(cat "$tmp/err" && echo .)
+    out=${out%.}
+    err=${err%.}
+    same "$name" "$wanted" "$status|${out%$'\n'}|${err%$'\n'}"
+    case $out$err in
+        '' | *$'\n') ;;
+        *) fail "$name: the last line has no line feed" ;;
+    esac
+}
+
+# How many checks there were, and whether none failed.
+finish() {
+    echo "$script: $checks checks, $failures failed"
+    [ $failures -eq 0 ]
+}
