@@ -12,20 +12,16 @@ fn fields_come_to(alloc: Global, fields: &str, number: u8, path: &str) -> Result
     pod_comes_to(alloc, text.as_bytes(), number, path)
 }
 
+/// Whether a pod without apps and with these volumes comes to that.
+fn volumes_come_to(alloc: Global, volumes: &str, number: u8, path: &str) -> Result<bool, NoMemory> {
+    let fields = within(alloc, "\"apps\":[],\"volumes\":[", volumes, "]")?;
+    fields_come_to(alloc, fields.as_str(), number, path)
+}
+
 #[test]
 fn volumes(rt: HostRuntime) -> Result<(), Fail> {
     let rows = [
-        (
-            "{\"name\":\"a\",\"kind\":\"host\",\"source\":\"//srv/./x\",\"readOnly\":true}",
-            0,
-            "",
-        ),
         ("{\"name\":\"a\",\"kind\":\"empty\"}", 0, ""),
-        (
-            "{\"name\":\"a\",\"kind\":\"empty\",\"mode\":\"7\",\"uid\":4294967295,\"gid\":1}",
-            0,
-            "",
-        ),
         ("{\"kind\":\"empty\"}", 9, "volumes[0].name"),
         (
             "{\"name\":\"a/b\",\"kind\":\"empty\"}",
@@ -35,6 +31,33 @@ fn volumes(rt: HostRuntime) -> Result<(), Fail> {
         ("{\"name\":\"a\"}", 9, "volumes[0].kind"),
         ("{\"name\":\"a\",\"kind\":1}", 10, "volumes[0].kind"),
         ("{\"name\":\"a\",\"kind\":\"other\"}", 23, "volumes[0]"),
+        (
+            "{\"name\":\"a\",\"kind\":\"empty\"},{\"name\":\"a\",\"kind\":\"empty\"}",
+            23,
+            "volumes[1]",
+        ),
+        (
+            "{\"name\":\"a\",\"kind\":\"empty\"},{\"name\":\"a\",\"kind\":\"empty\",\"gid\":1.5}",
+            11,
+            "volumes[1].gid",
+        ),
+        ("1", 10, "volumes[0]"),
+    ];
+    for (volumes, number, path) in rows {
+        let is = volumes_come_to(rt.alloc(), volumes, number, path)?;
+        assert!(rt; is, "{volumes}");
+    }
+    Ok(())
+}
+
+#[test]
+fn volumes_of_the_host(rt: HostRuntime) -> Result<(), Fail> {
+    let rows = [
+        (
+            "{\"name\":\"a\",\"kind\":\"host\",\"source\":\"//srv/./x\",\"readOnly\":true}",
+            0,
+            "",
+        ),
         ("{\"name\":\"a\",\"kind\":\"host\"}", 23, "volumes[0]"),
         (
             "{\"name\":\"a\",\"kind\":\"host\",\"source\":\"srv\"}",
@@ -53,6 +76,22 @@ fn volumes(rt: HostRuntime) -> Result<(), Fail> {
         ),
         (
             "{\"name\":\"a\",\"kind\":\"host\",\"source\":\"/\",\"mode\":9}",
+            0,
+            "",
+        ),
+    ];
+    for (volumes, number, path) in rows {
+        let is = volumes_come_to(rt.alloc(), volumes, number, path)?;
+        assert!(rt; is, "{volumes}");
+    }
+    Ok(())
+}
+
+#[test]
+fn empty_volumes(rt: HostRuntime) -> Result<(), Fail> {
+    let rows = [
+        (
+            "{\"name\":\"a\",\"kind\":\"empty\",\"mode\":\"7\",\"uid\":4294967295,\"gid\":1}",
             0,
             "",
         ),
@@ -76,21 +115,9 @@ fn volumes(rt: HostRuntime) -> Result<(), Fail> {
             12,
             "volumes[0].uid",
         ),
-        (
-            "{\"name\":\"a\",\"kind\":\"empty\"},{\"name\":\"a\",\"kind\":\"empty\"}",
-            23,
-            "volumes[1]",
-        ),
-        (
-            "{\"name\":\"a\",\"kind\":\"empty\"},{\"name\":\"a\",\"kind\":\"empty\",\"gid\":1.5}",
-            11,
-            "volumes[1].gid",
-        ),
-        ("1", 10, "volumes[0]"),
     ];
     for (volumes, number, path) in rows {
-        let fields = within(rt.alloc(), "\"apps\":[],\"volumes\":[", volumes, "]")?;
-        let is = fields_come_to(rt.alloc(), fields.as_str(), number, path)?;
+        let is = volumes_come_to(rt.alloc(), volumes, number, path)?;
         assert!(rt; is, "{volumes}");
     }
     Ok(())
