@@ -28,14 +28,15 @@ impl ImageManifest {
     pub fn copy(&self, alloc: Global) -> Result<ImageManifest, NoMemory>
         ensures { IfOk result (λ copy. image_data copy ≡ image_data self.now) }
     {
+        // The section is copied last, so that no failure has to drop its copy.
         Ok(ImageManifest {
             ac_version: self.ac_version.copy()?,
             name: self.name.copy()?,
             labels: self.labels.copy()?,
-            app: copy_app(alloc, &self.app)?,
             dependencies: self.dependencies.copy()?,
             path_whitelist: self.path_whitelist.copy()?,
             annotations: self.annotations.copy()?,
+            app: copy_app(alloc, &self.app)?,
         })
     }
 }

@@ -5,9 +5,8 @@ ghost use Rattle.manifests.specs.ImageForm.{image_fields, image_manifest};
 
 use crate::app_field::optional_app;
 use crate::image_manifest::ImageManifest;
-use crate::whitelist::whitelist_field;
+use crate::last_fields::read_last_image_fields;
 use ac_types::{ReadError, required_identifier};
-use app_section::list_of;
 use manifest_parts::{labels_field, read_object, required_kind, required_version};
 use serde_json::Value;
 use std::alloc::Global;
@@ -32,16 +31,18 @@ pub(crate) fn read_image_fields(alloc: Global, value: &Value) -> Result<ImageMan
     let name = required_identifier(alloc, value, "$", "name")?;
     let labels = labels_field(alloc, value, "$", "labels")?;
     let app = optional_app(alloc, value, "$", "app")?;
-    let dependencies = list_of(alloc, value, "$", "dependencies")?;
-    let path_whitelist = whitelist_field(alloc, value, "$", "pathWhitelist")?;
-    let annotations = list_of(alloc, value, "$", "annotations")?;
-    Ok(ImageManifest {
-        ac_version,
-        name,
-        labels,
-        app,
-        dependencies,
-        path_whitelist,
-        annotations,
-    })
+    match read_last_image_fields(alloc, value) {
+        Ok(last) => {
+            Ok(ImageManifest {
+                ac_version,
+                name,
+                labels,
+                app,
+                dependencies: last.dependencies,
+                path_whitelist: last.path_whitelist,
+                annotations: last.annotations,
+            })
+        }
+        Err(error) => Err(error),
+    }
 }

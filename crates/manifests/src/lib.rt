@@ -5,6 +5,7 @@ mod app_field;
 pub mod document;
 pub mod image_manifest;
 pub mod image_reader;
+mod last_fields;
 pub mod mount;
 pub mod pod_manifest;
 pub mod pod_reader;

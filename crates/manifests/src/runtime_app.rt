@@ -9,12 +9,13 @@ ghost use Rattle.manifests.specs.RuntimeAppForm.{app_name, named_app};
 ghost use Rattle.manifest_parts.specs.RuntimeImageForm.{runtime_image};
 
 use crate::app_field::{copy_app, optional_app};
+use crate::last_fields::read_last_app_fields;
 use crate::mount::Mounts;
 use ac_types::{
     AcName, FaultKind, NoMemory, ReadError, SeenTexts, Sequence, field_fault, field_path,
-    flag_field, object_value, required_field, required_name,
+    object_value, required_field, required_name,
 };
-use app_section::{App, list_of};
+use app_section::App;
 use manifest_parts::{Annotations, DistinctElement, RuntimeImage, read_runtime_image};
 use serde_json::Value;
 use std::alloc::Global;
@@ -39,13 +40,14 @@ impl RuntimeApp {
     pub fn copy(&self, alloc: Global) -> Result<RuntimeApp, NoMemory>
         ensures { IfOk result (λ copy. runtime_app_data copy ≡ runtime_app_data self.now) }
     {
+        // The section is copied last, so that no failure has to drop its copy.
         Ok(RuntimeApp {
             name: self.name.copy()?,
-            image: self.image.copy()?,
-            app: copy_app(alloc, &self.app)?,
             read_only_root_fs: self.read_only_root_fs,
             mounts: self.mounts.copy()?,
             annotations: self.annotations.copy()?,
+            image: self.image.copy()?,
+            app: copy_app(alloc, &self.app)?,
         })
     }
 }
@@ -120,17 +122,19 @@ fn read_named_app(
 {
     let image = image_field(alloc, value, at)?;
     let app = optional_app(alloc, value, at, "app")?;
-    let read_only_root_fs = flag_field(alloc, value, at, "readOnlyRootFS")?;
-    let mounts = list_of(alloc, value, at, "mounts")?;
-    let annotations = list_of(alloc, value, at, "annotations")?;
-    Ok(RuntimeApp {
-        name,
-        image,
-        app,
-        read_only_root_fs,
-        mounts,
-        annotations,
-    })
+    match read_last_app_fields(alloc, value, at) {
+        Ok(last) => {
+            Ok(RuntimeApp {
+                name,
+                image,
+                app,
+                read_only_root_fs: last.read_only_root_fs,
+                mounts: last.mounts,
+                annotations: last.annotations,
+            })
+        }
+        Err(error) => Err(error),
+    }
 }
 
 fn image_field(alloc: Global, value: &Value, at: &str) -> Result<RuntimeImage, ReadError>
