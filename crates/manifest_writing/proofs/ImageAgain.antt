@@ -39,7 +39,7 @@ use Rattle.manifest_writing.proofs.WhitelistAgain.{whitelist_again}
 abbrev image_of : List ℕ → List ℕ → List Label → Option AppData → List Dependency → List Listed → List Annotation → ImageData
 image_of ac_version name labels app dependencies path_whitelist annotations = record { ac_version = ac_version; name = name; labels = labels; app = app; dependencies = dependencies; path_whitelist = path_whitelist; annotations = annotations }
 
-image_parts : (o1 : Outcome (List ℕ)) (o2 : Outcome (List ℕ)) (o3 : Outcome (List Label)) (o4 : Outcome (Option AppData)) (o5 : Outcome (List Dependency)) (o6 : Outcome (List Listed)) (o7 : Outcome (List Annotation)) (a : ImageData)
+pub image_parts : (o1 : Outcome (List ℕ)) (o2 : Outcome (List ℕ)) (o3 : Outcome (List Label)) (o4 : Outcome (Option AppData)) (o5 : Outcome (List Dependency)) (o6 : Outcome (List Listed)) (o7 : Outcome (List Annotation)) (a : ImageData)
     → (o1 >>= λ ac_version. o2 >>= λ name. o3 >>= λ labels. o4 >>= λ app. o5 >>= λ dependencies. o6 >>= λ path_whitelist. o7 >>= λ annotations. reads (image_of ac_version name labels app dependencies path_whitelist annotations)) ≡ reads a
     → (o1 ≡ reads a.ac_version) × (o2 ≡ reads a.name) × (o3 ≡ reads a.labels) × (o4 ≡ reads a.app) × (o5 ≡ reads a.dependencies) × (o6 ≡ reads a.path_whitelist) × (o7 ≡ reads a.annotations)
 image_parts (fails p k) o2 o3 o4 o5 o6 o7 a h = no_fault h

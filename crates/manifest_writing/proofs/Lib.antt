@@ -7,3 +7,7 @@ pub mod PodAgain
 pub mod RuntimeAppsAgain
 pub mod VolumesAgain
 pub mod WhitelistAgain
+pub mod WholeApps
+pub mod WholeElements
+pub mod WholeFields
+pub mod WholeManifests

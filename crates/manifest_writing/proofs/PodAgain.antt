@@ -39,7 +39,7 @@ use Rattle.manifest_writing.proofs.VolumesAgain.{volume_again}
 abbrev pod_of : List ℕ → List RuntimeAppData → List Volume → List IsolatorData → List Annotation → List PodPort → PodData
 pod_of ac_version apps volumes isolators annotations ports = record { ac_version = ac_version; apps = apps; volumes = volumes; isolators = isolators; annotations = annotations; ports = ports }
 
-pod_parts : (o1 : Outcome (List ℕ)) (o2 : Outcome (List RuntimeAppData)) (o3 : Outcome (List Volume)) (o4 : Outcome (List IsolatorData)) (o5 : Outcome (List Annotation)) (o6 : Outcome (List PodPort)) (a : PodData)
+pub pod_parts : (o1 : Outcome (List ℕ)) (o2 : Outcome (List RuntimeAppData)) (o3 : Outcome (List Volume)) (o4 : Outcome (List IsolatorData)) (o5 : Outcome (List Annotation)) (o6 : Outcome (List PodPort)) (a : PodData)
     → (o1 >>= λ ac_version. o2 >>= λ apps. o3 >>= λ volumes. o4 >>= λ isolators. o5 >>= λ annotations. o6 >>= λ ports. reads (pod_of ac_version apps volumes isolators annotations ports)) ≡ reads a
     → (o1 ≡ reads a.ac_version) × (o2 ≡ reads a.apps) × (o3 ≡ reads a.volumes) × (o4 ≡ reads a.isolators) × (o5 ≡ reads a.annotations) × (o6 ≡ reads a.ports)
 pod_parts (fails p k) o2 o3 o4 o5 o6 a h = no_fault h

@@ -43,15 +43,15 @@ image_is i = refl
 abbrev app_of : List ℕ → RuntimeImage → Option AppData → Bool → List Mount → List Annotation → RuntimeAppData
 app_of name x1 x2 x3 x4 x5 = record { name = name; image = x1; app = x2; read_only_root_fs = x3; mounts = x4; annotations = x5 }
 
-record AppParts (name : List ℕ) (o1 : Outcome RuntimeImage) (o2 : Outcome (Option AppData)) (o3 : Outcome Bool) (o4 : Outcome (List Mount)) (o5 : Outcome (List Annotation)) (a : RuntimeAppData) : Type 0 where
+pub record AppParts (name : List ℕ) (o1 : Outcome RuntimeImage) (o2 : Outcome (Option AppData)) (o3 : Outcome Bool) (o4 : Outcome (List Mount)) (o5 : Outcome (List Annotation)) (a : RuntimeAppData) : Type 0 where
   named : name ≡ a.name
   image_read : o1 ≡ reads a.image
-  section : o2 ≡ reads a.app
+  pub section : o2 ≡ reads a.app
   read_only : o3 ≡ reads a.read_only_root_fs
   mount_list : o4 ≡ reads a.mounts
   remarks : o5 ≡ reads a.annotations
 
-app_parts : (name : List ℕ) (o1 : Outcome RuntimeImage) (o2 : Outcome (Option AppData)) (o3 : Outcome Bool) (o4 : Outcome (List Mount)) (o5 : Outcome (List Annotation)) (a : RuntimeAppData)
+pub app_parts : (name : List ℕ) (o1 : Outcome RuntimeImage) (o2 : Outcome (Option AppData)) (o3 : Outcome Bool) (o4 : Outcome (List Mount)) (o5 : Outcome (List Annotation)) (a : RuntimeAppData)
     → (o1 >>= λ x1. o2 >>= λ x2. o3 >>= λ x3. o4 >>= λ x4. o5 >>= λ x5. reads (app_of name x1 x2 x3 x4 x5)) ≡ reads a → AppParts name o1 o2 o3 o4 o5 a
 app_parts name (fails p k) o2 o3 o4 o5 a h = no_fault h
 app_parts name (reads x1) (fails p k) o3 o4 o5 a h = no_fault h

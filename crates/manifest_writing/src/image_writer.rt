@@ -1,6 +1,7 @@
 ghost use Rattle.std.specs.Prelude.{◌≡◌, take, drop, IfOk};
 ghost use Rattle.serde_json.specs.Data.{no_members};
 ghost use Rattle.serde_json.specs.View.{view};
+ghost use Rattle.serde_json.specs.Written.{compact_text};
 ghost use Rattle.ac_types.specs.Outcomes.{reads};
 ghost use Rattle.app_section.specs.Objects.{built, put_all};
 ghost use Rattle.manifests.specs.ImageData.{image_data};
@@ -20,6 +21,8 @@ use std::alloc::Global;
 /// manifest that was read gives it again, where they keep the limits of a document.
 pub fn image_bytes(alloc: Global, manifest: &ImageManifest) -> Result<Vec<u8>, NoMemory>
     ensures text { IfOk result (λ bytes. IsCompactText (image_object (image_data manifest.now)) bytes.items) }
+    ensures text_of_read { IfOk result (λ bytes. ImageWasRead (image_data manifest.now)
+        → bytes.items ≡ compact_text (image_object (image_data manifest.now))) }
     ensures reads_back { IfOk result (λ bytes. ImageWasRead (image_data manifest.now)
         → KeepsLimits (image_object (image_data manifest.now)) bytes.items
         → image_manifest bytes.items ≡ reads (image_data manifest.now)) }

@@ -1,6 +1,7 @@
 ghost use Rattle.std.specs.Prelude.{◌≡◌, take, drop, IfOk};
 ghost use Rattle.serde_json.specs.Data.{no_members};
 ghost use Rattle.serde_json.specs.View.{view};
+ghost use Rattle.serde_json.specs.Written.{compact_text};
 ghost use Rattle.ac_types.specs.Outcomes.{reads};
 ghost use Rattle.app_section.specs.Objects.{built, put_all};
 ghost use Rattle.manifests.specs.PodData.{pod_data};
@@ -19,6 +20,8 @@ use std::alloc::Global;
 /// manifest that was read gives it again, where they keep the limits of a document.
 pub fn pod_bytes(alloc: Global, manifest: &PodManifest) -> Result<Vec<u8>, NoMemory>
     ensures text { IfOk result (λ bytes. IsCompactText (pod_object (pod_data manifest.now)) bytes.items) }
+    ensures text_of_read { IfOk result (λ bytes. PodWasRead (pod_data manifest.now)
+        → bytes.items ≡ compact_text (pod_object (pod_data manifest.now))) }
     ensures reads_back { IfOk result (λ bytes. PodWasRead (pod_data manifest.now)
         → KeepsLimits (pod_object (pod_data manifest.now)) bytes.items
         → pod_manifest bytes.items ≡ reads (pod_data manifest.now)) }

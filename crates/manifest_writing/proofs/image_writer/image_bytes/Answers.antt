@@ -4,12 +4,18 @@ use Rattle.serde_json.specs.Read.{read}
 use Rattle.manifests.specs.ImageData.{image_data}
 use Rattle.manifest_writing.specs.WrittenTexts.{IsCompactText}
 use Rattle.manifest_writing.proofs.ImageAgain.{image_again}
+use Rattle.manifest_writing.proofs.WholeManifests.{image_is_whole}
 use Rattle.manifest_writing.proofs.image_writer.image_bytes.Goals as goal
 
 pub returns-clause-text : goal.returns-clause-text
 returns-clause-text c =
     let P : Data → Type 0 = λ d. IsCompactText d c.in_ok-to_vec.field-0.items in
     subst P c.in_ok-value.ensures c.in_ok-to_vec.ensures.text
+
+pub returns-clause-text_of_read : goal.returns-clause-text_of_read
+returns-clause-text_of_read c = λ was.
+    let P : Data → Type 0 = λ d. IsCompactText d c.in_ok-to_vec.field-0.items in
+    subst P c.in_ok-value.ensures c.in_ok-to_vec.ensures.text (image_is_whole (image_data c.args.manifest.now) was)
 
 pub returns-clause-reads_back : goal.returns-clause-reads_back
 returns-clause-reads_back c = λ was limits.
