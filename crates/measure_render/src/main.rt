@@ -19,6 +19,10 @@ enum Shape {
     Chain,
     /// Each image needs a small one and then the next; the last has the files.
     Late,
+    /// Each image needs two, so that those of each level are half as large; the lowest have the files.
+    Halves,
+    /// The same, and each of the lowest has one file more than the one before it.
+    Uneven,
 }
 
 /// So many images, besides the small one, with so many files.
@@ -55,6 +59,10 @@ fn needs(alloc: Global, plan: Plan, number: u32) -> Result<Dependencies> {
         let to = if number == 0 { plan.images } else { 0 };
         return dependencies(alloc, 1, to);
     }
+    if has_halves(plan) {
+        let first = number.saturating_add(next);
+        return dependencies(alloc, first, first.saturating_add(2).min(plan.images));
+    }
     if next >= plan.images {
         return Ok(Sequence::new(alloc));
     }
@@ -65,8 +73,19 @@ fn needs(alloc: Global, plan: Plan, number: u32) -> Result<Dependencies> {
     Ok(small.push(dependency(alloc, next)?)?)
 }
 
+/// Whether each image but the lowest needs two.
+fn has_halves(plan: Plan) -> bool {
+    matches!(plan.shape, Shape::Halves) || matches!(plan.shape, Shape::Uneven)
+}
+
 /// How many files the image of a number has.
 fn files_of(plan: Plan, number: u32) -> u32 {
+    if has_halves(plan) && number < plan.images / 2 {
+        return 0;
+    }
+    if matches!(plan.shape, Shape::Uneven) {
+        return plan.files.saturating_add(number);
+    }
     if matches!(plan.shape, Shape::Late) && number.saturating_add(1) != plan.images {
         return if number == plan.images { 1 } else { 0 };
     }
@@ -157,6 +176,12 @@ fn main(rt: HostRuntime) -> Result<()> {
         }
         if place == 1 && word == "late" {
             plan.shape = Shape::Late;
+        }
+        if place == 1 && word == "halves" {
+            plan.shape = Shape::Halves;
+        }
+        if place == 1 && word == "uneven" {
+            plan.shape = Shape::Uneven;
         }
         if place == 2 {
             plan.images = word.parse::<u32>()?;

@@ -19,7 +19,7 @@ use Rattle.render.specs.declared.rendering.Rendering.{Rendering}
 use Rattle.render.specs.Origins.{OriginMap, origin_at, laid_origins}
 use Rattle.render.specs.Layers.{is_file_at, source_at, laid}
 use Rattle.render.proofs.Laying.{test_at_key, test_here}
-use Rattle.render.proofs.LaidItself.{none_past}
+use Rattle.render.proofs.PathOrder.{none_past}
 
 no_file : (o : Option Entry) → is_file_at (Some (directory_at o)) ≡ false
 no_file None = refl
@@ -40,7 +40,7 @@ whitelist_keeps_files (l ∷ list) tree q h =
     file_kept (list_any (λ m. asks_directory m q) (l ∷ list)) (list_any (λ m. keeps tree m q) (l ∷ list)) (tree q) h
 
 -- where a file stands after an entry was laid, it is the entry, or what stood there
-overlaid_file : (tree : Tree) (p : List ℕ) (e : Entry) (q : List ℕ) → is_file_at (overlaid tree p e q) ≡ true
+pub overlaid_file : (tree : Tree) (p : List ℕ) (e : Entry) (q : List ℕ) → is_file_at (overlaid tree p e q) ≡ true
     → ((p ≡ q) × (overlaid tree p e q ≡ Some e)) ⊎ ((p ≢ q) × (overlaid tree p e q ≡ tree q))
 overlaid_file tree p e q h =
     by_place p e q

@@ -12,7 +12,8 @@ use Rattle.path_map.proofs.WhitelistLaws.{keep_keeps_parents}
 use Rattle.dep_match.specs.declared.dep_tree.DepNode.{DepNode}
 use Rattle.dep_match.specs.declared.stored.Stored.{Stored}
 use Rattle.render.specs.declared.rendering.Rendering.{Rendering}
-use Rattle.render.proofs.LaidItself.{laid_itself}
+use Rattle.render.proofs.LaidOver.{laid_itself}
+use Rattle.render.proofs.Layers.{AreLaid}
 use Rattle.render.specs.Layers.{empty_tree, laid, layered}
 use Rattle.dep_match.specs.TreeOrder.{node_at}
 use Rattle.render.specs.Flattening.{whitelist_of, entries_of, IsLayered, IsFlattened, IsRendering}
@@ -27,6 +28,10 @@ laid_parents tree (e ∷ entries) parents = laid_parents (overlaid tree e.0 e.1)
 pub layered_parents : (tree : Tree) (upper : List Rendering) → HasParents tree → HasParents (layered tree upper)
 layered_parents tree [] parents = parents
 layered_parents tree (r ∷ upper) parents = layered_parents (laid tree r.map) upper (laid_parents tree r.map parents)
+
+-- in several renderings that were laid over each other each ancestor of an entry is a directory
+pub laid_have_parents : (below : List Rendering) (whole : Rendering) → AreLaid below whole → HasParents (entry_at whole.map)
+laid_have_parents below whole are = subst HasParents (sym (fun_ext are.entries)) (layered_parents empty_tree below no_parents)
 
 layer_parents : (whitelist : List Listed) (own : Entries) (image : ℕ) (below : List Rendering) (r : Rendering) → IsLayered whitelist own image below r → HasParents (entry_at r.map)
 layer_parents whitelist own image below r layer =
@@ -56,7 +61,7 @@ leaf_layer whitelist own image below r bare alone kind parents layer =
     layer.entries q
     ∙ ap (λ (ws : List Listed). whitelisted ws (laid (layered empty_tree below) own) q) bare
     ∙ ap (λ (rs : List Rendering). laid (layered empty_tree rs) own q) alone
-    ∙ laid_itself own kind.rising parents q)
+    ∙ laid_itself own kind parents q)
 
 leaf_flattened : (nodes : List DepNode) (list : List Stored) (maps : List Entries) (levels n : ℕ) (r : Rendering) → (node_at nodes n).children ≡ []
     → whitelist_of list (node_at nodes n).image ≡ [] → IsPathMap (entries_of maps (node_at nodes n).image) → HasParents (entry_at (entries_of maps (node_at nodes n).image))

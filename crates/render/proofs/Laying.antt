@@ -38,9 +38,6 @@ test_at p q off =
 pub test_at_key : (p q : List ℕ) → p ≢ q → is_at (slice_cmp nat_cmp q) p ≡ false
 test_at_key p q other = test_at p q (false_from_ne_true _ (λ on. other (here p q on)))
 
-pub key_here : (p q : List ℕ) → is_at (slice_cmp nat_cmp q) p ≡ true → p ≡ q
-key_here p q on = sym (here q p (texts_ties q p ∙ on))
-
 pub test_here : (p q : List ℕ) → p ≡ q → is_at (slice_cmp nat_cmp q) p ≡ true
 test_here p q same = ap (λ (k : List ℕ). is_at (slice_cmp nat_cmp q) k) same ∙ ap is_eq (tied_itself nat_list_cmp_total q)
 

@@ -1,8 +1,11 @@
 pub mod Files
-pub mod LaidItself
+pub mod LaidOver
 pub mod Laws
 pub mod Layers
 pub mod Laying
 pub mod Levels
 pub mod Noting
+pub mod PathOrder
 pub mod SourceLaws
+pub mod Under
+pub mod UnderSources

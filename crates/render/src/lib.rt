@@ -2,6 +2,7 @@
 #![tactic(auto)]
 
 pub mod flatten;
+mod open_place;
 pub mod origins;
 pub mod render;
 pub mod render_error;

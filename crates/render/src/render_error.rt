@@ -1,3 +1,6 @@
+ghost use Rattle.std.specs.Prelude.{Some};
+ghost use Rattle.render.specs.ErrorTexts.{render_error_text};
+
 use ac_types::NoMemory;
 use std::error::Error;
 use std::fmt;
@@ -23,6 +26,8 @@ impl From<NoMemory> for RenderError {
 }
 
 impl fmt::Display for RenderError {
+    ghost output = { λ error. Some (render_error_text error) };
+
     fn fmt<W: fmt::Write>(&self, f: &mut fmt::Formatter<W>) -> fmt::Result {
         let text = match self {
             RenderError::TooManyEntries => "the images have too many files",

@@ -1,10 +1,11 @@
-ghost use Rattle.std.specs.Prelude.{◌≡◌, ◌↔◌, ℕ, List, [], Some, IfOk, IsTrue};
+ghost use Rattle.std.specs.Prelude.{◌≡◌, ◌<◌, ◌↔◌, ℕ, List, [], Some, length, IfOk, IsTrue};
 ghost use Rattle.path_map.specs.Entries.{entry_at, IsPathMap};
 ghost use Rattle.path_map.specs.Overlay.{HasParents};
 ghost use Rattle.path_map.specs.Whitelist.{whitelisted};
 ghost use Rattle.render.specs.Origins.{origin_at, laid_origins};
 ghost use Rattle.render.specs.Layers.{laid, is_file_at, source_at};
 
+use crate::open_place::is_open;
 use crate::origins::Origins;
 use ac_types::NoMemory;
 use path_map::{AbsPath, Entry, Listed, PathMap};
@@ -46,24 +47,55 @@ impl Rendering {
         }
     }
 
-    /// Lays another over this one. Over the empty root it stays as it is.
+    /// Lays another over this one. Of the two the smaller is gone through, and the other is
+    /// taken as it is: so an entry is moved only into a root at least as large as its own.
     pub(crate) fn lay(self, alloc: Global, upper: Rendering) -> Result<Rendering, NoMemory>
         requires kind { IsPathMap upper.map }
         requires parents { HasParents (entry_at upper.map) }
+        requires lower_parents { HasParents (entry_at self.map) }
         ensures entries { IfOk result (λ r. (q : List ℕ) → entry_at r.map q ≡ laid (entry_at self.map) upper.map q) }
         ensures sources { IfOk result (λ r. (q : List ℕ) → IsTrue (is_file_at (entry_at r.map q))
             → origin_at r.origins q ≡ laid_origins (origin_at self.origins) upper.map (source_at upper) q) }
     {
-        if self.is_empty() {
-            return Ok(upper);
+        if self.has_fewer(&upper) {
+            return self.put_under(alloc, upper);
         }
         self.lay_entries(alloc, &upper)
     }
 
-    fn is_empty(&self) -> bool
-        ensures { IsTrue result ↔ (self.now.map ≡ []) }
+    /// Whether another has more entries. Takes no more steps than the smaller of the two has entries.
+    fn has_fewer(&self, other: &Rendering) -> bool
+        ensures { IsTrue result ↔ (length self.now.map < length other.now.map) }
     {
-        self.map.iter().next().is_none()
+        let mut others = other.map.iter();
+        for (_path, _entry) in self.map.iter() {
+            if others.next().is_none() {
+                return false;
+            }
+        }
+        others.next().is_some()
+    }
+
+    /// Puts what stays of this one under another, in path order: an entry stays where the other
+    /// has nothing at its path and neither a file nor a link above it.
+    fn put_under(self, alloc: Global, upper: Rendering) -> Result<Rendering, NoMemory>
+        requires kind { IsPathMap upper.map }
+        requires parents { HasParents (entry_at upper.map) }
+        requires lower_parents { HasParents (entry_at self.map) }
+        ensures entries { IfOk result (λ r. (q : List ℕ) → entry_at r.map q ≡ laid (entry_at self.map) upper.map q) }
+        ensures sources { IfOk result (λ r. (q : List ℕ) → IsTrue (is_file_at (entry_at r.map q))
+            → origin_at r.origins q ≡ laid_origins (origin_at self.origins) upper.map (source_at upper) q) }
+    {
+        let mut map = upper.map;
+        let mut origins = upper.origins;
+        for (path, entry) in self.map.iter() {
+            if !is_open(alloc, &map, path)? {
+                continue;
+            }
+            map = map.overlay(alloc, path.copy()?, entry.copy()?)?;
+            origins.note(path.copy()?, self.origins.get(path))?;
+        }
+        Ok(Rendering { map, origins })
     }
 
     /// Lays the entries of another over this one, in path order.

@@ -1,7 +1,7 @@
 //! What the root of an image holds, and which image each file is from.
 
 use crate::images::dependent;
-use ac_types::Sequence;
+use ac_types::{Sequence, Text};
 use dep_match::{Stored, closure};
 use path_map::{AbsPath, Entry, Listed, ListedPaths, Meta, PathMap};
 use render::{RenderError, Rendering, render_tree};
@@ -9,7 +9,7 @@ use std::alloc::Global;
 use std::test::Fail;
 
 /// An image: its name, the names of its dependencies, its whitelist, and its own entries, each a
-/// letter and a path: `d` a directory, `f` an empty file, `F` a file of three bytes.
+/// letter and a path: `d` a directory, `f` an empty file, `F` a file of three bytes, `l` a link.
 #[derive(Clone, Copy)]
 struct Layer<'a> {
     name: &'a str,
@@ -26,15 +26,21 @@ const GIVEN: Meta = Meta {
 };
 
 /// The entry that a letter stands for.
-fn entry(letter: &str) -> Entry {
+fn entry(alloc: Global, letter: &str) -> Result<Entry, Fail> {
     if letter == "d" {
-        return Entry::Dir(GIVEN);
+        return Ok(Entry::Dir(GIVEN));
     }
-    Entry::File {
+    if letter == "l" {
+        return Ok(Entry::Link {
+            meta: GIVEN,
+            target: Text::of(alloc, "t")?,
+        });
+    }
+    Ok(Entry::File {
         meta: GIVEN,
         size: if letter == "F" { 3 } else { 0 },
         sha: [0; 64],
-    }
+    })
 }
 
 /// The map of some entries.
@@ -42,7 +48,7 @@ fn map_of(alloc: Global, entries: &[&str]) -> Result<PathMap, Fail> {
     let mut map = PathMap::new(alloc);
     for line in entries {
         let (letter, path) = line.split_at_checked(1).ok_or("a letter")?;
-        map = map.overlay(alloc, AbsPath::parse(alloc, path)?, entry(letter))?;
+        map = map.overlay(alloc, AbsPath::parse(alloc, path)?, entry(alloc, letter)?)?;
     }
     Ok(map)
 }
@@ -217,12 +223,35 @@ fn a_file_is_from_where_it_was_laid_last(rt: HostRuntime) -> Result<(), Fail> {
     Ok(())
 }
 
+#[test]
+fn a_small_image_lies_under_a_large_one(rt: HostRuntime) -> Result<(), Fail> {
+    let alloc = rt.alloc();
+    let low = [
+        "F/e", "d/h", "f/h/x", "d/k", "f/k/x", "d/l", "f/l/x", "d/s", "f/s/low",
+    ];
+    let high = [
+        "f/e", "f/h", "l/l", "f/s/up", "d/u", "f/u/1", "f/u/2", "f/u/3", "f/u/4", "f/u/5",
+    ];
+    let base = plain("base", &[], low.as_slice());
+    let lib = plain("lib", &[], high.as_slice());
+    let top = plain("top", &["base", "lib"], &[]);
+    let stays = "f/e 2 f/h 2 d/k f/k/x 1 l/l m/s f/s/low 1 f/s/up 2 ";
+    let others = "d/u f/u/1 2 f/u/2 2 f/u/3 2 f/u/4 2 f/u/5 2 ";
+    let wanted = format!(in alloc; "{stays}{others}")?;
+    assert!(&rt; shows(alloc, &[top, base, lib], wanted.as_str())?);
+    Ok(())
+}
+
 /// A map of so many files.
 fn files(alloc: Global, count: u32) -> Result<PathMap, Fail> {
     let mut map = PathMap::new(alloc);
     for number in 0..count {
         let path = format!(in alloc; "/f{number}")?;
-        map = map.overlay(alloc, AbsPath::parse(alloc, path.as_str())?, entry("f"))?;
+        map = map.overlay(
+            alloc,
+            AbsPath::parse(alloc, path.as_str())?,
+            entry(alloc, "f")?,
+        )?;
     }
     Ok(map)
 }

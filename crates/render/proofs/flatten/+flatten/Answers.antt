@@ -1,5 +1,5 @@
 use Rattle.std.proofs.Common.{◌-◌, length, get_or, arith}
-use Rattle.render.proofs.Laws.{flattening_has_parents}
+use Rattle.render.proofs.Laws.{flattening_has_parents, laid_have_parents}
 use Rattle.render.proofs.Levels.{child_within, image_within, flattened_more, one_more_part, whole_if, ok_more}
 use Rattle.render.proofs.flatten.+flatten.Goals as goal
 
@@ -15,6 +15,10 @@ lay-requires-clause-parents t c =
     let nodes = c.args.nodes.now in
     let child = get_or c.as_slice-child-items.result.now c.loop-child.child-index 0 in
     flattening_has_parents nodes c.args.list.now c.args.maps.now (length nodes - child) child c.in_ok-part.part c.in_ok-part.ensures.flattening
+
+pub lay-requires-clause-lower_parents : goal.lay-requires-clause-lower_parents
+lay-requires-clause-lower_parents t c =
+    laid_have_parents c.loop-child.invariant.below c.loop-child.whole c.loop-child.invariant.laid
 
 pub loop-child-preserved : goal.loop-child-preserved
 loop-child-preserved t c =
