@@ -1,3 +1,4 @@
+pub mod ErrorTexts
 pub mod FaultNumbers
 pub mod FieldForms
 pub mod FirstBelow

@@ -1,6 +1,7 @@
-ghost use Rattle.std.specs.Prelude.{◌≡◌, IfOk};
+ghost use Rattle.std.specs.Prelude.{◌≡◌, IfOk, Some};
 ghost use Rattle.ac_types.specs.FaultNumbers.{number_of};
 ghost use Rattle.ac_types.specs.declared.fault.ReadError.TheVariants.{NoMemory};
+ghost use Rattle.ac_types.specs.ErrorTexts.{read_error_text};
 
 use crate::memory;
 use crate::text::Text;
@@ -149,6 +150,8 @@ impl ReadError {
 }
 
 impl fmt::Display for ReadError {
+    ghost output = { λ error. Some (read_error_text error) };
+
     fn fmt<W: fmt::Write>(&self, f: &mut fmt::Formatter<W>) -> fmt::Result {
         match self {
             ReadError::Bad(fault) => {

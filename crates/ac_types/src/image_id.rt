@@ -1,4 +1,4 @@
-ghost use Rattle.std.specs.Prelude.{◌≡◌, ◌≢◌, ℕ, List, Some, None, IfOk, IfErr, MatchResult};
+ghost use Rattle.std.specs.Prelude.{◌≡◌, ◌≢◌, ℕ, List, Some, None, IfOk, IfErr, MatchResult, codes};
 ghost use Rattle.ac_types.specs.Ids.{id_text, id_read, AreBytes};
 
 use crate::hex_digits::read_id;
@@ -16,6 +16,8 @@ pub struct ImageId {
 pub struct BadId;
 
 impl fmt::Display for BadId {
+    ghost output = { λ _. Some (codes "bad image ID") };
+
     fn fmt<W: fmt::Write>(&self, f: &mut fmt::Formatter<W>) -> fmt::Result {
         write!(f, "bad image ID")
     }

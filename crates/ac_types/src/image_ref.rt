@@ -1,6 +1,7 @@
-ghost use Rattle.std.specs.Prelude.{◌≡◌, IfOk};
+ghost use Rattle.std.specs.Prelude.{◌≡◌, IfOk, Some};
 ghost use Rattle.ac_types.specs.References.{IsRead, reference};
 ghost use Rattle.ac_types.specs.declared.image_ref.RefError.TheVariants.{NoMemory};
+ghost use Rattle.ac_types.specs.ErrorTexts.{ref_error_text};
 
 use crate::ac_identifier::AcIdentifier;
 use crate::labels::Labels;
@@ -72,6 +73,8 @@ pub enum RefError {
 }
 
 impl fmt::Display for RefError {
+    ghost output = { λ error. Some (ref_error_text error) };
+
     fn fmt<W: fmt::Write>(&self, f: &mut fmt::Formatter<W>) -> fmt::Result {
         match self {
             RefError::BadRef(place) => write!(f, "bad reference at {place}"),

@@ -1,4 +1,5 @@
-ghost use Rattle.std.specs.Prelude.{◌≡◌, IfOk};
+ghost use Rattle.std.specs.Prelude.{◌≡◌, IfOk, Some};
+ghost use Rattle.ac_types.specs.ErrorTexts.{label_fault_text};
 
 use crate::ac_identifier::AcIdentifier;
 use crate::memory::NoMemory;
@@ -46,6 +47,8 @@ pub enum LabelFault {
 }
 
 impl fmt::Display for LabelFault {
+    ghost output = { λ fault. Some (label_fault_text fault) };
+
     fn fmt<W: fmt::Write>(&self, f: &mut fmt::Formatter<W>) -> fmt::Result {
         match self {
             LabelFault::LabelTwice(place) => write!(f, "label {place} has a name that came before"),

@@ -1,5 +1,6 @@
-ghost use Rattle.std.specs.Prelude.{◌≡◌};
+ghost use Rattle.std.specs.Prelude.{◌≡◌, Some};
 ghost use Rattle.ac_types.specs.declared.name_error.NameError.TheVariants.{NoMemory};
+ghost use Rattle.ac_types.specs.ErrorTexts.{name_error_text};
 
 use crate::memory;
 use std::error::Error;
@@ -18,6 +19,8 @@ pub enum NameError {
 }
 
 impl fmt::Display for NameError {
+    ghost output = { λ error. Some (name_error_text error) };
+
     fn fmt<W: fmt::Write>(&self, f: &mut fmt::Formatter<W>) -> fmt::Result {
         match self {
             NameError::Empty => write!(f, "empty name"),

@@ -1,3 +1,4 @@
 pub mod Dependencies
+pub mod ErrorTexts
 pub mod Selection
 pub mod TreeOrder

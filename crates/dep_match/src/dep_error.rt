@@ -1,5 +1,6 @@
-ghost use Rattle.std.specs.Prelude.{◌≡◌};
+ghost use Rattle.std.specs.Prelude.{◌≡◌, Some};
 ghost use Rattle.dep_match.specs.declared.dep_error.DepError.TheVariants.{NoMemory};
+ghost use Rattle.dep_match.specs.ErrorTexts.{dep_error_text};
 
 use ac_types::{AcIdentifier, StoreKey, memory};
 use std::fmt;
@@ -20,6 +21,8 @@ pub enum DepError {
 }
 
 impl fmt::Display for DepError {
+    ghost output = { λ error. Some (dep_error_text error) };
+
     fn fmt<W: fmt::Write>(&self, f: &mut fmt::Formatter<W>) -> fmt::Result {
         match self {
             DepError::NoDependency(name) => write!(

@@ -1,3 +1,6 @@
+ghost use Rattle.std.specs.Prelude.{Some};
+ghost use Rattle.path_map.specs.ErrorTexts.{path_error_text};
+
 use ac_types::NoMemory;
 use std::error::Error;
 use std::fmt;
@@ -29,6 +32,8 @@ impl From<NoMemory> for PathError {
 }
 
 impl fmt::Display for PathError {
+    ghost output = { λ error. Some (path_error_text error) };
+
     fn fmt<W: fmt::Write>(&self, f: &mut fmt::Formatter<W>) -> fmt::Result {
         let text = match self {
             PathError::NotAbsolute => "not an absolute path",

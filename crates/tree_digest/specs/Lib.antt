@@ -1,3 +1,4 @@
+pub mod ErrorTexts
 pub mod Fields
 pub mod FileChecks
 pub mod Lines

@@ -1,3 +1,6 @@
+ghost use Rattle.std.specs.Prelude.{Some};
+ghost use Rattle.tree_digest.specs.ErrorTexts.{listing_error_text};
+
 use ac_types::NoMemory;
 use std::error::Error;
 use std::fmt;
@@ -31,6 +34,8 @@ impl From<NoMemory> for ListingError {
 }
 
 impl fmt::Display for ListingError {
+    ghost output = { λ error. Some (listing_error_text error) };
+
     fn fmt<W: fmt::Write>(&self, f: &mut fmt::Formatter<W>) -> fmt::Result {
         match self {
             ListingError::BadLine(n) => write!(f, "line {n} is of no form"),
