@@ -7,75 +7,77 @@ use std::test::Fail;
 
 const POD: &str = "{\"acKind\":\"PodManifest\",\"acVersion\":\"0.8.0\",\"apps\":[]";
 
+const KINDS_AND_VERSIONS: &[(&str, u8, &str)] = &[
+    ("{", 20, "$"),
+    ("", 20, "$"),
+    ("{} x", 20, "$"),
+    ("{\"a\":1e999}", 20, "$"),
+    ("{\"a\":\"\\ud800\"}", 20, "$"),
+    ("[]", 10, "$"),
+    ("null", 10, "$"),
+    ("{}", 9, "acKind"),
+    ("{\"acKind\":null}", 9, "acKind"),
+    ("{\"acKind\":\"\"}", 9, "acKind"),
+    ("{\"acKind\":1}", 10, "acKind"),
+    ("{\"acKind\":\"ImageManifest\"}", 21, "acKind"),
+    ("{\"acKind\":\"PodManifest\"}", 9, "acVersion"),
+    (
+        "{\"acKind\":\"PodManifest\",\"acVersion\":8}",
+        10,
+        "acVersion",
+    ),
+    (
+        "{\"acKind\":\"PodManifest\",\"acVersion\":\"0.8\"}",
+        22,
+        "acVersion",
+    ),
+    (
+        "{\"acKind\":\"PodManifest\",\"acVersion\":\"01.0.0\"}",
+        22,
+        "acVersion",
+    ),
+    (
+        "{\"acKind\":\"PodManifest\",\"acVersion\":\"0.8.0\"}",
+        9,
+        "apps",
+    ),
+    (
+        "{\"acKind\":\"PodManifest\",\"acVersion\":\"0.8.0-rc.1+x\",\"apps\":[]}",
+        0,
+        "",
+    ),
+];
+
 #[test]
 fn kinds_and_versions(rt: HostRuntime) -> Result<(), Fail> {
-    let rows = [
-        ("{", 20, "$"),
-        ("", 20, "$"),
-        ("{} x", 20, "$"),
-        ("{\"a\":1e999}", 20, "$"),
-        ("{\"a\":\"\\ud800\"}", 20, "$"),
-        ("[]", 10, "$"),
-        ("null", 10, "$"),
-        ("{}", 9, "acKind"),
-        ("{\"acKind\":null}", 9, "acKind"),
-        ("{\"acKind\":\"\"}", 9, "acKind"),
-        ("{\"acKind\":1}", 10, "acKind"),
-        ("{\"acKind\":\"ImageManifest\"}", 21, "acKind"),
-        ("{\"acKind\":\"PodManifest\"}", 9, "acVersion"),
-        (
-            "{\"acKind\":\"PodManifest\",\"acVersion\":8}",
-            10,
-            "acVersion",
-        ),
-        (
-            "{\"acKind\":\"PodManifest\",\"acVersion\":\"0.8\"}",
-            22,
-            "acVersion",
-        ),
-        (
-            "{\"acKind\":\"PodManifest\",\"acVersion\":\"01.0.0\"}",
-            22,
-            "acVersion",
-        ),
-        (
-            "{\"acKind\":\"PodManifest\",\"acVersion\":\"0.8.0\"}",
-            9,
-            "apps",
-        ),
-        (
-            "{\"acKind\":\"PodManifest\",\"acVersion\":\"0.8.0-rc.1+x\",\"apps\":[]}",
-            0,
-            "",
-        ),
-    ];
-    for (text, number, path) in rows {
+    for &(text, number, path) in KINDS_AND_VERSIONS {
         let is = pod_comes_to(rt.alloc(), text.as_bytes(), number, path)?;
         assert!(rt; is, "{text}");
     }
     Ok(())
 }
 
+const EQUAL_KEYS: &[(&str, u8, &str)] = &[
+    (
+        "{\"acKind\":\"Other\",\"acVersion\":\"x\",\"name\":\"A\",\"acKind\":\"ImageManifest\",\"acVersion\":\"0.8.0\",\"name\":\"a\"}",
+        0,
+        "",
+    ),
+    (
+        "{\"acKind\":\"ImageManifest\",\"acVersion\":\"0.8.0\",\"name\":\"a\",\"name\":\"A\"}",
+        2,
+        "name",
+    ),
+    (
+        "{\"acKind\":\"ImageManifest\",\"acVersion\":\"0.8.0\",\"name\":\"a\",\"name\":null}",
+        9,
+        "name",
+    ),
+];
+
 #[test]
 fn the_last_of_equal_keys_counts(rt: HostRuntime) -> Result<(), Fail> {
-    let rows = [
-        (
-            "{\"acKind\":\"Other\",\"acVersion\":\"x\",\"name\":\"A\",\"acKind\":\"ImageManifest\",\"acVersion\":\"0.8.0\",\"name\":\"a\"}",
-            0,
-            "",
-        ),
-        (
-            "{\"acKind\":\"ImageManifest\",\"acVersion\":\"0.8.0\",\"name\":\"a\",\"name\":\"A\"}",
-            2,
-            "name",
-        ),
-        (
-            "{\"acKind\":\"ImageManifest\",\"acVersion\":\"0.8.0\",\"name\":\"a\",\"name\":null}",
-            9,
-            "name",
-        ),
-    ];
-    for (text, number, path) in rows {
+    for &(text, number, path) in EQUAL_KEYS {
         let is = image_comes_to(rt.alloc(), text.as_bytes(), number, path)?;
         assert!(rt; is, "{text}");
     }

@@ -20,203 +20,209 @@ fn field_comes_to(
     image_comes_to(alloc, text.as_bytes(), number, path)
 }
 
+const LABELS: &[(&str, u8, &str)] = &[
+    ("[{\"name\":\"name\",\"value\":\"x\"}]", 6, "labels[0].name"),
+    (
+        "[{\"name\":\"version\",\"value\":\"1\"},{\"name\":\"version\",\"value\":\"1\"}]",
+        5,
+        "labels[1].name",
+    ),
+    ("[{\"name\":\"arch\",\"value\":\"x86_64\"}]", 0, ""),
+    (
+        "[{\"name\":\"os\",\"value\":\"linux\"},{\"name\":\"arch\",\"value\":\"x86_64\"}]",
+        8,
+        "labels[1].value",
+    ),
+    (
+        "[{\"name\":\"os\",\"value\":\"plan9\"}]",
+        7,
+        "labels[0].value",
+    ),
+    (
+        "[{\"name\":\"name\",\"value\":\"x\"},{\"name\":\"version\",\"value\":\"1\"},{\"name\":\"version\",\"value\":\"1\"}]",
+        6,
+        "labels[0].name",
+    ),
+    ("[{\"value\":\"x\"}]", 9, "labels[0].name"),
+    ("[{\"name\":\"\",\"value\":\"x\"}]", 9, "labels[0].name"),
+    ("[{\"name\":\"a\",\"value\":\"\"}]", 0, ""),
+    ("[{\"name\":\"a\"}]", 9, "labels[0].value"),
+    ("[null]", 10, "labels[0]"),
+    ("{}", 10, "labels"),
+    ("null", 0, ""),
+];
+
 #[test]
 fn labels(rt: HostRuntime) -> Result<(), Fail> {
-    let rows = [
-        ("[{\"name\":\"name\",\"value\":\"x\"}]", 6, "labels[0].name"),
-        (
-            "[{\"name\":\"version\",\"value\":\"1\"},{\"name\":\"version\",\"value\":\"1\"}]",
-            5,
-            "labels[1].name",
-        ),
-        ("[{\"name\":\"arch\",\"value\":\"x86_64\"}]", 0, ""),
-        (
-            "[{\"name\":\"os\",\"value\":\"linux\"},{\"name\":\"arch\",\"value\":\"x86_64\"}]",
-            8,
-            "labels[1].value",
-        ),
-        (
-            "[{\"name\":\"os\",\"value\":\"plan9\"}]",
-            7,
-            "labels[0].value",
-        ),
-        (
-            "[{\"name\":\"name\",\"value\":\"x\"},{\"name\":\"version\",\"value\":\"1\"},{\"name\":\"version\",\"value\":\"1\"}]",
-            6,
-            "labels[0].name",
-        ),
-        ("[{\"value\":\"x\"}]", 9, "labels[0].name"),
-        ("[{\"name\":\"\",\"value\":\"x\"}]", 9, "labels[0].name"),
-        ("[{\"name\":\"a\",\"value\":\"\"}]", 0, ""),
-        ("[{\"name\":\"a\"}]", 9, "labels[0].value"),
-        ("[null]", 10, "labels[0]"),
-        ("{}", 10, "labels"),
-        ("null", 0, ""),
-    ];
-    for (value, number, path) in rows {
+    for &(value, number, path) in LABELS {
         let is = field_comes_to(rt.alloc(), "labels", value, number, path)?;
         assert!(rt; is, "{value}");
     }
     Ok(())
 }
 
+const THE_APP: &[(&str, u8, &str)] = &[
+    ("null", 0, ""),
+    ("[]", 10, "app"),
+    ("{\"group\":\"0\"}", 9, "app.user"),
+    (
+        "{\"user\":\"0\",\"group\":\"0\",\"ports\":[{\"name\":\"p\",\"protocol\":\"tcp\",\"port\":65535,\"count\":1}]}",
+        0,
+        "",
+    ),
+    (
+        "{\"user\":\"0\",\"group\":\"0\",\"ports\":[{\"name\":\"p\",\"protocol\":\"tcp\",\"port\":65535,\"count\":2}]}",
+        15,
+        "app.ports[0]",
+    ),
+    (
+        "{\"user\":\"0\",\"group\":\"0\",\"ports\":[{\"name\":\"p\",\"protocol\":\"tcp\",\"port\":65536}]}",
+        12,
+        "app.ports[0].port",
+    ),
+    (
+        "{\"user\":\"0\",\"group\":\"0\",\"ports\":[{\"name\":\"p\",\"protocol\":\"tcp\",\"port\":1.5}]}",
+        11,
+        "app.ports[0].port",
+    ),
+];
+
 #[test]
 fn the_app(rt: HostRuntime) -> Result<(), Fail> {
-    let rows = [
-        ("null", 0, ""),
-        ("[]", 10, "app"),
-        ("{\"group\":\"0\"}", 9, "app.user"),
-        (
-            "{\"user\":\"0\",\"group\":\"0\",\"ports\":[{\"name\":\"p\",\"protocol\":\"tcp\",\"port\":65535,\"count\":1}]}",
-            0,
-            "",
-        ),
-        (
-            "{\"user\":\"0\",\"group\":\"0\",\"ports\":[{\"name\":\"p\",\"protocol\":\"tcp\",\"port\":65535,\"count\":2}]}",
-            15,
-            "app.ports[0]",
-        ),
-        (
-            "{\"user\":\"0\",\"group\":\"0\",\"ports\":[{\"name\":\"p\",\"protocol\":\"tcp\",\"port\":65536}]}",
-            12,
-            "app.ports[0].port",
-        ),
-        (
-            "{\"user\":\"0\",\"group\":\"0\",\"ports\":[{\"name\":\"p\",\"protocol\":\"tcp\",\"port\":1.5}]}",
-            11,
-            "app.ports[0].port",
-        ),
-    ];
-    for (value, number, path) in rows {
+    for &(value, number, path) in THE_APP {
         let is = field_comes_to(rt.alloc(), "app", value, number, path)?;
         assert!(rt; is, "{value}");
     }
     Ok(())
 }
 
+const DEPENDENCIES: &[(&str, u8, &str)] = &[
+    ("[]", 0, ""),
+    (
+        "[{\"imageName\":\"base\",\"imageID\":null,\"labels\":[],\"size\":18446744073709551615}]",
+        0,
+        "",
+    ),
+    (
+        "[{\"imageName\":\"base\"},{}]",
+        9,
+        "dependencies[1].imageName",
+    ),
+    ("[{\"imageName\":\"a--b\"}]", 2, "dependencies[0].imageName"),
+    (
+        "[{\"imageName\":\"a\",\"imageID\":\"\"}]",
+        3,
+        "dependencies[0].imageID",
+    ),
+    (
+        "[{\"imageName\":\"a\",\"imageID\":\"sha512-ab\"}]",
+        3,
+        "dependencies[0].imageID",
+    ),
+    (
+        "[{\"imageName\":\"a\",\"labels\":[{\"name\":\"name\",\"value\":\"x\"}]}]",
+        6,
+        "dependencies[0].labels[0].name",
+    ),
+    (
+        "[{\"imageName\":\"a\",\"size\":-1}]",
+        12,
+        "dependencies[0].size",
+    ),
+    (
+        "[{\"imageName\":\"a\",\"size\":18446744073709551616}]",
+        11,
+        "dependencies[0].size",
+    ),
+    ("[1]", 10, "dependencies[0]"),
+];
+
 #[test]
 fn dependencies(rt: HostRuntime) -> Result<(), Fail> {
-    let rows = [
-        ("[]", 0, ""),
-        (
-            "[{\"imageName\":\"base\",\"imageID\":null,\"labels\":[],\"size\":18446744073709551615}]",
-            0,
-            "",
-        ),
-        (
-            "[{\"imageName\":\"base\"},{}]",
-            9,
-            "dependencies[1].imageName",
-        ),
-        ("[{\"imageName\":\"a--b\"}]", 2, "dependencies[0].imageName"),
-        (
-            "[{\"imageName\":\"a\",\"imageID\":\"\"}]",
-            3,
-            "dependencies[0].imageID",
-        ),
-        (
-            "[{\"imageName\":\"a\",\"imageID\":\"sha512-ab\"}]",
-            3,
-            "dependencies[0].imageID",
-        ),
-        (
-            "[{\"imageName\":\"a\",\"labels\":[{\"name\":\"name\",\"value\":\"x\"}]}]",
-            6,
-            "dependencies[0].labels[0].name",
-        ),
-        (
-            "[{\"imageName\":\"a\",\"size\":-1}]",
-            12,
-            "dependencies[0].size",
-        ),
-        (
-            "[{\"imageName\":\"a\",\"size\":18446744073709551616}]",
-            11,
-            "dependencies[0].size",
-        ),
-        ("[1]", 10, "dependencies[0]"),
-    ];
-    for (value, number, path) in rows {
+    for &(value, number, path) in DEPENDENCIES {
         let is = field_comes_to(rt.alloc(), "dependencies", value, number, path)?;
         assert!(rt; is, "{value}");
     }
     Ok(())
 }
 
+const WHITELISTS: &[(&str, u8, &str)] = &[
+    ("[\"/\"]", 0, ""),
+    ("[\"/etc/\",\"/bin/run\"]", 0, ""),
+    ("[\"//\"]", 32, "pathWhitelist[0]"),
+    ("[\"/a//\"]", 32, "pathWhitelist[0]"),
+    ("[\"/a\",\"a\"]", 30, "pathWhitelist[1]"),
+    ("[\"\"]", 30, "pathWhitelist[0]"),
+    ("[\"/a/../b\"]", 31, "pathWhitelist[0]"),
+    ("[\"/./\"]", 31, "pathWhitelist[0]"),
+    ("[null]", 10, "pathWhitelist[0]"),
+    ("\"/\"", 10, "pathWhitelist"),
+];
+
 #[test]
 fn whitelists(rt: HostRuntime) -> Result<(), Fail> {
-    let rows = [
-        ("[\"/\"]", 0, ""),
-        ("[\"/etc/\",\"/bin/run\"]", 0, ""),
-        ("[\"//\"]", 32, "pathWhitelist[0]"),
-        ("[\"/a//\"]", 32, "pathWhitelist[0]"),
-        ("[\"/a\",\"a\"]", 30, "pathWhitelist[1]"),
-        ("[\"\"]", 30, "pathWhitelist[0]"),
-        ("[\"/a/../b\"]", 31, "pathWhitelist[0]"),
-        ("[\"/./\"]", 31, "pathWhitelist[0]"),
-        ("[null]", 10, "pathWhitelist[0]"),
-        ("\"/\"", 10, "pathWhitelist"),
-    ];
-    for (value, number, path) in rows {
+    for &(value, number, path) in WHITELISTS {
         let is = field_comes_to(rt.alloc(), "pathWhitelist", value, number, path)?;
         assert!(rt; is, "{value}");
     }
     Ok(())
 }
 
+const ANNOTATIONS: &[(&str, u8, &str)] = &[
+    (
+        "[{\"name\":\"a\",\"value\":\"\"},{\"name\":\"a\",\"value\":\"b\"}]",
+        0,
+        "",
+    ),
+    (
+        "[{\"name\":\"A\",\"value\":\"\"}]",
+        2,
+        "annotations[0].name",
+    ),
+    ("[{\"name\":\"a\"}]", 9, "annotations[0].value"),
+    ("[[]]", 10, "annotations[0]"),
+];
+
 #[test]
 fn annotations(rt: HostRuntime) -> Result<(), Fail> {
-    let rows = [
-        (
-            "[{\"name\":\"a\",\"value\":\"\"},{\"name\":\"a\",\"value\":\"b\"}]",
-            0,
-            "",
-        ),
-        (
-            "[{\"name\":\"A\",\"value\":\"\"}]",
-            2,
-            "annotations[0].name",
-        ),
-        ("[{\"name\":\"a\"}]", 9, "annotations[0].value"),
-        ("[[]]", 10, "annotations[0]"),
-    ];
-    for (value, number, path) in rows {
+    for &(value, number, path) in ANNOTATIONS {
         let is = field_comes_to(rt.alloc(), "annotations", value, number, path)?;
         assert!(rt; is, "{value}");
     }
     Ok(())
 }
 
+const TWO_FAULTS: &[(&str, u8, &str)] = &[
+    (
+        "[{\"name\":\"name\",\"value\":\"x\"},{\"name\":\"A\",\"value\":\"x\"}],\"app\":1",
+        2,
+        "labels[1].name",
+    ),
+    (
+        "[{\"name\":\"arch\",\"value\":\"x\"},{\"name\":\"os\",\"value\":\"linux\"},{\"name\":\"os\",\"value\":\"x\"}]",
+        5,
+        "labels[2].name",
+    ),
+    (
+        "[],\"annotations\":1,\"pathWhitelist\":1,\"dependencies\":1,\"app\":1",
+        10,
+        "app",
+    ),
+    (
+        "[],\"annotations\":1,\"pathWhitelist\":1,\"dependencies\":1",
+        10,
+        "dependencies",
+    ),
+    (
+        "[],\"annotations\":1,\"pathWhitelist\":1",
+        10,
+        "pathWhitelist",
+    ),
+];
+
 #[test]
 fn the_first_of_two_faults_is_told(rt: HostRuntime) -> Result<(), Fail> {
-    let rows = [
-        (
-            "[{\"name\":\"name\",\"value\":\"x\"},{\"name\":\"A\",\"value\":\"x\"}],\"app\":1",
-            2,
-            "labels[1].name",
-        ),
-        (
-            "[{\"name\":\"arch\",\"value\":\"x\"},{\"name\":\"os\",\"value\":\"linux\"},{\"name\":\"os\",\"value\":\"x\"}]",
-            5,
-            "labels[2].name",
-        ),
-        (
-            "[],\"annotations\":1,\"pathWhitelist\":1,\"dependencies\":1,\"app\":1",
-            10,
-            "app",
-        ),
-        (
-            "[],\"annotations\":1,\"pathWhitelist\":1,\"dependencies\":1",
-            10,
-            "dependencies",
-        ),
-        (
-            "[],\"annotations\":1,\"pathWhitelist\":1",
-            10,
-            "pathWhitelist",
-        ),
-    ];
-    for (value, number, path) in rows {
+    for &(value, number, path) in TWO_FAULTS {
         let is = field_comes_to(rt.alloc(), "labels", value, number, path)?;
         assert!(rt; is, "{value}");
     }

@@ -48,23 +48,24 @@ fn pods_are_written_as_they_were_read(rt: HostRuntime) -> Result<(), Fail> {
     Ok(())
 }
 
+const ABSENT_OR_EMPTY: &[(&str, &str)] = &[
+    (
+        "{\"name\":\"a\",\"acVersion\":\"0.8.0\",\"acKind\":\"ImageManifest\",\"labels\":[],\"app\":null,\"pathWhitelist\":[\"/\"],\"other\":1.5}",
+        "{\"acKind\":\"ImageManifest\",\"acVersion\":\"0.8.0\",\"name\":\"a\"}",
+    ),
+    (
+        "{\"acKind\":\"ImageManifest\",\"acVersion\":\"0.8.0\",\"name\":\"a\",\"pathWhitelist\":[\"/etc/\",\"/\",\"/bin/run\"],\"dependencies\":[{\"size\":18446744073709551615,\"imageName\":\"b\"},{\"imageName\":\"c\",\"labels\":[],\"size\":0}],\"annotations\":[{\"value\":\"\",\"name\":\"x\"}]}",
+        "{\"acKind\":\"ImageManifest\",\"acVersion\":\"0.8.0\",\"annotations\":[{\"name\":\"x\",\"value\":\"\"}],\"dependencies\":[{\"imageName\":\"b\",\"size\":18446744073709551615},{\"imageName\":\"c\",\"size\":0}],\"name\":\"a\",\"pathWhitelist\":[\"/etc/\",\"/bin/run\"]}",
+    ),
+    (
+        "{\"acKind\":\"ImageManifest\",\"acVersion\":\"0.8.0\",\"name\":\"a\",\"app\":{\"user\":\"0\",\"group\":\"0\",\"exec\":[\"//bin/./run\"],\"ports\":[{\"name\":\"p\",\"protocol\":\"tcp\",\"port\":80,\"socketActivated\":false}],\"isolators\":[{\"name\":\"x\",\"value\":{\"b\":[1,-2,false],\"a\":{}}}]}}",
+        "{\"acKind\":\"ImageManifest\",\"acVersion\":\"0.8.0\",\"app\":{\"exec\":[\"/bin/run\"],\"group\":\"0\",\"isolators\":[{\"name\":\"x\",\"value\":{\"a\":{},\"b\":[1,-2,false]}}],\"ports\":[{\"count\":1,\"name\":\"p\",\"port\":80,\"protocol\":\"tcp\"}],\"user\":\"0\"},\"name\":\"a\"}",
+    ),
+];
+
 #[test]
 fn what_is_absent_or_empty_is_left_out(rt: HostRuntime) -> Result<(), Fail> {
-    let rows = [
-        (
-            "{\"name\":\"a\",\"acVersion\":\"0.8.0\",\"acKind\":\"ImageManifest\",\"labels\":[],\"app\":null,\"pathWhitelist\":[\"/\"],\"other\":1.5}",
-            "{\"acKind\":\"ImageManifest\",\"acVersion\":\"0.8.0\",\"name\":\"a\"}",
-        ),
-        (
-            "{\"acKind\":\"ImageManifest\",\"acVersion\":\"0.8.0\",\"name\":\"a\",\"pathWhitelist\":[\"/etc/\",\"/\",\"/bin/run\"],\"dependencies\":[{\"size\":18446744073709551615,\"imageName\":\"b\"},{\"imageName\":\"c\",\"labels\":[],\"size\":0}],\"annotations\":[{\"value\":\"\",\"name\":\"x\"}]}",
-            "{\"acKind\":\"ImageManifest\",\"acVersion\":\"0.8.0\",\"annotations\":[{\"name\":\"x\",\"value\":\"\"}],\"dependencies\":[{\"imageName\":\"b\",\"size\":18446744073709551615},{\"imageName\":\"c\",\"size\":0}],\"name\":\"a\",\"pathWhitelist\":[\"/etc/\",\"/bin/run\"]}",
-        ),
-        (
-            "{\"acKind\":\"ImageManifest\",\"acVersion\":\"0.8.0\",\"name\":\"a\",\"app\":{\"user\":\"0\",\"group\":\"0\",\"exec\":[\"//bin/./run\"],\"ports\":[{\"name\":\"p\",\"protocol\":\"tcp\",\"port\":80,\"socketActivated\":false}],\"isolators\":[{\"name\":\"x\",\"value\":{\"b\":[1,-2,false],\"a\":{}}}]}}",
-            "{\"acKind\":\"ImageManifest\",\"acVersion\":\"0.8.0\",\"app\":{\"exec\":[\"/bin/run\"],\"group\":\"0\",\"isolators\":[{\"name\":\"x\",\"value\":{\"a\":{},\"b\":[1,-2,false]}}],\"ports\":[{\"count\":1,\"name\":\"p\",\"port\":80,\"protocol\":\"tcp\"}],\"user\":\"0\"},\"name\":\"a\"}",
-        ),
-    ];
-    for (text, wanted) in rows {
+    for &(text, wanted) in ABSENT_OR_EMPTY {
         let is = image_is_written(rt.alloc(), text, wanted)?;
         assert!(rt; is, "{text}");
     }

@@ -115,16 +115,17 @@ fn size(alloc: Global, list: &[Stored]) -> Result<String, Fail> {
     }
 }
 
+const WAYS: &[(u8, &str, &str)] = &[
+    (31, "leaf", "32"),
+    (32, "leaf", "too deep"),
+    (32, "n0", "cycle 1"),
+    (32, "x", "no x"),
+];
+
 #[test]
 fn a_way_has_at_most_32_images(rt: HostRuntime) -> Result<(), Fail> {
     let alloc = rt.alloc();
-    let rows = [
-        (31, "leaf", "32"),
-        (32, "leaf", "too deep"),
-        (32, "n0", "cycle 1"),
-        (32, "x", "no x"),
-    ];
-    for (deep, last, wanted) in rows {
+    for &(deep, last, wanted) in WAYS {
         let list = way(alloc, deep, last)?;
         let text = size(alloc, list.as_slice())?;
         assert!(&rt; text.as_str() == wanted, "{wanted}");

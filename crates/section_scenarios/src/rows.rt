@@ -32,259 +32,266 @@ fn field_comes_to(alloc: Global, fields: &str, number: u8, path: &str) -> Result
     comes_to(alloc, section.as_str(), number, path)
 }
 
+const WORDS_AND_USERS: &[(&str, u8, &str)] = &[
+    ("\"exec\":[\"/bin/run\",\"-q\"]", 0, ""),
+    ("\"exec\":[\"serve\"]", 0, ""),
+    ("\"exec\":[]", 0, ""),
+    ("\"exec\":\"x\"", 10, "app.exec"),
+    ("\"exec\":[1]", 10, "app.exec[0]"),
+    ("\"exec\":[\"\"]", 14, "app.exec[0]"),
+    ("\"exec\":[\"a/b\"]", 14, "app.exec[0]"),
+    ("\"exec\":[\"/a/../b\"]", 14, "app.exec[0]"),
+    ("\"exec\":[\"/a\",\"\\u0000\"]", 14, "app.exec[1]"),
+    ("\"user\":\"\"", 9, "app.user"),
+    ("\"user\":7", 10, "app.user"),
+    ("\"group\":null", 9, "app.group"),
+    ("\"supplementaryGIDs\":[0,4294967295]", 0, ""),
+    (
+        "\"supplementaryGIDs\":[4294967296]",
+        12,
+        "app.supplementaryGIDs[0]",
+    ),
+    (
+        "\"supplementaryGIDs\":[1,1.5]",
+        11,
+        "app.supplementaryGIDs[1]",
+    ),
+    (
+        "\"supplementaryGIDs\":[\"1\"]",
+        10,
+        "app.supplementaryGIDs[0]",
+    ),
+    ("\"workingDirectory\":\"/srv\"", 0, ""),
+    ("\"workingDirectory\":\"srv\"", 14, "app.workingDirectory"),
+    ("\"workingDirectory\":\"\"", 14, "app.workingDirectory"),
+];
+
 #[test]
 fn words_and_users(rt: HostRuntime) -> Result<(), Fail> {
-    let rows = [
-        ("\"exec\":[\"/bin/run\",\"-q\"]", 0, ""),
-        ("\"exec\":[\"serve\"]", 0, ""),
-        ("\"exec\":[]", 0, ""),
-        ("\"exec\":\"x\"", 10, "app.exec"),
-        ("\"exec\":[1]", 10, "app.exec[0]"),
-        ("\"exec\":[\"\"]", 14, "app.exec[0]"),
-        ("\"exec\":[\"a/b\"]", 14, "app.exec[0]"),
-        ("\"exec\":[\"/a/../b\"]", 14, "app.exec[0]"),
-        ("\"exec\":[\"/a\",\"\\u0000\"]", 14, "app.exec[1]"),
-        ("\"user\":\"\"", 9, "app.user"),
-        ("\"user\":7", 10, "app.user"),
-        ("\"group\":null", 9, "app.group"),
-        ("\"supplementaryGIDs\":[0,4294967295]", 0, ""),
-        (
-            "\"supplementaryGIDs\":[4294967296]",
-            12,
-            "app.supplementaryGIDs[0]",
-        ),
-        (
-            "\"supplementaryGIDs\":[1,1.5]",
-            11,
-            "app.supplementaryGIDs[1]",
-        ),
-        (
-            "\"supplementaryGIDs\":[\"1\"]",
-            10,
-            "app.supplementaryGIDs[0]",
-        ),
-        ("\"workingDirectory\":\"/srv\"", 0, ""),
-        ("\"workingDirectory\":\"srv\"", 14, "app.workingDirectory"),
-        ("\"workingDirectory\":\"\"", 14, "app.workingDirectory"),
-    ];
-    for (fields, number, path) in rows {
+    for &(fields, number, path) in WORDS_AND_USERS {
         let is = field_comes_to(rt.alloc(), fields, number, path)?;
         assert!(rt; is, "{fields}");
     }
     Ok(())
 }
+
+const EVENT_HANDLERS: &[(&str, u8, &str)] = &[
+    (
+        "\"eventHandlers\":[{\"name\":\"pre-start\",\"exec\":[\"/pre\"]},{\"name\":\"post-stop\",\"exec\":[\"/post\"]}]",
+        0,
+        "",
+    ),
+    (
+        "\"eventHandlers\":[{\"name\":\"start\",\"exec\":[\"/x\"]}]",
+        16,
+        "app.eventHandlers[0].name",
+    ),
+    (
+        "\"eventHandlers\":[{\"name\":\"pre-start\",\"exec\":[\"/a\"]},{\"name\":\"pre-start\",\"exec\":[\"/b\"]}]",
+        16,
+        "app.eventHandlers[1].name",
+    ),
+    (
+        "\"eventHandlers\":[{\"name\":\"pre-start\"}]",
+        9,
+        "app.eventHandlers[0].exec",
+    ),
+    (
+        "\"eventHandlers\":[{\"exec\":[\"/x\"]}]",
+        9,
+        "app.eventHandlers[0].name",
+    ),
+    ("\"eventHandlers\":{}", 10, "app.eventHandlers"),
+];
 
 #[test]
 fn event_handlers(rt: HostRuntime) -> Result<(), Fail> {
-    let rows = [
-        (
-            "\"eventHandlers\":[{\"name\":\"pre-start\",\"exec\":[\"/pre\"]},{\"name\":\"post-stop\",\"exec\":[\"/post\"]}]",
-            0,
-            "",
-        ),
-        (
-            "\"eventHandlers\":[{\"name\":\"start\",\"exec\":[\"/x\"]}]",
-            16,
-            "app.eventHandlers[0].name",
-        ),
-        (
-            "\"eventHandlers\":[{\"name\":\"pre-start\",\"exec\":[\"/a\"]},{\"name\":\"pre-start\",\"exec\":[\"/b\"]}]",
-            16,
-            "app.eventHandlers[1].name",
-        ),
-        (
-            "\"eventHandlers\":[{\"name\":\"pre-start\"}]",
-            9,
-            "app.eventHandlers[0].exec",
-        ),
-        (
-            "\"eventHandlers\":[{\"exec\":[\"/x\"]}]",
-            9,
-            "app.eventHandlers[0].name",
-        ),
-        ("\"eventHandlers\":{}", 10, "app.eventHandlers"),
-    ];
-    for (fields, number, path) in rows {
+    for &(fields, number, path) in EVENT_HANDLERS {
         let is = field_comes_to(rt.alloc(), fields, number, path)?;
         assert!(rt; is, "{fields}");
     }
     Ok(())
 }
+
+const ENVIRONMENT_VARIABLES: &[(&str, u8, &str)] = &[
+    (
+        "\"environment\":[{\"name\":\"_A.b-1\",\"value\":\"\"}]",
+        0,
+        "",
+    ),
+    (
+        "\"environment\":[{\"name\":\"1A\",\"value\":\"\"}]",
+        13,
+        "app.environment[0].name",
+    ),
+    (
+        "\"environment\":[{\"name\":\"A\",\"value\":\"\\u0000\"}]",
+        13,
+        "app.environment[0].value",
+    ),
+    (
+        "\"environment\":[{\"name\":\"A\"}]",
+        9,
+        "app.environment[0].value",
+    ),
+    ("\"environment\":[null]", 10, "app.environment[0]"),
+];
 
 #[test]
 fn environment_variables(rt: HostRuntime) -> Result<(), Fail> {
-    let rows = [
-        (
-            "\"environment\":[{\"name\":\"_A.b-1\",\"value\":\"\"}]",
-            0,
-            "",
-        ),
-        (
-            "\"environment\":[{\"name\":\"1A\",\"value\":\"\"}]",
-            13,
-            "app.environment[0].name",
-        ),
-        (
-            "\"environment\":[{\"name\":\"A\",\"value\":\"\\u0000\"}]",
-            13,
-            "app.environment[0].value",
-        ),
-        (
-            "\"environment\":[{\"name\":\"A\"}]",
-            9,
-            "app.environment[0].value",
-        ),
-        ("\"environment\":[null]", 10, "app.environment[0]"),
-    ];
-    for (fields, number, path) in rows {
+    for &(fields, number, path) in ENVIRONMENT_VARIABLES {
         let is = field_comes_to(rt.alloc(), fields, number, path)?;
         assert!(rt; is, "{fields}");
     }
     Ok(())
 }
+
+const MOUNT_POINTS: &[(&str, u8, &str)] = &[
+    (
+        "\"mountPoints\":[{\"name\":\"data\",\"path\":\"/data\",\"readOnly\":true}]",
+        0,
+        "",
+    ),
+    (
+        "\"mountPoints\":[{\"name\":\"A\",\"path\":\"/data\"}]",
+        2,
+        "app.mountPoints[0].name",
+    ),
+    (
+        "\"mountPoints\":[{\"name\":\"data\",\"path\":\"data\"}]",
+        14,
+        "app.mountPoints[0].path",
+    ),
+    (
+        "\"mountPoints\":[{\"name\":\"data\",\"path\":\"/a\",\"readOnly\":1}]",
+        10,
+        "app.mountPoints[0].readOnly",
+    ),
+    (
+        "\"mountPoints\":[{\"name\":\"a\",\"path\":\"/a\"},{\"name\":\"a\",\"path\":\"/b\"}]",
+        17,
+        "app.mountPoints[1].name",
+    ),
+];
 
 #[test]
 fn mount_points(rt: HostRuntime) -> Result<(), Fail> {
-    let rows = [
-        (
-            "\"mountPoints\":[{\"name\":\"data\",\"path\":\"/data\",\"readOnly\":true}]",
-            0,
-            "",
-        ),
-        (
-            "\"mountPoints\":[{\"name\":\"A\",\"path\":\"/data\"}]",
-            2,
-            "app.mountPoints[0].name",
-        ),
-        (
-            "\"mountPoints\":[{\"name\":\"data\",\"path\":\"data\"}]",
-            14,
-            "app.mountPoints[0].path",
-        ),
-        (
-            "\"mountPoints\":[{\"name\":\"data\",\"path\":\"/a\",\"readOnly\":1}]",
-            10,
-            "app.mountPoints[0].readOnly",
-        ),
-        (
-            "\"mountPoints\":[{\"name\":\"a\",\"path\":\"/a\"},{\"name\":\"a\",\"path\":\"/b\"}]",
-            17,
-            "app.mountPoints[1].name",
-        ),
-    ];
-    for (fields, number, path) in rows {
+    for &(fields, number, path) in MOUNT_POINTS {
         let is = field_comes_to(rt.alloc(), fields, number, path)?;
         assert!(rt; is, "{fields}");
     }
     Ok(())
 }
+
+const PORTS: &[(&str, u8, &str)] = &[
+    (
+        "\"ports\":[{\"name\":\"p\",\"protocol\":\"tcp\",\"port\":65535,\"count\":1}]",
+        0,
+        "",
+    ),
+    (
+        "\"ports\":[{\"name\":\"p\",\"protocol\":\"tcp\",\"port\":65535,\"count\":2}]",
+        15,
+        "app.ports[0]",
+    ),
+    (
+        "\"ports\":[{\"name\":\"p\",\"protocol\":\"tcp\",\"port\":65536}]",
+        12,
+        "app.ports[0].port",
+    ),
+    (
+        "\"ports\":[{\"name\":\"p\",\"protocol\":\"tcp\",\"port\":1.5}]",
+        11,
+        "app.ports[0].port",
+    ),
+    (
+        "\"ports\":[{\"name\":\"p\",\"port\":1}]",
+        9,
+        "app.ports[0].protocol",
+    ),
+    (
+        "\"ports\":[{\"name\":\"p\",\"protocol\":\"tcp\",\"port\":1},{\"name\":\"p\",\"protocol\":\"udp\",\"port\":2}]",
+        17,
+        "app.ports[1].name",
+    ),
+];
 
 #[test]
 fn ports(rt: HostRuntime) -> Result<(), Fail> {
-    let rows = [
-        (
-            "\"ports\":[{\"name\":\"p\",\"protocol\":\"tcp\",\"port\":65535,\"count\":1}]",
-            0,
-            "",
-        ),
-        (
-            "\"ports\":[{\"name\":\"p\",\"protocol\":\"tcp\",\"port\":65535,\"count\":2}]",
-            15,
-            "app.ports[0]",
-        ),
-        (
-            "\"ports\":[{\"name\":\"p\",\"protocol\":\"tcp\",\"port\":65536}]",
-            12,
-            "app.ports[0].port",
-        ),
-        (
-            "\"ports\":[{\"name\":\"p\",\"protocol\":\"tcp\",\"port\":1.5}]",
-            11,
-            "app.ports[0].port",
-        ),
-        (
-            "\"ports\":[{\"name\":\"p\",\"port\":1}]",
-            9,
-            "app.ports[0].protocol",
-        ),
-        (
-            "\"ports\":[{\"name\":\"p\",\"protocol\":\"tcp\",\"port\":1},{\"name\":\"p\",\"protocol\":\"udp\",\"port\":2}]",
-            17,
-            "app.ports[1].name",
-        ),
-    ];
-    for (fields, number, path) in rows {
+    for &(fields, number, path) in PORTS {
         let is = field_comes_to(rt.alloc(), fields, number, path)?;
         assert!(rt; is, "{fields}");
     }
     Ok(())
 }
+
+const ISOLATORS: &[(&str, u8, &str)] = &[
+    (
+        "\"isolators\":[{\"name\":\"resource/cpu\",\"value\":{\"limit\":[1,{\"x\":2}]}}]",
+        0,
+        "",
+    ),
+    (
+        "\"isolators\":[{\"name\":\"resource/cpu\",\"value\":false}]",
+        0,
+        "",
+    ),
+    (
+        "\"isolators\":[{\"name\":\"resource/cpu\",\"value\":{\"limit\":[1.5]}}]",
+        11,
+        "app.isolators[0].value",
+    ),
+    (
+        "\"isolators\":[{\"name\":\"resource/cpu\",\"value\":null}]",
+        9,
+        "app.isolators[0].value",
+    ),
+    (
+        "\"isolators\":[{\"name\":\"\",\"value\":1}]",
+        9,
+        "app.isolators[0].name",
+    ),
+];
 
 #[test]
 fn isolators(rt: HostRuntime) -> Result<(), Fail> {
-    let rows = [
-        (
-            "\"isolators\":[{\"name\":\"resource/cpu\",\"value\":{\"limit\":[1,{\"x\":2}]}}]",
-            0,
-            "",
-        ),
-        (
-            "\"isolators\":[{\"name\":\"resource/cpu\",\"value\":false}]",
-            0,
-            "",
-        ),
-        (
-            "\"isolators\":[{\"name\":\"resource/cpu\",\"value\":{\"limit\":[1.5]}}]",
-            11,
-            "app.isolators[0].value",
-        ),
-        (
-            "\"isolators\":[{\"name\":\"resource/cpu\",\"value\":null}]",
-            9,
-            "app.isolators[0].value",
-        ),
-        (
-            "\"isolators\":[{\"name\":\"\",\"value\":1}]",
-            9,
-            "app.isolators[0].name",
-        ),
-    ];
-    for (fields, number, path) in rows {
+    for &(fields, number, path) in ISOLATORS {
         let is = field_comes_to(rt.alloc(), fields, number, path)?;
         assert!(rt; is, "{fields}");
     }
     Ok(())
 }
 
+const TWO_FAULTS: &[(&str, u8, &str)] = &[
+    ("[]", 10, "app"),
+    ("{}", 9, "app.user"),
+    ("{\"exec\":[\"\"]}", 14, "app.exec[0]"),
+    ("{\"group\":\"0\",\"ports\":1}", 9, "app.user"),
+    (
+        "{\"user\":\"0\",\"group\":\"0\",\"ports\":[{\"name\":\"p\",\"protocol\":\"tcp\",\"port\":65535,\"count\":2},{\"name\":1}]}",
+        15,
+        "app.ports[0]",
+    ),
+    (
+        "{\"user\":\"0\",\"group\":\"0\",\"ports\":[{\"name\":\"p\",\"protocol\":\"tcp\",\"port\":1},{\"name\":\"p\",\"protocol\":\"tcp\",\"port\":65535,\"count\":2}]}",
+        15,
+        "app.ports[1]",
+    ),
+    (
+        "{\"user\":\"0\",\"group\":\"0\",\"isolators\":[{\"name\":\"A\",\"value\":1.5}],\"ports\":1}",
+        10,
+        "app.ports",
+    ),
+    (
+        "{\"user\":\"0\",\"group\":\"0\",\"environment\":[{\"name\":\"1\",\"value\":1}]}",
+        13,
+        "app.environment[0].name",
+    ),
+];
+
 #[test]
 fn the_first_of_two_faults_is_told(rt: HostRuntime) -> Result<(), Fail> {
-    let rows = [
-        ("[]", 10, "app"),
-        ("{}", 9, "app.user"),
-        ("{\"exec\":[\"\"]}", 14, "app.exec[0]"),
-        ("{\"group\":\"0\",\"ports\":1}", 9, "app.user"),
-        (
-            "{\"user\":\"0\",\"group\":\"0\",\"ports\":[{\"name\":\"p\",\"protocol\":\"tcp\",\"port\":65535,\"count\":2},{\"name\":1}]}",
-            15,
-            "app.ports[0]",
-        ),
-        (
-            "{\"user\":\"0\",\"group\":\"0\",\"ports\":[{\"name\":\"p\",\"protocol\":\"tcp\",\"port\":1},{\"name\":\"p\",\"protocol\":\"tcp\",\"port\":65535,\"count\":2}]}",
-            15,
-            "app.ports[1]",
-        ),
-        (
-            "{\"user\":\"0\",\"group\":\"0\",\"isolators\":[{\"name\":\"A\",\"value\":1.5}],\"ports\":1}",
-            10,
-            "app.ports",
-        ),
-        (
-            "{\"user\":\"0\",\"group\":\"0\",\"environment\":[{\"name\":\"1\",\"value\":1}]}",
-            13,
-            "app.environment[0].name",
-        ),
-    ];
-    for (section, number, path) in rows {
+    for &(section, number, path) in TWO_FAULTS {
         let is = comes_to(rt.alloc(), section, number, path)?;
         assert!(rt; is, "{section}");
     }

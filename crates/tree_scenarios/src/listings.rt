@@ -65,57 +65,59 @@ fn escapes_are_read_and_written(rt: HostRuntime) -> Result<(), Fail> {
     Ok(())
 }
 
+const FAULTS: &[(&[u8], ListingError)] = &[
+    (b"d 755 0 0 /b\n", ListingError::BadLine(1)),
+    (b"d 0855 0 0 /b\n", ListingError::BadLine(1)),
+    (b"d 0755 00 0 /b\n", ListingError::BadLine(1)),
+    (b"d 0755 4294967296 0 /b\n", ListingError::BadLine(1)),
+    (b"d 0755 0 0 /b", ListingError::BadLine(1)),
+    (b"d 0755 0 0 b\n", ListingError::BadLine(1)),
+    (b"d 0755 0 0 /\n", ListingError::BadLine(1)),
+    (b"d 0755 0 0 /a/..\n", ListingError::BadLine(1)),
+    (b"d 0755 0 0 /a//b\n", ListingError::BadLine(1)),
+    (b"d 0755 0 0 /%c3%a9\n", ListingError::BadLine(1)),
+    (b"d 0755 0 0 /%41\n", ListingError::BadLine(1)),
+    (b"d 0755 0 0 /a%2fb\n", ListingError::BadLine(1)),
+    (b"d 0755 0 0 /%FF\n", ListingError::BadLine(1)),
+    (b"l 0777 0 0  /l\n", ListingError::BadLine(1)),
+    (b"\n", ListingError::BadLine(1)),
+    (
+        b"d 0755 0 0 /b\nd 0755 0 0 /a\n",
+        ListingError::NotSorted(2),
+    ),
+    (
+        b"d 0755 0 0 /b\nd 0755 0 0 /b\n",
+        ListingError::NotSorted(2),
+    ),
+    (
+        b"l 0777 0 0 x /a\nd 0755 0 0 /a/b\nx",
+        ListingError::NoParent(2),
+    ),
+];
+
 #[test]
 fn the_first_fault_is_found(rt: HostRuntime) -> Result<(), Fail> {
     let alloc = rt.alloc();
-    let rows: [(&[u8], ListingError); 18] = [
-        (b"d 755 0 0 /b\n", ListingError::BadLine(1)),
-        (b"d 0855 0 0 /b\n", ListingError::BadLine(1)),
-        (b"d 0755 00 0 /b\n", ListingError::BadLine(1)),
-        (b"d 0755 4294967296 0 /b\n", ListingError::BadLine(1)),
-        (b"d 0755 0 0 /b", ListingError::BadLine(1)),
-        (b"d 0755 0 0 b\n", ListingError::BadLine(1)),
-        (b"d 0755 0 0 /\n", ListingError::BadLine(1)),
-        (b"d 0755 0 0 /a/..\n", ListingError::BadLine(1)),
-        (b"d 0755 0 0 /a//b\n", ListingError::BadLine(1)),
-        (b"d 0755 0 0 /%c3%a9\n", ListingError::BadLine(1)),
-        (b"d 0755 0 0 /%41\n", ListingError::BadLine(1)),
-        (b"d 0755 0 0 /a%2fb\n", ListingError::BadLine(1)),
-        (b"d 0755 0 0 /%FF\n", ListingError::BadLine(1)),
-        (b"l 0777 0 0  /l\n", ListingError::BadLine(1)),
-        (b"\n", ListingError::BadLine(1)),
-        (
-            b"d 0755 0 0 /b\nd 0755 0 0 /a\n",
-            ListingError::NotSorted(2),
-        ),
-        (
-            b"d 0755 0 0 /b\nd 0755 0 0 /b\n",
-            ListingError::NotSorted(2),
-        ),
-        (
-            b"l 0777 0 0 x /a\nd 0755 0 0 /a/b\nx",
-            ListingError::NoParent(2),
-        ),
-    ];
-    for (text, wanted) in rows {
-        assert!(&rt; fault(alloc, text) == Some(wanted));
+    for (text, wanted) in FAULTS {
+        assert!(&rt; fault(alloc, text).as_ref() == Some(wanted));
     }
     Ok(())
 }
 
+const SIZES: &[(&str, Option<ListingError>)] = &[
+    ("1073741824", None),
+    ("1073741825", Some(ListingError::FileTooLong(1))),
+    ("18446744073709551616", Some(ListingError::FileTooLong(1))),
+    ("01", Some(ListingError::BadLine(1))),
+    ("1a", Some(ListingError::BadLine(1))),
+];
+
 #[test]
 fn sizes_have_a_limit(rt: HostRuntime) -> Result<(), Fail> {
     let alloc = rt.alloc();
-    let rows = [
-        ("1073741824", None),
-        ("1073741825", Some(ListingError::FileTooLong(1))),
-        ("18446744073709551616", Some(ListingError::FileTooLong(1))),
-        ("01", Some(ListingError::BadLine(1))),
-        ("1a", Some(ListingError::BadLine(1))),
-    ];
-    for (size, wanted) in rows {
+    for (size, wanted) in SIZES {
         let text = format!(in alloc; "f 0644 0 0 {size} {NIL} /a\n")?;
-        assert!(&rt; fault(alloc, text.as_bytes()) == wanted);
+        assert!(&rt; fault(alloc, text.as_bytes()) == *wanted);
     }
     let upper = format!(in alloc; "f 0644 0 0 0 {} /a\n", NIL.to_ascii_uppercase(alloc)?)?;
     assert!(&rt; fault(alloc, upper.as_bytes()) == Some(ListingError::BadLine(1)));
@@ -135,15 +137,16 @@ fn lines_have_a_limit(rt: HostRuntime) -> Result<(), Fail> {
     Ok(())
 }
 
+const PIECES: &[(u64, &str, &str, bool)] = &[
+    (3, "a", "bc", true),
+    (3, "abc", "", true),
+    (4, "ab", "c", false),
+    (3, "ab", "d", false),
+];
+
 #[test]
 fn a_file_is_checked_in_pieces(rt: HostRuntime) -> Result<(), Fail> {
-    let rows = [
-        (3, "a", "bc", true),
-        (3, "abc", "", true),
-        (4, "ab", "c", false),
-        (3, "ab", "d", false),
-    ];
-    for (size, first, second, wanted) in rows {
+    for &(size, first, second, wanted) in PIECES {
         let mut check = FileCheck::new(size, sha(ABC)?);
         check.piece(first.as_bytes());
         check.piece(second.as_bytes());
