@@ -114,11 +114,14 @@ for word in --help --version; do
     RKT_DIR=$tmp/file/none "$rkt" $word >"$tmp/out" 2>"$tmp/err"
     same "$word: status" 0 $?
     same "$word: errors" '' "$(cat "$tmp/err")"
-    [ -s "$tmp/out" ] || fail "$word prints nothing"
+    cp "$tmp/out" "$tmp/out$word"
     mkdir -p "$tmp/alone"
     in_folder "$tmp/alone" "$rkt" $word >/dev/null
     same "$word makes nothing" '' "$(ls -A "$tmp/alone")"
 done
+same '--version: the text' 'rkt 0.1.0' "$(cat "$tmp/out--version")"
+same '--help: each form of words' $'rkt status UUID\nrkt validate FILE\nrkt --help\nrkt --version' \
+    "$(sed '/^$/,$d; s/^usage://; s/^ *//' "$tmp/out--help")"
 
 # Where the data folder is.
 mkdir "$tmp/here"
