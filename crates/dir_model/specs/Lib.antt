@@ -1,9 +1,9 @@
-pub mod Words
+pub mod Names
 pub mod Filled
 pub mod Pods
 pub mod Areas
-pub mod Histories
-pub mod Tests
+pub mod Reserved
+pub mod Locks
 pub mod State
 pub mod Trace
 pub mod Replies

@@ -1,25 +1,28 @@
 -- Which answer a request gets.
-use Rattle.std.specs.Prelude.{ℕ, Bool, true, false, not, ◌&&◌, ◌||◌, ◌==◌, cond, Option, Some, None, is_some, option_map, unwrap_or, find, Result, Ok, Err}
+use Rattle.std.specs.Prelude.{ℕ, Bool, true, false, not, ◌&&◌, ◌||◌, ◌==◌, cond, Option, Some, None, is_some, find, Result, Ok, Err}
 use Rattle.std.specs.List.{list_any}
 use Rattle.dir_model.specs.declared.spot.Handle.{Handle}
 use Rattle.dir_model.specs.declared.spot.Mode.{Mode}
 use Rattle.dir_model.specs.declared.spot.Mode.TheVariants.{Shared}
+use Rattle.dir_model.specs.declared.spot.Spot.{Spot}
+use Rattle.dir_model.specs.declared.opening.Opening.{Opening}
 use Rattle.dir_model.specs.declared.request.DirError.{DirError}
-use Rattle.dir_model.specs.declared.request.DirError.TheVariants.{Missing, Exists, Locked, Failed, NoMemory}
+use Rattle.dir_model.specs.declared.request.DirError.TheVariants.{Missing, Exists, NotEmpty, Locked, Failed, NoMemory}
 use Rattle.dir_model.specs.declared.request.Request.{Request}
-use Rattle.dir_model.specs.declared.request.Request.TheVariants.{Begin, MakeFolder, MoveFolder, Open, TryLock, Close, Finish}
+use Rattle.dir_model.specs.declared.request.Request.TheVariants.{Begin, MakeFolder, MoveFolder, Open, TryLock, Close, Finish, Kill}
 use Rattle.dir_model.specs.declared.request.Reply.{Reply}
 use Rattle.dir_model.specs.declared.request.Reply.TheVariants.{Done, Opened, Refused}
-use Rattle.dir_model.specs.Tests.{is_handle, opposes, is_error}
-use Rattle.dir_model.specs.State.{Namespace, DirState, stands, has_open}
+use Rattle.dir_model.specs.Locks.{is_handle, is_same_lock, opposes}
+use Rattle.dir_model.specs.State.{Namespace, DirState, spot_eq, stands, has_open}
 
--- the folder whose lock the handle stands for
-abbrev pub folder_of : Namespace → ℕ → Handle → ℕ
-folder_of n p handle = unwrap_or (option_map (λ o. o.folder) (find (is_handle p handle) n.openings)) 0
+-- another handle holds the lock of this opening, in a mode that conflicts
+abbrev pub is_opposed : Namespace → ℕ → Handle → Mode → Option Opening → Bool
+is_opposed n p handle mode None = false
+is_opposed n p handle mode (Some here) = list_any (λ o. not (is_handle p handle o) && (is_same_lock here o && opposes mode o.lock)) n.openings
 
--- another handle holds that lock in a mode that conflicts
+-- the lock that an open handle stands for can't be had in this mode
 abbrev pub is_locked : Namespace → ℕ → Handle → Mode → Bool
-is_locked n p handle mode = list_any (λ o. not (is_handle p handle o) && (o.folder == folder_of n p handle) && opposes mode o.lock) n.openings
+is_locked n p handle mode = is_opposed n p handle mode (find (is_handle p handle) n.openings)
 
 -- how the state refuses a request, if it does
 abbrev pub refusal : DirState → ℕ → Request → Option DirError
@@ -29,6 +32,19 @@ refusal s p (Open spot which) = cond (stands s.namespace spot) None (Some Missin
 refusal s p (TryLock handle mode) = cond (is_locked s.namespace p handle mode) (Some Locked) None
 refusal s p _ = None
 
+abbrev error_number : DirError → ℕ
+error_number Missing = 0
+error_number Exists = 1
+error_number NotEmpty = 2
+error_number Locked = 3
+error_number Failed = 4
+error_number NoMemory = 5
+
+-- the refusal is this one
+abbrev pub is_error : DirError → Option DirError → Bool
+is_error error None = false
+is_error error (Some refusal) = error_number error == error_number refusal
+
 -- these two may come at any step, and change nothing
 abbrev pub is_fault : DirError → Bool
 is_fault Failed = true
@@ -37,20 +53,20 @@ is_fault _ = false
 
 -- a call that has room for a fault in its answer. A begin that is refused is no event
 abbrev pub is_fallible : Request → Bool
-is_fallible (MakeFolder spot) = true
-is_fallible (MoveFolder from to) = true
-is_fallible (Open spot which) = true
-is_fallible (TryLock handle mode) = true
-is_fallible _ = false
+is_fallible (Begin intent) = false
+is_fallible (Close handle) = false
+is_fallible Finish = false
+is_fallible Kill = false
+is_fallible _ = true
 
-abbrev pub is_open : Request → Bool
-is_open (Open spot which) = true
-is_open _ = false
+abbrev pub asks_for_handle : Request → Bool
+asks_for_handle (Open spot which) = true
+asks_for_handle _ = false
 
 -- the reply is one that the state gives
 abbrev pub is_reply : DirState → ℕ → Request → Reply → Bool
-is_reply s p request Done = not (is_some (refusal s p request)) && not (is_open request)
-is_reply s p request (Opened handle) = not (is_some (refusal s p request)) && is_open request && not (has_open s.namespace p handle)
+is_reply s p request Done = not (is_some (refusal s p request)) && not (asks_for_handle request)
+is_reply s p request (Opened handle) = not (is_some (refusal s p request)) && (asks_for_handle request && not (has_open s.namespace p handle))
 is_reply s p request (Refused error left) = (left == 0) && ((is_fallible request && is_fault error) || is_error error (refusal s p request))
 
 -- the refusals that a call may give, whatever the directory
@@ -67,7 +83,7 @@ may_refuse request error = is_fallible request && is_fault error
 abbrev pub is_late_reply : Request → Reply → Bool
 is_late_reply (Close handle) Done = true
 is_late_reply Finish Done = true
-is_late_reply request (Refused error left) = (left == 0) && is_fault error && may_refuse request error
+is_late_reply request (Refused error left) = (left == 0) && (is_fault error && may_refuse request error)
 is_late_reply request _ = false
 
 -- the reply that an answer stands for
@@ -79,9 +95,16 @@ abbrev pub opened_reply : Result Handle DirError → Reply
 opened_reply (Ok handle) = Opened handle
 opened_reply (Err error) = Refused error 0
 
+-- a request that only looks, and opens nothing but what stands at such locations
+abbrev pub is_look_at : (Spot → Bool) → Request → Bool
+is_look_at test (Open spot which) = test spot
+is_look_at test (TryLock handle Shared) = true
+is_look_at test (Close handle) = true
+is_look_at test _ = false
+
+abbrev pub is_any_spot : Spot → Bool
+is_any_spot spot = true
+
 -- a request that only looks
 abbrev pub is_look : Request → Bool
-is_look (Open spot which) = true
-is_look (TryLock handle Shared) = true
-is_look (Close handle) = true
-is_look _ = false
+is_look request = is_look_at is_any_spot request

@@ -1,3 +1,4 @@
+// Events: what processes asked of the directory, and what they were answered.
 ghost use Rattle.std.specs.Prelude.{◌≡◌, IfOk};
 
 use crate::memory::NoMemory;

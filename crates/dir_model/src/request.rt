@@ -1,3 +1,4 @@
+// Requests and replies.
 ghost use Rattle.std.specs.Prelude.{◌≡◌, IfOk};
 
 use crate::intent::Intent;

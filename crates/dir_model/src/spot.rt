@@ -1,3 +1,4 @@
+// Locations, handles and modes of locks.
 use crate::area::Area;
 use crate::name::Name;
 
