@@ -1,5 +1,5 @@
 -- In a run only processes that began have handles and take steps; so one that never began holds nothing.
-use Rattle.std.proofs.Common.{arith, ◌≡◌, ℕ, Bool, true, false, not, ◌||◌, ◌==◌, cond, Some, List, [], ◌∷◌, ◌++◌, refl, sym, ap, subst, ◌∙◌}
+use Rattle.std.proofs.Common.{arith, ◌≡◌, ℕ, Bool, true, false, not, ◌||◌, ◌==◌, cond, Some, List, [], ◌∷◌, ◌++◌, map, filter, refl, sym, ap, subst, ◌∙◌}
 use Rattle.std.specs.List.{list_any, AllByRecursion}
 use Rattle.std.proofs.lemmas.Bool.Decides.{nat_tests}
 use Rattle.dir_model.specs.declared.event.Event.{Event}
@@ -17,6 +17,7 @@ use Rattle.dir_model.specs.State.{Namespace, DirState, empty_state, has_begun, h
 use Rattle.dir_model.specs.Trace.{state_after, state_next, states_next, namespace_replied, locked, opened}
 use Rattle.dir_model.specs.Calls.{IsRun, is_run_from, is_allowed, may_step, is_begin, is_kill, is_foreign}
 use Rattle.dir_model.specs.Quiet.{OwnsNothing}
+use Rattle.dir_model.specs.Local.{holding_of, holdings_in}
 use Rattle.dir_model.proofs.Lists.{and_left, and_right, same_self, all_push, all_map, all_filter, any_push}
 use Rattle.dir_model.proofs.Allowed.{allowed_step}
 
@@ -62,6 +63,21 @@ none_idle begun me (x ∷ xs) unborn a = ((λ mine. absurd (clash (subst (λ (q 
 
 pub unborn_owns_nothing : (h : List Event) (me : ℕ) → IsRun h → has_begun (state_after h).namespace me ≡ false → OwnsNothing me (state_after h).namespace
 unborn_owns_nothing h me run unborn = none_idle (state_after h).namespace.begun me (state_after h).namespace.openings unborn (all_begun empty_state h run tt)
+
+none_open : (begun : List Start) (me : ℕ) (xs : List Opening) → list_any (λ p. p.process == me) begun ≡ false → AllByRecursion (IsAmong begun) xs → filter (λ o. o.process == me) xs ≡ []
+none_open begun me [] unborn a = refl
+none_open begun me (x ∷ xs) unborn a = by (x.process == me) refl (none_open begun me xs unborn a.1)
+  where
+    by : (b : Bool) → (x.process == me) ≡ b → filter (λ o. o.process == me) xs ≡ [] → cond b (x ∷ filter (λ o. o.process == me) xs) (filter (λ o. o.process == me) xs) ≡ []
+    by true is rest =
+        let there : list_any (λ p. p.process == me) begun ≡ true = subst (λ (q : ℕ). list_any (λ p. p.process == q) begun ≡ true) (same_process x.process me is) a.0 in
+        let clash : true ≡ false = sym there ∙ unborn in
+        cc
+    by false is rest = rest
+
+-- nor has anything open
+pub unborn_holds_nothing : (h : List Event) (me : ℕ) → IsRun h → has_begun (state_after h).namespace me ≡ false → holdings_in (state_after h).namespace me ≡ []
+unborn_holds_nothing h me run unborn = ap (map holding_of) (none_open (state_after h).namespace.begun me (state_after h).namespace.openings unborn (all_begun empty_state h run tt))
 
 -- who has begun stays so
 begun_after : (me : ℕ) (w : Namespace) (p : ℕ) (request : Request) (reply : Reply) → list_any (λ start. start.process == me) w.begun ≡ true → list_any (λ start. start.process == me) (namespace_replied w p request reply).begun ≡ true

@@ -1,10 +1,2 @@
-pub mod Pasts
-pub mod Answering
-pub mod Meanwhile
-pub mod Calling
-pub mod Places
-pub mod Ended
-pub mod Ordered
-pub mod BundleTrees
-pub mod BundlePaths
-pub mod BundleListings
+pub mod Listings
+pub mod Askings

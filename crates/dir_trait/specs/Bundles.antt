@@ -1,10 +1,14 @@
 -- What stands in a bundle, and what its calls answer.
-use Rattle.std.specs.Prelude.{◌≡◌, ℕ, ◌-◌, ◌==◌, min, if◌then◌else◌, List, [], ◌∷◌, ◌++◌, length, take, drop, map, All, Contains, Option, Some, None, IsSome, option_map}
+use Rattle.std.specs.Prelude.{◌≡◌, ◌≤◌, ℕ, ◌+◌, ◌-◌, ◌==◌, min, Bool, true, if◌then◌else◌, List, [], ◌∷◌, ◌++◌, length, take, drop, map, All, Contains, Option, Some, None, IsSome, option_map, Result, Ok, Err}
+use Rattle.std.specs.List.{AllByRecursion}
 use Rattle.std.specs.List.Sorted.{IsStrictlySortedBy}
 use Rattle.std.specs.Ordering.{nat_cmp}
 use Rattle.std.specs.Cmp.Lexicographic.{slice_cmp}
-use Rattle.dir_model.specs.Words.{IsFileName}
+use Rattle.dir_model.specs.Names.{IsFileName}
+use Rattle.dir_trait.specs.declared.bundle.BundleError.{BundleError}
 use Rattle.dir_trait.specs.declared.bundle.BundleItem.{BundleItem}
+use Rattle.dir_trait.specs.declared.bundle.BundleAction.{BundleAction}
+use Rattle.dir_trait.specs.declared.bundle.BundleRequest.{BundleRequest}
 use Rattle.dir_trait.specs.declared.bundle.BundleKind.{BundleKind}
 use Rattle.dir_trait.specs.declared.bundle.BundleKind.TheVariants as kinds
 use Rattle.dir_trait.specs.declared.node.Node.{Node}
@@ -13,6 +17,38 @@ use Rattle.dir_trait.specs.declared.node.Node.TheVariants.{Directory, File, Link
 -- what stands at each path. The empty path is the bundle's own root
 abbrev pub Tree : Type 0
 Tree = List ℕ → Option Node
+
+-- what a bundle shows at a moment
+pub record BundleAt : Type 0 where
+  -- what stands in it, where it is observed
+  pub tree : Tree
+  -- how often it failed
+  pub faults : ℕ
+  -- a measure of the bytes that it gave, which one reading raises by at most those that it answers: their number is one
+  pub given : ℕ
+  -- what it was asked for so far, where it is observed
+  pub asked : List BundleRequest
+
+abbrev pub request_at : BundleAction → List ℕ → BundleRequest
+request_at action path = record { action = action; path = path }
+
+-- it was asked for nothing but this
+pub record AsksOnly (request : BundleRequest) (old new : List BundleRequest) : Type 0 where
+  pub more : List BundleRequest
+  pub grown : new ≡ old ++ more
+  pub each : AllByRecursion (λ asked. asked ≡ request) more
+
+-- how many bytes an answer gave
+abbrev pub bytes_given : Result ℕ BundleError → ℕ
+bytes_given (Ok count) = count
+bytes_given (Err error) = 0
+
+-- one call, which gave so many bytes
+pub record BundleCall (observed : Bool) (old : BundleAt) (request : BundleRequest) (count : ℕ) (new : BundleAt) : Type 0 where
+  pub faults : old.faults ≤ new.faults
+  pub given : new.given ≤ old.given + count
+  pub same : observed ≡ true → new.tree ≡ old.tree
+  pub asked : observed ≡ true → AsksOnly request old.asked new.asked
 
 abbrev pub kind_of : Node → BundleKind
 kind_of Directory = kinds.Dir

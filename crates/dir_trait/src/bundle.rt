@@ -1,9 +1,9 @@
 // A bundle: a tree of files that is read and never changed.
-ghost use Rattle.std.specs.Prelude.{◌≡◌, ◌≢◌, ◌≤◌, ℕ, Bool, true, length, None, Some, IfOk, IsErrOf, IsSomeAnd};
+ghost use Rattle.std.specs.Prelude.{◌≡◌, ◌≢◌, ◌≤◌, Bool, true, length, None, Some, IfOk, IsErrOf, IsSomeAnd};
 ghost use Rattle.dir_model.specs.Causes.{Rose};
-ghost use Rattle.dir_trait.specs.Bundles.{kind_at, file_bytes, link_target, Fills, IsListing, Lists};
+ghost use Rattle.dir_trait.specs.Bundles.{kind_at, file_bytes, link_target, bytes_given, Fills, IsListing, Lists, BundleCall, request_at};
 
-use crate::sequence::Sequence;
+use crate::sequence::{Bytes, Sequence};
 use dir_model::FileName;
 use std::alloc::Global;
 
@@ -38,22 +38,35 @@ pub struct BundleItem {
 /// The entries of a directory.
 pub type BundleItems = Sequence<BundleItem>;
 
+/// What a call of a bundle does.
+#[derive(Clone, Copy, Debug, PartialEq, Eq)]
+pub enum BundleAction {
+    Read,
+    ReadLink,
+    List,
+}
+
+/// What a bundle is asked for: what to do, and at which path.
+#[derive(Drop)]
+pub struct BundleRequest {
+    pub action: BundleAction,
+    pub path: Bytes,
+}
+
 /// A tree of files that is read and never changed. The empty path names its own root.
 pub trait Bundle {
-    ghost use Rattle.dir_trait.specs.Bundles.{Tree};
+    ghost use Rattle.dir_trait.specs.Bundles.{BundleAt};
 
     /// Whether its tree is observed. A bundle of the host observes none.
     ghost observed: { Bool };
 
-    /// What stands at each path, where it is observed.
-    ghost tree: { Self → Tree };
-
-    /// How often the bundle failed.
-    ghost faults: { Self → ℕ };
+    /// What it shows at a moment: its faults and the bytes that it gave, and where it is observed what
+    /// stands at each path and what it was asked for.
+    ghost shown: { Self → BundleAt };
 
     /// How often the bundle failed so far. The count never falls.
     fn faults(&self) -> u64
-        ensures { result ≡ faults self.now };
+        ensures { result ≡ (shown self.now).faults };
 
     /// Fills the room with the bytes of the file at a path, from byte `at` on, and answers how many it
     /// filled: fewer than the room has only at the file's end. `Missing` where no file stands there.
@@ -64,13 +77,12 @@ pub trait Bundle {
         at: u64,
         room: &mut [u8],
     ) -> Result<usize, BundleError>
-        ensures faults { faults self.old ≤ faults self.new }
-        ensures failed { IsErrOf result BundleError.Failed → Rose (faults self.old) (faults self.new) }
+        ensures cause { IsErrOf result BundleError.Failed → Rose (shown self.old).faults (shown self.new).faults }
         ensures most { IfOk result (λ n. n ≤ length room.old) }
-        ensures same { observed ≡ true → tree self.new ≡ tree self.old }
         ensures read { IfOk result (λ n. observed ≡ true
-            → IsSomeAnd (file_bytes (tree self.old path.now)) (λ bytes. Fills bytes at room.old n room.new)) }
-        ensures missing { IsErrOf result BundleError.Missing → observed ≡ true → file_bytes (tree self.old path.now) ≡ None };
+            → IsSomeAnd (file_bytes ((shown self.old).tree path.now)) (λ bytes. Fills bytes at room.old n room.new)) }
+        ensures missing { IsErrOf result BundleError.Missing → observed ≡ true → file_bytes ((shown self.old).tree path.now) ≡ None }
+        ensures called { BundleCall observed (shown self.old) (request_at BundleAction.Read path.now) (bytes_given result) (shown self.new) };
 
     /// Fills the room with the target of the symbolic link at a path, as far as it fits, and answers how
     /// many bytes it filled. `Missing` where no link stands there.
@@ -80,22 +92,20 @@ pub trait Bundle {
         path: &str,
         room: &mut [u8],
     ) -> Result<usize, BundleError>
-        ensures faults { faults self.old ≤ faults self.new }
-        ensures failed { IsErrOf result BundleError.Failed → Rose (faults self.old) (faults self.new) }
+        ensures cause { IsErrOf result BundleError.Failed → Rose (shown self.old).faults (shown self.new).faults }
         ensures most { IfOk result (λ n. n ≤ length room.old) }
-        ensures same { observed ≡ true → tree self.new ≡ tree self.old }
         ensures read { IfOk result (λ n. observed ≡ true
-            → IsSomeAnd (link_target (tree self.old path.now)) (λ target. Fills target 0 room.old n room.new)) }
-        ensures missing { IsErrOf result BundleError.Missing → observed ≡ true → link_target (tree self.old path.now) ≡ None };
+            → IsSomeAnd (link_target ((shown self.old).tree path.now)) (λ target. Fills target 0 room.old n room.new)) }
+        ensures missing { IsErrOf result BundleError.Missing → observed ≡ true → link_target ((shown self.old).tree path.now) ≡ None }
+        ensures called { BundleCall observed (shown self.old) (request_at BundleAction.ReadLink path.now) (bytes_given result) (shown self.new) };
 
     /// The entries of the directory at a path, in byte order of their names, each name once. `Missing`
     /// where no directory stands there.
     fn list(&mut self, alloc: Global, path: &str) -> Result<BundleItems, BundleError>
-        ensures faults { faults self.old ≤ faults self.new }
-        ensures failed { IsErrOf result BundleError.Failed → Rose (faults self.old) (faults self.new) }
+        ensures cause { IsErrOf result BundleError.Failed → Rose (shown self.old).faults (shown self.new).faults }
         ensures ordered { IfOk result IsListing }
-        ensures same { observed ≡ true → tree self.new ≡ tree self.old }
-        ensures listed { IfOk result (λ items. observed ≡ true → Lists (tree self.old) path.now items) }
+        ensures listed { IfOk result (λ items. observed ≡ true → Lists (shown self.old).tree path.now items) }
         ensures missing { IsErrOf result BundleError.Missing → observed ≡ true
-            → kind_at (tree self.old path.now) ≢ Some BundleKind.Dir };
+            → kind_at ((shown self.old).tree path.now) ≢ Some BundleKind.Dir }
+        ensures called { BundleCall observed (shown self.old) (request_at BundleAction.List path.now) 0 (shown self.new) };
 }

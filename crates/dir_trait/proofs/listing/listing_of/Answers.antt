@@ -1,5 +1,5 @@
 use Rattle.std.proofs.Common.{◌∙◌}
-use Rattle.dir_trait.proofs.BundleListings.{in_order}
+use Rattle.dir_trait.proofs.Listings.{in_order}
 use Rattle.dir_trait.proofs.listing.listing_of.Goals as goal
 
 pub returns-clause-ordered : goal.returns-clause-ordered

@@ -19,5 +19,6 @@ pub pieces-preserved : goal.pieces-preserved
 pieces-preserved g c = record {
   within = omega (arith, c.in_ok-count.ensures.most, length-drop c.pieces.at c.args.text.now, c.pieces.invariant.within);
   faults = omega (arith, c.write.ensures.faults, c.pieces.invariant.faults);
-  written = λ t. (c.in_ok-count.ensures.written t ∙ ap (λ b. g.S.Sink.bytes c.pieces.sink ++ take c.in_ok-count.count b) (all_left c.pieces.at c.args.text.now)) ∙ (ap (λ b. b ++ take c.in_ok-count.count (drop c.pieces.at c.args.text.now)) (c.pieces.invariant.written t) ∙ (append_assoc (g.S.Sink.bytes c.args.sink.now) (take c.pieces.at c.args.text.now) (take c.in_ok-count.count (drop c.pieces.at c.args.text.now)) ∙ ap (λ b. g.S.Sink.bytes c.args.sink.now ++ b) (sym (take-add c.pieces.at c.in_ok-count.count c.args.text.now))));
+  shortages = omega (arith, c.write.ensures.shortages, c.pieces.invariant.shortages);
+  written = λ t. (c.in_ok-count.ensures.written t ∙ ap (λ b. (g.S.Sink.shown c.pieces.sink).bytes ++ take c.in_ok-count.count b) (all_left c.pieces.at c.args.text.now)) ∙ (ap (λ b. b ++ take c.in_ok-count.count (drop c.pieces.at c.args.text.now)) (c.pieces.invariant.written t) ∙ (append_assoc ((g.S.Sink.shown c.args.sink.now).bytes) (take c.pieces.at c.args.text.now) (take c.in_ok-count.count (drop c.pieces.at c.args.text.now)) ∙ ap (λ b. (g.S.Sink.shown c.args.sink.now).bytes ++ b) (sym (take-add c.pieces.at c.in_ok-count.count c.args.text.now))));
 }

@@ -6,8 +6,9 @@ invariant-pieces g l =
     let S = g.S.Sink in
     record {
       within : l.at ≤ length l.text;
-      faults : S.faults l.fn.sink ≤ S.faults l.sink;
-      written : S.observed ≡ true → S.bytes l.sink ≡ S.bytes l.fn.sink ++ take l.at l.text;
+      faults : (S.shown l.fn.sink).faults ≤ (S.shown l.sink).faults;
+      shortages : (S.shown l.fn.sink).shortages ≤ (S.shown l.sink).shortages;
+      written : S.observed ≡ true → (S.shown l.sink).bytes ≡ (S.shown l.fn.sink).bytes ++ take l.at l.text;
     }
 
 abbrev pub decreases-pieces : goal.decreases-pieces

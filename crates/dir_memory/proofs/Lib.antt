@@ -1,0 +1,11 @@
+pub mod Pasts
+pub mod Answering
+pub mod Meanwhile
+pub mod Schedules
+pub mod Calling
+pub mod Places
+pub mod Ended
+pub mod BundleTrees
+pub mod BundlePaths
+pub mod BundleListings
+pub mod BundleCalls

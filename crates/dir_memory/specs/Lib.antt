@@ -1,0 +1,6 @@
+pub mod Parts
+pub mod Schedules
+pub mod Interludes
+pub mod Memories
+pub mod MemorySinks
+pub mod MemoryBundles

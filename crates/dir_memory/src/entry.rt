@@ -1,0 +1,97 @@
+// What was put into a bundle in memory, and what stands there by it.
+ghost use Rattle.std.specs.Prelude.{◌≡◌, ◌<◌, find, length, Some, IsTrue};
+ghost use Rattle.std.specs.Option.{option_copied};
+ghost use Rattle.dir_trait.specs.Bundles.{kind_at, file_bytes, link_target};
+ghost use Rattle.dir_memory.specs.MemoryBundles.{lies_below, is_directory, empty_tree, is_decisive, decided_node, own_node, tree_of};
+
+use dir_trait::{BundleKind, Bytes, Node};
+
+/// A node that was put at a path.
+#[derive(Drop)]
+pub struct Entry {
+    pub path: Bytes,
+    pub node: Node,
+}
+
+/// Whether a path lies below a directory.
+#[tactic(auto, unfolding(crate::specs::MemoryBundles::lies_below))]
+pub fn lies_below(path: &[u8], directory: &[u8]) -> bool
+    ensures below { result ≡ lies_below path.now directory.now }
+    ensures longer { IsTrue result → length directory.now < length path.now }
+{
+    if directory.is_empty() {
+        return !path.is_empty();
+    }
+    path.starts_with(directory) && path.len() > directory.len() && path[directory.len()] == b'/'
+}
+
+fn is_directory(node: &Node) -> bool
+    ensures { result ≡ is_directory node.now }
+{
+    matches!(node, Node::Directory)
+}
+
+fn is_decisive(path: &[u8], entry: &Entry) -> bool
+    ensures { result ≡ is_decisive path.now entry.now }
+{
+    let own = entry.path.as_slice();
+    let covers = !is_directory(&entry.node) && lies_below(path, own);
+    own == path || lies_below(own, path) || covers
+}
+
+/// The newest entry that decides what stands at a path.
+fn newest<'a>(entries: &'a [Entry], path: &[u8]) -> Option<&'a Entry>
+    ensures { option_copied result ≡ find (is_decisive path.now) entries.now }
+{
+    entries.iter().find(|entry| is_decisive(path, entry))
+}
+
+fn decided_kind(entry: &Entry, path: &[u8]) -> Option<BundleKind>
+    ensures { result ≡ kind_at (decided_node (Some entry.now) path.now) }
+{
+    let own = entry.path.as_slice();
+    if own == path {
+        return Some(entry.node.kind());
+    }
+    lies_below(own, path).then_some(BundleKind::Dir)
+}
+
+fn root_kind(path: &[u8]) -> Option<BundleKind>
+    ensures { result ≡ kind_at (empty_tree path.now) }
+{
+    path.is_empty().then_some(BundleKind::Dir)
+}
+
+/// The kind of what stands at a path.
+pub fn kind_at(entries: &[Entry], path: &[u8]) -> Option<BundleKind>
+    ensures { result ≡ kind_at (tree_of entries.now path.now) }
+{
+    match newest(entries, path) {
+        Some(entry) => decided_kind(entry, path),
+        None => root_kind(path),
+    }
+}
+
+/// The node that was put at the path itself and stands there.
+fn own_node<'a>(entries: &'a [Entry], path: &[u8]) -> Option<&'a Node>
+    ensures { option_copied result ≡ own_node (find (is_decisive path.now) entries.now) path.now }
+{
+    let entry = newest(entries, path)?;
+    (entry.path.as_slice() == path).then_some(&entry.node)
+}
+
+/// The bytes of the file at a path.
+pub fn file_at<'a>(entries: &'a [Entry], path: &[u8]) -> Option<&'a [u8]>
+    ensures { option_copied result ≡ file_bytes (tree_of entries.now path.now) }
+{
+    let node = own_node(entries, path)?;
+    node.bytes()
+}
+
+/// The target of the symbolic link at a path.
+pub fn link_at<'a>(entries: &'a [Entry], path: &[u8]) -> Option<&'a [u8]>
+    ensures { option_copied result ≡ link_target (tree_of entries.now path.now) }
+{
+    let node = own_node(entries, path)?;
+    node.target()
+}

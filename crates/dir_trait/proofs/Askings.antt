@@ -1,0 +1,15 @@
+-- Calls of a bundle that ask for one thing, one after the other.
+use Rattle.std.proofs.Common.{◌≡◌, ℕ, List, [], ◌∷◌, ◌++◌, sym, ap, ◌∙◌, append_assoc, append-nil}
+use Rattle.dir_model.proofs.Lists.{all_both}
+use Rattle.dir_trait.specs.declared.bundle.BundleRequest.{BundleRequest}
+use Rattle.dir_trait.specs.Bundles.{AsksOnly}
+
+pub asks_nothing : {request : BundleRequest} {old : List BundleRequest} → AsksOnly request old old
+asks_nothing {request} {old} = record { more = []; grown = sym (append-nil old); each = tt }
+
+pub asks_more : {request : BundleRequest} {a b c : List BundleRequest} → AsksOnly request a b → AsksOnly request b c → AsksOnly request a c
+asks_more {request} {a} {b} {c} ab bc = record {
+  more = ab.more ++ bc.more;
+  grown = bc.grown ∙ (ap (λ h. h ++ bc.more) ab.grown ∙ append_assoc a ab.more bc.more);
+  each = all_both _ ab.more bc.more ab.each bc.each;
+}

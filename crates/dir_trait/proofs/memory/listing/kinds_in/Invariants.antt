@@ -1,9 +1,0 @@
-use Rattle.std.proofs.Common.{take}
-use Rattle.dir_trait.specs.MemoryBundles.{tree_of, AreKinds, AreFound}
-use Rattle.dir_trait.proofs.memory.listing.kinds_in.Given as goal
-
-abbrev pub invariant-entries : goal.invariant-entries
-invariant-entries l = record {
-  kinds : AreKinds (tree_of l.entries) l.directory l.kinds;
-  found : AreFound (tree_of l.entries) l.directory (take l.entry-index l.entries) l.kinds;
-}
