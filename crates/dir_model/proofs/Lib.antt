@@ -7,6 +7,7 @@ pub mod Lists
 pub mod Chains
 pub mod Allowed
 pub mod Moments
+pub mod Spots
 pub mod Holdings
 pub mod OpenHandles
 pub mod LockTold

@@ -1,5 +1,5 @@
 -- What a process knows by its own answers: what it began as, whether it has finished, and what it has open.
-use Rattle.std.specs.Prelude.{◌≡◌, ℕ, Bool, true, false, not, ◌&&◌, ◌==◌, cond, Option, Some, None, is_some, List, [], ◌∷◌, ◌++◌, map, filter}
+use Rattle.std.specs.Prelude.{◌≡◌, ℕ, Bool, true, false, not, ◌&&◌, ◌==◌, cond, Option, Some, None, is_some, bytes_eq, List, [], ◌∷◌, ◌++◌, map, filter}
 use Rattle.std.specs.List.{list_any}
 use Rattle.dir_model.specs.declared.intent.Intent.{Intent}
 use Rattle.dir_model.specs.declared.spot.Handle.{Handle}
@@ -7,10 +7,12 @@ use Rattle.dir_model.specs.declared.spot.Mode.{Mode}
 use Rattle.dir_model.specs.declared.opening.Opening.{Opening}
 use Rattle.dir_model.specs.declared.opening.Holding.{Holding}
 use Rattle.dir_model.specs.declared.opening.Target.{Target}
+use Rattle.dir_model.specs.declared.opening.Target.TheVariants.{Own}
 use Rattle.dir_model.specs.declared.request.Request.{Request}
 use Rattle.dir_model.specs.declared.request.Request.TheVariants.{Begin, Open, TryLock, Close, Finish}
 use Rattle.dir_model.specs.declared.request.Reply.{Reply}
 use Rattle.dir_model.specs.declared.request.Reply.TheVariants.{Done, Opened}
+use Rattle.dir_model.specs.Areas.{is_stage}
 use Rattle.dir_model.specs.Locks.{target_of}
 use Rattle.dir_model.specs.State.{Namespace}
 
@@ -88,3 +90,12 @@ holding_of o = record { handle = o.handle; target = o.target; lock = o.lock }
 -- what a process has open in the namespace
 abbrev pub holdings_in : Namespace → ℕ → List Holding
 holdings_in n process = map holding_of (filter (λ o. o.process == process) n.openings)
+
+-- it stands for the lock of the pod with this name
+abbrev pub is_own_of : List ℕ → Target → Bool
+is_own_of name (Own spot) = is_stage spot.area && bytes_eq spot.name name
+is_own_of name _ = false
+
+-- a handle is open on the lock of the pod with this name
+abbrev pub has_own_open : Local → List ℕ → Bool
+has_own_open m name = list_any (λ h. is_own_of name h.target) m.holdings

@@ -3,7 +3,10 @@ use Rattle.std.specs.Prelude.{◌≡◌, ◌≤◌, ◌+◌, ℕ, Bool, true, Li
 use Rattle.dir_model.specs.declared.event.Event.{Event}
 use Rattle.dir_model.specs.declared.request.Request.{Request}
 use Rattle.dir_model.specs.declared.request.Reply.{Reply}
-use Rattle.dir_model.specs.Calls.{CallStep}
+use Rattle.dir_model.specs.declared.spot.Spot.{Spot}
+use Rattle.dir_model.specs.Between.{LockTold}
+use Rattle.dir_model.specs.State.{DirState}
+use Rattle.dir_model.specs.Calls.{CallStep, Extends, AtOwnStep}
 use Rattle.dir_model.specs.Local.{Local, local_replied}
 
 pub record DirAt : Type 0 where
@@ -25,3 +28,16 @@ pub record DirCall (observed : Bool) (old : DirAt) (request : Request) (reply : 
   pub faults : old.faults ≤ new.faults
   pub local : new.local ≡ local_replied old.local request reply
   pub step : observed ≡ true → CallStep old.process old.trace request reply new.trace
+
+-- the trace went on by calls of this process of which each asks for something of this kind, among interference
+abbrev pub ExtendsBy : (Request → Bool) → DirAt → DirAt → Type 0
+ExtendsBy asks old new = Extends asks old.process old.trace new.trace
+
+-- P held of the state just after an own event between these two moments
+abbrev pub HeldBetween : DirAt → DirAt → (DirState → Type 0) → Type 0
+HeldBetween old new P = AtOwnStep old.process old.trace new.trace P
+
+-- a folder stood at the location at an own step between these two moments, and at a later one its lock was held
+-- exclusively or not
+abbrev pub LockToldBetween : DirAt → DirAt → Spot → Bool → Type 0
+LockToldBetween old new spot owned = LockTold old.process old.trace new.trace spot owned

@@ -1,11 +1,10 @@
 // One look at a location, and one question for the lock of what stands there.
 ghost use Rattle.std.specs.Prelude.{◌≡◌, ◌+◌, ◌≤◌, true, false, IfOk, IsErrOf, Ok, Some, None, is_some, IfSome};
 ghost use Rattle.dir_trait.specs.Causes.{Rose};
-ghost use Rattle.dir_trait.specs.Calls.{Extends, AtOwnStep};
-ghost use Rattle.dir_trait.specs.State.{stands};
-ghost use Rattle.dir_trait.specs.Between.{Asked};
-ghost use Rattle.dir_trait.specs.Replies.{is_look};
-ghost use Rattle.dir_trait.specs.Local.{IsActive};
+ghost use Rattle.dir_trait.specs.DirCalls.{ExtendsBy, HeldBetween, LockToldBetween};
+ghost use Rattle.dir_trait.specs.State.{spot_eq, stands};
+ghost use Rattle.dir_trait.specs.Replies.{is_look_at};
+ghost use Rattle.dir_trait.specs.Local.{IsActive, has_own_open};
 
 use crate::found::{LookError, look_error};
 use dir_trait::{Dir, DirError, Mode, Spot, Which};
@@ -13,15 +12,16 @@ use std::alloc::Global;
 
 /// Whether a folder stands at the location. `DirFault` where the directory failed.
 pub fn look<D: Dir>(alloc: Global, dir: &mut D, spot: Spot) -> Result<bool, LookError>
-    requires { IsActive (D.local dir.old) }
-    ensures counted { D.calls dir.new ≤ D.calls dir.old + 2 }
-    ensures counted_missing { result ≡ Ok false → D.calls dir.new ≤ D.calls dir.old + 1 }
-    ensures same { D.process dir.new ≡ D.process dir.old }
-    ensures faults { D.faults dir.old ≤ D.faults dir.new }
-    ensures cause { IsErrOf result LookError.DirFault → Rose (D.faults dir.old) (D.faults dir.new) }
-    ensures local { D.local dir.new ≡ D.local dir.old }
-    ensures extends { D.observed ≡ true → Extends is_look (D.process dir.old) (D.trace dir.old) (D.trace dir.new) }
-    ensures there { IfOk result (λ there. D.observed ≡ true → AtOwnStep (D.process dir.old) (D.trace dir.old) (D.trace dir.new) (λ s. stands s.namespace spot ≡ there)) }
+    requires { IsActive (D.shown dir.old).local }
+    ensures counted { (D.shown dir.new).calls ≤ (D.shown dir.old).calls + 2 }
+    ensures counted_missing { result ≡ Ok false → (D.shown dir.new).calls ≤ (D.shown dir.old).calls + 1 }
+    ensures same { (D.shown dir.new).process ≡ (D.shown dir.old).process }
+    ensures faults { (D.shown dir.old).faults ≤ (D.shown dir.new).faults }
+    ensures cause { IsErrOf result LookError.DirFault → Rose (D.shown dir.old).faults (D.shown dir.new).faults }
+    ensures local { (D.shown dir.new).local ≡ (D.shown dir.old).local }
+    ensures extends { D.observed ≡ true → ExtendsBy (is_look_at (spot_eq spot)) (D.shown dir.old) (D.shown dir.new) }
+    ensures there { IfOk result (λ there. D.observed ≡ true
+        → HeldBetween (D.shown dir.old) (D.shown dir.new) (λ s. stands s.namespace spot ≡ there)) }
 {
     match dir.open(alloc, spot, Which::Own) {
         Ok(handle) => {
@@ -33,19 +33,22 @@ pub fn look<D: Dir>(alloc: Global, dir: &mut D, spot: Spot) -> Result<bool, Look
     }
 }
 
-/// Whether a folder stands at the location, and then whether its lock is held exclusively.
-/// `DirFault` where the directory failed.
+/// Whether a folder stands at the location, and then whether its lock is held exclusively. No handle of
+/// this process is open on that lock. `DirFault` where the directory failed.
 pub fn ask<D: Dir>(alloc: Global, dir: &mut D, spot: Spot) -> Result<Option<bool>, LookError>
-    requires { IsActive (D.local dir.old) }
-    ensures counted { D.calls dir.new ≤ D.calls dir.old + 3 }
-    ensures counted_missing { result ≡ Ok None → D.calls dir.new ≤ D.calls dir.old + 1 }
-    ensures same { D.process dir.new ≡ D.process dir.old }
-    ensures faults { D.faults dir.old ≤ D.faults dir.new }
-    ensures cause { IsErrOf result LookError.DirFault → Rose (D.faults dir.old) (D.faults dir.new) }
-    ensures local { D.local dir.new ≡ D.local dir.old }
-    ensures extends { D.observed ≡ true → Extends is_look (D.process dir.old) (D.trace dir.old) (D.trace dir.new) }
-    ensures there { IfOk result (λ owned. D.observed ≡ true → AtOwnStep (D.process dir.old) (D.trace dir.old) (D.trace dir.new) (λ s. stands s.namespace spot ≡ is_some owned)) }
-    ensures asked { IfOk result (λ found. IfSome found (λ owned. D.observed ≡ true → Asked (D.process dir.old) (D.trace dir.old) (D.trace dir.new) spot owned)) }
+    requires active { IsActive (D.shown dir.old).local }
+    requires alone { has_own_open (D.shown dir.old).local spot.name ≡ false }
+    ensures counted { (D.shown dir.new).calls ≤ (D.shown dir.old).calls + 3 }
+    ensures counted_missing { result ≡ Ok None → (D.shown dir.new).calls ≤ (D.shown dir.old).calls + 1 }
+    ensures same { (D.shown dir.new).process ≡ (D.shown dir.old).process }
+    ensures faults { (D.shown dir.old).faults ≤ (D.shown dir.new).faults }
+    ensures cause { IsErrOf result LookError.DirFault → Rose (D.shown dir.old).faults (D.shown dir.new).faults }
+    ensures local { (D.shown dir.new).local ≡ (D.shown dir.old).local }
+    ensures extends { D.observed ≡ true → ExtendsBy (is_look_at (spot_eq spot)) (D.shown dir.old) (D.shown dir.new) }
+    ensures there { IfOk result (λ owned. D.observed ≡ true
+        → HeldBetween (D.shown dir.old) (D.shown dir.new) (λ s. stands s.namespace spot ≡ is_some owned)) }
+    ensures told { IfOk result (λ found. IfSome found (λ owned. D.observed ≡ true
+        → LockToldBetween (D.shown dir.old) (D.shown dir.new) spot owned)) }
 {
     match dir.open(alloc, spot, Which::Own) {
         Ok(handle) => {

@@ -1,13 +1,14 @@
 // The read of a phase: the six areas in lifecycle order, each place looked at twice.
-ghost use Rattle.std.specs.Prelude.{◌≡◌, ◌+◌, ◌-◌, ◌*◌, ◌≤◌, true, IfOk, IsErrOf, Ok, Some, None, is_some, IfSome};
+ghost use Rattle.std.specs.Prelude.{◌≡◌, ◌+◌, ◌-◌, ◌*◌, ◌≤◌, true, false, IfOk, IsErrOf, Ok, Some, None, is_some, IfSome};
 ghost use Rattle.dir_trait.specs.Causes.{Rose};
-ghost use Rattle.dir_trait.specs.Calls.{Extends, AtOwnStep};
-ghost use Rattle.dir_trait.specs.State.{stands};
+ghost use Rattle.dir_trait.specs.DirCalls.{ExtendsBy, HeldBetween};
+ghost use Rattle.dir_trait.specs.Pods.{pod_text};
+ghost use Rattle.dir_trait.specs.State.{spot_eq, stands};
 ghost use Rattle.dir_trait.specs.Areas.{rank, phase_in};
 ghost use Rattle.dir_trait.specs.Between.{StaysBetween};
-ghost use Rattle.dir_trait.specs.Replies.{is_look};
-ghost use Rattle.dir_trait.specs.Local.{IsActive};
-ghost use Rattle.phase_read.specs.Read.{IsRead, HasPhase, Tells};
+ghost use Rattle.dir_trait.specs.Replies.{is_look_at};
+ghost use Rattle.dir_trait.specs.Local.{IsActive, has_own_open};
+ghost use Rattle.phase_read.specs.Read.{IsRead, HasPhase, FoundBetween, is_pod_spot};
 
 use crate::found::{Found, LookError};
 use crate::probe::{ask, look};
@@ -29,18 +30,23 @@ fn stage_phase(area: Area, owned: bool) -> Phase
 // other areas the folder is looked for again after the lock was asked for, since it may have moved
 // on before.
 fn read_at<D: Dir>(alloc: Global, dir: &mut D, spot: Spot) -> Result<Option<Phase>, LookError>
-    requires active { IsActive (D.local dir.old) }
+    requires active { IsActive (D.shown dir.old).local }
+    requires alone { has_own_open (D.shown dir.old).local spot.name ≡ false }
     requires area { rank spot.area ≤ 5 }
-    ensures counted { D.calls dir.new ≤ D.calls dir.old + 5 }
-    ensures counted_missing { result ≡ Ok None → D.calls dir.new + 3 * (1 - rank spot.area) ≤ D.calls dir.old + 4 }
-    ensures same { D.process dir.new ≡ D.process dir.old }
-    ensures faults { D.faults dir.old ≤ D.faults dir.new }
-    ensures cause { IsErrOf result LookError.DirFault → Rose (D.faults dir.old) (D.faults dir.new) }
-    ensures local { D.local dir.new ≡ D.local dir.old }
-    ensures extends { D.observed ≡ true → Extends is_look (D.process dir.old) (D.trace dir.old) (D.trace dir.new) }
-    ensures there { IfOk result (λ found. D.observed ≡ true → AtOwnStep (D.process dir.old) (D.trace dir.old) (D.trace dir.new) (λ s. stands s.namespace spot ≡ is_some found)) }
-    ensures tells { IfOk result (λ found. IfSome found (λ phase. D.observed ≡ true → Tells (D.process dir.old) (D.trace dir.old) (D.trace dir.new) spot phase)) }
-    ensures phase { IfOk result (λ found. IfSome found (λ phase. D.observed ≡ true → StaysBetween (D.trace dir.new) → AtOwnStep (D.process dir.old) (D.trace dir.old) (D.trace dir.new) (HasPhase spot phase))) }
+    ensures counted { (D.shown dir.new).calls ≤ (D.shown dir.old).calls + 5 }
+    ensures counted_missing { result ≡ Ok None
+        → (D.shown dir.new).calls + 3 * (1 - rank spot.area) ≤ (D.shown dir.old).calls + 4 }
+    ensures same { (D.shown dir.new).process ≡ (D.shown dir.old).process }
+    ensures faults { (D.shown dir.old).faults ≤ (D.shown dir.new).faults }
+    ensures cause { IsErrOf result LookError.DirFault → Rose (D.shown dir.old).faults (D.shown dir.new).faults }
+    ensures local { (D.shown dir.new).local ≡ (D.shown dir.old).local }
+    ensures extends { D.observed ≡ true → ExtendsBy (is_look_at (spot_eq spot)) (D.shown dir.old) (D.shown dir.new) }
+    ensures there { IfOk result (λ found. D.observed ≡ true
+        → HeldBetween (D.shown dir.old) (D.shown dir.new) (λ s. stands s.namespace spot ≡ is_some found)) }
+    ensures found { IfOk result (λ found. IfSome found (λ phase. D.observed ≡ true
+        → FoundBetween (D.shown dir.old) (D.shown dir.new) spot phase)) }
+    ensures phase { IfOk result (λ found. IfSome found (λ phase. D.observed ≡ true → StaysBetween (D.shown dir.new).trace
+        → HeldBetween (D.shown dir.old) (D.shown dir.new) (HasPhase spot phase))) }
 {
     let spot = &spot;
     match spot.area {
@@ -67,17 +73,18 @@ fn read_at<D: Dir>(alloc: Global, dir: &mut D, spot: Spot) -> Result<Option<Phas
 }
 
 /// Reads a pod's phase, area by area in lifecycle order, by at most 24 calls on the directory,
-/// whatever the directory answers. Each handle that it opened is closed again. `DirFault` only
-/// where the directory failed.
+/// whatever the directory answers. No handle of this process is open on the pod's lock before, and each
+/// handle that it opened is closed again. `DirFault` only where the directory failed.
 pub fn read_phase<D: Dir>(alloc: Global, dir: &mut D, pod: PodId) -> Result<Found, LookError>
-    requires { IsActive (D.local dir.old) }
-    ensures counted { D.calls dir.new ≤ D.calls dir.old + 24 }
-    ensures same { D.process dir.new ≡ D.process dir.old }
-    ensures faults { D.faults dir.old ≤ D.faults dir.new }
-    ensures cause { IsErrOf result LookError.DirFault → Rose (D.faults dir.old) (D.faults dir.new) }
-    ensures local { D.local dir.new ≡ D.local dir.old }
-    ensures extends { D.observed ≡ true → Extends is_look (D.process dir.old) (D.trace dir.old) (D.trace dir.new) }
-    ensures read { IfOk result (λ found. D.observed ≡ true → IsRead (D.process dir.old) (D.trace dir.old) (D.trace dir.new) pod found) }
+    requires active { IsActive (D.shown dir.old).local }
+    requires alone { has_own_open (D.shown dir.old).local (pod_text pod.bytes) ≡ false }
+    ensures counted { (D.shown dir.new).calls ≤ (D.shown dir.old).calls + 24 }
+    ensures same { (D.shown dir.new).process ≡ (D.shown dir.old).process }
+    ensures faults { (D.shown dir.old).faults ≤ (D.shown dir.new).faults }
+    ensures cause { IsErrOf result LookError.DirFault → Rose (D.shown dir.old).faults (D.shown dir.new).faults }
+    ensures local { (D.shown dir.new).local ≡ (D.shown dir.old).local }
+    ensures extends { D.observed ≡ true → ExtendsBy (is_look_at (is_pod_spot pod)) (D.shown dir.old) (D.shown dir.new) }
+    ensures read { IfOk result (λ found. D.observed ≡ true → IsRead (D.shown dir.old) (D.shown dir.new) pod found) }
 {
     let name = pod.name();
     let mut area = Area::Embryo;

@@ -1,9 +1,10 @@
 use Rattle.std.proofs.Common.{inr}
-use Rattle.dir_model.proofs.Between.{at_weaker, settle, asked_before}
+use Rattle.dir_model.specs.Replies.{is_look_at}
+use Rattle.dir_model.specs.State.{spot_eq}
+use Rattle.dir_model.proofs.Chains.{and_more}
+use Rattle.dir_model.proofs.Moments.{at_after, at_weaker, settle, told_before}
 use Rattle.phase_read.specs.Read.{HasPhase}
-use Rattle.phase_read.proofs.Places.{has_phase}
-use Rattle.dir_model.specs.Replies.{is_look}
-use Rattle.dir_model.proofs.Chains.{and_more, at_after}
+use Rattle.phase_read.proofs.Stages.{has_phase}
 use Rattle.phase_read.proofs.read.read_at.Goals as goal
 
 pub returns-in_err-there-in-Some-clause-extends : goal.returns-in_err-there-in-Some-clause-extends
@@ -28,10 +29,10 @@ returns-then-there-clause-phase g c t stays =
 pub returns-then-there-2-clause-phase : goal.returns-then-there-2-clause-phase
 returns-then-there-2-clause-phase g c t stays =
     let look = rw (c.if-there-2.true, c.ask.ensures.same) at (c.in_ok-there-in-Some.ensures.there t) in
-    let asked = rw c.in-Some.is at (c.in_ok-ask-in_default.ensures.asked) in
-    at_weaker (HasPhase c.args.spot c.stage_phase-then-there-2.result) (λ w here. record { owned = c.in-Some.owned; here = here; is = c.stage_phase-then-there-2.ensures }) (settle (asked t) look stays)
+    let told = rw c.in-Some.is at (c.in_ok-ask-in_default.ensures.told) in
+    at_weaker (HasPhase c.args.spot c.stage_phase-then-there-2.result) (λ w here. record { owned = c.in-Some.owned; here = here; is = c.stage_phase-then-there-2.ensures }) (settle c.requires.area (told t) look stays)
 
-pub returns-then-there-2-clause-tells : goal.returns-then-there-2-clause-tells
-returns-then-there-2-clause-tells g c t =
-    let asked = rw c.in-Some.is at (c.in_ok-ask-in_default.ensures.asked) in
-    inr (record { owned = c.in-Some.owned; asked = asked_before {asks = is_look} (asked t) c.ask.ensures.same (c.look-in-Some.ensures.extends t); is = c.stage_phase-then-there-2.ensures })
+pub returns-then-there-2-clause-found : goal.returns-then-there-2-clause-found
+returns-then-there-2-clause-found g c t =
+    let told = rw c.in-Some.is at (c.in_ok-ask-in_default.ensures.told) in
+    inr (c.in-Some.owned, told_before {asks = is_look_at (spot_eq c.args.spot)} (told t) c.ask.ensures.same (c.look-in-Some.ensures.extends t), c.stage_phase-then-there-2.ensures)

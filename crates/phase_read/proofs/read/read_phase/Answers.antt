@@ -1,29 +1,37 @@
-use Rattle.std.proofs.Common.{◌≡◌, ◌∙◌, ℕ, List, false, arith, ap, subst, Ok}
-use Rattle.dir_model.specs.State.{stands}
+use Rattle.std.proofs.Common.{◌≡◌, ◌∙◌, ℕ, List, false, true, arith, sym, ap, subst, Ok}
+use Rattle.dir_model.specs.State.{spot_eq, stands}
 use Rattle.dir_model.specs.Calls.{AtOwnStep}
 use Rattle.dir_model.specs.declared.spot.Spot.{Spot}
-use Rattle.dir_model.proofs.Chains.{and_more, at_after, at_before}
-use Rattle.phase_read.specs.Read.{pod_spot, Tells, HasPhase}
-use Rattle.phase_read.proofs.Places.{up_to, next_rank, next_within, last_rank}
-use Rattle.phase_read.proofs.Quiet.{tells_after}
+use Rattle.dir_model.specs.declared.area.Area.{Area}
+use Rattle.dir_model.proofs.Chains.{and_more, extends_wider}
+use Rattle.dir_model.proofs.Spots.{look_wider}
+use Rattle.phase_read.specs.Read.{WasFound, HasPhase, LeftOut, is_pod_spot, stages, stages_before, pod_spot}
+use Rattle.phase_read.proofs.Stages.{next_rank, next_within, next_before, last_stages, pod_spot_only}
+use Rattle.phase_read.proofs.InTurn.{none_left_out, and_left_out}
 use Rattle.phase_read.proofs.read.read_phase.Goals as goal
 
 pub returns-in-None-clause-read : goal.returns-in-None-clause-read
-returns-in-None-clause-read g c t area stage =
-    let D = g.D.Dir in
+returns-in-None-clause-read g c t =
+    let shown = g.D.Dir.shown in
     let i = c.places.invariant in
-    let named = λ (text : List ℕ). AtOwnStep (D.process c.places.dir) (D.trace c.places.dir) (D.trace c.read_at.new.dir) (λ s. stands s.namespace (record { area = c.places.area; name = text }) ≡ false) in
+    let me = (shown c.args.dir.now).process in
+    let old = (shown c.args.dir.now).trace in
+    let now = (shown c.places.dir).trace in
+    let new = (shown c.read_at.new.dir).trace in
+    let named = λ (text : List ℕ). AtOwnStep (shown c.places.dir).process now new (λ s. stands s.namespace (record { area = c.places.area; name = text }) ≡ false) in
     let here = subst named c.name-name.ensures.text (rw c.in_default.is at (c.in_ok-phase.ensures.there t)) in
-    up_to (λ a. AtOwnStep (D.process c.args.dir.now) (D.trace c.args.dir.now) (D.trace c.read_at.new.dir) (λ s. stands s.namespace (pod_spot c.args.pod a) ≡ false)) c.places.area area
-    (λ b before. at_before (i.empty b before t) i.same (c.read_at.ensures.extends t))
-    (at_after (i.extends t) i.same here)
-    (omega (arith, stage, last_rank c.places.area c.in-None.ensures i.below))
+    subst (λ (areas : List Area). LeftOut me old new c.args.pod areas) (last_stages c.places.area c.in-None.ensures i.below)
+    (and_left_out c.args.pod me (shown c.places.dir).process old now new c.places.area (stages_before c.places.area) (i.empty t) i.same here)
 
 pub places-preserved : goal.places-preserved
 places-preserved g c =
-    let D = g.D.Dir in
+    let shown = g.D.Dir.shown in
     let i = c.places.invariant in
-    let named = λ (text : List ℕ). AtOwnStep (D.process c.places.dir) (D.trace c.places.dir) (D.trace c.read_at.new.dir) (λ s. stands s.namespace (record { area = c.places.area; name = text }) ≡ false) in
+    let me = (shown c.args.dir.now).process in
+    let old = (shown c.args.dir.now).trace in
+    let now = (shown c.places.dir).trace in
+    let new = (shown c.read_at.new.dir).trace in
+    let named = λ (text : List ℕ). AtOwnStep (shown c.places.dir).process now new (λ s. stands s.namespace (record { area = c.places.area; name = text }) ≡ false) in
     let next = next_rank c.places.area c.in-Some-next.next c.in-Some-next.ensures in
     record {
       counted = omega (arith, c.in_ok-phase.ensures.counted_missing (ap Ok c.in_default.is), next);
@@ -31,34 +39,34 @@ places-preserved g c =
       same = c.read_at.ensures.same ∙ i.same;
       faults = omega (arith, c.read_at.ensures.faults, i.faults);
       local = c.read_at.ensures.local ∙ i.local;
-      extends = λ t. and_more (i.extends t) i.same (c.read_at.ensures.extends t);
-      empty = λ a within t.
-          up_to (λ b. AtOwnStep (D.process c.args.dir.now) (D.trace c.args.dir.now) (D.trace c.read_at.new.dir) (λ s. stands s.namespace (pod_spot c.args.pod b) ≡ false)) c.places.area a
-          (λ b before. at_before (i.empty b before t) i.same (c.read_at.ensures.extends t))
-          (at_after (i.extends t) i.same (subst named c.name-name.ensures.text (rw c.in_default.is at (c.in_ok-phase.ensures.there t))))
-          (omega (arith, next));
+      extends = λ t. and_more (i.extends t) i.same (extends_wider (look_wider (spot_eq (record { area = c.places.area; name = c.name-name.result })) (is_pod_spot c.args.pod) (λ here is. pod_spot_only c.args.pod (record { area = c.places.area; name = c.name-name.result }) here i.below c.name-name.ensures.text is)) (c.read_at.ensures.extends t));
+      empty = λ t.
+          subst (λ (areas : List Area). LeftOut me old new c.args.pod areas) (sym (next_before c.places.area c.in-Some-next.next c.in-Some-next.ensures))
+          (and_left_out c.args.pod me (shown c.places.dir).process old now new c.places.area (stages_before c.places.area) (i.empty t) i.same (subst named c.name-name.ensures.text (rw c.in_default.is at (c.in_ok-phase.ensures.there t))));
     }
 
 pub returns-in-Some-clause-read : goal.returns-in-Some-clause-read
 returns-in-Some-clause-read g c t =
-    let D = g.D.Dir in
+    let shown = g.D.Dir.shown in
     let i = c.places.invariant in
+    let now = (shown c.places.dir).trace in
+    let new = (shown c.read_at.new.dir).trace in
     let e = rw c.in-Some.is at c.in_ok-phase.ensures in
     let spot = λ (text : List ℕ). let at : Spot = record { area = c.places.area; name = text } in at in
-    let told = λ (text : List ℕ). Tells (D.process c.places.dir) (D.trace c.places.dir) (D.trace c.read_at.new.dir) (spot text) c.in-Some.phase in
-    let phased = λ (text : List ℕ). AtOwnStep (D.process c.places.dir) (D.trace c.places.dir) (D.trace c.read_at.new.dir) (HasPhase (spot text) c.in-Some.phase) in
+    let found = subst (λ (text : List ℕ). WasFound (shown c.places.dir).process now new (spot text) c.in-Some.phase) c.name-name.ensures.text (e.found t) in
     record {
       stage = i.below;
-      earlier = λ a before. at_before (i.empty a before t) i.same (c.read_at.ensures.extends t);
-      tells = tells_after (i.extends t) i.same (subst told c.name-name.ensures.text (e.tells t));
-      exact = λ stays. at_after (i.extends t) i.same (subst phased c.name-name.ensures.text (e.phase t stays));
+      between = now;
+      earlier = i.empty t;
+      found = subst (λ (me : ℕ). WasFound me now new (pod_spot c.args.pod c.places.area) c.in-Some.phase) i.same found;
+      exact = λ stays. subst (λ (me : ℕ). AtOwnStep me now new (HasPhase (pod_spot c.args.pod c.places.area) c.in-Some.phase)) i.same (subst (λ (text : List ℕ). AtOwnStep (shown c.places.dir).process now new (HasPhase (spot text) c.in-Some.phase)) c.name-name.ensures.text (e.phase t stays));
     }
 
 pub returns-in_err-phase-clause-extends : goal.returns-in_err-phase-clause-extends
-returns-in_err-phase-clause-extends g c t = and_more (c.places.invariant.extends t) c.places.invariant.same (c.read_at.ensures.extends t)
+returns-in_err-phase-clause-extends g c t = and_more (c.places.invariant.extends t) c.places.invariant.same (extends_wider (look_wider (spot_eq (record { area = c.places.area; name = c.name-name.result })) (is_pod_spot c.args.pod) (λ here is. pod_spot_only c.args.pod (record { area = c.places.area; name = c.name-name.result }) here c.places.invariant.below c.name-name.ensures.text is)) (c.read_at.ensures.extends t))
 
 pub returns-in-Some-clause-extends : goal.returns-in-Some-clause-extends
-returns-in-Some-clause-extends g c t = and_more (c.places.invariant.extends t) c.places.invariant.same (c.read_at.ensures.extends t)
+returns-in-Some-clause-extends g c t = and_more (c.places.invariant.extends t) c.places.invariant.same (extends_wider (look_wider (spot_eq (record { area = c.places.area; name = c.name-name.result })) (is_pod_spot c.args.pod) (λ here is. pod_spot_only c.args.pod (record { area = c.places.area; name = c.name-name.result }) here c.places.invariant.below c.name-name.ensures.text is)) (c.read_at.ensures.extends t))
 
 pub returns-in-None-clause-extends : goal.returns-in-None-clause-extends
-returns-in-None-clause-extends g c t = and_more (c.places.invariant.extends t) c.places.invariant.same (c.read_at.ensures.extends t)
+returns-in-None-clause-extends g c t = and_more (c.places.invariant.extends t) c.places.invariant.same (extends_wider (look_wider (spot_eq (record { area = c.places.area; name = c.name-name.result })) (is_pod_spot c.args.pod) (λ here is. pod_spot_only c.args.pod (record { area = c.places.area; name = c.name-name.result }) here c.places.invariant.below c.name-name.ensures.text is)) (c.read_at.ensures.extends t))
