@@ -5,7 +5,7 @@ use Rattle.std.specs.Prelude.{◌≡◌, ◌⊎◌, ℕ, Bool, true, List, [], O
 abbrev pub IsBegun : Option (List ℕ) → List ℕ → Type 0
 IsBegun file bytes = (bytes ≡ []) ⊎ IsSomeAnd file (λ f. bytes ≡ take (length bytes) f)
 
--- the first bytes of the file; where the reading has ended, the first `most`, or all where it has fewer
-pub record IsFront (most : ℕ) (ended : Bool) (bytes file : List ℕ) : Type 0 where
+-- the first bytes of the file; where the reading has ended, all of them
+pub record IsFront (ended : Bool) (bytes file : List ℕ) : Type 0 where
   pub first : bytes ≡ take (length bytes) file
-  pub whole : ended ≡ true → bytes ≡ take most file
+  pub whole : ended ≡ true → bytes ≡ file

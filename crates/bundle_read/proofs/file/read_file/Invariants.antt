@@ -1,15 +1,21 @@
-use Rattle.std.proofs.Common.{◌≡◌, ◌≤◌, ◌<◌, true, length, vec_len, ◌-◌}
-use Rattle.dir_trait.specs.Bundles.{file_bytes}
+use Rattle.std.proofs.Common.{◌≡◌, ◌≤◌, ◌<◌, ◌+◌, true, length, vec_len, ◌-◌}
+use Rattle.dir_trait.specs.declared.bundle.BundleAction.TheVariants.{Read}
+use Rattle.dir_trait.specs.Bundles.{file_bytes, AsksOnly, request_at}
 use Rattle.bundle_read.specs.Fronts.{IsBegun}
 use Rattle.bundle_read.proofs.file.read_file.Given as goal
 
 abbrev pub invariant-pieces : goal.invariant-pieces
 invariant-pieces g l =
-    (length l.bytes.items ≤ l.most)
-    × (0 < vec_len l.room)
-    × (g.B.Bundle.faults l.initial.bundle ≤ g.B.Bundle.faults l.bundle)
-    × (g.B.Bundle.observed ≡ true → g.B.Bundle.tree l.bundle ≡ g.B.Bundle.tree l.initial.bundle)
-    × (g.B.Bundle.observed ≡ true → IsBegun (file_bytes (g.B.Bundle.tree l.initial.bundle l.path)) l.bytes.items)
+    let shown = g.B.Bundle.shown in
+    record {
+      within : length l.bytes.items ≤ l.most;
+      room : 0 < vec_len l.room;
+      faults : (shown l.initial.bundle).faults ≤ (shown l.bundle).faults;
+      given : (shown l.bundle).given ≤ (shown l.initial.bundle).given + length l.bytes.items;
+      same : g.B.Bundle.observed ≡ true → (shown l.bundle).tree ≡ (shown l.initial.bundle).tree;
+      asked : g.B.Bundle.observed ≡ true → AsksOnly (request_at Read l.path) (shown l.initial.bundle).asked (shown l.bundle).asked;
+      begun : g.B.Bundle.observed ≡ true → IsBegun (file_bytes ((shown l.initial.bundle).tree l.path)) l.bytes.items;
+    }
 
 abbrev pub decreases-pieces : goal.decreases-pieces
 decreases-pieces g l = l.most - length l.bytes.items
