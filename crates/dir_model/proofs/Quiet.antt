@@ -1,4 +1,5 @@
--- Where nobody else steps, looks change no folder, and not whose lock is held exclusively.
+-- Where nobody else steps, a process that begins, looks and finishes changes no folder, and not whose lock is held
+-- exclusively.
 use Rattle.std.proofs.Common.{◌≡◌, ℕ, Bool, true, false, not, ◌&&◌, ◌||◌, ◌==◌, cond, Some, List, [], ◌∷◌, ◌++◌, map, filter, refl, sym, ap, subst, ◌∙◌, append_assoc}
 use Rattle.std.specs.List.{list_any, AllByRecursion}
 use Rattle.dir_model.specs.declared.event.Event.{Event}
@@ -8,17 +9,17 @@ use Rattle.dir_model.specs.declared.spot.Spot.{Spot}
 use Rattle.dir_model.specs.declared.spot.Which.{Which}
 use Rattle.dir_model.specs.declared.spot.Mode.TheVariants.{Shared}
 use Rattle.dir_model.specs.declared.request.Request.{Request}
-use Rattle.dir_model.specs.declared.request.Request.TheVariants.{Open, TryLock, Close, Kill}
+use Rattle.dir_model.specs.declared.request.Request.TheVariants.{Begin, Open, TryLock, Close, Finish, Kill}
 use Rattle.dir_model.specs.declared.request.Reply.{Reply}
 use Rattle.dir_model.specs.declared.request.Reply.TheVariants.{Done, Opened, Refused}
 use Rattle.dir_model.specs.Locks.{is_handle, is_exclusive, is_own, is_folder, owns}
 use Rattle.dir_model.specs.State.{Namespace, DirState, empty_state}
-use Rattle.dir_model.specs.Trace.{state_after, state_next, states_next, namespace_replied, locked, opened}
+use Rattle.dir_model.specs.Trace.{state_after, state_next, states_next, namespace_replied, without_process, locked, opened}
 use Rattle.dir_model.specs.Replies.{is_look}
-use Rattle.dir_model.specs.Calls.{is_foreign, is_kill, Extends, AtOwnStep}
+use Rattle.dir_model.specs.Calls.{is_foreign, is_begin, is_finish, is_kill, Extends, AtOwnStep}
 use Rattle.dir_model.specs.Quiet.{Quiet, OwnsNothing, SameNamespace}
 use Rattle.dir_model.proofs.Lists.{and_left, and_false, same_self, any_last_not, all_left, all_right, all_push, all_map, all_filter, same_rest}
-use Rattle.dir_model.proofs.Chains.{states_next-append}
+use Rattle.dir_model.proofs.Chains.{states_next-append, extends_wider}
 
 abbrev Idle : ℕ → Opening → Type 0
 Idle me o = (o.process == me) ≡ true → is_exclusive o.lock ≡ false
@@ -79,57 +80,93 @@ look_same me w (Close handle) Done h idle = record {
 }
 look_same me w _ Done h idle = cc
 
--- a process that owns nothing is killed
-kill_same : (me : ℕ) (w : Namespace) (request : Request) (reply : Reply) → is_kill request ≡ true → OwnsNothing me w → SameNamespace me w (namespace_replied w me request reply)
-kill_same me w Kill Done h idle = record {
+-- a process that owns nothing comes to its end
+over_same : (me : ℕ) (w : Namespace) → OwnsNothing me w → SameNamespace me w (without_process w me)
+over_same me w idle = record {
   folders = refl;
   owned = λ k. drop_all me k (λ o. not (o.process == me)) (λ o it. not_false (o.process == me) it) w.openings idle;
   mine = all_filter (Idle me) (λ o. not (o.process == me)) w.openings idle;
 }
+
+kill_same : (me : ℕ) (w : Namespace) (request : Request) (reply : Reply) → is_kill request ≡ true → OwnsNothing me w → SameNamespace me w (namespace_replied w me request reply)
+kill_same me w Kill Done h idle = over_same me w idle
 kill_same me w Kill (Opened handle) h idle = same_as_it_is me w idle
 kill_same me w Kill (Refused error left) h idle = same_as_it_is me w idle
 kill_same me w _ reply h idle = cc
 
+finish_same : (me : ℕ) (w : Namespace) (request : Request) (reply : Reply) → is_finish request ≡ true → OwnsNothing me w → SameNamespace me w (namespace_replied w me request reply)
+finish_same me w Finish Done h idle = over_same me w idle
+finish_same me w Finish (Opened handle) h idle = same_as_it_is me w idle
+finish_same me w Finish (Refused error left) h idle = same_as_it_is me w idle
+finish_same me w _ reply h idle = cc
+
+begin_same : (me : ℕ) (w : Namespace) (request : Request) (reply : Reply) → is_begin request ≡ true → OwnsNothing me w → SameNamespace me w (namespace_replied w me request reply)
+begin_same me w (Begin intent) Done h idle = record { folders = refl; owned = λ k. refl; mine = idle }
+begin_same me w (Begin intent) (Opened handle) h idle = same_as_it_is me w idle
+begin_same me w (Begin intent) (Refused error left) h idle = same_as_it_is me w idle
+begin_same me w _ reply h idle = cc
+
+-- a process that only looks between its begin and its finish
+abbrev pub is_harmless : Request → Bool
+is_harmless request = is_begin request || (is_look request || is_finish request)
+
+harmless_same : (me : ℕ) (w : Namespace) (request : Request) (reply : Reply) → is_harmless request ≡ true → OwnsNothing me w → SameNamespace me w (namespace_replied w me request reply)
+harmless_same me w request reply h idle = by (is_begin request) (is_look request) refl refl h
+  where
+    by : (begin look : Bool) → is_begin request ≡ begin → is_look request ≡ look → (begin || (look || is_finish request)) ≡ true → SameNamespace me w (namespace_replied w me request reply)
+    by true look b l h = begin_same me w request reply b idle
+    by false true b l h = look_same me w request reply l idle
+    by false false b l h = finish_same me w request reply h idle
+
+pub look_is_harmless : (r : Request) → is_look r ≡ true → is_harmless r ≡ true
+look_is_harmless r h = by (is_begin r) (is_look r) h
+  where
+    by : (begin look : Bool) → look ≡ true → (begin || (look || is_finish r)) ≡ true
+    by true look h = refl
+    by false true h = refl
+    by false false h = cc
+
 same_both : (me : ℕ) (a b c : Namespace) → SameNamespace me a b → SameNamespace me b c → SameNamespace me a c
 same_both me a b c x y = record { folders = y.folders ∙ x.folders; owned = λ k. y.owned k ∙ x.owned k; mine = y.mine }
 
--- an own step is a look, or its kill
-own_step : (me p : ℕ) (kill look : Bool) → p ≡ me → ((not (p == me) || kill) || look) ≡ true → look ≡ false → kill ≡ true
-own_step me p kill look same asked other = by (p == me) kill (ap (λ (q : ℕ). q == me) same ∙ same_self me) asked
+-- an own step is harmless, or its kill
+own_step : (me p : ℕ) (kill harmless : Bool) → p ≡ me → ((not (p == me) || kill) || harmless) ≡ true → harmless ≡ false → kill ≡ true
+own_step me p kill harmless same asked other = by (p == me) kill (ap (λ (q : ℕ). q == me) same ∙ same_self me) asked
   where
-    by : (b k : Bool) → b ≡ true → ((not b || k) || look) ≡ true → k ≡ true
+    by : (b k : Bool) → b ≡ true → ((not b || k) || harmless) ≡ true → k ≡ true
     by true true is h = refl
     by true false is h = let clash : true ≡ false = sym h ∙ other in cc
     by false k is h = cc
 
-pub looks_same : (me : ℕ) (s : DirState) (es : List Event) → AllByRecursion (λ e. e.process ≡ me) es → AllByRecursion (λ e. (is_foreign me e || is_look e.request) ≡ true) es → OwnsNothing me s.namespace → SameNamespace me s.namespace (states_next s es).namespace
-looks_same me s [] own asked idle = same_as_it_is me s.namespace idle
-looks_same me s (e ∷ es) own asked idle =
+pub harmless_all : (me : ℕ) (s : DirState) (es : List Event) → AllByRecursion (λ e. e.process ≡ me) es → AllByRecursion (λ e. (is_foreign me e || is_harmless e.request) ≡ true) es → OwnsNothing me s.namespace → SameNamespace me s.namespace (states_next s es).namespace
+harmless_all me s [] own asked idle = same_as_it_is me s.namespace idle
+harmless_all me s (e ∷ es) own asked idle =
     let n : Namespace = s.namespace in
-    let same : SameNamespace me n (namespace_replied n me e.request e.reply) = by (is_look e.request) refl in
+    let same : SameNamespace me n (namespace_replied n me e.request e.reply) = by (is_harmless e.request) refl in
     let next : SameNamespace me n (namespace_replied n e.process e.request e.reply) = subst (λ (q : ℕ). SameNamespace me n (namespace_replied n q e.request e.reply)) (sym own.0) same in
-    same_both me n (namespace_replied n e.process e.request e.reply) (states_next (state_next s e) es).namespace next (looks_same me (state_next s e) es own.1 asked.1 next.mine)
+    same_both me n (namespace_replied n e.process e.request e.reply) (states_next (state_next s e) es).namespace next (harmless_all me (state_next s e) es own.1 asked.1 next.mine)
   where
-    by : (b : Bool) → is_look e.request ≡ b → SameNamespace me s.namespace (namespace_replied s.namespace me e.request e.reply)
-    by true is = look_same me s.namespace e.request e.reply is idle
-    by false is = kill_same me s.namespace e.request e.reply (own_step me e.process (is_kill e.request) (is_look e.request) own.0 asked.0 is) idle
+    by : (b : Bool) → is_harmless e.request ≡ b → SameNamespace me s.namespace (namespace_replied s.namespace me e.request e.reply)
+    by true is = harmless_same me s.namespace e.request e.reply is idle
+    by false is = kill_same me s.namespace e.request e.reply (own_step me e.process (is_kill e.request) (is_harmless e.request) own.0 asked.0 is) idle
 
 -- what held at an own event held of a state that is the first one, as to folders and owners
 pub at_quiet : {me : ℕ} {old new : List Event} (P : DirState → Type 0) → AtOwnStep me old new P → Extends is_look me old new → Quiet me old new → OwnsNothing me (state_after old).namespace → (s : DirState) × SameNamespace me (state_after old).namespace s.namespace × P s
-at_quiet {me} {old} {new} P at ext quiet idle =
+at_quiet {me} {old} {new} P at looks quiet idle =
+    let ext : Extends is_harmless me old new = extends_wider look_is_harmless looks in
     let es = at.later ++ at.step ∷ [] in
     let whole : new ≡ old ++ (es ++ at.rest) = at.ends ∙ (ap (λ h. (h ++ at.step ∷ []) ++ at.rest) at.begins ∙ simp append_assoc) in
     let own : AllByRecursion (λ e. e.process ≡ me) es = all_left _ es at.rest (subst (λ (l : List Event). AllByRecursion (λ e. e.process ≡ me) l) (same_rest old quiet.more (es ++ at.rest) (sym quiet.grown ∙ whole)) quiet.own) in
-    let asked : AllByRecursion (λ e. (is_foreign me e || is_look e.request) ≡ true) es = all_left _ es at.rest (subst (λ (l : List Event). AllByRecursion (λ e. (is_foreign me e || is_look e.request) ≡ true) l) (same_rest old ext.more (es ++ at.rest) (sym ext.grown ∙ whole)) ext.asked) in
+    let asked : AllByRecursion (λ e. (is_foreign me e || is_harmless e.request) ≡ true) es = all_left _ es at.rest (subst (λ (l : List Event). AllByRecursion (λ e. (is_foreign me e || is_harmless e.request) ≡ true) l) (same_rest old ext.more (es ++ at.rest) (sym ext.grown ∙ whole)) ext.asked) in
     let here : state_after (at.before ++ at.step ∷ []) ≡ states_next (state_after old) es = ap (λ h. state_after (h ++ at.step ∷ [])) at.begins ∙ (ap state_after (append_assoc old at.later (at.step ∷ [])) ∙ states_next-append empty_state old es) in
-    (state_after (at.before ++ at.step ∷ []), subst (λ (s : DirState). SameNamespace me (state_after old).namespace s.namespace) (sym here) (looks_same me (state_after old) es own asked idle), at.holds)
+    (state_after (at.before ++ at.step ∷ []), subst (λ (s : DirState). SameNamespace me (state_after old).namespace s.namespace) (sym here) (harmless_all me (state_after old) es own asked idle), at.holds)
 
 -- and it is so in the end
-pub end_quiet : {me : ℕ} {old new : List Event} → Extends is_look me old new → Quiet me old new → OwnsNothing me (state_after old).namespace → SameNamespace me (state_after old).namespace (state_after new).namespace
+pub end_quiet : {me : ℕ} {old new : List Event} → Extends is_harmless me old new → Quiet me old new → OwnsNothing me (state_after old).namespace → SameNamespace me (state_after old).namespace (state_after new).namespace
 end_quiet {me} {old} {new} ext quiet idle =
     let own : AllByRecursion (λ e. e.process ≡ me) ext.more = subst (λ (l : List Event). AllByRecursion (λ e. e.process ≡ me) l) (same_rest old quiet.more ext.more (sym quiet.grown ∙ ext.grown)) quiet.own in
     let here : state_after new ≡ states_next (state_after old) ext.more = ap state_after ext.grown ∙ states_next-append empty_state old ext.more in
-    subst (λ (s : DirState). SameNamespace me (state_after old).namespace s.namespace) (sym here) (looks_same me (state_after old) ext.more own ext.asked idle)
+    subst (λ (s : DirState). SameNamespace me (state_after old).namespace s.namespace) (sym here) (harmless_all me (state_after old) ext.more own ext.asked idle)
 
 -- quiet in the middle too
 pub quiet_within : {asks asks' : Request → Bool} {me : ℕ} {a b c d : List Event} → Quiet me a d → Extends asks me a b → Extends asks' me c d → (more : List Event) → c ≡ b ++ more → Quiet me b c

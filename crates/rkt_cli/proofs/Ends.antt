@@ -5,9 +5,9 @@ use Rattle.dir_model.specs.Causes.{Rose}
 use Rattle.rkt_cli.specs.declared.refusal.Refusal.{Refusal}
 use Rattle.rkt_cli.specs.declared.refusal.Refusal.TheVariants.{Usage, NoPod, BadManifest, DirFault, BundleFault, OutFault, NoMemory, NoFile}
 use Rattle.rkt_cli.specs.Texts.{status_of}
-use Rattle.rkt_cli.specs.Moments.{SinkAt, Outcome}
-use Rattle.rkt_cli.specs.Runs.{End, Printed, end_status}
-use Rattle.rkt_cli.specs.Rows.{IsStatus}
+use Rattle.rkt_cli.specs.Moments.{SinkSeen, Outcome}
+use Rattle.rkt_cli.specs.Runs.{End, Unwritten, Printed, end_status}
+use Rattle.rkt_cli.specs.Statuses.{IsStatus}
 
 pub absurd_number : {X : Type 0} → (m n : ℕ) → m ≡ n → (m == n) ≡ false → X
 absurd_number m n h apart = absurd (grind (arith, nat_tests))
@@ -76,14 +76,26 @@ refusal_status OutFault = refl
 refusal_status NoMemory = refl
 refusal_status (NoFile path) = refl
 
--- where it ended so, the outcome was that refusal, or its text wasn't written
-abbrev pub Unwritten : Outcome → SinkAt → SinkAt → Refusal → Type 0
-Unwritten o b a r = (text : List ℕ) × (o ≡ Ok text) × (((r ≡ OutFault) × Rose b.faults a.faults) ⊎ (r ≡ NoMemory))
-
 abbrev refusal_in : End → Refusal → Refusal
 refusal_in (Ok done) other = other
 refusal_in (Err r) other = r
 
-pub from_end : (o : Outcome) (b a : SinkAt) (end : End) (r : Refusal) → Printed o b a end → end ≡ Err r → (o ≡ Err r) ⊎ Unwritten o b a r
-from_end (Err x) b a end r p is = inl (ap (λ (e : End). Err (refusal_in e r)) (sym (p.refused.0) ∙ is))
-from_end (Ok text) b a end r p is = inr (text, refl, subst (λ (e : End). IfErr e (λ r. ((r ≡ OutFault) × Rose b.faults a.faults) ⊎ (r ≡ NoMemory))) is (p.cause text refl))
+-- where it ended so, the outcome was that refusal, or its text wasn't written
+pub from_end : (o : Outcome) (old new : SinkSeen) (end : End) (r : Refusal) → Printed o old new end → end ≡ Err r → (o ≡ Err r) ⊎ Unwritten r old new
+from_end (Err x) old new end r p is = inl (ap (λ (e : End). Err (refusal_in e r)) (sym (p.refused.0) ∙ is))
+from_end (Ok text) old new end r p is = inr (subst (λ (e : End). IfErr e (λ r. Unwritten r old new)) is (p.cause text refl))
+
+-- the refusals of an output
+abbrev pub is_of_output : Refusal → Bool
+is_of_output OutFault = true
+is_of_output NoMemory = true
+is_of_output _ = false
+
+-- the others are the command's
+pub from_command : (o : Outcome) (old new : SinkSeen) (end : End) (r : Refusal) → Printed o old new end → end ≡ Err r → is_of_output r ≡ false → o ≡ Err r
+from_command o old new end r p is other = by (from_end o old new end r p is)
+  where
+    by : (o ≡ Err r) ⊎ Unwritten r old new → o ≡ Err r
+    by (inl e) = e
+    by (inr (inl x)) = let clash : true ≡ false = sym (ap is_of_output x.0) ∙ other in cc
+    by (inr (inr x)) = let clash : true ≡ false = sym (ap is_of_output x.0) ∙ other in cc

@@ -11,28 +11,28 @@ use Rattle.rkt_cli.specs.declared.line.Line.{Line}
 use Rattle.rkt_cli.specs.declared.line.Line.TheVariants.{Validate}
 use Rattle.rkt_cli.specs.declared.refusal.Refusal.{Refusal}
 use Rattle.rkt_cli.specs.declared.refusal.Refusal.TheVariants.{Usage, NoPod, BadManifest, DirFault, BundleFault, OutFault, NoMemory, NoFile}
-use Rattle.rkt_cli.specs.Moments.{DirAt, BundleAt, Outcome, outside_at}
-use Rattle.rkt_cli.specs.Ends.{OwnEnd}
-use Rattle.rkt_cli.specs.Validate.{ValidateDoes, IsRefusalOf, validate_refusal, manifest_outcome, most_read}
+use Rattle.rkt_cli.specs.Moments.{DirSeen, BundleSeen, Outside, Outcome}
+use Rattle.rkt_cli.specs.Ends.{is_own_end}
+use Rattle.rkt_cli.specs.Validate.{ValidateSays, ReadsFile, IsRefusalOf, validate_refusal, manifest_outcome, most_read}
 use Rattle.rkt_cli.specs.Commands.{may}
-use Rattle.rkt_cli.specs.Runs.{Did}
+use Rattle.rkt_cli.specs.Runs.{CommandRan}
 
 front_of : (bytes : List ℕ) (file : Option (List ℕ)) → IsSomeAnd file (λ f. bytes ≡ take most_read f) → Some bytes ≡ option_map (take most_read) file
 front_of bytes None read = absurd read
 front_of bytes (Some f) read = ap Some read
 
-pub was_read : (path bytes : List ℕ) (b : BundleAt) (o : Outcome) → (o ≡ manifest_outcome (any_manifest bytes)) ⊎ (o ≡ Err NoMemory) → (b.observed ≡ true → IsSomeAnd (file_bytes (b.tree path)) (λ f. bytes ≡ take most_read f)) → OwnEnd o ≡ true → ValidateDoes path b o
-was_read path bytes b o (inl e) read own = record { found = Some bytes; told = λ t. front_of bytes (file_bytes (b.tree path)) (read t); is = e }
-was_read path bytes b o (inr e) read own = let clash : true ≡ false = sym own ∙ ap OwnEnd e in cc
+pub was_read : (path bytes : List ℕ) (old : BundleSeen) (o : Outcome) → (o ≡ manifest_outcome (any_manifest bytes)) ⊎ (o ≡ Err NoMemory) → (old.observed ≡ true → IsSomeAnd (file_bytes (old.tree path)) (λ f. bytes ≡ take most_read f)) → is_own_end o ≡ true → ValidateSays path old o
+was_read path bytes old o (inl e) read own = record { found = Some bytes; told = λ t. front_of bytes (file_bytes (old.tree path)) (read t); is = e }
+was_read path bytes old o (inr e) read own = let clash : true ≡ false = sym own ∙ ap is_own_end e in cc
 
-refused_end : (r refusal : Refusal) {X : Type 0} → r ≡ refusal → OwnEnd (Err r) ≡ true → OwnEnd (Err refusal) ≡ false → X
-refused_end r refusal e own other = let clash : true ≡ false = sym own ∙ (ap (λ (x : Refusal). OwnEnd (Err x)) e ∙ other) in cc
+refused_end : (r refusal : Refusal) {X : Type 0} → r ≡ refusal → is_own_end (Err r) ≡ true → is_own_end (Err refusal) ≡ false → X
+refused_end r refusal e own other = let clash : true ≡ false = sym own ∙ (ap (λ (x : Refusal). is_own_end (Err x)) e ∙ other) in cc
 
-pub was_refused : (path : List ℕ) (b : BundleAt) (error : BundleError) (r : Refusal) → IsRefusalOf path error r → (error ≡ Missing → b.observed ≡ true → file_bytes (b.tree path) ≡ None) → OwnEnd (Err r) ≡ true → ValidateDoes path b (Err r)
-was_refused path b Missing r (inl e) none own = record { found = None; told = λ t. sym (ap (option_map (take most_read)) (none refl t)); is = ap Err e }
-was_refused path b Missing r (inr e) none own = refused_end r NoMemory e own refl
-was_refused path b Failed r e none own = refused_end r BundleFault e own refl
-was_refused path b bundle_error.NoMemory r e none own = refused_end r NoMemory e own refl
+pub was_refused : (path : List ℕ) (old : BundleSeen) (error : BundleError) (r : Refusal) → IsRefusalOf path error r → (error ≡ Missing → old.observed ≡ true → file_bytes (old.tree path) ≡ None) → is_own_end (Err r) ≡ true → ValidateSays path old (Err r)
+was_refused path old Missing r (inl e) none own = record { found = None; told = λ t. sym (ap (option_map (take most_read)) (none refl t)); is = ap Err e }
+was_refused path old Missing r (inr e) none own = refused_end r NoMemory e own refl
+was_refused path old Failed r e none own = refused_end r BundleFault e own refl
+was_refused path old bundle_error.NoMemory r e none own = refused_end r NoMemory e own refl
 
 never_dir : (o : Outcome) {X : Type 0} → IfErr o (λ r. validate_refusal r ≡ true) → IsErrOf o DirFault → X
 never_dir (Ok text) known is = cc
@@ -52,17 +52,22 @@ may_end : (path : List ℕ) (o : Outcome) → IfErr o (λ r. validate_refusal r 
 may_end path (Ok text) known = known
 may_end path (Err r) known = may_refuse path r known
 
-pub validate_did : (line : Line) (path : List ℕ) (dir : DirAt) (b a : BundleAt) (o : Outcome) → line ≡ Validate path → b.faults ≤ a.faults → (IsErrOf o BundleFault → Rose b.faults a.faults) → IfErr o (λ r. validate_refusal r ≡ true) → (OwnEnd o ≡ true → ValidateDoes path b o) → Did line (outside_at dir b) (outside_at dir a) o
-validate_did line path dir b a o is faults cause known does = subst (λ (l : Line). Did l (outside_at dir b) (outside_at dir a) o) (sym is) did
+abbrev beside : DirSeen → BundleSeen → Outside
+beside dir bundle = record { dir = dir; bundle = bundle }
+
+pub validate_ran : (line : Line) (path : List ℕ) (dir : DirSeen) (old new : BundleSeen) (o : Outcome) → line ≡ Validate path → old.faults ≤ new.faults → (IsErrOf o BundleFault → Rose old.faults new.faults) → IfErr o (λ r. validate_refusal r ≡ true) → ReadsFile path old new → (is_own_end o ≡ true → ValidateSays path old o) → CommandRan line (beside dir old) (beside dir new) o
+validate_ran line path dir old new o is faults cause known reads says = subst (λ (l : Line). CommandRan l (beside dir old) (beside dir new) o) (sym is) ran
   where
-    did : Did (Validate path) (outside_at dir b) (outside_at dir a) o
-    did = record {
+    ran : CommandRan (Validate path) (beside dir old) (beside dir new) o
+    ran = record {
       same = refl;
+      local = refl;
       faults = omega arith;
       cause = never_dir o known;
       bundle_faults = faults;
       bundle_cause = cause;
       refusals = may_end path o known;
       extends = λ t. nothing_yet;
-      does = does;
+      reads = reads;
+      says = says;
     }

@@ -4,5 +4,5 @@ pub mod Files
 pub mod Ends
 pub mod Sessions
 pub mod Outcomes
-pub mod Rows
+pub mod Statuses
 pub mod QuietRun

@@ -13,12 +13,12 @@ use Rattle.rkt_cli.specs.declared.line.Line.TheVariants.{Validate}
 use Rattle.rkt_cli.specs.declared.refusal.Refusal.{Refusal}
 use Rattle.rkt_cli.specs.declared.refusal.Refusal.TheVariants.{BadManifest, DirFault, BundleFault, OutFault, NoMemory, NoFile}
 use Rattle.rkt_cli.specs.Texts.{status_of, valid_text}
-use Rattle.rkt_cli.specs.Moments.{Outside, BundleAt, SinkAt, Outcome}
-use Rattle.rkt_cli.specs.Ends.{OwnEnd}
-use Rattle.rkt_cli.specs.Validate.{ValidateDoes, file_outcome, manifest_outcome, most_read, sequential_validate}
+use Rattle.rkt_cli.specs.Moments.{Outside, Moment, BundleSeen, SinkSeen, Outcome}
+use Rattle.rkt_cli.specs.Ends.{is_own_end}
+use Rattle.rkt_cli.specs.Validate.{ValidateSays, file_outcome, manifest_outcome, most_read, sequential_validate}
 use Rattle.rkt_cli.specs.Commands.{may}
-use Rattle.rkt_cli.specs.Runs.{Performs, Complained, End, Printed, Reported, end_status}
-use Rattle.rkt_cli.specs.Rows.{IsUnreadable, IsAnswer}
+use Rattle.rkt_cli.specs.Runs.{Performs, Complained, End, Unwritten, Printed, Reported, end_status}
+use Rattle.rkt_cli.specs.Statuses.{IsUnreadable, IsAnswer}
 use Rattle.rkt_cli.proofs.Judged.{judged_so, judged_whole}
 
 pub rose_wider : (a b c d : ℕ) → a ≤ b → Rose b c → d ≡ c → Rose a d
@@ -27,46 +27,49 @@ rose_wider a b c d ab rose dc = omega arith
 pub rose_between : (a b c d : ℕ) → b ≡ a → Rose b c → d ≡ c → Rose a d
 rose_between a b c d ba rose dc = omega arith
 
-pub fault_cause : (line : Line) (intent : Option Intent) (b a : Outside) (o : Outcome) → Performs line intent b a o → o ≡ Err DirFault → Rose b.dir.faults a.dir.faults
-fault_cause line (Some intent) b a o (inl s) is = rose_wider b.dir.faults s.begun.dir.faults s.ended.dir.faults a.dir.faults s.risen (subst (λ (o : Outcome). IsErrOf o DirFault → Rose s.begun.dir.faults s.ended.dir.faults) is s.did.cause refl) s.faults
-fault_cause line (Some intent) b a o (inr n) is = let e : Err DirFault ≡ Err NoMemory = sym is ∙ n.is in cc
-fault_cause line None b a o p is = subst (λ (o : Outcome). IsErrOf o DirFault → Rose b.dir.faults a.dir.faults) is p.did.cause refl
+pub fault_cause : (line : Line) (intent : Option Intent) (old new : Outside) (o : Outcome) → Performs line intent old new o → o ≡ Err DirFault → Rose old.dir.faults new.dir.faults
+fault_cause line (Some intent) old new o (inl s) is = rose_wider old.dir.faults s.begun.dir.faults s.ended.dir.faults new.dir.faults s.risen (subst (λ (o : Outcome). IsErrOf o DirFault → Rose s.begun.dir.faults s.ended.dir.faults) is s.ran.cause refl) s.faults
+fault_cause line (Some intent) old new o (inr n) is = let e : Err DirFault ≡ Err NoMemory = sym is ∙ n.is in cc
+fault_cause line None old new o p is = subst (λ (o : Outcome). IsErrOf o DirFault → Rose old.dir.faults new.dir.faults) is p.ran.cause refl
 
-pub bundle_cause : (line : Line) (intent : Option Intent) (b a : Outside) (o : Outcome) → Performs line intent b a o → o ≡ Err BundleFault → Rose b.bundle.faults a.bundle.faults
-bundle_cause line (Some intent) b a o (inl s) is = rose_between b.bundle.faults s.begun.bundle.faults s.ended.bundle.faults a.bundle.faults (ap (λ (x : BundleAt). x.faults) s.bundle_before) (subst (λ (o : Outcome). IsErrOf o BundleFault → Rose s.begun.bundle.faults s.ended.bundle.faults) is s.did.bundle_cause refl) (ap (λ (x : BundleAt). x.faults) s.bundle_after)
-bundle_cause line (Some intent) b a o (inr n) is = let e : Err BundleFault ≡ Err NoMemory = sym is ∙ n.is in cc
-bundle_cause line None b a o p is = subst (λ (o : Outcome). IsErrOf o BundleFault → Rose b.bundle.faults a.bundle.faults) is p.did.bundle_cause refl
+pub bundle_cause : (line : Line) (intent : Option Intent) (old new : Outside) (o : Outcome) → Performs line intent old new o → o ≡ Err BundleFault → Rose old.bundle.faults new.bundle.faults
+bundle_cause line (Some intent) old new o (inl s) is = rose_between old.bundle.faults s.begun.bundle.faults s.ended.bundle.faults new.bundle.faults (ap (λ (x : BundleSeen). x.faults) s.bundle_before) (subst (λ (o : Outcome). IsErrOf o BundleFault → Rose s.begun.bundle.faults s.ended.bundle.faults) is s.ran.bundle_cause refl) (ap (λ (x : BundleSeen). x.faults) s.bundle_after)
+bundle_cause line (Some intent) old new o (inr n) is = let e : Err BundleFault ≡ Err NoMemory = sym is ∙ n.is in cc
+bundle_cause line None old new o p is = subst (λ (o : Outcome). IsErrOf o BundleFault → Rose old.bundle.faults new.bundle.faults) is p.ran.bundle_cause refl
 
-pub refusals_of : (line : Line) (intent : Option Intent) (b a : Outside) (o : Outcome) (r : Refusal) → Performs line intent b a o → o ≡ Err r → may line r ≡ true
-refusals_of line (Some intent) b a o r (inl s) is = subst (λ (o : Outcome). IfErr o (λ r. may line r ≡ true)) is s.did.refusals
-refusals_of line (Some intent) b a o r (inr n) is = subst (λ (o : Outcome). IfErr o (λ r. may line r ≡ true)) (sym n.is ∙ is) refl
-refusals_of line None b a o r p is = subst (λ (o : Outcome). IfErr o (λ r. may line r ≡ true)) is p.did.refusals
+pub refusals_of : (line : Line) (intent : Option Intent) (old new : Outside) (o : Outcome) (r : Refusal) → Performs line intent old new o → o ≡ Err r → may line r ≡ true
+refusals_of line (Some intent) old new o r (inl s) is = subst (λ (o : Outcome). IfErr o (λ r. may line r ≡ true)) is s.ran.refusals
+refusals_of line (Some intent) old new o r (inr n) is = subst (λ (o : Outcome). IfErr o (λ r. may line r ≡ true)) (sym n.is ∙ is) refl
+refusals_of line None old new o r p is = subst (λ (o : Outcome). IfErr o (λ r. may line r ≡ true)) is p.ran.refusals
 
 abbrev printing : List ℕ → Outcome
 printing text = Ok text
 
+abbrev pub WasAnswered : Outcome → ℕ → Moment → Moment → Type 0
+WasAnswered o status old new = (status ≡ 14) ⊎ ((status ≡ 12) × IsOk o × Rose old.out.faults new.out.faults) ⊎ IsAnswer o status old new
+
 -- what was written is the outcome's, or a part of its text
-pub answered : (o : Outcome) (out_b out_a err_b err_a : SinkAt) (end : End) (status : ℕ) → Printed o out_b out_a end → Reported end err_b err_a → status ≡ end_status end → (status ≡ 14) ⊎ ((status ≡ 12) × IsOk o × Rose out_b.faults out_a.faults) ⊎ IsAnswer o status out_b out_a err_b err_a
-answered (Err r) out_b out_a err_b err_a end status p said is =
-    inr (inr (is ∙ ap end_status p.refused.0, p.refused.1, subst (λ (e : End). Reported e err_b err_a) p.refused.0 said))
-answered (Ok text) out_b out_a err_b err_a (Ok done) status p said is =
+pub answered : (o : Outcome) (old new : Moment) (end : End) (status : ℕ) → Printed o old.out new.out end → Reported end old.err new.err → status ≡ end_status end → WasAnswered o status old new
+answered (Err r) old new end status p said is =
+    inr (inr (is ∙ ap end_status p.refused.0, p.refused.1, subst (λ (e : End). Reported e old.err new.err) p.refused.0 said))
+answered (Ok text) old new (Ok done) status p said is =
     let d = p.done refl in
     let same : d.0 ≡ text = let e : Ok text ≡ Ok d.0 = d.1 in cc in
-    inr (inr (is, λ t. d.2 t ∙ ap (λ (x : List ℕ). out_b.bytes ++ x) same, said))
-answered (Ok text) out_b out_a err_b err_a (Err r) status p said is = by (p.cause text refl)
+    inr (inr (is, λ t. d.2 t ∙ ap (λ (x : List ℕ). old.out.bytes ++ x) same, said))
+answered (Ok text) old new (Err r) status p said is = by (p.cause text refl)
   where
-    by : ((r ≡ OutFault) × Rose out_b.faults out_a.faults) ⊎ (r ≡ NoMemory) → (status ≡ 14) ⊎ ((status ≡ 12) × IsOk (printing text) × Rose out_b.faults out_a.faults) ⊎ IsAnswer (Ok text) status out_b out_a err_b err_a
+    by : Unwritten r old.out new.out → WasAnswered (printing text) status old new
     by (inl x) = inr (inl (is ∙ ap status_of x.0, refl, x.1))
-    by (inr x) = inl (is ∙ ap status_of x)
+    by (inr x) = inl (is ∙ ap status_of x.0)
 
 -- the file of `validate`
-pub does_validate : (path : List ℕ) (intent : Option Intent) (b a : Outside) (o : Outcome) → OwnEnd o ≡ true → Performs (Validate path) intent b a o → ValidateDoes path b.bundle o
-does_validate path None b a o own p = p.did.does own
-does_validate path (Some intent) b a o own (inl s) = subst (λ (x : BundleAt). ValidateDoes path x o) s.bundle_before (s.did.does own)
-does_validate path (Some intent) b a o own (inr n) = let clash : true ≡ false = sym own ∙ ap OwnEnd n.is in cc
+pub does_validate : (path : List ℕ) (intent : Option Intent) (old new : Outside) (o : Outcome) → is_own_end o ≡ true → Performs (Validate path) intent old new o → ValidateSays path old.bundle o
+does_validate path None old new o own p = p.ran.says own
+does_validate path (Some intent) old new o own (inl s) = subst (λ (x : BundleSeen). ValidateSays path x o) s.bundle_before (s.ran.says own)
+does_validate path (Some intent) old new o own (inr n) = let clash : true ≡ false = sym own ∙ ap is_own_end n.is in cc
 
-pub validate_told : (path : List ℕ) (b : BundleAt) (o : Outcome) → ValidateDoes path b o → b.observed ≡ true → o ≡ sequential_validate path b.tree
-validate_told path b o d t = d.is ∙ judged_whole path d.found (file_bytes (b.tree path)) (d.told t)
+pub validate_told : (path : List ℕ) (old : BundleSeen) (o : Outcome) → ValidateSays path old o → old.observed ≡ true → o ≡ sequential_validate path old.tree
+validate_told path old o d t = d.is ∙ judged_whole path d.found (file_bytes (old.tree path)) (d.told t)
 
 manifest_prints : (judged : reading.Outcome DocumentData) (text : List ℕ) → Ok text ≡ manifest_outcome judged → (manifest : DocumentData) × (text ≡ valid_text manifest)
 manifest_prints (reads manifest) text is = (manifest, let e : text ≡ valid_text manifest = cc in e)
@@ -85,10 +88,10 @@ whole_file : (bytes : List ℕ) (file : Option (List ℕ)) → Some bytes ≡ op
 whole_file bytes None is = cc
 whole_file bytes (Some whole) is = (whole, refl, let e : bytes ≡ take most_read whole = cc in sym (ap any_manifest e ∙ judged_so whole))
 
-pub unreadable : (path at : List ℕ) (number : ℕ) (bundle : BundleAt) (b a : SinkAt) → ValidateDoes path bundle (Err (BadManifest at number)) → Complained (BadManifest at number) b a → IsUnreadable path bundle b a
-unreadable path at number bundle b a d said = by d.found d.told d.is
+pub unreadable : (path at : List ℕ) (number : ℕ) (bundle : BundleSeen) (old new : SinkSeen) → ValidateSays path bundle (Err (BadManifest at number)) → Complained (BadManifest at number) old new → IsUnreadable path bundle old new
+unreadable path at number bundle old new d said = by d.found d.told d.is
   where
-    by : (found : Option (List ℕ)) → (bundle.observed ≡ true → found ≡ option_map (take most_read) (file_bytes (bundle.tree path))) → Err (BadManifest at number) ≡ file_outcome path found → IsUnreadable path bundle b a
+    by : (found : Option (List ℕ)) → (bundle.observed ≡ true → found ≡ option_map (take most_read) (file_bytes (bundle.tree path))) → Err (BadManifest at number) ≡ file_outcome path found → IsUnreadable path bundle old new
     by None told is = cc
     by (Some bytes) told is =
         let f = fault_of (any_manifest bytes) at number is in
@@ -96,7 +99,7 @@ unreadable path at number bundle b a d said = by d.found d.told d.is
           at = at;
           kind = f.0;
           file = λ t. let w = whole_file bytes (file_bytes (bundle.tree path)) (told t) in (w.0, w.1, w.2 ∙ f.1);
-          said = subst (λ (n : ℕ). Complained (BadManifest at n) b a) f.2 said;
+          said = subst (λ (n : ℕ). Complained (BadManifest at n) old new) f.2 said;
         }
 
 no_judgement : (judged : reading.Outcome DocumentData) (path : List ℕ) {X : Type 0} → Err (NoFile path) ≡ manifest_outcome judged → X
@@ -107,9 +110,9 @@ none_there : (file : Option (List ℕ)) → None ≡ option_map (take most_read)
 none_there None is = refl
 none_there (Some bytes) is = cc
 
-pub no_such_file : (path named : List ℕ) (bundle : BundleAt) (b a : SinkAt) → ValidateDoes path bundle (Err (NoFile named)) → Complained (NoFile named) b a → (bundle.observed ≡ true → file_bytes (bundle.tree path) ≡ None) × Complained (NoFile path) b a
-no_such_file path named bundle b a d said = by d.found d.told d.is
+pub no_such_file : (path named : List ℕ) (bundle : BundleSeen) (old new : SinkSeen) → ValidateSays path bundle (Err (NoFile named)) → Complained (NoFile named) old new → (bundle.observed ≡ true → file_bytes (bundle.tree path) ≡ None) × Complained (NoFile path) old new
+no_such_file path named bundle old new d said = by d.found d.told d.is
   where
-    by : (found : Option (List ℕ)) → (bundle.observed ≡ true → found ≡ option_map (take most_read) (file_bytes (bundle.tree path))) → Err (NoFile named) ≡ file_outcome path found → (bundle.observed ≡ true → file_bytes (bundle.tree path) ≡ None) × Complained (NoFile path) b a
-    by None told is = (λ t. none_there (file_bytes (bundle.tree path)) (told t), let e : named ≡ path = cc in subst (λ (p : List ℕ). Complained (NoFile p) b a) e said)
+    by : (found : Option (List ℕ)) → (bundle.observed ≡ true → found ≡ option_map (take most_read) (file_bytes (bundle.tree path))) → Err (NoFile named) ≡ file_outcome path found → (bundle.observed ≡ true → file_bytes (bundle.tree path) ≡ None) × Complained (NoFile path) old new
+    by None told is = (λ t. none_there (file_bytes (bundle.tree path)) (told t), let e : named ≡ path = cc in subst (λ (p : List ℕ). Complained (NoFile p) old new) e said)
     by (Some bytes) told is = no_judgement (any_manifest bytes) named is

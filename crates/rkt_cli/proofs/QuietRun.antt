@@ -1,96 +1,133 @@
 -- Where nobody else steps and nothing fails, a run gives what the state and the bundle before it say.
-use Rattle.std.proofs.Common.{◌≡◌, ◌⊎◌, inl, inr, ℕ, true, false, List, Option, Some, None, Ok, Err, IsOk, refl, sym, ap, subst, ◌∙◌}
+use Rattle.std.proofs.Common.{◌≡◌, ◌⊎◌, inl, inr, ℕ, Bool, true, false, ◌||◌, List, Option, Some, None, Ok, Err, IsOk, refl, sym, ap, subst, ◌∙◌}
 use Rattle.dir_model.specs.declared.intent.Draw.{Draw}
 use Rattle.dir_model.specs.declared.intent.Intent.{Intent}
-use Rattle.dir_model.specs.State.{Namespace, DirState}
-use Rattle.dir_model.specs.declared.request.Request.TheVariants.{Begin}
+use Rattle.dir_model.specs.declared.intent.Start.{Start}
+use Rattle.dir_model.specs.declared.pod.PodId.{PodId}
+use Rattle.dir_model.specs.declared.request.Request.{Request}
+use Rattle.dir_model.specs.declared.request.Request.TheVariants.{Begin, Finish}
 use Rattle.dir_model.specs.declared.request.Reply.TheVariants.{Done}
+use Rattle.dir_model.specs.State.{Namespace, DirState}
 use Rattle.dir_model.specs.Trace.{state_after, state_next}
 use Rattle.dir_model.specs.Calls.{event}
 use Rattle.dir_model.specs.Causes.{Rose}
 use Rattle.dir_model.specs.Quiet.{Quiet, OwnsNothing}
+use Rattle.dir_model.specs.Replies.{is_look, is_look_at, is_any_spot}
+use Rattle.dir_model.proofs.Chains.{extends_wider}
+use Rattle.dir_model.proofs.Quiet.{is_harmless, look_is_harmless, end_quiet}
+use Rattle.dir_model.proofs.Spots.{look_wider}
 use Rattle.dir_trait.specs.Bundles.{Tree, file_bytes}
+use Rattle.phase_read.specs.Read.{is_pod_spot}
 use Rattle.phase_read.proofs.Quiet.{read_quiet}
 use Rattle.rkt_cli.specs.declared.line.Line.{Line}
 use Rattle.rkt_cli.specs.declared.line.Line.TheVariants.{Status, Validate}
 use Rattle.rkt_cli.specs.declared.refusal.Refusal.TheVariants.{Usage, NoPod, BadManifest, DirFault, BundleFault, OutFault, NoMemory, NoFile}
-use Rattle.rkt_cli.specs.Moments.{BundleAt, Outside, SinkAt, Outcome}
-use Rattle.rkt_cli.specs.Ends.{OwnEnd}
+use Rattle.rkt_cli.specs.Moments.{BundleSeen, Outside, Moment, SinkSeen, Outcome}
+use Rattle.rkt_cli.specs.Ends.{is_own_end}
 use Rattle.rkt_cli.specs.Status.{read_outcome}
-use Rattle.rkt_cli.specs.Commands.{uses_dir, sequential_outcome}
-use Rattle.rkt_cli.specs.Runs.{Did, Performs, InProcess, Printed, end_status, RanAs}
-use Rattle.rkt_cli.specs.Rows.{sequential_run, IsAnswer, IsUndisturbed}
+use Rattle.rkt_cli.specs.Commands.{uses_dir, asks, sequential_outcome}
+use Rattle.rkt_cli.specs.Runs.{CommandRan, Performs, InProcess, Printed, Ran, RunIs, end_status}
+use Rattle.rkt_cli.specs.Statuses.{sequential_run, IsAnswer, IsUndisturbed, Works, IsUnchanged, IsQuietAnswer}
 use Rattle.rkt_cli.proofs.Judged.{judged_whole}
-use Rattle.rkt_cli.proofs.Outcomes.{rose_wider, rose_between, answered}
-use Rattle.rkt_cli.proofs.Sessions.{quiet_act, state_begun, idle}
+use Rattle.rkt_cli.proofs.Outcomes.{rose_wider, rose_between, answered, WasAnswered}
+use Rattle.rkt_cli.proofs.Sessions.{all_parts, quiet_act, state_begun, idle}
 
 -- undisturbed it came to an end of its own, or memory ran out
-own_end : (line : Line) (b a : Outside) (o : Outcome) → Did line b a o → IsUndisturbed (Some line) b a → (o ≡ Err NoMemory) ⊎ (OwnEnd o ≡ true)
-own_end line b a (Ok text) d u = inr refl
-own_end line b a (Err NoMemory) d u = inl refl
-own_end line b a (Err DirFault) d u = absurd (u.works d.refusals (d.cause refl))
-own_end line b a (Err BundleFault) d u = absurd (u.bundle_works d.refusals (d.bundle_cause refl))
-own_end line b a (Err Usage) d u = inr refl
-own_end line b a (Err NoPod) d u = inr refl
-own_end line b a (Err (BadManifest path number)) d u = inr refl
-own_end line b a (Err OutFault) d u = inr refl
-own_end line b a (Err (NoFile path)) d u = inr refl
+own_end : (line : Line) (old new : Outside) (o : Outcome) → CommandRan line old new o → IsUndisturbed (Some line) old new → (o ≡ Err NoMemory) ⊎ (is_own_end o ≡ true)
+own_end line old new (Ok text) d u = inr refl
+own_end line old new (Err NoMemory) d u = inl refl
+own_end line old new (Err DirFault) d u = absurd (u.works d.refusals (d.cause refl))
+own_end line old new (Err BundleFault) d u = absurd (u.bundle_works d.refusals (d.bundle_cause refl))
+own_end line old new (Err Usage) d u = inr refl
+own_end line old new (Err NoPod) d u = inr refl
+own_end line old new (Err (BadManifest path number)) d u = inr refl
+own_end line old new (Err OutFault) d u = inr refl
+own_end line old new (Err (NoFile path)) d u = inr refl
 
 abbrev IsIdle : Line → Outside → Type 0
-IsIdle line b = uses_dir line ≡ true → OwnsNothing b.dir.process (state_after b.dir.trace).namespace
+IsIdle line old = uses_dir line ≡ true → OwnsNothing old.dir.process (state_after old.dir.trace).namespace
+
+-- a look at the pod's locations is a look
+pod_look : (pod : PodId) (r : Request) → is_look_at (is_pod_spot pod) r ≡ true → is_look r ≡ true
+pod_look pod r h = look_wider (is_pod_spot pod) is_any_spot (λ spot is. refl) r h
 
 -- each command
-does_quiet : (line : Line) (b a : Outside) (o : Outcome) → Did line b a o → OwnEnd o ≡ true → IsUndisturbed (Some line) b a → IsIdle line b → o ≡ sequential_outcome line (state_after b.dir.trace) b.bundle.tree
-does_quiet (Status pod) b a o d own u nothing = let s = d.does own in s.is ∙ ap read_outcome (sym (read_quiet (d.extends (u.observed refl)) (u.alone refl) (nothing refl) pod s.found (s.told (u.observed refl))))
-does_quiet (Validate path) b a o d own u nothing = let s = d.does own in s.is ∙ judged_whole path s.found (file_bytes (b.bundle.tree path)) (s.told (u.bundle_observed refl))
+does_quiet : (line : Line) (old new : Outside) (o : Outcome) → CommandRan line old new o → is_own_end o ≡ true → IsUndisturbed (Some line) old new → IsIdle line old → o ≡ sequential_outcome line (state_after old.dir.trace) old.bundle.tree
+does_quiet (Status pod) old new o d own u nothing = let s = d.says own in s.is ∙ ap read_outcome (sym (read_quiet (extends_wider (pod_look pod) (d.extends (u.observed refl))) (u.alone refl) (nothing refl) pod s.found (s.told (u.observed refl))))
+does_quiet (Validate path) old new o d own u nothing = let s = d.says own in s.is ∙ judged_whole path s.found (file_bytes (old.bundle.tree path)) (s.told (u.bundle_observed refl))
 
 -- that this process has begun makes no difference to it
-sequential_begun : (line : Line) (n : Namespace) (begun : List ℕ) (tree : Tree) → sequential_outcome line (record { namespace = record n { begun = begun } }) tree ≡ sequential_outcome line (record { namespace = n }) tree
+sequential_begun : (line : Line) (n : Namespace) (begun : List Start) (tree : Tree) → sequential_outcome line (record { namespace = record n { begun = begun } }) tree ≡ sequential_outcome line (record { namespace = n }) tree
 sequential_begun (Status pod) n begun tree = refl
 sequential_begun (Validate path) n begun tree = refl
 
 -- whatever the command
-did_quiet : (line : Line) (b a : Outside) (o : Outcome) → Did line b a o → IsUndisturbed (Some line) b a → IsIdle line b → (o ≡ Err NoMemory) ⊎ (o ≡ sequential_outcome line (state_after b.dir.trace) b.bundle.tree)
-did_quiet line b a o d u nothing = elim (own_end line b a o d u) [ inl e ↦ inl e | inr own ↦ inr (does_quiet line b a o d own u nothing) ]
+did_quiet : (line : Line) (old new : Outside) (o : Outcome) → CommandRan line old new o → IsUndisturbed (Some line) old new → IsIdle line old → (o ≡ Err NoMemory) ⊎ (o ≡ sequential_outcome line (state_after old.dir.trace) old.bundle.tree)
+did_quiet line old new o d u nothing = elim (own_end line old new o d u) [ inl e ↦ inl e | inr own ↦ inr (does_quiet line old new o d own u nothing) ]
 
-module _ (line : Line) (intent : Intent) (b a : Outside) (o : Outcome) (s : InProcess line intent b a o) (u : IsUndisturbed (Some line) b a) where
-  abbrev t : b.dir.observed ≡ true
+module _ (line : Line) (intent : Intent) (old new : Outside) (o : Outcome) (s : InProcess line intent old new o) (u : IsUndisturbed (Some line) old new) where
+  abbrev t : old.dir.observed ≡ true
   t = u.observed s.uses
 
-  state : state_after s.begun.dir.trace ≡ state_next (state_after b.dir.trace) (event b.dir.process (Begin intent) Done)
+  state : state_after s.begun.dir.trace ≡ state_next (state_after old.dir.trace) (event old.dir.process (Begin intent) Done)
   state = state_begun s t (u.alone s.uses)
 
   undisturbed_act : IsUndisturbed (Some line) s.begun s.ended
   undisturbed_act = record {
     observed = λ h. s.told ∙ t;
     alone = λ h. subst (λ (p : ℕ). Quiet p s.begun.dir.trace s.ended.dir.trace) (sym s.me) (quiet_act s t (u.alone h));
-    works = λ h rose. u.works h (rose_wider b.dir.faults s.begun.dir.faults s.ended.dir.faults a.dir.faults s.risen rose s.faults);
-    bundle_observed = λ h. ap (λ (x : BundleAt). x.observed) s.bundle_before ∙ u.bundle_observed h;
-    bundle_works = λ h rose. u.bundle_works h (rose_between b.bundle.faults s.begun.bundle.faults s.ended.bundle.faults a.bundle.faults (ap (λ (x : BundleAt). x.faults) s.bundle_before) rose (ap (λ (x : BundleAt). x.faults) s.bundle_after));
+    works = λ h rose. u.works h (rose_wider old.dir.faults s.begun.dir.faults s.ended.dir.faults new.dir.faults s.risen rose s.faults);
+    bundle_observed = λ h. ap (λ (x : BundleSeen). x.observed) s.bundle_before ∙ u.bundle_observed h;
+    bundle_works = λ h rose. u.bundle_works h (rose_between old.bundle.faults s.begun.bundle.faults s.ended.bundle.faults new.bundle.faults (ap (λ (x : BundleSeen). x.faults) s.bundle_before) rose (ap (λ (x : BundleSeen). x.faults) s.bundle_after));
   }
 
   idle_act : IsIdle line s.begun
-  idle_act h = subst (λ (p : ℕ). OwnsNothing p (state_after s.begun.dir.trace).namespace) (sym s.me) (subst (λ (x : DirState). OwnsNothing b.dir.process x.namespace) (sym state) (idle s t (u.alone h)))
+  idle_act h = subst (λ (p : ℕ). OwnsNothing p (state_after s.begun.dir.trace).namespace) (sym s.me) (subst (λ (x : DirState). OwnsNothing old.dir.process x.namespace) (sym state) (idle s t (u.alone h)))
 
-  process_quiet : (o ≡ Err NoMemory) ⊎ (o ≡ sequential_outcome line (state_after b.dir.trace) b.bundle.tree)
-  process_quiet = elim (did_quiet line s.begun s.ended o s.did undisturbed_act idle_act) [ inl e ↦ inl e | inr e ↦ inr (e ∙ (ap (λ (x : DirState). sequential_outcome line x s.begun.bundle.tree) state ∙ (sequential_begun line (state_after b.dir.trace).namespace _ s.begun.bundle.tree ∙ ap (λ (x : BundleAt). sequential_outcome line (state_after b.dir.trace) x.tree) s.bundle_before))) ]
+  process_quiet : (o ≡ Err NoMemory) ⊎ (o ≡ sequential_outcome line (state_after old.dir.trace) old.bundle.tree)
+  process_quiet = elim (did_quiet line s.begun s.ended o s.ran undisturbed_act idle_act) [ inl e ↦ inl e | inr e ↦ inr (e ∙ (ap (λ (x : DirState). sequential_outcome line x s.begun.bundle.tree) state ∙ (sequential_begun line (state_after old.dir.trace).namespace _ s.begun.bundle.tree ∙ ap (λ (x : BundleSeen). sequential_outcome line (state_after old.dir.trace) x.tree) s.bundle_before))) ]
 
-performs_quiet : (line : Line) (intent : Option Intent) (b a : Outside) (o : Outcome) → Performs line intent b a o → IsUndisturbed (Some line) b a → (o ≡ Err NoMemory) ⊎ (o ≡ sequential_outcome line (state_after b.dir.trace) b.bundle.tree)
-performs_quiet line (Some intent) b a o (inr n) u = inl n.is
-performs_quiet line (Some intent) b a o (inl s) u = process_quiet line intent b a o s u
-performs_quiet line None b a o p u = did_quiet line b a o p.did u (λ h. let clash : true ≡ false = sym h ∙ p.apart in cc)
+  -- each of its requests is harmless
+  harmless : (l : Line) (r : Request) → asks l r ≡ true → is_harmless r ≡ true
+  harmless (Status pod) r h = look_is_harmless r (pod_look pod r h)
+  harmless (Validate path) r h = cc
+
+  pub unchanged : IsUnchanged (state_after old.dir.trace) (state_after new.dir.trace)
+  unchanged =
+      let q = u.alone s.uses in
+      let same = end_quiet (all_parts s t is_harmless refl (harmless line) refl) q (idle s t q) in
+      record { folders = same.folders; owned = same.owned }
+
+abbrev IsQuiet : Line → Outside → Outside → Outcome → Type 0
+IsQuiet line old new o =
+    (o ≡ Err NoMemory)
+    ⊎ ((o ≡ sequential_outcome line (state_after old.dir.trace) old.bundle.tree) × (uses_dir line ≡ true → IsUnchanged (state_after old.dir.trace) (state_after new.dir.trace)))
+
+not_used : (line : Line) {X : Type 0} → uses_dir line ≡ false → uses_dir line ≡ true → X
+not_used line apart uses = let clash : true ≡ false = sym uses ∙ apart in cc
+
+performs_quiet : (line : Line) (intent : Option Intent) (old new : Outside) (o : Outcome) → Performs line intent old new o → IsUndisturbed (Some line) old new → IsQuiet line old new o
+performs_quiet line (Some intent) old new o (inr n) u = inl n.is
+performs_quiet line (Some intent) old new o (inl s) u = elim (process_quiet line intent old new o s u) [ inl e ↦ inl e | inr e ↦ inr (e, λ h. unchanged line intent old new o s u) ]
+performs_quiet line None old new o p u = elim (did_quiet line old new o p.ran u (not_used line p.apart)) [ inl e ↦ inl e | inr e ↦ inr (e, not_used line p.apart) ]
 
 -- and what it comes to is said, or memory ran out
-said_quiet : (o : Outcome) (out_b out_a err_b err_a : SinkAt) (status : ℕ) → (status ≡ 14) ⊎ ((status ≡ 12) × IsOk o × Rose out_b.faults out_a.faults) ⊎ IsAnswer o status out_b out_a err_b err_a → (Rose out_b.faults out_a.faults → ⊥) → (status ≡ 14) ⊎ IsAnswer o status out_b out_a err_b err_a
-said_quiet o out_b out_a err_b err_a status (inl e) never = inl e
-said_quiet o out_b out_a err_b err_a status (inr (inl x)) never = absurd (never x.2)
-said_quiet o out_b out_a err_b err_a status (inr (inr x)) never = inr x
+said_quiet : (o : Outcome) (old new : Moment) (status : ℕ) → WasAnswered o status old new → Works old.out new.out → (status ≡ 14) ⊎ IsAnswer o status old new
+said_quiet o old new status (inl e) works = inl e
+said_quiet o old new status (inr (inl x)) works = absurd (works x.2)
+said_quiet o old new status (inr (inr x)) works = inr x
 
-pub run_quiet : (now : ℕ) (draw : Draw) (b a : Outside) (out_b out_a err_b err_a : SinkAt) (status : ℕ) (l : Option Line) → RanAs l now draw b a out_b out_a err_b err_a status → IsUndisturbed l b a → (Rose out_b.faults out_a.faults → ⊥) → (status ≡ 14) ⊎ IsAnswer (sequential_run l (state_after b.dir.trace) b.bundle.tree) status out_b out_a err_b err_a
-run_quiet now draw b a out_b out_a err_b err_a status None r u never = inr (r.is, λ t. ap (λ (s : SinkAt). s.bytes) r.out, r.reported)
-run_quiet now draw b a out_b out_a err_b err_a status (Some line) (inr n) u never = inl n.is
-run_quiet now draw b a out_b out_a err_b err_a status (Some line) (inl r) u never = by (performs_quiet line _ b a r.outcome r.performs u)
-  where
-    by : (r.outcome ≡ Err NoMemory) ⊎ (r.outcome ≡ sequential_outcome line (state_after b.dir.trace) b.bundle.tree) → (status ≡ 14) ⊎ IsAnswer (sequential_outcome line (state_after b.dir.trace) b.bundle.tree) status out_b out_a err_b err_a
-    by (inl e) = inl (r.is ∙ ap end_status ((subst (λ (o : Outcome). Printed o out_b out_a r.end) e r.printed).refused.0))
-    by (inr e) = subst (λ (o : Outcome). (status ≡ 14) ⊎ IsAnswer o status out_b out_a err_b err_a) e (said_quiet r.outcome out_b out_a err_b err_a status (answered r.outcome out_b out_a err_b err_a r.end status r.printed r.reported r.is) never)
+module _ (now : ℕ) (draw : Draw) (old new : Moment) (status : ℕ) where
+  quiet_of : (l : Option Line) → Ran l now draw old new status → IsUndisturbed l old.outside new.outside → Works old.out new.out → IsQuietAnswer l status old new
+  quiet_of None r u works = inr ((r.is, λ t. ap (λ (s : SinkSeen). s.bytes) r.out, r.reported), λ h. cc)
+  quiet_of (Some line) (inr n) u works = inl n.is
+  quiet_of (Some line) (inl r) u works = by (performs_quiet line _ old.outside new.outside r.outcome r.performs u)
+    where
+      by : IsQuiet line old.outside new.outside r.outcome → IsQuietAnswer (Some line) status old new
+      by (inl e) = inl (r.is ∙ ap end_status ((subst (λ (o : Outcome). Printed o old.out new.out r.end) e r.printed).refused.0))
+      by (inr (e, same)) =
+          let said : (status ≡ 14) ⊎ IsAnswer (sequential_run (Some line) (state_after old.outside.dir.trace) old.outside.bundle.tree) status old new = subst (λ (o : Outcome). (status ≡ 14) ⊎ IsAnswer o status old new) e (said_quiet r.outcome old new status (answered r.outcome old new r.end status r.printed r.reported r.is) works) in
+          elim said [ inl x ↦ inl x | inr x ↦ inr (x, same) ]
+
+pub quiet : {l : Option Line} {now : ℕ} {draw : Draw} {old new : Moment} {status : ℕ} → RunIs l now draw old new status → IsUndisturbed l old.outside new.outside → Works old.out new.out → IsQuietAnswer l status old new
+quiet {l} {now} {draw} {old} {new} {status} run u works = quiet_of now draw old new status l run.ran u works

@@ -1,37 +1,24 @@
 -- A command between its begin and its finish.
-use Rattle.std.proofs.Common.{◌≡◌, ◌⊎◌, inl, inr, ℕ, Bool, true, false, not, ◌||◌, List, [], ◌∷◌, ◌++◌, append-nil, refl, sym, ap, subst, ◌∙◌, append_assoc}
+use Rattle.std.proofs.Common.{◌≡◌, ◌⊎◌, inl, inr, ℕ, Bool, true, false, not, List, [], ◌∷◌, ◌++◌, append-nil, refl, sym, ap, subst, ◌∙◌, append_assoc}
 use Rattle.std.specs.List.{AllByRecursion}
 use Rattle.dir_model.specs.declared.event.Event.{Event}
 use Rattle.dir_model.specs.declared.intent.Intent.{Intent}
 use Rattle.dir_model.specs.declared.request.Request.{Request}
 use Rattle.dir_model.specs.declared.request.Request.TheVariants.{Begin, Finish}
 use Rattle.dir_model.specs.declared.request.Reply.TheVariants.{Done}
-use Rattle.dir_model.specs.State.{has_begun}
-use Rattle.dir_model.specs.Trace.{state_after, state_next}
-use Rattle.dir_model.specs.Calls.{CallStep, TookPlace, LeftNothing, Extends, is_foreign, event}
+use Rattle.dir_model.specs.State.{empty_state, has_begun}
+use Rattle.dir_model.specs.Trace.{state_after, state_next, states_next}
+use Rattle.dir_model.specs.Calls.{CallStep, TookPlace, LeftNothing, Extends, IsRun, is_foreign, event}
 use Rattle.dir_model.specs.Quiet.{Quiet, OwnsNothing}
-use Rattle.dir_model.proofs.Chains.{step_extends, and_more, nothing_yet, state_after-push, allowed_step, run_before}
-use Rattle.dir_model.proofs.Begun.{unborn_owns_nothing}
-use Rattle.dir_model.proofs.Quiet.{same_rest, all_left, quiet_within}
+use Rattle.dir_model.proofs.Lists.{all_left, same_rest}
+use Rattle.dir_model.proofs.Allowed.{allowed_step}
+use Rattle.dir_model.proofs.Chains.{step_extends, and_more, nothing_yet, extends_wider, state_after-push, states_next-append, run_before, run-left, run_from-right}
+use Rattle.dir_model.proofs.Begun.{unborn_owns_nothing, silent_before}
+use Rattle.dir_model.proofs.Quiet.{quiet_within}
 use Rattle.rkt_cli.specs.declared.line.Line.{Line}
 use Rattle.rkt_cli.specs.Moments.{Outside, Outcome}
 use Rattle.rkt_cli.specs.Commands.{asks}
 use Rattle.rkt_cli.specs.Runs.{InProcess}
-
-weaken_one : (a b c : Bool) → (b ≡ true → c ≡ true) → (a || b) ≡ true → (a || c) ≡ true
-weaken_one true b c f h = refl
-weaken_one false b c f h = f h
-
-weaken_all : (asks asks' : Request → Bool) (me : ℕ) → ((r : Request) → asks r ≡ true → asks' r ≡ true) → (es : List Event) → AllByRecursion (λ e. (is_foreign me e || asks e.request) ≡ true) es → AllByRecursion (λ e. (is_foreign me e || asks' e.request) ≡ true) es
-weaken_all asks asks' me f [] a = tt
-weaken_all asks asks' me f (e ∷ es) a = (weaken_one (is_foreign me e) (asks e.request) (asks' e.request) (f e.request) a.0, weaken_all asks asks' me f es a.1)
-
-pub weaken : (asks asks' : Request → Bool) (me : ℕ) (old new : List Event) → ((r : Request) → asks r ≡ true → asks' r ≡ true) → Extends asks me old new → Extends asks' me old new
-weaken asks asks' me old new f e = record { more = e.more; grown = e.grown; asked = weaken_all asks asks' me f e.more e.asked; run = e.run }
-
-own_nil : (me : ℕ) (es : List Event) → AllByRecursion (λ e. is_foreign me e ≡ true) es → AllByRecursion (λ e. is_foreign me e ≡ false) es → es ≡ []
-own_nil me [] a o = refl
-own_nil me (e ∷ es) a o = let clash : true ≡ false = sym a.0 ∙ o.0 in cc
 
 late_never : {X : Type 0} {me : ℕ} {before new : List Event} {intent : Intent} → LeftNothing before me (Begin intent) Done new → X
 late_never {X} {me} {before} {new} {intent} left = let clash : false ≡ true = left.late in cc
@@ -40,11 +27,22 @@ module _ (me : ℕ) (old new : List Event) (intent : Intent) (s : CallStep me ol
   abbrev begun : Event
   begun = event me (Begin intent) Done
 
+  unborn : TookPlace s.before me (Begin intent) Done new → has_begun (state_after s.before).namespace me ≡ false
+  unborn took = by (has_begun (state_after s.before).namespace me) (allowed_step (state_after s.before) me (Begin intent) Done took.allowed)
+    where
+      by : (b : Bool) → not b ≡ true → b ≡ false
+      by true h = cc
+      by false h = refl
+
+  -- whoever hasn't begun takes no step, so that nobody did meanwhile
   nobody : TookPlace s.before me (Begin intent) Done new → s.meanwhile.others ≡ []
   nobody took =
-      let whole : new ≡ old ++ (s.meanwhile.others ++ begun ∷ []) = took.grown ∙ (ap (λ h. h ++ begun ∷ []) s.meanwhile.grown ∙ simp append_assoc) in
-      let own : AllByRecursion (λ e. is_foreign me e ≡ false) (s.meanwhile.others ++ begun ∷ []) = subst (λ (l : List Event). AllByRecursion (λ e. is_foreign me e ≡ false) l) (same_rest old q.more (s.meanwhile.others ++ begun ∷ []) (sym q.grown ∙ whole)) q.own in
-      own_nil me s.meanwhile.others s.meanwhile.foreign (all_left _ s.meanwhile.others (begun ∷ []) own)
+      let others = s.meanwhile.others in
+      let whole : new ≡ old ++ (others ++ begun ∷ []) = took.grown ∙ (ap (λ h. h ++ begun ∷ []) s.meanwhile.grown ∙ simp append_assoc) in
+      let own : AllByRecursion (λ e. e.process ≡ me) (others ++ begun ∷ []) = subst (λ (l : List Event). AllByRecursion (λ e. e.process ≡ me) l) (same_rest old q.more (others ++ begun ∷ []) (sym q.grown ∙ whole)) q.own in
+      let run : IsRun (old ++ others) = subst IsRun s.meanwhile.grown (run-left s.before (begun ∷ []) (subst IsRun took.grown s.run)) in
+      let here : states_next (state_after old) others ≡ state_after s.before = sym (ap state_after s.meanwhile.grown ∙ states_next-append empty_state old others) in
+      silent_before me (state_after old) others (run_from-right empty_state old others run) (ap (λ w. has_begun w.namespace me) here ∙ unborn took) (all_left _ others (begun ∷ []) own) s.meanwhile.foreign
 
   before_is : TookPlace s.before me (Begin intent) Done new → s.before ≡ old
   before_is took = s.meanwhile.grown ∙ (ap (λ (l : List Event). old ++ l) (nobody took) ∙ append-nil old)
@@ -61,39 +59,39 @@ module _ (me : ℕ) (old new : List Event) (intent : Intent) (s : CallStep me ol
   pub held_nothing : OwnsNothing me (state_after old).namespace
   held_nothing = by s.own
     where
-      unborn : (b : Bool) → not b ≡ true → b ≡ false
-      unborn true h = cc
-      unborn false h = refl
-
       by : TookPlace s.before me (Begin intent) Done new ⊎ LeftNothing s.before me (Begin intent) Done new → OwnsNothing me (state_after old).namespace
       by (inr left) = late_never left
-      by (inl took) = unborn_owns_nothing old me (run_before s) (unborn (has_begun (state_after old).namespace me) (subst (λ (l : List Event). not (has_begun (state_after l).namespace me) ≡ true) (before_is took) (allowed_step (state_after s.before) me (Begin intent) Done took.allowed)))
+      by (inl took) = unborn_owns_nothing old me (run_before s) (subst (λ (l : List Event). has_begun (state_after l).namespace me ≡ false) (before_is took) (unborn took))
 
 abbrev pub any_call : Request → Bool
 any_call r = true
 
-module _ {line : Line} {intent : Intent} {b a : Outside} {o : Outcome} (s : InProcess line intent b a o) (t : b.dir.observed ≡ true) where
-  pub begin_part : (asked : Request → Bool) → asked (Begin intent) ≡ true → Extends asked b.dir.process b.dir.trace s.begun.dir.trace
-  begin_part asked is = step_extends asked b.dir.process b.dir.trace (Begin intent) Done s.begun.dir.trace is (s.begins t)
+module _ {line : Line} {intent : Intent} {old new : Outside} {o : Outcome} (s : InProcess line intent old new o) (t : old.dir.observed ≡ true) where
+  pub begin_part : (asked : Request → Bool) → asked (Begin intent) ≡ true → Extends asked old.dir.process old.dir.trace s.begun.dir.trace
+  begin_part asked is = step_extends asked old.dir.process old.dir.trace (Begin intent) Done s.begun.dir.trace is (s.begins t)
 
-  pub act_part : Extends (asks line) b.dir.process s.begun.dir.trace s.ended.dir.trace
-  act_part = subst (λ (p : ℕ). Extends (asks line) p s.begun.dir.trace s.ended.dir.trace) s.me (s.did.extends (s.told ∙ t))
+  pub act_part : Extends (asks line) old.dir.process s.begun.dir.trace s.ended.dir.trace
+  act_part = subst (λ (p : ℕ). Extends (asks line) p s.begun.dir.trace s.ended.dir.trace) s.me (s.ran.extends (s.told ∙ t))
 
-  pub finish_part : (asked : Request → Bool) → asked Finish ≡ true → Extends asked b.dir.process s.ended.dir.trace a.dir.trace
-  finish_part asked is = step_extends asked b.dir.process s.ended.dir.trace Finish Done a.dir.trace is (subst (λ (p : ℕ). CallStep p s.ended.dir.trace Finish Done a.dir.trace) (s.did.same ∙ s.me) (s.finishes t))
+  pub finish_part : (asked : Request → Bool) → asked Finish ≡ true → Extends asked old.dir.process s.ended.dir.trace new.dir.trace
+  finish_part asked is = step_extends asked old.dir.process s.ended.dir.trace Finish Done new.dir.trace is (subst (λ (p : ℕ). CallStep p s.ended.dir.trace Finish Done new.dir.trace) (s.ran.same ∙ s.me) (s.finishes t))
+
+  -- the three together
+  pub all_parts : (asked : Request → Bool) → asked (Begin intent) ≡ true → ((r : Request) → asks line r ≡ true → asked r ≡ true) → asked Finish ≡ true → Extends asked old.dir.process old.dir.trace new.dir.trace
+  all_parts asked begins wider finishes = and_more (and_more (begin_part asked begins) refl (extends_wider wider act_part)) refl (finish_part asked finishes)
 
   -- nobody else stepped at the begin, nor meanwhile
-  pub quiet_begin : Quiet b.dir.process b.dir.trace a.dir.trace → Quiet b.dir.process b.dir.trace s.begun.dir.trace
+  pub quiet_begin : Quiet old.dir.process old.dir.trace new.dir.trace → Quiet old.dir.process old.dir.trace s.begun.dir.trace
   quiet_begin q =
       let first = begin_part any_call refl in
-      quiet_within q (nothing_yet {asks = any_call}) (and_more (weaken (asks line) any_call b.dir.process s.begun.dir.trace s.ended.dir.trace (λ r h. refl) act_part) refl (finish_part any_call refl)) first.more first.grown
+      quiet_within q (nothing_yet {asks = any_call}) (and_more (extends_wider {asks = asks line} {asks' = any_call} (λ r h. refl) act_part) refl (finish_part any_call refl)) first.more first.grown
 
-  pub quiet_act : Quiet b.dir.process b.dir.trace a.dir.trace → Quiet b.dir.process s.begun.dir.trace s.ended.dir.trace
+  pub quiet_act : Quiet old.dir.process old.dir.trace new.dir.trace → Quiet old.dir.process s.begun.dir.trace s.ended.dir.trace
   quiet_act q = quiet_within q (begin_part any_call refl) (finish_part any_call refl) act_part.more act_part.grown
 
   -- the state is then the same, but that this process has begun
-  pub state_begun : Quiet b.dir.process b.dir.trace a.dir.trace → state_after s.begun.dir.trace ≡ state_next (state_after b.dir.trace) (event b.dir.process (Begin intent) Done)
-  state_begun q = ap state_after (began_alone b.dir.process b.dir.trace s.begun.dir.trace intent (s.begins t) (quiet_begin q)) ∙ state_after-push b.dir.trace (event b.dir.process (Begin intent) Done)
+  pub state_begun : Quiet old.dir.process old.dir.trace new.dir.trace → state_after s.begun.dir.trace ≡ state_next (state_after old.dir.trace) (event old.dir.process (Begin intent) Done)
+  state_begun q = ap state_after (began_alone old.dir.process old.dir.trace s.begun.dir.trace intent (s.begins t) (quiet_begin q)) ∙ state_after-push old.dir.trace (event old.dir.process (Begin intent) Done)
 
-  pub idle : Quiet b.dir.process b.dir.trace a.dir.trace → OwnsNothing b.dir.process (state_after b.dir.trace).namespace
-  idle q = held_nothing b.dir.process b.dir.trace s.begun.dir.trace intent (s.begins t) (quiet_begin q)
+  pub idle : Quiet old.dir.process old.dir.trace new.dir.trace → OwnsNothing old.dir.process (state_after old.dir.trace).namespace
+  idle q = held_nothing old.dir.process old.dir.trace s.begun.dir.trace intent (s.begins t) (quiet_begin q)

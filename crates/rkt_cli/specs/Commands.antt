@@ -6,16 +6,18 @@ use Rattle.dir_model.specs.declared.intent.Kind.TheVariants as kind
 use Rattle.dir_model.specs.declared.request.Request.{Request}
 use Rattle.dir_trait.specs.Bundles.{Tree}
 use Rattle.dir_trait.specs.Pods.{pod_text}
-use Rattle.dir_trait.specs.Replies.{is_look}
+use Rattle.dir_trait.specs.Replies.{is_look_at}
+use Rattle.dir_trait.specs.Local.{Local, has_own_open}
+use Rattle.phase_read.specs.Read.{is_pod_spot}
 use Rattle.dir_trait.specs.State.{DirState}
 use Rattle.rkt_cli.specs.declared.line.Line.{Line}
 use Rattle.rkt_cli.specs.declared.line.Line.TheVariants.{Status, Validate}
 use Rattle.rkt_cli.specs.declared.refusal.Refusal.{Refusal}
 use Rattle.rkt_cli.specs.declared.refusal.Refusal.TheVariants.{Usage, NoPod, BadManifest, DirFault, BundleFault, OutFault, NoMemory, NoFile}
-use Rattle.rkt_cli.specs.Moments.{Outside, Outcome}
-use Rattle.rkt_cli.specs.Ends.{OwnEnd}
-use Rattle.rkt_cli.specs.Status.{status_refusal, StatusDoes, sequential_status}
-use Rattle.rkt_cli.specs.Validate.{validate_refusal, ValidateDoes, sequential_validate}
+use Rattle.rkt_cli.specs.Moments.{BundleSeen, Outside, Outcome}
+use Rattle.rkt_cli.specs.Ends.{is_own_end}
+use Rattle.rkt_cli.specs.Status.{status_refusal, StatusSays, sequential_status}
+use Rattle.rkt_cli.specs.Validate.{validate_refusal, ValidateSays, ReadsFile, sequential_validate}
 
 -- whether it works on the directory, and whether it reads the bundle
 abbrev pub uses_dir : Line → Bool
@@ -31,9 +33,9 @@ abbrev pub intent_of : Line → ℕ → Draw → Option Intent
 intent_of (Status pod) now draw = Some (record { kind = kind.Status; word = pod_text pod.bytes; now = now; grace = 0; expire = 0; draw = draw.uuid; token = draw.token })
 intent_of (Validate path) now draw = None
 
--- what it asks of the directory
+-- what it asks of the directory: `status` looks at the pod's six locations
 abbrev pub asks : Line → Request → Bool
-asks (Status pod) request = is_look request
+asks (Status pod) request = is_look_at (is_pod_spot pod) request
 asks (Validate path) request = false
 
 -- the refusals of its own
@@ -52,9 +54,20 @@ may line NoPod = own_refusal line NoPod
 may line (BadManifest path number) = own_refusal line (BadManifest path number)
 may line (NoFile path) = own_refusal line (NoFile path)
 
-abbrev pub Does : Line → Outside → Outside → Outcome → Type 0
-Does (Status pod) b a o = OwnEnd o ≡ true → StatusDoes pod b.dir a.dir o
-Does (Validate path) b a o = OwnEnd o ≡ true → ValidateDoes path b.bundle o
+-- what a process of it has open before: no handle on the lock of that pod
+abbrev pub IsReady : Line → Local → Type 0
+IsReady (Status pod) m = has_own_open m (pod_text pod.bytes) ≡ false
+IsReady (Validate path) m = Unit {0}
+
+-- what it did, where it came to an end of its own
+abbrev pub CommandSays : Line → Outside → Outside → Outcome → Type 0
+CommandSays (Status pod) old new o = is_own_end o ≡ true → StatusSays pod old.dir new.dir o
+CommandSays (Validate path) old new o = is_own_end o ≡ true → ValidateSays path old.bundle o
+
+-- what it reads of the bundle
+abbrev pub ReadsOnly : Line → BundleSeen → BundleSeen → Type 0
+ReadsOnly (Status pod) old new = Unit {0}
+ReadsOnly (Validate path) old new = ReadsFile path old new
 
 -- what it comes to where nobody else steps
 abbrev pub sequential_outcome : Line → DirState → Tree → Outcome

@@ -5,12 +5,12 @@ use Rattle.rkt_cli.specs.declared.refusal.Refusal.TheVariants.{DirFault, BundleF
 use Rattle.rkt_cli.specs.Moments.{Outcome}
 
 -- the command came to an end of its own: nothing failed, and memory didn't run out
-abbrev pub OwnEnd : Outcome → Bool
-OwnEnd (Ok text) = true
-OwnEnd (Err NoMemory) = false
-OwnEnd (Err DirFault) = false
-OwnEnd (Err BundleFault) = false
-OwnEnd (Err refusal) = true
+abbrev pub is_own_end : Outcome → Bool
+is_own_end (Ok text) = true
+is_own_end (Err NoMemory) = false
+is_own_end (Err DirFault) = false
+is_own_end (Err BundleFault) = false
+is_own_end (Err refusal) = true
 
 -- the refusals that may come to any command on the directory
 abbrev pub is_common : Refusal → Bool

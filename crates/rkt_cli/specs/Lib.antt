@@ -6,4 +6,5 @@ pub mod Status
 pub mod Validate
 pub mod Commands
 pub mod Runs
-pub mod Rows
+pub mod Statuses
+pub mod Between

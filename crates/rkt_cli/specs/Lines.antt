@@ -1,5 +1,6 @@
 -- Which command the words are.
-use Rattle.std.specs.Prelude.{◌≡◌, ℕ, Bool, false, not, ◌&&◌, ◌==◌, cond, Option, Some, None, option_map, List, [], ◌∷◌, bytes_eq, codes, Result, Ok, Err}
+use Rattle.std.specs.Prelude.{◌≡◌, ℕ, Bool, false, not, ◌&&◌, ◌==◌, cond, Option, Some, None, option_map, List, [], ◌∷◌, map, bytes_eq, codes, Result, Ok, Err, String, string_bytes}
+use Rattle.std.specs.Global.{Global}
 use Rattle.dir_trait.specs.Pods.{pod_of}
 use Rattle.rkt_cli.specs.declared.line.Line.{Line}
 use Rattle.rkt_cli.specs.declared.line.Line.TheVariants.{Status, Validate}
@@ -21,6 +22,10 @@ command_of command word =
 abbrev pub line_of : List (List ℕ) → Option Line
 line_of (command ∷ word ∷ []) = command_of command word
 line_of _ = None
+
+-- of the words as the program has them
+abbrev pub line_in : List (String Global) → Option Line
+line_in words = line_of (map string_bytes words)
 
 -- what was read is the line; usage says that there is none, and memory may run out where there is one
 abbrev pub IsReading : Option Line → Result Line WordsError → Type 0

@@ -1,67 +1,76 @@
 -- A run of the program, whatever the command is.
-use Rattle.std.specs.Prelude.{◌≡◌, ◌⊎◌, ◌≤◌, ℕ, true, false, List, ◌++◌, Option, Some, None, Result, Ok, Err, IsErrOf, IfErr}
+use Rattle.std.specs.Prelude.{◌≡◌, ◌⊎◌, ◌≤◌, ℕ, Bool, true, false, List, [], ◌++◌, Option, Some, None, Result, Ok, Err, IsErrOf, IfErr}
 use Rattle.dir_model.specs.declared.intent.Draw.{Draw}
 use Rattle.dir_model.specs.declared.intent.Intent.{Intent}
 use Rattle.dir_model.specs.declared.request.DirError.TheVariants as dir_error
 use Rattle.dir_model.specs.declared.request.Request.TheVariants.{Begin, Finish}
 use Rattle.dir_model.specs.declared.request.Reply.TheVariants.{Done, Refused}
-use Rattle.dir_trait.specs.declared.sink.SinkError.{SinkError}
-use Rattle.dir_trait.specs.declared.sink.SinkError.TheVariants as sink_error
 use Rattle.dir_trait.specs.Causes.{Rose}
 use Rattle.dir_trait.specs.Calls.{Extends, CallStep}
+use Rattle.dir_trait.specs.Local.{Local}
 use Rattle.dir_trait.specs.Sinks.{WritesPart}
 use Rattle.rkt_cli.specs.declared.line.Line.{Line}
 use Rattle.rkt_cli.specs.declared.refusal.Refusal.{Refusal}
-use Rattle.rkt_cli.specs.declared.refusal.Refusal.TheVariants.{Usage, DirFault, BundleFault, OutFault, NoMemory}
+use Rattle.rkt_cli.specs.declared.refusal.Refusal.TheVariants.{Usage, BadManifest, DirFault, BundleFault, OutFault, NoMemory, NoFile}
 use Rattle.rkt_cli.specs.Texts.{status_of, message}
-use Rattle.rkt_cli.specs.Moments.{Outside, SinkAt, Outcome}
-use Rattle.rkt_cli.specs.Lines.{line_of}
-use Rattle.rkt_cli.specs.Commands.{uses_dir, intent_of, asks, may, Does}
+use Rattle.rkt_cli.specs.Moments.{Outside, Moment, SinkSeen, Outcome}
+use Rattle.rkt_cli.specs.Commands.{uses_dir, intent_of, asks, may, CommandSays, ReadsOnly}
 
--- what every command owes, and what this one does
-pub record Did (line : Line) (b a : Outside) (o : Outcome) : Type 0 where
-  pub same : a.dir.process ≡ b.dir.process
-  pub faults : b.dir.faults ≤ a.dir.faults
-  pub cause : IsErrOf o DirFault → Rose b.dir.faults a.dir.faults
-  pub bundle_faults : b.bundle.faults ≤ a.bundle.faults
-  pub bundle_cause : IsErrOf o BundleFault → Rose b.bundle.faults a.bundle.faults
+-- what a command leaves and answers, whichever it is
+pub record CommandRan (line : Line) (old new : Outside) (o : Outcome) : Type 0 where
+  pub same : new.dir.process ≡ old.dir.process
+  pub local : new.dir.local ≡ old.dir.local
+  pub faults : old.dir.faults ≤ new.dir.faults
+  pub cause : IsErrOf o DirFault → Rose old.dir.faults new.dir.faults
+  pub bundle_faults : old.bundle.faults ≤ new.bundle.faults
+  pub bundle_cause : IsErrOf o BundleFault → Rose old.bundle.faults new.bundle.faults
   pub refusals : IfErr o (λ r. may line r ≡ true)
-  pub extends : b.dir.observed ≡ true → Extends (asks line) b.dir.process b.dir.trace a.dir.trace
-  pub does : Does line b a o
+  pub extends : old.dir.observed ≡ true → Extends (asks line) old.dir.process old.dir.trace new.dir.trace
+  pub reads : ReadsOnly line old.bundle new.bundle
+  pub says : CommandSays line old new o
 
--- the process began, did what the command does, and finished
-pub record InProcess (line : Line) (intent : Intent) (b a : Outside) (o : Outcome) : Type 0 where
+-- what a process knows when it has begun so, and when it has finished
+abbrev pub begun_local : Intent → Local
+begun_local intent = record { intent = Some intent; finished = false; holdings = [] }
+
+abbrev pub ended_local : Intent → Local
+ended_local intent = record { intent = Some intent; finished = true; holdings = [] }
+
+-- the process began, the command ran, and the process finished
+pub record InProcess (line : Line) (intent : Intent) (old new : Outside) (o : Outcome) : Type 0 where
   pub uses : uses_dir line ≡ true
   pub begun : Outside
   pub ended : Outside
-  pub told : begun.dir.observed ≡ b.dir.observed
-  pub me : begun.dir.process ≡ b.dir.process
-  pub risen : b.dir.faults ≤ begun.dir.faults
-  pub begins : b.dir.observed ≡ true → CallStep b.dir.process b.dir.trace (Begin intent) Done begun.dir.trace
-  pub bundle_before : begun.bundle ≡ b.bundle
-  pub did : Did line begun ended o
-  pub finishes : b.dir.observed ≡ true → CallStep ended.dir.process ended.dir.trace Finish Done a.dir.trace
-  pub faults : a.dir.faults ≡ ended.dir.faults
-  pub same : a.dir.process ≡ ended.dir.process
-  pub bundle_after : a.bundle ≡ ended.bundle
+  pub told : begun.dir.observed ≡ old.dir.observed
+  pub me : begun.dir.process ≡ old.dir.process
+  pub risen : old.dir.faults ≤ begun.dir.faults
+  pub begins : old.dir.observed ≡ true → CallStep old.dir.process old.dir.trace (Begin intent) Done begun.dir.trace
+  pub bundle_before : begun.bundle ≡ old.bundle
+  pub ran : CommandRan line begun ended o
+  pub finishes : old.dir.observed ≡ true → CallStep ended.dir.process ended.dir.trace Finish Done new.dir.trace
+  pub faults : new.dir.faults ≡ ended.dir.faults
+  pub same : new.dir.process ≡ ended.dir.process
+  pub local : new.dir.local ≡ ended_local intent
+  pub bundle_after : new.bundle ≡ ended.bundle
 
 -- it couldn't begin, and called nothing more
-pub record NeverBegan (intent : Intent) (b a : Outside) (o : Outcome) : Type 0 where
+pub record NeverBegan (intent : Intent) (old new : Outside) (o : Outcome) : Type 0 where
   pub is : o ≡ Err NoMemory
-  pub same : a.dir.process ≡ b.dir.process
-  pub faults : b.dir.faults ≤ a.dir.faults
-  pub step : b.dir.observed ≡ true → CallStep b.dir.process b.dir.trace (Begin intent) (Refused dir_error.NoMemory 0) a.dir.trace
-  pub bundle : a.bundle ≡ b.bundle
+  pub same : new.dir.process ≡ old.dir.process
+  pub local : new.dir.local ≡ old.dir.local
+  pub faults : old.dir.faults ≤ new.dir.faults
+  pub step : old.dir.observed ≡ true → CallStep old.dir.process old.dir.trace (Begin intent) (Refused dir_error.NoMemory 0) new.dir.trace
+  pub bundle : new.bundle ≡ old.bundle
 
--- it did what the command does, and made no call on the directory
-pub record Apart (line : Line) (b a : Outside) (o : Outcome) : Type 0 where
+-- the command ran, and made no call on the directory
+pub record Apart (line : Line) (old new : Outside) (o : Outcome) : Type 0 where
   pub apart : uses_dir line ≡ false
-  pub dir : a.dir ≡ b.dir
-  pub did : Did line b a o
+  pub dir : new.dir ≡ old.dir
+  pub ran : CommandRan line old new o
 
 abbrev pub Performs : Line → Option Intent → Outside → Outside → Outcome → Type 0
-Performs line None b a o = Apart line b a o
-Performs line (Some intent) b a o = InProcess line intent b a o ⊎ NeverBegan intent b a o
+Performs line None old new o = Apart line old new o
+Performs line (Some intent) old new o = InProcess line intent old new o ⊎ NeverBegan intent old new o
 
 -- how a run ended
 abbrev pub End : Type 0
@@ -71,48 +80,60 @@ abbrev pub end_status : End → ℕ
 end_status (Ok done) = 0
 end_status (Err refusal) = status_of refusal
 
--- the outcome's text was written to the output, or why not
-pub record Printed (o : Outcome) (b a : SinkAt) (end : End) : Type 0 where
-  pub faults : b.faults ≤ a.faults
-  pub done : end ≡ Ok tt → (text : List ℕ) × (o ≡ Ok text) × (b.observed ≡ true → a.bytes ≡ b.bytes ++ text)
-  pub refused : IfErr o (λ r. (end ≡ Err r) × (b.observed ≡ true → a.bytes ≡ b.bytes))
-  pub part : (text : List ℕ) → o ≡ Ok text → b.observed ≡ true → WritesPart b.bytes text a.bytes
-  pub cause : (text : List ℕ) → o ≡ Ok text → IfErr end (λ r. ((r ≡ OutFault) × Rose b.faults a.faults) ⊎ (r ≡ NoMemory))
+-- why a text wasn't written whole
+abbrev pub Unwritten : Refusal → SinkSeen → SinkSeen → Type 0
+Unwritten refusal old new = ((refusal ≡ OutFault) × Rose old.faults new.faults) ⊎ ((refusal ≡ NoMemory) × Rose old.shortages new.shortages)
 
--- the refusal's message was written to the error output, or a part of it from its start where that refused
-pub record Complained (refusal : Refusal) (b a : SinkAt) : Type 0 where
-  pub refused : Option SinkError
-  pub faults : b.faults ≤ a.faults
-  pub cause : refused ≡ Some sink_error.Failed → Rose b.faults a.faults
-  pub whole : refused ≡ None → b.observed ≡ true → a.bytes ≡ b.bytes ++ message refusal
-  pub part : b.observed ≡ true → WritesPart b.bytes (message refusal) a.bytes
+-- the outcome's text was written to the output, or why not
+pub record Printed (o : Outcome) (old new : SinkSeen) (end : End) : Type 0 where
+  pub faults : old.faults ≤ new.faults
+  pub done : end ≡ Ok tt → (text : List ℕ) × (o ≡ Ok text) × (old.observed ≡ true → new.bytes ≡ old.bytes ++ text)
+  pub refused : IfErr o (λ r. (end ≡ Err r) × (old.observed ≡ true → new.bytes ≡ old.bytes))
+  pub part : (text : List ℕ) → o ≡ Ok text → old.observed ≡ true → WritesPart old.bytes text new.bytes
+  pub cause : (text : List ℕ) → o ≡ Ok text → IfErr end (λ r. Unwritten r old new)
+
+-- the message has a path in it, so that it takes memory
+abbrev pub is_made : Refusal → Bool
+is_made (BadManifest path number) = true
+is_made (NoFile path) = true
+is_made _ = false
+
+-- the sink refused a piece
+abbrev pub HasRefused : SinkSeen → SinkSeen → Type 0
+HasRefused old new = Rose old.faults new.faults ⊎ Rose old.shortages new.shortages
+
+-- the refusal's message was written to the error output: whole, or a part of it from its start where the error output
+-- refused, or where the message takes memory and the program had none
+pub record Complained (refusal : Refusal) (old new : SinkSeen) : Type 0 where
+  pub part : old.observed ≡ true → WritesPart old.bytes (message refusal) new.bytes
+  pub whole : (old.observed ≡ true → new.bytes ≡ old.bytes ++ message refusal) ⊎ HasRefused old new ⊎ (is_made refusal ≡ true)
 
 -- nothing is said of a command that was done
-abbrev pub Reported : End → SinkAt → SinkAt → Type 0
-Reported (Ok done) b a = a ≡ b
-Reported (Err refusal) b a = Complained refusal b a
+abbrev pub Reported : End → SinkSeen → SinkSeen → Type 0
+Reported (Ok done) old new = new ≡ old
+Reported (Err refusal) old new = Complained refusal old new
 
 -- the words are a command, and it ran
-pub record RanLine (line : Line) (intent : Option Intent) (b a : Outside) (out_b out_a err_b err_a : SinkAt) (status : ℕ) : Type 0 where
+pub record RanLine (line : Line) (intent : Option Intent) (old new : Moment) (status : ℕ) : Type 0 where
   pub outcome : Outcome
   pub end : End
-  pub performs : Performs line intent b a outcome
-  pub printed : Printed outcome out_b out_a end
-  pub reported : Reported end err_b err_a
+  pub performs : Performs line intent old.outside new.outside outcome
+  pub printed : Printed outcome old.out new.out end
+  pub reported : Reported end old.err new.err
   pub is : status ≡ end_status end
 
 -- no command ran, for this reason: nothing but the error output was called
-pub record RanNothing (reason : Refusal) (b a : Outside) (out_b out_a err_b err_a : SinkAt) (status : ℕ) : Type 0 where
+pub record RanNothing (reason : Refusal) (old new : Moment) (status : ℕ) : Type 0 where
   pub is : status ≡ status_of reason
-  pub outside : a ≡ b
-  pub out : out_a ≡ out_b
-  pub reported : Complained reason err_b err_a
+  pub outside : new.outside ≡ old.outside
+  pub out : new.out ≡ old.out
+  pub reported : Complained reason old.err new.err
 
 -- words that are a command are run, but where memory ran out before
-abbrev pub RanAs : Option Line → ℕ → Draw → Outside → Outside → SinkAt → SinkAt → SinkAt → SinkAt → ℕ → Type 0
-RanAs None now draw b a out_b out_a err_b err_a status = RanNothing Usage b a out_b out_a err_b err_a status
-RanAs (Some line) now draw b a out_b out_a err_b err_a status =
-    RanLine line (intent_of line now draw) b a out_b out_a err_b err_a status ⊎ RanNothing NoMemory b a out_b out_a err_b err_a status
+abbrev pub Ran : Option Line → ℕ → Draw → Moment → Moment → ℕ → Type 0
+Ran None now draw old new status = RanNothing Usage old new status
+Ran (Some line) now draw old new status = RanLine line (intent_of line now draw) old new status ⊎ RanNothing NoMemory old new status
 
-abbrev pub Ran : List (List ℕ) → ℕ → Draw → Outside → Outside → SinkAt → SinkAt → SinkAt → SinkAt → ℕ → Type 0
-Ran words now draw b a out_b out_a err_b err_a status = RanAs (line_of words) now draw b a out_b out_a err_b err_a status
+-- a run of these words, whatever they are
+pub record RunIs (line : Option Line) (now : ℕ) (draw : Draw) (old new : Moment) (status : ℕ) : Type 0 where
+  pub ran : Ran line now draw old new status

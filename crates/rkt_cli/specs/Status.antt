@@ -4,11 +4,11 @@ use Rattle.dir_model.specs.declared.pod.PodId.{PodId}
 use Rattle.dir_trait.specs.State.{DirState}
 use Rattle.phase_read.specs.declared.found.Found.{Found}
 use Rattle.phase_read.specs.declared.found.Found.TheVariants.{At, Gone}
-use Rattle.phase_read.specs.Read.{IsRead}
+use Rattle.phase_read.specs.Read.{IsReading}
 use Rattle.phase_read.specs.Sequential.{sequential_read}
 use Rattle.rkt_cli.specs.declared.refusal.Refusal.{Refusal}
 use Rattle.rkt_cli.specs.declared.refusal.Refusal.TheVariants.{NoPod}
-use Rattle.rkt_cli.specs.Moments.{DirAt, Outcome}
+use Rattle.rkt_cli.specs.Moments.{DirSeen, Outcome}
 use Rattle.rkt_cli.specs.Texts.{state_text}
 use Rattle.rkt_cli.specs.Ends.{is_common}
 
@@ -23,9 +23,9 @@ read_outcome (At phase area) = Ok (state_text phase)
 read_outcome Gone = Err NoPod
 
 -- a read of the pod's phase, and its text
-pub record StatusDoes (pod : PodId) (b a : DirAt) (o : Outcome) : Type 0 where
+pub record StatusSays (pod : PodId) (old new : DirSeen) (o : Outcome) : Type 0 where
   pub found : Found
-  pub told : b.observed ≡ true → IsRead b.process b.trace a.trace pod found
+  pub told : old.observed ≡ true → IsReading old.process old.trace new.trace pod found
   pub is : o ≡ read_outcome found
 
 -- what it comes to where nobody else steps

@@ -18,20 +18,16 @@ status_of OutFault = 12
 status_of NoMemory = 14
 status_of (NoFile path) = 15
 
--- its text
-abbrev pub refusal_text : Refusal → List ℕ
-refusal_text Usage = codes "usage"
-refusal_text NoPod = codes "no such pod"
-refusal_text (BadManifest path number) = ((codes "bad manifest at " ++ path) ++ codes ": refusal ") ++ decimal number
-refusal_text DirFault = codes "directory fault"
-refusal_text BundleFault = codes "bundle fault"
-refusal_text OutFault = codes "output fault"
-refusal_text NoMemory = codes "out of memory"
-refusal_text (NoFile path) = codes "no file: " ++ path
-
 -- the line that is printed of it
 abbrev pub message : Refusal → List ℕ
-message refusal = (codes "rkt: " ++ refusal_text refusal) ++ codes "\n"
+message Usage = codes "rkt: usage\n"
+message NoPod = codes "rkt: no such pod\n"
+message (BadManifest path number) = (((codes "rkt: bad manifest at " ++ path) ++ codes ": refusal ") ++ decimal number) ++ codes "\n"
+message DirFault = codes "rkt: directory fault\n"
+message BundleFault = codes "rkt: bundle fault\n"
+message OutFault = codes "rkt: output fault\n"
+message NoMemory = codes "rkt: out of memory\n"
+message (NoFile path) = (codes "rkt: no file: " ++ path) ++ codes "\n"
 
 -- the line that `status` prints
 abbrev pub state_text : Phase → List ℕ

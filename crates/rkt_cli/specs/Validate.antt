@@ -1,6 +1,7 @@
 -- The command `validate`.
-use Rattle.std.specs.Prelude.{◌≡◌, ◌⊎◌, ℕ, Bool, true, false, List, take, Option, Some, None, option_map, Ok, Err}
-use Rattle.dir_trait.specs.Bundles.{Tree, file_bytes}
+use Rattle.std.specs.Prelude.{◌≡◌, ◌⊎◌, ◌≤◌, ◌+◌, ℕ, Bool, true, false, List, take, Option, Some, None, option_map, Ok, Err}
+use Rattle.dir_trait.specs.Bundles.{Tree, file_bytes, AsksOnly, request_at}
+use Rattle.dir_trait.specs.declared.bundle.BundleAction.TheVariants.{Read}
 use Rattle.dir_trait.specs.declared.bundle.BundleError.{BundleError}
 use Rattle.dir_trait.specs.declared.bundle.BundleError.TheVariants.{Missing, Failed}
 use Rattle.dir_trait.specs.declared.bundle.BundleError.TheVariants as bundle_error
@@ -13,7 +14,7 @@ use Rattle.ac_types.specs.Outcomes as reading
 use Rattle.manifests.specs.DocumentData.{DocumentData, any_manifest}
 use Rattle.rkt_cli.specs.declared.refusal.Refusal.{Refusal}
 use Rattle.rkt_cli.specs.declared.refusal.Refusal.TheVariants.{BadManifest, BundleFault, NoMemory, NoFile}
-use Rattle.rkt_cli.specs.Moments.{BundleAt, Outcome}
+use Rattle.rkt_cli.specs.Moments.{BundleSeen, Outcome}
 use Rattle.rkt_cli.specs.Texts.{valid_text}
 
 -- the refusals that it may have
@@ -50,10 +51,15 @@ abbrev pub most_read : ℕ
 most_read = 1048577
 
 -- the file's first bytes were read, and judged
-pub record ValidateDoes (path : List ℕ) (b : BundleAt) (o : Outcome) : Type 0 where
+pub record ValidateSays (path : List ℕ) (old : BundleSeen) (o : Outcome) : Type 0 where
   pub found : Option (List ℕ)
-  pub told : b.observed ≡ true → found ≡ option_map (take most_read) (file_bytes (b.tree path))
+  pub told : old.observed ≡ true → found ≡ option_map (take most_read) (file_bytes (old.tree path))
   pub is : o ≡ file_outcome path found
+
+-- it asks for that file alone, and for no more of it
+pub record ReadsFile (path : List ℕ) (old new : BundleSeen) : Type 0 where
+  pub given : new.given ≤ old.given + most_read
+  pub asked : old.observed ≡ true → AsksOnly (request_at Read path) old.asked new.asked
 
 -- what it comes to where nothing fails: the judgement of the whole file
 abbrev pub sequential_validate : List ℕ → Tree → Outcome

@@ -12,5 +12,6 @@ mod validate;
 
 pub use line::{Line, WordsError, read_line};
 pub use output::Output;
+pub use print::refuse;
 pub use refusal::Refusal;
 pub use top::rkt;

@@ -1,6 +1,6 @@
 // The words of a command line.
-ghost use Rattle.std.specs.Prelude.{◌≡◌, Some, map, string_bytes};
-ghost use Rattle.rkt_cli.specs.Lines.{is_file_word, command_of, line_of, IsReading};
+ghost use Rattle.std.specs.Prelude.{◌≡◌, Some};
+ghost use Rattle.rkt_cli.specs.Lines.{is_file_word, command_of, line_in, IsReading};
 
 use ac_types::Text;
 use dir_trait::PodId;
@@ -61,7 +61,7 @@ fn read_command(alloc: Global, command: &str, word: &str) -> Result<Line, WordsE
 /// words, a uuid that isn't whole, hyphenated and in lower case, or a file that is empty or an option.
 /// `NoMemory` only where they are one.
 pub fn read_line(alloc: Global, words: &[String]) -> Result<Line, WordsError>
-    ensures { IsReading (line_of (map string_bytes words.now)) result }
+    ensures { IsReading (line_in words.now) result }
 {
     match words {
         [command, word] => read_command(alloc, command.as_str(), word.as_str()),

@@ -38,14 +38,6 @@ impl Output {
         Ok(output)
     }
 
-    /// Appends another text. Refused only where memory ran out.
-    pub fn append(&mut self, other: &Output) -> Result<(), AllocError>
-        ensures { OnOk result (self.new ≡ self.old ++ other.now) }
-    {
-        self.text.extend_from_slice(other.as_slice())?;
-        Ok(())
-    }
-
     /// Appends a piece. Refused only where memory ran out.
     pub fn push(&mut self, piece: &str) -> Result<(), AllocError>
         ensures { OnOk result (self.new ≡ self.old ++ piece.now) }

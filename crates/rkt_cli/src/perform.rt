@@ -1,9 +1,9 @@
 // What a command line does to the directory and the bundle.
 ghost use Rattle.std.specs.Prelude.{◌≡◌, true, false, Some, IsSome, IsNone};
 ghost use Rattle.dir_trait.specs.Local.{IsActive, nothing_local};
-ghost use Rattle.rkt_cli.specs.Moments.{dir_at, bundle_at, outside_at};
-ghost use Rattle.rkt_cli.specs.Commands.{uses_dir, reads_bundle, intent_of};
-ghost use Rattle.rkt_cli.specs.Runs.{Did, Performs};
+ghost use Rattle.rkt_cli.specs.Moments.{outside_at};
+ghost use Rattle.rkt_cli.specs.Commands.{uses_dir, reads_bundle, intent_of, IsReady};
+ghost use Rattle.rkt_cli.specs.Runs.{CommandRan, Performs};
 
 use crate::line::Line;
 use crate::output::Output;
@@ -40,11 +40,12 @@ fn act<D: Dir, B: Bundle>(
     dir: &mut D,
     bundle: &mut B,
 ) -> Result<Output, Refusal>
-    requires { uses_dir line.now ≡ true → IsActive (D.local dir.old) }
-    ensures local { D.local dir.new ≡ D.local dir.old }
+    requires active { uses_dir line.now ≡ true → IsActive (D.shown dir.old).local }
+    requires ready { IsReady line.now (D.shown dir.old).local }
+    ensures local { (D.shown dir.new).local ≡ (D.shown dir.old).local }
     ensures apart { uses_dir line.now ≡ false → dir.new ≡ dir.old }
     ensures unread { reads_bundle line.now ≡ false → bundle.new ≡ bundle.old }
-    ensures did { Did line.now (outside_at (dir_at D.observed (D.process dir.old) (D.trace dir.old) (D.faults dir.old)) (bundle_at B.observed (B.tree bundle.old) (B.faults bundle.old))) (outside_at (dir_at D.observed (D.process dir.new) (D.trace dir.new) (D.faults dir.new)) (bundle_at B.observed (B.tree bundle.new) (B.faults bundle.new))) result }
+    ensures ran { CommandRan line.now (outside_at D.Dir B.Bundle dir.old bundle.old) (outside_at D.Dir B.Bundle dir.new bundle.new) result }
 {
     match line {
         Line::Status(pod) => pod_status(alloc, *pod, dir),
@@ -60,14 +61,16 @@ fn act_in_process<D: Dir, B: Bundle>(
     dir: &mut D,
     bundle: &mut B,
 ) -> Result<Output, Refusal>
-    requires fresh { D.local dir.old ≡ nothing_local }
+    requires fresh { (D.shown dir.old).local ≡ nothing_local }
     requires uses { uses_dir line.now ≡ true }
     ensures unread { reads_bundle line.now ≡ false → bundle.new ≡ bundle.old }
-    ensures performs { Performs line.now (Some intent) (outside_at (dir_at D.observed (D.process dir.old) (D.trace dir.old) (D.faults dir.old)) (bundle_at B.observed (B.tree bundle.old) (B.faults bundle.old))) (outside_at (dir_at D.observed (D.process dir.new) (D.trace dir.new) (D.faults dir.new)) (bundle_at B.observed (B.tree bundle.new) (B.faults bundle.new))) result }
+    ensures performs { Performs line.now (Some intent) (outside_at D.Dir B.Bundle dir.old bundle.old)
+        (outside_at D.Dir B.Bundle dir.new bundle.new) result }
 {
     match dir.begin(alloc, intent) {
         Ok(()) => {
             let outcome = act(alloc, line, dir, bundle);
+            // Before anything is printed, so that a slow reader of the output keeps no process alive.
             dir.finish();
             outcome
         }
@@ -84,10 +87,11 @@ pub fn perform<D: Dir, B: Bundle>(
     dir: &mut D,
     bundle: &mut B,
 ) -> Result<Output, Refusal>
-    requires fresh { D.local dir.old ≡ nothing_local }
+    requires fresh { (D.shown dir.old).local ≡ nothing_local }
     ensures apart { uses_dir line.now ≡ false → dir.new ≡ dir.old }
     ensures unread { reads_bundle line.now ≡ false → bundle.new ≡ bundle.old }
-    ensures performs { Performs line.now (intent_of line.now now draw.now) (outside_at (dir_at D.observed (D.process dir.old) (D.trace dir.old) (D.faults dir.old)) (bundle_at B.observed (B.tree bundle.old) (B.faults bundle.old))) (outside_at (dir_at D.observed (D.process dir.new) (D.trace dir.new) (D.faults dir.new)) (bundle_at B.observed (B.tree bundle.new) (B.faults bundle.new))) result }
+    ensures performs { Performs line.now (intent_of line.now now draw.now) (outside_at D.Dir B.Bundle dir.old bundle.old)
+        (outside_at D.Dir B.Bundle dir.new bundle.new) result }
 {
     match line_intent(line, now, draw) {
         Some(intent) => act_in_process(alloc, line, intent, dir, bundle),

@@ -1,8 +1,6 @@
 // What is written, and the status.
-ghost use Rattle.std.specs.Prelude.{◌≡◌, ◌≤◌, OnOk, IsErrOf, true, ◌++◌};
-ghost use Rattle.dir_trait.specs.Causes.{Rose};
-ghost use Rattle.dir_trait.specs.Sinks.{WritesPart};
-ghost use Rattle.rkt_cli.specs.Texts.{message};
+ghost use Rattle.std.specs.Prelude.{◌≡◌};
+ghost use Rattle.rkt_cli.specs.Texts.{status_of};
 ghost use Rattle.rkt_cli.specs.Moments.{sink_at};
 ghost use Rattle.rkt_cli.specs.Runs.{Printed, Complained, Reported, end_status};
 
@@ -17,7 +15,7 @@ pub fn print<O: Sink>(
     out: &mut O,
     outcome: Result<Output, Refusal>,
 ) -> Result<(), Refusal>
-    ensures { Printed outcome (sink_at O.observed (O.bytes out.old) (O.faults out.old)) (sink_at O.observed (O.bytes out.new) (O.faults out.new)) result }
+    ensures { Printed outcome (sink_at O.Sink out.old) (sink_at O.Sink out.new) result }
 {
     match outcome {
         Err(refusal) => Err(refusal),
@@ -29,40 +27,37 @@ pub fn print<O: Sink>(
     }
 }
 
-// Writes a refusal's message, or a part of it from its start.
-fn write_message<E: Sink>(alloc: Global, err: &mut E, refusal: &Refusal) -> Result<(), SinkError>
-    ensures faults { E.faults err.old ≤ E.faults err.new }
-    ensures cause { IsErrOf result SinkError.Failed → Rose (E.faults err.old) (E.faults err.new) }
-    ensures whole { OnOk result (E.observed ≡ true → E.bytes err.new ≡ E.bytes err.old ++ message refusal.now) }
-    ensures part { E.observed ≡ true → WritesPart (E.bytes err.old) (message refusal.now) (E.bytes err.new) }
+// Writes a refusal's message. One with a path in it is made first, so that it is one write, and is lost
+// where there is no memory for that.
+fn complain<E: Sink>(alloc: Global, err: &mut E, refusal: &Refusal)
+    ensures { Complained refusal.now (sink_at E.Sink err.old) (sink_at E.Sink err.new) }
 {
-    match refusal {
-        // Said without memory.
-        Refusal::NoMemory => write_whole(alloc, err, b"rkt: out of memory\n"),
-        _ => match refusal.line(alloc) {
-            Ok(line) => write_whole(alloc, err, line.as_slice()),
-            Err(_) => Err(SinkError::NoMemory),
-        },
+    if let Some(message) = refusal.constant_message() {
+        let _ = write_whole(alloc, err, message.as_bytes());
+        return;
+    }
+    if let Ok(message) = refusal.made_message(alloc) {
+        let _ = write_whole(alloc, err, message.as_slice());
     }
 }
 
-/// Says why a command wasn't done. What becomes of the message changes no status.
-pub fn complain<E: Sink>(alloc: Global, err: &mut E, refusal: &Refusal)
-    ensures { Complained refusal.now (sink_at E.observed (E.bytes err.old) (E.faults err.old)) (sink_at E.observed (E.bytes err.new) (E.faults err.new)) }
+/// Says why a command wasn't done, and gives the exit status. What becomes of the message changes no
+/// status.
+pub fn refuse<E: Sink>(alloc: Global, err: &mut E, refusal: &Refusal) -> u8
+    ensures status { result ≡ status_of refusal.now }
+    ensures said { Complained refusal.now (sink_at E.Sink err.old) (sink_at E.Sink err.new) }
 {
-    let _ = write_message(alloc, err, refusal);
+    complain(alloc, err, refusal);
+    refusal.status()
 }
 
 /// Says how it ended, and gives the status.
 pub fn report<E: Sink>(alloc: Global, err: &mut E, end: &Result<(), Refusal>) -> u8
     ensures status { result ≡ end_status end.now }
-    ensures said { Reported end.now (sink_at E.observed (E.bytes err.old) (E.faults err.old)) (sink_at E.observed (E.bytes err.new) (E.faults err.new)) }
+    ensures said { Reported end.now (sink_at E.Sink err.old) (sink_at E.Sink err.new) }
 {
     match end {
         Ok(()) => 0,
-        Err(refusal) => {
-            complain(alloc, err, refusal);
-            refusal.status()
-        }
+        Err(refusal) => refuse(alloc, err, refusal),
     }
 }

@@ -1,6 +1,7 @@
 // Why a command wasn't done.
-ghost use Rattle.std.specs.Prelude.{◌≡◌, IfOk};
-ghost use Rattle.rkt_cli.specs.Texts.{status_of, refusal_text, message};
+ghost use Rattle.std.specs.Prelude.{◌≡◌, true, IfOk, IfSome, IsNone};
+ghost use Rattle.rkt_cli.specs.Texts.{status_of, message};
+ghost use Rattle.rkt_cli.specs.Runs.{is_made};
 
 use crate::output::Output;
 use ac_types::Text;
@@ -44,48 +45,51 @@ impl Refusal {
         }
     }
 
-    /// What is printed of it, after `rkt: `. Refused only where memory ran out.
-    fn text(&self, alloc: Global) -> Result<Output, AllocError>
-        ensures { IfOk result (λ text. text ≡ refusal_text self.now) }
+    /// The line that is printed of it, where it has no path in it.
+    pub fn constant_message(&self) -> Option<&'static str>
+        ensures some { IfSome result (λ text. text.now ≡ message self.now) }
+        ensures none { IsNone result → is_made self.now ≡ true }
     {
         match self {
-            Refusal::Usage => Output::of(alloc, "usage"),
-            Refusal::NoPod => Output::of(alloc, "no such pod"),
-            Refusal::BadManifest { path, number } => bad_manifest(alloc, path, *number),
-            Refusal::DirFault => Output::of(alloc, "directory fault"),
-            Refusal::BundleFault => Output::of(alloc, "bundle fault"),
-            Refusal::OutFault => Output::of(alloc, "output fault"),
-            Refusal::NoMemory => Output::of(alloc, "out of memory"),
-            Refusal::NoFile(path) => no_file(alloc, path),
+            Refusal::Usage => Some("rkt: usage\n"),
+            Refusal::NoPod => Some("rkt: no such pod\n"),
+            Refusal::DirFault => Some("rkt: directory fault\n"),
+            Refusal::BundleFault => Some("rkt: bundle fault\n"),
+            Refusal::OutFault => Some("rkt: output fault\n"),
+            Refusal::NoMemory => Some("rkt: out of memory\n"),
+            Refusal::BadManifest { path: _, number: _ } | Refusal::NoFile(_) => None,
         }
     }
 
-    /// The line that is printed of it. Refused only where memory ran out.
-    pub fn line(&self, alloc: Global) -> Result<Output, AllocError>
+    /// The line that is printed of it, where it has a path in it. Refused only where memory ran out.
+    pub fn made_message(&self, alloc: Global) -> Result<Output, AllocError>
+        requires { is_made self.now ≡ true }
         ensures { IfOk result (λ line. line ≡ message self.now) }
     {
-        let text = self.text(alloc)?;
-        let mut line = Output::of(alloc, "rkt: ")?;
-        line.append(&text)?;
-        line.push("\n")?;
-        Ok(line)
+        match self {
+            Refusal::BadManifest { path, number } => bad_manifest(alloc, path, *number),
+            Refusal::NoFile(path) => no_file(alloc, path),
+            _ => unreachable!(),
+        }
     }
 }
 
 fn bad_manifest(alloc: Global, path: &Text, number: u8) -> Result<Output, AllocError>
-    ensures { IfOk result (λ text. text ≡ refusal_text (Refusal.BadManifest path.now number)) }
+    ensures { IfOk result (λ line. line ≡ message (Refusal.BadManifest path.now number)) }
 {
-    let mut text = Output::of(alloc, "bad manifest at ")?;
-    text.push(path.as_str())?;
-    text.push(": refusal ")?;
-    text.push_number(alloc, u64::from(number))?;
-    Ok(text)
+    let mut line = Output::of(alloc, "rkt: bad manifest at ")?;
+    line.push(path.as_str())?;
+    line.push(": refusal ")?;
+    line.push_number(alloc, u64::from(number))?;
+    line.push("\n")?;
+    Ok(line)
 }
 
 fn no_file(alloc: Global, path: &Text) -> Result<Output, AllocError>
-    ensures { IfOk result (λ text. text ≡ refusal_text (Refusal.NoFile path.now)) }
+    ensures { IfOk result (λ line. line ≡ message (Refusal.NoFile path.now)) }
 {
-    let mut text = Output::of(alloc, "no file: ")?;
-    text.push(path.as_str())?;
-    Ok(text)
+    let mut line = Output::of(alloc, "rkt: no file: ")?;
+    line.push(path.as_str())?;
+    line.push("\n")?;
+    Ok(line)
 }

@@ -1,13 +1,15 @@
 // The command `status`.
-ghost use Rattle.std.specs.Prelude.{◌≡◌, ◌≤◌, ◌⊎◌, true, IfErr, IsErrOf, IfOk, Err};
+ghost use Rattle.std.specs.Prelude.{◌≡◌, ◌≤◌, ◌⊎◌, true, false, IfErr, IsErrOf, IfOk, Err};
 ghost use Rattle.dir_trait.specs.Causes.{Rose};
-ghost use Rattle.dir_trait.specs.Calls.{Extends};
-ghost use Rattle.dir_trait.specs.Local.{IsActive};
-ghost use Rattle.dir_trait.specs.Replies.{is_look};
+ghost use Rattle.dir_trait.specs.DirCalls.{ExtendsBy};
+ghost use Rattle.dir_trait.specs.Local.{IsActive, has_own_open};
+ghost use Rattle.dir_trait.specs.Pods.{pod_text};
+ghost use Rattle.dir_trait.specs.Replies.{is_look_at};
+ghost use Rattle.phase_read.specs.Read.{is_pod_spot};
 ghost use Rattle.rkt_cli.specs.Texts.{state_text};
-ghost use Rattle.rkt_cli.specs.Ends.{OwnEnd};
+ghost use Rattle.rkt_cli.specs.Ends.{is_own_end};
 ghost use Rattle.rkt_cli.specs.Moments.{dir_at};
-ghost use Rattle.rkt_cli.specs.Status.{status_refusal, StatusDoes, read_outcome};
+ghost use Rattle.rkt_cli.specs.Status.{status_refusal, StatusSays, read_outcome};
 
 use crate::output::Output;
 use crate::refusal::Refusal;
@@ -48,17 +50,18 @@ fn look_refusal(error: LookError) -> Refusal
     }
 }
 
-/// The line that `status` prints of a pod. `NoPod` where it has none, `DirFault` where the
-/// directory failed.
+/// The line that `status` prints of a pod. No handle of this process is open on the pod's lock before.
+/// `NoPod` where there is no such pod, `DirFault` where the directory failed.
 pub fn pod_status<D: Dir>(alloc: Global, pod: PodId, dir: &mut D) -> Result<Output, Refusal>
-    requires { IsActive (D.local dir.old) }
-    ensures same { D.process dir.new ≡ D.process dir.old }
-    ensures faults { D.faults dir.old ≤ D.faults dir.new }
-    ensures local { D.local dir.new ≡ D.local dir.old }
-    ensures cause { IsErrOf result Refusal.DirFault → Rose (D.faults dir.old) (D.faults dir.new) }
+    requires active { IsActive (D.shown dir.old).local }
+    requires alone { has_own_open (D.shown dir.old).local (pod_text pod.bytes) ≡ false }
+    ensures same { (D.shown dir.new).process ≡ (D.shown dir.old).process }
+    ensures faults { (D.shown dir.old).faults ≤ (D.shown dir.new).faults }
+    ensures local { (D.shown dir.new).local ≡ (D.shown dir.old).local }
+    ensures cause { IsErrOf result Refusal.DirFault → Rose (D.shown dir.old).faults (D.shown dir.new).faults }
     ensures refusals { IfErr result (λ r. status_refusal r ≡ true) }
-    ensures extends { D.observed ≡ true → Extends is_look (D.process dir.old) (D.trace dir.old) (D.trace dir.new) }
-    ensures does { OwnEnd result ≡ true → StatusDoes pod (dir_at D.observed (D.process dir.old) (D.trace dir.old) (D.faults dir.old)) (dir_at D.observed (D.process dir.new) (D.trace dir.new) (D.faults dir.new)) result }
+    ensures extends { D.observed ≡ true → ExtendsBy (is_look_at (is_pod_spot pod)) (D.shown dir.old) (D.shown dir.new) }
+    ensures says { is_own_end result ≡ true → StatusSays pod (dir_at D.Dir dir.old) (dir_at D.Dir dir.new) result }
 {
     match read_phase(alloc, dir, pod) {
         Ok(found) => found_text(alloc, found),

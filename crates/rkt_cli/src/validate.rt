@@ -3,9 +3,9 @@ ghost use Rattle.std.specs.Prelude.{◌≡◌, ◌≤◌, ◌⊎◌, true, IfOk,
 ghost use Rattle.dir_trait.specs.Causes.{Rose};
 ghost use Rattle.manifests.specs.DocumentData.{any_manifest, document_data};
 ghost use Rattle.rkt_cli.specs.Texts.{valid_text};
-ghost use Rattle.rkt_cli.specs.Ends.{OwnEnd};
+ghost use Rattle.rkt_cli.specs.Ends.{is_own_end};
 ghost use Rattle.rkt_cli.specs.Moments.{bundle_at};
-ghost use Rattle.rkt_cli.specs.Validate.{validate_refusal, manifest_outcome, reading_refusal, IsRefusalOf, ValidateDoes};
+ghost use Rattle.rkt_cli.specs.Validate.{validate_refusal, manifest_outcome, reading_refusal, IsRefusalOf, ValidateSays, ReadsFile};
 
 use crate::output::Output;
 use crate::refusal::Refusal;
@@ -73,14 +73,15 @@ fn bundle_refusal(path: &Text, error: BundleError) -> Refusal
     }
 }
 
-/// The line that `validate` prints of a file of the bundle. `BadManifest` with its first fault where it is
-/// no manifest of either kind, `NoFile` where no file stands at the path, `BundleFault` where the bundle
-/// failed.
+/// The line that `validate` prints of a file of the bundle, which is asked for that file alone.
+/// `BadManifest` with its first fault where it is no manifest of either kind, `NoFile` where no file stands
+/// at the path, `BundleFault` where the bundle failed.
 pub fn validate<B: Bundle>(alloc: Global, path: &Text, bundle: &mut B) -> Result<Output, Refusal>
-    ensures faults { B.faults bundle.old ≤ B.faults bundle.new }
-    ensures cause { IsErrOf result Refusal.BundleFault → Rose (B.faults bundle.old) (B.faults bundle.new) }
+    ensures faults { (B.shown bundle.old).faults ≤ (B.shown bundle.new).faults }
+    ensures cause { IsErrOf result Refusal.BundleFault → Rose (B.shown bundle.old).faults (B.shown bundle.new).faults }
     ensures refusals { IfErr result (λ r. validate_refusal r ≡ true) }
-    ensures does { OwnEnd result ≡ true → ValidateDoes path.now (bundle_at B.observed (B.tree bundle.old) (B.faults bundle.old)) result }
+    ensures reads { ReadsFile path.now (bundle_at B.Bundle bundle.old) (bundle_at B.Bundle bundle.new) }
+    ensures says { is_own_end result ≡ true → ValidateSays path.now (bundle_at B.Bundle bundle.old) result }
 {
     match read_file(alloc, bundle, path.as_str(), MOST_READ) {
         Ok(bytes) => judge(alloc, bytes.as_slice()),
