@@ -3,7 +3,6 @@ use Rattle.std.proofs.Common.{arith, ◌≡◌, ℕ, Bool, true, false, not, ◌
 use Rattle.std.specs.List.{list_any, AllByRecursion}
 use Rattle.std.proofs.lemmas.Bool.Decides.{nat_tests}
 use Rattle.dir_model.specs.declared.event.Event.{Event}
-use Rattle.dir_model.specs.declared.intent.Intent.{Intent}
 use Rattle.dir_model.specs.declared.intent.Start.{Start}
 use Rattle.dir_model.specs.declared.opening.Opening.{Opening}
 use Rattle.dir_model.specs.declared.spot.Handle.{Handle}
@@ -15,7 +14,7 @@ use Rattle.dir_model.specs.declared.request.Reply.TheVariants.{Done, Opened, Ref
 use Rattle.dir_model.specs.Locks.{is_handle, is_exclusive}
 use Rattle.dir_model.specs.State.{Namespace, DirState, empty_state, has_begun, has_ended}
 use Rattle.dir_model.specs.Trace.{state_after, state_next, states_next, namespace_replied, locked, opened}
-use Rattle.dir_model.specs.Calls.{IsRun, is_run_from, is_allowed, may_step, is_begin, is_kill, is_foreign}
+use Rattle.dir_model.specs.Calls.{IsRun, is_run_from, is_allowed, may_step, is_kill, is_foreign}
 use Rattle.dir_model.specs.Quiet.{OwnsNothing}
 use Rattle.dir_model.specs.Local.{holding_of, holdings_in}
 use Rattle.dir_model.proofs.Lists.{and_left, and_right, same_self, all_push, all_map, all_filter, any_push}

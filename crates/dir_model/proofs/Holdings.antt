@@ -1,6 +1,6 @@
 -- What a process has open by its own answers: a handle that is opened and closed again leaves what was open before, and
 -- while the process lives it is what the namespace says.
-use Rattle.std.proofs.Common.{arith, rules, ◌≡◌, ℕ, Bool, true, false, not, ◌&&◌, ◌||◌, ◌==◌, cond, Option, Some, None, is_some, List, [], ◌∷◌, ◌++◌, map, filter, Result, Ok, Err, refl, sym, ap, ◌∙◌}
+use Rattle.std.proofs.Common.{arith, ◌≡◌, ℕ, Bool, true, false, not, ◌&&◌, ◌||◌, ◌==◌, cond, Some, None, is_some, List, [], ◌∷◌, ◌++◌, map, filter, Result, Ok, Err, refl, sym, ap, ◌∙◌}
 use Rattle.std.specs.List.{list_any}
 use Rattle.std.proofs.lemmas.Bool.Decides.{nat_tests}
 use Rattle.dir_model.specs.declared.spot.Handle.{Handle}
@@ -10,7 +10,7 @@ use Rattle.dir_model.specs.declared.opening.Holding.{Holding}
 use Rattle.dir_model.specs.declared.opening.Target.{Target}
 use Rattle.dir_model.specs.declared.request.DirError.{DirError}
 use Rattle.dir_model.specs.declared.request.Request.{Request}
-use Rattle.dir_model.specs.declared.request.Request.TheVariants.{Begin, MakeFolder, MoveFolder, Open, TryLock, Close, Finish, Kill}
+use Rattle.dir_model.specs.declared.request.Request.TheVariants.{Open, TryLock, Close, Finish, Kill}
 use Rattle.dir_model.specs.declared.request.Reply.{Reply}
 use Rattle.dir_model.specs.declared.request.Reply.TheVariants.{Done, Opened, Refused}
 use Rattle.dir_model.specs.Locks.{is_handle}
@@ -19,7 +19,7 @@ use Rattle.dir_model.specs.Trace.{locked, opened, namespace_replied}
 use Rattle.dir_model.specs.Replies.{done_reply}
 use Rattle.dir_model.specs.Calls.{is_kill}
 use Rattle.dir_model.specs.Local.{Local, is_number, with_handle, held_in, with_lock, without, local_replied, is_open_among, is_locking, IsOpen, IsUnopened, IsUnlocked, holding_of, holdings_in}
-use Rattle.dir_model.proofs.Lists.{and_left, and_right, and_false, same_self, any_last, any_last_not, any_fewer, filter_past, filter_push, map_push}
+use Rattle.dir_model.proofs.Lists.{and_left, and_false, same_self, any_last, any_last_not, any_fewer, filter_past, filter_push, map_push}
 
 not_twice : (b : Bool) → not (not b) ≡ b
 not_twice true = refl

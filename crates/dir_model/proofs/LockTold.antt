@@ -1,5 +1,5 @@
 -- An open that was answered, and a try for the lock that was answered, tell whether it was held exclusively.
-use Rattle.std.proofs.Common.{◌≡◌, ◌⊎◌, inl, inr, ℕ, Bool, true, false, not, ◌&&◌, ◌||◌, ◌==◌, cond, Option, Some, None, is_some, List, [], ◌∷◌, map, refl, sym, ap, subst, ◌∙◌}
+use Rattle.std.proofs.Common.{◌≡◌, ◌⊎◌, inl, inr, ℕ, Bool, true, false, not, ◌&&◌, ◌||◌, cond, Some, List, [], ◌∷◌, map, refl, sym, ap, subst, ◌∙◌}
 use Rattle.std.specs.List.{list_any, AllByRecursion}
 use Rattle.dir_model.specs.declared.event.Event.{Event}
 use Rattle.dir_model.specs.declared.opening.Opening.{Opening}
@@ -15,10 +15,10 @@ use Rattle.dir_model.specs.declared.request.Reply.TheVariants.{Done, Opened, Ref
 use Rattle.dir_model.specs.Locks.{is_handle, is_exclusive, is_own, is_folder, owns}
 use Rattle.dir_model.specs.State.{Namespace, DirState, empty_state, folder_at, is_owned, lives}
 use Rattle.dir_model.specs.Trace.{state_after, namespace_replied, locked, opened}
-use Rattle.dir_model.specs.Replies.{is_late_reply, is_locked}
+use Rattle.dir_model.specs.Replies.{is_late_reply}
 use Rattle.dir_model.specs.Calls.{CallStep, TookPlace, LeftNothing, Interference, is_allowed, event}
 use Rattle.dir_model.specs.Between.{LockTold}
-use Rattle.dir_model.proofs.Lists.{and_right, and_false, same_self, any_last, all_push}
+use Rattle.dir_model.proofs.Lists.{and_right, same_self, any_last, all_push}
 use Rattle.dir_model.proofs.Chains.{state_after-push, states_next-append}
 use Rattle.dir_model.proofs.Allowed.{LockSays, open_says, lock_says, held_says}
 use Rattle.dir_model.proofs.Moments.{took_at, some_number}

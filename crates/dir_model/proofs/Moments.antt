@@ -1,5 +1,5 @@
 -- Moments of a call: what held at one of its own steps.
-use Rattle.std.proofs.Common.{◌≡◌, ◌⊎◌, inl, inr, ◌≤◌, ℕ, Bool, true, false, not, ◌||◌, ◌==◌, Option, Some, None, is_some, List, [], ◌∷◌, ◌++◌, refl, sym, ap, subst, ◌∙◌, append_assoc, append-nil}
+use Rattle.std.proofs.Common.{◌≡◌, ◌⊎◌, inl, inr, ◌≤◌, ℕ, Bool, true, false, Option, Some, None, is_some, List, [], ◌∷◌, ◌++◌, refl, sym, ap, subst, ◌∙◌, append_assoc, append-nil}
 use Rattle.dir_model.specs.declared.event.Event.{Event}
 use Rattle.dir_model.specs.declared.spot.Handle.{Handle}
 use Rattle.dir_model.specs.declared.spot.Spot.{Spot}
@@ -13,10 +13,10 @@ use Rattle.dir_model.specs.Areas.{rank}
 use Rattle.dir_model.specs.State.{Namespace, DirState, folder_at, stands, is_owned}
 use Rattle.dir_model.specs.Trace.{state_next, state_after}
 use Rattle.dir_model.specs.Replies.{is_late_reply}
-use Rattle.dir_model.specs.Calls.{Interference, CallStep, TookPlace, LeftNothing, Extends, AtOwnStep, is_allowed, is_foreign, is_kill, event}
+use Rattle.dir_model.specs.Calls.{Interference, CallStep, TookPlace, LeftNothing, Extends, AtOwnStep, is_allowed, is_kill, event}
 use Rattle.dir_model.specs.Between.{StaysBetween, LockTold, IsOwnedAt}
 use Rattle.dir_model.proofs.Lists.{same_self}
-use Rattle.dir_model.proofs.Chains.{state_after-push, nothing_yet}
+use Rattle.dir_model.proofs.Chains.{state_after-push}
 use Rattle.dir_model.proofs.Allowed.{open_says, miss_says}
 
 -- a moment of a part is one of the whole

@@ -1,5 +1,5 @@
 -- While others step, an open handle goes on to stand for its folder, and holds no lock.
-use Rattle.std.proofs.Common.{◌≡◌, ◌⊎◌, inl, inr, ℕ, Bool, true, false, not, ◌&&◌, ◌||◌, ◌==◌, cond, Option, Some, None, List, [], ◌∷◌, ◌++◌, map, filter, find, refl, sym, ap, ◌∙◌, arith}
+use Rattle.std.proofs.Common.{◌≡◌, ◌⊎◌, inl, inr, ℕ, Bool, true, false, not, ◌&&◌, ◌||◌, ◌==◌, cond, Option, Some, None, List, [], ◌∷◌, find, refl, sym, ap, ◌∙◌, arith}
 use Rattle.std.specs.List.{list_any, AllByRecursion}
 use Rattle.std.proofs.lemmas.Bool.Decides.{nat_tests}
 use Rattle.dir_model.specs.declared.event.Event.{Event}
@@ -18,7 +18,7 @@ use Rattle.dir_model.specs.State.{Namespace, DirState, is_owned}
 use Rattle.dir_model.specs.Trace.{state_next, states_next, namespace_replied, locked, opened}
 use Rattle.dir_model.specs.Replies.{is_locked, is_opposed}
 use Rattle.dir_model.specs.Calls.{is_foreign, is_kill}
-use Rattle.dir_model.proofs.Lists.{and_left, and_right, and_false, any_push, any_last, any_filter, any_map, all_filter, all_push, all_map}
+use Rattle.dir_model.proofs.Lists.{and_left, and_false, any_push, any_last, any_filter, any_map, all_filter, all_push, all_map}
 
 clash : (a p me : ℕ) → (a == p) ≡ true → (a == me) ≡ true → (p == me) ≡ false → ⊥
 clash a p me x y z = grind (arith, nat_tests)

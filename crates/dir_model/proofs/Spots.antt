@@ -1,5 +1,5 @@
 -- Locations that are one, and looks at locations.
-use Rattle.std.proofs.Common.{◌≡◌, ℕ, Bool, true, ◌&&◌, ◌==◌, bytes_eq, refl}
+use Rattle.std.proofs.Common.{◌≡◌, Bool, true, ◌==◌, bytes_eq, refl}
 use Rattle.std.proofs.lemmas.Slice.Eq.{bytes_eq-Decides}
 use Rattle.dir_model.specs.declared.spot.Spot.{Spot}
 use Rattle.dir_model.specs.declared.spot.Mode.TheVariants.{Shared, Exclusive}

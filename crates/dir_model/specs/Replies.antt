@@ -13,7 +13,7 @@ use Rattle.dir_model.specs.declared.request.Request.TheVariants.{Begin, MakeFold
 use Rattle.dir_model.specs.declared.request.Reply.{Reply}
 use Rattle.dir_model.specs.declared.request.Reply.TheVariants.{Done, Opened, Refused}
 use Rattle.dir_model.specs.Locks.{is_handle, is_same_lock, opposes}
-use Rattle.dir_model.specs.State.{Namespace, DirState, spot_eq, stands, has_open}
+use Rattle.dir_model.specs.State.{Namespace, DirState, stands, has_open}
 
 -- another handle holds the lock of this opening, in a mode that conflicts
 abbrev pub is_opposed : Namespace → ℕ → Handle → Mode → Option Opening → Bool

@@ -8,6 +8,7 @@ use std::alloc::Global;
 pub struct ByteSink {
     pub bytes: Vec<u8>,
     pub faults: u64,
+    pub shortages: u64,
     pub writes: u64,
     pub failing: u64,
 }
@@ -18,6 +19,7 @@ impl ByteSink {
         ByteSink {
             bytes: Vec::new(alloc),
             faults: 0,
+            shortages: 0,
             writes: 0,
             failing,
         }
@@ -29,9 +31,7 @@ impl Sink for ByteSink {
 
     ghost observed = { true };
 
-    ghost bytes = { λ s. s.bytes.items };
-
-    ghost faults = { λ s. s.faults };
+    ghost shown = { λ s. record { bytes = s.bytes.items; faults = s.faults; shortages = s.shortages } };
 
     fn faults(&self) -> u64 {
         self.faults
@@ -47,7 +47,10 @@ impl Sink for ByteSink {
             [] => Ok(0),
             [first, ..] => match self.bytes.push(*first) {
                 Ok(()) => Ok(1),
-                Err(_) => Err(SinkError::NoMemory),
+                Err(_) => {
+                    self.shortages = self.shortages.saturating_add(1);
+                    Err(SinkError::NoMemory)
+                }
             },
         }
     }

@@ -1,4 +1,5 @@
-use dir_trait::memory::{MemoryBundle, MemoryDir, MemorySink};
+// What the in-memory forms do.
+use dir_memory::{MemoryBundle, MemoryDir, MemorySink};
 use dir_trait::{
     Area, Bundle, BundleError, BundleItem, BundleKind, Dir, Intent, Kind, Name, PodId, PodPrefix,
     Request, Sink, SinkError, Spot, Which,

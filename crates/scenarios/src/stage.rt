@@ -2,7 +2,7 @@
 ghost use Rattle.std.specs.Prelude.{◌≡◌, IfOk};
 ghost use Rattle.dir_trait.specs.Local.{nothing_local};
 
-use dir_trait::memory::{MemoryBundle, MemoryDir, MemorySink};
+use dir_memory::{MemoryBundle, MemoryDir, MemorySink};
 use dir_trait::{
     Area, Draw, Handle, Intent, Kind, Mode, NoMemory, PodId, PodPrefix, Request, Sink, Spot, Which,
 };
@@ -89,6 +89,27 @@ pub fn run_into<O: Sink>(
     let mut err = MemorySink::new(alloc);
     let status = rkt(alloc, &words, 100, &draw(), dir, bundle, out, &mut err);
     Ok((status, err))
+}
+
+/// The exit status of the program on these words, with a directory without pods, an empty bundle and an
+/// error output that takes nothing.
+pub fn status_unheard(alloc: Global, words: &[&str]) -> Result<u8, NoMemory> {
+    let words = texts(alloc, words)?;
+    let mut dir = MemoryDir::new(alloc, 1)?;
+    let mut bundle = MemoryBundle::new(alloc);
+    let mut out = MemorySink::new(alloc);
+    let mut err = MemorySink::new(alloc).fail(alloc, 1)?;
+    let status = rkt(
+        alloc,
+        &words,
+        100,
+        &draw(),
+        &mut dir,
+        &mut bundle,
+        &mut out,
+        &mut err,
+    );
+    Ok(status)
 }
 
 fn pod() -> PodId {

@@ -6,7 +6,7 @@ use crate::byte_sink::ByteSink;
 use crate::stage::{
     POD, intent, left_in, owned_in, run, run_into, shows, spot, with_kill, with_move,
 };
-use dir_trait::memory::{MemoryBundle, MemoryDir, MemorySink};
+use dir_memory::{MemoryBundle, MemoryDir, MemorySink};
 use dir_trait::{Area, Handle, Kind, Mode, NoMemory, Request, Sink, Which};
 use std::alloc::Global;
 use std::test::Fail;
@@ -51,28 +51,50 @@ fn each_place_has_its_phase(rt: HostRuntime) -> Result<(), Fail> {
     Ok(())
 }
 
-// The pod stands in the first place, held by its owner, and moves before that call.
-const MOVES: [(Area, Area, u64, &str); 11] = [
-    (Area::Embryo, Area::Prepare, 2, "state=preparing\n"),
-    (Area::Embryo, Area::Prepare, 3, "state=embryo\n"),
-    (Area::Prepare, Area::Prepared, 3, "state=prepared\n"),
-    (Area::Prepare, Area::Prepared, 4, "state=prepared\n"),
-    (Area::Prepare, Area::Prepared, 5, "state=prepared\n"),
-    (Area::Prepared, Area::Run, 4, "state=running\n"),
-    (Area::Prepared, Area::Run, 5, "state=prepared\n"),
-    (Area::Run, Area::ExitedGarbage, 6, "state=deleting\n"),
-    (Area::Run, Area::ExitedGarbage, 7, "state=deleting\n"),
-    (Area::ExitedGarbage, Area::Garbage, 7, "state=deleting\n"),
-    (Area::ExitedGarbage, Area::Garbage, 8, "state=deleting\n"),
+// Each place by its rank, and the call that looks there last where the pod stands in it. Call 1 is the
+// begin. A place in which the lock says something is opened, asked for the lock, and opened again.
+const LOOKS: [(Area, u64, &str); 6] = [
+    (Area::Embryo, 2, "state=embryo\n"),
+    (Area::Prepare, 5, "state=preparing\n"),
+    (Area::Prepared, 4, "state=prepared\n"),
+    (Area::Run, 7, "state=running\n"),
+    (Area::ExitedGarbage, 8, "state=deleting\n"),
+    (Area::Garbage, 9, "state=deleting\n"),
 ];
 
+/// Whether a pod that its owner moves on before a call is found: where it was until the last look there,
+/// and from then on where it is.
+fn is_found(
+    alloc: Global,
+    from: (Area, u64, &str),
+    to: (Area, u64, &str),
+) -> Result<bool, NoMemory> {
+    for before in 2..11 {
+        let dir = owned_in(alloc, from.0)?;
+        let dir = with_move(alloc, dir, before, from.0, to.0)?;
+        let text = if before <= from.1 { to.2 } else { from.2 };
+        if !shows(alloc, dir, text)? {
+            return Ok(false);
+        }
+    }
+    Ok(true)
+}
+
+/// The same of each later place.
+fn is_found_later(alloc: Global, rank: usize, from: (Area, u64, &str)) -> Result<bool, NoMemory> {
+    for to in LOOKS.iter().skip(rank.saturating_add(1)) {
+        if !is_found(alloc, from, *to)? {
+            return Ok(false);
+        }
+    }
+    Ok(true)
+}
+
 #[test]
-fn a_pod_that_moves_meanwhile_is_found(rt: HostRuntime) -> Result<(), Fail> {
-    for (from, to, before, text) in MOVES {
-        let dir = owned_in(rt.alloc(), from)?;
-        let dir = with_move(rt.alloc(), dir, before, from, to)?;
-        let is = shows(rt.alloc(), dir, text)?;
-        assert!(rt; is);
+fn a_pod_that_moves_on_between_any_two_looks_is_found(rt: HostRuntime) -> Result<(), Fail> {
+    for (rank, from) in LOOKS.iter().enumerate() {
+        let found = is_found_later(rt.alloc(), rank, *from)?;
+        assert!(rt; found);
     }
     Ok(())
 }

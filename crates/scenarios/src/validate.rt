@@ -1,8 +1,8 @@
 // The command `validate` on files of a bundle in memory.
 use crate::byte_sink::ByteSink;
 use crate::stage::{run_into, run_with};
+use dir_memory::{MemoryBundle, MemoryDir, MemorySink};
 use dir_trait::NoMemory;
-use dir_trait::memory::{MemoryBundle, MemoryDir, MemorySink};
 use std::alloc::Global;
 use std::test::Fail;
 

@@ -1,6 +1,6 @@
 // Command lines.
-use crate::stage::{POD, run};
-use dir_trait::memory::MemoryDir;
+use crate::stage::{POD, run, status_unheard};
+use dir_memory::MemoryDir;
 use std::test::Fail;
 
 #[test]
@@ -35,6 +35,20 @@ fn other_words_are_usage_and_call_nothing(rt: HostRuntime) -> Result<(), Fail> {
         let is = ran.is(1, "", "rkt: usage\n");
         assert!(rt; is);
         assert_eq!(rt; dir.history().len(), 0);
+    }
+    Ok(())
+}
+
+#[test]
+fn an_error_output_that_fails_leaves_the_status(rt: HostRuntime) -> Result<(), Fail> {
+    let lines: [(&[&str], u8); 3] = [
+        (&["frob"], 1),
+        (&["status", POD], 2),
+        (&["validate", "x"], 15),
+    ];
+    for (line, status) in lines {
+        let unheard = status_unheard(rt.alloc(), line)?;
+        assert_eq!(rt; unheard, status);
     }
     Ok(())
 }
