@@ -11,7 +11,7 @@ use Rattle.manifests.specs.DocumentData.{DocumentData, any_manifest}
 use Rattle.rkt_cli.specs.declared.line.Line.{Line}
 use Rattle.rkt_cli.specs.declared.line.Line.TheVariants.{Validate}
 use Rattle.rkt_cli.specs.declared.refusal.Refusal.{Refusal}
-use Rattle.rkt_cli.specs.declared.refusal.Refusal.TheVariants.{BadManifest, DirFault, BundleFault, OutFault, NoMemory, NoFile}
+use Rattle.rkt_cli.specs.declared.refusal.Refusal.TheVariants.{BadManifest, DirFault, BundleFault, NoMemory, NoFile}
 use Rattle.rkt_cli.specs.Texts.{status_of, valid_text}
 use Rattle.rkt_cli.specs.Moments.{Outside, Moment, BundleSeen, SinkSeen, Outcome}
 use Rattle.rkt_cli.specs.Ends.{is_own_end}

@@ -1,16 +1,15 @@
 -- Where nobody else steps and nothing fails, a run gives what the state and the bundle before it say.
-use Rattle.std.proofs.Common.{◌≡◌, ◌⊎◌, inl, inr, ℕ, Bool, true, false, ◌||◌, List, Option, Some, None, Ok, Err, IsOk, refl, sym, ap, subst, ◌∙◌}
+use Rattle.std.proofs.Common.{◌≡◌, ◌⊎◌, inl, inr, ℕ, true, false, List, Option, Some, None, Ok, Err, refl, sym, ap, subst, ◌∙◌}
 use Rattle.dir_model.specs.declared.intent.Draw.{Draw}
 use Rattle.dir_model.specs.declared.intent.Intent.{Intent}
 use Rattle.dir_model.specs.declared.intent.Start.{Start}
 use Rattle.dir_model.specs.declared.pod.PodId.{PodId}
 use Rattle.dir_model.specs.declared.request.Request.{Request}
-use Rattle.dir_model.specs.declared.request.Request.TheVariants.{Begin, Finish}
+use Rattle.dir_model.specs.declared.request.Request.TheVariants.{Begin}
 use Rattle.dir_model.specs.declared.request.Reply.TheVariants.{Done}
 use Rattle.dir_model.specs.State.{Namespace, DirState}
 use Rattle.dir_model.specs.Trace.{state_after, state_next}
 use Rattle.dir_model.specs.Calls.{event}
-use Rattle.dir_model.specs.Causes.{Rose}
 use Rattle.dir_model.specs.Quiet.{Quiet, OwnsNothing}
 use Rattle.dir_model.specs.Replies.{is_look, is_look_at, is_any_spot}
 use Rattle.dir_model.proofs.Chains.{extends_wider}

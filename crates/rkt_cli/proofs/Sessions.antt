@@ -8,7 +8,7 @@ use Rattle.dir_model.specs.declared.request.Request.TheVariants.{Begin, Finish}
 use Rattle.dir_model.specs.declared.request.Reply.TheVariants.{Done}
 use Rattle.dir_model.specs.State.{empty_state, has_begun}
 use Rattle.dir_model.specs.Trace.{state_after, state_next, states_next}
-use Rattle.dir_model.specs.Calls.{CallStep, TookPlace, LeftNothing, Extends, IsRun, is_foreign, event}
+use Rattle.dir_model.specs.Calls.{CallStep, TookPlace, LeftNothing, Extends, IsRun, event}
 use Rattle.dir_model.specs.Quiet.{Quiet, OwnsNothing}
 use Rattle.dir_model.proofs.Lists.{all_left, same_rest}
 use Rattle.dir_model.proofs.Allowed.{allowed_step}

@@ -1,5 +1,5 @@
 -- From a run to what a caller is told of it.
-use Rattle.std.proofs.Common.{arith, ◌≤◌, ◌+◌, ◌≡◌, ◌↔◌, ◌⊎◌, inl, inr, ℕ, Bool, true, false, ◌||◌, ◌==◌, List, ◌++◌, Option, Some, None, Ok, Err, IsOk, IfErr, refl, sym, ap, subst, ◌∙◌}
+use Rattle.std.proofs.Common.{arith, ◌≤◌, ◌+◌, ◌≡◌, ◌↔◌, ◌⊎◌, inl, inr, ℕ, Bool, true, false, ◌||◌, ◌==◌, List, ◌++◌, Option, Some, None, Ok, Err, IsOk, refl, sym, ap, subst, ◌∙◌}
 use Rattle.dir_model.specs.declared.event.Event.{Event}
 use Rattle.dir_model.specs.declared.intent.Draw.{Draw}
 use Rattle.dir_model.specs.declared.intent.Intent.{Intent}
@@ -8,7 +8,6 @@ use Rattle.dir_model.specs.declared.request.Request.{Request}
 use Rattle.dir_model.specs.declared.request.Request.TheVariants.{Finish}
 use Rattle.dir_model.specs.Causes.{Rose}
 use Rattle.dir_model.specs.Calls.{Extends, is_begin, is_finish}
-use Rattle.dir_model.specs.Local.{Local, nothing_local}
 use Rattle.dir_model.proofs.Chains.{nothing_yet, step_extends}
 use Rattle.dir_trait.proofs.Askings.{asks_nothing}
 use Rattle.phase_read.specs.declared.found.Found.{Found}
@@ -17,7 +16,6 @@ use Rattle.phase_read.specs.Read.{IsReading, LeftOut, stages}
 use Rattle.phase_read.proofs.InTurn.{left_out_after, left_out_before}
 use Rattle.rkt_cli.specs.declared.line.Line.{Line}
 use Rattle.rkt_cli.specs.declared.line.Line.TheVariants.{Status, Validate}
-use Rattle.rkt_cli.specs.declared.refusal.Refusal.{Refusal}
 use Rattle.rkt_cli.specs.declared.refusal.Refusal.TheVariants.{Usage, NoPod, BadManifest, DirFault, BundleFault, OutFault, NoMemory, NoFile}
 use Rattle.rkt_cli.specs.Texts.{status_of, state_text}
 use Rattle.rkt_cli.specs.Moments.{DirSeen, BundleSeen, Outside, SinkSeen, Moment, Outcome}
@@ -25,10 +23,10 @@ use Rattle.rkt_cli.specs.Ends.{is_own_end}
 use Rattle.rkt_cli.specs.Status.{read_outcome}
 use Rattle.rkt_cli.specs.Validate.{ReadsFile, most_read}
 use Rattle.rkt_cli.specs.Commands.{intent_of, asks, ReadsOnly}
-use Rattle.rkt_cli.specs.Runs.{Performs, End, Unwritten, Printed, Reported, Complained, end_status, Ran, RunIs, ended_local}
+use Rattle.rkt_cli.specs.Runs.{Performs, End, Unwritten, Printed, Reported, Complained, end_status, Ran, RunIs}
 use Rattle.rkt_cli.specs.Statuses.{IsStatus, IsMissing, IsBadManifest, IsNoFile, IsJudgement, asks_in, Prints, IsOutput, IsComplaint, IsAnswer, IsOver, EndsAs, ReadsIn}
 use Rattle.rkt_cli.proofs.Ends.{absurd_number, end_at, bad_manifest_end, no_file_end, status_known, refusal_status, from_end, from_command}
-use Rattle.rkt_cli.proofs.Outcomes.{fault_cause, bundle_cause, refusals_of, answered, WasAnswered, does_validate, validate_told, file_prints, unreadable, no_such_file}
+use Rattle.rkt_cli.proofs.Outcomes.{fault_cause, bundle_cause, refusals_of, answered, does_validate, validate_told, file_prints, unreadable, no_such_file}
 use Rattle.rkt_cli.proofs.Sessions.{any_call, begin_part, finish_part, all_parts}
 
 or_left : (a b : Bool) → a ≡ true → (a || b) ≡ true

@@ -103,10 +103,10 @@ abbrev pub HasRefused : SinkSeen → SinkSeen → Type 0
 HasRefused old new = Rose old.faults new.faults ⊎ Rose old.shortages new.shortages
 
 -- the refusal's message was written to the error output: whole, or a part of it from its start where the error output
--- refused, or where the message takes memory and the program had none
+-- refused, or nothing where the message takes memory and the program had none
 pub record Complained (refusal : Refusal) (old new : SinkSeen) : Type 0 where
   pub part : old.observed ≡ true → WritesPart old.bytes (message refusal) new.bytes
-  pub whole : (old.observed ≡ true → new.bytes ≡ old.bytes ++ message refusal) ⊎ HasRefused old new ⊎ (is_made refusal ≡ true)
+  pub whole : (old.observed ≡ true → new.bytes ≡ old.bytes ++ message refusal) ⊎ HasRefused old new ⊎ ((is_made refusal ≡ true) × (new ≡ old))
 
 -- nothing is said of a command that was done
 abbrev pub Reported : End → SinkSeen → SinkSeen → Type 0

@@ -2,7 +2,6 @@
 use Rattle.std.specs.Prelude.{◌≡◌, ◌⊎◌, ℕ, Bool, true, false, ◌||◌, ◌==◌, List, [], ◌∷◌, ◌++◌, Option, Some, None, Ok, Err, IsOk}
 use Rattle.std.specs.List.{list_any}
 use Rattle.dir_model.specs.declared.area.Phase.{Phase}
-use Rattle.dir_model.specs.declared.event.Event.{Event}
 use Rattle.dir_model.specs.declared.intent.Draw.{Draw}
 use Rattle.dir_model.specs.declared.intent.Intent.{Intent}
 use Rattle.dir_model.specs.declared.request.Request.{Request}
@@ -132,7 +131,7 @@ abbrev pub IsQuietAnswer : Option Line → ℕ → Moment → Moment → Type 0
 IsQuietAnswer line status old new =
     (status ≡ 14)
     ⊎ (IsAnswer (sequential_run line (state_after old.outside.dir.trace) old.outside.bundle.tree) status old new
-        × (uses_dir_in line ≡ true → IsUnchanged (state_after old.outside.dir.trace) (state_after new.outside.dir.trace)))
+    × (uses_dir_in line ≡ true → IsUnchanged (state_after old.outside.dir.trace) (state_after new.outside.dir.trace)))
 
 -- the run answered as the bundle's file is to be judged, or the bundle failed, the line wasn't written or memory ran out
 abbrev pub IsJudgement : Option Line → ℕ → Moment → Moment → Type 0
