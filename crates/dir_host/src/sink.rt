@@ -70,8 +70,8 @@ fn written<W: Write>(writer: &mut W, piece: &[u8]) -> Result<usize, SinkError>
 /// Counts a failure or a want of memory, and hands the refusal on.
 fn counted(faults: &mut u64, shortages: &mut u64, error: SinkError) -> SinkError
     ensures same { result ≡ error }
-    ensures failed { error ≡ SinkError.Failed → Rose faults.old faults.new }
-    ensures short { error ≡ SinkError.NoMemory → Rose shortages.old shortages.new }
+    ensures cause { error ≡ SinkError.Failed → Rose faults.old faults.new }
+    ensures shortage { error ≡ SinkError.NoMemory → Rose shortages.old shortages.new }
     ensures faults { faults.old ≤ faults.new }
     ensures shortages { shortages.old ≤ shortages.new }
     ensures once { faults.new + shortages.new ≤ faults.old + shortages.old + 1 }
