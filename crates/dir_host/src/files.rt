@@ -1,10 +1,11 @@
 // What the system is asked of the files of a bundle. Nothing here counts faults: `Failed` is counted by
 // the bundle that hands it on.
-ghost use Rattle.std.specs.Prelude.{◌≡◌, ◌≤◌, length, string_bytes, IfOk};
+ghost use Rattle.std.specs.Prelude.{◌≡◌, ◌≤◌, ◌++◌, ◌↔◌, min, length, take, drop, string_bytes, IsOk, IfOk, IfErr, OnOk, IsSomeAnd};
+ghost use Rattle.std.specs.Fs.{file_type, IsDir, IsFile, IsSymlink};
 ghost use Rattle.std.specs.IoError.{error_kind};
 ghost use Rattle.dir_trait.specs.Bundles.{IsListing};
 ghost use Rattle.dir_host.specs.Refusals.{bundle_error};
-ghost use Rattle.dir_host.specs.Readings.{GoesOn};
+ghost use Rattle.dir_host.specs.Readings.{GoesOn, StaysOpened};
 
 use dir_trait::{BundleError, BundleItems, BundleKind, FileName, NoMemory, listing_of};
 use std::alloc::{AllocError, Global};
@@ -35,7 +36,10 @@ pub struct OpenedFile {
     file: File,
 }
 
-fn check_regular(metadata: &Metadata) -> Result<(), BundleError> {
+fn check_regular(metadata: &Metadata) -> Result<(), BundleError>
+    ensures regular { IsOk result ↔ IsFile (file_type metadata.now) }
+    ensures missing { IfErr result (λ e. e ≡ BundleError.Missing) }
+{
     if metadata.is_file() {
         Ok(())
     } else {
@@ -121,17 +125,24 @@ pub fn read_file<R: Files<File = File>>(
     at: u64,
     room: &mut [u8],
 ) -> Result<usize, BundleError>
-    ensures { IfOk result (λ n. n ≤ length room.old) }
+    ensures most { IfOk result (λ n. n ≤ length room.old) }
+    ensures stays { StaysOpened opened.old path.now at opened.new }
+    ensures opened { OnOk result (IsSomeAnd opened.new (λ file. string_bytes file.path ≡ path.now)) }
 {
-    let file = file_of_reading(rt, alloc, opened.take(), path, at)?;
-    let count = read_from(&file.file, at, room);
-    *opened = Some(file);
-    count
+    match file_of_reading(rt, alloc, opened.take(), path, at) {
+        Ok(file) => {
+            let count = read_from(&file.file, at, room);
+            *opened = Some(file);
+            count
+        }
+        Err(error) => Err(error),
+    }
 }
 
 /// Writes the bytes over the front of the room, as far as they fit, and answers how many did.
 fn fill(room: &mut [u8], bytes: &[u8]) -> usize
-    ensures { result ≤ length room.old }
+    ensures count { result ≡ min (length bytes.now) (length room.old) }
+    ensures room { room.new ≡ take result bytes.now ++ drop result room.old }
 {
     let count = bytes.len().min(room.len());
     room[..count].copy_from_slice(&bytes[..count]);
@@ -160,7 +171,11 @@ fn short(_error: NoMemory) -> BundleError {
     BundleError::NoMemory
 }
 
-fn kind_of(kind: FileType) -> BundleKind {
+fn kind_of(kind: FileType) -> BundleKind
+    ensures dir { (result ≡ BundleKind.Dir) ↔ IsDir kind }
+    ensures file { (result ≡ BundleKind.File) ↔ IsFile kind }
+    ensures link { (result ≡ BundleKind.Link) ↔ IsSymlink kind }
+{
     if kind.is_dir() {
         BundleKind::Dir
     } else if kind.is_file() {
