@@ -1,41 +1,46 @@
 -- The list of holdings, of the folders that are open.
-use Rattle.std.proofs.Common.{◌≡◌, ℕ, ◌+◌, ◌<◌, Bool, true, false, not, ◌||◌, cond, List, [], ◌∷◌, map, length, Some, option_map, slice_get, set, remove, refl, sym, ◌∙◌, ap, arith}
-use Rattle.std.specs.List.{list_any, position_or_len}
-use Rattle.std.proofs.lemmas.List.{map-set, map-append, drop-map, take-map}
-use Rattle.std.proofs.lemmas.Option.{slice_get-map}
+use Rattle.std.proofs.Common.{◌≡◌, Bool, true, false, not, ◌||◌, cond, Some, None, List, [], ◌∷◌, map, filter, find, refl, sym, ◌∙◌, ap}
+use Rattle.std.specs.List.{list_any}
 use Rattle.dir_model.specs.declared.spot.Handle.{Handle}
 use Rattle.dir_model.specs.declared.spot.Mode.{Mode}
-use Rattle.dir_model.specs.Local.{is_number, is_open_among, place_of, lock_at, held_in}
-use Rattle.dir_trait.proofs.Places.{found_within}
+use Rattle.dir_model.specs.Local.{is_number, is_open_among, held_in}
+use Rattle.dir_model.proofs.Lists.{any_of_map}
 use Rattle.dir_host.specs.declared.open_folders.OpenFolder.{OpenFolder}
 use Rattle.dir_host.specs.OpenFolders.{holdings_of}
 
--- a test of what a map gives is a test of what it is given
-any_map : {X Y : Type 0} (f : X → Y) (p : Y → Bool) (xs : List X) → list_any p (map f xs) ≡ list_any (λ x. p (f x)) xs
-any_map f p [] = refl
-any_map f p (x ∷ xs) = ap (λ b. p (f x) || b) (any_map f p xs)
-
-place_map : {X Y : Type 0} (f : X → Y) (p : Y → Bool) (xs : List X) → position_or_len p (map f xs) ≡ position_or_len (λ x. p (f x)) xs
-place_map f p [] = refl
-place_map f p (x ∷ xs) = ap (λ n. cond (not (p (f x))) (1 + n) 0) (place_map f p xs)
-
 pub holdings_any : (handle : Handle) (folders : List OpenFolder) → is_open_among handle (holdings_of folders) ≡ list_any (λ f. is_number handle f.holding) folders
-holdings_any handle folders = any_map (λ f. f.holding) (is_number handle) folders
+holdings_any handle folders = any_of_map (λ f. f.holding) (is_number handle) folders
 
-pub holdings_place : (handle : Handle) (folders : List OpenFolder) → place_of handle (holdings_of folders) ≡ position_or_len (λ f. is_number handle f.holding) folders
-holdings_place handle folders = place_map (λ f. f.holding) (is_number handle) folders
+-- a folder whose holding changed
+abbrev pub locked_folder : Handle → Mode → OpenFolder → OpenFolder
+locked_folder handle mode f = record f { holding = held_in handle mode f.holding }
 
--- an open handle has a place
-pub holdings_within : (handle : Handle) (folders : List OpenFolder) → is_open_among handle (holdings_of folders) ≡ true → position_or_len (λ f. is_number handle f.holding) folders < length folders
-holdings_within handle folders is_open = found_within (λ f. is_number handle f.holding) folders (sym (holdings_any handle folders) ∙ is_open)
+pub holdings_locked : (handle : Handle) (mode : Mode) (folders : List OpenFolder) → holdings_of (map (locked_folder handle mode) folders) ≡ map (held_in handle mode) (holdings_of folders)
+holdings_locked handle mode [] = refl
+holdings_locked handle mode (f ∷ fs) = ap (λ l. held_in handle mode f.holding ∷ l) (holdings_locked handle mode fs)
 
 -- closing a folder takes its holding away
-pub holdings_removed : (folders : List OpenFolder) (place : ℕ) → holdings_of (remove folders place) ≡ remove (holdings_of folders) place
-holdings_removed folders place = simp (map-append, take-map, drop-map)
+pub holdings_closed : (handle : Handle) (folders : List OpenFolder) → holdings_of (filter (λ f. not (is_number handle f.holding)) folders) ≡ filter (λ h. not (is_number handle h)) (holdings_of folders)
+holdings_closed handle [] = refl
+holdings_closed handle (f ∷ fs) = by (is_number handle f.holding) (holdings_closed handle fs)
+  where
+    by : (b : Bool) → holdings_of (filter (λ g. not (is_number handle g.holding)) fs) ≡ filter (λ h. not (is_number handle h)) (holdings_of fs) → holdings_of (cond (not b) (f ∷ filter (λ g. not (is_number handle g.holding)) fs) (filter (λ g. not (is_number handle g.holding)) fs)) ≡ cond (not b) (f.holding ∷ filter (λ h. not (is_number handle h)) (holdings_of fs)) (filter (λ h. not (is_number handle h)) (holdings_of fs))
+    by true rest = rest
+    by false rest = ap (λ l. f.holding ∷ l) rest
 
--- locking a folder locks its holding
-pub holdings_locked : (mode : Mode) (folders : List OpenFolder) (place : ℕ) (folder locked : OpenFolder) → slice_get folders place ≡ Some folder → locked.holding ≡ held_in mode folder.holding
-    → holdings_of (set folders place locked) ≡ lock_at mode (holdings_of folders) place (slice_get (holdings_of folders) place)
-holdings_locked mode folders place folder locked stands is_locked =
-    let there : slice_get (holdings_of folders) place ≡ Some folder.holding = slice_get-map (λ (f : OpenFolder). f.holding) folders place ∙ ap (option_map (λ (f : OpenFolder). f.holding)) stands in
-    map-set (λ (f : OpenFolder). f.holding) folders place locked ∙ (ap (set (holdings_of folders) place) is_locked ∙ ap (lock_at mode (holdings_of folders) place) (sym there))
+-- where a test passes somewhere, a search finds a place, and there it passes
+pub found_somewhere : {X : Type 0} (t : X → Bool) (xs : List X) → list_any t xs ≡ true → find t xs ≡ None → ⊥
+found_somewhere t [] any none = cc
+found_somewhere t (x ∷ xs) any none = by (t x) any none (λ a n. found_somewhere t xs a n)
+  where
+    by : (b : Bool) → (b || list_any t xs) ≡ true → cond b (Some x) (find t xs) ≡ None → (list_any t xs ≡ true → find t xs ≡ None → ⊥) → ⊥
+    by true any none later = cc
+    by false any none later = later any none
+
+pub found_passes : {X : Type 0} (t : X → Bool) (xs : List X) (y : X) → find t xs ≡ Some y → t y ≡ true
+found_passes t [] y is = cc
+found_passes t (x ∷ xs) y is = by (t x) refl is (λ later. found_passes t xs y later)
+  where
+    by : (b : Bool) → t x ≡ b → cond b (Some x) (find t xs) ≡ Some y → (find t xs ≡ Some y → t y ≡ true) → t y ≡ true
+    by true passes is later = let same : x ≡ y = cc in ap t (sym same) ∙ passes
+    by false passes is later = later is

@@ -2,3 +2,4 @@ pub mod Places
 pub mod OpenFolders
 pub mod Setup
 pub mod Refusals
+pub mod Readings

@@ -1,28 +1,34 @@
 // The files of the host are a `Bundle`.
-ghost use Rattle.std.specs.Prelude.{◌≡◌, ◌≤◌};
+ghost use Rattle.std.specs.Prelude.{◌≡◌, ◌≢◌, ◌≤◌, ◌+◌, [], codes};
 ghost use Rattle.dir_model.specs.Causes.{Rose};
 
-use crate::files::{list_folder, read_file, read_target};
+use crate::files::{OpenedFile, list_folder, read_file, read_target};
 use dir_trait::{Bundle, BundleError, BundleItems};
 use std::alloc::Global;
 use std::fs::File;
 use std::rt::Files;
 
 /// The files of the host. A path is any of the host's, seen from the current folder. Symbolic links are
-/// followed, but not by `read_link` and `list` at the last name. Each failure of the system is counted
-/// once.
+/// followed, but not by `read_link` and `list` at the last name. A read from a file's start opens it, and
+/// the next reads at that path go on in it, whatever stands there by then. Each failure of the system is
+/// counted once.
 #[derive(Drop)]
 pub struct HostBundle<R: Files<File = File> + AllocGlobal + Clone + Drop> {
     rt: R,
+    opened: Option<OpenedFile>,
     faults: u64,
 }
 
 impl<R: Files<File = File> + AllocGlobal + Clone + Drop> HostBundle<R> {
     /// All files that the system has. The bundle hasn't failed.
     pub fn new(rt: R) -> HostBundle<R>
-        ensures { ⟦<HostBundle<R> as Bundle>⟧.faults result ≡ 0 }
+        ensures { (⟦<HostBundle<R> as Bundle>⟧.shown result).faults ≡ 0 }
     {
-        HostBundle { rt, faults: 0 }
+        HostBundle {
+            rt,
+            opened: None,
+            faults: 0,
+        }
     }
 }
 
@@ -31,6 +37,8 @@ fn counted(faults: &mut u64, error: BundleError) -> BundleError
     ensures same { result ≡ error }
     ensures kept { faults.old ≤ faults.new }
     ensures rose { error ≡ BundleError.Failed → Rose faults.old faults.new }
+    ensures once { error ≡ BundleError.Failed → faults.new ≤ faults.old + 1 }
+    ensures calm { error ≢ BundleError.Failed → faults.new ≡ faults.old }
 {
     if error == BundleError::Failed {
         *faults = faults.saturating_add(1);
@@ -39,18 +47,19 @@ fn counted(faults: &mut u64, error: BundleError) -> BundleError
 }
 
 /// The path, where the empty one is the current folder's.
-fn path_or_here(path: &str) -> &str {
+fn path_or_here(path: &str) -> &str
+    ensures here { path.now ≡ [] → result.now ≡ codes "." }
+    ensures same { path.now ≢ [] → result.now ≡ path.now }
+{
     if path.is_empty() { "." } else { path }
 }
 
 impl<R: Files<File = File> + AllocGlobal + Clone + Drop> Bundle for HostBundle<R> {
-    ghost use Rattle.std.specs.Prelude.{false, None};
+    ghost use Rattle.std.specs.Prelude.{false, None, []};
 
     ghost observed = { false };
 
-    ghost tree = { λ _ _. None };
-
-    ghost faults = { λ b. b.faults };
+    ghost shown = { λ b. record { tree = λ _. None; faults = b.faults; given = 0; asked = [] } };
 
     fn faults(&self) -> u64 {
         self.faults
@@ -58,12 +67,12 @@ impl<R: Files<File = File> + AllocGlobal + Clone + Drop> Bundle for HostBundle<R
 
     fn read(
         &mut self,
-        _alloc: Global,
+        alloc: Global,
         path: &str,
         at: u64,
         room: &mut [u8],
     ) -> Result<usize, BundleError> {
-        match read_file(&self.rt, path, at, room) {
+        match read_file(&self.rt, alloc, &mut self.opened, path, at, room) {
             Ok(count) => Ok(count),
             Err(error) => Err(counted(&mut self.faults, error)),
         }

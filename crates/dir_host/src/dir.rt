@@ -1,10 +1,10 @@
 // A folder of the host is a `Dir`.
-ghost use Rattle.std.specs.Prelude.{◌≡◌, ◌≤◌, [], true, false, IsErrOf, IfErr};
+ghost use Rattle.std.specs.Prelude.{◌≡◌, ◌≢◌, ◌≤◌, ◌+◌, [], true, false, IsErrOf, IfErr};
 ghost use Rattle.dir_model.specs.Causes.{Rose};
 ghost use Rattle.dir_model.specs.Local.{nothing_local};
 
-use crate::open_folders::{OpenFolder, give_up, keep, place_of_handle, set_lock};
-use crate::system::{lock_folder, make_folder, move_folder, open_folder};
+use crate::open_folders::{OpenFolder, give_up, keep, set_lock};
+use crate::system::{lock_handle, make_folder, move_folder, open_folder};
 use dir_trait::{Dir, DirError, Handle, Intent, Mode, Spot, Which};
 use std::alloc::Global;
 use std::fs::File;
@@ -18,7 +18,7 @@ pub struct HostDir<R: Files<File = File> + Drop> {
     root: String,
     process: u32,
     faults: u64,
-    begun: bool,
+    intent: Option<Intent>,
     finished: bool,
     folders: Vec<OpenFolder>,
 }
@@ -26,16 +26,16 @@ pub struct HostDir<R: Files<File = File> + Drop> {
 impl<R: Files<File = File> + Drop> HostDir<R> {
     /// The data folder at a path, of a process that hasn't begun.
     pub fn new(alloc: Global, rt: R, root: String, process: u32) -> HostDir<R>
-        ensures local { ⟦<HostDir<R> as Dir>⟧.local result ≡ nothing_local }
-        ensures process { ⟦<HostDir<R> as Dir>⟧.process result ≡ process }
-        ensures faults { ⟦<HostDir<R> as Dir>⟧.faults result ≡ 0 }
+        ensures local { (⟦<HostDir<R> as Dir>⟧.shown result).local ≡ nothing_local }
+        ensures process { (⟦<HostDir<R> as Dir>⟧.shown result).process ≡ process }
+        ensures faults { (⟦<HostDir<R> as Dir>⟧.shown result).faults ≡ 0 }
     {
         HostDir {
             rt,
             root,
             process,
             faults: 0,
-            begun: false,
+            intent: None,
             finished: false,
             folders: Vec::new(alloc),
         }
@@ -47,6 +47,8 @@ fn counted(faults: &mut u64, error: DirError) -> DirError
     ensures same { result ≡ error }
     ensures kept { faults.old ≤ faults.new }
     ensures rose { error ≡ DirError.Failed → Rose faults.old faults.new }
+    ensures once { error ≡ DirError.Failed → faults.new ≤ faults.old + 1 }
+    ensures calm { error ≢ DirError.Failed → faults.new ≡ faults.old }
 {
     if error == DirError::Failed {
         *faults = faults.saturating_add(1);
@@ -60,15 +62,13 @@ impl<R: Files<File = File> + Drop> Dir for HostDir<R> {
 
     ghost observed = { false };
 
-    ghost trace = { λ _. [] };
-
-    ghost local = { λ d. record { begun = d.begun; finished = d.finished; holdings = holdings_of d.folders.items } };
-
-    ghost process = { λ d. d.process };
-
-    ghost faults = { λ d. d.faults };
-
-    ghost calls = { λ _. 0 };
+    ghost shown = { λ d. record {
+      process = d.process;
+      faults = d.faults;
+      calls = 0;
+      local = record { intent = d.intent; finished = d.finished; holdings = holdings_of d.folders.items };
+      trace = [];
+    } };
 
     fn faults(&self) -> u64 {
         self.faults
@@ -78,8 +78,8 @@ impl<R: Files<File = File> + Drop> Dir for HostDir<R> {
         self.process
     }
 
-    fn begin(&mut self, _alloc: Global, _intent: Intent) -> Result<(), DirError> {
-        self.begun = true;
+    fn begin(&mut self, _alloc: Global, intent: Intent) -> Result<(), DirError> {
+        self.intent = Some(intent);
         Ok(())
     }
 
@@ -105,8 +105,7 @@ impl<R: Files<File = File> + Drop> Dir for HostDir<R> {
     }
 
     fn try_lock(&mut self, _alloc: Global, handle: Handle, mode: Mode) -> Result<(), DirError> {
-        let place = place_of_handle(&self.folders, handle);
-        match lock_folder(&self.folders[place].folder, mode) {
+        match lock_handle(&self.folders, handle, mode) {
             Ok(()) => {
                 set_lock(&mut self.folders, handle, mode);
                 Ok(())

@@ -1,14 +1,16 @@
 // What the system is asked of the files of a bundle. Nothing here counts faults: `Failed` is counted by
 // the bundle that hands it on.
-ghost use Rattle.std.specs.Prelude.{◌≡◌, ◌≤◌, length, IfOk};
+ghost use Rattle.std.specs.Prelude.{◌≡◌, ◌≤◌, ◌++◌, ◌↔◌, min, length, take, drop, string_bytes, IsOk, IfOk, IfErr, OnOk, IsSomeAnd};
+ghost use Rattle.std.specs.Fs.{file_type, IsDir, IsFile, IsSymlink};
 ghost use Rattle.std.specs.IoError.{error_kind};
 ghost use Rattle.dir_trait.specs.Bundles.{IsListing};
 ghost use Rattle.dir_host.specs.Refusals.{bundle_error};
+ghost use Rattle.dir_host.specs.Readings.{GoesOn, StaysOpened};
 
 use dir_trait::{BundleError, BundleItems, BundleKind, FileName, NoMemory, listing_of};
 use std::alloc::{AllocError, Global};
 use std::collections::BTreeMap;
-use std::fs::{DirEntry, File, FileType};
+use std::fs::{DirEntry, File, FileType, Metadata};
 use std::io::ErrorKind;
 use std::os::unix::fs::FileExt;
 use std::rt::Files;
@@ -27,12 +29,56 @@ fn refusal(error: io::Error) -> BundleError
     }
 }
 
-/// Opens a regular file. Looks first, since to open a pipe would wait for its other end.
+/// A file that was opened, and at which path.
+#[derive(Drop)]
+pub struct OpenedFile {
+    path: String,
+    file: File,
+}
+
+fn check_regular(metadata: &Metadata) -> Result<(), BundleError>
+    ensures regular { IsOk result ↔ IsFile (file_type metadata.now) }
+    ensures missing { IfErr result (λ e. e ≡ BundleError.Missing) }
+{
+    if metadata.is_file() {
+        Ok(())
+    } else {
+        Err(BundleError::Missing)
+    }
+}
+
+/// Opens a regular file. Looks first, since to open a pipe would wait for its other end, and looks at
+/// what was opened, since another thing may stand there by then.
 fn open_file<R: Files<File = File>>(rt: &R, path: &str) -> Result<File, BundleError> {
-    match fs::metadata(rt, path) {
-        Ok(metadata) if metadata.is_file() => File::open(rt, path).map_err(refusal),
-        Ok(_) => Err(BundleError::Missing),
-        Err(error) => Err(refusal(error)),
+    let found = fs::metadata(rt, path).map_err(refusal)?;
+    check_regular(&found)?;
+    let file = File::open(rt, path).map_err(refusal)?;
+    let opened = file.metadata().map_err(refusal)?;
+    check_regular(&opened)?;
+    Ok(file)
+}
+
+/// The file in which a reading of the path goes on: the one that is opened, where it is that path's and
+/// the reading isn't at its start, and else one that is opened anew.
+fn file_of_reading<R: Files<File = File>>(
+    rt: &R,
+    alloc: Global,
+    opened: Option<OpenedFile>,
+    path: &str,
+    at: u64,
+) -> Result<OpenedFile, BundleError>
+    ensures kept { GoesOn opened path.now at result }
+    ensures path { IfOk result (λ opened. string_bytes opened.path ≡ path.now) }
+{
+    if let Some(opened) = opened {
+        if at > 0 && opened.path.as_str() == path {
+            return Ok(opened);
+        }
+    }
+    let file = open_file(rt, path)?;
+    match String::from_str(alloc, path) {
+        Ok(path) => Ok(OpenedFile { path, file }),
+        Err(_) => Err(BundleError::NoMemory),
     }
 }
 
@@ -54,19 +100,13 @@ fn read_part(file: &File, at: u64, room: &mut [u8]) -> io::Result<usize>
     Err(io::Error::from(ErrorKind::Interrupted))
 }
 
-/// Fills the room with the bytes of a file from a place on, and answers how many it filled.
-pub fn read_file<R: Files<File = File>>(
-    rt: &R,
-    path: &str,
-    at: u64,
-    room: &mut [u8],
-) -> Result<usize, BundleError>
+/// Fills the room with the bytes of the file from a place on, and answers how many it filled.
+fn read_from(file: &File, at: u64, room: &mut [u8]) -> Result<usize, BundleError>
     ensures { IfOk result (λ n. n ≤ length room.old) }
 {
-    let file = open_file(rt, path)?;
     let mut count = 0;
     'parts: while count < room.len() {
-        match read_part(&file, at.saturating_add(count as u64), &mut room[count..]) {
+        match read_part(file, at.saturating_add(count as u64), &mut room[count..]) {
             Ok(0) => return Ok(count),
             Ok(more) => count += more,
             Err(error) => return Err(refusal(error)),
@@ -75,9 +115,34 @@ pub fn read_file<R: Files<File = File>>(
     Ok(count)
 }
 
+/// Fills the room with the bytes of the file at a path from a place on, and answers how many it filled.
+/// The file stays opened for the next piece.
+pub fn read_file<R: Files<File = File>>(
+    rt: &R,
+    alloc: Global,
+    opened: &mut Option<OpenedFile>,
+    path: &str,
+    at: u64,
+    room: &mut [u8],
+) -> Result<usize, BundleError>
+    ensures most { IfOk result (λ n. n ≤ length room.old) }
+    ensures stays { StaysOpened opened.old path.now at opened.new }
+    ensures opened { OnOk result (IsSomeAnd opened.new (λ file. string_bytes file.path ≡ path.now)) }
+{
+    match file_of_reading(rt, alloc, opened.take(), path, at) {
+        Ok(file) => {
+            let count = read_from(&file.file, at, room);
+            *opened = Some(file);
+            count
+        }
+        Err(error) => Err(error),
+    }
+}
+
 /// Writes the bytes over the front of the room, as far as they fit, and answers how many did.
 fn fill(room: &mut [u8], bytes: &[u8]) -> usize
-    ensures { result ≤ length room.old }
+    ensures count { result ≡ min (length bytes.now) (length room.old) }
+    ensures room { room.new ≡ take result bytes.now ++ drop result room.old }
 {
     let count = bytes.len().min(room.len());
     room[..count].copy_from_slice(&bytes[..count]);
@@ -106,7 +171,11 @@ fn short(_error: NoMemory) -> BundleError {
     BundleError::NoMemory
 }
 
-fn kind_of(kind: FileType) -> BundleKind {
+fn kind_of(kind: FileType) -> BundleKind
+    ensures dir { (result ≡ BundleKind.Dir) ↔ IsDir kind }
+    ensures file { (result ≡ BundleKind.File) ↔ IsFile kind }
+    ensures link { (result ≡ BundleKind.Link) ↔ IsSymlink kind }
+{
     if kind.is_dir() {
         BundleKind::Dir
     } else if kind.is_file() {

@@ -1,10 +1,12 @@
-// The folders that this process has open, the newest first.
-ghost use Rattle.std.specs.Prelude.{◌≡◌, ◌+◌, ◌<◌, ◌∷◌, length, true, false, None, position, remove, slice_get, IfSome, IfOk, IfErr, OnErr};
+// The folders that this process has open, the newest last.
+ghost use Rattle.std.specs.Prelude.{◌≡◌, ◌++◌, ◌∷◌, [], map, filter, find, not, true, false, None, IfSome, IfOk, IfErr, OnErr};
 ghost use Rattle.std.specs.List.{list_any};
-ghost use Rattle.dir_model.specs.Local.{is_number, is_open_among, place_of, lock_at};
+ghost use Rattle.std.specs.Option.{option_copied};
+ghost use Rattle.dir_model.specs.Local.{is_number, is_open_among, held_in};
+ghost use Rattle.dir_model.specs.Locks.{target_of};
 ghost use Rattle.dir_host.specs.OpenFolders.{holdings_of};
 
-use dir_trait::{DirError, Handle, Holding, Mode, Spot, Which};
+use dir_trait::{DirError, Handle, Holding, Mode, Spot, Target, Which};
 use std::fs::File;
 
 /// An open folder. Its lock is given up where it is dropped.
@@ -36,24 +38,20 @@ fn unused_handle(folders: &[OpenFolder]) -> Option<Handle>
     None
 }
 
-fn first_place(folders: &[OpenFolder], handle: Handle) -> Option<usize>
-    ensures { result ≡ position (λ f. is_number handle f.holding) folders.now }
+/// The folder that is open under a handle.
+pub fn folder_of<'a>(folders: &'a [OpenFolder], handle: Handle) -> Option<&'a OpenFolder>
+    ensures { option_copied result ≡ find (λ f. is_number handle f.holding) folders.now }
 {
     folders
         .iter()
-        .position(|f| f.holding.handle.number == handle.number)
+        .find(|f| f.holding.handle.number == handle.number)
 }
 
-/// Where the newest with that handle stands.
-#[tactic(auto, using(crate::proofs::Holdings::holdings_place, crate::proofs::Holdings::holdings_within))]
-pub fn place_of_handle(folders: &[OpenFolder], handle: Handle) -> usize
-    requires { is_open_among handle (holdings_of folders.now) ≡ true }
-    ensures place { result ≡ place_of handle (holdings_of folders.now) }
-    ensures within { result < length folders.now }
+fn target_of(spot: &Spot, which: Which) -> Target
+    ensures { result ≡ target_of spot.now which }
 {
-    match first_place(folders, handle) {
-        Some(place) => place,
-        None => folders.len(),
+    match which {
+        Which::Own => Target::Own(*spot),
     }
 }
 
@@ -65,7 +63,8 @@ pub fn keep(
     which: Which,
 ) -> Result<Handle, DirError>
     ensures unopened { IfOk result (λ handle. is_open_among handle (holdings_of folders.old.items) ≡ false) }
-    ensures kept { IfOk result (λ handle. holdings_of folders.new.items ≡ record { handle = handle; spot = spot.now; which = which; lock = None } ∷ holdings_of folders.old.items) }
+    ensures kept { IfOk result (λ handle. holdings_of folders.new.items
+        ≡ holdings_of folders.old.items ++ record { handle = handle; target = target_of spot.now which; lock = None } ∷ []) }
     ensures only { IfErr result (λ e. e ≡ DirError.NoMemory) }
     ensures refused { OnErr result (holdings_of folders.new.items ≡ holdings_of folders.old.items) }
 {
@@ -74,30 +73,41 @@ pub fn keep(
     };
     let holding = Holding {
         handle,
-        spot: *spot,
-        which,
+        target: target_of(spot, which),
         lock: None,
     };
-    match folders.insert(0, OpenFolder { holding, folder }) {
+    match folders.push(OpenFolder { holding, folder }) {
         Ok(()) => Ok(handle),
         Err(_) => Err(DirError::NoMemory),
     }
 }
 
-/// The newest with that handle is locked.
-pub fn set_lock(folders: &mut Vec<OpenFolder>, handle: Handle, mode: Mode)
-    requires { is_open_among handle (holdings_of folders.old.items) ≡ true }
-    ensures { holdings_of folders.new.items ≡ lock_at mode (holdings_of folders.old.items) (place_of handle (holdings_of folders.old.items)) (slice_get (holdings_of folders.old.items) (place_of handle (holdings_of folders.old.items))) }
+fn held_by(holding: Holding, handle: Handle, mode: Mode) -> Holding
+    ensures { result ≡ held_in handle mode holding }
 {
-    let place = place_of_handle(folders, handle);
-    folders[place].holding.lock = Some(mode);
+    if holding.handle.number == handle.number {
+        Holding {
+            handle: holding.handle,
+            target: holding.target,
+            lock: Some(mode),
+        }
+    } else {
+        holding
+    }
 }
 
-/// The newest with that handle is closed.
-pub fn give_up(folders: &mut Vec<OpenFolder>, handle: Handle)
-    requires { is_open_among handle (holdings_of folders.old.items) ≡ true }
-    ensures { holdings_of folders.new.items ≡ remove (holdings_of folders.old.items) (place_of handle (holdings_of folders.old.items)) }
+/// The handle holds its lock.
+pub fn set_lock(folders: &mut [OpenFolder], handle: Handle, mode: Mode)
+    ensures { holdings_of folders.new ≡ map (held_in handle mode) (holdings_of folders.old) }
 {
-    let place = place_of_handle(folders, handle);
-    let _closed = folders.remove(place);
+    for open in folders.iter_mut() {
+        open.holding = held_by(open.holding, handle, mode);
+    }
+}
+
+/// The handle is given up, and its lock. Takes no memory.
+pub fn give_up(folders: &mut Vec<OpenFolder>, handle: Handle)
+    ensures { holdings_of folders.new.items ≡ filter (λ h. not (is_number handle h)) (holdings_of folders.old.items) }
+{
+    folders.retain(|f| f.holding.handle.number != handle.number);
 }

@@ -2,7 +2,7 @@
 ghost use Rattle.std.specs.Prelude.{◌≡◌, IfOk, IsErrOf};
 ghost use Rattle.uuid.specs.Parts.{with_version, with_variant};
 ghost use Rattle.dir_model.specs.Local.{nothing_local};
-ghost use Rattle.dir_host.specs.Setup.{setup_status, setup_line, StandsFor};
+ghost use Rattle.dir_host.specs.Setup.{StandsFor};
 ghost use Rattle.dir_host.specs.declared.outside.SetupError.TheVariants.{NoMemory};
 
 use crate::dir::HostDir;
@@ -26,30 +26,6 @@ pub enum SetupError {
     DirFault,
     /// Memory ran out.
     NoMemory,
-}
-
-impl SetupError {
-    /// The exit status.
-    pub fn status(self) -> u8
-        ensures { result ≡ setup_status self }
-    {
-        match self {
-            SetupError::Usage => 1,
-            SetupError::DirFault => 9,
-            SetupError::NoMemory => 14,
-        }
-    }
-
-    /// The line for standard error, with its line feed.
-    pub fn line(self) -> &'static str
-        ensures { result.now ≡ setup_line self }
-    {
-        match self {
-            SetupError::Usage => "rkt: usage\n",
-            SetupError::DirFault => "rkt: directory fault\n",
-            SetupError::NoMemory => "rkt: out of memory\n",
-        }
-    }
 }
 
 impl From<AllocError> for SetupError {
@@ -171,9 +147,9 @@ pub fn assemble<R: Files<File = File> + Env + Clock + AllocGlobal + Drop>(
     process: u32,
 ) -> Result<Outside<R>, SetupError>
     ensures words { IsErrOf result SetupError.Usage → ⊥ }
-    ensures local { IfOk result (λ outside. ⟦<HostDir<R> as Dir>⟧.local outside.dir ≡ nothing_local) }
-    ensures process { IfOk result (λ outside. ⟦<HostDir<R> as Dir>⟧.process outside.dir ≡ process) }
-    ensures faults { IfOk result (λ outside. ⟦<HostDir<R> as Dir>⟧.faults outside.dir ≡ 0) }
+    ensures local { IfOk result (λ outside. (⟦<HostDir<R> as Dir>⟧.shown outside.dir).local ≡ nothing_local) }
+    ensures process { IfOk result (λ outside. (⟦<HostDir<R> as Dir>⟧.shown outside.dir).process ≡ process) }
+    ensures faults { IfOk result (λ outside. (⟦<HostDir<R> as Dir>⟧.shown outside.dir).faults ≡ 0) }
 {
     let root = find_root(&rt)?;
     make_areas(&rt, root.as_str())?;

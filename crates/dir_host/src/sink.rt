@@ -1,5 +1,6 @@
 // A stream of the host is a `Sink`.
-ghost use Rattle.std.specs.Prelude.{◌≡◌, ◌≤◌, ◌<◌, ◌↔◌, length, IfOk};
+ghost use Rattle.std.specs.Prelude.{◌≡◌, ◌≤◌, ◌<◌, ◌+◌, ◌↔◌, length, IfOk};
+ghost use Rattle.dir_model.specs.Causes.{Rose};
 ghost use Rattle.std.specs.IoError.{error_kind};
 
 use dir_trait::{Sink, SinkError};
@@ -7,19 +8,26 @@ use std::alloc::Global;
 use std::io;
 use std::io::{ErrorKind, Write};
 
-/// Standard output or standard error, or another writer. Each write that fails is counted once.
+/// Standard output or standard error, or another writer. Each write that fails is counted once, and
+/// each for which memory is short by a count of its own.
 #[derive(Drop)]
 pub struct HostSink<W: Write + Drop> {
     writer: W,
     faults: u64,
+    shortages: u64,
 }
 
 impl<W: Write + Drop> HostSink<W> {
-    /// A sink that writes here, and hasn't failed.
+    /// A sink that writes here, and hasn't refused.
     pub fn new(writer: W) -> HostSink<W>
-        ensures { ⟦<HostSink<W> as Sink>⟧.faults result ≡ 0 }
+        ensures faults { (⟦<HostSink<W> as Sink>⟧.shown result).faults ≡ 0 }
+        ensures shortages { (⟦<HostSink<W> as Sink>⟧.shown result).shortages ≡ 0 }
     {
-        HostSink { writer, faults: 0 }
+        HostSink {
+            writer,
+            faults: 0,
+            shortages: 0,
+        }
     }
 }
 
@@ -59,14 +67,28 @@ fn written<W: Write>(writer: &mut W, piece: &[u8]) -> Result<usize, SinkError>
     }
 }
 
+/// Counts a failure or a want of memory, and hands the refusal on.
+fn counted(faults: &mut u64, shortages: &mut u64, error: SinkError) -> SinkError
+    ensures same { result ≡ error }
+    ensures cause { error ≡ SinkError.Failed → Rose faults.old faults.new }
+    ensures shortage { error ≡ SinkError.NoMemory → Rose shortages.old shortages.new }
+    ensures faults { faults.old ≤ faults.new }
+    ensures shortages { shortages.old ≤ shortages.new }
+    ensures once { faults.new + shortages.new ≤ faults.old + shortages.old + 1 }
+{
+    match error {
+        SinkError::Failed => *faults = faults.saturating_add(1),
+        SinkError::NoMemory => *shortages = shortages.saturating_add(1),
+    }
+    error
+}
+
 impl<W: Write + Drop> Sink for HostSink<W> {
     ghost use Rattle.std.specs.Prelude.{false, []};
 
     ghost observed = { false };
 
-    ghost bytes = { λ _. [] };
-
-    ghost faults = { λ s. s.faults };
+    ghost shown = { λ s. record { bytes = []; faults = s.faults; shortages = s.shortages } };
 
     fn faults(&self) -> u64 {
         self.faults
@@ -78,11 +100,7 @@ impl<W: Write + Drop> Sink for HostSink<W> {
         }
         match written(&mut self.writer, piece) {
             Ok(count) => Ok(count),
-            Err(SinkError::NoMemory) => Err(SinkError::NoMemory),
-            Err(SinkError::Failed) => {
-                self.faults = self.faults.saturating_add(1);
-                Err(SinkError::Failed)
-            }
+            Err(error) => Err(counted(&mut self.faults, &mut self.shortages, error)),
         }
     }
 }

@@ -3,9 +3,12 @@
 ghost use Rattle.std.specs.Prelude.{◌≡◌, ◌⊎◌, ◌↔◌, true, IfErr};
 ghost use Rattle.std.specs.IoError.{error_kind};
 ghost use Rattle.dir_model.specs.Replies.{is_fault, may_refuse};
+ghost use Rattle.dir_model.specs.Local.{is_number, is_open_among};
+ghost use Rattle.dir_host.specs.OpenFolders.{holdings_of};
 
+use crate::open_folders::{OpenFolder, folder_of};
 use crate::place::{path_of_area, path_of_folder};
-use dir_trait::{Area, DirError, Mode, Request, Spot};
+use dir_trait::{Area, DirError, Handle, Mode, Request, Spot};
 use std::alloc::{AllocError, Global};
 use std::fs::{File, TryLockError};
 use std::io::ErrorKind;
@@ -109,7 +112,8 @@ pub fn move_folder<R: Files>(
 
 /// Why a folder that was looked at wasn't moved: it has gone since, or another came before it.
 fn move_refusal(error: io::Error) -> DirError
-    ensures { (result ≡ DirError.Missing) ⊎ (result ≡ DirError.Exists) ⊎ (is_fault result ≡ true) }
+    ensures missing { (result ≡ DirError.Missing) ↔ (error_kind error ≡ ErrorKind.NotFound) }
+    ensures refusals { (result ≡ DirError.Missing) ⊎ (result ≡ DirError.Exists) ⊎ (is_fault result ≡ true) }
 {
     match error.kind() {
         ErrorKind::NotFound => DirError::Missing,
@@ -142,17 +146,29 @@ pub fn open_folder<R: Files<File = File>>(
     }
 }
 
-/// Asks for the lock of an open folder, and doesn't wait for it.
-pub fn lock_folder(folder: &File, mode: Mode) -> Result<(), DirError>
+/// Asks for the lock of the folder that is open under the handle, and doesn't wait for it.
+fn lock_folder(locked: &OpenFolder, handle: Handle, mode: Mode) -> Result<(), DirError>
+    requires { is_number handle locked.now.holding ≡ true }
     ensures { IfErr result (λ e. (e ≡ DirError.Locked) ⊎ (is_fault e ≡ true)) }
 {
     let answer = match mode {
-        Mode::Shared => folder.try_lock_shared(),
-        Mode::Exclusive => folder.try_lock(),
+        Mode::Shared => locked.folder.try_lock_shared(),
+        Mode::Exclusive => locked.folder.try_lock(),
     };
     match answer {
         Ok(()) => Ok(()),
         Err(TryLockError::WouldBlock) => Err(DirError::Locked),
         Err(TryLockError::Error(error)) => Err(fault(error)),
+    }
+}
+
+/// Asks for the lock of an open handle, and doesn't wait for it.
+pub fn lock_handle(folders: &[OpenFolder], handle: Handle, mode: Mode) -> Result<(), DirError>
+    requires { is_open_among handle (holdings_of folders.now) ≡ true }
+    ensures { IfErr result (λ e. (e ≡ DirError.Locked) ⊎ (is_fault e ≡ true)) }
+{
+    match folder_of(folders, handle) {
+        Some(folder) => lock_folder(folder, handle, mode),
+        None => unreachable!(),
     }
 }

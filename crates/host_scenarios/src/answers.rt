@@ -9,6 +9,7 @@ use dir_trait::{
 use std::alloc::Global;
 use std::io::{ErrorKind, Write};
 use std::os::unix::fs::symlink;
+use std::os::unix::io::AsRawFd;
 use std::test::Fail;
 use std::{env, fs, io};
 
@@ -33,8 +34,8 @@ fn intent() -> Intent {
 
 /// Opens a folder, closes it, and says why it couldn't be opened.
 fn look<D: Dir>(dir: &mut D, alloc: Global, area: Area) -> Option<DirError>
-    requires { IsActive (D.local dir.old) }
-    ensures { IsActive (D.local dir.new) }
+    requires { IsActive (D.shown dir.old).local }
+    ensures { IsActive (D.shown dir.new).local }
 {
     match dir.open(alloc, pod(area), Which::Own) {
         Ok(handle) => {
@@ -47,8 +48,8 @@ fn look<D: Dir>(dir: &mut D, alloc: Global, area: Area) -> Option<DirError>
 
 /// Opens a folder and locks it, and says why it couldn't be. The handle stays open.
 fn lock<D: Dir>(dir: &mut D, alloc: Global, area: Area, mode: Mode) -> Option<DirError>
-    requires { IsActive (D.local dir.old) }
-    ensures { IsActive (D.local dir.new) }
+    requires { IsActive (D.shown dir.old).local }
+    ensures { IsActive (D.shown dir.new).local }
 {
     match dir.open(alloc, pod(area), Which::Own) {
         Ok(handle) => dir.try_lock(alloc, handle, mode).err(),
@@ -89,6 +90,10 @@ fn folders_are_made_moved_and_locked(rt: HostRuntime) -> Result<(), Fail> {
     assert_eq!(rt; dir.move_folder(alloc, here, there), Err(DirError::Exists));
     assert_eq!(rt;
         lock(&mut other, alloc, Area::Prepare, Mode::Shared),
+        Some(DirError::Locked)
+    );
+    assert_eq!(rt;
+        lock(&mut other, alloc, Area::Prepare, Mode::Exclusive),
         Some(DirError::Locked)
     );
     dir.finish();
@@ -226,6 +231,10 @@ fn files_of_the_host_are_read_and_listed(rt: HostRuntime) -> Result<(), Fail> {
         bundle.read_link(alloc, root, &mut room),
         Err(BundleError::Missing)
     );
+    assert_eq!(rt;
+        bundle.read_link(alloc, file.as_str(), &mut room),
+        Err(BundleError::Missing)
+    );
     let items = bundle.list(alloc, root).ok().ok_or("a listing")?;
     let items = items.as_slice();
     assert!(rt; items.len() == 3 && bundle.faults() == 0);
@@ -238,5 +247,45 @@ fn files_of_the_host_are_read_and_listed(rt: HostRuntime) -> Result<(), Fail> {
     );
     assert_eq!(rt; bundle.faults(), 1);
     fs::remove_dir_all(&rt, root)?;
+    Ok(())
+}
+
+#[test]
+fn a_file_that_is_replaced_is_read_to_its_end(rt: HostRuntime) -> Result<(), Fail> {
+    let alloc = rt.alloc();
+    let root = folder(&rt, "replaced")?;
+    let root = root.as_str();
+    let file = format!(in alloc; "{root}/manifest")?;
+    let other = format!(in alloc; "{root}/other")?;
+    fs::write(&rt, file.as_str(), "the old")?;
+    fs::write(&rt, other.as_str(), "NEW TEXT")?;
+    let mut bundle = HostBundle::new(&rt);
+    let mut room = [0; 4];
+    assert_eq!(rt; bundle.read(alloc, file.as_str(), 0, &mut room), Ok(4));
+    fs::rename(&rt, other.as_str(), file.as_str())?;
+    assert_eq!(rt; bundle.read(alloc, file.as_str(), 4, &mut room), Ok(3));
+    assert!(rt; room.as_slice() == b"old ".as_slice());
+    assert_eq!(rt; bundle.read(alloc, file.as_str(), 0, &mut room), Ok(4));
+    assert!(rt; room.as_slice() == b"NEW ".as_slice());
+    fs::write(&rt, other.as_str(), "another")?;
+    assert_eq!(rt; bundle.read(alloc, other.as_str(), 4, &mut room), Ok(3));
+    assert!(rt; room.as_slice() == b"her ".as_slice());
+    fs::remove_dir_all(&rt, root)?;
+    Ok(())
+}
+
+#[test]
+fn a_pipe_is_no_file(rt: HostRuntime) -> Result<(), Fail> {
+    let (reader, _writer) = io::pipe(&rt)?;
+    let number = reader.as_raw_fd();
+    let path = format!(in rt.alloc(); "/proc/self/fd/{number}")?;
+    let mut bundle = HostBundle::new(&rt);
+    let mut room = [0; 4];
+    assert!(rt; fs::metadata(&rt, path.as_str()).is_ok());
+    assert_eq!(rt;
+        bundle.read(rt.alloc(), path.as_str(), 0, &mut room),
+        Err(BundleError::Missing)
+    );
+    assert_eq!(rt; bundle.faults(), 0);
     Ok(())
 }
