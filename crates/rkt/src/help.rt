@@ -1,0 +1,47 @@
+// What the program answers by itself.
+
+/// What `--version` prints.
+const VERSION: &str = "rkt 0.1.0\n";
+
+/// What `--help` prints.
+const HELP: &str = "\
+usage: rkt status UUID
+       rkt validate FILE
+       rkt --help
+       rkt --version
+
+rkt status UUID prints the phase of a pod as a line state=PHASE, and changes
+nothing of the pod. UUID has 36 characters, hyphenated, in lower case.
+
+rkt validate FILE reads FILE as an image manifest or a pod manifest of App
+Container 0.8, as its acKind says, and prints a line valid ImageManifest NAME
+or valid PodManifest N, N being the number of its apps. Of a bad manifest it
+tells the place and the number of the first fault. A FILE that begins with -
+is named with its folder, as ./-x.
+
+RKT_DIR names the data folder. Where it is unset or empty, the data folder is
+rkt in the current folder. Whatever is missing of it is made.
+
+exit status
+  0   done
+  1   usage: the words are none of the above
+  2   no such pod
+  6   bad manifest
+  9   directory fault: the data folder can't be made, read or locked
+  10  bundle fault: the file can't be read
+  12  output fault: standard output can't be written
+  14  out of memory
+  15  no file: no regular file stands at the path
+";
+
+/// The text that answers these words, before anything is asked of the host.
+pub fn text_alone(words: &[String]) -> Option<&'static str> {
+    match words {
+        [word] => match word.as_str() {
+            "--help" => Some(HELP),
+            "--version" => Some(VERSION),
+            _ => None,
+        },
+        _ => None,
+    }
+}
