@@ -11,3 +11,4 @@ pub mod Outcomes
 pub mod References
 pub mod SeenTexts
 pub mod Separators
+pub use Rattle.hex.specs.Hex

@@ -1,5 +1,5 @@
 use ac_types::{
-    AcIdentifier, AcName, FaultKind, FromElement, ImageId, ImageRef, Label, LabelFault, Labels,
+    AcIdentifier, AcName, FaultKind, FromElement, ImageId, ImageRef, Label, LabelFault, Labels, NoMemory, ShownCopy,
     NameError, NamedElement, ReadError, RefError, Sequence, StoreKey, Text, field, flag_field,
     list_field, read_named, required_name, required_whole, text_field, whole_field,
 };
@@ -273,5 +273,44 @@ fn a_copy_is_equal(rt: HostRuntime) -> Result<(), Fail> {
     assert!(rt; same_name(alloc, "a-b")?);
     assert!(rt; same_reference(alloc, "a,os=linux")?);
     assert!(rt; same_error(alloc, &Value::from_str(alloc, PORTS)?)?);
+    Ok(())
+}
+
+/// What contracts see as its number alone.
+#[derive(Drop)]
+struct Tag {
+    number: u32,
+}
+
+impl ShownCopy for Tag {
+    ghost use Rattle.std.specs.Prelude.{ℕ};
+
+    ghost Shown = { ℕ };
+
+    ghost shown = { λ tag. tag.number };
+
+    fn copy(&self) -> Result<Tag, NoMemory> {
+        Ok(Tag {
+            number: self.number,
+        })
+    }
+}
+
+fn numbers(alloc: Global) -> Result<Sequence<u32>, NoMemory> {
+    Sequence::new(alloc).push(1)?.push(4_294_967_295)
+}
+
+fn tags(alloc: Global) -> Result<Sequence<Tag>, NoMemory> {
+    Sequence::new(alloc).push(Tag { number: 7 })
+}
+
+#[test]
+fn a_list_is_copied_in_one_form(rt: HostRuntime) -> Result<(), Fail> {
+    let alloc = rt.alloc();
+    let copied = numbers(alloc)?.copy()?;
+    assert_eq!(rt; copied.len(), 2);
+    assert_eq!(rt; copied.as_slice()[1], 4_294_967_295);
+    let shown = tags(alloc)?.copy()?;
+    assert_eq!(rt; shown.as_slice()[0].number, 7);
     Ok(())
 }
