@@ -1,7 +1,8 @@
 use ac_types::{
-    AcIdentifier, AcName, FaultKind, FromElement, ImageId, ImageRef, Label, LabelFault, Labels, NoMemory, ShownCopy,
-    NameError, NamedElement, ReadError, RefError, Sequence, StoreKey, Text, field, flag_field,
-    list_field, read_named, required_name, required_whole, text_field, whole_field,
+    AcIdentifier, AcName, FaultKind, FromElement, ImageId, ImageRef, Label, LabelFault, Labels,
+    NameError, NamedElement, NoMemory, ReadError, RefError, Sequence, ShownCopy, StoreKey, Text,
+    field, flag_field, list_field, read_named, required_name, required_whole, text_field,
+    whole_field,
 };
 use serde_json::Value;
 use std::alloc::Global;
@@ -111,6 +112,10 @@ fn labels_are_checked_by_name_then_by_platform(rt: HostRuntime) -> Result<(), Fa
     let both = with_label(alloc, one(alloc, "name", "x")?, "version", "1")?;
     let all = with_label(alloc, both.copy()?, "version", "1")?;
     assert_eq!(rt; all.check(), Err(LabelFault::LabelName(0)));
+    assert_eq!(rt; all.first_fault(alloc)?, Some(LabelFault::LabelName(0)));
+    assert_eq!(rt; twice.first_fault(alloc)?, Some(LabelFault::LabelTwice(1)));
+    assert_eq!(rt; foreign.first_fault(alloc)?, Some(LabelFault::BadArch(1)));
+    assert_eq!(rt; one(alloc, "arch", "x86_64")?.first_fault(alloc)?, None);
     Ok(())
 }
 
