@@ -36,7 +36,7 @@ pub use field_readers::{
 pub use hex_digits::lower_hex;
 pub use image_id::{BadId, ImageId};
 pub use image_ref::{ImageRef, RefError};
-pub use json_path::{element_path, field_path};
+pub use json_path::{element_path, field_path, write_element_path};
 pub use label::{Label, LabelFault};
 pub use labels::Labels;
 pub use memory::NoMemory;
