@@ -1,6 +1,7 @@
 pub mod EachElement
 pub mod JsonLists
 pub mod IdTexts
+pub mod LabelNames
 pub mod LabelPlaces
 pub mod LeastPlace
 pub mod NameFaults

@@ -11,3 +11,7 @@ pub mod Outcomes
 pub mod References
 pub mod SeenTexts
 pub mod Separators
+pub use Rattle.hex.specs.Hex
+pub use Rattle.serde_json.specs.Data
+pub use Rattle.serde_json.specs.Find
+pub use Rattle.serde_json.specs.View

@@ -5,6 +5,7 @@ use Rattle.std.specs.Str.{bytes_eq}
 use Rattle.std.proofs.Math.ListN.{replicate}
 use Rattle.ac_types.specs.Names.{are_words, is_separator}
 use Rattle.ac_types.specs.SeenTexts.{is_among}
+use Rattle.ac_types.specs.declared.refusals.TheConstants.{MAX_IDENTIFIER, MIN_DIGITS, ID_DIGITS}
 use Rattle.ac_types.specs.declared.label.Label.{Label}
 use Rattle.ac_types.specs.declared.image_ref.ImageRef.{ImageRef}
 use Rattle.ac_types.specs.declared.image_ref.RefError.{RefError}
@@ -13,7 +14,7 @@ use Rattle.ac_types.specs.declared.image_ref.ImageRef.TheVariants.{Named, ById}
 
 -- the text is an AC Identifier
 abbrev pub is_identifier : List ℕ → Bool
-is_identifier t = are_words is_separator t && nat_le (length t) 1024
+is_identifier t = are_words is_separator t && nat_le (length t) MAX_IDENTIFIER
 
 -- the text holds a byte at least
 abbrev pub is_filled : List ℕ → Bool
@@ -93,7 +94,7 @@ is_lower_digit b = (nat_le 48 b && nat_le b 57) || (nat_le 97 b && nat_le b 102)
 
 abbrev pub by_id : List ℕ → Result ImageRef ℕ
 by_id digits =
-    if nat_le 2 (length digits) && nat_le (length digits) 128 && list_all is_lower_digit digits
+    if nat_le MIN_DIGITS (length digits) && nat_le (length digits) ID_DIGITS && list_all is_lower_digit digits
     then Ok (ById (digits ++ drop (length digits) (replicate 128 0)) (length digits)) else Err 0
 
 -- the reference that a word is, or the place of its first part that isn't readable

@@ -10,6 +10,7 @@ use crate::label::Label;
 use crate::labels::Labels;
 use crate::memory::NoMemory;
 use crate::name_error::NameError;
+use crate::refusals::{ID_DIGITS, MIN_DIGITS};
 use crate::seen_texts::SeenTexts;
 use crate::sequence::Sequence;
 use crate::text::Text;
@@ -246,7 +247,7 @@ pub(crate) fn read_named_ref(alloc: Global, word: &str) -> Result<ImageRef, RefE
 pub(crate) fn read_digits_ref(digits: &[u8]) -> Result<ImageRef, RefError>
     ensures { IsRead (by_id digits.now) result }
 {
-    if digits.len() < 2 || digits.len() > 128 || !are_lower_digits(digits) {
+    if digits.len() < MIN_DIGITS || digits.len() > ID_DIGITS || !are_lower_digits(digits) {
         return Err(RefError::BadRef(0));
     }
     let mut room = [0; 128];

@@ -14,3 +14,24 @@ impl TryCopy for u8 {
         Ok(*self)
     }
 }
+
+impl TryCopy for u32 {
+    fn try_copy(&self) -> Result<u32, NoMemory> {
+        Ok(*self)
+    }
+}
+
+impl TryCopy for usize {
+    fn try_copy(&self) -> Result<usize, NoMemory> {
+        Ok(*self)
+    }
+}
+
+impl<T: TryCopy> TryCopy for Option<T> {
+    fn try_copy(&self) -> Result<Option<T>, NoMemory> {
+        match self {
+            Some(value) => Ok(Some(value.try_copy()?)),
+            None => Ok(None),
+        }
+    }
+}

@@ -1,7 +1,8 @@
 use ac_types::{
     AcIdentifier, AcName, FaultKind, FromElement, ImageId, ImageRef, Label, LabelFault, Labels,
-    NameError, NamedElement, ReadError, RefError, Sequence, StoreKey, Text, field, flag_field,
-    list_field, read_named, required_name, required_whole, text_field, whole_field,
+    NameError, NamedElement, NoMemory, ReadError, RefError, Sequence, ShownCopy, StoreKey, Text,
+    field, flag_field, list_field, read_named, required_name, required_whole, text_field,
+    whole_field,
 };
 use serde_json::Value;
 use std::alloc::Global;
@@ -111,6 +112,10 @@ fn labels_are_checked_by_name_then_by_platform(rt: HostRuntime) -> Result<(), Fa
     let both = with_label(alloc, one(alloc, "name", "x")?, "version", "1")?;
     let all = with_label(alloc, both.copy()?, "version", "1")?;
     assert_eq!(rt; all.check(), Err(LabelFault::LabelName(0)));
+    assert_eq!(rt; all.first_fault(alloc)?, Some(LabelFault::LabelName(0)));
+    assert_eq!(rt; twice.first_fault(alloc)?, Some(LabelFault::LabelTwice(1)));
+    assert_eq!(rt; foreign.first_fault(alloc)?, Some(LabelFault::BadArch(1)));
+    assert_eq!(rt; one(alloc, "arch", "x86_64")?.first_fault(alloc)?, None);
     Ok(())
 }
 
@@ -273,5 +278,44 @@ fn a_copy_is_equal(rt: HostRuntime) -> Result<(), Fail> {
     assert!(rt; same_name(alloc, "a-b")?);
     assert!(rt; same_reference(alloc, "a,os=linux")?);
     assert!(rt; same_error(alloc, &Value::from_str(alloc, PORTS)?)?);
+    Ok(())
+}
+
+/// What contracts see as its number alone.
+#[derive(Drop)]
+struct Tag {
+    number: u32,
+}
+
+impl ShownCopy for Tag {
+    ghost use Rattle.std.specs.Prelude.{ℕ};
+
+    ghost Shown = { ℕ };
+
+    ghost shown = { λ tag. tag.number };
+
+    fn copy(&self) -> Result<Tag, NoMemory> {
+        Ok(Tag {
+            number: self.number,
+        })
+    }
+}
+
+fn numbers(alloc: Global) -> Result<Sequence<u32>, NoMemory> {
+    Sequence::new(alloc).push(1)?.push(4_294_967_295)
+}
+
+fn tags(alloc: Global) -> Result<Sequence<Tag>, NoMemory> {
+    Sequence::new(alloc).push(Tag { number: 7 })
+}
+
+#[test]
+fn a_list_is_copied_in_one_form(rt: HostRuntime) -> Result<(), Fail> {
+    let alloc = rt.alloc();
+    let copied = numbers(alloc)?.copy()?;
+    assert_eq!(rt; copied.len(), 2);
+    assert_eq!(rt; copied.as_slice()[1], 4_294_967_295);
+    let shown = tags(alloc)?.copy()?;
+    assert_eq!(rt; shown.as_slice()[0].number, 7);
     Ok(())
 }
