@@ -1,5 +1,5 @@
 -- Laws of readings: which values they give, and that a value is given again, closed under a reading and what follows.
-use Rattle.std.proofs.Common.{◌≡◌, ℕ, Bool, true, false, List, [], ◌∷◌, ◌++◌, map, length, Option, Some, codes, refl, sym, ◌∙◌, ap, subst, append_assoc, append-nil, arith}
+use Rattle.std.proofs.Common.{◌≡◌, ℕ, Bool, true, false, List, [], ◌∷◌, ◌++◌, map, length, Option, Some, Result, Ok, Err, IfOk, codes, refl, sym, ◌∙◌, ap, subst, append_assoc, append-nil, arith}
 use Rattle.std.specs.Prelude.{◌||◌}
 use Rattle.std.specs.List.{All, AllByRecursion}
 use Rattle.std.specs.Str.{bytes_eq}
@@ -10,9 +10,10 @@ use Rattle.serde_json.specs.Data.{Data}
 use Rattle.serde_json.specs.Written.{has_float}
 use Rattle.ac_types.specs.FieldForms.{unless_null, each, each_after, named_once, unless_among}
 use Rattle.ac_types.specs.JsonPaths.{element_path, field_path}
-use Rattle.ac_types.specs.Outcomes.{Outcome, reads, fails, ◌>>=◌, ◌>>◌}
+use Rattle.ac_types.specs.Outcomes.{Outcome, reads, fails, ◌>>=◌, ◌>>◌, Answers}
 use Rattle.ac_types.specs.SeenTexts.{is_among}
 use Rattle.ac_types.specs.declared.fault.FaultKind.{FaultKind}
+use Rattle.ac_types.specs.declared.fault.ReadError.{ReadError}
 use Rattle.app_section.specs.AppRules.{HaveNames}
 
 pub no_fault : {A B : Type 0} {path : List ℕ} {kind : FaultKind} {a : A} → fails path kind ≡ reads a → B
@@ -46,6 +47,12 @@ gives_then (fails path kind) next is later b h = no_fault h
 pub gives_behind : {A B : Type 0} {P : B → Type 0} (o : Outcome A) (m : Outcome B) → GivesOnly P m → GivesOnly P (o >> m)
 gives_behind (reads a) m is b h = is b h
 gives_behind (fails path kind) m is b h = no_fault h
+
+-- a call that answers a reading gives such values alone
+pub answer_given : {A B : Type 0} {P : A → Type 0} (shown : B → A) (o : Outcome A) (result : Result B ReadError) → GivesOnly P o
+    → Answers shown o result → IfOk result (λ b. P (shown b))
+answer_given shown o (Ok b) given is = given (shown b) is
+answer_given shown o (Err error) given is = tt
 
 -- ---- what is read again
 
@@ -165,7 +172,7 @@ apart_from : {A : Type 0} (name_of : A → List ℕ) (before : List A) (x : A) (
 apart_from name_of before x [] are differ = tt
 apart_from name_of before x (y ∷ ys) are differ = (
   among_push name_of before x (name_of y)
-  ∙ or_from (is_among (name_of y) (map name_of before)) (bytes_eq (name_of x) (name_of y)) are.0 differ.0,
+      ∙ or_from (is_among (name_of y) (map name_of before)) (bytes_eq (name_of x) (name_of y)) are.0 differ.0,
   apart_from name_of before x ys are.1 differ.1,
 )
 
@@ -190,8 +197,8 @@ turn_from_names name_of P before [] are apart names = tt
 turn_from_names name_of P before (x ∷ xs) are apart names = (
   (All-head P x xs are, apart.0),
   turn_from_names name_of P (before ++ x ∷ []) xs (All-tail P x xs are)
-  (apart_from name_of before x xs apart.1 (IsDistinct-head bytes_eq (name_of x) (map name_of xs) names))
-  (IsDistinct-tail bytes_eq (name_of x) (map name_of xs) names),
+      (apart_from name_of before x xs apart.1 (IsDistinct-head bytes_eq (name_of x) (map name_of xs) names))
+      (IsDistinct-tail bytes_eq (name_of x) (map name_of xs) names),
 )
 
 -- the elements are of this kind, and no two have one name
