@@ -60,6 +60,9 @@ pub then_reads : {A B : Type 0} (m : Outcome A) (next : A → Outcome B) (a : A)
     → (m >>= next) ≡ reads b
 then_reads m next a b is later = ap (λ o. o >>= next) is ∙ later
 
+pub then_behind : {A B : Type 0} (o : Outcome A) (m : Outcome B) (a : A) (b : B) → o ≡ reads a → m ≡ reads b → (o >> m) ≡ reads b
+then_behind o m a b is later = ap (λ r. r >> m) is ∙ later
+
 -- ---- forms
 
 -- each value that the form reads is of this kind

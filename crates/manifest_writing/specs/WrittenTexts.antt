@@ -2,11 +2,6 @@
 use Rattle.std.specs.Prelude.{◌≡◌, ◌≤◌, ℕ, false, List, length}
 use Rattle.serde_json.specs.Data.{Data, depth}
 use Rattle.serde_json.specs.Written.{has_float, compact_text}
-use Rattle.ac_types.specs.Outcomes.{reads}
-use Rattle.manifests.specs.ImageData.{ImageData}
-use Rattle.manifests.specs.ImageForm.{image_manifest}
-use Rattle.manifests.specs.PodData.{PodData}
-use Rattle.manifests.specs.PodForm.{pod_manifest}
 
 -- the bytes are the JSON without spaces, where each of its numbers is whole
 abbrev pub IsCompactText : Data → List ℕ → Type 0
@@ -16,10 +11,3 @@ IsCompactText d bytes = has_float d ≡ false → bytes ≡ compact_text d
 pub record KeepsLimits (d : Data) (bytes : List ℕ) : Type 0 where
   pub short : length bytes ≤ 1048576
   pub flat : depth d ≤ 127
-
--- the manifest was read from some bytes
-abbrev pub ImageWasRead : ImageData → Type 0
-ImageWasRead m = (bytes : List ℕ) × (image_manifest bytes ≡ reads m)
-
-abbrev pub PodWasRead : PodData → Type 0
-PodWasRead m = (bytes : List ℕ) × (pod_manifest bytes ≡ reads m)

@@ -6,8 +6,9 @@ ghost use Rattle.ac_types.specs.Outcomes.{reads};
 ghost use Rattle.app_section.specs.Objects.{built, put_all};
 ghost use Rattle.manifests.specs.ImageData.{image_data};
 ghost use Rattle.manifests.specs.ImageForm.{image_manifest};
+ghost use Rattle.manifests.specs.ManifestRules.{IsImageManifest};
 ghost use Rattle.manifest_writing.specs.ImageObject.{image_members, image_object};
-ghost use Rattle.manifest_writing.specs.WrittenTexts.{ImageWasRead, IsCompactText, KeepsLimits};
+ghost use Rattle.manifest_writing.specs.WrittenTexts.{IsCompactText, KeepsLimits};
 
 use crate::lists::with_list;
 use crate::optional_fields::with_app;
@@ -17,13 +18,13 @@ use manifests::ImageManifest;
 use serde_json::Value;
 use std::alloc::Global;
 
-/// The bytes of an image manifest: the text of its object, without spaces. Reading the bytes of a
-/// manifest that was read gives it again, where they keep the limits of a document.
+/// The bytes of an image manifest: the text of its object, without spaces. Reading the bytes of
+/// what is a manifest gives it again, where they keep the limits of a document.
 pub fn image_bytes(alloc: Global, manifest: &ImageManifest) -> Result<Vec<u8>, NoMemory>
     ensures text { IfOk result (λ bytes. IsCompactText (image_object (image_data manifest.now)) bytes.items) }
-    ensures text_of_read { IfOk result (λ bytes. ImageWasRead (image_data manifest.now)
+    ensures text_of_manifest { IfOk result (λ bytes. IsImageManifest (image_data manifest.now)
         → bytes.items ≡ compact_text (image_object (image_data manifest.now))) }
-    ensures reads_back { IfOk result (λ bytes. ImageWasRead (image_data manifest.now)
+    ensures reads_back { IfOk result (λ bytes. IsImageManifest (image_data manifest.now)
         → KeepsLimits (image_object (image_data manifest.now)) bytes.items
         → image_manifest bytes.items ≡ reads (image_data manifest.now)) }
 {

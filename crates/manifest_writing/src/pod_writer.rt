@@ -6,8 +6,9 @@ ghost use Rattle.ac_types.specs.Outcomes.{reads};
 ghost use Rattle.app_section.specs.Objects.{built, put_all};
 ghost use Rattle.manifests.specs.PodData.{pod_data};
 ghost use Rattle.manifests.specs.PodForm.{pod_manifest};
+ghost use Rattle.manifests.specs.ManifestRules.{IsPodManifest};
 ghost use Rattle.manifest_writing.specs.PodObject.{pod_members, pod_object};
-ghost use Rattle.manifest_writing.specs.WrittenTexts.{IsCompactText, KeepsLimits, PodWasRead};
+ghost use Rattle.manifest_writing.specs.WrittenTexts.{IsCompactText, KeepsLimits};
 
 use crate::lists::{each_written, with_list};
 use ac_types::NoMemory;
@@ -16,13 +17,13 @@ use manifests::PodManifest;
 use serde_json::Value;
 use std::alloc::Global;
 
-/// The bytes of a pod manifest: the text of its object, without spaces. Reading the bytes of a
-/// manifest that was read gives it again, where they keep the limits of a document.
+/// The bytes of a pod manifest: the text of its object, without spaces. Reading the bytes of
+/// what is a manifest gives it again, where they keep the limits of a document.
 pub fn pod_bytes(alloc: Global, manifest: &PodManifest) -> Result<Vec<u8>, NoMemory>
     ensures text { IfOk result (λ bytes. IsCompactText (pod_object (pod_data manifest.now)) bytes.items) }
-    ensures text_of_read { IfOk result (λ bytes. PodWasRead (pod_data manifest.now)
+    ensures text_of_manifest { IfOk result (λ bytes. IsPodManifest (pod_data manifest.now)
         → bytes.items ≡ compact_text (pod_object (pod_data manifest.now))) }
-    ensures reads_back { IfOk result (λ bytes. PodWasRead (pod_data manifest.now)
+    ensures reads_back { IfOk result (λ bytes. IsPodManifest (pod_data manifest.now)
         → KeepsLimits (pod_object (pod_data manifest.now)) bytes.items
         → pod_manifest bytes.items ≡ reads (pod_data manifest.now)) }
 {

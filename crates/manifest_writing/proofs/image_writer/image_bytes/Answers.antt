@@ -3,8 +3,7 @@ use Rattle.serde_json.specs.Data.{Data, depth}
 use Rattle.serde_json.specs.Read.{read}
 use Rattle.manifests.specs.ImageData.{image_data}
 use Rattle.manifest_writing.specs.WrittenTexts.{IsCompactText}
-use Rattle.manifest_writing.proofs.ImageAgain.{image_again}
-use Rattle.manifest_writing.proofs.WholeManifests.{image_is_whole}
+use Rattle.manifest_writing.proofs.ManifestsAgain.{image_again, image_is_whole}
 use Rattle.manifest_writing.proofs.image_writer.image_bytes.Goals as goal
 
 pub returns-clause-text : goal.returns-clause-text
@@ -12,8 +11,8 @@ returns-clause-text c =
     let P : Data → Type 0 = λ d. IsCompactText d c.in_ok-to_vec.field-0.items in
     subst P c.in_ok-value.ensures c.in_ok-to_vec.ensures.text
 
-pub returns-clause-text_of_read : goal.returns-clause-text_of_read
-returns-clause-text_of_read c = λ was.
+pub returns-clause-text_of_manifest : goal.returns-clause-text_of_manifest
+returns-clause-text_of_manifest c = λ was.
     let P : Data → Type 0 = λ d. IsCompactText d c.in_ok-to_vec.field-0.items in
     subst P c.in_ok-value.ensures c.in_ok-to_vec.ensures.text (image_is_whole (image_data c.args.manifest.now) was)
 
