@@ -92,10 +92,12 @@ named (part ∷ parts) = after_head part parts (head_part part (cut 58 part))
 abbrev pub is_lower_digit : ℕ → Bool
 is_lower_digit b = (nat_le 48 b && nat_le b 57) || (nat_le 97 b && nat_le b 102)
 
+abbrev pub are_id_digits : List ℕ → Bool
+are_id_digits digits = nat_le MIN_DIGITS (length digits) && nat_le (length digits) ID_DIGITS && list_all is_lower_digit digits
+
 abbrev pub by_id : List ℕ → Result ImageRef ℕ
 by_id digits =
-    if nat_le MIN_DIGITS (length digits) && nat_le (length digits) ID_DIGITS && list_all is_lower_digit digits
-    then Ok (ById (digits ++ drop (length digits) (replicate 128 0)) (length digits)) else Err 0
+    if are_id_digits digits then Ok (ById (digits ++ drop (length digits) (replicate 128 0)) (length digits)) else Err 0
 
 -- the reference that a word is, or the place of its first part that isn't readable
 unfoldable pub reference : List ℕ → Result ImageRef ℕ

@@ -14,6 +14,7 @@ pub mod label;
 pub mod labels;
 pub mod memory;
 pub mod name_error;
+mod ref_check;
 mod ref_parts;
 pub mod refusals;
 pub mod required_readers;
