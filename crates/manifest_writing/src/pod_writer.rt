@@ -1,4 +1,4 @@
-ghost use Rattle.std.specs.Prelude.{◌≡◌, take, drop, IfOk};
+ghost use Rattle.std.specs.Prelude.{◌≡◌, IfOk};
 ghost use Rattle.serde_json.specs.Data.{no_members};
 ghost use Rattle.serde_json.specs.View.{view};
 ghost use Rattle.serde_json.specs.Written.{compact_text};
@@ -7,9 +7,10 @@ ghost use Rattle.app_section.specs.Objects.{built, put_all};
 ghost use Rattle.manifests.specs.PodData.{pod_data};
 ghost use Rattle.manifests.specs.PodForm.{pod_manifest};
 ghost use Rattle.manifests.specs.ManifestRules.{IsPodManifest};
-ghost use Rattle.manifest_writing.specs.PodObject.{pod_members, pod_object};
+ghost use Rattle.manifest_writing.specs.PodObject.{first_pod_members, last_pod_members, pod_object};
 ghost use Rattle.manifest_writing.specs.WrittenTexts.{IsCompactText, KeepsLimits};
 
+use crate::document_text::document_bytes;
 use crate::lists::{each_written, with_list};
 use ac_types::NoMemory;
 use app_section::{ObjectBuilder, with_isolators};
@@ -28,7 +29,7 @@ pub fn pod_bytes(alloc: Global, manifest: &PodManifest) -> Result<Vec<u8>, NoMem
         → pod_manifest bytes.items ≡ reads (pod_data manifest.now)) }
 {
     let value = pod_value(alloc, manifest)?;
-    Ok(value.to_vec(alloc)?)
+    document_bytes(alloc, &value)
 }
 
 fn pod_value(alloc: Global, manifest: &PodManifest) -> Result<Value, NoMemory>
@@ -40,7 +41,7 @@ fn pod_value(alloc: Global, manifest: &PodManifest) -> Result<Value, NoMemory>
 }
 
 fn with_first_fields(alloc: Global, manifest: &PodManifest) -> Result<ObjectBuilder, NoMemory>
-    ensures { IfOk result (λ b. built b ≡ put_all (take 4 (pod_members (pod_data manifest.now))) no_members) }
+    ensures { IfOk result (λ b. built b ≡ put_all (first_pod_members (pod_data manifest.now)) no_members) }
 {
     let object = ObjectBuilder::new(alloc);
     let object = object.text(alloc, "acKind", "PodManifest")?;
@@ -60,7 +61,7 @@ fn with_last_fields(
     manifest: &PodManifest,
     object: ObjectBuilder,
 ) -> Result<ObjectBuilder, NoMemory>
-    ensures { IfOk result (λ b. built b ≡ put_all (drop 4 (pod_members (pod_data manifest.now))) (built object)) }
+    ensures { IfOk result (λ b. built b ≡ put_all (last_pod_members (pod_data manifest.now)) (built object)) }
 {
     let object = with_isolators(alloc, manifest.isolators.as_slice(), object)?;
     let object = with_list(alloc, object, "ports", manifest.ports.as_slice())?;
