@@ -2,6 +2,7 @@
 #![tactic(auto)]
 
 pub mod app;
+mod app_fields;
 pub mod element_lists;
 mod element_values;
 pub mod env_var;
