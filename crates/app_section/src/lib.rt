@@ -29,5 +29,6 @@ pub use mount_point::{MountPoint, MountPoints};
 pub use object_builder::ObjectBuilder;
 pub use places::{optional_place, required_place};
 pub use port::{Port, Ports};
+pub use small_numbers::required_port;
 pub use to_json::{ToJson, json_of_each};
 pub use written_app::with_isolators;

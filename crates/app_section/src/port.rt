@@ -88,7 +88,7 @@ fn read_fields(alloc: Global, value: &Value, at: &str) -> Result<Port, ReadError
     object_value(alloc, value, at)?;
     let name = required_name(alloc, value, at, "name")?;
     let protocol = filled_text(alloc, value, at, "protocol")?;
-    let port = required_port(alloc, value, at)?;
+    let port = required_port(alloc, value, at, "port")?;
     let count = port_count(alloc, value, at)?;
     let socket_activated = flag_field(alloc, value, at, "socketActivated")?;
     Ok(Port {

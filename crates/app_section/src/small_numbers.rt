@@ -1,4 +1,3 @@
-ghost use Rattle.std.specs.Prelude.{codes};
 ghost use Rattle.serde_json.specs.View.{view};
 ghost use Rattle.ac_types.specs.FieldForms.{required, whole};
 ghost use Rattle.ac_types.specs.Outcomes.{Gives};
@@ -8,11 +7,11 @@ use ac_types::{ReadError, required_whole, whole_field};
 use serde_json::Value;
 use std::alloc::Global;
 
-/// The first port of a range: its number, which must be there.
-pub(crate) fn required_port(alloc: Global, value: &Value, at: &str) -> Result<u16, ReadError>
-    ensures { Gives (required (whole 65535) at.now (codes "port") (view value.now)) result }
+/// The port in a field of the object at a path, which must be there.
+pub fn required_port(alloc: Global, value: &Value, at: &str, name: &str) -> Result<u16, ReadError>
+    ensures { Gives (required (whole 65535) at.now name.now (view value.now)) result }
 {
-    match required_whole(alloc, value, at, "port", 65_535) {
+    match required_whole(alloc, value, at, name, 65_535) {
         Ok(number) => Ok(number as u16),
         Err(error) => Err(error),
     }

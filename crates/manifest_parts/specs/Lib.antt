@@ -6,5 +6,4 @@ pub mod HeadForms
 pub mod IdForms
 pub mod LabelsForm
 pub mod PartRules
-pub mod PodPortForm
 pub mod RuntimeImageForm

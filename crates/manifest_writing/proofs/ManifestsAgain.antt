@@ -28,21 +28,22 @@ use Rattle.path_map.specs.declared.listed.Listed.{Listed}
 use Rattle.manifests.specs.ImageData.{ImageData}
 use Rattle.manifests.specs.ImageForm.{image_fields, image_kind, image_manifest}
 use Rattle.manifests.specs.LastFields.{last_app_fields, last_image_fields}
-use Rattle.manifests.specs.ManifestRules.{IsListed, IsMount, IsVolumeKind, IsVolume, IsRuntimeApp, IsImageManifest, IsPodManifest}
+use Rattle.manifests.specs.ManifestRules.{IsListed, IsMount, IsPodPort, IsVolumeKind, IsVolume, IsRuntimeApp, IsImageManifest, IsPodManifest}
 use Rattle.manifests.specs.MountForm.{mount}
 use Rattle.manifests.specs.PodData.{PodData, RuntimeAppData}
 use Rattle.manifests.specs.PodForm.{pod_fields, pod_kind, pod_manifest}
+use Rattle.manifests.specs.PodPortForm.{pod_port}
 use Rattle.manifests.specs.RuntimeAppForm.{app_name, named_app, runtime_app}
 use Rattle.manifests.specs.VolumeForm.{or_bad_volume, is_mode, if_mode, mode, host, empty, kind_of, volume_fields, volume}
 use Rattle.manifests.specs.WhitelistForm.{whitelist_of}
 use Rattle.manifests.specs.declared.volume.Volume.{Volume}
 use Rattle.manifests.specs.declared.volume.VolumeKind.{VolumeKind}
 use Rattle.manifests.specs.declared.volume.VolumeKind.TheVariants.{Host, Empty}
-use Rattle.manifest_writing.specs.ElementObjects.{annotation_object, dependency_object, label_object, listed_data, mount_fields, mount_object, pod_port_object, runtime_image_object}
+use Rattle.manifest_writing.specs.ElementObjects.{annotation_object, dependency_object, label_object, listed_data, mount_fields, mount_object, pod_port_fields, pod_port_object, runtime_image_object}
 use Rattle.manifest_writing.specs.ImageObject.{image_members, image_object}
 use Rattle.manifest_writing.specs.PodObject.{pod_members, pod_object, runtime_app_fields, runtime_app_object}
 use Rattle.manifest_writing.specs.VolumeObject.{host_fields, empty_fields, volume_fields as volume_list, volume_object}
-use Rattle.manifest_writing.proofs.PartsAgain.{ac_version_again, labels_again, labels_are_whole, annotation_again, dependency_again, pod_port_again, runtime_image_again}
+use Rattle.manifest_writing.proofs.PartsAgain.{ac_version_again, labels_again, labels_are_whole, annotation_again, dependency_again, runtime_image_again}
 use Rattle.manifest_writing.proofs.WhitelistAgain.{whitelist_again, whitelist_is_whole}
 
 -- ---- mounts
@@ -55,6 +56,18 @@ mount_again = record {
       (then_reads _ _ _ _ (required_again filled_place_again at (codes "path") (mount_fields m) m.path refl is.place) refl);
   shown = λ m is. refl;
   whole = λ m is. refl;
+}
+
+-- ---- ports
+
+pod_port_again : Rereads IsPodPort pod_port pod_port_object
+unfolding pod_port pod_port_object
+pod_port_again = record {
+  law = λ at p is.
+      then_reads _ _ _ _ (required_again name_again at (codes "name") (pod_port_fields p) p.name refl is.named)
+      (then_reads _ _ _ _ (required_again (whole_again 65535) at (codes "hostPort") (pod_port_fields p) p.host_port refl is.port) refl);
+  shown = λ p is. refl;
+  whole = λ p is. refl;
 }
 
 -- ---- volumes

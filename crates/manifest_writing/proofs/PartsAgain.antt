@@ -10,17 +10,16 @@ use Rattle.ac_types.proofs.IdTexts.{text_read}
 use Rattle.app_section.specs.Objects.{Field, written, if_filled}
 use Rattle.app_section.proofs.Fields.{value_of, found, IsWholeField, required_again, optional_again, filled_again, members_are_whole, filled_is_whole, optional_is_whole}
 use Rattle.app_section.proofs.Readings.{Rereads, then_reads, all_again}
-use Rattle.app_section.proofs.Texts.{text_again, filled_reads, name_again, filled_identifier_again, identifier_again, whole_again}
+use Rattle.app_section.proofs.Texts.{text_again, filled_reads, filled_identifier_again, identifier_again, whole_again}
 use Rattle.manifest_parts.specs.AnnotationForm.{annotation}
 use Rattle.manifest_parts.specs.DependencyForm.{dependency}
 use Rattle.manifest_parts.specs.HeadForms.{ac_version}
 use Rattle.manifest_parts.specs.IdForms.{if_id, image_id, filled_id}
 use Rattle.manifest_parts.specs.LabelsForm.{label, labels_of, if_standing}
-use Rattle.manifest_parts.specs.PartRules.{IsVersion, IsImageId, IsLabel, AreLabels, IsAnnotation, IsDependency, IsPodPort, IsRuntimeImage}
-use Rattle.manifest_parts.specs.PodPortForm.{pod_port}
+use Rattle.manifest_parts.specs.PartRules.{IsVersion, IsImageId, IsLabel, AreLabels, IsAnnotation, IsDependency, IsRuntimeImage}
 use Rattle.manifest_parts.specs.RuntimeImageForm.{runtime_image}
 use Rattle.manifest_parts.proofs.Versions.{version_again, version_filled}
-use Rattle.manifest_writing.specs.ElementObjects.{annotation_fields, annotation_object, dependency_fields, dependency_object, id_data, label_fields, label_object, pod_port_fields, pod_port_object, runtime_image_fields, runtime_image_object}
+use Rattle.manifest_writing.specs.ElementObjects.{annotation_fields, annotation_object, dependency_fields, dependency_object, id_data, label_fields, label_object, runtime_image_fields, runtime_image_object}
 
 pub ac_version_again : Rereads IsVersion ac_version string
 ac_version_again = record {
@@ -93,16 +92,6 @@ dependency_again = record {
       let id = optional_is_whole id_again d.image_id is.id in
       let size = optional_is_whole (whole_again 18446744073709551615) d.size is.sized in
       members_are_whole (dependency_fields d) (id, (refl, (labels_are_whole d.labels is.labelled, (size, tt))));
-}
-
-pub pod_port_again : Rereads IsPodPort pod_port pod_port_object
-unfolding pod_port pod_port_object
-pod_port_again = record {
-  law = λ at p is.
-      then_reads _ _ _ _ (required_again name_again at (codes "name") (pod_port_fields p) p.name refl is.named)
-      (then_reads _ _ _ _ (required_again (whole_again 65535) at (codes "hostPort") (pod_port_fields p) p.host_port refl is.port) refl);
-  shown = λ p is. refl;
-  whole = λ p is. refl;
 }
 
 pub runtime_image_again : Rereads IsRuntimeImage runtime_image runtime_image_object

@@ -6,6 +6,7 @@ pub mod ManifestRules
 pub mod MountForm
 pub mod PodData
 pub mod PodForm
+pub mod PodPortForm
 pub mod RuntimeAppForm
 pub mod VolumeForm
 pub mod WhitelistForm
