@@ -1,20 +1,20 @@
 -- An app: what its form gives, and that what is written for it is read again.
-use Rattle.std.proofs.Common.{◌≡◌, ◌≢◌, ◌≤◌, ℕ, List, [], Some, codes, refl, ◌∙◌, IfSome}
+use Rattle.std.proofs.Common.{◌≡◌, ◌≢◌, ◌≤◌, ℕ, List, [], codes, refl, IfSome}
 use Rattle.std.specs.List.{All}
 use Rattle.serde_json.specs.Data.{Data, string, object}
-use Rattle.ac_types.specs.FieldForms.{default}
-use Rattle.ac_types.specs.Outcomes.{reads, ◌>>=◌, ◌>>◌}
+use Rattle.ac_types.specs.Outcomes.{reads}
 use Rattle.ac_types.specs.declared.fault.FaultKind.TheVariants.{BadHandler, NameTwice}
-use Rattle.app_section.specs.AppData.{AppData, LastData, last_of}
+use Rattle.app_section.specs.AppData.{AppData}
 use Rattle.app_section.specs.AppForm.{app, first_fields, last_fields}
 use Rattle.app_section.specs.AppObject.{app_fields, app_object}
+use Rattle.app_section.specs.AppParts.{LastData, last_of}
 use Rattle.app_section.specs.AppRules.{IsApp, IsExec, IsPlace, IsHandler, IsEnvVar, IsMountPoint, IsPortRange, IsIsolator}
 use Rattle.app_section.specs.ExecForm.{exec, words}
 use Rattle.app_section.specs.HandlerForm.{kind_name}
 use Rattle.app_section.specs.Objects.{written}
 use Rattle.app_section.specs.declared.app_fields.FirstFields.{FirstFields}
-use Rattle.app_section.proofs.Elements.{env_given, env_again, words_given, words_again, words_are_whole, handler_given, handler_again, mount_given, mount_again, port_given, port_again, isolator_given, isolator_again}
-use Rattle.app_section.proofs.Fields.{IsWholeField, default_given, required_given, required_again, optional_given, optional_again, list_given, filled_again, list_of_given, list_of_again, named_list_given, named_list_again, members_are_whole, filled_is_whole, optional_is_whole}
+use Rattle.app_section.proofs.Elements.{env_given, env_again, words_given, words_again, handler_given, handler_again, mount_given, mount_again, port_given, port_again, isolator_given, isolator_again}
+use Rattle.app_section.proofs.Fields.{default_given, required_given, required_again, optional_given, optional_again, list_given, filled_again, list_of_given, list_of_again, named_list_given, named_list_again, members_are_whole, filled_is_whole, optional_is_whole}
 use Rattle.app_section.proofs.Readings.{GivesOnly, Gives, Rereads, AreNamed, gives, gives_then, gives_behind, then_reads}
 use Rattle.app_section.proofs.Texts.{text_again, filled_text_given, filled_text_again, place_given, place_field_again, whole_given, whole_again}
 

@@ -4,7 +4,8 @@ use Rattle.serde_json.specs.Data.{Data}
 use Rattle.ac_types.specs.FieldForms.{required, optional, default, filled_text, whole, an_object}
 use Rattle.ac_types.specs.Outcomes.{Outcome, reads, ◌>>=◌, ◌>>◌}
 use Rattle.ac_types.specs.declared.fault.FaultKind.TheVariants.{BadHandler, NameTwice}
-use Rattle.app_section.specs.AppData.{AppData, LastData, whole_app}
+use Rattle.app_section.specs.AppData.{AppData}
+use Rattle.app_section.specs.AppParts.{LastData, whole_app}
 use Rattle.app_section.specs.EnvForm.{env_var}
 use Rattle.app_section.specs.ExecForm.{exec}
 use Rattle.app_section.specs.HandlerForm.{handler, kind_name}

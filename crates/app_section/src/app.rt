@@ -1,9 +1,10 @@
 ghost use Rattle.std.specs.Prelude.{◌≡◌, IfOk};
 ghost use Rattle.serde_json.specs.View.{view};
 ghost use Rattle.ac_types.specs.Outcomes.{Answers};
-ghost use Rattle.app_section.specs.AppData.{app_data, last_data, whole_app};
+ghost use Rattle.app_section.specs.AppData.{app_data};
 ghost use Rattle.app_section.specs.AppForm.{app, IsReadAs};
 ghost use Rattle.app_section.specs.AppObject.{app_object};
+ghost use Rattle.app_section.specs.AppParts.{last_data, whole_app};
 ghost use Rattle.app_section.specs.AppRules.{IsApp};
 
 use crate::app_fields::{

@@ -2,8 +2,9 @@
 ghost use Rattle.std.specs.Prelude.{◌≡◌, IfOk};
 ghost use Rattle.serde_json.specs.View.{view};
 ghost use Rattle.ac_types.specs.Outcomes.{Answers, Gives};
-ghost use Rattle.app_section.specs.AppData.{app_data, first_of, last_data, last_of};
+ghost use Rattle.app_section.specs.AppData.{app_data};
 ghost use Rattle.app_section.specs.AppForm.{first_fields, last_fields};
+ghost use Rattle.app_section.specs.AppParts.{first_of, last_data, last_of};
 
 use crate::app::App;
 use crate::element_lists::{list_of, named_list_of};

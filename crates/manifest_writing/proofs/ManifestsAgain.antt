@@ -1,34 +1,31 @@
 -- What is a manifest is read again from what is written for it, and its numbers are whole.
-use Rattle.std.proofs.Common.{◌≡◌, ◌≤◌, ℕ, Bool, true, false, List, [], map, length, Option, Some, None, codes, nat_le, refl, ◌∙◌, ap, IfSome}
-use Rattle.std.specs.List.{All}
+use Rattle.std.proofs.Common.{◌≡◌, ◌≤◌, ℕ, true, false, List, [], map, length, Some, codes, nat_le, refl, ap}
 use Rattle.std.specs.Str.{IsUtf8}
 use Rattle.std.proofs.lemmas.Bool.{le-leb}
-use Rattle.std.proofs.lemmas.List.Elements.{All-head, All-tail}
-use Rattle.serde_json.specs.Data.{Data, Members, string, object}
+use Rattle.serde_json.specs.Data.{Members, string, object}
 use Rattle.serde_json.specs.Read.{read}
 use Rattle.serde_json.specs.Written.{has_float}
-use Rattle.ac_types.specs.FieldForms.{required, required_at}
+use Rattle.ac_types.specs.FieldForms.{required_at}
 use Rattle.ac_types.specs.JsonPaths.{field_path}
-use Rattle.ac_types.specs.Outcomes.{Outcome, reads, ◌>>=◌, ◌>>◌}
+use Rattle.ac_types.specs.Outcomes.{reads, ◌>>◌}
 use Rattle.ac_types.specs.SeenTexts.{is_among}
 use Rattle.ac_types.specs.FieldForms.{unless_among}
 use Rattle.ac_types.specs.declared.fault.FaultKind.TheVariants.{AppTwice, BadVolume}
-use Rattle.app_section.specs.AppObject.{app_object, isolator_object}
-use Rattle.app_section.specs.Objects.{Field, written, if_filled, list_data}
+use Rattle.app_section.specs.AppObject.{app_object}
+use Rattle.app_section.specs.Objects.{written, list_data}
 use Rattle.app_section.proofs.AppLaws.{app_again}
 use Rattle.app_section.proofs.Elements.{isolator_again}
-use Rattle.app_section.proofs.Fields.{present_in, required_again, optional_again, default_again, flag_again, list_reads, filled_again, list_of_again, members_are_whole, IsWholeField, filled_is_whole, list_is_whole, optional_is_whole, flag_is_whole}
+use Rattle.app_section.proofs.Fields.{present_in, required_again, optional_again, default_again, flag_again, list_reads, filled_again, list_of_again, members_are_whole, filled_is_whole, list_is_whole, optional_is_whole, flag_is_whole}
 use Rattle.app_section.proofs.Readings.{Rereads, AreNamed, IsNew, then_reads, then_behind, named_again}
-use Rattle.app_section.proofs.Texts.{text_again, filled_text_again, name_again, filled_identifier_again, filled_place_again, whole_again}
+use Rattle.app_section.proofs.Texts.{name_again, filled_identifier_again, filled_place_again, whole_again}
 use Rattle.manifest_parts.specs.DistinctForms.{after_names, each_distinct, distinct_list}
 use Rattle.manifest_parts.specs.DocumentForm.{document}
 use Rattle.manifest_parts.specs.HeadForms.{ac_kind}
 use Rattle.manifest_parts.proofs.JsonTexts.{json_read}
-use Rattle.path_map.specs.declared.listed.Listed.{Listed}
 use Rattle.manifests.specs.ImageData.{ImageData}
 use Rattle.manifests.specs.ImageForm.{image_fields, image_kind, image_manifest}
 use Rattle.manifests.specs.LastFields.{last_app_fields, last_image_fields}
-use Rattle.manifests.specs.ManifestRules.{IsListed, IsMount, IsPodPort, IsVolumeKind, IsVolume, IsRuntimeApp, IsImageManifest, IsPodManifest}
+use Rattle.manifests.specs.ManifestRules.{IsMount, IsPodPort, IsVolume, IsRuntimeApp, IsImageManifest, IsPodManifest}
 use Rattle.manifests.specs.MountForm.{mount}
 use Rattle.manifests.specs.PodData.{PodData, RuntimeAppData}
 use Rattle.manifests.specs.PodForm.{pod_fields, pod_kind, pod_manifest}
@@ -39,7 +36,7 @@ use Rattle.manifests.specs.WhitelistForm.{whitelist_of}
 use Rattle.manifests.specs.declared.volume.Volume.{Volume}
 use Rattle.manifests.specs.declared.volume.VolumeKind.{VolumeKind}
 use Rattle.manifests.specs.declared.volume.VolumeKind.TheVariants.{Host, Empty}
-use Rattle.manifest_writing.specs.ElementObjects.{annotation_object, dependency_object, label_object, listed_data, mount_fields, mount_object, pod_port_fields, pod_port_object, runtime_image_object}
+use Rattle.manifest_writing.specs.ElementObjects.{listed_data, mount_fields, mount_object, pod_port_fields, pod_port_object, runtime_image_object}
 use Rattle.manifest_writing.specs.ImageObject.{image_members, image_object}
 use Rattle.manifest_writing.specs.PodObject.{pod_members, pod_object, runtime_app_fields, runtime_app_object}
 use Rattle.manifest_writing.specs.VolumeObject.{host_fields, empty_fields, volume_fields as volume_list, volume_object}

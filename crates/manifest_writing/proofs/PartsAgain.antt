@@ -1,16 +1,15 @@
 -- The elements of both manifests are read again from what is written for them.
-use Rattle.std.proofs.Common.{◌≡◌, ◌≤◌, ℕ, List, [], map, Option, Some, None, option_map, codes, refl, ◌∙◌, ap, IfSome}
-use Rattle.serde_json.specs.Data.{Data, string, object}
+use Rattle.std.proofs.Common.{◌≡◌, ℕ, List, [], map, None, codes, refl, ap}
+use Rattle.serde_json.specs.Data.{string, object}
 use Rattle.ac_types.specs.FieldForms.{filled, default, list}
-use Rattle.ac_types.specs.Ids.{id_text, id_read}
-use Rattle.ac_types.specs.Labels.{label_fault}
-use Rattle.ac_types.specs.Outcomes.{Outcome, reads, ◌>>=◌, ◌>>◌}
+use Rattle.ac_types.specs.Ids.{id_text}
+use Rattle.ac_types.specs.Outcomes.{reads, ◌>>=◌}
 use Rattle.ac_types.specs.declared.label.Label.{Label}
 use Rattle.ac_types.proofs.IdTexts.{text_read}
 use Rattle.app_section.specs.Objects.{Field, written, if_filled}
 use Rattle.app_section.proofs.Fields.{value_of, found, IsWholeField, required_again, optional_again, filled_again, members_are_whole, filled_is_whole, optional_is_whole}
 use Rattle.app_section.proofs.Readings.{Rereads, then_reads, all_again}
-use Rattle.app_section.proofs.Texts.{text_again, filled_reads, filled_identifier_again, identifier_again, whole_again}
+use Rattle.app_section.proofs.Texts.{filled_reads, filled_identifier_again, identifier_again, whole_again}
 use Rattle.manifest_parts.specs.AnnotationForm.{annotation}
 use Rattle.manifest_parts.specs.DependencyForm.{dependency}
 use Rattle.manifest_parts.specs.HeadForms.{ac_version}

@@ -1,6 +1,5 @@
 -- A whitelist is read again from what is written for it.
-use Rattle.std.proofs.Common.{◌≡◌, ℕ, ◌+◌, ◌-◌, ◌<◌, ◌≤◌, ◌==◌, Bool, true, false, ◌||◌, List, [], ◌∷◌, ◌++◌, map, length, take, drop, get_or, slice_index, Option, Some, None, codes, refl, sym, ◌∙◌, ap, subst, true≢false, arith, length-append}
-use Rattle.std.specs.Prelude.{if◌then◌else◌}
+use Rattle.std.proofs.Common.{◌≡◌, ℕ, ◌+◌, ◌-◌, ◌<◌, ◌≤◌, ◌==◌, Bool, true, false, ◌||◌, List, [], ◌∷◌, ◌++◌, map, length, take, get_or, slice_index, Option, Some, None, codes, refl, sym, ◌∙◌, ap, true≢false, arith, length-append}
 use Rattle.std.specs.List.{All, list_any}
 use Rattle.std.specs.Str.{bytes_eq}
 use Rattle.std.proofs.lemmas.Bool.{eqb-true, or_parts, false_from_ne_true}
@@ -11,7 +10,7 @@ use Rattle.std.proofs.lemmas.Slice.Eq.{bytes_eq-Decides}
 use Rattle.serde_json.specs.Data.{Data, null}
 use Rattle.serde_json.specs.Written.{has_float}
 use Rattle.ac_types.specs.FieldForms.{each, unless_null}
-use Rattle.ac_types.specs.Outcomes.{Outcome, reads, ◌>>=◌}
+use Rattle.ac_types.specs.Outcomes.{reads}
 use Rattle.path_map.specs.Paths.{path_fault, segments, has_bad_length}
 use Rattle.path_map.specs.declared.listed.Listed.{Listed}
 use Rattle.path_map.proofs.Segments.{at_slash, path_some, parts, segments_below, sound_from}

@@ -1,13 +1,12 @@
 -- What the forms of the elements of both manifests give.
-use Rattle.std.proofs.Common.{◌≡◌, ◌≤◌, ℕ, List, [], Option, Some, None, codes, refl, IfSome}
+use Rattle.std.proofs.Common.{◌≡◌, ℕ, List, [], Option, Some, None, codes, refl}
 use Rattle.std.specs.List.{All}
 use Rattle.std.proofs.lemmas.List.Elements.{All-nil}
 use Rattle.serde_json.specs.Data.{Data}
 use Rattle.ac_types.specs.FieldForms.{list, default}
-use Rattle.ac_types.specs.Ids.{id_read, AreBytes}
+use Rattle.ac_types.specs.Ids.{id_read}
 use Rattle.ac_types.specs.Labels.{label_fault}
-use Rattle.ac_types.specs.Outcomes.{Outcome, reads, ◌>>=◌, ◌>>◌}
-use Rattle.ac_types.specs.declared.image_id.ImageId.{ImageId}
+use Rattle.ac_types.specs.Outcomes.{◌>>=◌}
 use Rattle.ac_types.specs.declared.label.Label.{Label}
 use Rattle.ac_types.specs.declared.label.LabelFault.{LabelFault}
 use Rattle.ac_types.proofs.IdTexts.{read_are}
@@ -16,7 +15,7 @@ use Rattle.app_section.proofs.Readings.{GivesOnly, Gives, gives, gives_none, giv
 use Rattle.app_section.proofs.Texts.{text_given, filled_text_given, filled_identifier_given, identifier_given, whole_given}
 use Rattle.manifest_parts.specs.AnnotationForm.{annotation}
 use Rattle.manifest_parts.specs.DependencyForm.{dependency}
-use Rattle.manifest_parts.specs.HeadForms.{ac_version, version_text}
+use Rattle.manifest_parts.specs.HeadForms.{ac_version}
 use Rattle.manifest_parts.specs.IdForms.{if_id, image_id, filled_id}
 use Rattle.manifest_parts.specs.LabelsForm.{label, labels_of, if_standing}
 use Rattle.manifest_parts.specs.PartRules.{IsVersion, IsImageId, IsLabel, AreLabels, IsAnnotation, IsDependency, IsRuntimeImage}

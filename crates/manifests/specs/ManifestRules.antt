@@ -1,5 +1,5 @@
 -- What each manifest is, said of all its elements at once.
-use Rattle.std.specs.Prelude.{◌≡◌, ◌≤◌, ℕ, true, List, None, IfSome}
+use Rattle.std.specs.Prelude.{◌≡◌, ◌≤◌, true, None, IfSome}
 use Rattle.std.specs.List.{All}
 use Rattle.ac_types.specs.Names.{IsAcName, IsAcIdentifier}
 use Rattle.path_map.specs.Paths.{path_fault}
