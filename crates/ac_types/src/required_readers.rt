@@ -86,6 +86,16 @@ pub fn required_whole(
     }
 }
 
+/// The port of a field that must be there: 0 to 65,535.
+pub fn required_port(alloc: Global, value: &Value, at: &str, name: &str) -> Result<u16, ReadError>
+    ensures { Gives (required (whole 65535) at.now name.now (view value.now)) result }
+{
+    match required_whole(alloc, value, at, name, 65_535) {
+        Ok(number) => Ok(number as u16),
+        Err(error) => Err(error),
+    }
+}
+
 /// The AC Name of a field that must be there; an empty text counts as missing.
 pub fn required_name(
     alloc: Global,
