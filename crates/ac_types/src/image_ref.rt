@@ -1,3 +1,4 @@
+//! References to images.
 ghost use Rattle.std.specs.Prelude.{◌≡◌, ◌↔◌, IfOk, IfErr, Some, Ok};
 ghost use Rattle.ac_types.specs.References.{reference};
 ghost use Rattle.ac_types.specs.ReferenceSteps.{IsRead};

@@ -1,3 +1,4 @@
+//! The parts of a reference, read one after the other.
 ghost use Rattle.std.specs.Prelude.{◌≡◌, ◌==◌, ◌⊎◌, true, false, ◌≤◌, ◌<◌, ◌+◌, ◌^◌, ◌++◌, ◌∷◌, [], ℕ, List, Some, None, Ok, Err, map, option_map, MatchOption, MatchResult, IfOk, IfErr, length, drop, codes};
 ghost use Rattle.std.specs.List.{slice_split, list_all};
 ghost use Rattle.ac_types.specs.declared.label.Label.{Label};
