@@ -1,8 +1,8 @@
 use ac_types::{
     AcIdentifier, AcName, FaultKind, FromElement, ImageId, ImageRef, Label, LabelFault, Labels,
     NameError, NamedElement, NoMemory, ReadError, RefError, Sequence, ShownCopy, StoreKey, Text,
-    field, flag_field, list_field, lower_hex, read_named, required_name, required_whole,
-    text_field, whole_field,
+    field, flag_field, list_field, lower_hex, read_named, required_name, required_port,
+    required_whole, text_field, whole_field,
 };
 use serde_json::Value;
 use std::alloc::Global;
