@@ -20,13 +20,13 @@ Lacks c t = All (λ b. (b == c) ≡ false) t
 -- the text of the first part: a name, and a colon and a version behind it
 abbrev pub head_text : List ℕ → Option (List ℕ) → List ℕ
 head_text name None = name
-head_text name (Some version) = name ++ 58 ∷ version
+head_text name (Some version) = name ++ (codes ":" ++ version)
 
 -- the text of a label: its name, `=` and its value
 abbrev pub label_text : Label → List ℕ
-label_text l = l.name ++ 61 ∷ l.value
+label_text l = l.name ++ (codes "=" ++ l.value)
 
--- a version or a value: some bytes, without a comma
+-- a version or a value: some bytes, without a comma, which is the byte 44
 abbrev pub IsValue : List ℕ → Type 0
 IsValue t = (t ≢ []) × Lacks 44 t
 

@@ -1,5 +1,7 @@
+//! References to images.
 ghost use Rattle.std.specs.Prelude.{◌≡◌, ◌↔◌, IfOk, IfErr, Some, Ok};
-ghost use Rattle.ac_types.specs.References.{IsRead, reference};
+ghost use Rattle.ac_types.specs.References.{reference};
+ghost use Rattle.ac_types.specs.ReferenceSteps.{IsRead};
 ghost use Rattle.ac_types.specs.ReferenceForm.{IsReference, IsRefError};
 ghost use Rattle.ac_types.specs.declared.image_ref.ImageRef.{ImageRef};
 ghost use Rattle.ac_types.specs.declared.image_ref.RefError.TheVariants.{NoMemory};

@@ -3,8 +3,8 @@ ghost use Rattle.std.specs.Prelude.{◌≡◌, ◌==◌, ◌≤◌, ◌<◌, ◌
 ghost use Rattle.std.specs.List.{slice_split, list_any};
 ghost use Rattle.std.specs.Option.{is_some};
 ghost use Rattle.ac_types.specs.declared.label.Label.{Label};
-ghost use Rattle.ac_types.specs.References.{cut, label_of, label_part, labels_from, head_part, is_identifier, parts_size, named, by_id, reference};
-ghost use Rattle.ac_types.specs.ReferenceSteps.{StopsAt, parts_in, has_name, version_names, HasNames, IsHeadOf};
+ghost use Rattle.ac_types.specs.References.{cut, label_of, label_part, labels_from, head_part, is_identifier, named, by_id, reference};
+ghost use Rattle.ac_types.specs.ReferenceSteps.{StopsAt, parts_in, has_name, version_names, HasNames, IsHeadOf, parts_size};
 ghost use Rattle.ac_types.specs.SeenTexts.{is_among};
 
 use crate::ref_parts::{are_id_digits, cut_at_colon, cut_at_equals, end_of};

@@ -1,7 +1,9 @@
+//! The parts of a reference, read one after the other.
 ghost use Rattle.std.specs.Prelude.{◌≡◌, ◌==◌, ◌⊎◌, true, false, ◌≤◌, ◌<◌, ◌+◌, ◌^◌, ◌++◌, ◌∷◌, [], ℕ, List, Some, None, Ok, Err, map, option_map, MatchOption, MatchResult, IfOk, IfErr, length, drop, codes};
 ghost use Rattle.std.specs.List.{slice_split, list_all};
 ghost use Rattle.ac_types.specs.declared.label.Label.{Label};
-ghost use Rattle.ac_types.specs.References.{IsRead, IsRefused, cut, label_of, label_part, labels_from, head_part, is_identifier, parts_size, version_labels, with_name, named, by_id, are_id_digits, is_lower_digit};
+ghost use Rattle.ac_types.specs.References.{cut, label_of, label_part, labels_from, head_part, is_identifier, version_labels, with_name, named, by_id, are_id_digits, is_lower_digit};
+ghost use Rattle.ac_types.specs.ReferenceSteps.{IsRead, IsRefused, parts_size};
 ghost use Rattle.ac_types.specs.SeenTexts.{HasSeen};
 
 use crate::ac_identifier::AcIdentifier;

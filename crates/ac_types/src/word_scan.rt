@@ -1,3 +1,4 @@
+//! The scan of words with separators between them.
 ghost use Rattle.std.specs.Prelude.{◌≡◌, ◌≢◌, true, false, MatchOption, MatchResult, ⊤, length, ◌≤◌, ◌||◌, ◌&&◌};
 ghost use Rattle.ac_types.specs.Names.{is_word_byte, are_words, IsLongestBeginning, IsNameFault};
 ghost use Rattle.ac_types.specs.Separators.{separates};

@@ -1,7 +1,6 @@
 use Rattle.std.proofs.Common.{◌≡◌, ◌<◌, ◌+◌, ◌^◌, sym, ◌∙◌, ap, arith, List, ℕ, Bor, Option, length}
 use Rattle.std.specs.Prelude.{option_map}
-use Rattle.ac_types.specs.References.{parts_size}
-use Rattle.ac_types.specs.ReferenceSteps.{parts_in}
+use Rattle.ac_types.specs.ReferenceSteps.{parts_in, parts_size}
 use Rattle.ac_types.proofs.RefChecks.{stops_here, stops_end, goes_on, drop_next}
 use Rattle.ac_types.proofs.ref_check.bad_label.Goals as goal
 

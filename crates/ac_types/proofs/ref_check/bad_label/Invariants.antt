@@ -1,7 +1,6 @@
 use Rattle.std.proofs.Common.{◌≡◌, ◌≤◌, ◌<◌, ◌+◌, ◌^◌, List, ℕ, Bor, drop, length}
 use Rattle.std.specs.Prelude.{option_map}
-use Rattle.ac_types.specs.References.{parts_size}
-use Rattle.ac_types.specs.ReferenceSteps.{parts_in}
+use Rattle.ac_types.specs.ReferenceSteps.{parts_in, parts_size}
 use Rattle.ac_types.proofs.RefChecks.{IsReadTo}
 use Rattle.ac_types.proofs.ref_check.bad_label.Given as goal
 

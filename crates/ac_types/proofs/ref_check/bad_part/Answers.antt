@@ -1,7 +1,7 @@
 use Rattle.std.proofs.Common.{◌≡◌, ◌+◌, ◌∙◌, sym, subst, ap, arith, length, List, ℕ, Bor}
 use Rattle.std.specs.Prelude.{option_map}
-use Rattle.ac_types.specs.References.{parts_size, named}
-use Rattle.ac_types.specs.ReferenceSteps.{parts_in, StopsAt}
+use Rattle.ac_types.specs.References.{named}
+use Rattle.ac_types.specs.ReferenceSteps.{parts_in, StopsAt, parts_size}
 use Rattle.ac_types.proofs.RefSteps.{parts_size_split}
 use Rattle.ac_types.proofs.RefChecks.{labels_next}
 use Rattle.ac_types.proofs.ref_check.bad_part.Goals as goal
