@@ -1,3 +1,4 @@
+//! A pod manifest as it is written.
 ghost use Rattle.std.specs.Prelude.{◌≡◌, IfOk};
 ghost use Rattle.serde_json.specs.Data.{no_members};
 ghost use Rattle.serde_json.specs.View.{view};

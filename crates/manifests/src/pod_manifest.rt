@@ -1,3 +1,4 @@
+//! The type of pod manifests.
 ghost use Rattle.std.specs.Prelude.{◌≡◌, IfOk};
 ghost use Rattle.manifests.specs.PodData.{pod_data};
 

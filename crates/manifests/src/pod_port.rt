@@ -1,9 +1,10 @@
+//! Ports of a pod.
 ghost use Rattle.std.specs.Prelude.{◌≡◌, IfOk};
 
 use ac_types::{
     AcName, FromElement, NoMemory, ReadError, Sequence, TryCopy, object_value, required_name,
+    required_port,
 };
-use app_section::required_port;
 use serde_json::Value;
 use std::alloc::Global;
 
