@@ -1,17 +1,15 @@
 -- Entries that rise by their paths.
-use Rattle.std.proofs.Common.{◌≡◌, ℕ, true, List, [], ◌∷◌, ◌++◌, Some, None, nat_cmp, Less, Equal, Greater, sym, refl, ap, ◌∙◌, ⊎_elim}
+use Rattle.std.proofs.Common.{◌≡◌, ℕ, true, List, [], ◌∷◌, ◌++◌, Option, Some, None, IsSome, nat_cmp, Less, Equal, Greater, sym, refl, ap, ◌∙◌, ⊎_elim}
 use Rattle.std.proofs.Math.Path.{ap₂}
 use Rattle.std.specs.Cmp.Lexicographic.{slice_cmp}
 use Rattle.std.specs.List.{AllByRecursion}
 use Rattle.std.specs.List.Sorted.{IsStrictlySortedBy}
 use Rattle.std.specs.Map.{keys_of}
-use Rattle.std.specs.BTreeMap.{insert_entry}
+use Rattle.std.specs.BTreeMap.{insert_entry, is_at}
 use Rattle.std.specs.Ordering.{ordering_reverse, is_eq}
 use Rattle.std.specs.declared.cmp.Ordering.{Ordering}
-use Rattle.std.proofs.lemmas.Cmp.{nat_list_cmp_total}
-use Rattle.std.specs.BTreeMap.{is_at}
+use Rattle.std.proofs.lemmas.Cmp.{nat_list_cmp_total, eq_by_cmp_equiv, tied_itself}
 use Rattle.std.proofs.lemmas.Bool.{cases_Bool}
-use Rattle.std.proofs.lemmas.Cmp.{eq_by_cmp_equiv, tied_itself}
 use Rattle.std.proofs.lemmas.Map.{lookup-none}
 use Rattle.std.proofs.lemmas.Map.Entries.{none_below_head, none_past_head, lookup_head, lookup_tail}
 use Rattle.std.proofs.lemmas.Map.Keys.{sorted_head, sorted_tail, IsDistinct-from_sorted}
@@ -33,7 +31,7 @@ insert_last (e ∷ es) rest path entry sorted =
     let more = insert_last es rest path entry (sorted_tail (slice_cmp nat_cmp) e.0 (keys_of (es ++ (path, entry) ∷ rest)) sorted) in
     rw greater (ap (λ fs. e ∷ fs) more)
 
-at_head : (e : List ℕ × Entry) (es : Entries) → entry_at (e ∷ es) e.0 ≡ Some e.1
+pub at_head : (e : List ℕ × Entry) (es : Entries) → entry_at (e ∷ es) e.0 ≡ Some e.1
 at_head e es = lookup_head (is_at (slice_cmp nat_cmp e.0)) e es (ap is_eq (tied_itself nat_list_cmp_total e.0))
 
 before : (q : List ℕ) (e : List ℕ × Entry) (es : Entries) → IsStrictlySortedBy (slice_cmp nat_cmp) (keys_of (e ∷ es)) → slice_cmp nat_cmp q e.0 ≡ Less → entry_at (e ∷ es) q ≡ None
@@ -41,6 +39,18 @@ before q e es s less = lookup-none (is_at (slice_cmp nat_cmp q)) (e ∷ es) (non
 
 past : (q : List ℕ) (e : List ℕ × Entry) (es : Entries) → IsStrictlySortedBy (slice_cmp nat_cmp) (keys_of (e ∷ es)) → is_at (slice_cmp nat_cmp q) e.0 ≡ true → entry_at es q ≡ None
 past q e es s at = lookup-none (is_at (slice_cmp nat_cmp q)) es (none_past_head (eq_by_cmp_equiv nat_list_cmp_total) q e es (IsDistinct-from_sorted (slice_cmp nat_cmp) (keys_of (e ∷ es)) s) at)
+
+not_some : (o : Option Entry) → o ≡ None → IsSome o → ⊥
+not_some None none some = cc
+not_some (Some e) none some = cc
+
+-- what stands in the rest stands in the whole
+pub in_tail : (e : List ℕ × Entry) (es : Entries) → IsStrictlySortedBy (slice_cmp nat_cmp) (keys_of (e ∷ es)) → (q : List ℕ) → IsSome (entry_at es q) → entry_at (e ∷ es) q ≡ entry_at es q
+in_tail e es s q some =
+    ⊎_elim
+    (λ at. absurd (not_some _ (past q e es s at) some))
+    (λ off. lookup_tail (is_at (slice_cmp nat_cmp q)) e es off)
+    (cases_Bool (is_at (slice_cmp nat_cmp q) e.0))
 
 -- the entries are known by what stands at each path
 pub same_from_tree : (es fs : Entries) → IsStrictlySortedBy (slice_cmp nat_cmp) (keys_of es) → IsStrictlySortedBy (slice_cmp nat_cmp) (keys_of fs)
