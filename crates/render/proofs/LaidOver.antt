@@ -7,9 +7,9 @@ use Rattle.std.specs.Cmp.Lexicographic.{slice_cmp}
 use Rattle.std.proofs.lemmas.Bool.{cond-true, cond-false, and_from, and_parts, and_right, or_from, not_from_false, not-true, false_from_ne_true, both_ways, ne_eqb}
 use Rattle.std.proofs.lemmas.Map.Keys.{sorted_head, sorted_tail}
 use Rattle.path_map.specs.declared.entry.Entry.{Entry}
-use Rattle.path_map.specs.Paths.{lies_below}
-use Rattle.path_map.specs.Entries.{Entries, Tree, entry_at, is_directory, is_directory_at, IsPathMap}
-use Rattle.path_map.specs.Overlay.{is_ancestor, overlaid, HasParents}
+use Rattle.path_map.specs.Paths.{lies_below, is_ancestor}
+use Rattle.path_map.specs.Entries.{Entries, Tree, entry_at, is_directory, is_directory_at, IsPathMap, HasParents}
+use Rattle.path_map.specs.Overlay.{overlaid}
 use Rattle.path_map.proofs.Below.{below_itself, below_trans}
 use Rattle.path_map.proofs.OverlayLaws.{by_place, laid_here, laid_below, laid_above, laid_apart, below_ancestor, ancestor_from, directory_stays, is_directory-directory_at}
 use Rattle.path_map.proofs.Segments.{path_some, sound_from}

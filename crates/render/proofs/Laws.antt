@@ -3,8 +3,8 @@ use Rattle.std.proofs.Common.{◌≡◌, ℕ, zero, suc, List, [], ◌∷◌, le
 use Rattle.std.specs.List.{AllZip}
 use mathlib.Core.Path.{fun_ext}
 use Rattle.path_map.specs.declared.listed.Listed.{Listed}
-use Rattle.path_map.specs.Entries.{Entries, Tree, entry_at, IsPathMap}
-use Rattle.path_map.specs.Overlay.{overlaid, HasParents}
+use Rattle.path_map.specs.Entries.{Entries, Tree, entry_at, IsPathMap, HasParents}
+use Rattle.path_map.specs.Overlay.{overlaid}
 use Rattle.path_map.specs.Whitelist.{whitelisted}
 use Rattle.path_map.proofs.OverlayLaws.{overlay_keeps_parents}
 use Rattle.path_map.proofs.Rising.{same_from_tree}

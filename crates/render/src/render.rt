@@ -1,7 +1,6 @@
 ghost use Rattle.std.specs.Prelude.{◌≡◌, ◌↔◌, ◌<◌, length, IfOk};
 ghost use Rattle.dep_match.specs.TreeOrder.{IsOrderedTree};
-ghost use Rattle.path_map.specs.Entries.{entry_at};
-ghost use Rattle.path_map.specs.Overlay.{HasParents};
+ghost use Rattle.path_map.specs.Entries.{entry_at, HasParents};
 ghost use Rattle.render.specs.Layers.{source_at};
 ghost use Rattle.render.specs.Flattening.{all_entries, HasSources, IsRendering};
 

@@ -1,6 +1,5 @@
 ghost use Rattle.std.specs.Prelude.{◌≡◌, ◌<◌, ◌↔◌, ℕ, List, [], Some, length, IfOk, IsTrue};
-ghost use Rattle.path_map.specs.Entries.{entry_at, IsPathMap};
-ghost use Rattle.path_map.specs.Overlay.{HasParents};
+ghost use Rattle.path_map.specs.Entries.{entry_at, IsPathMap, HasParents};
 ghost use Rattle.path_map.specs.Whitelist.{whitelisted};
 ghost use Rattle.render.specs.Origins.{origin_at, laid_origins};
 ghost use Rattle.render.specs.Layers.{laid, is_file_at, source_at};

@@ -1,6 +1,6 @@
 use Rattle.std.proofs.Common.{◌<◌, ℕ, List, length, IsTrue}
 use Rattle.path_map.specs.Entries.{entry_at, is_directory_at}
-use Rattle.path_map.specs.Overlay.{is_ancestor}
+use Rattle.path_map.specs.Paths.{is_ancestor}
 use Rattle.render.proofs.open_place.has_ancestors.Given as goal
 
 abbrev pub invariant-loop-place : goal.invariant-loop-place

@@ -1,8 +1,7 @@
 use Rattle.std.proofs.Common.{List, ℕ, [], subst, sym}
 use Rattle.std.specs.List.{All}
 use Rattle.path_map.specs.declared.entry.Entry.{Entry}
-use Rattle.path_map.specs.Entries.{entry_at}
-use Rattle.path_map.specs.Overlay.{HasParents}
+use Rattle.path_map.specs.Entries.{entry_at, HasParents}
 use Rattle.tree_digest.specs.Listings.{IsListable}
 use Rattle.tree_digest.proofs.MapLines.{listing_has_parents, listing_is_listable}
 use Rattle.tree_scenarios.proofs.listings.again.Goals as goal
