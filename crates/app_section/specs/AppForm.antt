@@ -41,10 +41,6 @@ app at d =
       isolators = isolators;
     })
 
--- the app was read from some JSON
-abbrev pub WasRead : AppData → Type 0
-WasRead a = (at : List ℕ) × ((d : Data) × (app at d ≡ reads a))
-
 -- the JSON is read as the app, at each path
 abbrev pub IsReadAs : Data → AppData → Type 0
 IsReadAs d a = (at : List ℕ) → app at d ≡ reads a

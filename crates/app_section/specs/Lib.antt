@@ -1,6 +1,7 @@
 pub mod AppData
 pub mod AppForm
 pub mod AppObject
+pub mod AppRules
 pub mod EnvForm
 pub mod ExecForm
 pub mod HandlerForm

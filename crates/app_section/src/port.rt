@@ -5,8 +5,8 @@ ghost use Rattle.app_section.specs.PortForm.{port_fields};
 
 use crate::small_numbers::{port_count, required_port};
 use ac_types::{
-    AcName, FaultKind, FromElement, NamedElement, NoMemory, ReadError, Text, TryCopy, fault_at,
-    filled_text, flag_field, object_value, required_name,
+    AcName, FaultKind, FromElement, NamedElement, NoMemory, ReadError, Sequence, Text, TryCopy,
+    fault_at, filled_text, flag_field, object_value, required_name,
 };
 use serde_json::Value;
 use std::alloc::Global;
@@ -21,6 +21,9 @@ pub struct Port {
     pub count: u16,
     pub socket_activated: bool,
 }
+
+/// A list of port ranges. Contracts see its elements.
+pub type Ports = Sequence<Port>;
 
 impl Port {
     /// An equal port.

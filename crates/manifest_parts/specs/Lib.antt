@@ -5,5 +5,6 @@ pub mod DocumentForm
 pub mod HeadForms
 pub mod IdForms
 pub mod LabelsForm
+pub mod PartRules
 pub mod PodPortForm
 pub mod RuntimeImageForm

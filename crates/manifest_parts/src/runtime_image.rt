@@ -24,7 +24,7 @@ impl RuntimeImage {
     {
         Ok(RuntimeImage {
             id: self.id,
-            name: copy_name(&self.name)?,
+            name: self.name.try_copy()?,
             labels: self.labels.copy()?,
         })
     }
@@ -33,15 +33,6 @@ impl RuntimeImage {
 impl TryCopy for RuntimeImage {
     fn try_copy(&self) -> Result<RuntimeImage, NoMemory> {
         self.copy()
-    }
-}
-
-fn copy_name(name: &Option<AcIdentifier>) -> Result<Option<AcIdentifier>, NoMemory>
-    ensures { IfOk result (λ copy. copy ≡ name.now) }
-{
-    match name {
-        Some(name) => Ok(Some(name.copy()?)),
-        None => Ok(None),
     }
 }
 

@@ -2,6 +2,7 @@ pub mod DocumentData
 pub mod ImageData
 pub mod ImageForm
 pub mod LastFields
+pub mod ManifestRules
 pub mod MountForm
 pub mod PodData
 pub mod PodForm
