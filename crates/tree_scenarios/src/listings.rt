@@ -97,23 +97,34 @@ fn a_map_is_listed(rt: HostRuntime) -> Result<(), Fail> {
     Ok(())
 }
 
+/// A directory with mode 0755 and owners 0:0.
+const DIRECTORY: Meta = Meta {
+    mode: 0o755,
+    uid: 0,
+    gid: 0,
+};
+
 const ESCAPES: &[(&str, &[u8])] = &[
     ("/a b", b"d 0755 0 0 /a%20b\n"),
     ("/\u{e9}", b"d 0755 0 0 /%C3%A9\n"),
 ];
 
+/// How many bytes the line of such a directory takes.
+fn directory_len(alloc: Global, path: &str) -> Result<usize, Fail> {
+    let line = ListingLine {
+        path: AbsPath::parse(alloc, path)?,
+        entry: Entry::Dir(DIRECTORY),
+    };
+    Ok(line.text_len(alloc)?)
+}
+
 #[test]
 fn a_path_is_escaped(rt: HostRuntime) -> Result<(), Fail> {
     let alloc = rt.alloc();
     for &(path, text) in ESCAPES {
-        let entry = Entry::Dir(owned(0o755));
-        let map = with(alloc, PathMap::new(alloc), path, entry)?;
+        let map = with(alloc, PathMap::new(alloc), path, Entry::Dir(DIRECTORY))?;
         assert!(&rt; listed(alloc, &map)?.write(alloc)?.as_slice() == text);
-        let line = ListingLine {
-            path: AbsPath::parse(alloc, path)?,
-            entry: Entry::Dir(owned(0o755)),
-        };
-        assert!(&rt; line.text_len(alloc)? == text.len());
+        assert!(&rt; directory_len(alloc, path)? == text.len());
     }
     Ok(())
 }
