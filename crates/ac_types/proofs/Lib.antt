@@ -1,4 +1,6 @@
+pub mod Cuts
 pub mod EachElement
+pub mod IdentifierBytes
 pub mod JsonLists
 pub mod IdTexts
 pub mod LabelNames
@@ -6,6 +8,8 @@ pub mod LabelPlaces
 pub mod LeastPlace
 pub mod NameFaults
 pub mod OutcomeLaws
+pub mod RefChecks
+pub mod ReferenceLaw
 pub mod RefSteps
 pub mod TextsSeen
 pub mod Words

@@ -8,6 +8,8 @@ pub mod Labels
 pub mod NameForms
 pub mod Names
 pub mod Outcomes
+pub mod ReferenceForm
+pub mod ReferenceSteps
 pub mod References
 pub mod SeenTexts
 pub mod Separators

@@ -1,3 +1,4 @@
+//! AC Identifiers.
 ghost use Rattle.std.specs.Prelude.{◌≡◌, IfOk, IfErr};
 ghost use Rattle.ac_types.specs.Names.{IsAcIdentifier, IsNameFault, is_separator};
 

@@ -1,3 +1,4 @@
+//! AC Names.
 ghost use Rattle.std.specs.Prelude.{◌≡◌, IfOk, IfErr};
 ghost use Rattle.ac_types.specs.Names.{IsAcName, IsNameFault, is_hyphen};
 

@@ -1,3 +1,4 @@
+//! The faults of a manifest.
 ghost use Rattle.std.specs.Prelude.{◌≡◌, IfOk, Some};
 ghost use Rattle.ac_types.specs.FaultNumbers.{number_of};
 ghost use Rattle.ac_types.specs.declared.fault.ReadError.TheVariants.{NoMemory};

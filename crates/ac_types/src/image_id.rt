@@ -1,3 +1,4 @@
+//! Image IDs.
 ghost use Rattle.std.specs.Prelude.{◌≡◌, ◌≢◌, ℕ, List, Some, None, IfOk, IfErr, MatchResult, codes};
 ghost use Rattle.ac_types.specs.Ids.{id_text, id_read, AreBytes};
 

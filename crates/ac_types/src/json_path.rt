@@ -1,3 +1,4 @@
+//! The paths of JSON values in a document.
 ghost use Rattle.std.specs.Prelude.{◌≡◌, IfOk, OnOk};
 ghost use Rattle.std.specs.String.{string_bytes};
 ghost use Rattle.ac_types.specs.JsonPaths.{is_whole, field_path, element_path};

@@ -1,3 +1,4 @@
+//! Lists of labels, and which of them may stand.
 ghost use Rattle.std.specs.Prelude.{◌≡◌, Some, None, MatchResult, option_map, ◌<◌, ◌≤◌, length, map, MatchOption, IfOk, ⊤};
 ghost use Rattle.ac_types.specs.declared.label.Label.{Label};
 ghost use Rattle.std.specs.List.{list_any};

@@ -14,6 +14,7 @@ pub mod label;
 pub mod labels;
 pub mod memory;
 pub mod name_error;
+mod ref_check;
 mod ref_parts;
 pub mod refusals;
 pub mod required_readers;
@@ -43,8 +44,8 @@ pub use memory::NoMemory;
 pub use name_error::NameError;
 pub use refusals::{BAD_ID, BAD_REF, ID_DIGITS, MAX_IDENTIFIER, MAX_NAME, MIN_DIGITS};
 pub use required_readers::{
-    filled_text, name_fault, required_field, required_identifier, required_name, required_text,
-    required_whole,
+    filled_text, name_fault, required_field, required_identifier, required_name, required_port,
+    required_text, required_whole,
 };
 pub use seen_texts::SeenTexts;
 pub use sequence::{Sequence, Texts};

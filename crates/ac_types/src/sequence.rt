@@ -1,3 +1,4 @@
+//! A list that contracts see as its elements.
 ghost use Rattle.std.specs.Prelude.{◌≡◌, List, [], ◌++◌, ◌∷◌, IfOk, length, nat_eq};
 
 use crate::memory::NoMemory;

@@ -1,3 +1,4 @@
+//! Copies of values of which contracts see what they show.
 ghost use Rattle.std.specs.Prelude.{◌≡◌, List, IfOk, map, option_map};
 
 use crate::memory::NoMemory;

@@ -1,3 +1,4 @@
+//! Keys of images in a store.
 ghost use Rattle.std.specs.Prelude.{◌≡◌, ◌≢◌, ℕ, List, Some, None, IfOk, IfErr, MatchResult, take};
 ghost use Rattle.ac_types.specs.Ids.{key_read, id_text, AreBytes, IsKeyText};
 

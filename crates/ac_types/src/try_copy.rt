@@ -1,3 +1,4 @@
+//! Copies while there is memory.
 ghost use Rattle.std.specs.Prelude.{◌≡◌, IfOk};
 
 use crate::memory::NoMemory;

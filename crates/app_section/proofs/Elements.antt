@@ -2,35 +2,31 @@
 use Rattle.std.proofs.Common.{◌≡◌, ◌≢◌, ◌≤◌, ◌+◌, ℕ, zero, suc, Bool, true, false, List, [], ◌∷◌, ◌++◌, map, Option, Some, None, codes, nat_le, refl, ◌∙◌, ap, arith, IfSome}
 use Rattle.std.specs.List.{All}
 use Rattle.std.proofs.lemmas.Bool.{leb-true, le-leb}
-use Rattle.std.proofs.lemmas.List.Elements.{All-nil, All-cons, All-head, All-tail, All-push}
+use Rattle.std.proofs.lemmas.List.Elements.{All-nil, All-cons, All-head, All-tail}
 use Rattle.serde_json.specs.Data.{Data, null, boolean, number, string, array, object}
 use Rattle.serde_json.specs.Find.{get}
 use Rattle.serde_json.specs.Written.{has_float}
-use Rattle.ac_types.specs.FieldForms.{unless_null, filled_text, text, present, required, required_at, optional, optional_at, whole, each_after}
+use Rattle.ac_types.specs.FieldForms.{unless_null, required, required_at, optional_at, whole, each_after}
 use Rattle.ac_types.specs.JsonPaths.{field_path, element_path}
 use Rattle.ac_types.specs.Names.{IsAcName}
-use Rattle.ac_types.specs.Outcomes.{Outcome, reads, fails, ◌>>=◌, ◌>>◌}
-use Rattle.app_section.specs.AppData.{IsolatorData}
+use Rattle.ac_types.specs.Outcomes.{reads}
 use Rattle.app_section.specs.AppObject.{whole_data, env_fields, env_object, handler_fields, handler_object, mount_fields, mount_object, port_fields as port_list, port_object, isolator_fields, isolator_object}
 use Rattle.app_section.specs.AppRules.{HasNoNul, IsProgram, IsExec, IsEnvVar, IsHandler, IsMountPoint, IsPortRange, IsIsolator}
 use Rattle.app_section.specs.EnvForm.{env_var, env_name, env_value, is_env_name, if_good, unless_nul}
-use Rattle.app_section.specs.ExecForm.{word, words, word_after, argument, some_words, filled_exec}
+use Rattle.app_section.specs.ExecForm.{word, words, argument, some_words, filled_exec}
 use Rattle.app_section.specs.HandlerForm.{handler, kind_name, kind_of, known_kind}
 use Rattle.app_section.specs.IsolatorForm.{isolator, whole_json, unless_float}
 use Rattle.app_section.specs.MountForm.{mount_point}
 use Rattle.app_section.specs.Objects.{Field, written, list_data}
 use Rattle.app_section.specs.Places.{has_nul, held, program_text}
 use Rattle.app_section.specs.PortForm.{or_one, count_field, port_fields, if_within, port_range}
-use Rattle.app_section.specs.declared.env_var.EnvVar.{EnvVar}
-use Rattle.app_section.specs.declared.handler.Handler.{Handler}
 use Rattle.app_section.specs.declared.handler.HandlerKind.{HandlerKind}
 use Rattle.app_section.specs.declared.handler.HandlerKind.TheVariants.{PreStart, PostStop}
-use Rattle.app_section.specs.declared.mount_point.MountPoint.{MountPoint}
 use Rattle.app_section.specs.declared.port.Port.{Port}
 use Rattle.app_section.proofs.Fields.{value_of, present_in, required_given, required_again, optional_given, any_flag, flag_again, list_given, list_reads, members_are_whole, flag_is_whole, list_is_whole}
 use Rattle.app_section.proofs.PlacesAgain.{program_again}
 use Rattle.app_section.proofs.Readings.{GivesOnly, Gives, Rereads, InTurn, gives, gives_none, gives_then, gives_behind, then_reads, split, more_given, each_given, each_again}
-use Rattle.app_section.proofs.Texts.{IsFilled, text_given, text_again, filled_text_given, filled_text_again, filled_reads, name_given, name_again, filled_identifier_given, filled_identifier_again, held_given, filled_place_given, filled_place_again, whole_given, whole_again}
+use Rattle.app_section.proofs.Texts.{IsFilled, text_given, text_again, filled_text_given, filled_text_again, name_given, name_again, filled_identifier_given, filled_identifier_again, held_given, filled_place_given, filled_place_again, whole_given, whole_again}
 
 -- ---- environment variables
 

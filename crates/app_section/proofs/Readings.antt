@@ -1,5 +1,5 @@
 -- Laws of readings: which values they give, and that a value is given again, closed under a reading and what follows.
-use Rattle.std.proofs.Common.{◌≡◌, ℕ, Bool, true, false, List, [], ◌∷◌, ◌++◌, map, length, Option, Some, Result, Ok, Err, IfOk, codes, refl, sym, ◌∙◌, ap, subst, append_assoc, append-nil, arith}
+use Rattle.std.proofs.Common.{◌≡◌, ℕ, Bool, true, false, List, [], ◌∷◌, ◌++◌, map, length, Some, Result, Ok, Err, IfOk, codes, refl, sym, ◌∙◌, ap, subst, append_assoc, append-nil, arith}
 use Rattle.std.specs.Prelude.{◌||◌}
 use Rattle.std.specs.List.{All, AllByRecursion}
 use Rattle.std.specs.Str.{bytes_eq}
@@ -59,6 +59,9 @@ answer_given shown o (Err error) given is = tt
 pub then_reads : {A B : Type 0} (m : Outcome A) (next : A → Outcome B) (a : A) (b : B) → m ≡ reads a → next a ≡ reads b
     → (m >>= next) ≡ reads b
 then_reads m next a b is later = ap (λ o. o >>= next) is ∙ later
+
+pub then_behind : {A B : Type 0} (o : Outcome A) (m : Outcome B) (a : A) (b : B) → o ≡ reads a → m ≡ reads b → (o >> m) ≡ reads b
+then_behind o m a b is later = ap (λ r. r >> m) is ∙ later
 
 -- ---- forms
 

@@ -2,18 +2,17 @@
 use Rattle.std.proofs.Common.{◌≡◌, ◌≢◌, ◌≤◌, ℕ, Bool, true, false, List, [], ◌∷◌, length, Option, Some, None, nat_le, refl, ap}
 use Rattle.std.specs.Prelude.{if◌then◌else◌, ◌&&◌}
 use Rattle.std.proofs.lemmas.Bool.{and_parts, and_from, leb-true, le-leb}
-use Rattle.serde_json.specs.Data.{Data, string, Num, unsigned, negative, float}
-use Rattle.serde_json.specs.Find.{as_number}
-use Rattle.ac_types.specs.FieldForms.{text, filled, filled_text, whole, at_most, wanted}
+use Rattle.serde_json.specs.Data.{string, Num, unsigned, negative, float}
+use Rattle.ac_types.specs.FieldForms.{text, filled, filled_text, whole, at_most}
 use Rattle.ac_types.specs.NameForms.{words, if_words, filled_name, filled_identifier, identifier}
 use Rattle.ac_types.specs.Names.{are_words, is_hyphen, is_separator, IsAcName, IsAcIdentifier}
-use Rattle.ac_types.specs.Outcomes.{Outcome, reads, fails, ◌>>=◌}
+use Rattle.ac_types.specs.Outcomes.{reads, fails}
 use Rattle.ac_types.specs.declared.fault.FaultKind.TheVariants.{OutOfRange}
 use Rattle.app_section.specs.AppObject.{whole_data}
 use Rattle.app_section.specs.AppRules.{IsPlace}
 use Rattle.app_section.specs.Places.{held, place_text, place_field, filled_place, is_rooted}
 use Rattle.app_section.proofs.PlacesAgain.{place_again, rooted_place}
-use Rattle.app_section.proofs.Readings.{GivesOnly, Gives, Rereads, gives, gives_none, gives_then, then_reads, no_fault}
+use Rattle.app_section.proofs.Readings.{GivesOnly, Gives, Rereads, gives, gives_none, gives_then, then_reads}
 
 -- ---- texts
 

@@ -1,8 +1,8 @@
 -- What an app is, said of all its elements at once.
-use Rattle.std.specs.Prelude.{◌≡◌, ◌≢◌, ◌≤◌, ◌+◌, ℕ, true, false, List, [], ◌∷◌, map, Option, Some, IfSome}
+use Rattle.std.specs.Prelude.{◌≡◌, ◌≢◌, ◌≤◌, ◌+◌, ℕ, true, false, List, [], ◌∷◌, map, Some, IfSome}
 use Rattle.std.specs.List.{All, IsDistinct}
 use Rattle.std.specs.Str.{bytes_eq}
-use Rattle.serde_json.specs.Data.{Data, null}
+use Rattle.serde_json.specs.Data.{null}
 use Rattle.serde_json.specs.Written.{has_float}
 use Rattle.ac_types.specs.Names.{IsAcName, IsAcIdentifier}
 use Rattle.app_section.specs.AppData.{AppData, IsolatorData}

@@ -1,24 +1,25 @@
+//! An app: how it is read, written and copied.
 ghost use Rattle.std.specs.Prelude.{◌≡◌, IfOk};
 ghost use Rattle.serde_json.specs.View.{view};
 ghost use Rattle.ac_types.specs.Outcomes.{Answers};
 ghost use Rattle.app_section.specs.AppData.{app_data};
 ghost use Rattle.app_section.specs.AppForm.{app, IsReadAs};
 ghost use Rattle.app_section.specs.AppObject.{app_object};
+ghost use Rattle.app_section.specs.AppParts.{last_data, whole_app};
 ghost use Rattle.app_section.specs.AppRules.{IsApp};
 
-use crate::element_lists::{list_of, named_list_of};
+use crate::app_fields::{
+    FirstFields, LastFields, copy_first_fields, copy_last_fields, read_first_fields,
+    read_last_fields,
+};
 use crate::env_var::EnvVars;
-use crate::exec::exec_field;
-use crate::group_ids::{GroupIds, group_ids};
+use crate::group_ids::GroupIds;
 use crate::handler::Handlers;
 use crate::isolator::Isolators;
 use crate::mount_point::MountPoints;
-use crate::places::optional_place;
 use crate::port::Ports;
 use crate::written_app::app_value;
-use ac_types::{
-    FaultKind, NoMemory, ReadError, ShownCopy, Text, Texts, TryCopy, filled_text, object_value,
-};
+use ac_types::{NoMemory, ReadError, ShownCopy, Text, Texts, object_value};
 use serde_json::Value;
 use std::alloc::Global;
 
@@ -62,18 +63,9 @@ impl App {
     pub fn copy(&self) -> Result<App, NoMemory>
         ensures { IfOk result (λ copy. app_data copy ≡ app_data self.now) }
     {
-        Ok(App {
-            exec: self.exec.copy()?,
-            user: self.user.copy()?,
-            group: self.group.copy()?,
-            supplementary_gids: self.supplementary_gids.copy()?,
-            event_handlers: self.event_handlers.copy()?,
-            working_directory: self.working_directory.try_copy()?,
-            environment: self.environment.copy()?,
-            mount_points: self.mount_points.copy()?,
-            ports: self.ports.copy()?,
-            isolators: self.isolators.copy()?,
-        })
+        let first = copy_first_fields(self)?;
+        let last = copy_last_fields(self)?;
+        Ok(app_of(first, last))
     }
 }
 
@@ -94,26 +86,24 @@ fn read_app(alloc: Global, value: &Value, at: &str) -> Result<App, ReadError>
     ensures { Answers app_data (app at.now (view value.now)) result }
 {
     object_value(alloc, value, at)?;
-    let exec = exec_field(alloc, value, at)?;
-    let user = filled_text(alloc, value, at, "user")?;
-    let group = filled_text(alloc, value, at, "group")?;
-    let supplementary_gids = group_ids(alloc, value, at, "supplementaryGIDs")?;
-    let handlers = named_list_of(alloc, value, at, "eventHandlers", FaultKind::BadHandler)?;
-    let working_directory = optional_place(alloc, value, at, "workingDirectory")?;
-    let environment = list_of(alloc, value, at, "environment")?;
-    let mount_points = named_list_of(alloc, value, at, "mountPoints", FaultKind::NameTwice)?;
-    let ports = named_list_of(alloc, value, at, "ports", FaultKind::NameTwice)?;
-    let isolators = list_of(alloc, value, at, "isolators")?;
-    Ok(App {
-        exec,
-        user: Text::of(alloc, user)?,
-        group: Text::of(alloc, group)?,
-        supplementary_gids,
-        event_handlers: handlers,
-        working_directory,
-        environment,
-        mount_points,
-        ports,
-        isolators,
-    })
+    let first = read_first_fields(alloc, value, at)?;
+    let last = read_last_fields(alloc, value, at)?;
+    Ok(app_of(first, last))
+}
+
+fn app_of(first: FirstFields, last: LastFields) -> App
+    ensures { app_data result ≡ whole_app first (last_data last) }
+{
+    App {
+        exec: first.exec,
+        user: first.user,
+        group: first.group,
+        supplementary_gids: first.supplementary_gids,
+        event_handlers: first.event_handlers,
+        working_directory: last.working_directory,
+        environment: last.environment,
+        mount_points: last.mount_points,
+        ports: last.ports,
+        isolators: last.isolators,
+    }
 }

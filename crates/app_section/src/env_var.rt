@@ -1,3 +1,4 @@
+//! Variables of an environment.
 ghost use Rattle.std.specs.Prelude.{◌≡◌, IfOk};
 ghost use Rattle.std.specs.List.{list_all};
 ghost use Rattle.app_section.specs.EnvForm.{is_env_name, is_first_byte, is_later_byte};

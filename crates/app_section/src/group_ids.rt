@@ -1,3 +1,4 @@
+//! The IDs of groups.
 ghost use Rattle.std.specs.Prelude.{map, []};
 ghost use Rattle.serde_json.specs.View.{view};
 ghost use Rattle.ac_types.specs.FieldForms.{default, whole, each};

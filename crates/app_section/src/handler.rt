@@ -1,3 +1,4 @@
+//! Event handlers.
 ghost use Rattle.std.specs.Prelude.{◌≡◌, IfOk};
 ghost use Rattle.app_section.specs.HandlerForm.{kind_name, kind_of};
 

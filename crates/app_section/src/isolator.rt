@@ -1,3 +1,4 @@
+//! Isolators, whose value is JSON.
 ghost use Rattle.std.specs.Prelude.{◌≡◌, IfOk};
 ghost use Rattle.app_section.specs.AppData.{isolator_data};
 

@@ -2,6 +2,7 @@
 #![tactic(auto)]
 
 pub mod app;
+mod app_fields;
 pub mod element_lists;
 mod element_values;
 pub mod env_var;
@@ -13,7 +14,6 @@ pub mod mount_point;
 pub mod object_builder;
 mod places;
 pub mod port;
-mod small_numbers;
 pub mod to_json;
 mod whole_numbers;
 pub mod written_app;

@@ -1,3 +1,4 @@
+//! Mount points.
 ghost use Rattle.std.specs.Prelude.{◌≡◌, IfOk};
 
 use crate::places::required_place;

@@ -2,7 +2,7 @@
 use Rattle.std.proofs.Common.{◌≡◌, ◌≢◌, ℕ, List, [], ◌∷◌, Result, Ok, Err, IsOk, refl, subst}
 use Rattle.semver.specs.Parse.{Parts, version_parts}
 use Rattle.semver.specs.declared.error.Error.{Error}
-use Rattle.ac_types.specs.Outcomes.{Outcome, reads}
+use Rattle.ac_types.specs.Outcomes.{reads}
 use Rattle.manifest_parts.specs.HeadForms.{version_text, if_version}
 use Rattle.manifest_parts.specs.PartRules.{IsVersion}
 

@@ -4,12 +4,11 @@ use Rattle.std.specs.List.{All}
 use Rattle.semver.specs.Parse.{version_parts}
 use Rattle.ac_types.specs.Ids.{AreBytes}
 use Rattle.ac_types.specs.Labels.{label_fault}
-use Rattle.ac_types.specs.Names.{IsAcName, IsAcIdentifier}
+use Rattle.ac_types.specs.Names.{IsAcIdentifier}
 use Rattle.ac_types.specs.declared.image_id.ImageId.{ImageId}
 use Rattle.ac_types.specs.declared.label.Label.{Label}
 use Rattle.manifest_parts.specs.declared.annotation.Annotation.{Annotation}
 use Rattle.manifest_parts.specs.declared.dependency.Dependency.{Dependency}
-use Rattle.manifest_parts.specs.declared.pod_port.PodPort.{PodPort}
 use Rattle.manifest_parts.specs.declared.runtime_image.RuntimeImage.{RuntimeImage}
 
 -- the text is a semantic version
@@ -36,10 +35,6 @@ pub record IsDependency (d : Dependency) : Type 0 where
   pub id : IfSome d.image_id IsImageId
   pub labelled : AreLabels d.labels
   pub sized : IfSome d.size (λ n. n ≤ 18446744073709551615)
-
-pub record IsPodPort (p : PodPort) : Type 0 where
-  pub named : IsAcName p.name
-  pub port : p.host_port ≤ 65535
 
 pub record IsRuntimeImage (i : RuntimeImage) : Type 0 where
   pub known : IsImageId i.id

@@ -1,3 +1,4 @@
+//! The reading of labels.
 ghost use Rattle.std.specs.Prelude.{◌≡◌, [], map};
 ghost use Rattle.serde_json.specs.View.{view};
 ghost use Rattle.ac_types.specs.FieldForms.{default, each};

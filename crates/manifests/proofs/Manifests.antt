@@ -1,5 +1,5 @@
 -- What was read is a manifest.
-use Rattle.std.proofs.Common.{◌≡◌, ◌≤◌, ℕ, Bool, true, false, List, [], ◌∷◌, map, Option, Some, None, codes, refl, ap, subst, arith, IfSome}
+use Rattle.std.proofs.Common.{◌≡◌, ◌≤◌, ℕ, Bool, true, false, List, [], ◌∷◌, map, Option, Some, None, codes, refl, arith, IfSome}
 use Rattle.std.specs.Prelude.{if◌then◌else◌}
 use Rattle.std.specs.List.{All}
 use Rattle.std.specs.Str.{bytes_eq}
@@ -22,24 +22,23 @@ use Rattle.app_section.proofs.Texts.{text_given, filled_text_given, name_given, 
 use Rattle.manifest_parts.specs.DistinctForms.{after_names, each_distinct, distinct_list}
 use Rattle.manifest_parts.specs.DocumentForm.{document}
 use Rattle.manifest_parts.specs.PartRules.{IsDependency, IsAnnotation}
-use Rattle.manifests.specs.DocumentData.{any_manifest, fields_of, DocumentData}
+use Rattle.manifests.specs.DocumentData.{any_manifest, fields_of}
 use Rattle.manifests.specs.DocumentData.DocumentData.{an_image, a_pod}
-use Rattle.manifests.specs.ImageData.{ImageData}
 use Rattle.manifests.specs.ImageForm.{image_fields, image_kind, image_manifest}
 use Rattle.manifests.specs.LastFields.{last_app_fields, last_image_fields}
-use Rattle.manifests.specs.ManifestRules.{IsListed, IsMount, IsVolumeKind, IsVolume, IsRuntimeApp, IsImageManifest, IsPodManifest, IsManifest}
+use Rattle.manifests.specs.ManifestRules.{IsListed, IsMount, IsPodPort, IsVolumeKind, IsVolume, IsRuntimeApp, IsImageManifest, IsPodManifest, IsManifest}
 use Rattle.manifests.specs.MountForm.{mount}
-use Rattle.manifests.specs.PodData.{PodData, RuntimeAppData}
+use Rattle.manifests.specs.PodData.{RuntimeAppData}
 use Rattle.manifests.specs.PodForm.{pod_fields, pod_kind, pod_manifest}
+use Rattle.manifests.specs.PodPortForm.{pod_port}
 use Rattle.manifests.specs.RuntimeAppForm.{app_name, named_app, runtime_app}
 use Rattle.manifests.specs.VolumeForm.{or_bad_volume, is_mode, if_mode, mode, host, empty, kind_of, volume_fields, volume}
 use Rattle.manifests.specs.WhitelistForm.{listed, listed_text, listed_path, if_path, ends_in_slash, entries, whitelist_of}
 use Rattle.manifests.specs.declared.last_fields.LastAppFields.{LastAppFields}
 use Rattle.manifests.specs.declared.last_fields.LastImageFields.{LastImageFields}
 use Rattle.manifests.specs.declared.volume.Volume.{Volume}
-use Rattle.manifests.specs.declared.volume.VolumeKind.{VolumeKind}
 use Rattle.manifests.specs.declared.volume.VolumeKind.TheVariants.{Host, Empty}
-use Rattle.manifests.proofs.Parts.{ac_version_given, labels_given, annotation_given, dependency_given, pod_port_given, runtime_image_given}
+use Rattle.manifests.proofs.Parts.{ac_version_given, labels_given, annotation_given, dependency_given, runtime_image_given}
 
 -- either of two readings
 if_given : {A : Type 0} {P : A → Type 0} (test : Bool) (m n : Outcome A) → GivesOnly P m → GivesOnly P n
@@ -56,6 +55,17 @@ mount_given = record {
       gives_then _ _ (gives_behind _ _ (required_given name_given at (codes "volume") d)) λ name n.
       gives_then _ _ (required_given filled_place_given at (codes "path") d) λ path p.
       gives IsMount _ (record { named = n; place = p });
+}
+
+-- ---- ports
+
+pod_port_given : Gives IsPodPort pod_port
+unfolding pod_port
+pod_port_given = record {
+  law = λ at d.
+      gives_then _ _ (gives_behind _ _ (required_given name_given at (codes "name") d)) λ name n.
+      gives_then _ _ (required_given (whole_given 65535) at (codes "hostPort") d) λ number p.
+      gives IsPodPort _ (record { named = n; port = p });
 }
 
 -- ---- volumes

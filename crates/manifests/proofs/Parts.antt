@@ -1,26 +1,24 @@
 -- What the forms of the elements of both manifests give.
-use Rattle.std.proofs.Common.{◌≡◌, ◌≤◌, ℕ, List, [], Option, Some, None, codes, refl, IfSome}
+use Rattle.std.proofs.Common.{◌≡◌, ℕ, List, [], Option, Some, None, codes, refl}
 use Rattle.std.specs.List.{All}
 use Rattle.std.proofs.lemmas.List.Elements.{All-nil}
 use Rattle.serde_json.specs.Data.{Data}
 use Rattle.ac_types.specs.FieldForms.{list, default}
-use Rattle.ac_types.specs.Ids.{id_read, AreBytes}
+use Rattle.ac_types.specs.Ids.{id_read}
 use Rattle.ac_types.specs.Labels.{label_fault}
-use Rattle.ac_types.specs.Outcomes.{Outcome, reads, ◌>>=◌, ◌>>◌}
-use Rattle.ac_types.specs.declared.image_id.ImageId.{ImageId}
+use Rattle.ac_types.specs.Outcomes.{◌>>=◌}
 use Rattle.ac_types.specs.declared.label.Label.{Label}
 use Rattle.ac_types.specs.declared.label.LabelFault.{LabelFault}
 use Rattle.ac_types.proofs.IdTexts.{read_are}
 use Rattle.app_section.proofs.Fields.{required_given, optional_given, default_given, list_given}
 use Rattle.app_section.proofs.Readings.{GivesOnly, Gives, gives, gives_none, gives_then, gives_behind, all_given}
-use Rattle.app_section.proofs.Texts.{text_given, filled_text_given, name_given, filled_identifier_given, identifier_given, whole_given}
+use Rattle.app_section.proofs.Texts.{text_given, filled_text_given, filled_identifier_given, identifier_given, whole_given}
 use Rattle.manifest_parts.specs.AnnotationForm.{annotation}
 use Rattle.manifest_parts.specs.DependencyForm.{dependency}
-use Rattle.manifest_parts.specs.HeadForms.{ac_version, version_text}
+use Rattle.manifest_parts.specs.HeadForms.{ac_version}
 use Rattle.manifest_parts.specs.IdForms.{if_id, image_id, filled_id}
 use Rattle.manifest_parts.specs.LabelsForm.{label, labels_of, if_standing}
-use Rattle.manifest_parts.specs.PartRules.{IsVersion, IsImageId, IsLabel, AreLabels, IsAnnotation, IsDependency, IsPodPort, IsRuntimeImage}
-use Rattle.manifest_parts.specs.PodPortForm.{pod_port}
+use Rattle.manifest_parts.specs.PartRules.{IsVersion, IsImageId, IsLabel, AreLabels, IsAnnotation, IsDependency, IsRuntimeImage}
 use Rattle.manifest_parts.specs.RuntimeImageForm.{runtime_image}
 use Rattle.manifest_parts.proofs.Versions.{version_given}
 
@@ -90,15 +88,6 @@ dependency_given = record {
       gives_then _ _ (labels_given at (codes "labels") d) λ ls l.
       gives_then _ _ (optional_given (whole_given 18446744073709551615) at (codes "size") d) λ size s.
       gives IsDependency _ (record { named = n; id = i; labelled = l; sized = s });
-}
-
-pub pod_port_given : Gives IsPodPort pod_port
-unfolding pod_port
-pod_port_given = record {
-  law = λ at d.
-      gives_then _ _ (gives_behind _ _ (required_given name_given at (codes "name") d)) λ name n.
-      gives_then _ _ (required_given (whole_given 65535) at (codes "hostPort") d) λ number p.
-      gives IsPodPort _ (record { named = n; port = p });
 }
 
 pub runtime_image_given : Gives IsRuntimeImage runtime_image

@@ -6,6 +6,16 @@ pub mod ManifestRules
 pub mod MountForm
 pub mod PodData
 pub mod PodForm
+pub mod PodPortForm
 pub mod RuntimeAppForm
+pub mod Steps
 pub mod VolumeForm
 pub mod WhitelistForm
+pub use Rattle.ac_types.specs.Outcomes
+pub use Rattle.app_section.specs.AppData
+pub use Rattle.app_section.specs.AppForm
+pub use Rattle.app_section.specs.AppRules
+pub use Rattle.manifest_parts.specs.DocumentForm
+pub use Rattle.manifest_parts.specs.LabelsForm
+pub use Rattle.manifest_parts.specs.PartRules
+pub use Rattle.path_map.specs.Paths

@@ -1,17 +1,18 @@
 -- What each manifest is, said of all its elements at once.
-use Rattle.std.specs.Prelude.{◌≡◌, ◌≤◌, ℕ, true, List, None, IfSome}
+use Rattle.std.specs.Prelude.{◌≡◌, ◌≤◌, true, None, IfSome}
 use Rattle.std.specs.List.{All}
 use Rattle.ac_types.specs.Names.{IsAcName, IsAcIdentifier}
 use Rattle.path_map.specs.Paths.{path_fault}
 use Rattle.path_map.specs.declared.listed.Listed.{Listed}
 use Rattle.app_section.specs.AppRules.{IsApp, IsIsolator, IsPlace, HaveNames}
-use Rattle.manifest_parts.specs.PartRules.{IsVersion, AreLabels, IsAnnotation, IsDependency, IsPodPort, IsRuntimeImage}
+use Rattle.manifest_parts.specs.PartRules.{IsVersion, AreLabels, IsAnnotation, IsDependency, IsRuntimeImage}
 use Rattle.manifests.specs.DocumentData.{DocumentData}
 use Rattle.manifests.specs.DocumentData.DocumentData.{an_image, a_pod}
 use Rattle.manifests.specs.ImageData.{ImageData}
 use Rattle.manifests.specs.PodData.{PodData, RuntimeAppData}
 use Rattle.manifests.specs.VolumeForm.{is_mode}
 use Rattle.manifests.specs.declared.mount.Mount.{Mount}
+use Rattle.manifests.specs.declared.pod_port.PodPort.{PodPort}
 use Rattle.manifests.specs.declared.volume.Volume.{Volume}
 use Rattle.manifests.specs.declared.volume.VolumeKind.{VolumeKind}
 use Rattle.manifests.specs.declared.volume.VolumeKind.TheVariants.{Host, Empty}
@@ -32,6 +33,10 @@ IsVolumeKind (Empty digits user group) = (is_mode digits ≡ true) × (user ≤ 
 pub record IsVolume (v : Volume) : Type 0 where
   pub named : IsAcName v.name
   pub where_it_is : IsVolumeKind v.kind
+
+pub record IsPodPort (p : PodPort) : Type 0 where
+  pub named : IsAcName p.name
+  pub port : p.host_port ≤ 65535
 
 pub record IsRuntimeApp (a : RuntimeAppData) : Type 0 where
   pub named : IsAcName a.name

@@ -1,3 +1,4 @@
+//! The type of image manifests.
 ghost use Rattle.std.specs.Prelude.{◌≡◌, IfOk};
 ghost use Rattle.manifests.specs.ImageData.{image_data};
 

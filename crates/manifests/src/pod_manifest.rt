@@ -1,11 +1,13 @@
+//! The type of pod manifests.
 ghost use Rattle.std.specs.Prelude.{◌≡◌, IfOk};
 ghost use Rattle.manifests.specs.PodData.{pod_data};
 
+use crate::pod_port::PodPorts;
 use crate::runtime_app::RuntimeApps;
 use crate::volume::Volumes;
 use ac_types::{NoMemory, ShownCopy, Text};
 use app_section::Isolators;
-use manifest_parts::{Annotations, PodPorts};
+use manifest_parts::Annotations;
 
 /// Apps that run together, and what they share.
 #[derive(Drop)]

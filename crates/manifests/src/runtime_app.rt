@@ -1,3 +1,4 @@
+//! Apps of a pod.
 ghost use Rattle.std.specs.Prelude.{◌≡◌, ◌++◌, ◌∷◌, [], ℕ, List, IfOk, codes, map, option_map};
 ghost use Rattle.serde_json.specs.View.{view};
 ghost use Rattle.ac_types.specs.FieldForms.{required};

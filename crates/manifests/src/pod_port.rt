@@ -1,8 +1,9 @@
+//! Ports of a pod.
 ghost use Rattle.std.specs.Prelude.{◌≡◌, IfOk};
 
-use crate::numbers::required_port;
 use ac_types::{
     AcName, FromElement, NoMemory, ReadError, Sequence, TryCopy, object_value, required_name,
+    required_port,
 };
 use serde_json::Value;
 use std::alloc::Global;
@@ -36,8 +37,8 @@ impl TryCopy for PodPort {
 }
 
 impl FromElement for PodPort {
-    ghost use Rattle.manifest_parts.specs.declared.pod_port.PodPort.{PodPort};
-    ghost use Rattle.manifest_parts.specs.PodPortForm.{pod_port};
+    ghost use Rattle.manifests.specs.declared.pod_port.PodPort.{PodPort};
+    ghost use Rattle.manifests.specs.PodPortForm.{pod_port};
 
     ghost Shown = { PodPort };
 

@@ -4,7 +4,7 @@ use Rattle.serde_json.specs.Data.{Data}
 use Rattle.ac_types.specs.FieldForms.{required, whole, an_object}
 use Rattle.ac_types.specs.NameForms.{filled_name}
 use Rattle.ac_types.specs.Outcomes.{Outcome, reads, ◌>>=◌, ◌>>◌}
-use Rattle.manifest_parts.specs.declared.pod_port.PodPort.{PodPort}
+use Rattle.manifests.specs.declared.pod_port.PodPort.{PodPort}
 
 unfoldable pub pod_port : List ℕ → Data → Outcome PodPort
 pod_port at d =

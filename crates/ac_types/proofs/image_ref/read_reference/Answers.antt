@@ -1,7 +1,7 @@
 use Rattle.std.proofs.Common.{◌≡◌, true, false, take, drop, codes}
 use Rattle.std.specs.Str.{bytes_eq}
 use Rattle.ac_types.specs.References.{reference}
-use Rattle.ac_types.proofs.image_ref.ImageRef.parse.Goals as goal
+use Rattle.ac_types.proofs.image_ref.read_reference.Goals as goal
 
 pub returns-in-Some : goal.returns-in-Some
 unfolding reference
