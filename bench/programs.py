@@ -49,6 +49,22 @@ def manifest(annotations):
     return path
 
 
+def labelled(labels):
+    """An image manifest with that many labels, named by three letters or digits each."""
+    digits = "0123456789abcdefghijklmnopqrstuvwxyz"
+    names = [a + b + c for a in digits for b in digits for c in digits][:labels]
+    document = {
+        "acKind": "ImageManifest",
+        "acVersion": "0.8.0",
+        "name": "example.com/labelled",
+        "labels": [{"name": name, "value": ""} for name in names],
+    }
+    path = os.path.join(WORK, f"labelled{labels}.json")
+    with open(path, "w", encoding="ascii") as file:
+        json.dump(document, file, separators=(",", ":"))
+    return path
+
+
 def main():
     print(f"program {os.path.getsize(RKT) / 1024:.0f} KiB, medians of {RUNS} runs")
     measure("empty C program", [FLOOR])
@@ -60,6 +76,8 @@ def main():
     for annotations in (20, 20000):
         path = manifest(annotations)
         measure(f"validate of {os.path.getsize(path):,} bytes", [RKT, "validate", path], {"RKT_DIR": folder})
+    path = labelled(40000)
+    measure("validate of 40,000 labels", [RKT, "validate", path], {"RKT_DIR": folder})
 
 
 main()

@@ -1,10 +1,15 @@
+pub mod Cuts
 pub mod EachElement
+pub mod IdentifierBytes
 pub mod JsonLists
 pub mod IdTexts
+pub mod LabelNames
 pub mod LabelPlaces
 pub mod LeastPlace
 pub mod NameFaults
 pub mod OutcomeLaws
+pub mod RefChecks
+pub mod ReferenceLaw
 pub mod RefSteps
 pub mod TextsSeen
 pub mod Words

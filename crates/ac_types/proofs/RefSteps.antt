@@ -3,7 +3,8 @@ use Rattle.std.proofs.Common.{◌≡◌, ℕ, ◌<◌, ◌+◌, List, [], ◌∷
 use Rattle.std.specs.List.{slice_split, onto_first}
 use Rattle.std.proofs.lemmas.List.Splits.{slice_split-cons_yes, slice_split-cons_no, length-slice_split}
 use Rattle.std.proofs.lemmas.List.{drop_more, get_or-map, length-map, map-append}
-use Rattle.ac_types.specs.References.{labels_from, and_more, label_part, parts_size, IsRefused}
+use Rattle.ac_types.specs.References.{labels_from, and_more, label_part}
+use Rattle.ac_types.specs.ReferenceSteps.{parts_size, IsRefused}
 use Rattle.ac_types.specs.SeenTexts.{HasSeen}
 use Rattle.ac_types.specs.declared.image_ref.RefError.{RefError}
 use Rattle.ac_types.specs.declared.image_ref.RefError.TheVariants.{BadRef, NoMemory}

@@ -1,5 +1,6 @@
 -- The numbers by which refusals are printed.
 use Rattle.std.specs.Prelude.{ℕ}
+use Rattle.ac_types.specs.declared.refusals.TheConstants.{BAD_ID}
 use Rattle.ac_types.specs.declared.fault.FaultKind.{FaultKind}
 use Rattle.ac_types.specs.declared.fault.FaultKind.TheVariants.{Empty, BadByte, BadId, LabelTwice, LabelName, BadOs, BadArch, Missing, WrongKind, Fraction, OutOfRange, BadEnvName, BadPath, PortRange, BadHandler, NameTwice, NotJson, WrongAcKind, BadAcVersion, BadVolume, AppTwice, TooLong, NotAbsolute, DotSegment, SegmentLength, PathLength}
 
@@ -7,7 +8,7 @@ use Rattle.ac_types.specs.declared.fault.FaultKind.TheVariants.{Empty, BadByte, 
 abbrev pub number_of : FaultKind → ℕ
 number_of Empty = 1
 number_of BadByte = 2
-number_of BadId = 3
+number_of BadId = BAD_ID
 number_of LabelTwice = 5
 number_of LabelName = 6
 number_of BadOs = 7

@@ -8,6 +8,12 @@ pub mod Labels
 pub mod NameForms
 pub mod Names
 pub mod Outcomes
+pub mod ReferenceForm
+pub mod ReferenceSteps
 pub mod References
 pub mod SeenTexts
 pub mod Separators
+pub use Rattle.hex.specs.Hex
+pub use Rattle.serde_json.specs.Data
+pub use Rattle.serde_json.specs.Find
+pub use Rattle.serde_json.specs.View

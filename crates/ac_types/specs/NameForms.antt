@@ -4,6 +4,7 @@ use Rattle.serde_json.specs.Data.{Data}
 use Rattle.ac_types.specs.Names.{are_words, is_hyphen, is_separator}
 use Rattle.ac_types.specs.FieldForms.{text, filled_text}
 use Rattle.ac_types.specs.Outcomes.{Outcome, reads, fails, ◌>>=◌, IsFault}
+use Rattle.ac_types.specs.declared.refusals.TheConstants.{MAX_NAME, MAX_IDENTIFIER}
 use Rattle.ac_types.specs.declared.fault.FaultKind.TheVariants.{Empty, BadByte}
 use Rattle.ac_types.specs.declared.fault.ReadError.{ReadError}
 use Rattle.ac_types.specs.declared.fault.ReadError.TheVariants as read_error
@@ -22,10 +23,10 @@ words separates limit at (b ∷ bs) =
 
 -- an AC Name, and an AC Identifier
 abbrev pub name_text : List ℕ → List ℕ → Outcome (List ℕ)
-name_text at t = words is_hyphen 200 at t
+name_text at t = words is_hyphen MAX_NAME at t
 
 abbrev pub identifier_text : List ℕ → List ℕ → Outcome (List ℕ)
-identifier_text at t = words is_separator 1024 at t
+identifier_text at t = words is_separator MAX_IDENTIFIER at t
 
 -- a text that is a name, where an empty one counts as missing
 abbrev pub filled_name : List ℕ → Data → Outcome (List ℕ)

@@ -1,5 +1,6 @@
 -- The names of App Container 0.8, and where a text stops to be one.
 use Rattle.std.specs.Prelude.{◌≡◌, ◌≢◌, ◌≤◌, ◌<◌, ◌⊎◌, ℕ, Bool, true, false, ◌&&◌, ◌||◌, ◌==◌, nat_le, List, [], ◌∷◌, ◌++◌, length, take}
+use Rattle.ac_types.specs.declared.refusals.TheConstants.{MAX_NAME, MAX_IDENTIFIER}
 use Rattle.ac_types.specs.declared.name_error.NameError.{NameError}
 use Rattle.ac_types.specs.declared.name_error.NameError.TheVariants.{Empty, BadByte, NoMemory}
 
@@ -25,11 +26,11 @@ are_words separates (b ∷ c ∷ cs) =
 
 -- the text is a name: words joined by hyphens, of at most 200 bytes
 abbrev pub IsAcName : List ℕ → Type 0
-IsAcName text = (are_words is_hyphen text ≡ true) × (length text ≤ 200)
+IsAcName text = (are_words is_hyphen text ≡ true) × (length text ≤ MAX_NAME)
 
 -- the text is an identifier: words joined by separators, of at most 1,024 bytes
 abbrev pub IsAcIdentifier : List ℕ → Type 0
-IsAcIdentifier text = (are_words is_separator text ≡ true) × (length text ≤ 1024)
+IsAcIdentifier text = (are_words is_separator text ≡ true) × (length text ≤ MAX_IDENTIFIER)
 
 -- the bytes are a prefix of some words
 abbrev pub BeginsWords : (ℕ → Bool) → List ℕ → Type 0

@@ -1,19 +1,18 @@
 -- References to images: `name[:version][,label=value]*`, or the first digits of an ID.
-use Rattle.std.specs.Prelude.{◌≡◌, ℕ, ◌+◌, Bool, true, false, ◌&&◌, ◌||◌, ◌==◌, nat_le, nat_lt, List, [], ◌∷◌, ◌++◌, length, map, drop, take, Option, Some, None, Result, Ok, Err, codes, if◌then◌else◌}
+use Rattle.std.specs.Prelude.{ℕ, ◌+◌, Bool, true, false, ◌&&◌, ◌||◌, ◌==◌, nat_le, nat_lt, List, [], ◌∷◌, ◌++◌, length, map, drop, take, Option, Some, None, Result, Ok, Err, codes, if◌then◌else◌}
 use Rattle.std.specs.List.{list_all, slice_split, position_or_len, before_first, after_first}
 use Rattle.std.specs.Str.{bytes_eq}
 use Rattle.std.proofs.Math.ListN.{replicate}
 use Rattle.ac_types.specs.Names.{are_words, is_separator}
 use Rattle.ac_types.specs.SeenTexts.{is_among}
+use Rattle.ac_types.specs.declared.refusals.TheConstants.{MAX_IDENTIFIER, MIN_DIGITS, ID_DIGITS}
 use Rattle.ac_types.specs.declared.label.Label.{Label}
 use Rattle.ac_types.specs.declared.image_ref.ImageRef.{ImageRef}
-use Rattle.ac_types.specs.declared.image_ref.RefError.{RefError}
-use Rattle.ac_types.specs.declared.image_ref.RefError.TheVariants.{BadRef, NoMemory}
 use Rattle.ac_types.specs.declared.image_ref.ImageRef.TheVariants.{Named, ById}
 
 -- the text is an AC Identifier
 abbrev pub is_identifier : List ℕ → Bool
-is_identifier t = are_words is_separator t && nat_le (length t) 1024
+is_identifier t = are_words is_separator t && nat_le (length t) MAX_IDENTIFIER
 
 -- the text holds a byte at least
 abbrev pub is_filled : List ℕ → Bool
@@ -36,20 +35,6 @@ unless_named names (Some l) = if bytes_eq l.name (codes "name") || is_among l.na
 
 abbrev pub label_part : List Label → List ℕ → Option Label
 label_part before part = unless_named (map (λ (l : Label). l.name) before) (label_of (cut 61 part))
-
--- a call answers what was read, or the place that wasn't readable, or that memory ran out
-abbrev pub IsRefused : {A : Type 0} → Result A ℕ → RefError → Type 0
-IsRefused read (BadRef place) = read ≡ Err place
-IsRefused read NoMemory = Unit {0}
-
-abbrev pub IsRead : {A : Type 0} → Result A ℕ → Result A RefError → Type 0
-IsRead read (Ok value) = read ≡ Ok value
-IsRead read (Err error) = IsRefused read error
-
--- the bytes of parts, each with its comma
-abbrev pub parts_size : List (List ℕ) → ℕ
-parts_size [] = 0
-parts_size (part ∷ parts) = (length part + 1) + parts_size parts
 
 -- the labels of parts, after those before; the place of the first part that isn't readable
 abbrev pub and_more : (Label → Result (List Label) ℕ) → ℕ → Option Label → Result (List Label) ℕ
@@ -91,10 +76,12 @@ named (part ∷ parts) = after_head part parts (head_part part (cut 58 part))
 abbrev pub is_lower_digit : ℕ → Bool
 is_lower_digit b = (nat_le 48 b && nat_le b 57) || (nat_le 97 b && nat_le b 102)
 
+abbrev pub are_id_digits : List ℕ → Bool
+are_id_digits digits = nat_le MIN_DIGITS (length digits) && nat_le (length digits) ID_DIGITS && list_all is_lower_digit digits
+
 abbrev pub by_id : List ℕ → Result ImageRef ℕ
 by_id digits =
-    if nat_le 2 (length digits) && nat_le (length digits) 128 && list_all is_lower_digit digits
-    then Ok (ById (digits ++ drop (length digits) (replicate 128 0)) (length digits)) else Err 0
+    if are_id_digits digits then Ok (ById (digits ++ drop (length digits) (replicate 128 0)) (length digits)) else Err 0
 
 -- the reference that a word is, or the place of its first part that isn't readable
 unfoldable pub reference : List ℕ → Result ImageRef ℕ

@@ -1,15 +1,15 @@
+//! AC Identifiers.
 ghost use Rattle.std.specs.Prelude.{◌≡◌, IfOk, IfErr};
 ghost use Rattle.ac_types.specs.Names.{IsAcIdentifier, IsNameFault, is_separator};
 
 use crate::memory::NoMemory;
 use crate::name_error::NameError;
+use crate::refusals::MAX_IDENTIFIER;
 use crate::text::Text;
 use crate::try_copy::TryCopy;
 use crate::word_scan::{Separators, check_words};
 use std::alloc::Global;
 use std::marker::Model;
-
-const MAX_BYTES: usize = 1024;
 
 /// An AC Identifier of App Container 0.8: words of lower-case letters and digits with one of `-`,
 /// `.`, `_`, `~` and `/` between two of them, of at most 1,024 bytes. Contracts see its bytes.
@@ -36,9 +36,9 @@ impl AcIdentifier {
     pub fn parse(alloc: Global, text: &str) -> Result<AcIdentifier, NameError>
         ensures ok { IfOk result (λ n. n ≡ text.now) }
         ensures kind { IfOk result (λ _. IsAcIdentifier text.now) }
-        ensures err { IfErr result (IsNameFault is_separator 1024 text.now) }
+        ensures err { IfErr result (IsNameFault is_separator MAX_IDENTIFIER text.now) }
     {
-        check_words(text, Separators::Any, MAX_BYTES)?;
+        check_words(text, Separators::Any, MAX_IDENTIFIER)?;
         Ok(AcIdentifier {
             text: Text::of(alloc, text)?,
         })

@@ -1,15 +1,15 @@
+//! AC Names.
 ghost use Rattle.std.specs.Prelude.{◌≡◌, IfOk, IfErr};
 ghost use Rattle.ac_types.specs.Names.{IsAcName, IsNameFault, is_hyphen};
 
 use crate::memory::NoMemory;
 use crate::name_error::NameError;
+use crate::refusals::MAX_NAME;
 use crate::text::Text;
 use crate::try_copy::TryCopy;
 use crate::word_scan::{Separators, check_words};
 use std::alloc::Global;
 use std::marker::Model;
-
-const MAX_BYTES: usize = 200;
 
 /// An AC Name of App Container 0.8: words of lower-case letters and digits with one hyphen
 /// between two of them, of at most 200 bytes. Contracts see its bytes.
@@ -36,9 +36,9 @@ impl AcName {
     pub fn parse(alloc: Global, text: &str) -> Result<AcName, NameError>
         ensures ok { IfOk result (λ n. n ≡ text.now) }
         ensures kind { IfOk result (λ _. IsAcName text.now) }
-        ensures err { IfErr result (IsNameFault is_hyphen 200 text.now) }
+        ensures err { IfErr result (IsNameFault is_hyphen MAX_NAME text.now) }
     {
-        check_words(text, Separators::Hyphen, MAX_BYTES)?;
+        check_words(text, Separators::Hyphen, MAX_NAME)?;
         Ok(AcName {
             text: Text::of(alloc, text)?,
         })

@@ -1,3 +1,4 @@
+//! Readers of the elements of a JSON list.
 ghost use Rattle.std.specs.Prelude.{◌≡◌, ℕ, List, [], ◌∷◌, ◌++◌, map, IfOk};
 ghost use Rattle.serde_json.specs.Data.{Data};
 ghost use Rattle.serde_json.specs.View.{view};
@@ -8,7 +9,7 @@ ghost use Rattle.ac_types.specs.SeenTexts.{HasSeen};
 
 use crate::fault::{FaultKind, ReadError};
 use crate::field_readers::field_fault;
-use crate::json_path;
+use crate::json_path::write_element_path;
 use crate::seen_texts::SeenTexts;
 use crate::sequence::Sequence;
 use serde_json::Value;
@@ -51,8 +52,9 @@ pub fn read_each<T: FromElement>(
     ensures { Answers (map T.shown) (each T.form at.now (map view list.now)) result }
 {
     let mut items = Sequence::new(alloc);
+    let mut path = String::new(alloc);
     for (i, value) in list.iter().enumerate() {
-        match read_element(alloc, value, at, i) {
+        match read_element(alloc, value, at, i, &mut path) {
             Ok(item) => items = items.push(item)?,
             Err(error) => return Err(error),
         }
@@ -65,10 +67,11 @@ fn read_element<T: FromElement>(
     value: &Value,
     at: &str,
     place: usize,
+    path: &mut String,
 ) -> Result<T, ReadError>
     ensures { Answers T.shown (T.form (element_path at.now place) (view value.now)) result }
 {
-    let path = json_path::element_path(alloc, at, place)?;
+    write_element_path(path, at, place)?;
     T::read(alloc, value, path.as_str())
 }
 
@@ -84,8 +87,10 @@ pub fn read_named<T: NamedElement>(
 {
     let mut seen = SeenTexts::new(alloc);
     let mut items = Sequence::new(alloc);
+    let mut path = String::new(alloc);
     for (i, value) in list.iter().enumerate() {
-        match read_new(alloc, value, at, i, twice, &mut seen) {
+        write_element_path(&mut path, at, i)?;
+        match read_new(alloc, value, path.as_str(), twice, &mut seen) {
             Ok(item) => items = items.push(item)?,
             Err(error) => return Err(error),
         }
@@ -97,19 +102,17 @@ fn read_new<T: NamedElement>(
     alloc: Global,
     value: &Value,
     at: &str,
-    place: usize,
     twice: FaultKind,
     seen: &mut SeenTexts,
 ) -> Result<T, ReadError>
     ensures answers { (before : List T.Shown) → HasSeen seen.old (map T.name_of before)
-        → Answers T.shown (named_once twice T.name_of T.form before (element_path at.now place) (view value.now)) result }
+        → Answers T.shown (named_once twice T.name_of T.form before at.now (view value.now)) result }
     ensures seen { IfOk result (λ item. (names : List (List ℕ)) → HasSeen seen.old names → HasSeen seen.new (names ++ T.name_of (T.shown item) ∷ [])) }
 {
-    let path = json_path::element_path(alloc, at, place)?;
-    let item: T = T::read(alloc, value, path.as_str())?;
+    let item: T = T::read(alloc, value, at)?;
     if seen.add(alloc, item.name())? {
         Ok(item)
     } else {
-        Err(field_fault(alloc, path.as_str(), "name", twice))
+        Err(field_fault(alloc, at, "name", twice))
     }
 }

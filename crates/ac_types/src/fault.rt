@@ -1,9 +1,11 @@
+//! The faults of a manifest.
 ghost use Rattle.std.specs.Prelude.{◌≡◌, IfOk, Some};
 ghost use Rattle.ac_types.specs.FaultNumbers.{number_of};
 ghost use Rattle.ac_types.specs.declared.fault.ReadError.TheVariants.{NoMemory};
 ghost use Rattle.ac_types.specs.ErrorTexts.{read_error_text};
 
 use crate::memory;
+use crate::refusals::BAD_ID;
 use crate::text::Text;
 use crate::try_copy::TryCopy;
 use std::alloc::{AllocError, AllocFailed};
@@ -75,7 +77,7 @@ impl FaultKind {
         match self {
             FaultKind::Empty => 1,
             FaultKind::BadByte => 2,
-            FaultKind::BadId => 3,
+            FaultKind::BadId => BAD_ID,
             FaultKind::LabelTwice => 5,
             FaultKind::LabelName => 6,
             FaultKind::BadOs => 7,
@@ -105,7 +107,7 @@ impl FaultKind {
 
 /// Why a manifest is refused: the first fault, at a JSON path. `$` is the whole document,
 /// `labels[1].name` a field.
-#[derive(Drop)]
+#[derive(Debug, Drop)]
 pub struct Fault {
     pub path: Text,
     pub kind: FaultKind,
@@ -130,7 +132,7 @@ impl TryCopy for Fault {
 }
 
 /// Why a manifest was not read.
-#[derive(Drop)]
+#[derive(Debug, Drop)]
 pub enum ReadError {
     Bad(Fault),
     /// Memory ran out.
@@ -166,6 +168,8 @@ impl fmt::Display for ReadError {
         }
     }
 }
+
+impl Error for ReadError {}
 
 impl From<memory::NoMemory> for ReadError {
     ghost from_gives = { λ _ e. e ≡ NoMemory };

@@ -1,3 +1,4 @@
+//! Readers of fields that may be absent.
 ghost use Rattle.std.specs.Prelude.{◌≡◌, ℕ, List, MatchResult, option_map, map, false};
 ghost use Rattle.serde_json.specs.View.{view};
 ghost use Rattle.ac_types.specs.JsonPaths.{field_path};

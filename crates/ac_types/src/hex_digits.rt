@@ -1,7 +1,12 @@
-ghost use Rattle.std.specs.Prelude.{◌≡◌, ◌≤◌, Some, None, MatchBool, length};
+//! Hex digits of digests, and the texts of image IDs and store keys.
+ghost use Rattle.std.specs.Prelude.{◌≡◌, ◌≤◌, Some, None, MatchBool, IfOk, length};
 ghost use Rattle.std.specs.Str.{bytes_eq};
 ghost use Rattle.hex.specs.Hex.{encode_lower};
-ghost use Rattle.ac_types.specs.Ids.{hex_read, id_read};
+ghost use Rattle.ac_types.specs.Ids.{hex_read, id_read, id_text};
+
+use crate::memory::NoMemory;
+use crate::text::Text;
+use std::alloc::Global;
 
 /// Whether the text is `sha512-` and the lower-case hex digits of as many bytes as there is room
 /// for, which are then written there.
@@ -36,4 +41,26 @@ fn are_digits_of(digits: &[u8], bytes: &[u8]) -> bool
         Ok(()) => digits == &*again,
         Err(_) => unreachable!(),
     }
+}
+
+/// The lower-case hex digits of a digest. Takes no memory.
+pub fn lower_hex(digest: &[u8; 64]) -> [u8; 128]
+    ensures { result ≡ encode_lower digest.now }
+{
+    let mut digits = [0; 128];
+    match hex::encode_to_slice(digest.as_slice(), &mut digits) {
+        Ok(()) => digits,
+        Err(_) => unreachable!(),
+    }
+}
+
+/// The text of an ID: `sha512-` and the lower-case hex digits of its bytes.
+#[tactic(auto, unfolding(crate::specs::Ids::id_text))]
+pub(crate) fn write_id(alloc: Global, bytes: &[u8]) -> Result<Text, NoMemory>
+    ensures { IfOk result (λ text. text ≡ id_text bytes.now) }
+{
+    let digits = hex::encode(alloc, bytes)?;
+    let mut text = String::from_str(alloc, "sha512-")?;
+    text.push_str(digits.as_str())?;
+    Ok(Text::from_string(text))
 }

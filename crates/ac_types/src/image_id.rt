@@ -1,7 +1,11 @@
+//! Image IDs.
 ghost use Rattle.std.specs.Prelude.{◌≡◌, ◌≢◌, ℕ, List, Some, None, IfOk, IfErr, MatchResult, codes};
 ghost use Rattle.ac_types.specs.Ids.{id_text, id_read, AreBytes};
 
-use crate::hex_digits::read_id;
+use crate::hex_digits::{read_id, write_id};
+use crate::memory::NoMemory;
+use crate::text::Text;
+use std::alloc::Global;
 use std::error::Error;
 use std::fmt;
 
@@ -38,5 +42,12 @@ impl ImageId {
             return Err(BadId);
         }
         Ok(ImageId { bytes })
+    }
+
+    /// The ID's text: `sha512-` and the 128 lower-case hex digits of its bytes.
+    pub fn text(self, alloc: Global) -> Result<Text, NoMemory>
+        ensures { IfOk result (λ text. text ≡ id_text self.bytes) }
+    {
+        write_id(alloc, &self.bytes)
     }
 }

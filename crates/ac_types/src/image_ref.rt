@@ -1,11 +1,16 @@
-ghost use Rattle.std.specs.Prelude.{◌≡◌, IfOk, Some};
-ghost use Rattle.ac_types.specs.References.{IsRead, reference};
+//! References to images.
+ghost use Rattle.std.specs.Prelude.{◌≡◌, ◌↔◌, IfOk, IfErr, Some, Ok};
+ghost use Rattle.ac_types.specs.References.{reference};
+ghost use Rattle.ac_types.specs.ReferenceSteps.{IsRead};
+ghost use Rattle.ac_types.specs.ReferenceForm.{IsReference, IsRefError};
+ghost use Rattle.ac_types.specs.declared.image_ref.ImageRef.{ImageRef};
 ghost use Rattle.ac_types.specs.declared.image_ref.RefError.TheVariants.{NoMemory};
 ghost use Rattle.ac_types.specs.ErrorTexts.{ref_error_text};
 
 use crate::ac_identifier::AcIdentifier;
 use crate::labels::Labels;
 use crate::memory;
+use crate::ref_check::bad_place;
 use crate::ref_parts::{read_digits_ref, read_named_ref};
 use crate::try_copy::TryCopy;
 use std::alloc::{AllocError, Global};
@@ -26,13 +31,21 @@ impl ImageRef {
     /// a version and values that are not empty, and no name twice or `name`; a version is the
     /// first label, named `version`. A word that begins with `sha512-` is by ID, with 2 to 128
     /// lower-case hex digits. `BadRef` at the place where the first unreadable part begins:
-    /// 0 for the name and for an ID, else the byte behind its `:` or `,`.
+    /// 0 for the name and for an ID, else the byte behind its `:` or `,`. `NoMemory` only for a
+    /// word that is a reference.
+    #[tactic(auto, using(crate::proofs::ReferenceLaw::reference_law))]
     pub fn parse(alloc: Global, word: &str) -> Result<ImageRef, RefError>
-        ensures { IsRead (reference word.now) result }
+        ensures ok { IfOk result (λ found. reference word.now ≡ Ok found) }
+        ensures err { IfErr result (IsRefError (reference word.now)) }
+        ensures form { (found : ImageRef) → (reference word.now ≡ Ok found) ↔ IsReference word.now found }
     {
-        match word.as_bytes().strip_prefix(b"sha512-") {
-            Some(digits) => read_digits_ref(digits),
-            None => read_named_ref(alloc, word),
+        match read_reference(alloc, word) {
+            Ok(found) => Ok(found),
+            Err(RefError::BadRef(place)) => Err(RefError::BadRef(place)),
+            Err(RefError::NoMemory) => Err(match bad_place(word) {
+                Some(place) => RefError::BadRef(place),
+                None => RefError::NoMemory,
+            }),
         }
     }
 
@@ -54,6 +67,15 @@ impl ImageRef {
                 })
             }
         }
+    }
+}
+
+fn read_reference(alloc: Global, word: &str) -> Result<ImageRef, RefError>
+    ensures { IsRead (reference word.now) result }
+{
+    match word.as_bytes().strip_prefix(b"sha512-") {
+        Some(digits) => read_digits_ref(digits),
+        None => read_named_ref(alloc, word),
     }
 }
 

@@ -1,3 +1,4 @@
+//! A label, and the faults of labels.
 ghost use Rattle.std.specs.Prelude.{◌≡◌, IfOk, Some};
 ghost use Rattle.ac_types.specs.ErrorTexts.{label_fault_text};
 

@@ -1,11 +1,15 @@
-ghost use Rattle.std.specs.Prelude.{◌≡◌, Some, None, MatchResult, option_map, ◌<◌, ◌≤◌, length, map, MatchOption, ⊤};
+//! Lists of labels, and which of them may stand.
+ghost use Rattle.std.specs.Prelude.{◌≡◌, Some, None, MatchResult, option_map, ◌<◌, ◌≤◌, length, map, MatchOption, IfOk, ⊤};
 ghost use Rattle.ac_types.specs.declared.label.Label.{Label};
 ghost use Rattle.std.specs.List.{list_any};
 ghost use Rattle.std.specs.Str.{bytes_eq};
 ghost use Rattle.ac_types.specs.Labels.{architectures, label_fault, name_fault, place_of, platform_fault, value_of};
 
 use crate::label::{Label, LabelFault};
+use crate::memory::NoMemory;
+use crate::seen_texts::SeenTexts;
 use crate::sequence::Sequence;
+use std::alloc::Global;
 
 /// A list of labels.
 pub type Labels = Sequence<Label>;
@@ -30,6 +34,17 @@ impl Sequence<Label> {
     {
         check_names(self.as_slice())?;
         check_platform(self.as_slice())
+    }
+
+    /// The same fault, where there is one: the names are looked up in an ordered set, so that many
+    /// labels are judged in the time in which they are sorted.
+    pub fn first_fault(&self, alloc: Global) -> Result<Option<LabelFault>, NoMemory>
+        ensures fault { IfOk result (λ fault. fault ≡ label_fault self.now) }
+    {
+        match first_name_fault(alloc, self.as_slice())? {
+            Some(fault) => Ok(Some(fault)),
+            None => Ok(check_platform(self.as_slice()).err()),
+        }
     }
 }
 
@@ -64,6 +79,23 @@ fn check_names(labels: &[Label]) -> Result<(), LabelFault>
         }
     }
     Ok(())
+}
+
+/// What `check_names` refuses, by the set of the names that came before.
+fn first_name_fault(alloc: Global, labels: &[Label]) -> Result<Option<LabelFault>, NoMemory>
+    ensures fault { IfOk result (λ fault. fault ≡ name_fault labels.now) }
+{
+    let mut seen = SeenTexts::new(alloc);
+    for (i, label) in labels.iter().enumerate() {
+        let name = label.name.as_str();
+        if name == "name" {
+            return Ok(Some(LabelFault::LabelName(i)));
+        }
+        if !seen.add(alloc, name)? {
+            return Ok(Some(LabelFault::LabelTwice(i)));
+        }
+    }
+    Ok(None)
 }
 
 fn check_platform(labels: &[Label]) -> Result<(), LabelFault>

@@ -1,3 +1,4 @@
+//! Why a text is no name.
 ghost use Rattle.std.specs.Prelude.{◌≡◌, Some};
 ghost use Rattle.ac_types.specs.declared.name_error.NameError.TheVariants.{NoMemory};
 ghost use Rattle.ac_types.specs.ErrorTexts.{name_error_text};

@@ -1,7 +1,9 @@
+//! The parts of a reference, read one after the other.
 ghost use Rattle.std.specs.Prelude.{◌≡◌, ◌==◌, ◌⊎◌, true, false, ◌≤◌, ◌<◌, ◌+◌, ◌^◌, ◌++◌, ◌∷◌, [], ℕ, List, Some, None, Ok, Err, map, option_map, MatchOption, MatchResult, IfOk, IfErr, length, drop, codes};
 ghost use Rattle.std.specs.List.{slice_split, list_all};
 ghost use Rattle.ac_types.specs.declared.label.Label.{Label};
-ghost use Rattle.ac_types.specs.References.{IsRead, IsRefused, cut, label_of, label_part, labels_from, head_part, is_identifier, parts_size, version_labels, with_name, named, by_id, is_lower_digit};
+ghost use Rattle.ac_types.specs.References.{cut, label_of, label_part, labels_from, head_part, is_identifier, version_labels, with_name, named, by_id, are_id_digits, is_lower_digit};
+ghost use Rattle.ac_types.specs.ReferenceSteps.{IsRead, IsRefused, parts_size};
 ghost use Rattle.ac_types.specs.SeenTexts.{HasSeen};
 
 use crate::ac_identifier::AcIdentifier;
@@ -10,6 +12,7 @@ use crate::label::Label;
 use crate::labels::Labels;
 use crate::memory::NoMemory;
 use crate::name_error::NameError;
+use crate::refusals::{ID_DIGITS, MIN_DIGITS};
 use crate::seen_texts::SeenTexts;
 use crate::sequence::Sequence;
 use crate::text::Text;
@@ -22,13 +25,13 @@ fn parts_of(alloc: Global, word: &str) -> Result<Vec<&str>, AllocError>
     word.split(',').collect(alloc)
 }
 
-fn cut_at_colon(text: &str) -> Option<(&str, &str)>
+pub(crate) fn cut_at_colon(text: &str) -> Option<(&str, &str)>
     ensures { option_map (λ p. (p.0.now, p.1.now)) result ≡ cut 58 text.now }
 {
     text.split_once(':')
 }
 
-fn cut_at_equals(text: &str) -> Option<(&str, &str)>
+pub(crate) fn cut_at_equals(text: &str) -> Option<(&str, &str)>
     ensures { option_map (λ p. (p.0.now, p.1.now)) result ≡ cut 61 text.now }
 {
     text.split_once('=')
@@ -224,7 +227,7 @@ fn read_parts(alloc: Global, parts: &[&str]) -> Result<ImageRef, RefError>
     }
 }
 
-fn end_of(word: &str) -> usize
+pub(crate) fn end_of(word: &str) -> usize
     ensures { result ≡ length word.now + 1 }
 {
     word.len() + 1
@@ -246,7 +249,7 @@ pub(crate) fn read_named_ref(alloc: Global, word: &str) -> Result<ImageRef, RefE
 pub(crate) fn read_digits_ref(digits: &[u8]) -> Result<ImageRef, RefError>
     ensures { IsRead (by_id digits.now) result }
 {
-    if digits.len() < 2 || digits.len() > 128 || !are_lower_digits(digits) {
+    if !are_id_digits(digits) {
         return Err(RefError::BadRef(0));
     }
     let mut room = [0; 128];
@@ -255,6 +258,14 @@ pub(crate) fn read_digits_ref(digits: &[u8]) -> Result<ImageRef, RefError>
         digits: room,
         len: digits.len() as u8,
     })
+}
+
+/// Whether some digits are the first of an ID: 2 to 128 lower-case hex digits.
+pub(crate) fn are_id_digits(digits: &[u8]) -> bool
+    ensures digits { result ≡ are_id_digits digits.now }
+    ensures fits { result ≡ true → length digits.now ≤ ID_DIGITS }
+{
+    digits.len() >= MIN_DIGITS && digits.len() <= ID_DIGITS && are_lower_digits(digits)
 }
 
 fn are_lower_digits(digits: &[u8]) -> bool

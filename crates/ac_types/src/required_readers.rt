@@ -1,3 +1,4 @@
+//! Readers of fields that must be there.
 ghost use Rattle.std.specs.Prelude.{◌≡◌};
 ghost use Rattle.serde_json.specs.View.{view};
 ghost use Rattle.ac_types.specs.Outcomes.{Answers, Gives};
@@ -82,6 +83,16 @@ pub fn required_whole(
             Ok(number) => Ok(number),
             Err(kind) => Err(field_fault(alloc, at, name, kind)),
         },
+        Err(error) => Err(error),
+    }
+}
+
+/// The port of a field that must be there: 0 to 65,535.
+pub fn required_port(alloc: Global, value: &Value, at: &str, name: &str) -> Result<u16, ReadError>
+    ensures { Gives (required (whole 65535) at.now name.now (view value.now)) result }
+{
+    match required_whole(alloc, value, at, name, 65_535) {
+        Ok(number) => Ok(number as u16),
         Err(error) => Err(error),
     }
 }

@@ -1,3 +1,4 @@
+//! The texts that came before, as an ordered set.
 ghost use Rattle.std.specs.Prelude.{◌≡◌, ◌++◌, ◌∷◌, [], ℕ, List, not, IfOk, OnOk};
 ghost use Rattle.ac_types.specs.SeenTexts.{HasSeen, is_among};
 

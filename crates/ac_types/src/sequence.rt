@@ -1,4 +1,5 @@
-ghost use Rattle.std.specs.Prelude.{◌≡◌, List, [], ◌++◌, ◌∷◌, IfOk};
+//! A list that contracts see as its elements.
+ghost use Rattle.std.specs.Prelude.{◌≡◌, List, [], ◌++◌, ◌∷◌, IfOk, length, nat_eq};
 
 use crate::memory::NoMemory;
 use crate::text::Text;
@@ -30,10 +31,44 @@ impl<T> Sequence<T> {
         }
     }
 
+    /// The elements of a vector, which is kept. Takes no memory.
+    pub fn from_vec(items: Vec<T>) -> Sequence<T>
+        ensures { result ≡ items.items }
+    {
+        Sequence { items }
+    }
+
+    /// The vector of the elements. Takes no memory.
+    pub fn into_vec(self) -> Vec<T>
+        ensures { result.items ≡ self }
+    {
+        self.items
+    }
+
     pub fn as_slice(&self) -> &[T]
         ensures { result.now ≡ self.now }
     {
         self.items.as_slice()
+    }
+
+    /// How many elements there are.
+    pub fn len(&self) -> usize
+        ensures { result ≡ length self.now }
+    {
+        self.items.len()
+    }
+
+    pub fn is_empty(&self) -> bool
+        ensures { result ≡ nat_eq (length self.now) 0 }
+    {
+        self.items.is_empty()
+    }
+
+    /// The empty list in the same memory.
+    pub(crate) fn emptied(&self) -> Sequence<T>
+        ensures { result ≡ [] }
+    {
+        Sequence::new(*self.items.allocator())
     }
 }
 

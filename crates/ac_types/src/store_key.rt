@@ -1,8 +1,12 @@
+//! Keys of images in a store.
 ghost use Rattle.std.specs.Prelude.{◌≡◌, ◌≢◌, ℕ, List, Some, None, IfOk, IfErr, MatchResult, take};
 ghost use Rattle.ac_types.specs.Ids.{key_read, id_text, AreBytes, IsKeyText};
 
-use crate::hex_digits::read_id;
+use crate::hex_digits::{read_id, write_id};
 use crate::image_id::{BadId, ImageId};
+use crate::memory::NoMemory;
+use crate::text::Text;
+use std::alloc::Global;
 
 /// The key of an image in a store: the first half of its ID.
 #[derive(Clone, Copy, Debug, PartialEq, Eq, PartialOrd, Ord)]
@@ -35,5 +39,12 @@ impl StoreKey {
             return Err(BadId);
         }
         Ok(StoreKey { bytes })
+    }
+
+    /// The key's text: `sha512-` and the 64 lower-case hex digits of its bytes.
+    pub fn text(self, alloc: Global) -> Result<Text, NoMemory>
+        ensures { IfOk result (λ text. text ≡ id_text self.bytes) }
+    {
+        write_id(alloc, &self.bytes)
     }
 }

@@ -1,3 +1,4 @@
+//! Copies while there is memory.
 ghost use Rattle.std.specs.Prelude.{◌≡◌, IfOk};
 
 use crate::memory::NoMemory;
@@ -12,5 +13,26 @@ pub trait TryCopy: Drop {
 impl TryCopy for u8 {
     fn try_copy(&self) -> Result<u8, NoMemory> {
         Ok(*self)
+    }
+}
+
+impl TryCopy for u32 {
+    fn try_copy(&self) -> Result<u32, NoMemory> {
+        Ok(*self)
+    }
+}
+
+impl TryCopy for usize {
+    fn try_copy(&self) -> Result<usize, NoMemory> {
+        Ok(*self)
+    }
+}
+
+impl<T: TryCopy> TryCopy for Option<T> {
+    fn try_copy(&self) -> Result<Option<T>, NoMemory> {
+        match self {
+            Some(value) => Ok(Some(value.try_copy()?)),
+            None => Ok(None),
+        }
     }
 }

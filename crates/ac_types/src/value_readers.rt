@@ -1,3 +1,4 @@
+//! Readers of the JSON value at a path.
 ghost use Rattle.std.specs.Prelude.{◌≡◌};
 ghost use Rattle.serde_json.specs.View.{view};
 ghost use Rattle.ac_types.specs.Outcomes.{Answers, Gives};

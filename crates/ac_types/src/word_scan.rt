@@ -1,4 +1,5 @@
-ghost use Rattle.std.specs.Prelude.{◌≡◌, true, false, MatchOption, MatchResult, ⊤, length, ◌≤◌, ◌||◌, ◌&&◌};
+//! The scan of words with separators between them.
+ghost use Rattle.std.specs.Prelude.{◌≡◌, ◌≢◌, true, false, MatchOption, MatchResult, ⊤, length, ◌≤◌, ◌||◌, ◌&&◌};
 ghost use Rattle.ac_types.specs.Names.{is_word_byte, are_words, IsLongestBeginning, IsNameFault};
 ghost use Rattle.ac_types.specs.Separators.{separates};
 
@@ -54,6 +55,7 @@ pub(crate) fn check_words(text: &str, separators: Separators, limit: usize) -> R
     ensures ok { MatchResult result (λ _. are_words (separates separators) text.now ≡ true) (λ _. ⊤) }
     ensures short { MatchResult result (λ _. length text.now ≤ limit) (λ _. ⊤) }
     ensures err { MatchResult result (λ _. ⊤) (IsNameFault (separates separators) limit text.now) }
+    ensures memory { MatchResult result (λ _. ⊤) (λ e. e ≢ NameError.NoMemory) }
 {
     if text.is_empty() {
         return Err(NameError::Empty);

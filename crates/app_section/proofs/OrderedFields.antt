@@ -4,7 +4,16 @@ use Rattle.std.specs.List.{list_all}
 use Rattle.std.specs.Ordering.{nat_cmp, match_ordering}
 use Rattle.std.specs.Cmp.Lexicographic.{slice_cmp}
 use Rattle.serde_json.specs.Data.{Data, Members, no_members, member, put}
-use Rattle.app_section.specs.Objects.{Field, written, put_field, put_all, comes_after, ordered_after}
+use Rattle.app_section.specs.Objects.{Field, written, put_field, put_all}
+
+-- the name comes after that of the field, in byte order
+abbrev pub comes_after : List ℕ → Field → Bool
+comes_after name f = match_ordering (slice_cmp nat_cmp name f.0) false false true
+
+-- each name comes after all those before it
+abbrev pub ordered_after : List Field → List Field → Bool
+ordered_after done [] = true
+ordered_after done (f ∷ fields) = list_all (comes_after f.0) done && ordered_after (done ++ f ∷ []) fields
 
 both : (a b : Bool) → (a && b) ≡ true → (a ≡ true) × (b ≡ true)
 both true b h = (refl, h)

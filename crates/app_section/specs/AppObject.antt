@@ -1,5 +1,5 @@
 -- The app's section as it is written.
-use Rattle.std.specs.Prelude.{ℕ, List, [], ◌∷◌, Some, option_map, codes}
+use Rattle.std.specs.Prelude.{ℕ, List, [], ◌∷◌, ◌++◌, Some, option_map, codes}
 use Rattle.serde_json.specs.Data.{Data, unsigned, number, string, object}
 use Rattle.app_section.specs.AppData.{AppData, IsolatorData}
 use Rattle.app_section.specs.HandlerForm.{kind_name}
@@ -68,19 +68,26 @@ unfoldable pub isolator_object : IsolatorData → Data
 isolator_object i = object (written (isolator_fields i))
 
 -- an app; fields that are absent or empty are left out
-abbrev pub app_fields : AppData → List Field
-app_fields a =
+abbrev pub first_app_fields : AppData → List Field
+first_app_fields a =
     (codes "environment", if_filled env_object a.environment)
     ∷ (codes "eventHandlers", if_filled handler_object a.event_handlers)
     ∷ (codes "exec", if_filled string a.exec)
     ∷ (codes "group", Some (string a.group))
     ∷ (codes "isolators", if_filled isolator_object a.isolators)
-    ∷ (codes "mountPoints", if_filled mount_object a.mount_points)
+    ∷ []
+
+abbrev pub last_app_fields : AppData → List Field
+last_app_fields a =
+    (codes "mountPoints", if_filled mount_object a.mount_points)
     ∷ (codes "ports", if_filled port_object a.ports)
     ∷ (codes "supplementaryGIDs", if_filled whole_data a.supplementary_gids)
     ∷ (codes "user", Some (string a.user))
     ∷ (codes "workingDirectory", option_map string a.working_directory)
     ∷ []
+
+abbrev pub app_fields : AppData → List Field
+app_fields a = first_app_fields a ++ last_app_fields a
 
 unfoldable pub app_object : AppData → Data
 app_object a = object (written (app_fields a))

@@ -1,6 +1,8 @@
 pub mod AppData
 pub mod AppForm
 pub mod AppObject
+pub mod AppParts
+pub mod AppRules
 pub mod EnvForm
 pub mod ExecForm
 pub mod HandlerForm
@@ -10,3 +12,10 @@ pub mod MountForm
 pub mod Objects
 pub mod Places
 pub mod PortForm
+pub use Rattle.ac_types.specs.FieldForms
+pub use Rattle.ac_types.specs.JsonPaths
+pub use Rattle.ac_types.specs.Names
+pub use Rattle.ac_types.specs.Outcomes
+pub use Rattle.serde_json.specs.Data
+pub use Rattle.serde_json.specs.View
+pub use Rattle.serde_json.specs.Written

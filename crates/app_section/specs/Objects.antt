@@ -1,8 +1,5 @@
 -- JSON objects as they are written: the fields that are there, in the byte order of their names.
-use Rattle.std.specs.Prelude.{ℕ, Bool, true, false, ◌&&◌, List, [], ◌∷◌, ◌++◌, map, Option, Some, None}
-use Rattle.std.specs.List.{list_all}
-use Rattle.std.specs.Ordering.{nat_cmp, match_ordering}
-use Rattle.std.specs.Cmp.Lexicographic.{slice_cmp}
+use Rattle.std.specs.Prelude.{ℕ, Bool, true, false, List, [], ◌∷◌, map, Option, Some, None}
 use Rattle.serde_json.specs.Data.{Data, boolean, array, Items, no_items, item, Members, no_members, member, put}
 use Rattle.serde_json.specs.View.{items_of, members_view}
 use Rattle.app_section.specs.declared.object_builder.ObjectBuilder.{ObjectBuilder}
@@ -47,12 +44,3 @@ put_field name (Some d) ms = put name d ms
 abbrev pub put_all : List Field → Members → Members
 put_all [] ms = ms
 put_all ((name, value) ∷ fields) ms = put_all fields (put_field name value ms)
-
--- the name comes after that of the field, in byte order
-abbrev pub comes_after : List ℕ → Field → Bool
-comes_after name f = match_ordering (slice_cmp nat_cmp name f.0) false false true
-
--- each name comes after all those before it
-abbrev pub ordered_after : List Field → List Field → Bool
-ordered_after done [] = true
-ordered_after done (f ∷ fields) = list_all (comes_after f.0) done && ordered_after (done ++ f ∷ []) fields

@@ -1,3 +1,4 @@
+//! Fields that hold a list of elements of one type.
 ghost use Rattle.std.specs.Prelude.{map, []};
 ghost use Rattle.serde_json.specs.View.{view};
 ghost use Rattle.ac_types.specs.FieldForms.{default};

@@ -1,10 +1,11 @@
+//! Variables of an environment.
 ghost use Rattle.std.specs.Prelude.{◌≡◌, IfOk};
 ghost use Rattle.std.specs.List.{list_all};
 ghost use Rattle.app_section.specs.EnvForm.{is_env_name, is_first_byte, is_later_byte};
 ghost use Rattle.app_section.specs.Places.{has_nul};
 
 use ac_types::{
-    FaultKind, FromElement, NoMemory, ReadError, Text, TryCopy, field_fault, filled_text,
+    FaultKind, FromElement, NoMemory, ReadError, Sequence, Text, TryCopy, field_fault, filled_text,
     object_value, required_text,
 };
 use serde_json::Value;
@@ -18,6 +19,9 @@ pub struct EnvVar {
     /// A text without NUL.
     pub value: Text,
 }
+
+/// A list of variables. Contracts see its elements.
+pub type EnvVars = Sequence<EnvVar>;
 
 impl EnvVar {
     /// An equal variable.

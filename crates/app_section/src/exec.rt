@@ -1,3 +1,4 @@
+//! A program word and its arguments.
 ghost use Rattle.std.specs.Prelude.{◌≡◌, ℕ, List, length, map, [], codes};
 ghost use Rattle.serde_json.specs.View.{view};
 ghost use Rattle.ac_types.specs.FieldForms.{required, default};

@@ -1,13 +1,17 @@
-ghost use Rattle.std.specs.Prelude.{◌≡◌, map, [], IfOk};
+//! The IDs of groups.
+ghost use Rattle.std.specs.Prelude.{map, []};
 ghost use Rattle.serde_json.specs.View.{view};
 ghost use Rattle.ac_types.specs.FieldForms.{default, whole, each};
 ghost use Rattle.ac_types.specs.JsonPaths.{element_path};
 ghost use Rattle.ac_types.specs.Outcomes.{Gives};
 ghost use Rattle.app_section.specs.ListForms.{list_of};
 
-use ac_types::{NoMemory, ReadError, Sequence, element_path, field_path, list_field, whole_value};
+use ac_types::{ReadError, Sequence, element_path, field_path, list_field, whole_value};
 use serde_json::Value;
 use std::alloc::Global;
+
+/// A list of the IDs of groups. Contracts see its elements.
+pub type GroupIds = Sequence<u32>;
 
 /// The IDs in a field of the object at a path: none where it is absent.
 pub(crate) fn group_ids(
@@ -15,7 +19,7 @@ pub(crate) fn group_ids(
     value: &Value,
     at: &str,
     name: &str,
-) -> Result<Sequence<u32>, ReadError>
+) -> Result<GroupIds, ReadError>
     ensures { Gives (default [] (list_of (whole 4294967295)) at.now name.now (view value.now)) result }
 {
     match list_field(alloc, value, at, name) {
@@ -28,7 +32,7 @@ pub(crate) fn group_ids(
     }
 }
 
-fn read_ids(alloc: Global, list: &[Value], at: &str) -> Result<Sequence<u32>, ReadError>
+fn read_ids(alloc: Global, list: &[Value], at: &str) -> Result<GroupIds, ReadError>
     ensures { Gives (each (whole 4294967295) at.now (map view list.now)) result }
 {
     let mut ids = Sequence::new(alloc);
@@ -49,15 +53,4 @@ fn read_id(alloc: Global, value: &Value, at: &str, place: usize) -> Result<u32, 
         Ok(number) => Ok(number as u32),
         Err(error) => Err(error),
     }
-}
-
-/// An equal list of IDs.
-pub(crate) fn copy_ids(alloc: Global, ids: &[u32]) -> Result<Sequence<u32>, NoMemory>
-    ensures { IfOk result (λ copies. copies ≡ ids.now) }
-{
-    let mut copies = Sequence::new(alloc);
-    for id in ids {
-        copies = copies.push(*id)?;
-    }
-    Ok(copies)
 }

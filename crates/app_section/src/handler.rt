@@ -1,10 +1,11 @@
+//! Event handlers.
 ghost use Rattle.std.specs.Prelude.{◌≡◌, IfOk};
 ghost use Rattle.app_section.specs.HandlerForm.{kind_name, kind_of};
 
 use crate::exec::required_exec;
 use ac_types::{
-    FaultKind, FromElement, NamedElement, NoMemory, ReadError, Texts, TryCopy, field_fault,
-    filled_text, object_value,
+    FaultKind, FromElement, NamedElement, NoMemory, ReadError, Sequence, Texts, TryCopy,
+    field_fault, filled_text, object_value,
 };
 use serde_json::Value;
 use std::alloc::Global;
@@ -48,6 +49,9 @@ pub struct Handler {
     /// A program word and its arguments.
     pub exec: Texts,
 }
+
+/// A list of event handlers. Contracts see its elements.
+pub type Handlers = Sequence<Handler>;
 
 impl Handler {
     /// An equal handler.

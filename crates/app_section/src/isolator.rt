@@ -1,10 +1,11 @@
-ghost use Rattle.std.specs.Prelude.{◌≡◌, map, IfOk};
+//! Isolators, whose value is JSON.
+ghost use Rattle.std.specs.Prelude.{◌≡◌, IfOk};
 ghost use Rattle.app_section.specs.AppData.{isolator_data};
 
 use crate::whole_numbers::has_float;
 use ac_types::{
-    AcIdentifier, FaultKind, FromElement, NoMemory, ReadError, Sequence, field_fault, object_value,
-    required_field, required_identifier,
+    AcIdentifier, FaultKind, FromElement, NoMemory, ReadError, Sequence, ShownCopy, field_fault,
+    object_value, required_field, required_identifier,
 };
 use serde_json::Value;
 use std::alloc::Global;
@@ -16,6 +17,9 @@ pub struct Isolator {
     /// JSON of any kind but null, whose numbers are whole at each depth.
     pub value: Value,
 }
+
+/// A list of isolators. Contracts see its elements.
+pub type Isolators = Sequence<Isolator>;
 
 impl Isolator {
     /// An isolator of that name and with that JSON.
@@ -29,15 +33,16 @@ impl Isolator {
     }
 }
 
-/// The isolators of a slice, each copied.
-pub fn copy_isolators(alloc: Global, isolators: &[Isolator]) -> Result<Sequence<Isolator>, NoMemory>
-    ensures { IfOk result (λ copies. map isolator_data copies ≡ map isolator_data isolators.now) }
-{
-    let mut copies = Sequence::new(alloc);
-    for isolator in isolators {
-        copies = copies.push(isolator.copy()?)?;
+impl ShownCopy for Isolator {
+    ghost use Rattle.app_section.specs.AppData.{IsolatorData, isolator_data};
+
+    ghost Shown = { IsolatorData };
+
+    ghost shown = { isolator_data };
+
+    fn copy(&self) -> Result<Isolator, NoMemory> {
+        Isolator::copy(self)
     }
-    Ok(copies)
 }
 
 impl FromElement for Isolator {

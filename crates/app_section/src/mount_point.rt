@@ -1,8 +1,9 @@
+//! Mount points.
 ghost use Rattle.std.specs.Prelude.{◌≡◌, IfOk};
 
 use crate::places::required_place;
 use ac_types::{
-    AcName, FromElement, NamedElement, NoMemory, ReadError, Text, TryCopy, flag_field,
+    AcName, FromElement, NamedElement, NoMemory, ReadError, Sequence, Text, TryCopy, flag_field,
     object_value, required_name,
 };
 use serde_json::Value;
@@ -16,6 +17,9 @@ pub struct MountPoint {
     pub path: Text,
     pub read_only: bool,
 }
+
+/// A list of mount points. Contracts see its elements.
+pub type MountPoints = Sequence<MountPoint>;
 
 impl MountPoint {
     /// An equal mount point.

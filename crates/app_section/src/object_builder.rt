@@ -1,3 +1,4 @@
+//! JSON objects, put together field by field.
 ghost use Rattle.std.specs.Prelude.{◌≡◌, Some, IfOk};
 ghost use Rattle.serde_json.specs.Data.{no_members, string, object};
 ghost use Rattle.serde_json.specs.View.{view};

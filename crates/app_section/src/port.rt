@@ -1,12 +1,12 @@
+//! Ranges of ports.
 ghost use Rattle.std.specs.Prelude.{◌≡◌, ◌+◌, nat_le, IfOk};
 ghost use Rattle.serde_json.specs.View.{view};
-ghost use Rattle.ac_types.specs.Outcomes.{Answers};
-ghost use Rattle.app_section.specs.PortForm.{port_fields};
+ghost use Rattle.ac_types.specs.Outcomes.{Answers, Gives};
+ghost use Rattle.app_section.specs.PortForm.{count_field, port_fields};
 
-use crate::small_numbers::{port_count, required_port};
 use ac_types::{
-    AcName, FaultKind, FromElement, NamedElement, NoMemory, ReadError, Text, TryCopy, fault_at,
-    filled_text, flag_field, object_value, required_name,
+    AcName, FaultKind, FromElement, NamedElement, NoMemory, ReadError, Sequence, Text, TryCopy,
+    fault_at, filled_text, flag_field, object_value, required_name, required_port, whole_field,
 };
 use serde_json::Value;
 use std::alloc::Global;
@@ -21,6 +21,9 @@ pub struct Port {
     pub count: u16,
     pub socket_activated: bool,
 }
+
+/// A list of port ranges. Contracts see its elements.
+pub type Ports = Sequence<Port>;
 
 impl Port {
     /// An equal port.
@@ -85,7 +88,7 @@ fn read_fields(alloc: Global, value: &Value, at: &str) -> Result<Port, ReadError
     object_value(alloc, value, at)?;
     let name = required_name(alloc, value, at, "name")?;
     let protocol = filled_text(alloc, value, at, "protocol")?;
-    let port = required_port(alloc, value, at)?;
+    let port = required_port(alloc, value, at, "port")?;
     let count = port_count(alloc, value, at)?;
     let socket_activated = flag_field(alloc, value, at, "socketActivated")?;
     Ok(Port {
@@ -95,4 +98,15 @@ fn read_fields(alloc: Global, value: &Value, at: &str) -> Result<Port, ReadError
         count,
         socket_activated,
     })
+}
+
+/// How many ports a range has: one where the field is absent or 0.
+fn port_count(alloc: Global, value: &Value, at: &str) -> Result<u16, ReadError>
+    ensures { Gives (count_field at.now (view value.now)) result }
+{
+    match whole_field(alloc, value, at, "count", 65_535) {
+        Ok(Some(number)) => Ok((number as u16).max(1)),
+        Ok(None) => Ok(1),
+        Err(error) => Err(error),
+    }
 }

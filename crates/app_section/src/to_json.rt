@@ -1,3 +1,4 @@
+//! What is written as a JSON value.
 ghost use Rattle.std.specs.Prelude.{◌≡◌, map, IfOk};
 ghost use Rattle.serde_json.specs.View.{view};
 

@@ -1,9 +1,9 @@
 //! The app's section as it is written.
-ghost use Rattle.std.specs.Prelude.{◌≡◌, codes, drop, map, option_map, take, IfOk};
+ghost use Rattle.std.specs.Prelude.{◌≡◌, codes, map, option_map, IfOk};
 ghost use Rattle.serde_json.specs.Data.{no_members, string};
 ghost use Rattle.serde_json.specs.View.{view};
 ghost use Rattle.app_section.specs.AppData.{app_data, isolator_data};
-ghost use Rattle.app_section.specs.AppObject.{app_fields, app_object, isolator_object};
+ghost use Rattle.app_section.specs.AppObject.{app_object, first_app_fields, isolator_object, last_app_fields};
 ghost use Rattle.app_section.specs.Objects.{built, if_filled, put_all, put_field};
 
 use crate::app::App;
@@ -23,7 +23,7 @@ pub(crate) fn app_value(alloc: Global, app: &App) -> Result<Value, NoMemory>
 }
 
 fn with_first_fields(alloc: Global, app: &App) -> Result<ObjectBuilder, NoMemory>
-    ensures { IfOk result (λ b. built b ≡ put_all (take 5 (app_fields (app_data app.now))) no_members) }
+    ensures { IfOk result (λ b. built b ≡ put_all (first_app_fields (app_data app.now)) no_members) }
 {
     let object = ObjectBuilder::new(alloc);
     let object = object.list(alloc, "environment", app.environment.as_slice())?;
@@ -38,7 +38,7 @@ fn with_last_fields(
     app: &App,
     object: ObjectBuilder,
 ) -> Result<ObjectBuilder, NoMemory>
-    ensures { IfOk result (λ b. built b ≡ put_all (drop 5 (app_fields (app_data app.now))) (built object)) }
+    ensures { IfOk result (λ b. built b ≡ put_all (last_app_fields (app_data app.now)) (built object)) }
 {
     let object = object.list(alloc, "mountPoints", app.mount_points.as_slice())?;
     let object = object.list(alloc, "ports", app.ports.as_slice())?;

@@ -1,7 +1,7 @@
 -- A loop that keeps the place of the best element that passes a test.
-use Rattle.std.proofs.Common.{◌≡◌, ℕ, suc, ◌<◌, ◌≤◌, ◌+◌, Bool, true, false, ◌&&◌, ◌||◌, cond, List, [], ◌∷◌, length, get_or, Option, Some, None, refl, sym, ap, ◌∙◌, arith, below_more, ⊎_elim, ◌↔◌, Less, Equal, Greater, Ordering}
+use Rattle.std.proofs.Common.{◌≡◌, ℕ, zero, suc, ◌<◌, ◌≤◌, ◌+◌, Bool, true, false, ◌&&◌, ◌||◌, cond, List, [], ◌∷◌, length, get_or, Option, Some, None, refl, sym, ap, ◌∙◌, arith, below_more, ⊎_elim, ◌↔◌, Less, Equal, Greater, Ordering}
 use Rattle.std.specs.Prelude.{not, IfSome}
-use Rattle.std.specs.List.{list_any, filter, position, position_or_len}
+use Rattle.std.specs.List.{list_any, filter, position, position_or_len, slice_get}
 use Rattle.std.specs.Ordering.{is_gt, ordering_reverse}
 use Rattle.std.specs.Cmp.{IsTotalOrder}
 use Rattle.std.proofs.lemmas.Bool.{both_ways, false_from_ne_true, true_from_ne_false, and_parts, and_cases, lt-ltb, le-ltb}
@@ -9,7 +9,8 @@ use Rattle.std.proofs.lemmas.List.{get_or_default}
 use Rattle.std.proofs.lemmas.List.Folds.{list_any_at}
 use Rattle.std.proofs.lemmas.List.Sums.{position_or_len_is}
 use Rattle.std.proofs.lemmas.Cmp.{upto, then_total, on_total, nat_cmp_total, nat_list_cmp_total}
-use Rattle.dep_match.specs.Selection.{image_order, outranks, outranks_place}
+use Rattle.dep_match.specs.Selection.{image_order, outranks, IsPlaceOf}
+use Rattle.dep_match.specs.Steps.{outranks_place}
 use Rattle.dep_match.specs.declared.stored.Stored.{Stored}
 
 -- a test by which some elements beat others
@@ -218,6 +219,20 @@ pub best_within : {X : Type 0} (test : X → Bool) (beats : X → X → Bool) (x
     → IsBestSoFar test beats xs i b → IfSome b (λ k. k < length xs)
 best_within test beats xs i None past far = tt
 best_within test beats xs i (Some k) past far = omega (arith, far.0)
+
+-- an element at a place is there
+element_at : {X : Type 0} (xs : List X) (k : ℕ) → k < length xs → (x : X) × (slice_get xs k ≡ Some x) × (get_or xs k x ≡ x)
+element_at [] k within = absurd (omega arith)
+element_at (x ∷ xs) zero within = (x, refl, refl)
+element_at (x ∷ xs) (suc k) within = let more = element_at xs k (omega (arith, within)) in (more.0, more.1, more.2)
+
+-- the best passes
+pub best_passes : (test : Stored → Bool) (beats : Stored → Stored → Bool) (xs : List Stored) (i : ℕ) (b : Option ℕ) → i ≤ length xs
+    → IsBestSoFar test beats xs i b → IfSome b (IsPlaceOf test xs)
+best_passes test beats xs i None past far = tt
+best_passes test beats xs i (Some k) past far =
+    let there = element_at xs k (omega (arith, far.0, past)) in
+    (there.0, there.1, sym (ap test there.2) ∙ far.1 there.0)
 
 -- the same test on images
 pub place_outranked : (images : List Stored) (b : Option ℕ) (image : Stored) → outranks_place images b image ≡ beats_place outranks images b image

@@ -5,6 +5,7 @@ use Rattle.std.proofs.Common.{zero, suc}
 use Rattle.ac_types.specs.declared.store_key.StoreKey.{StoreKey}
 use Rattle.manifest_parts.specs.declared.dependency.Dependency.{Dependency}
 use Rattle.dep_match.specs.Selection.{best_match, matches_dependency}
+use Rattle.dep_match.specs.declared.refusals.TheConstants.{MAX_DEPTH, MAX_NODES}
 use Rattle.dep_match.specs.declared.dep_error.DepError.{DepError}
 use Rattle.dep_match.specs.declared.dep_error.DepError.TheVariants.{NoDependency, Cycle, TooDeep, TooMany, NoMemory}
 use Rattle.dep_match.specs.declared.dep_tree.DepNode.{DepNode}
@@ -30,7 +31,7 @@ unless_faulty images way levels made name None = Err (NoDependency name)
 unless_faulty images way levels made name (Some i) =
     if list_any (λ k. k == i) way then Err (Cycle (key_at images i))
     else if levels == 0 then Err TooDeep
-    else if nat_le 256 made then Err TooMany
+    else if nat_le MAX_NODES made then Err TooMany
     else Ok i
 
 abbrev pub next_image : List Stored → List ℕ → ℕ → ℕ → Dependency → Result ℕ DepError
@@ -59,7 +60,7 @@ subtree (suc levels) images above made i =
 
 -- the tree below the top, of 32 levels at most
 abbrev pub dependency_tree : List Stored → ℕ → Result (List DepNode) DepError
-dependency_tree images top = subtree 32 images [] 0 top
+dependency_tree images top = subtree MAX_DEPTH images [] 0 top
 
 -- memory ran out, or what was to be made has that fault
 abbrev pub IsFault : {A : Type 0} → Result A DepError → DepError → Type 0

@@ -1,4 +1,9 @@
+pub mod Copies
 pub mod Dependencies
 pub mod ErrorTexts
+pub mod RefusalNumbers
 pub mod Selection
+pub mod Steps
 pub mod TreeOrder
+pub use Rattle.hex.specs.Hex
+pub use Rattle.manifests.specs.ImageData

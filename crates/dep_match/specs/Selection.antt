@@ -1,6 +1,6 @@
 -- Which images of a list a reference or a dependency matches, and which of the matches is best.
-use Rattle.std.specs.Prelude.{ℕ, Bool, true, not, ◌&&◌, List, take, Option, Some, None, slice_index_or}
-use Rattle.std.specs.List.{list_any, list_all, filter, position}
+use Rattle.std.specs.Prelude.{◌≡◌, ℕ, Bool, true, IsTrue, not, ◌&&◌, List, take, Option, Some, None}
+use Rattle.std.specs.List.{list_any, list_all, filter, position, slice_get}
 use Rattle.std.specs.Ordering.{nat_cmp, ordering_then, is_gt}
 use Rattle.std.specs.Cmp.Lexicographic.{slice_cmp}
 use Rattle.std.specs.Str.{bytes_eq}
@@ -12,8 +12,6 @@ use Rattle.ac_types.specs.declared.image_ref.ImageRef.TheVariants.{Named, ById}
 use Rattle.ac_types.specs.declared.label.Label.{Label}
 use Rattle.manifest_parts.specs.declared.dependency.Dependency.{Dependency}
 use Rattle.dep_match.specs.declared.stored.Stored.{Stored}
-use Rattle.dep_match.specs.declared.wanted.Wanted.{Wanted}
-use Rattle.dep_match.specs.declared.wanted.Wanted.TheVariants.{Reference, Dependent}
 
 -- two labels have one name and one value
 abbrev pub is_same_label : Label → Label → Bool
@@ -59,12 +57,6 @@ abbrev pub best_match : (Stored → Bool) → List Stored → Option ℕ
 best_match test images =
     position (λ (s : Stored). test s && not (list_any (λ (m : Stored). outranks m s) (filter test images))) images
 
--- an image outranks the one at a place, where a place is given
-abbrev pub outranks_place : List Stored → Option ℕ → Stored → Bool
-outranks_place images None image = true
-outranks_place images (Some place) image = outranks image (slice_index_or images place image)
-
--- what is looked for, of either kind
-abbrev pub accepts : Wanted → Stored → Bool
-accepts (Reference r) = matches r.now
-accepts (Dependent d) = matches_dependency d.now
+-- the image at a place passes the test
+abbrev pub IsPlaceOf : (Stored → Bool) → List Stored → ℕ → Type 0
+IsPlaceOf test images place = (image : Stored) × (slice_get images place ≡ Some image) × IsTrue (test image)

@@ -1,22 +1,17 @@
 //! The tree of an image's dependencies.
 
-ghost use Rattle.std.specs.Prelude.{◌≡◌, ◌<◌, ◌≤◌, ◌+◌, ◌++◌, ◌∷◌, [], length, IfOk, IfErr};
+ghost use Rattle.std.specs.Prelude.{◌≡◌, ℕ, ◌<◌, ◌≤◌, ◌+◌, ◌++◌, ◌∷◌, [], length, IfOk, IfErr};
 ghost use Rattle.dep_match.specs.Dependencies.{dependencies_at, dependency_tree, next_image, subtree, IsFault};
-ghost use Rattle.dep_match.specs.TreeOrder.{IsOrderedTree};
+ghost use Rattle.dep_match.specs.TreeOrder.{IsOrderedTree, HasBestChildren, node_at};
 
 use crate::dep_error::DepError;
-use crate::dep_tree::{DepNode, DepNodes, DepTree};
+use crate::dep_tree::{DepNode, DepTree};
+use crate::refusals::{MAX_DEPTH, MAX_NODES};
 use crate::selection::best_dependency;
 use crate::stored::Stored;
 use ac_types::{NoMemory, Sequence};
 use manifests::Dependency;
 use std::alloc::Global;
-
-/// The most images on the way from the top to a node, both included.
-const MAX_DEPTH: usize = 32;
-
-/// The most nodes of a tree.
-const MAX_NODES: usize = 256;
 
 /// The tree of the image at place `top`: each node's dependencies become its child nodes, in
 /// their order and depth first, each by the image that `best_dependency` gives. At each dependency
@@ -27,11 +22,14 @@ pub fn closure(alloc: Global, list: &[Stored], top: usize) -> Result<DepTree, De
     requires { top < length list.now }
     ensures ok { IfOk result (λ tree. dependency_tree list.now top ≡ Ok tree.nodes) }
     ensures order { IfOk result (λ tree. IsOrderedTree (length list.now) tree.nodes) }
+    ensures top { IfOk result (λ tree. (node_at tree.nodes 0).image ≡ top) }
+    ensures few { IfOk result (λ tree. length tree.nodes ≤ MAX_NODES) }
+    ensures best { IfOk result (λ tree. (n : ℕ) → n < length tree.nodes → HasBestChildren list.now tree.nodes n) }
     ensures err { IfErr result (IsFault (dependency_tree list.now top)) }
 {
     let nodes = subtree(alloc, list, &[], top, 0, MAX_DEPTH)?;
     Ok(DepTree {
-        nodes: listed(alloc, nodes)?,
+        nodes: Sequence::from_vec(nodes),
     })
 }
 
@@ -45,10 +43,10 @@ fn subtree(
     levels: usize,
 ) -> Result<Vec<DepNode>, DepError>
     requires within { image < length list.now }
-    requires few { number < 256 }
+    requires few { number < MAX_NODES }
     requires deep { 0 < levels }
     ensures ok { IfOk result (λ nodes. subtree levels list.now above.now number image ≡ Ok nodes.items) }
-    ensures few { IfOk result (λ nodes. number + length nodes.items ≤ 256) }
+    ensures few { IfOk result (λ nodes. number + length nodes.items ≤ MAX_NODES) }
     ensures err { IfErr result (IsFault (subtree levels list.now above.now number image)) }
 {
     let way = with_last(alloc, above, image)?;
@@ -75,7 +73,7 @@ fn next_image(
 ) -> Result<usize, DepError>
     ensures ok { IfOk result (λ i. next_image list.now way.now levels made dependency.now ≡ Ok i) }
     ensures within { IfOk result (λ i. i < length list.now) }
-    ensures few { IfOk result (λ _. made < 256) }
+    ensures few { IfOk result (λ _. made < MAX_NODES) }
     ensures deep { IfOk result (λ _. 0 < levels) }
     ensures err { IfErr result (IsFault (next_image list.now way.now levels made dependency.now)) }
 {
@@ -125,14 +123,4 @@ fn joined(nodes: Vec<DepNode>, more: Vec<DepNode>) -> Result<Vec<DepNode>, NoMem
         all.push(node)?;
     }
     Ok(all)
-}
-
-fn listed(alloc: Global, nodes: Vec<DepNode>) -> Result<DepNodes, NoMemory>
-    ensures { IfOk result (λ list. list ≡ nodes.items) }
-{
-    let mut list = Sequence::new(alloc);
-    for node in nodes {
-        list = list.push(node)?;
-    }
-    Ok(list)
 }

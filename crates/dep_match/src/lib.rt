@@ -4,6 +4,7 @@
 pub mod dep_error;
 pub mod dep_tree;
 pub mod dependencies;
+pub mod refusals;
 pub mod selection;
 pub mod stored;
 mod wanted;

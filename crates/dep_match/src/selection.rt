@@ -2,7 +2,8 @@
 
 ghost use Rattle.std.specs.Prelude.{◌≡◌, ◌<◌, ◌↔◌, ◌&&◌, None, [], length, IfSome};
 ghost use Rattle.std.specs.List.{filter};
-ghost use Rattle.dep_match.specs.Selection.{accepts, best_match, matches, matches_dependency, outranks, outranks_place};
+ghost use Rattle.dep_match.specs.Selection.{best_match, matches, matches_dependency, outranks, IsPlaceOf};
+ghost use Rattle.dep_match.specs.Steps.{accepts, outranks_place};
 
 use crate::stored::Stored;
 use crate::wanted::{Wanted, accepts};
@@ -17,6 +18,7 @@ use manifests::Dependency;
 pub fn best(list: &[Stored], wanted: &ImageRef) -> Option<usize>
     ensures place { result ≡ best_match (matches wanted.now) list.now }
     ensures within { IfSome result (λ place. place < length list.now) }
+    ensures matches { IfSome result (IsPlaceOf (matches wanted.now) list.now) }
     ensures none { (result ≡ None) ↔ (filter (matches wanted.now) list.now ≡ []) }
 {
     best_of(list, &Wanted::Reference(wanted))
@@ -27,6 +29,7 @@ pub fn best(list: &[Stored], wanted: &ImageRef) -> Option<usize>
 pub fn best_dependency(list: &[Stored], wanted: &Dependency) -> Option<usize>
     ensures place { result ≡ best_match (matches_dependency wanted.now) list.now }
     ensures within { IfSome result (λ place. place < length list.now) }
+    ensures matches { IfSome result (IsPlaceOf (matches_dependency wanted.now) list.now) }
     ensures none { (result ≡ None) ↔ (filter (matches_dependency wanted.now) list.now ≡ []) }
 {
     best_of(list, &Wanted::Dependent(wanted))
@@ -35,6 +38,7 @@ pub fn best_dependency(list: &[Stored], wanted: &Dependency) -> Option<usize>
 fn best_of(list: &[Stored], wanted: &Wanted) -> Option<usize>
     ensures place { result ≡ best_match (accepts wanted.now) list.now }
     ensures within { IfSome result (λ place. place < length list.now) }
+    ensures matches { IfSome result (IsPlaceOf (accepts wanted.now) list.now) }
     ensures none { (result ≡ None) ↔ (filter (accepts wanted.now) list.now ≡ []) }
 {
     let mut best = None;

@@ -4,10 +4,11 @@ ghost use Rattle.std.specs.Prelude.{◌≡◌, ◌&&◌, take};
 ghost use Rattle.std.specs.List.{list_all};
 ghost use Rattle.std.specs.Str.{bytes_eq};
 ghost use Rattle.ac_types.specs.declared.label.Label.{Label};
-ghost use Rattle.dep_match.specs.Selection.{accepts, digits_of, has_id, has_label, is_called, is_same_label};
+ghost use Rattle.dep_match.specs.Steps.{accepts};
+ghost use Rattle.dep_match.specs.Selection.{digits_of, has_id, has_label, is_called, is_same_label};
 
 use crate::stored::Stored;
-use ac_types::{AcIdentifier, ImageId, ImageRef, Label};
+use ac_types::{AcIdentifier, ImageId, ImageRef, Label, lower_hex};
 use manifests::Dependency;
 
 /// What an image is looked for by.
@@ -72,11 +73,7 @@ fn has_id(wanted: &Option<ImageId>, id: ImageId) -> bool
 fn begins_with(id: ImageId, digits: &[u8; 128], len: usize) -> bool
     ensures { result ≡ bytes_eq (take len (digits_of id)) (take len digits.now) }
 {
-    let mut text = [0; 128];
-    match hex::encode_to_slice(id.bytes.as_slice(), &mut text[..]) {
-        Ok(()) => have_one_front(&text, digits, len),
-        Err(_) => unreachable!(),
-    }
+    have_one_front(&lower_hex(&id.bytes), digits, len)
 }
 
 fn have_one_front(text: &[u8; 128], other: &[u8; 128], len: usize) -> bool

@@ -6,26 +6,27 @@ use Rattle.tree_digest.specs.declared.line.ListingLine.{ListingLine}
 use Rattle.tree_digest.specs.declared.listing_error.ListingError.{ListingError}
 use Rattle.tree_digest.specs.declared.listing_error.ListingError.TheVariants.{BadLine, NotSorted, NoParent, TooMany, FileTooLong, NoMemory}
 use Rattle.tree_digest.specs.Lines.{line_text, line_fields, is_too_long}
-use Rattle.tree_digest.specs.Listings.{AllFollow, Follows, FailsAt, Fails, IsListing, Rises, EndsIn, is_parent, listing_text, line_count}
+use Rattle.tree_digest.specs.Listings.{AllFollow, Follows, FailsAt, Fails, IsListing, Rises, is_parent, listing_text, line_count}
+use Rattle.path_map.specs.Paths.{EndsIn}
 use Rattle.tree_digest.proofs.ListingTexts.{lines_counted}
 use Rattle.listing_laws.proofs.OneText.{first_line_same}
 
 -- the line that a listing goes on with doesn't fail
 pub next_is_right : (before : List ListingLine) (line : ListingLine) (rest : List ℕ) (error : ListingError) → Follows before line → FailsAt before (line_text line ++ rest) error → ⊥
-next_is_right before line rest (BadLine n) next fails = fails.1 line rest next.line refl
+next_is_right before line rest (BadLine n) next fails = fails.1 line (rest, next.line, refl)
 next_is_right before line rest (FileTooLong n) next fails =
     let other = fails.1 in
-    let same = first_line_same line other.0 rest other.1 next.line other.2 other.3 in
-    both_ways _ (subst (λ (l : ListingLine). is_too_long l.entry ≡ false) same.0 next.short) other.4
+    let same = first_line_same line other.0 rest other.1.0 next.line other.1.1 other.1.2 in
+    both_ways _ (subst (λ (l : ListingLine). is_too_long l.entry ≡ false) same.0 next.short) other.2
 next_is_right before line rest (NotSorted n) next fails =
     let other = fails.1 in
-    let same = first_line_same line other.0 rest other.1 next.line other.2 other.3 in
-    other.5 (subst (λ (l : ListingLine). Rises before l) same.0 next.rises)
+    let same = first_line_same line other.0 rest other.1.0 next.line other.1.1 other.1.2 in
+    other.3 (subst (λ (l : ListingLine). Rises before l) same.0 next.rises)
 next_is_right before line rest (NoParent n) next fails =
     let other = fails.1 in
-    let same = first_line_same line other.0 rest other.1 next.line other.2 other.3 in
+    let same = first_line_same line other.0 rest other.1.0 next.line other.1.1 other.1.2 in
     let ends = subst (λ (l : ListingLine). (parent name : List ℕ) → EndsIn l.path parent name → is_parent before parent ≡ true) same.0 next.parents in
-    both_ways _ other.6.3 (ends other.6.0 other.6.1 other.6.2)
+    both_ways _ other.4.3 (ends other.4.0 other.4.1 other.4.2)
 next_is_right before line rest (TooMany limit) next fails = fails
 next_is_right before line rest NoMemory next fails = fails
 

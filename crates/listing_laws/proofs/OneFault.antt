@@ -14,38 +14,38 @@ use Rattle.listing_laws.proofs.Faults.{next_is_right}
 -- a line's place has one fault
 fails_once : (before : List ListingLine) (after : List ℕ) (e f : ListingError) → FailsAt before after e → FailsAt before after f → e ≡ f
 fails_once before after (BadLine n) (BadLine m) a b = ap (λ k. BadLine k) (a.0 ∙ sym b.0)
-fails_once before after (BadLine n) (FileTooLong m) a b = absurd (a.1 b.1.0 b.1.1 b.1.2 b.1.3)
-fails_once before after (BadLine n) (NotSorted m) a b = absurd (a.1 b.1.0 b.1.1 b.1.2 b.1.3)
-fails_once before after (BadLine n) (NoParent m) a b = absurd (a.1 b.1.0 b.1.1 b.1.2 b.1.3)
+fails_once before after (BadLine n) (FileTooLong m) a b = absurd (a.1 b.1.0 b.1.1)
+fails_once before after (BadLine n) (NotSorted m) a b = absurd (a.1 b.1.0 b.1.1)
+fails_once before after (BadLine n) (NoParent m) a b = absurd (a.1 b.1.0 b.1.1)
 fails_once before after (BadLine n) (TooMany limit) a b = absurd b
 fails_once before after (BadLine n) NoMemory a b = absurd b
-fails_once before after (FileTooLong n) (BadLine m) a b = absurd (b.1 a.1.0 a.1.1 a.1.2 a.1.3)
+fails_once before after (FileTooLong n) (BadLine m) a b = absurd (b.1 a.1.0 a.1.1)
 fails_once before after (FileTooLong n) (FileTooLong m) a b = ap (λ k. FileTooLong k) (a.0 ∙ sym b.0)
 fails_once before after (FileTooLong n) (NotSorted m) a b =
-    let same = first_line_same b.1.0 a.1.0 b.1.1 a.1.1 b.1.2 a.1.2 (sym b.1.3 ∙ a.1.3) in
-    absurd (both_ways _ (subst (λ (l : ListingLine). is_too_long l.entry ≡ false) same.0 b.1.4) a.1.4)
+    let same = first_line_same b.1.0 a.1.0 b.1.1.0 a.1.1.0 b.1.1.1 a.1.1.1 (sym b.1.1.2 ∙ a.1.1.2) in
+    absurd (both_ways _ (subst (λ (l : ListingLine). is_too_long l.entry ≡ false) same.0 b.1.2) a.1.2)
 fails_once before after (FileTooLong n) (NoParent m) a b =
-    let same = first_line_same b.1.0 a.1.0 b.1.1 a.1.1 b.1.2 a.1.2 (sym b.1.3 ∙ a.1.3) in
-    absurd (both_ways _ (subst (λ (l : ListingLine). is_too_long l.entry ≡ false) same.0 b.1.4) a.1.4)
+    let same = first_line_same b.1.0 a.1.0 b.1.1.0 a.1.1.0 b.1.1.1 a.1.1.1 (sym b.1.1.2 ∙ a.1.1.2) in
+    absurd (both_ways _ (subst (λ (l : ListingLine). is_too_long l.entry ≡ false) same.0 b.1.2) a.1.2)
 fails_once before after (FileTooLong n) (TooMany limit) a b = absurd b
 fails_once before after (FileTooLong n) NoMemory a b = absurd b
-fails_once before after (NotSorted n) (BadLine m) a b = absurd (b.1 a.1.0 a.1.1 a.1.2 a.1.3)
+fails_once before after (NotSorted n) (BadLine m) a b = absurd (b.1 a.1.0 a.1.1)
 fails_once before after (NotSorted n) (FileTooLong m) a b =
-    let same = first_line_same a.1.0 b.1.0 a.1.1 b.1.1 a.1.2 b.1.2 (sym a.1.3 ∙ b.1.3) in
-    absurd (both_ways _ (subst (λ (l : ListingLine). is_too_long l.entry ≡ false) same.0 a.1.4) b.1.4)
+    let same = first_line_same a.1.0 b.1.0 a.1.1.0 b.1.1.0 a.1.1.1 b.1.1.1 (sym a.1.1.2 ∙ b.1.1.2) in
+    absurd (both_ways _ (subst (λ (l : ListingLine). is_too_long l.entry ≡ false) same.0 a.1.2) b.1.2)
 fails_once before after (NotSorted n) (NotSorted m) a b = ap (λ k. NotSorted k) (a.0 ∙ sym b.0)
 fails_once before after (NotSorted n) (NoParent m) a b =
-    let same = first_line_same b.1.0 a.1.0 b.1.1 a.1.1 b.1.2 a.1.2 (sym b.1.3 ∙ a.1.3) in
-    absurd (a.1.5 (subst (λ (l : ListingLine). Rises before l) same.0 b.1.5))
+    let same = first_line_same b.1.0 a.1.0 b.1.1.0 a.1.1.0 b.1.1.1 a.1.1.1 (sym b.1.1.2 ∙ a.1.1.2) in
+    absurd (a.1.3 (subst (λ (l : ListingLine). Rises before l) same.0 b.1.3))
 fails_once before after (NotSorted n) (TooMany limit) a b = absurd b
 fails_once before after (NotSorted n) NoMemory a b = absurd b
-fails_once before after (NoParent n) (BadLine m) a b = absurd (b.1 a.1.0 a.1.1 a.1.2 a.1.3)
+fails_once before after (NoParent n) (BadLine m) a b = absurd (b.1 a.1.0 a.1.1)
 fails_once before after (NoParent n) (FileTooLong m) a b =
-    let same = first_line_same a.1.0 b.1.0 a.1.1 b.1.1 a.1.2 b.1.2 (sym a.1.3 ∙ b.1.3) in
-    absurd (both_ways _ (subst (λ (l : ListingLine). is_too_long l.entry ≡ false) same.0 a.1.4) b.1.4)
+    let same = first_line_same a.1.0 b.1.0 a.1.1.0 b.1.1.0 a.1.1.1 b.1.1.1 (sym a.1.1.2 ∙ b.1.1.2) in
+    absurd (both_ways _ (subst (λ (l : ListingLine). is_too_long l.entry ≡ false) same.0 a.1.2) b.1.2)
 fails_once before after (NoParent n) (NotSorted m) a b =
-    let same = first_line_same a.1.0 b.1.0 a.1.1 b.1.1 a.1.2 b.1.2 (sym a.1.3 ∙ b.1.3) in
-    absurd (b.1.5 (subst (λ (l : ListingLine). Rises before l) same.0 a.1.5))
+    let same = first_line_same a.1.0 b.1.0 a.1.1.0 b.1.1.0 a.1.1.1 b.1.1.1 (sym a.1.1.2 ∙ b.1.1.2) in
+    absurd (b.1.3 (subst (λ (l : ListingLine). Rises before l) same.0 a.1.3))
 fails_once before after (NoParent n) (NoParent m) a b = ap (λ k. NoParent k) (a.0 ∙ sym b.0)
 fails_once before after (NoParent n) (TooMany limit) a b = absurd b
 fails_once before after (NoParent n) NoMemory a b = absurd b

@@ -7,18 +7,16 @@ use Rattle.std.proofs.lemmas.List.Sums.{sum_by-append}
 use Rattle.tree_digest.specs.declared.line.ListingLine.{ListingLine}
 use Rattle.tree_digest.specs.declared.listing_error.ListingError.{ListingError}
 use Rattle.tree_digest.specs.declared.listing_error.ListingError.TheVariants.{BadLine, NoMemory}
-use Rattle.tree_digest.specs.Fields.{HasNone}
+use Rattle.path_map.specs.Paths.{HasNone}
 use Rattle.tree_digest.specs.Lines.{line_text, line_fields}
 use Rattle.tree_digest.specs.Listings.{AllFollow, Fails, IsListing, listing_text, line_count}
-use Rattle.tree_digest.proofs.Cuts.{has_cut, read_clear}
+use Rattle.tree_digest.proofs.Cuts.{read_clear}
+use Rattle.path_map.proofs.Ends.{has_cut}
 use Rattle.tree_digest.proofs.LineTexts.{entry_clear}
 use Rattle.tree_digest.proofs.ListingTexts.{lines_counted, none_counted}
 use Rattle.tree_digest.proofs.Takes.{none_is_no_line}
+use Rattle.listing_laws.specs.Beginnings.{IsEnded}
 use Rattle.listing_laws.proofs.OneFault.{one_first_fault}
-
--- a text is empty or ends with a line end
-abbrev pub IsEnded : List ℕ → Type 0
-IsEnded text = (text ≡ []) ⊎ ((line : List ℕ) × (text ≡ line ++ 10 ∷ []))
 
 -- the whole lines at the front of a text, and what is left of the next one
 pub record Parted (known lines : List ListingLine) (front : List ℕ) : Type 0 where
@@ -160,7 +158,7 @@ fails_at_last lines whole front back (p ∷ part) listing e follow text none few
         some = omega arith;
         follow = follow;
         is = text;
-        fault = (count, λ line rest valid. none_is_no_line (p ∷ part) none line rest);
+        fault = (count, λ line begins. none_is_no_line (p ∷ part) none line begins.0 begins.2);
       },
     )
 
@@ -169,13 +167,3 @@ pub another_beginning_has_a_bad_last_line : (lines : List ListingLine) (front ba
 another_beginning_has_a_bad_last_line lines front back listing e unended =
     let cut = parted [] lines front back listing.follow e in
     fails_at_last lines cut.whole front back cut.part listing e cut.follow cut.text cut.clear cut.next unended
-
--- what `Listing::read` ensures gives, on a beginning of a listing's text that isn't empty and doesn't
--- end with a line end: a bad line, the last, or want of memory
-pub read_of_another_beginning : (lines : List ListingLine) (front back : List ℕ) (result : Result (List ListingLine) ListingError) → IsListing lines → listing_text lines ≡ front ++ back → (IsEnded front → ⊥)
-    → IfOk result (λ read. IsListing read × (front ≡ listing_text read))
-    → IfErr result (λ error. (error ≡ NoMemory) ⊎ Fails front error)
-    → MatchResult result (λ read. ⊥) (λ error. (error ≡ NoMemory) ⊎ (error ≡ BadLine (line_count front)))
-read_of_another_beginning lines front back (Ok read) listing e unended ok fault = unended (subst IsEnded (sym ok.1) (a_listing_is_ended read))
-read_of_another_beginning lines front back (Err error) listing e unended ok fault =
-    ⊎_elim (λ memory. inl memory) (λ fails. inr (one_first_fault front error (BadLine (line_count front)) fails (another_beginning_has_a_bad_last_line lines front back listing e unended))) fault

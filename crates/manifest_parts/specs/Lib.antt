@@ -5,5 +5,16 @@ pub mod DocumentForm
 pub mod HeadForms
 pub mod IdForms
 pub mod LabelsForm
-pub mod PodPortForm
+pub mod PartRules
 pub mod RuntimeImageForm
+pub use Rattle.ac_types.specs.FieldForms
+pub use Rattle.ac_types.specs.Ids
+pub use Rattle.ac_types.specs.JsonPaths
+pub use Rattle.ac_types.specs.Labels
+pub use Rattle.ac_types.specs.Names
+pub use Rattle.ac_types.specs.Outcomes
+pub use Rattle.ac_types.specs.SeenTexts
+pub use Rattle.semver.specs.Parse
+pub use Rattle.serde_json.specs.Data
+pub use Rattle.serde_json.specs.Read
+pub use Rattle.serde_json.specs.View

@@ -1,3 +1,4 @@
+//! Annotations.
 ghost use Rattle.std.specs.Prelude.{◌≡◌, IfOk};
 
 use ac_types::{

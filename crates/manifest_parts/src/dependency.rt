@@ -1,3 +1,4 @@
+//! Dependencies of an image.
 ghost use Rattle.std.specs.Prelude.{◌≡◌, IfOk};
 
 use crate::ids::optional_id;

@@ -1,3 +1,4 @@
+//! Lists of elements whose names come once each.
 ghost use Rattle.std.specs.Prelude.{◌≡◌, ℕ, List, [], ◌∷◌, ◌++◌, map, IfOk};
 ghost use Rattle.serde_json.specs.View.{view};
 ghost use Rattle.ac_types.specs.FieldForms.{required, default};
@@ -7,7 +8,8 @@ ghost use Rattle.ac_types.specs.SeenTexts.{HasSeen};
 ghost use Rattle.manifest_parts.specs.DistinctForms.{distinct_list, each_distinct};
 
 use ac_types::{
-    FaultKind, ReadError, SeenTexts, Sequence, element_path, field_fault, field_path, list_field,
+    FaultKind, ReadError, SeenTexts, Sequence, field_fault, field_path, list_field,
+    write_element_path,
 };
 use serde_json::Value;
 use std::alloc::Global;
@@ -80,8 +82,9 @@ fn read_distinct<T: DistinctElement>(
 {
     let mut seen = SeenTexts::new(alloc);
     let mut items = Sequence::new(alloc);
+    let mut path = String::new(alloc);
     for (i, value) in list.iter().enumerate() {
-        match read_at(alloc, value, at, i, &mut seen) {
+        match read_at(alloc, value, at, i, &mut path, &mut seen) {
             Ok(item) => items = items.push(item)?,
             Err(error) => return Err(error),
         }
@@ -94,12 +97,13 @@ fn read_at<T: DistinctElement>(
     value: &Value,
     at: &str,
     place: usize,
+    path: &mut String,
     seen: &mut SeenTexts,
 ) -> Result<T, ReadError>
     ensures answers { (names : List (List ℕ)) → HasSeen seen.old names
         → Answers T.shown (T.form names (element_path at.now place) (view value.now)) result }
     ensures seen { IfOk result (λ item. (names : List (List ℕ)) → HasSeen seen.old names → HasSeen seen.new (names ++ T.name_of (T.shown item) ∷ [])) }
 {
-    let path = element_path(alloc, at, place)?;
+    write_element_path(path, at, place)?;
     T::read(alloc, value, path.as_str(), seen)
 }

@@ -1,3 +1,4 @@
+//! The JSON object that a document is.
 ghost use Rattle.serde_json.specs.View.{view};
 ghost use Rattle.ac_types.specs.Outcomes.{Answers};
 ghost use Rattle.manifest_parts.specs.DocumentForm.{document, json_of, known_json};

@@ -1,3 +1,4 @@
+//! The reading of labels.
 ghost use Rattle.std.specs.Prelude.{◌≡◌, [], map};
 ghost use Rattle.serde_json.specs.View.{view};
 ghost use Rattle.ac_types.specs.FieldForms.{default, each};
@@ -7,7 +8,7 @@ ghost use Rattle.manifest_parts.specs.LabelsForm.{label, label_field, label_faul
 
 use ac_types::{
     FaultKind, Label, LabelFault, Labels, ReadError, Sequence, Text, element_path, field_fault,
-    field_path, list_field, object_value, required_identifier, required_text,
+    field_path, list_field, object_value, required_identifier, required_text, write_element_path,
 };
 use serde_json::Value;
 use std::alloc::Global;
@@ -33,9 +34,9 @@ fn read_standing(alloc: Global, list: &[Value], at: &str) -> Result<Labels, Read
     ensures { Gives (labels_of at.now (map view list.now)) result }
 {
     match read_labels(alloc, list, at) {
-        Ok(labels) => match labels.check() {
-            Ok(()) => Ok(labels),
-            Err(fault) => Err(label_error(alloc, at, fault)),
+        Ok(labels) => match labels.first_fault(alloc)? {
+            None => Ok(labels),
+            Some(fault) => Err(label_error(alloc, at, fault)),
         },
         Err(error) => Err(error),
     }
@@ -45,8 +46,9 @@ fn read_labels(alloc: Global, list: &[Value], at: &str) -> Result<Labels, ReadEr
     ensures { Gives (each label at.now (map view list.now)) result }
 {
     let mut labels = Sequence::new(alloc);
+    let mut path = String::new(alloc);
     for (i, value) in list.iter().enumerate() {
-        match read_label_at(alloc, value, at, i) {
+        match read_label_at(alloc, value, at, i, &mut path) {
             Ok(label) => labels = labels.push(label)?,
             Err(error) => return Err(error),
         }
@@ -54,10 +56,16 @@ fn read_labels(alloc: Global, list: &[Value], at: &str) -> Result<Labels, ReadEr
     Ok(labels)
 }
 
-fn read_label_at(alloc: Global, value: &Value, at: &str, place: usize) -> Result<Label, ReadError>
+fn read_label_at(
+    alloc: Global,
+    value: &Value,
+    at: &str,
+    place: usize,
+    path: &mut String,
+) -> Result<Label, ReadError>
     ensures { Gives (label (element_path at.now place) (view value.now)) result }
 {
-    let path = element_path(alloc, at, place)?;
+    write_element_path(path, at, place)?;
     read_label(alloc, value, path.as_str())
 }
 

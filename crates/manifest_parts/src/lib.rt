@@ -9,8 +9,6 @@ pub mod heads;
 pub mod ids;
 pub mod json_document;
 pub mod labels_reader;
-pub mod numbers;
-pub mod pod_port;
 pub mod runtime_image;
 
 pub use annotation::{Annotation, Annotations};
@@ -20,6 +18,4 @@ pub use heads::{required_kind, required_version};
 pub use ids::{optional_id, optional_identifier, required_id};
 pub use json_document::read_object;
 pub use labels_reader::labels_field;
-pub use numbers::{id_or_zero, required_port};
-pub use pod_port::{PodPort, PodPorts};
 pub use runtime_image::{RuntimeImage, read_runtime_image};

@@ -1,3 +1,4 @@
+//! The image of an app of a pod.
 ghost use Rattle.std.specs.Prelude.{◌≡◌, IfOk};
 ghost use Rattle.serde_json.specs.View.{view};
 ghost use Rattle.ac_types.specs.Outcomes.{Gives};
@@ -24,7 +25,7 @@ impl RuntimeImage {
     {
         Ok(RuntimeImage {
             id: self.id,
-            name: copy_name(&self.name)?,
+            name: self.name.try_copy()?,
             labels: self.labels.copy()?,
         })
     }
@@ -33,15 +34,6 @@ impl RuntimeImage {
 impl TryCopy for RuntimeImage {
     fn try_copy(&self) -> Result<RuntimeImage, NoMemory> {
         self.copy()
-    }
-}
-
-fn copy_name(name: &Option<AcIdentifier>) -> Result<Option<AcIdentifier>, NoMemory>
-    ensures { IfOk result (λ copy. copy ≡ name.now) }
-{
-    match name {
-        Some(name) => Ok(Some(name.copy()?)),
-        None => Ok(None),
     }
 }
 

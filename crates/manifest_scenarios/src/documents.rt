@@ -148,14 +148,20 @@ fn is_empty_pod(document: &Document) -> bool {
 
 fn tells_the_image(alloc: Global, text: &str) -> bool {
     match read_document(alloc, text.as_bytes()) {
-        Ok(document) => is_base(&document),
+        Ok(document) => match document.copy() {
+            Ok(copy) => is_base(&copy),
+            Err(_) => false,
+        },
         Err(_) => false,
     }
 }
 
 fn tells_the_pod(alloc: Global, text: &str) -> bool {
     match read_document(alloc, text.as_bytes()) {
-        Ok(document) => is_empty_pod(&document),
+        Ok(document) => match document.copy() {
+            Ok(copy) => is_empty_pod(&copy),
+            Err(_) => false,
+        },
         Err(_) => false,
     }
 }

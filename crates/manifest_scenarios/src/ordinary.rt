@@ -84,19 +84,3 @@ fn its_pod_is_read_as_it_is(rt: HostRuntime) {
     let read = pod_is_read(rt.alloc());
     assert!(rt; read);
 }
-
-fn copies_are_equal(alloc: Global) -> bool {
-    let Ok(manifest) = read_image(alloc, WORKER.as_bytes()) else {
-        return false;
-    };
-    match manifest.copy(alloc) {
-        Ok(copy) => is_worker(&copy),
-        Err(_) => false,
-    }
-}
-
-#[test]
-fn a_copy_is_the_same(rt: HostRuntime) {
-    let equal = copies_are_equal(rt.alloc());
-    assert!(rt; equal);
-}

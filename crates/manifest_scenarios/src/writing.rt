@@ -1,17 +1,27 @@
-//! What is written of a manifest that was read.
+//! What is written of the copy of a manifest that was read.
 use crate::ordinary::{BASE, LIB, POD, WORKER};
 use crate::outcome::{times, within};
 use ac_types::NoMemory;
 use manifest_writing::{image_bytes, pod_bytes};
-use manifests::{read_image, read_pod};
+use manifests::{ImageManifest, PodManifest, read_image, read_pod};
 use std::alloc::Global;
 use std::test::Fail;
 
-/// Whether reading an image and writing it gives those bytes.
+fn image_copy_bytes(alloc: Global, manifest: &ImageManifest) -> Result<Vec<u8>, NoMemory> {
+    let copy = manifest.copy()?;
+    image_bytes(alloc, &copy)
+}
+
+fn pod_copy_bytes(alloc: Global, manifest: &PodManifest) -> Result<Vec<u8>, NoMemory> {
+    let copy = manifest.copy()?;
+    pod_bytes(alloc, &copy)
+}
+
+/// Whether reading an image and writing its copy gives those bytes.
 fn image_is_written(alloc: Global, text: &str, wanted: &str) -> Result<bool, NoMemory> {
     match read_image(alloc, text.as_bytes()) {
         Ok(manifest) => {
-            let bytes = image_bytes(alloc, &manifest)?;
+            let bytes = image_copy_bytes(alloc, &manifest)?;
             Ok(bytes.as_slice() == wanted.as_bytes())
         }
         Err(_) => Ok(false),
@@ -22,7 +32,7 @@ fn image_is_written(alloc: Global, text: &str, wanted: &str) -> Result<bool, NoM
 fn pod_is_written(alloc: Global, text: &str, wanted: &str) -> Result<bool, NoMemory> {
     match read_pod(alloc, text.as_bytes()) {
         Ok(manifest) => {
-            let bytes = pod_bytes(alloc, &manifest)?;
+            let bytes = pod_copy_bytes(alloc, &manifest)?;
             Ok(bytes.as_slice() == wanted.as_bytes())
         }
         Err(_) => Ok(false),
@@ -72,24 +82,39 @@ fn what_is_absent_or_empty_is_left_out(rt: HostRuntime) -> Result<(), Fail> {
     Ok(())
 }
 
-#[test]
-fn volumes_ports_and_mounts(rt: HostRuntime) -> Result<(), Fail> {
-    let digits = times(rt.alloc(), "d", 128)?;
-    let head = within(
-        rt.alloc(),
+/// A pod: what stands before the digits of its image's ID, and what stands behind them.
+const PODS: &[(&str, &str)] = &[
+    (
         "{\"acKind\":\"PodManifest\",\"acVersion\":\"0.8.0\",\"apps\":[{\"app\":{\"exec\":[\"/w\"],\"group\":\"0\",\"mountPoints\":[{\"name\":\"data\",\"path\":\"/data\"},{\"name\":\"tmp\",\"path\":\"/tmp\"}],\"user\":\"0\"},\"image\":{\"id\":\"sha512-",
-        digits.as_str(),
-        "\",\"name\":\"example.com/w\"},\"mounts\":[{\"path\":\"/extra\",\"volume\":\"data\"},{\"path\":\"/data\",\"volume\":\"data\"},{\"path\":\"/tmp\",\"volume\":\"w-tmp\"}],\"name\":\"w\",\"readOnlyRootFS\":true}],\"ports\":[{\"hostPort\":65535,\"name\":\"http\"}],",
-    )?;
-    let volumes =
-        "\"volumes\":[{\"kind\":\"host\",\"name\":\"data\",\"readOnly\":true,\"source\":\"/srv\"},{\"gid\":0,\"kind\":\"empty\",\"mode\":\"0755\",\"name\":\"w-tmp\",\"uid\":4294967295}]}";
-    let whole = within(rt.alloc(), head.as_str(), volumes, "")?;
-    let same = pod_is_written(rt.alloc(), whole.as_str(), whole.as_str())?;
-    assert!(rt; same);
-    let short =
-        "\"volumes\":[{\"name\":\"data\",\"kind\":\"host\",\"readOnly\":true,\"source\":\"/srv/\"},{\"name\":\"w-tmp\",\"kind\":\"empty\",\"uid\":4294967295}]}";
-    let read = within(rt.alloc(), head.as_str(), short, "")?;
-    let filled = pod_is_written(rt.alloc(), read.as_str(), whole.as_str())?;
-    assert!(rt; filled);
+        "\",\"name\":\"example.com/w\"},\"mounts\":[{\"path\":\"/extra\",\"volume\":\"data\"},{\"path\":\"/data\",\"volume\":\"data\"},{\"path\":\"/tmp\",\"volume\":\"w-tmp\"}],\"name\":\"w\"}],\"volumes\":[{\"kind\":\"host\",\"name\":\"data\",\"source\":\"/srv\"},{\"gid\":0,\"kind\":\"empty\",\"mode\":\"0755\",\"name\":\"w-tmp\",\"uid\":0}]}",
+    ),
+    (
+        "{\"acKind\":\"PodManifest\",\"acVersion\":\"0.8.0\",\"annotations\":[{\"name\":\"made-by\",\"value\":\"\"}],\"apps\":[{\"annotations\":[{\"name\":\"a\",\"value\":\"b\"}],\"image\":{\"id\":\"sha512-",
+        "\",\"labels\":[{\"name\":\"os\",\"value\":\"linux\"}]},\"mounts\":[{\"path\":\"/m\",\"volume\":\"v\"}],\"name\":\"w\",\"readOnlyRootFS\":true}],\"isolators\":[{\"name\":\"os/limits\",\"value\":[1]}],\"ports\":[{\"hostPort\":65535,\"name\":\"http\"}],\"volumes\":[{\"kind\":\"host\",\"name\":\"v\",\"readOnly\":true,\"source\":\"/srv\"},{\"gid\":0,\"kind\":\"empty\",\"mode\":\"7\",\"name\":\"w-tmp\",\"uid\":4294967295}]}",
+    ),
+];
+
+#[test]
+fn pods_with_every_element(rt: HostRuntime) -> Result<(), Fail> {
+    let digits = times(rt.alloc(), "d", 128)?;
+    for &(before, behind) in PODS {
+        let text = within(rt.alloc(), before, digits.as_str(), behind)?;
+        let same = pod_is_written(rt.alloc(), text.as_str(), text.as_str())?;
+        assert!(rt; same, "{before}");
+    }
+    Ok(())
+}
+
+/// A pod, and what is written for it: what it leaves out of a volume is filled in.
+const VOLUMES_LEFT_OUT: (&str, &str) = (
+    "{\"acKind\":\"PodManifest\",\"acVersion\":\"0.8.0\",\"apps\":[],\"volumes\":[{\"name\":\"data\",\"kind\":\"host\",\"readOnly\":false,\"source\":\"/srv/\"},{\"name\":\"w-tmp\",\"kind\":\"empty\",\"uid\":4294967295}]}",
+    "{\"acKind\":\"PodManifest\",\"acVersion\":\"0.8.0\",\"apps\":[],\"volumes\":[{\"kind\":\"host\",\"name\":\"data\",\"source\":\"/srv\"},{\"gid\":0,\"kind\":\"empty\",\"mode\":\"0755\",\"name\":\"w-tmp\",\"uid\":4294967295}]}",
+);
+
+#[test]
+fn what_volumes_leave_out_is_filled_in(rt: HostRuntime) -> Result<(), Fail> {
+    let (text, wanted) = VOLUMES_LEFT_OUT;
+    let is = pod_is_written(rt.alloc(), text, wanted)?;
+    assert!(rt; is);
     Ok(())
 }

@@ -1,13 +1,4 @@
-pub mod DocumentsAgain
-pub mod ElementsAgain
-pub mod ImageAgain
-pub mod LabelsAgain
 pub mod LeftOut
-pub mod PodAgain
-pub mod RuntimeAppsAgain
-pub mod VolumesAgain
+pub mod PartsAgain
 pub mod WhitelistAgain
-pub mod WholeApps
-pub mod WholeElements
-pub mod WholeFields
-pub mod WholeManifests
+pub mod ManifestsAgain

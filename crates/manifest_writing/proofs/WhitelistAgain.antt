@@ -1,28 +1,37 @@
--- A whitelist, read from what is written for it: each path is written as it was read, and the root not at all.
-use Rattle.std.proofs.Common.{◌≡◌, ℕ, ◌+◌, ◌-◌, ◌<◌, Bool, true, false, List, [], ◌∷◌, ◌++◌, map, length, take, drop, slice_index, get_or, Option, Some, None, codes, refl, sym, ◌∙◌, ap, subst, append_assoc, true≢false, arith}
-use Rattle.std.specs.Prelude.{if◌then◌else◌}
+-- A whitelist is read again from what is written for it.
+use Rattle.std.proofs.Common.{◌≡◌, ℕ, ◌+◌, ◌-◌, ◌<◌, ◌≤◌, ◌==◌, Bool, true, false, ◌||◌, List, [], ◌∷◌, ◌++◌, map, length, take, get_or, slice_index, Option, Some, None, codes, refl, sym, ◌∙◌, ap, true≢false, arith, length-append}
+use Rattle.std.specs.List.{All, list_any}
 use Rattle.std.specs.Str.{bytes_eq}
-use Rattle.std.proofs.lemmas.Bool.{eqb-true}
-use Rattle.serde_json.specs.Data.{Data}
-use Rattle.ac_types.specs.FieldForms.{text, each, each_after}
-use Rattle.ac_types.specs.JsonPaths.{element_path}
-use Rattle.ac_types.specs.Outcomes.{Outcome, reads, ◌>>=◌}
-use Rattle.path_map.specs.Paths.{path_fault}
+use Rattle.std.proofs.lemmas.Bool.{eqb-true, or_parts, false_from_ne_true}
+use Rattle.std.proofs.lemmas.List.{drop_all}
+use Rattle.std.proofs.lemmas.List.Elements.{All-map}
+use Rattle.std.proofs.lemmas.List.Folds.{list_any-append}
+use Rattle.std.proofs.lemmas.Slice.Eq.{bytes_eq-Decides}
+use Rattle.serde_json.specs.Data.{Data, null}
+use Rattle.serde_json.specs.Written.{has_float}
+use Rattle.ac_types.specs.FieldForms.{each, unless_null}
+use Rattle.ac_types.specs.Outcomes.{reads}
+use Rattle.path_map.specs.Paths.{path_fault, segments, has_bad_length}
 use Rattle.path_map.specs.declared.listed.Listed.{Listed}
-use Rattle.path_map.specs.declared.path_error.PathError.{PathError}
-use Rattle.path_map.proofs.Segments.{at_slash}
-use Rattle.app_section.proofs.Chains.{no_fault, split, same_read}
-use Rattle.app_section.proofs.FieldsAgain.{AgainList}
+use Rattle.path_map.proofs.Segments.{at_slash, path_some, parts, segments_below, sound_from}
+use Rattle.app_section.specs.Objects.{list_data, if_filled}
+use Rattle.app_section.proofs.Fields.{IsWholeField}
+use Rattle.app_section.proofs.Readings.{Rereads, then_reads, all_again}
+use Rattle.manifests.specs.ManifestRules.{IsListed}
 use Rattle.manifests.specs.WhitelistForm.{listed, listed_text, listed_path, if_path, ends_in_slash, entries, whitelist_of}
 use Rattle.manifest_writing.specs.ElementObjects.{listed_bytes, listed_data}
 
-append_nil : {A : Type 0} (xs : List A) → xs ≡ xs ++ []
-append_nil [] = refl
-append_nil (x ∷ xs) = ap (λ ys. x ∷ ys) (append_nil xs)
+-- ---- slashes at the end
 
-drop_all : {A : Type 0} (xs : List A) (n : ℕ) → n ≡ length xs → drop n xs ≡ []
-drop_all [] n is = rw is refl
-drop_all (x ∷ xs) n is = rw is (drop_all xs (length xs) refl)
+-- no path ends with a slash
+no_slash_behind : (p : List ℕ) → path_fault (p ++ 47 ∷ []) ≡ None → ⊥
+no_slash_behind [] is = true≢false (sound_from (47 ∷ []) is).lengths
+no_slash_behind (b ∷ bs) is =
+    let p = b ∷ bs in
+    let split : list_any has_bad_length (segments (p ++ 47 ∷ [])) ≡ (list_any has_bad_length (segments p) || true) =
+    ap (list_any has_bad_length) (segments_below p [] (omega arith)) ∙ list_any-append has_bad_length (segments p) (parts []) in
+    let good = or_parts (list_any has_bad_length (segments p)) true (sym split ∙ (sound_from (p ++ 47 ∷ []) is).lengths) in
+    true≢false good.1
 
 -- a text that ends with a slash is what stands before it, and the slash
 with_its_slash : (t : List ℕ) → ends_in_slash t ≡ true → take (length t - 1) t ++ codes "/" ≡ t
@@ -31,93 +40,102 @@ with_its_slash (b ∷ bs) h =
     let n = length (b ∷ bs) - 1 in
     let within : n < length (b ∷ bs) = omega arith in
     let last : get_or (b ∷ bs) n 0 ≡ 47 = eqb-true (slice_index (b ∷ bs) n) 47 h in
-    let one_more : n + 1 ≡ length (b ∷ bs) = omega arith in
-    let none : drop (n + 1) (b ∷ bs) ≡ [] = drop_all (b ∷ bs) (n + 1) one_more in
-    sym (at_slash (b ∷ bs) n within last ∙ ap (λ (r : List ℕ). take n (b ∷ bs) ++ 47 ∷ r) none)
+    let past : length (b ∷ bs) ≤ n + 1 = omega arith in
+    sym (at_slash (b ∷ bs) n within last ∙ ap (λ (r : List ℕ). take n (b ∷ bs) ++ 47 ∷ r) (drop_all (n + 1) (b ∷ bs) past))
 
-abbrev entry : List ℕ → Bool → Listed
-entry path empty = record { path = path; empty = empty }
+no_slash_in : (path : List ℕ) → path_fault path ≡ None → ends_in_slash path ≡ false
+no_slash_in path is = false_from_ne_true (ends_in_slash path) λ ends.
+    let before = take (length path - 1) path in
+    no_slash_behind before (ap path_fault (with_its_slash path ends) ∙ is)
 
--- what a path gave, and that it gives the same elsewhere
-path_known : (at : List ℕ) (o : Option PathError) (e l : Listed) → if_path at o e ≡ reads (Some l)
-    → (e ≡ l) × ((other : List ℕ) → if_path other o e ≡ reads (Some e))
-path_known at None e l h = let same : e ≡ l = cc in (same, λ other. refl)
-path_known at (Some fault) e l h = no_fault h
+not_the_root : (path : List ℕ) → path_fault path ≡ None → bytes_eq path (codes "/") ≡ false
+not_the_root path is = false_from_ne_true (bytes_eq path (codes "/")) λ same.
+    no_slash_behind [] (ap path_fault (sym ((bytes_eq-Decides path (codes "/")).0 same)) ∙ is)
 
--- a text that gave an entry is what is written for the entry
-abbrev IsWrittenText : List ℕ → Listed → Type 0
-IsWrittenText t l = (t ≡ listed_bytes l) × ((other : List ℕ) → listed_text other t ≡ reads (Some l))
+last_of : (xs : List ℕ) → get_or (xs ++ 47 ∷ []) (length xs) 0 ≡ 47
+last_of [] = refl
+last_of (x ∷ xs) = last_of xs
 
-by_tests : (at t : List ℕ) (l : Listed) (whole slash : Bool) → bytes_eq t (codes "/") ≡ whole → ends_in_slash t ≡ slash
-    → (if whole then reads None else (if slash then listed_path at true (take (length t - 1) t) else listed_path at false t)) ≡ reads (Some l)
-    → IsWrittenText t l
-unfolding listed_text listed_path
-by_tests at t l true slash is ends h = let none : ⊥ = cc in absurd none
-by_tests at t l false true is ends h =
-    let path = take (length t - 1) t in
-    let known = path_known at (path_fault path) (entry path true) l h in
-    let P : Listed → Type 0 = IsWrittenText t in
-    subst P known.0 (sym (with_its_slash t ends), λ other. rw (is, ends) (known.1 other))
-by_tests at t l false false is ends h =
-    let known = path_known at (path_fault t) (entry t false) l h in
-    let P : Listed → Type 0 = IsWrittenText t in
-    subst P known.0 (refl, λ other. rw (is, ends) (known.1 other))
+first_of_both : (xs : List ℕ) → take (length xs) (xs ++ 47 ∷ []) ≡ xs
+first_of_both [] = refl
+first_of_both (x ∷ xs) = ap (λ (ys : List ℕ). x ∷ ys) (first_of_both xs)
 
-text_known : (at t : List ℕ) (l : Listed) → listed_text at t ≡ reads (Some l) → IsWrittenText t l
+one_less : (xs : List ℕ) → length (xs ++ 47 ∷ []) - 1 ≡ length xs
+one_less xs = omega (arith, length-append xs (47 ∷ []))
+
+slash_behind : (path : List ℕ) → ends_in_slash (path ++ codes "/") ≡ true
+slash_behind path = ap (λ (n : ℕ). get_or (path ++ 47 ∷ []) n 0 == 47) (one_less path) ∙ ap (λ (b : ℕ). b == 47) (last_of path)
+
+before_slash : (path : List ℕ) → take (length (path ++ codes "/") - 1) (path ++ codes "/") ≡ path
+before_slash path = ap (λ (n : ℕ). take n (path ++ 47 ∷ [])) (one_less path) ∙ first_of_both path
+
+not_the_root_alone : (path : List ℕ) → path_fault path ≡ None → bytes_eq (path ++ codes "/") (codes "/") ≡ false
+not_the_root_alone path is = false_from_ne_true (bytes_eq (path ++ codes "/") (codes "/")) λ same.
+    let alone : length (path ++ 47 ∷ []) ≡ 1 = ap length ((bytes_eq-Decides (path ++ codes "/") (codes "/")).0 same) in
+    let none : ⊥ = omega (arith, alone, length-append path (47 ∷ []), path_some path (sound_from path is)) in
+    none
+
+-- ---- one path
+
+path_read : (at : List ℕ) (slash : Bool) (path : List ℕ) → path_fault path ≡ None
+    → listed_path at slash path ≡ reads (Some (record { path = path; empty = slash }))
+unfolding listed_path
+path_read at slash path is = ap (λ o. if_path at o (record { path = path; empty = slash })) is
+
+by_slash : (at path : List ℕ) (slash : Bool) → path_fault path ≡ None
+    → listed_text at (listed_bytes (record { path = path; empty = slash })) ≡ reads (Some (record { path = path; empty = slash }))
 unfolding listed_text
-text_known at t l h = by_tests at t l (bytes_eq t (codes "/")) (ends_in_slash t) refl refl h
+by_slash at path true is =
+    rw (not_the_root_alone path is, slash_behind path, before_slash path) (path_read at true path is)
+by_slash at path false is = rw (not_the_root path is, no_slash_in path is) (path_read at false path is)
 
-entry_again : (at : List ℕ) (d : Data) (l : Listed) → listed at d ≡ reads (Some l)
-    → (other : List ℕ) → listed other (listed_data l) ≡ reads (Some l)
+-- ---- the list
+
+-- an entry, which is written always
+abbrev IsEntry : Option Listed → Type 0
+IsEntry None = ⊥
+IsEntry (Some l) = IsListed l
+
+abbrev entry_data : Option Listed → Data
+entry_data None = null
+entry_data (Some l) = listed_data l
+
+entry_again : Rereads IsEntry listed entry_data
 unfolding listed_data
-entry_again at d l h other =
-    let read = split (text at d) (listed_text at) (Some l) h in
-    let known = text_known at read.0 l read.2 in
-    let P : List ℕ → Type 0 = λ t. listed_text other t ≡ reads (Some l) in
-    subst P known.0 (known.1 other)
+entry_again = record { law = law; shown = shown; whole = whole }
+  where
+    law : (at : List ℕ) (o : Option Listed) → IsEntry o → listed at (entry_data o) ≡ reads o
+    law at None is = absurd is
+    law at (Some l) is = by_slash at l.path l.empty is
 
--- what is written of a list gives the entries of the list
-abbrev GivesEntries : List (Option Listed) → Type 0
-GivesEntries found =
-    (other : List ℕ) (before : List (Option Listed))
-    → each_after (λ (read : List (Option Listed)). listed) other before (map listed_data (entries found))
-    ≡ reads (before ++ map (λ (l : Listed). Some l) (entries found))
+    shown : (o : Option Listed) → IsEntry o → unless_null (Some (entry_data o)) ≡ Some (entry_data o)
+    shown None is = absurd is
+    shown (Some l) is = refl
 
-entry_next : (at : List ℕ) (d : Data) (o : Option Listed) (more : List (Option Listed)) → listed at d ≡ reads o
-    → GivesEntries more → GivesEntries (o ∷ more)
-entry_next at d None more h later other before = later other before
-entry_next at d (Some l) more h later other before =
-    ap (λ (o : Outcome (Option Listed)). o >>= λ a.
-    each_after (λ (read : List (Option Listed)). listed) other (before ++ a ∷ []) (map listed_data (entries more)))
-    (entry_again at d l h (element_path other (length before)))
-    ∙ later other (before ++ Some l ∷ [])
-    ∙ ap (λ (ls : List (Option Listed)). reads ls) (append_assoc before (Some l ∷ []) (map (λ (e : Listed). Some e) (entries more)))
+    whole : (o : Option Listed) → IsEntry o → has_float (entry_data o) ≡ false
+    whole None is = absurd is
+    whole (Some l) is = refl
 
-found_again : (at : List ℕ) (before : List (Option Listed)) (ds : List Data) (all : List (Option Listed))
-    → each_after (λ (read : List (Option Listed)). listed) at before ds ≡ reads all
-    → (more : List (Option Listed)) × (all ≡ before ++ more) × GivesEntries more
-found_again at before [] all h =
-    ([], sym (same_read before all h) ∙ append_nil before, λ other read. ap (λ (ls : List (Option Listed)). reads ls) (append_nil read))
-found_again at before (d ∷ ds) all h =
-    let next : Option Listed → Outcome (List (Option Listed)) = λ a.
-    each_after (λ (read : List (Option Listed)). listed) at (before ++ a ∷ []) ds in
-    let first = split (listed (element_path at (length before)) d) next all h in
-    let later = found_again at (before ++ first.0 ∷ []) ds all first.2 in (
-      first.0 ∷ later.0,
-      later.1 ∙ append_assoc before (first.0 ∷ []) later.0,
-      entry_next (element_path at (length before)) d first.0 later.0 first.1 later.2,
-    )
+each_data : (ls : List Listed) → map entry_data (map (λ (l : Listed). Some l) ls) ≡ map listed_data ls
+each_data [] = refl
+each_data (l ∷ ls) = ap (λ (ds : List Data). listed_data l ∷ ds) (each_data ls)
 
 entries_of : (ls : List Listed) → entries (map (λ (l : Listed). Some l) ls) ≡ ls
 entries_of [] = refl
 entries_of (l ∷ ls) = ap (λ (es : List Listed). l ∷ es) (entries_of ls)
 
-pub whitelist_again : AgainList whitelist_of listed_data
-whitelist_again path ds ls h other =
-    let read = split (each listed path ds) (λ found. reads (entries found)) ls h in
-    let found = found_again path [] ds read.0 read.1 in
-    let same : entries found.0 ≡ ls = ap entries (sym found.1) ∙ same_read (entries read.0) ls read.2 in
-    let P : List Listed → Type 0 = λ es. whitelist_of other (map listed_data es) ≡ reads es in
-    subst P same
-    (ap (λ (o : Outcome (List (Option Listed))). o >>= λ found. reads (entries found)) (found.2 other [])
-    ∙ ap (λ (es : List Listed). reads es) (entries_of (entries found.0)))
+pub whitelist_again : (at : List ℕ) (ls : List Listed) → All IsListed ls → whitelist_of at (map listed_data ls) ≡ reads ls
+whitelist_again at ls are =
+    let found = map (λ (l : Listed). Some l) ls in
+    let read = all_again entry_again at found (All-map IsEntry (λ (l : Listed). Some l) ls are) in
+    then_reads _ _ found ls (ap (each listed at) (sym (each_data ls)) ∙ read) (ap reads (entries_of ls))
+
+-- texts are written alone
+texts_are_whole : (ls : List Listed) → has_float (list_data listed_data ls) ≡ false
+unfolding listed_data
+texts_are_whole [] = refl
+texts_are_whole (l ∷ ls) = texts_are_whole ls
+
+pub whitelist_is_whole : (ls : List Listed) → IsWholeField (if_filled listed_data ls)
+whitelist_is_whole [] = tt
+whitelist_is_whole (l ∷ ls) = texts_are_whole (l ∷ ls)

@@ -9,7 +9,7 @@ use Rattle.app_section.specs.AppObject.{whole_data}
 use Rattle.app_section.specs.Objects.{Field, written, if_filled}
 use Rattle.manifest_parts.specs.declared.annotation.Annotation.{Annotation}
 use Rattle.manifest_parts.specs.declared.dependency.Dependency.{Dependency}
-use Rattle.manifest_parts.specs.declared.pod_port.PodPort.{PodPort}
+use Rattle.manifests.specs.declared.pod_port.PodPort.{PodPort}
 use Rattle.manifest_parts.specs.declared.runtime_image.RuntimeImage.{RuntimeImage}
 use Rattle.manifests.specs.declared.mount.Mount.{Mount}
 

@@ -3,3 +3,14 @@ pub mod ImageObject
 pub mod PodObject
 pub mod VolumeObject
 pub mod WrittenTexts
+pub use Rattle.ac_types.specs.Outcomes
+pub use Rattle.app_section.specs.AppObject
+pub use Rattle.app_section.specs.Objects
+pub use Rattle.manifests.specs.ImageData
+pub use Rattle.manifests.specs.ImageForm
+pub use Rattle.manifests.specs.ManifestRules
+pub use Rattle.manifests.specs.PodData
+pub use Rattle.manifests.specs.PodForm
+pub use Rattle.serde_json.specs.Data
+pub use Rattle.serde_json.specs.Read
+pub use Rattle.serde_json.specs.Written

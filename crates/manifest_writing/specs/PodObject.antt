@@ -1,5 +1,5 @@
 -- A pod manifest as it is written. Its apps are written always.
-use Rattle.std.specs.Prelude.{List, [], ◌∷◌, Some, option_map, codes}
+use Rattle.std.specs.Prelude.{List, [], ◌∷◌, ◌++◌, Some, option_map, codes}
 use Rattle.serde_json.specs.Data.{Data, string, object}
 use Rattle.app_section.specs.AppObject.{app_object, isolator_object}
 use Rattle.app_section.specs.Objects.{Field, written, if_true, if_filled, list_data}
@@ -21,16 +21,23 @@ runtime_app_fields a =
 unfoldable pub runtime_app_object : RuntimeAppData → Data
 runtime_app_object a = object (written (runtime_app_fields a))
 
-abbrev pub pod_members : PodData → List Field
-pod_members m =
+abbrev pub first_pod_members : PodData → List Field
+first_pod_members m =
     (codes "acKind", Some (string (codes "PodManifest")))
     ∷ (codes "acVersion", Some (string m.ac_version))
     ∷ (codes "annotations", if_filled annotation_object m.annotations)
     ∷ (codes "apps", Some (list_data runtime_app_object m.apps))
-    ∷ (codes "isolators", if_filled isolator_object m.isolators)
+    ∷ []
+
+abbrev pub last_pod_members : PodData → List Field
+last_pod_members m =
+    (codes "isolators", if_filled isolator_object m.isolators)
     ∷ (codes "ports", if_filled pod_port_object m.ports)
     ∷ (codes "volumes", if_filled volume_object m.volumes)
     ∷ []
+
+abbrev pub pod_members : PodData → List Field
+pod_members m = first_pod_members m ++ last_pod_members m
 
 unfoldable pub pod_object : PodData → Data
 pod_object m = object (written (pod_members m))

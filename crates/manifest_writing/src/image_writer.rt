@@ -1,4 +1,5 @@
-ghost use Rattle.std.specs.Prelude.{◌≡◌, take, drop, IfOk};
+//! An image manifest as it is written.
+ghost use Rattle.std.specs.Prelude.{◌≡◌, IfOk};
 ghost use Rattle.serde_json.specs.Data.{no_members};
 ghost use Rattle.serde_json.specs.View.{view};
 ghost use Rattle.serde_json.specs.Written.{compact_text};
@@ -6,9 +7,11 @@ ghost use Rattle.ac_types.specs.Outcomes.{reads};
 ghost use Rattle.app_section.specs.Objects.{built, put_all};
 ghost use Rattle.manifests.specs.ImageData.{image_data};
 ghost use Rattle.manifests.specs.ImageForm.{image_manifest};
-ghost use Rattle.manifest_writing.specs.ImageObject.{image_members, image_object};
-ghost use Rattle.manifest_writing.specs.WrittenTexts.{ImageWasRead, IsCompactText, KeepsLimits};
+ghost use Rattle.manifests.specs.ManifestRules.{IsImageManifest};
+ghost use Rattle.manifest_writing.specs.ImageObject.{first_image_members, last_image_members, image_object};
+ghost use Rattle.manifest_writing.specs.WrittenTexts.{IsCompactText, KeepsLimits};
 
+use crate::document_text::document_bytes;
 use crate::lists::with_list;
 use crate::optional_fields::with_app;
 use ac_types::NoMemory;
@@ -17,18 +20,18 @@ use manifests::ImageManifest;
 use serde_json::Value;
 use std::alloc::Global;
 
-/// The bytes of an image manifest: the text of its object, without spaces. Reading the bytes of a
-/// manifest that was read gives it again, where they keep the limits of a document.
+/// The bytes of an image manifest: the text of its object, without spaces. Reading the bytes of
+/// what is a manifest gives it again, where they keep the limits of a document.
 pub fn image_bytes(alloc: Global, manifest: &ImageManifest) -> Result<Vec<u8>, NoMemory>
     ensures text { IfOk result (λ bytes. IsCompactText (image_object (image_data manifest.now)) bytes.items) }
-    ensures text_of_read { IfOk result (λ bytes. ImageWasRead (image_data manifest.now)
+    ensures text_of_manifest { IfOk result (λ bytes. IsImageManifest (image_data manifest.now)
         → bytes.items ≡ compact_text (image_object (image_data manifest.now))) }
-    ensures reads_back { IfOk result (λ bytes. ImageWasRead (image_data manifest.now)
+    ensures reads_back { IfOk result (λ bytes. IsImageManifest (image_data manifest.now)
         → KeepsLimits (image_object (image_data manifest.now)) bytes.items
         → image_manifest bytes.items ≡ reads (image_data manifest.now)) }
 {
     let value = image_value(alloc, manifest)?;
-    Ok(value.to_vec(alloc)?)
+    document_bytes(alloc, &value)
 }
 
 fn image_value(alloc: Global, manifest: &ImageManifest) -> Result<Value, NoMemory>
@@ -40,7 +43,7 @@ fn image_value(alloc: Global, manifest: &ImageManifest) -> Result<Value, NoMemor
 }
 
 fn with_first_fields(alloc: Global, manifest: &ImageManifest) -> Result<ObjectBuilder, NoMemory>
-    ensures { IfOk result (λ b. built b ≡ put_all (take 4 (image_members (image_data manifest.now))) no_members) }
+    ensures { IfOk result (λ b. built b ≡ put_all (first_image_members (image_data manifest.now)) no_members) }
 {
     let object = ObjectBuilder::new(alloc);
     let object = object.text(alloc, "acKind", "ImageManifest")?;
@@ -59,7 +62,7 @@ fn with_last_fields(
     manifest: &ImageManifest,
     object: ObjectBuilder,
 ) -> Result<ObjectBuilder, NoMemory>
-    ensures { IfOk result (λ b. built b ≡ put_all (drop 4 (image_members (image_data manifest.now))) (built object)) }
+    ensures { IfOk result (λ b. built b ≡ put_all (last_image_members (image_data manifest.now)) (built object)) }
 {
     let object = with_list(
         alloc,

@@ -1,6 +1,7 @@
 //! Both manifests as they are written: JSON without spaces, names in byte order.
 #![tactic(auto)]
 
+mod document_text;
 mod elements;
 mod image_writer;
 pub mod lists;

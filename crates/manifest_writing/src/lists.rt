@@ -1,3 +1,4 @@
+//! Lists as they are written. The trait is this crate's own, since it is implemented for types of other crates.
 ghost use Rattle.std.specs.Prelude.{◌≡◌, map, IfOk};
 ghost use Rattle.serde_json.specs.View.{view};
 ghost use Rattle.app_section.specs.Objects.{built, if_filled, put_field};

@@ -1,8 +1,6 @@
 //! Fields that hold an image ID, or that may be absent, as they are written.
 ghost use Rattle.std.specs.Prelude.{◌≡◌, option_map, Some, IfOk};
-ghost use Rattle.std.specs.String.{string_bytes};
 ghost use Rattle.serde_json.specs.Data.{string};
-ghost use Rattle.ac_types.specs.Ids.{id_text};
 ghost use Rattle.app_section.specs.AppObject.{app_object, whole_data};
 ghost use Rattle.app_section.specs.AppData.{app_data};
 ghost use Rattle.app_section.specs.Objects.{built, put_field};
@@ -11,17 +9,6 @@ ghost use Rattle.manifest_writing.specs.ElementObjects.{id_data};
 use ac_types::{AcIdentifier, ImageId, NoMemory};
 use app_section::{App, ObjectBuilder};
 use std::alloc::Global;
-
-/// The text of an ID.
-#[tactic(auto, using(crate::proofs::LeftOut::text_of_digits))]
-fn id_text(alloc: Global, id: &ImageId) -> Result<String, NoMemory>
-    ensures { IfOk result (λ text. string_bytes text ≡ id_text id.now.bytes) }
-{
-    let digits = hex::encode(alloc, id.bytes)?;
-    let mut text = String::from_str(alloc, "sha512-")?;
-    text.push_str(digits.as_str())?;
-    Ok(text)
-}
 
 /// The object with an ID more.
 pub(crate) fn with_id(
@@ -32,7 +19,7 @@ pub(crate) fn with_id(
 ) -> Result<ObjectBuilder, NoMemory>
     ensures { IfOk result (λ b. built b ≡ put_field name.now (Some (id_data id.now)) (built object)) }
 {
-    let text = id_text(alloc, id)?;
+    let text = id.text(alloc)?;
     object.text(alloc, name, text.as_str())
 }
 

@@ -1,4 +1,5 @@
-ghost use Rattle.std.specs.Prelude.{◌≡◌, take, drop, IfOk};
+//! A pod manifest as it is written.
+ghost use Rattle.std.specs.Prelude.{◌≡◌, IfOk};
 ghost use Rattle.serde_json.specs.Data.{no_members};
 ghost use Rattle.serde_json.specs.View.{view};
 ghost use Rattle.serde_json.specs.Written.{compact_text};
@@ -6,9 +7,11 @@ ghost use Rattle.ac_types.specs.Outcomes.{reads};
 ghost use Rattle.app_section.specs.Objects.{built, put_all};
 ghost use Rattle.manifests.specs.PodData.{pod_data};
 ghost use Rattle.manifests.specs.PodForm.{pod_manifest};
-ghost use Rattle.manifest_writing.specs.PodObject.{pod_members, pod_object};
-ghost use Rattle.manifest_writing.specs.WrittenTexts.{IsCompactText, KeepsLimits, PodWasRead};
+ghost use Rattle.manifests.specs.ManifestRules.{IsPodManifest};
+ghost use Rattle.manifest_writing.specs.PodObject.{first_pod_members, last_pod_members, pod_object};
+ghost use Rattle.manifest_writing.specs.WrittenTexts.{IsCompactText, KeepsLimits};
 
+use crate::document_text::document_bytes;
 use crate::lists::{each_written, with_list};
 use ac_types::NoMemory;
 use app_section::{ObjectBuilder, with_isolators};
@@ -16,18 +19,18 @@ use manifests::PodManifest;
 use serde_json::Value;
 use std::alloc::Global;
 
-/// The bytes of a pod manifest: the text of its object, without spaces. Reading the bytes of a
-/// manifest that was read gives it again, where they keep the limits of a document.
+/// The bytes of a pod manifest: the text of its object, without spaces. Reading the bytes of
+/// what is a manifest gives it again, where they keep the limits of a document.
 pub fn pod_bytes(alloc: Global, manifest: &PodManifest) -> Result<Vec<u8>, NoMemory>
     ensures text { IfOk result (λ bytes. IsCompactText (pod_object (pod_data manifest.now)) bytes.items) }
-    ensures text_of_read { IfOk result (λ bytes. PodWasRead (pod_data manifest.now)
+    ensures text_of_manifest { IfOk result (λ bytes. IsPodManifest (pod_data manifest.now)
         → bytes.items ≡ compact_text (pod_object (pod_data manifest.now))) }
-    ensures reads_back { IfOk result (λ bytes. PodWasRead (pod_data manifest.now)
+    ensures reads_back { IfOk result (λ bytes. IsPodManifest (pod_data manifest.now)
         → KeepsLimits (pod_object (pod_data manifest.now)) bytes.items
         → pod_manifest bytes.items ≡ reads (pod_data manifest.now)) }
 {
     let value = pod_value(alloc, manifest)?;
-    Ok(value.to_vec(alloc)?)
+    document_bytes(alloc, &value)
 }
 
 fn pod_value(alloc: Global, manifest: &PodManifest) -> Result<Value, NoMemory>
@@ -39,7 +42,7 @@ fn pod_value(alloc: Global, manifest: &PodManifest) -> Result<Value, NoMemory>
 }
 
 fn with_first_fields(alloc: Global, manifest: &PodManifest) -> Result<ObjectBuilder, NoMemory>
-    ensures { IfOk result (λ b. built b ≡ put_all (take 4 (pod_members (pod_data manifest.now))) no_members) }
+    ensures { IfOk result (λ b. built b ≡ put_all (first_pod_members (pod_data manifest.now)) no_members) }
 {
     let object = ObjectBuilder::new(alloc);
     let object = object.text(alloc, "acKind", "PodManifest")?;
@@ -59,7 +62,7 @@ fn with_last_fields(
     manifest: &PodManifest,
     object: ObjectBuilder,
 ) -> Result<ObjectBuilder, NoMemory>
-    ensures { IfOk result (λ b. built b ≡ put_all (drop 4 (pod_members (pod_data manifest.now))) (built object)) }
+    ensures { IfOk result (λ b. built b ≡ put_all (last_pod_members (pod_data manifest.now)) (built object)) }
 {
     let object = with_isolators(alloc, manifest.isolators.as_slice(), object)?;
     let object = with_list(alloc, object, "ports", manifest.ports.as_slice())?;

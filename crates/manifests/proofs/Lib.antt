@@ -1,6 +1,6 @@
 pub mod LastByte
-pub mod LastFieldsRead
-pub mod Regrouped
 pub mod RequiredFields
 pub mod SameData
 pub mod WhitelistSteps
+pub mod Parts
+pub mod Manifests

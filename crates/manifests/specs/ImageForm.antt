@@ -5,14 +5,11 @@ use Rattle.ac_types.specs.FieldForms.{required, optional, default}
 use Rattle.ac_types.specs.NameForms.{filled_identifier}
 use Rattle.ac_types.specs.Outcomes.{Outcome, reads, ◌>>=◌, ◌>>◌}
 use Rattle.app_section.specs.AppForm.{app}
-use Rattle.app_section.specs.ListForms.{list_of}
-use Rattle.manifest_parts.specs.AnnotationForm.{annotation}
-use Rattle.manifest_parts.specs.DependencyForm.{dependency}
 use Rattle.manifest_parts.specs.DocumentForm.{document}
 use Rattle.manifest_parts.specs.HeadForms.{ac_kind, ac_version}
 use Rattle.manifests.specs.ImageData.{ImageData}
 use Rattle.manifest_parts.specs.LabelsForm.{labels}
-use Rattle.manifests.specs.WhitelistForm.{whitelist}
+use Rattle.manifests.specs.LastFields.{last_image_fields}
 
 -- what follows the kind
 unfoldable pub image_fields : Data → Outcome ImageData
@@ -21,17 +18,15 @@ image_fields d =
     required filled_identifier (codes "$") (codes "name") d >>= λ name.
     default [] labels (codes "$") (codes "labels") d >>= λ ls.
     optional app (codes "$") (codes "app") d >>= λ section.
-    default [] (list_of dependency) (codes "$") (codes "dependencies") d >>= λ dependencies.
-    default [] whitelist (codes "$") (codes "pathWhitelist") d >>= λ paths.
-    default [] (list_of annotation) (codes "$") (codes "annotations") d >>= λ annotations.
+    last_image_fields d >>= λ last.
     reads (record {
       ac_version = version;
       name = name;
       labels = ls;
       app = section;
-      dependencies = dependencies;
-      path_whitelist = paths;
-      annotations = annotations;
+      dependencies = last.dependencies;
+      path_whitelist = last.path_whitelist;
+      annotations = last.annotations;
     })
 
 abbrev pub image_kind : Data → Outcome (List ℕ)

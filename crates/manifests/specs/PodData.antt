@@ -4,7 +4,7 @@ use Rattle.app_section.specs.AppData.{AppData, IsolatorData, app_data, isolator_
 use Rattle.manifest_parts.specs.declared.annotation.Annotation.{Annotation}
 use Rattle.manifests.specs.declared.mount.Mount.{Mount}
 use Rattle.manifests.specs.declared.pod_manifest.PodManifest.{PodManifest}
-use Rattle.manifest_parts.specs.declared.pod_port.PodPort.{PodPort}
+use Rattle.manifests.specs.declared.pod_port.PodPort.{PodPort}
 use Rattle.manifests.specs.declared.runtime_app.RuntimeApp.{RuntimeApp}
 use Rattle.manifest_parts.specs.declared.runtime_image.RuntimeImage.{RuntimeImage}
 use Rattle.manifests.specs.declared.volume.Volume.{Volume}

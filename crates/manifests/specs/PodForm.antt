@@ -10,7 +10,7 @@ use Rattle.manifest_parts.specs.DistinctForms.{distinct_list}
 use Rattle.manifest_parts.specs.DocumentForm.{document}
 use Rattle.manifest_parts.specs.HeadForms.{ac_kind, ac_version}
 use Rattle.manifests.specs.PodData.{PodData}
-use Rattle.manifest_parts.specs.PodPortForm.{pod_port}
+use Rattle.manifests.specs.PodPortForm.{pod_port}
 use Rattle.manifests.specs.RuntimeAppForm.{runtime_app}
 use Rattle.manifests.specs.VolumeForm.{volume}
 

@@ -1,16 +1,14 @@
 -- An app of a pod.
-use Rattle.std.specs.Prelude.{ℕ, false, List, [], codes}
+use Rattle.std.specs.Prelude.{ℕ, List, codes}
 use Rattle.serde_json.specs.Data.{Data}
-use Rattle.ac_types.specs.FieldForms.{required, optional, default, flag, an_object, unless_among}
+use Rattle.ac_types.specs.FieldForms.{required, optional, an_object, unless_among}
 use Rattle.ac_types.specs.JsonPaths.{field_path}
 use Rattle.ac_types.specs.NameForms.{filled_name}
 use Rattle.ac_types.specs.Outcomes.{Outcome, reads, ◌>>=◌, ◌>>◌}
 use Rattle.ac_types.specs.SeenTexts.{is_among}
 use Rattle.ac_types.specs.declared.fault.FaultKind.TheVariants.{AppTwice}
 use Rattle.app_section.specs.AppForm.{app}
-use Rattle.app_section.specs.ListForms.{list_of}
-use Rattle.manifest_parts.specs.AnnotationForm.{annotation}
-use Rattle.manifests.specs.MountForm.{mount}
+use Rattle.manifests.specs.LastFields.{last_app_fields}
 use Rattle.manifests.specs.PodData.{RuntimeAppData}
 use Rattle.manifest_parts.specs.RuntimeImageForm.{runtime_image}
 
@@ -26,16 +24,14 @@ unfoldable pub named_app : List ℕ → List ℕ → Data → Outcome RuntimeApp
 named_app name at d =
     required runtime_image at (codes "image") d >>= λ image.
     optional app at (codes "app") d >>= λ section.
-    default false flag at (codes "readOnlyRootFS") d >>= λ read_only.
-    default [] (list_of mount) at (codes "mounts") d >>= λ mounts.
-    default [] (list_of annotation) at (codes "annotations") d >>= λ annotations.
+    last_app_fields at d >>= λ last.
     reads (record {
       name = name;
       image = image;
       app = section;
-      read_only_root_fs = read_only;
-      mounts = mounts;
-      annotations = annotations;
+      read_only_root_fs = last.read_only_root_fs;
+      mounts = last.mounts;
+      annotations = last.annotations;
     })
 
 unfoldable pub runtime_app : List (List ℕ) → List ℕ → Data → Outcome RuntimeAppData

@@ -1,13 +1,11 @@
 -- The paths that an image keeps.
-use Rattle.std.specs.Prelude.{◌≡◌, ℕ, ◌-◌, ◌==◌, Bool, true, false, List, [], ◌∷◌, length, take, slice_index, Option, Some, None, codes, if◌then◌else◌}
+use Rattle.std.specs.Prelude.{ℕ, ◌-◌, ◌==◌, Bool, true, false, List, [], ◌∷◌, length, take, slice_index, Option, Some, None, codes, if◌then◌else◌}
 use Rattle.std.specs.Str.{bytes_eq}
 use Rattle.serde_json.specs.Data.{Data}
 use Rattle.ac_types.specs.FieldForms.{text, list, each}
-use Rattle.ac_types.specs.Outcomes.{Outcome, reads, fails, ◌>>=◌, IsFault}
+use Rattle.ac_types.specs.Outcomes.{Outcome, reads, fails, ◌>>=◌}
 use Rattle.ac_types.specs.declared.fault.FaultKind.{FaultKind}
 use Rattle.ac_types.specs.declared.fault.FaultKind.TheVariants as kind
-use Rattle.ac_types.specs.declared.fault.ReadError.{ReadError}
-use Rattle.ac_types.specs.declared.fault.ReadError.TheVariants as read_error
 use Rattle.path_map.specs.Paths.{path_fault}
 use Rattle.path_map.specs.declared.listed.Listed.{Listed}
 use Rattle.path_map.specs.declared.path_error.PathError.{PathError}
@@ -53,11 +51,3 @@ whitelist_of at ds = each listed at ds >>= λ found. reads (entries found)
 
 abbrev pub whitelist : List ℕ → Data → Outcome (List Listed)
 whitelist at d = list at d >>= whitelist_of at
-
--- the error is the fault of a text that is no path, or memory ran out
-abbrev pub IsPathFault : List ℕ → PathError → ReadError → Type 0
-IsPathFault at NotAbsolute error = IsFault at kind.NotAbsolute error
-IsPathFault at DotSegment error = IsFault at kind.DotSegment error
-IsPathFault at SegmentLength error = IsFault at kind.SegmentLength error
-IsPathFault at PathLength error = IsFault at kind.PathLength error
-IsPathFault at NoMemory error = error ≡ read_error.NoMemory

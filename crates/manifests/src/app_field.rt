@@ -1,12 +1,12 @@
 //! The app's section as a field that may be absent.
-ghost use Rattle.std.specs.Prelude.{◌≡◌, option_map, IfOk};
+ghost use Rattle.std.specs.Prelude.{option_map};
 ghost use Rattle.serde_json.specs.View.{view};
 ghost use Rattle.ac_types.specs.FieldForms.{optional};
 ghost use Rattle.ac_types.specs.Outcomes.{Answers};
 ghost use Rattle.app_section.specs.AppData.{app_data};
 ghost use Rattle.app_section.specs.AppForm.{app};
 
-use ac_types::{NoMemory, ReadError, field, field_path};
+use ac_types::{ReadError, field, field_path};
 use app_section::App;
 use serde_json::Value;
 use std::alloc::Global;
@@ -29,15 +29,5 @@ pub(crate) fn optional_app(
                 Err(error) => Err(error),
             }
         }
-    }
-}
-
-/// An equal section of an app, where there is one.
-pub(crate) fn copy_app(alloc: Global, app: &Option<App>) -> Result<Option<App>, NoMemory>
-    ensures { IfOk result (λ copy. option_map app_data copy ≡ option_map app_data app.now) }
-{
-    match app {
-        Some(app) => Ok(Some(app.copy(alloc)?)),
-        None => Ok(None),
     }
 }

@@ -1,12 +1,11 @@
+//! The type of image manifests.
 ghost use Rattle.std.specs.Prelude.{◌≡◌, IfOk};
 ghost use Rattle.manifests.specs.ImageData.{image_data};
 
-use crate::app_field::copy_app;
-use ac_types::{AcIdentifier, Labels, NoMemory, Text};
+use ac_types::{AcIdentifier, Labels, NoMemory, ShownCopy, Text};
 use app_section::App;
 use manifest_parts::{Annotations, Dependencies};
 use path_map::ListedPaths;
-use std::alloc::Global;
 
 /// What an image says of itself.
 #[derive(Drop)]
@@ -25,7 +24,7 @@ pub struct ImageManifest {
 
 impl ImageManifest {
     /// An equal manifest.
-    pub fn copy(&self, alloc: Global) -> Result<ImageManifest, NoMemory>
+    pub fn copy(&self) -> Result<ImageManifest, NoMemory>
         ensures { IfOk result (λ copy. image_data copy ≡ image_data self.now) }
     {
         // The section is copied last, so that no failure has to drop its copy.
@@ -36,7 +35,19 @@ impl ImageManifest {
             dependencies: self.dependencies.copy()?,
             path_whitelist: self.path_whitelist.copy()?,
             annotations: self.annotations.copy()?,
-            app: copy_app(alloc, &self.app)?,
+            app: self.app.copy()?,
         })
+    }
+}
+
+impl ShownCopy for ImageManifest {
+    ghost use Rattle.manifests.specs.ImageData.{ImageData, image_data};
+
+    ghost Shown = { ImageData };
+
+    ghost shown = { image_data };
+
+    fn copy(&self) -> Result<ImageManifest, NoMemory> {
+        ImageManifest::copy(self)
     }
 }

@@ -1,7 +1,10 @@
+//! The reading of image manifests.
+ghost use Rattle.std.specs.Prelude.{IfOk};
 ghost use Rattle.serde_json.specs.View.{view};
 ghost use Rattle.ac_types.specs.Outcomes.{Answers};
 ghost use Rattle.manifests.specs.ImageData.{image_data};
 ghost use Rattle.manifests.specs.ImageForm.{image_fields, image_manifest};
+ghost use Rattle.manifests.specs.ManifestRules.{IsImageManifest};
 
 use crate::app_field::optional_app;
 use crate::image_manifest::ImageManifest;
@@ -13,8 +16,15 @@ use std::alloc::Global;
 
 /// The image manifest that some bytes are. Otherwise the first fault in the order of the format:
 /// that of the document, then those of its fields; or `NoMemory`.
-#[tactic(auto, unfolding(crate::specs::ImageForm::image_manifest))]
 pub fn read_image(alloc: Global, bytes: &[u8]) -> Result<ImageManifest, ReadError>
+    ensures image { Answers image_data (image_manifest bytes.now) result }
+    ensures kind { IfOk result (λ read. IsImageManifest (image_data read)) }
+{
+    read_whole_image(alloc, bytes)
+}
+
+#[tactic(auto, unfolding(crate::specs::ImageForm::image_manifest))]
+fn read_whole_image(alloc: Global, bytes: &[u8]) -> Result<ImageManifest, ReadError>
     ensures { Answers image_data (image_manifest bytes.now) result }
 {
     let value = read_object(alloc, bytes)?;

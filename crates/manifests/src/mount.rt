@@ -1,3 +1,4 @@
+//! Mounts of volumes.
 ghost use Rattle.std.specs.Prelude.{◌≡◌, IfOk};
 
 use ac_types::{

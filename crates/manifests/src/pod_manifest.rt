@@ -1,12 +1,13 @@
+//! The type of pod manifests.
 ghost use Rattle.std.specs.Prelude.{◌≡◌, IfOk};
 ghost use Rattle.manifests.specs.PodData.{pod_data};
 
-use crate::runtime_app::{RuntimeApps, copy_apps};
+use crate::pod_port::PodPorts;
+use crate::runtime_app::RuntimeApps;
 use crate::volume::Volumes;
-use ac_types::{NoMemory, Sequence, Text};
-use app_section::{Isolator, copy_isolators};
-use manifest_parts::{Annotations, PodPorts};
-use std::alloc::Global;
+use ac_types::{NoMemory, ShownCopy, Text};
+use app_section::Isolators;
+use manifest_parts::Annotations;
 
 /// Apps that run together, and what they share.
 #[derive(Drop)]
@@ -15,23 +16,35 @@ pub struct PodManifest {
     pub ac_version: Text,
     pub apps: RuntimeApps,
     pub volumes: Volumes,
-    pub isolators: Sequence<Isolator>,
+    pub isolators: Isolators,
     pub annotations: Annotations,
     pub ports: PodPorts,
 }
 
 impl PodManifest {
     /// An equal manifest.
-    pub fn copy(&self, alloc: Global) -> Result<PodManifest, NoMemory>
+    pub fn copy(&self) -> Result<PodManifest, NoMemory>
         ensures { IfOk result (λ copy. pod_data copy ≡ pod_data self.now) }
     {
         Ok(PodManifest {
             ac_version: self.ac_version.copy()?,
-            apps: copy_apps(alloc, self.apps.as_slice())?,
+            apps: self.apps.copy()?,
             volumes: self.volumes.copy()?,
-            isolators: copy_isolators(alloc, self.isolators.as_slice())?,
+            isolators: self.isolators.copy()?,
             annotations: self.annotations.copy()?,
             ports: self.ports.copy()?,
         })
+    }
+}
+
+impl ShownCopy for PodManifest {
+    ghost use Rattle.manifests.specs.PodData.{PodData, pod_data};
+
+    ghost Shown = { PodData };
+
+    ghost shown = { pod_data };
+
+    fn copy(&self) -> Result<PodManifest, NoMemory> {
+        PodManifest::copy(self)
     }
 }

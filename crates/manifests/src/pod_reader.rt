@@ -1,7 +1,10 @@
+//! The reading of pod manifests.
+ghost use Rattle.std.specs.Prelude.{IfOk};
 ghost use Rattle.serde_json.specs.View.{view};
 ghost use Rattle.ac_types.specs.Outcomes.{Answers};
 ghost use Rattle.manifests.specs.PodData.{pod_data};
 ghost use Rattle.manifests.specs.PodForm.{pod_fields, pod_manifest};
+ghost use Rattle.manifests.specs.ManifestRules.{IsPodManifest};
 
 use crate::pod_manifest::PodManifest;
 use ac_types::ReadError;
@@ -14,8 +17,15 @@ use std::alloc::Global;
 
 /// The pod manifest that some bytes are. Otherwise the first fault in the order of the format:
 /// that of the document, then those of its fields; or `NoMemory`.
-#[tactic(auto, unfolding(crate::specs::PodForm::pod_manifest))]
 pub fn read_pod(alloc: Global, bytes: &[u8]) -> Result<PodManifest, ReadError>
+    ensures pod { Answers pod_data (pod_manifest bytes.now) result }
+    ensures kind { IfOk result (λ read. IsPodManifest (pod_data read)) }
+{
+    read_whole_pod(alloc, bytes)
+}
+
+#[tactic(auto, unfolding(crate::specs::PodForm::pod_manifest))]
+fn read_whole_pod(alloc: Global, bytes: &[u8]) -> Result<PodManifest, ReadError>
     ensures { Answers pod_data (pod_manifest bytes.now) result }
 {
     let value = read_object(alloc, bytes)?;

@@ -1,3 +1,4 @@
+//! Apps of a pod.
 ghost use Rattle.std.specs.Prelude.{◌≡◌, ◌++◌, ◌∷◌, [], ℕ, List, IfOk, codes, map, option_map};
 ghost use Rattle.serde_json.specs.View.{view};
 ghost use Rattle.ac_types.specs.FieldForms.{required};
@@ -8,12 +9,12 @@ ghost use Rattle.manifests.specs.PodData.{runtime_app_data};
 ghost use Rattle.manifests.specs.RuntimeAppForm.{app_name, named_app};
 ghost use Rattle.manifest_parts.specs.RuntimeImageForm.{runtime_image};
 
-use crate::app_field::{copy_app, optional_app};
+use crate::app_field::optional_app;
 use crate::last_fields::read_last_app_fields;
 use crate::mount::Mounts;
 use ac_types::{
-    AcName, FaultKind, NoMemory, ReadError, SeenTexts, Sequence, field_fault, field_path,
-    object_value, required_field, required_name,
+    AcName, FaultKind, NoMemory, ReadError, SeenTexts, Sequence, ShownCopy, field_fault,
+    field_path, object_value, required_field, required_name,
 };
 use app_section::App;
 use manifest_parts::{Annotations, DistinctElement, RuntimeImage, read_runtime_image};
@@ -37,7 +38,7 @@ pub type RuntimeApps = Sequence<RuntimeApp>;
 
 impl RuntimeApp {
     /// An equal app.
-    pub fn copy(&self, alloc: Global) -> Result<RuntimeApp, NoMemory>
+    pub fn copy(&self) -> Result<RuntimeApp, NoMemory>
         ensures { IfOk result (λ copy. runtime_app_data copy ≡ runtime_app_data self.now) }
     {
         // The section is copied last, so that no failure has to drop its copy.
@@ -47,20 +48,21 @@ impl RuntimeApp {
             mounts: self.mounts.copy()?,
             annotations: self.annotations.copy()?,
             image: self.image.copy()?,
-            app: copy_app(alloc, &self.app)?,
+            app: self.app.copy()?,
         })
     }
 }
 
-/// The apps of a slice, each copied.
-pub fn copy_apps(alloc: Global, apps: &[RuntimeApp]) -> Result<RuntimeApps, NoMemory>
-    ensures { IfOk result (λ copies. map runtime_app_data copies ≡ map runtime_app_data apps.now) }
-{
-    let mut copies = Sequence::new(alloc);
-    for app in apps {
-        copies = copies.push(app.copy(alloc)?)?;
+impl ShownCopy for RuntimeApp {
+    ghost use Rattle.manifests.specs.PodData.{RuntimeAppData, runtime_app_data};
+
+    ghost Shown = { RuntimeAppData };
+
+    ghost shown = { runtime_app_data };
+
+    fn copy(&self) -> Result<RuntimeApp, NoMemory> {
+        RuntimeApp::copy(self)
     }
-    Ok(copies)
 }
 
 impl DistinctElement for RuntimeApp {

@@ -2,15 +2,14 @@
 ghost use Rattle.std.specs.Prelude.{◌≡◌, codes};
 ghost use Rattle.std.specs.List.{list_all};
 ghost use Rattle.serde_json.specs.View.{view};
-ghost use Rattle.ac_types.specs.FieldForms.{required, default};
+ghost use Rattle.ac_types.specs.FieldForms.{required, default, whole};
 ghost use Rattle.ac_types.specs.Outcomes.{Gives};
 ghost use Rattle.app_section.specs.Places.{filled_place};
 ghost use Rattle.manifests.specs.VolumeForm.{empty, host, is_mode, is_octal, kind_of, mode, or_bad_volume};
 
 use crate::volume::VolumeKind;
-use ac_types::{FaultKind, ReadError, Text, fault_at, flag_field, text_field};
+use ac_types::{FaultKind, ReadError, Text, fault_at, flag_field, text_field, whole_field};
 use app_section::required_place;
-use manifest_parts::id_or_zero;
 use serde_json::Value;
 use std::alloc::Global;
 
@@ -100,4 +99,15 @@ fn is_octal(digit: u8) -> bool
     ensures { result ≡ is_octal digit }
 {
     matches!(digit, b'0'..=b'7')
+}
+
+/// The ID of a user or a group in a field of the object at a path: 0 where it is absent.
+fn id_or_zero(alloc: Global, value: &Value, at: &str, name: &str) -> Result<u32, ReadError>
+    ensures { Gives (default 0 (whole 4294967295) at.now name.now (view value.now)) result }
+{
+    match whole_field(alloc, value, at, name, 4_294_967_295) {
+        Ok(Some(number)) => Ok(number as u32),
+        Ok(None) => Ok(0),
+        Err(error) => Err(error),
+    }
 }

@@ -1,9 +1,11 @@
+//! The paths that an image keeps.
 ghost use Rattle.std.specs.Prelude.{◌≡◌, ◌≤◌, ◌++◌, ◌∷◌, [], length, map, IfOk, IsTrue};
 ghost use Rattle.serde_json.specs.View.{view};
 ghost use Rattle.ac_types.specs.FieldForms.{default};
 ghost use Rattle.ac_types.specs.JsonPaths.{element_path};
 ghost use Rattle.ac_types.specs.Outcomes.{Gives};
-ghost use Rattle.manifests.specs.WhitelistForm.{entries, ends_in_slash, listed, listed_path, listed_text, whitelist, whitelist_of, IsPathFault};
+ghost use Rattle.manifests.specs.Steps.{IsPathFault};
+ghost use Rattle.manifests.specs.WhitelistForm.{entries, ends_in_slash, listed, listed_path, listed_text, whitelist, whitelist_of};
 
 use ac_types::{
     FaultKind, NoMemory, ReadError, Sequence, element_path, fault_at, field_path, list_field,

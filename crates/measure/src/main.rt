@@ -46,15 +46,6 @@ fn whitelist(alloc: Global, count: u32) -> Result<Vec<Listed>> {
     Ok(list)
 }
 
-/// How many entries a map has.
-fn size(map: &PathMap) -> usize {
-    let mut size: usize = 0;
-    for _ in map.iter() {
-        size = size.saturating_add(1);
-    }
-    size
-}
-
 /// The text of a listing of directories.
 fn listing_text(alloc: Global, count: u32) -> Result<String> {
     let mut text = String::new(alloc);
@@ -79,6 +70,36 @@ fn links_text(alloc: Global, count: u32) -> Result<String> {
     Ok(text)
 }
 
+/// The text of a listing of 2,040 directories, each in the one before, and of files in the last.
+fn deep_text(alloc: Global, files: u32) -> Result<String> {
+    let mut path = String::new(alloc);
+    let mut text = String::new(alloc);
+    for _ in 0..2040u32 {
+        path.push_str("/1")?;
+        text.push_str(format!(in alloc; "d 0755 0 0 {}\n", path.as_str())?.as_str())?;
+    }
+    let sha = hex::encode(alloc, [0; 64].as_slice())?;
+    for number in 0..files {
+        let file = format!(in alloc; "{}/f{number:08x}", path.as_str())?;
+        text.push_str(format!(in alloc;
+            "f 0644 0 0 0 {} {}\n",
+            sha.as_str(),
+            file.as_str()
+        )?.as_str())?;
+    }
+    Ok(text)
+}
+
+/// Makes the map of a listing, and the listing of that map.
+fn map(rt: &(impl Print + Alloc<A = Global>), text: &str) -> Result<()> {
+    let alloc = rt.alloc();
+    let map = Listing::read(alloc, text.as_bytes())?.to_map(alloc)?;
+    let entries = map.len();
+    let lines = Listing::of_map(alloc, &map)?.as_slice().len();
+    println!(rt; "mapped {entries} entries, listed {lines} lines")?;
+    Ok(())
+}
+
 /// Reads and writes a listing, and takes its digest.
 fn read(rt: &(impl Print + Alloc<A = Global>), text: &str) -> Result<()> {
     let alloc = rt.alloc();
@@ -101,13 +122,17 @@ fn run(rt: &(impl Print + Alloc<A = Global>), word: &str, count: u32) -> Result<
         let text = links_text(alloc, count)?;
         return read(rt, text.as_str());
     }
+    if word == "deep" {
+        let text = deep_text(alloc, count)?;
+        return map(rt, text.as_str());
+    }
     let map = laid(alloc, count)?;
-    let entries = size(&map);
+    let entries = map.len();
     println!(rt; "laid {count} files, {entries} entries")?;
     if word == "keep" {
         let list = whitelist(alloc, count)?;
         let paths = list.len();
-        let kept = size(&map.keep(alloc, list.as_slice())?);
+        let kept = map.keep(alloc, list.as_slice())?.len();
         println!(rt; "kept {kept} entries by {paths} paths")?;
     }
     Ok(())

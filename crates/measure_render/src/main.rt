@@ -15,6 +15,8 @@ use std::env;
 enum Shape {
     /// The first image needs all others; each has the files.
     Flat,
+    /// The same, and the files lie below 2,000 directories, each in the one before.
+    Deep,
     /// Each image needs the next; each has the files.
     Chain,
     /// Each image needs a small one and then the next; the last has the files.
@@ -55,7 +57,7 @@ fn dependencies(alloc: Global, from: u32, to: u32) -> Result<Dependencies> {
 /// What the image of a number needs.
 fn needs(alloc: Global, plan: Plan, number: u32) -> Result<Dependencies> {
     let next = number.saturating_add(1);
-    if matches!(plan.shape, Shape::Flat) {
+    if matches!(plan.shape, Shape::Flat) || matches!(plan.shape, Shape::Deep) {
         let to = if number == 0 { plan.images } else { 0 };
         return dependencies(alloc, 1, to);
     }
@@ -92,11 +94,23 @@ fn files_of(plan: Plan, number: u32) -> u32 {
     plan.files
 }
 
+/// Where the files of images lie.
+fn directory(alloc: Global, shape: Shape) -> Result<String> {
+    let mut path = String::new(alloc);
+    if matches!(shape, Shape::Deep) {
+        for _ in 0..2000u32 {
+            path.push_str("/1")?;
+        }
+    }
+    Ok(path)
+}
+
 /// The files of an image, in a directory of its own.
-fn map_of(alloc: Global, number: u32, files: u32) -> Result<PathMap> {
+fn map_of(alloc: Global, shape: Shape, number: u32, files: u32) -> Result<PathMap> {
     let mut map = PathMap::new(alloc);
+    let above = directory(alloc, shape)?;
     for file in 0..files {
-        let path = format!(in alloc; "/d{number}/f{file}")?;
+        let path = format!(in alloc; "{}/d{number}/f{file}", above.as_str())?;
         let meta = Meta {
             mode: 0o644,
             uid: 0,
@@ -142,10 +156,7 @@ fn render(rt: &(impl Print + Alloc<A = Global>), list: &[Stored], maps: &[PathMa
     };
     let nodes = tree.nodes.as_slice().len();
     let rendering = render_tree(alloc, &tree, list, maps)?;
-    let mut entries: usize = 0;
-    for _ in rendering.map().iter() {
-        entries = entries.saturating_add(1);
-    }
+    let entries = rendering.map().len();
     println!(rt; "{nodes} nodes, {entries} entries")?;
     Ok(())
 }
@@ -157,7 +168,7 @@ fn run(rt: &(impl Print + Alloc<A = Global>), plan: Plan) -> Result<()> {
     for number in 0..plan.images.saturating_add(1) {
         list.push(image(alloc, plan, number)?)
             .map_err(NoMemory::from)?;
-        let map = map_of(alloc, number, files_of(plan, number))?;
+        let map = map_of(alloc, plan.shape, number, files_of(plan, number))?;
         maps.push(map).map_err(NoMemory::from)?;
     }
     render(rt, list.as_slice(), maps.as_slice())
@@ -171,6 +182,9 @@ fn main(rt: HostRuntime) -> Result<()> {
     };
     for (place, arg) in env::args(&rt)?.enumerate() {
         let word = arg.as_str();
+        if place == 1 && word == "deep" {
+            plan.shape = Shape::Deep;
+        }
         if place == 1 && word == "chain" {
             plan.shape = Shape::Chain;
         }

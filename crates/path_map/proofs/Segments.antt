@@ -81,12 +81,15 @@ pub at_slash : (p : List ℕ) (n : ℕ) → n < length p → get_or p n 0 ≡ 47
 at_slash p n inside slash =
     sym (take-append-drop n p) ∙ ap (λ t. take n p ++ t) (drop_more p n 0 inside ∙ ap (λ b. b ∷ drop (n + 1) p) slash)
 
+-- a slash is inside the text
+pub slash_inside : (p : List ℕ) (n : ℕ) → get_or p n 0 ≡ 47 → n < length p
+slash_inside p n slash = ⊎_elim (λ h. h) (λ h. absurd (omega (arith, sym slash ∙ get_or_past p n 0 h))) (cases_lt n (length p))
+
 -- the text before a slash of a path is a path, unless it is empty
 pub ancestor_is_path : (p : List ℕ) (n : ℕ) → IsAbsPath p → 0 < n → get_or p n 0 ≡ 47 → IsAbsPath (take n p)
 ancestor_is_path p n is_path some slash =
     let s = sound_from p is_path.sound in
-    let inside : n < length p =
-    ⊎_elim (λ h. h) (λ h. absurd (omega (arith, sym slash ∙ get_or_past p n 0 h))) (cases_lt n (length p)) in
+    let inside : n < length p = slash_inside p n slash in
     let front : length (take n p) ≡ n = length-take n p ∙ omega arith in
     let whole = at_slash p n inside slash in
     let dots = any_below is_dot_segment (take n p) (drop (n + 1) p) (omega arith) in

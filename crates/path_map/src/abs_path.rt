@@ -1,4 +1,6 @@
-ghost use Rattle.std.specs.Prelude.{◌≡◌, ◌↔◌, ◌⊎◌, ◌==◌, ◌≤◌, ◌<◌, ◌++◌, ◌∷◌, [], IsTrue, IfOk, IfErr, IfSome, MatchOption, None, length, slice_index, take};
+//! Absolute paths.
+
+ghost use Rattle.std.specs.Prelude.{◌≡◌, ◌↔◌, ◌⊎◌, ◌==◌, ◌≤◌, ◌<◌, ◌++◌, ◌+◌, ◌∷◌, [], ℕ, List, IsTrue, IfOk, IfErr, IfSome, MatchOption, None, length, slice_index, take, drop};
 ghost use Rattle.std.specs.List.{slice_split, list_any};
 ghost use Rattle.std.specs.Ordering.{nat_cmp, as_partial_cmp};
 ghost use Rattle.std.specs.Cmp.Lexicographic.{slice_cmp, texts_po, texts_ties};
@@ -6,19 +8,14 @@ ghost use Rattle.std.specs.Cmp.Rules.{comparing};
 ghost use Rattle.std.proofs.Common.{rules};
 ghost use Rattle.std.proofs.lemmas.Cmp.{nat_list_cmp_total, nat_list_eq_equiv};
 ghost use Rattle.std.specs.Str.{bytes_eq};
-ghost use Rattle.path_map.specs.Paths.{path_fault, lies_below, IsAbsPath, is_dot_segment, has_bad_length};
+ghost use Rattle.path_map.specs.Paths.{path_fault, lies_below, IsAbsPath, EndsIn, is_dot_segment, has_bad_length};
 
 use crate::path_error::PathError;
+use crate::refusals::{MAX_PATH, MAX_SEGMENT};
 use ac_types::{NoMemory, Text, TryCopy};
 use std::alloc::Global;
 use std::cmp::Ordering;
 use std::marker::Model;
-
-/// The most bytes of a path.
-const MAX_PATH: usize = 4096;
-
-/// The most bytes of a segment.
-const MAX_SEGMENT: usize = 255;
 
 /// An absolute path below the root: segments of 1 to 255 bytes, none of them
 /// `.` or `..`, each after a slash. Contracts see its bytes.
@@ -67,6 +64,43 @@ impl AbsPath {
         ensures { IsTrue result ↔ ((self.now ≡ other.now) ⊎ IsTrue (lies_below self.now other.now)) }
     {
         self == other || lies_below(self.as_str(), other.as_str())
+    }
+
+    /// What comes before its last slash: the parent's text, or nothing for a path in the root.
+    pub fn parent_text(&self) -> &str
+        ensures { (name : List ℕ) × EndsIn self.now result.now name }
+    {
+        let end = self.last_slash();
+        &self.as_str()[..end]
+    }
+
+    /// The parent; none for a path in the root.
+    pub fn parent(&self, alloc: Global) -> Result<Option<AbsPath>, NoMemory>
+        ensures { IfOk result (λ parent. MatchOption parent
+            ((name : List ℕ) × EndsIn self.now [] name)
+            (λ path. (name : List ℕ) × EndsIn self.now path name × (0 < length path))) }
+    {
+        let end = self.last_slash();
+        if end == 0 {
+            return Ok(None);
+        }
+        Ok(Some(self.ancestor(alloc, end)?))
+    }
+
+    /// The place of its last slash.
+    fn last_slash(&self) -> usize
+        ensures slash { slice_index self.now result ≡ 47 }
+        ensures inside { result < length self.now }
+        ensures parts { EndsIn self.now (take result self.now) (drop (result + 1) self.now) }
+    {
+        let bytes = self.as_str().as_bytes();
+        let mut end = 0;
+        for place in 1..bytes.len() {
+            if bytes[place] == b'/' {
+                end = place;
+            }
+        }
+        end
     }
 
     /// The ancestor that ends before the slash at a place.

@@ -3,12 +3,14 @@
 
 pub mod abs_path;
 pub mod entry;
-pub mod keep;
+mod keep;
 pub mod listed;
 pub mod map;
-pub mod overlay;
+mod overlay;
+pub(crate) mod path_entries;
 pub mod path_error;
 pub mod path_iter;
+pub mod refusals;
 
 pub use abs_path::AbsPath;
 pub use entry::{Entry, Meta};

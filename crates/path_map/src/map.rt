@@ -1,36 +1,36 @@
-ghost use Rattle.std.specs.Prelude.{◌≡◌, ℕ, ◌+◌, [], List, length, IsSome, IsTrue, IfOk, OnOk, MatchOption, None};
-ghost use Rattle.std.specs.Option.{option_copied};
-ghost use Rattle.std.specs.Ordering.{nat_cmp};
-ghost use Rattle.std.specs.Cmp.Lexicographic.{slice_cmp};
-ghost use Rattle.std.specs.BTreeMap.{insert_entry};
-ghost use Rattle.path_map.specs.Entries.{entry_at, with_entry, without_entry, IsPathMap};
-ghost use Rattle.path_map.specs.Paths.{lies_below};
+//! Maps from absolute paths to what stands at them.
 
-use crate::abs_path::{AbsPath, lies_below};
+ghost use Rattle.std.specs.Prelude.{◌≡◌, ℕ, [], List, length, IfOk};
+ghost use Rattle.std.specs.Option.{option_copied};
+ghost use Rattle.path_map.specs.Entries.{entry_at, IsPathMap};
+ghost use Rattle.path_map.specs.Overlay.{overlaid};
+ghost use Rattle.path_map.specs.Whitelist.{whitelisted};
+
+use crate::abs_path::AbsPath;
 use crate::entry::Entry;
+use crate::listed::Listed;
+use crate::path_entries::PathEntries;
 use crate::path_iter::PathIter;
 use ac_types::{NoMemory, TryCopy};
 use std::alloc::Global;
-use std::collections::BTreeMap;
 use std::marker::Model;
 
-/// What stands at the paths of a tree; the root itself has no entry. Contracts see
-/// the paths with their entries, in byte order of paths.
+/// What stands at the paths of a tree, each below directories; the root itself has no
+/// entry. Contracts see the paths with their entries, in byte order of paths.
 #[derive(Drop)]
 pub struct PathMap {
-    alloc: Global,
-    entries: BTreeMap<AbsPath, Entry>,
+    held: PathEntries,
 }
 
 impl Model for PathMap {
     ghost use Rattle.std.specs.Prelude.{ℕ, List};
-    ghost use Rattle.path_map.specs.Entries.{Entries, IsPathMap};
+    ghost use Rattle.path_map.specs.Entries.{Entries, HasParents, entry_at};
 
     ghost Value = { Entries };
 
-    ghost view = { λ m. m.entries.entries };
+    ghost view = { λ m. m.held };
 
-    ghost invariant = { λ m. IsPathMap m.entries.entries };
+    ghost invariant = { λ m. HasParents (entry_at m.held) };
 }
 
 impl PathMap {
@@ -39,16 +39,22 @@ impl PathMap {
         ensures { result ≡ [] }
     {
         PathMap {
-            alloc,
-            entries: BTreeMap::new(alloc),
+            held: PathEntries::new(alloc),
         }
+    }
+
+    /// How many entries it has.
+    pub fn len(&self) -> usize
+        ensures { result ≡ length self.now }
+    {
+        self.held.len()
     }
 
     /// What stands at a path.
     pub fn get(&self, path: &AbsPath) -> Option<&Entry>
         ensures { option_copied result ≡ entry_at self.now path.now }
     {
-        self.entries.get(path)
+        self.held.get(path)
     }
 
     /// All entries, each once, in byte order of paths.
@@ -56,63 +62,42 @@ impl PathMap {
         ensures entries { result ≡ self.now }
         ensures kind { IsPathMap self.now }
     {
-        PathIter::new(self.entries.iter())
+        self.held.iter()
     }
 
     /// An equal map.
     pub fn copy(&self) -> Result<PathMap, NoMemory>
         ensures { IfOk result (λ copy. copy ≡ self.now) }
     {
-        let mut copied = PathMap::new(self.alloc);
-        for (path, entry) in self.iter() {
-            copied.put(path.copy()?, entry.copy()?)?;
+        Ok(PathMap {
+            held: self.held.copy()?,
+        })
+    }
+
+    /// Lays an entry over the map: its ancestors become directories with mode 0755 and
+    /// owners 0:0 where they are none, the entry takes its path, and what is below the
+    /// path goes unless the entry is a directory.
+    pub fn overlay(self, alloc: Global, path: AbsPath, entry: Entry) -> Result<PathMap, NoMemory>
+        ensures { IfOk result
+            (λ map. (q : List ℕ) → entry_at map q ≡ overlaid (entry_at self) path entry q) }
+    {
+        let mut held = self.held;
+        held.lay(alloc, path, entry)?;
+        Ok(PathMap { held })
+    }
+
+    /// Keeps what a whitelist names, with its ancestors, and makes the directories that
+    /// it asks for with mode 0755 and owners 0:0. An empty list keeps everything.
+    pub fn keep(self, alloc: Global, list: &[Listed]) -> Result<PathMap, NoMemory>
+        ensures { IfOk result
+            (λ map. (q : List ℕ) → entry_at map q ≡ whitelisted list.now (entry_at self) q) }
+    {
+        if list.is_empty() {
+            return Ok(self);
         }
-        Ok(copied)
-    }
-
-    /// Puts an entry at a path.
-    pub(crate) fn put(&mut self, path: AbsPath, entry: Entry) -> Result<(), NoMemory>
-        ensures tree { OnOk result
-            ((q : List ℕ) → entry_at self.new q ≡ with_entry (entry_at self.old) path entry q) }
-        ensures entries { OnOk result
-            (self.new ≡ insert_entry (slice_cmp nat_cmp) self.old path entry) }
-    {
-        // The clause of `as_str` says that it is a path.
-        let _text = path.as_str();
-        self.entries.insert(path, entry)?;
-        Ok(())
-    }
-
-    /// Takes what stands at a path away.
-    pub(crate) fn take(&mut self, path: &AbsPath)
-        ensures value { (q : List ℕ) → entry_at self.new q ≡ without_entry (entry_at self.old) path.now q }
-        ensures shorter { IsSome (entry_at self.old path.now) → length self.new + 1 ≡ length self.old }
-    {
-        self.entries.remove(path);
-    }
-
-    /// The first path below another at which something stands.
-    pub(crate) fn first_below(
-        &self,
-        alloc: Global,
-        path: &AbsPath,
-    ) -> Result<Option<AbsPath>, NoMemory>
-        ensures { IfOk result (λ found. MatchOption found
-            ((q : List ℕ) → IsTrue (lies_below q path.now) → entry_at self.now q ≡ None)
-            (λ first. IsTrue (lies_below first path.now) × IsSome (entry_at self.now first))) }
-    {
-        let entries = &self.entries;
-        let other = path.as_str();
-        let Some(least) = path.least_below(alloc)? else {
-            return Ok(None);
-        };
-        let Some((found, _)) = entries.range(least..).next() else {
-            return Ok(None);
-        };
-        if !lies_below(found.as_str(), other) {
-            return Ok(None);
-        }
-        Ok(Some(found.copy()?))
+        let mut held = self.held.filtered(alloc, list)?;
+        held.make_directories(alloc, list)?;
+        Ok(PathMap { held })
     }
 }
 

@@ -1,6 +1,10 @@
-ghost use Rattle.std.specs.Prelude.{Some};
-ghost use Rattle.path_map.specs.ErrorTexts.{path_error_text};
+//! Why a text is no absolute path.
 
+ghost use Rattle.std.specs.Prelude.{◌≡◌, Some};
+ghost use Rattle.path_map.specs.ErrorTexts.{path_error_text};
+ghost use Rattle.path_map.specs.RefusalNumbers.{path_error_number};
+
+use crate::refusals::{DOT_SEGMENT, NOT_ABSOLUTE, PATH_LENGTH, SEGMENT_LENGTH};
 use ac_types::NoMemory;
 use std::error::Error;
 use std::fmt;
@@ -18,6 +22,21 @@ pub enum PathError {
     PathLength,
     /// Memory ran out.
     NoMemory,
+}
+
+impl PathError {
+    /// The number by which the refusal is printed; want of memory has none.
+    pub fn number(self) -> Option<u8>
+        ensures { result ≡ path_error_number self }
+    {
+        match self {
+            PathError::NotAbsolute => Some(NOT_ABSOLUTE),
+            PathError::DotSegment => Some(DOT_SEGMENT),
+            PathError::SegmentLength => Some(SEGMENT_LENGTH),
+            PathError::PathLength => Some(PATH_LENGTH),
+            PathError::NoMemory => None,
+        }
+    }
 }
 
 impl From<NoMemory> for PathError {

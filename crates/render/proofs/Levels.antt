@@ -9,9 +9,10 @@ use Rattle.dep_match.specs.declared.dep_tree.DepNode.{DepNode}
 use Rattle.dep_match.specs.declared.stored.Stored.{Stored}
 use Rattle.dep_match.specs.TreeOrder.{node_at, IsOrderedTree}
 use Rattle.render.specs.declared.rendering.Rendering.{Rendering}
-use Rattle.render.specs.Flattening.{entries_of, whitelist_of, HasSources, IsLayered, IsNodeLayered, IsFlattened}
+use Rattle.render.specs.Flattening.{HasSources, IsSourced, IsNodeSourced, IsFlattened}
+use Rattle.render.specs.Assembly.{entries_of, whitelist_of, laid}
 use Rattle.render.specs.Origins.{origin_at, laid_origins}
-use Rattle.render.specs.Layers.{laid, is_file_at, source_at}
+use Rattle.render.specs.Layers.{is_file_at, source_at}
 use Rattle.render.proofs.SourceLaws.{HasOwnSources, layer_sources}
 use Rattle.render.proofs.Layers.{AreLaid, one_more, kept_whole}
 
@@ -28,15 +29,15 @@ image_within nodes count n node order inside is =
 pub node_layered : (nodes : List DepNode) (list : List Stored) (maps : List Entries) (n : ℕ) (node : DepNode) (stored : Stored) (whitelist : List Listed) (own : Entries) (below : List Rendering) (r : Rendering)
     → node ≡ node_at nodes n → node.image < length list → node.image < length maps
     → whitelist ≡ (get_or list node.image stored).manifest.path_whitelist → own ≡ get_or maps node.image own
-    → IsLayered whitelist own node.image below r
-    → IsNodeLayered nodes list maps n below r
+    → IsSourced whitelist own node.image below r
+    → IsNodeSourced nodes list maps n below r
 node_layered nodes list maps n node stored whitelist own below r same in_list in_maps listed owned layer =
     let field = λ (s : Stored). s.manifest.path_whitelist in
     let first : whitelist ≡ whitelist_of list node.image = listed ∙ sym (get_or-map field list node.image stored [] in_list) in
     let second : own ≡ entries_of maps node.image = get_or_read maps node.image own in_maps owned [] in
-    let a = subst (λ (ws : List Listed). IsLayered ws own node.image below r) first layer in
-    let b = subst (λ (es : Entries). IsLayered (whitelist_of list node.image) es node.image below r) second a in
-    subst (λ (x : DepNode). IsLayered (whitelist_of list x.image) (entries_of maps x.image) x.image below r) same b
+    let a = subst (λ (ws : List Listed). IsSourced ws own node.image below r) first layer in
+    let b = subst (λ (es : Entries). IsSourced (whitelist_of list node.image) es node.image below r) second a in
+    subst (λ (x : DepNode). IsSourced (whitelist_of list x.image) (entries_of maps x.image) x.image below r) same b
 
 -- a child of a node that was read comes after it
 pub child_within : (nodes : List DepNode) (count n : ℕ) (node : DepNode) (items : List ℕ) (k : ℕ) → IsOrderedTree count nodes → n < length nodes
@@ -73,7 +74,7 @@ module _ (nodes : List DepNode) (list : List Stored) (maps : List Entries) where
   -- a flattening is a map
   pub flattened_kind : (levels n : ℕ) (r : Rendering) → IsFlattened nodes list maps levels n r → IsPathMap r.map
   flattened_kind zero n r flat = absurd flat
-  flattened_kind (suc levels) n r flat = flat.2.kind
+  flattened_kind (suc levels) n r flat = flat.2.layer.kind
 
   -- the parts of the first children of a node, laid over each other
   pub record ArePartsLaid (levels : ℕ) (children : List ℕ) (whole : Rendering) : Type 0 where
@@ -85,7 +86,7 @@ module _ (nodes : List DepNode) (list : List Stored) (maps : List Entries) where
   -- the whole of a node
   pub flattened : (levels n : ℕ) (r : Rendering) (below : List Rendering) → 0 < levels
       → AllZip (λ child part. IsFlattened nodes list maps (levels - 1) child part) (node_at nodes n).children below
-      → IsNodeLayered nodes list maps n below r → IsFlattened nodes list maps levels n r
+      → IsNodeSourced nodes list maps n below r → IsFlattened nodes list maps levels n r
   flattened zero n r below some parts layer = absurd (omega (arith, some))
   flattened (suc levels) n r below some parts layer =
       let e : suc levels - 1 ≡ levels = omega arith in

@@ -1,3 +1,4 @@
+pub mod Assemblies
 pub mod Files
 pub mod LaidOver
 pub mod Laws

@@ -1,5 +1,11 @@
+pub mod Assembly
 pub mod ErrorTexts
 pub mod Flattening
 pub mod Layers
 pub mod OpenPlace
 pub mod Origins
+pub mod RefusalNumbers
+pub use Rattle.path_map.specs.Entries
+pub use Rattle.path_map.specs.Overlay
+pub use Rattle.path_map.specs.Whitelist
+pub use Rattle.dep_match.specs.TreeOrder

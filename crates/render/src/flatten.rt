@@ -1,3 +1,5 @@
+//! The flattening of a node of a tree.
+
 ghost use Rattle.std.specs.Prelude.{◌≡◌, ◌<◌, ◌-◌, length, IfOk};
 ghost use Rattle.dep_match.specs.TreeOrder.{IsOrderedTree};
 ghost use Rattle.path_map.specs.Entries.{entry_at};

@@ -1,11 +1,14 @@
+//! The rendering of a tree of images.
+
 ghost use Rattle.std.specs.Prelude.{◌≡◌, ◌↔◌, ◌<◌, length, IfOk};
 ghost use Rattle.dep_match.specs.TreeOrder.{IsOrderedTree};
-ghost use Rattle.path_map.specs.Entries.{entry_at};
-ghost use Rattle.path_map.specs.Overlay.{HasParents};
+ghost use Rattle.path_map.specs.Entries.{Entries, EachEntry, entry_at, HasParents};
 ghost use Rattle.render.specs.Layers.{source_at};
-ghost use Rattle.render.specs.Flattening.{all_entries, HasSources, IsRendering};
+ghost use Rattle.render.specs.Flattening.{HasSources, IsSourcedRendering};
+ghost use Rattle.render.specs.Assembly.{all_entries, own_entries, IsOwnOrMade, IsRendering};
 
 use crate::flatten::flatten;
+use crate::refusals::MAX_ENTRIES;
 use crate::render_error::RenderError;
 use crate::rendering::Rendering;
 use crate::room::fits;
@@ -26,10 +29,14 @@ pub fn render_tree(
 ) -> Result<Rendering, RenderError>
     requires tree { IsOrderedTree (length list.now) tree.now.nodes }
     requires maps { length maps.now ≡ length list.now }
-    ensures rendering { IfOk result (λ r. IsRendering tree.now.nodes list.now maps.now r) }
+    ensures rendering { IfOk result (λ r. IsRendering tree.now.nodes list.now maps.now r.map) }
+    ensures only { IfOk result (λ r. (other : Entries) → IsRendering tree.now.nodes list.now maps.now other → other ≡ r.map) }
+    ensures entries { IfOk result (λ r. EachEntry
+        (IsOwnOrMade (length tree.now.nodes) (own_entries tree.now.nodes maps.now)) (entry_at r.map)) }
+    ensures sourced { IfOk result (λ r. IsSourcedRendering tree.now.nodes list.now maps.now r) }
     ensures sources { IfOk result (λ r. HasSources maps.now (entry_at r.map) (source_at r)) }
     ensures parents { IfOk result (λ r. HasParents (entry_at r.map)) }
-    ensures too_many { (result ≡ Err RenderError.TooManyEntries) ↔ (262144 < all_entries tree.now.nodes maps.now) }
+    ensures too_many { (result ≡ Err RenderError.TooManyEntries) ↔ (MAX_ENTRIES < all_entries tree.now.nodes maps.now) }
 {
     let nodes = tree.nodes.as_slice();
     if !fits(nodes, maps) {

@@ -1,13 +1,15 @@
+//! What an image's root holds.
+
 ghost use Rattle.std.specs.Prelude.{◌≡◌, ◌<◌, ◌↔◌, ℕ, List, [], Some, length, IfOk, IsTrue};
-ghost use Rattle.path_map.specs.Entries.{entry_at, IsPathMap};
-ghost use Rattle.path_map.specs.Overlay.{HasParents};
+ghost use Rattle.path_map.specs.Entries.{entry_at, IsPathMap, HasParents};
 ghost use Rattle.path_map.specs.Whitelist.{whitelisted};
 ghost use Rattle.render.specs.Origins.{origin_at, laid_origins};
-ghost use Rattle.render.specs.Layers.{laid, is_file_at, source_at};
+ghost use Rattle.render.specs.Layers.{is_file_at, source_at};
+ghost use Rattle.render.specs.Assembly.{laid};
 
 use crate::open_place::is_open;
 use crate::origins::Origins;
-use ac_types::NoMemory;
+use ac_types::{NoMemory, TryCopy};
 use path_map::{AbsPath, Entry, Listed, PathMap};
 use std::alloc::Global;
 
@@ -34,6 +36,16 @@ impl Rendering {
             Some(Entry::File { .. }) => self.origins.get(path),
             _ => None,
         }
+    }
+
+    /// An equal rendering.
+    pub fn copy(&self) -> Result<Rendering, NoMemory>
+        ensures { IfOk result (λ copy. copy ≡ self.now) }
+    {
+        Ok(Rendering {
+            map: self.map.copy()?,
+            origins: self.origins.copy()?,
+        })
     }
 
     /// The empty root.
@@ -63,17 +75,11 @@ impl Rendering {
         self.lay_entries(alloc, &upper)
     }
 
-    /// Whether another has more entries. Takes no more steps than the smaller of the two has entries.
+    /// Whether another has more entries.
     fn has_fewer(&self, other: &Rendering) -> bool
         ensures { IsTrue result ↔ (length self.now.map < length other.now.map) }
     {
-        let mut others = other.map.iter();
-        for (_path, _entry) in self.map.iter() {
-            if others.next().is_none() {
-                return false;
-            }
-        }
-        others.next().is_some()
+        self.map.len() < other.map.len()
     }
 
     /// Puts what stays of this one under another, in path order: an entry stays where the other
@@ -147,5 +153,11 @@ impl Rendering {
             map,
             origins: self.origins,
         })
+    }
+}
+
+impl TryCopy for Rendering {
+    fn try_copy(&self) -> Result<Rendering, NoMemory> {
+        self.copy()
     }
 }

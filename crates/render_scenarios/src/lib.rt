@@ -6,6 +6,8 @@ mod choices;
 #[cfg(test)]
 mod images;
 #[cfg(test)]
+mod listings;
+#[cfg(test)]
 mod renderings;
 #[cfg(test)]
 mod trees;

@@ -1,7 +1,7 @@
 //! What the root of an image holds, and which image each file is from.
 
 use crate::images::dependent;
-use ac_types::{Sequence, Text};
+use ac_types::{ImageId, Sequence, Text};
 use dep_match::{Stored, closure};
 use path_map::{AbsPath, Entry, Listed, ListedPaths, Meta, PathMap};
 use render::{RenderError, Rendering, render_tree};
@@ -9,7 +9,7 @@ use std::alloc::Global;
 use std::test::Fail;
 
 /// An image: its name, the names of its dependencies, its whitelist, and its own entries, each a
-/// letter and a path: `d` a directory, `f` an empty file, `F` a file of three bytes, `l` a link.
+/// letter and a path: `d` a directory, `f` an empty file, `F` a file with `abc`, `l` a link.
 #[derive(Clone, Copy)]
 struct Layer<'a> {
     name: &'a str,
@@ -25,6 +25,24 @@ const GIVEN: Meta = Meta {
     gid: 2,
 };
 
+/// `sha512-` and the hex digits of the SHA-512 of `abc`.
+const ABC: &str =
+    "sha512-ddaf35a193617abacc417349ae20413112e6fa4e89a97ea20a9eeee64b55d39a2192992a274fc1a836ba3c23a3feebbd454d4423643ce80e2a9ac94fa54ca49f";
+
+/// The same of the empty text.
+const NIL: &str =
+    "sha512-cf83e1357eefb8bdf1542850d66d8007d620e4050b5715dc83f4a921d36ce9ce47d0d13c5d85f2b0ff8318d2877eec2f63b931bd47417a81a538327af927da3e";
+
+/// A file with `abc`, or an empty one.
+fn file(full: bool) -> Result<Entry, Fail> {
+    let digest = if full { ABC } else { NIL };
+    Ok(Entry::File {
+        meta: GIVEN,
+        size: if full { 3 } else { 0 },
+        sha: ImageId::parse(digest)?.bytes,
+    })
+}
+
 /// The entry that a letter stands for.
 fn entry(alloc: Global, letter: &str) -> Result<Entry, Fail> {
     if letter == "d" {
@@ -36,11 +54,7 @@ fn entry(alloc: Global, letter: &str) -> Result<Entry, Fail> {
             target: Text::of(alloc, "t")?,
         });
     }
-    Ok(Entry::File {
-        meta: GIVEN,
-        size: if letter == "F" { 3 } else { 0 },
-        sha: [0; 64],
-    })
+    file(letter == "F")
 }
 
 /// The map of some entries.
@@ -99,6 +113,15 @@ fn rendering(alloc: Global, layers: &[Layer]) -> Result<Rendering, Fail> {
     Ok(rendered(alloc, list.as_slice(), maps.as_slice())??)
 }
 
+/// The letter of a file by its digest: `F` for that of `abc`, `f` for that of the empty text.
+fn file_letter(sha: [u8; 64]) -> &'static str {
+    match (ImageId::parse(ABC), ImageId::parse(NIL)) {
+        (Ok(abc), Ok(_)) if abc.bytes == sha => "F",
+        (Ok(_), Ok(nil)) if nil.bytes == sha => "f",
+        _ => "?",
+    }
+}
+
 /// The letter of an entry; `m` for a made directory.
 fn letter(entry: &Entry) -> &'static str {
     match entry {
@@ -109,7 +132,7 @@ fn letter(entry: &Entry) -> &'static str {
                 "d"
             }
         }
-        Entry::File { size, .. } => { if *size == 3 { "F" } else { "f" } }
+        Entry::File { sha, .. } => file_letter(*sha),
         Entry::Link { .. } => "l",
     }
 }
@@ -149,6 +172,9 @@ fn later_layers_win(rt: HostRuntime) -> Result<(), Fail> {
     let alloc = rt.alloc();
     let leaf = plain("top", &[], &["d/a", "f/a/x"]);
     assert!(&rt; shows(alloc, &[leaf], "d/a f/a/x 0 ")?);
+    let copy = rendering(alloc, &[leaf])?.copy()?;
+    assert!(&rt; shown(alloc, &copy)?.as_str() == "d/a f/a/x 0 ");
+    assert!(&rt; RenderError::TooManyEntries.number() == Some(60));
     let base = plain("base", &[], &["f/m"]);
     let lib = plain("lib", &[], &["F/m"]);
     let top = plain("top", &["base", "lib"], &[]);

@@ -1,7 +1,8 @@
 //! The tree of an image's dependencies, or why it has none.
 
 use crate::images::dependent;
-use dep_match::{DepError, DepTree, Stored, closure};
+use ac_types::{AcIdentifier, Sequence, StoreKey};
+use dep_match::{DepError, DepNode, DepTree, Stored, closure};
 use std::alloc::Global;
 use std::test::Fail;
 
@@ -25,7 +26,7 @@ fn images(alloc: Global, rows: &[(&str, &[&str])]) -> Result<Vec<Stored>, Fail> 
 }
 
 /// The nodes of a tree: the image of each, and its children.
-fn nodes(alloc: Global, tree: &DepTree) -> Result<String, Fail> {
+fn nodes_text(alloc: Global, tree: &DepTree) -> Result<String, Fail> {
     let mut text = String::new(alloc);
     for node in tree.nodes.as_slice() {
         let image = node.image;
@@ -38,21 +39,28 @@ fn nodes(alloc: Global, tree: &DepTree) -> Result<String, Fail> {
     Ok(text)
 }
 
-/// What comes of the first image: the nodes, or the fault.
-fn outcome(alloc: Global, list: &[Stored]) -> Result<String, Fail> {
-    match first_tree(alloc, list) {
-        Ok(tree) => nodes(alloc, &tree),
-        Err(DepError::NoDependency(name)) => {
+/// A fault.
+fn shown_error(alloc: Global, error: DepError) -> Result<String, Fail> {
+    match error {
+        DepError::NoDependency(name) => {
             let name = name.as_str();
             Ok(format!(in alloc; "no {name}")?)
         }
-        Err(DepError::Cycle(key)) => {
+        DepError::Cycle(key) => {
             let byte = key.bytes[0];
             Ok(format!(in alloc; "cycle {byte}")?)
         }
-        Err(DepError::TooDeep) => Ok(String::from_str(alloc, "too deep")?),
-        Err(DepError::TooMany) => Ok(String::from_str(alloc, "too many")?),
-        Err(DepError::NoMemory) => Err(Fail::from("memory")),
+        DepError::TooDeep => Ok(String::from_str(alloc, "too deep")?),
+        DepError::TooMany => Ok(String::from_str(alloc, "too many")?),
+        DepError::NoMemory => Err(Fail::from("memory")),
+    }
+}
+
+/// What comes of the first image: the nodes, or the fault.
+fn outcome(alloc: Global, list: &[Stored]) -> Result<String, Fail> {
+    match first_tree(alloc, list) {
+        Ok(tree) => nodes_text(alloc, &tree),
+        Err(error) => shown_error(alloc, error),
     }
 }
 
@@ -113,6 +121,65 @@ fn size(alloc: Global, list: &[Stored]) -> Result<String, Fail> {
         }
         Err(_) => outcome(alloc, list),
     }
+}
+
+/// Whether what comes of the first image comes of copies too.
+fn copies_are_equal(alloc: Global, list: &[Stored]) -> Result<bool, Fail> {
+    let wanted = outcome(alloc, list)?;
+    let mut copies = Vec::new(alloc);
+    for image in list {
+        copies.push(image.copy()?)?;
+    }
+    let tree = match first_tree(alloc, copies.as_slice()) {
+        Ok(tree) => tree.copy()?,
+        Err(error) => return Ok(shown_error(alloc, error.copy()?)? == wanted),
+    };
+    let mut again = Vec::new(alloc);
+    for node in tree.nodes.copy()?.as_slice() {
+        let node = node.copy()?;
+        let children = node.children.copy()?;
+        again.push(DepNode {
+            image: node.image,
+            children,
+        })?;
+    }
+    let nodes = Sequence::from_vec(again);
+    Ok(nodes_text(alloc, &DepTree { nodes })? == wanted)
+}
+
+#[test]
+fn copies_are_equal_to_what_was_copied(rt: HostRuntime) -> Result<(), Fail> {
+    let alloc = rt.alloc();
+    let rows: [&[(&str, &[&str])]; 3] = [
+        &[("top", &["left", "right"]), ("left", &[]), ("right", &[])],
+        &[("a", &["x"])],
+        &[("a", &["a"])],
+    ];
+    for row in rows {
+        let list = images(alloc, row)?;
+        assert!(&rt; copies_are_equal(alloc, list.as_slice())?);
+    }
+    Ok(())
+}
+
+/// An error of each kind, and its number.
+fn numbers(alloc: Global) -> Result<[(DepError, Option<u8>); 5], Fail> {
+    let name = AcIdentifier::parse(alloc, "x")?;
+    Ok([
+        (DepError::NoDependency(name), Some(51)),
+        (DepError::Cycle(StoreKey { bytes: [1; 32] }), Some(52)),
+        (DepError::TooDeep, Some(53)),
+        (DepError::TooMany, Some(54)),
+        (DepError::NoMemory, None),
+    ])
+}
+
+#[test]
+fn refusals_have_numbers(rt: HostRuntime) -> Result<(), Fail> {
+    for (error, number) in numbers(rt.alloc())? {
+        assert!(&rt; error.number() == number);
+    }
+    Ok(())
 }
 
 const WAYS: &[(u8, &str, &str)] = &[

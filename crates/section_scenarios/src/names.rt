@@ -1,7 +1,8 @@
 use ac_types::{
     AcIdentifier, AcName, FaultKind, FromElement, ImageId, ImageRef, Label, LabelFault, Labels,
-    NameError, NamedElement, ReadError, RefError, Sequence, StoreKey, Text, field, flag_field,
-    list_field, read_named, required_name, required_whole, text_field, whole_field,
+    NameError, NamedElement, NoMemory, ReadError, RefError, Sequence, ShownCopy, StoreKey, Text,
+    field, flag_field, list_field, lower_hex, read_named, required_name, required_port,
+    required_whole, text_field, whole_field,
 };
 use serde_json::Value;
 use std::alloc::Global;
@@ -38,6 +39,18 @@ fn a_name_is_refused_where_it_stops_to_be_one(rt: HostRuntime) {
 fn bad_ref(alloc: Global, word: &str) -> Option<RefError> {
     ImageRef::parse(alloc, word).err()
 }
+
+/// Words that are no references, with the place at which the first unreadable part begins.
+const BAD_WORDS: [(&str, usize); 8] = [
+    ("", 0),
+    ("A", 0),
+    ("a,", 2),
+    ("a,b", 2),
+    ("a,x=", 2),
+    ("a,name=x", 2),
+    ("a:1,os=linux,os=linux", 13),
+    ("a:1,version=1", 4),
+];
 
 /// Whether the word names this image with this one label behind its version.
 fn is_named(alloc: Global, word: &str, name: &str, version: &str, os: &str) -> bool {
@@ -77,6 +90,9 @@ fn a_reference_is_refused_at_its_first_unreadable_part(rt: HostRuntime) {
         bad_ref(alloc, "a,version=1,version=2"),
         Some(RefError::BadRef(12))
     );
+    for (word, place) in BAD_WORDS {
+        assert_eq!(rt; bad_ref(alloc, word), Some(RefError::BadRef(place)));
+    }
     assert!(rt; is_by_id(alloc, "sha512-ab", 2));
     assert_eq!(rt; bad_ref(alloc, "sha512-a"), Some(RefError::BadRef(0)));
 }
@@ -111,6 +127,10 @@ fn labels_are_checked_by_name_then_by_platform(rt: HostRuntime) -> Result<(), Fa
     let both = with_label(alloc, one(alloc, "name", "x")?, "version", "1")?;
     let all = with_label(alloc, both.copy()?, "version", "1")?;
     assert_eq!(rt; all.check(), Err(LabelFault::LabelName(0)));
+    assert_eq!(rt; all.first_fault(alloc)?, Some(LabelFault::LabelName(0)));
+    assert_eq!(rt; twice.first_fault(alloc)?, Some(LabelFault::LabelTwice(1)));
+    assert_eq!(rt; foreign.first_fault(alloc)?, Some(LabelFault::BadArch(1)));
+    assert_eq!(rt; one(alloc, "arch", "x86_64")?.first_fault(alloc)?, None);
     Ok(())
 }
 
@@ -127,7 +147,17 @@ fn a_key_is_the_first_half_of_an_id(rt: HostRuntime) {
     assert!(rt; ImageId::parse(&ABC[..71]).is_err());
 }
 
-const PORTS: &str = r#"{"flag":true,"none":null,"text":"","half":1.5,"far":65536,
+#[test]
+fn an_id_and_a_key_are_written_as_they_are_read(rt: HostRuntime) -> Result<(), Fail> {
+    let alloc = rt.alloc();
+    let id = ImageId::parse(ABC)?;
+    assert_eq!(rt; id.text(alloc)?.as_str(), ABC);
+    assert_eq!(rt; StoreKey::of(id).text(alloc)?.as_str(), &ABC[..71]);
+    assert!(rt; lower_hex(&id.bytes).as_slice() == ABC[7..].as_bytes());
+    Ok(())
+}
+
+const PORTS: &str = r#"{"flag":true,"none":null,"text":"","half":1.5,"far":65536,"near":65535,
 "ports":[{"name":"web","port":80},{"name":"web","port":81}],"later":[{"name":"web","port":80},{"name":"A"}]}"#;
 
 /// An element of a list as the formats have them.
@@ -198,6 +228,7 @@ fn a_field_is_read_or_refused_at_its_path(rt: HostRuntime) -> Result<(), Fail> {
             FaultKind::OutOfRange
         )
     );
+    assert_eq!(rt; required_port(alloc, &value, "$", "near").ok(), Some(65535));
     assert!(rt;
         is_fault(
             whole_field(alloc, &value, "$", "half", 9),
@@ -252,7 +283,7 @@ fn same_reference(alloc: Global, word: &str) -> Result<bool, Fail> {
         ImageRef::Named { name, labels } => {
             Ok(name.copy()?.as_str() == "a" && labels.get("os") == Some("linux"))
         }
-        _ => Ok(false),
+        ImageRef::ById { digits, len } => Ok(len == 3 && digits[..4] == [b'a', b'0', b'f', 0]),
     }
 }
 
@@ -272,6 +303,50 @@ fn a_copy_is_equal(rt: HostRuntime) -> Result<(), Fail> {
     let alloc = rt.alloc();
     assert!(rt; same_name(alloc, "a-b")?);
     assert!(rt; same_reference(alloc, "a,os=linux")?);
+    assert!(rt; same_reference(alloc, "sha512-a0f")?);
     assert!(rt; same_error(alloc, &Value::from_str(alloc, PORTS)?)?);
+    Ok(())
+}
+
+/// What contracts see as its number alone.
+#[derive(Drop)]
+struct Tag {
+    number: u32,
+}
+
+impl ShownCopy for Tag {
+    ghost use Rattle.std.specs.Prelude.{ℕ};
+
+    ghost Shown = { ℕ };
+
+    ghost shown = { λ tag. tag.number };
+
+    fn copy(&self) -> Result<Tag, NoMemory> {
+        Ok(Tag {
+            number: self.number,
+        })
+    }
+}
+
+fn numbers(alloc: Global) -> Result<Sequence<u32>, NoMemory> {
+    Sequence::new(alloc).push(1)?.push(4_294_967_295)
+}
+
+fn tags(alloc: Global) -> Result<Sequence<Tag>, NoMemory> {
+    Sequence::new(alloc).push(Tag { number: 7 })
+}
+
+#[test]
+fn a_list_is_copied_in_one_form(rt: HostRuntime) -> Result<(), Fail> {
+    let alloc = rt.alloc();
+    let copied = numbers(alloc)?.copy()?;
+    assert_eq!(rt; copied.len(), 2);
+    assert!(rt; !copied.is_empty());
+    assert_eq!(rt; copied.as_slice().last().copied(), Some(4_294_967_295));
+    let again = Sequence::from_vec(copied.copy()?.into_vec());
+    assert!(rt; again == copied);
+    let shown = tags(alloc)?.copy()?;
+    let number = shown.as_slice().first().map(|tag| tag.number);
+    assert_eq!(rt; number, Some(7));
     Ok(())
 }

@@ -14,11 +14,15 @@ const SECTION: &str =
 const WRITTEN: &str =
     r#"{"environment":[{"name":"_A.b-1","value":""}],"eventHandlers":[{"exec":["clean"],"name":"post-stop"},{"exec":["/"],"name":"pre-start"}],"exec":["/bin/run","a b",""],"group":"0","isolators":[{"name":"os/limits","value":{"a":false,"b":[1,-2,{"c":null}]}}],"mountPoints":[{"name":"work","path":"/","readOnly":true},{"name":"log","path":"/var/log"}],"ports":[{"count":1,"name":"http","port":65535,"protocol":"tcp","socketActivated":true}],"supplementaryGIDs":[7,4294967295],"user":"0","workingDirectory":"/srv/data"}"#;
 
+/// The section of the app of a pod with two mount points.
+const TWO_MOUNTS: &str =
+    r#"{"exec":["/w"],"group":"0","mountPoints":[{"name":"data","path":"/data"},{"name":"tmp","path":"/tmp"}],"user":"0"}"#;
+
 /// The text that is written of a copy of the section.
 fn written(alloc: Global, section: &str) -> Option<String> {
     let value = Value::from_str(alloc, section).ok()?;
     let app = App::read(alloc, &value, "app").ok()?;
-    let copy = app.copy(alloc).ok()?;
+    let copy = app.copy().ok()?;
     copy.value(alloc).ok()?.to_string(alloc).ok()
 }
 
@@ -27,6 +31,7 @@ fn a_section_is_read_copied_and_written(rt: HostRuntime) {
     let alloc = rt.alloc();
     assert!(rt; is_text(&written(alloc, SECTION), WRITTEN));
     assert!(rt; is_text(&written(alloc, WRITTEN), WRITTEN));
+    assert!(rt; is_text(&written(alloc, TWO_MOUNTS), TWO_MOUNTS));
 }
 
 fn is_text(found: &Option<String>, wanted: &str) -> bool {

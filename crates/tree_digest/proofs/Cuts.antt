@@ -9,7 +9,9 @@ use Rattle.percent_encoding.specs.AsciiSet.{should_percent_encode}
 use Rattle.percent_encoding.specs.Percent.{percent_encode}
 use Rattle.percent_encoding.proofs.PercentLemmas.{All-percent_encode}
 use Rattle.tree_digest.specs.declared.escapes.TheConstants.{ESCAPED}
-use Rattle.tree_digest.specs.Fields.{octal_text, decimal_text, escaped, field, HasNone}
+use Rattle.tree_digest.specs.Fields.{octal_text, decimal_text, escaped, field}
+use Rattle.path_map.specs.Paths.{HasNone}
+use Rattle.path_map.proofs.Ends.{has_cut}
 use Rattle.tree_digest.proofs.Decimals.{decimal_digits}
 use Rattle.tree_digest.proofs.EscapedBytes.{escaped_is}
 
@@ -107,17 +109,6 @@ pub line_at : (t : List ℕ) (n : ℕ) → n < length t → get_or t n 0 ≡ 10 
 line_at t n inside at =
     sym (take-append-drop n t)
     ∙ ap (λ r. take n t ++ r) (drop_more t n 0 inside ∙ ap (λ b. b ∷ drop (n + 1) t) at ∙ ap (λ r. 10 ∷ r) (sym (take_rest t (n + 1))))
-
--- a text that has a byte has it
-pub has_cut : (c : ℕ) (a b : List ℕ) → HasNone c (a ++ c ∷ b) → ⊥
-has_cut c [] b h = both_ways _ (or_parts _ _ h).0 (eq-eqb c c refl)
-has_cut c (x ∷ a) b h = has_cut c a b (or_parts _ _ h).1
-
--- bytes that differ from one at each place
-pub none_from_places : (c : ℕ) (t : List ℕ) → ((k : ℕ) → k < length t → get_or t k 0 ≢ c) → HasNone c t
-none_from_places c [] h = refl
-none_from_places c (x ∷ t) h =
-    or_from _ _ (ne_eqb x c (h 0 (omega arith))) (none_from_places c t (λ k within. h (suc k) (omega arith)))
 
 -- a text is parted at the last of a byte in one way
 pub last_once : (c : ℕ) (a b xs ys : List ℕ) → HasNone c b → HasNone c ys → a ++ c ∷ b ≡ xs ++ c ∷ ys → a ≡ xs

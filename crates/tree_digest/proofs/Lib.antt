@@ -2,6 +2,7 @@ pub mod Cuts
 pub mod Decimals
 pub mod EscapedBytes
 pub mod LineTexts
+pub mod Listables
 pub mod ListingTexts
 pub mod MapFollow
 pub mod MapLines

@@ -9,8 +9,10 @@ use Rattle.path_map.specs.declared.entry.Entry.TheVariants.{Dir, File, Link}
 use Rattle.tree_digest.specs.declared.line.ListingLine.{ListingLine}
 use Rattle.tree_digest.specs.declared.line_fault.LineFault.{LineFault}
 use Rattle.tree_digest.specs.declared.line_fault.LineFault.TheVariants.{Bad, TooLong, NoMemory}
-use Rattle.tree_digest.specs.Fields.{octal_text, decimal_text, escaped, field, HasNone, IsTarget}
-use Rattle.tree_digest.specs.Lines.{entry_text, meta_text, IsMeta, IsEntry, IsLineOf, ReadsLine}
+use Rattle.tree_digest.specs.Fields.{octal_text, decimal_text, escaped, field, IsTarget}
+use Rattle.path_map.specs.Paths.{HasNone}
+use Rattle.tree_digest.specs.Lines.{entry_text, meta_text, IsMeta, IsEntry, IsLineOf}
+use Rattle.tree_digest.specs.Steps.{ReadsLine}
 use Rattle.tree_digest.proofs.Cuts.{cut_once, octal_clear, decimal_clear, hex_clear_end, escaped_clear_end, none_both}
 
 -- what follows an entry is its path

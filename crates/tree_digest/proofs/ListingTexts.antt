@@ -7,7 +7,7 @@ use Rattle.std.proofs.lemmas.Grind.{flat_map-append}
 use Rattle.path_map.specs.declared.entry.Entry.{Entry}
 use Rattle.path_map.specs.declared.entry.Entry.TheVariants.{Dir, File, Link}
 use Rattle.tree_digest.specs.declared.line.ListingLine.{ListingLine}
-use Rattle.tree_digest.specs.Fields.{HasNone}
+use Rattle.path_map.specs.Paths.{HasNone}
 use Rattle.tree_digest.specs.Lines.{IsLine, IsEntry, line_text, line_fields, mode_of}
 use Rattle.tree_digest.specs.Listings.{listing_text, AllFollow, Follows}
 use Rattle.tree_digest.proofs.LineTexts.{entry_clear}

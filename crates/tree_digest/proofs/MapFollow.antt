@@ -18,7 +18,6 @@ use Rattle.std.proofs.lemmas.Slice.Eq.{bytes_eq-Decides}
 use Rattle.path_map.specs.declared.entry.Entry.{Entry}
 use Rattle.path_map.specs.declared.entry.Entry.TheVariants.{Dir, File, Link}
 use Rattle.path_map.specs.Entries.{Entries, entry_at, is_directory, is_directory_at, IsPathMap}
-use Rattle.path_map.specs.Overlay.{HasParents}
 use Rattle.path_map.proofs.Below.{below_at}
 use Rattle.path_map.proofs.OverlayLaws.{ancestor_from}
 use Rattle.path_map.proofs.Segments.{sound_from, path_some}
@@ -111,7 +110,7 @@ head_above : (e : List ℕ × Entry) (es : Entries) → IsStrictlySortedBy (slic
 head_above e [] s = tt
 head_above e (f ∷ es) s = (sorted_head (slice_cmp nat_cmp) e.0 (keys_of (f ∷ es)) s).0
 
-module _ (es : Entries) (good : IsPathMap es) (parents : HasParents (entry_at es)) (valid : All (λ (e : List ℕ × Entry). IsEntry e.1) es) (listable : All (λ (e : List ℕ × Entry). IsListable e.1) es) where
+module _ (es : Entries) (good : IsPathMap es) (valid : All (λ (e : List ℕ × Entry). IsEntry e.1) es) (listable : All (λ (e : List ℕ × Entry). IsListable e.1) es) where
   follow_rest : (before rest : Entries) → before ++ rest ≡ es → HeadAbove (last_path (lines_of before)) rest → AllFollow (lines_of before) (lines_of rest)
   follow_rest before [] eq above = tt
   follow_rest before (e ∷ rest) eq above =
@@ -134,7 +133,7 @@ module _ (es : Entries) (good : IsPathMap es) (parents : HasParents (entry_at es
               (λ root. or_left _ _ root)
               (λ below.
               let lies = below_at e.0 parent name ends.text in
-              let dir = dir_listed es parent (parents parent e.0 some (ancestor_from parent e.0 below lies)) in
+              let dir = dir_listed es parent (good.parents parent e.0 some (ancestor_from parent e.0 below lies)) in
               let parts = sym (list_any-append (λ (l : ListingLine). bytes_eq l.path parent && is_directory l.entry) (lines_of before) (lines_of (e ∷ rest))) ∙ ap (list_any (λ (l : ListingLine). bytes_eq l.path parent && is_directory l.entry)) (sym (map-append line_of before (e ∷ rest)) ∙ ap lines_of eq) ∙ dir in
               let less = before_below e.0 parent lies in
               or_right _ _ (⊎_elim
@@ -154,6 +153,6 @@ module _ (es : Entries) (good : IsPathMap es) (parents : HasParents (entry_at es
       let here : entry_at es e.0 ≡ Some e.1 = subst (λ gs. entry_at gs e.0 ≡ Some e.1) eq (found [] fs e sorted) in
       nil_less e.0 (path_some e.0 (sound_from e.0 (good.paths e.0 (is_some_at _ e.1 here)).sound))
 
-  -- the entries of a map with parents follow each other
+  -- the entries of a map follow each other
   pub map_follows : AllFollow [] (lines_of es)
   map_follows = follow_rest [] es refl (first_above es refl)

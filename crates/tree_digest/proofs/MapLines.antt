@@ -1,7 +1,7 @@
 -- The lines of a listing as the entries of a map.
 use Rattle.std.proofs.Common.{◌≡◌, ◌≢◌, ℕ, zero, suc, ◌-◌, ◌<◌, Bool, true, false, cond, ◌&&◌, ◌||◌, eqb, List, [], ◌∷◌, ◌++◌, length, get_or, take, Option, Some, None, IsSome, nat_cmp, Less, Equal, Greater, sym, refl, ap, subst, ◌∙◌, ⊎_elim, arith, append_assoc, length-append}
 use Rattle.std.specs.Cmp.Lexicographic.{slice_cmp}
-use Rattle.std.specs.List.{AllByRecursion, list_any, slice_get}
+use Rattle.std.specs.List.{AllByRecursion, list_any, slice_get, All}
 use Rattle.std.specs.List.Sorted.{IsStrictlySortedBy}
 use Rattle.std.specs.Map.{keys_of}
 use Rattle.std.specs.BTreeMap.{is_at}
@@ -16,18 +16,17 @@ use Rattle.std.proofs.lemmas.List.Folds.{list_any-append}
 use Rattle.std.proofs.lemmas.Map.Lookups.{exact_bytes}
 use Rattle.std.proofs.lemmas.Slice.Eq.{bytes_eq-Decides}
 use Rattle.path_map.specs.declared.entry.Entry.{Entry}
-use Rattle.path_map.specs.Entries.{Tree, entry_at, is_directory, is_directory_at}
-use Rattle.path_map.specs.Paths.{lies_below}
-use Rattle.path_map.specs.Overlay.{is_ancestor, overlaid, HasParents}
+use Rattle.path_map.specs.Entries.{Tree, entry_at, is_directory, is_directory_at, HasParents}
+use Rattle.path_map.specs.Paths.{lies_below, is_ancestor}
+use Rattle.path_map.specs.Overlay.{overlaid}
 use Rattle.path_map.specs.declared.entry.Entry.TheVariants.{Dir, File, Link}
-use Rattle.std.specs.List.{All}
 use Rattle.std.proofs.lemmas.List.Elements.{All-nil, All-cons}
 use Rattle.tree_digest.specs.Lines.{IsEntry, is_too_long}
-use Rattle.tree_digest.specs.Listings.{IsListable}
+use Rattle.tree_digest.specs.Listings.{IsListable, AreListable, AllFollow, Follows, last_path, has_directory, entries_of}
+use Rattle.path_map.proofs.EachEntries.{each_in_list}
 use Rattle.path_map.proofs.Below.{below_rest, below_at}
 use Rattle.path_map.proofs.OverlayLaws.{by_place, laid_here, laid_below, laid_above, laid_apart, directory_stays, below_ancestor, ancestor_some, ancestor_from}
 use Rattle.tree_digest.specs.declared.line.ListingLine.{ListingLine}
-use Rattle.tree_digest.specs.Listings.{AllFollow, Follows, last_path, has_directory, entries_of}
 use Rattle.tree_digest.proofs.Cuts.{has_none_or_last}
 
 -- each path of the lines is below another
@@ -248,8 +247,11 @@ entry_listable (Dir meta) h short = h.mode
 entry_listable (File meta size sha) h short = (h.0.mode, ltb-false 1073741824 size short)
 entry_listable (Link meta target) h short = (h.0.mode, h.1.some, h.1.short, h.1.no_nul)
 
+listed_entries : (before lines : List ListingLine) → AllFollow before lines → All (λ (e : List ℕ × Entry). IsListable e.1) (entries_of lines)
+listed_entries before [] all = All-nil (λ (e : List ℕ × Entry). IsListable e.1)
+listed_entries before (l ∷ lines) all =
+    All-cons (λ (e : List ℕ × Entry). IsListable e.1) (l.path, l.entry) (entries_of lines) (entry_listable l.entry all.0.line.entry all.0.short) (listed_entries (before ++ l ∷ []) lines all.1)
+
 -- and only entries that a listing may hold
-pub listing_is_listable : (before lines : List ListingLine) → AllFollow before lines → All (λ (e : List ℕ × Entry). IsListable e.1) (entries_of lines)
-listing_is_listable before [] all = All-nil (λ (e : List ℕ × Entry). IsListable e.1)
-listing_is_listable before (l ∷ lines) all =
-    All-cons (λ (e : List ℕ × Entry). IsListable e.1) (l.path, l.entry) (entries_of lines) (entry_listable l.entry all.0.line.entry all.0.short) (listing_is_listable (before ++ l ∷ []) lines all.1)
+pub listing_is_listable : (lines : List ListingLine) → AllFollow [] lines → AreListable (entry_at (entries_of lines))
+listing_is_listable lines all = each_in_list (λ path entry. IsListable entry) (entries_of lines) (listed_entries [] lines all)

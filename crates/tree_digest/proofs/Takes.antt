@@ -5,10 +5,12 @@ use Rattle.tree_digest.specs.declared.line_fault.LineFault.{LineFault}
 use Rattle.tree_digest.specs.declared.line_fault.LineFault.TheVariants.{Bad, TooLong, NoMemory as OutOfMemory}
 use Rattle.tree_digest.specs.declared.listing_error.ListingError.{ListingError}
 use Rattle.tree_digest.specs.declared.listing_error.ListingError.TheVariants.{NoMemory}
-use Rattle.tree_digest.specs.Fields.{HasNone}
-use Rattle.tree_digest.specs.Lines.{IsLineOf, ReadsLine, line_text, line_fields, is_too_long}
-use Rattle.tree_digest.specs.Listings.{FailsAt, FailsInLine, FailsInOrder}
-use Rattle.tree_digest.proofs.Cuts.{cut_once, has_cut}
+use Rattle.path_map.specs.Paths.{HasNone}
+use Rattle.tree_digest.specs.Lines.{IsLineOf, line_text, line_fields, is_too_long}
+use Rattle.tree_digest.specs.Steps.{ReadsLine, FailsInLine, FailsInOrder}
+use Rattle.tree_digest.specs.Listings.{FailsAt}
+use Rattle.tree_digest.proofs.Cuts.{cut_once}
+use Rattle.path_map.proofs.Ends.{has_cut}
 use Rattle.tree_digest.proofs.LineTexts.{entry_clear}
 
 -- a line and what follows it
@@ -34,9 +36,9 @@ pub fails_in_line : (before : List ListingLine) (text front rest : List ℕ) (fa
     → text ≡ front ++ 10 ∷ rest → HasNone 10 front → ReadsLine front (Err fault) → number ≡ length before + 1 → FailsInLine fault number error
     → (error ≡ NoMemory) ⊎ FailsAt before text error
 fails_in_line before text front rest Bad number error e none reads n is =
-    inr (subst (FailsAt before text) (sym is) (n, λ line more valid f. reads line (valid, line_cut text front rest line more e none f)))
+    inr (subst (FailsAt before text) (sym is) (n, λ line begins. reads line (begins.1, line_cut text front rest line begins.0 e none begins.2)))
 fails_in_line before text front rest TooLong number error e none reads n is =
-    inr (subst (FailsAt before text) (sym is) (n, (reads.0, rest, reads.1.0, line_back text front rest reads.0 e reads.1.1, reads.2)))
+    inr (subst (FailsAt before text) (sym is) (n, (reads.0, (rest, reads.1.0, line_back text front rest reads.0 e reads.1.1), reads.2)))
 fails_in_line before text front rest OutOfMemory number error e none reads n is = inl is
 
 -- the faults of a line's place
@@ -45,6 +47,6 @@ pub fails_in_order : (before : List ListingLine) (text front rest : List ℕ) (l
     → FailsAt before text error
 fails_in_order before text front rest line number error e is short n fails =
     ⊎_elim
-    (λ f. subst (FailsAt before text) (sym f.0) (n, (line, rest, is.0, line_back text front rest line e is.1, short, f.1)))
-    (λ f. subst (FailsAt before text) (sym f.0) (n, (line, rest, is.0, line_back text front rest line e is.1, short, f.1, f.2)))
+    (λ f. subst (FailsAt before text) (sym f.0) (n, (line, (rest, is.0, line_back text front rest line e is.1), short, f.1)))
+    (λ f. subst (FailsAt before text) (sym f.0) (n, (line, (rest, is.0, line_back text front rest line e is.1), short, f.1, f.2)))
     fails

@@ -2,6 +2,7 @@
 use Rattle.std.specs.Prelude.{◌≡◌, ℕ, ◌+◌, ◌/◌, ◌%◌, ◌≤◌, ◌==◌, nat_le, Bool, false, ◌||◌, List, [], ◌∷◌, ◌++◌, map, length, if◌then◌else◌, IsUtf8}
 use Rattle.std.specs.List.{list_any, flat_map}
 use Rattle.std.specs.Int.Digits.{digits_of}
+use Rattle.tree_digest.specs.declared.refusals.TheConstants.{MAX_TARGET}
 use Rattle.percent_encoding.specs.Percent.{percent_encode_byte}
 
 -- four octal digits
@@ -24,12 +25,8 @@ escaped text = flat_map (λ b. if is_escaped b then percent_encode_byte b else b
 pub record IsTarget (target : List ℕ) : Type 0 where
   pub text : IsUtf8 target
   pub some : 1 ≤ length target
-  pub short : length target ≤ 4095
+  pub short : length target ≤ MAX_TARGET
   pub no_nul : list_any (λ b. b == 0) target ≡ false
-
--- the byte isn't there
-abbrev pub HasNone : ℕ → List ℕ → Type 0
-HasNone c bytes = list_any (λ b. b == c) bytes ≡ false
 
 -- a field, and what follows it after a space
 abbrev pub field : List ℕ → List ℕ → List ℕ

@@ -1,5 +1,14 @@
+pub mod Digests
 pub mod ErrorTexts
 pub mod Fields
 pub mod FileChecks
 pub mod Lines
 pub mod Listings
+pub mod RefusalNumbers
+pub mod Steps
+pub use Rattle.path_map.specs.Paths
+pub use Rattle.path_map.specs.Entries
+pub use Rattle.path_map.specs.Overlay
+pub use Rattle.ac_types.specs.Ids
+pub use Rattle.hex.specs.Hex
+pub use Rattle.sha2.specs.Sha512

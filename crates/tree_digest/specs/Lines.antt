@@ -1,5 +1,5 @@
 -- The lines of a listing.
-use Rattle.std.specs.Prelude.{◌≡◌, ℕ, ◌<◌, Bool, false, nat_lt, List, [], ◌∷◌, ◌++◌, length, ⊤, true, Result, Ok, Err}
+use Rattle.std.specs.Prelude.{◌≡◌, ℕ, ◌<◌, Bool, false, nat_lt, List, [], ◌∷◌, ◌++◌, length}
 use Rattle.std.specs.List.{All}
 use Rattle.hex.specs.Hex.{encode_lower}
 use Rattle.path_map.specs.declared.entry.Meta.{Meta}
@@ -7,8 +7,7 @@ use Rattle.path_map.specs.declared.entry.Entry.{Entry}
 use Rattle.path_map.specs.declared.entry.Entry.TheVariants.{Dir, File, Link}
 use Rattle.path_map.specs.Paths.{IsAbsPath}
 use Rattle.tree_digest.specs.declared.line.ListingLine.{ListingLine}
-use Rattle.tree_digest.specs.declared.line_fault.LineFault.{LineFault}
-use Rattle.tree_digest.specs.declared.line_fault.LineFault.TheVariants.{Bad, TooLong, NoMemory as OutOfMemory}
+use Rattle.tree_digest.specs.declared.refusals.TheConstants.{MAX_FILE}
 use Rattle.tree_digest.specs.Fields.{octal_text, decimal_text, escaped, field, IsTarget}
 
 -- the mode and the owners, and what follows them
@@ -50,10 +49,10 @@ pub record IsLine (line : ListingLine) : Type 0 where
 abbrev pub IsLineOf : List ℕ → ListingLine → Type 0
 IsLineOf text line = IsLine line × (line_fields line ≡ text)
 
--- a file longer than 1,073,741,824 bytes
+-- a file longer than 1 GiB
 abbrev pub is_too_long : Entry → Bool
 is_too_long (Dir meta) = false
-is_too_long (File meta size sha) = nat_lt 1073741824 size
+is_too_long (File meta size sha) = nat_lt MAX_FILE size
 is_too_long (Link meta target) = false
 
 -- the mode of an entry
@@ -61,10 +60,3 @@ abbrev pub mode_of : Entry → ℕ
 mode_of (Dir meta) = meta.mode
 mode_of (File meta size sha) = meta.mode
 mode_of (Link meta target) = meta.mode
-
--- what reading a line answers: the line that the text is, that it is none, or that its file is too long
-abbrev pub ReadsLine : List ℕ → Result ListingLine LineFault → Type 0
-ReadsLine text (Ok line) = IsLineOf text line × (is_too_long line.entry ≡ false)
-ReadsLine text (Err Bad) = (line : ListingLine) → ¬ IsLineOf text line
-ReadsLine text (Err TooLong) = (line : ListingLine) × IsLineOf text line × (is_too_long line.entry ≡ true)
-ReadsLine text (Err OutOfMemory) = ⊤

@@ -1,5 +1,5 @@
 -- Listings: the texts of trees.
-use Rattle.std.specs.Prelude.{◌≡◌, ◌≢◌, ℕ, ◌+◌, ◌-◌, ◌<◌, ◌≤◌, ◌==◌, Bool, true, false, ◌&&◌, ◌||◌, List, [], ◌∷◌, ◌++◌, length, count_by, slice_index, if◌then◌else◌, Option, ⊤, ◌⊎◌, nat_lt, MatchBool, MatchOption, map}
+use Rattle.std.specs.Prelude.{◌≡◌, ℕ, ◌+◌, ◌-◌, ◌<◌, ◌≤◌, ◌==◌, Bool, true, false, ◌&&◌, ◌||◌, List, [], ◌∷◌, ◌++◌, length, count_by, slice_index, if◌then◌else◌, ⊤, ◌⊎◌, nat_lt, MatchBool, map}
 use Rattle.std.specs.List.{flat_map, list_any, slice_get}
 use Rattle.std.specs.Option.{option_map_or}
 use Rattle.std.specs.Ordering.{nat_cmp}
@@ -8,13 +8,12 @@ use Rattle.std.specs.Cmp.Lexicographic.{slice_cmp}
 use Rattle.std.specs.Str.{bytes_eq}
 use Rattle.path_map.specs.declared.entry.Entry.{Entry}
 use Rattle.path_map.specs.declared.entry.Entry.TheVariants.{Dir, File, Link}
-use Rattle.path_map.specs.Entries.{Entries, is_directory}
+use Rattle.path_map.specs.Entries.{Entries, Tree, EachEntry, is_directory}
 use Rattle.tree_digest.specs.declared.line.ListingLine.{ListingLine}
-use Rattle.tree_digest.specs.declared.line_fault.LineFault.{LineFault}
-use Rattle.tree_digest.specs.declared.line_fault.LineFault.TheVariants.{Bad, TooLong, NoMemory as OutOfMemory}
+use Rattle.tree_digest.specs.declared.refusals.TheConstants.{MAX_LINES, MAX_BYTES, MAX_FILE, MAX_TARGET}
 use Rattle.tree_digest.specs.declared.listing_error.ListingError.{ListingError}
 use Rattle.tree_digest.specs.declared.listing_error.ListingError.TheVariants.{BadLine, NotSorted, NoParent, TooMany, FileTooLong, NoMemory}
-use Rattle.tree_digest.specs.Fields.{HasNone}
+use Rattle.path_map.specs.Paths.{HasNone, EndsIn}
 use Rattle.tree_digest.specs.Lines.{IsLine, line_text, is_too_long}
 
 -- the text of a list of lines: one after the other
@@ -32,11 +31,6 @@ has_directory lines path = list_any (λ line. bytes_eq line.path path && is_dire
 -- a path is the root or that of a directory
 abbrev pub is_parent : List ListingLine → List ℕ → Bool
 is_parent lines parent = (length parent == 0) || has_directory lines parent
-
--- the path's part before its last slash, and the part after it
-pub record EndsIn (path parent name : List ℕ) : Type 0 where
-  pub text : path ≡ parent ++ 47 ∷ name
-  pub last : HasNone 47 name
 
 -- the line comes after all lines before
 abbrev pub Rises : List ListingLine → ListingLine → Type 0
@@ -61,36 +55,36 @@ line_count text = count_by (λ b. b == 10) text + (if (length text == 0) || (sli
 -- lines that are a listing
 pub record IsListing (lines : List ListingLine) : Type 0 where
   pub follow : AllFollow [] lines
-  pub count : length lines ≤ 65536
-  pub size : length (listing_text lines) ≤ 33554432
+  pub count : length lines ≤ MAX_LINES
+  pub size : length (listing_text lines) ≤ MAX_BYTES
+
+-- the text begins with the line
+abbrev pub BeginsWith : List ℕ → ListingLine → Type 0
+BeginsWith text line = (rest : List ℕ) × IsLine line × (text ≡ line_text line ++ rest)
+
+-- the line's parent isn't the root and not a directory of the lines before
+abbrev pub LacksParent : List ListingLine → ListingLine → Type 0
+LacksParent before line =
+    (parent : List ℕ) × (name : List ℕ) × EndsIn line.path parent name × (is_parent before parent ≡ false)
 
 -- why the line that begins a text may not follow the lines before
 abbrev pub FailsAt : List ListingLine → List ℕ → ListingError → Type 0
-FailsAt before text (BadLine n) = (n ≡ length before + 1) × ((line : ListingLine) (rest : List ℕ) → IsLine line → text ≢ line_text line ++ rest)
-FailsAt before text (FileTooLong n) = (n ≡ length before + 1) × ((line : ListingLine) × (rest : List ℕ) × IsLine line × (text ≡ line_text line ++ rest) × (is_too_long line.entry ≡ true))
-FailsAt before text (NotSorted n) = (n ≡ length before + 1) × ((line : ListingLine) × (rest : List ℕ) × IsLine line × (text ≡ line_text line ++ rest) × (is_too_long line.entry ≡ false) × ¬ Rises before line)
-FailsAt before text (NoParent n) = (n ≡ length before + 1) × ((line : ListingLine) × (rest : List ℕ) × IsLine line × (text ≡ line_text line ++ rest) × (is_too_long line.entry ≡ false) × Rises before line
-    × ((parent : List ℕ) × (name : List ℕ) × EndsIn line.path parent name × (is_parent before parent ≡ false)))
+FailsAt before text (BadLine n) = (n ≡ length before + 1) × ((line : ListingLine) → ¬ BeginsWith text line)
+FailsAt before text (FileTooLong n) =
+    (n ≡ length before + 1) × ((line : ListingLine) × BeginsWith text line × (is_too_long line.entry ≡ true))
+FailsAt before text (NotSorted n) =
+    (n ≡ length before + 1)
+    × ((line : ListingLine) × BeginsWith text line × (is_too_long line.entry ≡ false) × ¬ Rises before line)
+FailsAt before text (NoParent n) =
+    (n ≡ length before + 1)
+    × ((line : ListingLine) × BeginsWith text line × (is_too_long line.entry ≡ false) × Rises before line × LacksParent before line)
 FailsAt before text (TooMany limit) = ⊥
 FailsAt before text NoMemory = ⊥
 
--- what keeps a line from following the lines before, if anything
-abbrev pub FailsInOrder : List ListingLine → ListingLine → ℕ → Option ListingError → Type 0
-FailsInOrder before line number result =
-    MatchOption result
-    (Rises before line × ((parent name : List ℕ) → EndsIn line.path parent name → is_parent before parent ≡ true))
-    (λ error. ((error ≡ NotSorted number) × ¬ Rises before line)
-    ⊎ ((error ≡ NoParent number) × Rises before line × ((parent : List ℕ) × (name : List ℕ) × EndsIn line.path parent name × (is_parent before parent ≡ false))))
-
--- the error of a line's fault
-abbrev pub FailsInLine : LineFault → ℕ → ListingError → Type 0
-FailsInLine Bad number error = error ≡ BadLine number
-FailsInLine TooLong number error = error ≡ FileTooLong number
-FailsInLine OutOfMemory number error = error ≡ NoMemory
-
 -- a text of too many lines or bytes
 abbrev pub IsTooMany : List ℕ → ListingError → Type 0
-IsTooMany text error = MatchBool (nat_lt 65536 (line_count text)) (error ≡ TooMany 65536) ((33554432 < length text) × (error ≡ TooMany 33554432))
+IsTooMany text error =
+    MatchBool (nat_lt MAX_LINES (line_count text)) (error ≡ TooMany MAX_LINES) ((MAX_BYTES < length text) × (error ≡ TooMany MAX_BYTES))
 
 -- a text goes wrong at the first line that does not follow those before it
 pub record StopsAt (text : List ℕ) (error : ListingError) : Type 0 where
@@ -103,7 +97,7 @@ pub record StopsAt (text : List ℕ) (error : ListingError) : Type 0 where
 
 -- the text has at most 65,536 lines and 33,554,432 bytes
 abbrev pub Fits : List ℕ → Type 0
-Fits text = (line_count text ≤ 65536) × (length text ≤ 33554432)
+Fits text = (line_count text ≤ MAX_LINES) × (length text ≤ MAX_BYTES)
 
 -- the first fault of a text: too many lines, too many bytes, or at the first line that has one
 abbrev pub Fails : List ℕ → ListingError → Type 0
@@ -120,9 +114,14 @@ lines_of entries = map (λ e. record { path = e.0; entry = e.1 }) entries
 -- bytes, a target of 1 to 4,095 bytes without NUL
 abbrev pub IsListable : Entry → Type 0
 IsListable (Dir meta) = meta.mode < 4096
-IsListable (File meta size sha) = (meta.mode < 4096) × (size ≤ 1073741824)
-IsListable (Link meta target) = (meta.mode < 4096) × (1 ≤ length target) × (length target ≤ 4095) × HasNone 0 target
+IsListable (File meta size sha) = (meta.mode < 4096) × (size ≤ MAX_FILE)
+IsListable (Link meta target) = (meta.mode < 4096) × (1 ≤ length target) × (length target ≤ MAX_TARGET) × HasNone 0 target
+
+-- each entry of a tree may stand in a listing
+abbrev pub AreListable : Tree → Type 0
+AreListable tree = EachEntry (λ path entry. IsListable entry) tree
 
 -- too many lines, or too long a text of them
 abbrev pub IsTooLarge : List ListingLine → ListingError → Type 0
-IsTooLarge lines error = MatchBool (nat_lt 65536 (length lines)) (error ≡ TooMany 65536) ((33554432 < length (listing_text lines)) × (error ≡ TooMany 33554432))
+IsTooLarge lines error =
+    MatchBool (nat_lt MAX_LINES (length lines)) (error ≡ TooMany MAX_LINES) ((MAX_BYTES < length (listing_text lines)) × (error ≡ TooMany MAX_BYTES))

@@ -1,7 +1,10 @@
+//! Escaped paths and targets.
+
 ghost use Rattle.std.specs.Prelude.{◌≡◌, ◌≢◌, ◌++◌, ◌↔◌, ℕ, List, IsTrue, IfOk, IfErr, IfSome, IfNone, IsUtf8, OnOk, string_bytes};
 ghost use Rattle.tree_digest.specs.Fields.{escaped, IsTarget};
 ghost use Rattle.path_map.specs.Paths.{IsAbsPath};
 
+use crate::refusals::MAX_TARGET;
 use ac_types::{NoMemory, Text};
 use path_map::{AbsPath, PathError};
 use percent_encoding::{AsciiSet, CONTROLS, ascii_set, percent_decode, percent_encode};
@@ -106,7 +109,7 @@ pub(crate) fn is_target(text: &str) -> bool
     ensures { IsTrue result ↔ IsTarget text.now }
 {
     let bytes = text.as_bytes();
-    !bytes.is_empty() && bytes.len() <= 4095 && !bytes.contains(&0)
+    !bytes.is_empty() && bytes.len() <= MAX_TARGET && !bytes.contains(&0)
 }
 
 /// Appends the escaping of a text.

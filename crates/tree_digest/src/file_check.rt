@@ -1,3 +1,5 @@
+//! The check of a file's bytes.
+
 ghost use Rattle.std.specs.Prelude.{◌≡◌, ◌↔◌, ◌++◌, ℕ, List, [], length, IsTrue};
 ghost use Rattle.sha2.specs.Sha512.{sha512};
 ghost use Rattle.tree_digest.specs.FileChecks.{HasTaken, less_by};

@@ -1,3 +1,5 @@
+//! Why a line was not read.
+
 ghost use Rattle.std.specs.Prelude.{◌≡◌, ◌≢◌};
 
 use crate::escapes::FieldFault;

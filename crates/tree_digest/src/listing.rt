@@ -1,12 +1,14 @@
+//! Listings.
+
 ghost use Rattle.std.specs.Prelude.{◌≡◌, ◌⊎◌, IfOk, IfErr};
-ghost use Rattle.sha2.specs.Sha512.{sha512};
+ghost use Rattle.tree_digest.specs.Digests.{tree_digest, image_digest};
 ghost use Rattle.tree_digest.specs.Listings.{listing_text, IsListing, Fails};
 
 use crate::line::ListingLine;
 use crate::listing_error::ListingError;
 use crate::read_lines::{limit_fault, read_lines};
 use crate::write_line::write_line;
-use ac_types::{NoMemory, TryCopy};
+use ac_types::{ImageId, NoMemory, TryCopy, lower_hex};
 use sha2::{Digest, Sha512};
 use std::alloc::Global;
 use std::marker::Model;
@@ -44,6 +46,7 @@ impl Listing {
     /// the first line with a fault `BadLine`, `FileTooLong`, `NotSorted`, `NoParent`.
     pub fn read(alloc: Global, bytes: &[u8]) -> Result<Listing, ListingError>
         ensures ok { IfOk result (λ listing. bytes.now ≡ listing_text listing) }
+        ensures kind { IfOk result IsListing }
         ensures fault { IfErr result (λ e. (e ≡ ListingError.NoMemory) ⊎ Fails bytes.now e) }
     {
         if let Some(error) = limit_fault(bytes) {
@@ -77,10 +80,32 @@ impl Listing {
 
     /// The SHA-512 of its text.
     pub fn digest(&self, alloc: Global) -> Result<[u8; 64], NoMemory>
-        ensures { IfOk result (λ digest. digest ≡ sha512 (listing_text self.now)) }
+        ensures { IfOk result (λ digest. digest ≡ tree_digest self.now) }
     {
         let text = self.write(alloc)?;
         Ok(Sha512::digest(&text))
+    }
+
+    /// The digest of the image with that ID, that text of its manifest and this listing:
+    /// the SHA-512 of the ID's text, a line end, the SHA-512 of the manifest's bytes in
+    /// lower-case hex digits, a line end, and the listing's text.
+    pub fn image_digest(
+        &self,
+        alloc: Global,
+        id: ImageId,
+        manifest: &[u8],
+    ) -> Result<[u8; 64], NoMemory>
+        ensures { IfOk result (λ digest. digest ≡ image_digest id manifest.now self.now) }
+    {
+        let name = id.text(alloc)?;
+        let text = self.write(alloc)?;
+        let mut hasher = Sha512::new();
+        hasher.update(name.as_str().as_bytes());
+        hasher.update(b"\n");
+        hasher.update(&lower_hex(&Sha512::digest(manifest)));
+        hasher.update(b"\n");
+        hasher.update(&text);
+        Ok(hasher.finalize())
     }
 
     /// An equal listing.

@@ -1,6 +1,10 @@
-ghost use Rattle.std.specs.Prelude.{Some};
-ghost use Rattle.tree_digest.specs.ErrorTexts.{listing_error_text};
+//! Why a text is no listing.
 
+ghost use Rattle.std.specs.Prelude.{◌≡◌, Some};
+ghost use Rattle.tree_digest.specs.ErrorTexts.{listing_error_text};
+ghost use Rattle.tree_digest.specs.RefusalNumbers.{listing_error_number};
+
+use crate::refusals::{BAD_LINE, FILE_TOO_LONG, NO_PARENT, NOT_SORTED, TOO_MANY};
 use ac_types::NoMemory;
 use std::error::Error;
 use std::fmt;
@@ -20,6 +24,22 @@ pub enum ListingError {
     FileTooLong(usize),
     /// Memory ran out.
     NoMemory,
+}
+
+impl ListingError {
+    /// The number by which the refusal is printed; want of memory has none.
+    pub fn number(self) -> Option<u8>
+        ensures { result ≡ listing_error_number self }
+    {
+        match self {
+            ListingError::BadLine(_) => Some(BAD_LINE),
+            ListingError::NotSorted(_) => Some(NOT_SORTED),
+            ListingError::NoParent(_) => Some(NO_PARENT),
+            ListingError::TooMany(_) => Some(TOO_MANY),
+            ListingError::FileTooLong(_) => Some(FILE_TOO_LONG),
+            ListingError::NoMemory => None,
+        }
+    }
 }
 
 impl From<NoMemory> for ListingError {

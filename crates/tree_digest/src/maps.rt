@@ -1,18 +1,18 @@
+//! The listings of maps, and the maps of listings.
+
 ghost use Rattle.std.specs.Prelude.{◌≡◌, ◌≤◌, ◌<◌, ◌↔◌, ◌⊎◌, ℕ, List, [], length, IsTrue, IfOk, IfErr};
 ghost use Rattle.std.specs.List.{All};
 ghost use Rattle.path_map.specs.declared.entry.Meta.{Meta};
-ghost use Rattle.path_map.specs.Entries.{IsPathMap, entry_at};
-ghost use Rattle.path_map.specs.Overlay.{HasParents};
+ghost use Rattle.path_map.specs.Entries.{entry_at};
 ghost use Rattle.tree_digest.specs.Lines.{IsMeta, IsEntry, mode_of};
-ghost use Rattle.tree_digest.specs.Listings.{listing_text, entries_of, lines_of, IsListable, IsTooLarge, AllFollow};
+ghost use Rattle.tree_digest.specs.Listings.{listing_text, entries_of, lines_of, IsListable, AreListable, IsTooLarge, AllFollow};
 
 use crate::escapes::is_target;
 use crate::line::ListingLine;
 use crate::listing::Listing;
 use crate::listing_error::ListingError;
 use crate::read_fields::fit_bytes;
-use crate::read_lines::{MAX_BYTES, MAX_LINES};
-use crate::write_line::write_line;
+use crate::refusals::{MAX_BYTES, MAX_FILE, MAX_LINES};
 use ac_types::NoMemory;
 use path_map::{Entry, Meta, PathMap};
 use std::alloc::Global;
@@ -24,17 +24,28 @@ pub fn is_listable(entry: &Entry) -> bool
 {
     match entry {
         Entry::Dir(meta) => meta.mode < 4096,
-        Entry::File { meta, size, .. } => meta.mode < 4096 && *size <= 1_073_741_824,
+        Entry::File { meta, size, .. } => meta.mode < 4096 && *size <= MAX_FILE,
         Entry::Link { meta, target } => meta.mode < 4096 && is_target(target.as_str()),
     }
+}
+
+/// Whether each entry of a map may stand in a listing.
+pub fn are_listable(map: &PathMap) -> bool
+    ensures { IsTrue result ↔ AreListable (entry_at map.now) }
+{
+    for (_path, entry) in map.iter() {
+        if !is_listable(entry) {
+            return false;
+        }
+    }
+    true
 }
 
 impl Listing {
     /// The listing of the entries of a map. `TooMany` where there are more than 65,536
     /// of them, or else where their text has more than 33,554,432 bytes.
     pub fn of_map(alloc: Global, map: &PathMap) -> Result<Listing, ListingError>
-        requires parents { HasParents (entry_at map.now) }
-        requires entries { All (λ e. IsListable e.1) map.now }
+        requires { AreListable (entry_at map.now) }
         ensures ok { IfOk result (λ listing. listing ≡ lines_of map.now) }
         ensures fault { IfErr result (λ e. (e ≡ ListingError.NoMemory) ⊎ IsTooLarge (lines_of map.now) e) }
     {
@@ -50,7 +61,8 @@ impl Listing {
 
     /// The map of the same entries.
     pub fn to_map(&self, alloc: Global) -> Result<PathMap, NoMemory>
-        ensures { IfOk result (λ map. map ≡ entries_of self.now) }
+        ensures map { IfOk result (λ map. map ≡ entries_of self.now) }
+        ensures listable { IfOk result (λ map. AreListable (entry_at map)) }
     {
         let lines = self.as_slice();
         let mut map = PathMap::new(alloc);
@@ -65,8 +77,7 @@ impl Listing {
 
 /// The lines of the entries of a map, each after those that it may follow.
 fn copied_lines(alloc: Global, map: &PathMap) -> Result<Vec<ListingLine>, NoMemory>
-    requires parents { HasParents (entry_at map.now) }
-    requires entries { All (λ e. IsListable e.1) map.now }
+    requires { AreListable (entry_at map.now) }
     ensures lines { IfOk result (λ lines. lines.items ≡ lines_of map.now) }
     ensures follow { IfOk result (λ lines. AllFollow [] lines.items) }
 {
@@ -109,16 +120,15 @@ fn fit_meta(meta: Meta)
 /// Whether the text of some lines has at most 33,554,432 bytes.
 fn text_fits(alloc: Global, lines: &[ListingLine]) -> Result<bool, NoMemory>
     requires { All (λ line. mode_of line.entry < 4096) lines.now }
-    ensures { IfOk result (λ fits. IsTrue fits ↔ (length (listing_text lines.now) ≤ 33554432)) }
+    ensures { IfOk result (λ fits. IsTrue fits ↔ (length (listing_text lines.now) ≤ MAX_BYTES)) }
 {
     let mut total = 0;
     for line in lines {
-        let mut text = Vec::new(alloc);
-        write_line(alloc, &mut text, line)?;
-        if text.len() > MAX_BYTES - total {
+        let bytes = line.text_len(alloc)?;
+        if bytes > MAX_BYTES - total {
             return Ok(false);
         }
-        total += text.len();
+        total += bytes;
     }
     Ok(true)
 }

@@ -1,3 +1,5 @@
+//! Octal and decimal numbers.
+
 ghost use Rattle.std.specs.Prelude.{◌≡◌, ◌≢◌, ◌<◌, ◌++◌, ℕ, List, [], ◌∷◌, ◌≤◌, min, IfSome, IfNone, OnOk, OnErr};
 ghost use Rattle.tree_digest.specs.Fields.{octal_text, decimal_text};
 

@@ -1,13 +1,16 @@
+//! The fields of a line.
+
 ghost use Rattle.std.specs.Prelude.{◌≡◌, ◌≢◌, ◌<◌, ℕ, List, length, min, IfSome, IfNone};
 ghost use Rattle.std.specs.List.{All};
 ghost use Rattle.hex.specs.Hex.{encode_lower};
 ghost use Rattle.path_map.specs.declared.entry.Meta.{Meta};
-ghost use Rattle.tree_digest.specs.Fields.{octal_text, decimal_text, field, HasNone};
+ghost use Rattle.tree_digest.specs.Fields.{octal_text, decimal_text, field};
+ghost use Rattle.path_map.specs.Paths.{HasNone};
 ghost use Rattle.tree_digest.specs.Lines.{meta_text, IsMeta};
 
 use crate::escapes::same;
 use crate::numbers::{MOST, read_decimal, read_octal};
-use crate::write_line::hex_of;
+use ac_types::lower_hex;
 use path_map::Meta;
 
 /// The part before the first space, and the part after it.
@@ -86,7 +89,7 @@ fn sha_of(digits: &[u8]) -> Option<[u8; 64]>
     if hex::decode_to_slice(digits, &mut sha).is_err() {
         return None;
     }
-    let again = hex_of(&sha);
+    let again = lower_hex(&sha);
     if !same(&again, digits) {
         return None;
     }

@@ -1,15 +1,15 @@
+//! Reading a line.
+
 ghost use Rattle.std.specs.Prelude.{◌≡◌, ◌∷◌};
-ghost use Rattle.tree_digest.specs.Lines.{ReadsLine};
+ghost use Rattle.tree_digest.specs.Steps.{ReadsLine};
 
 use crate::escapes::{read_path, read_target};
 use crate::line::ListingLine;
 use crate::line_fault::{LineFault, line_fault};
 use crate::read_fields::{cut, read_meta, read_number, read_sha};
+use crate::refusals::MAX_FILE;
 use path_map::Entry;
 use std::alloc::Global;
-
-/// The most bytes of a file: 1 GiB.
-const MAX_SIZE: u64 = 1_073_741_824;
 
 /// The line that a text without its end is.
 pub(crate) fn read_line(alloc: Global, text: &[u8]) -> Result<ListingLine, LineFault>
@@ -55,7 +55,7 @@ fn read_file(alloc: Global, text: &[u8]) -> Result<ListingLine, LineFault>
     match read_path(alloc, found.1) {
         Ok(path) => {
             let sha = found.0;
-            if size > MAX_SIZE {
+            if size > MAX_FILE {
                 return Err(LineFault::TooLong);
             }
             Ok(ListingLine {

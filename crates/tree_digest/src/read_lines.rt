@@ -1,19 +1,16 @@
+//! Reading the lines of a text.
+
 ghost use Rattle.std.specs.Prelude.{◌≡◌, ◌⊎◌, ◌++◌, ◌∷◌, [], ℕ, List, length, IfOk, IfErr, OnOk, MatchOption, slice_index, ◌==◌, ◌||◌, ◌-◌};
 ghost use Rattle.std.specs.HashSet.{contains_text};
 ghost use Rattle.tree_digest.specs.Listings.{listing_text, has_directory, AllFollow, StopsAt, IsTooMany, Fits, line_count};
 
 use crate::line::ListingLine;
 use crate::listing_error::ListingError;
+use crate::refusals::{MAX_BYTES, MAX_LINES};
 use crate::take_line::{note, take_line};
 use ac_types::NoMemory;
 use std::alloc::Global;
 use std::collections::HashSet;
-
-/// The most lines of a listing.
-pub(crate) const MAX_LINES: usize = 65_536;
-
-/// The most bytes of a listing's text.
-pub(crate) const MAX_BYTES: usize = 33_554_432;
 
 /// The lines of a text, each after those that it may follow.
 pub(crate) fn read_lines(alloc: Global, bytes: &[u8]) -> Result<Vec<ListingLine>, ListingError>

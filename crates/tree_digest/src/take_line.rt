@@ -1,3 +1,5 @@
+//! Taking the first line of a text.
+
 ghost use Rattle.std.specs.Prelude.{◌≡◌, ◌≢◌, ◌↔◌, ◌⊎◌, ℕ, ◌+◌, ◌<◌, ◌||◌, ◌&&◌, ◌==◌, ◌++◌, ◌∷◌, List, length, IsTrue, IfOk, IfErr, IfSome, IfNone, OnOk, slice_index};
 ghost use Rattle.std.specs.Ordering.{nat_cmp};
 ghost use Rattle.std.specs.declared.cmp.Ordering.TheVariants.{Less};
@@ -5,17 +7,16 @@ ghost use Rattle.std.specs.Cmp.Lexicographic.{slice_cmp};
 ghost use Rattle.std.specs.Str.{bytes_eq};
 ghost use Rattle.std.specs.HashSet.{contains_text};
 ghost use Rattle.path_map.specs.Entries.{is_directory};
-ghost use Rattle.path_map.specs.Paths.{IsAbsPath};
-ghost use Rattle.tree_digest.specs.Fields.{HasNone};
+ghost use Rattle.path_map.specs.Paths.{IsAbsPath, HasNone, EndsIn};
 ghost use Rattle.tree_digest.specs.Lines.{line_text};
-ghost use Rattle.tree_digest.specs.Listings.{last_path, has_directory, is_parent, EndsIn, Rises, Follows, FailsAt, FailsInOrder, FailsInLine};
+ghost use Rattle.tree_digest.specs.Listings.{last_path, has_directory, is_parent, Rises, Follows, FailsAt};
+ghost use Rattle.tree_digest.specs.Steps.{FailsInOrder, FailsInLine};
 
 use crate::line::ListingLine;
 use crate::line_fault::LineFault;
 use crate::listing_error::ListingError;
 use crate::read_line::read_line;
 use ac_types::NoMemory;
-use path_map::{AbsPath, Entry};
 use std::alloc::Global;
 use std::collections::HashSet;
 
@@ -78,11 +79,10 @@ fn order_fault(
     requires { (q : List ℕ) → contains_text directories.now q ≡ has_directory lines.now q }
     ensures { FailsInOrder lines.now line.now number result }
 {
-    let path = line.path.as_str();
-    if !rises(last_path(lines), path) {
+    if !rises(last_path(lines), line.path.as_str()) {
         return Some(ListingError::NotSorted(number));
     }
-    if !is_parent(directories, parent_of(path)) {
+    if !is_parent(directories, line.path.parent_text()) {
         return Some(ListingError::NoParent(number));
     }
     None
@@ -110,21 +110,6 @@ fn is_parent(directories: &HashSet<String>, path: &str) -> bool
     ensures { result ≡ ((length path.now == 0) || contains_text directories.now path.now) }
 {
     path.is_empty() || directories.contains(path)
-}
-
-/// What comes before the last slash of a path.
-fn parent_of(path: &str) -> &str
-    requires { slice_index path.now 0 ≡ 47 }
-    ensures { (name : List ℕ) × EndsIn path.now result.now name }
-{
-    let bytes = path.as_bytes();
-    let mut end = 0;
-    for place in 1..bytes.len() {
-        if bytes[place] == b'/' {
-            end = place;
-        }
-    }
-    &path[..end]
 }
 
 /// Adds a line's path to the directories, where it is one.

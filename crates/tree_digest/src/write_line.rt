@@ -1,3 +1,5 @@
+//! Writing a line.
+
 ghost use Rattle.std.specs.Prelude.{◌≡◌, ◌<◌, ◌++◌, ◌∷◌, [], ℕ, List, OnOk};
 ghost use Rattle.hex.specs.Hex.{encode_lower};
 ghost use Rattle.tree_digest.specs.Fields.{octal_text, decimal_text, escaped, field};
@@ -6,7 +8,7 @@ ghost use Rattle.tree_digest.specs.Lines.{line_text, entry_text, meta_text, mode
 use crate::escapes::write_escaped;
 use crate::line::ListingLine;
 use crate::numbers::{write_decimal, write_octal};
-use ac_types::NoMemory;
+use ac_types::{NoMemory, lower_hex};
 use path_map::{Entry, Meta};
 use std::alloc::Global;
 
@@ -81,22 +83,9 @@ fn write_size(alloc: Global, out: &mut Vec<u8>, size: u64) -> Result<(), NoMemor
 fn write_sha(out: &mut Vec<u8>, sha: &[u8; 64]) -> Result<(), NoMemory>
     ensures { OnOk result (out.new.items ≡ out.old.items ++ field (encode_lower sha.now) []) }
 {
-    let digits = hex_of(sha);
-    out.extend_from_slice(&digits)?;
+    out.extend_from_slice(&lower_hex(sha))?;
     out.push(b' ')?;
     Ok(())
-}
-
-/// The hex digits of a SHA-512.
-pub(crate) fn hex_of(sha: &[u8; 64]) -> [u8; 128]
-    ensures { result ≡ encode_lower sha.now }
-{
-    let mut digits = [0; 128];
-    let written = hex::encode_to_slice(sha.as_slice(), &mut digits);
-    match written {
-        Ok(()) => digits,
-        Err(_) => unreachable!(),
-    }
 }
 
 /// Appends a target and a space.

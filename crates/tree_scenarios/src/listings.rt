@@ -1,6 +1,10 @@
+//! Listings: read, written, made of maps, refused; digests and checks of files.
+
+use ac_types::{ImageId, Text};
+use path_map::{AbsPath, Entry, Meta, PathMap};
 use std::alloc::Global;
 use std::test::Fail;
-use tree_digest::{FileCheck, Listing, ListingError};
+use tree_digest::{FileCheck, Listing, ListingError, ListingLine, are_listable};
 
 /// The hex digits of the SHA-512 of `abc`.
 const ABC: &str =
@@ -14,6 +18,11 @@ const NIL: &str =
 const DIGEST: &str =
     "cc1e631d14b977e26525ad8e1d202e2a16bdb5da9de9e813171fdfcb3117b1e87820b1c7120e1fd66f734a830f07fea474cfc22665e571ac510679cfe9b28654";
 
+/// The digest of the image with that listing, 128 times `c` as the digits of its ID and `{}` as its
+/// manifest, as sha512sum answers it.
+const IMAGE_DIGEST: &str =
+    "ec3ae0a1a3d36bd8ada385ba2b62f23c4272c87fe4d21906e9f24b19ebbda808ec5d31c0291445cd9a4cd65494cb52e74582daeaefa2bdc3f4206c1efec49692";
+
 /// The bytes of 128 hex digits.
 fn sha(digits: &str) -> Result<[u8; 64], Fail> {
     let mut bytes = [0; 64];
@@ -25,9 +34,99 @@ fn sha(digits: &str) -> Result<[u8; 64], Fail> {
 
 /// The listing of the map of a listing.
 fn again(alloc: Global, listing: &Listing) -> Result<Listing, ListingError> {
-    let _lines = listing.as_slice();
     let map = listing.to_map(alloc)?;
     Listing::of_map(alloc, &map)
+}
+
+/// The listing of a map whose entries may stand in one.
+fn listed(alloc: Global, map: &PathMap) -> Result<Listing, Fail> {
+    if !are_listable(map) {
+        return Err(Fail::from("an entry"));
+    }
+    Ok(Listing::of_map(alloc, map)?)
+}
+
+/// Owners 0:0.
+fn owned(mode: u16) -> Meta {
+    Meta {
+        mode,
+        uid: 0,
+        gid: 0,
+    }
+}
+
+/// The map with one entry more.
+fn with(alloc: Global, map: PathMap, path: &str, entry: Entry) -> Result<PathMap, Fail> {
+    Ok(map.overlay(alloc, AbsPath::parse(alloc, path)?, entry)?)
+}
+
+/// `/bin`, `/bin/abc` with `abc`, the empty `/e`, and `/l` that links to `bin/abc`, laid over nothing.
+fn small_map(alloc: Global) -> Result<PathMap, Fail> {
+    let link = Entry::Link {
+        meta: owned(0o777),
+        target: Text::of(alloc, "bin/abc")?,
+    };
+    let map = with(alloc, PathMap::new(alloc), "/l", link)?;
+    let file = Entry::File {
+        meta: owned(0o755),
+        size: 3,
+        sha: sha(ABC)?,
+    };
+    let map = with(alloc, map, "/bin/abc", file)?;
+    let empty = Entry::File {
+        meta: owned(0o644),
+        size: 0,
+        sha: sha(NIL)?,
+    };
+    with(alloc, map, "/e", empty)
+}
+
+#[test]
+fn a_map_is_listed(rt: HostRuntime) -> Result<(), Fail> {
+    let alloc = rt.alloc();
+    let map = small_map(alloc)?;
+    assert!(&rt; map.len() == 4);
+    let listing = listed(alloc, &map)?;
+    assert!(&rt; listing.digest(alloc)? == sha(DIGEST)?);
+    let digits = "c".repeat(alloc, 128)?;
+    let id = ImageId::parse(format!(in alloc; "sha512-{digits}")?.as_str())?;
+    let digest = listing.image_digest(alloc, id, b"{}")?;
+    assert!(&rt; digest == sha(IMAGE_DIGEST)?);
+    let long = with(alloc, map, "/m", Entry::Dir(owned(0o10000)))?;
+    assert!(&rt; !are_listable(&long));
+    Ok(())
+}
+
+/// A directory with mode 0755 and owners 0:0.
+const DIRECTORY: Meta = Meta {
+    mode: 0o755,
+    uid: 0,
+    gid: 0,
+};
+
+const ESCAPES: &[(&str, &[u8])] = &[
+    ("/a b", b"d 0755 0 0 /a%20b\n"),
+    ("/\u{e9}", b"d 0755 0 0 /%C3%A9\n"),
+];
+
+/// How many bytes the line of such a directory takes.
+fn directory_len(alloc: Global, path: &str) -> Result<usize, Fail> {
+    let line = ListingLine {
+        path: AbsPath::parse(alloc, path)?,
+        entry: Entry::Dir(DIRECTORY),
+    };
+    Ok(line.text_len(alloc)?)
+}
+
+#[test]
+fn a_path_is_escaped(rt: HostRuntime) -> Result<(), Fail> {
+    let alloc = rt.alloc();
+    for &(path, text) in ESCAPES {
+        let map = with(alloc, PathMap::new(alloc), path, Entry::Dir(DIRECTORY))?;
+        assert!(&rt; listed(alloc, &map)?.write(alloc)?.as_slice() == text);
+        assert!(&rt; directory_len(alloc, path)? == text.len());
+    }
+    Ok(())
 }
 
 #[test]
@@ -67,6 +166,7 @@ fn escapes_are_read_and_written(rt: HostRuntime) -> Result<(), Fail> {
 
 const FAULTS: &[(&[u8], ListingError)] = &[
     (b"d 755 0 0 /b\n", ListingError::BadLine(1)),
+    (b"d 0755 0 0 /a/b\n", ListingError::NoParent(1)),
     (b"d 0855 0 0 /b\n", ListingError::BadLine(1)),
     (b"d 0755 00 0 /b\n", ListingError::BadLine(1)),
     (b"d 0755 4294967296 0 /b\n", ListingError::BadLine(1)),
@@ -100,6 +200,23 @@ fn the_first_fault_is_found(rt: HostRuntime) -> Result<(), Fail> {
     let alloc = rt.alloc();
     for (text, wanted) in FAULTS {
         assert!(&rt; fault(alloc, text).as_ref() == Some(wanted));
+    }
+    Ok(())
+}
+
+const NUMBERS: &[(ListingError, Option<u8>)] = &[
+    (ListingError::BadLine(1), Some(40)),
+    (ListingError::NotSorted(2), Some(41)),
+    (ListingError::NoParent(1), Some(42)),
+    (ListingError::TooMany(65536), Some(43)),
+    (ListingError::FileTooLong(1), Some(44)),
+    (ListingError::NoMemory, None),
+];
+
+#[test]
+fn refusals_have_numbers(rt: HostRuntime) -> Result<(), Fail> {
+    for (error, number) in NUMBERS {
+        assert!(&rt; error.number() == *number);
     }
     Ok(())
 }

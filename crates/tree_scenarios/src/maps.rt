@@ -1,3 +1,5 @@
+//! Paths, overlays and whitelists.
+
 use ac_types::Text;
 use path_map::{AbsPath, Entry, Listed, Meta, PathError, PathMap};
 use std::alloc::Global;
@@ -127,27 +129,32 @@ fn a_whitelist_keeps_what_it_names(rt: HostRuntime) -> Result<(), Fail> {
     Ok(())
 }
 
-const BAD_PATHS: &[(&str, PathError)] = &[
-    ("", PathError::NotAbsolute),
-    ("a/..", PathError::NotAbsolute),
-    ("/a/..", PathError::DotSegment),
-    ("/a//.", PathError::DotSegment),
-    ("/a\0", PathError::DotSegment),
-    ("/", PathError::SegmentLength),
-    ("/a//b", PathError::SegmentLength),
-    ("/a/", PathError::SegmentLength),
+const BAD_PATHS: &[(&str, PathError, u8)] = &[
+    ("", PathError::NotAbsolute, 30),
+    ("a", PathError::NotAbsolute, 30),
+    ("a/..", PathError::NotAbsolute, 30),
+    ("/a/..", PathError::DotSegment, 31),
+    ("/a//.", PathError::DotSegment, 31),
+    ("/a\0", PathError::DotSegment, 31),
+    ("/", PathError::SegmentLength, 32),
+    ("/a//b", PathError::SegmentLength, 32),
+    ("/a/", PathError::SegmentLength, 32),
 ];
 
 #[test]
 fn paths_are_read(rt: HostRuntime) -> Result<(), Fail> {
     let alloc = rt.alloc();
-    for (text, fault) in BAD_PATHS {
+    for (text, fault, number) in BAD_PATHS {
         assert!(&rt; AbsPath::parse(alloc, text).err().as_ref() == Some(fault));
+        assert!(&rt; fault.number() == Some(*number));
     }
     let path = AbsPath::parse(alloc, "/a/...")?;
     assert!(&rt; path.copy()?.as_str() == "/a/...");
     assert!(&rt; path.starts_with(&AbsPath::parse(alloc, "/a")?));
     assert!(&rt; !path.starts_with(&AbsPath::parse(alloc, "/a/.../b")?));
+    assert!(&rt; path.parent_text() == "/a");
+    let parent = path.parent(alloc)?.ok_or("a parent")?;
+    assert!(&rt; parent.as_str() == "/a" && parent.parent(alloc)?.is_none());
     Ok(())
 }
 

@@ -1,6 +1,7 @@
 use Rattle.std.proofs.Common.{◌≡◌, List, ℕ, Option, Ok, IfOk, subst}
 use Rattle.std.specs.Prelude.{IfErr}
-use Rattle.ac_types.specs.References.{head_part, version_labels, IsRefused}
+use Rattle.ac_types.specs.References.{head_part, version_labels}
+use Rattle.ac_types.specs.ReferenceSteps.{IsRefused}
 use Rattle.ac_types.proofs.ref_parts.read_head.Goals as goal
 
 pub returns-in-Some-clause-ok : goal.returns-in-Some-clause-ok

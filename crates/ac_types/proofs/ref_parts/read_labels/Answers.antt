@@ -1,6 +1,6 @@
 use Rattle.std.proofs.Common.{◌<◌, ◌+◌, ◌^◌, List, ℕ, [], Bor, arith, map, drop, inl, inr}
 use Rattle.ac_types.specs.declared.label.Label.{Label}
-use Rattle.ac_types.specs.References.{parts_size}
+use Rattle.ac_types.specs.ReferenceSteps.{parts_size}
 use Rattle.ac_types.proofs.RefSteps.{texts, part_read, error_kept, size_next, seen_next}
 use Rattle.ac_types.proofs.ref_parts.read_labels.Goals as goal
 

@@ -1,5 +1,6 @@
 use Rattle.std.proofs.Common.{◌≡◌, ◌<◌, ◌+◌, ◌^◌, ℕ, List, map, drop, Bor}
-use Rattle.ac_types.specs.References.{labels_from, parts_size}
+use Rattle.ac_types.specs.References.{labels_from}
+use Rattle.ac_types.specs.ReferenceSteps.{parts_size}
 use Rattle.ac_types.specs.SeenTexts.{HasSeen}
 use Rattle.ac_types.specs.declared.label.Label.{Label}
 use Rattle.ac_types.proofs.ref_parts.read_labels.Given as goal

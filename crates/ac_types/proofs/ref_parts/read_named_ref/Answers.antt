@@ -1,5 +1,5 @@
 use Rattle.std.proofs.Common.{◌≡◌, ◌+◌, ◌∙◌, ap, arith, length, List, ℕ, Bor}
-use Rattle.ac_types.specs.References.{parts_size}
+use Rattle.ac_types.specs.ReferenceSteps.{parts_size}
 use Rattle.ac_types.proofs.RefSteps.{parts_size_split, texts}
 use Rattle.ac_types.proofs.ref_parts.read_named_ref.Goals as goal
 

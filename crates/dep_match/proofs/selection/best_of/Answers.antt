@@ -1,6 +1,7 @@
 use Rattle.std.proofs.Common.{ℕ, Option, sym, ◌∙◌, ◌&&◌, ◌+◌, arith, ap, subst}
-use Rattle.dep_match.specs.Selection.{accepts, outranks}
-use Rattle.dep_match.proofs.BestSoFar.{IsBestSoFar, none_so_far, keeps, takes, best_is, best_none, best_within, outranks_ranks, place_outranked}
+use Rattle.dep_match.specs.Selection.{outranks}
+use Rattle.dep_match.specs.Steps.{accepts}
+use Rattle.dep_match.proofs.BestSoFar.{IsBestSoFar, none_so_far, keeps, takes, best_is, best_none, best_within, best_passes, outranks_ranks, place_outranked}
 use Rattle.dep_match.proofs.selection.best_of.Goals as goal
 use Rattle.dep_match.proofs.selection.best_of.Goals.{then-is_better, else-is_better}
 
@@ -37,3 +38,7 @@ returns-clause-within c =
 pub returns-clause-none : goal.returns-clause-none
 returns-clause-none c =
     best_none (accepts c.args.wanted.now) outranks c.args.list.now c.loop-i.i c.loop-i.best (omega arith) c.loop-i.invariant
+
+pub returns-clause-matches : goal.returns-clause-matches
+returns-clause-matches c =
+    best_passes (accepts c.args.wanted.now) outranks c.args.list.now c.loop-i.i c.loop-i.best (omega arith) c.loop-i.invariant

@@ -1,4 +1,5 @@
-use Rattle.dep_match.specs.Selection.{accepts, outranks}
+use Rattle.dep_match.specs.Selection.{outranks}
+use Rattle.dep_match.specs.Steps.{accepts}
 use Rattle.dep_match.proofs.BestSoFar.{IsBestSoFar}
 use Rattle.dep_match.proofs.selection.best_of.Given as goal
 

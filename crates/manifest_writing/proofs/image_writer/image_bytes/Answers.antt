@@ -1,26 +1,37 @@
-use Rattle.std.proofs.Common.{◌≡◌, ◌≤◌, subst, Some}
-use Rattle.serde_json.specs.Data.{Data, depth}
-use Rattle.serde_json.specs.Read.{read}
+use Rattle.std.proofs.Common.{◌≡◌, subst, IfOk}
+use Rattle.std.proofs.lemmas.Result.{IfOk-weaker}
+use Rattle.serde_json.specs.Data.{Data}
+use Rattle.serde_json.specs.Written.{compact_text}
+use Rattle.ac_types.specs.Outcomes.{reads}
 use Rattle.manifests.specs.ImageData.{image_data}
-use Rattle.manifest_writing.specs.WrittenTexts.{IsCompactText}
-use Rattle.manifest_writing.proofs.ImageAgain.{image_again}
-use Rattle.manifest_writing.proofs.WholeManifests.{image_is_whole}
+use Rattle.manifests.specs.ImageForm.{image_manifest}
+use Rattle.manifests.specs.ManifestRules.{IsImageManifest}
+use Rattle.manifest_writing.specs.ImageObject.{image_object}
+use Rattle.manifest_writing.specs.WrittenTexts.{IsCompactText, IsTextOf, KeepsLimits}
+use Rattle.manifest_writing.proofs.ManifestsAgain.{image_again, image_is_whole}
 use Rattle.manifest_writing.proofs.image_writer.image_bytes.Goals as goal
 
 pub returns-clause-text : goal.returns-clause-text
 returns-clause-text c =
-    let P : Data → Type 0 = λ d. IsCompactText d c.in_ok-to_vec.field-0.items in
-    subst P c.in_ok-value.ensures c.in_ok-to_vec.ensures.text
+    let m = image_data c.args.manifest.now in
+    let P : Data → Type 0 = λ d. IfOk c.document_bytes.result (λ b. IsTextOf d b.items) in
+    IfOk-weaker c.document_bytes.result (λ b. IsTextOf (image_object m) b.items)
+    (λ b. IsCompactText (image_object m) b.items) (λ b is. is.compact)
+    (subst P c.in_ok-value.ensures c.document_bytes.ensures)
 
-pub returns-clause-text_of_read : goal.returns-clause-text_of_read
-returns-clause-text_of_read c = λ was.
-    let P : Data → Type 0 = λ d. IsCompactText d c.in_ok-to_vec.field-0.items in
-    subst P c.in_ok-value.ensures c.in_ok-to_vec.ensures.text (image_is_whole (image_data c.args.manifest.now) was)
+pub returns-clause-text_of_manifest : goal.returns-clause-text_of_manifest
+returns-clause-text_of_manifest c =
+    let m = image_data c.args.manifest.now in
+    let P : Data → Type 0 = λ d. IfOk c.document_bytes.result (λ b. IsTextOf d b.items) in
+    IfOk-weaker c.document_bytes.result (λ b. IsTextOf (image_object m) b.items)
+    (λ b. IsImageManifest m → b.items ≡ compact_text (image_object m)) (λ b is kind. is.compact (image_is_whole m kind))
+    (subst P c.in_ok-value.ensures c.document_bytes.ensures)
 
 pub returns-clause-reads_back : goal.returns-clause-reads_back
-returns-clause-reads_back c = λ was limits.
+returns-clause-reads_back c =
     let m = image_data c.args.manifest.now in
-    let bytes = c.in_ok-to_vec.field-0.items in
-    let P : Data → Type 0 = λ d. depth d ≤ 127 → read bytes ≡ Some d in
-    let back = subst P c.in_ok-value.ensures c.in_ok-to_vec.ensures.reads_back in
-    image_again m bytes limits.short c.in_ok-to_vec.ensures.utf8 (back limits.flat) was
+    let P : Data → Type 0 = λ d. IfOk c.document_bytes.result (λ b. IsTextOf d b.items) in
+    IfOk-weaker c.document_bytes.result (λ b. IsTextOf (image_object m) b.items)
+    (λ b. IsImageManifest m → KeepsLimits (image_object m) b.items → image_manifest b.items ≡ reads m)
+    (λ b is kind limits. image_again m b.items limits.short is.utf8 (is.back limits.flat) kind)
+    (subst P c.in_ok-value.ensures c.document_bytes.ensures)

@@ -1,6 +1,5 @@
 use Rattle.std.proofs.Common.{ap, refl, sym, ◌≡◌, ◌∙◌, false, true}
 use Rattle.percent_encoding.specs.Percent.{percent_decode}
-use Rattle.tree_digest.specs.Fields.{escaped}
 use Rattle.tree_digest.proofs.EscapedBytes.{escaped_is}
 use Rattle.tree_digest.proofs.Texts.{decoded}
 use Rattle.std.proofs.Common.{rules}

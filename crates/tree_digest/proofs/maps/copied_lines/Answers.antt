@@ -8,6 +8,7 @@ use Rattle.std.proofs.lemmas.List.{append_assoc}
 use Rattle.std.proofs.lemmas.List.Elements.{All-nil, All-cons, All-append}
 use Rattle.tree_digest.specs.declared.line.ListingLine.{ListingLine}
 use Rattle.tree_digest.proofs.MapFollow.{map_follows, valid_entries}
+use Rattle.tree_digest.proofs.Listables.{listable_in_list}
 use Rattle.tree_digest.proofs.maps.copied_lines.Goals as goal
 
 Fits : ListingLine → Type 0
@@ -35,5 +36,6 @@ pub returns-clause-follow : goal.returns-clause-follow
 returns-clause-follow c =
     let map = c.args.map.now in
     let whole : c.loop-path.lines.items ≡ lines_of map = search rules in
-    let valid = valid_entries map c.loop-path.lines.items whole c.loop-path.invariant.valid c.requires.entries in
-    subst (AllFollow []) (sym whole) (map_follows map c.iter-path-items.ensures.kind c.requires.parents valid c.requires.entries)
+    let listable = listable_in_list map c.iter-path-items.ensures.kind c.requires in
+    let valid = valid_entries map c.loop-path.lines.items whole c.loop-path.invariant.valid listable in
+    subst (AllFollow []) (sym whole) (map_follows map c.iter-path-items.ensures.kind valid listable)

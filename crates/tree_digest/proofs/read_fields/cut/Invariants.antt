@@ -1,5 +1,5 @@
 use Rattle.std.proofs.Common.{take}
-use Rattle.tree_digest.specs.Fields.{HasNone}
+use Rattle.path_map.specs.Paths.{HasNone}
 use Rattle.tree_digest.proofs.read_fields.cut.Given as goal
 
 abbrev pub invariant-loop-place : goal.invariant-loop-place

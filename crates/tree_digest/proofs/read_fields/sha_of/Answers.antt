@@ -15,6 +15,6 @@ pub returns-then-not-same-clause-none : goal.returns-then-not-same-clause-none
 returns-then-not-same-clause-none c = λ sha long small e.
     let decoded : decode_sized c.args.digits.now 64 ≡ Ok sha = ap (λ t. decode_sized t 64) e ∙ decode_sized-encode_lower sha 64 long (byte_at sha small) in
     let read = rw decoded at c.decode_to_slice.ensures.value in
-    let kept : c.hex_of-again.result ≡ c.args.digits.now = c.hex_of-again.ensures ∙ ap encode_lower read.1 ∙ sym e in
+    let kept : c.lower_hex-again.result ≡ c.args.digits.now = c.lower_hex-again.ensures ∙ ap encode_lower read.1 ∙ sym e in
     let bad : false ≡ true = c.if-not-same.ensures.1 kept in
     cc

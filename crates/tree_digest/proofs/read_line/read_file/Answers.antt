@@ -20,8 +20,8 @@ returns-in_default-read_sha c = λ line is.
     let once = cut_once 32 (decimal_text read.0) c.in-Some-read_number.digits.now (decimal_text d.size) (field (encode_lower d.sha) (escaped line.path)) (decimal_clear 32 read.0 (omega arith)) (decimal_clear 32 d.size (omega arith)) (sym read.2 ∙ sizes) in
     c.in_default-read_sha.ensures.none d.sha (escaped line.path) d.long d.small once.1
 
-pub returns-then-size-gt-MAX_SIZE : goal.returns-then-size-gt-MAX_SIZE
-returns-then-size-gt-MAX_SIZE c =
+pub returns-then-size-gt-MAX_FILE : goal.returns-then-size-gt-MAX_FILE
+returns-then-size-gt-MAX_FILE c =
     let read = c.in-Some-read_number.ensures.some in
     let sha = c.in-Some-read_sha.ensures.some in (
       record { path = c.in-Ok.path; entry = File c.in-Some.meta read.0 c.in-Some-read_sha.found.0 },
@@ -29,7 +29,7 @@ returns-then-size-gt-MAX_SIZE c =
         record { path = c.in-Ok.ensures.ok.1; entry = (c.in-Some.ensures.some.1, sha.1, sha.2) },
         file_text_is c.args.text.now c.in-Some.sizes.now c.in-Some-read_number.digits.now c.in-Some-read_sha.found.1.now c.in-Ok.path c.in-Some-read_sha.found.0 c.in-Some.meta read.0 c.in-Some.ensures.some.0 read.2 sha.0 c.in-Ok.ensures.ok.0,
       ),
-      long_size read.0 c.in-Some-read_number.size read.1 c.if-size-gt-MAX_SIZE.true,
+      long_size read.0 c.in-Some-read_number.size read.1 c.if-size-gt-MAX_FILE.true,
     )
 
 pub returns-in-Err : goal.returns-in-Err

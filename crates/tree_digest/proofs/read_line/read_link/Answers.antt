@@ -1,6 +1,8 @@
 use Rattle.std.proofs.Common.{◌∷◌, Err, sym, ap, subst, ◌∙◌}
-use Rattle.tree_digest.specs.Fields.{escaped, field, HasNone}
-use Rattle.tree_digest.proofs.Cuts.{cut_once, escaped_clear_space, has_cut}
+use Rattle.tree_digest.specs.Fields.{escaped, field}
+use Rattle.path_map.specs.Paths.{HasNone}
+use Rattle.tree_digest.proofs.Cuts.{cut_once, escaped_clear_space}
+use Rattle.path_map.proofs.Ends.{has_cut}
 use Rattle.tree_digest.proofs.LineTexts.{reads_fault, meta_once, link_of}
 use Rattle.tree_digest.proofs.read_line.read_link.Goals as goal
 

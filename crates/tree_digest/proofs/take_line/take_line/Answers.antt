@@ -3,7 +3,7 @@ use Rattle.tree_digest.proofs.Takes.{none_is_no_line, line_back, fails_in_line, 
 use Rattle.tree_digest.proofs.take_line.take_line.Goals as goal
 
 pub returns-in_default-clause-fault : goal.returns-in_default-clause-fault
-returns-in_default-clause-fault c = inr (refl, λ line rest _. none_is_no_line c.args.text.now c.in_default.ensures.none line rest)
+returns-in_default-clause-fault c = inr (refl, λ line begins. none_is_no_line c.args.text.now c.in_default.ensures.none line begins.0 begins.2)
 
 pub returns-in-None-clause-ok : goal.returns-in-None-clause-ok
 returns-in-None-clause-ok c = (

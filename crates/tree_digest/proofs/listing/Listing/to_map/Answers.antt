@@ -4,7 +4,9 @@ use Rattle.path_map.specs.Entries.{entry_at}
 use Rattle.path_map.specs.Overlay.{overlaid}
 use Rattle.path_map.proofs.Rising.{same_from_tree}
 use Rattle.tree_digest.specs.Listings.{entries_of, AllFollow, Follows}
-use Rattle.tree_digest.proofs.MapLines.{none_known, known_at, lay_next, rising_lines}
+use Rattle.path_map.proofs.EachEntries.{same_each}
+use Rattle.tree_digest.proofs.Listables.{IsListableAt}
+use Rattle.tree_digest.proofs.MapLines.{none_known, known_at, lay_next, rising_lines, listing_is_listable}
 use Rattle.tree_digest.proofs.listing.Listing.to_map.Goals as goal
 
 pub loop-line-preserved : goal.loop-line-preserved
@@ -22,9 +24,17 @@ loop-line-preserved c = λ q.
     ∙ lay_next (take i lines) line known.0 next (entry_at c.loop-line.map) c.loop-line.invariant q
     ∙ ap (λ ls. entry_at (entries_of ls) q) more
 
-pub returns : goal.returns
-returns c =
+pub returns-clause-map : goal.returns-clause-map
+returns-clause-map c =
     same_from_tree c.loop-line.map (entries_of c.args.self.now) c.iter-entries.ensures.kind.rising (rising_lines [] c.args.self.now c.as_slice-lines.ensures.kind.follow)
     (λ q.
     c.loop-line.invariant q
     ∙ ap (λ ls. entry_at (entries_of ls) q) (take_all c.loop-line.line-index c.as_slice-lines.result.now c.loop-line-test.false ∙ c.as_slice-lines.ensures.lines))
+
+pub returns-clause-listable : goal.returns-clause-listable
+returns-clause-listable c =
+    let lines = c.as_slice-lines.result.now in
+    let whole : take c.loop-line.line-index lines ≡ c.args.self.now = take_all c.loop-line.line-index lines c.loop-line-test.false ∙ c.as_slice-lines.ensures.lines in
+    same_each IsListableAt (entry_at (entries_of c.args.self.now)) (entry_at c.loop-line.map)
+    (λ q. c.loop-line.invariant q ∙ ap (λ ls. entry_at (entries_of ls) q) whole)
+    (listing_is_listable c.args.self.now c.as_slice-lines.ensures.kind.follow)
