@@ -1,5 +1,5 @@
 -- The state's own answer is one that the state allows.
-use Rattle.std.proofs.Common.{◌≡◌, ◌⊎◌, inl, inr, ℕ, ◌^◌, nat_lt, Bool, true, false, not, ◌||◌, cond, Option, Some, None, List, length, ◌+◌, find, [], ◌∷◌, refl, sym, ap, subst, ◌∙◌}
+use Rattle.std.proofs.Common.{◌≡◌, ◌⊎◌, inl, inr, ℕ, ◌^◌, nat_lt, Bool, true, false, not, cond, Option, Some, None, List, length, ◌+◌, find, [], ◌∷◌, refl, sym, ap, subst, ◌∙◌}
 use Rattle.std.specs.List.{range_with_len}
 use Rattle.dir_model.specs.declared.spot.Handle.{Handle}
 use Rattle.dir_model.specs.declared.request.DirError.{DirError}

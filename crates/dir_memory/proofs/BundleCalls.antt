@@ -1,5 +1,5 @@
 -- What a call of a bundle in memory leaves, as every bundle is seen.
-use Rattle.std.proofs.Common.{◌≡◌, ◌⊎◌, inl, inr, ◌≤◌, ◌+◌, ◌^◌, ◌-◌, min, ℕ, Bool, true, false, cond, List, [], ◌∷◌, ◌++◌, Result, Ok, Err, IsErrOf, arith, refl, sym, ap, ◌∙◌, append-nil}
+use Rattle.std.proofs.Common.{◌≡◌, inl, inr, ◌≤◌, ◌+◌, ◌^◌, ◌-◌, min, ℕ, Bool, true, false, cond, List, [], ◌∷◌, ◌++◌, Result, Ok, Err, arith, refl, ap}
 use Rattle.dir_model.specs.Causes.{Rose}
 use Rattle.dir_trait.specs.declared.bundle.BundleError.{BundleError}
 use Rattle.dir_trait.specs.declared.bundle.BundleError.TheVariants.{Missing, Failed, NoMemory}

@@ -1,5 +1,5 @@
 -- What a call of a directory in memory leaves.
-use Rattle.std.proofs.Common.{◌≡◌, inl, inr, ℕ, ◌+◌, ◌≤◌, Result, Ok, Err, IfOk, IfErr, Option, is_some, Bool, true, false, not, ◌&&◌, ◌==◌, cond, List, [], ◌∷◌, ◌++◌, arith, refl, sym, ap, subst, ◌∙◌, append-nil}
+use Rattle.std.proofs.Common.{◌≡◌, inl, inr, ℕ, ◌+◌, ◌≤◌, Result, Ok, Err, IfOk, IfErr, is_some, Bool, true, false, not, ◌&&◌, ◌==◌, cond, List, [], ◌∷◌, ◌++◌, arith, refl, sym, ap, subst, ◌∙◌}
 use Rattle.std.specs.List.{list_any}
 use Rattle.dir_model.specs.declared.event.Event.{Event}
 use Rattle.dir_model.specs.declared.spot.Handle.{Handle}
@@ -9,7 +9,7 @@ use Rattle.dir_model.specs.declared.request.Request.{Request}
 use Rattle.dir_model.specs.declared.request.Request.TheVariants.{Begin, MakeFolder, MoveFolder, Open, TryLock, Close, Finish, Kill}
 use Rattle.dir_model.specs.declared.request.Reply.{Reply}
 use Rattle.dir_model.specs.declared.request.Reply.TheVariants.{Done, Opened, Refused}
-use Rattle.dir_model.specs.State.{Namespace, DirState, empty_state, has_begun, has_ended, lives, has_open}
+use Rattle.dir_model.specs.State.{Namespace, DirState, empty_state, has_begun, has_ended, lives}
 use Rattle.dir_model.specs.Trace.{namespace_replied, state_next, states_next, state_after}
 use Rattle.dir_model.specs.Replies.{is_fallible, asks_for_handle, is_late_reply, may_refuse, done_reply, opened_reply}
 use Rattle.dir_model.specs.Causes.{Rose}
@@ -20,9 +20,9 @@ use Rattle.dir_model.proofs.Chains.{state_after-push}
 use Rattle.dir_model.proofs.Holdings.{replied_same, open_same}
 use Rattle.dir_trait.specs.DirCalls.{DirCall}
 use Rattle.dir_memory.specs.declared.planned.Planned.{Planned}
-use Rattle.dir_memory.specs.Schedules.{due, not_due, with_steps}
+use Rattle.dir_memory.specs.Schedules.{due, not_due}
 use Rattle.dir_memory.specs.Interludes.{Interlude}
-use Rattle.dir_memory.specs.Memories.{Memory, raised, is_to_fail, before_call, answer_or_failure, Follows, may_ask, is_active, is_numbered, is_plain, is_opening, shown_of, given_up}
+use Rattle.dir_memory.specs.Memories.{Memory, raised, is_to_fail, before_call, answer_or_failure, Follows, may_ask, is_numbered, is_plain, is_opening, shown_of, given_up}
 use Rattle.dir_memory.proofs.Meanwhile.{interlude_same, steps_come}
 use Rattle.dir_memory.proofs.Answering.{SaysOf, own_says}
 

@@ -10,11 +10,9 @@ use Rattle.dir_model.specs.declared.request.Reply.TheVariants.{Done, Opened, Ref
 use Rattle.dir_model.specs.State.{Namespace, DirState, empty_state, has_begun, has_ended, lives}
 use Rattle.dir_model.specs.Trace.{state_after, state_next, states_next, namespace_replied}
 use Rattle.dir_model.specs.Calls.{IsRun, is_run_from, is_allowed, may_step, event}
-use Rattle.dir_model.specs.Local.{holdings_in}
 use Rattle.dir_model.proofs.Lists.{and_left, and_right, any_push}
 use Rattle.dir_model.proofs.Chains.{state_after-push}
 use Rattle.dir_model.proofs.Allowed.{allowed_step}
-use Rattle.dir_model.proofs.Begun.{unborn_holds_nothing}
 use Rattle.dir_memory.specs.Memories.{kill_of}
 
 any_last_cases : {X : Type 0} (t : X → Bool) (xs : List X) (y : X) → list_any t (xs ++ y ∷ []) ≡ true → (list_any t xs ≡ true) ⊎ (t y ≡ true)

@@ -1,10 +1,10 @@
 -- The first step that is due, and the rest of a schedule.
-use Rattle.std.proofs.Common.{◌≡◌, ℕ, suc, ◌+◌, Bool, true, false, not, ◌||◌, cond, List, [], ◌∷◌, ◌++◌, filter, remove, Option, Some, slice_get, arith, refl, sym, ap, subst, ◌∙◌}
+use Rattle.std.proofs.Common.{◌≡◌, ℕ, suc, ◌+◌, Bool, true, false, not, ◌||◌, cond, List, [], ◌∷◌, ◌++◌, filter, remove, Some, slice_get, arith, refl, sym, ap, subst, ◌∙◌}
 use Rattle.std.specs.List.{list_any, position_or_len}
 use Rattle.dir_model.specs.declared.event.Event.{Event}
 use Rattle.dir_model.specs.Trace.{state_after}
 use Rattle.dir_memory.specs.declared.planned.Planned.{Planned}
-use Rattle.dir_memory.specs.Schedules.{is_due, due, not_due, with_steps, step_events}
+use Rattle.dir_memory.specs.Schedules.{is_due, due, with_steps, step_events}
 use Rattle.dir_memory.specs.Interludes.{TakesFirst}
 
 -- a list without the first item that passes

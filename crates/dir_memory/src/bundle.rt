@@ -128,12 +128,7 @@ impl MemoryBundle {
     }
 
     /// Begins a call: it is counted and noted, and fails where it is listed so.
-    fn enter(
-        &mut self,
-        alloc: Global,
-        action: BundleAction,
-        path: &str,
-    ) -> Result<(), BundleError>
+    fn enter(&mut self, alloc: Global, action: BundleAction, path: &str) -> Result<(), BundleError>
         ensures entered { Entered self.old (request_at action path.now) result self.new }
         ensures faults { self.old.faults ≤ self.new.faults }
     {

@@ -37,14 +37,14 @@ impl Model for MemoryDir {
     ghost Value = { Memory };
 
     ghost view = { λ d. record {
-        trace = d.past.items;
-        process = d.process;
-        faults = d.faults;
-        calls = d.calls;
-        numbered = d.numbered;
-        local = local_of d.own;
-        pending = d.pending.items;
-        failing = d.failing.items;
+      trace = d.past.items;
+      process = d.process;
+      faults = d.faults;
+      calls = d.calls;
+      numbered = d.numbered;
+      local = local_of d.own;
+      pending = d.pending.items;
+      failing = d.failing.items;
     } };
 
     ghost invariant = { λ d. IsMemory d.past d.process (local_of d.own) (vec_len d.own.held) };
@@ -63,14 +63,14 @@ impl MemoryDir {
     /// to fail. Refused only where memory ran out.
     pub fn new(alloc: Global, process: u32) -> Result<MemoryDir, NoMemory>
         ensures { IfOk result (λ d. d ≡ record {
-            trace = [];
-            process = process;
-            faults = 0;
-            calls = 0;
-            numbered = 0;
-            local = nothing_local;
-            pending = [];
-            failing = [];
+          trace = [];
+          process = process;
+          faults = 0;
+          calls = 0;
+          numbered = 0;
+          local = nothing_local;
+          pending = [];
+          failing = [];
         }) }
     {
         Ok(MemoryDir {

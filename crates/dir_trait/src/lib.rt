@@ -15,7 +15,8 @@ pub use bundle::{
 pub use dir::Dir;
 pub use dir_model::{
     Area, DirError, Draw, Event, FileName, Handle, History, Holding, Intent, Kind, Mode, Name,
-    NoMemory, Opening, Phase, PodId, PodPrefix, Reply, Request, Reserved, Spot, Start, Target, Which, phase_of,
+    NoMemory, Opening, Phase, PodId, PodPrefix, Reply, Request, Reserved, Spot, Start, Target,
+    Which, phase_of,
 };
 pub use listing::listing_of;
 pub use node::Node;

@@ -2,7 +2,6 @@ use Rattle.std.proofs.Common.{cond, sym, ap, ◌∙◌, Some}
 use Rattle.std.specs.Cmp.Lexicographic.{slice_cmp, texts_ties}
 use Rattle.std.specs.Ordering.{nat_cmp}
 use Rattle.std.specs.BTreeMap.{get}
-use Rattle.dir_memory.specs.MemoryBundles.{kind_with}
 use Rattle.dir_memory.proofs.listing.add.Goals as goal
 
 pub returns : goal.returns

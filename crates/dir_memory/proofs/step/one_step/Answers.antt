@@ -2,8 +2,7 @@ use Rattle.std.proofs.Common.{◌≡◌, ◌+◌, ◌++◌, ◌∷◌, [], List,
 use Rattle.dir_model.specs.declared.event.Event.{Event}
 use Rattle.dir_model.specs.Trace.{state_after}
 use Rattle.dir_model.specs.Calls.{event}
-use Rattle.dir_memory.specs.declared.planned.Planned.{Planned}
-use Rattle.dir_memory.specs.Schedules.{is_due, due, not_due, with_steps}
+use Rattle.dir_memory.specs.Schedules.{is_due, with_steps}
 use Rattle.dir_memory.specs.Memories.{answer_or_failure}
 use Rattle.dir_memory.proofs.Schedules.{none_due, none_later}
 use Rattle.dir_memory.proofs.step.one_step.Goals as goal

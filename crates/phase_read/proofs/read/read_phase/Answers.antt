@@ -1,13 +1,13 @@
-use Rattle.std.proofs.Common.{◌≡◌, ◌∙◌, ℕ, List, false, true, arith, sym, ap, subst, Ok}
+use Rattle.std.proofs.Common.{◌≡◌, ◌∙◌, ℕ, List, false, arith, sym, ap, subst, Ok}
 use Rattle.dir_model.specs.State.{spot_eq, stands}
 use Rattle.dir_model.specs.Calls.{AtOwnStep}
 use Rattle.dir_model.specs.declared.spot.Spot.{Spot}
 use Rattle.dir_model.specs.declared.area.Area.{Area}
 use Rattle.dir_model.proofs.Chains.{and_more, extends_wider}
 use Rattle.dir_model.proofs.Spots.{look_wider}
-use Rattle.phase_read.specs.Read.{WasFound, HasPhase, LeftOut, is_pod_spot, stages, stages_before, pod_spot}
+use Rattle.phase_read.specs.Read.{WasFound, HasPhase, LeftOut, is_pod_spot, stages_before, pod_spot}
 use Rattle.phase_read.proofs.Stages.{next_rank, next_within, next_before, last_stages, pod_spot_only}
-use Rattle.phase_read.proofs.InTurn.{none_left_out, and_left_out}
+use Rattle.phase_read.proofs.InTurn.{and_left_out}
 use Rattle.phase_read.proofs.read.read_phase.Goals as goal
 
 pub returns-in-None-clause-read : goal.returns-in-None-clause-read

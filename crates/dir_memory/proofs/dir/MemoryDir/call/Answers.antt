@@ -1,6 +1,5 @@
-use Rattle.std.proofs.Common.{◌+◌, subst, ap, sym, ◌∙◌, List, ◌≡◌}
+use Rattle.std.proofs.Common.{◌+◌, subst, ap, ◌∙◌, List}
 use Rattle.dir_model.specs.declared.event.Event.{Event}
-use Rattle.dir_model.specs.declared.opening.Holding.{Holding}
 use Rattle.dir_model.specs.Local.{IsUnopened}
 use Rattle.dir_model.specs.Trace.{state_after}
 use Rattle.dir_memory.specs.Interludes.{Interlude}
@@ -8,7 +7,7 @@ use Rattle.dir_memory.specs.Schedules.{with_steps, due}
 use Rattle.dir_memory.specs.Parts.{local_of}
 use Rattle.dir_memory.proofs.Meanwhile.{steps_come}
 use Rattle.dir_memory.proofs.Calling.{begun_after, ended_after, open_after, kill_unnumbered, answered_by, opened_new}
-use Rattle.dir_memory.specs.Memories.{Memory, Follows, is_to_fail, answer_or_failure}
+use Rattle.dir_memory.specs.Memories.{Memory, Follows, answer_or_failure}
 use Rattle.dir_memory.proofs.dir.MemoryDir.call.Goals as goal
 
 pub invariant_of-self-2 : goal.invariant_of-self-2

@@ -6,7 +6,7 @@ use Rattle.dir_model.specs.declared.request.Reply.TheVariants.{Done}
 use Rattle.dir_model.specs.Local.{IsActive}
 use Rattle.dir_memory.specs.Parts.{local_of}
 use Rattle.dir_memory.specs.Memories.{Memory}
-use Rattle.dir_memory.proofs.Calling.{begun_after, ended_after, open_after, giving_up, given_called}
+use Rattle.dir_memory.proofs.Calling.{begun_after, ended_after, open_after}
 use Rattle.dir_memory.proofs.dir.MemoryDirDir.close.Goals as goal
 
 pub invariant_of-self : goal.invariant_of-self
