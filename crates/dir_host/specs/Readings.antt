@@ -3,7 +3,7 @@ use Rattle.std.specs.Prelude.{◌≡◌, ◌<◌, ℕ, List, Option, Some, Resul
 use Rattle.dir_trait.specs.declared.bundle.BundleError.{BundleError}
 use Rattle.dir_host.specs.declared.files.OpenedFile.{OpenedFile}
 
--- a later piece of the path that was opened is read in the same opened file, without asking the system for the path again
+-- a later piece of the path that was opened is read in the same opened file
 abbrev pub GoesOn : Option OpenedFile → List ℕ → ℕ → Result OpenedFile BundleError → Type 0
 GoesOn opened path at result = (file : OpenedFile) → opened ≡ Some file → string_bytes file.path ≡ path → 0 < at → result ≡ Ok file
 
