@@ -25,7 +25,7 @@ use Rattle.rkt_cli.specs.Moments.{BundleSeen, Outside, Moment, SinkSeen, Outcome
 use Rattle.rkt_cli.specs.Ends.{is_own_end}
 use Rattle.rkt_cli.specs.Status.{read_outcome}
 use Rattle.rkt_cli.specs.Commands.{uses_dir, asks, sequential_outcome}
-use Rattle.rkt_cli.specs.Runs.{CommandRan, Performs, InProcess, Printed, Ran, RunIs, end_status}
+use Rattle.rkt_cli.specs.Runs.{CommandRan, Performs, InProcess, Printed, RunOf, RunIs, end_status}
 use Rattle.rkt_cli.specs.Statuses.{sequential_run, IsAnswer, IsUndisturbed, Works, IsUnchanged, IsQuietAnswer}
 use Rattle.rkt_cli.proofs.Judged.{judged_whole}
 use Rattle.rkt_cli.proofs.Outcomes.{rose_wider, rose_between, answered, WasAnswered}
@@ -117,7 +117,7 @@ said_quiet o old new status (inr (inl x)) works = absurd (works x.2)
 said_quiet o old new status (inr (inr x)) works = inr x
 
 module _ (now : ℕ) (draw : Draw) (old new : Moment) (status : ℕ) where
-  quiet_of : (l : Option Line) → Ran l now draw old new status → IsUndisturbed l old.outside new.outside → Works old.out new.out → IsQuietAnswer l status old new
+  quiet_of : (l : Option Line) → RunOf l now draw old new status → IsUndisturbed l old.outside new.outside → Works old.out new.out → IsQuietAnswer l status old new
   quiet_of None r u works = inr ((r.is, λ t. ap (λ (s : SinkSeen). s.bytes) r.out, r.reported), λ h. cc)
   quiet_of (Some line) (inr n) u works = inl n.is
   quiet_of (Some line) (inl r) u works = by (performs_quiet line _ old.outside new.outside r.outcome r.performs u)

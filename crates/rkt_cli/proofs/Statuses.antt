@@ -23,7 +23,7 @@ use Rattle.rkt_cli.specs.Ends.{is_own_end}
 use Rattle.rkt_cli.specs.Status.{read_outcome}
 use Rattle.rkt_cli.specs.Validate.{ReadsFile, most_read}
 use Rattle.rkt_cli.specs.Commands.{intent_of, asks, ReadsOnly}
-use Rattle.rkt_cli.specs.Runs.{Performs, End, Unwritten, Printed, Reported, Complained, end_status, Ran, RunIs}
+use Rattle.rkt_cli.specs.Runs.{Performs, End, Unwritten, Printed, Reported, Complained, end_status, RunOf, RunIs}
 use Rattle.rkt_cli.specs.Statuses.{IsStatus, IsMissing, IsBadManifest, IsNoFile, IsJudgement, asks_in, Prints, IsOutput, IsComplaint, IsAnswer, IsOver, EndsAs, ReadsIn}
 use Rattle.rkt_cli.proofs.Ends.{absurd_number, end_at, bad_manifest_end, no_file_end, status_known, refusal_status, from_end, from_command}
 use Rattle.rkt_cli.proofs.Outcomes.{fault_cause, bundle_cause, refusals_of, answered, does_validate, validate_told, file_prints, unreadable, no_such_file}
@@ -116,7 +116,7 @@ reads_of (Validate path) now draw old new o p = p.ran.reads
 
 module _ (now : ℕ) (draw : Draw) (old new : Moment) (status : ℕ) where
   abbrev Is : Option Line → Type 0
-  Is l = Ran l now draw old new status
+  Is l = RunOf l now draw old new status
 
   statuses_of : (l : Option Line) → Is l → IsStatus status
   statuses_of None r = subst IsStatus (sym r.is) refl

@@ -10,8 +10,8 @@ use Rattle.rkt_cli.specs.Runs.{RunIs}
 use Rattle.rkt_cli.specs.Statuses.{IsJudgement, IsUndisturbed, Works, IsQuietAnswer}
 
 -- the run
-abbrev pub RanBetween : {D B O E : Type 0} → DirGhosts D → BundleGhosts B → SinkGhosts O → SinkGhosts E → Option Line → ℕ → Draw → ℕ → D × B × O × E → D × B × O × E → Type 0
-RanBetween d b o e line now draw status old new = RunIs line now draw (moment_at d b o e old) (moment_at d b o e new) status
+abbrev pub RunBetween : {D B O E : Type 0} → DirGhosts D → BundleGhosts B → SinkGhosts O → SinkGhosts E → Option Line → ℕ → Draw → ℕ → D × B × O × E → D × B × O × E → Type 0
+RunBetween d b o e line now draw status old new = RunIs line now draw (moment_at d b o e old) (moment_at d b o e new) status
 
 -- how a file was judged
 abbrev pub JudgedBetween : {D B O E : Type 0} → DirGhosts D → BundleGhosts B → SinkGhosts O → SinkGhosts E → Option Line → ℕ → D × B × O × E → D × B × O × E → Type 0

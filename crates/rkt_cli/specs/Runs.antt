@@ -114,7 +114,7 @@ Reported (Ok done) old new = new ≡ old
 Reported (Err refusal) old new = Complained refusal old new
 
 -- the words are a command, and it ran
-pub record RanLine (line : Line) (intent : Option Intent) (old new : Moment) (status : ℕ) : Type 0 where
+pub record RunOfLine (line : Line) (intent : Option Intent) (old new : Moment) (status : ℕ) : Type 0 where
   pub outcome : Outcome
   pub end : End
   pub performs : Performs line intent old.outside new.outside outcome
@@ -123,17 +123,17 @@ pub record RanLine (line : Line) (intent : Option Intent) (old new : Moment) (st
   pub is : status ≡ end_status end
 
 -- no command ran, for this reason: nothing but the error output was called
-pub record RanNothing (reason : Refusal) (old new : Moment) (status : ℕ) : Type 0 where
+pub record RunOfNothing (reason : Refusal) (old new : Moment) (status : ℕ) : Type 0 where
   pub is : status ≡ status_of reason
   pub outside : new.outside ≡ old.outside
   pub out : new.out ≡ old.out
   pub reported : Complained reason old.err new.err
 
 -- words that are a command are run, but where memory ran out before
-abbrev pub Ran : Option Line → ℕ → Draw → Moment → Moment → ℕ → Type 0
-Ran None now draw old new status = RanNothing Usage old new status
-Ran (Some line) now draw old new status = RanLine line (intent_of line now draw) old new status ⊎ RanNothing NoMemory old new status
+abbrev pub RunOf : Option Line → ℕ → Draw → Moment → Moment → ℕ → Type 0
+RunOf None now draw old new status = RunOfNothing Usage old new status
+RunOf (Some line) now draw old new status = RunOfLine line (intent_of line now draw) old new status ⊎ RunOfNothing NoMemory old new status
 
 -- a run of these words, whatever they are
 pub record RunIs (line : Option Line) (now : ℕ) (draw : Draw) (old new : Moment) (status : ℕ) : Type 0 where
-  pub ran : Ran line now draw old new status
+  pub ran : RunOf line now draw old new status

@@ -5,7 +5,7 @@ ghost use Rattle.dir_trait.specs.DirCalls.{ExtendsBy};
 ghost use Rattle.dir_trait.specs.Local.{nothing_local};
 ghost use Rattle.rkt_cli.specs.Lines.{line_in};
 ghost use Rattle.rkt_cli.specs.Moments.{dir_at, bundle_at, sink_at};
-ghost use Rattle.rkt_cli.specs.Between.{RanBetween, JudgedBetween, QuietBetween};
+ghost use Rattle.rkt_cli.specs.Between.{RunBetween, JudgedBetween, QuietBetween};
 ghost use Rattle.rkt_cli.specs.Statuses.{uses_dir_in, reads_bundle_in, IsMissing, IsBadManifest, IsNoFile, asks_in, IsStatus, IsOutput, IsComplaint, IsOver, ReadsIn};
 
 use crate::line::{WordsError, read_line};
@@ -27,7 +27,7 @@ fn run<D: Dir, B: Bundle, O: Sink, E: Sink>(
     err: &mut E,
 ) -> u8
     requires fresh { (D.shown dir.old).local ≡ nothing_local }
-    ensures ran { RanBetween D.Dir B.Bundle O.Sink E.Sink (line_in words.now) now draw.now result
+    ensures ran { RunBetween D.Dir B.Bundle O.Sink E.Sink (line_in words.now) now draw.now result
         (dir.old, bundle.old, out.old, err.old) (dir.new, bundle.new, out.new, err.new) }
     ensures apart { uses_dir_in (line_in words.now) ≡ false → dir.new ≡ dir.old }
     ensures unread { reads_bundle_in (line_in words.now) ≡ false → bundle.new ≡ bundle.old }
@@ -80,7 +80,7 @@ pub fn rkt<D: Dir, B: Bundle, O: Sink, E: Sink>(
     ensures err { IsComplaint result (sink_at E.Sink err.old) (sink_at E.Sink err.new) }
     ensures quiet { QuietBetween D.Dir B.Bundle O.Sink E.Sink (line_in words.now) result
         (dir.old, bundle.old, out.old, err.old) (dir.new, bundle.new, out.new, err.new) }
-    ensures ran { RanBetween D.Dir B.Bundle O.Sink E.Sink (line_in words.now) now draw.now result
+    ensures ran { RunBetween D.Dir B.Bundle O.Sink E.Sink (line_in words.now) now draw.now result
         (dir.old, bundle.old, out.old, err.old) (dir.new, bundle.new, out.new, err.new) }
 {
     run(alloc, words, now, draw, dir, bundle, out, err)
