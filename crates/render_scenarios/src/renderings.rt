@@ -113,13 +113,20 @@ fn rendering(alloc: Global, layers: &[Layer]) -> Result<Rendering, Fail> {
     Ok(rendered(alloc, list.as_slice(), maps.as_slice())??)
 }
 
-/// The letter of a file by its digest: `F` for that of `abc`, `f` for that of the empty text.
-fn file_letter(sha: [u8; 64]) -> &'static str {
-    match (ImageId::parse(ABC), ImageId::parse(NIL)) {
-        (Ok(abc), Ok(_)) if abc.bytes == sha => "F",
-        (Ok(_), Ok(nil)) if nil.bytes == sha => "f",
-        _ => "?",
+/// Whether a digest is that of an ID's text.
+fn is_digest(sha: &[u8], text: &str) -> bool {
+    match ImageId::parse(text) {
+        Ok(id) => id.bytes.as_slice() == sha,
+        Err(_) => false,
     }
+}
+
+/// The letter of a file by its digest: `F` for that of `abc`, `f` for that of the empty text.
+fn file_letter(sha: &[u8]) -> &'static str {
+    if is_digest(sha, ABC) {
+        return "F";
+    }
+    if is_digest(sha, NIL) { "f" } else { "?" }
 }
 
 /// The letter of an entry; `m` for a made directory.
@@ -132,7 +139,7 @@ fn letter(entry: &Entry) -> &'static str {
                 "d"
             }
         }
-        Entry::File { sha, .. } => file_letter(*sha),
+        Entry::File { sha, .. } => file_letter(sha.as_slice()),
         Entry::Link { .. } => "l",
     }
 }
