@@ -1,5 +1,5 @@
 -- What an event that a state allows says of that state, kind by kind.
-use Rattle.std.proofs.Common.{◌≡◌, ℕ, Bool, true, false, not, ◌&&◌, cond, Some, None, is_some, refl}
+use Rattle.std.proofs.Common.{◌≡◌, ℕ, Bool, true, false, not, ◌&&◌, cond, Option, Some, None, is_some, List, refl}
 use Rattle.dir_model.specs.declared.intent.Intent.{Intent}
 use Rattle.dir_model.specs.declared.spot.Handle.{Handle}
 use Rattle.dir_model.specs.declared.spot.Mode.{Mode}
@@ -10,8 +10,11 @@ use Rattle.dir_model.specs.declared.request.Request.{Request}
 use Rattle.dir_model.specs.declared.request.Request.TheVariants.{Begin, MakeFolder, MoveFolder, Open, TryLock}
 use Rattle.dir_model.specs.declared.request.Reply.{Reply}
 use Rattle.dir_model.specs.declared.request.Reply.TheVariants.{Done, Opened, Refused}
-use Rattle.dir_model.specs.State.{DirState, has_begun, lives, stands, has_open}
-use Rattle.dir_model.specs.Replies.{is_locked, refusal, is_error, is_reply}
+use Rattle.dir_model.specs.declared.spot.Which.TheVariants.{Own}
+use Rattle.dir_model.specs.declared.request.DirError.{DirError}
+use Rattle.dir_model.specs.declared.tree.TreeEntry.{TreeEntry}
+use Rattle.dir_model.specs.State.{DirState, has_begun, lives, folder_at, stands, has_open}
+use Rattle.dir_model.specs.Replies.{is_locked, refused_in, open_refusal, refusal, is_error, is_reply}
 use Rattle.dir_model.specs.Calls.{is_allowed, may_step, event}
 use Rattle.dir_model.proofs.Lists.{and_left, and_right, not_true}
 
@@ -81,27 +84,28 @@ module _ (s : DirState) (me : ℕ) where
       let both = stood_by (stands s.namespace from) (stands s.namespace to) true (allowed_reply (MoveFolder from to) Done allowed) in
       record { living = allowed_step (MoveFolder from to) Done allowed; there = both.0; free = both.1 }
 
-  there_by : (b a : Bool) → (not (is_some (cond b None (Some Missing))) && a) ≡ true → b ≡ true
-  there_by true a h = refl
-  there_by false a h = cc
+  there_by : (refuses : List TreeEntry → ℕ → Option DirError) (es : List TreeEntry) (o : Option ℕ) (a : Bool) → (not (is_some (refused_in refuses es o)) && a) ≡ true → is_some o ≡ true
+  there_by refuses es (Some folder) a h = refl
+  there_by refuses es None a h = cc
 
   pub open_says : (spot : Spot) (which : Which) (handle : Handle) → is_allowed s (event me (Open spot which) (Opened handle)) ≡ true → OpenSays s me spot handle
   open_says spot which handle allowed =
       let is = allowed_reply (Open spot which) (Opened handle) allowed in
       record {
         living = allowed_step (Open spot which) (Opened handle) allowed;
-        there = there_by (stands s.namespace spot) (not (has_open s.namespace me handle)) is;
+        there = there_by (open_refusal which) s.entries (folder_at s.namespace spot) (not (has_open s.namespace me handle)) is;
         unopened = not_true (has_open s.namespace me handle) (and_right (not (is_some (refusal s me (Open spot which)))) (not (has_open s.namespace me handle)) is);
       }
 
-  absent_by : (b : Bool) → is_error Missing (cond b None (Some Missing)) ≡ true → b ≡ false
-  absent_by true h = cc
-  absent_by false h = refl
+  absent_by : (es : List TreeEntry) (o : Option ℕ) → is_error Missing (refused_in (open_refusal Own) es o) ≡ true → is_some o ≡ false
+  absent_by es (Some folder) h = cc
+  absent_by es None h = refl
 
-  pub miss_says : (spot : Spot) (which : Which) → is_allowed s (event me (Open spot which) (Refused Missing 0)) ≡ true → MissSays s me spot
-  miss_says spot which allowed = record {
-    living = allowed_step (Open spot which) (Refused Missing 0) allowed;
-    absent = absent_by (stands s.namespace spot) (allowed_reply (Open spot which) (Refused Missing 0) allowed);
+  -- of the activation lock this isn't so: the folder may stand without its file
+  pub miss_says : (spot : Spot) → is_allowed s (event me (Open spot Own) (Refused Missing 0)) ≡ true → MissSays s me spot
+  miss_says spot allowed = record {
+    living = allowed_step (Open spot Own) (Refused Missing 0) allowed;
+    absent = absent_by s.entries (folder_at s.namespace spot) (allowed_reply (Open spot Own) (Refused Missing 0) allowed);
   }
 
   unlocked_by : (b a : Bool) → (not (is_some (cond b (Some Locked) None)) && a) ≡ true → b ≡ false

@@ -8,12 +8,12 @@ use Rattle.dir_model.specs.declared.opening.Opening.{Opening}
 use Rattle.dir_model.specs.declared.spot.Handle.{Handle}
 use Rattle.dir_model.specs.declared.spot.Mode.{Mode}
 use Rattle.dir_model.specs.declared.request.Request.{Request}
-use Rattle.dir_model.specs.declared.request.Request.TheVariants.{Begin, Open, TryLock, Close, Finish, Kill}
+use Rattle.dir_model.specs.declared.request.Request.TheVariants.{Begin, Open, OpenArea, TryLock, Close, Finish, Kill}
 use Rattle.dir_model.specs.declared.request.Reply.{Reply}
 use Rattle.dir_model.specs.declared.request.Reply.TheVariants.{Done, Opened, Refused}
 use Rattle.dir_model.specs.Locks.{is_handle, is_exclusive}
 use Rattle.dir_model.specs.State.{Namespace, DirState, empty_state, has_begun, has_ended}
-use Rattle.dir_model.specs.Trace.{state_after, state_next, states_next, namespace_replied, locked, opened}
+use Rattle.dir_model.specs.Trace.{state_after, state_next, states_next, namespace_replied, locked, opened, opened_gate}
 use Rattle.dir_model.specs.Calls.{IsRun, is_run_from, is_allowed, may_step, is_kill, is_foreign}
 use Rattle.dir_model.specs.Quiet.{OwnsNothing}
 use Rattle.dir_model.specs.Local.{holding_of, holdings_in}
@@ -36,6 +36,7 @@ lock_among begun p h m o a = elim (is_handle p h o) as (λ b. IsAmong begun (con
 step_begun : (s : DirState) (p : ℕ) (request : Request) (reply : Reply) → may_step s p request ≡ true → AllBegun s.namespace → AllBegun (namespace_replied s.namespace p request reply)
 step_begun s p request (Refused error left) living a = a
 step_begun s p (Open spot which) (Opened handle) living a = all_push (IsAmong s.namespace.begun) s.namespace.openings (opened s.namespace p handle spot which) a (and_left (has_begun s.namespace p) (not (has_ended s.namespace p)) living)
+step_begun s p (OpenArea area) (Opened handle) living a = all_push (IsAmong s.namespace.begun) s.namespace.openings (opened_gate p handle area) a (and_left (has_begun s.namespace p) (not (has_ended s.namespace p)) living)
 step_begun s p _ (Opened handle) living a = a
 step_begun s p (Begin intent) Done living a = all_later s.namespace.begun (record { process = p; intent = intent }) s.namespace.openings a
 step_begun s p (TryLock handle mode) Done living a = all_map (IsAmong s.namespace.begun) (locked p handle mode) (lock_among s.namespace.begun p handle mode) s.namespace.openings a
@@ -43,6 +44,7 @@ step_begun s p (Close handle) Done living a = all_filter (IsAmong s.namespace.be
 step_begun s p Finish Done living a = all_filter (IsAmong s.namespace.begun) (λ o. not (o.process == p)) s.namespace.openings a
 step_begun s p Kill Done living a = all_filter (IsAmong s.namespace.begun) (λ o. not (o.process == p)) s.namespace.openings a
 step_begun s p _ Done living a = a
+step_begun s p request reply living a = a
 
 all_begun : (s : DirState) (es : List Event) → is_run_from s es ≡ true → AllBegun s.namespace → AllBegun (states_next s es).namespace
 all_begun s [] run a = a
@@ -85,6 +87,7 @@ begun_after me w p (Open spot which) (Opened handle) h = h
 begun_after me w p _ (Opened handle) h = h
 begun_after me w p (Begin intent) Done h = any_push (λ start. start.process == me) w.begun (record { process = p; intent = intent }) h
 begun_after me w p _ Done h = h
+begun_after me w p request reply h = h
 
 pub begun_stays : (me : ℕ) (s : DirState) (es : List Event) → has_begun s.namespace me ≡ true → has_begun (states_next s es).namespace me ≡ true
 begun_stays me s [] h = h

@@ -10,12 +10,12 @@ use Rattle.dir_model.specs.declared.opening.Holding.{Holding}
 use Rattle.dir_model.specs.declared.opening.Target.{Target}
 use Rattle.dir_model.specs.declared.request.DirError.{DirError}
 use Rattle.dir_model.specs.declared.request.Request.{Request}
-use Rattle.dir_model.specs.declared.request.Request.TheVariants.{Open, TryLock, Close, Finish, Kill}
+use Rattle.dir_model.specs.declared.request.Request.TheVariants.{Open, OpenArea, TryLock, Close, Finish, Kill}
 use Rattle.dir_model.specs.declared.request.Reply.{Reply}
 use Rattle.dir_model.specs.declared.request.Reply.TheVariants.{Done, Opened, Refused}
 use Rattle.dir_model.specs.Locks.{is_handle}
 use Rattle.dir_model.specs.State.{Namespace, has_open}
-use Rattle.dir_model.specs.Trace.{locked, opened, namespace_replied}
+use Rattle.dir_model.specs.Trace.{locked, opened, opened_gate, namespace_replied}
 use Rattle.dir_model.specs.Replies.{done_reply}
 use Rattle.dir_model.specs.Calls.{is_kill}
 use Rattle.dir_model.specs.Local.{Local, is_number, with_handle, held_in, with_lock, without, local_replied, is_open_among, is_locking, IsOpen, IsUnopened, IsUnlocked, holding_of, holdings_in}
@@ -133,12 +133,14 @@ ended_none me (o ∷ os) = by (o.process == me) refl (ended_none me os)
 pub replied_same : (n : Namespace) (me : ℕ) (m : Local) (request : Request) (reply : Reply) → is_kill request ≡ false → holdings_in n me ≡ m.holdings → holdings_in (namespace_replied n me request reply) me ≡ (local_replied m request reply).holdings
 replied_same n me m request (Refused error left) lives same = same
 replied_same n me m (Open spot which) (Opened handle) lives same = own_push me n.openings (opened n me handle spot which) (same_self me) ∙ ap (λ (hs : List Holding). hs ++ holding_of (opened n me handle spot which) ∷ []) same
+replied_same n me m (OpenArea area) (Opened handle) lives same = own_push me n.openings (opened_gate me handle area) (same_self me) ∙ ap (λ (hs : List Holding). hs ++ holding_of (opened_gate me handle area) ∷ []) same
 replied_same n me m _ (Opened handle) lives same = same
 replied_same n me m (TryLock handle mode) Done lives same = own_map me (locked me handle mode) (held_in handle mode) (locked_keeps me handle mode) (locked_same me handle mode) n.openings ∙ ap (map (held_in handle mode)) same
 replied_same n me m (Close handle) Done lives same = own_filter me (λ o. not (is_handle me handle o)) (λ h. not (is_number handle h)) (λ o is. rw is refl) n.openings ∙ ap (filter (λ h. not (is_number handle h))) same
 replied_same n me m Finish Done lives same = ended_none me n.openings
 replied_same n me m Kill Done lives same = let clash : true ≡ false = lives in cc
 replied_same n me m _ Done lives same = same
+replied_same n me m request reply lives same = same
 
 apart_clash : (a p me : ℕ) → (a == p) ≡ true → (a == me) ≡ true → (p == me) ≡ false → ⊥
 apart_clash a p me x y z = grind (arith, nat_tests)
@@ -187,12 +189,14 @@ module _ (n : Namespace) (p me : ℕ) (apart : (p == me) ≡ false) where
   pub others_same : (request : Request) (reply : Reply) → holdings_in (namespace_replied n p request reply) me ≡ holdings_in n me
   others_same request (Refused error left) = refl
   others_same (Open spot which) (Opened handle) = own_past me n.openings (opened n p handle spot which) apart
+  others_same (OpenArea area) (Opened handle) = own_past me n.openings (opened_gate p handle area) apart
   others_same _ (Opened handle) = refl
   others_same (TryLock handle mode) Done = own_map me (locked p handle mode) (λ h. h) (locked_keeps p handle mode) (other_locked p me handle mode apart) n.openings ∙ map_same (own me n.openings)
   others_same (Close handle) Done = kept (λ o. not (is_handle p handle o)) (whose_handle p handle)
   others_same Finish Done = kept (λ o. not (o.process == p)) (whose_process p)
   others_same Kill Done = kept (λ o. not (o.process == p)) (whose_process p)
   others_same _ Done = refl
+  others_same request reply = refl
 
 -- a handle is open by a process's own answers where it is open in the namespace
 pub open_same : (n : Namespace) (me : ℕ) (handle : Handle) → is_open_among handle (holdings_in n me) ≡ has_open n me handle

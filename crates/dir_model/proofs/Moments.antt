@@ -4,6 +4,7 @@ use Rattle.dir_model.specs.declared.event.Event.{Event}
 use Rattle.dir_model.specs.declared.spot.Handle.{Handle}
 use Rattle.dir_model.specs.declared.spot.Spot.{Spot}
 use Rattle.dir_model.specs.declared.spot.Which.{Which}
+use Rattle.dir_model.specs.declared.spot.Which.TheVariants.{Own}
 use Rattle.dir_model.specs.declared.request.DirError.TheVariants.{Missing}
 use Rattle.dir_model.specs.declared.request.Request.{Request}
 use Rattle.dir_model.specs.declared.request.Request.TheVariants.{Open}
@@ -70,8 +71,8 @@ step_at me old request reply new P lives timely says s = from s.own
 pub found : (me : ℕ) (old : List Event) (spot : Spot) (which : Which) (handle : Handle) (new : List Event) → CallStep me old (Open spot which) (Opened handle) new → AtOwnStep me old new (λ s. stands s.namespace spot ≡ true)
 found me old spot which handle new s = step_at me old (Open spot which) (Opened handle) new (λ s. stands s.namespace spot ≡ true) refl refl (λ s allowed. (open_says s me spot which handle allowed).there) s
 
-pub missed : (me : ℕ) (old : List Event) (spot : Spot) (which : Which) (new : List Event) → CallStep me old (Open spot which) (Refused Missing 0) new → AtOwnStep me old new (λ s. stands s.namespace spot ≡ false)
-missed me old spot which new s = step_at me old (Open spot which) (Refused Missing 0) new (λ s. stands s.namespace spot ≡ false) refl refl (λ s allowed. (miss_says s me spot which allowed).absent) s
+pub missed : (me : ℕ) (old : List Event) (spot : Spot) (new : List Event) → CallStep me old (Open spot Own) (Refused Missing 0) new → AtOwnStep me old new (λ s. stands s.namespace spot ≡ false)
+missed me old spot new s = step_at me old (Open spot Own) (Refused Missing 0) new (λ s. stands s.namespace spot ≡ false) refl refl (λ s allowed. (miss_says s me spot allowed).absent) s
 
 abbrev At : {me : ℕ} {old new : List Event} {P : DirState → Type 0} → AtOwnStep me old new P → List Event
 At {me} {old} {new} {P} at = at.before ++ at.step ∷ []

@@ -10,12 +10,12 @@ use Rattle.dir_model.specs.declared.spot.Handle.{Handle}
 use Rattle.dir_model.specs.declared.spot.Mode.{Mode}
 use Rattle.dir_model.specs.declared.spot.Mode.TheVariants.{Shared, Exclusive}
 use Rattle.dir_model.specs.declared.request.Request.{Request}
-use Rattle.dir_model.specs.declared.request.Request.TheVariants.{Open, TryLock, Close, Finish, Kill}
+use Rattle.dir_model.specs.declared.request.Request.TheVariants.{Open, OpenArea, TryLock, Close, Finish, Kill}
 use Rattle.dir_model.specs.declared.request.Reply.{Reply}
 use Rattle.dir_model.specs.declared.request.Reply.TheVariants.{Done, Opened, Refused}
 use Rattle.dir_model.specs.Locks.{is_handle, is_exclusive, is_own, is_folder, is_one_lock, is_same_lock, opposes, owns}
 use Rattle.dir_model.specs.State.{Namespace, DirState, is_owned}
-use Rattle.dir_model.specs.Trace.{state_next, states_next, namespace_replied, locked, opened}
+use Rattle.dir_model.specs.Trace.{state_next, states_next, namespace_replied, locked, opened, opened_gate}
 use Rattle.dir_model.specs.Replies.{is_locked, is_opposed}
 use Rattle.dir_model.specs.Calls.{is_foreign, is_kill}
 use Rattle.dir_model.proofs.Lists.{and_left, and_false, any_push, any_last, any_filter, any_map, all_filter, all_push, all_map}
@@ -67,6 +67,10 @@ by_other me handle folder p w (Open spot which) (Opened h) apart f = record {
   here = any_push (is_handle me handle) w.openings (opened w p h spot which) f.here;
   only = all_push (Plain me handle folder) w.openings (opened w p h spot which) f.only (λ mine. let e : true ≡ false = sym (and_left (p == me) (h.number == handle.number) mine) ∙ apart in cc);
 }
+by_other me handle folder p w (OpenArea area) (Opened h) apart f = record {
+  here = any_push (is_handle me handle) w.openings (opened_gate p h area) f.here;
+  only = all_push (Plain me handle folder) w.openings (opened_gate p h area) f.only (λ mine. let e : true ≡ false = sym (and_left (p == me) (h.number == handle.number) mine) ∙ apart in cc);
+}
 by_other me handle folder p w _ (Opened h) apart f = f
 by_other me handle folder p w (TryLock h mode) Done apart f = record {
   here = any_map (is_handle me handle) (locked p h mode) (locked_same p h mode me handle) w.openings ∙ f.here;
@@ -85,6 +89,7 @@ by_other me handle folder p w Kill Done apart f = record {
   only = all_filter (Plain me handle folder) (λ o. not (o.process == p)) w.openings f.only;
 }
 by_other me handle folder p w _ Done apart f = record { here = f.here; only = f.only }
+by_other me handle folder p w request reply apart f = f
 
 ended_stays : (me p : ℕ) (w : Namespace) (request : Request) (reply : Reply) → list_any (λ q. q == me) w.ended ≡ true → list_any (λ q. q == me) (namespace_replied w p request reply).ended ≡ true
 ended_stays me p w request (Refused error left) h = h
@@ -93,12 +98,13 @@ ended_stays me p w _ (Opened handle) h = h
 ended_stays me p w Finish Done h = any_push (λ q. q == me) w.ended p h
 ended_stays me p w Kill Done h = any_push (λ q. q == me) w.ended p h
 ended_stays me p w _ Done h = h
+ended_stays me p w request reply h = h
 
 -- this process's own kill, however it was answered
 by_kill : (me : ℕ) (handle : Handle) (folder p : ℕ) (w : Namespace) (reply : Reply) → (p == me) ≡ true → Fresh me handle folder w → StillOpen me handle folder (namespace_replied w p Kill reply)
 by_kill me handle folder p w Done same f = inr (any_last (λ q. q == me) w.ended p same)
 by_kill me handle folder p w (Opened h) same f = inl f
-by_kill me handle folder p w (Refused error left) same f = inl f
+by_kill me handle folder p w reply same f = inl f
 
 -- a foreign event
 by_foreign : (me : ℕ) (handle : Handle) (folder p : ℕ) (w : Namespace) (request : Request) (reply : Reply) (b : Bool) → (p == me) ≡ b → (not b || is_kill request) ≡ true → StillOpen me handle folder w → StillOpen me handle folder (namespace_replied w p request reply)

@@ -77,6 +77,7 @@ look_same me w (Close handle) Done h idle = record {
   mine = all_filter (Idle me) (λ o. not (is_handle me handle o)) w.openings idle;
 }
 look_same me w _ Done h idle = cc
+look_same me w request reply h idle = same_as_it_is me w idle
 
 -- a process that owns nothing comes to its end
 over_same : (me : ℕ) (w : Namespace) → OwnsNothing me w → SameNamespace me w (without_process w me)
@@ -88,20 +89,17 @@ over_same me w idle = record {
 
 kill_same : (me : ℕ) (w : Namespace) (request : Request) (reply : Reply) → is_kill request ≡ true → OwnsNothing me w → SameNamespace me w (namespace_replied w me request reply)
 kill_same me w Kill Done h idle = over_same me w idle
-kill_same me w Kill (Opened handle) h idle = same_as_it_is me w idle
-kill_same me w Kill (Refused error left) h idle = same_as_it_is me w idle
+kill_same me w Kill reply h idle = same_as_it_is me w idle
 kill_same me w _ reply h idle = cc
 
 finish_same : (me : ℕ) (w : Namespace) (request : Request) (reply : Reply) → is_finish request ≡ true → OwnsNothing me w → SameNamespace me w (namespace_replied w me request reply)
 finish_same me w Finish Done h idle = over_same me w idle
-finish_same me w Finish (Opened handle) h idle = same_as_it_is me w idle
-finish_same me w Finish (Refused error left) h idle = same_as_it_is me w idle
+finish_same me w Finish reply h idle = same_as_it_is me w idle
 finish_same me w _ reply h idle = cc
 
 begin_same : (me : ℕ) (w : Namespace) (request : Request) (reply : Reply) → is_begin request ≡ true → OwnsNothing me w → SameNamespace me w (namespace_replied w me request reply)
 begin_same me w (Begin intent) Done h idle = record { folders = refl; owned = λ k. refl; mine = idle }
-begin_same me w (Begin intent) (Opened handle) h idle = same_as_it_is me w idle
-begin_same me w (Begin intent) (Refused error left) h idle = same_as_it_is me w idle
+begin_same me w (Begin intent) reply h idle = same_as_it_is me w idle
 begin_same me w _ reply h idle = cc
 
 -- a process that only looks between its begin and its finish

@@ -4,7 +4,10 @@ pub mod Pods
 pub mod Areas
 pub mod Reserved
 pub mod Locks
+pub mod Paths
+pub mod Trees
 pub mod State
+pub mod Listings
 pub mod Trace
 pub mod Replies
 pub mod Causes

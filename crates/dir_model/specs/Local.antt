@@ -7,9 +7,9 @@ use Rattle.dir_model.specs.declared.spot.Mode.{Mode}
 use Rattle.dir_model.specs.declared.opening.Opening.{Opening}
 use Rattle.dir_model.specs.declared.opening.Holding.{Holding}
 use Rattle.dir_model.specs.declared.opening.Target.{Target}
-use Rattle.dir_model.specs.declared.opening.Target.TheVariants.{Own}
+use Rattle.dir_model.specs.declared.opening.Target.TheVariants.{Own, Gate}
 use Rattle.dir_model.specs.declared.request.Request.{Request}
-use Rattle.dir_model.specs.declared.request.Request.TheVariants.{Begin, Open, TryLock, Close, Finish}
+use Rattle.dir_model.specs.declared.request.Request.TheVariants.{Begin, Open, OpenArea, TryLock, Close, Finish}
 use Rattle.dir_model.specs.declared.request.Reply.{Reply}
 use Rattle.dir_model.specs.declared.request.Reply.TheVariants.{Done, Opened}
 use Rattle.dir_model.specs.Areas.{is_stage}
@@ -54,6 +54,7 @@ local_done m _ = m
 -- after a request that was answered with a handle
 abbrev pub local_opened : Local → Request → Handle → Local
 local_opened m (Open spot which) handle = with_handle m handle (target_of spot which)
+local_opened m (OpenArea area) handle = with_handle m handle (Gate area)
 local_opened m _ handle = m
 
 abbrev pub local_replied : Local → Request → Reply → Local

@@ -14,6 +14,7 @@ use Rattle.dir_model.specs.Areas.{rank}
 -- what a handle is opened for
 abbrev pub target_of : Spot → Which → Target
 target_of spot which.Own = Own spot
+target_of spot which.Claim = Claim spot
 
 -- it stands for the lock of a folder itself
 abbrev pub is_own : Target → Bool

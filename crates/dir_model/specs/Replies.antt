@@ -1,19 +1,29 @@
 -- Which answer a request gets.
-use Rattle.std.specs.Prelude.{ℕ, Bool, true, false, not, ◌&&◌, ◌||◌, ◌==◌, cond, Option, Some, None, is_some, find, Result, Ok, Err}
+use Rattle.std.specs.Prelude.{ℕ, Bool, true, false, not, ◌&&◌, ◌||◌, ◌==◌, nat_le, cond, Option, Some, None, is_some, find, List, [], ◌++◌, length, take, drop, bytes_eq, codes, Result, Ok, Err}
 use Rattle.std.specs.List.{list_any}
+use Rattle.dir_model.specs.declared.area.Area.{Area}
+use Rattle.dir_model.specs.declared.item.Inner.{Inner}
+use Rattle.dir_model.specs.declared.item.Item.{Item}
 use Rattle.dir_model.specs.declared.spot.Handle.{Handle}
 use Rattle.dir_model.specs.declared.spot.Mode.{Mode}
 use Rattle.dir_model.specs.declared.spot.Mode.TheVariants.{Shared}
 use Rattle.dir_model.specs.declared.spot.Spot.{Spot}
+use Rattle.dir_model.specs.declared.spot.Which.{Which}
+use Rattle.dir_model.specs.declared.spot.Which.TheVariants.{Own, Claim}
 use Rattle.dir_model.specs.declared.opening.Opening.{Opening}
+use Rattle.dir_model.specs.declared.tree.TreeEntry.{TreeEntry}
+use Rattle.dir_model.specs.declared.tree.OpenListing.{OpenListing}
 use Rattle.dir_model.specs.declared.request.DirError.{DirError}
 use Rattle.dir_model.specs.declared.request.DirError.TheVariants.{Missing, Exists, NotEmpty, Locked, Failed, NoMemory}
 use Rattle.dir_model.specs.declared.request.Request.{Request}
-use Rattle.dir_model.specs.declared.request.Request.TheVariants.{Begin, MakeFolder, MoveFolder, Open, TryLock, Close, Finish, Kill}
+use Rattle.dir_model.specs.declared.request.Request.TheVariants.{Begin, MakeFolder, MoveFolder, Open, OpenArea, TryLock, Close, ListArea, ListIn, MakeDirIn, MakeFileIn, AppendIn, ReadIn, SyncIn, SyncArea, RemoveFileIn, RemoveDirIn, RemoveFolder, Finish, Kill}
 use Rattle.dir_model.specs.declared.request.Reply.{Reply}
-use Rattle.dir_model.specs.declared.request.Reply.TheVariants.{Done, Opened, Refused}
+use Rattle.dir_model.specs.declared.request.Reply.TheVariants.{Done, Begun, Opened, Names, Items, Read, Refused}
 use Rattle.dir_model.specs.Locks.{is_handle, is_same_lock, opposes}
-use Rattle.dir_model.specs.State.{Namespace, DirState, stands, has_open}
+use Rattle.dir_model.specs.Paths.{inner_of}
+use Rattle.dir_model.specs.Trees.{has_dir, has_file, has_any, has_parent, has_children, holds_any, is_dir_entry, content, is_apps_own}
+use Rattle.dir_model.specs.Listings.{is_listing_request, is_listing, listing_of, is_about, is_open_listing, shows_area, shows_inside, shows_missing, ascend, item_names}
+use Rattle.dir_model.specs.State.{Namespace, DirState, folder_at, stands, has_open}
 
 -- another handle holds the lock of this opening, in a mode that conflicts
 abbrev pub is_opposed : Namespace → ℕ → Handle → Mode → Option Opening → Bool
@@ -24,12 +34,47 @@ is_opposed n p handle mode (Some here) = list_any (λ o. not (is_handle p handle
 abbrev pub is_locked : Namespace → ℕ → Handle → Mode → Bool
 is_locked n p handle mode = is_opposed n p handle mode (find (is_handle p handle) n.openings)
 
--- how the state refuses a request, if it does
+-- the folder that stands there refuses, or none stands there
+abbrev pub refused_in : (List TreeEntry → ℕ → Option DirError) → List TreeEntry → Option ℕ → Option DirError
+refused_in refuses es None = Some Missing
+refused_in refuses es (Some folder) = refuses es folder
+
+-- nothing is at the path, and its parent is a directory
+abbrev pub make_refusal : List ℕ → List TreeEntry → ℕ → Option DirError
+make_refusal path es folder = cond (has_any es folder path) (Some Exists) (cond (has_parent es folder path) None (Some Missing))
+
+abbrev pub file_refusal : List ℕ → List TreeEntry → ℕ → Option DirError
+file_refusal path es folder = cond (has_file es folder path) None (Some Missing)
+
+abbrev pub sync_refusal : List ℕ → List TreeEntry → ℕ → Option DirError
+sync_refusal path es folder = cond (has_any es folder path) None (Some Missing)
+
+-- the empty path is no directory in the folder
+abbrev pub dir_refusal : List ℕ → List TreeEntry → ℕ → Option DirError
+dir_refusal path es folder = cond (list_any (is_dir_entry folder path) es) (cond (has_children es folder path) (Some NotEmpty) None) (Some Missing)
+
+abbrev pub folder_refusal : List TreeEntry → ℕ → Option DirError
+folder_refusal es folder = cond (holds_any es folder) (Some NotEmpty) None
+
+-- the activation lock is that of the file `pod`
+abbrev pub open_refusal : Which → List TreeEntry → ℕ → Option DirError
+open_refusal Own es folder = None
+open_refusal Claim es folder = file_refusal (codes "pod") es folder
+
+-- how the state refuses a request, if it does. What a listing is refused is told at its end
 abbrev pub refusal : DirState → ℕ → Request → Option DirError
 refusal s p (MakeFolder spot) = cond (stands s.namespace spot) (Some Exists) None
 refusal s p (MoveFolder from to) = cond (stands s.namespace from) (cond (stands s.namespace to) (Some Exists) None) (Some Missing)
-refusal s p (Open spot which) = cond (stands s.namespace spot) None (Some Missing)
+refusal s p (Open spot which) = refused_in (open_refusal which) s.entries (folder_at s.namespace spot)
 refusal s p (TryLock handle mode) = cond (is_locked s.namespace p handle mode) (Some Locked) None
+refusal s p (MakeDirIn inner) = refused_in (make_refusal inner.path) s.entries (folder_at s.namespace inner.spot)
+refusal s p (MakeFileIn inner) = refused_in (make_refusal inner.path) s.entries (folder_at s.namespace inner.spot)
+refusal s p (AppendIn inner piece) = refused_in (file_refusal inner.path) s.entries (folder_at s.namespace inner.spot)
+refusal s p (ReadIn inner at room) = refused_in (file_refusal inner.path) s.entries (folder_at s.namespace inner.spot)
+refusal s p (SyncIn inner) = refused_in (sync_refusal inner.path) s.entries (folder_at s.namespace inner.spot)
+refusal s p (RemoveFileIn inner) = refused_in (file_refusal inner.path) s.entries (folder_at s.namespace inner.spot)
+refusal s p (RemoveDirIn inner) = refused_in (dir_refusal inner.path) s.entries (folder_at s.namespace inner.spot)
+refusal s p (RemoveFolder spot) = refused_in folder_refusal s.entries (folder_at s.namespace spot)
 refusal s p _ = None
 
 abbrev error_number : DirError → ℕ
@@ -45,7 +90,7 @@ abbrev pub is_error : DirError → Option DirError → Bool
 is_error error None = false
 is_error error (Some refusal) = error_number error == error_number refusal
 
--- these two may come at any step, and change nothing
+-- these two may come at any step, and change nothing but what an append may leave
 abbrev pub is_fault : DirError → Bool
 is_fault Failed = true
 is_fault NoMemory = true
@@ -61,13 +106,62 @@ is_fallible _ = true
 
 abbrev pub asks_for_handle : Request → Bool
 asks_for_handle (Open spot which) = true
+asks_for_handle (OpenArea area) = true
 asks_for_handle _ = false
 
+-- its Ok carries nothing
+abbrev pub asks_for_nothing : Request → Bool
+asks_for_nothing (Open spot which) = false
+asks_for_nothing (OpenArea area) = false
+asks_for_nothing (ListArea area) = false
+asks_for_nothing (ListIn inner) = false
+asks_for_nothing (ReadIn inner at room) = false
+asks_for_nothing _ = true
+
+-- of an append that is refused, the first bytes of its piece may stand, where the file does
+abbrev pub left_at : List ℕ → List ℕ → List TreeEntry → Option ℕ → ℕ
+left_at path piece es None = 0
+left_at path piece es (Some folder) = cond (has_file es folder path) (length piece) 0
+
+abbrev pub most_left : DirState → Request → ℕ
+most_left s (AppendIn inner piece) = left_at inner.path piece s.entries (folder_at s.namespace inner.spot)
+most_left s _ = 0
+
+-- the bytes from a place on, as many as fit
+abbrev pub bytes_at : List TreeEntry → List ℕ → ℕ → ℕ → Option ℕ → List ℕ
+bytes_at es path at room None = []
+bytes_at es path at room (Some folder) = take room (drop at (content es folder path))
+
+abbrev pub is_read : DirState → Request → List ℕ → Bool
+is_read s (ReadIn inner at room) bytes = bytes_eq bytes (bytes_at s.entries inner.path at room (folder_at s.namespace inner.spot))
+is_read s _ bytes = false
+
+abbrev pub is_names : DirState → ℕ → Request → List (List ℕ) → Bool
+is_names s p (ListArea area) names = shows_area area names (listing_of s p)
+is_names s p _ names = false
+
+abbrev pub is_items : DirState → ℕ → Request → List Item → Bool
+is_items s p (ListIn inner) items = shows_inside inner items (listing_of s p)
+is_items s p _ items = false
+
+-- a listing fails at its end, or tells that no directory stood there
+abbrev pub is_listing_refused : DirState → ℕ → Request → DirError → Bool
+is_listing_refused s p (ListIn inner) Missing = shows_missing inner (listing_of s p)
+is_listing_refused s p request error = is_fault error && is_open_listing request (listing_of s p)
+
+-- the refusal is one that the state gives
+abbrev pub is_refused : DirState → ℕ → Request → DirError → ℕ → Bool
+is_refused s p request error left = cond (is_listing_request request) ((left == 0) && is_listing_refused s p request error) ((is_fallible request && (is_fault error && nat_le left (most_left s request))) || ((left == 0) && is_error error (refusal s p request)))
+
 -- the reply is one that the state gives
-abbrev pub is_reply : DirState → ℕ → Request → Reply → Bool
-is_reply s p request Done = not (is_some (refusal s p request)) && not (asks_for_handle request)
-is_reply s p request (Opened handle) = not (is_some (refusal s p request)) && (asks_for_handle request && not (has_open s.namespace p handle))
-is_reply s p request (Refused error left) = (left == 0) && ((is_fallible request && is_fault error) || is_error error (refusal s p request))
+abbrev pub is_state_reply : DirState → ℕ → Request → Reply → Bool
+is_state_reply s p request Done = not (is_some (refusal s p request)) && asks_for_nothing request
+is_state_reply s p request Begun = is_listing_request request && not (is_listing s p)
+is_state_reply s p request (Opened handle) = not (is_some (refusal s p request)) && (asks_for_handle request && not (has_open s.namespace p handle))
+is_state_reply s p request (Names names) = is_names s p request names
+is_state_reply s p request (Items items) = is_items s p request items
+is_state_reply s p request (Read bytes) = not (is_some (refusal s p request)) && is_read s request bytes
+is_state_reply s p request (Refused error left) = is_refused s p request error left
 
 -- the refusals that a call may give, whatever the directory
 abbrev pub may_refuse : Request → DirError → Bool
@@ -77,7 +171,50 @@ may_refuse (MoveFolder from to) Missing = true
 may_refuse (MoveFolder from to) Exists = true
 may_refuse (Open spot which) Missing = true
 may_refuse (TryLock handle mode) Locked = true
+may_refuse (ListIn inner) Missing = true
+may_refuse (MakeDirIn inner) Missing = true
+may_refuse (MakeDirIn inner) Exists = true
+may_refuse (MakeFileIn inner) Missing = true
+may_refuse (MakeFileIn inner) Exists = true
+may_refuse (AppendIn inner piece) Missing = true
+may_refuse (ReadIn inner at room) Missing = true
+may_refuse (SyncIn inner) Missing = true
+may_refuse (RemoveFileIn inner) Missing = true
+may_refuse (RemoveDirIn inner) Missing = true
+may_refuse (RemoveDirIn inner) NotEmpty = true
+may_refuse (RemoveFolder spot) Missing = true
+may_refuse (RemoveFolder spot) NotEmpty = true
 may_refuse request error = is_fallible request && is_fault error
+
+-- what stands at the path is a started app's own
+abbrev pub is_own_at : DirState → List ℕ → Option ℕ → Bool
+is_own_at s path None = false
+is_own_at s path (Some folder) = is_apps_own s.apps folder path
+
+abbrev pub is_own_of : DirState → Option Inner → Bool
+is_own_of s None = false
+is_own_of s (Some inner) = is_own_at s inner.path (folder_at s.namespace inner.spot)
+
+abbrev pub is_apps_request : DirState → Request → Bool
+is_apps_request s request = is_own_of s (inner_of request)
+
+abbrev pub piece_length : Request → ℕ
+piece_length (AppendIn inner piece) = length piece
+piece_length _ = 0
+
+-- an answer of the call's signature. A listing has its beginning and its end there too
+abbrev pub is_any_reply : DirState → ℕ → Request → Reply → Bool
+is_any_reply s p request Done = asks_for_nothing request
+is_any_reply s p request Begun = is_listing_request request && not (is_listing s p)
+is_any_reply s p (ListIn inner) (Items items) = ascend (item_names items) && is_open_listing (ListIn inner) (listing_of s p)
+is_any_reply s p (ReadIn inner at room) (Read bytes) = nat_le (length bytes) room
+is_any_reply s p (ListIn inner) (Refused error left) = (left == 0) && (may_refuse (ListIn inner) error && is_open_listing (ListIn inner) (listing_of s p))
+is_any_reply s p request (Refused error left) = may_refuse request error && nat_le left (piece_length request)
+is_any_reply s p request _ = false
+
+-- the reply may come in this state: at and below the root of a started app, which writes there itself, any
+abbrev pub is_reply : DirState → ℕ → Request → Reply → Bool
+is_reply s p request reply = cond (is_apps_request s request) (is_any_reply s p request reply) (is_state_reply s p request reply)
 
 -- what a call may be answered that left no event: a fault, or that a handle or the process is given up
 abbrev pub is_late_reply : Request → Reply → Bool
@@ -94,6 +231,24 @@ done_reply (Err error) = Refused error 0
 abbrev pub opened_reply : Result Handle DirError → Reply
 opened_reply (Ok handle) = Opened handle
 opened_reply (Err error) = Refused error 0
+
+abbrev pub names_reply : Result (List (List ℕ)) DirError → Reply
+names_reply (Ok names) = Names names
+names_reply (Err error) = Refused error 0
+
+abbrev pub items_reply : Result (List Item) DirError → Reply
+items_reply (Ok items) = Items items
+items_reply (Err error) = Refused error 0
+
+-- a refused append may have left some of its bytes
+abbrev pub append_reply : Result (Unit {0}) DirError → ℕ → Reply
+append_reply (Ok value) left = Done
+append_reply (Err error) left = Refused error left
+
+-- what a read filled of the room
+abbrev pub read_reply : List ℕ → Result ℕ DirError → Reply
+read_reply room (Ok count) = Read (take count room)
+read_reply room (Err error) = Refused error 0
 
 -- a request that only looks, and opens nothing but what stands at such locations
 abbrev pub is_look_at : (Spot → Bool) → Request → Bool

@@ -5,7 +5,7 @@ use crate::memory::NoMemory;
 use crate::request::{Reply, Request};
 
 /// One atomic operation of a process on the directory, and what it was answered.
-#[derive(PartialEq, Eq, Drop)]
+#[derive(Drop)]
 pub struct Event {
     pub process: u32,
     pub request: Request,

@@ -20,6 +20,8 @@ pub struct Handle {
 pub enum Which {
     /// The lock on the folder itself. It follows the folder through moves.
     Own,
+    /// The lock on the file `pod` in the folder: the activation lock of a pod.
+    Claim,
 }
 
 /// How a lock is held. Exclusive conflicts with everything, shared with exclusive alone.

@@ -6,7 +6,10 @@ pub use Rattle.dir_model.specs.Pods
 pub use Rattle.dir_model.specs.Areas
 pub use Rattle.dir_model.specs.Reserved
 pub use Rattle.dir_model.specs.Locks
+pub use Rattle.dir_model.specs.Paths
+pub use Rattle.dir_model.specs.Trees
 pub use Rattle.dir_model.specs.State
+pub use Rattle.dir_model.specs.Listings
 pub use Rattle.dir_model.specs.Trace
 pub use Rattle.dir_model.specs.Replies
 pub use Rattle.dir_model.specs.Causes

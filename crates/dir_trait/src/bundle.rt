@@ -3,8 +3,7 @@ ghost use Rattle.std.specs.Prelude.{◌≡◌, ◌≢◌, ◌≤◌, Bool, true,
 ghost use Rattle.dir_model.specs.Causes.{Rose};
 ghost use Rattle.dir_trait.specs.Bundles.{kind_at, file_bytes, link_target, bytes_given, Fills, IsListing, Lists, BundleCall, request_at};
 
-use crate::sequence::{Bytes, Sequence};
-use dir_model::FileName;
+use dir_model::{Bytes, FileName, Sequence};
 use std::alloc::Global;
 
 /// Why a bundle gave nothing.

@@ -6,7 +6,6 @@ mod bundle;
 mod dir;
 mod listing;
 mod node;
-mod sequence;
 mod sink;
 
 pub use bundle::{
@@ -14,11 +13,10 @@ pub use bundle::{
 };
 pub use dir::Dir;
 pub use dir_model::{
-    Area, DirError, Draw, Event, FileName, Handle, History, Holding, Intent, Kind, Mode, Name,
-    NoMemory, Opening, Phase, PodId, PodPrefix, Reply, Request, Reserved, Spot, Start, Target,
-    Which, phase_of,
+    Area, Bytes, DirError, Draw, Event, FileName, Handle, History, Holding, Inner, Intent, Item,
+    ItemKind, Items, Kind, Mode, Name, Names, NoMemory, Opening, Phase, PodId, PodPrefix, Reply,
+    Request, Reserved, Sequence, Spot, Start, Target, Which, phase_of,
 };
 pub use listing::listing_of;
 pub use node::Node;
-pub use sequence::{Bytes, Sequence};
 pub use sink::{Sink, SinkError, write_whole};

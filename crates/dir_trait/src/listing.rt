@@ -6,8 +6,7 @@ ghost use Rattle.std.specs.BTreeMap.{IsOrdered};
 ghost use Rattle.dir_trait.specs.Bundles.{item_of, IsListing};
 
 use crate::bundle::{BundleItem, BundleItems, BundleKind};
-use crate::sequence::Sequence;
-use dir_model::{FileName, NoMemory};
+use dir_model::{FileName, NoMemory, Sequence};
 use std::alloc::{AllocError, Global};
 use std::collections::BTreeMap;
 

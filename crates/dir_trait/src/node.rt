@@ -4,7 +4,7 @@ ghost use Rattle.std.specs.Option.{option_copied};
 ghost use Rattle.dir_trait.specs.Bundles.{kind_of, file_bytes, link_target};
 
 use crate::bundle::BundleKind;
-use crate::sequence::Bytes;
+use dir_model::Bytes;
 
 /// A directory, a file with its bytes, a symbolic link with its target, or another thing.
 #[derive(Drop)]

@@ -1,7 +1,9 @@
 // Lists in public types.
 ghost use Rattle.std.specs.Prelude.{◌≡◌, List, IfOk};
 
-use dir_model::NoMemory;
+use crate::item::Item;
+use crate::memory::NoMemory;
+use crate::name::Name;
 use std::alloc::Global;
 use std::marker::Model;
 
@@ -13,6 +15,12 @@ pub struct Sequence<T> {
 
 /// A list of bytes.
 pub type Bytes = Sequence<u8>;
+
+/// The names of folders in an area.
+pub type Names = Sequence<Name>;
+
+/// What stands in a directory of a folder.
+pub type Items = Sequence<Item>;
 
 impl<T> Model for Sequence<T> {
     ghost Value = { List T };
@@ -26,6 +34,13 @@ impl<T> Sequence<T> {
         ensures { result ≡ items.items }
     {
         Sequence { items }
+    }
+
+    /// The elements as a vector. Takes no memory.
+    pub fn into_vec(self) -> Vec<T>
+        ensures { result.items ≡ self }
+    {
+        self.items
     }
 }
 

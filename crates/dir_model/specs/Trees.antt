@@ -1,0 +1,110 @@
+-- What stands inside the folders: one list of entries for all of them, the oldest first.
+use Rattle.std.specs.Prelude.{ℕ, Bool, true, false, not, ◌&&◌, ◌||◌, ◌==◌, cond, bytes_eq, Option, Some, None, List, [], ◌∷◌, ◌++◌, filter, take, codes, option_to_list}
+use Rattle.std.specs.List.{list_any, starts_with}
+use Rattle.dir_model.specs.declared.area.Area.{Area}
+use Rattle.dir_model.specs.declared.spot.Spot.{Spot}
+use Rattle.dir_model.specs.declared.item.Item.{Item}
+use Rattle.dir_model.specs.declared.item.ItemKind.{ItemKind}
+use Rattle.dir_model.specs.declared.item.ItemKind.TheVariants as kind
+use Rattle.dir_model.specs.declared.tree.TreeNode.{TreeNode}
+use Rattle.dir_model.specs.declared.tree.TreeNode.TheVariants.{Dir, Piece}
+use Rattle.dir_model.specs.declared.tree.TreeEntry.{TreeEntry}
+use Rattle.dir_model.specs.declared.tree.StartedApp.{StartedApp}
+use Rattle.dir_model.specs.Areas.{rank}
+use Rattle.dir_model.specs.Paths.{is_empty, is_slash, lies_below, is_directly_in, behind}
+
+abbrev pub is_dir : TreeNode → Bool
+is_dir Dir = true
+is_dir (Piece bytes) = false
+
+abbrev pub bytes_of : TreeNode → List ℕ
+bytes_of Dir = []
+bytes_of (Piece bytes) = bytes
+
+abbrev pub kind_of : TreeNode → ItemKind
+kind_of Dir = kind.Dir
+kind_of (Piece bytes) = kind.File
+
+-- the entry is of this path in this folder
+abbrev pub is_entry : ℕ → List ℕ → TreeEntry → Bool
+is_entry folder path e = (e.folder == folder) && bytes_eq e.path path
+
+abbrev pub is_dir_entry : ℕ → List ℕ → TreeEntry → Bool
+is_dir_entry folder path e = is_entry folder path e && is_dir e.node
+
+abbrev pub is_file_entry : ℕ → List ℕ → TreeEntry → Bool
+is_file_entry folder path e = is_entry folder path e && not (is_dir e.node)
+
+-- the folder itself, or a directory in it
+abbrev pub has_dir : List TreeEntry → ℕ → List ℕ → Bool
+has_dir es folder path = is_empty path || list_any (is_dir_entry folder path) es
+
+abbrev pub has_file : List TreeEntry → ℕ → List ℕ → Bool
+has_file es folder path = list_any (is_file_entry folder path) es
+
+abbrev pub has_any : List TreeEntry → ℕ → List ℕ → Bool
+has_any es folder path = has_dir es folder path || has_file es folder path
+
+-- the entry is a directory in which the path is one name
+abbrev pub is_parent_entry : ℕ → List ℕ → TreeEntry → Bool
+is_parent_entry folder path e = (e.folder == folder) && (is_dir e.node && is_directly_in e.path path)
+
+-- the path is one name in the folder itself, or in a directory of it
+abbrev pub has_parent : List TreeEntry → ℕ → List ℕ → Bool
+has_parent es folder path = is_directly_in [] path || list_any (is_parent_entry folder path) es
+
+-- the entry is one name in this directory
+abbrev pub is_child : ℕ → List ℕ → TreeEntry → Bool
+is_child folder directory e = (e.folder == folder) && is_directly_in directory e.path
+
+abbrev pub has_children : List TreeEntry → ℕ → List ℕ → Bool
+has_children es folder directory = list_any (is_child folder directory) es
+
+-- the folder holds something
+abbrev pub holds_any : List TreeEntry → ℕ → Bool
+holds_any es folder = list_any (λ e. e.folder == folder) es
+
+abbrev pub pieces : List TreeEntry → List ℕ
+pieces [] = []
+pieces (e ∷ es) = bytes_of e.node ++ pieces es
+
+-- a file's bytes: its pieces in order
+abbrev pub content : List TreeEntry → ℕ → List ℕ → List ℕ
+content es folder path = pieces (filter (is_entry folder path) es)
+
+-- what a directory shows of an entry, once for each piece of a file
+abbrev pub item_in : ℕ → List ℕ → TreeEntry → Option Item
+item_in folder directory e = cond (is_child folder directory e) (Some (record { name = behind directory e.path; kind = kind_of e.node })) None
+
+abbrev pub items_in : ℕ → List ℕ → List TreeEntry → List Item
+items_in folder directory [] = []
+items_in folder directory (e ∷ es) = option_to_list (item_in folder directory e) ++ items_in folder directory es
+
+-- what an area shows of a folder
+abbrev pub name_in : Area → Option Spot → Option (List ℕ)
+name_in area None = None
+name_in area (Some spot) = cond (rank spot.area == rank area) (Some spot.name) None
+
+abbrev pub names_in : Area → List (Option Spot) → List (List ℕ)
+names_in area [] = []
+names_in area (place ∷ places) = option_to_list (name_in area place) ++ names_in area places
+
+-- the entry is at the path, or below it
+abbrev pub is_within : List ℕ → List ℕ → Bool
+is_within path at = bytes_eq at path || lies_below at path
+
+-- what stands at the path and below it in a folder is gone
+abbrev pub without_path : ℕ → List ℕ → List TreeEntry → List TreeEntry
+without_path folder path es = filter (λ e. not ((e.folder == folder) && is_within path e.path)) es
+
+-- the mark that an app was started, made in the pod's folder, is named for it
+abbrev pub mark_prefix : List ℕ
+mark_prefix = codes "started-"
+
+-- the path of an app's root in the pod's folder
+abbrev pub app_root : List ℕ → List ℕ
+app_root app = codes "stage1/rootfs/opt/stage2/" ++ (app ++ codes "/rootfs")
+
+-- the path is at or below the root of a started app of this folder
+abbrev pub is_apps_own : List StartedApp → ℕ → List ℕ → Bool
+is_apps_own apps folder path = list_any (λ a. (a.folder == folder) && is_within a.root path) apps
