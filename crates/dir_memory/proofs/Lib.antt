@@ -1,6 +1,9 @@
 pub mod OpenListings
 pub mod Meanwhile
 pub mod Own
+pub mod Facts
+pub mod Follow
+pub mod Ended
 pub mod Schedules
 pub mod Places
 pub mod BundleTrees

@@ -1,5 +1,5 @@
 -- An own event is one that the state allows, and what others' steps and it leave.
-use Rattle.std.proofs.Common.{◌≡◌, ℕ, Bool, true, false, not, ◌&&◌, ◌==◌, cond, Result, Ok, Err, OnOk, OnErr, List, [], ◌∷◌, ◌++◌, refl, sym, ap, subst, ◌∙◌}
+use Rattle.std.proofs.Common.{◌≡◌, ℕ, Bool, true, false, not, ◌&&◌, ◌==◌, cond, Option, Some, None, Result, Ok, Err, OnOk, OnErr, List, [], ◌∷◌, ◌++◌, refl, sym, ap, subst, ◌∙◌}
 use Rattle.dir_model.specs.declared.event.Event.{Event}
 use Rattle.dir_model.specs.declared.memory.NoMemory.{NoMemory}
 use Rattle.dir_model.specs.declared.request.DirError.TheVariants.{Failed, NoMemory as RunsOut}
@@ -8,16 +8,22 @@ use Rattle.dir_model.specs.declared.request.Reply.{Reply}
 use Rattle.dir_model.specs.declared.request.Reply.TheVariants.{Begun, Refused}
 use Rattle.dir_model.specs.State.{DirState}
 use Rattle.dir_model.specs.Trace.{state_next, state_after}
-use Rattle.dir_model.specs.Listings.{is_listing, is_listing_request}
+use Rattle.dir_model.specs.Listings.{is_listing, is_listing_request, listing_of, is_about, is_open_listing}
+use Rattle.dir_model.specs.declared.tree.Listed.{Listed}
+use Rattle.dir_model.specs.declared.tree.Listed.TheVariants as listed
+use Rattle.dir_model.specs.declared.tree.OpenListing.{OpenListing}
+use Rattle.dir_model.specs.declared.request.Request.TheVariants.{ListArea, ListIn}
 use Rattle.dir_model.specs.Replies.{is_fallible}
 use Rattle.dir_model.specs.Calls.{may_step, is_allowed, event}
 use Rattle.dir_model.proofs.Chains.{state_after-push}
-use Rattle.dir_state.specs.Answers.{is_possible, step_of}
+use Rattle.dir_state.specs.Parts.{brings_nothing}
+use Rattle.dir_state.specs.Answers.{is_possible, step_of, shown, shown_of, listing_answer}
+use Rattle.dir_state.proofs.Ending.{end_allowed, end_fails}
 use Rattle.dir_state.proofs.Answering.{plain_allowed, fault_allowed}
 use Rattle.dir_state.proofs.Whole.{begun_open}
 use Rattle.dir_memory.specs.declared.planned.Planned.{Planned}
 use Rattle.dir_memory.specs.Interludes.{Interlude, is_about_open}
-use Rattle.dir_memory.specs.Memories.{answer_or_failure}
+use Rattle.dir_memory.specs.Memories.{answer_or_failure, is_end}
 use Rattle.dir_memory.proofs.Meanwhile.{step_came}
 use Rattle.dir_memory.proofs.OpenListings.{listing_about}
 
@@ -38,3 +44,56 @@ open_after h mid me request copy same grown asks none =
     let next : state_after mid ≡ state_next (state_after h) (event me request Begun) = ap state_after grown ∙ (state_after-push h (event me copy Begun) ∙ ap (λ (r : Request). state_next (state_after h) (event me r Begun)) same) in
     ap (λ (s : DirState). is_about_open s me request) next
     ∙ (sym (listing_about (state_next (state_after h) (event me request Begun)) me request) ∙ begun_open (state_after h) me none request asks)
+
+-- the end of the listing that is open
+module _ (h : List Event) (me : ℕ) (request : Request) (may : may_step (state_after h) me request ≡ true) (about : is_about_open (state_after h) me request ≡ true) where
+  is_open : is_open_listing request (listing_of (state_after h) me) ≡ true
+  is_open = listing_about (state_after h) me request ∙ about
+
+  pub cut_allowed : (reply : Reply) → reply ≡ Refused RunsOut 0 → is_allowed (state_after h) (event me request reply) ≡ true
+  cut_allowed reply is = rw is (end_fails (state_after h) me request RunsOut may refl is_open)
+
+  pub whole_allowed : (fails : Bool) (reply : Reply) → reply ≡ cond fails (Refused Failed 0) (listing_answer (state_after h) me) → is_allowed (state_after h) (event me request reply) ≡ true
+  whole_allowed true reply is = rw is (end_fails (state_after h) me request Failed may refl is_open)
+  whole_allowed false reply is = rw is (end_allowed (state_after h) me request may is_open)
+
+  cut_by : (r : Request) → is_listing_request r ≡ true → brings_nothing r (Refused RunsOut 0) ≡ true
+  cut_by (ListArea area) asks = refl
+  cut_by (ListIn inner) asks = refl
+  cut_by _ asks = cc
+
+  fail_by : (r : Request) → is_listing_request r ≡ true → brings_nothing r (Refused Failed 0) ≡ true
+  fail_by (ListArea area) asks = refl
+  fail_by (ListIn inner) asks = refl
+  fail_by _ asks = cc
+
+  shown_by : (r : Request) (x : Listed) → is_about r x ≡ true → brings_nothing r (shown x) ≡ true
+  shown_by (ListArea area) (listed.Area here through ever) is = refl
+  shown_by (ListIn inner) (listed.Missing here) is = refl
+  shown_by (ListIn inner) (listed.Inside here folder through ever) is = refl
+  shown_by r x is = cc
+
+  open_by : (o : Option OpenListing) → is_open_listing request o ≡ true → brings_nothing request (shown_of o) ≡ true
+  open_by None is = cc
+  open_by (Some l) is = shown_by request l.listed is
+
+  pub cut_plain : (reply : Reply) → is_listing_request request ≡ true → reply ≡ Refused RunsOut 0 → brings_nothing request reply ≡ true
+  cut_plain reply asks is = rw is (cut_by request asks)
+
+  pub whole_plain : (fails : Bool) (reply : Reply) → is_listing_request request ≡ true → reply ≡ cond fails (Refused Failed 0) (listing_answer (state_after h) me) → brings_nothing request reply ≡ true
+  whole_plain true reply asks is = rw is (fail_by request asks)
+  whole_plain false reply asks is = rw is (open_by (listing_of (state_after h) me) is_open)
+
+  end_by : (r : Request) (x : Listed) → is_about r x ≡ true → is_end (shown x) ≡ true
+  end_by (ListArea area) (listed.Area here through ever) is = refl
+  end_by (ListIn inner) (listed.Missing here) is = refl
+  end_by (ListIn inner) (listed.Inside here folder through ever) is = refl
+  end_by r x is = cc
+
+  ends_by : (o : Option OpenListing) → is_open_listing request o ≡ true → is_end (shown_of o) ≡ true
+  ends_by None is = cc
+  ends_by (Some l) is = end_by request l.listed is
+
+  pub whole_ends : (fails : Bool) (reply : Reply) → reply ≡ cond fails (Refused Failed 0) (listing_answer (state_after h) me) → is_end reply ≡ true
+  whole_ends true reply is = rw is refl
+  whole_ends false reply is = rw is (ends_by (listing_of (state_after h) me) is_open)

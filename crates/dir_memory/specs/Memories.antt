@@ -198,15 +198,12 @@ is_read _ = false
 abbrev pub has_shape : Request → Reply → Bool
 has_shape request reply = cond (asks_for_handle request) (is_opening reply) (cond (is_read request) (is_reading reply) (is_plain reply))
 
-abbrev pub is_names_end : Reply → Bool
-is_names_end (Names names) = true
-is_names_end (Refused error left) = left == 0
-is_names_end _ = false
-
-abbrev pub is_items_end : Reply → Bool
-is_items_end (Items items) = true
-is_items_end (Refused error left) = left == 0
-is_items_end _ = false
+-- the replies that stand for the end of a listing
+abbrev pub is_end : Reply → Bool
+is_end (Names names) = true
+is_end (Items items) = true
+is_end (Refused error left) = true
+is_end _ = false
 
 -- the trace is a run in which this process has begun, has ended and has open what it knows, and has no listing open; and
 -- while it is active and wasn't killed there is room for the events that give up its handles and itself
@@ -216,4 +213,5 @@ pub record IsMemory (past : Reserved Event) (process : ℕ) (local : Local) (hel
   pub ended : has_ended (state_after past.items).namespace process ≡ (local.finished || killed)
   pub holds : killed ≡ false → holdings_in (state_after past.items).namespace process ≡ local.holdings
   pub listing : is_listing (state_after past.items) process ≡ false
+  pub was : killed ≡ true → is_some local.intent ≡ true
   pub room : IsActive local → killed ≡ false → held + 1 ≤ past.spare

@@ -6,9 +6,11 @@ mod bundle;
 mod entry;
 mod listing;
 mod local;
+mod memory;
 mod planned;
 mod sink;
 mod step;
 
 pub use bundle::MemoryBundle;
+pub use memory::MemoryDir;
 pub use sink::MemorySink;
