@@ -13,12 +13,12 @@ use Rattle.dir_model.specs.Trace.{namespace_replied, listings_replied, state_nex
 use Rattle.dir_model.specs.Listings.{is_of, is_listing, is_listing_request, without_listing}
 use Rattle.dir_model.specs.Calls.{IsRun, may_step, is_begin, is_kill, event}
 use Rattle.dir_model.specs.Local.{Local, IsActive, local_replied, holdings_in}
-use Rattle.dir_model.proofs.Lists.{and_left, and_right, or_true, any_last, any_push, same_self}
+use Rattle.dir_model.proofs.Lists.{and_left, and_right, and_false, or_true, any_last, any_push, same_self}
 use Rattle.dir_model.proofs.Chains.{state_after-push}
 use Rattle.dir_model.proofs.Holdings.{replied_same}
 use Rattle.dir_state.specs.Parts.{kill_of}
 use Rattle.dir_memory.specs.Interludes.{Interlude}
-use Rattle.dir_memory.specs.Memories.{Memory, IsMemory, is_up_to, is_stopped, may_ask, is_active, is_numbered, is_end}
+use Rattle.dir_memory.specs.Memories.{Memory, IsMemory, is_up_to, is_stopped, may_ask, is_active, is_numbered, is_end_of}
 use Rattle.dir_memory.proofs.OpenListings.{own_none, none_without}
 
 pub record Facts (h : List Event) (me : ℕ) (m : Local) : Type 0 where
@@ -99,15 +99,17 @@ pub none_after : (h grown : List Event) (me : ℕ) (request : Request) (reply : 
 none_after h grown me request reply plain none e =
     ap (λ (x : List Event). is_listing (state_after x) me) e ∙ (ap (λ (s : DirState). is_listing s me) (state_after-push h (event me request reply)) ∙ own_none (state_after h) me request reply plain none)
 
-end_none : (s : DirState) (me : ℕ) (request : Request) (reply : Reply) → is_end reply ≡ true → is_listing_request request ≡ true → list_any (is_of me) (listings_replied s me request reply) ≡ false
-end_none s me request (Names names) ends asks = rw asks (none_without me s.listings)
-end_none s me request (Items items) ends asks = rw asks (none_without me s.listings)
-end_none s me request (Refused error left) ends asks = rw asks (none_without me s.listings)
-end_none s me request _ ends asks = cc
+end_by : (s : DirState) (me : ℕ) (request : Request) (reply : Reply) → is_listing_request request ≡ true → is_end_of request reply ≡ true → list_any (is_of me) (listings_replied s me request reply) ≡ false
+end_by s me request (Names names) asks ends = rw asks (none_without me s.listings)
+end_by s me request (Items items) asks ends = rw asks (none_without me s.listings)
+end_by s me request (Refused error left) asks ends = rw asks (none_without me s.listings)
+end_by s me (ListArea area) _ asks ends = cc
+end_by s me (ListIn inner) _ asks ends = cc
+end_by s me _ reply asks ends = cc
 
-pub none_ended : (h grown : List Event) (me : ℕ) (request : Request) (reply : Reply) → is_end reply ≡ true → is_listing_request request ≡ true → grown ≡ h ++ event me request reply ∷ [] → is_listing (state_after grown) me ≡ false
+pub none_ended : (h grown : List Event) (me : ℕ) (request : Request) (reply : Reply) → is_end_of request reply ≡ true → is_listing_request request ≡ true → grown ≡ h ++ event me request reply ∷ [] → is_listing (state_after grown) me ≡ false
 none_ended h grown me request reply ends asks e =
-    ap (λ (x : List Event). is_listing (state_after x) me) e ∙ (ap (λ (s : DirState). is_listing s me) (state_after-push h (event me request reply)) ∙ end_none (state_after h) me request reply ends asks)
+    ap (λ (x : List Event). is_listing (state_after x) me) e ∙ (ap (λ (s : DirState). is_listing s me) (state_after-push h (event me request reply)) ∙ end_by (state_after h) me request reply asks ends)
 
 -- a living process's record
 pub memory_now : (past : Reserved Event) (me : ℕ) (m : Local) (held : ℕ) (killed : Bool) → killed ≡ false → Facts past.items me m → is_listing (state_after past.items) me ≡ false → IsRun past.items → (IsActive m → held + 1 ≤ past.spare) → IsMemory past me m held killed
@@ -156,6 +158,12 @@ begun_by : (b some unfinished u : Bool) → (not b && u) ≡ true → cond b (no
 begun_by true some unfinished u h may = cc
 begun_by false true unfinished u h may = refl
 begun_by false false unfinished u h may = cc
+
+pub over_by : (new : Reserved Event) (me : ℕ) (m : Local) (held : ℕ) → IsMemory new me m held true → lives (state_after new.items).namespace me ≡ false
+over_by new me m held i = by (has_begun (state_after new.items).namespace me) (has_ended (state_after new.items).namespace me) (i.ended ∙ or_true m.finished)
+  where
+    by : (b e : Bool) → e ≡ true → (b && not e) ≡ false
+    by b e is = ap (λ x. b && not x) is ∙ and_false b
 
 pub memory_stopped : (past new : Reserved Event) (mid : List Event) (me : ℕ) (m : Memory) (held more : ℕ) (request : Request) → IsMemory past me m.local held m.killed → Interlude me past.items mid → new.items ≡ mid ++ kill_of (not m.killed) me → IsRun new.items → is_stopped m request ≡ true → may_ask m.local request ≡ true → IsMemory new me m.local more true
 memory_stopped past new mid me m held more request i came grown run stopped may =

@@ -18,12 +18,13 @@ use Rattle.dir_model.specs.Calls.{may_step, is_allowed, event}
 use Rattle.dir_model.proofs.Chains.{state_after-push}
 use Rattle.dir_state.specs.Parts.{brings_nothing}
 use Rattle.dir_state.specs.Answers.{is_possible, step_of, shown, shown_of, listing_answer}
-use Rattle.dir_state.proofs.Ending.{end_allowed, end_fails}
+use Rattle.dir_state.proofs.Orders.{in_order_ascends}
+use Rattle.dir_state.proofs.Ending.{end_allowed, end_fails, items_ascend}
 use Rattle.dir_state.proofs.Answering.{plain_allowed, fault_allowed}
 use Rattle.dir_state.proofs.Whole.{begun_open}
 use Rattle.dir_memory.specs.declared.planned.Planned.{Planned}
 use Rattle.dir_memory.specs.Interludes.{Interlude, is_about_open}
-use Rattle.dir_memory.specs.Memories.{answer_or_failure, is_end}
+use Rattle.dir_memory.specs.Memories.{answer_or_failure, is_end_of}
 use Rattle.dir_memory.proofs.Meanwhile.{step_came}
 use Rattle.dir_memory.proofs.OpenListings.{listing_about}
 
@@ -84,16 +85,29 @@ module _ (h : List Event) (me : ℕ) (request : Request) (may : may_step (state_
   whole_plain true reply asks is = rw is (fail_by request asks)
   whole_plain false reply asks is = rw is (open_by (listing_of (state_after h) me) is_open)
 
-  end_by : (r : Request) (x : Listed) → is_about r x ≡ true → is_end (shown x) ≡ true
-  end_by (ListArea area) (listed.Area here through ever) is = refl
+  end_by : (r : Request) (x : Listed) → is_about r x ≡ true → is_end_of r (shown x) ≡ true
+  end_by (ListArea area) (listed.Area here through ever) is = in_order_ascends [] through refl
   end_by (ListIn inner) (listed.Missing here) is = refl
-  end_by (ListIn inner) (listed.Inside here folder through ever) is = refl
+  end_by (ListIn inner) (listed.Inside here folder through ever) is = items_ascend through
   end_by r x is = cc
 
-  ends_by : (o : Option OpenListing) → is_open_listing request o ≡ true → is_end (shown_of o) ≡ true
+  ends_by : (o : Option OpenListing) → is_open_listing request o ≡ true → is_end_of request (shown_of o) ≡ true
   ends_by None is = cc
   ends_by (Some l) is = end_by request l.listed is
 
-  pub whole_ends : (fails : Bool) (reply : Reply) → reply ≡ cond fails (Refused Failed 0) (listing_answer (state_after h) me) → is_end reply ≡ true
-  whole_ends true reply is = rw is refl
-  whole_ends false reply is = rw is (ends_by (listing_of (state_after h) me) is_open)
+  fail_ends : (r : Request) → is_listing_request r ≡ true → is_end_of r (Refused Failed 0) ≡ true
+  fail_ends (ListArea area) asks = refl
+  fail_ends (ListIn inner) asks = refl
+  fail_ends _ asks = cc
+
+  cut_ends_by : (r : Request) → is_listing_request r ≡ true → is_end_of r (Refused RunsOut 0) ≡ true
+  cut_ends_by (ListArea area) asks = refl
+  cut_ends_by (ListIn inner) asks = refl
+  cut_ends_by _ asks = cc
+
+  pub whole_ends : (fails : Bool) (reply : Reply) → is_listing_request request ≡ true → reply ≡ cond fails (Refused Failed 0) (listing_answer (state_after h) me) → is_end_of request reply ≡ true
+  whole_ends true reply asks is = rw is (fail_ends request asks)
+  whole_ends false reply asks is = rw is (ends_by (listing_of (state_after h) me) is_open)
+
+  pub cut_ends : (reply : Reply) → is_listing_request request ≡ true → reply ≡ Refused RunsOut 0 → is_end_of request reply ≡ true
+  cut_ends reply asks is = rw is (cut_ends_by request asks)

@@ -5,14 +5,14 @@ use Rattle.dir_model.specs.Reserved.{Reserved}
 use Rattle.dir_model.specs.declared.event.Event.{Event}
 use Rattle.dir_model.specs.declared.request.DirError.TheVariants.{Failed, NoMemory}
 use Rattle.dir_model.specs.declared.request.Request.{Request}
-use Rattle.dir_model.specs.declared.request.Request.TheVariants.{ReadIn}
+use Rattle.dir_model.specs.declared.request.Request.TheVariants.{ListArea, ListIn, ReadIn}
 use Rattle.dir_model.specs.declared.request.Reply.{Reply}
 use Rattle.dir_model.specs.declared.request.Reply.TheVariants.{Done, Begun, Opened, Names, Items, Read, Refused}
 use Rattle.dir_model.specs.Paths.{is_well_formed}
-use Rattle.dir_model.specs.Listings.{is_listing, is_listing_request}
-use Rattle.dir_model.specs.State.{DirState, has_begun, has_ended}
+use Rattle.dir_model.specs.Listings.{is_listing, is_listing_request, ascend, item_names}
+use Rattle.dir_model.specs.State.{DirState, has_begun, has_ended, lives}
 use Rattle.dir_model.specs.Trace.{state_after}
-use Rattle.dir_model.specs.Replies.{is_fallible, asks_for_handle, asks_for_nothing}
+use Rattle.dir_model.specs.Replies.{is_fallible, asks_for_handle, asks_for_nothing, may_refuse}
 use Rattle.dir_model.specs.Calls.{Interference, IsRun, is_begin, event}
 use Rattle.dir_model.specs.Local.{Local, nothing_local, IsActive, local_replied, holdings_in}
 use Rattle.dir_trait.specs.DirCalls.{DirAt}
@@ -104,6 +104,7 @@ pub record RanOut (old : Memory) (request : Request) (reply : Reply) (new : Memo
 -- the process was killed before this call or an earlier one. The steps that were due came before
 pub record Stopped (old : Memory) (request : Request) (reply : Reply) (new : Memory) : Type 0 where
   pub stopped : is_stopped old request ≡ true
+  pub over : lives (state_after new.trace).namespace old.process ≡ false
   pub replied : reply ≡ Refused Failed 0
   pub after : new ≡ record (after_call old (before_call old request ++ kill_of (not old.killed) old.process) true request reply (still_pending old request)) { killed = true }
 
@@ -123,9 +124,17 @@ before_end m request = with_steps m.process (once_begun m request) (due (m.numbe
 abbrev pub end_reply : Memory → Request → Reply
 end_reply m request = cond (is_to_fail m request) (Refused Failed 0) (listing_answer (state_after (before_end m request)) m.process)
 
+-- the end of a listing: in byte order, each name once, or a refusal of the call
+abbrev pub is_end_of : Request → Reply → Bool
+is_end_of (ListArea area) (Names names) = ascend names
+is_end_of (ListIn inner) (Items items) = ascend (item_names items)
+is_end_of request (Refused error left) = (left == 0) && may_refuse request error
+is_end_of request _ = false
+
 -- a listing began, the steps inside it came, and it ended
 pub record Listed (old : Memory) (request : Request) (reply : Reply) (new : Memory) : Type 0 where
   pub replied : reply ≡ end_reply old request
+  pub ends : is_end_of request reply ≡ true
   pub after : new ≡ after_call old (before_end old request ++ event old.process request reply ∷ []) (is_to_fail old request) request reply (not_due (old.numbered + 1) false (still_pending old request))
 
 -- memory ran out before its end: some of those steps came, the first ones
@@ -197,13 +206,6 @@ is_read _ = false
 -- the reply is of the call's kind
 abbrev pub has_shape : Request → Reply → Bool
 has_shape request reply = cond (asks_for_handle request) (is_opening reply) (cond (is_read request) (is_reading reply) (is_plain reply))
-
--- the replies that stand for the end of a listing
-abbrev pub is_end : Reply → Bool
-is_end (Names names) = true
-is_end (Items items) = true
-is_end (Refused error left) = true
-is_end _ = false
 
 -- the trace is a run in which this process has begun, has ended and has open what it knows, and has no listing open; and
 -- while it is active and wasn't killed there is room for the events that give up its handles and itself

@@ -237,12 +237,12 @@ impl MemoryDir {
         );
         self.calls = self.calls.saturating_add(1);
         self.numbered = self.numbered.saturating_add(1);
-        if came.is_err() {
+        let Ok(()) = came else {
             return Reply::Refused {
                 error: DirError::NoMemory,
                 left: 0,
             };
-        }
+        };
         self.past.end(self.process, !self.killed);
         self.killed = true;
         self.faults = self.faults.saturating_add(1);

@@ -10,7 +10,7 @@ ghost use Rattle.dir_model.specs.Reserved.{reserved};
 ghost use Rattle.dir_state.specs.Answers.{listing_answer};
 ghost use Rattle.dir_memory.specs.Schedules.{is_due, due, not_due, step_events, with_steps};
 ghost use Rattle.dir_memory.specs.Interludes.{Interlude, TakesFirst, is_about_open};
-ghost use Rattle.dir_memory.specs.Memories.{answer_or_failure, is_end, local_of};
+ghost use Rattle.dir_memory.specs.Memories.{answer_or_failure, is_end_of, local_of};
 
 use crate::local::LocalView;
 use crate::planned::Planned;
@@ -275,7 +275,7 @@ pub fn end_step(past: &mut Past, me: u32, fails: bool, came: bool, request: Requ
     requires room { 0 < past.old.spare }
     ensures grown { past.new ≡ reserved (past.old.items ++ event me request result.reply ∷ []) (past.old.spare - 1) }
     ensures run { IsRun past.new.items }
-    ensures ends { is_end result.reply ≡ true }
+    ensures ends { is_end_of request result.reply ≡ true }
     ensures cut { result.cut ≡ true → result.reply ≡ Reply.Refused DirError.NoMemory 0 }
     ensures whole { result.cut ≡ false → (came ≡ true) × (result.reply ≡ cond fails (Reply.Refused DirError.Failed 0) (listing_answer (state_after past.old.items) me)) }
 {

@@ -130,7 +130,7 @@ other_request _ X other x about = absurd (by about)
     by : false ≡ true → ⊥
     by h = cc
 
-items_ascend : (items : List Item) → ascend (item_names (items_in_order items)) ≡ true
+pub items_ascend : (items : List Item) → ascend (item_names (items_in_order items)) ≡ true
 items_ascend items = ap ascend (names_of items (in_order [] (item_names items))) ∙ in_order_ascends [] (item_names items) refl
 
 module _ (s : DirState) (p : ℕ) where
