@@ -64,7 +64,7 @@ module _ (m : Memory) (request : Request) (reply : Reply) (fails cut came : Bool
       → Interference m.process begun mid → with_steps m.process mid (due n false later_steps) ≡ with_steps m.process begun (due n false earlier) → not_due n false later_steps ≡ not_due n false earlier
       → is_end_of request reply ≡ true → (came ≡ true → mid ≡ with_steps m.process begun (due n false earlier)) → (came ≡ true → later_steps ≡ not_due n false earlier)
       → trace ≡ mid ++ event m.process request reply ∷ []
-      → (cut ≡ true → reply ≡ Refused NoMemory 0) → (cut ≡ false → (came ≡ true) × (reply ≡ cond fails (Refused Failed 0) (listing_answer (state_after mid) m.process)))
+      → (cut ≡ true → reply ≡ Refused NoMemory 0) → (cut ≡ false → (came ≡ true) × (reply ≡ cond fails (Refused Failed 0) (listing_answer (state_after mid) m.process)) × ((left : ℕ) → reply ≡ Refused Failed left → fails ≡ true))
       → faults ≡ cond (fails && not cut) (raised m.faults) m.faults → calls ≡ raised m.calls → numbered ≡ raised m.numbered
       → Listed m request reply new ⊎ (CutOff m request reply new ⊎ RanOut m request reply new)
   listing_by f b e inter first later ends came_is left_is t cut_is whole fs cs ns = by cut cut_is whole fs
@@ -81,7 +81,7 @@ module _ (m : Memory) (request : Request) (reply : Reply) (fails cut came : Bool
       kept : m.local ≡ local_replied m.local request reply
       kept = sym (listing_local m.local request reply asks)
 
-      by : (c : Bool) → (c ≡ true → reply ≡ Refused NoMemory 0) → (c ≡ false → (came ≡ true) × (reply ≡ cond fails (Refused Failed 0) (listing_answer (state_after mid) m.process))) → faults ≡ cond (fails && not c) (raised m.faults) m.faults → Listed m request reply new ⊎ (CutOff m request reply new ⊎ RanOut m request reply new)
+      by : (c : Bool) → (c ≡ true → reply ≡ Refused NoMemory 0) → (c ≡ false → (came ≡ true) × (reply ≡ cond fails (Refused Failed 0) (listing_answer (state_after mid) m.process)) × ((left : ℕ) → reply ≡ Refused Failed left → fails ≡ true)) → faults ≡ cond (fails && not c) (raised m.faults) m.faults → Listed m request reply new ⊎ (CutOff m request reply new ⊎ RanOut m request reply new)
       by true cut whole fs = inr (inl (record {
         trace = mid;
         replied = cut refl;
@@ -96,5 +96,6 @@ module _ (m : Memory) (request : Request) (reply : Reply) (fails cut came : Bool
           inl (record {
             replied = w.1 ∙ (ap (λ x. cond x (Refused Failed 0) (listing_answer (state_after mid) m.process)) f ∙ ap (λ h. cond (is_to_fail m request) (Refused Failed 0) (listing_answer (state_after h) m.process)) last);
             ends = ends;
+            failed = λ left is. sym f ∙ (w.2 left is);
             after = same_memory m trace (before_end m request ++ event m.process request reply ∷ []) faults (cond (is_to_fail m request) (raised m.faults) m.faults) calls (raised m.calls) numbered (raised m.numbered) m.local (local_replied m.local request reply) later_steps (not_due n false (still_pending m request)) (t ∙ ap (λ h. h ++ event m.process request reply ∷ []) last) (fs ∙ (always fails (raised m.faults) m.faults ∙ ap (λ x. cond x (raised m.faults) m.faults) f)) cs ns kept (left_is w.0 ∙ sym (ap (not_due n false) left));
           })

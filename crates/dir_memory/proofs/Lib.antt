@@ -4,6 +4,7 @@ pub mod Own
 pub mod Facts
 pub mod Follow
 pub mod Ended
+pub mod Calling
 pub mod Schedules
 pub mod Places
 pub mod BundleTrees

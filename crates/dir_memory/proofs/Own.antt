@@ -111,3 +111,17 @@ module _ (h : List Event) (me : ℕ) (request : Request) (may : may_step (state_
 
   pub cut_ends : (reply : Reply) → is_listing_request request ≡ true → reply ≡ Refused RunsOut 0 → is_end_of request reply ≡ true
   cut_ends reply asks is = rw is (cut_ends_by request asks)
+
+  shown_fine : (x : Listed) (left : ℕ) → shown x ≡ Refused Failed left → false ≡ true
+  shown_fine (listed.Area here through ever) left is = cc
+  shown_fine (listed.Missing here) left is = cc
+  shown_fine (listed.Inside here folder through ever) left is = cc
+
+  fine : (o : Option OpenListing) (left : ℕ) → shown_of o ≡ Refused Failed left → false ≡ true
+  fine None left is = cc
+  fine (Some l) left is = shown_fine l.listed left is
+
+  -- only a failure is one
+  pub whole_fails : (fails : Bool) (reply : Reply) → reply ≡ cond fails (Refused Failed 0) (listing_answer (state_after h) me) → (left : ℕ) → reply ≡ Refused Failed left → fails ≡ true
+  whole_fails true reply is left failed = refl
+  whole_fails false reply is left failed = fine (listing_of (state_after h) me) left (sym is ∙ failed)

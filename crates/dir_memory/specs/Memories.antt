@@ -135,6 +135,7 @@ is_end_of request _ = false
 pub record Listed (old : Memory) (request : Request) (reply : Reply) (new : Memory) : Type 0 where
   pub replied : reply ≡ end_reply old request
   pub ends : is_end_of request reply ≡ true
+  pub failed : (left : ℕ) → reply ≡ Refused Failed left → is_to_fail old request ≡ true
   pub after : new ≡ after_call old (before_end old request ++ event old.process request reply ∷ []) (is_to_fail old request) request reply (not_due (old.numbered + 1) false (still_pending old request))
 
 -- memory ran out before its end: some of those steps came, the first ones

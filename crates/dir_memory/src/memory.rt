@@ -56,7 +56,8 @@ impl MemoryDir {
     ghost use Rattle.std.specs.Prelude.{◌≡◌, ◌⊎◌, ◌≤◌, ◌++◌, ◌∷◌, [], true, false, None, Some, IfOk};
     ghost use Rattle.dir_model.specs.Calls.{IsRun};
     ghost use Rattle.dir_model.specs.Listings.{is_listing_request};
-    ghost use Rattle.dir_model.specs.Local.{nothing_local, IsActive, IsOpen};
+    ghost use Rattle.dir_model.specs.declared.spot.Handle.{Handle};
+    ghost use Rattle.dir_model.specs.Local.{nothing_local, IsActive, IsOpen, IsUnopened};
     ghost use Rattle.dir_model.specs.State.{has_begun};
     ghost use Rattle.dir_model.specs.Trace.{state_after};
     ghost use Rattle.dir_memory.specs.Memories.{Answered, Follows, Listed, CutOff, FollowsListing, RanOut, Stopped, is_stopped, may_ask, is_numbered, scheduled, passed_on, given_up};
@@ -226,7 +227,9 @@ impl MemoryDir {
         requires stopped { is_stopped self.old request ≡ true }
         requires may { may_ask self.old.local request ≡ true }
         ensures follows { RanOut self.old request result self.new ⊎ Stopped self.old request result self.new }
+        ensures unopened { (handle : Handle) → result ≡ Reply.Opened handle → IsUnopened self.old.local handle }
         ensures run { IsRun self.new.trace }
+        ensures faults { self.old.faults ≤ self.new.faults }
     {
         let came = steps_come(
             &mut self.past,
@@ -259,7 +262,9 @@ impl MemoryDir {
         requires plain { is_listing_request request ≡ false }
         requires may { may_ask self.old.local request ≡ true }
         ensures follows { Answered self.old request result self.new ⊎ RanOut self.old request result self.new }
+        ensures unopened { (handle : Handle) → result ≡ Reply.Opened handle → IsUnopened self.old.local handle }
         ensures run { IsRun self.new.trace }
+        ensures faults { self.old.faults ≤ self.new.faults }
     {
         let fails = fails_next(&self.failing, self.numbered, &request);
         let answered = one_step(
@@ -290,6 +295,7 @@ impl MemoryDir {
         requires may { may_ask self.old.local request ≡ true }
         ensures follows { Listed self.old request result self.new ⊎ (CutOff self.old request result self.new ⊎ RanOut self.old request result self.new) }
         ensures run { IsRun self.new.trace }
+        ensures faults { self.old.faults ≤ self.new.faults }
     {
         let fails = fails_next(&self.failing, self.numbered, &request);
         let begun = begin_step(
@@ -320,7 +326,9 @@ impl MemoryDir {
         requires plain { is_listing_request request ≡ false }
         requires may { may_ask self.old.local request ≡ true }
         ensures follows { Follows self.old request result self.new }
+        ensures unopened { (handle : Handle) → result ≡ Reply.Opened handle → IsUnopened self.old.local handle }
         ensures run { IsRun self.new.trace }
+        ensures faults { self.old.faults ≤ self.new.faults }
     {
         if self.is_stopped(&request) {
             return self.stopped_call(request);
@@ -334,6 +342,7 @@ impl MemoryDir {
         requires may { may_ask self.old.local request ≡ true }
         ensures follows { FollowsListing self.old request result self.new }
         ensures run { IsRun self.new.trace }
+        ensures faults { self.old.faults ≤ self.new.faults }
     {
         if self.is_stopped(&request) {
             return self.stopped_call(request);

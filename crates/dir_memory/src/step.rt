@@ -1,5 +1,5 @@
 // One call: the steps of others that are due come first, and then its own.
-ghost use Rattle.std.specs.Prelude.{◌≡◌, ◌+◌, ◌-◌, ◌≤◌, ◌<◌, ◌++◌, ◌∷◌, [], cond, true, false, vec_len, OnOk, OnErr, IfOk};
+ghost use Rattle.std.specs.Prelude.{◌≡◌, ℕ, ◌+◌, ◌-◌, ◌≤◌, ◌<◌, ◌++◌, ◌∷◌, [], cond, true, false, vec_len, OnOk, OnErr, IfOk};
 ghost use Rattle.std.specs.List.{list_any};
 ghost use Rattle.dir_model.specs.Listings.{is_listing, is_listing_request};
 ghost use Rattle.dir_model.specs.Trace.{state_after};
@@ -277,7 +277,7 @@ pub fn end_step(past: &mut Past, me: u32, fails: bool, came: bool, request: Requ
     ensures run { IsRun past.new.items }
     ensures ends { is_end_of request result.reply ≡ true }
     ensures cut { result.cut ≡ true → result.reply ≡ Reply.Refused DirError.NoMemory 0 }
-    ensures whole { result.cut ≡ false → (came ≡ true) × (result.reply ≡ cond fails (Reply.Refused DirError.Failed 0) (listing_answer (state_after past.old.items) me)) }
+    ensures whole { result.cut ≡ false → (came ≡ true) × (result.reply ≡ cond fails (Reply.Refused DirError.Failed 0) (listing_answer (state_after past.old.items) me)) × ((left : ℕ) → result.reply ≡ Reply.Refused DirError.Failed left → fails ≡ true) }
 {
     match end_of(past, me, fails, came) {
         Ok((copy, reply)) => {

@@ -1,5 +1,5 @@
 use Rattle.std.proofs.Common.{◌∙◌}
-use Rattle.dir_memory.proofs.Own.{cut_allowed, whole_allowed, whole_plain, whole_ends, cut_ends}
+use Rattle.dir_memory.proofs.Own.{cut_allowed, whole_allowed, whole_plain, whole_ends, cut_ends, whole_fails}
 use Rattle.dir_memory.proofs.step.end_step.Goals as goal
 
 pub add_plain-requires-clause-allowed : goal.add_plain-requires-clause-allowed
@@ -16,3 +16,6 @@ returns-in-Ok-clause-ends c = whole_ends c.args.past.now.items c.args.me c.args.
 
 pub returns-in-Err-clause-ends : goal.returns-in-Err-clause-ends
 returns-in-Err-clause-ends c = cut_ends c.args.past.now.items c.args.me c.args.request c.requires.may c.requires.about _ c.requires.asks c.refused-in-Err.ensures
+
+pub returns-in-Ok-clause-whole : goal.returns-in-Ok-clause-whole
+returns-in-Ok-clause-whole c whole = (c.in-Ok.ensures.came, c.in-Ok.ensures.reply, whole_fails c.args.past.now.items c.args.me c.args.request c.requires.may c.requires.about c.args.fails c.in-Ok.reply c.in-Ok.ensures.reply)
