@@ -3,3 +3,4 @@ pub mod Interludes
 pub mod Memories
 pub mod MemorySinks
 pub mod MemoryBundles
+pub mod PathCalls

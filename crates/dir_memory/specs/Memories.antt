@@ -208,6 +208,20 @@ is_read _ = false
 abbrev pub has_shape : Request → Reply → Bool
 has_shape request reply = cond (asks_for_handle request) (is_opening reply) (cond (is_read request) (is_reading reply) (is_plain reply))
 
+abbrev pub is_names_end : Reply → Bool
+is_names_end (Names names) = true
+is_names_end (Refused error left) = left == 0
+is_names_end _ = false
+
+abbrev pub is_items_end : Reply → Bool
+is_items_end (Items items) = true
+is_items_end (Refused error left) = left == 0
+is_items_end _ = false
+
+-- memory ran out before the call was noted
+abbrev pub short_of_memory : Memory → Memory
+short_of_memory m = record m { calls = raised m.calls; numbered = raised m.numbered }
+
 -- the trace is a run in which this process has begun, has ended and has open what it knows, and has no listing open; and
 -- while it is active and wasn't killed there is room for the events that give up its handles and itself
 pub record IsMemory (past : Reserved Event) (process : ℕ) (local : Local) (held : ℕ) (killed : Bool) : Type 0 where

@@ -3,10 +3,12 @@
 #![tactic(auto)]
 
 mod bundle;
+mod dir;
 mod entry;
 mod listing;
 mod local;
 mod memory;
+mod path_call;
 mod planned;
 mod sink;
 mod step;

@@ -58,9 +58,9 @@ impl MemoryDir {
     ghost use Rattle.dir_model.specs.Listings.{is_listing_request};
     ghost use Rattle.dir_model.specs.declared.spot.Handle.{Handle};
     ghost use Rattle.dir_model.specs.Local.{nothing_local, IsActive, IsOpen, IsUnopened};
-    ghost use Rattle.dir_model.specs.State.{has_begun};
+    ghost use Rattle.dir_model.specs.State.{has_begun, lives};
     ghost use Rattle.dir_model.specs.Trace.{state_after};
-    ghost use Rattle.dir_memory.specs.Memories.{Answered, Follows, Listed, CutOff, FollowsListing, RanOut, Stopped, is_stopped, may_ask, is_numbered, scheduled, passed_on, given_up};
+    ghost use Rattle.dir_memory.specs.Memories.{Answered, Follows, Listed, CutOff, FollowsListing, RanOut, Stopped, is_stopped, may_ask, is_numbered, scheduled, passed_on, given_up, short_of_memory};
 
     /// The empty data folder, before this process has begun: nothing is scheduled, and no call is
     /// to fail. Refused only where memory ran out.
@@ -350,12 +350,21 @@ impl MemoryDir {
         self.live_listing(request)
     }
 
+    /// Memory ran out before a call could be noted.
+    pub fn run_out(&mut self)
+        ensures { self.new ≡ short_of_memory self.old }
+    {
+        self.calls = self.calls.saturating_add(1);
+        self.numbered = self.numbered.saturating_add(1);
+    }
+
     /// An open handle is given up.
     pub fn give_up_handle(&mut self, handle: Handle)
         requires active { IsActive self.old.local }
         requires open { IsOpen self.old.local handle }
         ensures follows { self.new ≡ given_up self.old (Request.Close handle) }
         ensures run { IsRun self.new.trace }
+        ensures over { self.old.killed ≡ true → lives (state_after self.old.trace).namespace self.old.process ≡ false }
     {
         self.calls = self.calls.saturating_add(1);
         self.own.note_closed(handle);
@@ -373,6 +382,7 @@ impl MemoryDir {
         requires active { IsActive self.old.local }
         ensures follows { self.new ≡ given_up self.old Request.Finish }
         ensures run { IsRun self.new.trace }
+        ensures over { self.old.killed ≡ true → lives (state_after self.old.trace).namespace self.old.process ≡ false }
     {
         self.calls = self.calls.saturating_add(1);
         self.own.note_finished();
