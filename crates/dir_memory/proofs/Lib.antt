@@ -5,6 +5,7 @@ pub mod Facts
 pub mod Follow
 pub mod Ended
 pub mod Calling
+pub mod PathCalls
 pub mod Schedules
 pub mod Places
 pub mod BundleTrees

@@ -352,7 +352,8 @@ impl MemoryDir {
 
     /// Memory ran out before a call could be noted.
     pub fn run_out(&mut self)
-        ensures { self.new ≡ short_of_memory self.old }
+        ensures same { self.new ≡ short_of_memory self.old }
+        ensures run { IsRun self.new.trace }
     {
         self.calls = self.calls.saturating_add(1);
         self.numbered = self.numbered.saturating_add(1);
