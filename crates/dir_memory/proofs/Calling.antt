@@ -1,12 +1,11 @@
 -- What the calls of a directory in memory say, as of every directory.
-use Rattle.std.proofs.Common.{◌≡◌, ◌⊎◌, inl, inr, ℕ, ◌+◌, ◌≤◌, nat_le, Result, Ok, Err, IfOk, IfErr, is_some, Option, Some, None, Bool, true, false, not, ◌&&◌, ◌==◌, cond, length, take, drop, List, [], ◌∷◌, ◌++◌, arith, refl, sym, ap, subst, ◌∙◌, append_assoc, append-nil}
+use Rattle.std.proofs.Common.{◌≡◌, ◌⊎◌, inl, inr, ℕ, ◌+◌, ◌≤◌, Result, Ok, Err, IfOk, IfErr, Option, Some, None, Bool, true, false, not, ◌&&◌, ◌==◌, cond, length, take, drop, List, [], ◌∷◌, ◌++◌, arith, refl, sym, ap, subst, ◌∙◌, append_assoc, append-nil}
 use Rattle.std.specs.List.{list_any, list_all, AllByRecursion}
 use Rattle.std.specs.List.Sorted.{IsStrictlySortedBy}
 use Rattle.std.specs.declared.cmp.Ordering.{Ordering}
 use Rattle.std.specs.declared.cmp.Ordering.TheVariants.{Less, Equal, Greater}
 use Rattle.std.specs.Ordering.{nat_cmp, is_lt}
 use Rattle.std.specs.Cmp.Lexicographic.{slice_cmp}
-use Rattle.std.proofs.lemmas.Bool.Decides.{nat_tests}
 use Rattle.std.proofs.lemmas.Grind.{common_steps}
 use Rattle.dir_model.specs.declared.event.Event.{Event}
 use Rattle.dir_model.specs.declared.item.Inner.{Inner}
@@ -18,26 +17,26 @@ use Rattle.dir_model.specs.declared.request.DirError.TheVariants.{Failed, NoMemo
 use Rattle.dir_model.specs.declared.request.Request.{Request}
 use Rattle.dir_model.specs.declared.request.Request.TheVariants.{Begin, Open, OpenArea, ListArea, ListIn, ReadIn, Close, Finish, Kill}
 use Rattle.dir_model.specs.declared.request.Reply.{Reply}
-use Rattle.dir_model.specs.declared.request.Reply.TheVariants.{Done, Begun, Opened, Names, Items, Read, Refused}
+use Rattle.dir_model.specs.declared.request.Reply.TheVariants.{Done, Begun, Opened, Read, Refused}
 use Rattle.dir_model.specs.State.{Namespace, DirState, empty_state, folder_at, has_open, lives}
 use Rattle.dir_model.specs.Trees.{content}
 use Rattle.dir_model.specs.Trace.{state_next, states_next, state_after}
-use Rattle.dir_model.specs.Listings.{is_listing, is_listing_request, ascend, item_names}
+use Rattle.dir_model.specs.Listings.{is_listing_request, ascend, item_names}
 use Rattle.dir_model.specs.declared.area.Area.{Area}
 use Rattle.dir_model.specs.Replies.{is_fallible, is_fault, asks_for_handle, asks_for_nothing, is_late_reply, may_refuse, refusal, bytes_at, done_reply, opened_reply, names_reply, items_reply, read_reply}
 use Rattle.dir_model.specs.Causes.{Rose}
 use Rattle.dir_model.specs.Calls.{IsRun, is_run_from, is_allowed, is_begin, event, CallStep, ListStep, Interference}
 use Rattle.dir_model.specs.Local.{Local, is_open_among, local_replied, holdings_in}
-use Rattle.dir_model.proofs.Lists.{and_left, and_right, all_both, same_self, all_push}
-use Rattle.dir_model.proofs.Chains.{state_after-push, run-left}
+use Rattle.dir_model.proofs.Lists.{and_left, and_right, same_self, all_push}
+use Rattle.dir_model.proofs.Chains.{run-left}
 use Rattle.dir_model.proofs.Holdings.{open_same}
 use Rattle.dir_trait.specs.DirCalls.{DirCall, ListCall}
 use Rattle.dir_state.specs.Parts.{kill_of}
 use Rattle.dir_state.specs.Answers.{free_handle, opened_or_refused, granted, answer_by, answer}
-use Rattle.dir_state.proofs.Answering.{IsRefusal, refusal_named, free_unopened, fault_named}
-use Rattle.dir_memory.specs.Schedules.{with_steps, due, not_due}
+use Rattle.dir_state.proofs.Answering.{refusal_named, free_unopened, fault_named}
+use Rattle.dir_memory.specs.Schedules.{due}
 use Rattle.dir_memory.specs.Interludes.{Interlude}
-use Rattle.dir_memory.specs.Memories.{Memory, raised, is_to_fail, before_call, still_pending, next_reply, answer_or_failure, Answered, RanOut, Stopped, Follows, Listed, CutOff, FollowsListing, once_begun, before_end, is_end_of, is_numbered, is_plain, is_opening, is_reading, is_read, has_shape, shown_of, given_up}
+use Rattle.dir_memory.specs.Memories.{Memory, raised, is_to_fail, before_call, still_pending, next_reply, answer_or_failure, Stopped, Follows, FollowsListing, once_begun, before_end, is_end_of, is_numbered, is_plain, is_opening, is_read, has_shape, shown_of, given_up}
 use Rattle.dir_memory.proofs.Meanwhile.{steps_come}
 use Rattle.dir_memory.proofs.Facts.{none_ended}
 

@@ -6,7 +6,7 @@ use Rattle.dir_model.specs.declared.event.Event.{Event}
 use Rattle.dir_model.specs.declared.request.Request.{Request}
 use Rattle.dir_model.specs.declared.request.Request.TheVariants.{Begin, Open, OpenArea, ListArea, ListIn, Finish, Kill}
 use Rattle.dir_model.specs.declared.request.Reply.{Reply}
-use Rattle.dir_model.specs.declared.request.Reply.TheVariants.{Done, Opened, Refused}
+use Rattle.dir_model.specs.declared.request.Reply.TheVariants.{Done, Opened}
 use Rattle.dir_model.specs.State.{Namespace, DirState, empty_state, has_begun, has_ended, lives}
 use Rattle.dir_model.specs.Trace.{state_after, state_next, states_next, namespace_replied}
 use Rattle.dir_model.specs.Calls.{IsRun, is_run_from, is_allowed, may_step, event}
@@ -115,8 +115,8 @@ all_lists x s [] run before = before
 all_lists x s (e ∷ es) run before =
     all_lists x (state_next s e) es (and_right (is_allowed s e) (is_run_from (state_next s e) es) run)
     (λ unborn.
-      let earlier : has_begun s.namespace x ≡ false = begun_stays x e.process s.namespace e.request e.reply unborn in
-      step_lists x s e.process e.request e.reply (allowed_step s e.process e.request e.reply (and_left (is_allowed s e) (is_run_from (state_next s e) es) run)) (before earlier) earlier)
+    let earlier : has_begun s.namespace x ≡ false = begun_stays x e.process s.namespace e.request e.reply unborn in
+    step_lists x s e.process e.request e.reply (allowed_step s e.process e.request e.reply (and_left (is_allowed s e) (is_run_from (state_next s e) es) run)) (before earlier) earlier)
 
 pub unborn_lists_nothing : (h : List Event) (x : ℕ) → IsRun h → has_begun (state_after h).namespace x ≡ false → is_listing (state_after h) x ≡ false
 unborn_lists_nothing h x run unborn = all_lists x empty_state h run (λ none. refl) unborn

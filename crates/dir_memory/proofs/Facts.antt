@@ -1,19 +1,19 @@
 -- What the trace and a process's own view agree on, kept by the events of others and by its own.
-use Rattle.std.proofs.Common.{◌≡◌, ℕ, ◌+◌, ◌≤◌, Bool, true, false, not, ◌&&◌, ◌||◌, ◌==◌, cond, is_some, Result, Ok, Err, OnOk, List, [], ◌∷◌, ◌++◌, refl, sym, ap, subst, ◌∙◌, append-nil}
+use Rattle.std.proofs.Common.{◌≡◌, ℕ, ◌+◌, ◌≤◌, Bool, true, false, not, ◌&&◌, ◌||◌, ◌==◌, cond, is_some, List, [], ◌∷◌, ◌++◌, refl, sym, ap, ◌∙◌, append-nil}
 use Rattle.std.specs.List.{list_any}
 use Rattle.dir_model.specs.Reserved.{Reserved}
 use Rattle.dir_model.specs.declared.event.Event.{Event}
 use Rattle.dir_model.specs.declared.request.Request.{Request}
 use Rattle.dir_model.specs.declared.request.Request.TheVariants.{Begin, Open, OpenArea, TryLock, Close, ListArea, ListIn, Finish, Kill}
 use Rattle.dir_model.specs.declared.request.Reply.{Reply}
-use Rattle.dir_model.specs.declared.request.Reply.TheVariants.{Done, Begun, Opened, Names, Items, Read, Refused}
+use Rattle.dir_model.specs.declared.request.Reply.TheVariants.{Done, Opened, Names, Items, Refused}
 use Rattle.dir_model.specs.Paths.{is_well_formed}
 use Rattle.dir_model.specs.State.{Namespace, DirState, has_begun, has_ended, lives}
-use Rattle.dir_model.specs.Trace.{namespace_replied, listings_replied, state_next, state_after}
-use Rattle.dir_model.specs.Listings.{is_of, is_listing, is_listing_request, without_listing}
+use Rattle.dir_model.specs.Trace.{namespace_replied, listings_replied, state_after}
+use Rattle.dir_model.specs.Listings.{is_of, is_listing, is_listing_request}
 use Rattle.dir_model.specs.Calls.{IsRun, may_step, is_begin, is_kill, event}
 use Rattle.dir_model.specs.Local.{Local, IsActive, local_replied, holdings_in}
-use Rattle.dir_model.proofs.Lists.{and_left, and_right, and_false, or_true, any_last, any_push, same_self}
+use Rattle.dir_model.proofs.Lists.{and_right, and_false, or_true, any_last, same_self}
 use Rattle.dir_model.proofs.Chains.{state_after-push}
 use Rattle.dir_model.proofs.Holdings.{replied_same}
 use Rattle.dir_state.specs.Parts.{kill_of}

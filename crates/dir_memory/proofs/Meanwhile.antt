@@ -13,8 +13,7 @@ use Rattle.dir_model.specs.Local.{holdings_in}
 use Rattle.dir_model.proofs.Lists.{and_left, and_right, all_both, any_last_not}
 use Rattle.dir_model.proofs.Chains.{run-push, state_after-push}
 use Rattle.dir_model.proofs.Holdings.{others_same}
-use Rattle.dir_model.specs.Listings.{is_listing_request, is_listing, is_of}
-use Rattle.dir_model.specs.Replies.{is_fallible}
+use Rattle.dir_model.specs.Listings.{is_listing_request, is_listing}
 use Rattle.dir_state.specs.Answers.{is_possible, is_met, answer, end_events, step_of, listing_answer}
 use Rattle.dir_state.proofs.Answering.{answer_allowed, not_listing}
 use Rattle.dir_state.proofs.Ending.{end_allowed}

@@ -1,8 +1,7 @@
 -- The listing that a process has open, after the events of others and its own.
-use Rattle.std.proofs.Common.{arith, ◌≡◌, ℕ, Bool, true, false, not, ◌&&◌, ◌||◌, ◌==◌, cond, is_some, Option, Some, None, List, [], ◌∷◌, ◌++◌, map, filter, find, option_map, option_to_list, refl, sym, ap, ◌∙◌, append-nil}
+use Rattle.std.proofs.Common.{arith, ◌≡◌, ℕ, Bool, true, false, not, ◌||◌, ◌==◌, cond, is_some, Option, Some, None, List, [], ◌∷◌, ◌++◌, find, option_map, option_to_list, refl, ap, ◌∙◌, append-nil}
 use Rattle.std.specs.List.{list_any}
 use Rattle.std.proofs.lemmas.Bool.Decides.{nat_tests}
-use Rattle.dir_model.specs.declared.event.Event.{Event}
 use Rattle.dir_model.specs.declared.tree.Listed.{Listed}
 use Rattle.dir_model.specs.declared.tree.Listed.TheVariants as listed
 use Rattle.dir_model.specs.declared.tree.OpenListing.{OpenListing}
@@ -13,7 +12,7 @@ use Rattle.dir_model.specs.declared.request.Reply.TheVariants.{Done, Begun, Open
 use Rattle.dir_model.specs.State.{DirState}
 use Rattle.dir_model.specs.Trace.{changes_names, listings_done, listings_ended, listings_replied}
 use Rattle.dir_model.specs.Listings.{is_listing_request, is_of, is_listing, noted, noted_by, noted_all, begun, without_listing, listing_of, is_about, is_open_listing}
-use Rattle.dir_model.proofs.Lists.{or_left_false, or_right_false, or_none, same_self}
+use Rattle.dir_model.proofs.Lists.{or_left_false, or_right_false, or_none}
 use Rattle.dir_state.proofs.Notes.{noted_found}
 
 -- the two are open alike: both or none, and about the same

@@ -1,16 +1,14 @@
 -- Requests about a path, and a call for which memory ran out before it was noted.
-use Rattle.std.proofs.Common.{◌≡◌, ◌⊎◌, inl, inr, ℕ, Bool, true, false, not, ◌&&◌, cond, is_some, Result, Ok, Err, List, [], ◌∷◌, ◌++◌, refl, sym, ap, ◌∙◌, append-nil}
+use Rattle.std.proofs.Common.{◌≡◌, inl, inr, ℕ, Bool, true, false, not, ◌&&◌, is_some, Result, Ok, Err, List, [], refl, sym, append-nil}
 use Rattle.dir_model.specs.declared.item.Inner.{Inner}
 use Rattle.dir_model.specs.declared.request.DirError.{DirError}
 use Rattle.dir_model.specs.declared.request.DirError.TheVariants.{NoMemory}
 use Rattle.dir_model.specs.declared.request.Request.{Request}
-use Rattle.dir_model.specs.declared.request.Request.TheVariants.{AppendIn}
 use Rattle.dir_model.specs.declared.request.Reply.{Reply}
 use Rattle.dir_model.specs.declared.request.Reply.TheVariants.{Names, Items, Refused}
-use Rattle.dir_model.specs.Paths.{is_path, is_well_formed}
+use Rattle.dir_model.specs.Paths.{is_path}
 use Rattle.dir_model.specs.Listings.{is_listing_request}
 use Rattle.dir_model.specs.Replies.{asks_for_nothing, may_refuse, done_reply}
-use Rattle.dir_model.specs.Calls.{is_begin}
 use Rattle.dir_model.specs.Local.{Local, IsActive}
 use Rattle.dir_trait.specs.DirCalls.{DirAt, DirCall, AppendCall}
 use Rattle.dir_memory.specs.declared.path_call.PathCall.{PathCall}

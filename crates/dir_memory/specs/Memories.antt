@@ -12,7 +12,7 @@ use Rattle.dir_model.specs.Paths.{is_well_formed}
 use Rattle.dir_model.specs.Listings.{is_listing, is_listing_request, ascend, item_names}
 use Rattle.dir_model.specs.State.{DirState, has_begun, has_ended, lives}
 use Rattle.dir_model.specs.Trace.{state_after}
-use Rattle.dir_model.specs.Replies.{is_fallible, asks_for_handle, asks_for_nothing, may_refuse}
+use Rattle.dir_model.specs.Replies.{is_fallible, asks_for_handle, may_refuse}
 use Rattle.dir_model.specs.Calls.{Interference, IsRun, is_begin, event}
 use Rattle.dir_model.specs.Local.{Local, nothing_local, IsActive, local_replied, holdings_in}
 use Rattle.dir_trait.specs.DirCalls.{DirAt}

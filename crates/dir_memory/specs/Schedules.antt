@@ -1,5 +1,5 @@
 -- The steps of others that come before a call of a directory in memory, or inside a listing.
-use Rattle.std.specs.Prelude.{ℕ, ◌==◌, nat_le, Bool, true, false, not, ◌&&◌, cond, List, [], ◌∷◌, ◌++◌, filter}
+use Rattle.std.specs.Prelude.{ℕ, ◌==◌, nat_le, Bool, not, ◌&&◌, cond, List, [], ◌∷◌, ◌++◌, filter}
 use Rattle.dir_model.specs.declared.event.Event.{Event}
 use Rattle.dir_model.specs.State.{DirState}
 use Rattle.dir_model.specs.Trace.{state_after}

@@ -245,12 +245,7 @@ impl MemoryDir {
     }
 }
 
-fn append_at(
-    alloc: Global,
-    spot: Spot,
-    path: &str,
-    piece: &[u8],
-) -> Result<Request, NoMemory>
+fn append_at(alloc: Global, spot: Spot, path: &str, piece: &[u8]) -> Result<Request, NoMemory>
     ensures { IfOk result (λ request. request ≡ Request.AppendIn (record { spot = spot; path = path.now }) piece.now) }
 {
     let inner = inner_at(alloc, spot, path)?;
@@ -258,13 +253,7 @@ fn append_at(
     Ok(Request::AppendIn { inner, piece })
 }
 
-fn read_at(
-    alloc: Global,
-    spot: Spot,
-    path: &str,
-    at: u64,
-    room: &[u8],
-) -> Result<Request, NoMemory>
+fn read_at(alloc: Global, spot: Spot, path: &str, at: u64, room: &[u8]) -> Result<Request, NoMemory>
     ensures { IfOk result (λ request. request ≡ Request.ReadIn (record { spot = spot; path = path.now }) at (length room.now)) }
 {
     let inner = inner_at(alloc, spot, path)?;

@@ -1,6 +1,6 @@
 -- File names by a test, and the names of a path byte by byte.
-use Rattle.std.proofs.Common.{◌≡◌, ◌≤◌, ◌<◌, ◌+◌, ◌-◌, ℕ, Bool, true, false, not, ◌&&◌, ◌==◌, cond, nat_le, List, [], ◌∷◌, ◌++◌, length, take, drop, slice_index, Option, Some, None, IsSome, IfSome, is_some, IsTrue, ◌↔◌, arith, refl, sym, ap, subst, ◌∙◌}
-use Rattle.std.specs.List.{list_all, AllPass}
+use Rattle.std.proofs.Common.{◌≡◌, ◌≤◌, ◌<◌, ◌+◌, ◌-◌, ℕ, Bool, true, false, not, ◌&&◌, cond, nat_le, List, [], ◌∷◌, ◌++◌, length, take, drop, slice_index, Option, Some, None, IsSome, IfSome, is_some, ◌↔◌, arith, refl, sym, ap, ◌∙◌}
+use Rattle.std.specs.List.{list_all}
 use Rattle.std.specs.Str.{is_utf8, IsUtf8}
 use Rattle.std.proofs.lemmas.Bool.Decides.{nat_tests}
 use Rattle.std.proofs.lemmas.Grind.{common_steps}
@@ -34,11 +34,12 @@ is_file_name-true bs h =
 pub IsFileName-from_test : (bs : List ℕ) → is_file_name bs ≡ true → IsFileName bs
 IsFileName-from_test bs h =
     let a = and_right (not (is_empty bs)) (nat_le (length bs) 255 && (list_all is_file_byte bs && is_utf8 bs)) h in
-    let b = and_right (nat_le (length bs) 255) (list_all is_file_byte bs && is_utf8 bs) a in
-    (from_filled bs (and_left (not (is_empty bs)) (nat_le (length bs) 255 && (list_all is_file_byte bs && is_utf8 bs)) h),
-    from_within (length bs) (and_left (nat_le (length bs) 255) (list_all is_file_byte bs && is_utf8 bs) a),
-    AllPass-from_list_all is_file_byte bs (and_left (list_all is_file_byte bs) (is_utf8 bs) b),
-    IsUtf8-from_is_utf8 bs (and_right (list_all is_file_byte bs) (is_utf8 bs) b))
+    let b = and_right (nat_le (length bs) 255) (list_all is_file_byte bs && is_utf8 bs) a in (
+      from_filled bs (and_left (not (is_empty bs)) (nat_le (length bs) 255 && (list_all is_file_byte bs && is_utf8 bs)) h),
+      from_within (length bs) (and_left (nat_le (length bs) 255) (list_all is_file_byte bs && is_utf8 bs) a),
+      AllPass-from_list_all is_file_byte bs (and_left (list_all is_file_byte bs) (is_utf8 bs) b),
+      IsUtf8-from_is_utf8 bs (and_right (list_all is_file_byte bs) (is_utf8 bs) b),
+    )
 
 module _ (path : List ℕ) (start i : ℕ) (from : start ≤ i) (inside : i < length path) where
   next_byte : drop i path ≡ slice_index path i ∷ drop (i + 1) path

@@ -14,7 +14,7 @@ use Rattle.dir_model.specs.declared.tree.OpenListing.{OpenListing}
 use Rattle.dir_model.specs.declared.request.Request.{Request}
 use Rattle.dir_model.specs.declared.request.Request.TheVariants.{ListArea, ListIn}
 use Rattle.dir_model.specs.Areas.{rank}
-use Rattle.dir_model.specs.State.{Namespace, DirState, folder_at, spot_eq}
+use Rattle.dir_model.specs.State.{DirState, folder_at, spot_eq}
 use Rattle.dir_model.specs.Trees.{has_dir, names_in, items_in}
 
 abbrev pub is_listing_request : Request → Bool

@@ -1,7 +1,6 @@
 -- Which answer a request gets.
-use Rattle.std.specs.Prelude.{ℕ, Bool, true, false, not, ◌&&◌, ◌||◌, ◌==◌, nat_le, cond, Option, Some, None, is_some, find, List, [], ◌++◌, length, take, drop, bytes_eq, codes, Result, Ok, Err}
+use Rattle.std.specs.Prelude.{ℕ, Bool, true, false, not, ◌&&◌, ◌||◌, ◌==◌, nat_le, cond, Option, Some, None, is_some, find, List, [], length, take, drop, bytes_eq, codes, Result, Ok, Err}
 use Rattle.std.specs.List.{list_any}
-use Rattle.dir_model.specs.declared.area.Area.{Area}
 use Rattle.dir_model.specs.declared.item.Inner.{Inner}
 use Rattle.dir_model.specs.declared.item.Item.{Item}
 use Rattle.dir_model.specs.declared.spot.Handle.{Handle}
@@ -12,17 +11,16 @@ use Rattle.dir_model.specs.declared.spot.Which.{Which}
 use Rattle.dir_model.specs.declared.spot.Which.TheVariants.{Own, Claim}
 use Rattle.dir_model.specs.declared.opening.Opening.{Opening}
 use Rattle.dir_model.specs.declared.tree.TreeEntry.{TreeEntry}
-use Rattle.dir_model.specs.declared.tree.OpenListing.{OpenListing}
 use Rattle.dir_model.specs.declared.request.DirError.{DirError}
 use Rattle.dir_model.specs.declared.request.DirError.TheVariants.{Missing, Exists, NotEmpty, Locked, Failed, NoMemory}
 use Rattle.dir_model.specs.declared.request.Request.{Request}
-use Rattle.dir_model.specs.declared.request.Request.TheVariants.{Begin, MakeFolder, MoveFolder, Open, OpenArea, TryLock, Close, ListArea, ListIn, MakeDirIn, MakeFileIn, AppendIn, ReadIn, SyncIn, SyncArea, RemoveFileIn, RemoveDirIn, RemoveFolder, Finish, Kill}
+use Rattle.dir_model.specs.declared.request.Request.TheVariants.{Begin, MakeFolder, MoveFolder, Open, OpenArea, TryLock, Close, ListArea, ListIn, MakeDirIn, MakeFileIn, AppendIn, ReadIn, SyncIn, RemoveFileIn, RemoveDirIn, RemoveFolder, Finish, Kill}
 use Rattle.dir_model.specs.declared.request.Reply.{Reply}
 use Rattle.dir_model.specs.declared.request.Reply.TheVariants.{Done, Begun, Opened, Names, Items, Read, Refused}
 use Rattle.dir_model.specs.Locks.{is_handle, is_same_lock, opposes}
 use Rattle.dir_model.specs.Paths.{inner_of}
-use Rattle.dir_model.specs.Trees.{has_dir, has_file, has_any, has_parent, has_children, holds_any, is_dir_entry, content, is_apps_own}
-use Rattle.dir_model.specs.Listings.{is_listing_request, is_listing, listing_of, is_about, is_open_listing, shows_area, shows_inside, shows_missing, ascend, item_names}
+use Rattle.dir_model.specs.Trees.{has_file, has_any, has_parent, has_children, holds_any, is_dir_entry, content, is_apps_own}
+use Rattle.dir_model.specs.Listings.{is_listing_request, is_listing, listing_of, is_open_listing, shows_area, shows_inside, shows_missing, ascend, item_names}
 use Rattle.dir_model.specs.State.{Namespace, DirState, folder_at, stands, has_open}
 
 -- another handle holds the lock of this opening, in a mode that conflicts

@@ -1,10 +1,9 @@
 -- The state's own answer is one that the state allows.
-use Rattle.std.proofs.Common.{◌≡◌, ◌⊎◌, inl, inr, ℕ, ◌^◌, ◌≤◌, nat_lt, nat_le, Bool, true, false, not, ◌&&◌, ◌||◌, ◌==◌, cond, bytes_eq, is_some, Option, Some, None, List, length, ◌+◌, find, take, drop, [], ◌∷◌, arith, refl, sym, ap, subst, ◌∙◌}
-use Rattle.std.specs.List.{list_any, range_with_len}
+use Rattle.std.proofs.Common.{◌≡◌, ◌⊎◌, inl, inr, ℕ, ◌^◌, nat_lt, nat_le, Bool, true, false, not, cond, bytes_eq, Option, Some, None, List, length, ◌+◌, find, take, drop, [], ◌∷◌, arith, refl, sym, ap, subst, ◌∙◌}
+use Rattle.std.specs.List.{range_with_len}
 use Rattle.std.proofs.lemmas.Bool.Decides.{nat_tests}
 use Rattle.std.proofs.lemmas.Grind.{common_steps}
 use Rattle.std.proofs.lemmas.Slice.Eq.{bytes_eq-Decides}
-use Rattle.dir_model.specs.declared.item.Inner.{Inner}
 use Rattle.dir_model.specs.declared.spot.Handle.{Handle}
 use Rattle.dir_model.specs.declared.spot.Spot.{Spot}
 use Rattle.dir_model.specs.declared.spot.Which.{Which}
@@ -13,15 +12,15 @@ use Rattle.dir_model.specs.declared.tree.TreeEntry.{TreeEntry}
 use Rattle.dir_model.specs.declared.request.DirError.{DirError}
 use Rattle.dir_model.specs.declared.request.DirError.TheVariants.{Missing, Exists, NotEmpty, Locked, Failed, NoMemory}
 use Rattle.dir_model.specs.declared.request.Request.{Request}
-use Rattle.dir_model.specs.declared.request.Request.TheVariants.{Begin, MakeFolder, MoveFolder, Open, OpenArea, TryLock, Close, ListArea, ListIn, MakeDirIn, MakeFileIn, AppendIn, ReadIn, SyncIn, SyncArea, RemoveFileIn, RemoveDirIn, RemoveFolder, Finish, Kill}
+use Rattle.dir_model.specs.declared.request.Request.TheVariants.{Begin, MakeFolder, MoveFolder, Open, OpenArea, TryLock, Close, ListArea, ListIn, MakeDirIn, MakeFileIn, AppendIn, ReadIn, SyncIn, RemoveFileIn, RemoveDirIn, RemoveFolder, Finish, Kill}
 use Rattle.dir_model.specs.declared.request.Reply.{Reply}
-use Rattle.dir_model.specs.declared.request.Reply.TheVariants.{Done, Begun, Opened, Names, Items, Read, Refused}
-use Rattle.dir_model.specs.State.{Namespace, DirState, folder_at, stands, has_open}
-use Rattle.dir_model.specs.Trees.{has_file, has_any, has_parent, has_children, holds_any, is_dir_entry, content}
-use Rattle.dir_model.specs.Listings.{is_listing_request, is_listing, listing_of}
+use Rattle.dir_model.specs.declared.request.Reply.TheVariants.{Done, Begun, Refused}
+use Rattle.dir_model.specs.State.{Namespace, DirState, folder_at, has_open}
+use Rattle.dir_model.specs.Trees.{content}
+use Rattle.dir_model.specs.Listings.{is_listing_request, is_listing}
 use Rattle.dir_model.specs.Replies.{is_error, refused_in, make_refusal, file_refusal, sync_refusal, dir_refusal, folder_refusal, open_refusal, refusal, is_reply, is_state_reply, is_any_reply, is_apps_request, asks_for_handle, asks_for_nothing, is_fallible, is_fault, may_refuse, most_left, piece_length, bytes_at}
 use Rattle.dir_model.specs.Calls.{may_step, is_allowed, event}
-use Rattle.dir_model.proofs.Lists.{and_both, and_right, not_true, or_true, or_last}
+use Rattle.dir_model.proofs.Lists.{and_both, not_true, or_true}
 use Rattle.dir_state.specs.Answers.{handle_at, free_handle, opened_or_refused, granted, answer_by, answer, is_met}
 
 -- what a search finds passes the test

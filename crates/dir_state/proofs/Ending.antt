@@ -1,8 +1,7 @@
 -- The end of a listing that the state gives.
-use Rattle.std.proofs.Common.{◌≡◌, ℕ, Bool, true, false, not, ◌&&◌, ◌||◌, ◌==◌, cond, bytes_eq, Option, Some, None, List, [], ◌∷◌, ◌++◌, map, find, refl, sym, ap, subst, ◌∙◌}
+use Rattle.std.proofs.Common.{◌≡◌, ℕ, Bool, true, false, ◌&&◌, ◌||◌, ◌==◌, cond, bytes_eq, Option, Some, None, List, [], ◌∷◌, ◌++◌, map, find, refl, sym, ap, ◌∙◌}
 use Rattle.std.specs.List.{list_any, list_all}
 use Rattle.std.proofs.lemmas.Slice.Eq.{bytes_eq-Decides}
-use Rattle.dir_model.specs.declared.item.Inner.{Inner}
 use Rattle.dir_model.specs.declared.item.Item.{Item}
 use Rattle.dir_model.specs.declared.item.ItemKind.{ItemKind}
 use Rattle.dir_model.specs.declared.tree.Listed.{Listed}
@@ -12,15 +11,14 @@ use Rattle.dir_model.specs.declared.request.DirError.{DirError}
 use Rattle.dir_model.specs.declared.request.DirError.TheVariants.{Missing, Failed, NoMemory}
 use Rattle.dir_model.specs.declared.request.Request.{Request}
 use Rattle.dir_model.specs.declared.request.Request.TheVariants.{ListArea, ListIn}
-use Rattle.dir_model.specs.declared.request.Reply.{Reply}
-use Rattle.dir_model.specs.declared.request.Reply.TheVariants.{Names, Items, Refused}
+use Rattle.dir_model.specs.declared.request.Reply.TheVariants.{Items, Refused}
 use Rattle.dir_model.specs.Areas.{rank}
 use Rattle.dir_model.specs.State.{DirState}
 use Rattle.dir_model.specs.Listings.{is_listing_request, has_name, item_names, is_named, has_named, is_item, has_item, kind_number, listing_of, ascend, is_inner, shows_names, shows_items, shows_area, shows_inside, shows_missing, is_about, is_open_listing}
-use Rattle.dir_model.specs.Replies.{is_reply, is_state_reply, is_any_reply, is_apps_request, is_fault, may_refuse}
+use Rattle.dir_model.specs.Replies.{is_reply, is_state_reply, is_any_reply, is_apps_request, is_fault}
 use Rattle.dir_model.specs.Calls.{may_step, is_allowed, event}
 use Rattle.dir_model.proofs.Lists.{and_both, and_left, and_right, or_map, or_true, same_self, any_of_map}
-use Rattle.dir_state.specs.Answers.{in_order, kind_or_dir, kind_named, item_named, items_in_order, shown, shown_of, listing_answer}
+use Rattle.dir_state.specs.Answers.{in_order, kind_or_dir, item_named, items_in_order, shown, shown_of, listing_answer}
 use Rattle.dir_state.proofs.Orders.{in_order_ascends, in_order_all, in_order_has}
 
 -- names

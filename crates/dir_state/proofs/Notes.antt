@@ -1,9 +1,8 @@
 -- The listing that a process has open, with what stands now noted.
-use Rattle.std.proofs.Common.{◌≡◌, ℕ, Bool, true, false, cond, Option, Some, None, List, [], ◌∷◌, map, find, option_map, refl, sym, ap, ◌∙◌}
+use Rattle.std.proofs.Common.{◌≡◌, ℕ, Bool, true, false, cond, Option, Some, List, [], ◌∷◌, find, option_map, refl, ap, ◌∙◌}
 use Rattle.dir_model.specs.declared.tree.OpenListing.{OpenListing}
-use Rattle.dir_model.specs.declared.request.Reply.{Reply}
 use Rattle.dir_model.specs.State.{DirState}
-use Rattle.dir_model.specs.Listings.{is_of, noted_by, noted_all, listing_of}
+use Rattle.dir_model.specs.Listings.{is_of, noted_by, noted_all}
 use Rattle.dir_state.specs.Answers.{shown_of, listing_answer}
 
 pub noted_found : (s : DirState) (p : ℕ) (ls : List OpenListing) → find (is_of p) (noted_all s ls) ≡ option_map (noted_by s) (find (is_of p) ls)

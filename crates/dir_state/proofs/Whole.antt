@@ -1,5 +1,5 @@
 -- A listing that has begun is open, and what it shows if it ends at once.
-use Rattle.std.proofs.Common.{◌≡◌, ℕ, Bool, true, false, not, ◌&&◌, ◌||◌, ◌==◌, cond, bytes_eq, Option, Some, None, List, [], ◌∷◌, ◌++◌, map, find, option_map, option_to_list, refl, sym, ap, subst, ◌∙◌, append-nil, append_assoc}
+use Rattle.std.proofs.Common.{◌≡◌, ℕ, Bool, true, false, cond, Option, Some, None, List, [], ◌∷◌, ◌++◌, find, option_map, option_to_list, refl, sym, ap, ◌∙◌, append-nil, append_assoc}
 use Rattle.std.specs.List.{list_any}
 use Rattle.std.proofs.lemmas.Slice.Eq.{bytes_eq-Decides}
 use Rattle.dir_model.specs.declared.event.Event.{Event}
@@ -17,12 +17,12 @@ use Rattle.dir_model.specs.Areas.{rank}
 use Rattle.dir_model.specs.Trees.{has_dir, items_in}
 use Rattle.dir_model.specs.State.{Namespace, DirState, folder_at}
 use Rattle.dir_model.specs.Trace.{state_next, state_after}
-use Rattle.dir_model.specs.Listings.{is_listing_request, is_of, is_listing, noted, noted_by, noted_all, begun, begun_at, listing_of, is_inner, is_about, is_open_listing}
+use Rattle.dir_model.specs.Listings.{is_listing_request, is_of, is_listing, noted, noted_by, begun, begun_at, listing_of, is_inner, is_about, is_open_listing}
 use Rattle.dir_model.specs.Calls.{may_step, is_allowed, event}
 use Rattle.dir_model.proofs.Lists.{and_both, same_self, or_left_false, or_right_false}
 use Rattle.dir_model.proofs.Spots.{spot_self}
 use Rattle.dir_model.proofs.Chains.{state_after-push}
-use Rattle.dir_state.specs.Answers.{answer, shown_of, listing_answer, end_events, step_of}
+use Rattle.dir_state.specs.Answers.{shown_of, listing_answer, step_of}
 use Rattle.dir_state.proofs.Notes.{noted_found}
 use Rattle.dir_state.proofs.Ending.{end_allowed}
 

@@ -1,5 +1,5 @@
 -- The answers that a directory gives which follows its state exactly.
-use Rattle.std.specs.Prelude.{ℕ, ◌+◌, ◌^◌, ◌==◌, nat_lt, Bool, true, false, not, ◌&&◌, cond, Option, Some, None, is_some, List, [], ◌∷◌, ◌++◌, length, find, map}
+use Rattle.std.specs.Prelude.{ℕ, ◌+◌, ◌^◌, nat_lt, Bool, not, ◌&&◌, cond, Option, Some, None, is_some, List, [], ◌∷◌, length, find, map}
 use Rattle.std.specs.List.{list_any, range_with_len}
 use Rattle.std.specs.Ordering.{nat_cmp}
 use Rattle.std.specs.Cmp.Lexicographic.{slice_cmp}
@@ -23,7 +23,7 @@ use Rattle.dir_model.specs.Locks.{is_handle}
 use Rattle.dir_model.specs.State.{Namespace, DirState, folder_at, has_open}
 use Rattle.dir_model.specs.Trace.{state_next}
 use Rattle.dir_model.specs.Listings.{is_listing_request, is_listing, listing_of, item_names, is_named}
-use Rattle.dir_model.specs.Replies.{refusal, asks_for_handle, bytes_at}
+use Rattle.dir_model.specs.Replies.{refusal, bytes_at}
 use Rattle.dir_model.specs.Calls.{may_step, event}
 
 -- the handle with this number, where handles go so far

@@ -7,7 +7,9 @@ ghost use Rattle.dir_state.specs.Answers.{opened_or_refused, shown};
 use crate::listings::{is_listing, items_in_order, names_in_order};
 use crate::parts::Table;
 use crate::table::is_listing_request;
-use crate::trees::{content, has_any, has_children, has_file, has_inner_dir, has_parent, holds_any};
+use crate::trees::{
+    content, has_any, has_children, has_file, has_inner_dir, has_parent, holds_any,
+};
 use dir_model::{
     Bytes, DirError, Handle, Inner, Items, Listed, Names, NoMemory, OpenListing, Reply, Request,
     Spot, TreeEntry, Which, is_path,
@@ -235,7 +237,9 @@ impl Table {
         ensures { IfOk result (λ reply. reply ≡ granted (table_state self.now) process request.now) }
     {
         Ok(match request {
-            Request::Open { spot: _, which: _ } => opened_or_refused(self.namespace.free_handle(process)),
+            Request::Open { spot: _, which: _ } => opened_or_refused(
+                self.namespace.free_handle(process),
+            ),
             Request::OpenArea(_) => opened_or_refused(self.namespace.free_handle(process)),
             Request::ReadIn { inner, at, room } => Reply::Read(self.bytes_at(inner, *at, *room)?),
             _ => Reply::Done,

@@ -13,13 +13,15 @@ use crate::parts::{Brought, Table};
 use crate::table::changes_names;
 use crate::trees::{has_dir, has_slash, items_in};
 use dir_model::{
-    Area, Bytes, DirError, Inner, Items, Listed, Names, NoMemory, OpenListing, Reply, Request, StartedApp,
-    TreeEntry, TreeNode,
+    Area, Bytes, DirError, Inner, Items, Listed, Names, NoMemory, OpenListing, Reply, Request,
+    StartedApp, TreeEntry, TreeNode,
 };
 use std::alloc::Global;
 
 const MARK: &[u8] = b"started-";
+
 const ROOTS: &[u8] = b"stage1/rootfs/opt/stage2/";
+
 const ROOT: &[u8] = b"/rootfs";
 
 fn placed(
@@ -263,7 +265,11 @@ impl Table {
     }
 
     // The listing that begins and ends at once.
-    fn whole_listing(&self, process: u32, request: &Request) -> Result<Option<OpenListing>, NoMemory>
+    fn whole_listing(
+        &self,
+        process: u32,
+        request: &Request,
+    ) -> Result<Option<OpenListing>, NoMemory>
         ensures { IfOk result (λ l. l ≡ option_map (noted_by (table_state self.now)) (begun (table_state self.now) process request.now)) }
     {
         match self.begun(process, request)? {
@@ -316,7 +322,11 @@ impl Table {
         Ok(all)
     }
 
-    fn listings_done(&self, process: u32, request: &Request) -> Result<Option<Vec<OpenListing>>, NoMemory>
+    fn listings_done(
+        &self,
+        process: u32,
+        request: &Request,
+    ) -> Result<Option<Vec<OpenListing>>, NoMemory>
         ensures { IfOk result (λ o. MatchOption o (listings_replied (table_state self.now) process request.now Reply.Done ≡ listings_left (table_state self.now) process request.now Reply.Done) (λ ls. ls.items ≡ listings_replied (table_state self.now) process request.now Reply.Done)) }
     {
         if changes_names(request) {

@@ -41,11 +41,7 @@ fn has_name(names: &[Name], name: &Name) -> bool
 }
 
 /// The names that are among the others. Refused only where memory ran out.
-pub fn kept_names(
-    alloc: Global,
-    names: &[Name],
-    now: &[Name],
-) -> Result<Vec<Name>, AllocError>
+pub fn kept_names(alloc: Global, names: &[Name], now: &[Name]) -> Result<Vec<Name>, AllocError>
     ensures { IfOk result (λ kept. kept.items ≡ filter (has_name now.now) names.now) }
 {
     names
@@ -62,11 +58,7 @@ fn has_named(items: &[Item], item: &Item) -> bool
 }
 
 /// The items whose names are among those of the others. Refused only where memory ran out.
-pub fn kept_items(
-    alloc: Global,
-    items: &[Item],
-    now: &[Item],
-) -> Result<Vec<Item>, AllocError>
+pub fn kept_items(alloc: Global, items: &[Item], now: &[Item]) -> Result<Vec<Item>, AllocError>
     ensures { IfOk result (λ kept. kept.items ≡ filter (has_named now.now) items.now) }
 {
     items

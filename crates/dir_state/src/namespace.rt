@@ -7,7 +7,8 @@ ghost use Rattle.dir_state.specs.Answers.{handle_at};
 ghost use Rattle.dir_model.specs.Trace.{moved, removed, locked};
 
 use crate::compare::{
-    is_here, is_opposed, is_same_lock, is_this, locked_opening, moved_place, removed_place, target_of,
+    is_here, is_opposed, is_same_lock, is_this, locked_opening, moved_place, removed_place,
+    target_of,
 };
 use dir_model::{
     Area, Handle, Mode, NoMemory, Opening, Reply, Request, Spot, Start, Target, Which,

@@ -125,9 +125,7 @@ fn is_directly_in(directory: &[u8], path: &[u8]) -> bool
 fn is_parent_entry(entry: &TreeEntry, folder: usize, path: &[u8]) -> bool
     ensures { result ≡ is_parent_entry folder path.now entry.now }
 {
-    entry.folder == folder
-        && is_dir(&entry.node)
-        && is_directly_in(entry.path.as_slice(), path)
+    entry.folder == folder && is_dir(&entry.node) && is_directly_in(entry.path.as_slice(), path)
 }
 
 fn has_parent_entry(entries: &[TreeEntry], folder: usize, path: &[u8]) -> bool

@@ -1,5 +1,5 @@
 -- Calls of a bundle that ask for one thing, one after the other.
-use Rattle.std.proofs.Common.{◌≡◌, ℕ, List, [], ◌∷◌, ◌++◌, sym, ap, ◌∙◌, append_assoc, append-nil}
+use Rattle.std.proofs.Common.{List, [], ◌++◌, sym, ap, ◌∙◌, append_assoc, append-nil}
 use Rattle.dir_model.proofs.Lists.{all_both}
 use Rattle.dir_trait.specs.declared.bundle.BundleRequest.{BundleRequest}
 use Rattle.dir_trait.specs.Bundles.{AsksOnly}

@@ -10,9 +10,7 @@ ghost use Rattle.dir_model.specs.Replies.{done_reply, opened_reply, names_reply,
 ghost use Rattle.dir_model.specs.Local.{nothing_local, IsActive, IsUnopened, IsOpen, IsUnlocked};
 ghost use Rattle.dir_trait.specs.DirCalls.{DirCall, AppendCall, ListCall, IsFilled};
 
-use dir_model::{
-    Area, DirError, Handle, Intent, Items, Mode, Names, Reply, Request, Spot, Which,
-};
+use dir_model::{Area, DirError, Handle, Intent, Items, Mode, Names, Reply, Request, Spot, Which};
 use std::alloc::Global;
 
 /// A shared data folder, as one process sees it. A path inside a folder is file names parted by `/`;

@@ -1,5 +1,4 @@
-use Rattle.std.proofs.Common.{◌≡◌, ◌+◌, false, Result, Ok, Err, OnOk, List, sym, ap, ◌∙◌}
-use Rattle.std.specs.List.{list_any}
+use Rattle.std.proofs.Common.{◌+◌, Result, Ok, Err, OnOk, sym, ap, ◌∙◌}
 use Rattle.dir_memory.specs.Schedules.{is_due, with_steps}
 use Rattle.dir_memory.proofs.Schedules.{none_due, none_later}
 use Rattle.dir_memory.proofs.step.steps_come.Goals as goal

@@ -1,4 +1,4 @@
-use Rattle.std.proofs.Common.{◌≡◌, ◌+◌, ◌&&◌, true, [], List, ℕ, drop, slice_index, sym, ap, ◌∙◌}
+use Rattle.std.proofs.Common.{◌≡◌, ◌+◌, ◌&&◌, true, [], List, ℕ, drop, sym, ap, ◌∙◌}
 use Rattle.dir_model.specs.Paths.{are_names, part, is_file_name}
 use Rattle.dir_model.proofs.Paths.{name_goes_on, name_ends, not_slash, slash, part_none, found_name}
 use Rattle.dir_model.proofs.path.start_after.Goals as goal

@@ -1,9 +1,9 @@
-use Rattle.std.proofs.Common.{arith, ◌≡◌, ◌+◌, ◌≤◌, ◌++◌, ◌∷◌, [], ◌⊎◌, inl, inr, true, false, Bool, ℕ, List, refl, sym, ap, subst, ◌∙◌}
+use Rattle.std.proofs.Common.{arith, refl, sym, ap, subst}
 use Rattle.dir_model.specs.Reserved.{Reserved}
 use Rattle.dir_model.specs.declared.event.Event.{Event}
 use Rattle.dir_model.specs.declared.request.Request.TheVariants.{Close}
 use Rattle.dir_model.specs.declared.request.Reply.TheVariants.{Done}
-use Rattle.dir_model.specs.Local.{Local, IsActive}
+use Rattle.dir_model.specs.Local.{IsActive}
 use Rattle.dir_memory.specs.Memories.{Memory, local_of}
 use Rattle.dir_memory.proofs.Facts.{facts_of, facts_own, none_after, memory_now}
 use Rattle.dir_memory.proofs.memory.MemoryDir.give_up_handle.Goals as goal

@@ -1,5 +1,4 @@
-use Rattle.std.proofs.Common.{arith, ◌≡◌, ◌+◌, ◌≤◌, ◌++◌, ◌∷◌, [], ◌⊎◌, inl, inr, true, false, Bool, ℕ, List, refl, sym, ap, subst, ◌∙◌}
-use Rattle.dir_model.specs.Reserved.{Reserved}
+use Rattle.std.proofs.Common.{◌≡◌, ◌+◌, ◌⊎◌, inl, true, false, List, sym, ap, subst, ◌∙◌}
 use Rattle.dir_model.specs.declared.event.Event.{Event}
 use Rattle.dir_model.specs.Local.{IsUnopened}
 use Rattle.dir_model.specs.Trace.{state_after}

@@ -1,9 +1,7 @@
-use Rattle.std.proofs.Common.{arith, ◌≡◌, ◌+◌, ◌≤◌, ◌++◌, ◌∷◌, [], ◌⊎◌, inl, inr, true, false, Bool, ℕ, List, refl, sym, ap, subst, ◌∙◌}
+use Rattle.std.proofs.Common.{arith, ◌≡◌, ◌+◌, ◌⊎◌, true, false, List, sym, ap, subst}
 use Rattle.dir_model.specs.Reserved.{Reserved}
 use Rattle.dir_model.specs.declared.event.Event.{Event}
 use Rattle.dir_model.specs.declared.request.Reply.TheVariants.{Begun}
-use Rattle.dir_model.specs.Trace.{state_after}
-use Rattle.dir_model.specs.Calls.{event}
 use Rattle.dir_memory.specs.Interludes.{Interlude}
 use Rattle.dir_memory.specs.Schedules.{with_steps, due}
 use Rattle.dir_memory.specs.Memories.{Memory, Listed, CutOff, RanOut, local_of, is_stopped, may_ask}

@@ -1,6 +1,4 @@
-use Rattle.std.proofs.Common.{arith, ◌≡◌, ◌+◌, ◌≤◌, ◌++◌, ◌∷◌, [], ◌⊎◌, inl, inr, true, false, Bool, ℕ, List, refl, sym, ap, subst, ◌∙◌}
-use Rattle.dir_model.specs.Reserved.{Reserved}
-use Rattle.dir_model.specs.declared.event.Event.{Event}
+use Rattle.std.proofs.Common.{◌≡◌, ◌⊎◌, inr, true, sym, subst}
 use Rattle.dir_memory.specs.Memories.{Memory, IsMemory, RanOut, Stopped, local_of, is_stopped, may_ask}
 use Rattle.dir_memory.proofs.Facts.{memory_stopped, over_by}
 use Rattle.dir_model.specs.declared.request.DirError.TheVariants.{Failed}
