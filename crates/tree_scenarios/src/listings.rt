@@ -122,17 +122,24 @@ const ESCAPES: &[(&str, &[u8])] = &[
     ("/\u{e9}", b"d 0755 0 0 /%C3%A9\n"),
 ];
 
-/// The text of the listing of one directory with mode 0755 and owners 0:0.
+/// A directory with mode 0755 and owners 0:0.
+const DIRECTORY: Meta = Meta {
+    mode: 0o755,
+    uid: 0,
+    gid: 0,
+};
+
+/// The text of the listing of one such directory.
 fn directory_text(alloc: Global, path: &str) -> Result<Vec<u8>, Fail> {
-    let map = directory_map(alloc, path, owned(0o755))?;
+    let map = directory_map(alloc, path, DIRECTORY)?;
     Ok(listed(alloc, &map)?.write(alloc)?)
 }
 
-/// How many bytes the line of such a directory takes.
+/// How many bytes its line takes.
 fn directory_len(alloc: Global, path: &str) -> Result<usize, Fail> {
     let line = ListingLine {
         path: AbsPath::parse(alloc, path)?,
-        entry: Entry::Dir(owned(0o755)),
+        entry: Entry::Dir(DIRECTORY),
     };
     Ok(line.text_len(alloc)?)
 }
