@@ -1,12 +1,16 @@
 //! Fields of an image manifest, taken and refused.
-use crate::outcome::{image_comes_to, within};
+use crate::outcome::image_comes_to;
 use ac_types::NoMemory;
 use std::alloc::Global;
 use std::test::Fail;
 
-const HEAD: &str =
-    "{\"acKind\":\"ImageManifest\",\"acVersion\":\"0.8.0\",\"name\":\"example.com/app\",";
+/// What is written for a field, and what the manifest comes to.
+type Rows = &'static [(&'static str, u8, &'static str)];
 
+const HEAD: &str =
+    "{\"acKind\":\"ImageManifest\",\"acVersion\":\"0.8.0\",\"name\":\"example.com/app\",\"";
+
+/// Whether an image with that field comes to that.
 fn field_comes_to(
     alloc: Global,
     field: &str,
@@ -14,13 +18,11 @@ fn field_comes_to(
     number: u8,
     path: &str,
 ) -> Result<bool, NoMemory> {
-    let name = within(alloc, "\"", field, "\":")?;
-    let member = within(alloc, name.as_str(), value, "}")?;
-    let text = within(alloc, HEAD, member.as_str(), "")?;
+    let text = [HEAD, field, "\":", value, "}"].concat(alloc)?;
     image_comes_to(alloc, text.as_bytes(), number, path)
 }
 
-const LABELS: &[(&str, u8, &str)] = &[
+const LABELS: Rows = &[
     ("[{\"name\":\"name\",\"value\":\"x\"}]", 6, "labels[0].name"),
     (
         "[{\"name\":\"version\",\"value\":\"1\"},{\"name\":\"version\",\"value\":\"1\"}]",
@@ -52,16 +54,7 @@ const LABELS: &[(&str, u8, &str)] = &[
     ("null", 0, ""),
 ];
 
-#[test]
-fn labels(rt: HostRuntime) -> Result<(), Fail> {
-    for &(value, number, path) in LABELS {
-        let is = field_comes_to(rt.alloc(), "labels", value, number, path)?;
-        assert!(rt; is, "{value}");
-    }
-    Ok(())
-}
-
-const THE_APP: &[(&str, u8, &str)] = &[
+const THE_APP: Rows = &[
     ("null", 0, ""),
     ("[]", 10, "app"),
     ("{\"group\":\"0\"}", 9, "app.user"),
@@ -87,16 +80,7 @@ const THE_APP: &[(&str, u8, &str)] = &[
     ),
 ];
 
-#[test]
-fn the_app(rt: HostRuntime) -> Result<(), Fail> {
-    for &(value, number, path) in THE_APP {
-        let is = field_comes_to(rt.alloc(), "app", value, number, path)?;
-        assert!(rt; is, "{value}");
-    }
-    Ok(())
-}
-
-const DEPENDENCIES: &[(&str, u8, &str)] = &[
+const DEPENDENCIES: Rows = &[
     ("[]", 0, ""),
     (
         "[{\"imageName\":\"base\",\"imageID\":null,\"labels\":[],\"size\":18446744073709551615}]",
@@ -137,16 +121,7 @@ const DEPENDENCIES: &[(&str, u8, &str)] = &[
     ("[1]", 10, "dependencies[0]"),
 ];
 
-#[test]
-fn dependencies(rt: HostRuntime) -> Result<(), Fail> {
-    for &(value, number, path) in DEPENDENCIES {
-        let is = field_comes_to(rt.alloc(), "dependencies", value, number, path)?;
-        assert!(rt; is, "{value}");
-    }
-    Ok(())
-}
-
-const WHITELISTS: &[(&str, u8, &str)] = &[
+const WHITELISTS: Rows = &[
     ("[\"/\"]", 0, ""),
     ("[\"/etc/\",\"/bin/run\"]", 0, ""),
     ("[\"//\"]", 32, "pathWhitelist[0]"),
@@ -159,16 +134,7 @@ const WHITELISTS: &[(&str, u8, &str)] = &[
     ("\"/\"", 10, "pathWhitelist"),
 ];
 
-#[test]
-fn whitelists(rt: HostRuntime) -> Result<(), Fail> {
-    for &(value, number, path) in WHITELISTS {
-        let is = field_comes_to(rt.alloc(), "pathWhitelist", value, number, path)?;
-        assert!(rt; is, "{value}");
-    }
-    Ok(())
-}
-
-const ANNOTATIONS: &[(&str, u8, &str)] = &[
+const ANNOTATIONS: Rows = &[
     (
         "[{\"name\":\"a\",\"value\":\"\"},{\"name\":\"a\",\"value\":\"b\"}]",
         0,
@@ -183,16 +149,8 @@ const ANNOTATIONS: &[(&str, u8, &str)] = &[
     ("[[]]", 10, "annotations[0]"),
 ];
 
-#[test]
-fn annotations(rt: HostRuntime) -> Result<(), Fail> {
-    for &(value, number, path) in ANNOTATIONS {
-        let is = field_comes_to(rt.alloc(), "annotations", value, number, path)?;
-        assert!(rt; is, "{value}");
-    }
-    Ok(())
-}
-
-const TWO_FAULTS: &[(&str, u8, &str)] = &[
+/// The labels, and the fields behind them.
+const TWO_FAULTS: Rows = &[
     (
         "[{\"name\":\"name\",\"value\":\"x\"},{\"name\":\"A\",\"value\":\"x\"}],\"app\":1",
         2,
@@ -220,11 +178,21 @@ const TWO_FAULTS: &[(&str, u8, &str)] = &[
     ),
 ];
 
+const FIELDS: &[(&str, Rows)] = &[
+    ("labels", LABELS),
+    ("app", THE_APP),
+    ("dependencies", DEPENDENCIES),
+    ("pathWhitelist", WHITELISTS),
+    ("annotations", ANNOTATIONS),
+    ("labels", TWO_FAULTS),
+];
+
 #[test]
-fn the_first_of_two_faults_is_told(rt: HostRuntime) -> Result<(), Fail> {
-    for &(value, number, path) in TWO_FAULTS {
-        let is = field_comes_to(rt.alloc(), "labels", value, number, path)?;
-        assert!(rt; is, "{value}");
+fn fields_of_an_image(rt: HostRuntime) -> Result<(), Fail> {
+    for &(field, rows) in FIELDS {
+        for &(value, number, path) in rows {
+            assert!(&rt; field_comes_to(rt.alloc(), field, value, number, path)?);
+        }
     }
     Ok(())
 }

@@ -1,8 +1,6 @@
 //! The manifests of an ordinary day: a base, a library, and a worker on top of both.
-use crate::outcome::image_comes_to;
 use manifests::{ImageManifest, RuntimeApp, read_image, read_pod};
 use std::alloc::Global;
-use std::test::Fail;
 
 pub const BASE: &str =
     "{\"acKind\":\"ImageManifest\",\"acVersion\":\"0.8.0\",\"labels\":[{\"name\":\"version\",\"value\":\"1.0.0\"},{\"name\":\"os\",\"value\":\"linux\"},{\"name\":\"arch\",\"value\":\"amd64\"}],\"name\":\"example.com/base\"}";
@@ -15,15 +13,6 @@ pub const WORKER: &str =
 
 pub const POD: &str =
     "{\"acKind\":\"PodManifest\",\"acVersion\":\"0.8.0\",\"apps\":[{\"app\":{\"exec\":[\"/bin/run\",\"-q\"],\"group\":\"0\",\"user\":\"0\"},\"image\":{\"id\":\"sha512-cccccccccccccccccccccccccccccccccccccccccccccccccccccccccccccccccccccccccccccccccccccccccccccccccccccccccccccccccccccccccccccccc\",\"labels\":[{\"name\":\"version\",\"value\":\"1.0.0\"}],\"name\":\"example.com/reduce-worker\"},\"name\":\"reduce-worker\"}]}";
-
-#[test]
-fn the_three_images_are_read(rt: HostRuntime) -> Result<(), Fail> {
-    for text in [BASE, LIB, WORKER] {
-        let is = image_comes_to(rt.alloc(), text.as_bytes(), 0, "")?;
-        assert!(rt; is, "{text}");
-    }
-    Ok(())
-}
 
 /// Whether the manifest is the worker's.
 fn is_worker(manifest: &ImageManifest) -> bool {
@@ -47,12 +36,6 @@ fn worker_is_read(alloc: Global) -> bool {
         Ok(manifest) => is_worker(&manifest),
         Err(_) => false,
     }
-}
-
-#[test]
-fn the_worker_is_read_as_it_is(rt: HostRuntime) {
-    let read = worker_is_read(rt.alloc());
-    assert!(rt; read);
 }
 
 /// Whether the app is the worker's in its pod.
@@ -80,7 +63,7 @@ fn pod_is_read(alloc: Global) -> bool {
 }
 
 #[test]
-fn its_pod_is_read_as_it_is(rt: HostRuntime) {
-    let read = pod_is_read(rt.alloc());
-    assert!(rt; read);
+fn the_worker_and_its_pod_are_read_as_they_are(rt: HostRuntime) {
+    assert!(&rt; worker_is_read(rt.alloc()));
+    assert!(&rt; pod_is_read(rt.alloc()));
 }

@@ -34,20 +34,3 @@ pub fn pod_comes_to(alloc: Global, bytes: &[u8], number: u8, path: &str) -> Resu
         Err(error) => is_fault(&error, number, path),
     }
 }
-
-/// A text between two others.
-pub fn within(alloc: Global, head: &str, middle: &str, tail: &str) -> Result<String, NoMemory> {
-    let mut text = String::from_str(alloc, head)?;
-    text.push_str(middle)?;
-    text.push_str(tail)?;
-    Ok(text)
-}
-
-/// A text so many times.
-pub fn times(alloc: Global, text: &str, count: usize) -> Result<String, NoMemory> {
-    let mut many = String::new(alloc);
-    for _ in 0..count {
-        many.push_str(text)?;
-    }
-    Ok(many)
-}

@@ -1,24 +1,28 @@
 //! Fields of a pod manifest, taken and refused.
-use crate::outcome::{pod_comes_to, times, within};
+use crate::outcome::pod_comes_to;
 use ac_types::NoMemory;
 use std::alloc::Global;
 use std::test::Fail;
 
-const HEAD: &str = "{\"acKind\":\"PodManifest\",\"acVersion\":\"0.8.0\",";
+/// Fields, or elements of one, and what the manifest comes to.
+type Rows = &'static [(&'static str, u8, &'static str)];
 
-/// Whether a pod of these fields comes to that.
-fn fields_come_to(alloc: Global, fields: &str, number: u8, path: &str) -> Result<bool, NoMemory> {
-    let text = within(alloc, HEAD, fields, "}")?;
+const HEAD: &str = "{\"acKind\":\"PodManifest\",\"acVersion\":\"0.8.0\",\"apps\":[";
+
+/// Whether a pod without apps, with that between these two texts, comes to that.
+fn fields_come_to(
+    alloc: Global,
+    before: &str,
+    rows: &str,
+    behind: &str,
+    number: u8,
+    path: &str,
+) -> Result<bool, NoMemory> {
+    let text = [HEAD, "],", before, rows, behind, "}"].concat(alloc)?;
     pod_comes_to(alloc, text.as_bytes(), number, path)
 }
 
-/// Whether a pod without apps and with these volumes comes to that.
-fn volumes_come_to(alloc: Global, volumes: &str, number: u8, path: &str) -> Result<bool, NoMemory> {
-    let fields = within(alloc, "\"apps\":[],\"volumes\":[", volumes, "]")?;
-    fields_come_to(alloc, fields.as_str(), number, path)
-}
-
-const VOLUMES: &[(&str, u8, &str)] = &[
+const VOLUMES: Rows = &[
     ("{\"name\":\"a\",\"kind\":\"empty\"}", 0, ""),
     ("{\"kind\":\"empty\"}", 9, "volumes[0].name"),
     (
@@ -42,16 +46,7 @@ const VOLUMES: &[(&str, u8, &str)] = &[
     ("1", 10, "volumes[0]"),
 ];
 
-#[test]
-fn volumes(rt: HostRuntime) -> Result<(), Fail> {
-    for &(volumes, number, path) in VOLUMES {
-        let is = volumes_come_to(rt.alloc(), volumes, number, path)?;
-        assert!(rt; is, "{volumes}");
-    }
-    Ok(())
-}
-
-const VOLUMES_OF_THE_HOST: &[(&str, u8, &str)] = &[
+const VOLUMES_OF_THE_HOST: Rows = &[
     (
         "{\"name\":\"a\",\"kind\":\"host\",\"source\":\"//srv/./x\",\"readOnly\":true}",
         0,
@@ -80,16 +75,7 @@ const VOLUMES_OF_THE_HOST: &[(&str, u8, &str)] = &[
     ),
 ];
 
-#[test]
-fn volumes_of_the_host(rt: HostRuntime) -> Result<(), Fail> {
-    for &(volumes, number, path) in VOLUMES_OF_THE_HOST {
-        let is = volumes_come_to(rt.alloc(), volumes, number, path)?;
-        assert!(rt; is, "{volumes}");
-    }
-    Ok(())
-}
-
-const EMPTY_VOLUMES: &[(&str, u8, &str)] = &[
+const EMPTY_VOLUMES: Rows = &[
     (
         "{\"name\":\"a\",\"kind\":\"empty\",\"mode\":\"7\",\"uid\":4294967295,\"gid\":1}",
         0,
@@ -117,16 +103,7 @@ const EMPTY_VOLUMES: &[(&str, u8, &str)] = &[
     ),
 ];
 
-#[test]
-fn empty_volumes(rt: HostRuntime) -> Result<(), Fail> {
-    for &(volumes, number, path) in EMPTY_VOLUMES {
-        let is = volumes_come_to(rt.alloc(), volumes, number, path)?;
-        assert!(rt; is, "{volumes}");
-    }
-    Ok(())
-}
-
-const PORTS_AND_ISOLATORS: &[(&str, u8, &str)] = &[
+const PORTS_AND_ISOLATORS: Rows = &[
     ("\"ports\":[{\"name\":\"http\",\"hostPort\":65535}]", 0, ""),
     (
         "\"ports\":[{\"name\":\"http\",\"hostPort\":65536}]",
@@ -156,40 +133,56 @@ const PORTS_AND_ISOLATORS: &[(&str, u8, &str)] = &[
     ),
 ];
 
+const FIELDS: &[(&str, Rows, &str)] = &[
+    ("\"volumes\":[", VOLUMES, "]"),
+    ("\"volumes\":[", VOLUMES_OF_THE_HOST, "]"),
+    ("\"volumes\":[", EMPTY_VOLUMES, "]"),
+    ("", PORTS_AND_ISOLATORS, ""),
+];
+
 #[test]
-fn ports_and_isolators(rt: HostRuntime) -> Result<(), Fail> {
-    for &(members, number, path) in PORTS_AND_ISOLATORS {
-        let fields = within(rt.alloc(), "\"apps\":[],", members, "")?;
-        let is = fields_come_to(rt.alloc(), fields.as_str(), number, path)?;
-        assert!(rt; is, "{members}");
+fn fields_of_a_pod(rt: HostRuntime) -> Result<(), Fail> {
+    for &(before, rows, behind) in FIELDS {
+        for &(text, number, path) in rows {
+            assert!(&rt; fields_come_to(rt.alloc(), before, text, behind, number, path)?);
+        }
     }
     Ok(())
 }
 
-/// Whether apps come to that, each of an image with an ID; after the ID stand these fields.
+/// An image's ID.
+const ID: &str =
+    "\"image\":{\"id\":\"sha512-aaaaaaaaaaaaaaaaaaaaaaaaaaaaaaaaaaaaaaaaaaaaaaaaaaaaaaaaaaaaaaaaaaaaaaaaaaaaaaaaaaaaaaaaaaaaaaaaaaaaaaaaaaaaaaaaaaaaaaaaaaaaaaaa\"";
+
+/// Whether two apps, of which the second is so, come to that.
 fn apps_come_to(
     alloc: Global,
     name: &str,
     in_image: &str,
-    after_image: &str,
+    behind_image: &str,
     number: u8,
     path: &str,
 ) -> Result<bool, NoMemory> {
-    let digits = times(alloc, "a", 128)?;
-    let id = within(alloc, "\"id\":\"sha512-", digits.as_str(), "\"")?;
-    let image = within(alloc, id.as_str(), in_image, "}")?;
-    let name = within(alloc, "{\"name\":", name, ",\"image\":{")?;
-    let app = within(alloc, name.as_str(), image.as_str(), after_image)?;
-    let fields = within(
-        alloc,
-        "\"apps\":[{\"name\":\"first\",\"image\":{",
-        id.as_str(),
-        "}},",
-    )?;
-    let fields = within(alloc, fields.as_str(), app.as_str(), "}]")?;
-    fields_come_to(alloc, fields.as_str(), number, path)
+    let first = "{\"name\":\"first\",";
+    let parts = [
+        HEAD,
+        first,
+        ID,
+        "}},{\"name\":",
+        name,
+        ",",
+        ID,
+        in_image,
+        "}",
+        behind_image,
+        "}]}",
+    ];
+    let text = parts.concat(alloc)?;
+    pod_comes_to(alloc, text.as_bytes(), number, path)
 }
 
+/// The name of an app, what stands in its image behind the ID, what stands behind the image, and
+/// what the pod comes to.
 const APPS: &[(&str, &str, &str, u8, &str)] = &[
     ("\"w\"", "", "", 0, ""),
     ("\"first\"", "", "", 24, "apps[1].name"),
@@ -234,10 +227,9 @@ const APPS: &[(&str, &str, &str, u8, &str)] = &[
 ];
 
 #[test]
-fn apps(rt: HostRuntime) -> Result<(), Fail> {
-    for &(name, in_image, after_image, number, path) in APPS {
-        let is = apps_come_to(rt.alloc(), name, in_image, after_image, number, path)?;
-        assert!(rt; is, "{name} {in_image} {after_image}");
+fn apps_of_a_pod(rt: HostRuntime) -> Result<(), Fail> {
+    for &(name, in_image, behind_image, number, path) in APPS {
+        assert!(&rt; apps_come_to(rt.alloc(), name, in_image, behind_image, number, path)?);
     }
     Ok(())
 }

@@ -13,7 +13,7 @@ use Rattle.ac_types.specs.SeenTexts.{is_among}
 use Rattle.ac_types.specs.declared.fault.FaultKind.TheVariants.{AppTwice, BadVolume}
 use Rattle.path_map.specs.Paths.{path_fault}
 use Rattle.path_map.specs.declared.listed.Listed.{Listed}
-use Rattle.path_map.specs.declared.path_error.PathError.{PathError}
+use Rattle.path_map.specs.declared.path_fault.PathFault.{PathFault}
 use Rattle.app_section.proofs.AppLaws.{app_given}
 use Rattle.app_section.proofs.Elements.{isolator_given}
 use Rattle.app_section.proofs.Fields.{required_given, optional_given, default_given, any_flag, list_given, list_of_given}
@@ -128,7 +128,7 @@ path_given : (at : List ℕ) (slash : Bool) (path : List ℕ) → GivesOnly IsEn
 unfolding listed_path
 path_given at slash path = by (path_fault path) refl
   where
-    by : (o : Option PathError) → path_fault path ≡ o → GivesOnly IsEntry (if_path at o (record { path = path; empty = slash }))
+    by : (o : Option PathFault) → path_fault path ≡ o → GivesOnly IsEntry (if_path at o (record { path = path; empty = slash }))
     by None is = gives IsEntry (Some (record { path = path; empty = slash })) is
     by (Some fault) is = gives_none IsEntry at _
 

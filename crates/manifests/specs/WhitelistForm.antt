@@ -8,23 +8,22 @@ use Rattle.ac_types.specs.declared.fault.FaultKind.{FaultKind}
 use Rattle.ac_types.specs.declared.fault.FaultKind.TheVariants as kind
 use Rattle.path_map.specs.Paths.{path_fault}
 use Rattle.path_map.specs.declared.listed.Listed.{Listed}
-use Rattle.path_map.specs.declared.path_error.PathError.{PathError}
-use Rattle.path_map.specs.declared.path_error.PathError.TheVariants.{NotAbsolute, DotSegment, SegmentLength, PathLength, NoMemory}
+use Rattle.path_map.specs.declared.path_fault.PathFault.{PathFault}
+use Rattle.path_map.specs.declared.path_fault.PathFault.TheVariants.{NotAbsolute, DotSegment, SegmentLength, PathLength}
 
 -- the text ends with a slash
 abbrev pub ends_in_slash : List ℕ → Bool
 ends_in_slash t = slice_index t (length t - 1) == 47
 
--- the kind of the fault of a text that is no path; want of memory is the fault of no text
-abbrev pub path_fault_kind : PathError → FaultKind
+-- the kind of the fault of a text that is no path
+abbrev pub path_fault_kind : PathFault → FaultKind
 path_fault_kind NotAbsolute = kind.NotAbsolute
 path_fault_kind DotSegment = kind.DotSegment
 path_fault_kind SegmentLength = kind.SegmentLength
 path_fault_kind PathLength = kind.PathLength
-path_fault_kind NoMemory = kind.PathLength
 
 -- a path without its slash at the end
-abbrev pub if_path : List ℕ → Option PathError → Listed → Outcome (Option Listed)
+abbrev pub if_path : List ℕ → Option PathFault → Listed → Outcome (Option Listed)
 if_path at None listed = reads (Some listed)
 if_path at (Some fault) listed = fails at (path_fault_kind fault)
 

@@ -58,10 +58,7 @@ fn listing_text(alloc: Global, count: u32) -> Result<String> {
 
 /// The text of a listing of links with targets of 480 bytes.
 fn links_text(alloc: Global, count: u32) -> Result<String> {
-    let mut target = String::new(alloc);
-    for _ in 0..480u32 {
-        target.push_str("x")?;
-    }
+    let target = "x".repeat(alloc, 480)?;
     let mut text = String::new(alloc);
     for number in 0..count {
         let line = format!(in alloc; "l 0777 0 0 {target} /l{number:08x}\n")?;
@@ -70,23 +67,37 @@ fn links_text(alloc: Global, count: u32) -> Result<String> {
     Ok(text)
 }
 
-/// The text of a listing of 2,040 directories, each in the one before, and of files in the last.
-fn deep_text(alloc: Global, files: u32) -> Result<String> {
-    let mut path = String::new(alloc);
+/// How many directories lie in one another.
+const DEPTH: usize = 2040;
+
+/// The text of a listing of that many directories, each in the one before.
+fn directories_text(alloc: Global) -> Result<String> {
     let mut text = String::new(alloc);
-    for _ in 0..2040u32 {
-        path.push_str("/1")?;
-        text.push_str(format!(in alloc; "d 0755 0 0 {}\n", path.as_str())?.as_str())?;
+    for depth in 0..DEPTH {
+        let above = "/1".repeat(alloc, depth)?;
+        let line = format!(in alloc; "d 0755 0 0 {above}/1\n")?;
+        text.push_str(line.as_str())?;
     }
-    let sha = hex::encode(alloc, [0; 64].as_slice())?;
+    Ok(text)
+}
+
+/// The lines of files in the last of them.
+fn files_text(alloc: Global, files: u32) -> Result<String> {
+    let digits = "0".repeat(alloc, 128)?;
+    let head = format!(in alloc; "f 0644 0 0 0 {digits} {}", "/1".repeat(alloc, DEPTH)?)?;
+    let mut text = String::new(alloc);
     for number in 0..files {
-        let file = format!(in alloc; "{}/f{number:08x}", path.as_str())?;
-        text.push_str(format!(in alloc;
-            "f 0644 0 0 0 {} {}\n",
-            sha.as_str(),
-            file.as_str()
-        )?.as_str())?;
+        let line = format!(in alloc; "{head}/f{number:08x}\n")?;
+        text.push_str(line.as_str())?;
     }
+    Ok(text)
+}
+
+/// The text of a listing of directories, each in the one before, and of files in the last.
+fn deep_text(alloc: Global, files: u32) -> Result<String> {
+    let files = files_text(alloc, files)?;
+    let mut text = directories_text(alloc)?;
+    text.push_str(files.as_str())?;
     Ok(text)
 }
 
@@ -111,31 +122,28 @@ fn read(rt: &(impl Print + Alloc<A = Global>), text: &str) -> Result<()> {
     Ok(())
 }
 
+/// Lays files, and keeps every sixteenth where that is asked for.
+fn lay(rt: &(impl Print + Alloc<A = Global>), count: u32, keeps: bool) -> Result<()> {
+    let alloc = rt.alloc();
+    let map = laid(alloc, count)?;
+    println!(rt; "laid {count} files, {} entries", map.len())?;
+    if keeps {
+        let list = whitelist(alloc, count)?;
+        let kept = map.keep(alloc, list.as_slice())?.len();
+        println!(rt; "kept {kept} entries by {} paths", list.len())?;
+    }
+    Ok(())
+}
+
 /// What is measured.
 fn run(rt: &(impl Print + Alloc<A = Global>), word: &str, count: u32) -> Result<()> {
     let alloc = rt.alloc();
-    if word == "read" {
-        let text = listing_text(alloc, count)?;
-        return read(rt, text.as_str());
+    match word {
+        "read" => read(rt, listing_text(alloc, count)?.as_str()),
+        "links" => read(rt, links_text(alloc, count)?.as_str()),
+        "deep" => map(rt, deep_text(alloc, count)?.as_str()),
+        _ => lay(rt, count, word == "keep"),
     }
-    if word == "links" {
-        let text = links_text(alloc, count)?;
-        return read(rt, text.as_str());
-    }
-    if word == "deep" {
-        let text = deep_text(alloc, count)?;
-        return map(rt, text.as_str());
-    }
-    let map = laid(alloc, count)?;
-    let entries = map.len();
-    println!(rt; "laid {count} files, {entries} entries")?;
-    if word == "keep" {
-        let list = whitelist(alloc, count)?;
-        let paths = list.len();
-        let kept = map.keep(alloc, list.as_slice())?.len();
-        println!(rt; "kept {kept} entries by {paths} paths")?;
-    }
-    Ok(())
 }
 
 fn main(rt: HostRuntime) -> Result<()> {

@@ -36,9 +36,8 @@ struct Plan {
 }
 
 fn dependency(alloc: Global, number: u32) -> Result<Dependency> {
-    let name = format!(in alloc; "n{number}")?;
     Ok(Dependency {
-        image_name: AcIdentifier::parse(alloc, name.as_str())?,
+        image_name: name(alloc, number)?,
         image_id: None,
         labels: Sequence::new(alloc),
         size: None,
@@ -94,23 +93,29 @@ fn files_of(plan: Plan, number: u32) -> u32 {
     plan.files
 }
 
-/// Where the files of images lie.
-fn directory(alloc: Global, shape: Shape) -> Result<String> {
-    let mut path = String::new(alloc);
-    if matches!(shape, Shape::Deep) {
-        for _ in 0..2000u32 {
-            path.push_str("/1")?;
-        }
-    }
-    Ok(path)
+/// Where the files of an image lie: in a directory of its own.
+fn directory(alloc: Global, shape: Shape, number: u32) -> Result<String> {
+    let depth = if matches!(shape, Shape::Deep) {
+        2000
+    } else {
+        0
+    };
+    let above = "/1".repeat(alloc, depth)?;
+    Ok(format!(in alloc; "{above}/d{number}")?)
 }
 
-/// The files of an image, in a directory of its own.
+/// The path of a file in a directory.
+fn file_path(alloc: Global, directory: &str, number: u32) -> Result<AbsPath> {
+    let path = format!(in alloc; "{directory}/f{number}")?;
+    Ok(AbsPath::parse(alloc, path.as_str())?)
+}
+
+/// The files of an image.
 fn map_of(alloc: Global, shape: Shape, number: u32, files: u32) -> Result<PathMap> {
+    let directory = directory(alloc, shape, number)?;
     let mut map = PathMap::new(alloc);
-    let above = directory(alloc, shape)?;
     for file in 0..files {
-        let path = format!(in alloc; "{}/d{number}/f{file}", above.as_str())?;
+        let path = file_path(alloc, directory.as_str(), file)?;
         let meta = Meta {
             mode: 0o644,
             uid: 0,
@@ -121,27 +126,55 @@ fn map_of(alloc: Global, shape: Shape, number: u32, files: u32) -> Result<PathMa
             size: 0,
             sha: [0; 64],
         };
-        map = map.overlay(alloc, AbsPath::parse(alloc, path.as_str())?, entry)?;
+        map = map.overlay(alloc, path, entry)?;
     }
     Ok(map)
 }
 
-fn image(alloc: Global, plan: Plan, number: u32) -> Result<Stored> {
+/// The name of the image of a number.
+fn name(alloc: Global, number: u32) -> Result<AcIdentifier> {
     let name = format!(in alloc; "n{number}")?;
+    Ok(AcIdentifier::parse(alloc, name.as_str())?)
+}
+
+fn image(alloc: Global, plan: Plan, number: u32) -> Result<Stored> {
+    let ac_version = Text::of(alloc, "0.8.0")?;
+    let name = name(alloc, number)?;
+    let dependencies = needs(alloc, plan, number)?;
     Ok(Stored {
         key: StoreKey { bytes: [0; 32] },
         id: ImageId { bytes: [0; 64] },
         manifest: ImageManifest {
-            ac_version: Text::of(alloc, "0.8.0")?,
-            name: AcIdentifier::parse(alloc, name.as_str())?,
+            ac_version,
+            name,
             labels: Sequence::new(alloc),
             app: None,
-            dependencies: needs(alloc, plan, number)?,
+            dependencies,
             path_whitelist: Sequence::new(alloc),
             annotations: Sequence::new(alloc),
         },
         moment: 0,
     })
+}
+
+/// The images of a plan.
+fn images(alloc: Global, plan: Plan) -> Result<Vec<Stored>> {
+    let mut list = Vec::new(alloc);
+    for number in 0..plan.images.saturating_add(1) {
+        let image = image(alloc, plan, number)?;
+        list.push(image).map_err(NoMemory::from)?;
+    }
+    Ok(list)
+}
+
+/// Their files.
+fn maps(alloc: Global, plan: Plan) -> Result<Vec<PathMap>> {
+    let mut maps = Vec::new(alloc);
+    for number in 0..plan.images.saturating_add(1) {
+        let map = map_of(alloc, plan.shape, number, files_of(plan, number))?;
+        maps.push(map).map_err(NoMemory::from)?;
+    }
+    Ok(maps)
 }
 
 /// Renders the first of some images, and prints how many nodes and entries there are.
@@ -162,16 +195,21 @@ fn render(rt: &(impl Print + Alloc<A = Global>), list: &[Stored], maps: &[PathMa
 }
 
 fn run(rt: &(impl Print + Alloc<A = Global>), plan: Plan) -> Result<()> {
-    let alloc = rt.alloc();
-    let mut list = Vec::new(alloc);
-    let mut maps = Vec::new(alloc);
-    for number in 0..plan.images.saturating_add(1) {
-        list.push(image(alloc, plan, number)?)
-            .map_err(NoMemory::from)?;
-        let map = map_of(alloc, plan.shape, number, files_of(plan, number))?;
-        maps.push(map).map_err(NoMemory::from)?;
-    }
+    let list = images(rt.alloc(), plan)?;
+    let maps = maps(rt.alloc(), plan)?;
     render(rt, list.as_slice(), maps.as_slice())
+}
+
+/// The shape of a word.
+fn shape_of(word: &str) -> Shape {
+    match word {
+        "deep" => Shape::Deep,
+        "chain" => Shape::Chain,
+        "late" => Shape::Late,
+        "halves" => Shape::Halves,
+        "uneven" => Shape::Uneven,
+        _ => Shape::Flat,
+    }
 }
 
 fn main(rt: HostRuntime) -> Result<()> {
@@ -182,20 +220,8 @@ fn main(rt: HostRuntime) -> Result<()> {
     };
     for (place, arg) in env::args(&rt)?.enumerate() {
         let word = arg.as_str();
-        if place == 1 && word == "deep" {
-            plan.shape = Shape::Deep;
-        }
-        if place == 1 && word == "chain" {
-            plan.shape = Shape::Chain;
-        }
-        if place == 1 && word == "late" {
-            plan.shape = Shape::Late;
-        }
-        if place == 1 && word == "halves" {
-            plan.shape = Shape::Halves;
-        }
-        if place == 1 && word == "uneven" {
-            plan.shape = Shape::Uneven;
+        if place == 1 {
+            plan.shape = shape_of(word);
         }
         if place == 2 {
             plan.images = word.parse::<u32>()?;

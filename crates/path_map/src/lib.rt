@@ -9,6 +9,7 @@ pub mod map;
 mod overlay;
 pub(crate) mod path_entries;
 pub mod path_error;
+pub mod path_fault;
 pub mod path_iter;
 pub mod refusals;
 
@@ -17,4 +18,5 @@ pub use entry::{Entry, Meta};
 pub use listed::{Listed, ListedPaths};
 pub use map::PathMap;
 pub use path_error::PathError;
+pub use path_fault::PathFault;
 pub use path_iter::PathIter;

@@ -2,7 +2,7 @@
 
 use ac_types::{AcIdentifier, ImageId, Label, Labels, Sequence, StoreKey, Text};
 use dep_match::Stored;
-use manifests::{Dependency, ImageManifest};
+use manifests::{Dependencies, Dependency, ImageManifest};
 use std::alloc::Global;
 use std::test::Fail;
 
@@ -15,14 +15,25 @@ pub(crate) fn label(alloc: Global, name: &str, value: &str) -> Result<Labels, Fa
     Ok(Sequence::new(alloc).push(label)?)
 }
 
-/// A dependency on an image of that name.
-pub(crate) fn dependency(alloc: Global, name: &str) -> Result<Dependency, Fail> {
+/// A dependency on an image of that name with these labels.
+pub(crate) fn dependency(alloc: Global, name: &str, labels: Labels) -> Result<Dependency, Fail> {
     Ok(Dependency {
         image_name: AcIdentifier::parse(alloc, name)?,
         image_id: None,
-        labels: Sequence::new(alloc),
+        labels,
         size: None,
     })
+}
+
+/// Dependencies on images of some names, of which each is as often as it is said.
+fn dependencies(alloc: Global, needs: &[&str], times: u32) -> Result<Dependencies, Fail> {
+    let mut list = Vec::new(alloc);
+    for need in needs {
+        for _ in 0..times {
+            list.push(dependency(alloc, need, Sequence::new(alloc))?)?;
+        }
+    }
+    Ok(Sequence::from_vec(list))
 }
 
 /// An image without dependencies whose key and ID are one byte again and again.
@@ -51,13 +62,16 @@ pub(crate) fn dependent(
     needs: &[&str],
     times: u32,
 ) -> Result<Stored, Fail> {
+    let dependencies = dependencies(alloc, needs, times)?;
     let mut image = image(alloc, byte, name)?;
-    let mut dependencies = Sequence::new(alloc);
-    for need in needs {
-        for _ in 0..times {
-            dependencies = dependencies.push(dependency(alloc, need)?)?;
-        }
-    }
     image.manifest.dependencies = dependencies;
     Ok(image)
+}
+
+/// An image that needs `leaf` so often, and `leaf`.
+pub(crate) fn fan(alloc: Global, times: u32) -> Result<Vec<Stored>, Fail> {
+    let mut list = Vec::new(alloc);
+    list.push(dependent(alloc, 1, "top", &["leaf"], times)?)?;
+    list.push(dependent(alloc, 2, "leaf", &[], 1)?)?;
+    Ok(list)
 }

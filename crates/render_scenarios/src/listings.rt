@@ -14,13 +14,20 @@ use std::alloc::Global;
 use std::test::Fail;
 use tree_digest::{Listing, ListingError, are_listable};
 
-/// The hex digits of the SHA-512 of `abc`.
-const ABC: &str =
-    "ddaf35a193617abacc417349ae20413112e6fa4e89a97ea20a9eeee64b55d39a2192992a274fc1a836ba3c23a3feebbd454d4423643ce80e2a9ac94fa54ca49f";
+/// The listings of three images, of which the first stands on the others; the files hold `abc` or
+/// nothing.
+const WORKER: &str =
+    "d 0755 0 0 /bin\nf 0755 0 0 0 cf83e1357eefb8bdf1542850d66d8007d620e4050b5715dc83f4a921d36ce9ce47d0d13c5d85f2b0ff8318d2877eec2f63b931bd47417a81a538327af927da3e /bin/run\n";
 
-/// The hex digits of the SHA-512 of the empty text.
-const NIL: &str =
-    "cf83e1357eefb8bdf1542850d66d8007d620e4050b5715dc83f4a921d36ce9ce47d0d13c5d85f2b0ff8318d2877eec2f63b931bd47417a81a538327af927da3e";
+const BASE: &str =
+    "d 0755 0 0 /bin\nf 0755 0 0 3 ddaf35a193617abacc417349ae20413112e6fa4e89a97ea20a9eeee64b55d39a2192992a274fc1a836ba3c23a3feebbd454d4423643ce80e2a9ac94fa54ca49f /bin/abc\nd 0755 0 0 /etc\nl 0777 0 0 motd /etc/issue\nf 0755 0 0 0 cf83e1357eefb8bdf1542850d66d8007d620e4050b5715dc83f4a921d36ce9ce47d0d13c5d85f2b0ff8318d2877eec2f63b931bd47417a81a538327af927da3e /etc/motd\n";
+
+const LIB: &str =
+    "d 0755 0 0 /etc\nf 0644 0 0 3 ddaf35a193617abacc417349ae20413112e6fa4e89a97ea20a9eeee64b55d39a2192992a274fc1a836ba3c23a3feebbd454d4423643ce80e2a9ac94fa54ca49f /etc/motd\n";
+
+/// The listing of the first one's rendering.
+const RENDERED: &str =
+    "d 0755 0 0 /bin\nf 0755 0 0 3 ddaf35a193617abacc417349ae20413112e6fa4e89a97ea20a9eeee64b55d39a2192992a274fc1a836ba3c23a3feebbd454d4423643ce80e2a9ac94fa54ca49f /bin/abc\nf 0755 0 0 0 cf83e1357eefb8bdf1542850d66d8007d620e4050b5715dc83f4a921d36ce9ce47d0d13c5d85f2b0ff8318d2877eec2f63b931bd47417a81a538327af927da3e /bin/run\nd 0755 0 0 /etc\nl 0777 0 0 motd /etc/issue\nf 0644 0 0 3 ddaf35a193617abacc417349ae20413112e6fa4e89a97ea20a9eeee64b55d39a2192992a274fc1a836ba3c23a3feebbd454d4423643ce80e2a9ac94fa54ca49f /etc/motd\n";
 
 /// Why a rendering has no listing.
 #[derive(Drop)]
@@ -75,31 +82,29 @@ fn text_of(alloc: Global, list: &[Stored], maps: &[PathMap]) -> Result<Vec<u8>, 
     }
 }
 
-/// The map of a listing's text.
-fn map_of(alloc: Global, text: &str) -> Result<PathMap, Fail> {
-    Ok(Listing::read(alloc, text.as_bytes())?.to_map(alloc)?)
+/// The maps of the listings.
+fn maps(alloc: Global) -> Result<Vec<PathMap>, Fail> {
+    let mut maps = Vec::new(alloc);
+    for text in [WORKER, BASE, LIB] {
+        maps.push(Listing::read(alloc, text.as_bytes())?.to_map(alloc)?)?;
+    }
+    Ok(maps)
 }
 
-#[test]
-fn a_rendering_is_listed(rt: HostRuntime) -> Result<(), Fail> {
-    let alloc = rt.alloc();
+/// The images.
+fn images(alloc: Global) -> Result<Vec<Stored>, Fail> {
     let mut list = Vec::new(alloc);
     list.push(dependent(alloc, 3, "worker", &["base", "lib"], 1)?)?;
     list.push(dependent(alloc, 1, "base", &[], 1)?)?;
     list.push(dependent(alloc, 2, "lib", &[], 1)?)?;
-    let worker = format!(in alloc; "d 0755 0 0 /bin\nf 0755 0 0 0 {NIL} /bin/run\n")?;
-    let base = format!(in alloc;
-        "d 0755 0 0 /bin\nf 0755 0 0 3 {ABC} /bin/abc\nd 0755 0 0 /etc\nl 0777 0 0 motd /etc/issue\nf 0755 0 0 0 {NIL} /etc/motd\n"
-    )?;
-    let lib = format!(in alloc; "d 0755 0 0 /etc\nf 0644 0 0 3 {ABC} /etc/motd\n")?;
-    let mut maps = Vec::new(alloc);
-    for text in [worker.as_str(), base.as_str(), lib.as_str()] {
-        maps.push(map_of(alloc, text)?)?;
-    }
-    let wanted = format!(in alloc;
-        "d 0755 0 0 /bin\nf 0755 0 0 3 {ABC} /bin/abc\nf 0755 0 0 0 {NIL} /bin/run\nd 0755 0 0 /etc\nl 0777 0 0 motd /etc/issue\nf 0644 0 0 3 {ABC} /etc/motd\n"
-    )?;
-    let text = text_of(alloc, list.as_slice(), maps.as_slice())?;
-    assert!(&rt; text.as_slice() == wanted.as_bytes());
+    Ok(list)
+}
+
+#[test]
+fn a_rendering_is_listed(rt: HostRuntime) -> Result<(), Fail> {
+    let list = images(rt.alloc())?;
+    let maps = maps(rt.alloc())?;
+    let text = text_of(rt.alloc(), list.as_slice(), maps.as_slice())?;
+    assert!(&rt; text.as_slice() == RENDERED.as_bytes());
     Ok(())
 }

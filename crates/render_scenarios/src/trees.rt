@@ -1,163 +1,124 @@
 //! The tree of an image's dependencies, or why it has none.
 
-use crate::images::dependent;
-use ac_types::{AcIdentifier, Sequence, StoreKey};
+use crate::images::{dependent, fan};
+use ac_types::{AcIdentifier, NoMemory, Sequence, StoreKey};
 use dep_match::{DepError, DepNode, DepTree, Stored, closure};
 use std::alloc::Global;
 use std::test::Fail;
 
-/// The tree of the first image of a list that isn't empty.
-fn first_tree(alloc: Global, list: &[Stored]) -> Result<DepTree, DepError> {
-    if list.is_empty() {
-        return Err(DepError::NoMemory);
-    }
-    closure(alloc, list, 0)
+/// What comes of the first image of a list.
+enum Outcome {
+    /// A tree of these nodes: the image of each, and its children.
+    Nodes(&'static [(usize, &'static [usize])]),
+    /// A tree of so many nodes.
+    Size(usize),
+    /// An image of that name is missing.
+    Missing(&'static str),
+    /// The image with a key of this byte needs itself.
+    Cycle(u8),
+    TooDeep,
+    TooMany,
 }
 
-/// Images by their names and needs, with 1, 2 and so on as their bytes.
+/// Whether a tree has these nodes and no others.
+fn has_nodes(tree: &DepTree, wanted: &[(usize, &[usize])]) -> bool {
+    let mut rows = wanted.iter();
+    for node in tree.nodes.as_slice() {
+        let Some((image, children)) = rows.next() else {
+            return false;
+        };
+        if node.image != *image || node.children.as_slice() != *children {
+            return false;
+        }
+    }
+    rows.next().is_none()
+}
+
+/// Whether a tree is the one that is wanted.
+fn is_tree(tree: &DepTree, wanted: &Outcome) -> bool {
+    match wanted {
+        Outcome::Nodes(nodes) => has_nodes(tree, nodes),
+        Outcome::Size(size) => tree.nodes.len() == *size,
+        _ => false,
+    }
+}
+
+/// Whether an error is the one that is wanted.
+fn is_error(error: &DepError, wanted: &Outcome) -> bool {
+    match (error, wanted) {
+        (DepError::NoDependency(found), Outcome::Missing(name)) => found.as_str() == *name,
+        (DepError::Cycle(key), Outcome::Cycle(byte)) => key.bytes[0] == *byte,
+        (DepError::TooDeep, Outcome::TooDeep) => true,
+        (DepError::TooMany, Outcome::TooMany) => true,
+        _ => false,
+    }
+}
+
+/// A tree of copied nodes, copied.
+fn copied_tree(alloc: Global, tree: &DepTree) -> Result<DepTree, NoMemory> {
+    let copy = tree.copy()?;
+    let mut nodes = Vec::new(alloc);
+    for node in copy.nodes.as_slice() {
+        nodes.push(DepNode::copy(node)?)?;
+    }
+    Ok(DepTree {
+        nodes: Sequence::from_vec(nodes),
+    })
+}
+
+/// Whether a copy of what comes of the first image is that.
+fn comes_to(alloc: Global, list: &[Stored], wanted: &Outcome) -> Result<bool, Fail> {
+    if list.is_empty() {
+        return Err(Fail::from("no images"));
+    }
+    match closure(alloc, list, 0) {
+        Ok(tree) => Ok(is_tree(&copied_tree(alloc, &tree)?, wanted)),
+        Err(error) => Ok(is_error(&error.copy()?, wanted)),
+    }
+}
+
+/// Copies of images by their names and needs, with 1, 2 and so on as their bytes.
 fn images(alloc: Global, rows: &[(&str, &[&str])]) -> Result<Vec<Stored>, Fail> {
     let mut list = Vec::new(alloc);
     let mut byte: u8 = 0;
     for (name, needs) in rows {
         byte = byte.saturating_add(1);
-        list.push(dependent(alloc, byte, name, needs, 1)?)?;
+        list.push(dependent(alloc, byte, name, needs, 1)?.copy()?)?;
     }
     Ok(list)
 }
 
-/// The nodes of a tree: the image of each, and its children.
-fn nodes_text(alloc: Global, tree: &DepTree) -> Result<String, Fail> {
-    let mut text = String::new(alloc);
-    for node in tree.nodes.as_slice() {
-        let image = node.image;
-        text.push_str(format!(in alloc; "{image}[")?.as_str())?;
-        for child in node.children.as_slice() {
-            text.push_str(format!(in alloc; " {child}")?.as_str())?;
-        }
-        text.push_str(" ] ")?;
-    }
-    Ok(text)
-}
-
-/// A fault.
-fn shown_error(alloc: Global, error: DepError) -> Result<String, Fail> {
-    match error {
-        DepError::NoDependency(name) => {
-            let name = name.as_str();
-            Ok(format!(in alloc; "no {name}")?)
-        }
-        DepError::Cycle(key) => {
-            let byte = key.bytes[0];
-            Ok(format!(in alloc; "cycle {byte}")?)
-        }
-        DepError::TooDeep => Ok(String::from_str(alloc, "too deep")?),
-        DepError::TooMany => Ok(String::from_str(alloc, "too many")?),
-        DepError::NoMemory => Err(Fail::from("memory")),
-    }
-}
-
-/// What comes of the first image: the nodes, or the fault.
-fn outcome(alloc: Global, list: &[Stored]) -> Result<String, Fail> {
-    match first_tree(alloc, list) {
-        Ok(tree) => nodes_text(alloc, &tree),
-        Err(error) => shown_error(alloc, error),
-    }
-}
+const TREES: &[(&[(&str, &[&str])], Outcome)] = &[
+    (&[("a", &[])], Outcome::Nodes(&[(0, &[])])),
+    (
+        &[
+            ("top", &["left", "right"]),
+            ("left", &["foot"]),
+            ("right", &["foot"]),
+            ("foot", &[]),
+        ],
+        Outcome::Nodes(&[(0, &[1, 3]), (1, &[2]), (3, &[]), (2, &[4]), (3, &[])]),
+    ),
+    (&[("a", &["b"]), ("b", &["a"])], Outcome::Cycle(1)),
+    (
+        &[("a", &["b"]), ("b", &["c"]), ("c", &["a"])],
+        Outcome::Cycle(1),
+    ),
+    (
+        &[("top", &["a"]), ("a", &["b"]), ("b", &["a"])],
+        Outcome::Cycle(2),
+    ),
+    (&[("a", &["a"])], Outcome::Cycle(1)),
+    (&[("a", &["x"])], Outcome::Missing("x")),
+    (&[("a", &["b", "x"]), ("b", &["y"])], Outcome::Missing("y")),
+    (&[("a", &["x", "a"])], Outcome::Missing("x")),
+];
 
 #[test]
 fn trees_are_numbered_depth_first(rt: HostRuntime) -> Result<(), Fail> {
-    let alloc = rt.alloc();
-    let rows: [(&[(&str, &[&str])], &str); 9] = [
-        (&[("a", &[])], "0[ ] "),
-        (
-            &[
-                ("top", &["left", "right"]),
-                ("left", &["foot"]),
-                ("right", &["foot"]),
-                ("foot", &[]),
-            ],
-            "0[ 1 3 ] 1[ 2 ] 3[ ] 2[ 4 ] 3[ ] ",
-        ),
-        (&[("a", &["b"]), ("b", &["a"])], "cycle 1"),
-        (&[("a", &["b"]), ("b", &["c"]), ("c", &["a"])], "cycle 1"),
-        (&[("top", &["a"]), ("a", &["b"]), ("b", &["a"])], "cycle 2"),
-        (&[("a", &["a"])], "cycle 1"),
-        (&[("a", &["x"])], "no x"),
-        (&[("a", &["b", "x"]), ("b", &["y"])], "no y"),
-        (&[("a", &["x", "a"])], "no x"),
-    ];
-    for (images_of, wanted) in rows {
-        let list = images(alloc, images_of)?;
-        let text = outcome(alloc, list.as_slice())?;
-        assert!(&rt; text.as_str() == wanted, "{wanted}");
-    }
-    Ok(())
-}
-
-/// The names of a way, from that number on: each image needs the next; the last needs one more.
-fn way(alloc: Global, deep: u8, last: &str) -> Result<Vec<Stored>, Fail> {
-    let mut list = Vec::new(alloc);
-    for i in 0..deep {
-        let next = i.saturating_add(1);
-        let name = format!(in alloc; "n{i}")?;
-        let next_name = format!(in alloc; "n{next}")?;
-        let need = if next < deep {
-            next_name.as_str()
-        } else {
-            last
-        };
-        list.push(dependent(alloc, next, name.as_str(), &[need], 1)?)?;
-    }
-    list.push(dependent(alloc, 0, "leaf", &[], 1)?)?;
-    Ok(list)
-}
-
-/// How many nodes the tree of the first image has, or what its fault is.
-fn size(alloc: Global, list: &[Stored]) -> Result<String, Fail> {
-    match first_tree(alloc, list) {
-        Ok(tree) => {
-            let size = tree.nodes.as_slice().len();
-            Ok(format!(in alloc; "{size}")?)
-        }
-        Err(_) => outcome(alloc, list),
-    }
-}
-
-/// Whether what comes of the first image comes of copies too.
-fn copies_are_equal(alloc: Global, list: &[Stored]) -> Result<bool, Fail> {
-    let wanted = outcome(alloc, list)?;
-    let mut copies = Vec::new(alloc);
-    for image in list {
-        copies.push(image.copy()?)?;
-    }
-    let tree = match first_tree(alloc, copies.as_slice()) {
-        Ok(tree) => tree.copy()?,
-        Err(error) => return Ok(shown_error(alloc, error.copy()?)? == wanted),
-    };
-    let mut again = Vec::new(alloc);
-    for node in tree.nodes.copy()?.as_slice() {
-        let node = node.copy()?;
-        let children = node.children.copy()?;
-        again.push(DepNode {
-            image: node.image,
-            children,
-        })?;
-    }
-    let nodes = Sequence::from_vec(again);
-    Ok(nodes_text(alloc, &DepTree { nodes })? == wanted)
-}
-
-#[test]
-fn copies_are_equal_to_what_was_copied(rt: HostRuntime) -> Result<(), Fail> {
-    let alloc = rt.alloc();
-    let rows: [&[(&str, &[&str])]; 3] = [
-        &[("top", &["left", "right"]), ("left", &[]), ("right", &[])],
-        &[("a", &["x"])],
-        &[("a", &["a"])],
-    ];
-    for row in rows {
-        let list = images(alloc, row)?;
-        assert!(&rt; copies_are_equal(alloc, list.as_slice())?);
+    for (rows, wanted) in TREES {
+        let list = images(rt.alloc(), rows)?;
+        assert!(&rt; comes_to(rt.alloc(), list.as_slice(), wanted)?);
     }
     Ok(())
 }
@@ -182,33 +143,47 @@ fn refusals_have_numbers(rt: HostRuntime) -> Result<(), Fail> {
     Ok(())
 }
 
-const WAYS: &[(u8, &str, &str)] = &[
-    (31, "leaf", "32"),
-    (32, "leaf", "too deep"),
-    (32, "n0", "cycle 1"),
-    (32, "x", "no x"),
-];
-
-#[test]
-fn a_way_has_at_most_32_images(rt: HostRuntime) -> Result<(), Fail> {
-    let alloc = rt.alloc();
-    for &(deep, last, wanted) in WAYS {
-        let list = way(alloc, deep, last)?;
-        let text = size(alloc, list.as_slice())?;
-        assert!(&rt; text.as_str() == wanted, "{wanted}");
-    }
-    Ok(())
+/// The image of that number on a way of so many: it needs the next, and the last one needs one more.
+fn on_way(alloc: Global, number: u8, deep: u8, last: &str) -> Result<Stored, Fail> {
+    let next = number.saturating_add(1);
+    let name = format!(in alloc; "n{number}")?;
+    let next_name = format!(in alloc; "n{next}")?;
+    let need = if next < deep {
+        next_name.as_str()
+    } else {
+        last
+    };
+    dependent(alloc, next, name.as_str(), &[need], 1)
 }
 
+/// The images of a way, and `leaf`.
+fn way(alloc: Global, deep: u8, last: &str) -> Result<Vec<Stored>, Fail> {
+    let mut list = Vec::new(alloc);
+    for number in 0..deep {
+        list.push(on_way(alloc, number, deep, last)?)?;
+    }
+    list.push(dependent(alloc, 0, "leaf", &[], 1)?)?;
+    Ok(list)
+}
+
+const WAYS: &[(u8, &str, Outcome)] = &[
+    (31, "leaf", Outcome::Size(32)),
+    (32, "leaf", Outcome::TooDeep),
+    (32, "n0", Outcome::Cycle(1)),
+    (32, "x", Outcome::Missing("x")),
+];
+
+const FANS: &[(u32, Outcome)] = &[(255, Outcome::Size(256)), (256, Outcome::TooMany)];
+
 #[test]
-fn a_tree_has_at_most_256_nodes(rt: HostRuntime) -> Result<(), Fail> {
-    let alloc = rt.alloc();
-    for (times, wanted) in [(255, "256"), (256, "too many")] {
-        let mut list = Vec::new(alloc);
-        list.push(dependent(alloc, 1, "top", &["leaf"], times)?)?;
-        list.push(dependent(alloc, 2, "leaf", &[], 1)?)?;
-        let text = size(alloc, list.as_slice())?;
-        assert!(&rt; text.as_str() == wanted, "{wanted}");
+fn trees_have_limits(rt: HostRuntime) -> Result<(), Fail> {
+    for (deep, last, wanted) in WAYS {
+        let list = way(rt.alloc(), *deep, last)?;
+        assert!(&rt; comes_to(rt.alloc(), list.as_slice(), wanted)?);
+    }
+    for (times, wanted) in FANS {
+        let list = fan(rt.alloc(), *times)?;
+        assert!(&rt; comes_to(rt.alloc(), list.as_slice(), wanted)?);
     }
     Ok(())
 }

@@ -1,3 +1,4 @@
+//! Names, references, labels, IDs, and fields of JSON.
 use ac_types::{
     AcIdentifier, AcName, FaultKind, FromElement, ImageId, ImageRef, Label, LabelFault, Labels,
     NameError, NamedElement, NoMemory, ReadError, RefError, Sequence, ShownCopy, StoreKey, Text,
@@ -11,37 +12,35 @@ use std::test::Fail;
 const ABC: &str =
     "sha512-ddaf35a193617abacc417349ae20413112e6fa4e89a97ea20a9eeee64b55d39a2192992a274fc1a836ba3c23a3feebbd454d4423643ce80e2a9ac94fa54ca49f";
 
-fn name_fault(alloc: Global, text: &str) -> Option<NameError> {
-    AcName::parse(alloc, text).err()
-}
+/// Texts, and why they are no names.
+const NAMES: &[(&str, Option<NameError>)] = &[
+    ("a--b", Some(NameError::BadByte(2))),
+    ("-a", Some(NameError::BadByte(0))),
+    ("a/b", Some(NameError::BadByte(1))),
+    ("A", Some(NameError::BadByte(0))),
+    ("", Some(NameError::Empty)),
+    ("a-", Some(NameError::BadByte(2))),
+    ("a-b", None),
+];
 
-fn identifier_fault(alloc: Global, text: &str) -> Option<NameError> {
-    AcIdentifier::parse(alloc, text).err()
-}
+/// Texts, and why they are no identifiers.
+const IDENTIFIERS: &[(&str, Option<NameError>)] = &[
+    ("a/b", None),
+    ("a--b", Some(NameError::BadByte(2))),
+];
 
 #[test]
 fn a_name_is_refused_where_it_stops_to_be_one(rt: HostRuntime) {
-    let alloc = rt.alloc();
-    assert_eq!(rt; name_fault(alloc, "a--b"), Some(NameError::BadByte(2)));
-    assert_eq!(rt; name_fault(alloc, "-a"), Some(NameError::BadByte(0)));
-    assert_eq!(rt; name_fault(alloc, "a/b"), Some(NameError::BadByte(1)));
-    assert_eq!(rt; name_fault(alloc, "A"), Some(NameError::BadByte(0)));
-    assert_eq!(rt; name_fault(alloc, ""), Some(NameError::Empty));
-    assert_eq!(rt; name_fault(alloc, "a-"), Some(NameError::BadByte(2)));
-    assert_eq!(rt; name_fault(alloc, "a-b"), None);
-    assert_eq!(rt; identifier_fault(alloc, "a/b"), None);
-    assert_eq!(rt;
-        identifier_fault(alloc, "a--b"),
-        Some(NameError::BadByte(2))
-    );
-}
-
-fn bad_ref(alloc: Global, word: &str) -> Option<RefError> {
-    ImageRef::parse(alloc, word).err()
+    for (text, fault) in NAMES {
+        assert!(&rt; AcName::parse(rt.alloc(), text).err() == *fault);
+    }
+    for (text, fault) in IDENTIFIERS {
+        assert!(&rt; AcIdentifier::parse(rt.alloc(), text).err() == *fault);
+    }
 }
 
 /// Words that are no references, with the place at which the first unreadable part begins.
-const BAD_WORDS: [(&str, usize); 8] = [
+const BAD_WORDS: &[(&str, usize)] = &[
     ("", 0),
     ("A", 0),
     ("a,", 2),
@@ -50,6 +49,9 @@ const BAD_WORDS: [(&str, usize); 8] = [
     ("a,name=x", 2),
     ("a:1,os=linux,os=linux", 13),
     ("a:1,version=1", 4),
+    ("example.com/a:", 14),
+    ("a,version=1,version=2", 12),
+    ("sha512-a", 0),
 ];
 
 /// Whether the word names this image with this one label behind its version.
@@ -79,58 +81,63 @@ fn is_by_id(alloc: Global, word: &str, count: u8) -> bool {
 
 #[test]
 fn a_reference_is_refused_at_its_first_unreadable_part(rt: HostRuntime) {
-    let alloc = rt.alloc();
     let word = "example.com/reduce-worker:1.0.0,os=linux";
-    assert!(rt; is_named(alloc, word, "example.com/reduce-worker", "1.0.0", "linux"));
-    assert_eq!(rt;
-        bad_ref(alloc, "example.com/a:"),
-        Some(RefError::BadRef(14))
+    assert!(&rt;
+        is_named(
+            rt.alloc(),
+            word,
+            "example.com/reduce-worker",
+            "1.0.0",
+            "linux"
+        )
     );
-    assert_eq!(rt;
-        bad_ref(alloc, "a,version=1,version=2"),
-        Some(RefError::BadRef(12))
-    );
+    assert!(&rt; is_by_id(rt.alloc(), "sha512-ab", 2));
     for (word, place) in BAD_WORDS {
-        assert_eq!(rt; bad_ref(alloc, word), Some(RefError::BadRef(place)));
+        assert!(&rt; ImageRef::parse(rt.alloc(), word).err() == Some(RefError::BadRef(*place)));
     }
-    assert!(rt; is_by_id(alloc, "sha512-ab", 2));
-    assert_eq!(rt; bad_ref(alloc, "sha512-a"), Some(RefError::BadRef(0)));
 }
 
-fn with_label(alloc: Global, labels: Labels, name: &str, value: &str) -> Result<Labels, Fail> {
-    Ok(labels.push(Label {
+/// Names and values of labels, and their first fault.
+const LABELS: &[(&[(&str, &str)], Option<LabelFault>)] = &[
+    (&[("name", "x")], Some(LabelFault::LabelName(0))),
+    (
+        &[("version", "1"), ("version", "2")],
+        Some(LabelFault::LabelTwice(1)),
+    ),
+    (&[("arch", "x86_64")], None),
+    (
+        &[("os", "linux"), ("arch", "x86_64")],
+        Some(LabelFault::BadArch(1)),
+    ),
+    (&[("os", "plan9")], Some(LabelFault::BadOs(0))),
+    (
+        &[("name", "x"), ("version", "1"), ("version", "1")],
+        Some(LabelFault::LabelName(0)),
+    ),
+];
+
+fn label(alloc: Global, name: &str, value: &str) -> Result<Label, Fail> {
+    Ok(Label {
         name: AcIdentifier::parse(alloc, name)?,
         value: Text::of(alloc, value)?,
-    })?)
+    })
 }
 
-fn one(alloc: Global, name: &str, value: &str) -> Result<Labels, Fail> {
-    with_label(alloc, Sequence::new(alloc), name, value)
+fn labels(alloc: Global, rows: &[(&str, &str)]) -> Result<Labels, Fail> {
+    let mut list = Vec::new(alloc);
+    for (name, value) in rows {
+        list.push(label(alloc, name, value)?)?;
+    }
+    Ok(Sequence::from_vec(list))
 }
 
 #[test]
 fn labels_are_checked_by_name_then_by_platform(rt: HostRuntime) -> Result<(), Fail> {
-    let alloc = rt.alloc();
-    assert_eq!(rt;
-        one(alloc, "name", "x")?.check(),
-        Err(LabelFault::LabelName(0))
-    );
-    let twice = with_label(alloc, one(alloc, "version", "1")?, "version", "2")?;
-    assert_eq!(rt; twice.check(), Err(LabelFault::LabelTwice(1)));
-    assert_eq!(rt; one(alloc, "arch", "x86_64")?.check(), Ok(()));
-    let foreign = with_label(alloc, one(alloc, "os", "linux")?, "arch", "x86_64")?;
-    assert_eq!(rt; foreign.check(), Err(LabelFault::BadArch(1)));
-    assert_eq!(rt;
-        one(alloc, "os", "plan9")?.check(),
-        Err(LabelFault::BadOs(0))
-    );
-    let both = with_label(alloc, one(alloc, "name", "x")?, "version", "1")?;
-    let all = with_label(alloc, both.copy()?, "version", "1")?;
-    assert_eq!(rt; all.check(), Err(LabelFault::LabelName(0)));
-    assert_eq!(rt; all.first_fault(alloc)?, Some(LabelFault::LabelName(0)));
-    assert_eq!(rt; twice.first_fault(alloc)?, Some(LabelFault::LabelTwice(1)));
-    assert_eq!(rt; foreign.first_fault(alloc)?, Some(LabelFault::BadArch(1)));
-    assert_eq!(rt; one(alloc, "arch", "x86_64")?.first_fault(alloc)?, None);
+    for (rows, fault) in LABELS {
+        let labels = labels(rt.alloc(), rows)?.copy()?;
+        assert!(&rt; labels.check().err() == *fault);
+        assert!(&rt; labels.first_fault(rt.alloc())? == *fault);
+    }
     Ok(())
 }
 
@@ -141,19 +148,18 @@ fn key_of(text: &str) -> Option<StoreKey> {
 #[test]
 fn a_key_is_the_first_half_of_an_id(rt: HostRuntime) {
     let key = key_of(ABC);
-    assert_eq!(rt; key.map(|k| k.bytes[31]), Some(0x9a));
-    assert_eq!(rt; StoreKey::parse(ABC).ok(), key);
-    assert_eq!(rt; StoreKey::parse(&ABC[..71]).ok(), key);
-    assert!(rt; ImageId::parse(&ABC[..71]).is_err());
+    assert!(&rt; key.map(|k| k.bytes[31]) == Some(0x9a));
+    assert!(&rt; StoreKey::parse(ABC).ok() == key);
+    assert!(&rt; StoreKey::parse(&ABC[..71]).ok() == key);
+    assert!(&rt; ImageId::parse(&ABC[..71]).is_err());
 }
 
 #[test]
 fn an_id_and_a_key_are_written_as_they_are_read(rt: HostRuntime) -> Result<(), Fail> {
-    let alloc = rt.alloc();
     let id = ImageId::parse(ABC)?;
-    assert_eq!(rt; id.text(alloc)?.as_str(), ABC);
-    assert_eq!(rt; StoreKey::of(id).text(alloc)?.as_str(), &ABC[..71]);
-    assert!(rt; lower_hex(&id.bytes).as_slice() == ABC[7..].as_bytes());
+    assert!(&rt; id.text(rt.alloc())?.as_str() == ABC);
+    assert!(&rt; StoreKey::of(id).text(rt.alloc())?.as_str() == &ABC[..71]);
+    assert!(&rt; lower_hex(&id.bytes).as_slice() == ABC[7..].as_bytes());
     Ok(())
 }
 
@@ -211,66 +217,42 @@ fn ports(alloc: Global, value: &Value, name: &str) -> Result<Sequence<Port>, Rea
     }
 }
 
-#[test]
-fn a_field_is_read_or_refused_at_its_path(rt: HostRuntime) -> Result<(), Fail> {
-    let alloc = rt.alloc();
-    let value = Value::from_str(alloc, PORTS)?;
-    assert!(rt; field(&value, "none").is_none());
-    assert_eq!(rt; flag_field(alloc, &value, "$", "flag").ok(), Some(true));
-    assert_eq!(rt;
-        whole_field(alloc, &value, "$", "far", 65536).ok(),
-        Some(Some(65536))
-    );
-    assert!(rt;
-        is_fault(
-            whole_field(alloc, &value, "app", "far", 65535),
-            "app.far",
-            FaultKind::OutOfRange
-        )
-    );
-    assert_eq!(rt; required_port(alloc, &value, "$", "near").ok(), Some(65535));
-    assert!(rt;
-        is_fault(
-            whole_field(alloc, &value, "$", "half", 9),
-            "half",
-            FaultKind::Fraction
-        )
-    );
-    assert!(rt;
-        is_fault(
-            required_name(alloc, &value, "", "text"),
-            "text",
-            FaultKind::Missing
-        )
-    );
-    Ok(())
+/// Whether fields of that object are read.
+fn fields_are_read(alloc: Global, value: &Value) -> bool {
+    field(value, "none").is_none()
+        && flag_field(alloc, value, "$", "flag").ok() == Some(true)
+        && whole_field(alloc, value, "$", "far", 65536).ok() == Some(Some(65536))
+        && required_port(alloc, value, "$", "near").ok() == Some(65535)
 }
 
+/// Whether others are refused.
+fn fields_are_refused(alloc: Global, value: &Value) -> bool {
+    let far = whole_field(alloc, value, "app", "far", 65535);
+    let half = whole_field(alloc, value, "$", "half", 9);
+    is_fault(far, "app.far", FaultKind::OutOfRange)
+        && is_fault(half, "half", FaultKind::Fraction)
+        && is_fault(
+            required_name(alloc, value, "", "text"),
+            "text",
+            FaultKind::Missing,
+        )
+}
+
+const LISTS: &[(&str, &str, FaultKind)] = &[
+    ("ports", "ports[1].name", FaultKind::NameTwice),
+    ("later", "later[1].name", FaultKind::BadByte),
+    ("text", "app.text", FaultKind::WrongKind),
+];
+
 #[test]
-fn a_list_is_refused_at_its_first_fault(rt: HostRuntime) -> Result<(), Fail> {
-    let alloc = rt.alloc();
-    let value = Value::from_str(alloc, PORTS)?;
-    assert!(rt;
-        is_fault(
-            ports(alloc, &value, "ports"),
-            "ports[1].name",
-            FaultKind::NameTwice
-        )
-    );
-    assert!(rt;
-        is_fault(
-            ports(alloc, &value, "later"),
-            "later[1].name",
-            FaultKind::BadByte
-        )
-    );
-    assert!(rt;
-        is_fault(
-            ports(alloc, &value, "text"),
-            "app.text",
-            FaultKind::WrongKind
-        )
-    );
+fn a_field_is_read_or_refused_at_its_path(rt: HostRuntime) -> Result<(), Fail> {
+    let value = Value::from_str(rt.alloc(), PORTS)?;
+    assert!(&rt; fields_are_read(rt.alloc(), &value));
+    assert!(&rt; fields_are_refused(rt.alloc(), &value));
+    for (list, path, kind) in LISTS {
+        assert!(&rt; is_fault(ports(rt.alloc(), &value, list), path, *kind));
+    }
+    assert!(&rt; same_error(rt.alloc(), &value)?);
     Ok(())
 }
 
@@ -296,16 +278,6 @@ fn same_error(alloc: Global, value: &Value) -> Result<bool, Fail> {
         )),
         Ok(_) => Ok(false),
     }
-}
-
-#[test]
-fn a_copy_is_equal(rt: HostRuntime) -> Result<(), Fail> {
-    let alloc = rt.alloc();
-    assert!(rt; same_name(alloc, "a-b")?);
-    assert!(rt; same_reference(alloc, "a,os=linux")?);
-    assert!(rt; same_reference(alloc, "sha512-a0f")?);
-    assert!(rt; same_error(alloc, &Value::from_str(alloc, PORTS)?)?);
-    Ok(())
 }
 
 /// What contracts see as its number alone.
@@ -336,17 +308,21 @@ fn tags(alloc: Global) -> Result<Sequence<Tag>, NoMemory> {
     Sequence::new(alloc).push(Tag { number: 7 })
 }
 
-#[test]
-fn a_list_is_copied_in_one_form(rt: HostRuntime) -> Result<(), Fail> {
-    let alloc = rt.alloc();
+/// Whether a list's copy is equal, and has what was put into it.
+fn same_numbers(alloc: Global) -> Result<bool, NoMemory> {
     let copied = numbers(alloc)?.copy()?;
-    assert_eq!(rt; copied.len(), 2);
-    assert!(rt; !copied.is_empty());
-    assert_eq!(rt; copied.as_slice().last().copied(), Some(4_294_967_295));
     let again = Sequence::from_vec(copied.copy()?.into_vec());
-    assert!(rt; again == copied);
-    let shown = tags(alloc)?.copy()?;
-    let number = shown.as_slice().first().map(|tag| tag.number);
-    assert_eq!(rt; number, Some(7));
+    let has_two = copied.len() == 2 && !copied.is_empty();
+    Ok(again == copied && has_two && copied.as_slice().last() == Some(&4_294_967_295))
+}
+
+#[test]
+fn a_copy_is_equal(rt: HostRuntime) -> Result<(), Fail> {
+    assert!(&rt; same_name(rt.alloc(), "a-b")?);
+    assert!(&rt; same_reference(rt.alloc(), "a,os=linux")?);
+    assert!(&rt; same_reference(rt.alloc(), "sha512-a0f")?);
+    assert!(&rt; same_numbers(rt.alloc())?);
+    let shown = tags(rt.alloc())?.copy()?;
+    assert!(&rt; shown.as_slice().first().map(|tag| tag.number) == Some(7));
     Ok(())
 }

@@ -1,18 +1,14 @@
-// One field after the other, taken and refused.
+//! One field after the other, taken and refused.
 use ac_types::{NoMemory, ReadError};
 use app_section::App;
 use serde_json::Value;
 use std::alloc::Global;
 use std::test::Fail;
 
-fn object_of(alloc: Global, fields: &str) -> Result<String, NoMemory> {
-    let mut text = String::from_str(alloc, "{\"user\":\"0\",\"group\":\"0\",")?;
-    text.push_str(fields)?;
-    text.push_str("}")?;
-    Ok(text)
-}
+/// What is written, and the number and the path of its fault; 0 where it is taken.
+type Rows = &'static [(&'static str, u8, &'static str)];
 
-// Whether the section is refused with that number at that path, or taken where the number is 0.
+/// Whether the section is refused with that number at that path, or taken where the number is 0.
 fn comes_to(alloc: Global, section: &str, number: u8, path: &str) -> Result<bool, NoMemory> {
     let Ok(value) = Value::from_str(alloc, section) else {
         return Ok(false);
@@ -27,12 +23,13 @@ fn comes_to(alloc: Global, section: &str, number: u8, path: &str) -> Result<bool
     }
 }
 
+/// The same of a section with a user, a group and these fields.
 fn field_comes_to(alloc: Global, fields: &str, number: u8, path: &str) -> Result<bool, NoMemory> {
-    let section = object_of(alloc, fields)?;
+    let section = ["{\"user\":\"0\",\"group\":\"0\",", fields, "}"].concat(alloc)?;
     comes_to(alloc, section.as_str(), number, path)
 }
 
-const WORDS_AND_USERS: &[(&str, u8, &str)] = &[
+const WORDS_AND_USERS: Rows = &[
     ("\"exec\":[\"/bin/run\",\"-q\"]", 0, ""),
     ("\"exec\":[\"serve\"]", 0, ""),
     ("\"exec\":[]", 0, ""),
@@ -66,16 +63,7 @@ const WORDS_AND_USERS: &[(&str, u8, &str)] = &[
     ("\"workingDirectory\":\"\"", 14, "app.workingDirectory"),
 ];
 
-#[test]
-fn words_and_users(rt: HostRuntime) -> Result<(), Fail> {
-    for &(fields, number, path) in WORDS_AND_USERS {
-        let is = field_comes_to(rt.alloc(), fields, number, path)?;
-        assert!(rt; is, "{fields}");
-    }
-    Ok(())
-}
-
-const EVENT_HANDLERS: &[(&str, u8, &str)] = &[
+const EVENT_HANDLERS: Rows = &[
     (
         "\"eventHandlers\":[{\"name\":\"pre-start\",\"exec\":[\"/pre\"]},{\"name\":\"post-stop\",\"exec\":[\"/post\"]}]",
         0,
@@ -104,16 +92,7 @@ const EVENT_HANDLERS: &[(&str, u8, &str)] = &[
     ("\"eventHandlers\":{}", 10, "app.eventHandlers"),
 ];
 
-#[test]
-fn event_handlers(rt: HostRuntime) -> Result<(), Fail> {
-    for &(fields, number, path) in EVENT_HANDLERS {
-        let is = field_comes_to(rt.alloc(), fields, number, path)?;
-        assert!(rt; is, "{fields}");
-    }
-    Ok(())
-}
-
-const ENVIRONMENT_VARIABLES: &[(&str, u8, &str)] = &[
+const ENVIRONMENT_VARIABLES: Rows = &[
     (
         "\"environment\":[{\"name\":\"_A.b-1\",\"value\":\"\"}]",
         0,
@@ -137,16 +116,7 @@ const ENVIRONMENT_VARIABLES: &[(&str, u8, &str)] = &[
     ("\"environment\":[null]", 10, "app.environment[0]"),
 ];
 
-#[test]
-fn environment_variables(rt: HostRuntime) -> Result<(), Fail> {
-    for &(fields, number, path) in ENVIRONMENT_VARIABLES {
-        let is = field_comes_to(rt.alloc(), fields, number, path)?;
-        assert!(rt; is, "{fields}");
-    }
-    Ok(())
-}
-
-const MOUNT_POINTS: &[(&str, u8, &str)] = &[
+const MOUNT_POINTS: Rows = &[
     (
         "\"mountPoints\":[{\"name\":\"data\",\"path\":\"/data\",\"readOnly\":true}]",
         0,
@@ -174,16 +144,7 @@ const MOUNT_POINTS: &[(&str, u8, &str)] = &[
     ),
 ];
 
-#[test]
-fn mount_points(rt: HostRuntime) -> Result<(), Fail> {
-    for &(fields, number, path) in MOUNT_POINTS {
-        let is = field_comes_to(rt.alloc(), fields, number, path)?;
-        assert!(rt; is, "{fields}");
-    }
-    Ok(())
-}
-
-const PORTS: &[(&str, u8, &str)] = &[
+const PORTS: Rows = &[
     (
         "\"ports\":[{\"name\":\"p\",\"protocol\":\"tcp\",\"port\":65535,\"count\":1}]",
         0,
@@ -216,16 +177,7 @@ const PORTS: &[(&str, u8, &str)] = &[
     ),
 ];
 
-#[test]
-fn ports(rt: HostRuntime) -> Result<(), Fail> {
-    for &(fields, number, path) in PORTS {
-        let is = field_comes_to(rt.alloc(), fields, number, path)?;
-        assert!(rt; is, "{fields}");
-    }
-    Ok(())
-}
-
-const ISOLATORS: &[(&str, u8, &str)] = &[
+const ISOLATORS: Rows = &[
     (
         "\"isolators\":[{\"name\":\"resource/cpu\",\"value\":{\"limit\":[1,{\"x\":2}]}}]",
         0,
@@ -254,15 +206,24 @@ const ISOLATORS: &[(&str, u8, &str)] = &[
 ];
 
 #[test]
-fn isolators(rt: HostRuntime) -> Result<(), Fail> {
-    for &(fields, number, path) in ISOLATORS {
-        let is = field_comes_to(rt.alloc(), fields, number, path)?;
-        assert!(rt; is, "{fields}");
+fn each_field_is_taken_or_refused(rt: HostRuntime) -> Result<(), Fail> {
+    for rows in [
+        WORDS_AND_USERS,
+        EVENT_HANDLERS,
+        ENVIRONMENT_VARIABLES,
+        MOUNT_POINTS,
+        PORTS,
+        ISOLATORS,
+    ] {
+        for &(fields, number, path) in rows {
+            assert!(&rt; field_comes_to(rt.alloc(), fields, number, path)?);
+        }
     }
     Ok(())
 }
 
-const TWO_FAULTS: &[(&str, u8, &str)] = &[
+/// Whole sections, most with two faults, of which the first is told.
+const SECTIONS: Rows = &[
     ("[]", 10, "app"),
     ("{}", 9, "app.user"),
     ("{\"exec\":[\"\"]}", 14, "app.exec[0]"),
@@ -287,13 +248,14 @@ const TWO_FAULTS: &[(&str, u8, &str)] = &[
         13,
         "app.environment[0].name",
     ),
+    ("{\"exec\":[],\"group\":1}", 9, "app.user"),
+    ("{\"exec\":[\"a/b\",1],\"user\":\"\"}", 14, "app.exec[0]"),
 ];
 
 #[test]
 fn the_first_of_two_faults_is_told(rt: HostRuntime) -> Result<(), Fail> {
-    for &(section, number, path) in TWO_FAULTS {
-        let is = comes_to(rt.alloc(), section, number, path)?;
-        assert!(rt; is, "{section}");
+    for &(section, number, path) in SECTIONS {
+        assert!(&rt; comes_to(rt.alloc(), section, number, path)?);
     }
     Ok(())
 }

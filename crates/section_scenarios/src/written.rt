@@ -1,4 +1,4 @@
-use ac_types::{FaultKind, ReadError};
+//! What is written of the copy of a section that was read.
 use app_section::App;
 use serde_json::Value;
 use std::alloc::Global;
@@ -18,45 +18,41 @@ const WRITTEN: &str =
 const TWO_MOUNTS: &str =
     r#"{"exec":["/w"],"group":"0","mountPoints":[{"name":"data","path":"/data"},{"name":"tmp","path":"/tmp"}],"user":"0"}"#;
 
-/// The text that is written of a copy of the section.
-fn written(alloc: Global, section: &str) -> Option<String> {
+/// Sections, and what is written for a copy of each.
+const SECTIONS: &[(&str, &str)] = &[
+    (SECTION, WRITTEN),
+    (WRITTEN, WRITTEN),
+    (TWO_MOUNTS, TWO_MOUNTS),
+];
+
+/// A copy of a section's app.
+fn copied(alloc: Global, section: &str) -> Option<App> {
     let value = Value::from_str(alloc, section).ok()?;
-    let app = App::read(alloc, &value, "app").ok()?;
-    let copy = app.copy().ok()?;
-    copy.value(alloc).ok()?.to_string(alloc).ok()
+    match App::read(alloc, &value, "app") {
+        Ok(app) => app.copy().ok(),
+        Err(_) => None,
+    }
+}
+
+/// Whether that is the text that is written of an app.
+fn is_written(alloc: Global, app: &App, wanted: &str) -> bool {
+    let Ok(value) = app.value(alloc) else {
+        return false;
+    };
+    match value.to_string(alloc) {
+        Ok(text) => text.as_str() == wanted,
+        Err(_) => false,
+    }
 }
 
 #[test]
 fn a_section_is_read_copied_and_written(rt: HostRuntime) {
-    let alloc = rt.alloc();
-    assert!(rt; is_text(&written(alloc, SECTION), WRITTEN));
-    assert!(rt; is_text(&written(alloc, WRITTEN), WRITTEN));
-    assert!(rt; is_text(&written(alloc, TWO_MOUNTS), TWO_MOUNTS));
-}
-
-fn is_text(found: &Option<String>, wanted: &str) -> bool {
-    match found {
-        Some(text) => text.as_str() == wanted,
-        None => false,
+    for (section, wanted) in SECTIONS {
+        let is = copied(rt.alloc(), section).is_some_and(|app| is_written(
+            rt.alloc(),
+            &app,
+            wanted,
+        ));
+        assert!(&rt; is);
     }
-}
-
-/// Whether the section is refused so.
-fn is_refused(alloc: Global, section: &str, path: &str, kind: FaultKind) -> bool {
-    let Ok(value) = Value::from_str(alloc, section) else {
-        return false;
-    };
-    match App::read(alloc, &value, "app") {
-        Err(ReadError::Bad(fault)) => fault.path.as_str() == path && fault.kind == kind,
-        _ => false,
-    }
-}
-
-#[test]
-fn the_first_fault_is_told(rt: HostRuntime) {
-    let alloc = rt.alloc();
-    let missing = r#"{"exec":[],"group":1}"#;
-    assert!(rt; is_refused(alloc, missing, "app.user", FaultKind::Missing));
-    let word = r#"{"exec":["a/b",1],"user":""}"#;
-    assert!(rt; is_refused(alloc, word, "app.exec[0]", FaultKind::BadPath));
 }

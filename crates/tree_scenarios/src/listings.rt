@@ -14,7 +14,15 @@ const ABC: &str =
 const NIL: &str =
     "cf83e1357eefb8bdf1542850d66d8007d620e4050b5715dc83f4a921d36ce9ce47d0d13c5d85f2b0ff8318d2877eec2f63b931bd47417a81a538327af927da3e";
 
-/// The hex digits of the SHA-512 of the listing below, as sha512sum answers it.
+/// The same digits with capital letters.
+const CAPITAL_NIL: &str =
+    "CF83E1357EEFB8BDF1542850D66D8007D620E4050B5715DC83F4A921D36CE9CE47D0D13C5D85F2B0FF8318D2877EEC2F63B931BD47417A81A538327AF927DA3E";
+
+/// `/bin`, `/bin/abc` with `abc`, the empty `/e`, and `/l` that links to `bin/abc`.
+const SMALL: &[u8] =
+    b"d 0755 0 0 /bin\nf 0755 0 0 3 ddaf35a193617abacc417349ae20413112e6fa4e89a97ea20a9eeee64b55d39a2192992a274fc1a836ba3c23a3feebbd454d4423643ce80e2a9ac94fa54ca49f /bin/abc\nf 0644 0 0 0 cf83e1357eefb8bdf1542850d66d8007d620e4050b5715dc83f4a921d36ce9ce47d0d13c5d85f2b0ff8318d2877eec2f63b931bd47417a81a538327af927da3e /e\nl 0777 0 0 bin/abc /l\n";
+
+/// The hex digits of the SHA-512 of that listing, as sha512sum answers it.
 const DIGEST: &str =
     "cc1e631d14b977e26525ad8e1d202e2a16bdb5da9de9e813171fdfcb3117b1e87820b1c7120e1fd66f734a830f07fea474cfc22665e571ac510679cfe9b28654";
 
@@ -32,18 +40,10 @@ fn sha(digits: &str) -> Result<[u8; 64], Fail> {
     Ok(bytes)
 }
 
-/// The listing of the map of a listing.
-fn again(alloc: Global, listing: &Listing) -> Result<Listing, ListingError> {
-    let map = listing.to_map(alloc)?;
-    Listing::of_map(alloc, &map)
-}
-
-/// The listing of a map whose entries may stand in one.
-fn listed(alloc: Global, map: &PathMap) -> Result<Listing, Fail> {
-    if !are_listable(map) {
-        return Err(Fail::from("an entry"));
-    }
-    Ok(Listing::of_map(alloc, map)?)
+/// Whether those are the digits of a digest.
+fn is_sha(digest: &[u8], digits: &str) -> bool {
+    let mut bytes = [0; 64];
+    hex::decode_to_slice(digits, &mut bytes).is_ok() && digest == bytes.as_slice()
 }
 
 /// Owners 0:0.
@@ -55,47 +55,72 @@ fn owned(mode: u16) -> Meta {
     }
 }
 
-/// The map with one entry more.
-fn with(alloc: Global, map: PathMap, path: &str, entry: Entry) -> Result<PathMap, Fail> {
-    Ok(map.overlay(alloc, AbsPath::parse(alloc, path)?, entry)?)
+/// A path and its entry of the small listing, whose directory will be made.
+fn small_place(alloc: Global, path: &str) -> Result<(AbsPath, Entry), Fail> {
+    let entry = match path {
+        "/bin/abc" => Entry::File {
+            meta: owned(0o755),
+            size: 3,
+            sha: sha(ABC)?,
+        },
+        "/e" => Entry::File {
+            meta: owned(0o644),
+            size: 0,
+            sha: sha(NIL)?,
+        },
+        _ => Entry::Link {
+            meta: owned(0o777),
+            target: Text::of(alloc, "bin/abc")?,
+        },
+    };
+    Ok((AbsPath::parse(alloc, path)?, entry))
 }
 
-/// `/bin`, `/bin/abc` with `abc`, the empty `/e`, and `/l` that links to `bin/abc`, laid over nothing.
+/// The map of the small listing, laid over nothing.
 fn small_map(alloc: Global) -> Result<PathMap, Fail> {
-    let link = Entry::Link {
-        meta: owned(0o777),
-        target: Text::of(alloc, "bin/abc")?,
-    };
-    let map = with(alloc, PathMap::new(alloc), "/l", link)?;
-    let file = Entry::File {
-        meta: owned(0o755),
-        size: 3,
-        sha: sha(ABC)?,
-    };
-    let map = with(alloc, map, "/bin/abc", file)?;
-    let empty = Entry::File {
-        meta: owned(0o644),
-        size: 0,
-        sha: sha(NIL)?,
-    };
-    with(alloc, map, "/e", empty)
+    let mut map = PathMap::new(alloc);
+    for path in ["/l", "/bin/abc", "/e"] {
+        let (path, entry) = small_place(alloc, path)?;
+        map = map.overlay(alloc, path, entry)?;
+    }
+    Ok(map)
+}
+
+/// The listing of a map whose entries may stand in one.
+fn listed(alloc: Global, map: &PathMap) -> Result<Listing, Fail> {
+    if !are_listable(map) {
+        return Err(Fail::from("an entry"));
+    }
+    Ok(Listing::of_map(alloc, map)?)
+}
+
+/// Whether a listing has the two digests of the small one.
+fn has_digests(alloc: Global, listing: &Listing) -> Result<bool, Fail> {
+    let id = ImageId { bytes: [0xcc; 64] };
+    let of_image = listing.image_digest(alloc, id, b"{}")?;
+    let digest = listing.digest(alloc)?;
+    Ok(is_sha(&digest, DIGEST) && is_sha(&of_image, IMAGE_DIGEST))
+}
+
+/// The map of one directory.
+fn directory_map(alloc: Global, path: &str, meta: Meta) -> Result<PathMap, Fail> {
+    let path = AbsPath::parse(alloc, path)?;
+    Ok(PathMap::new(alloc).overlay(alloc, path, Entry::Dir(meta))?)
 }
 
 #[test]
 fn a_map_is_listed(rt: HostRuntime) -> Result<(), Fail> {
-    let alloc = rt.alloc();
-    let map = small_map(alloc)?;
+    let map = small_map(rt.alloc())?;
     assert!(&rt; map.len() == 4);
-    let listing = listed(alloc, &map)?;
-    assert!(&rt; listing.digest(alloc)? == sha(DIGEST)?);
-    let digits = "c".repeat(alloc, 128)?;
-    let id = ImageId::parse(format!(in alloc; "sha512-{digits}")?.as_str())?;
-    let digest = listing.image_digest(alloc, id, b"{}")?;
-    assert!(&rt; digest == sha(IMAGE_DIGEST)?);
-    let long = with(alloc, map, "/m", Entry::Dir(owned(0o10000)))?;
-    assert!(&rt; !are_listable(&long));
+    assert!(&rt; has_digests(rt.alloc(), &listed(rt.alloc(), &map)?)?);
+    assert!(&rt; !are_listable(&directory_map(rt.alloc(), "/m", owned(0o10000))?));
     Ok(())
 }
+
+const ESCAPES: &[(&str, &[u8])] = &[
+    ("/a b", b"d 0755 0 0 /a%20b\n"),
+    ("/\u{e9}", b"d 0755 0 0 /%C3%A9\n"),
+];
 
 /// A directory with mode 0755 and owners 0:0.
 const DIRECTORY: Meta = Meta {
@@ -104,12 +129,13 @@ const DIRECTORY: Meta = Meta {
     gid: 0,
 };
 
-const ESCAPES: &[(&str, &[u8])] = &[
-    ("/a b", b"d 0755 0 0 /a%20b\n"),
-    ("/\u{e9}", b"d 0755 0 0 /%C3%A9\n"),
-];
+/// The text of the listing of one such directory.
+fn directory_text(alloc: Global, path: &str) -> Result<Vec<u8>, Fail> {
+    let map = directory_map(alloc, path, DIRECTORY)?;
+    Ok(listed(alloc, &map)?.write(alloc)?)
+}
 
-/// How many bytes the line of such a directory takes.
+/// How many bytes its line takes.
 fn directory_len(alloc: Global, path: &str) -> Result<usize, Fail> {
     let line = ListingLine {
         path: AbsPath::parse(alloc, path)?,
@@ -120,48 +146,51 @@ fn directory_len(alloc: Global, path: &str) -> Result<usize, Fail> {
 
 #[test]
 fn a_path_is_escaped(rt: HostRuntime) -> Result<(), Fail> {
-    let alloc = rt.alloc();
     for &(path, text) in ESCAPES {
-        let map = with(alloc, PathMap::new(alloc), path, Entry::Dir(DIRECTORY))?;
-        assert!(&rt; listed(alloc, &map)?.write(alloc)?.as_slice() == text);
-        assert!(&rt; directory_len(alloc, path)? == text.len());
+        assert!(&rt; directory_text(rt.alloc(), path)?.as_slice() == text);
+        assert!(&rt; directory_len(rt.alloc(), path)? == text.len());
     }
     Ok(())
 }
 
+const ESCAPED: &[u8] =
+    b"d 0755 0 0 /%C3%A9\nd 0755 0 0 /%C3%A9/a%20b\nl 0777 0 0 %25 /%C3%A9/a%20b/%01\n";
+
+/// Whether a copy of what is read of a text is written as that text.
+fn is_written_again(alloc: Global, text: &[u8]) -> Result<bool, Fail> {
+    let listing = Listing::read(alloc, text)?.copy()?;
+    Ok(listing.write(alloc)?.as_slice() == text)
+}
+
+/// Whether the same holds of the listing of its map.
+fn is_listed_again(alloc: Global, text: &[u8]) -> Result<bool, Fail> {
+    let map = Listing::read(alloc, text)?.to_map(alloc)?;
+    Ok(Listing::of_map(alloc, &map)?.write(alloc)?.as_slice() == text)
+}
+
+/// Whether that path stands in that line of a text.
+fn has_path(alloc: Global, text: &[u8], place: usize, path: &str) -> Result<bool, Fail> {
+    let listing = Listing::read(alloc, text)?;
+    let line = listing.as_slice().get(place).ok_or("a line")?.copy()?;
+    Ok(line.path.as_str() == path)
+}
+
 #[test]
 fn a_listing_is_read_and_written(rt: HostRuntime) -> Result<(), Fail> {
-    let alloc = rt.alloc();
-    let text = format!(in alloc;
-        "d 0755 0 0 /bin\nf 0755 0 0 3 {ABC} /bin/abc\nf 0644 0 0 0 {NIL} /e\nl 0777 0 0 bin/abc /l\n"
-    )?;
-    let listing = Listing::read(alloc, text.as_bytes())?;
-    assert!(&rt; listing.as_slice().len() == 4);
-    assert!(&rt; listing.write(alloc)?.as_slice() == text.as_bytes());
-    assert!(&rt; listing.copy()?.digest(alloc)? == sha(DIGEST)?);
-    let line = listing.as_slice().first().ok_or("a line")?.copy()?;
-    assert!(&rt; line.path.as_str() == "/bin");
-    let again = again(alloc, &listing)?;
-    assert!(&rt; again.write(alloc)?.as_slice() == text.as_bytes());
-    let empty = Listing::read(alloc, b"")?;
-    assert!(&rt; empty.digest(alloc)? == sha(NIL)?);
+    for text in [SMALL, ESCAPED] {
+        assert!(&rt; is_written_again(rt.alloc(), text)?);
+        assert!(&rt; is_listed_again(rt.alloc(), text)?);
+    }
+    assert!(&rt; has_digests(rt.alloc(), &Listing::read(rt.alloc(), SMALL)?)?);
+    assert!(&rt; has_path(rt.alloc(), SMALL, 0, "/bin")?);
+    assert!(&rt; has_path(rt.alloc(), ESCAPED, 1, "/\u{e9}/a b")?);
+    assert!(&rt; is_sha(&Listing::read(rt.alloc(), b"")?.digest(rt.alloc())?, NIL));
     Ok(())
 }
 
 /// The fault of a text.
 fn fault(alloc: Global, text: &[u8]) -> Option<ListingError> {
     Listing::read(alloc, text).err()
-}
-
-#[test]
-fn escapes_are_read_and_written(rt: HostRuntime) -> Result<(), Fail> {
-    let alloc = rt.alloc();
-    let text = b"d 0755 0 0 /%C3%A9\nd 0755 0 0 /%C3%A9/a%20b\nl 0777 0 0 %25 /%C3%A9/a%20b/%01\n";
-    let listing = Listing::read(alloc, text)?;
-    assert!(&rt; listing.write(alloc)?.as_slice() == text.as_slice());
-    let path = &listing.as_slice().get(1).ok_or("a line")?.path;
-    assert!(&rt; path.as_str() == "/\u{e9}/a b");
-    Ok(())
 }
 
 const FAULTS: &[(&[u8], ListingError)] = &[
@@ -197,9 +226,8 @@ const FAULTS: &[(&[u8], ListingError)] = &[
 
 #[test]
 fn the_first_fault_is_found(rt: HostRuntime) -> Result<(), Fail> {
-    let alloc = rt.alloc();
     for (text, wanted) in FAULTS {
-        assert!(&rt; fault(alloc, text).as_ref() == Some(wanted));
+        assert!(&rt; fault(rt.alloc(), text).as_ref() == Some(wanted));
     }
     Ok(())
 }
@@ -221,36 +249,49 @@ fn refusals_have_numbers(rt: HostRuntime) -> Result<(), Fail> {
     Ok(())
 }
 
-const SIZES: &[(&str, Option<ListingError>)] = &[
-    ("1073741824", None),
-    ("1073741825", Some(ListingError::FileTooLong(1))),
-    ("18446744073709551616", Some(ListingError::FileTooLong(1))),
-    ("01", Some(ListingError::BadLine(1))),
-    ("1a", Some(ListingError::BadLine(1))),
+/// A file's size, digest and path, and the fault of its line.
+const FILES: &[(&str, &str, &str, Option<ListingError>)] = &[
+    ("1073741824", NIL, "/a", None),
+    ("1073741825", NIL, "/a", Some(ListingError::FileTooLong(1))),
+    (
+        "18446744073709551616",
+        NIL,
+        "/a",
+        Some(ListingError::FileTooLong(1)),
+    ),
+    ("01", NIL, "/a", Some(ListingError::BadLine(1))),
+    ("1a", NIL, "/a", Some(ListingError::BadLine(1))),
+    ("0", CAPITAL_NIL, "/a", Some(ListingError::BadLine(1))),
+    ("1073741825", NIL, "a", Some(ListingError::BadLine(1))),
+];
+
+/// The fault of the line of a file.
+fn file_fault(
+    alloc: Global,
+    size: &str,
+    digits: &str,
+    path: &str,
+) -> Result<Option<ListingError>, Fail> {
+    let text = format!(in alloc; "f 0644 0 0 {size} {digits} {path}\n")?;
+    Ok(fault(alloc, text.as_bytes()))
+}
+
+/// A byte, how often it stands in a text, and the fault of that text.
+const LONG: &[(u8, usize, ListingError)] = &[
+    (b'\n', 65_537, ListingError::TooMany(65_536)),
+    (b'\n', 65_536, ListingError::BadLine(1)),
+    (b'x', 33_554_433, ListingError::TooMany(33_554_432)),
 ];
 
 #[test]
-fn sizes_have_a_limit(rt: HostRuntime) -> Result<(), Fail> {
-    let alloc = rt.alloc();
-    for (size, wanted) in SIZES {
-        let text = format!(in alloc; "f 0644 0 0 {size} {NIL} /a\n")?;
-        assert!(&rt; fault(alloc, text.as_bytes()) == *wanted);
+fn files_and_listings_have_limits(rt: HostRuntime) -> Result<(), Fail> {
+    for (size, digits, path, wanted) in FILES {
+        assert!(&rt; file_fault(rt.alloc(), size, digits, path)? == *wanted);
     }
-    let upper = format!(in alloc; "f 0644 0 0 0 {} /a\n", NIL.to_ascii_uppercase(alloc)?)?;
-    assert!(&rt; fault(alloc, upper.as_bytes()) == Some(ListingError::BadLine(1)));
-    let bad = format!(in alloc; "f 0644 0 0 1073741825 {NIL} a\n")?;
-    assert!(&rt; fault(alloc, bad.as_bytes()) == Some(ListingError::BadLine(1)));
-    Ok(())
-}
-
-#[test]
-fn lines_have_a_limit(rt: HostRuntime) -> Result<(), Fail> {
-    let alloc = rt.alloc();
-    let ends = vec![in alloc; b'\n'; 65537]?;
-    assert!(&rt; fault(alloc, &ends) == Some(ListingError::TooMany(65536)));
-    assert!(&rt; fault(alloc, &ends[1..]) == Some(ListingError::BadLine(1)));
-    let long = vec![in alloc; b'x'; 33554433]?;
-    assert!(&rt; fault(alloc, &long) == Some(ListingError::TooMany(33554432)));
+    for (byte, count, wanted) in LONG {
+        let text = vec![in rt.alloc(); *byte; *count]?;
+        assert!(&rt; fault(rt.alloc(), &text).as_ref() == Some(wanted));
+    }
     Ok(())
 }
 
