@@ -1,6 +1,6 @@
 -- Images without a fault have apps of different names.
-use Rattle.std.proofs.Common.{◌≡◌, ℕ, Bool, true, false, ◌||◌, List, [], ◌∷◌, ◌++◌, map, Option, Some, None, refl, sym, ◌∙◌, ap}
-use Rattle.std.specs.List.{AllByRecursion, IsDistinct, list_any}
+use Rattle.std.proofs.Common.{◌≡◌, ℕ, Bool, true, false, ◌||◌, List, [], ◌∷◌, ◌++◌, map, Option, Some, None, refl, sym, ◌∙◌}
+use Rattle.std.specs.List.{AllByRecursion, IsDistinct}
 use Rattle.std.specs.Option.{option_or}
 use Rattle.std.specs.Prelude.{if◌then◌else◌}
 use Rattle.std.specs.Str.{bytes_eq}
@@ -10,7 +10,6 @@ use Rattle.ac_types.specs.SeenTexts.{is_among}
 use Rattle.app_section.specs.declared.app.App.{App}
 use Rattle.dep_match.specs.declared.stored.Stored.{Stored}
 use Rattle.pod_manifest.specs.Generation.{app_fault, first_fault, image_fault, name_of, words_fault}
-use Rattle.pod_manifest.specs.declared.gen_error.GenError.{GenError}
 use Rattle.pod_manifest.specs.declared.gen_error.GenError.TheVariants.{AppTwice}
 use Rattle.pod_manifest.proofs.Distinct.{each_weaker}
 
@@ -40,10 +39,9 @@ names_apart names (image ∷ images) h =
     let parts = neither (image_fault names image) (first_fault (names ++ name_of image ∷ []) images) h in
     let rest = names_apart (names ++ name_of image ∷ []) images parts.1 in
     let both : (n : List ℕ) → is_among n (names ++ name_of image ∷ []) ≡ false
-            → (is_among n names ≡ false) × ((bytes_eq (name_of image) n || false) ≡ false) =
+    → (is_among n names ≡ false) × ((bytes_eq (name_of image) n || false) ≡ false) =
     λ n g. or_parts (is_among n names) (bytes_eq (name_of image) n || false)
-    (sym (list_any-append (λ (t : List ℕ). bytes_eq t n) names (name_of image ∷ [])) ∙ g) in
-    (
+    (sym (list_any-append (λ (t : List ℕ). bytes_eq t n) names (name_of image ∷ [])) ∙ g) in (
       (
         app_new names image image.manifest.app parts.0,
         each_weaker (λ (n : List ℕ). is_among n (names ++ name_of image ∷ []) ≡ false) (λ (n : List ℕ). is_among n names ≡ false)

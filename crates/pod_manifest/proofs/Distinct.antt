@@ -1,10 +1,9 @@
 -- Lists in which each key comes once.
-use Rattle.std.proofs.Common.{◌≡◌, ℕ, Bool, true, false, not, ◌||◌, cond, List, [], ◌∷◌, ◌++◌, map, refl, sym, ◌∙◌, ap, subst}
-use Rattle.std.specs.List.{All, AllByRecursion, IsDistinct, filter, list_any, flat_map}
+use Rattle.std.proofs.Common.{◌≡◌, ℕ, Bool, true, false, not, cond, List, [], ◌∷◌, ◌++◌, map}
+use Rattle.std.specs.List.{All, AllByRecursion, IsDistinct, filter, flat_map}
 use Rattle.std.specs.Str.{bytes_eq}
 use Rattle.std.proofs.lemmas.Bool.{or_parts, not-true}
-use Rattle.std.proofs.lemmas.List.Elements.{All-nil, All-cons, All-head, All-tail, All-append, All-filter, filter_passes, recursion_from_All, All-map}
-use Rattle.std.proofs.lemmas.List.Folds.{list_any-append}
+use Rattle.std.proofs.lemmas.List.Elements.{All-nil, All-cons, All-head, All-tail, All-append, All-filter, filter_passes, recursion_from_All}
 use Rattle.ac_types.specs.SeenTexts.{is_among}
 use Rattle.pod_manifest.specs.FirstOfEach.{first_of_each, new_of_each}
 
@@ -58,6 +57,7 @@ filter_distinct {A} key test (x ∷ xs) h =
             → AllByRecursion (λ k. bytes_eq (key x) k ≡ false) (map key (cond b (y ∷ filter test ys) (filter test ys)))
         by_test true rest = (g.0, rest)
         by_test false rest = rest
+
     by : (b : Bool) → IsDistinct bytes_eq (map key (filter test xs)) → AllByRecursion (λ k. bytes_eq (key x) k ≡ false) (map key (filter test xs))
         → IsDistinct bytes_eq (map key (cond b (x ∷ filter test xs) (filter test xs)))
     by true rest apart = (apart, rest)
@@ -67,8 +67,7 @@ first_distinct : {A : Type 0} (key : A → List ℕ) (xs : List A) → IsDistinc
 unfolding IsDistinct
 first_distinct key [] = tt
 first_distinct {A} key (x ∷ xs) =
-    let test : A → Bool = λ y. not (bytes_eq (key x) (key y)) in
-    (
+    let test : A → Bool = λ y. not (bytes_eq (key x) (key y)) in (
       each_mapped (λ (k : List ℕ). bytes_eq (key x) k ≡ false) key (filter test (first_of_each key xs))
           (each_weaker (λ (y : A). test y ≡ true) (λ (y : A). bytes_eq (key x) (key y) ≡ false) (λ y h. not-true (bytes_eq (key x) (key y)) h)
           (filter test (first_of_each key xs))

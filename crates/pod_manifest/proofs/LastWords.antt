@@ -1,11 +1,11 @@
 -- What stands behind the last slash of an identifier, with hyphens as its separators.
-use Rattle.std.proofs.Common.{◌≡◌, ℕ, zero, suc, ◌+◌, ◌-◌, ◌<◌, ◌≤◌, ◌==◌, Bool, true, false, not, ◌&&◌, ◌||◌, cond, List, [], ◌∷◌, ◌++◌, length, map, take, drop, get_or, refl, sym, ◌∙◌, ap, subst, arith, ◌⊎◌, inl, inr}
-use Rattle.std.specs.Prelude.{if◌then◌else◌, reverse}
+use Rattle.std.proofs.Common.{◌≡◌, ℕ, zero, suc, ◌+◌, ◌-◌, ◌<◌, ◌≤◌, Bool, true, false, not, ◌||◌, cond, List, [], ◌∷◌, ◌++◌, length, map, take, drop, get_or, refl, sym, ◌∙◌, ap, arith, ◌⊎◌, inl, inr}
+use Rattle.std.specs.Prelude.{if◌then◌else◌}
 use Rattle.std.specs.List.{after_last, list_any, prefix_len, suffix_len}
-use Rattle.std.proofs.lemmas.Bool.{or_parts, or_cases}
+use Rattle.std.proofs.lemmas.Bool.{or_parts}
 use Rattle.std.proofs.lemmas.Bool.Decides.{nat_tests}
 use Rattle.std.proofs.lemmas.List.Folds.{list_any-append}
-use Rattle.std.proofs.lemmas.List.{take_more, take_all, drop_all, drop-append-le, length-append, reverse-append, map-append, length_push}
+use Rattle.std.proofs.lemmas.List.{take_more, take_all, drop_all, drop-append-le, reverse-append, map-append, length_push}
 use Rattle.ac_types.specs.Names.{are_words, is_word_byte, is_hyphen, is_separator}
 use Rattle.pod_manifest.specs.AppNames.{is_slash, hyphenated, last_words}
 use Rattle.pod_manifest.proofs.Words.{behind, first_word, no_words, longer, parted}
@@ -20,6 +20,7 @@ after_push p xs x = ap (λ (n : ℕ). drop (length (xs ++ x ∷ []) - n) (xs ++ 
   where
     n : ℕ
     n = suffix_len (λ y. not (p y)) xs
+
     by : (test : Bool) → drop (length (xs ++ x ∷ []) - cond (not test) (1 + n) 0) (xs ++ x ∷ []) ≡ cond test [] (drop (length xs - n) xs ++ x ∷ [])
     by true = drop_all (length (xs ++ x ∷ []) - 0) (xs ++ x ∷ []) (omega arith)
     by false =
@@ -91,10 +92,13 @@ turned (b ∷ c ∷ cs) h none = by (turned (c ∷ cs)) (turned cs) (behind is_s
   where
     word : is_word_byte (hyphenated b) ≡ true
     word = ap is_word_byte (word_kept b (first_word is_separator b (c ∷ cs) h)) ∙ first_word is_separator b (c ∷ cs) h
+
     rest : list_any is_slash (c ∷ cs) ≡ false
     rest = (or_parts (is_slash b) (list_any is_slash (c ∷ cs)) none).1
+
     Turns : List ℕ → Type 0
     Turns u = are_words is_separator u ≡ true → list_any is_slash u ≡ false → are_words is_hyphen (map hyphenated u) ≡ true
+
     by : Turns (c ∷ cs) → Turns cs → (are_words is_separator (c ∷ cs) ≡ true) ⊎ ((is_separator c ≡ true) × (are_words is_separator cs ≡ true))
         → are_words is_hyphen (map hyphenated (b ∷ c ∷ cs)) ≡ true
     by more less (inl e) = longer is_hyphen (hyphenated b) (map hyphenated (c ∷ cs)) word (more e rest)

@@ -1,10 +1,10 @@
 -- What is mounted in the pod of some images.
-use Rattle.std.proofs.Common.{◌≡◌, ℕ, Bool, true, List, [], ◌∷◌, ◌++◌, map, refl, sym, ◌∙◌, ap, subst, get_or}
-use Rattle.std.specs.List.{All, AllZip, list_any}
+use Rattle.std.proofs.Common.{◌≡◌, ℕ, Bool, true, ◌||◌, List, [], ◌∷◌, ◌++◌, map, refl, sym, ◌∙◌, ap, subst, get_or}
+use Rattle.std.specs.List.{All, AllZip}
 use Rattle.std.specs.Str.{bytes_eq}
 use Rattle.std.proofs.lemmas.Bool.{or_left, or_right}
 use Rattle.std.proofs.lemmas.List.{map-append, map-id}
-use Rattle.std.proofs.lemmas.List.Elements.{All-nil, All-cons, All-weaker}
+use Rattle.std.proofs.lemmas.List.Elements.{All-nil, All-cons}
 use Rattle.std.proofs.lemmas.List.Folds.{list_any-append}
 use Rattle.ac_types.specs.SeenTexts.{is_among}
 use Rattle.app_section.specs.declared.mount_point.MountPoint.{MountPoint}
@@ -13,7 +13,7 @@ use Rattle.manifests.specs.declared.mount.Mount.{Mount}
 use Rattle.manifests.specs.declared.volume.Volume.{Volume}
 use Rattle.dep_match.specs.declared.stored.Stored.{Stored}
 use Rattle.pod_manifest.specs.FirstOfEach.{new_of_each}
-use Rattle.pod_manifest.specs.Generation.{app_of, empty_volume, has_volume, mount_at, mount_paths, mounted, mounts_of, name_of, pod_with, points_of, volume_names, volumes_of}
+use Rattle.pod_manifest.specs.Generation.{app_of, has_volume, mount_at, mount_paths, mounted, mounts_of, name_of, pod_with, points_of, volume_names, volumes_of}
 use Rattle.pod_manifest.specs.Mounted.{HasItsMounts, HasItsVolumes, IsMountedAt}
 use Rattle.pod_manifest.specs.declared.options.Options.{Options}
 use Rattle.pod_manifest.proofs.Present.{all_present, own_key}

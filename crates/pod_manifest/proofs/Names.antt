@@ -1,5 +1,5 @@
 -- The names that are made are names.
-use Rattle.std.proofs.Common.{◌≡◌, ℕ, ◌≤◌, ◌<◌, true, false, List, [], ◌∷◌, ◌++◌, ◌-◌, length, take, min, arith, sym, ◌∙◌, ap, append_assoc, ◌⊎◌, inl, inr, true≢false}
+use Rattle.std.proofs.Common.{◌≡◌, ℕ, ◌≤◌, ◌<◌, true, List, [], ◌∷◌, ◌++◌, ◌-◌, length, take, min, arith, sym, ◌∙◌, ap, append_assoc, inl, inr, true≢false}
 use Rattle.std.specs.List.{slice_range}
 use Rattle.std.proofs.lemmas.List.{take_min}
 use Rattle.ac_types.specs.Names.{are_words, is_hyphen, IsAcName, IsAcIdentifier, IsBadByteAt, IsNameFault}

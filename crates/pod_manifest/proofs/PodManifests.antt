@@ -1,6 +1,6 @@
 -- The pod manifest of images whose manifests are manifests is one.
-use Rattle.std.proofs.Common.{◌≡◌, ℕ, ◌≤◌, Bool, true, false, cond, List, [], ◌∷◌, ◌++◌, map, Option, Some, None, option_map, codes, refl, sym, ◌∙◌, ap, subst, arith, IfSome}
-use Rattle.std.specs.List.{All, AllByRecursion, IsDistinct, filter}
+use Rattle.std.proofs.Common.{◌≡◌, ℕ, ◌≤◌, Bool, true, false, cond, List, [], ◌∷◌, map, Option, Some, None, option_map, refl, sym, ap, subst, arith, IfSome}
+use Rattle.std.specs.List.{All, AllByRecursion, IsDistinct}
 use Rattle.std.specs.Str.{bytes_eq}
 use Rattle.std.proofs.lemmas.List.{map-id}
 use Rattle.std.proofs.lemmas.List.Elements.{All-nil, All-cons, All-head, All-tail, All-append, All-map, All-weaker}
@@ -10,7 +10,7 @@ use Rattle.app_section.specs.AppData.{app_data}
 use Rattle.app_section.specs.AppRules.{IsApp, IsMountPoint, IsIsolator, HaveNames}
 use Rattle.app_section.specs.declared.app.App.{App}
 use Rattle.app_section.specs.declared.mount_point.MountPoint.{MountPoint}
-use Rattle.manifest_parts.specs.PartRules.{IsAnnotation, IsImageId, IsRuntimeImage, IsVersion}
+use Rattle.manifest_parts.specs.PartRules.{IsAnnotation, IsImageId}
 use Rattle.manifests.specs.ManifestRules.{IsMount, IsPodManifest, IsPodPort, IsRuntimeApp, IsVolume}
 use Rattle.manifests.specs.PodData.{RuntimeAppData}
 use Rattle.manifests.specs.declared.mount.Mount.{Mount}
@@ -24,6 +24,7 @@ use Rattle.pod_manifest.specs.declared.options.Options.{Options}
 use Rattle.pod_manifest.proofs.AppsApart.{names_apart}
 use Rattle.pod_manifest.proofs.Distinct.{all_joined, all_new, both_distinct, new_distinct, new_unknown}
 use Rattle.pod_manifest.proofs.Names.{app_name_good, own_volume_good}
+use Rattle.pod_manifest.proofs.Version.{version_good}
 use Rattle.pod_manifest.proofs.VolumeNames.{names_of_volumes}
 
 -- ---- an app
@@ -117,7 +118,7 @@ pod_good options images none o ids are =
     let each : All IsRuntimeApp apps = apps_good options images o ids are in
     let P : List (List ℕ) → Type 0 = λ ns. IsDistinct bytes_eq ns in
     record {
-      version = refl;
+      version = version_good;
       each_app = each;
       app_names = subst P (sym (names_of_apps options images)) (names_apart [] images none).1;
       each_volume = volumes_good options apps o each;

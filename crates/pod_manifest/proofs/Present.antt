@@ -1,6 +1,6 @@
 -- Each key of a list is known, or that of one of the new elements.
-use Rattle.std.proofs.Common.{◌≡◌, ℕ, ◌<◌, Bool, true, false, not, ◌||◌, cond, List, [], ◌∷◌, ◌++◌, length, map, get_or, refl, sym, ◌∙◌, ap, subst}
-use Rattle.std.specs.List.{All, filter, list_any}
+use Rattle.std.proofs.Common.{◌≡◌, ℕ, Bool, true, false, not, ◌||◌, cond, List, [], ◌∷◌, ◌++◌, map, get_or, refl, ◌∙◌, ap}
+use Rattle.std.specs.List.{All, filter}
 use Rattle.std.specs.Str.{bytes_eq}
 use Rattle.std.specs.Cmp.Lexicographic.{bytes_decides}
 use Rattle.std.proofs.lemmas.Bool.{or_left, or_right}
@@ -34,6 +34,7 @@ first_keeps {A} key k (x ∷ xs) h = by (bytes_eq (key x) k) refl (first_keeps k
   where
     test : A → Bool
     test y = not (bytes_eq (key x) (key y))
+
     by : (same : Bool) → bytes_eq (key x) k ≡ same → (is_among k (map key xs) ≡ true → is_among k (map key (first_of_each key xs)) ≡ true)
         → (same || is_among k (map key xs)) ≡ true
         → (bytes_eq (key x) k || is_among k (map key (filter (λ (y : A). not (bytes_eq (key x) (key y))) (first_of_each key xs)))) ≡ true

@@ -1,8 +1,7 @@
 -- Words with hyphens between them, cut and joined.
-use Rattle.std.proofs.Common.{◌≡◌, ℕ, zero, suc, ◌+◌, ◌-◌, ◌<◌, ◌≤◌, ◌==◌, Bool, true, false, ◌&&◌, ◌||◌, cond, List, [], ◌∷◌, ◌++◌, length, map, take, get_or, refl, sym, ◌∙◌, ap, subst, arith, ◌⊎◌, inl, inr}
-use Rattle.std.specs.Prelude.{if◌then◌else◌}
+use Rattle.std.proofs.Common.{◌≡◌, ℕ, zero, suc, ◌-◌, ◌<◌, ◌≤◌, ◌==◌, Bool, true, false, ◌&&◌, cond, List, [], ◌∷◌, ◌++◌, length, take, get_or, refl, ◌∙◌, ap, arith, ◌⊎◌, inl, inr}
 use Rattle.std.specs.Str.{IsAscii}
-use Rattle.std.proofs.lemmas.Bool.{and_parts, or_cases, and_from, or_left, or_right, eqb-true, false≢true}
+use Rattle.std.proofs.lemmas.Bool.{and_parts, or_cases, and_from, or_left, or_right, false≢true}
 use Rattle.std.proofs.lemmas.Bool.Decides.{nat_tests}
 use Rattle.std.proofs.lemmas.List.{length-take}
 use Rattle.ac_types.specs.Names.{are_words, is_word_byte, is_hyphen, is_separator}
@@ -74,6 +73,7 @@ joined_words (x ∷ y ∷ ys) b first second =
   where
     word : is_word_byte x ≡ true
     word = first_word is_hyphen x (y ∷ ys) first
+
     by : (are_words is_hyphen (y ∷ ys) ≡ true → are_words is_hyphen (y ∷ (ys ++ 45 ∷ b)) ≡ true)
         → (are_words is_hyphen ys ≡ true → are_words is_hyphen (ys ++ 45 ∷ b) ≡ true)
         → (are_words is_hyphen (y ∷ ys) ≡ true) ⊎ ((is_hyphen y ≡ true) × (are_words is_hyphen ys ≡ true))

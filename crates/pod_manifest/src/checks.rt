@@ -52,7 +52,8 @@ pub(crate) fn check_mounts(options: &Options) -> Result<(), GenError>
     ensures { MatchResult result (λ _. mount_fault options.now ≡ None) (IsRefusal (mount_fault options.now)) }
 {
     let volumes = options.volumes.as_slice();
-    for mount in options.mounts.as_slice() {
+    let mounts = options.mounts.as_slice();
+    for mount in mounts {
         if !has_volume(volumes, mount.volume.as_str()) {
             return Err(GenError::NoVolume(mount.volume.copy()?));
         }

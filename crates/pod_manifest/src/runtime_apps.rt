@@ -1,6 +1,6 @@
 //! The apps of a pod, each made from an image.
 
-ghost use Rattle.std.specs.Prelude.{◌≡◌, ◌<◌, ℕ, IfOk, length, map};
+ghost use Rattle.std.specs.Prelude.{◌≡◌, ◌<◌, ℕ, IfOk, length, map, slice_index};
 ghost use Rattle.std.specs.List.{All};
 ghost use Rattle.manifest_parts.specs.PartRules.{IsImageId};
 ghost use Rattle.manifest_parts.specs.declared.runtime_image.RuntimeImage.{RuntimeImage};
@@ -10,7 +10,7 @@ ghost use Rattle.pod_manifest.specs.Generation.{app_of, picked, points_of, runti
 use crate::app_names::app_name;
 use crate::mounts::mounts_of;
 use crate::options::Options;
-use ac_types::{NoMemory, Sequence, ShownCopy};
+use ac_types::{ImageId, NoMemory, Sequence, ShownCopy};
 use app_section::{App, MountPoint};
 use dep_match::Stored;
 use manifests::{RuntimeApp, RuntimeApps, RuntimeImage};
@@ -55,12 +55,27 @@ fn runtime_image(image: &Stored) -> Result<RuntimeImage, NoMemory>
     ensures image { IfOk result (λ i. i ≡ runtime_image image.now) }
     ensures id { IfOk result (λ i. IsImageId i.id) }
 {
-    let id = image.id;
     Ok(RuntimeImage {
-        id,
+        id: known_id(image.id),
         name: Some(image.manifest.name.copy()?),
         labels: image.manifest.labels.copy()?,
     })
+}
+
+/// The same ID, of which its type says that it has 64 bytes.
+fn known_id(id: ImageId) -> ImageId
+    ensures same { result ≡ id }
+    ensures kind { IsImageId id }
+{
+    are_bytes(&id.bytes);
+    id
+}
+
+/// What the type of bytes says of them.
+fn are_bytes(bytes: &[u8])
+    ensures { (i : ℕ) → slice_index bytes.now i < 256 }
+{
+    let _length = bytes.len();
 }
 
 fn points_of(app: &Option<App>) -> &[MountPoint]

@@ -9,7 +9,9 @@ use std::test::Fail;
 
 /// What stands before the name of an image in its manifest, and behind it.
 const BEFORE: &str = "{\"acKind\":\"ImageManifest\",\"acVersion\":\"0.8.0\",\"name\":\"";
-const BEHIND: &str = "\",\"app\":{\"exec\":[\"/a\"],\"user\":\"0\",\"group\":\"0\",\"mountPoints\":[{\"name\":\"tmp\",\"path\":\"/tmp\"}]}}";
+
+const BEHIND: &str =
+    "\",\"app\":{\"exec\":[\"/a\"],\"user\":\"0\",\"group\":\"0\",\"mountPoints\":[{\"name\":\"tmp\",\"path\":\"/tmp\"}]}}";
 
 /// The image of a name, with one mount point.
 fn named(alloc: Global, name: &str) -> Result<Stored, Fail> {

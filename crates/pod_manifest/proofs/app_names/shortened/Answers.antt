@@ -1,9 +1,9 @@
-use Rattle.std.proofs.Common.{◌≡◌, List, ℕ, ◌∙◌, sym, subst, arith}
+use Rattle.std.proofs.Common.{◌≡◌, ◌∙◌, sym, subst, arith}
 use Rattle.std.proofs.lemmas.Str.{IsCharBoundary-from_ascii}
 use Rattle.ac_types.specs.Names.{is_hyphen, IsAcName, IsNameFault}
 use Rattle.ac_types.specs.declared.name_error.NameError.{NameError}
 use Rattle.pod_manifest.specs.AppNames.{shortened}
-use Rattle.pod_manifest.proofs.Names.{never_bad, never_empty, shortened_good, shortened_is}
+use Rattle.pod_manifest.proofs.Names.{never_bad, shortened_good, shortened_is}
 use Rattle.pod_manifest.proofs.Words.{hyphen_ascii, words_ascii}
 use Rattle.pod_manifest.proofs.app_names.shortened.Goals as goal
 
