@@ -12,13 +12,13 @@ use Rattle.manifests.specs.declared.runtime_app.RuntimeApp.{RuntimeApp}
 use Rattle.dep_match.specs.declared.stored.Stored.{Stored}
 use Rattle.pod_manifest.specs.Generation.{app_of, first_fault, image_fault, name_of, picked, IsRefusal}
 use Rattle.pod_manifest.specs.declared.gen_error.GenError.{GenError}
-use Rattle.pod_manifest.specs.declared.options.Options.{Options}
+use Rattle.pod_manifest.specs.Wishes.{Wishes}
 use Rattle.pod_manifest.proofs.Picks.{picked_more, picked_next}
 
 module _ (images : List Stored) (picks : List ℕ) (i : ℕ) (image : Stored) (more : i < length picks) (within : get_or picks i 0 < length images)
     (is : image ≡ get_or images (get_or picks i 0) image) where
   -- one app more
-  pub apps_more : (options : Options) (apps now : List RuntimeApp) (app : RuntimeApp) → now ≡ apps ++ app ∷ []
+  pub apps_more : (options : Wishes) (apps now : List RuntimeApp) (app : RuntimeApp) → now ≡ apps ++ app ∷ []
       → runtime_app_data app ≡ app_of options image → map runtime_app_data apps ≡ map (app_of options) (picked images (take i picks))
       → map runtime_app_data now ≡ map (app_of options) (picked images (take (i + 1) picks))
   apps_more options apps now app now_is app_is before =

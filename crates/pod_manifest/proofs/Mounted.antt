@@ -15,7 +15,7 @@ use Rattle.dep_match.specs.declared.stored.Stored.{Stored}
 use Rattle.pod_manifest.specs.FirstOfEach.{new_of_each}
 use Rattle.pod_manifest.specs.Generation.{app_of, has_volume, mount_at, mount_paths, mounted, mounts_of, name_of, pod_with, points_of, volume_names, volumes_of}
 use Rattle.pod_manifest.specs.Mounted.{HasItsMounts, HasItsVolumes, IsMountedAt}
-use Rattle.pod_manifest.specs.declared.options.Options.{Options}
+use Rattle.pod_manifest.specs.Wishes.{Wishes}
 use Rattle.pod_manifest.proofs.Present.{all_present, own_key}
 use Rattle.pod_manifest.proofs.VolumeNames.{names_of_volumes}
 
@@ -40,7 +40,7 @@ all_mounted (a ∷ apps) =
     (λ k d within. split (get_or a.mounts k d).volume ∙ or_left _ _ (own_key (λ (m : Mount). m.volume) a.mounts k d within))
     (λ k d within j e inside. split (get_or (get_or apps k d).mounts j e).volume ∙ or_right _ _ (all_mounted apps k d within j e inside))
 
-pub volumes_there : (options : Options) (apps : List RuntimeAppData) → HasItsVolumes (pod_with options apps)
+pub volumes_there : (options : Wishes) (apps : List RuntimeAppData) → HasItsVolumes (pod_with options apps)
 volumes_there options apps k d within j e inside =
     let name = (get_or (get_or apps k d).mounts j e).volume in
     let Among : List (List ℕ) → Type 0 = λ ns. is_among name ns ≡ true in
@@ -54,12 +54,12 @@ volumes_there options apps k d within j e inside =
 
 -- ---- each mount point has a mount
 
-paths_of_mounts : (options : Options) (app : List ℕ) (points : List MountPoint)
+paths_of_mounts : (options : Wishes) (app : List ℕ) (points : List MountPoint)
     → mount_paths (map (mount_at options app) points) ≡ map (λ (p : MountPoint). p.path) points
 paths_of_mounts options app [] = refl
 paths_of_mounts options app (p ∷ ps) = ap (λ (ts : List (List ℕ)). p.path ∷ ts) (paths_of_mounts options app ps)
 
-points_mounted : (options : Options) (app : List ℕ) (points : List MountPoint)
+points_mounted : (options : Wishes) (app : List ℕ) (points : List MountPoint)
     → All (λ (p : MountPoint). is_among p.path (mount_paths (mounts_of options app points)) ≡ true) points
 points_mounted options app points k d within =
     let path = (get_or points k d).path in
@@ -70,9 +70,9 @@ points_mounted options app points k d within =
     ∙ ap (λ (ts : List (List ℕ)). is_among path (known ++ ts)) (paths_of_mounts options app new)
     ∙ all_present key known path points (own_key key points k d within)
 
-pub mounts_there : (options : Options) (images : List Stored) → HasItsMounts images (pod_with options (map (app_of options) images))
+pub mounts_there : (options : Wishes) (images : List Stored) → HasItsMounts images (pod_with options (map (app_of options) images))
 mounts_there options images = each options images
   where
-    each : (options : Options) (images : List Stored) → AllZip IsMountedAt images (map (app_of options) images)
+    each : (options : Wishes) (images : List Stored) → AllZip IsMountedAt images (map (app_of options) images)
     each options [] = tt
     each options (image ∷ images) = (points_mounted options (name_of image) (points_of image.manifest.app), each options images)

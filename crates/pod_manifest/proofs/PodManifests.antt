@@ -19,8 +19,8 @@ use Rattle.dep_match.specs.declared.stored.Stored.{Stored}
 use Rattle.pod_manifest.specs.AppNames.{own_volume}
 use Rattle.pod_manifest.specs.FirstOfEach.{new_of_each}
 use Rattle.pod_manifest.specs.Generation.{app_of, empty_volume, first_fault, has_volume, mount_at, mount_paths, mounted, mounts_of, name_of, pod_with, points_of, volume_names, volumes_of}
-use Rattle.pod_manifest.specs.Inputs.{AreOptions, IsImage}
-use Rattle.pod_manifest.specs.declared.options.Options.{Options}
+use Rattle.pod_manifest.specs.Inputs.{IsImage}
+use Rattle.pod_manifest.specs.Wishes.{AreWishes, Wishes}
 use Rattle.pod_manifest.proofs.AppsApart.{names_apart}
 use Rattle.pod_manifest.proofs.Distinct.{all_joined, all_new, both_distinct, new_distinct, new_unknown}
 use Rattle.pod_manifest.proofs.Names.{app_name_good, own_volume_good}
@@ -29,14 +29,14 @@ use Rattle.pod_manifest.proofs.VolumeNames.{names_of_volumes}
 
 -- ---- an app
 
-mount_good : (options : Options) (app : List ℕ) (point : MountPoint) → IsAcName app → IsMountPoint point → IsMount (mount_at options app point)
+mount_good : (options : Wishes) (app : List ℕ) (point : MountPoint) → IsAcName app → IsMountPoint point → IsMount (mount_at options app point)
 mount_good options app point a p = record { named = by (has_volume options.volumes point.name); place = p.place }
   where
     by : (b : Bool) → IsAcName (cond b point.name (own_volume app point.name))
     by true = p.named
     by false = own_volume_good app point.name a p.named
 
-mounts_good : (options : Options) (app : List ℕ) (points : List MountPoint) → AreOptions options → IsAcName app → All IsMountPoint points
+mounts_good : (options : Wishes) (app : List ℕ) (points : List MountPoint) → AreWishes options → IsAcName app → All IsMountPoint points
     → All IsMount (mounts_of options app points)
 mounts_good options app points o a p =
     let made = new_of_each (λ (m : MountPoint). m.path) (mount_paths options.mounts) points in
@@ -49,7 +49,7 @@ points_good : (o : Option App) → IfSome (option_map app_data o) IsApp → All 
 points_good None h = All-nil IsMountPoint
 points_good (Some app) h = h.mounts
 
-app_good : (options : Options) (image : Stored) → AreOptions options → IsImageId image.id → IsImage image → IsRuntimeApp (app_of options image)
+app_good : (options : Wishes) (image : Stored) → AreWishes options → IsImageId image.id → IsImage image → IsRuntimeApp (app_of options image)
 app_good options image o id m =
     let name : IsAcName (name_of image) = app_name_good image.manifest.name m.named in
     record {
@@ -60,7 +60,7 @@ app_good options image o id m =
       remarks = All-nil IsAnnotation;
     }
 
-apps_good : (options : Options) (images : List Stored) → AreOptions options
+apps_good : (options : Wishes) (images : List Stored) → AreWishes options
     → All (λ (a : RuntimeAppData). IsImageId a.image.id) (map (app_of options) images) → All IsImage images
     → All IsRuntimeApp (map (app_of options) images)
 apps_good options [] o ids are = All-nil IsRuntimeApp
@@ -70,7 +70,7 @@ apps_good options (image ∷ images) o ids are =
     (app_good options image o (All-head HasId (app_of options image) (map (app_of options) images) ids) (All-head IsImage image images are))
     (apps_good options images o (All-tail HasId (app_of options image) (map (app_of options) images) ids) (All-tail IsImage image images are))
 
-names_of_apps : (options : Options) (images : List Stored) → map (λ (a : RuntimeAppData). a.name) (map (app_of options) images) ≡ map name_of images
+names_of_apps : (options : Wishes) (images : List Stored) → map (λ (a : RuntimeAppData). a.name) (map (app_of options) images) ≡ map name_of images
 names_of_apps options [] = refl
 names_of_apps options (image ∷ images) = ap (λ (ns : List (List ℕ)). name_of image ∷ ns) (names_of_apps options images)
 
@@ -89,7 +89,7 @@ empty_good name n =
     let none : 0 ≤ 4294967295 = omega arith in
     record { named = n; where_it_is = (refl, none, none) }
 
-volumes_good : (options : Options) (apps : List RuntimeAppData) → AreOptions options → All IsRuntimeApp apps
+volumes_good : (options : Wishes) (apps : List RuntimeAppData) → AreWishes options → All IsRuntimeApp apps
     → All IsVolume (volumes_of options apps)
 volumes_good options apps o are =
     let names = new_of_each (λ (n : List ℕ). n) (volume_names options.volumes) (mounted apps) in
@@ -98,7 +98,7 @@ volumes_good options apps o are =
     (All-weaker IsAcName (λ (n : List ℕ). IsVolume (empty_volume n)) empty_good names
     (all_new IsAcName (λ (n : List ℕ). n) (volume_names options.volumes) (mounted apps) (names_mounted apps are))))
 
-volumes_apart : (options : Options) (apps : List RuntimeAppData) → AreOptions options → HaveNames (λ (v : Volume). v.name) (volumes_of options apps)
+volumes_apart : (options : Wishes) (apps : List RuntimeAppData) → AreWishes options → HaveNames (λ (v : Volume). v.name) (volumes_of options apps)
 volumes_apart options apps o =
     let known = volume_names options.volumes in
     let names = new_of_each (λ (n : List ℕ). n) known (mounted apps) in
@@ -110,7 +110,7 @@ volumes_apart options apps o =
 
 -- ---- the whole
 
-pub pod_good : (options : Options) (images : List Stored) → first_fault [] images ≡ None → AreOptions options
+pub pod_good : (options : Wishes) (images : List Stored) → first_fault [] images ≡ None → AreWishes options
     → All (λ (a : RuntimeAppData). IsImageId a.image.id) (map (app_of options) images) → All IsImage images
     → IsPodManifest (pod_with options (map (app_of options) images))
 pod_good options images none o ids are =

@@ -17,7 +17,7 @@ use Rattle.pod_manifest.specs.AppNames.{app_name, own_volume}
 use Rattle.pod_manifest.specs.FirstOfEach.{new_of_each}
 use Rattle.pod_manifest.specs.declared.gen_error.GenError.{GenError}
 use Rattle.pod_manifest.specs.declared.gen_error.GenError.TheVariants.{TooManyApps, NoApp, NoExec, AppTwice, NoVolume, NoMemory}
-use Rattle.pod_manifest.specs.declared.options.Options.{Options}
+use Rattle.pod_manifest.specs.Wishes.{Wishes}
 use Rattle.pod_manifest.specs.declared.refusals.TheConstants.{MAX_APPS}
 
 -- the images at some places of a list
@@ -44,14 +44,14 @@ abbrev pub mount_paths : List Mount → List (List ℕ)
 mount_paths mounts = map (λ (m : Mount). m.path) mounts
 
 -- what a mount point of an app gets: the volume of its name that was asked for, or else one that is made for it
-abbrev pub mount_at : Options → List ℕ → MountPoint → Mount
+abbrev pub mount_at : Wishes → List ℕ → MountPoint → Mount
 mount_at options app point = record {
   volume = if has_volume options.volumes point.name then point.name else own_volume app point.name;
   path = point.path;
 }
 
 -- the mounts of an app: those that were asked for, and then one for each mount point whose path no mount before has
-abbrev pub mounts_of : Options → List ℕ → List MountPoint → List Mount
+abbrev pub mounts_of : Wishes → List ℕ → List MountPoint → List Mount
 mounts_of options app points =
     options.mounts ++ map (mount_at options app) (new_of_each (λ (p : MountPoint). p.path) (mount_paths options.mounts) points)
 
@@ -60,7 +60,7 @@ abbrev pub runtime_image : Stored → RuntimeImage
 runtime_image image = record { id = image.id; name = Some image.manifest.name; labels = image.manifest.labels }
 
 -- an image's app in the pod
-abbrev pub app_of : Options → Stored → RuntimeAppData
+abbrev pub app_of : Wishes → Stored → RuntimeAppData
 app_of options image = record {
   name = name_of image;
   image = runtime_image image;
@@ -79,12 +79,12 @@ abbrev pub mounted : List RuntimeAppData → List (List ℕ)
 mounted apps = flat_map (λ (a : RuntimeAppData). map (λ (m : Mount). m.volume) a.mounts) apps
 
 -- the volumes of a pod: those that were asked for, and then each other that an app has mounted, once
-abbrev pub volumes_of : Options → List RuntimeAppData → List Volume
+abbrev pub volumes_of : Wishes → List RuntimeAppData → List Volume
 volumes_of options apps =
     options.volumes ++ map empty_volume (new_of_each (λ (n : List ℕ). n) (volume_names options.volumes) (mounted apps))
 
 -- the pod manifest of apps
-abbrev pub pod_with : Options → List RuntimeAppData → PodData
+abbrev pub pod_with : Wishes → List RuntimeAppData → PodData
 pod_with options apps = record {
   ac_version = codes "0.8.0";
   apps = apps;
@@ -95,7 +95,7 @@ pod_with options apps = record {
 }
 
 -- the pod manifest of the images at some places
-abbrev pub pod_of : List Stored → List ℕ → Options → PodData
+abbrev pub pod_of : List Stored → List ℕ → Wishes → PodData
 pod_of images picks options = pod_with options (map (app_of options) (picked images picks))
 
 -- why an image has no app in a pod in which the apps before it have these names
@@ -119,11 +119,11 @@ first_fault names (image ∷ images) = option_or (image_fault names image) (firs
 abbrev pub lacks_volume : List Volume → Mount → Bool
 lacks_volume volumes mount = not (has_volume volumes mount.volume)
 
-abbrev pub mount_fault : Options → Option GenError
+abbrev pub mount_fault : Wishes → Option GenError
 mount_fault options = option_map (λ (m : Mount). NoVolume m.volume) (find (lacks_volume options.volumes) options.mounts)
 
 -- the first reason why the images at some places have no pod manifest
-abbrev pub first_refusal : List Stored → List ℕ → Options → Option GenError
+abbrev pub first_refusal : List Stored → List ℕ → Wishes → Option GenError
 first_refusal images picks options =
     if nat_lt MAX_APPS (length picks) then Some TooManyApps
     else option_or (first_fault [] (picked images picks)) (mount_fault options)

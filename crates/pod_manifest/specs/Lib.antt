@@ -5,6 +5,7 @@ pub mod Generation
 pub mod Inputs
 pub mod Mounted
 pub mod RefusalNumbers
+pub mod Wishes
 pub use Rattle.ac_types.specs.Names
 pub use Rattle.ac_types.specs.SeenTexts
 pub use Rattle.manifests.specs.ManifestRules

@@ -3,6 +3,7 @@
 ghost use Rattle.std.specs.Prelude.{◌≡◌, ◌<◌, ◌++◌, ◌∷◌, [], ℕ, List, None, MatchResult, OnOk, length};
 ghost use Rattle.std.specs.List.{All};
 ghost use Rattle.ac_types.specs.SeenTexts.{HasSeen};
+ghost use Rattle.pod_manifest.specs.Wishes.{AreWishes};
 ghost use Rattle.pod_manifest.specs.Generation.{first_fault, image_fault, mount_fault, name_of, picked, IsRefusal};
 
 use crate::app_names::app_name;
@@ -49,10 +50,11 @@ fn check_image(alloc: Global, image: &Stored, seen: &mut SeenTexts) -> Result<()
 
 /// The first mount that was asked for of a volume that was not.
 pub(crate) fn check_mounts(options: &Options) -> Result<(), GenError>
-    ensures { MatchResult result (λ _. mount_fault options.now ≡ None) (IsRefusal (mount_fault options.now)) }
+    ensures fault { MatchResult result (λ _. mount_fault options.now ≡ None) (IsRefusal (mount_fault options.now)) }
+    ensures kind { AreWishes options.now }
 {
-    let volumes = options.volumes.as_slice();
-    let mounts = options.mounts.as_slice();
+    let volumes = options.volumes();
+    let mounts = options.mounts();
     for mount in mounts {
         if !has_volume(volumes, mount.volume.as_str()) {
             return Err(GenError::NoVolume(mount.volume.copy()?));

@@ -5,7 +5,7 @@ ghost use Rattle.std.specs.List.{All};
 ghost use Rattle.manifests.specs.ManifestRules.{IsPodManifest};
 ghost use Rattle.manifests.specs.PodData.{pod_data, runtime_app_data};
 ghost use Rattle.pod_manifest.specs.Generation.{first_refusal, picked, pod_of, pod_with, IsRefusal};
-ghost use Rattle.pod_manifest.specs.Inputs.{AreOptions, IsImage};
+ghost use Rattle.pod_manifest.specs.Inputs.{IsImage};
 ghost use Rattle.pod_manifest.specs.Mounted.{HasItsMounts, HasItsVolumes};
 
 use crate::checks::{check_images, check_mounts};
@@ -40,7 +40,7 @@ pub fn generate(
     ensures accepted { IfOk result (λ _. first_refusal list.now picks.now options.now ≡ None) }
     ensures volumes { IfOk result (λ pod. HasItsVolumes (pod_data pod)) }
     ensures mounts { IfOk result (λ pod. HasItsMounts (picked list.now picks.now) (pod_data pod)) }
-    ensures manifest { IfOk result (λ pod. All IsImage (picked list.now picks.now) → AreOptions options.now → IsPodManifest (pod_data pod)) }
+    ensures manifest { IfOk result (λ pod. All IsImage (picked list.now picks.now) → IsPodManifest (pod_data pod)) }
     ensures err { IfErr result (IsRefusal (first_refusal list.now picks.now options.now)) }
 {
     if picks.len() > MAX_APPS {

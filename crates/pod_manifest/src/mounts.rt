@@ -9,7 +9,7 @@ ghost use Rattle.pod_manifest.specs.Generation.{has_volume, mount_at, mount_path
 
 use crate::app_names::own_volume;
 use crate::options::Options;
-use ac_types::{AcName, NoMemory, SeenTexts};
+use ac_types::{AcName, NoMemory, SeenTexts, Sequence};
 use app_section::MountPoint;
 use manifests::{Mount, Mounts, Volume};
 use std::alloc::Global;
@@ -24,8 +24,9 @@ pub(crate) fn mounts_of(
 ) -> Result<Mounts, NoMemory>
     ensures { IfOk result (λ mounts. mounts ≡ mounts_of options.now app.now points.now) }
 {
-    let mut seen = paths_of(alloc, options.mounts.as_slice())?;
-    let mut mounts = options.mounts.copy()?;
+    let asked = options.mounts();
+    let mut seen = paths_of(alloc, asked)?;
+    let mut mounts = Sequence::of(alloc, asked)?;
     for point in points {
         mounts = with_point(alloc, options, app, point, &mut seen, mounts)?;
     }
@@ -71,7 +72,7 @@ fn mount_at(
     ensures { IfOk result (λ mount. mount ≡ mount_at options.now app.now point.now) }
 {
     let path = point.path.copy()?;
-    let volume = if has_volume(options.volumes.as_slice(), point.name.as_str()) {
+    let volume = if has_volume(options.volumes(), point.name.as_str()) {
         point.name.copy()?
     } else {
         own_volume(alloc, app, &point.name)?

@@ -8,7 +8,7 @@ ghost use Rattle.pod_manifest.specs.FirstOfEach.{new_of_each};
 ghost use Rattle.pod_manifest.specs.Generation.{empty_volume, volume_names, volumes_of};
 
 use crate::options::Options;
-use ac_types::{AcName, NoMemory, SeenTexts, Text};
+use ac_types::{AcName, NoMemory, SeenTexts, Sequence, Text};
 use manifests::{Mount, RuntimeApp, Volume, VolumeKind, Volumes};
 use std::alloc::Global;
 
@@ -21,8 +21,9 @@ pub(crate) fn volumes_of(
 ) -> Result<Volumes, NoMemory>
     ensures { IfOk result (λ volumes. volumes ≡ volumes_of options.now (map runtime_app_data apps.now)) }
 {
-    let mut seen = names_of(alloc, options.volumes.as_slice())?;
-    let mut volumes = options.volumes.copy()?;
+    let asked = options.volumes();
+    let mut seen = names_of(alloc, asked)?;
+    let mut volumes = Sequence::of(alloc, asked)?;
     for app in apps {
         volumes = with_mounted(alloc, app.mounts.as_slice(), &mut seen, volumes)?;
     }

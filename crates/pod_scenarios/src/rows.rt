@@ -1,11 +1,13 @@
 //! Images, wishes and what comes of them.
 
-ghost use Rattle.std.specs.Prelude.{◌<◌, IfOk};
+ghost use Rattle.std.specs.Prelude.{◌<◌, IfOk, map};
 ghost use Rattle.std.specs.List.{All};
+ghost use Rattle.manifests.specs.ManifestRules.{IsMount, IsPodManifest, IsRuntimeApp};
+ghost use Rattle.manifests.specs.PodData.{pod_data, runtime_app_data};
 
-use ac_types::{AcName, ImageId, NoMemory, Sequence, StoreKey, Text};
+use ac_types::{ImageId, NoMemory, Sequence, StoreKey};
 use dep_match::Stored;
-use manifests::{Mount, Mounts, PodManifest, Volume, VolumeKind, Volumes, read_image};
+use manifests::{Mounts, PodManifest, RuntimeApp, read_image, read_pod};
 use pod_manifest::{GenError, Options, generate};
 use std::alloc::Global;
 use std::test::Fail;
@@ -15,6 +17,10 @@ pub(crate) type ImageRow = (u8, &'static str);
 
 /// A name, and a place.
 pub(crate) type NamedPlace = (&'static str, &'static str);
+
+/// What stands before the mounts of a pod's one app.
+const POD: &str =
+    "{\"acKind\":\"PodManifest\",\"acVersion\":\"0.8.0\",\"apps\":[{\"name\":\"x\",\"image\":{\"id\":\"sha512-00000000000000000000000000000000000000000000000000000000000000000000000000000000000000000000000000000000000000000000000000000000\"},\"mounts\":[";
 
 /// The images of some rows.
 pub(crate) fn images(alloc: Global, rows: &[ImageRow]) -> Result<Vec<Stored>, Fail> {
@@ -41,45 +47,62 @@ pub(crate) fn options(
     volumes: &[NamedPlace],
     mounts: &[NamedPlace],
 ) -> Result<Options, Fail> {
+    let text = pod_text(alloc, volumes, mounts)?;
+    let pod = read_pod(alloc, text.as_bytes())?;
+    Ok(asked(alloc, pod)?)
+}
+
+/// The volumes of a pod, and the mounts of its first app.
+fn asked(alloc: Global, pod: PodManifest) -> Result<Options, NoMemory>
+    requires { IsPodManifest (pod_data pod) }
+{
+    let mounts = first_mounts(alloc, pod.apps.as_slice())?;
     Ok(Options {
-        volumes: volumes_of(alloc, volumes)?,
-        mounts: mounts_of(alloc, mounts)?,
+        volumes: pod.volumes,
+        mounts,
     })
 }
 
-fn volumes_of(alloc: Global, rows: &[NamedPlace]) -> Result<Volumes, Fail> {
-    let mut volumes = Sequence::new(alloc);
-    for &(name, place) in rows {
-        let name = AcName::parse(alloc, name)?;
-        let kind = kind_of(alloc, place)?;
-        volumes = volumes.push(Volume { name, kind })?;
+fn first_mounts(alloc: Global, apps: &[RuntimeApp]) -> Result<Mounts, NoMemory>
+    requires { All IsRuntimeApp (map runtime_app_data apps.now) }
+    ensures { IfOk result (λ mounts. All IsMount mounts) }
+{
+    if apps.is_empty() {
+        return Ok(Sequence::new(alloc));
     }
-    Ok(volumes)
+    apps[0].mounts.copy()
 }
 
-fn kind_of(alloc: Global, place: &str) -> Result<VolumeKind, NoMemory> {
+/// The text of a pod with these volumes, and with an app that has these mounts.
+fn pod_text(
+    alloc: Global,
+    volumes: &[NamedPlace],
+    mounts: &[NamedPlace],
+) -> Result<String, NoMemory> {
+    let mut text = String::from_str(alloc, POD)?;
+    for (i, &(volume, path)) in mounts.iter().enumerate() {
+        text.push_str(if i == 0 { "" } else { "," })?;
+        text.push_str(mount_text(alloc, volume, path)?.as_str())?;
+    }
+    text.push_str("]}],\"volumes\":[")?;
+    for (i, &(name, place)) in volumes.iter().enumerate() {
+        text.push_str(if i == 0 { "" } else { "," })?;
+        text.push_str(volume_text(alloc, name, place)?.as_str())?;
+    }
+    text.push_str("]}")?;
+    Ok(text)
+}
+
+fn mount_text(alloc: Global, volume: &str, path: &str) -> Result<String, NoMemory> {
+    Ok(format!(in alloc; "{{\"volume\":\"{volume}\",\"path\":\"{path}\"}}")?)
+}
+
+fn volume_text(alloc: Global, name: &str, place: &str) -> Result<String, NoMemory> {
     if place.is_empty() {
-        Ok(VolumeKind::Empty {
-            mode: Text::of(alloc, "0755")?,
-            uid: 0,
-            gid: 0,
-        })
+        Ok(format!(in alloc; "{{\"name\":\"{name}\",\"kind\":\"empty\"}}")?)
     } else {
-        Ok(VolumeKind::Host {
-            source: Text::of(alloc, place)?,
-            read_only: false,
-        })
+        Ok(format!(in alloc; "{{\"name\":\"{name}\",\"kind\":\"host\",\"source\":\"{place}\"}}")?)
     }
-}
-
-fn mounts_of(alloc: Global, rows: &[NamedPlace]) -> Result<Mounts, Fail> {
-    let mut mounts = Sequence::new(alloc);
-    for &(volume, path) in rows {
-        let volume = AcName::parse(alloc, volume)?;
-        let path = Text::of(alloc, path)?;
-        mounts = mounts.push(Mount { volume, path })?;
-    }
-    Ok(mounts)
 }
 
 /// Those of the places that are below a length.

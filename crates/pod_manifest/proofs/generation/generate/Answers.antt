@@ -26,12 +26,12 @@ returns-clause-mounts c =
     subst P (sym is) (mounts_there c.args.options.now images)
 
 pub returns-clause-manifest : goal.returns-clause-manifest
-returns-clause-manifest c = λ are wished.
+returns-clause-manifest c = λ are.
     let images = picked c.args.list.now c.args.picks.now in
     let is : pod_data c.in_ok-pod_with.field-0 ≡ pod_with c.args.options.now (map (app_of c.args.options.now) images) =
     c.in_ok-pod_with.ensures ∙ ap (pod_with c.args.options.now) c.in_ok-apps.ensures.apps in
     let P : PodData → Type 0 = λ pod. IsPodManifest pod in
     let HaveIds : List RuntimeAppData → Type 0 = λ apps. All (λ (a : RuntimeAppData). IsImageId a.image.id) apps in
     subst P (sym is)
-    (pod_good c.args.options.now images c.in_ok-check_images.ensures wished
+    (pod_good c.args.options.now images c.in_ok-check_images.ensures c.check_mounts.ensures.kind
     (subst HaveIds c.in_ok-apps.ensures.apps c.in_ok-apps.ensures.ids) are)

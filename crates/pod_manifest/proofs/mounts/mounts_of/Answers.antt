@@ -11,8 +11,8 @@ pub loop-point-init : goal.loop-point-init
 loop-point-init c =
     let P : List (List ℕ) → Type 0 = λ ks. HasSeen c.in_ok-seen.seen ks in
     record {
-      built = c.in_ok-mounts.ensures ∙ sym (append-nil c.args.options.now.mounts);
-      seen = subst P (ap mount_paths c.as_slice.ensures ∙ sym (append-nil (mount_paths c.args.options.now.mounts))) c.in_ok-seen.ensures;
+      built = c.in_ok-mounts.ensures ∙ c.mounts-asked.ensures.mounts ∙ sym (append-nil c.args.options.now.mounts);
+      seen = subst P (ap mount_paths c.mounts-asked.ensures.mounts ∙ sym (append-nil (mount_paths c.args.options.now.mounts))) c.in_ok-seen.ensures;
     }
 
 pub loop-point-preserved : goal.loop-point-preserved

@@ -13,8 +13,8 @@ pub loop-app-init : goal.loop-app-init
 loop-app-init c =
     let P : List (List ℕ) → Type 0 = λ ks. HasSeen c.in_ok-seen.seen ks in
     record {
-      built = c.in_ok-volumes.ensures ∙ sym (append-nil c.args.options.now.volumes);
-      seen = subst P (ap volume_names c.as_slice.ensures ∙ sym (append-nil (volume_names c.args.options.now.volumes))) c.in_ok-seen.ensures;
+      built = c.in_ok-volumes.ensures ∙ c.volumes-asked.ensures.volumes ∙ sym (append-nil c.args.options.now.volumes);
+      seen = subst P (ap volume_names c.volumes-asked.ensures.volumes ∙ sym (append-nil (volume_names c.args.options.now.volumes))) c.in_ok-seen.ensures;
     }
 
 pub loop-app-preserved : goal.loop-app-preserved
@@ -26,7 +26,7 @@ loop-app-preserved c =
     let names = volumes (runtime_app_data c.app-item.result) in
     let more : mounted (map runtime_app_data (take (i + 1) c.args.apps.now)) ≡ before ++ names =
     joined_more runtime_app_data volumes c.args.apps.now i c.app-item.result c.loop-app-test.true c.app-item.is in
-    let list : c.as_slice-in-loop-app.result.now ≡ c.app-item.result.mounts = c.as_slice-in-loop-app.ensures in
+    let list : c.as_slice.result.now ≡ c.app-item.result.mounts = c.as_slice.ensures in
     let Has : List (List ℕ) → Type 0 = λ ns. HasSeen c.with_mounted.new.seen ((known ++ before) ++ ns) in
     record {
       built =
