@@ -22,8 +22,7 @@ use std::alloc::Global;
 /// The pod manifest of the images at some places of a list. Each is an app of the pod, in their
 /// order, with the mounts that were asked for and one for each of its mount points whose path no
 /// mount before has. The volumes are those that were asked for, and an empty one for each mount
-/// that needs another. Where the images' manifests are manifests and what was asked for may stand
-/// in one, so may what is answered.
+/// that needs another. Where the images' manifests are manifests, so is what is answered.
 ///
 /// The first refusal otherwise: `TooManyApps` for more than 64 places; at each image in turn
 /// `NoApp` where it has no app, `NoExec` where its app runs no program, `AppTwice` where an earlier

@@ -1,7 +1,6 @@
 //! The mounts of an app.
 
 ghost use Rattle.std.specs.Prelude.{◌≡◌, ◌++◌, ◌∷◌, [], ℕ, List, IfOk, OnOk, map};
-ghost use Rattle.std.specs.List.{list_any};
 ghost use Rattle.ac_types.specs.SeenTexts.{HasSeen};
 ghost use Rattle.app_section.specs.declared.mount_point.MountPoint.{MountPoint};
 ghost use Rattle.pod_manifest.specs.FirstOfEach.{new_of_each};
