@@ -1,0 +1,15 @@
+pub mod Apps
+pub mod AppsApart
+pub mod Built
+pub mod Distinct
+pub mod FirstOfEach
+pub mod FoundMounts
+pub mod LastWords
+pub mod Mounted
+pub mod Names
+pub mod Picks
+pub mod PodManifests
+pub mod Present
+pub mod Version
+pub mod VolumeNames
+pub mod Words

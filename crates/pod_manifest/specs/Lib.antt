@@ -1,0 +1,12 @@
+pub mod AppNames
+pub mod ErrorTexts
+pub mod FirstOfEach
+pub mod Generation
+pub mod Inputs
+pub mod Mounted
+pub mod RefusalNumbers
+pub mod Wishes
+pub use Rattle.ac_types.specs.Names
+pub use Rattle.ac_types.specs.SeenTexts
+pub use Rattle.manifests.specs.ManifestRules
+pub use Rattle.manifests.specs.PodData
