@@ -3,3 +3,4 @@ pub mod OpenFolders
 pub mod Setup
 pub mod Refusals
 pub mod Readings
+pub mod Shown

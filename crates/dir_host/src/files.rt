@@ -100,8 +100,9 @@ fn read_part(file: &File, at: u64, room: &mut [u8]) -> io::Result<usize>
     Err(io::Error::from(ErrorKind::Interrupted))
 }
 
-/// Fills the room with the bytes of the file from a place on, and answers how many it filled.
-fn read_from(file: &File, at: u64, room: &mut [u8]) -> Result<usize, BundleError>
+/// Fills the room with the bytes of the file from a place on, and answers how many it filled: fewer
+/// than the room has only where the system gave none more.
+pub fn read_from(file: &File, at: u64, room: &mut [u8]) -> io::Result<usize>
     ensures { IfOk result (λ n. n ≤ length room.old) }
 {
     let mut count = 0;
@@ -109,7 +110,7 @@ fn read_from(file: &File, at: u64, room: &mut [u8]) -> Result<usize, BundleError
         match read_part(file, at.saturating_add(count as u64), &mut room[count..]) {
             Ok(0) => return Ok(count),
             Ok(more) => count += more,
-            Err(error) => return Err(refusal(error)),
+            Err(error) => return Err(error),
         }
     }
     Ok(count)
@@ -133,14 +134,14 @@ pub fn read_file<R: Files<File = File>>(
         Ok(file) => {
             let count = read_from(&file.file, at, room);
             *opened = Some(file);
-            count
+            count.map_err(refusal)
         }
         Err(error) => Err(error),
     }
 }
 
 /// Writes the bytes over the front of the room, as far as they fit, and answers how many did.
-fn fill(room: &mut [u8], bytes: &[u8]) -> usize
+pub fn fill(room: &mut [u8], bytes: &[u8]) -> usize
     ensures count { result ≡ min (length bytes.now) (length room.old) }
     ensures room { room.new ≡ take result bytes.now ++ drop result room.old }
 {

@@ -1,4 +1,4 @@
-// The folders that this process has open, the newest last.
+// What this process has open for locks, the newest last: folders, files `pod`, areas.
 ghost use Rattle.std.specs.Prelude.{◌≡◌, ◌++◌, ◌∷◌, [], map, filter, find, not, true, false, None, IfSome, IfOk, IfErr, OnErr};
 ghost use Rattle.std.specs.List.{list_any};
 ghost use Rattle.std.specs.Option.{option_copied};
@@ -9,7 +9,7 @@ ghost use Rattle.dir_host.specs.OpenFolders.{holdings_of};
 use dir_trait::{DirError, Handle, Holding, Mode, Spot, Target, Which};
 use std::fs::File;
 
-/// An open folder. Its lock is given up where it is dropped.
+/// An open folder, a file `pod` or an area. Its lock is given up where it is dropped.
 #[derive(Drop)]
 pub struct OpenFolder {
     pub holding: Holding,
@@ -47,24 +47,21 @@ pub fn folder_of<'a>(folders: &'a [OpenFolder], handle: Handle) -> Option<&'a Op
         .find(|f| f.holding.handle.number == handle.number)
 }
 
-fn target_of(spot: &Spot, which: Which) -> Target
+/// What is opened for a lock of the folder at a location.
+pub fn target_of(spot: &Spot, which: Which) -> Target
     ensures { result ≡ target_of spot.now which }
 {
     match which {
         Which::Own => Target::Own(*spot),
+        Which::Claim => Target::Claim(*spot),
     }
 }
 
-/// Keeps an open folder under a new handle. Where memory is short the folder is closed again.
-pub fn keep(
-    folders: &mut Vec<OpenFolder>,
-    folder: File,
-    spot: &Spot,
-    which: Which,
-) -> Result<Handle, DirError>
+/// Keeps what was opened under a new handle. Where memory is short it is closed again.
+pub fn keep(folders: &mut Vec<OpenFolder>, folder: File, target: Target) -> Result<Handle, DirError>
     ensures unopened { IfOk result (λ handle. is_open_among handle (holdings_of folders.old.items) ≡ false) }
     ensures kept { IfOk result (λ handle. holdings_of folders.new.items
-        ≡ holdings_of folders.old.items ++ record { handle = handle; target = target_of spot.now which; lock = None } ∷ []) }
+        ≡ holdings_of folders.old.items ++ record { handle = handle; target = target; lock = None } ∷ []) }
     ensures only { IfErr result (λ e. e ≡ DirError.NoMemory) }
     ensures refused { OnErr result (holdings_of folders.new.items ≡ holdings_of folders.old.items) }
 {
@@ -73,7 +70,7 @@ pub fn keep(
     };
     let holding = Holding {
         handle,
-        target: target_of(spot, which),
+        target,
         lock: None,
     };
     match folders.push(OpenFolder { holding, folder }) {

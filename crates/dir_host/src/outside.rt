@@ -49,7 +49,7 @@ impl From<io::Error> for SetupError {
 
 /// What a command is run with: the moment in seconds, random bytes, and the data folder.
 #[derive(Drop)]
-pub struct Outside<R: Files<File = File> + Drop> {
+pub struct Outside<R: Files<File = File> + AllocGlobal + Clone + Drop> {
     pub now: u64,
     pub draw: Draw,
     pub dir: HostDir<R>,
@@ -142,7 +142,7 @@ fn draw_random<R: Files>(rt: &R) -> Result<Draw, SetupError>
 
 /// Finds the data folder and makes its missing areas, reads the clock and draws random bytes. The
 /// directory is that of a process with this number, which hasn't begun.
-pub fn assemble<R: Files<File = File> + Env + Clock + AllocGlobal + Drop>(
+pub fn assemble<R: Files<File = File> + Env + Clock + AllocGlobal + Clone + Drop>(
     rt: R,
     process: u32,
 ) -> Result<Outside<R>, SetupError>
