@@ -52,6 +52,19 @@ fn shown_items(alloc: Global, items: &BundleItems) -> Result<Vec<Item>, AllocErr
     items.as_slice().iter().map(shown_item).collect(alloc)
 }
 
+/// What a listing of the folder tells, in the same order.
+fn shown_listing(alloc: Global, listing: &BundleItems) -> Result<Items, DirError>
+    requires { IsListing listing.now }
+    ensures items { IfOk result (λ items. items ≡ map shown_item listing.now) }
+    ensures ordered { IfOk result (λ items. IsStrictlySortedBy (slice_cmp nat_cmp) (item_names items)) }
+    ensures refusals { IfErr result (λ e. e ≡ DirError.NoMemory) }
+{
+    match shown_items(alloc, listing) {
+        Ok(items) => Ok(Sequence::from_vec(items)),
+        Err(error) => Err(short(error)),
+    }
+}
+
 /// The entries of an open directory, which is read through its descriptor: so they are told also where
 /// the folder is moved meanwhile.
 fn list_opened<R: Files + AllocGlobal + Clone + Drop>(
@@ -80,8 +93,7 @@ pub fn list_inside<R: Files<File = File> + AllocGlobal + Clone + Drop>(
 {
     let directory = open_dir(rt, alloc, root, spot, inner)?;
     let listing = list_opened(rt, alloc, &directory)?;
-    let items = shown_items(alloc, &listing).map_err(short)?;
-    Ok(Sequence::from_vec(items))
+    shown_listing(alloc, &listing)
 }
 
 /// The names of directories among the entries of an area.
