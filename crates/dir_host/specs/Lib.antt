@@ -4,3 +4,4 @@ pub mod Setup
 pub mod Refusals
 pub mod Readings
 pub mod Shown
+pub mod LockAnswers

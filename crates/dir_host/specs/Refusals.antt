@@ -1,8 +1,10 @@
--- What a failure of the system means for a bundle, and for the data folder.
+-- What a failure of the system means for a bundle, for a stream, and for the data folder.
 use Rattle.std.specs.declared.io.ErrorKind.{ErrorKind}
 use Rattle.std.specs.declared.io.ErrorKind.TheVariants.{NotFound, AlreadyExists, NotADirectory, IsADirectory, DirectoryNotEmpty, OutOfMemory}
 use Rattle.dir_trait.specs.declared.bundle.BundleError.{BundleError}
 use Rattle.dir_trait.specs.declared.bundle.BundleError.TheVariants.{Missing, Failed, NoMemory}
+use Rattle.dir_trait.specs.declared.sink.SinkError.{SinkError}
+use Rattle.dir_trait.specs.declared.sink.SinkError.TheVariants as sink
 use Rattle.dir_model.specs.declared.request.DirError.{DirError}
 use Rattle.dir_model.specs.declared.request.DirError.TheVariants as dir
 
@@ -13,6 +15,10 @@ bundle_error NotADirectory = Missing
 bundle_error IsADirectory = Missing
 bundle_error OutOfMemory = NoMemory
 bundle_error _ = Failed
+
+abbrev pub sink_error : ErrorKind → SinkError
+sink_error OutOfMemory = sink.NoMemory
+sink_error _ = sink.Failed
 
 -- memory ran out, or the system failed
 abbrev pub fault_error : ErrorKind → DirError

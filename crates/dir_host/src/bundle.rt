@@ -1,5 +1,5 @@
 // The files of the host are a `Bundle`.
-ghost use Rattle.std.specs.Prelude.{◌≡◌, ◌≢◌, ◌≤◌, ◌+◌, [], codes};
+ghost use Rattle.std.specs.Prelude.{◌≡◌, ◌≢◌, ◌≤◌, ◌+◌, ◌-◌, ◌^◌, min, [], codes};
 ghost use Rattle.dir_model.specs.Causes.{Rose};
 
 use crate::files::{OpenedFile, list_folder, read_file, read_target};
@@ -36,8 +36,7 @@ impl<R: Files<File = File> + AllocGlobal + Clone + Drop> HostBundle<R> {
 fn counted(faults: &mut u64, error: BundleError) -> BundleError
     ensures same { result ≡ error }
     ensures kept { faults.old ≤ faults.new }
-    ensures rose { error ≡ BundleError.Failed → Rose faults.old faults.new }
-    ensures once { error ≡ BundleError.Failed → faults.new ≤ faults.old + 1 }
+    ensures once { error ≡ BundleError.Failed → faults.new ≡ min (faults.old + 1) (2 ^ 64 - 1) }
     ensures calm { error ≢ BundleError.Failed → faults.new ≡ faults.old }
 {
     if error == BundleError::Failed {

@@ -1,5 +1,5 @@
 // A folder of the host is a `Dir`.
-ghost use Rattle.std.specs.Prelude.{◌≡◌, ◌≢◌, ◌≤◌, ◌+◌, [], true, false, IsErrOf, IfErr};
+ghost use Rattle.std.specs.Prelude.{◌≡◌, ◌≢◌, ◌≤◌, ◌+◌, ◌-◌, ◌^◌, min, [], true, false, IsErrOf, IfErr};
 ghost use Rattle.dir_model.specs.Causes.{Rose};
 ghost use Rattle.dir_model.specs.Local.{nothing_local};
 
@@ -46,8 +46,7 @@ impl<R: Files<File = File> + AllocGlobal + Clone + Drop> HostDir<R> {
 fn counted(faults: &mut u64, error: DirError) -> DirError
     ensures same { result ≡ error }
     ensures kept { faults.old ≤ faults.new }
-    ensures rose { error ≡ DirError.Failed → Rose faults.old faults.new }
-    ensures once { error ≡ DirError.Failed → faults.new ≤ faults.old + 1 }
+    ensures once { error ≡ DirError.Failed → faults.new ≡ min (faults.old + 1) (2 ^ 64 - 1) }
     ensures calm { error ≢ DirError.Failed → faults.new ≡ faults.old }
 {
     if error == DirError::Failed {

@@ -1,6 +1,6 @@
 // What the system is asked of the files of a bundle. Nothing here counts faults: `Failed` is counted by
 // the bundle that hands it on.
-ghost use Rattle.std.specs.Prelude.{◌≡◌, ◌≤◌, ◌++◌, ◌↔◌, min, length, take, drop, string_bytes, IsOk, IfOk, IfErr, OnOk, IsSomeAnd};
+ghost use Rattle.std.specs.Prelude.{◌≡◌, ◌≢◌, ◌≤◌, ◌++◌, ◌↔◌, min, length, take, drop, string_bytes, IsOk, IfOk, IfErr, OnOk, IsSomeAnd};
 ghost use Rattle.std.specs.Fs.{file_type, IsDir, IsFile, IsSymlink};
 ghost use Rattle.std.specs.IoError.{error_kind};
 ghost use Rattle.dir_trait.specs.Bundles.{IsListing};
@@ -188,6 +188,19 @@ fn kind_of(kind: FileType) -> BundleKind
     }
 }
 
+/// What the system told of an entry's kind. None where the entry has gone since.
+fn told_kind(told: io::Result<FileType>) -> Result<Option<FileType>, BundleError>
+    ensures told { IfOk told (λ kind. result ≡ Ok (Some kind)) }
+    ensures gone { IfErr told (λ e. error_kind e ≡ ErrorKind.NotFound → result ≡ Ok None) }
+    ensures refused { IfErr told (λ e. error_kind e ≢ ErrorKind.NotFound → result ≡ Err (bundle_error (error_kind e))) }
+{
+    match told {
+        Ok(kind) => Ok(Some(kind)),
+        Err(error) if error.kind() == ErrorKind::NotFound => Ok(None),
+        Err(error) => Err(refusal(error)),
+    }
+}
+
 /// Adds an entry of a directory, unless it has gone since.
 fn add<R: Files + Clone + Drop>(
     kinds: &mut BTreeMap<FileName, BundleKind>,
@@ -196,13 +209,12 @@ fn add<R: Files + Clone + Drop>(
     let Some(name) = FileName::of(entry.file_name()) else {
         return Ok(());
     };
-    match entry.file_type() {
-        Ok(kind) => match kinds.insert(name, kind_of(kind)) {
-            Ok(_) => Ok(()),
-            Err(_) => Err(BundleError::NoMemory),
-        },
-        Err(error) if error.kind() == ErrorKind::NotFound => Ok(()),
-        Err(error) => Err(refusal(error)),
+    let Some(kind) = told_kind(entry.file_type())? else {
+        return Ok(());
+    };
+    match kinds.insert(name, kind_of(kind)) {
+        Ok(_) => Ok(()),
+        Err(_) => Err(BundleError::NoMemory),
     }
 }
 

@@ -3,6 +3,7 @@ ghost use Rattle.std.specs.Prelude.{◌≡◌, ◌⊎◌, true, IfErr};
 ghost use Rattle.dir_model.specs.Replies.{is_fault};
 ghost use Rattle.dir_model.specs.Local.{is_number, is_open_among};
 ghost use Rattle.dir_host.specs.OpenFolders.{holdings_of};
+ghost use Rattle.dir_host.specs.LockAnswers.{lock_answer};
 
 use crate::inside::{for_reading, open_dir, open_regular};
 use crate::open_folders::{OpenFolder, folder_of};
@@ -30,7 +31,8 @@ pub fn open_lock<R: Files<File = File>>(
 
 /// What a request for a lock was answered.
 fn lock_answer(answer: Result<(), TryLockError>) -> Result<(), DirError>
-    ensures { IfErr result (λ e. (e ≡ DirError.Locked) ⊎ (is_fault e ≡ true)) }
+    ensures value { result ≡ lock_answer answer }
+    ensures refusals { IfErr result (λ e. (e ≡ DirError.Locked) ⊎ (is_fault e ≡ true)) }
 {
     match answer {
         Ok(()) => Ok(()),

@@ -1,10 +1,10 @@
 // What this process has open for locks, the newest last: folders, files `pod`, areas.
-ghost use Rattle.std.specs.Prelude.{◌≡◌, ◌++◌, ◌∷◌, [], map, filter, find, not, true, false, None, IfSome, IfOk, IfErr, OnErr};
+ghost use Rattle.std.specs.Prelude.{◌≡◌, ◌^◌, ◌-◌, ◌++◌, ◌∷◌, [], map, filter, find, not, true, false, None, IfSome, IfOk, IfErr, OnErr};
 ghost use Rattle.std.specs.List.{list_any};
 ghost use Rattle.std.specs.Option.{option_copied};
 ghost use Rattle.dir_model.specs.Local.{is_number, is_open_among, held_in};
 ghost use Rattle.dir_model.specs.Locks.{target_of};
-ghost use Rattle.dir_host.specs.OpenFolders.{holdings_of};
+ghost use Rattle.dir_host.specs.OpenFolders.{holdings_of, AreOpenBelow};
 
 use dir_trait::{DirError, Handle, Holding, Mode, Spot, Target, Which};
 use std::fs::File;
@@ -24,12 +24,14 @@ fn is_open(folders: &[OpenFolder], handle: Handle) -> bool
         .any(|f| f.holding.handle.number == handle.number)
 }
 
-/// A handle that isn't open. None where every number is taken.
+/// The handle with the least number that isn't open. None where each below the greatest is.
 #[tactic(auto, using(crate::proofs::Holdings::holdings_any))]
 fn unused_handle(folders: &[OpenFolder]) -> Option<Handle>
-    ensures { IfSome result (λ handle. is_open_among handle (holdings_of folders.now) ≡ false) }
+    ensures unused { IfSome result (λ handle. is_open_among handle (holdings_of folders.now) ≡ false) }
+    ensures least { IfSome result (λ handle. AreOpenBelow handle.number folders.now) }
+    ensures full { result ≡ None → AreOpenBelow (2 ^ 32 - 1) folders.now }
 {
-    for number in 0..u32::MAX {
+    'numbers: for number in 0..u32::MAX {
         let handle = Handle { number };
         if !is_open(folders, handle) {
             return Some(handle);
