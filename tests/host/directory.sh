@@ -15,7 +15,7 @@ other=00000000-0000-4000-8000-000000000002
 calls() {
     local name=$1 wanted=$2
     shift 2
-    same "$name" "$wanted" "$("$check" "$@" 2>&1 </dev/null | paste -sd'|')"
+    same "$name" "$wanted" "$(timeout 60 "$check" "$@" 2>&1 </dev/null | paste -sd'|')"
 }
 
 # A process that makes its calls and holds what it locked until `let_go`. Its answers are in `held`.
@@ -163,6 +163,69 @@ done
 text=$(head -c 60000 "$tmp/wanted" | tr '\n' ,)
 calls 'long pieces' 'ok|ok' "append run $pod f $text" "append run $pod f $text"
 same 'they are whole' "$text$text" "$(cat "$inside/f")"
+
+# What the system refuses is a fault: a path past its limit, what this user may not use, an entry that
+# can't be looked at.
+segment=$(printf 'x%.0s' {1..250})
+(cd "$inside" && for _ in {1..17}; do mkdir "$segment" && cd "$segment" || exit; done)
+long=$segment
+for _ in {2..15}; do long=$long/$segment; done
+calls 'a long path' "dir $segment|ok" "list run $pod $long"
+calls 'a path past the limit of the system' 'failed|failed|failed' "list run $pod $long/$segment/$segment" \
+    "make-dir run $pod $long/$segment/$segment/d" "remove-dir run $pod $long/$segment/$segment"
+(cd "$inside" && rm -r "$segment")
+as_user=()
+if [ "$(id -u)" -eq 0 ]; then
+    as_user=(setpriv --reuid=65534 --regid=65534 --clear-groups)
+fi
+as_other() {
+    local name=$1 wanted=$2
+    shift 2
+    same "$name" "$wanted" "$("${as_user[@]}" "$check" "$@" 2>&1 </dev/null | paste -sd'|')"
+}
+if [ ${#as_user[@]} -eq 0 ] || "${as_user[@]}" "$check" >/dev/null 2>&1; then
+    mkdir "$inside/sealed"
+    : >"$inside/sealed/f"
+    chmod 744 "$inside/sealed"
+    as_other 'an entry that can not be looked at' failed "list run $pod sealed"
+    chmod 700 "$inside/sealed"
+    as_other 'a directory that may not be read' 'failed|failed|failed' "list run $pod sealed" "copy run $pod sealed/f 9" \
+        "make-file run $pod sealed/g"
+    chmod 755 "$inside/sealed" "$inside"
+    chmod 000 "$inside/sealed/f"
+    [ "$(id -u)" -ne 0 ] || as_other 'a file that may not be used' 'failed|failed|failed' "copy run $pod sealed/f 9" \
+        "append run $pod sealed/f x" "remove-file run $pod sealed/f"
+    rm -rf "$inside/sealed"
+else
+    skip 'what another user may not use: root may use all, and there is no setpriv'
+fi
+
+# A listing is about the folder that it began with, wherever that moves.
+mkdir "$inside/many"
+(cd "$inside/many" && touch {1000..1999})
+move_about() {
+    local turn
+    for turn in $(seq 300); do
+        mv "$RKT_DIR/pods/run/$pod" "$RKT_DIR/pods/exited-garbage/$pod"
+        mv "$RKT_DIR/pods/exited-garbage/$pod" "$RKT_DIR/pods/run/$pod"
+    done
+    : >"$tmp/moved"
+}
+rm -f "$tmp/moved"
+move_about &
+whole=0
+while [ ! -e "$tmp/moved" ]; do
+    answer=$("$check" "list run $pod many" </dev/null | sed 's/ .*//' | uniq -c | tr -s ' \n' ' ')
+    case $answer in
+        ' 1000 file 1 ok ') whole=$((whole + 1)) ;;
+        ' 1 missing ') ;;
+        *) fail "a listing of a folder that moves: $answer" ;;
+    esac
+done
+wait
+checks=$((checks + whole))
+[ $whole -ge 1 ] || echo "directory.sh: no listing met the folder while it moved"
+rm -r "$inside/many"
 
 # A listing among makers and removers. Half of the thousand names come and go; the others stand.
 crowd=$RKT_DIR/store/images

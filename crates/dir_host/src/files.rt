@@ -188,6 +188,19 @@ fn kind_of(kind: FileType) -> BundleKind
     }
 }
 
+/// What the system told of the next entry. None where its name isn't UTF-8.
+fn told_entry<E>(told: io::Result<E>) -> Result<Option<E>, BundleError>
+    ensures told { IfOk told (λ entry. result ≡ Ok (Some entry)) }
+    ensures unnamed { IfErr told (λ e. error_kind e ≡ ErrorKind.InvalidFilename → result ≡ Ok None) }
+    ensures refused { IfErr told (λ e. error_kind e ≢ ErrorKind.InvalidFilename → result ≡ Err (bundle_error (error_kind e))) }
+{
+    match told {
+        Ok(entry) => Ok(Some(entry)),
+        Err(error) if error.kind() == ErrorKind::InvalidFilename => Ok(None),
+        Err(error) => Err(refusal(error)),
+    }
+}
+
 /// What the system told of an entry's kind. None where the entry has gone since.
 fn told_kind(told: io::Result<FileType>) -> Result<Option<FileType>, BundleError>
     ensures told { IfOk told (λ kind. result ≡ Ok (Some kind)) }
@@ -229,10 +242,8 @@ pub fn list_folder<R: Files + AllocGlobal + Clone + Drop>(
     let mut kinds = BTreeMap::new(alloc);
     let entries = fs::read_dir(rt, path).map_err(refusal)?;
     for entry in entries {
-        match entry {
-            Ok(entry) => add(&mut kinds, &entry)?,
-            Err(error) if error.kind() == ErrorKind::InvalidFilename => {}
-            Err(error) => return Err(refusal(error)),
+        if let Some(entry) = told_entry(entry)? {
+            add(&mut kinds, &entry)?;
         }
     }
     listing_of(alloc, &kinds).map_err(short)
