@@ -18,7 +18,8 @@ use Rattle.dir_trait.specs.declared.bundle.BundleKind.TheVariants as kinds
 use Rattle.dir_trait.specs.declared.node.Node.TheVariants.{Directory}
 use Rattle.dir_memory.specs.declared.entry.Entry.{Entry}
 use Rattle.dir_trait.specs.Bundles.{Tree, kind_at, child_path, item_of, IsListing, Lists}
-use Rattle.dir_memory.specs.MemoryBundles.{lies_below, is_directory, empty_tree, tree_of, leads_through, Found, AreKinds, AreFound, kind_with}
+use Rattle.dir_model.specs.Paths.{lies_below}
+use Rattle.dir_memory.specs.MemoryBundles.{is_directory, empty_tree, tree_of, leads_through, Found, AreKinds, AreFound, kind_with}
 use Rattle.dir_trait.proofs.Listings.{names_keys}
 use Rattle.dir_memory.proofs.BundlePaths.{child_other}
 

@@ -9,7 +9,8 @@ use Rattle.std.proofs.lemmas.List.Sums.{list_all-from_AllPass}
 use Rattle.std.proofs.lemmas.Slice.Eq.{starts_is, bytes_eq-Decides}
 use Rattle.dir_model.specs.Names.{same_bytes, is_file_byte, IsFileName}
 use Rattle.dir_trait.specs.Bundles.{directory_prefix, child_path}
-use Rattle.dir_memory.specs.MemoryBundles.{lies_below, leads_through}
+use Rattle.dir_model.specs.Paths.{lies_below}
+use Rattle.dir_memory.specs.MemoryBundles.{leads_through}
 
 prefix_other : (d rest : List ℕ) → (length d == 0) ≡ false → directory_prefix d ++ rest ≡ d ++ 47 ∷ rest
 prefix_other d rest other = ap (λ b. cond b [] (d ++ 47 ∷ []) ++ rest) other ∙ append_assoc d (47 ∷ []) rest

@@ -6,7 +6,8 @@ use Rattle.dir_trait.specs.declared.node.Node.{Node}
 use Rattle.dir_trait.specs.declared.node.Node.TheVariants.{Directory}
 use Rattle.dir_memory.specs.declared.entry.Entry.{Entry}
 use Rattle.dir_trait.specs.Bundles.{file_bytes, link_target}
-use Rattle.dir_memory.specs.MemoryBundles.{lies_below, is_directory, tree_of, is_decisive, decided_node, own_node}
+use Rattle.dir_model.specs.Paths.{lies_below}
+use Rattle.dir_memory.specs.MemoryBundles.{is_directory, tree_of, is_decisive, decided_node, own_node}
 
 step : (a b c : Bool) (node folder : Node) (older : Option Node) (X : Option Entry → Option Node) (entry : Entry) (rest : Option Entry)
     → X (Some entry) ≡ cond a (Some node) (cond b (Some folder) None) → older ≡ X rest

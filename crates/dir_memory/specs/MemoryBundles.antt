@@ -5,6 +5,7 @@ use Rattle.std.specs.Ordering.{nat_cmp}
 use Rattle.std.specs.Cmp.Lexicographic.{slice_cmp}
 use Rattle.std.specs.BTreeMap.{BTreeMap, get}
 use Rattle.dir_model.specs.Names.{same_bytes, IsFileName}
+use Rattle.dir_model.specs.Paths.{lies_below}
 use Rattle.dir_trait.specs.declared.bundle.BundleItem.{BundleItem}
 use Rattle.dir_trait.specs.declared.bundle.BundleKind.{BundleKind}
 use Rattle.dir_trait.specs.declared.bundle.BundleRequest.{BundleRequest}
@@ -25,12 +26,6 @@ pub record BundleMemory : Type 0 where
   pub given : ℕ
   pub asked : List BundleRequest
   pub failing : List ℕ
-
--- the path goes on behind the directory's, after a slash. Every other path lies below the root
-unfoldable pub lies_below : List ℕ → List ℕ → Bool
-lies_below path directory =
-    if length directory == 0 then not (length path == 0)
-    else starts_with nat_eq path directory && (slice_index path (length directory) == 47)
 
 abbrev pub is_directory : Node → Bool
 is_directory Directory = true

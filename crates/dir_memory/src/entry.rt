@@ -2,8 +2,9 @@
 ghost use Rattle.std.specs.Prelude.{◌≡◌, ◌<◌, find, length, Some, IsTrue};
 ghost use Rattle.std.specs.Option.{option_copied};
 ghost use Rattle.dir_trait.specs.Bundles.{kind_at, file_bytes, link_target};
-ghost use Rattle.dir_memory.specs.MemoryBundles.{lies_below, is_directory, empty_tree, is_decisive, decided_node, own_node, tree_of};
+ghost use Rattle.dir_memory.specs.MemoryBundles.{is_directory, empty_tree, is_decisive, decided_node, own_node, tree_of};
 
+use dir_model::lies_below;
 use dir_trait::{BundleKind, Bytes, Node};
 
 /// A node that was put at a path.
@@ -11,18 +12,6 @@ use dir_trait::{BundleKind, Bytes, Node};
 pub struct Entry {
     pub path: Bytes,
     pub node: Node,
-}
-
-/// Whether a path lies below a directory.
-#[tactic(auto, unfolding(crate::specs::MemoryBundles::lies_below))]
-pub fn lies_below(path: &[u8], directory: &[u8]) -> bool
-    ensures below { result ≡ lies_below path.now directory.now }
-    ensures longer { IsTrue result → length directory.now < length path.now }
-{
-    if directory.is_empty() {
-        return !path.is_empty();
-    }
-    path.starts_with(directory) && path.len() > directory.len() && path[directory.len()] == b'/'
 }
 
 fn is_directory(node: &Node) -> bool

@@ -9,8 +9,8 @@ ghost use Rattle.dir_model.specs.Names.{IsFileName};
 ghost use Rattle.dir_trait.specs.Bundles.{kind_at, directory_prefix, child_path, IsListing, Lists};
 ghost use Rattle.dir_memory.specs.MemoryBundles.{tree_of, leads_through, AreKinds, AreFound, kind_with};
 
-use crate::entry::{Entry, kind_at, lies_below};
-use dir_model::{FileName, NoMemory};
+use crate::entry::{Entry, kind_at};
+use dir_model::{FileName, NoMemory, lies_below};
 use dir_trait::{BundleError, BundleItem, BundleItems, BundleKind, listing_of};
 use std::alloc::Global;
 use std::collections::BTreeMap;

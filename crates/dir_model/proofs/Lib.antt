@@ -4,6 +4,7 @@ pub mod Hex
 pub mod Once
 pub mod PodTexts
 pub mod Lists
+pub mod Paths
 pub mod Chains
 pub mod Allowed
 pub mod Moments

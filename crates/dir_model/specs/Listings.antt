@@ -14,7 +14,6 @@ use Rattle.dir_model.specs.declared.tree.OpenListing.{OpenListing}
 use Rattle.dir_model.specs.declared.request.Request.{Request}
 use Rattle.dir_model.specs.declared.request.Request.TheVariants.{ListArea, ListIn}
 use Rattle.dir_model.specs.Areas.{rank}
-use Rattle.dir_model.specs.Paths.{is_file_name}
 use Rattle.dir_model.specs.State.{Namespace, DirState, folder_at, spot_eq}
 use Rattle.dir_model.specs.Trees.{has_dir, names_in, items_in}
 
@@ -25,6 +24,16 @@ is_listing_request _ = false
 
 abbrev pub has_name : List (List ℕ) → List ℕ → Bool
 has_name names name = list_any (λ n. bytes_eq n name) names
+
+abbrev pub item_names : List Item → List (List ℕ)
+item_names items = map (λ item. item.name) items
+
+abbrev pub is_named : List ℕ → Item → Bool
+is_named name item = bytes_eq item.name name
+
+-- something of the item's name stands
+abbrev pub has_named : List Item → Item → Bool
+has_named items item = list_any (is_named item.name) items
 
 abbrev pub kind_number : ItemKind → ℕ
 kind_number kind.Dir = 0
@@ -42,7 +51,7 @@ has_item items item = list_any (is_item item) items
 abbrev pub noted : DirState → Listed → Listed
 noted s (listed.Area area through ever) = listed.Area area (filter (has_name (names_in area s.namespace.folders)) through) (ever ++ names_in area s.namespace.folders)
 noted s (listed.Missing inner) = listed.Missing inner
-noted s (listed.Inside inner folder through ever) = listed.Inside inner folder (filter (has_item (items_in folder inner.path s.entries)) through) (ever ++ items_in folder inner.path s.entries)
+noted s (listed.Inside inner folder through ever) = listed.Inside inner folder (filter (has_named (items_in folder inner.path s.entries)) through) (ever ++ items_in folder inner.path s.entries)
 
 abbrev pub noted_by : DirState → OpenListing → OpenListing
 noted_by s l = record { process = l.process; listed = noted s l.listed }
@@ -81,14 +90,11 @@ ascend (name ∷ names) = list_all (λ other. is_lt (slice_cmp nat_cmp name othe
 
 -- the names show what stood all the time, and only what stood at some moment
 abbrev pub shows_names : List (List ℕ) → List (List ℕ) → List (List ℕ) → Bool
-shows_names through ever names = ascend names && (list_all (has_name names) through && list_all (has_name ever) names)
+shows_names through ever names = ascend names && (list_all (has_name names) through && list_all (has_name (through ++ ever)) names)
 
-abbrev pub item_names : List Item → List (List ℕ)
-item_names items = map (λ item. item.name) items
-
--- the same of items, of which those are shown whose names are file names
+-- the same of items, each of a kind that stood under its name
 abbrev pub shows_items : List Item → List Item → List Item → Bool
-shows_items through ever items = ascend (item_names items) && (list_all (has_item items) (filter (λ item. is_file_name item.name) through) && list_all (has_item ever) items)
+shows_items through ever items = ascend (item_names items) && (list_all (has_named items) through && list_all (has_item (through ++ ever)) items)
 
 -- the path is the one that the other names
 abbrev pub is_inner : Inner → Inner → Bool

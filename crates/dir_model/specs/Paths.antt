@@ -1,5 +1,5 @@
 -- Paths inside folders: file names parted by slashes. The empty path is the folder itself.
-use Rattle.std.specs.Prelude.{ℕ, ◌+◌, ◌==◌, Bool, true, false, not, ◌&&◌, ◌||◌, cond, if◌then◌else◌, nat_eq, nat_le, List, [], ◌∷◌, ◌++◌, length, drop, slice_index, Option, Some, None}
+use Rattle.std.specs.Prelude.{ℕ, ◌+◌, ◌-◌, ◌==◌, Bool, true, false, not, ◌&&◌, ◌||◌, cond, if◌then◌else◌, nat_eq, nat_le, List, [], ◌∷◌, ◌++◌, length, take, drop, slice_index, Option, Some, None}
 use Rattle.std.specs.List.{list_any, list_all, starts_with}
 use Rattle.std.specs.Str.{is_utf8}
 use Rattle.dir_model.specs.declared.item.Inner.{Inner}
@@ -22,6 +22,10 @@ is_file_name bs = not (is_empty bs) && (nat_le (length bs) 255 && (list_all is_f
 abbrev pub are_names : List ℕ → List ℕ → Bool
 are_names name [] = is_file_name name
 are_names name (b ∷ bs) = cond (is_slash b) (is_file_name name && are_names [] bs) (are_names (name ++ b ∷ []) bs)
+
+-- the bytes from a place on, up to another
+abbrev pub part : ℕ → ℕ → List ℕ → List ℕ
+part start end path = take (end - start) (drop start path)
 
 abbrev pub is_path : List ℕ → Bool
 is_path path = is_empty path || are_names [] path

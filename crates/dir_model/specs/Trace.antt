@@ -90,10 +90,10 @@ abbrev pub removed_in : Option ℕ → List ℕ → List TreeEntry → List Tree
 removed_in None path es = es
 removed_in (Some folder) path es = without_path folder path es
 
-abbrev pub entries_kept : DirState → Request → Reply → List TreeEntry
-entries_kept s (RemoveFileIn inner) Done = removed_in (folder_at s.namespace inner.spot) inner.path s.entries
-entries_kept s (RemoveDirIn inner) Done = removed_in (folder_at s.namespace inner.spot) inner.path s.entries
-entries_kept s _ _ = s.entries
+abbrev pub entries_kept : Namespace → List TreeEntry → Request → Reply → List TreeEntry
+entries_kept n es (RemoveFileIn inner) Done = removed_in (folder_at n inner.spot) inner.path es
+entries_kept n es (RemoveDirIn inner) Done = removed_in (folder_at n inner.spot) inner.path es
+entries_kept n es _ _ = es
 
 -- a mark for an app, and the root that is then the app's own
 abbrev pub is_mark : List ℕ → Bool
@@ -139,7 +139,7 @@ listings_replied s p request _ = s.listings
 abbrev pub state_next : DirState → Event → DirState
 state_next s e = record {
   namespace = namespace_replied s.namespace e.process e.request e.reply;
-  entries = entries_kept s e.request e.reply ++ option_to_list (entry_made s.namespace e.request e.reply);
+  entries = entries_kept s.namespace s.entries e.request e.reply ++ option_to_list (entry_made s.namespace e.request e.reply);
   apps = s.apps ++ option_to_list (app_started s.namespace e.request e.reply);
   listings = listings_replied s e.process e.request e.reply;
 }

@@ -1,6 +1,6 @@
 -- What stands inside the folders: one list of entries for all of them, the oldest first.
-use Rattle.std.specs.Prelude.{ℕ, Bool, true, false, not, ◌&&◌, ◌||◌, ◌==◌, cond, bytes_eq, Option, Some, None, List, [], ◌∷◌, ◌++◌, filter, take, codes, option_to_list}
-use Rattle.std.specs.List.{list_any, starts_with}
+use Rattle.std.specs.Prelude.{ℕ, Bool, true, false, not, ◌&&◌, ◌||◌, ◌==◌, cond, bytes_eq, Option, Some, None, List, [], ◌∷◌, ◌++◌, filter, codes}
+use Rattle.std.specs.List.{list_any, filter_map, flat_map}
 use Rattle.dir_model.specs.declared.area.Area.{Area}
 use Rattle.dir_model.specs.declared.spot.Spot.{Spot}
 use Rattle.dir_model.specs.declared.item.Item.{Item}
@@ -11,7 +11,7 @@ use Rattle.dir_model.specs.declared.tree.TreeNode.TheVariants.{Dir, Piece}
 use Rattle.dir_model.specs.declared.tree.TreeEntry.{TreeEntry}
 use Rattle.dir_model.specs.declared.tree.StartedApp.{StartedApp}
 use Rattle.dir_model.specs.Areas.{rank}
-use Rattle.dir_model.specs.Paths.{is_empty, is_slash, lies_below, is_directly_in, behind}
+use Rattle.dir_model.specs.Paths.{is_empty, is_file_name, lies_below, is_directly_in, behind}
 
 abbrev pub is_dir : TreeNode → Bool
 is_dir Dir = true
@@ -64,21 +64,16 @@ has_children es folder directory = list_any (is_child folder directory) es
 abbrev pub holds_any : List TreeEntry → ℕ → Bool
 holds_any es folder = list_any (λ e. e.folder == folder) es
 
-abbrev pub pieces : List TreeEntry → List ℕ
-pieces [] = []
-pieces (e ∷ es) = bytes_of e.node ++ pieces es
-
 -- a file's bytes: its pieces in order
 abbrev pub content : List TreeEntry → ℕ → List ℕ → List ℕ
-content es folder path = pieces (filter (is_entry folder path) es)
+content es folder path = flat_map (λ e. bytes_of e.node) (filter (is_entry folder path) es)
 
 -- what a directory shows of an entry, once for each piece of a file
 abbrev pub item_in : ℕ → List ℕ → TreeEntry → Option Item
-item_in folder directory e = cond (is_child folder directory e) (Some (record { name = behind directory e.path; kind = kind_of e.node })) None
+item_in folder directory e = cond (is_child folder directory e && is_file_name (behind directory e.path)) (Some (record { name = behind directory e.path; kind = kind_of e.node })) None
 
 abbrev pub items_in : ℕ → List ℕ → List TreeEntry → List Item
-items_in folder directory [] = []
-items_in folder directory (e ∷ es) = option_to_list (item_in folder directory e) ++ items_in folder directory es
+items_in folder directory es = filter_map (item_in folder directory) es
 
 -- what an area shows of a folder
 abbrev pub name_in : Area → Option Spot → Option (List ℕ)
@@ -86,8 +81,7 @@ name_in area None = None
 name_in area (Some spot) = cond (rank spot.area == rank area) (Some spot.name) None
 
 abbrev pub names_in : Area → List (Option Spot) → List (List ℕ)
-names_in area [] = []
-names_in area (place ∷ places) = option_to_list (name_in area place) ++ names_in area places
+names_in area places = filter_map (name_in area) places
 
 -- the entry is at the path, or below it
 abbrev pub is_within : List ℕ → List ℕ → Bool

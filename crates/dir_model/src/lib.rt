@@ -28,7 +28,7 @@ pub use item::{Inner, Item, ItemKind};
 pub use memory::NoMemory;
 pub use name::Name;
 pub use opening::{Holding, Opening, Target};
-pub use path::lies_below;
+pub use path::{file_name_of, is_path, lies_below};
 pub use pod::PodId;
 pub use prefix::PodPrefix;
 pub use request::{DirError, Reply, Request};

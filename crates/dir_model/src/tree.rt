@@ -55,3 +55,46 @@ pub struct OpenListing {
     pub process: u32,
     pub listed: Listed,
 }
+
+impl Listed {
+    /// An equal value. Refused only where memory ran out.
+    pub fn copy(&self) -> Result<Listed, NoMemory>
+        ensures { IfOk result (λ copy. copy ≡ self.now) }
+    {
+        Ok(match self {
+            Listed::Area {
+                area,
+                through,
+                ever,
+            } => Listed::Area {
+                area: *area,
+                through: through.copy()?,
+                ever: ever.copy()?,
+            },
+            Listed::Missing(inner) => Listed::Missing(inner.copy()?),
+            Listed::Inside {
+                inner,
+                folder,
+                through,
+                ever,
+            } => Listed::Inside {
+                inner: inner.copy()?,
+                folder: *folder,
+                through: through.copy()?,
+                ever: ever.copy()?,
+            },
+        })
+    }
+}
+
+impl OpenListing {
+    /// An equal value. Refused only where memory ran out.
+    pub fn copy(&self) -> Result<OpenListing, NoMemory>
+        ensures { IfOk result (λ copy. copy ≡ self.now) }
+    {
+        Ok(OpenListing {
+            process: self.process,
+            listed: self.listed.copy()?,
+        })
+    }
+}

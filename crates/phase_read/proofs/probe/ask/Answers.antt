@@ -48,7 +48,7 @@ pub returns-in-Err-clause-extends : goal.returns-in-Err-clause-extends
 returns-in-Err-clause-extends g c t = and_call nothing_yet refl (spot_self c.args.spot) (c.open.ensures.called.step t)
 
 pub returns-in-Err-Missing-clause-there : goal.returns-in-Err-Missing-clause-there
-returns-in-Err-Missing-clause-there g c t = let e = rw c.in-Err-Missing.field-0-is at c.in-Err-Missing.ensures in missed _ _ _ _ _ (e.called.step t)
+returns-in-Err-Missing-clause-there g c t = let e = rw c.in-Err-Missing.field-0-is at c.in-Err-Missing.ensures in missed _ _ _ _ (e.called.step t)
 
 pub returns-in-Ok-answer-clause-told : goal.returns-in-Ok-answer-clause-told
 returns-in-Ok-answer-clause-told g c t =
