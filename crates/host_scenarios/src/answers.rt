@@ -166,7 +166,10 @@ fn an_area_that_is_no_directory_is_a_fault(rt: HostRuntime) -> Result<(), Fail> 
     Ok(())
 }
 
-fn is_failed<T>(answer: &Result<T, DirError>) -> u64 {
+/// 1 where the call failed.
+fn failure<T>(answer: &Result<T, DirError>) -> u64
+    ensures { result ≤ 1 }
+{
     match answer {
         Err(DirError::Failed) => 1,
         _ => 0,
@@ -176,51 +179,47 @@ fn is_failed<T>(answer: &Result<T, DirError>) -> u64 {
 /// How many of the calls on a folder fail.
 fn failed_on_folder<D: Dir>(dir: &mut D, alloc: Global, area: Area) -> u64
     requires { IsActive (D.shown dir.old).local }
-    ensures active { IsActive (D.shown dir.new).local }
-    ensures few { result ≤ 4 }
+    ensures { IsActive (D.shown dir.new).local }
 {
-    let made = is_failed(&dir.make_folder(alloc, pod(area)));
-    let moved = is_failed(&dir.move_folder(alloc, pod(area), pod(Area::Prepare)));
-    let opened = is_failed(&dir.open(alloc, pod(area), Which::Claim));
-    let removed = is_failed(&dir.remove_folder(alloc, pod(area)));
+    let made = failure(&dir.make_folder(alloc, pod(area)));
+    let moved = failure(&dir.move_folder(alloc, pod(area), pod(Area::Prepare)));
+    let opened = failure(&dir.open(alloc, pod(area), Which::Claim));
+    let removed = failure(&dir.remove_folder(alloc, pod(area)));
     made + moved + opened + removed
 }
 
 /// How many of the calls on an area fail.
 fn failed_on_area<D: Dir>(dir: &mut D, alloc: Global, area: Area) -> u64
     requires { IsActive (D.shown dir.old).local }
-    ensures active { IsActive (D.shown dir.new).local }
-    ensures few { result ≤ 3 }
+    ensures { IsActive (D.shown dir.new).local }
 {
-    let opened = is_failed(&dir.open_area(alloc, area));
-    let listed = is_failed(&dir.list_area(alloc, area));
-    let synced = is_failed(&dir.sync_area(alloc, area));
+    let opened = failure(&dir.open_area(alloc, area));
+    let listed = failure(&dir.list_area(alloc, area));
+    let synced = failure(&dir.sync_area(alloc, area));
     opened + listed + synced
 }
 
 /// How many of the calls that make or remove something in a folder fail.
 fn failed_changes<D: Dir>(dir: &mut D, alloc: Global, area: Area) -> u64
     requires { IsActive (D.shown dir.old).local }
-    ensures active { IsActive (D.shown dir.new).local }
-    ensures few { result ≤ 4 }
+    ensures { IsActive (D.shown dir.new).local }
 {
-    let directory = is_failed(&dir.make_dir_in(alloc, pod(area), ""));
-    let file = is_failed(&dir.make_file_in(alloc, pod(area), ""));
-    let removed = is_failed(&dir.remove_file_in(alloc, pod(area), ""));
-    let emptied = is_failed(&dir.remove_dir_in(alloc, pod(area), ""));
+    let directory = failure(&dir.make_dir_in(alloc, pod(area), ""));
+    let file = failure(&dir.make_file_in(alloc, pod(area), ""));
+    let removed = failure(&dir.remove_file_in(alloc, pod(area), ""));
+    let emptied = failure(&dir.remove_dir_in(alloc, pod(area), ""));
     directory + file + removed + emptied
 }
 
 /// How many of the calls that write, read, list or sync something in a folder fail.
 fn failed_inside<D: Dir>(dir: &mut D, alloc: Global, area: Area) -> u64
     requires { IsActive (D.shown dir.old).local }
-    ensures active { IsActive (D.shown dir.new).local }
-    ensures few { result ≤ 4 }
+    ensures { IsActive (D.shown dir.new).local }
 {
-    let appended = is_failed(&dir.append_in(alloc, pod(area), "", b"x"));
-    let read = is_failed(&dir.read_in(alloc, pod(area), "", 0, &mut [0; 2]));
-    let listed = is_failed(&dir.list_in(alloc, pod(area), ""));
-    let synced = is_failed(&dir.sync_in(alloc, pod(area), ""));
+    let appended = failure(&dir.append_in(alloc, pod(area), "", b"x"));
+    let read = failure(&dir.read_in(alloc, pod(area), "", 0, &mut [0; 2]));
+    let listed = failure(&dir.list_in(alloc, pod(area), ""));
+    let synced = failure(&dir.sync_in(alloc, pod(area), ""));
     appended + read + listed + synced
 }
 
