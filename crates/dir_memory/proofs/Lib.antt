@@ -1,10 +1,8 @@
-pub mod Pasts
-pub mod Answering
+pub mod OpenListings
 pub mod Meanwhile
+pub mod Own
 pub mod Schedules
-pub mod Calling
 pub mod Places
-pub mod Ended
 pub mod BundleTrees
 pub mod BundlePaths
 pub mod BundleListings

@@ -32,14 +32,14 @@ first_parted {X = X} p (y ∷ ys) x any at = by (p y) refl any at (λ later ther
         (record { passing = rw is rest.passing; others = rw is (ap (λ l. y ∷ l) rest.others) })
 
 -- the first step that was due came
-pub takes_first : (me number : ℕ) (old new : List Event) (steps rest : List Planned) (first : Planned) → list_any (is_due number) steps ≡ true → slice_get steps (position_or_len (is_due number) steps) ≡ Some first → rest ≡ remove steps (position_or_len (is_due number) steps) → new ≡ old ++ step_events me (state_after old) first → TakesFirst me number old steps new rest
-takes_first me number old new steps rest first any at is came =
-    let parted = subst (λ (l : List Planned). Parted (is_due number) steps l first) (sym is) (first_parted (is_due number) steps first any at) in
+pub takes_first : (me number : ℕ) (listing : Bool) (old new : List Event) (steps rest : List Planned) (first : Planned) → list_any (is_due number listing) steps ≡ true → slice_get steps (position_or_len (is_due number listing) steps) ≡ Some first → rest ≡ remove steps (position_or_len (is_due number listing) steps) → new ≡ old ++ step_events me (state_after old) first → TakesFirst me number listing old steps new rest
+takes_first me number listing old new steps rest first any at is came =
+    let parted = subst (λ (l : List Planned). Parted (is_due number listing) steps l first) (sym is) (first_parted (is_due number listing) steps first any at) in
     record { first = first; parted = parted.passing; later = parted.others; came = came }
 
 -- a step that was taken leaves what is due
-pub due_same : (me number : ℕ) (old new : List Event) (steps rest : List Planned) → TakesFirst me number old steps new rest → with_steps me new (due number rest) ≡ with_steps me old (due number steps)
-due_same me number old new steps rest t = rw (t.parted, t.came) refl
+pub due_same : (me number : ℕ) (listing : Bool) (old new : List Event) (steps rest : List Planned) → TakesFirst me number listing old steps new rest → with_steps me new (due number listing rest) ≡ with_steps me old (due number listing steps)
+due_same me number listing old new steps rest t = rw (t.parted, t.came) refl
 
 -- where nothing is due
 pub none_due : {X : Type 0} (p : X → Bool) (xs : List X) → list_any p xs ≡ false → filter p xs ≡ []

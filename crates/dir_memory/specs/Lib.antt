@@ -1,4 +1,3 @@
-pub mod Parts
 pub mod Schedules
 pub mod Interludes
 pub mod Memories

@@ -1,24 +1,30 @@
 -- What contracts see of a directory in memory, and what a call leaves there.
-use Rattle.std.specs.Prelude.{◌≡◌, ◌⊎◌, ℕ, ◌+◌, ◌-◌, ◌≤◌, ◌^◌, ◌==◌, min, Bool, true, false, not, ◌&&◌, ◌||◌, cond, is_some, List, [], ◌∷◌, ◌++◌, nat_le}
+use Rattle.std.specs.Prelude.{◌≡◌, ◌⊎◌, ℕ, ◌+◌, ◌-◌, ◌≤◌, ◌^◌, ◌==◌, min, Bool, true, false, not, ◌&&◌, ◌||◌, cond, is_some, List, [], ◌∷◌, ◌++◌, nat_le, Option, Some, None}
 use Rattle.std.specs.List.{list_any}
 use Rattle.dir_model.specs.Reserved.{Reserved}
 use Rattle.dir_model.specs.declared.event.Event.{Event}
 use Rattle.dir_model.specs.declared.request.DirError.TheVariants.{Failed, NoMemory}
 use Rattle.dir_model.specs.declared.request.Request.{Request}
-use Rattle.dir_model.specs.declared.request.Request.TheVariants.{Kill}
+use Rattle.dir_model.specs.declared.request.Request.TheVariants.{ReadIn}
 use Rattle.dir_model.specs.declared.request.Reply.{Reply}
-use Rattle.dir_model.specs.declared.request.Reply.TheVariants.{Done, Opened, Refused}
+use Rattle.dir_model.specs.declared.request.Reply.TheVariants.{Done, Begun, Opened, Names, Items, Read, Refused}
+use Rattle.dir_model.specs.Paths.{is_well_formed}
+use Rattle.dir_model.specs.Listings.{is_listing, is_listing_request}
 use Rattle.dir_model.specs.State.{DirState, has_begun, has_ended}
 use Rattle.dir_model.specs.Trace.{state_after}
-use Rattle.dir_model.specs.Replies.{is_fallible}
+use Rattle.dir_model.specs.Replies.{is_fallible, asks_for_handle, asks_for_nothing}
 use Rattle.dir_model.specs.Calls.{Interference, IsRun, is_begin, event}
 use Rattle.dir_model.specs.Local.{Local, nothing_local, IsActive, local_replied, holdings_in}
 use Rattle.dir_trait.specs.DirCalls.{DirAt}
+use Rattle.dir_state.specs.Parts.{kill_of}
+use Rattle.dir_state.specs.Answers.{answer, listing_answer}
+use Rattle.dir_memory.specs.declared.local.LocalView.{LocalView}
 use Rattle.dir_memory.specs.declared.planned.Planned.{Planned}
-use Rattle.dir_memory.specs.Schedules.{answer, with_steps, due, not_due}
+use Rattle.dir_memory.specs.Schedules.{with_steps, due, not_due}
 
--- the trace, the process with its faults, its calls so far, those of them that have a number, and what it has open,
--- the steps of others that are to come, in the order of scheduling, and the numbers of the calls that are to fail
+-- the trace, the process with its faults, its calls so far, those of them that have a number, and what it has open, the
+-- steps of others that are to come, in the order of scheduling, the numbers of the calls that are to fail, the number of
+-- the call before which it is killed, and whether it was
 pub record Memory : Type 0 where
   pub trace : List Event
   pub process : ℕ
@@ -28,6 +34,11 @@ pub record Memory : Type 0 where
   pub local : Local
   pub pending : List Planned
   pub failing : List ℕ
+  pub stop : Option ℕ
+  pub killed : Bool
+
+abbrev pub local_of : LocalView → Local
+local_of v = record { intent = v.intent; finished = v.finished; holdings = v.held.items }
 
 -- as every directory is seen
 abbrev pub shown_of : Memory → DirAt
@@ -37,13 +48,26 @@ shown_of m = record { process = m.process; faults = m.faults; calls = m.calls; l
 abbrev pub raised : ℕ → ℕ
 raised n = min (n + 1) (2 ^ 64 - 1)
 
+-- the number is at most this
+abbrev pub is_up_to : Option ℕ → ℕ → Bool
+is_up_to None n = false
+is_up_to (Some k) n = nat_le k n
+
+-- the process was killed, or is before its next call. Not before its begin
+abbrev pub is_stopped : Memory → Request → Bool
+is_stopped m request = not (is_begin request) && (m.killed || is_up_to m.stop (m.numbered + 1))
+
 -- the next call is to fail. A begin never fails
 abbrev pub is_to_fail : Memory → Request → Bool
 is_to_fail m request = is_fallible request && list_any (λ number. number == m.numbered + 1) m.failing
 
 -- the trace once the steps have come that are due before the next call
-abbrev pub before_call : Memory → List Event
-before_call m = with_steps m.process m.trace (due (m.numbered + 1) m.pending)
+abbrev pub before_call : Memory → Request → List Event
+before_call m request = with_steps m.process m.trace (due (m.numbered + 1) (is_listing_request request) m.pending)
+
+-- the steps that are then to come
+abbrev pub still_pending : Memory → Request → List Planned
+still_pending m request = not_due (m.numbered + 1) (is_listing_request request) m.pending
 
 -- a failure, or the state's own answer
 abbrev pub answer_or_failure : Bool → DirState → ℕ → Request → Reply
@@ -51,61 +75,90 @@ answer_or_failure fails s p request = cond fails (Refused Failed 0) (answer s p 
 
 -- what the next call is answered, where there is memory for it
 abbrev pub next_reply : Memory → Request → Reply
-next_reply m request = answer_or_failure (is_to_fail m request) (state_after (before_call m)) m.process request
+next_reply m request = answer_or_failure (is_to_fail m request) (state_after (before_call m request)) m.process request
 
--- after the next call with this answer: the steps of others that were due, and its own event
-abbrev pub after_call : Memory → Request → Reply → Memory
-after_call m request reply = record {
-  trace = before_call m ++ event m.process request reply ∷ [];
-  process = m.process;
-  faults = cond (is_to_fail m request) (raised m.faults) m.faults;
+-- after a call with a number that left this trace, these faults and these steps to come
+abbrev pub after_call : Memory → List Event → Bool → Request → Reply → List Planned → Memory
+after_call m trace fails request reply pending = record m {
+  trace = trace;
+  faults = cond fails (raised m.faults) m.faults;
   calls = raised m.calls;
   numbered = raised m.numbered;
   local = local_replied m.local request reply;
-  pending = not_due (m.numbered + 1) m.pending;
-  failing = m.failing;
+  pending = pending;
 }
 
 -- the call was answered and left its event
 pub record Answered (old : Memory) (request : Request) (reply : Reply) (new : Memory) : Type 0 where
   pub replied : reply ≡ next_reply old request
-  pub after : new ≡ after_call old request reply
+  pub after : new ≡ after_call old (before_call old request ++ event old.process request reply ∷ []) (is_to_fail old request) request reply (still_pending old request)
 
 -- memory ran out: some of the steps that were due came, the first ones, and the others come before the next call
-pub record RanOut (old : Memory) (reply : Reply) (new : Memory) : Type 0 where
+pub record RanOut (old : Memory) (request : Request) (reply : Reply) (new : Memory) : Type 0 where
   pub replied : reply ≡ Refused NoMemory 0
   pub meanwhile : Interference old.process old.trace new.trace
-  pub first : with_steps old.process new.trace (due (old.numbered + 1) new.pending) ≡ before_call old
-  pub later : not_due (old.numbered + 1) new.pending ≡ not_due (old.numbered + 1) old.pending
-  pub same : new ≡ record old { trace = new.trace; calls = raised old.calls; numbered = raised old.numbered; pending = new.pending }
+  pub first : with_steps old.process new.trace (due (old.numbered + 1) (is_listing_request request) new.pending) ≡ before_call old request
+  pub later : not_due (old.numbered + 1) (is_listing_request request) new.pending ≡ still_pending old request
+  pub same : new ≡ after_call old new.trace false request reply new.pending
 
--- a call with a number was answered in full, or memory ran out
+-- the process was killed before this call or an earlier one. The steps that were due came before
+pub record Stopped (old : Memory) (request : Request) (reply : Reply) (new : Memory) : Type 0 where
+  pub stopped : is_stopped old request ≡ true
+  pub replied : reply ≡ Refused Failed 0
+  pub after : new ≡ record (after_call old (before_call old request ++ kill_of (not old.killed) old.process) true request reply (still_pending old request)) { killed = true }
+
+-- a call with a number that is no listing: it was answered in full, memory ran out, or the process was killed
 abbrev pub Follows : Memory → Request → Reply → Memory → Type 0
-Follows old request reply new = Answered old request reply new ⊎ RanOut old reply new
+Follows old request reply new = Answered old request reply new ⊎ (RanOut old request reply new ⊎ Stopped old request reply new)
 
--- a handle or the process was given up, and nothing else has happened
+-- the trace once a listing has begun
+abbrev pub once_begun : Memory → Request → List Event
+once_begun m request = before_call m request ++ event m.process request Begun ∷ []
+
+-- and once the steps have come that are meant to come inside it
+abbrev pub before_end : Memory → Request → List Event
+before_end m request = with_steps m.process (once_begun m request) (due (m.numbered + 1) false (still_pending m request))
+
+-- a failure, or exactly what stood all the time
+abbrev pub end_reply : Memory → Request → Reply
+end_reply m request = cond (is_to_fail m request) (Refused Failed 0) (listing_answer (state_after (before_end m request)) m.process)
+
+-- a listing began, the steps inside it came, and it ended
+pub record Listed (old : Memory) (request : Request) (reply : Reply) (new : Memory) : Type 0 where
+  pub replied : reply ≡ end_reply old request
+  pub after : new ≡ after_call old (before_end old request ++ event old.process request reply ∷ []) (is_to_fail old request) request reply (not_due (old.numbered + 1) false (still_pending old request))
+
+-- memory ran out before its end: some of those steps came, the first ones
+pub record CutOff (old : Memory) (request : Request) (reply : Reply) (new : Memory) : Type 0 where
+  pub trace : List Event
+  pub replied : reply ≡ Refused NoMemory 0
+  pub meanwhile : Interference old.process (once_begun old request) trace
+  pub first : with_steps old.process trace (due (old.numbered + 1) false new.pending) ≡ before_end old request
+  pub later : not_due (old.numbered + 1) false new.pending ≡ not_due (old.numbered + 1) false (still_pending old request)
+  pub after : new ≡ after_call old (trace ++ event old.process request reply ∷ []) false request reply new.pending
+
+abbrev pub FollowsListing : Memory → Request → Reply → Memory → Type 0
+FollowsListing old request reply new = Listed old request reply new ⊎ (CutOff old request reply new ⊎ (RanOut old request reply new ⊎ Stopped old request reply new))
+
+-- a handle or the process was given up, and nothing else has happened. After its kill that is no event
 abbrev pub given_up : Memory → Request → Memory
-given_up m request = record m { trace = m.trace ++ event m.process request Done ∷ []; calls = raised m.calls; local = local_replied m.local request Done }
+given_up m request = record m { trace = m.trace ++ cond m.killed [] (event m.process request Done ∷ []); calls = raised m.calls; local = local_replied m.local request Done }
 
 -- a begin comes first, and every other request from an active process
 abbrev pub is_active : Local → Bool
 is_active m = is_some m.intent && not m.finished
 
 abbrev pub may_ask : Local → Request → Bool
-may_ask m request = cond (is_begin request) (not (is_some m.intent)) (is_active m)
+may_ask m request = is_well_formed request && cond (is_begin request) (not (is_some m.intent)) (is_active m)
 
 -- a step before a call that has passed never comes
 abbrev pub scheduled : Memory → Planned → Memory
 scheduled m step = cond (nat_le step.before m.numbered) m (record m { pending = m.pending ++ step ∷ [] })
 
--- a process that has begun and not finished is killed
-abbrev pub kill_of : Bool → ℕ → List Event
-kill_of active process = cond active (event process Kill Done ∷ []) []
-
 -- the same data folder for another process, whose calls are counted anew
 abbrev pub passed_on : Memory → ℕ → Memory
 passed_on m process = record {
-  trace = m.trace ++ kill_of (is_active m.local) m.process;
+  trace = m.trace ++ kill_of (is_active m.local && not m.killed) m.process;
   process = process;
   faults = m.faults;
   calls = 0;
@@ -113,28 +166,54 @@ passed_on m process = record {
   local = nothing_local;
   pending = [];
   failing = [];
+  stop = None;
+  killed = false;
 }
 
 -- a call that has a number
 abbrev pub is_numbered : Request → Bool
 is_numbered request = is_begin request || is_fallible request
 
--- the replies that stand for an answer that carries nothing, or a handle
+-- the replies that stand for an answer that carries nothing, a handle, or bytes
 abbrev pub is_plain : Reply → Bool
 is_plain Done = true
-is_plain (Opened handle) = false
 is_plain (Refused error left) = left == 0
+is_plain _ = false
 
 abbrev pub is_opening : Reply → Bool
-is_opening Done = false
 is_opening (Opened handle) = true
 is_opening (Refused error left) = left == 0
+is_opening _ = false
 
--- the trace is a run in which this process has begun, has ended and has open what it knows, and while it is active
--- there is room for the events that give up its handles and itself
-pub record IsMemory (past : Reserved Event) (process : ℕ) (local : Local) (held : ℕ) : Type 0 where
+abbrev pub is_reading : Reply → Bool
+is_reading (Read bytes) = true
+is_reading (Refused error left) = left == 0
+is_reading _ = false
+
+abbrev pub is_read : Request → Bool
+is_read (ReadIn inner at room) = true
+is_read _ = false
+
+-- the reply is of the call's kind
+abbrev pub has_shape : Request → Reply → Bool
+has_shape request reply = cond (asks_for_handle request) (is_opening reply) (cond (is_read request) (is_reading reply) (is_plain reply))
+
+abbrev pub is_names_end : Reply → Bool
+is_names_end (Names names) = true
+is_names_end (Refused error left) = left == 0
+is_names_end _ = false
+
+abbrev pub is_items_end : Reply → Bool
+is_items_end (Items items) = true
+is_items_end (Refused error left) = left == 0
+is_items_end _ = false
+
+-- the trace is a run in which this process has begun, has ended and has open what it knows, and has no listing open; and
+-- while it is active and wasn't killed there is room for the events that give up its handles and itself
+pub record IsMemory (past : Reserved Event) (process : ℕ) (local : Local) (held : ℕ) (killed : Bool) : Type 0 where
   pub run : IsRun past.items
   pub begun : has_begun (state_after past.items).namespace process ≡ is_some local.intent
-  pub ended : has_ended (state_after past.items).namespace process ≡ local.finished
-  pub holds : holdings_in (state_after past.items).namespace process ≡ local.holdings
-  pub room : IsActive local → held + 1 ≤ past.spare
+  pub ended : has_ended (state_after past.items).namespace process ≡ (local.finished || killed)
+  pub holds : killed ≡ false → holdings_in (state_after past.items).namespace process ≡ local.holdings
+  pub listing : is_listing (state_after past.items) process ≡ false
+  pub room : IsActive local → killed ≡ false → held + 1 ≤ past.spare

@@ -3,17 +3,12 @@
 #![tactic(auto)]
 
 mod bundle;
-mod compare;
-mod dir;
 mod entry;
 mod listing;
 mod local;
-mod past;
 mod planned;
 mod sink;
 mod step;
-mod table;
 
 pub use bundle::MemoryBundle;
-pub use dir::MemoryDir;
 pub use sink::MemorySink;

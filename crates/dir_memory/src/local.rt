@@ -1,9 +1,9 @@
 // What a process knows by its own answers.
 ghost use Rattle.std.specs.Prelude.{◌≡◌, ◌+◌, ◌<◌, ◌≤◌, ◌==◌, ◌++◌, ◌∷◌, [], not, map, filter, true, None, vec_len, vec_capacity};
 ghost use Rattle.dir_model.specs.Local.{is_number, held_in, is_open_among};
-ghost use Rattle.dir_model.specs.Locks.{target_of};
 
-use dir_model::{Handle, Holding, Intent, Mode, Reply, Request, Spot, Target, Which};
+use dir_model::{Handle, Holding, Intent, Mode, Reply, Request, Target};
+use dir_state::target_of;
 use std::alloc::Global;
 
 /// What it began as, whether it has finished, and its open handles, the newest last.
@@ -17,8 +17,7 @@ pub struct LocalView {
 impl LocalView {
     ghost use Rattle.std.specs.Prelude.{◌≡◌, ◌+◌, ◌<◌, ◌≤◌, vec_len, vec_capacity};
     ghost use Rattle.dir_model.specs.Local.{nothing_local, local_done, local_opened, local_replied, without, IsOpen};
-    ghost use Rattle.dir_memory.specs.Memories.{is_active};
-    ghost use Rattle.dir_memory.specs.Parts.{local_of};
+    ghost use Rattle.dir_memory.specs.Memories.{is_active, local_of};
 
     /// It hasn't begun. Takes no memory.
     pub fn new(alloc: Global) -> LocalView
@@ -83,8 +82,10 @@ impl LocalView {
         ensures local { local_of self.new ≡ local_opened (local_of self.old) request.now handle }
         ensures most { vec_len self.new.held ≤ vec_len self.old.held + 1 }
     {
-        if let Request::Open { spot, which } = request {
-            hold(&mut self.held, handle, target_of(spot, *which));
+        match request {
+            Request::Open { spot, which } => hold(&mut self.held, handle, target_of(spot, *which)),
+            Request::OpenArea(area) => hold(&mut self.held, handle, Target::Gate(*area)),
+            _ => (),
         }
     }
 
@@ -97,17 +98,8 @@ impl LocalView {
         match reply {
             Reply::Done => self.note_done(request),
             Reply::Opened(handle) => self.note_opened(request, *handle),
-            Reply::Refused { error: _, left: _ } => (),
+            _ => (),
         }
-    }
-}
-
-/// What a handle is opened for.
-pub fn target_of(spot: &Spot, which: Which) -> Target
-    ensures { result ≡ target_of spot.now which }
-{
-    match which {
-        Which::Own => Target::Own(*spot),
     }
 }
 

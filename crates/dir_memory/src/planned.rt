@@ -1,19 +1,21 @@
 // Steps that other processes are to take.
-ghost use Rattle.std.specs.Prelude.{◌≡◌, ◌+◌, ◌<◌, ◌==◌, nat_le, true, length};
-ghost use Rattle.std.specs.List.{list_any, position_or_len};
+ghost use Rattle.std.specs.Prelude.{◌≡◌, ◌+◌, ◌==◌, nat_le};
+ghost use Rattle.std.specs.List.{list_any};
 
 use dir_model::Request;
 
-/// A step of another process, before this process's call with that number.
+/// A step of another process, before this process's call with that number, or inside it where that
+/// is a listing.
 #[derive(Drop)]
 pub struct Planned {
     pub before: u64,
+    pub inside: bool,
     pub process: u32,
     pub request: Request,
 }
 
-// Whether the number is at most that of the call after so many.
-fn is_up_to_next(number: u64, calls: u64) -> bool
+/// Whether the number is at most that of the call after so many.
+pub fn is_up_to_next(number: u64, calls: u64) -> bool
     ensures { result ≡ nat_le number (calls + 1) }
 {
     number.saturating_sub(1) <= calls
@@ -38,32 +40,33 @@ impl Planned {
     ghost use Rattle.std.specs.List.{list_any, position_or_len};
     ghost use Rattle.dir_memory.specs.Schedules.{is_due};
 
-    fn is_due(&self, calls: u64) -> bool
-        ensures { result ≡ is_due (calls + 1) self.now }
+    fn is_due(&self, calls: u64, listing: bool) -> bool
+        ensures { result ≡ is_due (calls + 1) listing self.now }
     {
         is_up_to_next(self.before, calls)
+            && !(listing && self.inside && is_next(self.before, calls))
     }
 
     /// Whether a step is due before the call after so many.
-    pub fn is_any_due(pending: &[Planned], calls: u64) -> bool
-        ensures { result ≡ list_any (is_due (calls + 1)) pending.now }
+    pub fn is_any_due(pending: &[Planned], calls: u64, listing: bool) -> bool
+        ensures { result ≡ list_any (is_due (calls + 1) listing) pending.now }
     {
-        pending.iter().any(|step| step.is_due(calls))
+        pending.iter().any(|step| step.is_due(calls, listing))
     }
 
-    fn find_due(pending: &[Planned], calls: u64) -> Option<usize>
-        ensures { result ≡ position (is_due (calls + 1)) pending.now }
+    fn find_due(pending: &[Planned], calls: u64, listing: bool) -> Option<usize>
+        ensures { result ≡ position (is_due (calls + 1) listing) pending.now }
     {
-        pending.iter().position(|step| step.is_due(calls))
+        pending.iter().position(|step| step.is_due(calls, listing))
     }
 
     /// The place of the first step that is due before the call after so many.
-    pub fn first_due(pending: &[Planned], calls: u64) -> usize
-        requires { list_any (is_due (calls + 1)) pending.now ≡ true }
-        ensures place { result ≡ position_or_len (is_due (calls + 1)) pending.now }
+    pub fn first_due(pending: &[Planned], calls: u64, listing: bool) -> usize
+        requires { list_any (is_due (calls + 1) listing) pending.now ≡ true }
+        ensures place { result ≡ position_or_len (is_due (calls + 1) listing) pending.now }
         ensures within { result < length pending.now }
     {
-        match Planned::find_due(pending, calls) {
+        match Planned::find_due(pending, calls, listing) {
             Some(place) => place,
             None => unreachable!(),
         }

@@ -219,3 +219,7 @@ fault_allowed s p request error may plain fallible fault =
 -- the same of a copy of the request
 pub asked_allowed : (s : DirState) (p : ℕ) (request copy : Request) (reply : Reply) → may_step s p request ≡ true → is_met s p request ≡ true → copy ≡ request → reply ≡ answer s p request → is_allowed s (event p copy reply) ≡ true
 asked_allowed s p request copy reply may met same is = rw (same, is) (answer_allowed s p request may met)
+
+-- what isn't a listing needs no more than that the process may
+pub plain_allowed : (s : DirState) (p : ℕ) (request : Request) → may_step s p request ≡ true → is_listing_request request ≡ false → is_allowed s (event p request (answer s p request)) ≡ true
+plain_allowed s p request may plain = and_both (may_step s p request) (is_reply s p request (answer s p request)) may (rw plain (reply_plain s p request (refusal s p request) plain refl))

@@ -6,8 +6,8 @@ use Rattle.dir_memory.proofs.step.others_step.Given as goal
 abbrev pub invariant-due : goal.invariant-due
 invariant-due l = record {
   interlude : Interlude l.me l.fn.past.items l.past.items;
-  first : with_steps l.me l.past.items (due (l.calls + 1) l.pending.items) ≡ with_steps l.me l.fn.past.items (due (l.calls + 1) l.fn.pending.items);
-  later : not_due (l.calls + 1) l.pending.items ≡ not_due (l.calls + 1) l.fn.pending.items;
+  first : with_steps l.me l.past.items (due (l.calls + 1) l.listing l.pending.items) ≡ with_steps l.me l.fn.past.items (due (l.calls + 1) l.listing l.fn.pending.items);
+  later : not_due (l.calls + 1) l.listing l.pending.items ≡ not_due (l.calls + 1) l.listing l.fn.pending.items;
   kept : l.fn.past.spare ≤ l.past.spare;
 }
 
