@@ -5,7 +5,7 @@ use Rattle.std.specs.declared.fs.locks.TryLockError.{TryLockError}
 use Rattle.std.specs.declared.fs.locks.TryLockError.TheVariants.{Error, WouldBlock}
 use Rattle.dir_model.specs.declared.request.DirError.{DirError}
 use Rattle.dir_model.specs.declared.request.DirError.TheVariants.{Locked}
-use Rattle.dir_host.specs.Refusals.{fault_error}
+use Rattle.host_files.specs.Refusals.{fault_error}
 
 abbrev pub lock_answer : Result (Unit {0}) TryLockError → Result (Unit {0}) DirError
 lock_answer (Ok done) = Ok done

@@ -2,8 +2,8 @@
 ghost use Rattle.std.specs.Prelude.{◌≡◌, ◌≢◌, ◌≤◌, ◌+◌, ◌-◌, ◌^◌, min, [], codes};
 ghost use Rattle.dir_model.specs.Causes.{Rose};
 
-use crate::files::{OpenedFile, list_folder, read_file, read_target};
 use dir_trait::{Bundle, BundleError, BundleItems};
+use host_files::{OpenedFile, list_folder, read_file, read_target};
 use std::alloc::Global;
 use std::fs::File;
 use std::rt::Files;

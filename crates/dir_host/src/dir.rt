@@ -3,8 +3,8 @@ ghost use Rattle.std.specs.Prelude.{◌≡◌, ◌≢◌, ◌≤◌, ◌+◌, �
 ghost use Rattle.dir_model.specs.Causes.{Rose};
 ghost use Rattle.dir_model.specs.Local.{nothing_local};
 
+use crate::locks::{lock_handle, open_lock};
 use crate::open_folders::{OpenFolder, give_up, keep, set_lock, target_of};
-use crate::{folders, inside, listings, locks};
 use dir_trait::{Area, Dir, DirError, Handle, Intent, Items, Mode, Names, Spot, Target, Which};
 use std::alloc::Global;
 use std::fs::File;
@@ -83,35 +83,35 @@ impl<R: Files<File = File> + AllocGlobal + Clone + Drop> Dir for HostDir<R> {
     }
 
     fn make_folder(&mut self, alloc: Global, spot: Spot) -> Result<(), DirError> {
-        match folders::make_folder(&self.rt, alloc, self.root.as_str(), &spot) {
+        match host_files::make_folder(&self.rt, alloc, self.root.as_str(), &spot) {
             Ok(()) => Ok(()),
             Err(error) => Err(counted(&mut self.faults, error)),
         }
     }
 
     fn move_folder(&mut self, alloc: Global, from: Spot, to: Spot) -> Result<(), DirError> {
-        match folders::move_folder(&self.rt, alloc, self.root.as_str(), &from, &to) {
+        match host_files::move_folder(&self.rt, alloc, self.root.as_str(), &from, &to) {
             Ok(()) => Ok(()),
             Err(error) => Err(counted(&mut self.faults, error)),
         }
     }
 
     fn open(&mut self, alloc: Global, spot: Spot, which: Which) -> Result<Handle, DirError> {
-        match locks::open_lock(&self.rt, alloc, self.root.as_str(), &spot, which) {
+        match open_lock(&self.rt, alloc, self.root.as_str(), &spot, which) {
             Ok(folder) => keep(&mut self.folders, folder, target_of(&spot, which)),
             Err(error) => Err(counted(&mut self.faults, error)),
         }
     }
 
     fn open_area(&mut self, alloc: Global, area: Area) -> Result<Handle, DirError> {
-        match folders::open_area(&self.rt, alloc, self.root.as_str(), area) {
+        match host_files::open_area(&self.rt, alloc, self.root.as_str(), area) {
             Ok(folder) => keep(&mut self.folders, folder, Target::Gate(area)),
             Err(error) => Err(counted(&mut self.faults, error)),
         }
     }
 
     fn try_lock(&mut self, _alloc: Global, handle: Handle, mode: Mode) -> Result<(), DirError> {
-        match locks::lock_handle(&self.folders, handle, mode) {
+        match lock_handle(&self.folders, handle, mode) {
             Ok(()) => {
                 set_lock(&mut self.folders, handle, mode);
                 Ok(())
@@ -125,28 +125,28 @@ impl<R: Files<File = File> + AllocGlobal + Clone + Drop> Dir for HostDir<R> {
     }
 
     fn list_area(&mut self, alloc: Global, area: Area) -> Result<Names, DirError> {
-        match listings::list_area(&self.rt, alloc, self.root.as_str(), area) {
+        match host_files::list_area(&self.rt, alloc, self.root.as_str(), area) {
             Ok(names) => Ok(names),
             Err(error) => Err(counted(&mut self.faults, error)),
         }
     }
 
     fn list_in(&mut self, alloc: Global, spot: Spot, path: &str) -> Result<Items, DirError> {
-        match listings::list_inside(&self.rt, alloc, self.root.as_str(), &spot, path) {
+        match host_files::list_inside(&self.rt, alloc, self.root.as_str(), &spot, path) {
             Ok(items) => Ok(items),
             Err(error) => Err(counted(&mut self.faults, error)),
         }
     }
 
     fn make_dir_in(&mut self, alloc: Global, spot: Spot, path: &str) -> Result<(), DirError> {
-        match inside::make_dir(&self.rt, alloc, self.root.as_str(), &spot, path) {
+        match host_files::make_dir(&self.rt, alloc, self.root.as_str(), &spot, path) {
             Ok(()) => Ok(()),
             Err(error) => Err(counted(&mut self.faults, error)),
         }
     }
 
     fn make_file_in(&mut self, alloc: Global, spot: Spot, path: &str) -> Result<(), DirError> {
-        match inside::make_file(&self.rt, alloc, self.root.as_str(), &spot, path) {
+        match host_files::make_file(&self.rt, alloc, self.root.as_str(), &spot, path) {
             Ok(()) => Ok(()),
             Err(error) => Err(counted(&mut self.faults, error)),
         }
@@ -159,7 +159,7 @@ impl<R: Files<File = File> + AllocGlobal + Clone + Drop> Dir for HostDir<R> {
         path: &str,
         piece: &[u8],
     ) -> Result<(), DirError> {
-        match inside::append(&self.rt, alloc, self.root.as_str(), &spot, path, piece) {
+        match host_files::append(&self.rt, alloc, self.root.as_str(), &spot, path, piece) {
             Ok(()) => Ok(()),
             Err(error) => Err(counted(&mut self.faults, error)),
         }
@@ -173,42 +173,42 @@ impl<R: Files<File = File> + AllocGlobal + Clone + Drop> Dir for HostDir<R> {
         at: u64,
         room: &mut [u8],
     ) -> Result<usize, DirError> {
-        match inside::read(&self.rt, alloc, self.root.as_str(), &spot, path, at, room) {
+        match host_files::read(&self.rt, alloc, self.root.as_str(), &spot, path, at, room) {
             Ok(count) => Ok(count),
             Err(error) => Err(counted(&mut self.faults, error)),
         }
     }
 
     fn sync_in(&mut self, alloc: Global, spot: Spot, path: &str) -> Result<(), DirError> {
-        match inside::sync(&self.rt, alloc, self.root.as_str(), &spot, path) {
+        match host_files::sync(&self.rt, alloc, self.root.as_str(), &spot, path) {
             Ok(()) => Ok(()),
             Err(error) => Err(counted(&mut self.faults, error)),
         }
     }
 
     fn sync_area(&mut self, alloc: Global, area: Area) -> Result<(), DirError> {
-        match folders::sync_area(&self.rt, alloc, self.root.as_str(), area) {
+        match host_files::sync_area(&self.rt, alloc, self.root.as_str(), area) {
             Ok(()) => Ok(()),
             Err(error) => Err(counted(&mut self.faults, error)),
         }
     }
 
     fn remove_file_in(&mut self, alloc: Global, spot: Spot, path: &str) -> Result<(), DirError> {
-        match inside::remove_file(&self.rt, alloc, self.root.as_str(), &spot, path) {
+        match host_files::remove_file(&self.rt, alloc, self.root.as_str(), &spot, path) {
             Ok(()) => Ok(()),
             Err(error) => Err(counted(&mut self.faults, error)),
         }
     }
 
     fn remove_dir_in(&mut self, alloc: Global, spot: Spot, path: &str) -> Result<(), DirError> {
-        match inside::remove_dir(&self.rt, alloc, self.root.as_str(), &spot, path) {
+        match host_files::remove_dir(&self.rt, alloc, self.root.as_str(), &spot, path) {
             Ok(()) => Ok(()),
             Err(error) => Err(counted(&mut self.faults, error)),
         }
     }
 
     fn remove_folder(&mut self, alloc: Global, spot: Spot) -> Result<(), DirError> {
-        match folders::remove_folder(&self.rt, alloc, self.root.as_str(), &spot) {
+        match host_files::remove_folder(&self.rt, alloc, self.root.as_str(), &spot) {
             Ok(()) => Ok(()),
             Err(error) => Err(counted(&mut self.faults, error)),
         }

@@ -2,19 +2,11 @@
 //! to, and what a program is given when it starts.
 #![tactic(auto)]
 
-mod asks;
 mod bundle;
 mod dir;
-mod files;
-mod folders;
-mod inside;
-mod listings;
 mod locks;
-mod looks;
 mod open_folders;
 mod outside;
-mod place;
-mod refusals;
 mod sink;
 
 pub use bundle::HostBundle;

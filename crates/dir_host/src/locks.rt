@@ -5,10 +5,9 @@ ghost use Rattle.dir_model.specs.Local.{is_number, is_open_among};
 ghost use Rattle.dir_host.specs.OpenFolders.{holdings_of};
 ghost use Rattle.dir_host.specs.LockAnswers.{lock_answer};
 
-use crate::inside::{for_reading, open_dir, open_regular};
 use crate::open_folders::{OpenFolder, folder_of};
-use crate::refusals::fault;
 use dir_trait::{DirError, Handle, Mode, Spot, Which};
+use host_files::{fault, for_reading, open_dir, open_regular};
 use std::alloc::Global;
 use std::fs::{File, TryLockError};
 use std::rt::Files;

@@ -7,8 +7,8 @@ ghost use Rattle.dir_host.specs.Setup.{StandsFor, IsDrawnOf};
 ghost use Rattle.dir_host.specs.declared.outside.SetupError.TheVariants.{NoMemory};
 
 use crate::dir::HostDir;
-use crate::place::{AREAS, path_of_area};
 use dir_trait::{Dir, Draw, PodId};
+use host_files::{AREAS, path_of_area};
 use std::alloc::{AllocError, Global};
 use std::env::VarError;
 use std::fs::File;

@@ -3,7 +3,7 @@ ghost use Rattle.std.specs.Prelude.{◌≡◌, ◌≢◌, ◌≤◌, ◌<◌, �
 ghost use Rattle.dir_model.specs.Causes.{Rose};
 ghost use Rattle.std.specs.IoError.{error_kind};
 ghost use Rattle.std.specs.Io.KnownBytes.{WriteAppends};
-ghost use Rattle.dir_host.specs.Refusals.{sink_error};
+ghost use Rattle.host_files.specs.Refusals.{sink_error};
 
 use dir_trait::{Sink, SinkError};
 use std::alloc::Global;

@@ -4,8 +4,8 @@ ghost use Rattle.std.specs.Prelude.{◌≡◌, ◌≢◌, ◌≤◌, ◌++◌, �
 ghost use Rattle.std.specs.Fs.{file_type, IsDir, IsFile, IsSymlink};
 ghost use Rattle.std.specs.IoError.{error_kind};
 ghost use Rattle.dir_trait.specs.Bundles.{IsListing};
-ghost use Rattle.dir_host.specs.Refusals.{bundle_error};
-ghost use Rattle.dir_host.specs.Readings.{GoesOn, StaysOpened};
+ghost use Rattle.host_files.specs.Refusals.{bundle_error};
+ghost use Rattle.host_files.specs.Readings.{GoesOn, StaysOpened};
 
 use dir_trait::{BundleError, BundleItems, BundleKind, FileName, NoMemory, listing_of};
 use std::alloc::{AllocError, Global};

@@ -1,6 +1,6 @@
 // Where things stand in the data folder.
 ghost use Rattle.std.specs.Prelude.{◌≡◌, ◌++◌, codes, string_bytes, IfOk};
-ghost use Rattle.dir_host.specs.Places.{area_place, area_path, folder_path, inner_path, has_dots};
+ghost use Rattle.host_files.specs.Places.{area_place, area_path, folder_path, inner_path, has_dots};
 
 use dir_trait::{Area, Spot};
 use std::alloc::{AllocError, Global};

@@ -3,8 +3,8 @@ ghost use Rattle.std.specs.Prelude.{◌≡◌, ◌⊎◌, ◌↔◌, true, strin
 ghost use Rattle.std.specs.Fs.{file_type, IsDir, IsFile};
 ghost use Rattle.std.specs.IoError.{error_kind};
 ghost use Rattle.dir_model.specs.Replies.{is_fault};
-ghost use Rattle.dir_host.specs.Places.{inner_path, has_dots};
-ghost use Rattle.dir_host.specs.Refusals.{absent_error};
+ghost use Rattle.host_files.specs.Places.{inner_path, has_dots};
+ghost use Rattle.host_files.specs.Refusals.{absent_error};
 
 use crate::asks::{look_at, look_at_area};
 use crate::place::{has_dots, path_inside, path_of_area};

@@ -1,8 +1,8 @@
 use Rattle.std.proofs.Common.{lit<, rules}
 use Rattle.std.proofs.lemmas.Iterator.Search.{any_from_yields_List}
 use Rattle.std.proofs.lemmas.Iterator.Splits.{YieldsList-from_str_split}
-use Rattle.dir_host.specs.Places.{is_dots}
-use Rattle.dir_host.proofs.place.has_dots.Goals as goal
+use Rattle.host_files.specs.Places.{is_dots}
+use Rattle.host_files.proofs.place.has_dots.Goals as goal
 
 pub returns : goal.returns
 returns c =

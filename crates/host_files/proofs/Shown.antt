@@ -7,7 +7,7 @@ use Rattle.dir_model.specs.declared.item.Item.{Item}
 use Rattle.dir_model.specs.Listings.{item_names}
 use Rattle.dir_trait.specs.declared.bundle.BundleItem.{BundleItem}
 use Rattle.dir_trait.specs.Bundles.{IsListing}
-use Rattle.dir_host.specs.Shown.{shown_item}
+use Rattle.host_files.specs.Shown.{shown_item}
 
 pub names_shown : (entries : List BundleItem) → item_names (map shown_item entries) ≡ map (λ (e : BundleItem). e.name) entries
 names_shown [] = refl

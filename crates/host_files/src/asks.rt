@@ -1,6 +1,6 @@
 // What the system is asked of the data folder: one call of std each, at the path that is named beside it.
 ghost use Rattle.std.specs.Prelude.{◌≡◌, ◌++◌, codes};
-ghost use Rattle.dir_host.specs.Places.{area_path, folder_path, inner_path};
+ghost use Rattle.host_files.specs.Places.{area_path, folder_path, inner_path};
 
 use dir_trait::{Area, Spot};
 use std::fs::{File, Metadata, OpenOptions};

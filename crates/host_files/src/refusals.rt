@@ -2,7 +2,7 @@
 ghost use Rattle.std.specs.Prelude.{◌≡◌, ◌⊎◌, true};
 ghost use Rattle.std.specs.IoError.{error_kind};
 ghost use Rattle.dir_model.specs.Replies.{is_fault};
-ghost use Rattle.dir_host.specs.Refusals.{fault_error, absent_error, folder_error, make_error, move_error, remove_error};
+ghost use Rattle.host_files.specs.Refusals.{fault_error, absent_error, folder_error, make_error, move_error, remove_error};
 
 use dir_trait::DirError;
 use std::alloc::AllocError;

@@ -6,7 +6,7 @@ ghost use Rattle.std.specs.List.Sorted.{IsStrictlySortedBy};
 ghost use Rattle.dir_model.specs.Listings.{item_names};
 ghost use Rattle.dir_model.specs.Replies.{is_fault};
 ghost use Rattle.dir_trait.specs.Bundles.{IsListing};
-ghost use Rattle.dir_host.specs.Shown.{shown_item};
+ghost use Rattle.host_files.specs.Shown.{shown_item};
 
 use crate::files::list_folder;
 use crate::inside::open_dir;
