@@ -1,6 +1,5 @@
 // The files of the host are a `Bundle`.
 ghost use Rattle.std.specs.Prelude.{◌≡◌, ◌≢◌, ◌≤◌, ◌+◌, ◌-◌, ◌^◌, min, [], codes};
-ghost use Rattle.dir_model.specs.Causes.{Rose};
 
 use dir_trait::{Bundle, BundleError, BundleItems};
 use host_files::{OpenedFile, list_folder, read_file, read_target};

@@ -1,6 +1,5 @@
 // A folder of the host is a `Dir`.
-ghost use Rattle.std.specs.Prelude.{◌≡◌, ◌≢◌, ◌≤◌, ◌+◌, ◌-◌, ◌^◌, min, [], true, false, IsErrOf, IfErr};
-ghost use Rattle.dir_model.specs.Causes.{Rose};
+ghost use Rattle.std.specs.Prelude.{◌≡◌, ◌≢◌, ◌≤◌, ◌+◌, ◌-◌, ◌^◌, min, [], false};
 ghost use Rattle.dir_model.specs.Local.{nothing_local};
 
 use crate::locks::{lock_handle, open_lock};

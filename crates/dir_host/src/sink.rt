@@ -1,6 +1,5 @@
 // A stream of the host is a `Sink`.
 ghost use Rattle.std.specs.Prelude.{◌≡◌, ◌≢◌, ◌≤◌, ◌<◌, ◌+◌, ◌-◌, ◌^◌, min, length, IfOk, IfErr};
-ghost use Rattle.dir_model.specs.Causes.{Rose};
 ghost use Rattle.std.specs.IoError.{error_kind};
 ghost use Rattle.std.specs.Io.KnownBytes.{WriteAppends};
 ghost use Rattle.host_files.specs.Refusals.{sink_error};

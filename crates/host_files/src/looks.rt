@@ -1,10 +1,8 @@
 // What stands in the data folder, by its own kind: no link is followed.
-ghost use Rattle.std.specs.Prelude.{◌≡◌, ◌⊎◌, ◌↔◌, true, string_bytes, Ok, Err, IfOk, IfErr, IsOkAnd, IsErrAnd};
+ghost use Rattle.std.specs.Prelude.{◌≡◌, ◌⊎◌, ◌↔◌, true, string_bytes, Err, IfOk, IfErr};
 ghost use Rattle.std.specs.Fs.{file_type, IsDir, IsFile};
-ghost use Rattle.std.specs.IoError.{error_kind};
 ghost use Rattle.dir_model.specs.Replies.{is_fault};
 ghost use Rattle.host_files.specs.Places.{inner_path, has_dots};
-ghost use Rattle.host_files.specs.Refusals.{absent_error};
 
 use crate::asks::{look_at, look_at_area};
 use crate::place::{has_dots, path_inside, path_of_area};
