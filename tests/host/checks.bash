@@ -2,7 +2,8 @@
 # checks. It is read at the top of the repository.
 export LC_ALL=C
 script=$(basename "$0")
-built=$PWD/crates/rkt/out/rkt
+program=${program:-rkt}
+built=$PWD/crates/$program/out/$program
 checks=0
 failures=0
 

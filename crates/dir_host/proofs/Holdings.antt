@@ -1,12 +1,13 @@
 -- The list of holdings, of the folders that are open.
-use Rattle.std.proofs.Common.{◌≡◌, Bool, true, false, not, ◌||◌, cond, Some, None, List, [], ◌∷◌, map, filter, find, refl, sym, ◌∙◌, ap}
+use Rattle.std.proofs.Common.{◌≡◌, ℕ, ◌+◌, inl, inr, arith, subst, Bool, true, false, not, ◌||◌, cond, Some, None, List, [], ◌∷◌, map, filter, find, refl, sym, ◌∙◌, ap}
 use Rattle.std.specs.List.{list_any}
 use Rattle.dir_model.specs.declared.spot.Handle.{Handle}
 use Rattle.dir_model.specs.declared.spot.Mode.{Mode}
 use Rattle.dir_model.specs.Local.{is_number, is_open_among, held_in}
 use Rattle.dir_model.proofs.Lists.{any_of_map}
 use Rattle.dir_host.specs.declared.open_folders.OpenFolder.{OpenFolder}
-use Rattle.dir_host.specs.OpenFolders.{holdings_of}
+use Rattle.std.proofs.lemmas.Bool.{cases_lt}
+use Rattle.dir_host.specs.OpenFolders.{holdings_of, AreOpenBelow}
 
 pub holdings_any : (handle : Handle) (folders : List OpenFolder) → is_open_among handle (holdings_of folders) ≡ list_any (λ f. is_number handle f.holding) folders
 holdings_any handle folders = any_of_map (λ f. f.holding) (is_number handle) folders
@@ -44,3 +45,7 @@ found_passes t (x ∷ xs) y is = by (t x) refl is (λ later. found_passes t xs y
     by : (b : Bool) → t x ≡ b → cond b (Some x) (find t xs) ≡ Some y → (find t xs ≡ Some y → t y ≡ true) → t y ≡ true
     by true passes is later = let same : x ≡ y = cc in ap t (sym same) ∙ passes
     by false passes is later = later is
+
+-- one handle more is open
+pub open_below_more : (k : ℕ) (folders : List OpenFolder) → AreOpenBelow k folders → is_open_among (record { number = k }) (holdings_of folders) ≡ true → AreOpenBelow (k + 1) folders
+open_below_more k folders below is n lt = elim (cases_lt n k) [ inl less ↦ below n less | inr more ↦ let same : k ≡ n = omega (arith, lt, more) in subst (λ (m : ℕ). is_open_among (record { number = m }) (holdings_of folders) ≡ true) same is ]

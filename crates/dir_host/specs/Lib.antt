@@ -1,5 +1,3 @@
-pub mod Places
 pub mod OpenFolders
 pub mod Setup
-pub mod Refusals
-pub mod Readings
+pub mod LockAnswers

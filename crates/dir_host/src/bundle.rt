@@ -1,9 +1,8 @@
 // The files of the host are a `Bundle`.
-ghost use Rattle.std.specs.Prelude.{◌≡◌, ◌≢◌, ◌≤◌, ◌+◌, [], codes};
-ghost use Rattle.dir_model.specs.Causes.{Rose};
+ghost use Rattle.std.specs.Prelude.{◌≡◌, ◌≢◌, ◌≤◌, ◌+◌, ◌-◌, ◌^◌, min, [], codes};
 
-use crate::files::{OpenedFile, list_folder, read_file, read_target};
 use dir_trait::{Bundle, BundleError, BundleItems};
+use host_files::{OpenedFile, list_folder, read_file, read_target};
 use std::alloc::Global;
 use std::fs::File;
 use std::rt::Files;
@@ -36,8 +35,7 @@ impl<R: Files<File = File> + AllocGlobal + Clone + Drop> HostBundle<R> {
 fn counted(faults: &mut u64, error: BundleError) -> BundleError
     ensures same { result ≡ error }
     ensures kept { faults.old ≤ faults.new }
-    ensures rose { error ≡ BundleError.Failed → Rose faults.old faults.new }
-    ensures once { error ≡ BundleError.Failed → faults.new ≤ faults.old + 1 }
+    ensures once { error ≡ BundleError.Failed → faults.new ≡ min (faults.old + 1) (2 ^ 64 - 1) }
     ensures calm { error ≢ BundleError.Failed → faults.new ≡ faults.old }
 {
     if error == BundleError::Failed {

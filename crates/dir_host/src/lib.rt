@@ -4,12 +4,10 @@
 
 mod bundle;
 mod dir;
-mod files;
+mod locks;
 mod open_folders;
 mod outside;
-mod place;
 mod sink;
-mod system;
 
 pub use bundle::HostBundle;
 pub use dir::HostDir;

@@ -1,15 +1,15 @@
-// The folders that this process has open, the newest last.
-ghost use Rattle.std.specs.Prelude.{◌≡◌, ◌++◌, ◌∷◌, [], map, filter, find, not, true, false, None, IfSome, IfOk, IfErr, OnErr};
+// What this process has open for locks, the newest last: folders, files `pod`, areas.
+ghost use Rattle.std.specs.Prelude.{◌≡◌, ◌^◌, ◌-◌, ◌++◌, ◌∷◌, [], map, filter, find, not, false, None, IfSome, IfOk, IfErr, OnErr};
 ghost use Rattle.std.specs.List.{list_any};
 ghost use Rattle.std.specs.Option.{option_copied};
 ghost use Rattle.dir_model.specs.Local.{is_number, is_open_among, held_in};
 ghost use Rattle.dir_model.specs.Locks.{target_of};
-ghost use Rattle.dir_host.specs.OpenFolders.{holdings_of};
+ghost use Rattle.dir_host.specs.OpenFolders.{holdings_of, AreOpenBelow};
 
 use dir_trait::{DirError, Handle, Holding, Mode, Spot, Target, Which};
 use std::fs::File;
 
-/// An open folder. Its lock is given up where it is dropped.
+/// An open folder, a file `pod` or an area. Its lock is given up where it is dropped.
 #[derive(Drop)]
 pub struct OpenFolder {
     pub holding: Holding,
@@ -24,12 +24,14 @@ fn is_open(folders: &[OpenFolder], handle: Handle) -> bool
         .any(|f| f.holding.handle.number == handle.number)
 }
 
-/// A handle that isn't open. None where every number is taken.
+/// The handle with the least number that isn't open. None where each below the greatest is.
 #[tactic(auto, using(crate::proofs::Holdings::holdings_any))]
 fn unused_handle(folders: &[OpenFolder]) -> Option<Handle>
-    ensures { IfSome result (λ handle. is_open_among handle (holdings_of folders.now) ≡ false) }
+    ensures unused { IfSome result (λ handle. is_open_among handle (holdings_of folders.now) ≡ false) }
+    ensures least { IfSome result (λ handle. AreOpenBelow handle.number folders.now) }
+    ensures full { result ≡ None → AreOpenBelow (2 ^ 32 - 1) folders.now }
 {
-    for number in 0..u32::MAX {
+    'numbers: for number in 0..u32::MAX {
         let handle = Handle { number };
         if !is_open(folders, handle) {
             return Some(handle);
@@ -47,24 +49,21 @@ pub fn folder_of<'a>(folders: &'a [OpenFolder], handle: Handle) -> Option<&'a Op
         .find(|f| f.holding.handle.number == handle.number)
 }
 
-fn target_of(spot: &Spot, which: Which) -> Target
+/// What is opened for a lock of the folder at a location.
+pub fn target_of(spot: &Spot, which: Which) -> Target
     ensures { result ≡ target_of spot.now which }
 {
     match which {
         Which::Own => Target::Own(*spot),
+        Which::Claim => Target::Claim(*spot),
     }
 }
 
-/// Keeps an open folder under a new handle. Where memory is short the folder is closed again.
-pub fn keep(
-    folders: &mut Vec<OpenFolder>,
-    folder: File,
-    spot: &Spot,
-    which: Which,
-) -> Result<Handle, DirError>
+/// Keeps what was opened under a new handle. Where memory is short it is closed again.
+pub fn keep(folders: &mut Vec<OpenFolder>, folder: File, target: Target) -> Result<Handle, DirError>
     ensures unopened { IfOk result (λ handle. is_open_among handle (holdings_of folders.old.items) ≡ false) }
     ensures kept { IfOk result (λ handle. holdings_of folders.new.items
-        ≡ holdings_of folders.old.items ++ record { handle = handle; target = target_of spot.now which; lock = None } ∷ []) }
+        ≡ holdings_of folders.old.items ++ record { handle = handle; target = target; lock = None } ∷ []) }
     ensures only { IfErr result (λ e. e ≡ DirError.NoMemory) }
     ensures refused { OnErr result (holdings_of folders.new.items ≡ holdings_of folders.old.items) }
 {
@@ -73,7 +72,7 @@ pub fn keep(
     };
     let holding = Holding {
         handle,
-        target: target_of(spot, which),
+        target,
         lock: None,
     };
     match folders.push(OpenFolder { holding, folder }) {

@@ -1,13 +1,14 @@
 // What a program is given when it starts.
-ghost use Rattle.std.specs.Prelude.{◌≡◌, IfOk, IsErrOf};
+ghost use Rattle.std.specs.Prelude.{◌≡◌, ◌/◌, IfOk, IsErrOf};
 ghost use Rattle.uuid.specs.Parts.{with_version, with_variant};
 ghost use Rattle.dir_model.specs.Local.{nothing_local};
-ghost use Rattle.dir_host.specs.Setup.{StandsFor};
+ghost use Rattle.std.specs.Time.{system_time_nanos};
+ghost use Rattle.dir_host.specs.Setup.{StandsFor, IsDrawnOf};
 ghost use Rattle.dir_host.specs.declared.outside.SetupError.TheVariants.{NoMemory};
 
 use crate::dir::HostDir;
-use crate::place::{AREAS, path_of_area};
 use dir_trait::{Dir, Draw, PodId};
+use host_files::{AREAS, path_of_area};
 use std::alloc::{AllocError, Global};
 use std::env::VarError;
 use std::fs::File;
@@ -49,7 +50,7 @@ impl From<io::Error> for SetupError {
 
 /// What a command is run with: the moment in seconds, random bytes, and the data folder.
 #[derive(Drop)]
-pub struct Outside<R: Files<File = File> + Drop> {
+pub struct Outside<R: Files<File = File> + AllocGlobal + Clone + Drop> {
     pub now: u64,
     pub draw: Draw,
     pub dir: HostDir<R>,
@@ -99,15 +100,22 @@ fn make_areas<R: Files + AllocGlobal>(rt: &R, root: &str) -> Result<(), SetupErr
     Ok(())
 }
 
+/// The whole seconds since 1970.
+fn seconds_of(now: SystemTime) -> u64
+    ensures { result ≡ system_time_nanos now / 1_000_000_000 }
+{
+    match now.duration_since(UNIX_EPOCH) {
+        Ok(since) => since.as_secs(),
+        Err(_) => 0,
+    }
+}
+
 /// The seconds since 1970, or 0 where the clock stands before.
 fn read_clock<R: Clock>(rt: &R) -> Result<u64, SetupError>
     ensures { IsErrOf result SetupError.Usage → ⊥ }
 {
     match SystemTime::now(rt) {
-        Ok(now) => match now.duration_since(UNIX_EPOCH) {
-            Ok(since) => Ok(since.as_secs()),
-            Err(_) => Ok(0),
-        },
+        Ok(now) => Ok(seconds_of(now)),
         Err(error) if error.kind() == ErrorKind::InvalidData => Ok(0),
         Err(error) => Err(SetupError::from(error)),
     }
@@ -122,11 +130,11 @@ fn pod_of(random: [u8; 16]) -> PodId
     }
 }
 
-/// 96 bytes of the system's random source, of which the first 16 are an identity.
-fn draw_random<R: Files>(rt: &R) -> Result<Draw, SetupError>
-    ensures { IsErrOf result SetupError.Usage → ⊥ }
+/// The next 96 bytes of a source: an identity, a token and a key.
+fn draw_from<S: Read>(source: &mut S) -> Result<Draw, SetupError>
+    ensures words { IsErrOf result SetupError.Usage → ⊥ }
+    ensures drawn { IfOk result (λ draw. IsDrawnOf (S.remaining source.old) (S.remaining source.new) draw) }
 {
-    let mut source = File::open(rt, "/dev/urandom")?;
     let mut identity = [0; 16];
     source.read_exact(&mut identity)?;
     let mut token = [0; 16];
@@ -140,9 +148,17 @@ fn draw_random<R: Files>(rt: &R) -> Result<Draw, SetupError>
     })
 }
 
+/// Draws of the system's random source.
+fn draw_random<R: Files>(rt: &R) -> Result<Draw, SetupError>
+    ensures { IsErrOf result SetupError.Usage → ⊥ }
+{
+    let mut source = File::open(rt, "/dev/urandom")?;
+    draw_from(&mut source)
+}
+
 /// Finds the data folder and makes its missing areas, reads the clock and draws random bytes. The
 /// directory is that of a process with this number, which hasn't begun.
-pub fn assemble<R: Files<File = File> + Env + Clock + AllocGlobal + Drop>(
+pub fn assemble<R: Files<File = File> + Env + Clock + AllocGlobal + Clone + Drop>(
     rt: R,
     process: u32,
 ) -> Result<Outside<R>, SetupError>

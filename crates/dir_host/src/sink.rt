@@ -1,7 +1,8 @@
 // A stream of the host is a `Sink`.
-ghost use Rattle.std.specs.Prelude.{◌≡◌, ◌≤◌, ◌<◌, ◌+◌, ◌↔◌, length, IfOk};
-ghost use Rattle.dir_model.specs.Causes.{Rose};
+ghost use Rattle.std.specs.Prelude.{◌≡◌, ◌≢◌, ◌≤◌, ◌<◌, ◌+◌, ◌-◌, ◌^◌, min, length, IfOk, IfErr};
 ghost use Rattle.std.specs.IoError.{error_kind};
+ghost use Rattle.std.specs.Io.KnownBytes.{WriteAppends};
+ghost use Rattle.host_files.specs.Refusals.{sink_error};
 
 use dir_trait::{Sink, SinkError};
 use std::alloc::Global;
@@ -33,9 +34,10 @@ impl<W: Write + Drop> HostSink<W> {
 
 /// Writes a part of the piece, and asks again where a signal came between.
 fn write_part<W: Write>(writer: &mut W, piece: &[u8]) -> io::Result<usize>
-    ensures { IfOk result (λ n. n ≤ length piece.now) }
+    ensures most { IfOk result (λ n. n ≤ length piece.now) }
+    ensures bytes { WriteAppends (W.contents writer.old) (W.contents writer.new) result piece.now }
 {
-    for _ in 0..u64::MAX {
+    'tries: for _ in 0..u64::MAX {
         match writer.write(piece) {
             Ok(count) => return Ok(count),
             Err(error) if error.kind() == ErrorKind::Interrupted => {}
@@ -47,7 +49,7 @@ fn write_part<W: Write>(writer: &mut W, piece: &[u8]) -> io::Result<usize>
 
 /// What a write that failed means.
 fn sink_error(error: io::Error) -> SinkError
-    ensures { (result ≡ SinkError.NoMemory) ↔ (error_kind error ≡ ErrorKind.OutOfMemory) }
+    ensures { result ≡ sink_error (error_kind error) }
 {
     match error.kind() {
         ErrorKind::OutOfMemory => SinkError::NoMemory,
@@ -55,26 +57,37 @@ fn sink_error(error: io::Error) -> SinkError
     }
 }
 
-/// How many bytes were written, at least 1, or why none was.
-fn written<W: Write>(writer: &mut W, piece: &[u8]) -> Result<usize, SinkError>
-    ensures most { IfOk result (λ n. n ≤ length piece.now) }
-    ensures some { IfOk result (λ n. 0 < n) }
+/// What the answer to a write means: a stream that takes nothing is full.
+fn count_of(answer: io::Result<usize>) -> Result<usize, SinkError>
+    ensures full { answer ≡ Ok 0 → result ≡ Err SinkError.Failed }
+    ensures some { IfOk answer (λ n. 0 < n → result ≡ Ok n) }
+    ensures refused { IfErr answer (λ e. result ≡ Err (sink_error (error_kind e))) }
 {
-    match write_part(writer, piece) {
+    match answer {
         Ok(0) => Err(SinkError::Failed),
         Ok(count) => Ok(count),
         Err(error) => Err(sink_error(error)),
     }
 }
 
+/// How many bytes were written, at least 1, or why none was.
+fn written<W: Write>(writer: &mut W, piece: &[u8]) -> Result<usize, SinkError>
+    ensures most { IfOk result (λ n. n ≤ length piece.now) }
+    ensures some { IfOk result (λ n. 0 < n) }
+    ensures bytes { WriteAppends (W.contents writer.old) (W.contents writer.new) result piece.now }
+{
+    count_of(write_part(writer, piece))
+}
+
 /// Counts a failure or a want of memory, and hands the refusal on.
 fn counted(faults: &mut u64, shortages: &mut u64, error: SinkError) -> SinkError
     ensures same { result ≡ error }
-    ensures cause { error ≡ SinkError.Failed → Rose faults.old faults.new }
-    ensures shortage { error ≡ SinkError.NoMemory → Rose shortages.old shortages.new }
-    ensures faults { faults.old ≤ faults.new }
-    ensures shortages { shortages.old ≤ shortages.new }
-    ensures once { faults.new + shortages.new ≤ faults.old + shortages.old + 1 }
+    ensures kept_faults { faults.old ≤ faults.new }
+    ensures kept_shortages { shortages.old ≤ shortages.new }
+    ensures fault { error ≡ SinkError.Failed → faults.new ≡ min (faults.old + 1) (2 ^ 64 - 1) }
+    ensures calm { error ≢ SinkError.Failed → faults.new ≡ faults.old }
+    ensures shortage { error ≡ SinkError.NoMemory → shortages.new ≡ min (shortages.old + 1) (2 ^ 64 - 1) }
+    ensures ample { error ≢ SinkError.NoMemory → shortages.new ≡ shortages.old }
 {
     match error {
         SinkError::Failed => *faults = faults.saturating_add(1),

@@ -1,7 +1,8 @@
 // The answers of folders and files of the host, on the file system that the tests run on.
+ghost use Rattle.std.specs.Prelude.{◌≤◌};
 ghost use Rattle.dir_model.specs.Local.{IsActive};
 
-use dir_host::{HostBundle, HostDir, HostSink};
+use dir_host::{HostBundle, HostDir, HostSink, assemble};
 use dir_trait::{
     Area, Bundle, BundleError, BundleItem, BundleKind, Dir, DirError, Intent, Kind, Mode, PodId,
     PodPrefix, Sink, SinkError, Spot, Which, write_whole,
@@ -11,6 +12,7 @@ use std::io::{ErrorKind, Write};
 use std::os::unix::fs::symlink;
 use std::os::unix::io::AsRawFd;
 use std::test::Fail;
+use std::time::{SystemTime, UNIX_EPOCH};
 use std::{env, fs, io};
 
 fn pod(area: Area) -> Spot {
@@ -164,6 +166,83 @@ fn an_area_that_is_no_directory_is_a_fault(rt: HostRuntime) -> Result<(), Fail> 
     Ok(())
 }
 
+/// 1 where the call failed.
+fn failure<T>(answer: &Result<T, DirError>) -> u64
+    ensures { result ≤ 1 }
+{
+    match answer {
+        Err(DirError::Failed) => 1,
+        _ => 0,
+    }
+}
+
+/// How many of the calls on a folder fail.
+fn failed_on_folder<D: Dir>(dir: &mut D, alloc: Global, area: Area) -> u64
+    requires { IsActive (D.shown dir.old).local }
+    ensures { IsActive (D.shown dir.new).local }
+{
+    let made = failure(&dir.make_folder(alloc, pod(area)));
+    let moved = failure(&dir.move_folder(alloc, pod(area), pod(Area::Prepare)));
+    let opened = failure(&dir.open(alloc, pod(area), Which::Claim));
+    let removed = failure(&dir.remove_folder(alloc, pod(area)));
+    made + moved + opened + removed
+}
+
+/// How many of the calls on an area fail.
+fn failed_on_area<D: Dir>(dir: &mut D, alloc: Global, area: Area) -> u64
+    requires { IsActive (D.shown dir.old).local }
+    ensures { IsActive (D.shown dir.new).local }
+{
+    let opened = failure(&dir.open_area(alloc, area));
+    let listed = failure(&dir.list_area(alloc, area));
+    let synced = failure(&dir.sync_area(alloc, area));
+    opened + listed + synced
+}
+
+/// How many of the calls that make or remove something in a folder fail.
+fn failed_changes<D: Dir>(dir: &mut D, alloc: Global, area: Area) -> u64
+    requires { IsActive (D.shown dir.old).local }
+    ensures { IsActive (D.shown dir.new).local }
+{
+    let directory = failure(&dir.make_dir_in(alloc, pod(area), ""));
+    let file = failure(&dir.make_file_in(alloc, pod(area), ""));
+    let removed = failure(&dir.remove_file_in(alloc, pod(area), ""));
+    let emptied = failure(&dir.remove_dir_in(alloc, pod(area), ""));
+    directory + file + removed + emptied
+}
+
+/// How many of the calls that write, read, list or sync something in a folder fail.
+fn failed_inside<D: Dir>(dir: &mut D, alloc: Global, area: Area) -> u64
+    requires { IsActive (D.shown dir.old).local }
+    ensures { IsActive (D.shown dir.new).local }
+{
+    let appended = failure(&dir.append_in(alloc, pod(area), "", b"x"));
+    let read = failure(&dir.read_in(alloc, pod(area), "", 0, &mut [0; 2]));
+    let listed = failure(&dir.list_in(alloc, pod(area), ""));
+    let synced = failure(&dir.sync_in(alloc, pod(area), ""));
+    appended + read + listed + synced
+}
+
+#[test]
+fn each_call_that_fails_is_one_fault(rt: HostRuntime) -> Result<(), Fail> {
+    let alloc = rt.alloc();
+    let root = folder(&rt, "each_fails")?;
+    let mut dir = HostDir::new(alloc, &rt, root.clone()?, 1);
+    assert!(rt; dir.begin(alloc, intent()).is_ok());
+    assert_eq!(rt; failed_on_folder(&mut dir, alloc, Area::Run), 4);
+    assert_eq!(rt; failed_on_area(&mut dir, alloc, Area::Run), 3);
+    assert_eq!(rt; failed_changes(&mut dir, alloc, Area::Run), 4);
+    assert_eq!(rt; failed_inside(&mut dir, alloc, Area::Run), 4);
+    assert_eq!(rt; dir.faults(), 15);
+    assert_eq!(rt; failed_on_folder(&mut dir, alloc, Area::Embryo), 0);
+    assert_eq!(rt; failed_on_area(&mut dir, alloc, Area::Embryo), 0);
+    assert_eq!(rt; failed_changes(&mut dir, alloc, Area::Embryo), 0);
+    assert_eq!(rt; failed_inside(&mut dir, alloc, Area::Embryo), 0);
+    assert_eq!(rt; dir.faults(), 15);
+    fs::remove_dir_all(&rt, root.as_str())?;
+    Ok(())
+}
+
 /// Is interrupted at its first write, takes two bytes at each of the next two, and is full then.
 #[derive(Drop)]
 struct Small {
@@ -287,5 +366,23 @@ fn a_pipe_is_no_file(rt: HostRuntime) -> Result<(), Fail> {
         Err(BundleError::Missing)
     );
     assert_eq!(rt; bundle.faults(), 0);
+    Ok(())
+}
+
+#[test]
+fn what_a_program_is_given(rt: HostRuntime) -> Result<(), Fail> {
+    let before = SystemTime::now(&rt)?;
+    let first = assemble(&rt, 7).ok().ok_or("the outside")?;
+    let second = assemble(&rt, 8).ok().ok_or("the outside")?;
+    let late = before.elapsed(&rt)?.as_secs();
+    let since = before.duration_since(UNIX_EPOCH).ok().ok_or("a clock")?;
+    assert!(rt;
+        first.now >= since.as_secs() && first.now - since.as_secs() <= late.saturating_add(1)
+    );
+    assert!(rt; first.dir.process() == 7 && second.dir.process() == 8);
+    assert!(rt; first.draw.uuid != second.draw.uuid);
+    assert!(rt; first.draw.token != second.draw.token);
+    assert!(rt; first.draw.key.as_slice() != second.draw.key.as_slice());
+    fs::remove_dir_all(&rt, "rkt")?;
     Ok(())
 }

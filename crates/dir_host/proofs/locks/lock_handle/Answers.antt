@@ -3,7 +3,7 @@ use Rattle.std.specs.Option.{option_copied}
 use Rattle.dir_model.specs.Local.{is_number}
 use Rattle.dir_host.specs.declared.open_folders.OpenFolder.{OpenFolder}
 use Rattle.dir_host.proofs.Holdings.{holdings_any, found_somewhere, found_passes}
-use Rattle.dir_host.proofs.system.lock_handle.Goals as goal
+use Rattle.dir_host.proofs.locks.lock_handle.Goals as goal
 
 pub lock_folder-requires : goal.lock_folder-requires
 lock_folder-requires c =

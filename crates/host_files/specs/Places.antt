@@ -1,8 +1,10 @@
 -- Where things stand in the data folder.
-use Rattle.std.specs.Prelude.{ℕ, List, ◌++◌, codes}
+use Rattle.std.specs.Prelude.{ℕ, ◌==◌, Bool, ◌||◌, if◌then◌else◌, List, ◌++◌, length, bytes_eq, codes}
+use Rattle.std.specs.List.{list_any, slice_split}
 use Rattle.dir_model.specs.declared.area.Area.{Area}
 use Rattle.dir_model.specs.declared.area.Area.TheVariants.{Embryo, Prepare, Prepared, Run, ExitedGarbage, Garbage, Incoming, Images, Trees, Removed}
 use Rattle.dir_model.specs.declared.spot.Spot.{Spot}
+use Rattle.dir_model.specs.Paths.{is_slash}
 
 -- an area's place, seen from the data folder
 abbrev pub area_place : Area → List ℕ
@@ -23,3 +25,14 @@ area_path root area = root ++ codes "/" ++ area_place area
 -- a folder stands in its area by its name
 abbrev pub folder_path : List ℕ → Spot → List ℕ
 folder_path root spot = area_path root spot.area ++ codes "/" ++ spot.name
+
+-- behind a path in the folder. The empty path is the folder itself
+abbrev pub inner_path : List ℕ → Spot → List ℕ → List ℕ
+inner_path root spot inner = if length inner == 0 then folder_path root spot else folder_path root spot ++ codes "/" ++ inner
+
+-- the segment names the directory that it stands in, or the one above
+abbrev pub is_dots : List ℕ → Bool
+is_dots segment = bytes_eq segment (codes ".") || bytes_eq segment (codes "..")
+
+abbrev pub has_dots : List ℕ → Bool
+has_dots path = list_any is_dots (slice_split is_slash path)

@@ -1,11 +1,11 @@
 // What the system is asked of the files of a bundle. Nothing here counts faults: `Failed` is counted by
 // the bundle that hands it on.
-ghost use Rattle.std.specs.Prelude.{◌≡◌, ◌≤◌, ◌++◌, ◌↔◌, min, length, take, drop, string_bytes, IsOk, IfOk, IfErr, OnOk, IsSomeAnd};
+ghost use Rattle.std.specs.Prelude.{◌≡◌, ◌≢◌, ◌≤◌, ◌++◌, ◌↔◌, min, length, take, drop, string_bytes, IsOk, IfOk, IfErr, OnOk, IsSomeAnd};
 ghost use Rattle.std.specs.Fs.{file_type, IsDir, IsFile, IsSymlink};
 ghost use Rattle.std.specs.IoError.{error_kind};
 ghost use Rattle.dir_trait.specs.Bundles.{IsListing};
-ghost use Rattle.dir_host.specs.Refusals.{bundle_error};
-ghost use Rattle.dir_host.specs.Readings.{GoesOn, StaysOpened};
+ghost use Rattle.host_files.specs.Refusals.{bundle_error};
+ghost use Rattle.host_files.specs.Readings.{GoesOn, StaysOpened};
 
 use dir_trait::{BundleError, BundleItems, BundleKind, FileName, NoMemory, listing_of};
 use std::alloc::{AllocError, Global};
@@ -100,8 +100,9 @@ fn read_part(file: &File, at: u64, room: &mut [u8]) -> io::Result<usize>
     Err(io::Error::from(ErrorKind::Interrupted))
 }
 
-/// Fills the room with the bytes of the file from a place on, and answers how many it filled.
-fn read_from(file: &File, at: u64, room: &mut [u8]) -> Result<usize, BundleError>
+/// Fills the room with the bytes of the file from a place on, and answers how many it filled: fewer
+/// than the room has only where the system gave none more.
+pub fn read_from(file: &File, at: u64, room: &mut [u8]) -> io::Result<usize>
     ensures { IfOk result (λ n. n ≤ length room.old) }
 {
     let mut count = 0;
@@ -109,7 +110,7 @@ fn read_from(file: &File, at: u64, room: &mut [u8]) -> Result<usize, BundleError
         match read_part(file, at.saturating_add(count as u64), &mut room[count..]) {
             Ok(0) => return Ok(count),
             Ok(more) => count += more,
-            Err(error) => return Err(refusal(error)),
+            Err(error) => return Err(error),
         }
     }
     Ok(count)
@@ -133,14 +134,14 @@ pub fn read_file<R: Files<File = File>>(
         Ok(file) => {
             let count = read_from(&file.file, at, room);
             *opened = Some(file);
-            count
+            count.map_err(refusal)
         }
         Err(error) => Err(error),
     }
 }
 
 /// Writes the bytes over the front of the room, as far as they fit, and answers how many did.
-fn fill(room: &mut [u8], bytes: &[u8]) -> usize
+pub fn fill(room: &mut [u8], bytes: &[u8]) -> usize
     ensures count { result ≡ min (length bytes.now) (length room.old) }
     ensures room { room.new ≡ take result bytes.now ++ drop result room.old }
 {
@@ -187,6 +188,32 @@ fn kind_of(kind: FileType) -> BundleKind
     }
 }
 
+/// What the system told of the next entry. None where its name isn't UTF-8.
+fn told_entry<E>(told: io::Result<E>) -> Result<Option<E>, BundleError>
+    ensures told { IfOk told (λ entry. result ≡ Ok (Some entry)) }
+    ensures unnamed { IfErr told (λ e. error_kind e ≡ ErrorKind.InvalidFilename → result ≡ Ok None) }
+    ensures refused { IfErr told (λ e. error_kind e ≢ ErrorKind.InvalidFilename → result ≡ Err (bundle_error (error_kind e))) }
+{
+    match told {
+        Ok(entry) => Ok(Some(entry)),
+        Err(error) if error.kind() == ErrorKind::InvalidFilename => Ok(None),
+        Err(error) => Err(refusal(error)),
+    }
+}
+
+/// What the system told of an entry's kind. None where the entry has gone since.
+fn told_kind(told: io::Result<FileType>) -> Result<Option<FileType>, BundleError>
+    ensures told { IfOk told (λ kind. result ≡ Ok (Some kind)) }
+    ensures gone { IfErr told (λ e. error_kind e ≡ ErrorKind.NotFound → result ≡ Ok None) }
+    ensures refused { IfErr told (λ e. error_kind e ≢ ErrorKind.NotFound → result ≡ Err (bundle_error (error_kind e))) }
+{
+    match told {
+        Ok(kind) => Ok(Some(kind)),
+        Err(error) if error.kind() == ErrorKind::NotFound => Ok(None),
+        Err(error) => Err(refusal(error)),
+    }
+}
+
 /// Adds an entry of a directory, unless it has gone since.
 fn add<R: Files + Clone + Drop>(
     kinds: &mut BTreeMap<FileName, BundleKind>,
@@ -195,13 +222,12 @@ fn add<R: Files + Clone + Drop>(
     let Some(name) = FileName::of(entry.file_name()) else {
         return Ok(());
     };
-    match entry.file_type() {
-        Ok(kind) => match kinds.insert(name, kind_of(kind)) {
-            Ok(_) => Ok(()),
-            Err(_) => Err(BundleError::NoMemory),
-        },
-        Err(error) if error.kind() == ErrorKind::NotFound => Ok(()),
-        Err(error) => Err(refusal(error)),
+    let Some(kind) = told_kind(entry.file_type())? else {
+        return Ok(());
+    };
+    match kinds.insert(name, kind_of(kind)) {
+        Ok(_) => Ok(()),
+        Err(_) => Err(BundleError::NoMemory),
     }
 }
 
@@ -216,10 +242,8 @@ pub fn list_folder<R: Files + AllocGlobal + Clone + Drop>(
     let mut kinds = BTreeMap::new(alloc);
     let entries = fs::read_dir(rt, path).map_err(refusal)?;
     for entry in entries {
-        match entry {
-            Ok(entry) => add(&mut kinds, &entry)?,
-            Err(error) if error.kind() == ErrorKind::InvalidFilename => {}
-            Err(error) => return Err(refusal(error)),
+        if let Some(entry) = told_entry(entry)? {
+            add(&mut kinds, &entry)?;
         }
     }
     listing_of(alloc, &kinds).map_err(short)

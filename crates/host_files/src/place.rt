@@ -1,6 +1,6 @@
 // Where things stand in the data folder.
 ghost use Rattle.std.specs.Prelude.{◌≡◌, ◌++◌, codes, string_bytes, IfOk};
-ghost use Rattle.dir_host.specs.Places.{area_place, area_path, folder_path};
+ghost use Rattle.host_files.specs.Places.{area_place, area_path, folder_path, inner_path, has_dots};
 
 use dir_trait::{Area, Spot};
 use std::alloc::{AllocError, Global};
@@ -60,4 +60,28 @@ pub fn path_of_folder(alloc: Global, root: &str, spot: &Spot) -> Result<String, 
 {
     let area = path_of_area(alloc, root, spot.area)?;
     join(alloc, area.as_str(), spot.name.as_str())
+}
+
+/// The path of what stands behind a path in a folder. The empty path is the folder's own.
+pub fn path_inside(
+    alloc: Global,
+    root: &str,
+    spot: &Spot,
+    inner: &str,
+) -> Result<String, AllocError>
+    ensures { IfOk result (λ path. string_bytes path ≡ inner_path root.now spot.now inner.now) }
+{
+    let folder = path_of_folder(alloc, root, spot)?;
+    if inner.is_empty() {
+        return Ok(folder);
+    }
+    join(alloc, folder.as_str(), inner)
+}
+
+/// Whether a segment of the path is `.` or `..`.
+pub fn has_dots(path: &str) -> bool
+    ensures { result ≡ has_dots path.now }
+{
+    path.split('/')
+        .any(|segment| segment == "." || segment == "..")
 }

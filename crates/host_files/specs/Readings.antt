@@ -1,7 +1,7 @@
 -- In which file a reading of a path goes on.
 use Rattle.std.specs.Prelude.{◌≡◌, ◌<◌, ℕ, List, Option, Some, Result, Ok, string_bytes}
 use Rattle.dir_trait.specs.declared.bundle.BundleError.{BundleError}
-use Rattle.dir_host.specs.declared.files.OpenedFile.{OpenedFile}
+use Rattle.host_files.specs.declared.files.OpenedFile.{OpenedFile}
 
 -- a later piece of the path that was opened is read in the same opened file
 abbrev pub GoesOn : Option OpenedFile → List ℕ → ℕ → Result OpenedFile BundleError → Type 0

@@ -1,5 +1,5 @@
 use Rattle.std.proofs.Common.{◌-◌, ◌≤◌, length}
-use Rattle.dir_host.proofs.files.read_from.Given as goal
+use Rattle.host_files.proofs.files.read_from.Given as goal
 
 abbrev pub invariant-parts : goal.invariant-parts
 invariant-parts l = l.count ≤ length l.room

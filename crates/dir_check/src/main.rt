@@ -1,0 +1,181 @@
+//! Makes calls on the data folder, one a word, and prints what each is answered: a program by which the
+//! directory of a host is tested. tests/host/directory.sh has its words.
+#![tactic(auto)]
+
+mod calls;
+mod printed;
+mod step;
+mod words;
+
+ghost use Rattle.std.specs.Prelude.{◌≡◌, true};
+ghost use Rattle.dir_model.specs.Paths.{is_path};
+ghost use Rattle.dir_model.specs.Local.{IsActive};
+
+use crate::calls::{lock, on_folder, on_inner};
+use crate::printed::{print_answer, print_items, print_names};
+use crate::step::{Step, step_of};
+use anyhow::{Result, anyhow};
+use dir_host::{Outside, SetupError, assemble, read_words};
+use dir_model::is_path;
+use dir_trait::{Dir, DirError, Draw, Intent, Kind, PodPrefix, Spot};
+use std::io::{Read, Write};
+use std::process;
+
+/// What this process says when it begins.
+fn intent(now: u64, draw: &Draw) -> Intent {
+    Intent {
+        kind: Kind::Status,
+        word: PodPrefix::empty(),
+        now,
+        grace: 0,
+        expire: 0,
+        draw: draw.uuid,
+        token: draw.token,
+    }
+}
+
+/// Waits until the standard input ends.
+fn hold(rt: &HostRuntime) -> Result<()> {
+    let mut input = rt.stdin();
+    let mut room = [0; 64];
+    for _ in 0..u64::MAX {
+        if input.read(&mut room)? == 0 {
+            break;
+        }
+    }
+    Ok(())
+}
+
+/// Writes a piece of a file to the standard output, and tells how long it is. A refusal is printed, and
+/// ends the file.
+fn copy_piece<D: Dir>(
+    rt: &HostRuntime,
+    dir: &mut D,
+    spot: &Spot,
+    path: &str,
+    at: u64,
+    room: &mut [u8],
+) -> Result<usize>
+    requires active { IsActive (D.shown dir.old).local }
+    requires path { is_path path.now ≡ true }
+    ensures { IsActive (D.shown dir.new).local }
+{
+    match dir.read_in(rt.alloc(), *spot, path, at, room) {
+        Ok(count) => {
+            rt.stdout().write_all(&room[..count])?;
+            Ok(count)
+        }
+        Err(error) => {
+            print_answer(rt, Err(error))?;
+            Ok(0)
+        }
+    }
+}
+
+/// Writes a file to the standard output, by pieces of a size.
+fn copy<D: Dir>(rt: &HostRuntime, dir: &mut D, spot: &Spot, path: &str, size: usize) -> Result<()>
+    requires active { IsActive (D.shown dir.old).local }
+    requires path { is_path path.now ≡ true }
+    ensures { IsActive (D.shown dir.new).local }
+{
+    let mut room = vec![in rt.alloc(); 0; size]?;
+    let mut at = 0u64;
+    'pieces: for _ in 0..u64::MAX {
+        let count = copy_piece(rt, dir, spot, path, at, room.as_mut_slice())?;
+        if count == 0 {
+            break;
+        }
+        at = at.saturating_add(count as u64);
+    }
+    Ok(())
+}
+
+/// A call on something in a folder.
+fn perform_inside<D: Dir>(
+    rt: &HostRuntime,
+    dir: &mut D,
+    step: &Step<'_>,
+    spot: &Spot,
+    path: &str,
+) -> Result<()>
+    requires active { IsActive (D.shown dir.old).local }
+    requires path { is_path path.now ≡ true }
+    ensures { IsActive (D.shown dir.new).local }
+{
+    match step {
+        Step::List { .. } => print_items(rt, dir.list_in(rt.alloc(), *spot, path)),
+        Step::OnInner { call, .. } => {
+            print_answer(rt, on_inner(dir, rt.alloc(), *call, *spot, path))
+        }
+        Step::Append { text, .. } => {
+            print_answer(rt, dir.append_in(rt.alloc(), *spot, path, text.as_bytes()))
+        }
+        Step::Copy { size, .. } => copy(rt, dir, spot, path, *size),
+        _ => Ok(()),
+    }
+}
+
+/// One call, and what it is answered.
+fn perform<D: Dir>(rt: &HostRuntime, dir: &mut D, step: &Step<'_>) -> Result<()>
+    requires { IsActive (D.shown dir.old).local }
+    ensures { IsActive (D.shown dir.new).local }
+{
+    match step {
+        Step::Hold => hold(rt),
+        Step::Lock {
+            target,
+            mode,
+            stays,
+        } => print_answer(rt, lock(dir, rt.alloc(), target, *mode, *stays)),
+        Step::ListArea(area) => print_names(rt, dir.list_area(rt.alloc(), *area)),
+        Step::SyncArea(area) => print_answer(rt, dir.sync_area(rt.alloc(), *area)),
+        Step::OnFolder { call, spot } => {
+            print_answer(rt, on_folder(dir, rt.alloc(), *call, *spot))
+        }
+        Step::Move { from, to } => print_answer(rt, dir.move_folder(rt.alloc(), *from, *to)),
+        Step::List { spot, path }
+        | Step::OnInner { spot, path, .. }
+        | Step::Append { spot, path, .. }
+        | Step::Copy { spot, path, .. } => {
+            if is_path(path.as_bytes()) {
+                perform_inside(rt, dir, step, spot, path)
+            } else {
+                Err(anyhow!("no such path"))
+            }
+        }
+    }
+}
+
+/// The calls, one after the other.
+fn perform_all<D: Dir>(rt: &HostRuntime, dir: &mut D, calls: &[String]) -> Result<()>
+    requires { IsActive (D.shown dir.old).local }
+    ensures { IsActive (D.shown dir.new).local }
+{
+    'calls: for call in calls {
+        let words: Vec<&str> = call.as_str().split(' ').collect(rt.alloc())?;
+        match step_of(words.as_slice()) {
+            Some(step) => perform(rt, dir, &step)?,
+            None => return Err(anyhow!("no such call")),
+        }
+    }
+    Ok(())
+}
+
+fn setup_fault(_error: SetupError) -> anyhow::Error {
+    anyhow!("no data folder")
+}
+
+fn refused(_error: DirError) -> anyhow::Error {
+    anyhow!("no begin")
+}
+
+fn main(rt: HostRuntime) -> Result<()> {
+    let calls = read_words(&rt).map_err(setup_fault)?;
+    let Outside { now, draw, mut dir } = assemble(&rt, process::id(rt.process())).map_err(
+        setup_fault,
+    )?;
+    dir.begin(rt.alloc(), intent(now, &draw)).map_err(refused)?;
+    let done = perform_all(&rt, &mut dir, calls.as_slice());
+    dir.finish();
+    done
+}

@@ -1,0 +1,4 @@
+pub mod Places
+pub mod Readings
+pub mod Refusals
+pub mod Shown

@@ -1,0 +1,269 @@
+#!/usr/bin/env bash
+# The directory of a host, by the program dir_check: locks among processes, listings among makers and
+# removers, files that are appended to and read in pieces, removals, and what isn't reached.
+set -u
+cd "$(dirname "$0")/../.." || exit 1
+program=dir_check
+. tests/host/checks.bash
+
+export RKT_DIR=$tmp/data
+check=$tmp/rkt-program
+pod=00000000-0000-4000-8000-000000000001
+other=00000000-0000-4000-8000-000000000002
+
+# calls NAME LINES CALL..: LINES are the answers, parted by `|`.
+calls() {
+    local name=$1 wanted=$2
+    shift 2
+    same "$name" "$wanted" "$(timeout 60 "$check" "$@" 2>&1 </dev/null | paste -sd'|')"
+}
+
+# A process that makes its calls and holds what it locked until `let_go`. Its answers are in `held`.
+take() {
+    coproc holder { exec "$check" "$@" hold 2>&1; }
+    holder_id=$holder_PID
+    held=''
+    local line
+    for _ in "$@"; do
+        read -r line <&"${holder[0]}"
+        held=$held${held:+|}$line
+    done
+}
+let_go() {
+    eval "exec ${holder[1]}>&-"
+    wait "$holder_id"
+}
+
+calls 'folders are made' 'ok|ok|ok|ok' "make run $pod" "make run $other" "make-file run $pod pod" "make-file run $other pod"
+
+# Each lock in each mode against each, among two processes. Then each lock beside another lock.
+for lock in "own run $pod" "claim run $pod" 'area run' 'area images'; do
+    for first in shared exclusive; do
+        for second in shared exclusive; do
+            wanted=locked
+            [ $first$second != sharedshared ] || wanted=ok
+            take "lock $first $lock"
+            same "$lock, $first: taken" ok "$held"
+            calls "$lock, $second beside $first" $wanted "try $second $lock"
+            let_go
+            calls "$lock, $second after $first" ok "try $second $lock"
+            calls "$lock, $second beside $first of one process" "ok|$wanted" "lock $first $lock" "lock $second $lock"
+            calls "$lock, $second after $first was closed" 'ok|ok' "try $first $lock" "lock $second $lock"
+        done
+    done
+done
+take "lock exclusive own run $pod"
+calls 'other locks beside an exclusive one' 'ok|ok|ok|ok|locked' "lock exclusive claim run $pod" "lock exclusive area run" \
+    "lock exclusive own run $other" 'lock exclusive area prepared' "lock shared own run $pod"
+let_go
+
+# Of two handles the older is locked, not the newer.
+take "lock exclusive own run $pod" "lock shared own run $other"
+same 'two folders of one process' 'ok|ok' "$held"
+calls 'each has its own lock' 'locked|ok|locked' "try shared own run $pod" "try shared own run $other" "try exclusive own run $other"
+let_go
+
+# A lock that is closed is free while its process goes on.
+take "try exclusive own run $pod" "try exclusive claim run $pod" 'try exclusive area run'
+same 'locks that are given up' 'ok|ok|ok' "$held"
+calls 'they are free' 'ok|ok|ok' "try exclusive own run $pod" "try exclusive claim run $pod" 'try exclusive area run'
+let_go
+
+# A lock follows its folder, and falls with its process.
+take "lock exclusive own run $pod" "move run $pod exited-garbage $pod"
+same 'a locked folder moves' 'ok|ok' "$held"
+calls 'its lock moves with it' 'missing|locked' "try shared own run $pod" "try shared own exited-garbage $pod"
+kill -KILL "$holder_id"
+wait "$holder_id" 2>/dev/null
+calls 'a lock falls with its process' 'ok|ok' "try exclusive own exited-garbage $pod" "move exited-garbage $pod run $pod"
+
+# What can be locked.
+calls 'no folder, no lock' 'missing|missing' "lock shared own embryo $pod" "lock shared claim embryo $pod"
+calls 'no file pod, no activation lock' 'ok|missing|ok' "make embryo $pod" "lock shared claim embryo $pod" "remove embryo $pod"
+calls 'a directory pod is no file' 'ok|ok|missing|ok|ok' "make embryo $pod" "make-dir embryo $pod pod" \
+    "lock shared claim embryo $pod" "remove-dir embryo $pod pod" "remove embryo $pod"
+
+# Folders that stand, and that don't.
+calls 'folders are made and moved once' 'exists|exists|missing|missing' "make run $pod" "move run $pod run $other" \
+    "move embryo $pod prepare $pod" "remove embryo $pod"
+calls 'an empty folder is not replaced' 'ok|ok|exists|ok|ok' 'make removed a' 'make removed b' 'move removed a removed b' \
+    'remove removed a' 'remove removed b'
+calls 'an image is moved away' 'ok|ok|ok|missing|ok|ok' 'make images key' 'make-file images key id' 'move images key removed a' \
+    'list images key ' 'remove-file removed a id' 'remove removed a'
+calls 'areas and folders are synced' 'ok|ok|ok|ok|missing|missing' 'sync run' 'sync images' "sync run $pod " "sync run $pod pod" \
+    "sync run $pod x" "sync embryo $pod "
+
+# What is in folders.
+inside=$RKT_DIR/pods/run/$pod
+calls 'directories and files' 'ok|ok|exists|exists|exists|missing|missing|missing|exists|exists' "make-dir run $pod d" "make-file run $pod d/f" \
+    "make-dir run $pod d/f" "make-file run $pod d" "make-file run $pod d/f" "make-dir run $pod x/y" \
+    "make-file run $pod d/f/g" "make-dir embryo $pod d" "make-dir run $pod " "make-file run $pod "
+calls 'a listing by name' 'dir d|file pod|ok|file f|ok|missing|missing|missing' "list run $pod " "list run $pod d" \
+    "list run $pod d/f" "list run $pod x" "list embryo $pod "
+calls 'what is not empty stays' 'not empty|not empty' "remove-dir run $pod d" "remove run $pod"
+same 'it is still there' f "$(ls "$inside/d")"
+calls 'of another kind' 'missing|missing|missing|missing' "remove-file run $pod d" "remove-dir run $pod d/f" \
+    "append run $pod d x" "copy run $pod d 4"
+calls 'the folder itself is neither file nor directory in it' 'missing|missing|missing|missing' "remove-dir run $pod " \
+    "remove-file run $pod " "append run $pod  x" "copy run $pod  4"
+calls 'removed' 'ok|missing|ok|missing' "remove-file run $pod d/f" "remove-file run $pod d/f" "remove-dir run $pod d" "remove-dir run $pod d"
+calls 'dots are no names' 'missing|missing|missing|missing|missing|missing|missing|missing' "list run $pod ." "list run $pod .." \
+    "make-dir run $pod ../x" "make-file run $pod ./x" "append run $pod ../$other/pod x" "remove-file run $pod ../$other/pod" \
+    "remove-dir run $pod .." "sync run $pod ../$other"
+same 'no dots were followed' 'pod' "$(ls "$RKT_DIR/pods/run/$other")"
+
+# Links, pipes and names that are left out.
+mkdir "$tmp/outside" "$inside/d"
+echo secret >"$tmp/outside/f"
+ln -s "$tmp/outside" "$inside/link"
+ln -s "$tmp/outside/f" "$inside/flink"
+calls 'no link is followed' 'missing|missing|missing|missing|missing|missing|missing|exists|exists' "list run $pod link" "copy run $pod link/f 9" \
+    "copy run $pod flink 9" "append run $pod flink x" "make-file run $pod link/g" "remove-file run $pod link/f" "sync run $pod flink" \
+    "make-file run $pod flink" "make-dir run $pod link"
+if command -v mkfifo >/dev/null; then
+    mkfifo "$inside/pipe"
+else
+    ln -s nowhere "$inside/pipe"
+    skip 'a pipe in a folder: there is no mkfifo'
+fi
+calls 'a pipe is not waited for' 'missing|missing|missing|exists' "copy run $pod pipe 9" "append run $pod pipe x" "sync run $pod pipe" \
+    "make-file run $pod pipe"
+: >"$inside/"$'\xff'
+: >"$inside/a b"
+calls 'kinds, and names that are left out' 'file a b|dir d|other flink|other link|other pipe|file pod|ok' "list run $pod "
+calls 'links and pipes are removed' 'missing|ok|ok|ok' "remove-dir run $pod link" "remove-file run $pod link" "remove-file run $pod flink" \
+    "remove-file run $pod pipe"
+same 'what they led to stays' secret "$(cat "$tmp/outside/f")"
+: >"$RKT_DIR/pods/run/file"
+mkdir "$RKT_DIR/pods/run/"{UPPER,a_b,"$(printf 'x%.0s' {1..71})","$(printf 'x%.0s' {1..72})"}
+calls 'the folders of an area' "$pod|$other|$(printf 'x%.0s' {1..71})|ok|ok" 'list run' 'list trees'
+rm -r "$RKT_DIR/pods/run/"{file,UPPER,a_b,x*}
+
+# Files that are appended to, and read in pieces of each length about 65,536.
+calls 'pieces come at the end' 'ok|ok|ok|onetwo' "make-file run $pod f" "append run $pod f one" "append run $pod f two" "copy run $pod f 100"
+seq 1 40000 >"$tmp/wanted"
+cp "$tmp/wanted" "$inside/f"
+for size in 1 2 3 4095 4096 4097 $(seq 65526 65546) 131072 300000; do
+    if [ "$size" -lt 4 ]; then
+        head -c 5000 "$tmp/wanted" >"$inside/f"
+    else
+        cp "$tmp/wanted" "$inside/f"
+    fi
+    "$check" "copy run $pod f $size" </dev/null >"$tmp/read" 2>&1
+    same "pieces of $size" '' "$(cmp "$inside/f" "$tmp/read" 2>&1)"
+done
+for size in 65535 65536 65537; do
+    head -c "$size" "$tmp/wanted" >"$inside/f"
+    for piece in 65535 65536 65537; do
+        "$check" "copy run $pod f $piece" </dev/null >"$tmp/read" 2>&1
+        same "$size bytes in pieces of $piece" '' "$(cmp "$inside/f" "$tmp/read" 2>&1)"
+    done
+done
+: >"$inside/f"
+text=$(head -c 60000 "$tmp/wanted" | tr '\n' ,)
+calls 'long pieces' 'ok|ok' "append run $pod f $text" "append run $pod f $text"
+same 'they are whole' "$text$text" "$(cat "$inside/f")"
+
+# What the system refuses is a fault: a path past its limit, what this user may not use, an entry that
+# can't be looked at.
+segment=$(printf 'x%.0s' {1..250})
+(cd "$inside" && for _ in {1..17}; do mkdir "$segment" && cd "$segment" || exit; done)
+long=$segment
+for _ in {2..15}; do long=$long/$segment; done
+calls 'a long path' "dir $segment|ok" "list run $pod $long"
+calls 'a path past the limit of the system' 'failed|failed|failed' "list run $pod $long/$segment/$segment" \
+    "make-dir run $pod $long/$segment/$segment/d" "remove-dir run $pod $long/$segment/$segment"
+(cd "$inside" && rm -r "$segment")
+as_user=()
+if [ "$(id -u)" -eq 0 ]; then
+    as_user=(setpriv --reuid=65534 --regid=65534 --clear-groups)
+fi
+as_other() {
+    local name=$1 wanted=$2
+    shift 2
+    same "$name" "$wanted" "$("${as_user[@]}" "$check" "$@" 2>&1 </dev/null | paste -sd'|')"
+}
+if [ ${#as_user[@]} -eq 0 ] || "${as_user[@]}" "$check" >/dev/null 2>&1; then
+    mkdir "$inside/sealed"
+    : >"$inside/sealed/f"
+    chmod 744 "$inside/sealed"
+    as_other 'an entry that can not be looked at' failed "list run $pod sealed"
+    chmod 700 "$inside/sealed"
+    as_other 'a directory that may not be read' 'failed|failed|failed' "list run $pod sealed" "copy run $pod sealed/f 9" \
+        "make-file run $pod sealed/g"
+    chmod 755 "$inside/sealed" "$inside"
+    chmod 000 "$inside/sealed/f"
+    [ "$(id -u)" -ne 0 ] || as_other 'a file that may not be used' 'failed|failed|failed' "copy run $pod sealed/f 9" \
+        "append run $pod sealed/f x" "remove-file run $pod sealed/f"
+    rm -rf "$inside/sealed"
+else
+    skip 'what another user may not use: root may use all, and there is no setpriv'
+fi
+
+# A listing is about the folder that it began with, wherever that moves.
+mkdir "$inside/many"
+(cd "$inside/many" && touch {1000..1999})
+move_about() {
+    local turn
+    for turn in $(seq 300); do
+        mv "$RKT_DIR/pods/run/$pod" "$RKT_DIR/pods/exited-garbage/$pod"
+        mv "$RKT_DIR/pods/exited-garbage/$pod" "$RKT_DIR/pods/run/$pod"
+    done
+    : >"$tmp/moved"
+}
+rm -f "$tmp/moved"
+move_about &
+whole=0
+while [ ! -e "$tmp/moved" ]; do
+    answer=$("$check" "list run $pod many" </dev/null | sed 's/ .*//' | uniq -c | tr -s ' \n' ' ')
+    case $answer in
+        ' 1000 file 1 ok ') whole=$((whole + 1)) ;;
+        ' 1 missing ') ;;
+        *) fail "a listing of a folder that moves: $answer" ;;
+    esac
+done
+wait
+checks=$((checks + whole))
+[ $whole -ge 1 ] || echo "directory.sh: no listing met the folder while it moved"
+rm -r "$inside/many"
+
+# A listing among makers and removers. Half of the thousand names come and go; the others stand.
+crowd=$RKT_DIR/store/images
+mkdir "$crowd/key" "$crowd/key/d"
+for n in $(seq 1000 1999); do
+    mkdir "$crowd/k$n"
+    : >"$crowd/key/d/k$n"
+done
+churn() {
+    local turn
+    for turn in $(seq 20); do
+        (cd "$crowd" && rmdir k1?[13579]? && mkdir k1{0..9}{1,3,5,7,9}{0..9})
+        (cd "$crowd/key/d" && rm k1?[13579]? && touch k1{0..9}{1,3,5,7,9}{0..9})
+    done
+    : >"$tmp/churned"
+}
+rm -f "$tmp/churned"
+churn &
+seq 1000 1999 | sed -n 's/^1.[02468].$/k&/p' >"$tmp/stood"
+listings=0
+listed() {
+    sed 's/^file //' "$tmp/list" | grep -v '^key$' | head -n -1 >"$tmp/names"
+    [ "$(tail -n 1 "$tmp/list")" = ok ] || fail "$1: $(tail -n 1 "$tmp/list")"
+    [ -z "$(comm -13 "$tmp/names" "$tmp/stood" 2>&1)" ] || fail "$1: what stood is missing"
+    [ -z "$(sort "$tmp/names" | uniq -d)" ] || fail "$1: a name comes twice"
+    sort -C "$tmp/names" || fail "$1: not in order"
+    [ -z "$(grep -vx 'k1[0-9][0-9][0-9]' "$tmp/names")" ] || fail "$1: a name that never stood"
+    listings=$((listings + 1))
+}
+while [ ! -e "$tmp/churned" ]; do
+    "$check" 'list images' </dev/null >"$tmp/list"
+    listed 'an area'
+    "$check" 'list images key d' </dev/null >"$tmp/list"
+    listed 'a directory'
+done
+wait
+checks=$((checks + listings))
+[ $listings -ge 2 ] || fail 'no listing among makers and removers'
+same "all of them" 1001 "$("$check" "list images key d" </dev/null | wc -l)"
+
+finish
