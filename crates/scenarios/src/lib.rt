@@ -3,6 +3,7 @@
 
 #[cfg(test)]
 mod byte_sink;
+mod directory;
 #[cfg(test)]
 mod memory;
 #[cfg(test)]
