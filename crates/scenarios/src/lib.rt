@@ -3,6 +3,7 @@
 
 #[cfg(test)]
 mod byte_sink;
+#[cfg(test)]
 mod directory;
 #[cfg(test)]
 mod memory;

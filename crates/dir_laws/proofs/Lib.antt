@@ -1,0 +1,5 @@
+pub mod Areas
+pub mod Contents
+pub mod Directories
+pub mod Ends
+pub mod Open
