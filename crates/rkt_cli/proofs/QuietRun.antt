@@ -2,12 +2,11 @@
 use Rattle.std.proofs.Common.{◌≡◌, ◌⊎◌, inl, inr, ℕ, true, false, List, Option, Some, None, Ok, Err, refl, sym, ap, subst, ◌∙◌}
 use Rattle.dir_model.specs.declared.intent.Draw.{Draw}
 use Rattle.dir_model.specs.declared.intent.Intent.{Intent}
-use Rattle.dir_model.specs.declared.intent.Start.{Start}
 use Rattle.dir_model.specs.declared.pod.PodId.{PodId}
 use Rattle.dir_model.specs.declared.request.Request.{Request}
 use Rattle.dir_model.specs.declared.request.Request.TheVariants.{Begin}
 use Rattle.dir_model.specs.declared.request.Reply.TheVariants.{Done}
-use Rattle.dir_model.specs.State.{Namespace, DirState}
+use Rattle.dir_model.specs.State.{DirState}
 use Rattle.dir_model.specs.Trace.{state_after, state_next}
 use Rattle.dir_model.specs.Calls.{event}
 use Rattle.dir_model.specs.Quiet.{Quiet, OwnsNothing}
@@ -56,9 +55,9 @@ does_quiet (Status pod) old new o d own u nothing = let s = d.says own in s.is �
 does_quiet (Validate path) old new o d own u nothing = let s = d.says own in s.is ∙ judged_whole path s.found (file_bytes (old.bundle.tree path)) (s.told (u.bundle_observed refl))
 
 -- that this process has begun makes no difference to it
-sequential_begun : (line : Line) (n : Namespace) (begun : List Start) (tree : Tree) → sequential_outcome line (record { namespace = record n { begun = begun } }) tree ≡ sequential_outcome line (record { namespace = n }) tree
-sequential_begun (Status pod) n begun tree = refl
-sequential_begun (Validate path) n begun tree = refl
+sequential_begun : (line : Line) (s : DirState) (process : ℕ) (intent : Intent) (tree : Tree) → sequential_outcome line (state_next s (event process (Begin intent) Done)) tree ≡ sequential_outcome line s tree
+sequential_begun (Status pod) s process intent tree = refl
+sequential_begun (Validate path) s process intent tree = refl
 
 -- whatever the command
 did_quiet : (line : Line) (old new : Outside) (o : Outcome) → CommandRan line old new o → IsUndisturbed (Some line) old new → IsIdle line old → (o ≡ Err NoMemory) ⊎ (o ≡ sequential_outcome line (state_after old.dir.trace) old.bundle.tree)
@@ -84,7 +83,7 @@ module _ (line : Line) (intent : Intent) (old new : Outside) (o : Outcome) (s : 
   idle_act h = subst (λ (p : ℕ). OwnsNothing p (state_after s.begun.dir.trace).namespace) (sym s.me) (subst (λ (x : DirState). OwnsNothing old.dir.process x.namespace) (sym state) (idle s t (u.alone h)))
 
   process_quiet : (o ≡ Err NoMemory) ⊎ (o ≡ sequential_outcome line (state_after old.dir.trace) old.bundle.tree)
-  process_quiet = elim (did_quiet line s.begun s.ended o s.ran undisturbed_act idle_act) [ inl e ↦ inl e | inr e ↦ inr (e ∙ (ap (λ (x : DirState). sequential_outcome line x s.begun.bundle.tree) state ∙ (sequential_begun line (state_after old.dir.trace).namespace _ s.begun.bundle.tree ∙ ap (λ (x : BundleSeen). sequential_outcome line (state_after old.dir.trace) x.tree) s.bundle_before))) ]
+  process_quiet = elim (did_quiet line s.begun s.ended o s.ran undisturbed_act idle_act) [ inl e ↦ inl e | inr e ↦ inr (e ∙ (ap (λ (x : DirState). sequential_outcome line x s.begun.bundle.tree) state ∙ (sequential_begun line (state_after old.dir.trace) old.dir.process intent s.begun.bundle.tree ∙ ap (λ (x : BundleSeen). sequential_outcome line (state_after old.dir.trace) x.tree) s.bundle_before))) ]
 
   -- each of its requests is harmless
   harmless : (l : Line) (r : Request) → asks l r ≡ true → is_harmless r ≡ true
