@@ -4,8 +4,8 @@ ghost use Rattle.dir_model.specs.Local.{IsActive};
 
 use dir_host::{HostBundle, HostDir, HostSink, assemble};
 use dir_trait::{
-    Area, Bundle, BundleError, BundleItem, BundleKind, Dir, DirError, Draw, Intent, Kind, Mode, PodId,
-    PodPrefix, Sink, SinkError, Spot, Which, write_whole,
+    Area, Bundle, BundleError, BundleItem, BundleKind, Dir, DirError, Draw, Intent, Kind, Mode,
+    PodId, PodPrefix, Sink, SinkError, Spot, Which, write_whole,
 };
 use std::alloc::Global;
 use std::io::{ErrorKind, Write};
@@ -394,7 +394,11 @@ fn what_a_program_is_given(rt: HostRuntime) -> Result<(), Fail> {
     let other = differ(&first.draw, &second.draw);
     let now = first.now;
     let late = before.elapsed(&rt)?.as_secs();
-    let since = before.duration_since(UNIX_EPOCH).ok().ok_or("a clock")?.as_secs();
+    let since = before
+        .duration_since(UNIX_EPOCH)
+        .ok()
+        .ok_or("a clock")?
+        .as_secs();
     fs::remove_dir_all(&rt, "rkt")?;
     assert!(rt; given && other);
     assert!(rt; now >= since && now - since <= late.saturating_add(1));
