@@ -4,8 +4,8 @@ ghost use Rattle.dir_model.specs.Local.{IsActive};
 
 use dir_host::{HostBundle, HostDir, HostSink, assemble};
 use dir_trait::{
-    Area, Bundle, BundleError, BundleItem, BundleKind, Dir, DirError, Intent, Kind, Mode, PodId,
-    PodPrefix, Sink, SinkError, Spot, Which, write_whole,
+    Area, Bundle, BundleError, BundleItem, BundleKind, Dir, DirError, Draw, Intent, Kind, Mode,
+    PodId, PodPrefix, Sink, SinkError, Spot, Which, write_whole,
 };
 use std::alloc::Global;
 use std::io::{ErrorKind, Write};
@@ -179,7 +179,8 @@ fn failure<T>(answer: &Result<T, DirError>) -> u64
 /// How many of the calls on a folder fail.
 fn failed_on_folder<D: Dir>(dir: &mut D, alloc: Global, area: Area) -> u64
     requires { IsActive (D.shown dir.old).local }
-    ensures { IsActive (D.shown dir.new).local }
+    ensures active { IsActive (D.shown dir.new).local }
+    ensures few { result ≤ 4 }
 {
     let made = failure(&dir.make_folder(alloc, pod(area)));
     let moved = failure(&dir.move_folder(alloc, pod(area), pod(Area::Prepare)));
@@ -191,7 +192,8 @@ fn failed_on_folder<D: Dir>(dir: &mut D, alloc: Global, area: Area) -> u64
 /// How many of the calls on an area fail.
 fn failed_on_area<D: Dir>(dir: &mut D, alloc: Global, area: Area) -> u64
     requires { IsActive (D.shown dir.old).local }
-    ensures { IsActive (D.shown dir.new).local }
+    ensures active { IsActive (D.shown dir.new).local }
+    ensures few { result ≤ 4 }
 {
     let opened = failure(&dir.open_area(alloc, area));
     let listed = failure(&dir.list_area(alloc, area));
@@ -202,7 +204,8 @@ fn failed_on_area<D: Dir>(dir: &mut D, alloc: Global, area: Area) -> u64
 /// How many of the calls that make or remove something in a folder fail.
 fn failed_changes<D: Dir>(dir: &mut D, alloc: Global, area: Area) -> u64
     requires { IsActive (D.shown dir.old).local }
-    ensures { IsActive (D.shown dir.new).local }
+    ensures active { IsActive (D.shown dir.new).local }
+    ensures few { result ≤ 4 }
 {
     let directory = failure(&dir.make_dir_in(alloc, pod(area), ""));
     let file = failure(&dir.make_file_in(alloc, pod(area), ""));
@@ -214,7 +217,8 @@ fn failed_changes<D: Dir>(dir: &mut D, alloc: Global, area: Area) -> u64
 /// How many of the calls that write, read, list or sync something in a folder fail.
 fn failed_inside<D: Dir>(dir: &mut D, alloc: Global, area: Area) -> u64
     requires { IsActive (D.shown dir.old).local }
-    ensures { IsActive (D.shown dir.new).local }
+    ensures active { IsActive (D.shown dir.new).local }
+    ensures few { result ≤ 4 }
 {
     let appended = failure(&dir.append_in(alloc, pod(area), "", b"x"));
     let read = failure(&dir.read_in(alloc, pod(area), "", 0, &mut [0; 2]));
@@ -223,23 +227,28 @@ fn failed_inside<D: Dir>(dir: &mut D, alloc: Global, area: Area) -> u64
     appended + read + listed + synced
 }
 
+/// How many of all these calls fail.
+fn failed_calls<D: Dir>(dir: &mut D, alloc: Global, area: Area) -> u64
+    requires { IsActive (D.shown dir.old).local }
+    ensures { IsActive (D.shown dir.new).local }
+{
+    let folder = failed_on_folder(dir, alloc, area);
+    let here = failed_on_area(dir, alloc, area);
+    let changes = failed_changes(dir, alloc, area);
+    let inside = failed_inside(dir, alloc, area);
+    folder + here + changes + inside
+}
+
 #[test]
 fn each_call_that_fails_is_one_fault(rt: HostRuntime) -> Result<(), Fail> {
     let alloc = rt.alloc();
-    let root = folder(&rt, "each_fails")?;
-    let mut dir = HostDir::new(alloc, &rt, root.clone()?, 1);
+    let mut dir = HostDir::new(alloc, &rt, folder(&rt, "each_fails")?, 1);
     assert!(rt; dir.begin(alloc, intent()).is_ok());
-    assert_eq!(rt; failed_on_folder(&mut dir, alloc, Area::Run), 4);
-    assert_eq!(rt; failed_on_area(&mut dir, alloc, Area::Run), 3);
-    assert_eq!(rt; failed_changes(&mut dir, alloc, Area::Run), 4);
-    assert_eq!(rt; failed_inside(&mut dir, alloc, Area::Run), 4);
-    assert_eq!(rt; dir.faults(), 15);
-    assert_eq!(rt; failed_on_folder(&mut dir, alloc, Area::Embryo), 0);
-    assert_eq!(rt; failed_on_area(&mut dir, alloc, Area::Embryo), 0);
-    assert_eq!(rt; failed_changes(&mut dir, alloc, Area::Embryo), 0);
-    assert_eq!(rt; failed_inside(&mut dir, alloc, Area::Embryo), 0);
-    assert_eq!(rt; dir.faults(), 15);
-    fs::remove_dir_all(&rt, root.as_str())?;
+    let failed = failed_calls(&mut dir, alloc, Area::Run);
+    let faults = dir.faults();
+    let later = failed_calls(&mut dir, alloc, Area::Embryo);
+    assert!(rt; failed == 15 && faults == 15 && later == 0 && dir.faults() == 15);
+    fs::remove_dir_all(&rt, "each_fails")?;
     Ok(())
 }
 
@@ -369,20 +378,29 @@ fn a_pipe_is_no_file(rt: HostRuntime) -> Result<(), Fail> {
     Ok(())
 }
 
+/// Two draws have nothing in common.
+fn differ(first: &Draw, second: &Draw) -> bool {
+    first.uuid != second.uuid
+        && first.token != second.token
+        && first.key.as_slice() != second.key.as_slice()
+}
+
 #[test]
 fn what_a_program_is_given(rt: HostRuntime) -> Result<(), Fail> {
     let before = SystemTime::now(&rt)?;
     let first = assemble(&rt, 7).ok().ok_or("the outside")?;
     let second = assemble(&rt, 8).ok().ok_or("the outside")?;
+    let given = first.dir.process() == 7 && second.dir.process() == 8;
+    let other = differ(&first.draw, &second.draw);
+    let now = first.now;
     let late = before.elapsed(&rt)?.as_secs();
-    let since = before.duration_since(UNIX_EPOCH).ok().ok_or("a clock")?;
-    assert!(rt;
-        first.now >= since.as_secs() && first.now - since.as_secs() <= late.saturating_add(1)
-    );
-    assert!(rt; first.dir.process() == 7 && second.dir.process() == 8);
-    assert!(rt; first.draw.uuid != second.draw.uuid);
-    assert!(rt; first.draw.token != second.draw.token);
-    assert!(rt; first.draw.key.as_slice() != second.draw.key.as_slice());
+    let since = before
+        .duration_since(UNIX_EPOCH)
+        .ok()
+        .ok_or("a clock")?
+        .as_secs();
     fs::remove_dir_all(&rt, "rkt")?;
+    assert!(rt; given && other);
+    assert!(rt; now >= since && now - since <= late.saturating_add(1));
     Ok(())
 }
