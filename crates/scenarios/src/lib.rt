@@ -4,8 +4,6 @@
 #[cfg(test)]
 mod byte_sink;
 #[cfg(test)]
-mod directory;
-#[cfg(test)]
 mod memory;
 #[cfg(test)]
 mod stage;
