@@ -1,0 +1,229 @@
+-- What one process knows of locks and places by its own answers.
+use Rattle.std.specs.Prelude.{ℕ, Bool, true, false, not, ◌&&◌, ◌||◌, ◌==◌, cond, bytes_eq, Option, Some, None, List, [], ◌∷◌, ◌++◌, map, filter, find}
+use Rattle.std.specs.List.{list_any}
+use Rattle.dir_model.specs.declared.area.Area.{Area}
+use Rattle.dir_model.specs.declared.area.Area.TheVariants as area
+use Rattle.dir_model.specs.declared.intent.Intent.{Intent}
+use Rattle.dir_model.specs.declared.intent.Kind.{Kind}
+use Rattle.dir_model.specs.declared.intent.Kind.TheVariants as kind
+use Rattle.dir_model.specs.declared.spot.Mode.{Mode}
+use Rattle.dir_model.specs.declared.spot.Mode.TheVariants.{Shared, Exclusive}
+use Rattle.dir_model.specs.declared.spot.Spot.{Spot}
+use Rattle.dir_model.specs.declared.spot.Handle.{Handle}
+use Rattle.dir_model.specs.declared.spot.Which.{Which}
+use Rattle.dir_model.specs.declared.spot.Which.TheVariants as which
+use Rattle.dir_model.specs.declared.opening.Target.{Target}
+use Rattle.dir_model.specs.declared.opening.Target.TheVariants.{Own, Claim, Gate}
+use Rattle.dir_model.specs.declared.event.Event.{Event}
+use Rattle.dir_model.specs.declared.request.Request.{Request}
+use Rattle.dir_model.specs.declared.request.Request.TheVariants.{Begin, MakeFolder, MoveFolder, Open, OpenArea, TryLock, Close, Finish}
+use Rattle.dir_model.specs.declared.request.Reply.{Reply}
+use Rattle.dir_model.specs.declared.request.Reply.TheVariants.{Done, Opened, Refused}
+use Rattle.dir_model.specs.Areas.{rank, is_stage}
+use Rattle.dir_model.specs.Pods.{pod_text}
+use Rattle.dir_model.specs.Locks.{is_exclusive, target_of}
+use Rattle.dir_model.specs.Local.{is_own_of}
+use Rattle.dir_model.specs.Calls.{is_foreign}
+use Rattle.dir_rules.specs.declared.standing.Held.{Held}
+use Rattle.dir_rules.specs.declared.standing.Standing.{Standing}
+
+abbrev pub is_in : Area → Area → Bool
+is_in area here = rank area == rank here
+
+abbrev pub is_garbage : Area → Bool
+is_garbage area.ExitedGarbage = true
+is_garbage area.Garbage = true
+is_garbage _ = false
+
+-- a place of the pod with this name
+abbrev pub is_of : List ℕ → Spot → Bool
+is_of u spot = is_stage spot.area && bytes_eq spot.name u
+
+-- what a handle was opened on
+abbrev pub is_claim_of : List ℕ → Target → Bool
+is_claim_of u (Claim spot) = is_of u spot
+is_claim_of u _ = false
+
+abbrev pub is_gate_of : Area → Target → Bool
+is_gate_of area (Gate here) = is_in area here
+is_gate_of area _ = false
+
+-- where it was opened
+abbrev pub area_of : Target → Area
+area_of (Own spot) = spot.area
+area_of (Claim spot) = spot.area
+area_of (Gate area) = area
+
+abbrev pub nothing_standing : Standing
+nothing_standing = record { intent = None; made = false; gated = false; holdings = []; moves = []; looked = []; cleared = [] }
+
+abbrev pub is_shared : Option Mode → Bool
+is_shared (Some Shared) = true
+is_shared _ = false
+
+abbrev pub intends : (Intent → Bool) → Option Intent → Bool
+intends test None = false
+intends test (Some intent) = test intent
+
+abbrev pub draws_by : List ℕ → Option Intent → Bool
+draws_by u intent = intends (λ i. bytes_eq (pod_text i.draw.bytes) u) intent
+
+-- the pod is the one that its intent would make
+abbrev pub draws : List ℕ → Standing → Bool
+draws u s = draws_by u s.intent
+
+abbrev pub began_as : (Kind → Bool) → Standing → Bool
+began_as test s = intends (λ i. test i.kind) s.intent
+
+abbrev pub is_maker : Kind → Bool
+is_maker kind.Prepare = true
+is_maker kind.Run = true
+is_maker _ = false
+
+abbrev pub is_remover : Kind → Bool
+is_remover kind.Rm = true
+is_remover kind.Gc = true
+is_remover _ = false
+
+abbrev pub is_prepare : Kind → Bool
+is_prepare kind.Prepare = true
+is_prepare _ = false
+
+abbrev pub is_run : Kind → Bool
+is_run kind.Run = true
+is_run _ = false
+
+abbrev pub is_run_prepared : Kind → Bool
+is_run_prepared kind.RunPrepared = true
+is_run_prepared _ = false
+
+abbrev pub is_image_rm : Kind → Bool
+is_image_rm kind.ImageRm = true
+is_image_rm _ = false
+
+abbrev pub is_image_remover : Kind → Bool
+is_image_remover kind.ImageRm = true
+is_image_remover kind.ImageGc = true
+is_image_remover _ = false
+
+abbrev pub is_gc : Kind → Bool
+is_gc kind.Gc = true
+is_gc _ = false
+
+-- what it holds
+abbrev pub is_own_held : List ℕ → Held → Bool
+is_own_held u h = is_own_of u h.target && is_exclusive h.lock
+
+abbrev pub is_claim_held : List ℕ → Held → Bool
+is_claim_held u h = is_claim_of u h.target && is_exclusive h.lock
+
+abbrev pub is_gate_shared : Area → Held → Bool
+is_gate_shared area h = is_gate_of area h.target && is_shared h.lock
+
+abbrev pub is_gate_exclusive : Area → Held → Bool
+is_gate_exclusive area h = is_gate_of area h.target && is_exclusive h.lock
+
+abbrev pub holds_own : List ℕ → Standing → Bool
+holds_own u s = list_any (is_own_held u) s.holdings
+
+abbrev pub holds_claim : List ℕ → Standing → Bool
+holds_claim u s = list_any (is_claim_held u) s.holdings
+
+abbrev pub holds_gate : Area → Standing → Bool
+holds_gate area s = list_any (is_gate_shared area) s.holdings
+
+abbrev pub closes_gate : Area → Standing → Bool
+closes_gate area s = list_any (is_gate_exclusive area) s.holdings
+
+abbrev pub has_name : List ℕ → List (List ℕ) → Bool
+has_name u names = list_any (λ name. bytes_eq name u) names
+
+abbrev pub has_place : List ℕ → Area → List Spot → Bool
+has_place u area spots = list_any (λ spot. bytes_eq spot.name u && is_in area spot.area) spots
+
+-- its last move of the pod, if any
+abbrev pub last_of : List ℕ → List Spot → Option Spot
+last_of u moves = find (is_of u) moves
+
+abbrev pub is_number : Handle → Held → Bool
+is_number handle h = h.handle.number == handle.number
+
+abbrev pub is_known : Handle → Standing → Bool
+is_known handle s = list_any (is_number handle) s.holdings
+
+abbrev pub find_held : Handle → Standing → Option Held
+find_held handle s = find (is_number handle) s.holdings
+
+-- the changes
+abbrev pub held_in : Handle → Mode → Held → Held
+held_in handle mode h = cond (is_number handle h) (record h { lock = Some mode }) h
+
+abbrev pub uncover : Spot → Held → Held
+uncover from h = record h { covered = not (is_stage from.area && is_own_of from.name h.target) && h.covered }
+
+-- a handle of that kind is given up with this number
+abbrev pub gives_up : (Held → Bool) → Handle → List Held → Bool
+gives_up test handle hs = list_any (λ h. test h && is_number handle h) hs
+
+abbrev pub gives_up_cover : Handle → List Held → Target → Bool
+gives_up_cover handle hs (Own spot) = gives_up (is_claim_held spot.name) handle hs
+gives_up_cover handle hs _ = false
+
+abbrev pub recover : Handle → List Held → Held → Held
+recover handle hs h = record h { covered = not (gives_up_cover handle hs h.target) && h.covered }
+
+-- a handle was given up, and what hung on it
+abbrev pub given_up : Handle → Standing → Standing
+given_up handle s = record s { gated = not (gives_up (is_gate_shared area.Embryo) handle s.holdings) && s.gated; holdings = map (recover handle s.holdings) (filter (λ h. not (is_number handle h)) s.holdings); cleared = filter (λ u. not (gives_up (is_claim_held u) handle s.holdings)) s.cleared }
+
+abbrev pub own_spot : Target → List Spot
+own_spot (Own spot) = cond (is_stage spot.area) (spot ∷ []) []
+own_spot _ = []
+
+abbrev pub prepared_name : Target → List (List ℕ)
+prepared_name (Own spot) = cond (is_in area.Prepared spot.area) (spot.name ∷ []) []
+prepared_name _ = []
+
+-- Own was had shared by this handle
+abbrev pub looked_by : Option Held → Standing → Standing
+looked_by None s = s
+looked_by (Some h) s = record s { looked = own_spot h.target ++ s.looked; cleared = cond h.covered (prepared_name h.target) [] ++ s.cleared }
+
+-- where a move of a pod led
+abbrev pub and_move : Spot → List Spot → List Spot
+and_move to moves = cond (is_stage to.area) (to ∷ moves) moves
+
+abbrev pub is_own_in_prepared : Spot → Which → Bool
+is_own_in_prepared spot which.Own = is_in area.Prepared spot.area
+is_own_in_prepared spot which.Claim = false
+
+abbrev pub standing_done : Standing → Request → Standing
+standing_done s (Begin intent) = record s { intent = Some intent }
+standing_done s (MakeFolder spot) = cond (is_stage spot.area) (record s { made = true; gated = holds_gate area.Embryo s }) s
+standing_done s (MoveFolder from to) = record s { gated = not (is_in area.Embryo from.area && draws from.name s) && s.gated; moves = and_move to s.moves; holdings = map (uncover from) s.holdings }
+standing_done s (TryLock handle Shared) = looked_by (find_held handle s) (record s { holdings = map (held_in handle Shared) s.holdings })
+standing_done s (TryLock handle Exclusive) = record s { holdings = map (held_in handle Exclusive) s.holdings }
+standing_done s (Close handle) = given_up handle s
+standing_done s Finish = record s { holdings = []; gated = false; cleared = [] }
+standing_done s _ = s
+
+abbrev pub standing_opened : Standing → Request → Handle → Standing
+standing_opened s (Open spot which) handle = record s { holdings = record { handle = handle; target = target_of spot which; lock = None; covered = is_own_in_prepared spot which && holds_claim spot.name s } ∷ s.holdings }
+standing_opened s (OpenArea area) handle = record s { holdings = record { handle = handle; target = Gate area; lock = None; covered = false } ∷ s.holdings }
+standing_opened s _ handle = s
+
+abbrev pub standing_replied : Standing → Request → Reply → Standing
+standing_replied s request Done = standing_done s request
+standing_replied s request (Opened handle) = standing_opened s request handle
+standing_replied s request (Refused error left) = s
+standing_replied s request _ = s
+
+abbrev pub stood : ℕ → Standing → Event → Standing
+stood me s e = cond (is_foreign me e) s (standing_replied s e.request e.reply)
+
+abbrev pub standing_from : ℕ → Standing → List Event → Standing
+standing_from me s [] = s
+standing_from me s (e ∷ es) = standing_from me (stood me s e) es
+
+abbrev pub standing_of : ℕ → List Event → Standing
+standing_of me history = standing_from me nothing_standing history
