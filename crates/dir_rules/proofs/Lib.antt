@@ -1,0 +1,4 @@
+pub mod Tied
+pub mod Standings
+pub mod Unborn
+pub mod Looks

@@ -1,0 +1,95 @@
+-- A process that never began has seen nothing; so a begin keeps the tie.
+use Rattle.dir_model.specs.Paths.{is_well_formed}
+use Rattle.dir_model.proofs.Begun.{begun_stays}
+use Rattle.dir_model.proofs.Allowed.{allowed_step}
+use Rattle.std.proofs.Common.{arith, ◌≡◌, ◌⊎◌, inl, inr, ℕ, Bool, true, false, not, ◌&&◌, ◌||◌, ◌==◌, cond, List, [], ◌∷◌, ◌++◌, refl, sym, ap, subst, ◌∙◌}
+use Rattle.std.specs.List.{list_any}
+use Rattle.std.proofs.lemmas.Bool.Decides.{nat_tests}
+use Rattle.dir_model.specs.declared.event.Event.{Event}
+use Rattle.dir_model.specs.declared.intent.Intent.{Intent}
+use Rattle.dir_model.specs.declared.request.Request.{Request}
+use Rattle.dir_model.specs.declared.request.Request.TheVariants.{Begin, Open}
+use Rattle.dir_model.specs.declared.request.Reply.{Reply}
+use Rattle.dir_model.specs.declared.request.Reply.TheVariants.{Done, Opened, Refused}
+use Rattle.dir_model.specs.declared.request.DirError.TheVariants.{NoMemory}
+use Rattle.dir_rules.specs.declared.seen.Seen.{Seen}
+use Rattle.dir_model.specs.State.{Namespace, DirState, empty_state, lives, has_begun, has_ended}
+use Rattle.dir_model.specs.Trace.{namespace_replied, state_next, states_next, state_after}
+use Rattle.dir_model.specs.Calls.{Interference, IsRun, is_run_from, is_allowed, is_kill, is_foreign, CallStep, TookPlace, LeftNothing, event}
+use Rattle.dir_rules.specs.Conforms.{nothing_seen, seen_replied, saw, seen_after, seen_of, Agrees, IsTied}
+use Rattle.dir_model.proofs.Lists.{and_left, and_right, any_push, any_last, same_self, and_false}
+use Rattle.dir_model.proofs.Chains.{states_next-append, run_before}
+use Rattle.dir_rules.proofs.Tied.{meanwhile_unseen, own_seen, agrees_lost, lived_meanwhile}
+
+clash : (b : Bool) → b ≡ true → b ≡ false → ⊥
+clash true h k = cc
+clash false h k = cc
+
+unborn_all : (me : ℕ) (s : DirState) (es : List Event) → has_begun (states_next s es).namespace me ≡ false → has_begun s.namespace me ≡ false
+unborn_all me s es a = by (has_begun s.namespace me) refl
+  where
+    by : (b : Bool) → has_begun s.namespace me ≡ b → b ≡ false
+    by true is = absurd (clash (has_begun (states_next s es).namespace me) (begun_stays me s es is) a)
+    by false is = refl
+
+-- an own event of a process that isn't begun after it can't be
+no_event : (me : ℕ) (s : DirState) (request : Request) (reply : Reply) → is_allowed s (event me request reply) ≡ true → has_begun (namespace_replied s.namespace me request reply) me ≡ false → ⊥
+no_event me s (Begin intent) Done allowed a = clash (has_begun (namespace_replied s.namespace me (Begin intent) Done) me) (any_last (λ q. q.process == me) s.namespace.begun (record { process = me; intent = intent }) (same_self me)) a
+no_event me s (Begin intent) (Refused error left) allowed a = clash ((left == 0) && false) (and_right _ _ allowed) (and_false (left == 0))
+no_event me s (Begin intent) _ allowed a = clash false (and_right _ _ allowed) refl
+no_event me s request reply allowed a = clash (has_begun s.namespace me) (and_left (has_begun s.namespace me) (not (has_ended s.namespace me)) (and_right (is_well_formed request) (lives s.namespace me) (allowed_step s me request reply allowed))) (unborn_all me s (event me request reply ∷ []) a)
+
+saw_nothing : (me : ℕ) (st : DirState) (s : Seen) (e : Event) → is_allowed st e ≡ true → has_begun (state_next st e).namespace me ≡ false → s ≡ nothing_seen → saw me s e ≡ nothing_seen
+saw_nothing me st s e allowed a is = by (is_foreign me e) refl
+  where
+    same_process : (p : ℕ) (kill : Bool) → (not (p == me) || kill) ≡ false → p ≡ me
+    same_process p kill h = by' (p == me) refl h
+      where
+        by' : (b : Bool) → (p == me) ≡ b → (not b || kill) ≡ false → p ≡ me
+        by' true is h = grind (arith, nat_tests)
+        by' false is h = cc
+
+    by : (b : Bool) → is_foreign me e ≡ b → cond b s (seen_replied s e.request e.reply) ≡ nothing_seen
+    by true f = is
+    by false f =
+        let p : e.process ≡ me = same_process e.process (is_kill e.request) f in
+        absurd (no_event me st e.request e.reply (subst (λ (q : ℕ). is_allowed st (event q e.request e.reply) ≡ true) p allowed) (subst (λ (q : ℕ). has_begun (namespace_replied st.namespace q e.request e.reply) me ≡ false) p a))
+
+never_saw : (me : ℕ) (st : DirState) (s : Seen) (es : List Event) → is_run_from st es ≡ true → has_begun (states_next st es).namespace me ≡ false → s ≡ nothing_seen → seen_after me s es ≡ nothing_seen
+never_saw me st s [] run a is = is
+never_saw me st s (e ∷ es) run a is = never_saw me (state_next st e) (saw me s e) es (and_right _ _ run) a (saw_nothing me st s e (and_left _ _ run) (unborn_all me (state_next st e) es a) is)
+
+pub unborn_saw_nothing : (me : ℕ) (h : List Event) → IsRun h → has_begun (state_after h).namespace me ≡ false → seen_of me h ≡ nothing_seen
+unborn_saw_nothing me h run a = never_saw me empty_state nothing_seen h run a refl
+
+-- a begin keeps the tie of a process that has seen nothing
+pub tied_begin : (me : ℕ) (old : List Event) (intent : Intent) (reply : Reply) (new : List Event) → IsTied me old nothing_seen → CallStep me old (Begin intent) reply new → IsTied me new (seen_replied nothing_seen (Begin intent) reply)
+tied_begin me old intent reply new tied c = by c.own
+  where
+    unborn_old : (before : List Event) → Interference me old before → has_begun (state_after before).namespace me ≡ false → has_begun (state_after old).namespace me ≡ false
+    unborn_old before m a = unborn_all me (state_after old) m.others (subst (λ (s : DirState). has_begun s.namespace me ≡ false) (ap state_after m.grown ∙ states_next-append empty_state old m.others) a)
+
+    not_true : (b : Bool) → not b ≡ true → b ≡ false
+    not_true true h = cc
+    not_true false h = refl
+
+    by : TookPlace c.before me (Begin intent) reply new ⊎ LeftNothing c.before me (Begin intent) reply new → IsTied me new (seen_replied nothing_seen (Begin intent) reply)
+    by (inl t) =
+        let nothing : seen_of me old ≡ nothing_seen = unborn_saw_nothing me old (run_before c) (unborn_old c.before c.meanwhile (not_true (has_begun (state_after c.before).namespace me) (allowed_step (state_after c.before) me (Begin intent) reply t.allowed))) in
+        let is : seen_of me new ≡ seen_replied nothing_seen (Begin intent) reply = ap (seen_of me) t.grown ∙ own_seen me c.before (Begin intent) reply refl ∙ ap (λ (f : Seen). seen_replied f (Begin intent) reply) (meanwhile_unseen c.meanwhile ∙ nothing) in
+        record {
+          living = λ now. subst (λ (f : Seen). Agrees (seen_replied nothing_seen (Begin intent) reply) f) (sym is) (record { spoils = false; same = refl });
+          conforms = λ kept. ap (λ (f : Seen). f.kept) is ∙ kept;
+        }
+    by (inr l) =
+        let is : seen_of me new ≡ seen_of me old = ap (seen_of me) l.same ∙ meanwhile_unseen c.meanwhile in
+        record {
+          living = λ now. why l.why (subst (λ (h : List Event). lives (state_after h).namespace me ≡ true) l.same now);
+          conforms = λ kept. ap (λ (f : Seen). f.kept) is ∙ tied.conforms refl;
+        }
+      where
+        why : (lives (state_after c.before).namespace me ≡ false) ⊎ (reply ≡ Refused NoMemory 0) → lives (state_after c.before).namespace me ≡ true → Agrees (seen_replied nothing_seen (Begin intent) reply) (seen_of me new)
+        why (inl dead) now = let e : false ≡ true = sym dead ∙ now in cc
+        why (inr none) now =
+            subst (λ (r : Reply). Agrees (seen_replied nothing_seen (Begin intent) r) (seen_of me new)) (sym none)
+            (subst (λ (f : Seen). Agrees (seen_replied nothing_seen (Begin intent) (Refused NoMemory 0)) f) (sym (ap (seen_of me) l.same ∙ meanwhile_unseen c.meanwhile)) (agrees_lost nothing_seen (seen_of me old) (Begin intent) (tied.living (lived_meanwhile c.meanwhile now))))
