@@ -247,13 +247,6 @@ missed_looked {s} {a} x = subst (λ (w : Seen). Looked s w) (sym x) (looked_same
 pub looked_open_on : {a b : Seen} (t : Target) → Looked a b → is_open_on t a.standing.holdings ≡ false → is_open_on t b.standing.holdings ≡ false
 looked_open_on {a} {b} t l h = ap (λ (s : Seen). is_open_on t s.standing.holdings) l.same ∙ h
 
-turned : (a b : List ℕ) → bytes_eq a b ≡ false → bytes_eq b a ≡ false
-turned a b h = by (bytes_eq b a) refl
-  where
-    by : (c : Bool) → bytes_eq b a ≡ c → c ≡ false
-    by true is = let e : true ≡ false = sym ((bytes_eq-Decides a b).1 (sym ((bytes_eq-Decides b a).0 is))) ∙ h in cc
-    by false is = refl
-
 lookable_pod : (a : Area) → is_lookable a ≡ true → is_stage a ≡ true
 lookable_pod Prepare h = refl
 lookable_pod Run h = refl
@@ -280,8 +273,8 @@ deletes_none name (g ∷ hs) h = by g.target (is_exclusive g.lock) h (λ k. dele
     by : (t : Target) (b : Bool) → (is_same_target (Own (record { area = Prepare; name = name })) t || is_open_on (Own (record { area = Prepare; name = name })) hs) ≡ false → (is_open_on (Own (record { area = Prepare; name = name })) hs ≡ false → list_any (is_deleting name) hs ≡ false) → (((is_own_of name t && b) && is_garbage (area_of t)) || list_any (is_deleting name) hs) ≡ false
     by (Claim spot) b h more = more h
     by (Gate area) b h more = more h
-    by (Own spot) b h more = apart (bytes_eq name spot.name) refl h
+    by (Own spot) b h more = apart (is_stage spot.area && bytes_eq spot.name name) refl h
       where
-        apart : (y : Bool) → bytes_eq name spot.name ≡ y → (y || is_open_on (Own (record { area = Prepare; name = name })) hs) ≡ false → ((((is_stage spot.area && bytes_eq spot.name name) && b) && is_garbage spot.area) || list_any (is_deleting name) hs) ≡ false
+        apart : (y : Bool) → (is_stage spot.area && bytes_eq spot.name name) ≡ y → (y || is_open_on (Own (record { area = Prepare; name = name })) hs) ≡ false → (((y && b) && is_garbage spot.area) || list_any (is_deleting name) hs) ≡ false
         apart true is h = cc
-        apart false is h = ap (λ c. (((is_stage spot.area && c) && b) && is_garbage spot.area) || list_any (is_deleting name) hs) (turned name spot.name is) ∙ (ap (λ c. ((c && b) && is_garbage spot.area) || list_any (is_deleting name) hs) (and_false (is_stage spot.area)) ∙ more h)
+        apart false is h = more h

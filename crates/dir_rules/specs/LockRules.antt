@@ -18,11 +18,12 @@ use Rattle.dir_model.specs.declared.request.Request.TheVariants.{MakeFolder, Mov
 use Rattle.dir_model.specs.Areas.{is_stage}
 use Rattle.dir_model.specs.Pods.{pod_text}
 use Rattle.dir_model.specs.Locks.{is_exclusive}
+use Rattle.dir_model.specs.Local.{is_own_of}
 use Rattle.dir_model.specs.State.{spot_eq}
 use Rattle.dir_model.specs.Calls.{is_foreign}
 use Rattle.dir_rules.specs.declared.standing.Held.{Held}
 use Rattle.dir_rules.specs.declared.standing.Standing.{Standing}
-use Rattle.dir_rules.specs.Standing.{is_in, is_garbage, area_of, intends, draws, began_as, is_maker, is_remover, is_prepare, is_run, is_run_prepared, is_image_rm, is_image_remover, is_gc, is_gate_shared, is_own_held, holds_own, holds_claim, holds_gate, closes_gate, has_name, has_place, last_of, is_number, find_held, gives_up, nothing_standing, stood}
+use Rattle.dir_rules.specs.Standing.{is_in, is_claim_of, is_gate_of, is_garbage, area_of, intends, draws, began_as, is_maker, is_remover, is_prepare, is_run, is_run_prepared, is_image_rm, is_image_remover, is_gc, is_gate_shared, is_own_held, holds_own, holds_claim, holds_gate, closes_gate, has_name, has_place, last_of, is_number, find_held, gives_up, nothing_standing, stood}
 
 -- a pod is made once, by its maker, with the drawn name, under the gate
 abbrev pub may_make : Standing → Spot → Bool
@@ -77,10 +78,9 @@ may_lock_target s covered (Gate area) mode = may_lock_gate s area mode
 
 -- one lock: of one pod or area
 abbrev pub is_same_target : Target → Target → Bool
-is_same_target (Own a) (Own b) = bytes_eq a.name b.name
-is_same_target (Claim a) (Claim b) = bytes_eq a.name b.name
-is_same_target (Gate a) (Gate b) = is_in a b
-is_same_target _ _ = false
+is_same_target (Own spot) target = is_own_of spot.name target
+is_same_target (Claim spot) target = is_claim_of spot.name target
+is_same_target (Gate area) target = is_gate_of area target
 
 -- some handle is open on that lock
 abbrev pub is_open_on : Target → List Held → Bool
