@@ -11,13 +11,13 @@ use Rattle.dir_model.specs.declared.request.Request.{Request}
 use Rattle.dir_model.specs.declared.request.Request.TheVariants.{Begin, Open}
 use Rattle.dir_model.specs.declared.request.Reply.{Reply}
 use Rattle.dir_model.specs.declared.request.Reply.TheVariants.{Done, Opened, Refused}
-use Rattle.dir_model.specs.declared.request.DirError.TheVariants.{NoMemory}
+use Rattle.dir_model.specs.declared.request.DirError.{DirError}
 use Rattle.dir_rules.specs.declared.seen.Seen.{Seen}
 use Rattle.dir_model.specs.State.{Namespace, DirState, empty_state, lives, has_begun, has_ended}
 use Rattle.dir_model.specs.Trace.{namespace_replied, state_next, states_next, state_after}
 use Rattle.dir_model.specs.Calls.{Interference, IsRun, is_run_from, is_allowed, is_kill, is_foreign, CallStep, TookPlace, LeftNothing, event}
 use Rattle.dir_rules.specs.Conforms.{nothing_seen, seen_replied, saw, seen_after, seen_of, Agrees, IsTied}
-use Rattle.dir_model.proofs.Lists.{and_left, and_right, any_push, any_last, same_self, and_false}
+use Rattle.dir_model.proofs.Lists.{not_true, and_left, and_right, any_push, any_last, same_self, and_false}
 use Rattle.dir_model.proofs.Chains.{states_next-append, run_before}
 use Rattle.dir_rules.proofs.Tied.{meanwhile_unseen, own_seen, agrees_lost, lived_meanwhile}
 
@@ -62,34 +62,27 @@ never_saw me st s (e ∷ es) run a is = never_saw me (state_next st e) (saw me s
 pub unborn_saw_nothing : (me : ℕ) (h : List Event) → IsRun h → has_begun (state_after h).namespace me ≡ false → seen_of me h ≡ nothing_seen
 unborn_saw_nothing me h run a = never_saw me empty_state nothing_seen h run a refl
 
--- a begin keeps the tie of a process that has seen nothing
-pub tied_begin : (me : ℕ) (old : List Event) (intent : Intent) (reply : Reply) (new : List Event) → IsTied me old nothing_seen → CallStep me old (Begin intent) reply new → IsTied me new (seen_replied nothing_seen (Begin intent) reply)
-tied_begin me old intent reply new tied c = by c.own
+unborn_old : (me : ℕ) (old before : List Event) → Interference me old before → has_begun (state_after before).namespace me ≡ false → has_begun (state_after old).namespace me ≡ false
+unborn_old me old before m a = unborn_all me (state_after old) m.others (subst (λ (s : DirState). has_begun s.namespace me ≡ false) (ap state_after m.grown ∙ states_next-append empty_state old m.others) a)
+
+-- a process that has begun knows that alone
+pub tied_begun : {me : ℕ} {old new : List Event} {intent : Intent} → CallStep me old (Begin intent) Done new → IsTied me new (seen_replied nothing_seen (Begin intent) Done)
+tied_begun {me} {old} {new} {intent} c = by c.own
   where
-    unborn_old : (before : List Event) → Interference me old before → has_begun (state_after before).namespace me ≡ false → has_begun (state_after old).namespace me ≡ false
-    unborn_old before m a = unborn_all me (state_after old) m.others (subst (λ (s : DirState). has_begun s.namespace me ≡ false) (ap state_after m.grown ∙ states_next-append empty_state old m.others) a)
-
-    not_true : (b : Bool) → not b ≡ true → b ≡ false
-    not_true true h = cc
-    not_true false h = refl
-
-    by : TookPlace c.before me (Begin intent) reply new ⊎ LeftNothing c.before me (Begin intent) reply new → IsTied me new (seen_replied nothing_seen (Begin intent) reply)
+    by : TookPlace c.before me (Begin intent) Done new ⊎ LeftNothing c.before me (Begin intent) Done new → IsTied me new (seen_replied nothing_seen (Begin intent) Done)
     by (inl t) =
-        let nothing : seen_of me old ≡ nothing_seen = unborn_saw_nothing me old (run_before c) (unborn_old c.before c.meanwhile (not_true (has_begun (state_after c.before).namespace me) (allowed_step (state_after c.before) me (Begin intent) reply t.allowed))) in
-        let is : seen_of me new ≡ seen_replied nothing_seen (Begin intent) reply = ap (seen_of me) t.grown ∙ own_seen me c.before (Begin intent) reply refl ∙ ap (λ (f : Seen). seen_replied f (Begin intent) reply) (meanwhile_unseen c.meanwhile ∙ nothing) in
+        let nothing : seen_of me old ≡ nothing_seen = unborn_saw_nothing me old (run_before c) (unborn_old me old c.before c.meanwhile (not_true (has_begun (state_after c.before).namespace me) (allowed_step (state_after c.before) me (Begin intent) Done t.allowed))) in
+        let is : seen_of me new ≡ seen_replied nothing_seen (Begin intent) Done = ap (seen_of me) t.grown ∙ own_seen me c.before (Begin intent) Done refl ∙ ap (λ (f : Seen). seen_replied f (Begin intent) Done) (meanwhile_unseen c.meanwhile ∙ nothing) in
         record {
-          living = λ now. subst (λ (f : Seen). Agrees (seen_replied nothing_seen (Begin intent) reply) f) (sym is) (record { spoils = false; same = refl });
+          living = λ now. subst (λ (f : Seen). Agrees (seen_replied nothing_seen (Begin intent) Done) f) (sym is) (record { spoils = false; same = refl });
           conforms = λ kept. ap (λ (f : Seen). f.kept) is ∙ kept;
         }
-    by (inr l) =
-        let is : seen_of me new ≡ seen_of me old = ap (seen_of me) l.same ∙ meanwhile_unseen c.meanwhile in
-        record {
-          living = λ now. why l.why (subst (λ (h : List Event). lives (state_after h).namespace me ≡ true) l.same now);
-          conforms = λ kept. ap (λ (f : Seen). f.kept) is ∙ tied.conforms refl;
-        }
-      where
-        why : (lives (state_after c.before).namespace me ≡ false) ⊎ (reply ≡ Refused NoMemory 0) → lives (state_after c.before).namespace me ≡ true → Agrees (seen_replied nothing_seen (Begin intent) reply) (seen_of me new)
-        why (inl dead) now = let e : false ≡ true = sym dead ∙ now in cc
-        why (inr none) now =
-            subst (λ (r : Reply). Agrees (seen_replied nothing_seen (Begin intent) r) (seen_of me new)) (sym none)
-            (subst (λ (f : Seen). Agrees (seen_replied nothing_seen (Begin intent) (Refused NoMemory 0)) f) (sym (ap (seen_of me) l.same ∙ meanwhile_unseen c.meanwhile)) (agrees_lost nothing_seen (seen_of me old) (Begin intent) (tied.living (lived_meanwhile c.meanwhile now))))
+    by (inr l) = let e : false ≡ true = l.late in cc
+
+-- a begin that is refused isn't seen
+pub refused_unseen : {me : ℕ} {old new : List Event} {intent : Intent} {error : DirError} {left : ℕ} → CallStep me old (Begin intent) (Refused error left) new → seen_of me new ≡ seen_of me old
+refused_unseen {me} {old} {new} {intent} {error} {left} c = by c.own
+  where
+    by : TookPlace c.before me (Begin intent) (Refused error left) new ⊎ LeftNothing c.before me (Begin intent) (Refused error left) new → seen_of me new ≡ seen_of me old
+    by (inl t) = absurd (clash ((left == 0) && false) (and_right _ _ t.allowed) (and_false (left == 0)))
+    by (inr l) = ap (seen_of me) l.same ∙ meanwhile_unseen c.meanwhile

@@ -1,5 +1,6 @@
 pub mod DirCalls
 pub mod Bundles
+pub mod Knowledge
 pub mod Sinks
 pub use Rattle.dir_model.specs.Names
 pub use Rattle.dir_model.specs.Pods
