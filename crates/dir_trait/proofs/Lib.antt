@@ -1,3 +1,4 @@
 pub mod Listings
 pub mod Askings
 pub mod Knowing
+pub mod Looking

@@ -1,6 +1,8 @@
 // One look at a location, and one question for the lock of what stands there.
 ghost use Rattle.std.specs.Prelude.{◌≡◌, ◌+◌, ◌≤◌, true, false, IfOk, IsErrOf, Ok, Some, None, is_some, IfSome};
 ghost use Rattle.dir_trait.specs.Causes.{Rose};
+ghost use Rattle.dir_rules.specs.Conforms.{is_lookable};
+ghost use Rattle.dir_trait.specs.Knowledge.{OnlyLooks};
 ghost use Rattle.dir_trait.specs.DirCalls.{ExtendsBy, HeldBetween, LockToldBetween};
 ghost use Rattle.dir_trait.specs.State.{spot_eq, stands};
 ghost use Rattle.dir_trait.specs.Replies.{is_look_at};
@@ -19,6 +21,7 @@ pub fn look<D: Dir>(alloc: Global, dir: &mut D, spot: Spot) -> Result<bool, Look
     ensures faults { (D.shown dir.old).faults ≤ (D.shown dir.new).faults }
     ensures cause { IsErrOf result LookError.DirFault → Rose (D.shown dir.old).faults (D.shown dir.new).faults }
     ensures local { (D.shown dir.new).local ≡ (D.shown dir.old).local }
+    ensures known { D.observed ≡ true → OnlyLooks (D.shown dir.old) (D.shown dir.new) }
     ensures extends { D.observed ≡ true → ExtendsBy (is_look_at (spot_eq spot)) (D.shown dir.old) (D.shown dir.new) }
     ensures there { IfOk result (λ there. D.observed ≡ true
         → HeldBetween (D.shown dir.old) (D.shown dir.new) (λ s. stands s.namespace spot ≡ there)) }
@@ -33,10 +36,11 @@ pub fn look<D: Dir>(alloc: Global, dir: &mut D, spot: Spot) -> Result<bool, Look
     }
 }
 
-/// Whether a folder stands at the location, and then whether its lock is held exclusively. No handle of
-/// this process is open on that lock. `DirFault` where the directory failed.
+/// Whether a folder stands at the location, one where anyone may ask for its lock shared, and then
+/// whether that lock is held exclusively. No handle of this process is open on it. `DirFault` where the directory failed.
 pub fn ask<D: Dir>(alloc: Global, dir: &mut D, spot: Spot) -> Result<Option<bool>, LookError>
     requires active { IsActive (D.shown dir.old).local }
+    requires area { is_lookable spot.area ≡ true }
     requires alone { has_own_open (D.shown dir.old).local spot.name ≡ false }
     ensures counted { (D.shown dir.new).calls ≤ (D.shown dir.old).calls + 3 }
     ensures counted_missing { result ≡ Ok None → (D.shown dir.new).calls ≤ (D.shown dir.old).calls + 1 }
@@ -44,6 +48,7 @@ pub fn ask<D: Dir>(alloc: Global, dir: &mut D, spot: Spot) -> Result<Option<bool
     ensures faults { (D.shown dir.old).faults ≤ (D.shown dir.new).faults }
     ensures cause { IsErrOf result LookError.DirFault → Rose (D.shown dir.old).faults (D.shown dir.new).faults }
     ensures local { (D.shown dir.new).local ≡ (D.shown dir.old).local }
+    ensures known { D.observed ≡ true → OnlyLooks (D.shown dir.old) (D.shown dir.new) }
     ensures extends { D.observed ≡ true → ExtendsBy (is_look_at (spot_eq spot)) (D.shown dir.old) (D.shown dir.new) }
     ensures there { IfOk result (λ owned. D.observed ≡ true
         → HeldBetween (D.shown dir.old) (D.shown dir.new) (λ s. stands s.namespace spot ≡ is_some owned)) }

@@ -15,6 +15,7 @@ use Rattle.dir_model.proofs.Moments.{at_before, found, missed, told_before}
 use Rattle.dir_model.proofs.LockTold.{told_free, told_held}
 use Rattle.dir_model.proofs.Holdings.{tried_by, unlocked_new}
 use Rattle.dir_model.proofs.Spots.{spot_self}
+use Rattle.dir_trait.proofs.Looking.{ask_looks, missed_looks}
 use Rattle.phase_read.proofs.probe.ask.Goals as goal
 
 pub returns-in-Ok-answer-clause-extends : goal.returns-in-Ok-answer-clause-extends
@@ -64,3 +65,18 @@ returns-in-Err-Locked-clause-told g c t =
 
 pub try_lock-answer-requires-clause-unlocked : goal.try_lock-answer-requires-clause-unlocked
 try_lock-answer-requires-clause-unlocked g c = subst (λ (m : Local). IsUnlocked m c.in-Ok.handle) (sym c.in-Ok.ensures.called.local) (unlocked_new (g.D.Dir.shown c.args.dir.now).local c.in-Ok.handle (Own c.args.spot) c.in-Ok.ensures.unopened)
+
+pub returns-in-Ok-answer-clause-known : goal.returns-in-Ok-answer-clause-known
+returns-in-Ok-answer-clause-known g c t = ask_looks {spot = c.args.spot} c.try_lock-answer.result t c.requires.area c.requires.alone c.in-Ok.ensures.unopened c.in-Ok.ensures.called c.try_lock-answer.ensures.called c.close.ensures.called
+
+pub returns-in-Err-Locked-clause-known : goal.returns-in-Err-Locked-clause-known
+returns-in-Err-Locked-clause-known g c t = ask_looks {spot = c.args.spot} c.try_lock-answer.result t c.requires.area c.requires.alone c.in-Ok.ensures.unopened c.in-Ok.ensures.called c.try_lock-answer.ensures.called c.close.ensures.called
+
+pub returns-in-Err-answer-clause-known : goal.returns-in-Err-answer-clause-known
+returns-in-Err-answer-clause-known g c t = ask_looks {spot = c.args.spot} c.try_lock-answer.result t c.requires.area c.requires.alone c.in-Ok.ensures.unopened c.in-Ok.ensures.called c.try_lock-answer.ensures.called c.close.ensures.called
+
+pub returns-in-Err-Missing-clause-known : goal.returns-in-Err-Missing-clause-known
+returns-in-Err-Missing-clause-known g c t = missed_looks {spot = c.args.spot} t c.in-Err-Missing.ensures.called
+
+pub returns-in-Err-clause-known : goal.returns-in-Err-clause-known
+returns-in-Err-clause-known g c t = missed_looks {spot = c.args.spot} t c.in-Err.ensures.called

@@ -5,6 +5,7 @@ use Rattle.dir_model.proofs.Chains.{and_more}
 use Rattle.dir_model.proofs.Moments.{at_after, at_weaker, settle, told_before}
 use Rattle.phase_read.specs.Read.{HasPhase}
 use Rattle.phase_read.proofs.Stages.{has_phase}
+use Rattle.dir_trait.proofs.Looking.{looks_more}
 use Rattle.phase_read.proofs.read.read_at.Goals as goal
 
 pub returns-in_err-there-in-Some-clause-extends : goal.returns-in_err-there-in-Some-clause-extends
@@ -36,3 +37,12 @@ pub returns-then-there-2-clause-found : goal.returns-then-there-2-clause-found
 returns-then-there-2-clause-found g c t =
     let told = rw c.in-Some.is at (c.in_ok-ask-in_default.ensures.told) in
     inr (c.in-Some.owned, told_before {asks = is_look_at (spot_eq c.args.spot)} (told t) c.ask.ensures.same (c.look-in-Some.ensures.extends t), c.stage_phase-then-there-2.ensures)
+
+pub returns-in_err-there-in-Some-clause-known : goal.returns-in_err-there-in-Some-clause-known
+returns-in_err-there-in-Some-clause-known g c t = looks_more (c.ask.ensures.known t) (c.look-in-Some.ensures.known t)
+
+pub returns-then-there-2-clause-known : goal.returns-then-there-2-clause-known
+returns-then-there-2-clause-known g c t = looks_more (c.ask.ensures.known t) (c.look-in-Some.ensures.known t)
+
+pub returns-else-there-2-clause-known : goal.returns-else-there-2-clause-known
+returns-else-there-2-clause-known g c t = looks_more (c.ask.ensures.known t) (c.look-in-Some.ensures.known t)

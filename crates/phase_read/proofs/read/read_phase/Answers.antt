@@ -8,6 +8,7 @@ use Rattle.dir_model.proofs.Spots.{look_wider}
 use Rattle.phase_read.specs.Read.{WasFound, HasPhase, LeftOut, is_pod_spot, stages_before, pod_spot}
 use Rattle.phase_read.proofs.Stages.{next_rank, next_within, next_before, last_stages, pod_spot_only}
 use Rattle.phase_read.proofs.InTurn.{and_left_out}
+use Rattle.dir_trait.proofs.Looking.{looks_none, looks_more}
 use Rattle.phase_read.proofs.read.read_phase.Goals as goal
 
 pub returns-in-None-clause-read : goal.returns-in-None-clause-read
@@ -40,6 +41,7 @@ places-preserved g c =
       faults = omega (arith, c.read_at.ensures.faults, i.faults);
       local = c.read_at.ensures.local ∙ i.local;
       extends = λ t. and_more (i.extends t) i.same (extends_wider (look_wider (spot_eq (record { area = c.places.area; name = c.name-name.result })) (is_pod_spot c.args.pod) (λ here is. pod_spot_only c.args.pod (record { area = c.places.area; name = c.name-name.result }) here i.below c.name-name.ensures.text is)) (c.read_at.ensures.extends t));
+      known = λ t. looks_more (i.known t) (c.read_at.ensures.known t);
       empty = λ t.
           subst (λ (areas : List Area). LeftOut me old new c.args.pod areas) (sym (next_before c.places.area c.in-Some-next.next c.in-Some-next.ensures))
           (and_left_out c.args.pod me (shown c.places.dir).process old now new c.places.area (stages_before c.places.area) (i.empty t) i.same (subst named c.name-name.ensures.text (rw c.in_default.is at (c.in_ok-phase.ensures.there t))));
@@ -70,3 +72,12 @@ returns-in-Some-clause-extends g c t = and_more (c.places.invariant.extends t) c
 
 pub returns-in-None-clause-extends : goal.returns-in-None-clause-extends
 returns-in-None-clause-extends g c t = and_more (c.places.invariant.extends t) c.places.invariant.same (extends_wider (look_wider (spot_eq (record { area = c.places.area; name = c.name-name.result })) (is_pod_spot c.args.pod) (λ here is. pod_spot_only c.args.pod (record { area = c.places.area; name = c.name-name.result }) here c.places.invariant.below c.name-name.ensures.text is)) (c.read_at.ensures.extends t))
+
+pub returns-in_err-phase-clause-known : goal.returns-in_err-phase-clause-known
+returns-in_err-phase-clause-known g c t = looks_more (c.places.invariant.known t) (c.read_at.ensures.known t)
+
+pub returns-in-Some-clause-known : goal.returns-in-Some-clause-known
+returns-in-Some-clause-known g c t = looks_more (c.places.invariant.known t) (c.read_at.ensures.known t)
+
+pub returns-in-None-clause-known : goal.returns-in-None-clause-known
+returns-in-None-clause-known g c t = looks_more (c.places.invariant.known t) (c.read_at.ensures.known t)
