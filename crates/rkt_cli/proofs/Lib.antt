@@ -6,3 +6,4 @@ pub mod Sessions
 pub mod Outcomes
 pub mod Statuses
 pub mod QuietRun
+pub mod Conforming

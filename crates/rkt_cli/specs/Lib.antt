@@ -1,6 +1,7 @@
 pub mod Texts
 pub mod Lines
 pub mod Moments
+pub mod Conforming
 pub mod Ends
 pub mod Status
 pub mod Validate

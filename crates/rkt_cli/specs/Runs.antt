@@ -13,6 +13,7 @@ use Rattle.rkt_cli.specs.declared.line.Line.{Line}
 use Rattle.rkt_cli.specs.declared.refusal.Refusal.{Refusal}
 use Rattle.rkt_cli.specs.declared.refusal.Refusal.TheVariants.{Usage, BadManifest, DirFault, BundleFault, OutFault, NoMemory, NoFile}
 use Rattle.rkt_cli.specs.Texts.{status_of, message}
+use Rattle.rkt_cli.specs.Conforming.{StaysConforming}
 use Rattle.rkt_cli.specs.Moments.{Outside, Moment, SinkSeen, Outcome}
 use Rattle.rkt_cli.specs.Commands.{uses_dir, intent_of, asks, may, CommandSays, ReadsOnly}
 
@@ -44,9 +45,11 @@ pub record InProcess (line : Line) (intent : Intent) (old new : Outside) (o : Ou
   pub told : begun.dir.observed ≡ old.dir.observed
   pub me : begun.dir.process ≡ old.dir.process
   pub risen : old.dir.faults ≤ begun.dir.faults
+  pub started : begun.dir.local ≡ begun_local intent
   pub begins : old.dir.observed ≡ true → CallStep old.dir.process old.dir.trace (Begin intent) Done begun.dir.trace
   pub bundle_before : begun.bundle ≡ old.bundle
   pub ran : CommandRan line begun ended o
+  pub keeps : old.dir.observed ≡ true → StaysConforming begun.dir ended.dir
   pub finishes : old.dir.observed ≡ true → CallStep ended.dir.process ended.dir.trace Finish Done new.dir.trace
   pub faults : new.dir.faults ≡ ended.dir.faults
   pub same : new.dir.process ≡ ended.dir.process

@@ -1,7 +1,8 @@
 // What a command line does to the directory and the bundle.
 ghost use Rattle.std.specs.Prelude.{◌≡◌, true, false, Some, IsSome, IsNone};
 ghost use Rattle.dir_trait.specs.Local.{IsActive, nothing_local};
-ghost use Rattle.rkt_cli.specs.Moments.{outside_at};
+ghost use Rattle.rkt_cli.specs.Moments.{dir_at, outside_at};
+ghost use Rattle.rkt_cli.specs.Conforming.{StaysConforming};
 ghost use Rattle.rkt_cli.specs.Commands.{uses_dir, reads_bundle, intent_of, IsReady};
 ghost use Rattle.rkt_cli.specs.Runs.{CommandRan, Performs};
 
@@ -45,6 +46,7 @@ fn act<D: Dir, B: Bundle>(
     ensures local { (D.shown dir.new).local ≡ (D.shown dir.old).local }
     ensures apart { uses_dir line.now ≡ false → dir.new ≡ dir.old }
     ensures unread { reads_bundle line.now ≡ false → bundle.new ≡ bundle.old }
+    ensures keeps { D.observed ≡ true → StaysConforming (dir_at D.Dir dir.old) (dir_at D.Dir dir.new) }
     ensures ran { CommandRan line.now (outside_at D.Dir B.Bundle dir.old bundle.old) (outside_at D.Dir B.Bundle dir.new bundle.new) result }
 {
     match line {

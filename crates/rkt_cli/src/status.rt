@@ -2,6 +2,7 @@
 ghost use Rattle.std.specs.Prelude.{◌≡◌, ◌≤◌, ◌⊎◌, true, false, IfErr, IsErrOf, IfOk, Err};
 ghost use Rattle.dir_trait.specs.Causes.{Rose};
 ghost use Rattle.dir_trait.specs.DirCalls.{ExtendsBy};
+ghost use Rattle.dir_trait.specs.Knowledge.{OnlyLooks};
 ghost use Rattle.dir_trait.specs.Local.{IsActive, has_own_open};
 ghost use Rattle.dir_trait.specs.Pods.{pod_text};
 ghost use Rattle.dir_trait.specs.Replies.{is_look_at};
@@ -60,6 +61,7 @@ pub fn pod_status<D: Dir>(alloc: Global, pod: PodId, dir: &mut D) -> Result<Outp
     ensures local { (D.shown dir.new).local ≡ (D.shown dir.old).local }
     ensures cause { IsErrOf result Refusal.DirFault → Rose (D.shown dir.old).faults (D.shown dir.new).faults }
     ensures refusals { IfErr result (λ r. status_refusal r ≡ true) }
+    ensures known { D.observed ≡ true → OnlyLooks (D.shown dir.old) (D.shown dir.new) }
     ensures extends { D.observed ≡ true → ExtendsBy (is_look_at (is_pod_spot pod)) (D.shown dir.old) (D.shown dir.new) }
     ensures says { is_own_end result ≡ true → StatusSays pod (dir_at D.Dir dir.old) (dir_at D.Dir dir.new) result }
 {

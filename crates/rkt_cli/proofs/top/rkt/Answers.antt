@@ -1,5 +1,6 @@
 use Rattle.rkt_cli.proofs.Statuses.{statuses, usage, no_pod, bad_manifest, no_file, dir_fault, bundle_fault, out_fault, extends, output, complaint, judged, over, reads}
 use Rattle.rkt_cli.proofs.QuietRun.{quiet}
+use Rattle.rkt_cli.proofs.Conforming.{run_conforms}
 use Rattle.rkt_cli.proofs.top.rkt.Goals as goal
 
 pub returns-clause-statuses : goal.returns-clause-statuses
@@ -37,6 +38,9 @@ returns-clause-reads g c = reads c.run.ensures.ran
 
 pub returns-clause-extends : goal.returns-clause-extends
 returns-clause-extends g c = extends c.run.ensures.ran
+
+pub returns-clause-conforms : goal.returns-clause-conforms
+returns-clause-conforms g c t = run_conforms c.run.ensures.ran t
 
 pub returns-clause-out : goal.returns-clause-out
 returns-clause-out g c = output c.run.ensures.ran
