@@ -4,3 +4,4 @@ pub mod LockRules
 pub mod Seen
 pub mod Rules
 pub mod Conforms
+pub mod Anomalies

@@ -182,7 +182,7 @@ abbrev pub item_removed : Seen → Inner → Seen
 item_removed s inner = record s { items = filter (λ i. not (is_item_at inner i)) s.items }
 
 abbrev pub folder_removed : Seen → Spot → Seen
-folder_removed s spot = record s { listed = forget_listed spot s.listed; items = forget_items spot s.items; put_away = filter (λ p. not (spot_eq p spot)) s.put_away }
+folder_removed s spot = record s { listed = forget_listed spot s.listed; items = forget_items spot s.items; areas = map (moved_away spot) s.areas; put_away = filter (λ p. not (spot_eq p spot)) s.put_away }
 
 -- after a request that was answered Ok
 abbrev pub learned_done : Seen → Request → Seen

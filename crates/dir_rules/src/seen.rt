@@ -38,7 +38,7 @@ pub struct ShownItem {
 }
 
 /// An area that was listed under its lock held exclusively, with the folders that it showed and that
-/// the process hasn't moved since.
+/// the process has neither moved nor removed since.
 #[derive(Drop)]
 pub struct ShownArea {
     pub area: Area,
