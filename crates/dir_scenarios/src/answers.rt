@@ -50,11 +50,11 @@ fn made(alloc: Global) -> Result<MemoryDir, NoMemory>
     ensures { IfOk result (λ d. d.local ≡ nothing_local) }
 {
     let dir = MemoryDir::new(alloc, 1)?;
-    let (spot, which) = (pod(Area::Embryo), Which::Own);
-    let (handle, mode) = (Handle { number: 0 }, Mode::Exclusive);
     let dir = with(alloc, dir, 2, Request::Begin(intent(Kind::Prepare)))?;
-    let dir = with(alloc, dir, 2, Request::MakeFolder(spot))?;
+    let dir = with(alloc, dir, 2, Request::MakeFolder(pod(Area::Embryo)))?;
+    let (spot, which) = (pod(Area::Embryo), Which::Own);
     let dir = with(alloc, dir, 2, Request::Open { spot, which })?;
+    let (handle, mode) = (Handle { number: 0 }, Mode::Exclusive);
     with(alloc, dir, 2, Request::TryLock { handle, mode })
 }
 
