@@ -1,0 +1,3 @@
+pub mod PodMachine
+pub mod Executions
+pub mod Watch
