@@ -21,7 +21,7 @@ use Rattle.dir_rules.specs.declared.standing.Standing.{Standing}
 use Rattle.lifecycle.proofs.World.{both, clash, none_refused, refused_if}
 use Rattle.lifecycle.proofs.Invariant.{placed_age}
 use Rattle.dir_model.specs.declared.event.Event.{Event}
-use Rattle.lifecycle.specs.PodMachine.{machine_next, machine_from}
+use Rattle.lifecycle.specs.PodMachine.{pod_state_next, pod_state_from}
 use Rattle.lifecycle.proofs.Places.{made_elsewhere, moved_away, moved_elsewhere, removed_there, removed_elsewhere, none_stands, folder_like}
 use Rattle.dir_model.specs.declared.request.DirError.TheVariants.{Exists}
 use Rattle.lifecycle.proofs.Opens.{found_pod}
@@ -58,11 +58,11 @@ turned_on (Some x) p s = by (enabled x p s) refl
     by false e = same_age (age s)
 
 -- of any history
-pub ages : (u : List ℕ) (es : List Event) (n : DirState) (s : PodState) → age s ≤ age (machine_from u n s es)
+pub ages : (u : List ℕ) (es : List Event) (n : DirState) (s : PodState) → age s ≤ age (pod_state_from u n s es)
 ages u [] n s = same_age (age s)
 ages u (e ∷ es) n s =
-    let x : age s ≤ age (machine_next u n.namespace s e) = turned_on (transition u n.namespace s e.process e.request e.reply) e.process s in
-    let y : age (machine_next u n.namespace s e) ≤ age (machine_from u (state_next n e) (machine_next u n.namespace s e) es) = ages u es (state_next n e) (machine_next u n.namespace s e) in
+    let x : age s ≤ age (pod_state_next u n.namespace s e) = turned_on (transition u n.namespace s e.process e.request e.reply) e.process s in
+    let y : age (pod_state_next u n.namespace s e) ≤ age (pod_state_from u (state_next n e) (pod_state_next u n.namespace s e) es) = ages u es (state_next n e) (pod_state_next u n.namespace s e) in
     omega (arith, x, y)
 
 -- how far along it is at most in an area
@@ -165,16 +165,16 @@ stand_step n p request Done spot is was stays = refl
 stand_step n p request reply spot is was stays = refl
 
 -- along a part after which the pod hasn't left the place, its folder stands there
-pub stays_from : (u : List ℕ) (es : List Event) (n : DirState) (s : PodState) (σ : ℕ → Standing) (spot : Spot) (f : ℕ) → Good u n s σ → ConformingFrom u n σ es → is_of u spot ≡ true → folder_at n.namespace spot ≡ Some f → age (machine_from u n s es) ≤ age_out spot.area → folder_at (states_next n es).namespace spot ≡ Some f
+pub stays_from : (u : List ℕ) (es : List Event) (n : DirState) (s : PodState) (σ : ℕ → Standing) (spot : Spot) (f : ℕ) → Good u n s σ → ConformingFrom u n σ es → is_of u spot ≡ true → folder_at n.namespace spot ≡ Some f → age (pod_state_from u n s es) ≤ age_out spot.area → folder_at (states_next n es).namespace spot ≡ Some f
 stays_from u [] n s σ spot f good conforming of at bound = at
 stays_from u (e ∷ es) n s σ spot f good conforming of at bound =
     let g = given u n s σ e es good conforming in
     let next = next_good u n s σ e g in
-    let t : PodState = machine_next u n.namespace s e in
+    let t : PodState = pod_state_next u n.namespace s e in
     let was : is_place spot.area s ≡ true = (found_pod u n.namespace s good.inv.pod spot of (ap (λ (o : Option ℕ). is_some o) at)).0 in
     let low : age_in spot.area ≤ age s = placed_age spot.area s was in
     let up : age s ≤ age t = turned_on (transition u n.namespace s e.process e.request e.reply) e.process s in
-    let top : age t ≤ age (machine_from u (state_next n e) t es) = ages u es (state_next n e) t in
+    let top : age t ≤ age (pod_state_from u (state_next n e) t es) = ages u es (state_next n e) t in
     let there : is_place spot.area t ≡ true = between spot.area t (both (is_stage spot.area) (bytes_eq spot.name u) of).0 (omega (arith, low, up)) (omega (arith, top, bound)) in
     let stays : stands (state_next n e).namespace spot ≡ true = ap (λ (o : Option ℕ). is_some o) (next.inv.pod.at spot of ∙ ap (λ b. cond b (Some next.inv.pod.number) None) there) in
     stays_from u es (state_next n e) t (λ q. stood q (σ q) e) spot f next (conforming_tail u n σ e es conforming) of

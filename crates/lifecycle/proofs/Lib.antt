@@ -27,7 +27,7 @@ pub mod Forward
 pub mod Stays
 pub mod Owners
 pub mod Watched
-pub mod Removals
 pub mod Deeds
+pub mod Laws
 pub mod Misses
 pub mod Machines

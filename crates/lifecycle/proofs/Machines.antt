@@ -17,7 +17,7 @@ use Rattle.lifecycle.specs.declared.machine.PodState.{PodState}
 use Rattle.lifecycle.specs.declared.machine.PodState.TheVariants.{Absent}
 use Rattle.lifecycle.specs.declared.machine.Transition.{Transition}
 use Rattle.lifecycle.specs.declared.machine.Transition.TheVariants as turn
-use Rattle.lifecycle.specs.PodMachine.{turned, is_owner, is_gone, if_so, arrival, machine_after}
+use Rattle.lifecycle.specs.PodMachine.{turned, is_owner, is_gone, if_so, arrival, pod_state}
 use Rattle.lifecycle.specs.Watch.{watch, watch_from, watch_next, watched, is_this, on_grip, made_by, entry_of, entry_for, entries_of, is_entry, state_of_entry, state_in}
 use Rattle.lifecycle.proofs.World.{both, clash}
 use Rattle.lifecycle.proofs.Places.{name_same}
@@ -122,5 +122,5 @@ told_of u h = by (find (is_entry u) (entries_of h h)) refl
     by None f = sym (unmade u h h [] f)
 
 -- in every run it is the machine
-pub replayed : (u : List ℕ) (h : List Event) → IsRun h → state_in u (entries_of h h) ≡ machine_after u h
+pub replayed : (u : List ℕ) (h : List Event) → IsRun h → state_in u (entries_of h h) ≡ pod_state u h
 replayed u h run = told_of u h ∙ watch_is u h run

@@ -9,7 +9,7 @@ use Rattle.dir_model.specs.Trace.{state_after}
 use Rattle.dir_model.specs.Areas.{is_stage}
 use Rattle.lifecycle.specs.declared.machine.PodState.{PodState}
 use Rattle.lifecycle.specs.declared.machine.PodState.TheVariants.{Absent, Embryo, Preparing, AbortedPrepare, Prepared, Running, Exited, ExitedGarbage, Garbage, Deleting, Gone}
-use Rattle.lifecycle.specs.PodMachine.{machine_after, exists, is_place, age, age_in}
+use Rattle.lifecycle.specs.PodMachine.{pod_state, exists, is_place, age, age_in}
 use Rattle.lifecycle.specs.Executions.{IsConforming}
 use Rattle.lifecycle.proofs.World.{clash}
 use Rattle.lifecycle.proofs.Draws.{conforming_left}
@@ -67,23 +67,23 @@ ended_at (Deleting o f) l = absurd (omega (arith, l))
 abbrev pub Missed : List ℕ → Area → List Event → Type 0
 Missed u a h = stands (state_after h).namespace (record { area = a; name = u }) ≡ false
 
-off_place : (u : List ℕ) (a : Area) (h : List Event) → is_stage a ≡ true → IsConforming h → Missed u a h → is_place a (machine_after u h) ≡ false
-off_place u a h pod l miss = by (is_place a (machine_after u h)) refl
+off_place : (u : List ℕ) (a : Area) (h : List Event) → is_stage a ≡ true → IsConforming h → Missed u a h → is_place a (pod_state u h) ≡ false
+off_place u a h pod l miss = by (is_place a (pod_state u h)) refl
   where
-    by : (c : Bool) → is_place a (machine_after u h) ≡ c → is_place a (machine_after u h) ≡ false
+    by : (c : Bool) → is_place a (pod_state u h) ≡ c → is_place a (pod_state u h) ≡ false
     by false e = e
-    by true e = clash (stands (state_after h).namespace (record { area = a; name = u })) (stands_in u (state_after h).namespace (machine_after u h) a (good u h l).inv.pod pod e) miss
+    by true e = clash (stands (state_after h).namespace (record { area = a; name = u })) (stands_in u (state_after h).namespace (pod_state u h) a (good u h l).inv.pod pod e) miss
 
 -- one look more
-further : (u : List ℕ) (a : Area) (h more : List Event) (m : ℕ) → is_stage a ≡ true → IsConforming (h ++ more) → m < age (machine_after u h) → age_in a ≤ m + 1 → Missed u a (h ++ more) → age_out a < age (machine_after u (h ++ more))
+further : (u : List ℕ) (a : Area) (h more : List Event) (m : ℕ) → is_stage a ≡ true → IsConforming (h ++ more) → m < age (pod_state u h) → age_in a ≤ m + 1 → Missed u a (h ++ more) → age_out a < age (pod_state u (h ++ more))
 further u a h more m pod l so_far near miss =
-    let up : age (machine_after u h) ≤ age (machine_after u (h ++ more)) = subst (λ (s : PodState). age (machine_after u h) ≤ age s) (sym (machine_append u h more empty_state Absent)) (ages u more (state_after h) (machine_after u h)) in
-    past a (machine_after u (h ++ more)) pod (omega (arith, up, so_far, near)) (off_place u a (h ++ more) pod l miss)
+    let up : age (pod_state u h) ≤ age (pod_state u (h ++ more)) = subst (λ (s : PodState). age (pod_state u h) ≤ age s) (sym (machine_append u h more empty_state Absent)) (ages u more (state_after h) (pod_state u h)) in
+    past a (pod_state u (h ++ more)) pod (omega (arith, up, so_far, near)) (off_place u a (h ++ more) pod l miss)
 
 pub gone_exactly : (u : List ℕ) (a b c d e f : List Event) → IsConforming (((((a ++ b) ++ c) ++ d) ++ e) ++ f)
     → Missed u area.Embryo a → Missed u area.Prepare (a ++ b) → Missed u area.Prepared ((a ++ b) ++ c) → Missed u area.Run (((a ++ b) ++ c) ++ d) → Missed u area.ExitedGarbage ((((a ++ b) ++ c) ++ d) ++ e) → Missed u area.Garbage (((((a ++ b) ++ c) ++ d) ++ e) ++ f)
-    → (exists (machine_after u a) ≡ false) ⊎ (exists (machine_after u (((((a ++ b) ++ c) ++ d) ++ e) ++ f)) ≡ false)
-gone_exactly u a b c d e f l m0 m1 m2 m3 m4 m5 = by (exists (machine_after u a)) refl
+    → (exists (pod_state u a) ≡ false) ⊎ (exists (pod_state u (((((a ++ b) ++ c) ++ d) ++ e) ++ f)) ≡ false)
+gone_exactly u a b c d e f l m0 m1 m2 m3 m4 m5 = by (exists (pod_state u a)) refl
   where
     l4 : IsConforming ((((a ++ b) ++ c) ++ d) ++ e)
     l4 = conforming_left ((((a ++ b) ++ c) ++ d) ++ e) f l
@@ -103,13 +103,13 @@ gone_exactly u a b c d e f l m0 m1 m2 m3 m4 m5 = by (exists (machine_after u a))
     same : (n : ℕ) → n ≤ n
     same n = omega arith
 
-    by : (x : Bool) → exists (machine_after u a) ≡ x → (exists (machine_after u a) ≡ false) ⊎ (exists (machine_after u (((((a ++ b) ++ c) ++ d) ++ e) ++ f)) ≡ false)
+    by : (x : Bool) → exists (pod_state u a) ≡ x → (exists (pod_state u a) ≡ false) ⊎ (exists (pod_state u (((((a ++ b) ++ c) ++ d) ++ e) ++ f)) ≡ false)
     by false n = inl n
     by true y =
-        let p0 : 1 < age (machine_after u a) = past area.Embryo (machine_after u a) refl (existing (machine_after u a) y) (off_place u area.Embryo a refl l0 m0) in
-        let p1 : 3 < age (machine_after u (a ++ b)) = further u area.Prepare a b 1 refl l1 p0 (same 2) m1 in
-        let p2 : 4 < age (machine_after u ((a ++ b) ++ c)) = further u area.Prepared (a ++ b) c 3 refl l2 p1 (same 4) m2 in
-        let p3 : 6 < age (machine_after u (((a ++ b) ++ c) ++ d)) = further u area.Run ((a ++ b) ++ c) d 4 refl l3 p2 (same 5) m3 in
-        let p4 : 7 < age (machine_after u ((((a ++ b) ++ c) ++ d) ++ e)) = further u area.ExitedGarbage (((a ++ b) ++ c) ++ d) e 6 refl l4 p3 (same 7) m4 in
-        let p5 : 8 < age (machine_after u (((((a ++ b) ++ c) ++ d) ++ e) ++ f)) = further u area.Garbage ((((a ++ b) ++ c) ++ d) ++ e) f 7 refl l p4 (same 8) m5 in
-        inr (ended_at (machine_after u (((((a ++ b) ++ c) ++ d) ++ e) ++ f)) p5)
+        let p0 : 1 < age (pod_state u a) = past area.Embryo (pod_state u a) refl (existing (pod_state u a) y) (off_place u area.Embryo a refl l0 m0) in
+        let p1 : 3 < age (pod_state u (a ++ b)) = further u area.Prepare a b 1 refl l1 p0 (same 2) m1 in
+        let p2 : 4 < age (pod_state u ((a ++ b) ++ c)) = further u area.Prepared (a ++ b) c 3 refl l2 p1 (same 4) m2 in
+        let p3 : 6 < age (pod_state u (((a ++ b) ++ c) ++ d)) = further u area.Run ((a ++ b) ++ c) d 4 refl l3 p2 (same 5) m3 in
+        let p4 : 7 < age (pod_state u ((((a ++ b) ++ c) ++ d) ++ e)) = further u area.ExitedGarbage (((a ++ b) ++ c) ++ d) e 6 refl l4 p3 (same 7) m4 in
+        let p5 : 8 < age (pod_state u (((((a ++ b) ++ c) ++ d) ++ e) ++ f)) = further u area.Garbage ((((a ++ b) ++ c) ++ d) ++ e) f 7 refl l p4 (same 8) m5 in
+        inr (ended_at (pod_state u (((((a ++ b) ++ c) ++ d) ++ e) ++ f)) p5)

@@ -30,7 +30,7 @@ use Rattle.lifecycle.proofs.World.{both, pair, nat_same, same_nat}
 use Rattle.lifecycle.proofs.Linked.{own}
 use Rattle.lifecycle.proofs.Invariant.{may_own, own_named, holding, held_by, grip_of}
 use Rattle.dir_model.specs.declared.event.Event.{Event}
-use Rattle.lifecycle.specs.PodMachine.{machine_next, machine_from, machine_after, exists, is_deleting}
+use Rattle.lifecycle.specs.PodMachine.{pod_state_next, pod_state_from, pod_state, exists, is_deleting}
 use Rattle.lifecycle.specs.Executions.{IsConforming}
 use Rattle.lifecycle.proofs.Lives.{saw_other, saw_me}
 use Rattle.lifecycle.proofs.Step.{Given, stepped}
@@ -113,7 +113,7 @@ other_owner turn.End p q (Deleting o f) off e h = absurd (cc)
 other_owner x p q s off e h = absurd (cc)
 
 -- its own, but for moves
-abbrev is_stay : Transition → Bool
+abbrev pub is_stay : Transition → Bool
 is_stay turn.Make = true
 is_stay turn.End = true
 is_stay turn.BeginDelete = true
@@ -207,7 +207,7 @@ arrived_in area.Garbage x p s is own = none turn.Sweep x is (λ (y : Transition)
         out e = cc
 arrived_in a x p s is own = cc
 
-or_second : (a b : Bool) → b ≡ true → (a || b) ≡ true
+pub or_second : (a b : Bool) → b ≡ true → (a || b) ≡ true
 or_second true b h = refl
 or_second false b h = h
 
@@ -237,7 +237,7 @@ is_move_of u request reply = false
 not_stay : {X : Type 0} (x : Transition) → None ≡ Some x → X
 not_stay x e = absurd (cc)
 
-stay_turn : (u : List ℕ) (n : Namespace) (s : PodState) (p : ℕ) (request : Request) (reply : Reply) → is_move_of u request reply ≡ false → (x : Transition) → transition u n s p request reply ≡ Some x → is_stay x ≡ true
+pub stay_turn : (u : List ℕ) (n : Namespace) (s : PodState) (p : ℕ) (request : Request) (reply : Reply) → is_move_of u request reply ≡ false → (x : Transition) → transition u n s p request reply ≡ Some x → is_stay x ≡ true
 stay_turn u n s p (MakeFolder spot) Done off x e = stays_so (is_of u spot) turn.Make x refl e
 stay_turn u n s p (MoveFolder from to) Done off x e = not_stay x (sym (ap (λ b. cond b (arrival to.area) None) off) ∙ e)
 stay_turn u n s p (TryLock h Exclusive) Done off x e = stays_so (not (is_gone s) && on_opening (is_deleter u) (look n p h)) turn.BeginDelete x refl e
@@ -289,14 +289,14 @@ some_arrival u n s σ p from to of may = by from.area to.area (both (bytes_eq fr
     by area.Run area.ExitedGarbage h = (turn.Mark, refl)
     by a b h = cc
 
-pub traced_step : (u : List ℕ) (n : DirState) (s : PodState) (σ : ℕ → Standing) (e : Event) → Given u n s σ e.process e.request e.reply → (q : ℕ) → Traced u q s (σ q) → Traced u q (machine_next u n.namespace s e) (stood q (σ q) e)
+pub traced_step : (u : List ℕ) (n : DirState) (s : PodState) (σ : ℕ → Standing) (e : Event) → Given u n s σ e.process e.request e.reply → (q : ℕ) → Traced u q s (σ q) → Traced u q (pod_state_next u n.namespace s e) (stood q (σ q) e)
 traced_step u n s σ e g q x = by (e.process == q) refl
   where
     p : ℕ
     p = e.process
 
     t : PodState
-    t = machine_next u n.namespace s e
+    t = pod_state_next u n.namespace s e
 
     turning : Turns (transition u n.namespace s e.process e.request e.reply) e.process s t
     turning = turns (transition u n.namespace s e.process e.request e.reply) e.process s (stepped u n s σ e.process e.request e.reply g).has
@@ -318,20 +318,20 @@ traced_step u n s σ e g q x = by (e.process == q) refl
     by false off = subst (λ (k : Standing). Traced u q t k) (sym (saw_other e.process q (σ q) e.request e.reply off)) (traced_other u (transition u n.namespace s e.process e.request e.reply) e.process q s t (σ q) off turning x)
     by true on = subst (λ (r : ℕ). Traced u r t (stood r (σ r) e)) (nat_same e.process q on) (subst (λ (k : Standing). Traced u e.process t k) (sym (saw_me e.process (σ e.process) e.request e.reply)) (own (subst (λ (r : ℕ). Traced u r s (σ r)) (sym (nat_same e.process q on)) x) (is_move_of u e.request e.reply) refl))
 
-traced_from : (u : List ℕ) (es : List Event) (n : DirState) (s : PodState) (σ : ℕ → Standing) → Good u n s σ → ConformingFrom u n σ es → ((q : ℕ) → Traced u q s (σ q)) → (q : ℕ) → Traced u q (machine_from u n s es) (standing_from q (σ q) es)
+traced_from : (u : List ℕ) (es : List Event) (n : DirState) (s : PodState) (σ : ℕ → Standing) → Good u n s σ → ConformingFrom u n σ es → ((q : ℕ) → Traced u q s (σ q)) → (q : ℕ) → Traced u q (pod_state_from u n s es) (standing_from q (σ q) es)
 traced_from u [] n s σ good conforming x = x
 traced_from u (e ∷ es) n s σ good conforming x =
     let g = given u n s σ e es good conforming in
-    traced_from u es (state_next n e) (machine_next u n.namespace s e) (λ q. stood q (σ q) e) (next_good u n s σ e g) (conforming_tail u n σ e es conforming) (λ q. traced_step u n s σ e g q (x q))
+    traced_from u es (state_next n e) (pod_state_next u n.namespace s e) (λ q. stood q (σ q) e) (next_good u n s σ e g) (conforming_tail u n σ e es conforming) (λ q. traced_step u n s σ e g q (x q))
 
-pub traced : (u : List ℕ) (h : List Event) → IsConforming h → (q : ℕ) → Traced u q (machine_after u h) (standing_of q h)
+pub traced : (u : List ℕ) (h : List Event) → IsConforming h → (q : ℕ) → Traced u q (pod_state u h) (standing_of q h)
 traced u h conforming = traced_from u h empty_state Absent (λ q. nothing_standing) (good_start u) (conforming_from u h conforming) (λ q. record { last = λ spot e. absurd (cc); mover = λ e. absurd (cc) })
 
 -- the owner holds it by what it stood
-pub owner_holds : (u : List ℕ) (h : List Event) (p : ℕ) → IsConforming h → is_owner p (machine_after u h) ≡ true → (lives (state_after h).namespace p ≡ true) × (holds_pod u (standing_of p h) ≡ true)
-owner_holds u h p conforming own = (living, held_by p (state_after h).namespace (standing_of p h) (λ b. grip_of u b && (moved_in u (standing_of p h) || is_garbage (area_of b.target))) (g.inv.knows p living).linked o.0 o.1.0 o.1.1.1 (pair (is_grip u o.0) (moved_in u (standing_of p h) || is_garbage (area_of o.0.target)) o.1.1.0 (by (machine_after u h) (is_deleting (machine_after u h)) (moved_in u (standing_of p h)) refl ((traced u h conforming p).mover own) (g.inv.pod.owns o.0 o.1.0 o.1.1.0))))
+pub owner_holds : (u : List ℕ) (h : List Event) (p : ℕ) → IsConforming h → is_owner p (pod_state u h) ≡ true → (lives (state_after h).namespace p ≡ true) × (holds_pod u (standing_of p h) ≡ true)
+owner_holds u h p conforming own = (living, held_by p (state_after h).namespace (standing_of p h) (λ b. grip_of u b && (moved_in u (standing_of p h) || is_garbage (area_of b.target))) (g.inv.knows p living).linked o.0 o.1.0 o.1.1.1 (pair (is_grip u o.0) (moved_in u (standing_of p h) || is_garbage (area_of o.0.target)) o.1.1.0 (by (pod_state u h) (is_deleting (pod_state u h)) (moved_in u (standing_of p h)) refl ((traced u h conforming p).mover own) (g.inv.pod.owns o.0 o.1.0 o.1.1.0))))
   where
-    g : Good u (state_after h) (machine_after u h) (λ q. standing_of q h)
+    g : Good u (state_after h) (pod_state u h) (λ q. standing_of q h)
     g = good u h conforming
 
     o : (o : Opening) × (In o (state_after h).namespace.openings × ((is_grip u o ≡ true) × (o.process ≡ p)))
@@ -364,10 +364,10 @@ hold_garbage Prepared p area.Garbage e may g l = absurd (omega (arith, l))
 hold_garbage s p a e may g l = cc
 
 -- who holds it by what it stood is its owner
-pub holder_owns : (u : List ℕ) (h : List Event) (p : ℕ) → IsConforming h → exists (machine_after u h) ≡ true → lives (state_after h).namespace p ≡ true → holds_pod u (standing_of p h) ≡ true → is_owner p (machine_after u h) ≡ true
+pub holder_owns : (u : List ℕ) (h : List Event) (p : ℕ) → IsConforming h → exists (pod_state u h) ≡ true → lives (state_after h).namespace p ≡ true → holds_pod u (standing_of p h) ≡ true → is_owner p (pod_state u h) ≡ true
 holder_owns u h p conforming e living holds = by (moved_in u (standing_of p h)) refl x.1
   where
-    g : Good u (state_after h) (machine_after u h) (λ q. standing_of q h)
+    g : Good u (state_after h) (pod_state u h) (λ q. standing_of q h)
     g = good u h conforming
 
     o : (o : Opening) × (In o (state_after h).namespace.openings × ((o.process ≡ p) × ((grip_of u (own o) && (moved_in u (standing_of p h) || is_garbage (area_of o.target))) ≡ true)))
@@ -376,18 +376,18 @@ holder_owns u h p conforming e living holds = by (moved_in u (standing_of p h)) 
     x : (is_grip u o.0 ≡ true) × ((moved_in u (standing_of p h) || is_garbage (area_of o.0.target)) ≡ true)
     x = both (is_grip u o.0) (moved_in u (standing_of p h) || is_garbage (area_of o.0.target)) o.1.1.1
 
-    may : may_own (machine_after u h) p (area_of o.0.target) ≡ true
-    may = ap (λ q. may_own (machine_after u h) q (area_of o.0.target)) (sym o.1.1.0) ∙ g.inv.pod.owns o.0 o.1.0 x.0
+    may : may_own (pod_state u h) p (area_of o.0.target) ≡ true
+    may = ap (λ q. may_own (pod_state u h) q (area_of o.0.target)) (sym o.1.1.0) ∙ g.inv.pod.owns o.0 o.1.0 x.0
 
-    places : (a : Area) → (is_in area.Prepare a || is_in area.Run a) ≡ true → may_last (machine_after u h) p a ≡ true → (after_prepare (machine_after u h) p || after_run (machine_after u h) p) ≡ true
-    places area.Prepare i m = or_first (after_prepare (machine_after u h) p) (after_run (machine_after u h) p) m
-    places area.Run i m = or_second (after_prepare (machine_after u h) p) (after_run (machine_after u h) p) m
+    places : (a : Area) → (is_in area.Prepare a || is_in area.Run a) ≡ true → may_last (pod_state u h) p a ≡ true → (after_prepare (pod_state u h) p || after_run (pod_state u h) p) ≡ true
+    places area.Prepare i m = or_first (after_prepare (pod_state u h) p) (after_run (pod_state u h) p) m
+    places area.Run i m = or_second (after_prepare (pod_state u h) p) (after_run (pod_state u h) p) m
     places a i m = cc
 
-    last : (m : Option Spot) → last_of u (standing_of p h).moves ≡ m → on_spot (λ spot. is_in area.Prepare spot.area || is_in area.Run spot.area) m ≡ true → (after_prepare (machine_after u h) p || after_run (machine_after u h) p) ≡ true
+    last : (m : Option Spot) → last_of u (standing_of p h).moves ≡ m → on_spot (λ spot. is_in area.Prepare spot.area || is_in area.Run spot.area) m ≡ true → (after_prepare (pod_state u h) p || after_run (pod_state u h) p) ≡ true
     last (Some spot) f m = places spot.area m ((traced u h conforming p).last spot f)
     last None f m = cc
 
-    by : (b : Bool) → moved_in u (standing_of p h) ≡ b → (b || is_garbage (area_of o.0.target)) ≡ true → is_owner p (machine_after u h) ≡ true
-    by true m k = hold_moved (machine_after u h) p (area_of o.0.target) e may (last (last_of u (standing_of p h).moves) refl m)
-    by false m k = hold_garbage (machine_after u h) p (area_of o.0.target) e may k (g.inv.pod.named o.0 o.1.0 (own_named u o.0.target (both (is_own_of u o.0.target) (is_exclusive o.0.lock) x.0).0)).1
+    by : (b : Bool) → moved_in u (standing_of p h) ≡ b → (b || is_garbage (area_of o.0.target)) ≡ true → is_owner p (pod_state u h) ≡ true
+    by true m k = hold_moved (pod_state u h) p (area_of o.0.target) e may (last (last_of u (standing_of p h).moves) refl m)
+    by false m k = hold_garbage (pod_state u h) p (area_of o.0.target) e may k (g.inv.pod.named o.0 o.1.0 (own_named u o.0.target (both (is_own_of u o.0.target) (is_exclusive o.0.lock) x.0).0)).1

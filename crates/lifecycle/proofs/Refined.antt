@@ -22,7 +22,7 @@ use Rattle.lifecycle.proofs.Linked.{own}
 use Rattle.lifecycle.proofs.Invariant.{may_own, Pod, own_named}
 use Rattle.dir_model.specs.declared.area.Phase.TheVariants as phase
 use Rattle.dir_model.specs.declared.event.Event.{Event}
-use Rattle.lifecycle.specs.PodMachine.{machine_next, machine_from, machine_after, exists, phase_of_state}
+use Rattle.lifecycle.specs.PodMachine.{pod_state_next, pod_state_from, pod_state, exists, phase_of_state}
 use Rattle.lifecycle.specs.Executions.{IsConforming}
 use Rattle.lifecycle.proofs.Places.{same_name}
 use Rattle.lifecycle.proofs.Makes.{absent_place}
@@ -36,18 +36,18 @@ pub record Reached (u : List ℕ) (n : DirState) (s : PodState) (σ : ℕ → St
   pub good : Good u n s σ
   pub conforming : ConformingFrom u n σ rest
 
-pub reached_from : (u : List ℕ) (es rest : List Event) (n : DirState) (s : PodState) (σ : ℕ → Standing) → Good u n s σ → ConformingFrom u n σ (es ++ rest) → Reached u (states_next n es) (machine_from u n s es) (λ q. standing_from q (σ q) es) rest
+pub reached_from : (u : List ℕ) (es rest : List Event) (n : DirState) (s : PodState) (σ : ℕ → Standing) → Good u n s σ → ConformingFrom u n σ (es ++ rest) → Reached u (states_next n es) (pod_state_from u n s es) (λ q. standing_from q (σ q) es) rest
 reached_from u [] rest n s σ good conforming = record { good = good; conforming = conforming }
-reached_from u (e ∷ es) rest n s σ good conforming = reached_from u es rest (state_next n e) (machine_next u n.namespace s e) (λ q. stood q (σ q) e) (next_good u n s σ e (given u n s σ e (es ++ rest) good conforming)) (conforming_tail u n σ e (es ++ rest) conforming)
+reached_from u (e ∷ es) rest n s σ good conforming = reached_from u es rest (state_next n e) (pod_state_next u n.namespace s e) (λ q. stood q (σ q) e) (next_good u n s σ e (given u n s σ e (es ++ rest) good conforming)) (conforming_tail u n σ e (es ++ rest) conforming)
 
-pub reached : (u : List ℕ) (before rest : List Event) → IsConforming (before ++ rest) → Reached u (state_after before) (machine_after u before) (λ q. standing_of q before) rest
+pub reached : (u : List ℕ) (before rest : List Event) → IsConforming (before ++ rest) → Reached u (state_after before) (pod_state u before) (λ q. standing_of q before) rest
 reached u before rest conforming = reached_from u before rest empty_state Absent (λ q. nothing_standing) (good_start u) (conforming_from u (before ++ rest) conforming)
 
 -- each event is a transition that the pod's state has
-pub enabled_each : (u : List ℕ) (before : List Event) (e : Event) (later : List Event) → IsConforming (before ++ e ∷ later) → (x : Transition) → transition u (state_after before).namespace (machine_after u before) e.process e.request e.reply ≡ Some x → enabled x e.process (machine_after u before) ≡ true
+pub enabled_each : (u : List ℕ) (before : List Event) (e : Event) (later : List Event) → IsConforming (before ++ e ∷ later) → (x : Transition) → transition u (state_after before).namespace (pod_state u before) e.process e.request e.reply ≡ Some x → enabled x e.process (pod_state u before) ≡ true
 enabled_each u before e later conforming x is =
     let r = reached u before (e ∷ later) conforming in
-    (stepped u (state_after before) (machine_after u before) (λ q. standing_of q before) e.process e.request e.reply (given u (state_after before) (machine_after u before) (λ q. standing_of q before) e later r.good r.conforming)).has x is
+    (stepped u (state_after before) (pod_state u before) (λ q. standing_of q before) e.process e.request e.reply (given u (state_after before) (pod_state u before) (λ q. standing_of q before) e later r.good r.conforming)).has x is
 
 there : List ℕ → Area → Spot
 there u a = record { area = a; name = u }
@@ -84,11 +84,11 @@ place_exists a Gone h = clash (is_place a Gone) h (gone a)
 place_exists a s h = refl
 
 -- a pod's folder stands exactly where the pod exists
-pub exists_stands : (u : List ℕ) (h : List Event) → IsConforming h → exists (machine_after u h) ≡ true → (a : Area) × ((is_stage a ≡ true) × (stands (state_after h).namespace (record { area = a; name = u }) ≡ true))
-exists_stands u h conforming e = stands_where u (state_after h).namespace (machine_after u h) (good u h conforming).inv.pod e
+pub exists_stands : (u : List ℕ) (h : List Event) → IsConforming h → exists (pod_state u h) ≡ true → (a : Area) × ((is_stage a ≡ true) × (stands (state_after h).namespace (record { area = a; name = u }) ≡ true))
+exists_stands u h conforming e = stands_where u (state_after h).namespace (pod_state u h) (good u h conforming).inv.pod e
 
-pub stands_exists : (u : List ℕ) (h : List Event) (spot : Spot) → IsConforming h → is_of u spot ≡ true → stands (state_after h).namespace spot ≡ true → (exists (machine_after u h) ≡ true) × (is_place spot.area (machine_after u h) ≡ true)
-stands_exists u h spot conforming of at = let x = found_pod u (state_after h).namespace (machine_after u h) (good u h conforming).inv.pod spot of at in (place_exists spot.area (machine_after u h) x.0, x.0)
+pub stands_exists : (u : List ℕ) (h : List Event) (spot : Spot) → IsConforming h → is_of u spot ≡ true → stands (state_after h).namespace spot ≡ true → (exists (pod_state u h) ≡ true) × (is_place spot.area (pod_state u h) ≡ true)
+stands_exists u h spot conforming of at = let x = found_pod u (state_after h).namespace (pod_state u h) (good u h conforming).inv.pod spot of at in (place_exists spot.area (pod_state u h) x.0, x.0)
 
 -- the table of phases
 phase_table : (a : Area) (s : PodState) (b : Bool) → is_place a s ≡ true → (b ≡ true → (q : ℕ) × ((c : Area) × (may_own s q c ≡ true))) → ((q : ℕ) → is_owner q s ≡ true → b ≡ true) → phase_in a b ≡ phase_of_state s
@@ -144,5 +144,5 @@ phase_is u n s spot f pod right of at = phase_table spot.area s (is_owned n f) p
         in_any (owns f) o.0 n.openings o.1.0
         (pair (is_folder f o.0.folder) (is_own o.0.target && is_exclusive o.0.lock) (ap (is_folder f) ((pod.named o.0 o.1.0 (own_named u o.0.target x.0)).0 ∙ sym number) ∙ same_nat f) (pair (is_own o.0.target) (is_exclusive o.0.lock) (on_own o.0.target x.0) x.1))
 
-pub phase_of_place : (u : List ℕ) (h : List Event) (spot : Spot) (f : ℕ) → IsConforming h → is_of u spot ≡ true → folder_at (state_after h).namespace spot ≡ Some f → phase_in spot.area (is_owned (state_after h).namespace f) ≡ phase_of_state (machine_after u h)
-phase_of_place u h spot f conforming of at = phase_is u (state_after h).namespace (machine_after u h) spot f (good u h conforming).inv.pod (right u h conforming) of at
+pub phase_of_place : (u : List ℕ) (h : List Event) (spot : Spot) (f : ℕ) → IsConforming h → is_of u spot ≡ true → folder_at (state_after h).namespace spot ≡ Some f → phase_in spot.area (is_owned (state_after h).namespace f) ≡ phase_of_state (pod_state u h)
+phase_of_place u h spot f conforming of at = phase_is u (state_after h).namespace (pod_state u h) spot f (good u h conforming).inv.pod (right u h conforming) of at

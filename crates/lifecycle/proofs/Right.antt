@@ -27,7 +27,7 @@ use Rattle.dir_rules.specs.declared.standing.Standing.{Standing}
 use Rattle.lifecycle.proofs.Lists.{In, in_push, in_filter}
 use Rattle.lifecycle.proofs.World.{Sound, both, pair, Was, locked_in, none_refused, refused_if}
 use Rattle.dir_model.specs.declared.event.Event.{Event}
-use Rattle.lifecycle.specs.PodMachine.{machine_next}
+use Rattle.lifecycle.specs.PodMachine.{pod_state_next}
 use Rattle.lifecycle.specs.Executions.{IsConforming}
 use Rattle.lifecycle.proofs.Places.{name_same, same_name, made_there, made_elsewhere, moved_there, moved_away, moved_elsewhere, removed_there, removed_elsewhere, none_stands}
 use Rattle.lifecycle.proofs.Numbers.{one_spot}
@@ -140,7 +140,7 @@ right_from : (u : List ℕ) (es : List Event) (n : DirState) (s : PodState) (σ 
 right_from u [] n s σ good conforming right = right
 right_from u (e ∷ es) n s σ good conforming right =
     let g = given u n s σ e es good conforming in
-    right_from u es (state_next n e) (machine_next u n.namespace s e) (λ q. stood q (σ q) e) (next_good u n s σ e g) (conforming_tail u n σ e es conforming) (right_step u n s σ e.process e.request e.reply g right)
+    right_from u es (state_next n e) (pod_state_next u n.namespace s e) (λ q. stood q (σ q) e) (next_good u n s σ e g) (conforming_tail u n σ e es conforming) (right_step u n s σ e.process e.request e.reply g right)
 
 pub right : (u : List ℕ) (h : List Event) → IsConforming h → Right u (state_after h).namespace
 right u h conforming = right_from u h empty_state Absent (λ q. nothing_standing) (good_start u) (conforming_from u h conforming) (λ spot of f at o i on same. absurd i)

@@ -20,7 +20,7 @@ use Rattle.dir_rules.specs.declared.standing.Standing.{Standing}
 use Rattle.lifecycle.proofs.World.{is_due, both, clash, not_true, nat_same, same_nat}
 use Rattle.lifecycle.proofs.Invariant.{Knows, Invariant}
 use Rattle.dir_model.specs.declared.event.Event.{Event}
-use Rattle.lifecycle.specs.PodMachine.{machine_next, machine_from, machine_after}
+use Rattle.lifecycle.specs.PodMachine.{pod_state_next, pod_state_from, pod_state}
 use Rattle.lifecycle.specs.Executions.{IsConforming}
 use Rattle.lifecycle.proofs.Sounds.{step_sound}
 use Rattle.lifecycle.proofs.Standings.{keeps_after}
@@ -79,7 +79,7 @@ next_maker u n s σ p request reply g x t (inl stays) = by g.inv.maker
     by (inl e) = inl (stays e)
     by (inr (q, d)) = inr (q, kept q (p == q) refl d (is_begin request) refl)
 
-pub next_good : (u : List ℕ) (n : DirState) (s : PodState) (σ : ℕ → Standing) (e : Event) → Given u n s σ e.process e.request e.reply → Good u (state_next n e) (machine_next u n.namespace s e) (λ q. stood q (σ q) e)
+pub next_good : (u : List ℕ) (n : DirState) (s : PodState) (σ : ℕ → Standing) (e : Event) → Given u n s σ e.process e.request e.reply → Good u (state_next n e) (pod_state_next u n.namespace s e) (λ q. stood q (σ q) e)
 next_good u n s σ e g =
     let x = stepped u n s σ e.process e.request e.reply g in
     subst (λ (t : PodState). Good u (state_next n e) t (λ q. stood q (σ q) e)) (sym x.turns) (record {
@@ -130,9 +130,9 @@ conforming_tail u n σ e es conforming = record {
   distinct = λ before later is. conforming.distinct (e ∷ before) later (ap (λ (l : List Event). e ∷ l) is);
 }
 
-pub good_from : (u : List ℕ) (es : List Event) (n : DirState) (s : PodState) (σ : ℕ → Standing) → Good u n s σ → ConformingFrom u n σ es → Good u (states_next n es) (machine_from u n s es) (λ q. standing_from q (σ q) es)
+pub good_from : (u : List ℕ) (es : List Event) (n : DirState) (s : PodState) (σ : ℕ → Standing) → Good u n s σ → ConformingFrom u n σ es → Good u (states_next n es) (pod_state_from u n s es) (λ q. standing_from q (σ q) es)
 good_from u [] n s σ good conforming = good
-good_from u (e ∷ es) n s σ good conforming = good_from u es (state_next n e) (machine_next u n.namespace s e) (λ q. stood q (σ q) e) (next_good u n s σ e (given u n s σ e es good conforming)) (conforming_tail u n σ e es conforming)
+good_from u (e ∷ es) n s σ good conforming = good_from u es (state_next n e) (pod_state_next u n.namespace s e) (λ q. stood q (σ q) e) (next_good u n s σ e (given u n s σ e es good conforming)) (conforming_tail u n σ e es conforming)
 
 pub good_start : (u : List ℕ) → Good u empty_state Absent (λ q. nothing_standing)
 good_start u = record {
@@ -149,5 +149,5 @@ pub conforming_from : (u : List ℕ) (h : List Event) → IsConforming h → Con
 conforming_from u h conforming = record { run = conforming.run; rules = λ p. keeps_after p nothing_seen h (conforming.rules p); distinct = λ before later is p q x y. drawn_once h before later conforming is u p q x y }
 
 -- the invariant holds of every conforming execution
-pub good : (u : List ℕ) (h : List Event) → IsConforming h → Good u (state_after h) (machine_after u h) (λ q. standing_of q h)
+pub good : (u : List ℕ) (h : List Event) → IsConforming h → Good u (state_after h) (pod_state u h) (λ q. standing_of q h)
 good u h conforming = good_from u h empty_state Absent (λ q. nothing_standing) (good_start u) (conforming_from u h conforming)

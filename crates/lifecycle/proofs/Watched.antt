@@ -28,7 +28,7 @@ use Rattle.dir_model.specs.declared.event.Event.{Event}
 use Rattle.dir_model.specs.declared.item.Item.{Item}
 use Rattle.dir_model.specs.declared.request.DirError.{DirError}
 use Rattle.lifecycle.specs.declared.machine.Grip.{Grip}
-use Rattle.lifecycle.specs.PodMachine.{machine_next, machine_from, machine_after}
+use Rattle.lifecycle.specs.PodMachine.{pod_state_next, pod_state_from, pod_state}
 use Rattle.lifecycle.specs.Watch.{Watch, is_this, on_grip, gripped, is_exclusive_mode, watched, grips_replied, watch_next, watch_from, watch}
 use Rattle.lifecycle.proofs.Sounds.{step_sound}
 use Rattle.dir_model.specs.Paths.{is_well_formed}
@@ -162,16 +162,16 @@ watched_same u n s p request (Names x) sound = names_none u n s p request x
 watched_same u n s p request (Items x) sound = items_none u n s p request x
 watched_same u n s p request (Read x) sound = read_none u n s p request x
 
-watch_is_from : (u : List ℕ) (es : List Event) (n : DirState) (s : PodState) → Sound n.namespace → is_run_from n es ≡ true → watch_from u (record { state = s; grips = ours u n.namespace.openings }) es ≡ record { state = machine_from u n s es; grips = ours u (states_next n es).namespace.openings }
+watch_is_from : (u : List ℕ) (es : List Event) (n : DirState) (s : PodState) → Sound n.namespace → is_run_from n es ≡ true → watch_from u (record { state = s; grips = ours u n.namespace.openings }) es ≡ record { state = pod_state_from u n s es; grips = ours u (states_next n es).namespace.openings }
 watch_is_from u [] n s sound run = refl
 watch_is_from u (e ∷ es) n s sound run =
     let x = both (is_allowed n e) (is_run_from (state_next n e) es) run in
     let y = both (may_step n e.process e.request) (is_reply n e.process e.request e.reply) x.0 in
-    let next : watch_next u (record { state = s; grips = ours u n.namespace.openings }) e ≡ record { state = machine_next u n.namespace s e; grips = ours u (state_next n e).namespace.openings } =
+    let next : watch_next u (record { state = s; grips = ours u n.namespace.openings }) e ≡ record { state = pod_state_next u n.namespace s e; grips = ours u (state_next n e).namespace.openings } =
     ap (λ (o : Option Transition). record { state = turned o e.process s; grips = grips_replied u (ours u n.namespace.openings) e.process e.request e.reply }) (watched_same u n.namespace s e.process e.request e.reply sound)
-    ∙ ap (λ (gs : List Grip). record { state = machine_next u n.namespace s e; grips = gs }) (sym (grips_step u n.namespace e.process e.request e.reply)) in
-    ap (λ (w : Watch). watch_from u w es) next ∙ watch_is_from u es (state_next n e) (machine_next u n.namespace s e) (step_sound n e.process e.request e.reply (both (is_well_formed e.request) (is_due n.namespace e.process e.request) y.0).1 y.1 sound) x.1
+    ∙ ap (λ (gs : List Grip). record { state = pod_state_next u n.namespace s e; grips = gs }) (sym (grips_step u n.namespace e.process e.request e.reply)) in
+    ap (λ (w : Watch). watch_from u w es) next ∙ watch_is_from u es (state_next n e) (pod_state_next u n.namespace s e) (step_sound n e.process e.request e.reply (both (is_well_formed e.request) (is_due n.namespace e.process e.request) y.0).1 y.1 sound) x.1
 
 -- in every run
-pub watch_is : (u : List ℕ) (h : List Event) → IsRun h → (watch u h).state ≡ machine_after u h
+pub watch_is : (u : List ℕ) (h : List Event) → IsRun h → (watch u h).state ≡ pod_state u h
 watch_is u h run = ap (λ (w : Watch). w.state) (watch_is_from u h empty_state Absent (record { unique = λ a b i j x. absurd i; alone = λ a b i j x y z. absurd i; living = λ a i. absurd i; bounded = λ a i f. absurd i }) run)
