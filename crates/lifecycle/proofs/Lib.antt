@@ -28,6 +28,6 @@ pub mod Stays
 pub mod Owners
 pub mod Watched
 pub mod Deeds
-pub mod Laws
+pub mod EveryPod
 pub mod Misses
 pub mod Machines

@@ -1,5 +1,5 @@
--- What the machine of a whole history tells of one pod.
-use Rattle.std.proofs.Common.{◌≡◌, ℕ, Bool, true, false, not, ◌&&◌, cond, bytes_eq, Option, Some, None, List, [], ◌∷◌, ◌++◌, find, refl, sym, ap, ◌∙◌}
+-- What the machine of a whole trace tells of one pod.
+use Rattle.std.proofs.Common.{◌≡◌, ℕ, Bool, true, false, not, ◌&&◌, cond, bytes_eq, Option, Some, None, List, [], ◌∷◌, ◌++◌, find, refl, sym, ap, subst, ◌∙◌}
 use Rattle.dir_model.specs.declared.event.Event.{Event}
 use Rattle.dir_model.specs.declared.spot.Mode.TheVariants.{Shared, Exclusive}
 use Rattle.dir_model.specs.declared.area.Area.{Area}
@@ -11,14 +11,17 @@ use Rattle.dir_model.specs.declared.request.Reply.TheVariants.{Done, Begun, Open
 use Rattle.dir_model.specs.Calls.{IsRun}
 use Rattle.dir_rules.specs.Standing.{is_of}
 use Rattle.dir_model.specs.Areas.{is_stage}
-use Rattle.lifecycle.specs.declared.machine.Grip.{Grip}
-use Rattle.lifecycle.specs.declared.machine.PodEntry.{PodEntry}
+use Rattle.lifecycle.specs.declared.grip.Grip.{Grip}
+use Rattle.lifecycle.specs.declared.pods.PodEntry.{PodEntry}
 use Rattle.lifecycle.specs.declared.machine.PodState.{PodState}
 use Rattle.lifecycle.specs.declared.machine.PodState.TheVariants.{Absent}
 use Rattle.lifecycle.specs.declared.machine.Transition.{Transition}
 use Rattle.lifecycle.specs.declared.machine.Transition.TheVariants as turn
 use Rattle.lifecycle.specs.PodMachine.{turned, is_owner, is_gone, if_so, arrival, pod_state}
-use Rattle.lifecycle.specs.Watch.{watch, watch_from, watch_next, watched, is_this, on_grip, made_by, entry_of, entry_for, entries_of, is_entry, state_of_entry, state_in}
+use Rattle.lifecycle.specs.Watch.{watch, watch_from, watch_next, watched, is_this, on_grip, made_by, entry_of, entry_for, entries_of, is_entry, state_of_entry, state_in, TellsStates, ShowsPods}
+use Rattle.lifecycle.specs.Executions.{IsConforming}
+use Rattle.lifecycle.specs.Ownership.{ShowsPod}
+use Rattle.lifecycle.proofs.EveryPod.{shows_pod}
 use Rattle.lifecycle.proofs.World.{both, clash}
 use Rattle.lifecycle.proofs.Places.{name_same}
 use Rattle.lifecycle.proofs.Watched.{watch_is}
@@ -44,7 +47,7 @@ makes_only : (u : List ℕ) (gs : List Grip) (p : ℕ) (request : Request) (repl
 makes_only u gs p (MakeFolder spot) Done off e = by (is_of u spot) refl e
   where
     by : (b : Bool) → is_of u spot ≡ b → if_so b turn.Make ≡ Some turn.Make → ⊥
-    by true f e = clash (bytes_eq spot.name u) (both (is_stage spot.area) (bytes_eq spot.name u) f).1 off
+    by true f e = let x = both (is_stage spot.area) (bytes_eq spot.name u) f in clash (bytes_eq spot.name u) x.1 (sym (ap (λ b. Makes u (cond b (Some spot.name) None)) x.0) ∙ off)
     by false f e = cc
 makes_only u gs p (MoveFolder from to) Done off e = by (is_of u to) to.area e
   where
@@ -124,3 +127,9 @@ told_of u h = by (find (is_entry u) (entries_of h h)) refl
 -- in every run it is the machine
 pub replayed : (u : List ℕ) (h : List Event) → IsRun h → state_in u (entries_of h h) ≡ pod_state u h
 replayed u h run = told_of u h ∙ watch_is u h run
+
+pub tells : (entries : List PodEntry) (trace : List Event) → entries ≡ entries_of trace trace → IsRun trace → TellsStates entries trace
+tells entries trace is run name = ap (λ (x : List PodEntry). state_in name x) is ∙ replayed name trace run
+
+pub shows : (entries : List PodEntry) (trace : List Event) → entries ≡ entries_of trace trace → IsConforming trace → ShowsPods entries trace
+shows entries trace is conforming name = subst (λ (s : PodState). ShowsPod name trace s) (sym (tells entries trace is conforming.run name)) (shows_pod name trace conforming)

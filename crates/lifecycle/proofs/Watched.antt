@@ -27,7 +27,7 @@ use Rattle.lifecycle.proofs.World.{Sound, both, clash, handle_meet, held}
 use Rattle.dir_model.specs.declared.event.Event.{Event}
 use Rattle.dir_model.specs.declared.item.Item.{Item}
 use Rattle.dir_model.specs.declared.request.DirError.{DirError}
-use Rattle.lifecycle.specs.declared.machine.Grip.{Grip}
+use Rattle.lifecycle.specs.declared.grip.Grip.{Grip}
 use Rattle.lifecycle.specs.PodMachine.{pod_state_next, pod_state_from, pod_state}
 use Rattle.lifecycle.specs.Watch.{Watch, is_this, on_grip, gripped, is_exclusive_mode, watched, grips_replied, watch_next, watch_from, watch}
 use Rattle.lifecycle.proofs.Sounds.{step_sound}

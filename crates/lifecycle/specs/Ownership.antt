@@ -1,5 +1,5 @@
 -- What a trace shows of pods: their folders, their phases, their owners, and what is done to them by whom.
-use Rattle.std.specs.Prelude.{◌≡◌, ◌↔◌, ◌≤◌, ℕ, Bool, true, false, ◌&&◌, bytes_eq, Option, Some, List, ◌∷◌, ◌++◌}
+use Rattle.std.specs.Prelude.{◌≡◌, ◌↔◌, ◌≤◌, ℕ, Bool, true, false, ◌&&◌, Some, List, ◌∷◌, ◌++◌}
 use Rattle.dir_model.specs.declared.area.Area.{Area}
 use Rattle.dir_model.specs.declared.spot.Spot.{Spot}
 use Rattle.dir_model.specs.declared.event.Event.{Event}
@@ -81,3 +81,9 @@ IsRemovedByItsOwner name trace =
     (before : List Event) (e : Event) (later : List Event) → trace ≡ before ++ e ∷ later →
     is_removal_of name e.request ≡ true → e.reply ≡ Done →
     (is_deleting (pod_state name before) && is_owner e.process (pod_state name before)) ≡ true
+
+-- the state is what the trace shows of the pod: where its folder stands, its phase, and who holds it
+pub record ShowsPod (name : List ℕ) (trace : List Event) (s : PodState) : Type 0 where
+  pub folder : StandsWhereItExists name (state_after trace).namespace s
+  pub phase : HasPhaseOf name (state_after trace).namespace s
+  pub owner : IsHeldByItsOwner name trace s

@@ -1,17 +1,11 @@
 -- What every conforming execution keeps of every pod.
-use Rattle.std.proofs.Common.{◌≡◌, ◌↔◌, ℕ, Bool, true, false, ◌&&◌, ◌==◌, Option, Some, None, List, ◌∷◌, ◌++◌, refl, sym, ap, subst, ◌∙◌}
-use Rattle.dir_model.specs.declared.area.Area.{Area}
-use Rattle.dir_model.specs.declared.spot.Spot.{Spot}
+use Rattle.std.proofs.Common.{◌≡◌, ℕ, true, ◌==◌, Some, List, ◌∷◌, ◌++◌, refl, sym, ap, subst, ◌∙◌}
 use Rattle.dir_model.specs.declared.event.Event.{Event}
-use Rattle.dir_model.specs.declared.request.Request.{Request}
 use Rattle.dir_model.specs.declared.request.Reply.{Reply}
-use Rattle.dir_model.specs.declared.request.Reply.TheVariants.{Done}
-use Rattle.dir_model.specs.Areas.{is_stage}
-use Rattle.dir_model.specs.State.{stands, lives}
+use Rattle.dir_model.specs.State.{lives}
 use Rattle.dir_model.specs.Trace.{state_after}
 use Rattle.dir_model.specs.Calls.{event}
 use Rattle.dir_rules.specs.declared.seen.Seen.{Seen}
-use Rattle.dir_rules.specs.Standing.{standing_of}
 use Rattle.dir_rules.specs.LockRules.{holds_pod}
 use Rattle.dir_rules.specs.Rules.{owns, is_asked}
 use Rattle.dir_rules.specs.Conforms.{seen_of}
@@ -19,9 +13,9 @@ use Rattle.lifecycle.specs.declared.machine.PodState.{PodState}
 use Rattle.lifecycle.specs.declared.machine.PodState.TheVariants.{Prepared, Preparing, Running, Deleting}
 use Rattle.lifecycle.specs.declared.machine.Transition.{Transition}
 use Rattle.lifecycle.specs.declared.machine.Transition.TheVariants.{Sweep}
-use Rattle.lifecycle.specs.PodMachine.{enabled, transition, exists, is_place, is_owner, is_deleting, owner_of, pod_state}
+use Rattle.lifecycle.specs.PodMachine.{enabled, exists, is_place, is_owner, is_deleting, owner_of, pod_state}
 use Rattle.lifecycle.specs.Executions.{IsConforming}
-use Rattle.lifecycle.specs.Ownership.{is_wanted, TurnsAreEnabled, StandsWhereItExists, HasPhaseOf, holds, IsHeldByItsOwner, NamesOneFolder, GoesForward, is_removal_of, IsRemovedByItsOwner}
+use Rattle.lifecycle.specs.Ownership.{is_wanted, TurnsAreEnabled, StandsWhereItExists, HasPhaseOf, holds, IsHeldByItsOwner, ShowsPod, NamesOneFolder, GoesForward, IsRemovedByItsOwner}
 use Rattle.lifecycle.proofs.World.{both, pair, nat_same, same_nat}
 use Rattle.lifecycle.proofs.Standings.{standing_is}
 use Rattle.lifecycle.proofs.Draws.{conforming_left}
@@ -82,6 +76,13 @@ held_by_its_owner name trace conforming p e = (owns_it, holds_it)
     holds_it h =
         let x = owner_holds name trace p conforming (is_the_owner p (pod_state name trace) h) in
         pair (lives (state_after trace).namespace p) (owns (seen_of p trace) name) x.0 (ap (holds_pod name) (standing_is p trace) ∙ x.1)
+
+pub shows_pod : (name : List ℕ) (trace : List Event) → IsConforming trace → ShowsPod name trace (pod_state name trace)
+shows_pod name trace conforming = record {
+  folder = stands_where_it_exists name trace conforming;
+  phase = has_phase_of name trace conforming;
+  owner = held_by_its_owner name trace conforming;
+}
 
 pub names_one_folder : (trace : List Event) → IsConforming trace → NamesOneFolder (state_after trace).namespace
 names_one_folder trace conforming a b p q same x y = one_folder trace a b conforming p q same x y
