@@ -1,0 +1,4 @@
+pub mod PodMachine
+pub mod Executions
+pub mod Ownership
+pub mod Watch

@@ -1,0 +1,14 @@
+//! The pod machine, and what the local rules of all processes imply of every pod.
+#![tactic(auto)]
+
+mod grip;
+mod laws;
+mod machine;
+mod one_pod;
+mod pods;
+
+pub use grip::Grip;
+pub use laws::{beginnings, folders, removals, transitions};
+pub use machine::{PodState, Transition};
+pub use one_pod::replay_pod;
+pub use pods::{PodEntry, PodMachine, replay};
