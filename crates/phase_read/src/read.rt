@@ -9,6 +9,7 @@ ghost use Rattle.dir_trait.specs.Areas.{rank, phase_in};
 ghost use Rattle.dir_trait.specs.Between.{StaysBetween};
 ghost use Rattle.dir_trait.specs.Replies.{is_look_at};
 ghost use Rattle.dir_trait.specs.Local.{IsActive, has_own_open};
+ghost use Rattle.phase_read.specs.Exact.{IsExactly};
 ghost use Rattle.phase_read.specs.Read.{IsRead, HasPhase, FoundBetween, is_pod_spot};
 
 use crate::found::{Found, LookError};
@@ -76,7 +77,9 @@ fn read_at<D: Dir>(alloc: Global, dir: &mut D, spot: Spot) -> Result<Option<Phas
 
 /// Reads a pod's phase, area by area in lifecycle order, by at most 24 calls on the directory,
 /// whatever the directory answers. No handle of this process is open on the pod's lock before, and each
-/// handle that it opened is closed again. `DirFault` only where the directory failed.
+/// handle that it opened is closed again. Where every process keeps the local rules, the pod stood in
+/// the area in that phase, or didn't exist, at one step of this read. `DirFault` only where the
+/// directory failed.
 pub fn read_phase<D: Dir>(alloc: Global, dir: &mut D, pod: PodId) -> Result<Found, LookError>
     requires active { IsActive (D.shown dir.old).local }
     requires alone { has_own_open (D.shown dir.old).local (pod_text pod.bytes) ≡ false }
@@ -88,6 +91,7 @@ pub fn read_phase<D: Dir>(alloc: Global, dir: &mut D, pod: PodId) -> Result<Foun
     ensures known { D.observed ≡ true → OnlyLooks (D.shown dir.old) (D.shown dir.new) }
     ensures extends { D.observed ≡ true → ExtendsBy (is_look_at (is_pod_spot pod)) (D.shown dir.old) (D.shown dir.new) }
     ensures read { IfOk result (λ found. D.observed ≡ true → IsRead (D.shown dir.old) (D.shown dir.new) pod found) }
+    ensures exact { IfOk result (λ found. D.observed ≡ true → IsExactly (D.shown dir.old) (D.shown dir.new) pod found) }
 {
     let name = pod.name();
     let mut area = Area::Embryo;

@@ -9,6 +9,9 @@ use Rattle.phase_read.specs.Read.{WasFound, HasPhase, LeftOut, is_pod_spot, stag
 use Rattle.phase_read.proofs.Stages.{next_rank, next_within, next_before, last_stages, pod_spot_only}
 use Rattle.phase_read.proofs.InTurn.{and_left_out}
 use Rattle.dir_trait.proofs.Looking.{looks_none, looks_more}
+use Rattle.dir_model.proofs.Moments.{at_after}
+use Rattle.lifecycle.proofs.Stays.{stays_between}
+use Rattle.phase_read.proofs.Exact.{found_exactly, gone_in_turn}
 use Rattle.phase_read.proofs.read.read_phase.Goals as goal
 
 pub returns-in-None-clause-read : goal.returns-in-None-clause-read
@@ -61,7 +64,6 @@ returns-in-Some-clause-read g c t =
       between = now;
       earlier = i.empty t;
       found = subst (λ (me : ℕ). WasFound me now new (pod_spot c.args.pod c.places.area) c.in-Some.phase) i.same found;
-      exact = λ stays. subst (λ (me : ℕ). AtOwnStep me now new (HasPhase (pod_spot c.args.pod c.places.area) c.in-Some.phase)) i.same (subst (λ (text : List ℕ). AtOwnStep (shown c.places.dir).process now new (HasPhase (spot text) c.in-Some.phase)) c.name-name.ensures.text (e.phase t stays));
     }
 
 pub returns-in_err-phase-clause-extends : goal.returns-in_err-phase-clause-extends
@@ -81,3 +83,20 @@ returns-in-Some-clause-known g c t = looks_more (c.places.invariant.known t) (c.
 
 pub returns-in-None-clause-known : goal.returns-in-None-clause-known
 returns-in-None-clause-known g c t = looks_more (c.places.invariant.known t) (c.read_at.ensures.known t)
+
+pub returns-in-Some-clause-exact : goal.returns-in-Some-clause-exact
+returns-in-Some-clause-exact g c t conforming =
+    let shown = g.D.Dir.shown in
+    let i = c.places.invariant in
+    let old = (shown c.args.dir.now).trace in
+    let now = (shown c.places.dir).trace in
+    let new = (shown c.read_at.new.dir).trace in
+    let e = rw c.in-Some.is at c.in_ok-phase.ensures in
+    let at = e.phase t (stays_between new conforming) in
+    let named = subst (λ (text : List ℕ). AtOwnStep (shown c.places.dir).process now new (HasPhase (record { area = c.places.area; name = text }) c.in-Some.phase)) c.name-name.ensures.text at in
+    found_exactly c.args.pod c.in-Some.phase c.places.area i.below conforming (at_after (i.extends t) i.same named)
+
+pub returns-in-None-clause-exact : goal.returns-in-None-clause-exact
+returns-in-None-clause-exact g c t conforming =
+    let shown = g.D.Dir.shown in
+    gone_in_turn c.args.pod (shown c.args.dir.now).process (shown c.args.dir.now).trace (shown c.read_at.new.dir).trace conforming (returns-in-None-clause-read g c t)
