@@ -19,7 +19,9 @@ use Rattle.lifecycle.proofs.Draws.{conforming_left}
 use Rattle.lifecycle.proofs.Stays.{owned_phase}
 use Rattle.lifecycle.proofs.Misses.{Missed, gone_exactly}
 use Rattle.phase_read.specs.Read.{HasPhase, LeftOut, pod_spot, stages}
-use Rattle.phase_read.specs.Exact.{AtOwnEvent, IsInPhase, IsNowhere}
+use Rattle.phase_read.specs.declared.found.Found.{Found}
+use Rattle.phase_read.specs.declared.found.Found.TheVariants.{At, Gone}
+use Rattle.phase_read.specs.Exact.{AtOwnEvent, IsInPhase, IsNowhere, WasSo}
 use Rattle.phase_read.proofs.InTurn.{left_out_grown}
 
 -- the trace that ends with the moment's event
@@ -30,7 +32,7 @@ at_event : {me : ℕ} {old new : List Event} {P : DirState → Type 0} (Q : List
 at_event Q at holds = record { before = at.before; step = at.step; later = at.later; rest = at.rest; begins = at.begins; ends = at.ends; own = at.own; holds = holds }
 
 -- an event of a part is one of the whole
-event_within : {me : ℕ} {a b c d : List Event} {P : List Event → Type 0} (more rest : List Event) → b ≡ a ++ more → d ≡ c ++ rest → AtOwnEvent me b c P → AtOwnEvent me a d P
+pub event_within : {me : ℕ} {a b c d : List Event} {P : List Event → Type 0} (more rest : List Event) → b ≡ a ++ more → d ≡ c ++ rest → AtOwnEvent me b c P → AtOwnEvent me a d P
 event_within {me} {a} {b} {c} {d} {P} more rest ab cd at = record {
   before = at.before;
   step = at.step;
@@ -101,3 +103,8 @@ module _ (pod : PodId) (me : ℕ) (old new : List Event) (conforming : IsConform
       let l4 = l3.1 in
       let l5 = l4.1 in
       missed_in_turn l5.0 l4.0 l3.0 l2.0 l1.0 l.0 l5.1 l5.2 l4.2 l3.2 l2.2 l1.2 l.2
+
+-- what was so at an own event of a part was so at one of the whole
+pub was_within : (me : ℕ) (a b c d : List Event) (pod : PodId) (found : Found) (more rest : List Event) → b ≡ a ++ more → d ≡ c ++ rest → WasSo me b c pod found → WasSo me a d pod found
+was_within me a b c d pod (At phase area) more rest ab cd so = event_within more rest ab cd so
+was_within me a b c d pod Gone more rest ab cd so = event_within more rest ab cd so

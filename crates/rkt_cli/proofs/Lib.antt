@@ -7,3 +7,4 @@ pub mod Outcomes
 pub mod Statuses
 pub mod QuietRun
 pub mod Conforming
+pub mod Histories

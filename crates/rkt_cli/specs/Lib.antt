@@ -7,5 +7,6 @@ pub mod Status
 pub mod Validate
 pub mod Commands
 pub mod Runs
+pub mod Histories
 pub mod Statuses
 pub mod Between

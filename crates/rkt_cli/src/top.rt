@@ -4,6 +4,8 @@ ghost use Rattle.dir_trait.specs.Causes.{Rose};
 ghost use Rattle.dir_trait.specs.DirCalls.{ExtendsBy};
 ghost use Rattle.dir_trait.specs.Local.{nothing_local};
 ghost use Rattle.rkt_cli.specs.Lines.{line_in};
+ghost use Rattle.lifecycle.specs.Executions.{IsConforming};
+ghost use Rattle.rkt_cli.specs.Histories.{TellsHistory};
 ghost use Rattle.rkt_cli.specs.Conforming.{KeepsConforming};
 ghost use Rattle.rkt_cli.specs.Moments.{dir_at, bundle_at, sink_at};
 ghost use Rattle.rkt_cli.specs.Between.{RunBetween, JudgedBetween, QuietBetween};
@@ -78,6 +80,8 @@ pub fn rkt<D: Dir, B: Bundle, O: Sink, E: Sink>(
     ensures reads { ReadsIn (line_in words.now) (bundle_at B.Bundle bundle.old) (bundle_at B.Bundle bundle.new) }
     ensures extends { D.observed ≡ true → ExtendsBy (asks_in (line_in words.now)) (D.shown dir.old) (D.shown dir.new) }
     ensures conforms { D.observed ≡ true → KeepsConforming (dir_at D.Dir dir.old) (dir_at D.Dir dir.new) }
+    ensures history { D.observed ≡ true → IsConforming (D.shown dir.new).trace → TellsHistory (line_in words.now) result
+        (dir_at D.Dir dir.old) (dir_at D.Dir dir.new) (sink_at O.Sink out.old) (sink_at O.Sink out.new) }
     ensures out { O.observed ≡ true → IsOutput (line_in words.now) result (O.shown out.old).bytes (O.shown out.new).bytes }
     ensures err { IsComplaint result (sink_at E.Sink err.old) (sink_at E.Sink err.new) }
     ensures quiet { QuietBetween D.Dir B.Bundle O.Sink E.Sink (line_in words.now) result

@@ -1,6 +1,7 @@
 use Rattle.rkt_cli.proofs.Statuses.{statuses, usage, no_pod, bad_manifest, no_file, dir_fault, bundle_fault, out_fault, extends, output, complaint, judged, over, reads}
 use Rattle.rkt_cli.proofs.QuietRun.{quiet}
 use Rattle.rkt_cli.proofs.Conforming.{run_conforms}
+use Rattle.rkt_cli.proofs.Histories.{run_tells}
 use Rattle.rkt_cli.proofs.top.rkt.Goals as goal
 
 pub returns-clause-statuses : goal.returns-clause-statuses
@@ -41,6 +42,9 @@ returns-clause-extends g c = extends c.run.ensures.ran
 
 pub returns-clause-conforms : goal.returns-clause-conforms
 returns-clause-conforms g c t = run_conforms c.run.ensures.ran t
+
+pub returns-clause-history : goal.returns-clause-history
+returns-clause-history g c t conforming = run_tells c.run.ensures.ran t conforming
 
 pub returns-clause-out : goal.returns-clause-out
 returns-clause-out g c = output c.run.ensures.ran

@@ -1,0 +1,86 @@
+-- What a run tells of a pod was so, in an execution in which every process keeps the local rules.
+use Rattle.std.proofs.Common.{◌≡◌, ◌⊎◌, inl, inr, ℕ, Bool, true, false, List, Option, Some, None, Ok, Err, ◌++◌, refl, sym, ap, subst, ◌∙◌}
+use Rattle.dir_model.specs.declared.event.Event.{Event}
+use Rattle.dir_model.specs.declared.area.Area.{Area}
+use Rattle.dir_model.specs.declared.area.Phase.{Phase}
+use Rattle.dir_model.specs.declared.intent.Draw.{Draw}
+use Rattle.dir_model.specs.declared.intent.Intent.{Intent}
+use Rattle.dir_model.specs.declared.pod.PodId.{PodId}
+use Rattle.lifecycle.specs.Executions.{IsConforming}
+use Rattle.lifecycle.proofs.Draws.{conforming_left}
+use Rattle.phase_read.specs.declared.found.Found.{Found}
+use Rattle.phase_read.specs.declared.found.Found.TheVariants.{At, Gone}
+use Rattle.phase_read.specs.Exact.{WasSo, AtOwnEvent, IsNowhere}
+use Rattle.phase_read.proofs.Exact.{was_within}
+use Rattle.rkt_cli.specs.declared.line.Line.{Line}
+use Rattle.rkt_cli.specs.declared.line.Line.TheVariants.{Status, Validate}
+use Rattle.rkt_cli.specs.declared.refusal.Refusal.TheVariants.{NoPod}
+use Rattle.rkt_cli.specs.Texts.{state_text}
+use Rattle.rkt_cli.specs.Moments.{DirSeen, Outside, SinkSeen, Moment, Outcome}
+use Rattle.rkt_cli.specs.Ends.{is_own_end}
+use Rattle.rkt_cli.specs.Status.{read_outcome}
+use Rattle.rkt_cli.specs.Commands.{intent_of}
+use Rattle.rkt_cli.specs.Runs.{Performs, Printed, End, RunOfLine, RunOf, RunIs}
+use Rattle.rkt_cli.specs.Histories.{TellsPhase, TellsHistory}
+use Rattle.rkt_cli.proofs.Ends.{absurd_number, end_at, from_command}
+use Rattle.rkt_cli.proofs.Sessions.{any_call, begin_part, finish_part}
+
+-- what a command `status` read, and that it was so
+pub record WasRead (pod : PodId) (me : ℕ) (old new : List Event) (o : Outcome) : Type 0 where
+  pub found : Found
+  pub is : o ≡ read_outcome found
+  pub so : WasSo me old new pod found
+
+module _ (pod : PodId) (old new : Outside) (t : old.dir.observed ≡ true) (conforming : IsConforming new.dir.trace) where
+  status_read : (intent : Option Intent) (o : Outcome) → is_own_end o ≡ true → Performs (Status pod) intent old new o → WasRead pod old.dir.process old.dir.trace new.dir.trace o
+  status_read None o own p = let clash : true ≡ false = p.apart in cc
+  status_read (Some intent) o own (inr n) = let clash : true ≡ false = sym own ∙ ap is_own_end n.is in cc
+  status_read (Some intent) o own (inl s) =
+      let says = s.ran.says own in
+      let first = begin_part s t any_call refl in
+      let last = finish_part s t any_call refl in
+      let so = says.exact (s.told ∙ t) (conforming_left s.ended.dir.trace last.more (subst IsConforming last.grown conforming)) in
+      record {
+        found = says.found;
+        is = says.is;
+        so = was_within old.dir.process old.dir.trace s.begun.dir.trace s.ended.dir.trace new.dir.trace pod says.found first.more last.more first.grown last.grown (subst (λ (me : ℕ). WasSo me s.begun.dir.trace s.ended.dir.trace pod says.found) s.me so);
+      }
+
+tells_phase : (pod : PodId) (me : ℕ) (old new : List Event) (text : List ℕ) (found : Found) → Ok text ≡ read_outcome found → WasSo me old new pod found → TellsPhase pod me old new text
+tells_phase pod me old new text (At phase area) is so = record { phase = phase; area = area; is = let e : text ≡ state_text phase = cc in e; so = so }
+tells_phase pod me old new text Gone is so = cc
+
+tells_gone : (pod : PodId) (me : ℕ) (old new : List Event) (found : Found) → Err NoPod ≡ read_outcome found → WasSo me old new pod found → AtOwnEvent me old new (IsNowhere pod)
+tells_gone pod me old new (At phase area) is so = cc
+tells_gone pod me old new Gone is so = so
+
+module _ (now : ℕ) (draw : Draw) (old new : Moment) (status : ℕ) (t : old.outside.dir.observed ≡ true) (conforming : IsConforming new.outside.dir.trace) where
+  line_tells : (pod : PodId) → RunOfLine (Status pod) (intent_of (Status pod) now draw) old new status → TellsHistory (Some (Status pod)) status old.outside.dir new.outside.dir old.out new.out
+  line_tells pod r = (printed, missing)
+    where
+      me : ℕ
+      me = old.outside.dir.process
+
+      was : (o : Outcome) → r.outcome ≡ o → is_own_end o ≡ true → WasRead pod me old.outside.dir.trace new.outside.dir.trace o
+      was o is own = status_read pod old.outside new.outside t conforming (intent_of (Status pod) now draw) o own (subst (λ (o : Outcome). Performs (Status pod) (intent_of (Status pod) now draw) old.outside new.outside o) is r.performs)
+
+      printed : status ≡ 0 → (text : List ℕ) × TellsPhase pod me old.outside.dir.trace new.outside.dir.trace text × (old.out.observed ≡ true → new.out.bytes ≡ old.out.bytes ++ text)
+      printed zero =
+          let done = r.printed.done (end_at r.end status 0 r.is zero refl) in
+          let w = was (Ok done.0) done.1 refl in
+          (done.0, tells_phase pod me old.outside.dir.trace new.outside.dir.trace done.0 w.found w.is w.so, done.2)
+
+      missing : status ≡ 2 → AtOwnEvent me old.outside.dir.trace new.outside.dir.trace (IsNowhere pod)
+      missing two =
+          let e : r.outcome ≡ Err NoPod = from_command r.outcome old.out new.out r.end NoPod r.printed (end_at r.end status 2 r.is two refl) refl in
+          let w = was (Err NoPod) e refl in
+          tells_gone pod me old.outside.dir.trace new.outside.dir.trace w.found w.is w.so
+
+  tells_of : (l : Option Line) → RunOf l now draw old new status → TellsHistory l status old.outside.dir new.outside.dir old.out new.out
+  tells_of None r = tt
+  tells_of (Some (Validate path)) r = tt
+  tells_of (Some (Status pod)) (inr n) = ((λ zero. absurd_number 0 14 (sym zero ∙ n.is) refl), (λ two. absurd_number 2 14 (sym two ∙ n.is) refl))
+  tells_of (Some (Status pod)) (inl r) = line_tells pod r
+
+pub run_tells : {l : Option Line} {now : ℕ} {draw : Draw} {old new : Moment} {status : ℕ} → RunIs l now draw old new status → old.outside.dir.observed ≡ true → IsConforming new.outside.dir.trace → TellsHistory l status old.outside.dir new.outside.dir old.out new.out
+run_tells {l} {now} {draw} {old} {new} {status} run t conforming = tells_of now draw old new status t conforming l run.ran
