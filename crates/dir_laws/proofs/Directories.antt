@@ -32,10 +32,10 @@ all_items known (x ∷ xs) item all there = by (is_item item x) refl there (λ l
     by true is there rest = sym (has_same known x item is) ∙ and_left (has_item known x) (list_all (has_item known) xs) all
     by false is there rest = rest there
 
-abbrev item_name : Item → List ℕ
+abbrev pub item_name : Item → List ℕ
 item_name item = item.name
 
-abbrev inside_now : ℕ → List ℕ → DirState → List Item
+abbrev pub inside_now : ℕ → List ℕ → DirState → List Item
 inside_now folder path s = items_in folder path s.entries
 
 -- a listing of a directory begins with the items that stand in it, and knows no other

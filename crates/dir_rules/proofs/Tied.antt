@@ -146,7 +146,7 @@ lived_step me n p (Open spot which) (Opened handle) f a = a
 lived_step me n p request (Opened handle) f a = a
 lived_step me n p request _ f a = a
 
-lived_before : (me : ℕ) (s : DirState) (es : List Event) → AllByRecursion (λ e. is_foreign me e ≡ true) es → lives (states_next s es).namespace me ≡ true → lives s.namespace me ≡ true
+pub lived_before : (me : ℕ) (s : DirState) (es : List Event) → AllByRecursion (λ e. is_foreign me e ≡ true) es → lives (states_next s es).namespace me ≡ true → lives s.namespace me ≡ true
 lived_before me s [] f a = a
 lived_before me s (e ∷ es) f a = lived_step me s.namespace e.process e.request e.reply f.0 (lived_before me (state_next s e) es f.1 a)
 
