@@ -145,36 +145,28 @@ pub fn is_removal_held(spot: &Spot, held: &Held) -> bool
 pub fn gives_up_shared_gate(area: Area, handle: Handle, holdings: &[Held]) -> bool
     ensures { result ≡ gives_up (is_gate_shared area) handle holdings.now }
 {
-    holdings
-        .iter()
-        .any(|held| is_gate_shared(area, held) && is_number(handle, held))
+    holdings.iter().any(|held| is_gate_shared(area, held) && is_number(handle, held))
 }
 
 /// Whether the area's lock, held exclusively, is given up with this handle.
 pub fn gives_up_exclusive_gate(area: Area, handle: Handle, holdings: &[Held]) -> bool
     ensures { result ≡ gives_up (is_gate_exclusive area) handle holdings.now }
 {
-    holdings
-        .iter()
-        .any(|held| is_gate_exclusive(area, held) && is_number(handle, held))
+    holdings.iter().any(|held| is_gate_exclusive(area, held) && is_number(handle, held))
 }
 
 /// Whether the pod's activation lock is given up with this handle.
 pub fn gives_up_claim(name: &Name, handle: Handle, holdings: &[Held]) -> bool
     ensures { result ≡ gives_up (is_claim_held name.now) handle holdings.now }
 {
-    holdings
-        .iter()
-        .any(|held| is_claim_held(name, held) && is_number(handle, held))
+    holdings.iter().any(|held| is_claim_held(name, held) && is_number(handle, held))
 }
 
 /// Whether the lock that a removal at this spot needs is given up with this handle.
 pub fn gives_up_removal(spot: &Spot, handle: Handle, holdings: &[Held]) -> bool
     ensures { result ≡ gives_up (is_removal_held spot.now) handle holdings.now }
 {
-    holdings
-        .iter()
-        .any(|held| is_removal_held(spot, held) && is_number(handle, held))
+    holdings.iter().any(|held| is_removal_held(spot, held) && is_number(handle, held))
 }
 
 /// Whether what covers a handle on a pod's own lock is given up with this handle.

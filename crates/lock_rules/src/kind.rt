@@ -55,8 +55,7 @@ fn is_gc(kind: Kind) -> bool
     matches!(kind, Kind::Gc)
 }
 
-/// Whether a command makes images.
-pub fn is_import(kind: Kind) -> bool
+fn is_import(kind: Kind) -> bool
     ensures { result ≡ is_import kind }
 {
     matches!(kind, Kind::ImageImport)
@@ -151,5 +150,15 @@ pub fn began_as_gc(intent: &Option<Intent>) -> bool
     match intent {
         None => false,
         Some(intent) => is_gc(intent.kind),
+    }
+}
+
+/// Whether the process makes images.
+pub fn began_as_import(intent: &Option<Intent>) -> bool
+    ensures { result ≡ intends (λ i. is_import i.kind) intent.now }
+{
+    match intent {
+        None => false,
+        Some(intent) => is_import(intent.kind),
     }
 }

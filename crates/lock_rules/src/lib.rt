@@ -10,5 +10,4 @@ mod standing;
 pub use held::{
     area_of, gives_up_exclusive_gate, gives_up_removal, gives_up_shared_gate, is_own_held,
 };
-pub use kind::{draws, is_import};
 pub use standing::StandingTable;

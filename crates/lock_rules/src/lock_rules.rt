@@ -205,10 +205,7 @@ impl StandingTable {
             Request::MakeFolder(spot) => !is_stage(spot.area) || self.may_make(spot),
             Request::MoveFolder { from, to } => self.may_move(from, to),
             Request::Open { spot, which } => may_open(spot, *which),
-            Request::TryLock { handle, mode } => self.may_lock_by(
-                &self.find_held(*handle),
-                *mode,
-            ),
+            Request::TryLock { handle, mode } => self.may_lock_by(&self.find_held(*handle), *mode),
             Request::Close(handle) => self.may_close(*handle),
             Request::RemoveFolder(spot) => self.may_remove(spot),
             Request::RemoveFileIn(inner) => self.may_remove(&inner.spot),

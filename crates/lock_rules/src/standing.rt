@@ -8,13 +8,11 @@ use crate::change::{
     uncover_all,
 };
 use crate::held::{
-    gives_up_shared_gate, is_claim_held, is_gate_exclusive, is_gate_shared, is_number,
-    is_own_held, is_own_in_prepared, target_of,
+    gives_up_shared_gate, is_claim_held, is_gate_exclusive, is_gate_shared, is_number, is_own_held,
+    is_own_in_prepared, target_of,
 };
-use crate::kind::draws;
-use dir_model::{
-    Area, Handle, Intent, Mode, Name, NoMemory, Reply, Request, Spot, Target, Which,
-};
+use crate::kind::{began_as_import, began_as_remover, draws};
+use dir_model::{Area, Handle, Intent, Mode, Name, NoMemory, Reply, Request, Spot, Target, Which};
 use dir_rules::Held;
 use rule_marks::{is_in, is_of, is_stage, push_front};
 use std::alloc::Global;
@@ -45,7 +43,8 @@ fn find_open<'a>(holdings: &'a [Held], handle: Handle) -> Option<&'a Held>
 
 impl StandingTable {
     ghost use Rattle.std.specs.Prelude.{◌≡◌, OnOk};
-    ghost use Rattle.dir_rules.specs.Standing.{nothing_standing, draws, holds_own, holds_claim, holds_gate, closes_gate, has_name, has_place, last_of, find_held, looked_by, given_up, standing_done, standing_opened, standing_replied};
+    ghost use Rattle.dir_rules.specs.Standing.{nothing_standing, draws, began_as, is_remover, holds_own, holds_claim, holds_gate, closes_gate, has_name, has_place, last_of, find_held, looked_by, given_up, standing_done, standing_opened, standing_replied};
+    ghost use Rattle.dir_rules.specs.Rules.{is_import};
     ghost use Rattle.lock_rules.specs.Tables.{table_standing};
 
     /// It hasn't begun. Takes no memory.
@@ -68,6 +67,20 @@ impl StandingTable {
         ensures { result ≡ draws name.now (table_standing self.now) }
     {
         draws(name, &self.intent)
+    }
+
+    /// Whether the process makes images.
+    pub fn began_as_import(&self) -> bool
+        ensures { result ≡ began_as is_import (table_standing self.now) }
+    {
+        began_as_import(&self.intent)
+    }
+
+    /// Whether the process removes pods.
+    pub fn began_as_remover(&self) -> bool
+        ensures { result ≡ began_as is_remover (table_standing self.now) }
+    {
+        began_as_remover(&self.intent)
     }
 
     /// Whether it holds the pod's own lock exclusively.

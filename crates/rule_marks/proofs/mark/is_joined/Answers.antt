@@ -1,4 +1,4 @@
-use Rattle.std.proofs.Common.{◌≡◌, rules}
+use Rattle.std.proofs.Common.{rules}
 use Rattle.rule_marks.proofs.Texts.{bytes_joined}
 use Rattle.rule_marks.proofs.mark.is_joined.Goals as goal
 

@@ -1,4 +1,4 @@
-use Rattle.std.proofs.Common.{◌≡◌, ◌∙◌, true, not, nat_lt, length, drop, ap, arith, rules}
+use Rattle.std.proofs.Common.{◌≡◌, ◌∙◌, true, not, nat_lt, length, drop, ap, arith}
 use Rattle.std.proofs.lemmas.Bool.Decides.{nat_tests}
 use Rattle.dir_rules.specs.Marks.{has_slash, is_below_status}
 use Rattle.rule_marks.proofs.Texts.{and_last}
