@@ -193,6 +193,8 @@ impl ContentsTable {
     {
         forget_listed(&mut self.listed, spot);
         forget_items(&mut self.items, spot);
+        let alloc = self.alloc();
+        move_all_away(&mut self.areas, alloc, spot);
         drop_put_away(&mut self.put_away, spot);
     }
 

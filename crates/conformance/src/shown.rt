@@ -67,7 +67,7 @@ fn move_away(area: &mut ShownArea, alloc: Global, from: &Spot)
     }
 }
 
-/// The process moved a folder out of its area.
+/// The process moved a folder out of its area, or removed it.
 pub fn move_all_away(areas: &mut [ShownArea], alloc: Global, from: &Spot)
     ensures { areas.new ≡ map (moved_away from.now) areas.old }
 {

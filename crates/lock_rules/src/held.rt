@@ -182,11 +182,10 @@ pub fn gives_up_cover(handle: Handle, holdings: &[Held], target: &Target) -> boo
 fn is_same_target(a: &Target, b: &Target) -> bool
     ensures { result ≡ is_same_target a.now b.now }
 {
-    match (a, b) {
-        (Target::Own(a), Target::Own(b)) => a.name == b.name,
-        (Target::Claim(a), Target::Claim(b)) => a.name == b.name,
-        (Target::Gate(a), Target::Gate(b)) => is_in(*a, *b),
-        _ => false,
+    match a {
+        Target::Own(spot) => is_own_of(&spot.name, b),
+        Target::Claim(spot) => is_claim_of(&spot.name, b),
+        Target::Gate(area) => is_gate_of(*area, b),
     }
 }
 
