@@ -1,0 +1,10 @@
+//! Tests of the pod machine over the data folder in memory: what a history says of a pod is what a
+//! reader finds.
+#![tactic(auto)]
+
+#[cfg(test)]
+mod lives;
+#[cfg(test)]
+mod stage;
+#[cfg(test)]
+mod walk;
