@@ -3,4 +3,4 @@ use Rattle.dir_model.specs.Local.{nothing_local}
 use Rattle.lifecycle_scenarios.proofs.stage.folder.Given as goal
 
 abbrev pub invariant-steps : goal.invariant-steps
-invariant-steps g l = l.dir.local ≡ nothing_local
+invariant-steps l = l.dir.local ≡ nothing_local
