@@ -1,12 +1,11 @@
 -- What the names and items of a listing tell of the time that it took.
-use Rattle.std.proofs.Common.{◌≡◌, ◌⊎◌, inl, inr, ℕ, Bool, true, false, not, ◌&&◌, ◌||◌, ◌==◌, cond, Option, Some, None, List, [], ◌∷◌, ◌++◌, append-nil, append_assoc, arith, find, refl, sym, ap, subst, ◌∙◌}
+use Rattle.std.proofs.Common.{◌≡◌, ◌⊎◌, inl, inr, ℕ, Bool, true, false, not, ◌||◌, ◌==◌, cond, Option, Some, None, List, [], ◌∷◌, ◌++◌, append-nil, append_assoc, arith, find, refl, sym, ap, subst, ◌∙◌}
 use Rattle.std.proofs.lemmas.Bool.Decides.{nat_tests}
 use Rattle.std.specs.List.{list_any, AllByRecursion}
 use Rattle.dir_model.specs.declared.area.Area.{Area}
 use Rattle.dir_model.specs.declared.event.Event.{Event}
 use Rattle.dir_model.specs.declared.item.Inner.{Inner}
 use Rattle.dir_model.specs.declared.item.Item.{Item}
-use Rattle.dir_model.specs.declared.tree.Listed.{Listed}
 use Rattle.dir_model.specs.declared.tree.Listed.TheVariants as listed
 use Rattle.dir_model.specs.declared.tree.OpenListing.{OpenListing}
 use Rattle.dir_model.specs.declared.request.Request.{Request}
@@ -16,10 +15,10 @@ use Rattle.dir_model.specs.declared.request.Reply.TheVariants.{Done, Begun, Name
 use Rattle.dir_model.specs.State.{DirState, empty_state, lives, Namespace, has_begun, folder_at}
 use Rattle.dir_model.specs.Trace.{state_next, states_next, state_after, listings_replied}
 use Rattle.dir_model.specs.Trees.{names_in, items_in, has_dir}
-use Rattle.dir_model.specs.Listings.{is_of, is_listing, is_listing_request, begun_at, listing_of, has_name, has_named, has_item, shows_area, shows_inside}
-use Rattle.dir_model.specs.Replies.{is_apps_request, is_reply, is_any_reply, is_state_reply, is_late_reply}
+use Rattle.dir_model.specs.Listings.{is_of, is_listing, begun_at, listing_of, has_name, has_named, has_item, shows_area, shows_inside}
+use Rattle.dir_model.specs.Replies.{is_apps_request, is_reply, is_any_reply, is_late_reply}
 use Rattle.dir_model.specs.Paths.{is_well_formed}
-use Rattle.dir_model.specs.Calls.{CallStep, TookPlace, LeftNothing, Listing, Unlisted, ListStep, IsRun, is_run_from, is_allowed, is_begin, is_kill, is_foreign, may_step, event}
+use Rattle.dir_model.specs.Calls.{TookPlace, LeftNothing, Listing, ListStep, IsRun, is_run_from, is_allowed, is_begin, is_kill, is_foreign, event}
 use Rattle.dir_model.proofs.Lists.{and_left, and_right, and_false, not_true, any_last, same_self}
 use Rattle.dir_model.proofs.Chains.{states_next-append, state_after-push, run-left, run_from-right}
 use Rattle.dir_model.proofs.Allowed.{allowed_step, allowed_reply}
@@ -27,7 +26,7 @@ use Rattle.dir_rules.proofs.Tied.{lived_before}
 use Rattle.dir_laws.specs.Stretches.{Throughout, Sometime, StandsInArea, StandsNamed, StandsInside}
 use Rattle.dir_laws.proofs.Areas.{area_begins, shows_throughout, shows_only}
 use Rattle.dir_laws.proofs.Directories.{item_name, inside_now, inside_begins, items_throughout, items_only}
-use Rattle.dir_laws.proofs.Open.{is_change, open_along, find_own, is_self}
+use Rattle.dir_laws.proofs.Open.{open_along, find_own, is_self}
 use Rattle.std.specs.Prelude.{Result, Ok, Err, IfOk}
 use Rattle.dir_model.specs.declared.request.DirError.{DirError}
 use Rattle.dir_model.specs.Replies.{names_reply, items_reply}

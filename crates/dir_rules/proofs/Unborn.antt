@@ -2,24 +2,23 @@
 use Rattle.dir_model.specs.Paths.{is_well_formed}
 use Rattle.dir_model.proofs.Begun.{begun_stays}
 use Rattle.dir_model.proofs.Allowed.{allowed_step}
-use Rattle.std.proofs.Common.{arith, ◌≡◌, ◌⊎◌, inl, inr, ℕ, Bool, true, false, not, ◌&&◌, ◌||◌, ◌==◌, cond, List, [], ◌∷◌, ◌++◌, refl, sym, ap, subst, ◌∙◌}
-use Rattle.std.specs.List.{list_any}
+use Rattle.std.proofs.Common.{arith, ◌≡◌, ◌⊎◌, inl, inr, ℕ, Bool, true, false, not, ◌&&◌, ◌||◌, ◌==◌, cond, List, [], ◌∷◌, refl, sym, ap, subst, ◌∙◌}
 use Rattle.std.proofs.lemmas.Bool.Decides.{nat_tests}
 use Rattle.dir_model.specs.declared.event.Event.{Event}
 use Rattle.dir_model.specs.declared.intent.Intent.{Intent}
 use Rattle.dir_model.specs.declared.request.Request.{Request}
-use Rattle.dir_model.specs.declared.request.Request.TheVariants.{Begin, Open}
+use Rattle.dir_model.specs.declared.request.Request.TheVariants.{Begin}
 use Rattle.dir_model.specs.declared.request.Reply.{Reply}
-use Rattle.dir_model.specs.declared.request.Reply.TheVariants.{Done, Opened, Refused}
+use Rattle.dir_model.specs.declared.request.Reply.TheVariants.{Done, Refused}
 use Rattle.dir_model.specs.declared.request.DirError.{DirError}
 use Rattle.dir_rules.specs.declared.seen.Seen.{Seen}
-use Rattle.dir_model.specs.State.{Namespace, DirState, empty_state, lives, has_begun, has_ended}
+use Rattle.dir_model.specs.State.{DirState, empty_state, lives, has_begun, has_ended}
 use Rattle.dir_model.specs.Trace.{namespace_replied, state_next, states_next, state_after}
 use Rattle.dir_model.specs.Calls.{Interference, IsRun, is_run_from, is_allowed, is_kill, is_foreign, CallStep, TookPlace, LeftNothing, event}
 use Rattle.dir_rules.specs.Conforms.{nothing_seen, seen_replied, saw, seen_after, seen_of, Agrees, IsTied}
-use Rattle.dir_model.proofs.Lists.{not_true, and_left, and_right, any_push, any_last, same_self, and_false}
+use Rattle.dir_model.proofs.Lists.{not_true, and_left, and_right, any_last, same_self, and_false}
 use Rattle.dir_model.proofs.Chains.{states_next-append, run_before}
-use Rattle.dir_rules.proofs.Tied.{meanwhile_unseen, own_seen, agrees_lost, lived_meanwhile}
+use Rattle.dir_rules.proofs.Tied.{meanwhile_unseen, own_seen}
 
 clash : (b : Bool) → b ≡ true → b ≡ false → ⊥
 clash true h k = cc

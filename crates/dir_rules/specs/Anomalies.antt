@@ -1,12 +1,11 @@
 -- Replies that can't come while every process keeps the rules, and those by which a started app shows that it still writes.
-use Rattle.std.specs.Prelude.{◌≡◌, ℕ, Bool, true, false, not, ◌&&◌, ◌||◌, nat_lt, Option, Some, None, List, length}
+use Rattle.std.specs.Prelude.{◌≡◌, ℕ, Bool, true, false, not, ◌&&◌, ◌||◌, nat_lt, Option, Some, None, length}
 use Rattle.std.specs.List.{list_any}
 use Rattle.dir_model.specs.declared.area.Area.{Area}
 use Rattle.dir_model.specs.declared.area.Area.TheVariants.{Embryo, Prepare, Run, Incoming, Images, Trees, Removed}
-use Rattle.dir_model.specs.declared.item.Inner.{Inner}
 use Rattle.dir_model.specs.declared.item.Item.{Item}
 use Rattle.dir_model.specs.declared.opening.Target.{Target}
-use Rattle.dir_model.specs.declared.opening.Target.TheVariants.{Own, Claim, Gate}
+use Rattle.dir_model.specs.declared.opening.Target.TheVariants.{Own}
 use Rattle.dir_model.specs.declared.spot.Spot.{Spot}
 use Rattle.dir_model.specs.declared.spot.Which.TheVariants as which
 use Rattle.dir_model.specs.declared.request.DirError.{DirError}
@@ -22,7 +21,7 @@ use Rattle.dir_rules.specs.declared.standing.Held.{Held}
 use Rattle.dir_rules.specs.declared.standing.Standing.{Standing}
 use Rattle.dir_rules.specs.declared.seen.Seen.{Seen}
 use Rattle.dir_rules.specs.Marks.{path_in}
-use Rattle.dir_rules.specs.Standing.{is_in, is_garbage, area_of, draws, closes_gate, has_name, is_own_held, last_of, find_held}
+use Rattle.dir_rules.specs.Standing.{is_in, is_garbage, draws, closes_gate, has_name, is_own_held, last_of, find_held}
 use Rattle.dir_rules.specs.LockRules.{on_spot}
 use Rattle.dir_rules.specs.Seen.{makes_at}
 use Rattle.dir_rules.specs.Rules.{deletes, is_file_item, shows}

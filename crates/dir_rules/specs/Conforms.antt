@@ -10,7 +10,6 @@ use Rattle.dir_model.specs.declared.request.Reply.TheVariants.{Begun}
 use Rattle.dir_model.specs.State.{lives}
 use Rattle.dir_model.specs.Trace.{state_after}
 use Rattle.dir_model.specs.Calls.{is_foreign}
-use Rattle.dir_rules.specs.declared.standing.Standing.{Standing}
 use Rattle.dir_rules.specs.declared.seen.Making.{Making}
 use Rattle.dir_rules.specs.declared.seen.Seen.{Seen}
 use Rattle.dir_rules.specs.Standing.{nothing_standing, standing_replied}

@@ -1,5 +1,5 @@
 -- Paths inside a folder, and the names of marks.
-use Rattle.std.specs.Prelude.{ℕ, zero, suc, ◌+◌, ◌-◌, ◌*◌, ◌/◌, ◌%◌, ◌==◌, Bool, true, false, not, ◌&&◌, nat_lt, nat_eq, cond, bytes_eq, Option, Some, None, List, [], ◌∷◌, ◌++◌, length, drop, fold, codes}
+use Rattle.std.specs.Prelude.{ℕ, zero, suc, ◌+◌, ◌-◌, ◌*◌, ◌/◌, ◌%◌, Bool, true, false, not, ◌&&◌, nat_lt, nat_eq, cond, bytes_eq, Option, Some, None, List, [], ◌∷◌, ◌++◌, length, drop, fold, codes}
 use Rattle.std.specs.List.{list_any, starts_with}
 use Rattle.dir_model.specs.Paths.{is_slash}
 use Rattle.dir_model.specs.Trees.{mark_prefix}

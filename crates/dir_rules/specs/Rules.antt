@@ -1,5 +1,5 @@
 -- The local rules: what a process may ask for, by what it knows.
-use Rattle.std.specs.Prelude.{ℕ, Bool, true, false, not, ◌&&◌, ◌||◌, ◌-◌, cond, bytes_eq, nat_le, Option, Some, None, find, List, [], ◌∷◌, length, codes}
+use Rattle.std.specs.Prelude.{ℕ, Bool, true, false, not, ◌&&◌, ◌||◌, ◌-◌, bytes_eq, nat_le, Option, Some, None, find, List, [], length, codes}
 use Rattle.std.specs.List.{list_any, list_all}
 use Rattle.dir_model.specs.declared.area.Area.{Area}
 use Rattle.dir_model.specs.declared.area.Area.TheVariants.{Embryo, Prepare, Prepared, Run, ExitedGarbage, Garbage, Incoming, Images, Removed}

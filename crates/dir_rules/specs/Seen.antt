@@ -1,6 +1,5 @@
 -- What a process knows by its own answers, as far as the rules ask for it.
 use Rattle.std.specs.Prelude.{ℕ, Bool, true, false, not, ◌&&◌, cond, bytes_eq, nat_le, Option, Some, None, option_map, List, [], ◌∷◌, ◌++◌, map, filter}
-use Rattle.std.specs.List.{list_any}
 use Rattle.dir_model.specs.declared.area.Area.{Area}
 use Rattle.dir_model.specs.declared.area.Area.TheVariants.{Embryo, Prepare, Run, Incoming, Removed}
 use Rattle.dir_model.specs.declared.intent.Intent.{Intent}
@@ -20,7 +19,6 @@ use Rattle.dir_model.specs.Areas.{is_stage}
 use Rattle.dir_model.specs.Paths.{is_empty}
 use Rattle.dir_model.specs.State.{spot_eq}
 use Rattle.dir_rules.specs.declared.standing.Held.{Held}
-use Rattle.dir_rules.specs.declared.seen.Entry.{Entry}
 use Rattle.dir_rules.specs.declared.seen.Making.{Making}
 use Rattle.dir_rules.specs.declared.seen.Created.{Created}
 use Rattle.dir_rules.specs.declared.seen.ShownItem.{ShownItem}

@@ -1,12 +1,9 @@
 -- One call more, and what a process then knows.
 use Rattle.std.proofs.Common.{◌≡◌, ℕ, Bool, true, false, not, ◌&&◌, ◌||◌, cond, Option, Some, None, List, [], ◌∷◌, ◌++◌, map, filter, refl, sym, ap, subst, ◌∙◌}
 use Rattle.std.specs.List.{list_any}
-use Rattle.dir_model.specs.declared.area.Area.{Area}
 use Rattle.dir_model.specs.declared.area.Area.TheVariants.{Embryo}
-use Rattle.dir_model.specs.declared.event.Event.{Event}
 use Rattle.dir_model.specs.declared.intent.Intent.{Intent}
 use Rattle.dir_model.specs.declared.opening.Holding.{Holding}
-use Rattle.dir_model.specs.declared.opening.Target.{Target}
 use Rattle.dir_model.specs.declared.opening.Target.TheVariants.{Gate}
 use Rattle.dir_model.specs.declared.spot.Spot.{Spot}
 use Rattle.dir_model.specs.declared.spot.Handle.{Handle}
@@ -15,11 +12,11 @@ use Rattle.dir_model.specs.declared.spot.Mode.TheVariants.{Shared, Exclusive}
 use Rattle.dir_model.specs.declared.request.Request.{Request}
 use Rattle.dir_model.specs.declared.request.Request.TheVariants.{Begin, MakeFolder, MoveFolder, Open, OpenArea, TryLock, Close, Finish}
 use Rattle.dir_model.specs.declared.request.Reply.{Reply}
-use Rattle.dir_model.specs.declared.request.Reply.TheVariants.{Done, Begun, Opened, Names, Items, Read, Refused}
+use Rattle.dir_model.specs.declared.request.Reply.TheVariants.{Done, Opened}
 use Rattle.dir_model.specs.Areas.{is_stage}
 use Rattle.dir_model.specs.Locks.{target_of}
 use Rattle.dir_model.specs.Local.{Local, nothing_local, is_number as is_number_of, held_in as locked_in, local_replied}
-use Rattle.dir_model.specs.Calls.{CallStep, is_begin, is_kill}
+use Rattle.dir_model.specs.Calls.{is_begin, is_kill}
 use Rattle.dir_model.proofs.Lists.{any_of_map}
 use Rattle.dir_rules.specs.declared.standing.Held.{Held}
 use Rattle.dir_rules.specs.declared.standing.Standing.{Standing}

@@ -1,6 +1,5 @@
 -- Looks at locations, and what a process then knows.
-use Rattle.std.proofs.Common.{◌≡◌, ℕ, Bool, true, false, List, Result, refl, ◌∙◌}
-use Rattle.std.specs.List.{list_any}
+use Rattle.std.proofs.Common.{◌≡◌, Bool, true, false, Result, refl, ◌∙◌}
 use Rattle.dir_model.specs.declared.opening.Target.TheVariants.{Own}
 use Rattle.dir_model.specs.declared.spot.Spot.{Spot}
 use Rattle.dir_model.specs.declared.spot.Handle.{Handle}
@@ -16,7 +15,7 @@ use Rattle.dir_rules.specs.LockRules.{is_open_on}
 use Rattle.dir_rules.specs.Conforms.{seen_replied, is_lookable}
 use Rattle.dir_rules.proofs.Looks.{Fresh, looked_same, looked_more, look_looked, ask_looked, missed_looked}
 use Rattle.dir_trait.specs.DirCalls.{DirAt, DirCall}
-use Rattle.dir_trait.specs.Knowledge.{Knows, LookedInto, OnlyLooks}
+use Rattle.dir_trait.specs.Knowledge.{Knows, OnlyLooks}
 use Rattle.dir_trait.proofs.Knowing.{knows_call}
 
 pub looks_none : {d : DirAt} → OnlyLooks d d

@@ -1,7 +1,6 @@
 -- In an execution in which every process keeps the local rules, what was read was so at one own event.
-use Rattle.std.proofs.Common.{◌≡◌, ◌⊎◌, inl, inr, ◌≤◌, ℕ, Bool, true, false, Some, is_some, List, [], ◌∷◌, ◌++◌, refl, sym, ap, subst, ◌∙◌, append_assoc, append-nil, arith}
+use Rattle.std.proofs.Common.{◌≡◌, ◌⊎◌, inl, inr, ◌≤◌, ℕ, true, false, is_some, List, [], ◌∷◌, ◌++◌, sym, ap, subst, ◌∙◌, append_assoc, append-nil, arith}
 use Rattle.std.proofs.lemmas.Bool.Decides.{nat_tests}
-use Rattle.std.specs.Prelude.{nat_le}
 use Rattle.dir_model.specs.declared.area.Area.{Area}
 use Rattle.dir_model.specs.declared.area.Area.TheVariants.{Embryo, Prepare, Prepared, Run, ExitedGarbage, Garbage}
 use Rattle.dir_model.specs.declared.area.Phase.{Phase}
@@ -10,7 +9,6 @@ use Rattle.dir_model.specs.declared.pod.PodId.{PodId}
 use Rattle.dir_model.specs.Areas.{rank, is_stage}
 use Rattle.dir_model.specs.Pods.{pod_text}
 use Rattle.dir_model.specs.State.{DirState, stands}
-use Rattle.dir_model.specs.Trace.{state_after}
 use Rattle.dir_model.specs.Calls.{AtOwnStep}
 use Rattle.dir_model.proofs.Moments.{at_grown}
 use Rattle.lifecycle.specs.PodMachine.{pod_state, exists}
@@ -22,7 +20,6 @@ use Rattle.phase_read.specs.Read.{HasPhase, LeftOut, pod_spot, stages}
 use Rattle.phase_read.specs.declared.found.Found.{Found}
 use Rattle.phase_read.specs.declared.found.Found.TheVariants.{At, Gone}
 use Rattle.phase_read.specs.Exact.{AtOwnEvent, IsInPhase, IsNowhere, WasSo}
-use Rattle.phase_read.proofs.InTurn.{left_out_grown}
 
 -- the trace that ends with the moment's event
 abbrev moment : {me : ℕ} {old new : List Event} {P : DirState → Type 0} → AtOwnStep me old new P → List Event

@@ -1,13 +1,12 @@
 -- A run of the program keeps the local rules.
-use Rattle.std.proofs.Common.{◌≡◌, ◌⊎◌, inl, inr, ℕ, Bool, true, List, Option, Some, None, [], refl, sym, ap, subst, ◌∙◌}
-use Rattle.dir_model.specs.declared.event.Event.{Event}
+use Rattle.std.proofs.Common.{◌≡◌, inl, inr, ℕ, Bool, true, Option, Some, None, [], refl, sym, ap, subst, ◌∙◌}
 use Rattle.dir_model.specs.declared.intent.Draw.{Draw}
 use Rattle.dir_model.specs.declared.intent.Intent.{Intent}
 use Rattle.dir_model.specs.declared.request.Request.TheVariants.{Begin, Finish}
 use Rattle.dir_model.specs.declared.request.Reply.TheVariants.{Done}
 use Rattle.dir_model.specs.Local.{Local}
 use Rattle.dir_rules.specs.declared.seen.Seen.{Seen}
-use Rattle.dir_rules.specs.Conforms.{Conforms, IsTied, nothing_seen, seen_replied, seen_of}
+use Rattle.dir_rules.specs.Conforms.{Conforms, IsTied, nothing_seen, seen_replied}
 use Rattle.dir_rules.proofs.Tied.{tied_call}
 use Rattle.dir_rules.proofs.Unborn.{tied_begun, refused_unseen}
 use Rattle.dir_trait.specs.DirCalls.{DirAt}

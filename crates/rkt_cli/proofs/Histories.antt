@@ -1,8 +1,6 @@
 -- What a run tells of a pod was so, in an execution in which every process keeps the local rules.
-use Rattle.std.proofs.Common.{◌≡◌, ◌⊎◌, inl, inr, ℕ, Bool, true, false, List, Option, Some, None, Ok, Err, ◌++◌, refl, sym, ap, subst, ◌∙◌}
+use Rattle.std.proofs.Common.{◌≡◌, inl, inr, ℕ, true, false, List, Option, Some, None, Ok, Err, ◌++◌, refl, sym, ap, subst, ◌∙◌}
 use Rattle.dir_model.specs.declared.event.Event.{Event}
-use Rattle.dir_model.specs.declared.area.Area.{Area}
-use Rattle.dir_model.specs.declared.area.Phase.{Phase}
 use Rattle.dir_model.specs.declared.intent.Draw.{Draw}
 use Rattle.dir_model.specs.declared.intent.Intent.{Intent}
 use Rattle.dir_model.specs.declared.pod.PodId.{PodId}
@@ -16,11 +14,11 @@ use Rattle.rkt_cli.specs.declared.line.Line.{Line}
 use Rattle.rkt_cli.specs.declared.line.Line.TheVariants.{Status, Validate}
 use Rattle.rkt_cli.specs.declared.refusal.Refusal.TheVariants.{NoPod}
 use Rattle.rkt_cli.specs.Texts.{state_text}
-use Rattle.rkt_cli.specs.Moments.{DirSeen, Outside, SinkSeen, Moment, Outcome}
+use Rattle.rkt_cli.specs.Moments.{Outside, Moment, Outcome}
 use Rattle.rkt_cli.specs.Ends.{is_own_end}
 use Rattle.rkt_cli.specs.Status.{read_outcome}
 use Rattle.rkt_cli.specs.Commands.{intent_of}
-use Rattle.rkt_cli.specs.Runs.{Performs, Printed, End, RunOfLine, RunOf, RunIs}
+use Rattle.rkt_cli.specs.Runs.{Performs, RunOfLine, RunOf, RunIs}
 use Rattle.rkt_cli.specs.Histories.{TellsPhase, TellsHistory}
 use Rattle.rkt_cli.proofs.Ends.{absurd_number, end_at, from_command}
 use Rattle.rkt_cli.proofs.Sessions.{any_call, begin_part, finish_part}

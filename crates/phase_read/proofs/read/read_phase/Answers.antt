@@ -8,7 +8,7 @@ use Rattle.dir_model.proofs.Spots.{look_wider}
 use Rattle.phase_read.specs.Read.{WasFound, HasPhase, LeftOut, is_pod_spot, stages_before, pod_spot}
 use Rattle.phase_read.proofs.Stages.{next_rank, next_within, next_before, last_stages, pod_spot_only}
 use Rattle.phase_read.proofs.InTurn.{and_left_out}
-use Rattle.dir_trait.proofs.Looking.{looks_none, looks_more}
+use Rattle.dir_trait.proofs.Looking.{looks_more}
 use Rattle.dir_model.proofs.Moments.{at_after}
 use Rattle.lifecycle.proofs.Stays.{stays_between}
 use Rattle.phase_read.proofs.Exact.{found_exactly, gone_in_turn}

@@ -1,4 +1,3 @@
-use Rattle.std.proofs.Common.{sym, subst}
 use Rattle.rkt_cli.specs.Moments.{dir_at}
 use Rattle.rkt_cli.proofs.Conforming.{looks_conforming, apart_conforming}
 use Rattle.rkt_cli.proofs.Files.{validate_ran}
