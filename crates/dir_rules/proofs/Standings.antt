@@ -6,10 +6,10 @@ use Rattle.dir_model.specs.declared.request.Reply.{Reply}
 use Rattle.dir_rules.specs.declared.standing.Standing.{Standing}
 use Rattle.dir_rules.specs.declared.seen.Seen.{Seen}
 use Rattle.dir_model.specs.Calls.{is_foreign}
-use Rattle.dir_rules.specs.Standing.{standing_replied, stood, standing_from}
+use Rattle.dir_rules.specs.Standing.{standing_replied, stood, standing_from, standing_of}
 use Rattle.dir_rules.specs.LockRules.{keeps_from, may_ask}
 use Rattle.dir_rules.specs.Rules.{allows, may_change}
-use Rattle.dir_rules.specs.Conforms.{seen_replied, saw, seen_after}
+use Rattle.dir_rules.specs.Conforms.{nothing_seen, seen_replied, saw, seen_after, seen_of}
 use Rattle.dir_model.proofs.Lists.{and_left, and_both}
 use Rattle.dir_rules.proofs.Tied.{kept_before}
 
@@ -29,6 +29,9 @@ standing_saw me s e = by (is_foreign me e)
 pub standing_after : (me : ℕ) (s : Seen) (es : List Event) → (seen_after me s es).standing ≡ standing_from me s.standing es
 standing_after me s [] = refl
 standing_after me s (e ∷ es) = standing_after me (saw me s e) es ∙ ap (λ (t : Standing). standing_from me t es) (standing_saw me s e)
+
+pub standing_is : (p : ℕ) (trace : List Event) → (seen_of p trace).standing ≡ standing_of p trace
+standing_is p trace = standing_after p nothing_seen trace
 
 -- its own request was allowed
 pub rule_at : (me : ℕ) (s : Seen) (e : Event) (es : List Event) → (seen_after me s (e ∷ es)).kept ≡ true → (is_foreign me e || allows s e.request) ≡ true

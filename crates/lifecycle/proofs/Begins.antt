@@ -7,7 +7,7 @@ use Rattle.dir_rules.specs.Standing.{nothing_standing, standing_done}
 use Rattle.lifecycle.specs.declared.machine.PodState.{PodState}
 use Rattle.dir_rules.specs.declared.standing.Standing.{Standing}
 use Rattle.lifecycle.proofs.Lists.{In}
-use Rattle.lifecycle.proofs.World.{Sound, both, clash, nat_same}
+use Rattle.lifecycle.proofs.Handles.{Sound, both, clash, nat_same}
 use Rattle.lifecycle.proofs.Linked.{Bare, own, mine}
 use Rattle.lifecycle.proofs.Invariant.{Pod, Knows, others_still}
 use Rattle.dir_model.specs.declared.intent.Intent.{Intent}
@@ -21,16 +21,20 @@ begin_pod u n s b pod = record { number = pod.number; at = pod.at; named = pod.n
 
 none_mine : (p : ℕ) (os : List Opening) → ((o : Opening) → In o os → (o.process == p) ≡ false) → mine p os ≡ []
 none_mine p [] off = refl
-none_mine p (x ∷ os) off = ap (λ (l : List Bare). l ++ cond (x.process == p) (own x ∷ []) []) (none_mine p os (λ o i. off o (inr i))) ∙ ap (λ b. [] ++ cond b (own x ∷ []) []) (off x (inl refl))
+none_mine p (x ∷ os) off = ap (λ (l : List Bare). l ++ cond (x.process == p) (own x ∷ []) [])
+    (none_mine p os (λ o i. off o (inr i))) ∙ ap (λ b. [] ++ cond b (own x ∷ []) []) (off x (inl refl))
 
 unborn_mine : (n : Namespace) (p : ℕ) → Sound n → has_begun n p ≡ false → mine p n.openings ≡ []
 unborn_mine n p sound unborn = none_mine p n.openings (λ o i. by o i (o.process == p) refl)
   where
     by : (o : Opening) → In o n.openings → (b : Bool) → (o.process == p) ≡ b → (o.process == p) ≡ false
     by o i false e = e
-    by o i true e = clash (has_begun n p) (subst (λ (q : ℕ). has_begun n q ≡ true) (nat_same o.process p e) (both (has_begun n o.process) (not (has_ended n o.process)) (sound.living o i)).0) unborn
+    by o i true e = clash (has_begun n p) (subst (λ (q : ℕ). has_begun n q ≡ true) (nat_same o.process p e)
+        (both (has_begun n o.process) (not (has_ended n o.process)) (sound.living o i)).0) unborn
 
-pub begin_knows : (u : List ℕ) (n : Namespace) (s : PodState) (p : ℕ) (intent : Intent) → Sound n → has_begun n p ≡ false → Knows u p (and_begun n (record { process = p; intent = intent })) s (standing_done nothing_standing (Begin intent))
+pub begin_knows : (u : List ℕ) (n : Namespace) (s : PodState) (p : ℕ) (intent : Intent) → Sound n →
+    has_begun n p ≡ false → Knows u p (and_begun n (record { process = p; intent = intent })) s
+    (standing_done nothing_standing (Begin intent))
 begin_knows u n s p intent sound unborn = record {
   linked = sym (unborn_mine n p sound unborn);
   gated = λ g d. absurd (cc);
@@ -41,5 +45,6 @@ begin_knows u n s p intent sound unborn = record {
   cleared = λ x. absurd (cc);
 }
 
-pub knows_begun : (u : List ℕ) (n : Namespace) (b : Start) (q : ℕ) (s : PodState) (k : Standing) → Knows u q n s k → Knows u q (and_begun n b) s k
+pub knows_begun : (u : List ℕ) (n : Namespace) (b : Start) (q : ℕ) (s : PodState) (k : Standing) → Knows u q n s k →
+    Knows u q (and_begun n b) s k
 knows_begun u n b q s k knows = others_still u q n (and_begun n b) s k refl (λ c r e none. none) knows

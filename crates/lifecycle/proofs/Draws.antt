@@ -17,19 +17,22 @@ use Rattle.dir_rules.specs.Standing.{nothing_standing, draws, draws_by, holds_ga
 use Rattle.dir_model.specs.Areas.{is_stage}
 use Rattle.dir_model.proofs.Chains.{run_from-left, run_from-right, run-left}
 use Rattle.lifecycle.specs.Executions.{IsConforming}
-use Rattle.lifecycle.proofs.World.{both, clash, not_true, nat_same, is_due}
+use Rattle.lifecycle.proofs.Handles.{both, clash, nat_same, is_due}
 use Rattle.lifecycle.proofs.Lives.{begun_stays, begun_me}
 use Rattle.dir_model.specs.declared.intent.Intent.{Intent}
 use Rattle.dir_model.specs.Paths.{is_well_formed}
 use Rattle.dir_model.specs.Pods.{pod_text}
 use Rattle.lifecycle.proofs.Places.{name_same}
-use Rattle.lifecycle.proofs.Standings.{conforms-left}
+use Rattle.dir_rules.proofs.Tied.{conforms-left}
+use Rattle.dir_model.proofs.Lists.{not_true}
 
-pub standing_split : (p : ℕ) (s : Standing) (xs ys : List Event) → standing_from p s (xs ++ ys) ≡ standing_from p (standing_from p s xs) ys
+pub standing_split : (p : ℕ) (s : Standing) (xs ys : List Event) → standing_from p s (xs ++ ys) ≡ standing_from p
+    (standing_from p s xs) ys
 standing_split p s [] ys = refl
 standing_split p s (x ∷ xs) ys = standing_split p (stood p s x) xs ys
 
-same_intent : (s : Standing) (request : Request) (reply : Reply) → is_begin request ≡ false → (standing_replied s request reply).intent ≡ s.intent
+same_intent : (s : Standing) (request : Request) (reply : Reply) → is_begin request ≡ false →
+    (standing_replied s request reply).intent ≡ s.intent
 same_intent s (Begin intent) reply off = cc
 same_intent s request (Refused e left) off = refl
 same_intent s (MakeFolder spot) Done off = by (is_stage spot.area)
@@ -58,26 +61,34 @@ foreign_or_own p e = by (e.process == p) (is_kill e.request) refl
     by false k f = inl refl
 
 -- an intent stays
-intent_stays : (p : ℕ) (es : List Event) (n : DirState) (s : Standing) → is_run_from n es ≡ true → has_begun n.namespace p ≡ true → (standing_from p s es).intent ≡ s.intent
+intent_stays : (p : ℕ) (es : List Event) (n : DirState) (s : Standing) → is_run_from n es ≡ true →
+    has_begun n.namespace p ≡ true → (standing_from p s es).intent ≡ s.intent
 intent_stays p [] n s run begun = refl
-intent_stays p (e ∷ es) n s run begun = intent_stays p es (state_next n e) (stood p s e) a.1 (begun_stays n.namespace e.process p e.request e.reply begun) ∙ one (foreign_or_own p e)
+intent_stays p (e ∷ es) n s run begun =
+    intent_stays p es (state_next n e) (stood p s e) a.1 (begun_stays n.namespace e.process p e.request e.reply begun)
+    ∙ one (foreign_or_own p e)
   where
     a : (is_allowed n e ≡ true) × (is_run_from (state_next n e) es ≡ true)
     a = both (is_allowed n e) (is_run_from (state_next n e) es) run
 
     may : is_due n.namespace e.process e.request ≡ true
-    may = (both (is_well_formed e.request) (is_due n.namespace e.process e.request) (both (may_step n e.process e.request) (is_reply n e.process e.request e.reply) a.0).0).1
+    may = (both (is_well_formed e.request) (is_due n.namespace e.process e.request)
+        (both (may_step n e.process e.request) (is_reply n e.process e.request e.reply) a.0).0).1
 
     not_begin : e.process ≡ p → (c : Bool) → is_begin e.request ≡ c → is_begin e.request ≡ false
     not_begin is false f = f
-    not_begin is true f = clash (has_begun n.namespace p) begun (subst (λ (q : ℕ). has_begun n.namespace q ≡ false) is (not_true (has_begun n.namespace e.process) (ap (λ c. cond c (not (has_begun n.namespace e.process)) (lives n.namespace e.process)) (sym f) ∙ may)))
+    not_begin is true f = clash (has_begun n.namespace p) begun
+        (subst (λ (q : ℕ). has_begun n.namespace q ≡ false) is (not_true (has_begun n.namespace e.process)
+        (ap (λ c. cond c (not (has_begun n.namespace e.process)) (lives n.namespace e.process)) (sym f) ∙ may)))
 
     one : (is_foreign p e ≡ true) ⊎ ((is_foreign p e ≡ false) × (e.process ≡ p)) → (stood p s e).intent ≡ s.intent
     one (inl f) = ap (λ c. (cond c s (standing_replied s e.request e.reply)).intent) f
-    one (inr f) = ap (λ c. (cond c s (standing_replied s e.request e.reply)).intent) f.0 ∙ same_intent s e.request e.reply (not_begin f.1 (is_begin e.request) refl)
+    one (inr f) = ap (λ c. (cond c s (standing_replied s e.request e.reply)).intent) f.0
+        ∙ same_intent s e.request e.reply (not_begin f.1 (is_begin e.request) refl)
 
--- who hasn't begun has seen nothing
-unborn_same : (p : ℕ) (es : List Event) (n : DirState) (s : Standing) → is_run_from n es ≡ true → has_begun (states_next n es).namespace p ≡ false → standing_from p s es ≡ s
+-- who hasn't begun knows nothing
+unborn_same : (p : ℕ) (es : List Event) (n : DirState) (s : Standing) → is_run_from n es ≡ true →
+    has_begun (states_next n es).namespace p ≡ false → standing_from p s es ≡ s
 unborn_same p [] n s run un = refl
 unborn_same p (e ∷ es) n s run un = unborn_same p es (state_next n e) (stood p s e) a.1 un ∙ one (foreign_or_own p e)
   where
@@ -93,21 +104,32 @@ unborn_same p (e ∷ es) n s run un = unborn_same p es (state_next n e) (stood p
 
     one : (is_foreign p e ≡ true) ⊎ ((is_foreign p e ≡ false) × (e.process ≡ p)) → stood p s e ≡ s
     one (inl f) = ap (λ c. cond c s (standing_replied s e.request e.reply)) f
-    one (inr f) = clash (has_begun (states_next (state_next n e) es).namespace p) (on es (state_next n e) (subst (λ (q : ℕ). has_begun (state_next n e).namespace q ≡ true) f.1 (begun_me n e.process e.request e.reply (both (is_well_formed e.request) (is_due n.namespace e.process e.request) b.0).1 b.1))) un
+    one (inr f) = clash (has_begun (states_next (state_next n e) es).namespace p)
+        (on es (state_next n e) (subst (λ (q : ℕ). has_begun (state_next n e).namespace q ≡ true) f.1
+        (begun_me n e.process e.request e.reply (both (is_well_formed e.request)
+        (is_due n.namespace e.process e.request) b.0).1 b.1))) un
 
-intent_on : (before later : List Event) (p : ℕ) (i : Intent) → IsRun (before ++ later) → (standing_of p before).intent ≡ Some i → (standing_of p (before ++ later)).intent ≡ Some i
+intent_on : (before later : List Event) (p : ℕ) (i : Intent) → IsRun (before ++ later) →
+    (standing_of p before).intent ≡ Some i → (standing_of p (before ++ later)).intent ≡ Some i
 intent_on before later p i run d = by (has_begun (state_after before).namespace p) refl
   where
     by : (c : Bool) → has_begun (state_after before).namespace p ≡ c → (standing_of p (before ++ later)).intent ≡ Some i
-    by true f = ap (λ (s : Standing). s.intent) (standing_split p nothing_standing before later) ∙ (intent_stays p later (state_after before) (standing_of p before) (run_from-right empty_state before later run) f ∙ d)
-    by false f = let x : None ≡ Some i = ap (λ (s : Standing). s.intent) (sym (unborn_same p before empty_state nothing_standing (run_from-left empty_state before later run) f)) ∙ d in absurd (cc)
+    by true f = ap (λ (s : Standing). s.intent) (standing_split p nothing_standing before later)
+        ∙ (intent_stays p later (state_after before) (standing_of p before)
+        (run_from-right empty_state before later run) f ∙ d)
+    by false f =
+        let x : None ≡ Some i = ap (λ (s : Standing). s.intent)
+        (sym (unborn_same p before empty_state nothing_standing (run_from-left empty_state before later run) f))
+        ∙ d in
+        absurd (cc)
 
 -- a beginning of a conforming execution is one
 pub conforming_left : (before later : List Event) → IsConforming (before ++ later) → IsConforming before
 conforming_left before later l = record {
   run = run-left before later l.run;
   rules = λ p. conforms-left p before later (l.rules p);
-  identities = λ p q a b x y same. l.identities p q a b (intent_on before later p a l.run x) (intent_on before later q b l.run y) same;
+  identities = λ p q a b x y same. l.identities p q a b (intent_on before later p a l.run x)
+      (intent_on before later q b l.run y) same;
   tokens = λ p q a b x y same. l.tokens p q a b (intent_on before later p a l.run x) (intent_on before later q b l.run y) same;
 }
 
@@ -117,8 +139,10 @@ drawn u (Some i) h = (i, (refl, name_same (pod_text i.draw.bytes) u h))
 drawn u None h = cc
 
 -- no two processes would make one pod, by no beginning of the trace
-pub drawn_once : (trace before later : List Event) → IsConforming trace → trace ≡ before ++ later → (u : List ℕ) (p q : ℕ) → draws u (standing_of p before) ≡ true → draws u (standing_of q before) ≡ true → p ≡ q
+pub drawn_once : (trace before later : List Event) → IsConforming trace → trace ≡ before ++ later →
+    (u : List ℕ) (p q : ℕ) → draws u (standing_of p before) ≡ true → draws u (standing_of q before) ≡ true → p ≡ q
 drawn_once trace before later l is u p q x y =
     let a = drawn u (standing_of p before).intent x in
     let b = drawn u (standing_of q before).intent y in
-    (conforming_left before later (subst (λ (h : List Event). IsConforming h) is l)).identities p q a.0 b.0 a.1.0 b.1.0 (a.1.1 ∙ sym b.1.1)
+    (conforming_left before later (subst (λ (h : List Event). IsConforming h) is l)).identities p q a.0 b.0 a.1.0 b.1.0
+    (a.1.1 ∙ sym b.1.1)

@@ -15,10 +15,11 @@ use Rattle.lifecycle.specs.declared.machine.PodState.TheVariants.{Absent, Embryo
 use Rattle.lifecycle.specs.declared.machine.Transition.TheVariants as turn
 use Rattle.lifecycle.specs.PodMachine.{enabled, ended, turned, undeleted, if_so, on_opening, look, is_grip, is_owner, is_place, age, age_in}
 use Rattle.dir_rules.specs.declared.standing.Standing.{Standing}
-use Rattle.lifecycle.proofs.Lists.{In, in_filter, filter_in, find_in, in_find}
-use Rattle.lifecycle.proofs.World.{Sound, both, pair, clash, not_true, nat_same, same_nat, handle_meet, held}
+use Rattle.lifecycle.proofs.Lists.{In, in_filter, filter_in, find_in, in_find, no_less}
+use Rattle.lifecycle.proofs.Handles.{Sound, both, clash, nat_same, handle_meet, held}
 use Rattle.lifecycle.proofs.Linked.{own, mine}
 use Rattle.lifecycle.proofs.Invariant.{may_own, Pod, Knows, one_grip, others}
+use Rattle.dir_model.proofs.Lists.{and_both, not_true, same_self}
 
 -- what an end is in each state
 pub enabled_end : (p : ℕ) (s : PodState) → enabled turn.End p s ≡ is_owner p s
@@ -35,13 +36,16 @@ enabled_end p (Deleting o f) = refl
 enabled_end p Gone = refl
 
 abbrev Ends : ℕ → PodState → Bool → Type 0
-Ends p s g = (((is_owner p s ≡ true) × (g ≡ true)) × (turned (if_so (is_owner p s && g) turn.End) p s ≡ ended s)) ⊎ (((is_owner p s && g) ≡ false) × (turned (if_so (is_owner p s && g) turn.End) p s ≡ s))
+Ends p s g = (((is_owner p s ≡ true) × (g ≡ true)) × (turned (if_so (is_owner p s && g) turn.End) p s ≡ ended s)) ⊎
+    (((is_owner p s && g) ≡ false) × (turned (if_so (is_owner p s && g) turn.End) p s ≡ s))
 
 pub ends_or_not : (p : ℕ) (s : PodState) (g : Bool) → Ends p s g
 ends_or_not p s g = by (is_owner p s && g) refl
   where
     by : (b : Bool) → (is_owner p s && g) ≡ b → Ends p s g
-    by true e = let x = both (is_owner p s) g e in inl (x, ap (λ b. turned (if_so b turn.End) p s) e ∙ (ap (λ b. cond b (ended s) s) (enabled_end p s ∙ x.0)))
+    by true e =
+        let x = both (is_owner p s) g e in
+        inl (x, ap (λ b. turned (if_so b turn.End) p s) e ∙ (ap (λ b. cond b (ended s) s) (enabled_end p s ∙ x.0)))
     by false e = inr (e, ap (λ b. turned (if_so b turn.End) p s) e)
 
 place_prepare : (a : Area) (o : ℕ) → is_place a AbortedPrepare ≡ is_place a (Preparing o)
@@ -111,29 +115,34 @@ one_owner p q (Deleting o f) h k = meet p q o h k
 one_owner p q s h k = cc
 
 -- the pod where handles were given up
-pub pod_fewer : (u : List ℕ) (n m : Namespace) (s t : PodState) (pod : Pod u n s) → ((spot : Spot) → folder_at m spot ≡ folder_at n spot) → ((a : Opening) → In a m.openings → In a n.openings) → ((a : Area) → is_place a t ≡ is_place a s) → age s ≤ age t
+pub pod_fewer : (u : List ℕ) (n m : Namespace) (s t : PodState) (pod : Pod u n s) →
+    ((spot : Spot) → folder_at m spot ≡ folder_at n spot) → ((a : Opening) → In a m.openings → In a n.openings) →
+    ((a : Area) → is_place a t ≡ is_place a s) → age s ≤ age t
     → ((o : Opening) → In o m.openings → is_grip u o ≡ true → may_own t o.process (area_of o.target) ≡ true)
     → ((p : ℕ) → is_owner p t ≡ true → (o : Opening) × (In o m.openings × ((is_grip u o ≡ true) × (o.process ≡ p)))) → Pod u m t
 pod_fewer u n m s t pod same less place aged owns held = record {
   number = pod.number;
   at = λ spot of. same spot ∙ (pod.at spot of ∙ ap (λ b. cond b (Some pod.number) None) (sym (place spot.area)));
-  named = λ o i h. let x = pod.named o (less o i) h in (x.0, (let l : age_in (area_of o.target) ≤ age s = x.1 in omega (arith, l, aged)));
+  named = λ o i h. let x = pod.named o (less o i) h in
+      (x.0, (let l : age_in (area_of o.target) ≤ age s = x.1 in omega (arith, l, aged)));
   owns = owns;
   held = held;
 }
 
-same_age : (n : ℕ) → n ≤ n
-same_age n = omega arith
-
-pub others_ended : (u : List ℕ) (q : ℕ) (n m : Namespace) (s t : PodState) (k : Standing) → mine q m.openings ≡ mine q n.openings → (t ≡ ended s) ⊎ (t ≡ s) → ((a : Opening) → In a m.openings → In a n.openings) → Knows u q n s k → Knows u q m t k
+pub others_ended : (u : List ℕ) (q : ℕ) (n m : Namespace) (s t : PodState) (k : Standing) →
+    mine q m.openings ≡ mine q n.openings → (t ≡ ended s) ⊎ (t ≡ s) →
+    ((a : Opening) → In a m.openings → In a n.openings) → Knows u q n s k → Knows u q m t k
 others_ended u q n m s t k same (inl e) less knows =
-    others u q n m s t k same (subst (λ (x : PodState). age s ≤ age x) (sym e) (ended_age s)) (λ g d x. e ∙ ap ended x) (λ x. ended_embryo q s (sym e ∙ x)) (λ c x. e ∙ ap ended x)
+    others u q n m s t k same (subst (λ (x : PodState). age s ≤ age x) (sym e) (ended_age s)) (λ g d x. e ∙ ap ended x)
+    (λ x. ended_embryo q s (sym e ∙ x)) (λ c x. e ∙ ap ended x)
     (λ l c r x. (ended_prepared s (sym e ∙ x), λ none a i. none a (less a i))) knows
 others_ended u q n m s t k same (inr e) less knows =
-    others u q n m s t k same (subst (λ (x : PodState). age s ≤ age x) (sym e) (same_age (age s))) (λ g d x. e ∙ x) (λ x. sym e ∙ x) (λ c x. e ∙ x)
+    others u q n m s t k same (subst (λ (x : PodState). age s ≤ age x) (sym e) (no_less (age s))) (λ g d x. e ∙ x)
+    (λ x. sym e ∙ x) (λ c x. e ∙ x)
     (λ l c r x. (sym e ∙ x, λ none a i. none a (less a i))) knows
 
-pub either : (p : ℕ) (s : PodState) (g : Bool) → Ends p s g → (turned (if_so (is_owner p s && g) turn.End) p s ≡ ended s) ⊎ (turned (if_so (is_owner p s && g) turn.End) p s ≡ s)
+pub either : (p : ℕ) (s : PodState) (g : Bool) → Ends p s g →
+    (turned (if_so (is_owner p s && g) turn.End) p s ≡ ended s) ⊎ (turned (if_so (is_owner p s && g) turn.End) p s ≡ s)
 either p s g (inl x) = inl x.1
 either p s g (inr x) = inr x.1
 
@@ -144,7 +153,8 @@ ended_less n p a i = (in_filter (λ o. not (o.process == p)) a n.openings i).0
 ended_other : (n : Namespace) (p : ℕ) (a : Opening) → In a (without_process n p).openings → (a.process == p) ≡ false
 ended_other n p a i = not_true (a.process == p) (in_filter (λ o. not (o.process == p)) a n.openings i).1
 
-pub end_pod : (u : List ℕ) (n : Namespace) (s : PodState) (p : ℕ) → Pod u n s → Pod u (without_process n p) (turned (if_so (is_owner p s) turn.End) p s)
+pub end_pod : (u : List ℕ) (n : Namespace) (s : PodState) (p : ℕ) → Pod u n s →
+    Pod u (without_process n p) (turned (if_so (is_owner p s) turn.End) p s)
 end_pod u n s p pod = by (is_owner p s) refl
   where
     apart : (q : ℕ) (b : Bool) → is_owner p s ≡ false → is_owner q s ≡ true → (q == p) ≡ b → (q == p) ≡ false
@@ -152,22 +162,36 @@ end_pod u n s p pod = by (is_owner p s) refl
     apart q true off h e = clash (is_owner p s) (subst (λ (x : ℕ). is_owner x s ≡ true) (nat_same q p e) h) off
 
     by : (b : Bool) → is_owner p s ≡ b → Pod u (without_process n p) (turned (if_so b turn.End) p s)
-    by true is = subst (λ (t : PodState). Pod u (without_process n p) t) (sym (ap (λ b. cond b (ended s) s) (enabled_end p s ∙ is)))
-        (pod_fewer u n (without_process n p) s (ended s) pod (λ spot. refl) (ended_less n p) (λ a. ended_place a s) (ended_age s)
-        (λ o i h. clash (o.process == p) (ap (λ x. x == p) (owner_owns p o.process s (area_of o.target) is (pod.owns o (ended_less n p o i) h)) ∙ same_nat p) (ended_other n p o i))
+    by true is = subst (λ (t : PodState). Pod u (without_process n p) t)
+        (sym (ap (λ b. cond b (ended s) s) (enabled_end p s ∙ is)))
+        (pod_fewer u n (without_process n p) s (ended s) pod (λ spot. refl) (ended_less n p) (λ a. ended_place a s)
+        (ended_age s)
+        (λ o i h. clash (o.process == p)
+        (ap (λ x. x == p) (owner_owns p o.process s (area_of o.target) is (pod.owns o (ended_less n p o i) h))
+        ∙ same_self p) (ended_other n p o i))
         (λ q h. clash (is_owner q (ended s)) h (ended_free p q s is)))
-    by false off = pod_fewer u n (without_process n p) s s pod (λ spot. refl) (ended_less n p) (λ a. refl) (same_age (age s))
+    by false off = pod_fewer u n (without_process n p) s s pod (λ spot. refl) (ended_less n p) (λ a. refl) (no_less (age s))
         (λ o i h. pod.owns o (ended_less n p o i) h)
-        (λ q h. let e = pod.held q h in (e.0, (filter_in (λ o. not (o.process == p)) e.0 n.openings e.1.0 (ap not (ap (λ x. x == p) e.1.1.1 ∙ apart q (q == p) off h refl)), e.1.1)))
+        (λ q h. let e = pod.held q h in (
+          e.0,
+          (
+            filter_in (λ o. not (o.process == p)) e.0 n.openings e.1.0
+                (ap not (ap (λ x. x == p) e.1.1.1 ∙ apart q (q == p) off h refl)),
+            e.1.1,
+          ),
+        ))
 
-pub end_states : (p : ℕ) (s : PodState) → (turned (if_so (is_owner p s) turn.End) p s ≡ ended s) ⊎ (turned (if_so (is_owner p s) turn.End) p s ≡ s)
+pub end_states : (p : ℕ) (s : PodState) → (turned (if_so (is_owner p s) turn.End) p s ≡ ended s) ⊎
+    (turned (if_so (is_owner p s) turn.End) p s ≡ s)
 end_states p s = by (is_owner p s) refl
   where
     by : (b : Bool) → is_owner p s ≡ b → (turned (if_so b turn.End) p s ≡ ended s) ⊎ (turned (if_so b turn.End) p s ≡ s)
     by true is = inl (ap (λ b. cond b (ended s) s) (enabled_end p s ∙ is))
     by false off = inr refl
 
-pub end_others : (u : List ℕ) (n : Namespace) (s : PodState) (p q : ℕ) (k : Standing) → mine q (without_process n p).openings ≡ mine q n.openings → Knows u q n s k → Knows u q (without_process n p) (turned (if_so (is_owner p s) turn.End) p s) k
+pub end_others : (u : List ℕ) (n : Namespace) (s : PodState) (p q : ℕ) (k : Standing) →
+    mine q (without_process n p).openings ≡ mine q n.openings → Knows u q n s k →
+    Knows u q (without_process n p) (turned (if_so (is_owner p s) turn.End) p s) k
 end_others u n s p q k same knows = others_ended u q n (without_process n p) s _ k same (end_states p s) (ended_less n p) knows
 
 -- a handle is given up
@@ -180,42 +204,64 @@ without_less n p h a i = (in_filter (λ o. not (is_handle p h o)) a n.openings i
 without_other : (n : Namespace) (p : ℕ) (h : Handle) (a : Opening) → In a (without n p h).openings → is_handle p h a ≡ false
 without_other n p h a i = not_true (is_handle p h a) (in_filter (λ o. not (is_handle p h o)) a n.openings i).1
 
-pub looked_at : (u : List ℕ) (n : Namespace) (p : ℕ) (h : Handle) (t : Opening → Bool) → on_opening t (look n p h) ≡ true → (o : Opening) × (In o n.openings × ((is_handle p h o ≡ true) × (t o ≡ true)))
+pub looked_at : (u : List ℕ) (n : Namespace) (p : ℕ) (h : Handle) (t : Opening → Bool) →
+    on_opening t (look n p h) ≡ true → (o : Opening) × (In o n.openings × ((is_handle p h o ≡ true) × (t o ≡ true)))
 looked_at u n p h t x = by (look n p h) refl x
   where
-    by : (l : Option Opening) → look n p h ≡ l → on_opening t l ≡ true → (o : Opening) × (In o n.openings × ((is_handle p h o ≡ true) × (t o ≡ true)))
+    by : (l : Option Opening) → look n p h ≡ l → on_opening t l ≡ true →
+        (o : Opening) × (In o n.openings × ((is_handle p h o ≡ true) × (t o ≡ true)))
     by (Some o) e x = let f = find_in (is_handle p h) o n.openings e in (o, (f.0, (f.1, x)))
     by None e x = cc
 
-pub look_finds : (n : Namespace) (p : ℕ) (h : Handle) (t : Opening → Bool) (o : Opening) → Sound n → In o n.openings → is_handle p h o ≡ true → t o ≡ true → on_opening t (look n p h) ≡ true
+pub look_finds : (n : Namespace) (p : ℕ) (h : Handle) (t : Opening → Bool) (o : Opening) → Sound n → In o n.openings →
+    is_handle p h o ≡ true → t o ≡ true → on_opening t (look n p h) ≡ true
 look_finds n p h t o sound i is x =
     let f = in_find (is_handle p h) o n.openings i is in
     let g = find_in (is_handle p h) f.0 n.openings f.1 in
     ap (on_opening t) f.1 ∙ (ap t (sound.unique f.0 o g.0 i (handle_meet p h f.0 o g.1 is)) ∙ x)
 
-pub close_pod : (u : List ℕ) (n : Namespace) (s : PodState) (p : ℕ) (h : Handle) → Sound n → Pod u n s → Pod u (without n p h) (turned (if_so (is_owner p s && on_opening (is_grip u) (look n p h)) turn.End) p s)
+pub close_pod : (u : List ℕ) (n : Namespace) (s : PodState) (p : ℕ) (h : Handle) → Sound n → Pod u n s →
+    Pod u (without n p h) (turned (if_so (is_owner p s && on_opening (is_grip u) (look n p h)) turn.End) p s)
 close_pod u n s p h sound pod = by (ends_or_not p s (on_opening (is_grip u) (look n p h)))
   where
     both_true : (a b : Bool) → a ≡ true → b ≡ true → (a && b) ≡ false → ⊥
-    both_true a b x y z = clash (a && b) (pair a b x y) z
+    both_true a b x y z = clash (a && b) (and_both a b x y) z
 
-    stays : (q : ℕ) (o : Opening) → (is_owner p s && on_opening (is_grip u) (look n p h)) ≡ false → is_owner q s ≡ true → In o n.openings → is_grip u o ≡ true → o.process ≡ q → (b : Bool) → is_handle p h o ≡ b → is_handle p h o ≡ false
+    stays : (q : ℕ) (o : Opening) → (is_owner p s && on_opening (is_grip u) (look n p h)) ≡ false →
+        is_owner q s ≡ true → In o n.openings → is_grip u o ≡ true → o.process ≡ q → (b : Bool) → is_handle p h o ≡ b →
+        is_handle p h o ≡ false
     stays q o off own i g is false e = e
     stays q o off own i g is true e =
         let same : o.process ≡ p = nat_same o.process p (both (o.process == p) (o.handle.number == h.number) e).0 in
-        absurd (both_true (is_owner p s) (on_opening (is_grip u) (look n p h)) (subst (λ (x : ℕ). is_owner x s ≡ true) (sym is ∙ same) own) (look_finds n p h (is_grip u) o sound i e g) off)
+        absurd (both_true (is_owner p s) (on_opening (is_grip u) (look n p h))
+        (subst (λ (x : ℕ). is_owner x s ≡ true) (sym is ∙ same) own) (look_finds n p h (is_grip u) o sound i e g)
+        off)
 
-    by : Ends p s (on_opening (is_grip u) (look n p h)) → Pod u (without n p h) (turned (if_so (is_owner p s && on_opening (is_grip u) (look n p h)) turn.End) p s)
+    by : Ends p s (on_opening (is_grip u) (look n p h)) →
+        Pod u (without n p h) (turned (if_so (is_owner p s && on_opening (is_grip u) (look n p h)) turn.End) p s)
     by (inl x) =
         let l = looked_at u n p h (is_grip u) x.0.1 in
         subst (λ (t : PodState). Pod u (without n p h) t) (sym x.1)
         (pod_fewer u n (without n p h) s (ended s) pod (λ spot. refl) (without_less n p h) (λ a. ended_place a s) (ended_age s)
-        (λ o i g. clash (is_handle p h o) (ap (is_handle p h) (one_grip u n s sound pod o l.0 (without_less n p h o i) l.1.0 g l.1.1.1) ∙ l.1.1.0) (without_other n p h o i))
+        (λ o i g. clash (is_handle p h o)
+        (ap (is_handle p h) (one_grip u n s sound pod o l.0 (without_less n p h o i) l.1.0 g l.1.1.1) ∙ l.1.1.0)
+        (without_other n p h o i))
         (λ q own. clash (is_owner q (ended s)) own (ended_free p q s x.0.0)))
     by (inr x) = subst (λ (t : PodState). Pod u (without n p h) t) (sym x.1)
-        (pod_fewer u n (without n p h) s s pod (λ spot. refl) (without_less n p h) (λ a. refl) (same_age (age s))
+        (pod_fewer u n (without n p h) s s pod (λ spot. refl) (without_less n p h) (λ a. refl) (no_less (age s))
         (λ o i g. pod.owns o (without_less n p h o i) g)
-        (λ q own. let e = pod.held q own in (e.0, (filter_in (λ o. not (is_handle p h o)) e.0 n.openings e.1.0 (ap not (stays q e.0 x.0 own e.1.0 e.1.1.0 e.1.1.1 (is_handle p h e.0) refl)), e.1.1))))
+        (λ q own. let e = pod.held q own in (
+          e.0,
+          (
+            filter_in (λ o. not (is_handle p h o)) e.0 n.openings e.1.0
+                (ap not (stays q e.0 x.0 own e.1.0 e.1.1.0 e.1.1.1 (is_handle p h e.0) refl)),
+            e.1.1,
+          ),
+        )))
 
-pub close_others : (u : List ℕ) (n : Namespace) (s : PodState) (p q : ℕ) (h : Handle) (k : Standing) → mine q (without n p h).openings ≡ mine q n.openings → Knows u q n s k → Knows u q (without n p h) (turned (if_so (is_owner p s && on_opening (is_grip u) (look n p h)) turn.End) p s) k
-close_others u n s p q h k same knows = others_ended u q n (without n p h) s _ k same (either p s (on_opening (is_grip u) (look n p h)) (ends_or_not p s (on_opening (is_grip u) (look n p h)))) (without_less n p h) knows
+pub close_others : (u : List ℕ) (n : Namespace) (s : PodState) (p q : ℕ) (h : Handle) (k : Standing) →
+    mine q (without n p h).openings ≡ mine q n.openings → Knows u q n s k →
+    Knows u q (without n p h) (turned (if_so (is_owner p s && on_opening (is_grip u) (look n p h)) turn.End) p s) k
+close_others u n s p q h k same knows =
+    others_ended u q n (without n p h) s _ k same (either p s (on_opening (is_grip u) (look n p h))
+    (ends_or_not p s (on_opening (is_grip u) (look n p h)))) (without_less n p h) knows

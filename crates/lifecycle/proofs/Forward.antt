@@ -1,4 +1,4 @@
--- A pod only goes forward; a folder that is found twice at a place of a pod stood there between.
+-- A pod only gets further along; until it leaves an area its folder stands there.
 use Rattle.std.proofs.Common.{arith, ◌≡◌, ◌≤◌, ℕ, Bool, true, false, cond, bytes_eq, Option, Some, None, is_some, List, [], ◌∷◌, refl, ap, ◌∙◌}
 use Rattle.dir_model.specs.declared.area.Area.{Area}
 use Rattle.dir_model.specs.declared.area.Area.TheVariants as area
@@ -18,7 +18,7 @@ use Rattle.lifecycle.specs.declared.machine.Transition.{Transition}
 use Rattle.lifecycle.specs.declared.machine.Transition.TheVariants as turn
 use Rattle.lifecycle.specs.PodMachine.{enabled, leads, turned, transition, is_place, age, age_in}
 use Rattle.dir_rules.specs.declared.standing.Standing.{Standing}
-use Rattle.lifecycle.proofs.World.{both, clash, none_refused, refused_if}
+use Rattle.lifecycle.proofs.Handles.{both, clash, none_refused, refused_if}
 use Rattle.lifecycle.proofs.Invariant.{placed_age}
 use Rattle.dir_model.specs.declared.event.Event.{Event}
 use Rattle.lifecycle.specs.PodMachine.{pod_state_next, pod_state_from}
@@ -28,9 +28,7 @@ use Rattle.lifecycle.proofs.Opens.{found_pod}
 use Rattle.lifecycle.proofs.Ends.{ended_age}
 use Rattle.lifecycle.proofs.Step.{stands_from}
 use Rattle.lifecycle.proofs.Run.{Good, ConformingFrom, given, next_good, conforming_tail}
-
-same_age : (n : ℕ) → n ≤ n
-same_age n = omega arith
+use Rattle.lifecycle.proofs.Lists.{no_less}
 
 leads_on : (x : Transition) (p : ℕ) (s : PodState) → enabled x p s ≡ true → age s ≤ age (leads x p s)
 leads_on turn.Make p Absent h = omega arith
@@ -50,19 +48,21 @@ leads_on turn.Remove p (Deleting o f) h = omega arith
 leads_on x p s h = cc
 
 turned_on : (o : Option Transition) (p : ℕ) (s : PodState) → age s ≤ age (turned o p s)
-turned_on None p s = same_age (age s)
+turned_on None p s = no_less (age s)
 turned_on (Some x) p s = by (enabled x p s) refl
   where
     by : (b : Bool) → enabled x p s ≡ b → age s ≤ age (cond b (leads x p s) s)
     by true e = leads_on x p s e
-    by false e = same_age (age s)
+    by false e = no_less (age s)
 
--- of any history
+-- along any trace
 pub ages : (u : List ℕ) (es : List Event) (n : DirState) (s : PodState) → age s ≤ age (pod_state_from u n s es)
-ages u [] n s = same_age (age s)
+ages u [] n s = no_less (age s)
 ages u (e ∷ es) n s =
-    let x : age s ≤ age (pod_state_next u n.namespace s e) = turned_on (transition u n.namespace s e.process e.request e.reply) e.process s in
-    let y : age (pod_state_next u n.namespace s e) ≤ age (pod_state_from u (state_next n e) (pod_state_next u n.namespace s e) es) = ages u es (state_next n e) (pod_state_next u n.namespace s e) in
+    let x : age s ≤ age (pod_state_next u n.namespace s e) =
+    turned_on (transition u n.namespace s e.process e.request e.reply) e.process s in
+    let y : age (pod_state_next u n.namespace s e) ≤ age (pod_state_from u (state_next n e)
+    (pod_state_next u n.namespace s e) es) = ages u es (state_next n e) (pod_state_next u n.namespace s e) in
     omega (arith, x, y)
 
 -- how far along it is at most in an area
@@ -134,7 +134,10 @@ between area.Garbage s is l g = absurd (omega (arith, l, g))
 between a s is l g = cc
 
 -- a step that leaves a folder standing at a location where one stood leaves that folder
-pub stand_step : (n : DirState) (p : ℕ) (request : Request) (reply : Reply) (spot : Spot) → is_reply n p request reply ≡ true → stands n.namespace spot ≡ true → stands (namespace_replied n.namespace p request reply) spot ≡ true → folder_at (namespace_replied n.namespace p request reply) spot ≡ folder_at n.namespace spot
+pub stand_step : (n : DirState) (p : ℕ) (request : Request) (reply : Reply) (spot : Spot) →
+    is_reply n p request reply ≡ true → stands n.namespace spot ≡ true →
+    stands (namespace_replied n.namespace p request reply) spot ≡ true →
+    folder_at (namespace_replied n.namespace p request reply) spot ≡ folder_at n.namespace spot
 stand_step n p request (Refused e left) spot is was stays = refl
 stand_step n p (Open s w) (Opened h) spot is was stays = refl
 stand_step n p (OpenArea a) (Opened h) spot is was stays = refl
@@ -144,38 +147,51 @@ stand_step n p (MakeFolder new) Done spot is was stays = by (spot_eq new spot) r
     free : stands n.namespace new ≡ false
     free = refused_if (stands n.namespace new) Exists (none_refused n p (MakeFolder new) refl is)
 
-    by : (b : Bool) → spot_eq new spot ≡ b → folder_at (namespace_replied n.namespace p (MakeFolder new) Done) spot ≡ folder_at n.namespace spot
+    by : (b : Bool) → spot_eq new spot ≡ b → folder_at (namespace_replied n.namespace p (MakeFolder new) Done) spot ≡
+        folder_at n.namespace spot
     by false e = made_elsewhere n.namespace spot new e
-    by true e = clash (stands n.namespace spot) was (ap (λ (o : Option ℕ). is_some o) (folder_like n.namespace new spot e (none_stands n.namespace new free)))
+    by true e = clash (stands n.namespace spot) was (ap (λ (o : Option ℕ). is_some o)
+        (folder_like n.namespace new spot e (none_stands n.namespace new free)))
 stand_step n p (MoveFolder from to) Done spot is was stays = by (spot_eq to spot) (spot_eq from spot) refl refl
   where
     stand : (stands n.namespace from ≡ true) × (stands n.namespace to ≡ false)
     stand = stands_from n p from to is
 
-    by : (b c : Bool) → spot_eq to spot ≡ b → spot_eq from spot ≡ c → folder_at (namespace_replied n.namespace p (MoveFolder from to) Done) spot ≡ folder_at n.namespace spot
-    by true c e f = clash (stands n.namespace spot) was (ap (λ (o : Option ℕ). is_some o) (folder_like n.namespace to spot e (none_stands n.namespace to stand.1)))
-    by false true e f = clash (stands (namespace_replied n.namespace p (MoveFolder from to) Done) spot) stays (ap (λ (o : Option ℕ). is_some o) (moved_away n.namespace spot from to e f))
+    by : (b c : Bool) → spot_eq to spot ≡ b → spot_eq from spot ≡ c →
+        folder_at (namespace_replied n.namespace p (MoveFolder from to) Done) spot ≡ folder_at n.namespace spot
+    by true c e f = clash (stands n.namespace spot) was (ap (λ (o : Option ℕ). is_some o)
+        (folder_like n.namespace to spot e (none_stands n.namespace to stand.1)))
+    by false true e f = clash (stands (namespace_replied n.namespace p (MoveFolder from to) Done) spot) stays
+        (ap (λ (o : Option ℕ). is_some o) (moved_away n.namespace spot from to e f))
     by false false e f = moved_elsewhere n.namespace spot from to e f
 stand_step n p (RemoveFolder gone) Done spot is was stays = by (spot_eq gone spot) refl
   where
-    by : (b : Bool) → spot_eq gone spot ≡ b → folder_at (namespace_replied n.namespace p (RemoveFolder gone) Done) spot ≡ folder_at n.namespace spot
-    by true e = clash (stands (namespace_replied n.namespace p (RemoveFolder gone) Done) spot) stays (ap (λ (o : Option ℕ). is_some o) (removed_there n.namespace spot gone e))
+    by : (b : Bool) → spot_eq gone spot ≡ b → folder_at (namespace_replied n.namespace p (RemoveFolder gone) Done) spot
+        ≡ folder_at n.namespace spot
+    by true e = clash (stands (namespace_replied n.namespace p (RemoveFolder gone) Done) spot) stays
+        (ap (λ (o : Option ℕ). is_some o) (removed_there n.namespace spot gone e))
     by false e = removed_elsewhere n.namespace spot gone e
 stand_step n p request Done spot is was stays = refl
 stand_step n p request reply spot is was stays = refl
 
 -- along a part after which the pod hasn't left the place, its folder stands there
-pub stays_from : (u : List ℕ) (es : List Event) (n : DirState) (s : PodState) (σ : ℕ → Standing) (spot : Spot) (f : ℕ) → Good u n s σ → ConformingFrom u n σ es → is_of u spot ≡ true → folder_at n.namespace spot ≡ Some f → age (pod_state_from u n s es) ≤ age_out spot.area → folder_at (states_next n es).namespace spot ≡ Some f
+pub stays_from : (u : List ℕ) (es : List Event) (n : DirState) (s : PodState) (σ : ℕ → Standing) (spot : Spot) (f : ℕ) →
+    Good u n s σ → ConformingFrom u n σ es → is_of u spot ≡ true → folder_at n.namespace spot ≡ Some f →
+    age (pod_state_from u n s es) ≤ age_out spot.area → folder_at (states_next n es).namespace spot ≡ Some f
 stays_from u [] n s σ spot f good conforming of at bound = at
 stays_from u (e ∷ es) n s σ spot f good conforming of at bound =
     let g = given u n s σ e es good conforming in
     let next = next_good u n s σ e g in
     let t : PodState = pod_state_next u n.namespace s e in
-    let was : is_place spot.area s ≡ true = (found_pod u n.namespace s good.inv.pod spot of (ap (λ (o : Option ℕ). is_some o) at)).0 in
+    let was : is_place spot.area s ≡ true = (found_pod u n.namespace s good.inv.pod spot of
+    (ap (λ (o : Option ℕ). is_some o) at)).0 in
     let low : age_in spot.area ≤ age s = placed_age spot.area s was in
     let up : age s ≤ age t = turned_on (transition u n.namespace s e.process e.request e.reply) e.process s in
     let top : age t ≤ age (pod_state_from u (state_next n e) t es) = ages u es (state_next n e) t in
-    let there : is_place spot.area t ≡ true = between spot.area t (both (is_stage spot.area) (bytes_eq spot.name u) of).0 (omega (arith, low, up)) (omega (arith, top, bound)) in
-    let stays : stands (state_next n e).namespace spot ≡ true = ap (λ (o : Option ℕ). is_some o) (next.inv.pod.at spot of ∙ ap (λ b. cond b (Some next.inv.pod.number) None) there) in
+    let there : is_place spot.area t ≡ true = between spot.area t
+    (both (is_stage spot.area) (bytes_eq spot.name u) of).0 (omega (arith, low, up)) (omega (arith, top, bound)) in
+    let stays : stands (state_next n e).namespace spot ≡ true =
+    ap (λ (o : Option ℕ). is_some o) (next.inv.pod.at spot of ∙ ap (λ b. cond b (Some next.inv.pod.number) None)
+    there) in
     stays_from u es (state_next n e) t (λ q. stood q (σ q) e) spot f next (conforming_tail u n σ e es conforming) of
     (stand_step n e.process e.request e.reply spot g.is (ap (λ (o : Option ℕ). is_some o) at) stays ∙ at) bound

@@ -20,9 +20,10 @@ use Rattle.lifecycle.specs.declared.machine.PodState.TheVariants.{Absent, Embryo
 use Rattle.lifecycle.specs.PodMachine.{is_grip, is_owner, is_place, age, age_in, age_free}
 use Rattle.dir_rules.specs.declared.standing.Held.{Held}
 use Rattle.dir_rules.specs.declared.standing.Standing.{Standing}
-use Rattle.lifecycle.proofs.Lists.{In, any_in, in_any}
-use Rattle.lifecycle.proofs.World.{Sound, both, same_nat}
+use Rattle.lifecycle.proofs.Lists.{In, any_in, in_any, no_less}
+use Rattle.lifecycle.proofs.Handles.{Sound, both}
 use Rattle.lifecycle.proofs.Linked.{Bare, bare, own, mine, Linked, held_open, open_held}
+use Rattle.dir_model.proofs.Lists.{same_self}
 
 -- a place of the pod
 abbrev pub is_named : List ℕ → Target → Bool
@@ -40,13 +41,14 @@ may_own (Deleting owner from) p a = (p == owner) && is_garbage a
 may_own Gone p a = true
 may_own s p a = false
 
--- the pod in the world
+-- the pod in the namespace
 pub record Pod (u : List ℕ) (n : Namespace) (s : PodState) : Type 0 where
   -- its folder
   pub number : ℕ
   pub at : (spot : Spot) → is_of u spot ≡ true → folder_at n spot ≡ cond (is_place spot.area s) (Some number) None
   -- a handle that was opened on it stands for its folder, and tells how far along it is
-  pub named : (o : Opening) → In o n.openings → is_named u o.target ≡ true → (o.folder ≡ Some number) × (age_in (area_of o.target) ≤ age s)
+  pub named : (o : Opening) → In o n.openings → is_named u o.target ≡ true →
+      (o.folder ≡ Some number) × (age_in (area_of o.target) ≤ age s)
   -- who holds Own exclusively is its owner, where the state has owners
   pub owns : (o : Opening) → In o n.openings → is_grip u o ≡ true → may_own s o.process (area_of o.target) ≡ true
   -- the owner holds it
@@ -62,7 +64,7 @@ pub record Cleared (u : List ℕ) (n : Namespace) (s : PodState) (k : Standing) 
   pub past : 4 ≤ age s
   pub free : s ≡ Prepared → Ungripped u n
 
--- what a living process stood, in the world
+-- what a living process knows, and the namespace
 pub record Knows (u : List ℕ) (p : ℕ) (n : Namespace) (s : PodState) (k : Standing) : Type 0 where
   pub linked : Linked p n k
   -- the maker that has held the gate since before finds its pod in embryo
@@ -71,7 +73,8 @@ pub record Knows (u : List ℕ) (p : ℕ) (n : Namespace) (s : PodState) (k : St
   -- Own held in embryo goes with the gate held
   pub owned : s ≡ Embryo p → holds_own u k ≡ true → (k.gated ≡ true) × (draws u k ≡ true)
   -- who has held Claim since before its open of prepared finds the pod there until it moves it
-  pub covered : (h : Held) → In h k.holdings → is_own_of u h.target ≡ true → h.covered ≡ true → (s ≡ Prepared) × (holds_claim u k ≡ true)
+  pub covered : (h : Held) → In h k.holdings → is_own_of u h.target ≡ true → h.covered ≡ true →
+      (s ≡ Prepared) × (holds_claim u k ≡ true)
   -- where Own could be had shared, there was no owner, and there is none
   pub looked : (a : Area) → has_place u a k.looked ≡ true → age_free a ≤ age s
   pub cleared : has_name u k.cleared ≡ true → Cleared u n s k
@@ -107,16 +110,18 @@ shared_or_not (Some Exclusive) h k = cc
 shared_or_not None h k = cc
 
 same_folder : (f g : Option ℕ) (number : ℕ) → f ≡ Some number → g ≡ Some number → is_same_folder f g ≡ true
-same_folder f g number e h = rw (e, h) (same_nat number)
+same_folder f g number e h = rw (e, h) (same_self number)
 
-pub own_lock : (u : List ℕ) (a b : Target) (f g : Option ℕ) (number : ℕ) → is_own_of u a ≡ true → is_own_of u b ≡ true → f ≡ Some number → g ≡ Some number → is_one_lock a f b g ≡ true
+pub own_lock : (u : List ℕ) (a b : Target) (f g : Option ℕ) (number : ℕ) → is_own_of u a ≡ true → is_own_of u b ≡ true →
+    f ≡ Some number → g ≡ Some number → is_one_lock a f b g ≡ true
 own_lock u (Own s) (Own t) f g number h k e i = same_folder f g number e i
 own_lock u (Claim s) b f g number h k e i = cc
 own_lock u (Gate a) b f g number h k e i = cc
 own_lock u (Own s) (Claim t) f g number h k e i = cc
 own_lock u (Own s) (Gate b) f g number h k e i = cc
 
-claim_lock : (u : List ℕ) (a b : Target) (f g : Option ℕ) (number : ℕ) → is_claim_of u a ≡ true → is_claim_of u b ≡ true → f ≡ Some number → g ≡ Some number → is_one_lock a f b g ≡ true
+claim_lock : (u : List ℕ) (a b : Target) (f g : Option ℕ) (number : ℕ) → is_claim_of u a ≡ true →
+    is_claim_of u b ≡ true → f ≡ Some number → g ≡ Some number → is_one_lock a f b g ≡ true
 claim_lock u (Claim s) (Claim t) f g number h k e i = same_folder f g number e i
 claim_lock u (Own s) b f g number h k e i = cc
 claim_lock u (Gate a) b f g number h k e i = cc
@@ -126,7 +131,8 @@ claim_lock u (Claim s) (Gate b) f g number h k e i = cc
 ranks_meet : (x y z : ℕ) → (x == y) ≡ true → (x == z) ≡ true → (y == z) ≡ true
 ranks_meet x y z h k = grind (arith, nat_tests)
 
-gate_lock : (here : Area) (a b : Target) (f g : Option ℕ) → is_gate_of here a ≡ true → is_gate_of here b ≡ true → is_one_lock a f b g ≡ true
+gate_lock : (here : Area) (a b : Target) (f g : Option ℕ) → is_gate_of here a ≡ true → is_gate_of here b ≡ true →
+    is_one_lock a f b g ≡ true
 gate_lock here (Gate a) (Gate b) f g h k = ranks_meet (rank here) (rank a) (rank b) h k
 gate_lock here (Own s) b f g h k = cc
 gate_lock here (Claim s) b f g h k = cc
@@ -134,29 +140,38 @@ gate_lock here (Gate a) (Own s) f g h k = cc
 gate_lock here (Gate a) (Claim s) f g h k = cc
 
 -- two that hold Own exclusively are one
-pub one_grip : (u : List ℕ) (n : Namespace) (s : PodState) → Sound n → Pod u n s → (a b : Opening) → In a n.openings → In b n.openings → is_grip u a ≡ true → is_grip u b ≡ true → a ≡ b
+pub one_grip : (u : List ℕ) (n : Namespace) (s : PodState) → Sound n → Pod u n s → (a b : Opening) → In a n.openings →
+    In b n.openings → is_grip u a ≡ true → is_grip u b ≡ true → a ≡ b
 one_grip u n s sound pod a b i j g h =
     let x = both (is_own_of u a.target) (is_exclusive a.lock) g in
     let y = both (is_own_of u b.target) (is_exclusive b.lock) h in
-    sound.alone a b i j (own_lock u a.target b.target a.folder b.folder pod.number x.0 y.0 (pod.named a i (own_named u a.target x.0)).0 (pod.named b j (own_named u b.target y.0)).0) x.1 (some_exclusive b.lock y.1)
+    sound.alone a b i j (own_lock u a.target b.target a.folder b.folder pod.number x.0 y.0
+    (pod.named a i (own_named u a.target x.0)).0 (pod.named b j (own_named u b.target y.0)).0) x.1
+    (some_exclusive b.lock y.1)
 
 abbrev pub is_claim : List ℕ → Opening → Bool
 is_claim u o = is_claim_of u o.target && is_exclusive o.lock
 
-pub one_claim : (u : List ℕ) (n : Namespace) (s : PodState) → Sound n → Pod u n s → (a b : Opening) → In a n.openings → In b n.openings → is_claim u a ≡ true → is_claim u b ≡ true → a ≡ b
+pub one_claim : (u : List ℕ) (n : Namespace) (s : PodState) → Sound n → Pod u n s → (a b : Opening) → In a n.openings →
+    In b n.openings → is_claim u a ≡ true → is_claim u b ≡ true → a ≡ b
 one_claim u n s sound pod a b i j g h =
     let x = both (is_claim_of u a.target) (is_exclusive a.lock) g in
     let y = both (is_claim_of u b.target) (is_exclusive b.lock) h in
-    sound.alone a b i j (claim_lock u a.target b.target a.folder b.folder pod.number x.0 y.0 (pod.named a i (claim_named u a.target x.0)).0 (pod.named b j (claim_named u b.target y.0)).0) x.1 (some_exclusive b.lock y.1)
+    sound.alone a b i j (claim_lock u a.target b.target a.folder b.folder pod.number x.0 y.0
+    (pod.named a i (claim_named u a.target x.0)).0 (pod.named b j (claim_named u b.target y.0)).0) x.1
+    (some_exclusive b.lock y.1)
 
--- what a process holds by what it stood is held
-pub holding : (p : ℕ) (n : Namespace) (k : Standing) (r : Bare → Bool) → Linked p n k → list_any (λ h. r (bare h)) k.holdings ≡ true → (o : Opening) × (In o n.openings × ((o.process ≡ p) × (r (own o) ≡ true)))
+-- what a process holds by what it knows is held
+pub holding : (p : ℕ) (n : Namespace) (k : Standing) (r : Bare → Bool) → Linked p n k →
+    list_any (λ h. r (bare h)) k.holdings ≡ true →
+    (o : Opening) × (In o n.openings × ((o.process ≡ p) × (r (own o) ≡ true)))
 holding p n k r linked h =
     let e = any_in (λ h. r (bare h)) k.holdings h in
     let o = held_open p n k e.0 linked e.1.0 in
     (o.0, (o.1.0, (o.1.1.0, ap r (sym o.1.1.1) ∙ e.1.1)))
 
-pub held_by : (p : ℕ) (n : Namespace) (k : Standing) (r : Bare → Bool) → Linked p n k → (o : Opening) → In o n.openings → o.process ≡ p → r (own o) ≡ true → list_any (λ h. r (bare h)) k.holdings ≡ true
+pub held_by : (p : ℕ) (n : Namespace) (k : Standing) (r : Bare → Bool) → Linked p n k → (o : Opening) →
+    In o n.openings → o.process ≡ p → r (own o) ≡ true → list_any (λ h. r (bare h)) k.holdings ≡ true
 held_by p n k r linked o i is h =
     let e = open_held p n k o linked i is in
     in_any (λ h. r (bare h)) e.0 k.holdings e.1.0 (ap r e.1.1 ∙ h)
@@ -174,20 +189,23 @@ abbrev pub gate_for : Bare → Bool
 gate_for b = is_gate_of area.Embryo b.target && is_exclusive b.lock
 
 -- two processes don't both hold Claim
-pub claims_meet : (u : List ℕ) (n : Namespace) (s : PodState) (p q : ℕ) (k l : Standing) → Sound n → Pod u n s → Linked p n k → Linked q n l → holds_claim u k ≡ true → holds_claim u l ≡ true → p ≡ q
+pub claims_meet : (u : List ℕ) (n : Namespace) (s : PodState) (p q : ℕ) (k l : Standing) → Sound n → Pod u n s →
+    Linked p n k → Linked q n l → holds_claim u k ≡ true → holds_claim u l ≡ true → p ≡ q
 claims_meet u n s p q k l sound pod lk ll h j =
     let a = holding p n k (claim_of u) lk h in
     let b = holding q n l (claim_of u) ll j in
     sym a.1.1.0 ∙ (ap (λ (o : Opening). o.process) (one_claim u n s sound pod a.0 b.0 a.1.0 b.1.0 a.1.1.1 b.1.1.1) ∙ b.1.1.0)
 
 -- nobody holds the gate shared while another holds it exclusively
-pub gates_meet : {X : Type 0} (n : Namespace) (p q : ℕ) (k l : Standing) → Sound n → Linked p n k → Linked q n l → closes_gate area.Embryo k ≡ true → holds_gate area.Embryo l ≡ true → X
+pub gates_meet : {X : Type 0} (n : Namespace) (p q : ℕ) (k l : Standing) → Sound n → Linked p n k → Linked q n l →
+    closes_gate area.Embryo k ≡ true → holds_gate area.Embryo l ≡ true → X
 gates_meet n p q k l sound lk ll h j =
     let a = holding p n k gate_for lk h in
     let b = holding q n l gate_of ll j in
     let x = both (is_gate_of area.Embryo a.0.target) (is_exclusive a.0.lock) a.1.1.1 in
     let y = both (is_gate_of area.Embryo b.0.target) (is_shared b.0.lock) b.1.1.1 in
-    let same : a.0 ≡ b.0 = sound.alone a.0 b.0 a.1.0 b.1.0 (gate_lock area.Embryo a.0.target b.0.target a.0.folder b.0.folder x.0 y.0) x.1 (some_shared b.0.lock y.1) in
+    let same : a.0 ≡ b.0 = sound.alone a.0 b.0 a.1.0 b.1.0 (gate_lock area.Embryo a.0.target b.0.target a.0.folder
+    b.0.folder x.0 y.0) x.1 (some_shared b.0.lock y.1) in
     shared_or_not b.0.lock y.1 (ap (λ (o : Opening). is_exclusive o.lock) (sym same) ∙ x.1)
 
 -- a pod found in an area is that far along at least
@@ -206,10 +224,12 @@ placed_age area.Garbage (Deleting o f) h = omega arith
 placed_age a s h = cc
 
 -- what goes on for the other processes
-pub others : (u : List ℕ) (q : ℕ) (n m : Namespace) (s t : PodState) (k : Standing) → mine q m.openings ≡ mine q n.openings → age s ≤ age t
+pub others : (u : List ℕ) (q : ℕ) (n m : Namespace) (s t : PodState) (k : Standing) →
+    mine q m.openings ≡ mine q n.openings → age s ≤ age t
     → (k.gated ≡ true → draws u k ≡ true → s ≡ Embryo q → t ≡ Embryo q) → (t ≡ Embryo q → s ≡ Embryo q)
     → (holds_claim u k ≡ true → s ≡ Prepared → t ≡ Prepared)
-    → (4 ≤ age s → holds_claim u k ≡ true → began_as is_remover k ≡ true → t ≡ Prepared → (s ≡ Prepared) × (Ungripped u n → Ungripped u m))
+    → (4 ≤ age s → holds_claim u k ≡ true → began_as is_remover k ≡ true → t ≡ Prepared →
+    (s ≡ Prepared) × (Ungripped u n → Ungripped u m))
     → Knows u q n s k → Knows u q m t k
 others u q n m s t k same aged embryo back prepared free knows = record {
   linked = knows.linked ∙ sym same;
@@ -218,14 +238,19 @@ others u q n m s t k same aged embryo back prepared free knows = record {
   owned = λ e h. knows.owned (back e) h;
   covered = λ h i o c. let x = knows.covered h i o c in (prepared x.1 x.0, x.1);
   looked = λ a h. let l : age_free a ≤ age s = knows.looked a h in omega (arith, l, aged);
-  cleared = λ h. let c = knows.cleared h in let l : 4 ≤ age s = c.past in record { claim = c.claim; remover = c.remover; past = omega (arith, l, aged); free = λ e. let f = free c.past c.claim c.remover e in f.1 (c.free f.0) };
+  cleared = λ h. let c = knows.cleared h in let l : 4 ≤ age s =
+      c.past in record {
+        claim = c.claim;
+        remover = c.remover;
+        past = omega (arith, l, aged);
+        free = λ e. let f =
+            free c.past c.claim c.remover e in f.1 (c.free f.0);
+      };
 }
-
-same_age : (n : ℕ) → n ≤ n
-same_age n = omega arith
 
 -- where the state stays, only a new exclusive holder matters to them
 pub others_still : (u : List ℕ) (q : ℕ) (n m : Namespace) (s : PodState) (k : Standing) → mine q m.openings ≡ mine q n.openings
     → (holds_claim u k ≡ true → began_as is_remover k ≡ true → s ≡ Prepared → Ungripped u n → Ungripped u m)
     → Knows u q n s k → Knows u q m s k
-others_still u q n m s k same free knows = others u q n m s s k same (same_age (age s)) (λ g d e. e) (λ e. e) (λ c e. e) (λ l c r e. (e, free c r e)) knows
+others_still u q n m s k same free knows =
+    others u q n m s s k same (no_less (age s)) (λ g d e. e) (λ e. e) (λ c e. e) (λ l c r e. (e, free c r e)) knows

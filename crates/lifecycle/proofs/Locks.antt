@@ -19,10 +19,11 @@ use Rattle.lifecycle.specs.PodMachine.{look, is_grip, is_owner, is_place, age, a
 use Rattle.dir_rules.specs.declared.standing.Held.{Held}
 use Rattle.dir_rules.specs.declared.standing.Standing.{Standing}
 use Rattle.lifecycle.proofs.Lists.{In, in_map, map_in, any_in, in_any, find_in, in_find}
-use Rattle.lifecycle.proofs.World.{Sound, both, pair, clash, not_true, same_nat, handle_meet, Was, locked_in, Unopposed, unopposed}
+use Rattle.lifecycle.proofs.Handles.{Sound, both, clash, handle_meet, Was, locked_in, Unopposed, unopposed}
 use Rattle.lifecycle.proofs.Linked.{Bare, bare, own, mine, Linked, held_open}
 use Rattle.lifecycle.proofs.Invariant.{is_named, may_own, Pod, Ungripped, Knows, some_exclusive, some_shared, claim_of, gate_of, others}
 use Rattle.lifecycle.proofs.Closes.{held_once}
+use Rattle.dir_model.proofs.Lists.{and_both, not_true, same_self}
 
 abbrev pub and_locked : Namespace → ℕ → Handle → Mode → Namespace
 and_locked n p h m = record n { openings = map (locked p h m) n.openings }
@@ -46,7 +47,8 @@ pub record Lock (p : ℕ) (n : Namespace) (k : Standing) (h : Handle) (m : Mode)
   pub may : may_lock_target k held.covered opening.target m ≡ true
   pub alone : Unopposed n p h m
 
-pub lock_of : (p : ℕ) (n : Namespace) (k : Standing) (h : Handle) (m : Mode) → Sound n → Linked p n k → is_locked n p h m ≡ false → may_lock_by k (find_held h k) m ≡ true → Lock p n k h m
+pub lock_of : (p : ℕ) (n : Namespace) (k : Standing) (h : Handle) (m : Mode) → Sound n → Linked p n k →
+    is_locked n p h m ≡ false → may_lock_by k (find_held h k) m ≡ true → Lock p n k h m
 lock_of p n k h m sound linked free may = by (find_held h k) refl may
   where
     by : (o : Option Held) → find_held h k ≡ o → may_lock_by k o m ≡ true → Lock p n k h m
@@ -62,30 +64,40 @@ lock_of p n k h m sound linked free may = by (find_held h k) refl may
           number = f.1;
           there = o.1.0;
           process = o.1.1.0;
-          mine = pair (o.0.process == p) (o.0.handle.number == h.number) (ap (λ q. q == p) o.1.1.0 ∙ same_nat p) (ap (λ (b : Bare). b.handle.number == h.number) (sym o.1.1.1) ∙ f.1);
+          mine = and_both (o.0.process == p) (o.0.handle.number == h.number) (ap (λ q. q == p) o.1.1.0 ∙ same_self p)
+              (ap (λ (b : Bare). b.handle.number == h.number) (sym o.1.1.1) ∙ f.1);
           same = o.1.1.1;
           bare_free = not_true (is_some y.lock) x.0;
           free = ap (λ (b : Bare). is_some b.lock) (sym o.1.1.1) ∙ not_true (is_some y.lock) x.0;
-          may = ap (λ (b : Bare). may_lock_target k y.covered b.target m) (sym o.1.1.1) ∙ (both (is_alone y k.holdings) (may_lock_target k y.covered y.target m) x.1).1;
+          may = ap (λ (b : Bare). may_lock_target k y.covered b.target m) (sym o.1.1.1)
+              ∙ (both (is_alone y k.holdings) (may_lock_target k y.covered y.target m) x.1).1;
           alone = unopposed n p h m sound free;
         }
     by None e may = cc
 
-pub look_is : (p : ℕ) (n : Namespace) (h : Handle) (o : Opening) → Sound n → In o n.openings → is_handle p h o ≡ true → look n p h ≡ Some o
+pub look_is : (p : ℕ) (n : Namespace) (h : Handle) (o : Opening) → Sound n → In o n.openings → is_handle p h o ≡ true →
+    look n p h ≡ Some o
 look_is p n h o sound i is =
     let f = in_find (is_handle p h) o n.openings i is in
     let g = find_in (is_handle p h) f.0 n.openings f.1 in
     f.1 ∙ ap Some (sound.unique f.0 o g.0 i (handle_meet p h f.0 o g.1 is))
 
 -- what it held it goes on to hold
-pub kept_lock : (p : ℕ) (n : Namespace) (k : Standing) (h : Handle) (m : Mode) (r : Bare → Bool) → Sound n → Linked p n k → Lock p n k h m → ((b : Bare) → r b ≡ true → is_some b.lock ≡ true) → list_any (λ x. r (bare x)) k.holdings ≡ true → list_any (λ x. r (bare x)) (and_held_in k h m).holdings ≡ true
+pub kept_lock : (p : ℕ) (n : Namespace) (k : Standing) (h : Handle) (m : Mode) (r : Bare → Bool) → Sound n →
+    Linked p n k → Lock p n k h m → ((b : Bare) → r b ≡ true → is_some b.lock ≡ true) →
+    list_any (λ x. r (bare x)) k.holdings ≡ true → list_any (λ x. r (bare x)) (and_held_in k h m).holdings ≡ true
 kept_lock p n k h m r sound linked lock some any =
     let e = any_in (λ x. r (bare x)) k.holdings any in
     by e.0 e.1.0 e.1.1 (is_number h e.0) refl
   where
-    by : (x : Held) → In x k.holdings → r (bare x) ≡ true → (b : Bool) → is_number h x ≡ b → list_any (λ x. r (bare x)) (and_held_in k h m).holdings ≡ true
-    by x i t true e = clash (is_some lock.held.lock) (ap (λ (b : Bare). is_some b.lock) (held_once p n k h lock.held x sound linked lock.known i lock.number e) ∙ some (bare x) t) lock.bare_free
-    by x i t false e = in_any (λ x. r (bare x)) (held_in h m x) (map (held_in h m) k.holdings) (map_in (held_in h m) x k.holdings i) (ap (λ b. r (bare (cond b (record { handle = x.handle; target = x.target; lock = Some m; covered = x.covered }) x))) e ∙ t)
+    by : (x : Held) → In x k.holdings → r (bare x) ≡ true → (b : Bool) → is_number h x ≡ b →
+        list_any (λ x. r (bare x)) (and_held_in k h m).holdings ≡ true
+    by x i t true e = clash (is_some lock.held.lock) (ap (λ (b : Bare). is_some b.lock)
+        (held_once p n k h lock.held x sound linked lock.known i lock.number e) ∙ some (bare x) t) lock.bare_free
+    by x i t false e = in_any (λ x. r (bare x)) (held_in h m x) (map (held_in h m) k.holdings)
+        (map_in (held_in h m) x k.holdings i)
+        (ap (λ b. r (bare (cond b (record { handle = x.handle; target = x.target; lock = Some m; covered = x.covered })
+        x))) e ∙ t)
 
 claim_some : (u : List ℕ) (b : Bare) → claim_of u b ≡ true → is_some b.lock ≡ true
 claim_some u b h = some_exclusive b.lock (both (is_claim_of u b.target) (is_exclusive b.lock) h).1
@@ -101,13 +113,17 @@ pub record Locking (u : List ℕ) (p : ℕ) (n : Namespace) (s t : PodState) (k 
   pub embryo_back : (q : ℕ) → t ≡ Embryo q → s ≡ Embryo q
   pub prepared : s ≡ Prepared → t ≡ Prepared
   pub prepared_back : t ≡ Prepared → s ≡ Prepared
-  pub owns : (o : Opening) → In o (and_locked n p h m).openings → is_grip u o ≡ true → may_own t o.process (area_of o.target) ≡ true
-  pub held : (q : ℕ) → is_owner q t ≡ true → (o : Opening) × (In o (and_locked n p h m).openings × ((is_grip u o ≡ true) × (o.process ≡ q)))
+  pub owns : (o : Opening) → In o (and_locked n p h m).openings → is_grip u o ≡ true →
+      may_own t o.process (area_of o.target) ≡ true
+  pub held : (q : ℕ) → is_owner q t ≡ true → (o : Opening) ×
+      (In o (and_locked n p h m).openings × ((is_grip u o ≡ true) × (o.process ≡ q)))
   pub owned : s ≡ Embryo p → holds_own u (and_held_in k h m) ≡ true → (k.gated ≡ true) × (draws u k ≡ true)
   pub mine : began_as is_remover k ≡ true → s ≡ Prepared → Ungripped u n → Ungripped u (and_locked n p h m)
-  pub other : (q : ℕ) (l : Standing) → (p == q) ≡ false → Linked q n l → holds_claim u l ≡ true → s ≡ Prepared → Ungripped u n → Ungripped u (and_locked n p h m)
+  pub other : (q : ℕ) (l : Standing) → (p == q) ≡ false → Linked q n l → holds_claim u l ≡ true → s ≡ Prepared →
+      Ungripped u n → Ungripped u (and_locked n p h m)
 
-pub lock_pod : (u : List ℕ) (n : Namespace) (s t : PodState) (p : ℕ) (k : Standing) (h : Handle) (m : Mode) → Pod u n s → Locking u p n s t k h m → Pod u (and_locked n p h m) t
+pub lock_pod : (u : List ℕ) (n : Namespace) (s t : PodState) (p : ℕ) (k : Standing) (h : Handle) (m : Mode) →
+    Pod u n s → Locking u p n s t k h m → Pod u (and_locked n p h m) t
 lock_pod u n s t p k h m pod l = record {
   number = pod.number;
   at = λ here is. pod.at here is ∙ ap (λ b. cond b (Some pod.number) None) (sym (l.place here.area));
@@ -119,25 +135,60 @@ lock_pod u n s t p k h m pod l = record {
     after : (c : ℕ) → c ≤ age s → c ≤ age t
     after c x = let g : age s ≤ age t = l.aged in omega (arith, x, g)
 
-    one : (o : Opening) → Was p h m n.openings o → is_named u o.target ≡ true → (o.folder ≡ Some pod.number) × (age_in (area_of o.target) ≤ age t)
-    one o (a, (i, (inl e))) is = let x = pod.named a i (subst (λ (z : Opening). is_named u z.target ≡ true) e.1 is) in subst (λ (z : Opening). (z.folder ≡ Some pod.number) × (age_in (area_of z.target) ≤ age t)) (sym e.1) (x.0, after (age_in (area_of a.target)) x.1)
-    one o (a, (i, (inr e))) is = let x = pod.named a i (subst (λ (z : Opening). is_named u z.target ≡ true) e.1 is) in subst (λ (z : Opening). (z.folder ≡ Some pod.number) × (age_in (area_of z.target) ≤ age t)) (sym e.1) (x.0, after (age_in (area_of a.target)) x.1)
+    one : (o : Opening) → Was p h m n.openings o → is_named u o.target ≡ true →
+        (o.folder ≡ Some pod.number) × (age_in (area_of o.target) ≤ age t)
+    one o (a, (i, (inl e))) is =
+        let x = pod.named a i (subst (λ (z : Opening). is_named u z.target ≡ true) e.1 is) in
+        subst (λ (z : Opening). (z.folder ≡ Some pod.number) × (age_in (area_of z.target) ≤ age t)) (sym e.1)
+        (x.0, after (age_in (area_of a.target)) x.1)
+    one o (a, (i, (inr e))) is =
+        let x = pod.named a i (subst (λ (z : Opening). is_named u z.target ≡ true) e.1 is) in
+        subst (λ (z : Opening). (z.folder ≡ Some pod.number) × (age_in (area_of z.target) ≤ age t)) (sym e.1)
+        (x.0, after (age_in (area_of a.target)) x.1)
 
-pub lock_others : (u : List ℕ) (n : Namespace) (s t : PodState) (p q : ℕ) (k l : Standing) (h : Handle) (m : Mode) → (p == q) ≡ false → mine q (and_locked n p h m).openings ≡ mine q n.openings → Locking u p n s t k h m → Knows u q n s l → Knows u q (and_locked n p h m) t l
-lock_others u n s t p q k l h m off same x knows = others u q n (and_locked n p h m) s t l same x.aged (λ g d e. x.embryo q e) (λ e. x.embryo_back q e) (λ c e. x.prepared e) (λ past c r e. (x.prepared_back e, x.other q l off knows.linked c (x.prepared_back e))) knows
+pub lock_others : (u : List ℕ) (n : Namespace) (s t : PodState) (p q : ℕ) (k l : Standing) (h : Handle) (m : Mode) →
+    (p == q) ≡ false → mine q (and_locked n p h m).openings ≡ mine q n.openings → Locking u p n s t k h m →
+    Knows u q n s l → Knows u q (and_locked n p h m) t l
+lock_others u n s t p q k l h m off same x knows =
+    others u q n (and_locked n p h m) s t l same x.aged (λ g d e. x.embryo q e) (λ e. x.embryo_back q e)
+    (λ c e. x.prepared e) (λ past c r e. (x.prepared_back e, x.other q l off knows.linked c (x.prepared_back e))) knows
 
 -- a holding after the lock, and what it was
 abbrev pub Had : Handle → Mode → List Held → Held → Type 0
-Had h m hs g = (x : Held) × (In x hs × (((is_number h x ≡ true) × (g ≡ record { handle = x.handle; target = x.target; lock = Some m; covered = x.covered })) ⊎ ((is_number h x ≡ false) × (g ≡ x))))
+Had h m hs g = (x : Held) × (In x hs ×
+    (((is_number h x ≡ true) × (g ≡ record {
+      handle = x.handle;
+      target = x.target;
+      lock = Some m;
+      covered =
+          x.covered;
+    })) ⊎ ((is_number h x ≡ false) × (g ≡ x))))
 
 pub had_in : (h : Handle) (m : Mode) (hs : List Held) (g : Held) → In g (map (held_in h m) hs) → Had h m hs g
 had_in h m hs g i = let e = in_map (held_in h m) hs g i in (e.0, (e.1.0, by e.0 e.1.1 (is_number h e.0) refl))
   where
-    by : (x : Held) → g ≡ held_in h m x → (b : Bool) → is_number h x ≡ b → ((is_number h x ≡ true) × (g ≡ record { handle = x.handle; target = x.target; lock = Some m; covered = x.covered })) ⊎ ((is_number h x ≡ false) × (g ≡ x))
-    by x e true f = inl (f, e ∙ ap (λ b. cond b (record { handle = x.handle; target = x.target; lock = Some m; covered = x.covered }) x) f)
-    by x e false f = inr (f, e ∙ ap (λ b. cond b (record { handle = x.handle; target = x.target; lock = Some m; covered = x.covered }) x) f)
+    by : (x : Held) → g ≡ held_in h m x → (b : Bool) → is_number h x ≡ b →
+        ((is_number h x ≡ true) × (g ≡ record {
+          handle = x.handle;
+          target = x.target;
+          lock = Some m;
+          covered =
+              x.covered;
+        })) ⊎ ((is_number h x ≡ false) × (g ≡ x))
+    by x e true f = inl (
+      f,
+      e ∙ ap
+          (λ b. cond b (record { handle = x.handle; target = x.target; lock = Some m; covered = x.covered }) x) f,
+    )
+    by x e false f = inr (
+      f,
+      e ∙ ap
+          (λ b. cond b (record { handle = x.handle; target = x.target; lock = Some m; covered = x.covered }) x) f,
+    )
 
-pub lock_knows : (u : List ℕ) (n : Namespace) (s t : PodState) (p : ℕ) (k : Standing) (h : Handle) (m : Mode) → Sound n → Lock p n k h m → Linked p (and_locked n p h m) (and_held_in k h m) → Locking u p n s t k h m → Knows u p n s k → Knows u p (and_locked n p h m) t (and_held_in k h m)
+pub lock_knows : (u : List ℕ) (n : Namespace) (s t : PodState) (p : ℕ) (k : Standing) (h : Handle) (m : Mode) →
+    Sound n → Lock p n k h m → Linked p (and_locked n p h m) (and_held_in k h m) → Locking u p n s t k h m →
+    Knows u p n s k → Knows u p (and_locked n p h m) t (and_held_in k h m)
 lock_knows u n s t p k h m sound lock linked x knows = record {
   linked = linked;
   gated = λ g d. x.embryo p (knows.gated g d);
@@ -145,12 +196,26 @@ lock_knows u n s t p k h m sound lock linked x knows = record {
   owned = λ e o. x.owned (x.embryo_back p e) o;
   covered = λ g i o c. cover g (had_in h m k.holdings g i) o c;
   looked = λ a y. let l : age_free a ≤ age s = knows.looked a y in let g : age s ≤ age t = x.aged in omega (arith, l, g);
-  cleared = λ y. let c = knows.cleared y in let l : 4 ≤ age s = c.past in let g : age s ≤ age t = x.aged in record { claim = claims c.claim; remover = c.remover; past = omega (arith, l, g); free = λ e. x.mine c.remover (x.prepared_back e) (c.free (x.prepared_back e)) };
+  cleared = λ y. let c = knows.cleared y in let l : 4 ≤ age s =
+      c.past in let g : age s ≤ age t = x.aged in record {
+        claim = claims c.claim;
+        remover = c.remover;
+        past =
+            omega (arith, l, g);
+        free = λ e. x.mine c.remover (x.prepared_back e) (c.free (x.prepared_back e));
+      };
 }
   where
     claims : holds_claim u k ≡ true → holds_claim u (and_held_in k h m) ≡ true
     claims c = kept_lock p n k h m (claim_of u) sound knows.linked lock (claim_some u) c
 
-    cover : (g : Held) → Had h m k.holdings g → is_own_of u g.target ≡ true → g.covered ≡ true → (t ≡ Prepared) × (holds_claim u (and_held_in k h m) ≡ true)
-    cover g (y, (i, (inl e))) o c = let z = knows.covered y i (subst (λ (w : Held). is_own_of u w.target ≡ true) e.1 o) (subst (λ (w : Held). w.covered ≡ true) e.1 c) in (x.prepared z.0, claims z.1)
-    cover g (y, (i, (inr e))) o c = let z = knows.covered y i (subst (λ (w : Held). is_own_of u w.target ≡ true) e.1 o) (subst (λ (w : Held). w.covered ≡ true) e.1 c) in (x.prepared z.0, claims z.1)
+    cover : (g : Held) → Had h m k.holdings g → is_own_of u g.target ≡ true → g.covered ≡ true →
+        (t ≡ Prepared) × (holds_claim u (and_held_in k h m) ≡ true)
+    cover g (y, (i, (inl e))) o c =
+        let z = knows.covered y i (subst (λ (w : Held). is_own_of u w.target ≡ true) e.1 o)
+        (subst (λ (w : Held). w.covered ≡ true) e.1 c) in
+        (x.prepared z.0, claims z.1)
+    cover g (y, (i, (inr e))) o c =
+        let z = knows.covered y i (subst (λ (w : Held). is_own_of u w.target ≡ true) e.1 o)
+        (subst (λ (w : Held). w.covered ≡ true) e.1 c) in
+        (x.prepared z.0, claims z.1)

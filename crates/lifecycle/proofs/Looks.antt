@@ -1,4 +1,4 @@
--- What a process goes on to know that had Own shared.
+-- What a process that had Own shared goes on to know.
 use Rattle.std.proofs.Common.{arith, ◌≡◌, ◌⊎◌, inl, inr, ◌≤◌, ℕ, Bool, true, false, ◌&&◌, ◌||◌, ◌==◌, cond, bytes_eq, Option, Some, List, [], ◌∷◌, ◌++◌, refl, sym, ap, subst, ◌∙◌}
 use Rattle.std.specs.List.{list_any}
 use Rattle.dir_model.specs.declared.area.Area.{Area}
@@ -19,11 +19,12 @@ use Rattle.lifecycle.specs.PodMachine.{is_owner, age, age_in, age_free}
 use Rattle.dir_rules.specs.declared.standing.Held.{Held}
 use Rattle.dir_rules.specs.declared.standing.Standing.{Standing}
 use Rattle.lifecycle.proofs.Lists.{map_in}
-use Rattle.lifecycle.proofs.World.{Sound, both, pair, nat_same, same_nat}
+use Rattle.lifecycle.proofs.Handles.{Sound, both, nat_same}
 use Rattle.lifecycle.proofs.Linked.{Bare}
 use Rattle.lifecycle.proofs.Invariant.{Pod, Cleared, Knows, own_named}
 use Rattle.lifecycle.proofs.Locks.{Lock, and_locked, and_held_in}
 use Rattle.lifecycle.proofs.LockCases.{nobody, unowned, lock_shared}
+use Rattle.dir_model.proofs.Lists.{and_both, same_self}
 
 abbrev free_number : ℕ → ℕ
 free_number r = cond (r == 0) 1 (cond (r == 1) 3 (cond (r == 2) 4 (cond (r == 3) 6 (cond (r == 4) 7 (cond (r == 5) 8 0)))))
@@ -40,19 +41,19 @@ free_age : (a : Area) (s : PodState) → age_in a ≤ age s → ((q : ℕ) → i
 free_age area.Prepare s l none = by s l none
   where
     by : (s : PodState) → 2 ≤ age s → ((q : ℕ) → is_owner q s ≡ true → ⊥) → 3 ≤ age s
-    by (Preparing o) l none = absurd (none o (same_nat o))
+    by (Preparing o) l none = absurd (none o (same_self o))
     by Absent l none = absurd (omega (arith, l))
     by (Embryo m) l none = absurd (omega (arith, l))
-    by (Deleting o f) l none = absurd (none o (same_nat o))
+    by (Deleting o f) l none = absurd (none o (same_self o))
     by s l none = omega arith
 free_age area.Run s l none = by s l none
   where
     by : (s : PodState) → 5 ≤ age s → ((q : ℕ) → is_owner q s ≡ true → ⊥) → 6 ≤ age s
-    by (Running o) l none = absurd (none o (same_nat o))
+    by (Running o) l none = absurd (none o (same_self o))
     by Exited l none = omega arith
     by ExitedGarbage l none = omega arith
     by Garbage l none = omega arith
-    by (Deleting o f) l none = absurd (none o (same_nat o))
+    by (Deleting o f) l none = absurd (none o (same_self o))
     by Gone l none = omega arith
     by Absent l none = absurd (omega (arith, l))
     by (Embryo m) l none = absurd (omega (arith, l))
@@ -63,15 +64,20 @@ free_age area.Embryo s l none = l
 free_age a s l none = l
 
 -- the place that was looked at
-spot_of : (u : List ℕ) (a : Area) (t : Target) → has_place u a (own_spot t) ≡ true → (is_own_of u t ≡ true) × (is_in a (area_of t) ≡ true)
+spot_of : (u : List ℕ) (a : Area) (t : Target) → has_place u a (own_spot t) ≡ true →
+    (is_own_of u t ≡ true) × (is_in a (area_of t) ≡ true)
 spot_of u a (Own spot) h = by (is_stage spot.area) refl h
   where
     or_false : (b : Bool) → (b || false) ≡ true → b ≡ true
     or_false true h = refl
     or_false false h = cc
 
-    by : (b : Bool) → is_stage spot.area ≡ b → has_place u a (cond b (spot ∷ []) []) ≡ true → ((is_stage spot.area && bytes_eq spot.name u) ≡ true) × (is_in a spot.area ≡ true)
-    by true e h = let x = both (bytes_eq spot.name u) (is_in a spot.area) (or_false (bytes_eq spot.name u && is_in a spot.area) h) in (pair (is_stage spot.area) (bytes_eq spot.name u) e x.0, x.1)
+    by : (b : Bool) → is_stage spot.area ≡ b → has_place u a (cond b (spot ∷ []) []) ≡ true →
+        ((is_stage spot.area && bytes_eq spot.name u) ≡ true) × (is_in a spot.area ≡ true)
+    by true e h =
+        let x = both (bytes_eq spot.name u) (is_in a spot.area) (or_false (bytes_eq spot.name u && is_in a spot.area) h)
+        in
+        (and_both (is_stage spot.area) (bytes_eq spot.name u) e x.0, x.1)
     by false e h = cc
 spot_of u a (Claim spot) h = cc
 spot_of u a (Gate b) h = cc
@@ -80,12 +86,15 @@ in_prepared_pod : (a : Area) → is_in area.Prepared a ≡ true → is_stage a �
 in_prepared_pod area.Prepared h = refl
 in_prepared_pod a h = cc
 
-remover_of : (k : Standing) (c : Bool) (v : List ℕ) (a : Area) → is_in area.Prepared a ≡ true → may_lock_own k c v a Shared ≡ true → began_as is_remover k ≡ true
+remover_of : (k : Standing) (c : Bool) (v : List ℕ) (a : Area) → is_in area.Prepared a ≡ true →
+    may_lock_own k c v a Shared ≡ true → began_as is_remover k ≡ true
 remover_of k c v area.Prepared h may = (both (began_as is_remover k) c may).0
 remover_of k c v a h may = cc
 
 -- the pod whose Own was had shared under Claim
-name_of : (u : List ℕ) (k : Standing) (c : Bool) (t : Target) → may_lock_target k c t Shared ≡ true → has_name u (cond c (prepared_name t) []) ≡ true → ((is_own_of u t ≡ true) × (c ≡ true)) × (began_as is_remover k ≡ true)
+name_of : (u : List ℕ) (k : Standing) (c : Bool) (t : Target) → may_lock_target k c t Shared ≡ true →
+    has_name u (cond c (prepared_name t) []) ≡ true →
+    ((is_own_of u t ≡ true) × (c ≡ true)) × (began_as is_remover k ≡ true)
 name_of u k false t may h = cc
 name_of u k true (Own spot) may h = by (is_in area.Prepared spot.area) refl h
   where
@@ -93,30 +102,47 @@ name_of u k true (Own spot) may h = by (is_in area.Prepared spot.area) refl h
     or_false true h = refl
     or_false false h = cc
 
-    by : (b : Bool) → is_in area.Prepared spot.area ≡ b → has_name u (cond b (spot.name ∷ []) []) ≡ true → (((is_stage spot.area && bytes_eq spot.name u) ≡ true) × (true ≡ true)) × (began_as is_remover k ≡ true)
-    by true e h = ((pair (is_stage spot.area) (bytes_eq spot.name u) (in_prepared_pod spot.area e) (or_false (bytes_eq spot.name u) h), refl), remover_of k true spot.name spot.area e may)
+    by : (b : Bool) → is_in area.Prepared spot.area ≡ b → has_name u (cond b (spot.name ∷ []) []) ≡ true →
+        (((is_stage spot.area && bytes_eq spot.name u) ≡ true) × (true ≡ true)) × (began_as is_remover k ≡ true)
+    by true e h = (
+      (
+        and_both (is_stage spot.area) (bytes_eq spot.name u) (in_prepared_pod spot.area e)
+            (or_false (bytes_eq spot.name u) h),
+        refl,
+      ),
+      remover_of k true spot.name spot.area e may,
+    )
     by false e h = cc
 name_of u k true (Claim spot) may h = cc
 name_of u k true (Gate a) may h = cc
 
-any_either : {X : Type 0} (t : X → Bool) (xs ys : List X) → list_any t (xs ++ ys) ≡ true → (list_any t xs ≡ true) ⊎ (list_any t ys ≡ true)
+any_either : {X : Type 0} (t : X → Bool) (xs ys : List X) → list_any t (xs ++ ys) ≡ true →
+    (list_any t xs ≡ true) ⊎ (list_any t ys ≡ true)
 any_either t [] ys h = inr h
 any_either t (x ∷ xs) ys h = by (t x) h (λ k. any_either t xs ys k)
   where
-    by : (b : Bool) → (b || list_any t (xs ++ ys)) ≡ true → (list_any t (xs ++ ys) ≡ true → (list_any t xs ≡ true) ⊎ (list_any t ys ≡ true)) → ((b || list_any t xs) ≡ true) ⊎ (list_any t ys ≡ true)
+    by : (b : Bool) → (b || list_any t (xs ++ ys)) ≡ true →
+        (list_any t (xs ++ ys) ≡ true → (list_any t xs ≡ true) ⊎ (list_any t ys ≡ true)) →
+        ((b || list_any t xs) ≡ true) ⊎ (list_any t ys ≡ true)
     by true h go = inl refl
     by false h go = go h
 
-pub look_knows : (u : List ℕ) (p : ℕ) (n : Namespace) (s : PodState) (k : Standing) (h : Handle) → Sound n → Pod u n s → Knows u p n s k → (l : Lock p n k h Shared) → Knows u p (and_locked n p h Shared) s (and_held_in k h Shared) → Knows u p (and_locked n p h Shared) s (standing_done k (TryLock h Shared))
-look_knows u p n s k h sound pod old l knows = subst (λ (o : Option Held). Knows u p (and_locked n p h Shared) s (looked_by o (and_held_in k h Shared))) (sym l.found) (record {
-  linked = knows.linked;
-  gated = knows.gated;
-  gates = knows.gates;
-  owned = knows.owned;
-  covered = knows.covered;
-  looked = λ a x. places a (any_either (λ spot. bytes_eq spot.name u && is_in a spot.area) (own_spot l.held.target) k.looked x);
-  cleared = λ x. names (any_either (λ name. bytes_eq name u) (cond l.held.covered (prepared_name l.held.target) []) k.cleared x);
-})
+pub look_knows : (u : List ℕ) (p : ℕ) (n : Namespace) (s : PodState) (k : Standing) (h : Handle) → Sound n → Pod u n s →
+    Knows u p n s k → (l : Lock p n k h Shared) → Knows u p (and_locked n p h Shared) s (and_held_in k h Shared) →
+    Knows u p (and_locked n p h Shared) s (standing_done k (TryLock h Shared))
+look_knows u p n s k h sound pod old l knows =
+    subst (λ (o : Option Held). Knows u p (and_locked n p h Shared) s (looked_by o (and_held_in k h Shared)))
+    (sym l.found) (record {
+      linked = knows.linked;
+      gated = knows.gated;
+      gates = knows.gates;
+      owned = knows.owned;
+      covered = knows.covered;
+      looked = λ a x. places a (any_either (λ spot. bytes_eq spot.name u && is_in a spot.area) (own_spot l.held.target)
+          k.looked x);
+      cleared = λ x. names (any_either (λ name. bytes_eq name u) (cond l.held.covered (prepared_name l.held.target) [])
+          k.cleared x);
+    })
   where
     same_target : l.held.target ≡ l.opening.target
     same_target = ap (λ (b : Bare). b.target) l.same
@@ -126,20 +152,45 @@ look_knows u p n s k h sound pod old l knows = subst (λ (o : Option Held). Know
     places a (inl x) =
         let y = spot_of u a l.opening.target (ap (λ (t : Target). has_place u a (own_spot t)) (sym same_target) ∙ x) in
         let z = (pod.named l.opening l.there (own_named u l.opening.target y.0)).1 in
-        subst (λ (c : ℕ). c ≤ age s) (sym (free_like a (area_of l.opening.target) y.1)) (free_age (area_of l.opening.target) s z (unowned u n s pod (nobody u p n s k h Shared sound pod l y.0)))
+        subst (λ (c : ℕ). c ≤ age s) (sym (free_like a (area_of l.opening.target) y.1))
+        (free_age (area_of l.opening.target) s z (unowned u n s pod (nobody u p n s k h Shared sound pod l y.0)))
 
-    names : (has_name u (cond l.held.covered (prepared_name l.held.target) []) ≡ true) ⊎ (has_name u k.cleared ≡ true) → Cleared u (and_locked n p h Shared) s (looked_by (Some l.held) (and_held_in k h Shared))
+    names : (has_name u (cond l.held.covered (prepared_name l.held.target) []) ≡ true) ⊎ (has_name u k.cleared ≡ true) →
+        Cleared u (and_locked n p h Shared) s (looked_by (Some l.held) (and_held_in k h Shared))
     names (inr x) = let c = knows.cleared x in record { claim = c.claim; remover = c.remover; past = c.past; free = c.free }
     names (inl x) =
-        let y = name_of u k l.held.covered l.opening.target l.may (ap (λ (t : Target). has_name u (cond l.held.covered (prepared_name t) [])) (sym same_target) ∙ x) in
+        let y = name_of u k l.held.covered l.opening.target l.may
+        (ap (λ (t : Target). has_name u (cond l.held.covered (prepared_name t) [])) (sym same_target) ∙ x) in
         let c = old.covered l.held l.known (ap (is_own_of u) same_target ∙ y.0.0) y.0.1 in
-        let again = knows.covered (held_in h Shared l.held) (map_in (held_in h Shared) l.held k.holdings l.known) (held_own (is_number h l.held) (ap (is_own_of u) same_target ∙ y.0.0)) (held_cover (is_number h l.held) y.0.1) in
-        record { claim = again.1; remover = y.1; past = subst (λ (x : PodState). 4 ≤ age x) (sym c.0) (omega arith); free = λ e. (lock_shared u p n s k h sound pod old l y.0.0).mine y.1 c.0 (nobody u p n s k h Shared sound pod l y.0.0) }
+        let again = knows.covered (held_in h Shared l.held) (map_in (held_in h Shared) l.held k.holdings l.known)
+        (held_own (is_number h l.held) (ap (is_own_of u) same_target ∙ y.0.0))
+        (held_cover (is_number h l.held) y.0.1) in
+        record {
+          claim = again.1;
+          remover = y.1;
+          past = subst (λ (x : PodState). 4 ≤ age x) (sym c.0) (omega arith);
+          free = λ e. (lock_shared u p n s k h sound pod old l y.0.0).mine y.1 c.0
+              (nobody u p n s k h Shared sound pod l y.0.0);
+        }
       where
-        held_own : (b : Bool) → is_own_of u l.held.target ≡ true → is_own_of u (cond b (record { handle = l.held.handle; target = l.held.target; lock = Some Shared; covered = l.held.covered }) l.held).target ≡ true
+        held_own : (b : Bool) → is_own_of u l.held.target ≡ true →
+            is_own_of u (cond b (record {
+              handle = l.held.handle;
+              target = l.held.target;
+              lock = Some Shared;
+              covered =
+                  l.held.covered;
+            }) l.held).target ≡ true
         held_own true x = x
         held_own false x = x
 
-        held_cover : (b : Bool) → l.held.covered ≡ true → (cond b (record { handle = l.held.handle; target = l.held.target; lock = Some Shared; covered = l.held.covered }) l.held).covered ≡ true
+        held_cover : (b : Bool) → l.held.covered ≡ true →
+            (cond b (record {
+              handle = l.held.handle;
+              target = l.held.target;
+              lock = Some Shared;
+              covered =
+                  l.held.covered;
+            }) l.held).covered ≡ true
         held_cover true x = x
         held_cover false x = x

@@ -19,15 +19,17 @@ use Rattle.lifecycle.specs.declared.machine.PodState.TheVariants.{Absent, Embryo
 use Rattle.lifecycle.specs.PodMachine.{is_place, age_in, age_free}
 use Rattle.dir_rules.specs.declared.standing.Standing.{Standing}
 use Rattle.lifecycle.proofs.Lists.{In}
-use Rattle.lifecycle.proofs.World.{both, pair, clash, not_true, nat_same, same_nat}
+use Rattle.lifecycle.proofs.Handles.{both, clash, nat_same}
 use Rattle.lifecycle.proofs.Invariant.{is_named, Pod, Knows, own_named, others}
 use Rattle.std.specs.Prelude.{nat_le}
 use Rattle.lifecycle.proofs.Places.{name_same, same_name, area_same, spot_name, with_folders, made_there, made_elsewhere, none_stands}
 use Rattle.dir_model.specs.declared.intent.Intent.{Intent}
+use Rattle.dir_model.proofs.Lists.{and_both, not_true, same_self}
 
 -- equal locations are places of the same pod
 pub of_same : (u : List ℕ) (a b : Spot) → spot_eq a b ≡ true → is_of u a ≡ is_of u b
-of_same u a b h = ap (λ r. nat_le r 5 && bytes_eq a.name u) (area_same a b h) ∙ ap (λ (v : List ℕ). is_stage b.area && bytes_eq v u) (spot_name a b h)
+of_same u a b h = ap (λ r. nat_le r 5 && bytes_eq a.name u) (area_same a b h)
+    ∙ ap (λ (v : List ℕ). is_stage b.area && bytes_eq v u) (spot_name a b h)
 
 pub of_name : (u : List ℕ) (a : Spot) → is_of u a ≡ true → a.name ≡ u
 of_name u a h = name_same a.name u (both (is_stage a.area) (bytes_eq a.name u) h).1
@@ -63,8 +65,12 @@ named_pod u (Claim spot) h = (both (is_stage spot.area) (bytes_eq spot.name u) h
 named_pod u (Gate a) h = cc
 
 -- before it is made no handle was opened on it
-pub unnamed : {X : Type 0} (u : List ℕ) (n : Namespace) → Pod u n Absent → (o : Opening) → In o n.openings → is_named u o.target ≡ true → X
-unnamed u n pod o i h = let l : age_in (area_of o.target) ≤ 0 = (pod.named o i h).1 in let g : 1 ≤ age_in (area_of o.target) = pod_age (area_of o.target) (named_pod u o.target h) in absurd (omega (arith, l, g))
+pub unnamed : {X : Type 0} (u : List ℕ) (n : Namespace) → Pod u n Absent → (o : Opening) → In o n.openings →
+    is_named u o.target ≡ true → X
+unnamed u n pod o i h =
+    let l : age_in (area_of o.target) ≤ 0 = (pod.named o i h).1 in
+    let g : 1 ≤ age_in (area_of o.target) = pod_age (area_of o.target) (named_pod u o.target h) in
+    absurd (omega (arith, l, g))
 
 abbrev pub and_folder : Namespace → Spot → Namespace
 and_folder n spot = record n { folders = n.folders ++ Some spot ∷ [] }
@@ -76,15 +82,18 @@ pub record Made (u : List ℕ) (k : Standing) (spot : Spot) : Type 0 where
   pub first : k.made ≡ false
   pub gate : holds_gate area.Embryo k ≡ true
 
-pub made_by : (u : List ℕ) (k : Standing) (spot : Spot) → is_stage spot.area ≡ true → may_ask k (MakeFolder spot) ≡ true → Made u k spot
+pub made_by : (u : List ℕ) (k : Standing) (spot : Spot) → is_stage spot.area ≡ true →
+    may_ask k (MakeFolder spot) ≡ true → Made u k spot
 made_by u k spot is may =
     let m : may_make k spot ≡ true = sym (ap (λ b. cond b (may_make k spot) true) is) ∙ may in
-    let x = both (is_in area.Embryo spot.area && draws spot.name k) ((not k.made && began_as is_maker k) && holds_gate area.Embryo k) m in
+    let x = both (is_in area.Embryo spot.area && draws spot.name k)
+    ((not k.made && began_as is_maker k) && holds_gate area.Embryo k) m in
     let y = both (is_in area.Embryo spot.area) (draws spot.name k) x.0 in
     let z = both (not k.made && began_as is_maker k) (holds_gate area.Embryo k) x.1 in
     record { embryo = y.0; draws = y.1; first = not_true k.made (both (not k.made) (began_as is_maker k) z.0).0; gate = z.1 }
 
-pub make_pod : (u : List ℕ) (n : Namespace) (p : ℕ) (spot : Spot) → stands n spot ≡ false → is_of u spot ≡ true → is_in area.Embryo spot.area ≡ true → Pod u n Absent → Pod u (and_folder n spot) (Embryo p)
+pub make_pod : (u : List ℕ) (n : Namespace) (p : ℕ) (spot : Spot) → stands n spot ≡ false → is_of u spot ≡ true →
+    is_in area.Embryo spot.area ≡ true → Pod u n Absent → Pod u (and_folder n spot) (Embryo p)
 make_pod u n p spot free of embryo pod = record {
   number = length n.folders;
   at = λ here is. by here is (spot_eq spot here) refl;
@@ -97,17 +106,27 @@ make_pod u n p spot free of embryo pod = record {
     absent here is = pod.at here is ∙ ap (λ b. cond b (Some pod.number) None) (absent_place here.area)
 
     same : (here : Spot) → is_of u here ≡ true → is_in area.Embryo here.area ≡ true → spot_eq spot here ≡ true
-    same here is e = pair (rank spot.area == rank here.area) (bytes_eq spot.name here.name) (ap (λ r. r == rank here.area) (sym (nat_same 0 (rank spot.area) embryo)) ∙ e) (same_name spot.name here.name (of_name u spot of ∙ sym (of_name u here is)))
+    same here is e = and_both (rank spot.area == rank here.area) (bytes_eq spot.name here.name)
+        (ap (λ r. r == rank here.area) (sym (nat_same 0 (rank spot.area) embryo)) ∙ e)
+        (same_name spot.name here.name (of_name u spot of ∙ sym (of_name u here is)))
 
-    off : (here : Spot) → is_of u here ≡ true → spot_eq spot here ≡ false → (b : Bool) → is_place here.area (Embryo p) ≡ b → is_place here.area (Embryo p) ≡ false
+    off : (here : Spot) → is_of u here ≡ true → spot_eq spot here ≡ false → (b : Bool) →
+        is_place here.area (Embryo p) ≡ b → is_place here.area (Embryo p) ≡ false
     off here is e false x = x
     off here is e true x = clash (spot_eq spot here) (same here is (place_embryo here.area p x)) e
 
-    by : (here : Spot) → is_of u here ≡ true → (b : Bool) → spot_eq spot here ≡ b → folder_at (and_folder n spot) here ≡ cond (is_place here.area (Embryo p)) (Some (length n.folders)) None
-    by here is true e = made_there n here spot (none_stands n spot free) e ∙ sym (ap (λ b. cond b (Some (length n.folders)) None) (embryo_place here.area p (ap (λ r. 0 == r) (sym (area_same spot here e)) ∙ embryo)))
-    by here is false e = made_elsewhere n here spot e ∙ (absent here is ∙ sym (ap (λ b. cond b (Some (length n.folders)) None) (off here is e (is_place here.area (Embryo p)) refl)))
+    by : (here : Spot) → is_of u here ≡ true → (b : Bool) → spot_eq spot here ≡ b →
+        folder_at (and_folder n spot) here ≡ cond (is_place here.area (Embryo p)) (Some (length n.folders)) None
+    by here is true e = made_there n here spot (none_stands n spot free) e
+        ∙ sym (ap (λ b. cond b (Some (length n.folders)) None) (embryo_place here.area p
+        (ap (λ r. 0 == r) (sym (area_same spot here e)) ∙ embryo)))
+    by here is false e = made_elsewhere n here spot e
+        ∙ (absent here is ∙ sym (ap (λ b. cond b (Some (length n.folders)) None)
+        (off here is e (is_place here.area (Embryo p)) refl)))
 
-pub make_knows : (u : List ℕ) (n : Namespace) (p : ℕ) (spot : Spot) (k : Standing) → is_of u spot ≡ true → Made u k spot → Knows u p n Absent k → Knows u p (and_folder n spot) (Embryo p) (record k { made = true; gated = holds_gate area.Embryo k })
+pub make_knows : (u : List ℕ) (n : Namespace) (p : ℕ) (spot : Spot) (k : Standing) → is_of u spot ≡ true →
+    Made u k spot → Knows u p n Absent k → Knows u p (and_folder n spot) (Embryo p)
+    (record k { made = true; gated = holds_gate area.Embryo k })
 make_knows u n p spot k of m knows = record {
   linked = knows.linked;
   gated = λ g d. refl;
@@ -125,13 +144,17 @@ embryo_same p q off e = clash (p == q) (equal p q (out e)) off
     out e = cc
 
     equal : (a b : ℕ) → a ≡ b → (a == b) ≡ true
-    equal a b h = ap (λ k. a == k) (sym h) ∙ same_nat a
+    equal a b h = ap (λ k. a == k) (sym h) ∙ same_self a
 
-pub make_others : (u : List ℕ) (n : Namespace) (p q : ℕ) (spot : Spot) (k : Standing) → (p == q) ≡ false → Knows u q n Absent k → Knows u q (and_folder n spot) (Embryo p) k
-make_others u n p q spot k off knows = others u q n (and_folder n spot) Absent (Embryo p) k refl (omega arith) (λ g d e. absurd (cc)) (λ e. absurd (embryo_same p q off e)) (λ c e. absurd (cc)) (λ l c r e. absurd (cc)) knows
+pub make_others : (u : List ℕ) (n : Namespace) (p q : ℕ) (spot : Spot) (k : Standing) → (p == q) ≡ false →
+    Knows u q n Absent k → Knows u q (and_folder n spot) (Embryo p) k
+make_others u n p q spot k off knows =
+    others u q n (and_folder n spot) Absent (Embryo p) k refl (omega arith) (λ g d e. absurd (cc))
+    (λ e. absurd (embryo_same p q off e)) (λ c e. absurd (cc)) (λ l c r e. absurd (cc)) knows
 
 -- another folder is made
-pub make_pod_other : (u : List ℕ) (n : Namespace) (s : PodState) (spot : Spot) → is_of u spot ≡ false → Pod u n s → Pod u (and_folder n spot) s
+pub make_pod_other : (u : List ℕ) (n : Namespace) (s : PodState) (spot : Spot) → is_of u spot ≡ false → Pod u n s →
+    Pod u (and_folder n spot) s
 make_pod_other u n s spot not_of pod = record {
   number = pod.number;
   at = λ here is. made_elsewhere n here spot (off here is (spot_eq spot here) refl) ∙ pod.at here is;
@@ -144,16 +167,32 @@ make_pod_other u n s spot not_of pod = record {
     off here is false e = e
     off here is true e = clash (is_of u spot) (of_same u spot here e ∙ is) not_of
 
-pub knows_folders : (u : List ℕ) (n : Namespace) (p : ℕ) (s : PodState) (k : Standing) (fs : List (Option Spot)) → Knows u p n s k → Knows u p (with_folders n fs) s k
-knows_folders u n p s k fs knows = record { linked = knows.linked; gated = knows.gated; gates = knows.gates; owned = knows.owned; covered = knows.covered; looked = knows.looked; cleared = λ x. let c = knows.cleared x in record { claim = c.claim; remover = c.remover; past = c.past; free = c.free } }
+pub knows_folders : (u : List ℕ) (n : Namespace) (p : ℕ) (s : PodState) (k : Standing) (fs : List (Option Spot)) →
+    Knows u p n s k → Knows u p (with_folders n fs) s k
+knows_folders u n p s k fs knows =
+    record {
+      linked = knows.linked;
+      gated = knows.gated;
+      gates = knows.gates;
+      owned = knows.owned;
+      covered =
+          knows.covered;
+      looked = knows.looked;
+      cleared = λ x. let c = knows.cleared x in
+          record { claim = c.claim; remover = c.remover; past = c.past; free = c.free };
+    }
 
-pub make_knows_other : (u : List ℕ) (n : Namespace) (p : ℕ) (s : PodState) (spot : Spot) (k : Standing) → is_of u spot ≡ false → may_ask k (MakeFolder spot) ≡ true → Knows u p n s k → Knows u p (and_folder n spot) s (standing_done k (MakeFolder spot))
+pub make_knows_other : (u : List ℕ) (n : Namespace) (p : ℕ) (s : PodState) (spot : Spot) (k : Standing) →
+    is_of u spot ≡ false → may_ask k (MakeFolder spot) ≡ true → Knows u p n s k →
+    Knows u p (and_folder n spot) s (standing_done k (MakeFolder spot))
 make_knows_other u n p s spot k not_of may knows = by (is_stage spot.area) refl
   where
     drawn : is_stage spot.area ≡ true → Made u k spot → draws u k ≡ true → ⊥
-    drawn is m d = clash (is_of u spot) (pair (is_stage spot.area) (bytes_eq spot.name u) is (same_name spot.name u (draws_meet spot.name u k.intent m.draws d))) not_of
+    drawn is m d = clash (is_of u spot) (and_both (is_stage spot.area) (bytes_eq spot.name u) is
+        (same_name spot.name u (draws_meet spot.name u k.intent m.draws d))) not_of
 
-    by : (b : Bool) → is_stage spot.area ≡ b → Knows u p (and_folder n spot) s (cond b (record k { made = true; gated = holds_gate area.Embryo k }) k)
+    by : (b : Bool) → is_stage spot.area ≡ b → Knows u p (and_folder n spot) s
+        (cond b (record k { made = true; gated = holds_gate area.Embryo k }) k)
     by false is = knows_folders u n p s k (n.folders ++ Some spot ∷ []) knows
     by true is = let m = made_by u k spot is may in record {
       linked = knows.linked;

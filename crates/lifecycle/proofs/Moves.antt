@@ -19,12 +19,13 @@ use Rattle.lifecycle.specs.PodMachine.{enabled, turned, arrival, is_grip, is_own
 use Rattle.dir_rules.specs.declared.standing.Held.{Held}
 use Rattle.dir_rules.specs.declared.standing.Standing.{Standing}
 use Rattle.lifecycle.proofs.Lists.{In, in_map}
-use Rattle.lifecycle.proofs.World.{both, pair, clash, not_true, nat_same, same_nat}
+use Rattle.lifecycle.proofs.Handles.{both, clash, nat_same}
 use Rattle.lifecycle.proofs.Linked.{Linked, linked_own}
 use Rattle.lifecycle.proofs.Invariant.{may_own, Pod, Knows, others}
 use Rattle.lifecycle.proofs.Places.{same_name, area_same, moved_there, moved_away, moved_elsewhere, none_stands}
 use Rattle.lifecycle.proofs.Closes.{any_mapped}
 use Rattle.lifecycle.proofs.Makes.{of_same, of_name}
+use Rattle.dir_model.proofs.Lists.{and_both, not_true, same_self}
 
 -- the number of the place where it stands
 abbrev place_rank : PodState → ℕ
@@ -62,7 +63,8 @@ pub place_like : (a b : Area) (s : PodState) → rank a ≡ rank b → is_place 
 place_like a b s e = place_is a s ∙ (ap (λ r. r == place_rank s) e ∙ sym (place_is b s))
 
 pub place_once : (a b : Area) (s : PodState) → is_place a s ≡ true → is_place b s ≡ true → rank a ≡ rank b
-place_once a b s h k = nat_same (rank a) (place_rank s) (sym (place_is a s) ∙ h) ∙ sym (nat_same (rank b) (place_rank s) (sym (place_is b s) ∙ k))
+place_once a b s h k = nat_same (rank a) (place_rank s) (sym (place_is a s) ∙ h)
+    ∙ sym (nat_same (rank b) (place_rank s) (sym (place_is b s) ∙ k))
 
 pub embryo_is : (s : PodState) → is_place area.Embryo s ≡ true → (m : ℕ) × (s ≡ Embryo m)
 embryo_is (Embryo m) h = (m, refl)
@@ -92,14 +94,21 @@ pub record Arrival (u : List ℕ) (p : ℕ) (n : Namespace) (s t : PodState) (b 
   pub owns : (o : Opening) → In o n.openings → is_grip u o ≡ true → may_own t o.process (area_of o.target) ≡ true
   pub held : (q : ℕ) → is_owner q t ≡ true → (o : Opening) × (In o n.openings × ((is_grip u o ≡ true) × (o.process ≡ q)))
   -- no other process finds its own pod gone from embryo, or the pod that it claims from prepared
-  pub leaves : (q : ℕ) (l : Standing) → (p == q) ≡ false → Linked q n l → l.gated ≡ true → holds_gate area.Embryo l ≡ true → s ≡ Embryo q → ⊥
+  pub leaves : (q : ℕ) (l : Standing) → (p == q) ≡ false → Linked q n l → l.gated ≡ true →
+      holds_gate area.Embryo l ≡ true → s ≡ Embryo q → ⊥
   pub claims : (q : ℕ) (l : Standing) → (p == q) ≡ false → Linked q n l → holds_claim u l ≡ true → s ≡ Prepared → ⊥
 
-pub move_pod : (u : List ℕ) (n : Namespace) (s t : PodState) (p : ℕ) (from to : Spot) (pod : Pod u n s) → is_of u from ≡ true → is_of u to ≡ true → is_place from.area s ≡ true → stands n to ≡ false → Arrival u p n s t to.area → Pod u (and_moved n from to) t
+pub move_pod : (u : List ℕ) (n : Namespace) (s t : PodState) (p : ℕ) (from to : Spot) (pod : Pod u n s) →
+    is_of u from ≡ true → is_of u to ≡ true → is_place from.area s ≡ true → stands n to ≡ false →
+    Arrival u p n s t to.area → Pod u (and_moved n from to) t
 move_pod u n s t p from to pod of_from of_to there free arrives = record {
   number = pod.number;
   at = λ here is. by here is (spot_eq to here) (spot_eq from here) refl refl;
-  named = λ o i h. let x = pod.named o i h in (x.0, (let l : age_in (area_of o.target) ≤ age s = x.1 in let g : age s ≤ age t = arrives.aged in omega (arith, l, g)));
+  named = λ o i h. let x = pod.named o i h in (
+    x.0,
+    (let l : age_in (area_of o.target) ≤ age s = x.1 in let g : age s ≤ age t = arrives.aged in
+        omega (arith, l, g)),
+  );
   owns = arrives.owns;
   held = arrives.held;
 }
@@ -108,18 +117,33 @@ move_pod u n s t p from to pod of_from of_to there free arrives = record {
     none here false e = refl
     none here true e = cc
 
-    away : (here : Spot) (x : PodState) (spot : Spot) → is_of u here ≡ true → is_of u spot ≡ true → is_place spot.area x ≡ true → spot_eq spot here ≡ false → (b : Bool) → is_place here.area x ≡ b → is_place here.area x ≡ false
+    away : (here : Spot) (x : PodState) (spot : Spot) → is_of u here ≡ true → is_of u spot ≡ true →
+        is_place spot.area x ≡ true → spot_eq spot here ≡ false → (b : Bool) → is_place here.area x ≡ b →
+        is_place here.area x ≡ false
     away here x spot is of at off false e = e
-    away here x spot is of at off true e = clash (spot_eq spot here) (pair (rank spot.area == rank here.area) (bytes_eq spot.name here.name) (ap (λ r. rank spot.area == r) (sym (place_once spot.area here.area x at e)) ∙ same_nat (rank spot.area)) (same_name spot.name here.name (of_name u spot of ∙ sym (of_name u here is)))) off
+    away here x spot is of at off true e =
+        clash (spot_eq spot here) (and_both (rank spot.area == rank here.area) (bytes_eq spot.name here.name)
+        (ap (λ r. rank spot.area == r) (sym (place_once spot.area here.area x at e)) ∙ same_self (rank spot.area))
+        (same_name spot.name here.name (of_name u spot of ∙ sym (of_name u here is)))) off
 
-    by : (here : Spot) → is_of u here ≡ true → (b c : Bool) → spot_eq to here ≡ b → spot_eq from here ≡ c → folder_at (and_moved n from to) here ≡ cond (is_place here.area t) (Some pod.number) None
-    by here is true c e f = moved_there n here from to (none_stands n to free) e ∙ (pod.at from of_from ∙ (ap (λ b. cond b (Some pod.number) None) there ∙ sym (ap (λ b. cond b (Some pod.number) None) (sym (place_like to.area here.area t (area_same to here e)) ∙ arrives.place))))
-    by here is false true e f = moved_away n here from to e f ∙ none here (is_place here.area t) (away here t to is of_to arrives.place e (is_place here.area t) refl)
-    by here is false false e f = moved_elsewhere n here from to e f ∙ (pod.at here is ∙ (ap (λ b. cond b (Some pod.number) None) (away here s from is of_from there f (is_place here.area s) refl) ∙ none here (is_place here.area t) (away here t to is of_to arrives.place e (is_place here.area t) refl)))
+    by : (here : Spot) → is_of u here ≡ true → (b c : Bool) → spot_eq to here ≡ b → spot_eq from here ≡ c →
+        folder_at (and_moved n from to) here ≡ cond (is_place here.area t) (Some pod.number) None
+    by here is true c e f = moved_there n here from to (none_stands n to free) e
+        ∙ (pod.at from of_from ∙ (ap (λ b. cond b (Some pod.number) None) there
+        ∙ sym (ap (λ b. cond b (Some pod.number) None) (sym (place_like to.area here.area t (area_same to here e))
+        ∙ arrives.place))))
+    by here is false true e f = moved_away n here from to e f
+        ∙ none here (is_place here.area t) (away here t to is of_to arrives.place e (is_place here.area t) refl)
+    by here is false false e f = moved_elsewhere n here from to e f
+        ∙ (pod.at here is ∙ (ap (λ b. cond b (Some pod.number) None)
+        (away here s from is of_from there f (is_place here.area s) refl)
+        ∙ none here (is_place here.area t) (away here t to is of_to arrives.place e (is_place here.area t) refl)))
 
-pub move_others : (u : List ℕ) (n : Namespace) (s t : PodState) (p q : ℕ) (from to : Spot) (l : Standing) → (p == q) ≡ false → Arrival u p n s t to.area → Knows u q n s l → Knows u q (and_moved n from to) t l
+pub move_others : (u : List ℕ) (n : Namespace) (s t : PodState) (p q : ℕ) (from to : Spot) (l : Standing) →
+    (p == q) ≡ false → Arrival u p n s t to.area → Knows u q n s l → Knows u q (and_moved n from to) t l
 move_others u n s t p q from to l off arrives knows = others u q n (and_moved n from to) s t l refl arrives.aged
-    (λ g d e. absurd (arrives.leaves q l off knows.linked g (knows.gates g) e)) (λ e. absurd (arrives.past_embryo q e)) (λ c e. absurd (arrives.claims q l off knows.linked c e))
+    (λ g d e. absurd (arrives.leaves q l off knows.linked g (knows.gates g) e)) (λ e. absurd (arrives.past_embryo q e))
+    (λ c e. absurd (arrives.claims q l off knows.linked c e))
     (λ past c r e. let x : age s ≤ 3 = arrives.before e in absurd (omega (arith, past, x))) knows
 
 in_embryo : (a : Area) (s : PodState) (p : ℕ) → is_place a s ≡ true → s ≡ Embryo p → is_in area.Embryo a ≡ true
@@ -129,11 +153,18 @@ in_embryo a s p h e = from a (ap (is_place a) (sym e) ∙ h)
     from area.Embryo h = refl
     from a h = cc
 
-pub move_knows : (u : List ℕ) (n : Namespace) (s t : PodState) (p : ℕ) (from to : Spot) (k : Standing) → is_of u from ≡ true → is_of u to ≡ true → is_place from.area s ≡ true → Arrival u p n s t to.area → Knows u p n s k → Knows u p (and_moved n from to) t (standing_done k (MoveFolder from to))
+pub move_knows : (u : List ℕ) (n : Namespace) (s t : PodState) (p : ℕ) (from to : Spot) (k : Standing) →
+    is_of u from ≡ true → is_of u to ≡ true → is_place from.area s ≡ true → Arrival u p n s t to.area →
+    Knows u p n s k → Knows u p (and_moved n from to) t (standing_done k (MoveFolder from to))
 move_knows u n s t p from to k of_from of_to there arrives knows = record {
   linked = linked_own p n k (MoveFolder from to) Done refl knows.linked;
-  gated = λ g d. let x = both (not (is_in area.Embryo from.area && draws from.name k)) k.gated g in absurd (clash (is_in area.Embryo from.area && draws from.name k) (pair (is_in area.Embryo from.area) (draws from.name k) (in_embryo from.area s p there (knows.gated x.1 d)) (ap (λ (v : List ℕ). draws v k) (of_name u from of_from) ∙ d)) (not_true (is_in area.Embryo from.area && draws from.name k) x.0));
-  gates = λ g. same (is_gate_shared area.Embryo) (λ h. refl) ∙ knows.gates (both (not (is_in area.Embryo from.area && draws from.name k)) k.gated g).1;
+  gated = λ g d. let x = both (not (is_in area.Embryo from.area && draws from.name k)) k.gated g in
+      absurd (clash (is_in area.Embryo from.area && draws from.name k)
+      (and_both (is_in area.Embryo from.area) (draws from.name k) (in_embryo from.area s p there (knows.gated x.1 d))
+      (ap (λ (v : List ℕ). draws v k) (of_name u from of_from) ∙ d))
+      (not_true (is_in area.Embryo from.area && draws from.name k) x.0));
+  gates = λ g. same (is_gate_shared area.Embryo) (λ h. refl)
+      ∙ knows.gates (both (not (is_in area.Embryo from.area && draws from.name k)) k.gated g).1;
   owned = λ e x. absurd (arrives.past_embryo p e);
   covered = λ h i x c. absurd (uncovered h (in_map (uncover from) k.holdings h i) x c);
   looked = λ a x. let l : age_free a ≤ age s = knows.looked a x in let g : age s ≤ age t = arrives.aged in omega (arith, l, g);
@@ -145,40 +176,65 @@ move_knows u n s t p from to k of_from of_to there arrives knows = record {
   };
 }
   where
-    same : (r : Held → Bool) → ((h : Held) → r (uncover from h) ≡ r h) → list_any r (map (uncover from) k.holdings) ≡ list_any r k.holdings
+    same : (r : Held → Bool) → ((h : Held) → r (uncover from h) ≡ r h) →
+        list_any r (map (uncover from) k.holdings) ≡ list_any r k.holdings
     same r e = any_mapped r (uncover from) k.holdings e
 
-    uncovered : (h : Held) → (x : Held) × (In x k.holdings × (h ≡ uncover from x)) → is_own_of u h.target ≡ true → h.covered ≡ true → ⊥
+    uncovered : (h : Held) → (x : Held) × (In x k.holdings × (h ≡ uncover from x)) → is_own_of u h.target ≡ true →
+        h.covered ≡ true → ⊥
     uncovered h (x, (i, e)) of c =
-        let y = both (not (is_stage from.area && is_own_of from.name x.target)) x.covered (subst (λ (z : Held). z.covered ≡ true) e c) in
-        clash (is_stage from.area && is_own_of from.name x.target) (pair (is_stage from.area) (is_own_of from.name x.target) (both (is_stage from.area) (bytes_eq from.name u) of_from).0 (ap (λ (v : List ℕ). is_own_of v x.target) (of_name u from of_from) ∙ subst (λ (z : Held). is_own_of u z.target ≡ true) e of)) (not_true (is_stage from.area && is_own_of from.name x.target) y.0)
+        let y = both (not (is_stage from.area && is_own_of from.name x.target)) x.covered
+        (subst (λ (z : Held). z.covered ≡ true) e c) in
+        clash (is_stage from.area && is_own_of from.name x.target)
+        (and_both (is_stage from.area) (is_own_of from.name x.target)
+        (both (is_stage from.area) (bytes_eq from.name u) of_from).0
+        (ap (λ (v : List ℕ). is_own_of v x.target) (of_name u from of_from)
+        ∙ subst (λ (z : Held). is_own_of u z.target ≡ true) e of))
+        (not_true (is_stage from.area && is_own_of from.name x.target) y.0)
 
 -- another folder is moved
-pub move_pod_other : (u : List ℕ) (n : Namespace) (s : PodState) (from to : Spot) → is_of u from ≡ false → is_of u to ≡ false → Pod u n s → Pod u (and_moved n from to) s
+pub move_pod_other : (u : List ℕ) (n : Namespace) (s : PodState) (from to : Spot) → is_of u from ≡ false →
+    is_of u to ≡ false → Pod u n s → Pod u (and_moved n from to) s
 move_pod_other u n s from to not_from not_to pod = record {
   number = pod.number;
-  at = λ here is. moved_elsewhere n here from to (off to here not_to is (spot_eq to here) refl) (off from here not_from is (spot_eq from here) refl) ∙ pod.at here is;
+  at = λ here is. moved_elsewhere n here from to (off to here not_to is (spot_eq to here) refl)
+      (off from here not_from is (spot_eq from here) refl) ∙ pod.at here is;
   named = pod.named;
   owns = pod.owns;
   held = pod.held;
 }
   where
-    off : (spot here : Spot) → is_of u spot ≡ false → is_of u here ≡ true → (b : Bool) → spot_eq spot here ≡ b → spot_eq spot here ≡ false
+    off : (spot here : Spot) → is_of u spot ≡ false → is_of u here ≡ true → (b : Bool) → spot_eq spot here ≡ b →
+        spot_eq spot here ≡ false
     off spot here not_of is false e = e
     off spot here not_of is true e = clash (is_of u spot) (of_same u spot here e ∙ is) not_of
 
-pub move_knows_other : (u : List ℕ) (n : Namespace) (s : PodState) (p : ℕ) (from to : Spot) (k : Standing) → (is_in area.Embryo from.area ≡ true → draws from.name k ≡ true → draws u k ≡ true → ⊥) → Knows u p n s k → Knows u p (and_moved n from to) s (standing_done k (MoveFolder from to))
+pub move_knows_other : (u : List ℕ) (n : Namespace) (s : PodState) (p : ℕ) (from to : Spot) (k : Standing) →
+    (is_in area.Embryo from.area ≡ true → draws from.name k ≡ true → draws u k ≡ true → ⊥) → Knows u p n s k →
+    Knows u p (and_moved n from to) s (standing_done k (MoveFolder from to))
 move_knows_other u n s p from to k apart knows = record {
   linked = linked_own p n k (MoveFolder from to) Done refl knows.linked;
   gated = λ g d. knows.gated (both (not (is_in area.Embryo from.area && draws from.name k)) k.gated g).1 d;
-  gates = λ g. same (is_gate_shared area.Embryo) (λ h. refl) ∙ knows.gates (both (not (is_in area.Embryo from.area && draws from.name k)) k.gated g).1;
-  owned = λ e x. let y = knows.owned e (sym (same (is_own_held u) (λ h. refl)) ∙ x) in (pair (not (is_in area.Embryo from.area && draws from.name k)) k.gated (unmoved y.1 (is_in area.Embryo from.area) (draws from.name k) refl refl) y.0, y.1);
+  gates = λ g. same (is_gate_shared area.Embryo) (λ h. refl)
+      ∙ knows.gates (both (not (is_in area.Embryo from.area && draws from.name k)) k.gated g).1;
+  owned = λ e x. let y = knows.owned e (sym (same (is_own_held u) (λ h. refl)) ∙ x) in (
+    and_both (not (is_in area.Embryo from.area && draws from.name k)) k.gated
+        (unmoved y.1 (is_in area.Embryo from.area) (draws from.name k) refl refl) y.0,
+    y.1,
+  );
   covered = λ h i x c. cover h (in_map (uncover from) k.holdings h i) x c;
   looked = knows.looked;
-  cleared = λ x. let c = knows.cleared x in record { claim = same (is_claim_held u) (λ h. refl) ∙ c.claim; remover = c.remover; past = c.past; free = c.free };
+  cleared = λ x. let c = knows.cleared x in record {
+    claim = same (is_claim_held u) (λ h. refl) ∙ c.claim;
+    remover =
+        c.remover;
+    past = c.past;
+    free = c.free;
+  };
 }
   where
-    same : (r : Held → Bool) → ((h : Held) → r (uncover from h) ≡ r h) → list_any r (map (uncover from) k.holdings) ≡ list_any r k.holdings
+    same : (r : Held → Bool) → ((h : Held) → r (uncover from h) ≡ r h) →
+        list_any r (map (uncover from) k.holdings) ≡ list_any r k.holdings
     same r e = any_mapped r (uncover from) k.holdings e
 
     unmoved : draws u k ≡ true → (b c : Bool) → is_in area.Embryo from.area ≡ b → draws from.name k ≡ c → not (b && c) ≡ true
@@ -186,8 +242,10 @@ move_knows_other u n s p from to k apart knows = record {
     unmoved d true false e f = refl
     unmoved d false c e f = refl
 
-    cover : (h : Held) → (x : Held) × (In x k.holdings × (h ≡ uncover from x)) → is_own_of u h.target ≡ true → h.covered ≡ true → (s ≡ Prepared) × (holds_claim u (standing_done k (MoveFolder from to)) ≡ true)
+    cover : (h : Held) → (x : Held) × (In x k.holdings × (h ≡ uncover from x)) → is_own_of u h.target ≡ true →
+        h.covered ≡ true → (s ≡ Prepared) × (holds_claim u (standing_done k (MoveFolder from to)) ≡ true)
     cover h (x, (i, e)) of c =
-        let y = both (not (is_stage from.area && is_own_of from.name x.target)) x.covered (subst (λ (z : Held). z.covered ≡ true) e c) in
+        let y = both (not (is_stage from.area && is_own_of from.name x.target)) x.covered
+        (subst (λ (z : Held). z.covered ≡ true) e c) in
         let z = knows.covered x i (subst (λ (z : Held). is_own_of u z.target ≡ true) e of) y.1 in
         (z.0, same (is_claim_held u) (λ h. refl) ∙ z.1)

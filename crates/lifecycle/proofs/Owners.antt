@@ -25,8 +25,8 @@ use Rattle.lifecycle.specs.declared.machine.Transition.TheVariants as turn
 use Rattle.lifecycle.specs.PodMachine.{enabled, leads, turned, transition, arrival, if_so, on_opening, look, is_deleter, is_grip, is_owner, is_gone, age, age_in}
 use Rattle.dir_rules.specs.declared.standing.Held.{Held}
 use Rattle.dir_rules.specs.declared.standing.Standing.{Standing}
-use Rattle.lifecycle.proofs.Lists.{In}
-use Rattle.lifecycle.proofs.World.{both, pair, nat_same, same_nat}
+use Rattle.lifecycle.proofs.Lists.{In, or_left}
+use Rattle.lifecycle.proofs.Handles.{both, nat_same}
 use Rattle.lifecycle.proofs.Linked.{own}
 use Rattle.lifecycle.proofs.Invariant.{may_own, own_named, holding, held_by, grip_of}
 use Rattle.dir_model.specs.declared.event.Event.{Event}
@@ -35,6 +35,7 @@ use Rattle.lifecycle.specs.Executions.{IsConforming}
 use Rattle.lifecycle.proofs.Lives.{saw_other, saw_me}
 use Rattle.lifecycle.proofs.Step.{Given, stepped}
 use Rattle.lifecycle.proofs.Run.{Good, ConformingFrom, given, next_good, conforming_tail, good_start, conforming_from, good}
+use Rattle.dir_model.proofs.Lists.{and_both, or_last, same_self}
 
 -- the states in which this process moved it last to prepare, and to run
 abbrev pub after_prepare : PodState → ℕ → Bool
@@ -71,7 +72,8 @@ not_me : {X : Type 0} (p q : ℕ) → (p == q) ≡ false → (q == p) ≡ true �
 not_me p q off h = absurd (grind (arith, nat_tests))
 
 -- another process's transition
-other_prepare : (x : Transition) (p q : ℕ) (s : PodState) → (p == q) ≡ false → enabled x p s ≡ true → after_prepare s q ≡ true → after_prepare (leads x p s) q ≡ true
+other_prepare : (x : Transition) (p q : ℕ) (s : PodState) → (p == q) ≡ false → enabled x p s ≡ true →
+    after_prepare s q ≡ true → after_prepare (leads x p s) q ≡ true
 other_prepare turn.Finish p q (Preparing o) off e h = apart p q o off e h
 other_prepare turn.Start p q (Preparing o) off e h = apart p q o off e h
 other_prepare turn.End p q (Preparing o) off e h = refl
@@ -85,7 +87,8 @@ other_prepare turn.BeginPrepare p q (Embryo m) off e h = cc
 other_prepare turn.Mark p q Exited off e h = cc
 other_prepare x p q s off e h = cc
 
-other_run : (x : Transition) (p q : ℕ) (s : PodState) → (p == q) ≡ false → enabled x p s ≡ true → after_run s q ≡ true → after_run (leads x p s) q ≡ true
+other_run : (x : Transition) (p q : ℕ) (s : PodState) → (p == q) ≡ false → enabled x p s ≡ true → after_run s q ≡ true →
+    after_run (leads x p s) q ≡ true
 other_run turn.End p q (Running o) off e h = refl
 other_run turn.End p q (Deleting o area.ExitedGarbage) off e h = refl
 other_run turn.End p q (Deleting o f) off e h = cc
@@ -99,12 +102,14 @@ other_run turn.Start p q (Preparing o) off e h = cc
 other_run turn.Sweep p q Prepared off e h = cc
 other_run x p q s off e h = cc
 
-other_last : (x : Transition) (p q : ℕ) (s : PodState) (a : Area) → (p == q) ≡ false → enabled x p s ≡ true → may_last s q a ≡ true → may_last (leads x p s) q a ≡ true
+other_last : (x : Transition) (p q : ℕ) (s : PodState) (a : Area) → (p == q) ≡ false → enabled x p s ≡ true →
+    may_last s q a ≡ true → may_last (leads x p s) q a ≡ true
 other_last x p q s area.Prepare off e h = other_prepare x p q s off e h
 other_last x p q s area.Run off e h = other_run x p q s off e h
 other_last x p q s a off e h = refl
 
-other_owner : {X : Type 0} (x : Transition) (p q : ℕ) (s : PodState) → (p == q) ≡ false → enabled x p s ≡ true → is_owner q (leads x p s) ≡ true → X
+other_owner : {X : Type 0} (x : Transition) (p q : ℕ) (s : PodState) → (p == q) ≡ false → enabled x p s ≡ true →
+    is_owner q (leads x p s) ≡ true → X
 other_owner turn.BeginPrepare p q s off e h = not_me p q off h
 other_owner turn.Start p q s off e h = not_me p q off h
 other_owner turn.BeginDelete p q s off e h = not_me p q off h
@@ -120,7 +125,8 @@ is_stay turn.BeginDelete = true
 is_stay turn.Remove = true
 is_stay x = false
 
-own_prepare : (x : Transition) (p : ℕ) (s : PodState) → is_stay x ≡ true → enabled x p s ≡ true → after_prepare s p ≡ true → after_prepare (leads x p s) p ≡ true
+own_prepare : (x : Transition) (p : ℕ) (s : PodState) → is_stay x ≡ true → enabled x p s ≡ true →
+    after_prepare s p ≡ true → after_prepare (leads x p s) p ≡ true
 own_prepare turn.End p (Preparing o) i e h = refl
 own_prepare turn.End p (Deleting o area.ExitedGarbage) i e h = cc
 own_prepare turn.End p (Deleting o f) i e h = refl
@@ -129,7 +135,8 @@ own_prepare turn.Remove p s i e h = refl
 own_prepare turn.Make p Absent i e h = cc
 own_prepare x p s i e h = cc
 
-own_run : (x : Transition) (p : ℕ) (s : PodState) → is_stay x ≡ true → enabled x p s ≡ true → after_run s p ≡ true → after_run (leads x p s) p ≡ true
+own_run : (x : Transition) (p : ℕ) (s : PodState) → is_stay x ≡ true → enabled x p s ≡ true → after_run s p ≡ true →
+    after_run (leads x p s) p ≡ true
 own_run turn.End p (Running o) i e h = refl
 own_run turn.End p (Deleting o area.ExitedGarbage) i e h = refl
 own_run turn.End p (Deleting o f) i e h = cc
@@ -138,12 +145,14 @@ own_run turn.Remove p s i e h = refl
 own_run turn.Make p Absent i e h = cc
 own_run x p s i e h = cc
 
-own_last : (x : Transition) (p : ℕ) (s : PodState) (a : Area) → is_stay x ≡ true → enabled x p s ≡ true → may_last s p a ≡ true → may_last (leads x p s) p a ≡ true
+own_last : (x : Transition) (p : ℕ) (s : PodState) (a : Area) → is_stay x ≡ true → enabled x p s ≡ true →
+    may_last s p a ≡ true → may_last (leads x p s) p a ≡ true
 own_last x p s area.Prepare i e h = own_prepare x p s i e h
 own_last x p s area.Run i e h = own_run x p s i e h
 own_last x p s a i e h = refl
 
-own_owner : (x : Transition) (p : ℕ) (s : PodState) → is_stay x ≡ true → enabled x p s ≡ true → is_owner p (leads x p s) ≡ true → is_deleting (leads x p s) ≡ true
+own_owner : (x : Transition) (p : ℕ) (s : PodState) → is_stay x ≡ true → enabled x p s ≡ true →
+    is_owner p (leads x p s) ≡ true → is_deleting (leads x p s) ≡ true
 own_owner turn.BeginDelete p s i e h = refl
 own_owner turn.End p (Deleting o area.ExitedGarbage) i e h = cc
 own_owner turn.End p (Deleting o f) i e h = cc
@@ -153,35 +162,57 @@ own_owner x p s i e h = cc
 abbrev Turns : Option Transition → ℕ → PodState → PodState → Type 0
 Turns o p s t = (t ≡ s) ⊎ ((x : Transition) × ((o ≡ Some x) × ((enabled x p s ≡ true) × (t ≡ leads x p s))))
 
-turns : (o : Option Transition) (p : ℕ) (s : PodState) → ((x : Transition) → o ≡ Some x → enabled x p s ≡ true) → Turns o p s (turned o p s)
+turns : (o : Option Transition) (p : ℕ) (s : PodState) → ((x : Transition) → o ≡ Some x → enabled x p s ≡ true) →
+    Turns o p s (turned o p s)
 turns None p s has = inl refl
 turns (Some x) p s has = inr (x, (refl, (has x refl, ap (λ b. cond b (leads x p s) s) (has x refl))))
 
-or_first : (a b : Bool) → a ≡ true → (a || b) ≡ true
-or_first true b h = refl
-or_first false b h = cc
-
-pub traced_other : (u : List ℕ) (o : Option Transition) (p q : ℕ) (s t : PodState) (k : Standing) → (p == q) ≡ false → Turns o p s t → Traced u q s k → Traced u q t k
+pub traced_other : (u : List ℕ) (o : Option Transition) (p q : ℕ) (s t : PodState) (k : Standing) → (p == q) ≡ false →
+    Turns o p s t → Traced u q s k → Traced u q t k
 traced_other u o p q s t k off (inl e) x = subst (λ (z : PodState). Traced u q z k) (sym e) x
-traced_other u o p q s t k off (inr (y, (is, (able, e)))) x = subst (λ (z : PodState). Traced u q z k) (sym e) (record { last = λ spot h. other_last y p q s spot.area off able (x.last spot h); mover = λ h. other_owner y p q s off able h })
+traced_other u o p q s t k off (inr (y, (is, (able, e)))) x =
+    subst (λ (z : PodState). Traced u q z k) (sym e)
+    (record {
+      last = λ spot h. other_last y p q s spot.area off able (x.last spot h);
+      mover =
+          λ h. other_owner y p q s off able h;
+    })
 
-pub traced_stay : (u : List ℕ) (o : Option Transition) (p : ℕ) (s t : PodState) (k l : Standing) → ((x : Transition) → o ≡ Some x → is_stay x ≡ true) → last_of u l.moves ≡ last_of u k.moves → Turns o p s t → Traced u p s k → Traced u p t l
-traced_stay u o p s t k l stay same (inl e) x = subst (λ (z : PodState). Traced u p z l) (sym e) (record { last = λ spot h. x.last spot (sym same ∙ h); mover = λ h. ap (λ (m : Option Spot). is_deleting s || on_spot (λ spot. is_in area.Prepare spot.area || is_in area.Run spot.area) m) same ∙ x.mover h })
-traced_stay u o p s t k l stay same (inr (y, (is, (able, e)))) x = subst (λ (z : PodState). Traced u p z l) (sym e) (record { last = λ spot h. own_last y p s spot.area (stay y is) able (x.last spot (sym same ∙ h)); mover = λ h. or_first (is_deleting (leads y p s)) (moved_in u l) (own_owner y p s (stay y is) able h) })
+pub traced_stay : (u : List ℕ) (o : Option Transition) (p : ℕ) (s t : PodState) (k l : Standing) →
+    ((x : Transition) → o ≡ Some x → is_stay x ≡ true) → last_of u l.moves ≡ last_of u k.moves → Turns o p s t →
+    Traced u p s k → Traced u p t l
+traced_stay u o p s t k l stay same (inl e) x =
+    subst (λ (z : PodState). Traced u p z l) (sym e)
+    (record {
+      last = λ spot h. x.last spot (sym same ∙ h);
+      mover =
+          λ h. ap (λ (m : Option Spot). is_deleting s || on_spot (λ spot. is_in area.Prepare spot.area || is_in area.Run
+          spot.area) m) same ∙ x.mover h;
+    })
+traced_stay u o p s t k l stay same (inr (y, (is, (able, e)))) x =
+    subst (λ (z : PodState). Traced u p z l) (sym e)
+    (record {
+      last = λ spot h. own_last y p s spot.area (stay y is) able (x.last spot (sym same ∙ h));
+      mover =
+          λ h. or_left (is_deleting (leads y p s)) (moved_in u l) (own_owner y p s (stay y is) able h);
+    })
 
 -- a move of the pod
 arrived : (a : Area) (x : Transition) (p : ℕ) (s : PodState) → arrival a ≡ Some x → may_last (leads x p s) p a ≡ true
-arrived area.Prepare x p s is = subst (λ (y : Transition). may_last (leads y p s) p area.Prepare ≡ true) (out turn.BeginPrepare x is) (same_nat p)
+arrived area.Prepare x p s is =
+    subst (λ (y : Transition). may_last (leads y p s) p area.Prepare ≡ true) (out turn.BeginPrepare x is) (same_self p)
   where
     out : (a b : Transition) → Some a ≡ Some b → a ≡ b
     out a b e = cc
-arrived area.Run x p s is = subst (λ (y : Transition). may_last (leads y p s) p area.Run ≡ true) (out turn.Start x is) (same_nat p)
+arrived area.Run x p s is = subst (λ (y : Transition). may_last (leads y p s) p area.Run ≡ true) (out turn.Start x is)
+    (same_self p)
   where
     out : (a b : Transition) → Some a ≡ Some b → a ≡ b
     out a b e = cc
 arrived a x p s is = refl
 
-arrived_in : (a : Area) (x : Transition) (p : ℕ) (s : PodState) → arrival a ≡ Some x → is_owner p (leads x p s) ≡ true → (is_in area.Prepare a || is_in area.Run a) ≡ true
+arrived_in : (a : Area) (x : Transition) (p : ℕ) (s : PodState) → arrival a ≡ Some x → is_owner p (leads x p s) ≡ true →
+    (is_in area.Prepare a || is_in area.Run a) ≡ true
 arrived_in area.Prepare x p s is own = refl
 arrived_in area.Run x p s is own = refl
 arrived_in area.Prepared x p s is own = none turn.Finish x is (λ (y : Transition). is_owner p (leads y p s) ≡ true) own (λ h. h)
@@ -191,7 +222,8 @@ arrived_in area.Prepared x p s is own = none turn.Finish x is (λ (y : Transitio
       where
         out : Some a ≡ Some b → a ≡ b
         out e = cc
-arrived_in area.ExitedGarbage x p s is own = none turn.Mark x is (λ (y : Transition). is_owner p (leads y p s) ≡ true) own (λ h. h)
+arrived_in area.ExitedGarbage x p s is own =
+    none turn.Mark x is (λ (y : Transition). is_owner p (leads y p s) ≡ true) own (λ h. h)
   where
     none : (a b : Transition) → Some a ≡ Some b → (P : Transition → Type 0) → P b → (P a → false ≡ true) → false ≡ true
     none a b e P h f = f (subst P (sym (out e)) h)
@@ -207,18 +239,20 @@ arrived_in area.Garbage x p s is own = none turn.Sweep x is (λ (y : Transition)
         out e = cc
 arrived_in a x p s is own = cc
 
-pub or_second : (a b : Bool) → b ≡ true → (a || b) ≡ true
-or_second true b h = refl
-or_second false b h = h
-
-pub traced_move : (u : List ℕ) (p : ℕ) (s t : PodState) (k : Standing) (from to : Spot) → is_of u to ≡ true → (x : Transition) → arrival to.area ≡ Some x → t ≡ leads x p s → Traced u p t (standing_done k (MoveFolder from to))
-traced_move u p s t k from to of x is e = subst (λ (z : PodState). Traced u p z (standing_done k (MoveFolder from to))) (sym e) (record {
-  last = λ spot h. subst (λ (z : Spot). may_last (leads x p s) p z.area ≡ true) (out spot (sym newest ∙ h)) (arrived to.area x p s is);
-  mover = λ h. or_second (is_deleting (leads x p s)) (moved_in u (standing_done k (MoveFolder from to))) (ap (λ (m : Option Spot). on_spot (λ spot. is_in area.Prepare spot.area || is_in area.Run spot.area) m) newest ∙ arrived_in to.area x p s is h);
-})
+pub traced_move : (u : List ℕ) (p : ℕ) (s t : PodState) (k : Standing) (from to : Spot) → is_of u to ≡ true →
+    (x : Transition) → arrival to.area ≡ Some x → t ≡ leads x p s → Traced u p t (standing_done k (MoveFolder from to))
+traced_move u p s t k from to of x is e =
+    subst (λ (z : PodState). Traced u p z (standing_done k (MoveFolder from to))) (sym e) (record {
+      last = λ spot h. subst (λ (z : Spot). may_last (leads x p s) p z.area ≡ true) (out spot (sym newest ∙ h))
+          (arrived to.area x p s is);
+      mover = λ h. or_last (is_deleting (leads x p s)) (moved_in u (standing_done k (MoveFolder from to)))
+          (ap (λ (m : Option Spot). on_spot (λ spot. is_in area.Prepare spot.area || is_in area.Run spot.area) m) newest
+          ∙ arrived_in to.area x p s is h);
+    })
   where
     newest : last_of u (and_move to k.moves) ≡ Some to
-    newest = ap (λ b. last_of u (cond b (to ∷ k.moves) k.moves)) (both (is_stage to.area) (bytes_eq to.name u) of).0 ∙ ap (λ b. cond b (Some to) (last_of u k.moves)) of
+    newest = ap (λ b. last_of u (cond b (to ∷ k.moves) k.moves)) (both (is_stage to.area) (bytes_eq to.name u) of).0
+        ∙ ap (λ b. cond b (Some to) (last_of u k.moves)) of
 
     out : (spot : Spot) → Some to ≡ Some spot → to ≡ spot
     out spot e = cc
@@ -237,10 +271,12 @@ is_move_of u request reply = false
 not_stay : {X : Type 0} (x : Transition) → None ≡ Some x → X
 not_stay x e = absurd (cc)
 
-pub stay_turn : (u : List ℕ) (n : Namespace) (s : PodState) (p : ℕ) (request : Request) (reply : Reply) → is_move_of u request reply ≡ false → (x : Transition) → transition u n s p request reply ≡ Some x → is_stay x ≡ true
+pub stay_turn : (u : List ℕ) (n : Namespace) (s : PodState) (p : ℕ) (request : Request) (reply : Reply) →
+    is_move_of u request reply ≡ false → (x : Transition) → transition u n s p request reply ≡ Some x → is_stay x ≡ true
 stay_turn u n s p (MakeFolder spot) Done off x e = stays_so (is_of u spot) turn.Make x refl e
 stay_turn u n s p (MoveFolder from to) Done off x e = not_stay x (sym (ap (λ b. cond b (arrival to.area) None) off) ∙ e)
-stay_turn u n s p (TryLock h Exclusive) Done off x e = stays_so (not (is_gone s) && on_opening (is_deleter u) (look n p h)) turn.BeginDelete x refl e
+stay_turn u n s p (TryLock h Exclusive) Done off x e =
+    stays_so (not (is_gone s) && on_opening (is_deleter u) (look n p h)) turn.BeginDelete x refl e
 stay_turn u n s p (TryLock h Shared) Done off x e = not_stay x e
 stay_turn u n s p (Close h) Done off x e = stays_so (is_owner p s && on_opening (is_grip u) (look n p h)) turn.End x refl e
 stay_turn u n s p (RemoveFolder spot) Done off x e = stays_so (is_of u spot) turn.Remove x refl e
@@ -250,14 +286,16 @@ stay_turn u n s p (TryLock h Exclusive) reply off x e = not_stay x e
 stay_turn u n s p (TryLock h Shared) reply off x e = not_stay x e
 stay_turn u n s p request reply off x e = not_stay x e
 
-pub same_moves : (u : List ℕ) (k : Standing) (request : Request) (reply : Reply) → is_move_of u request reply ≡ false → last_of u (standing_replied k request reply).moves ≡ last_of u k.moves
+pub same_moves : (u : List ℕ) (k : Standing) (request : Request) (reply : Reply) → is_move_of u request reply ≡ false →
+    last_of u (standing_replied k request reply).moves ≡ last_of u k.moves
 same_moves u k request (Refused e left) off = refl
 same_moves u k (Open spot which) (Opened h) off = refl
 same_moves u k (OpenArea a) (Opened h) off = refl
 same_moves u k request (Opened h) off = refl
 same_moves u k (MakeFolder spot) Done off = by (is_stage spot.area)
   where
-    by : (b : Bool) → last_of u (cond b (record k { made = true; gated = holds_gate area.Embryo k }) k).moves ≡ last_of u k.moves
+    by : (b : Bool) → last_of u (cond b (record k { made = true; gated = holds_gate area.Embryo k }) k).moves ≡ last_of
+        u k.moves
     by true = refl
     by false = refl
 same_moves u k (MoveFolder from to) Done off = by (is_stage to.area)
@@ -267,7 +305,8 @@ same_moves u k (MoveFolder from to) Done off = by (is_stage to.area)
     by false = refl
 same_moves u k (TryLock h Shared) Done off = by (find_held h k)
   where
-    by : (o : Option Held) → last_of u (looked_by o (record k { holdings = map (held_in h Shared) k.holdings })).moves ≡ last_of u k.moves
+    by : (o : Option Held) → last_of u (looked_by o (record k { holdings = map (held_in h Shared) k.holdings })).moves ≡
+        last_of u k.moves
     by None = refl
     by (Some x) = refl
 same_moves u k (TryLock h Exclusive) Done off = refl
@@ -275,8 +314,12 @@ same_moves u k request Done off = refl
 same_moves u k request reply off = refl
 
 -- a move of a pod that the rules allow is a transition
-some_arrival : (u : List ℕ) (n : DirState) (s : PodState) (σ : ℕ → Standing) (p : ℕ) (from to : Spot) → is_of u to ≡ true → may_ask (σ p) (MoveFolder from to) ≡ true → (x : Transition) × (arrival to.area ≡ Some x)
-some_arrival u n s σ p from to of may = by from.area to.area (both (bytes_eq from.name to.name) (may_move_between (σ p) from.name from.area to.area) (sym (ap (λ b. cond b (bytes_eq from.name to.name && may_move_between (σ p) from.name from.area to.area) true) (or_second (is_stage from.area) (is_stage to.area) (both (is_stage to.area) (bytes_eq to.name u) of).0)) ∙ may)).1
+some_arrival : (u : List ℕ) (n : DirState) (s : PodState) (σ : ℕ → Standing) (p : ℕ) (from to : Spot) →
+    is_of u to ≡ true → may_ask (σ p) (MoveFolder from to) ≡ true → (x : Transition) × (arrival to.area ≡ Some x)
+some_arrival u n s σ p from to of may =
+    by from.area to.area (both (bytes_eq from.name to.name) (may_move_between (σ p) from.name from.area to.area)
+    (sym (ap (λ b. cond b (bytes_eq from.name to.name && may_move_between (σ p) from.name from.area to.area) true)
+    (or_last (is_stage from.area) (is_stage to.area) (both (is_stage to.area) (bytes_eq to.name u) of).0)) ∙ may)).1
   where
     by : (a b : Area) → may_move_between (σ p) from.name a b ≡ true → (x : Transition) × (arrival b ≡ Some x)
     by area.Embryo area.Prepare h = (turn.BeginPrepare, refl)
@@ -289,7 +332,9 @@ some_arrival u n s σ p from to of may = by from.area to.area (both (bytes_eq fr
     by area.Run area.ExitedGarbage h = (turn.Mark, refl)
     by a b h = cc
 
-pub traced_step : (u : List ℕ) (n : DirState) (s : PodState) (σ : ℕ → Standing) (e : Event) → Given u n s σ e.process e.request e.reply → (q : ℕ) → Traced u q s (σ q) → Traced u q (pod_state_next u n.namespace s e) (stood q (σ q) e)
+pub traced_step : (u : List ℕ) (n : DirState) (s : PodState) (σ : ℕ → Standing) (e : Event) →
+    Given u n s σ e.process e.request e.reply → (q : ℕ) → Traced u q s (σ q) →
+    Traced u q (pod_state_next u n.namespace s e) (stood q (σ q) e)
 traced_step u n s σ e g q x = by (e.process == q) refl
   where
     p : ℕ
@@ -299,37 +344,64 @@ traced_step u n s σ e g q x = by (e.process == q) refl
     t = pod_state_next u n.namespace s e
 
     turning : Turns (transition u n.namespace s e.process e.request e.reply) e.process s t
-    turning = turns (transition u n.namespace s e.process e.request e.reply) e.process s (stepped u n s σ e.process e.request e.reply g).has
+    turning = turns (transition u n.namespace s e.process e.request e.reply) e.process s
+        (stepped u n s σ e.process e.request e.reply g).has
 
-    moves : (request : Request) (reply : Reply) → Given u n s σ e.process request reply → is_move_of u request reply ≡ true → ((x : Transition) → transition u n.namespace s e.process request reply ≡ Some x → enabled x e.process s ≡ true) → Traced u e.process (turned (transition u n.namespace s e.process request reply) e.process s) (standing_replied (σ e.process) request reply)
+    moves : (request : Request) (reply : Reply) → Given u n s σ e.process request reply →
+        is_move_of u request reply ≡ true → ((x : Transition) → transition u n.namespace s e.process request reply ≡
+        Some x → enabled x e.process s ≡ true) → Traced u e.process
+        (turned (transition u n.namespace s e.process request reply) e.process s)
+        (standing_replied (σ e.process) request reply)
     moves (MoveFolder from to) Done g of has =
         let x = some_arrival u n s σ e.process from to of (g.rule refl) in
-        let is : transition u n.namespace s e.process (MoveFolder from to) Done ≡ Some x.0 = ap (λ b. cond b (arrival to.area) None) of ∙ x.1 in
-        traced_move u e.process s (turned (transition u n.namespace s e.process (MoveFolder from to) Done) e.process s) (σ e.process) from to of x.0 x.1 (ap (λ (o : Option Transition). turned o e.process s) is ∙ ap (λ b. cond b (leads x.0 e.process s) s) (has x.0 is))
+        let is : transition u n.namespace s e.process (MoveFolder from to) Done ≡ Some x.0 =
+        ap (λ b. cond b (arrival to.area) None) of ∙ x.1 in
+        traced_move u e.process s (turned (transition u n.namespace s e.process (MoveFolder from to) Done) e.process s)
+        (σ e.process) from to of x.0 x.1 (ap (λ (o : Option Transition). turned o e.process s) is
+        ∙ ap (λ b. cond b (leads x.0 e.process s) s) (has x.0 is))
     moves (MoveFolder from to) (Refused er left) g of has = cc
     moves (MoveFolder from to) (Opened h) g of has = cc
     moves request reply g of has = cc
 
-    own : Traced u e.process s (σ e.process) → (b : Bool) → is_move_of u e.request e.reply ≡ b → Traced u e.process t (standing_replied (σ e.process) e.request e.reply)
+    own : Traced u e.process s (σ e.process) → (b : Bool) → is_move_of u e.request e.reply ≡ b →
+        Traced u e.process t (standing_replied (σ e.process) e.request e.reply)
     own x true of = moves e.request e.reply g of (stepped u n s σ e.process e.request e.reply g).has
-    own x false off = traced_stay u (transition u n.namespace s e.process e.request e.reply) e.process s t (σ e.process) (standing_replied (σ e.process) e.request e.reply) (stay_turn u n.namespace s e.process e.request e.reply off) (same_moves u (σ e.process) e.request e.reply off) turning x
+    own x false off = traced_stay u (transition u n.namespace s e.process e.request e.reply) e.process s t (σ e.process)
+        (standing_replied (σ e.process) e.request e.reply) (stay_turn u n.namespace s e.process e.request e.reply off)
+        (same_moves u (σ e.process) e.request e.reply off) turning x
 
     by : (b : Bool) → (e.process == q) ≡ b → Traced u q t (stood q (σ q) e)
-    by false off = subst (λ (k : Standing). Traced u q t k) (sym (saw_other e.process q (σ q) e.request e.reply off)) (traced_other u (transition u n.namespace s e.process e.request e.reply) e.process q s t (σ q) off turning x)
-    by true on = subst (λ (r : ℕ). Traced u r t (stood r (σ r) e)) (nat_same e.process q on) (subst (λ (k : Standing). Traced u e.process t k) (sym (saw_me e.process (σ e.process) e.request e.reply)) (own (subst (λ (r : ℕ). Traced u r s (σ r)) (sym (nat_same e.process q on)) x) (is_move_of u e.request e.reply) refl))
+    by false off = subst (λ (k : Standing). Traced u q t k) (sym (saw_other e.process q (σ q) e.request e.reply off))
+        (traced_other u (transition u n.namespace s e.process e.request e.reply) e.process q s t (σ q) off turning x)
+    by true on = subst (λ (r : ℕ). Traced u r t (stood r (σ r) e)) (nat_same e.process q on)
+        (subst (λ (k : Standing). Traced u e.process t k) (sym (saw_me e.process (σ e.process) e.request e.reply))
+        (own (subst (λ (r : ℕ). Traced u r s (σ r)) (sym (nat_same e.process q on)) x) (is_move_of u e.request e.reply)
+        refl))
 
-traced_from : (u : List ℕ) (es : List Event) (n : DirState) (s : PodState) (σ : ℕ → Standing) → Good u n s σ → ConformingFrom u n σ es → ((q : ℕ) → Traced u q s (σ q)) → (q : ℕ) → Traced u q (pod_state_from u n s es) (standing_from q (σ q) es)
+traced_from : (u : List ℕ) (es : List Event) (n : DirState) (s : PodState) (σ : ℕ → Standing) → Good u n s σ →
+    ConformingFrom u n σ es → ((q : ℕ) → Traced u q s (σ q)) → (q : ℕ) →
+    Traced u q (pod_state_from u n s es) (standing_from q (σ q) es)
 traced_from u [] n s σ good conforming x = x
 traced_from u (e ∷ es) n s σ good conforming x =
     let g = given u n s σ e es good conforming in
-    traced_from u es (state_next n e) (pod_state_next u n.namespace s e) (λ q. stood q (σ q) e) (next_good u n s σ e g) (conforming_tail u n σ e es conforming) (λ q. traced_step u n s σ e g q (x q))
+    traced_from u es (state_next n e) (pod_state_next u n.namespace s e) (λ q. stood q (σ q) e) (next_good u n s σ e g)
+    (conforming_tail u n σ e es conforming) (λ q. traced_step u n s σ e g q (x q))
 
 pub traced : (u : List ℕ) (h : List Event) → IsConforming h → (q : ℕ) → Traced u q (pod_state u h) (standing_of q h)
-traced u h conforming = traced_from u h empty_state Absent (λ q. nothing_standing) (good_start u) (conforming_from u h conforming) (λ q. record { last = λ spot e. absurd (cc); mover = λ e. absurd (cc) })
+traced u h conforming = traced_from u h empty_state Absent (λ q. nothing_standing) (good_start u)
+    (conforming_from u h conforming) (λ q. record { last = λ spot e. absurd (cc); mover = λ e. absurd (cc) })
 
--- the owner holds it by what it stood
-pub owner_holds : (u : List ℕ) (h : List Event) (p : ℕ) → IsConforming h → is_owner p (pod_state u h) ≡ true → (lives (state_after h).namespace p ≡ true) × (holds_pod u (standing_of p h) ≡ true)
-owner_holds u h p conforming own = (living, held_by p (state_after h).namespace (standing_of p h) (λ b. grip_of u b && (moved_in u (standing_of p h) || is_garbage (area_of b.target))) (g.inv.knows p living).linked o.0 o.1.0 o.1.1.1 (pair (is_grip u o.0) (moved_in u (standing_of p h) || is_garbage (area_of o.0.target)) o.1.1.0 (by (pod_state u h) (is_deleting (pod_state u h)) (moved_in u (standing_of p h)) refl ((traced u h conforming p).mover own) (g.inv.pod.owns o.0 o.1.0 o.1.1.0))))
+-- the owner holds it by what it knows
+pub owner_holds : (u : List ℕ) (h : List Event) (p : ℕ) → IsConforming h → is_owner p (pod_state u h) ≡ true →
+    (lives (state_after h).namespace p ≡ true) × (holds_pod u (standing_of p h) ≡ true)
+owner_holds u h p conforming own = (
+  living,
+  held_by p (state_after h).namespace (standing_of p h)
+      (λ b. grip_of u b && (moved_in u (standing_of p h) || is_garbage (area_of b.target))) (g.inv.knows p living).linked
+      o.0 o.1.0 o.1.1.1 (and_both (is_grip u o.0) (moved_in u (standing_of p h) || is_garbage (area_of o.0.target)) o.1.1.0
+      (by (pod_state u h) (is_deleting (pod_state u h)) (moved_in u (standing_of p h)) refl
+      ((traced u h conforming p).mover own) (g.inv.pod.owns o.0 o.1.0 o.1.1.0))),
+)
   where
     g : Good u (state_after h) (pod_state u h) (λ q. standing_of q h)
     g = good u h conforming
@@ -340,20 +412,23 @@ owner_holds u h p conforming own = (living, held_by p (state_after h).namespace 
     living : lives (state_after h).namespace p ≡ true
     living = subst (λ (q : ℕ). lives (state_after h).namespace q ≡ true) o.1.1.1 (g.inv.sound.living o.0 o.1.0)
 
-    by : (s : PodState) (d m : Bool) → is_deleting s ≡ d → (d || m) ≡ true → may_own s o.0.process (area_of o.0.target) ≡ true → (m || is_garbage (area_of o.0.target)) ≡ true
+    by : (s : PodState) (d m : Bool) → is_deleting s ≡ d → (d || m) ≡ true →
+        may_own s o.0.process (area_of o.0.target) ≡ true → (m || is_garbage (area_of o.0.target)) ≡ true
     by s d true e f may = refl
     by (Deleting w f) true false e x may = (both (o.0.process == w) (is_garbage (area_of o.0.target)) may).1
     by s true false e x may = cc
     by s false false e x may = cc
 
 -- where it stands that exists
-hold_moved : (s : PodState) (p : ℕ) (a : Area) → exists s ≡ true → may_own s p a ≡ true → (after_prepare s p || after_run s p) ≡ true → is_owner p s ≡ true
+hold_moved : (s : PodState) (p : ℕ) (a : Area) → exists s ≡ true → may_own s p a ≡ true →
+    (after_prepare s p || after_run s p) ≡ true → is_owner p s ≡ true
 hold_moved (Preparing o) p a e may m = may
 hold_moved (Running o) p a e may m = may
 hold_moved (Deleting o f) p a e may m = (both (p == o) (is_garbage a) may).0
 hold_moved s p a e may m = cc
 
-hold_garbage : (s : PodState) (p : ℕ) (a : Area) → exists s ≡ true → may_own s p a ≡ true → is_garbage a ≡ true → age_in a ≤ age s → is_owner p s ≡ true
+hold_garbage : (s : PodState) (p : ℕ) (a : Area) → exists s ≡ true → may_own s p a ≡ true → is_garbage a ≡ true →
+    age_in a ≤ age s → is_owner p s ≡ true
 hold_garbage (Preparing o) p a e may g l = may
 hold_garbage (Running o) p a e may g l = may
 hold_garbage (Deleting o f) p a e may g l = (both (p == o) (is_garbage a) may).0
@@ -363,15 +438,20 @@ hold_garbage Prepared p area.ExitedGarbage e may g l = absurd (omega (arith, l))
 hold_garbage Prepared p area.Garbage e may g l = absurd (omega (arith, l))
 hold_garbage s p a e may g l = cc
 
--- who holds it by what it stood is its owner
-pub holder_owns : (u : List ℕ) (h : List Event) (p : ℕ) → IsConforming h → exists (pod_state u h) ≡ true → lives (state_after h).namespace p ≡ true → holds_pod u (standing_of p h) ≡ true → is_owner p (pod_state u h) ≡ true
+-- who holds it by what it knows is its owner
+pub holder_owns : (u : List ℕ) (h : List Event) (p : ℕ) → IsConforming h → exists (pod_state u h) ≡ true →
+    lives (state_after h).namespace p ≡ true → holds_pod u (standing_of p h) ≡ true → is_owner p (pod_state u h) ≡ true
 holder_owns u h p conforming e living holds = by (moved_in u (standing_of p h)) refl x.1
   where
     g : Good u (state_after h) (pod_state u h) (λ q. standing_of q h)
     g = good u h conforming
 
-    o : (o : Opening) × (In o (state_after h).namespace.openings × ((o.process ≡ p) × ((grip_of u (own o) && (moved_in u (standing_of p h) || is_garbage (area_of o.target))) ≡ true)))
-    o = holding p (state_after h).namespace (standing_of p h) (λ b. grip_of u b && (moved_in u (standing_of p h) || is_garbage (area_of b.target))) (g.inv.knows p living).linked holds
+    o : (o : Opening) × (In o (state_after h).namespace.openings ×
+        ((o.process ≡ p) × ((grip_of u (own o) && (moved_in u (standing_of p h) || is_garbage (area_of o.target))) ≡
+        true)))
+    o = holding p (state_after h).namespace (standing_of p h)
+        (λ b. grip_of u b && (moved_in u (standing_of p h) || is_garbage (area_of b.target)))
+        (g.inv.knows p living).linked holds
 
     x : (is_grip u o.0 ≡ true) × ((moved_in u (standing_of p h) || is_garbage (area_of o.0.target)) ≡ true)
     x = both (is_grip u o.0) (moved_in u (standing_of p h) || is_garbage (area_of o.0.target)) o.1.1.1
@@ -379,15 +459,21 @@ holder_owns u h p conforming e living holds = by (moved_in u (standing_of p h)) 
     may : may_own (pod_state u h) p (area_of o.0.target) ≡ true
     may = ap (λ q. may_own (pod_state u h) q (area_of o.0.target)) (sym o.1.1.0) ∙ g.inv.pod.owns o.0 o.1.0 x.0
 
-    places : (a : Area) → (is_in area.Prepare a || is_in area.Run a) ≡ true → may_last (pod_state u h) p a ≡ true → (after_prepare (pod_state u h) p || after_run (pod_state u h) p) ≡ true
-    places area.Prepare i m = or_first (after_prepare (pod_state u h) p) (after_run (pod_state u h) p) m
-    places area.Run i m = or_second (after_prepare (pod_state u h) p) (after_run (pod_state u h) p) m
+    places : (a : Area) → (is_in area.Prepare a || is_in area.Run a) ≡ true → may_last (pod_state u h) p a ≡ true →
+        (after_prepare (pod_state u h) p || after_run (pod_state u h) p) ≡ true
+    places area.Prepare i m = or_left (after_prepare (pod_state u h) p) (after_run (pod_state u h) p) m
+    places area.Run i m = or_last (after_prepare (pod_state u h) p) (after_run (pod_state u h) p) m
     places a i m = cc
 
-    last : (m : Option Spot) → last_of u (standing_of p h).moves ≡ m → on_spot (λ spot. is_in area.Prepare spot.area || is_in area.Run spot.area) m ≡ true → (after_prepare (pod_state u h) p || after_run (pod_state u h) p) ≡ true
+    last : (m : Option Spot) → last_of u (standing_of p h).moves ≡ m →
+        on_spot (λ spot. is_in area.Prepare spot.area || is_in area.Run spot.area) m ≡ true →
+        (after_prepare (pod_state u h) p || after_run (pod_state u h) p) ≡ true
     last (Some spot) f m = places spot.area m ((traced u h conforming p).last spot f)
     last None f m = cc
 
-    by : (b : Bool) → moved_in u (standing_of p h) ≡ b → (b || is_garbage (area_of o.0.target)) ≡ true → is_owner p (pod_state u h) ≡ true
+    by : (b : Bool) → moved_in u (standing_of p h) ≡ b → (b || is_garbage (area_of o.0.target)) ≡ true →
+        is_owner p (pod_state u h) ≡ true
     by true m k = hold_moved (pod_state u h) p (area_of o.0.target) e may (last (last_of u (standing_of p h).moves) refl m)
-    by false m k = hold_garbage (pod_state u h) p (area_of o.0.target) e may k (g.inv.pod.named o.0 o.1.0 (own_named u o.0.target (both (is_own_of u o.0.target) (is_exclusive o.0.lock) x.0).0)).1
+    by false m k = hold_garbage (pod_state u h) p (area_of o.0.target) e may k
+        (g.inv.pod.named o.0 o.1.0 (own_named u o.0.target (both (is_own_of u o.0.target) (is_exclusive o.0.lock)
+        x.0).0)).1

@@ -1,4 +1,5 @@
 pub mod PodMachine
 pub mod Executions
 pub mod Ownership
+pub mod Readings
 pub mod Watch

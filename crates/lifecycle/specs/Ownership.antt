@@ -1,14 +1,16 @@
 -- What a trace shows of pods: their folders, their phases, their owners, and what is done to them by whom.
-use Rattle.std.specs.Prelude.{◌≡◌, ◌↔◌, ◌≤◌, ℕ, Bool, true, false, ◌&&◌, Some, List, ◌∷◌, ◌++◌}
+use Rattle.std.specs.Prelude.{slice_get, ◌≡◌, ◌↔◌, ◌≤◌, ℕ, Bool, true, false, ◌&&◌, Some, List, ◌∷◌, ◌++◌}
 use Rattle.dir_model.specs.declared.area.Area.{Area}
+use Rattle.dir_model.specs.declared.area.Area.TheVariants as area
 use Rattle.dir_model.specs.declared.spot.Spot.{Spot}
 use Rattle.dir_model.specs.declared.event.Event.{Event}
 use Rattle.dir_model.specs.declared.request.Request.{Request}
-use Rattle.dir_model.specs.declared.request.Request.TheVariants.{RemoveFileIn, RemoveDirIn, RemoveFolder}
+use Rattle.dir_model.specs.declared.request.Request.TheVariants.{MoveFolder, RemoveFileIn, RemoveDirIn, RemoveFolder}
 use Rattle.dir_model.specs.declared.request.Reply.TheVariants.{Done}
 use Rattle.dir_model.specs.Areas.{rank, is_stage, phase_in}
-use Rattle.dir_model.specs.State.{Namespace, folder_at, stands, is_owned, lives, spot_eq}
+use Rattle.dir_model.specs.State.{Namespace, folder_at, stands, is_owned, lives}
 use Rattle.dir_model.specs.Trace.{state_after}
+use Rattle.dir_model.specs.Calls.{event}
 use Rattle.dir_rules.specs.declared.seen.Seen.{Seen}
 use Rattle.dir_rules.specs.Standing.{is_of}
 use Rattle.dir_rules.specs.Rules.{owns, is_asked}
@@ -25,8 +27,8 @@ is_wanted Sweep Prepared seen name = is_asked seen name
 is_wanted t s seen name = true
 
 -- an event that is a transition of the pod is one that the pod's state has and its process wants
-abbrev pub TurnsAreEnabled : List ℕ → List Event → Type 0
-TurnsAreEnabled name trace =
+abbrev pub TransitionsAreEnabled : List ℕ → List Event → Type 0
+TransitionsAreEnabled name trace =
     (before : List Event) (e : Event) (later : List Event) (t : Transition) → trace ≡ before ++ e ∷ later →
     transition name (state_after before).namespace (pod_state name before) e.process e.request e.reply ≡ Some t →
     (enabled t e.process (pod_state name before) && is_wanted t (pod_state name before) (seen_of e.process before) name) ≡ true
@@ -41,8 +43,8 @@ pub record StandsWhereItExists (name : List ℕ) (n : Namespace) (s : PodState) 
   pub only : (spot : Spot) → is_of name spot ≡ true → stands n spot ≡ true → (exists s && is_place spot.area s) ≡ true
 
 -- the phase that follows from the folder's area and lock is that of the state
-abbrev pub HasPhaseOf : List ℕ → Namespace → PodState → Type 0
-HasPhaseOf name n s =
+abbrev pub PlaceTellsPhase : List ℕ → Namespace → PodState → Type 0
+PlaceTellsPhase name n s =
     (spot : Spot) (folder : ℕ) → is_of name spot ≡ true → folder_at n spot ≡ Some folder →
     phase_in spot.area (is_owned n folder) ≡ phase_of_state s
 
@@ -54,11 +56,11 @@ holds p name trace = lives (state_after trace).namespace p && owns (seen_of p tr
 abbrev pub IsHeldByItsOwner : List ℕ → List Event → PodState → Type 0
 IsHeldByItsOwner name trace s = (p : ℕ) → exists s ≡ true → (holds p name trace ≡ true) ↔ (owner_of s ≡ Some p)
 
--- no two folders that stand at stages of a pod's life have one name
+-- folders that stand at stages of a pod's life under one name are one folder
 abbrev pub NamesOneFolder : Namespace → Type 0
 NamesOneFolder n =
-    (a b : Spot) → is_stage a.area ≡ true → is_stage b.area ≡ true → a.name ≡ b.name →
-    stands n a ≡ true → stands n b ≡ true → spot_eq a b ≡ true
+    (f g : ℕ) (a b : Spot) → slice_get n.folders f ≡ Some (Some a) → slice_get n.folders g ≡ Some (Some b) →
+    is_stage a.area ≡ true → is_stage b.area ≡ true → a.name ≡ b.name → f ≡ g
 
 -- a pod goes through the stages of its life forward
 abbrev pub GoesForward : List Event → Type 0
@@ -82,8 +84,14 @@ IsRemovedByItsOwner name trace =
     is_removal_of name e.request ≡ true → e.reply ≡ Done →
     (is_deleting (pod_state name before) && is_owner e.process (pod_state name before)) ≡ true
 
+-- each prepared pod that is moved to garbage is asked for
+abbrev pub SweepsAreAsked : List Event → Type 0
+SweepsAreAsked trace =
+    (before : List Event) (p : ℕ) (from to : Spot) (later : List Event) → trace ≡ before ++ event p (MoveFolder from to) Done ∷ later →
+    from.area ≡ area.Prepared → to.area ≡ area.Garbage → is_asked (seen_of p before) from.name ≡ true
+
 -- the state is what the trace shows of the pod: where its folder stands, its phase, and who holds it
 pub record ShowsPod (name : List ℕ) (trace : List Event) (s : PodState) : Type 0 where
   pub folder : StandsWhereItExists name (state_after trace).namespace s
-  pub phase : HasPhaseOf name (state_after trace).namespace s
+  pub phase : PlaceTellsPhase name (state_after trace).namespace s
   pub owner : IsHeldByItsOwner name trace s

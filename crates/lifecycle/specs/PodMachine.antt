@@ -174,10 +174,11 @@ pod_state_from name n s (e ∷ es) = pod_state_from name (state_next n e) (pod_s
 abbrev pub pod_state : List ℕ → List Event → PodState
 pod_state name trace = pod_state_from name empty_state Absent trace
 
--- the phase and the owner that it has then
+-- the phase that it has then
 abbrev pub pod_phase : List ℕ → List Event → Option Phase
 pod_phase name trace = phase_of_state (pod_state name trace)
 
+-- the owner that it has then
 abbrev pub pod_owner : List ℕ → List Event → Option ℕ
 pod_owner name trace = owner_of (pod_state name trace)
 

@@ -38,6 +38,7 @@ on_grip test (Some g) = test g
 abbrev pub gripped : ℕ → Handle → Bool → Grip → Grip
 gripped p handle exclusive g = cond (is_this p handle g) (record { process = g.process; handle = g.handle; in_garbage = g.in_garbage; exclusive = exclusive }) g
 
+-- the mode is exclusive
 abbrev pub is_exclusive_mode : Mode → Bool
 is_exclusive_mode Shared = false
 is_exclusive_mode Exclusive = true
@@ -58,6 +59,7 @@ watched_done name s gs p Finish = if_so (is_owner p s) turn.End
 watched_done name s gs p Kill = if_so (is_owner p s) turn.End
 watched_done name s gs p request = None
 
+-- the transition that an event is, if it is one: only Ok answers count
 abbrev pub watched : List ℕ → PodState → List Grip → ℕ → Request → Reply → Option Transition
 watched name s gs p request Done = watched_done name s gs p request
 watched name s gs p request _ = None
@@ -75,6 +77,7 @@ abbrev pub grips_opened : List ℕ → List Grip → ℕ → Request → Handle 
 grips_opened name gs p (Open spot which.Own) handle = cond (is_of name spot) (gs ++ record { process = p; handle = handle; in_garbage = is_garbage spot.area; exclusive = false } ∷ []) gs
 grips_opened name gs p request handle = gs
 
+-- after a reply; a refusal changes nothing
 abbrev pub grips_replied : List ℕ → List Grip → ℕ → Request → Reply → List Grip
 grips_replied name gs p request Done = grips_done gs p request
 grips_replied name gs p request (Opened handle) = grips_opened name gs p request handle
@@ -102,6 +105,7 @@ made_by request reply = None
 abbrev pub entry_of : List Event → List ℕ → PodEntry
 entry_of trace name = record { name = name; state = (watch name trace).state }
 
+-- that pod with its state, if one was made
 abbrev pub entry_for : List Event → Option (List ℕ) → List PodEntry
 entry_for trace None = []
 entry_for trace (Some name) = entry_of trace name ∷ []
@@ -111,9 +115,11 @@ abbrev pub entries_of : List Event → List Event → List PodEntry
 entries_of trace [] = []
 entries_of trace (e ∷ es) = entry_for trace (made_by e.request e.reply) ++ entries_of trace es
 
+-- it is the pod of this name
 abbrev pub is_entry : List ℕ → PodEntry → Bool
 is_entry name entry = bytes_eq entry.name name
 
+-- the state of a pod that is among them, and absent for any other
 abbrev pub state_of_entry : Option PodEntry → PodState
 state_of_entry None = Absent
 state_of_entry (Some entry) = entry.state

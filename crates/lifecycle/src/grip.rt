@@ -1,10 +1,9 @@
 // The open handles on a pod's own lock.
 ghost use Rattle.std.specs.Prelude.{◌≡◌, ◌==◌, not, map, filter, find, OnOk};
-ghost use Rattle.dir_model.specs.Areas.{is_stage};
-ghost use Rattle.dir_rules.specs.Standing.{is_garbage, is_of};
 ghost use Rattle.lifecycle.specs.Watch.{gripped, is_this, on_grip, is_exclusive_mode, grips_done, grips_opened, grips_replied};
 
-use dir_model::{Area, Event, Handle, Mode, Name, NoMemory, Reply, Request, Spot, Which};
+use crate::place::{is_garbage, is_of};
+use dir_model::{Event, Handle, Mode, Name, NoMemory, Reply, Request, Which};
 
 /// An open handle on a pod's own lock: whose it is, whether it was opened in a garbage area, and
 /// whether it holds the lock exclusively.
@@ -14,33 +13,6 @@ pub struct Grip {
     pub handle: Handle,
     pub in_garbage: bool,
     pub exclusive: bool,
-}
-
-/// The area is one of the six stages of a pod's life.
-pub fn is_stage(area: Area) -> bool
-    ensures { result ≡ is_stage area }
-{
-    match area {
-        Area::Incoming | Area::Images | Area::Trees | Area::Removed => false,
-        _ => true,
-    }
-}
-
-/// The area is one of the two from which pods are deleted.
-pub fn is_garbage(area: Area) -> bool
-    ensures { result ≡ is_garbage area }
-{
-    match area {
-        Area::ExitedGarbage | Area::Garbage => true,
-        _ => false,
-    }
-}
-
-/// It is a place of the pod of this name.
-pub fn is_of(name: &Name, spot: &Spot) -> bool
-    ensures { result ≡ is_of name.now spot.now }
-{
-    is_stage(spot.area) && spot.name == *name
 }
 
 fn is_this(process: u32, handle: Handle, grip: &Grip) -> bool

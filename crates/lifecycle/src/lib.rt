@@ -5,10 +5,11 @@ mod grip;
 mod laws;
 mod machine;
 mod one_pod;
+mod place;
 mod pods;
 
 pub use grip::Grip;
-pub use laws::{beginnings, folders, removals, transitions};
+pub use laws::{beginnings, folders, readings, removals, some_execution, transitions};
 pub use machine::{PodState, Transition};
 pub use one_pod::replay_pod;
 pub use pods::{PodEntry, PodMachine, replay};

@@ -3,8 +3,9 @@ ghost use Rattle.std.specs.Prelude.{◌≡◌, cond, IfOk, None};
 ghost use Rattle.lifecycle.specs.PodMachine.{arrival, if_so};
 ghost use Rattle.lifecycle.specs.Watch.{watch, watched, watched_done, begun_delete};
 
-use crate::grip::{Grip, grips_replied, held_exclusively, is_of, opened_in_garbage};
+use crate::grip::{Grip, grips_replied, held_exclusively, opened_in_garbage};
 use crate::machine::{PodState, Transition, arrival};
+use crate::place::is_of;
 use dir_model::{Area, Event, Handle, Mode, Name, NoMemory, Reply, Request};
 use std::alloc::Global;
 

@@ -6,9 +6,9 @@ ghost use Rattle.lifecycle.specs.PodMachine.{owner_of, phase_of_state};
 ghost use Rattle.lifecycle.specs.Executions.{IsConforming};
 ghost use Rattle.lifecycle.specs.Watch.{made_by, entries_of, state_in, TellsStates, ShowsPods};
 
-use crate::grip::is_stage;
 use crate::machine::PodState;
 use crate::one_pod::replay_pod;
+use crate::place::is_stage;
 use dir_model::{Event, History, Name, NoMemory, Phase, PodId, Reply, Request};
 use std::alloc::Global;
 use std::marker::Model;

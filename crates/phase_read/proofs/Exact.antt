@@ -15,7 +15,7 @@ use Rattle.lifecycle.specs.PodMachine.{pod_state, exists}
 use Rattle.lifecycle.specs.Executions.{IsConforming}
 use Rattle.lifecycle.proofs.Draws.{conforming_left}
 use Rattle.lifecycle.proofs.Stays.{owned_phase}
-use Rattle.lifecycle.proofs.Misses.{Missed, gone_exactly}
+use Rattle.lifecycle.proofs.Looking.{misses_tell_gone}
 use Rattle.phase_read.specs.Read.{HasPhase, LeftOut, pod_spot, stages}
 use Rattle.phase_read.specs.declared.found.Found.{Found}
 use Rattle.phase_read.specs.declared.found.Found.TheVariants.{At, Gone}
@@ -54,52 +54,11 @@ found_exactly pod phase area within conforming at =
       is = sym (owned_phase (moment at) (pod_spot pod area) at.holds.owned (conforms_at at conforming) (stage_of area within) at.holds.here) ∙ at.holds.is;
     })
 
--- how the trace grew from a moment to one of the next stretch
-abbrev grown : {me : ℕ} {a b c : List Event} {P Q : DirState → Type 0} → AtOwnStep me a b P → AtOwnStep me b c Q → List Event
-grown at next = (at.rest ++ next.later) ++ next.step ∷ []
-
-next_moment : {me : ℕ} {a b c : List Event} {P Q : DirState → Type 0} (at : AtOwnStep me a b P) (next : AtOwnStep me b c Q) → moment next ≡ moment at ++ grown at next
-next_moment at next = ap (λ h. h ++ next.step ∷ []) (next.begins ∙ ap (λ h. h ++ next.later) at.ends ∙ append_assoc (moment at) at.rest next.later) ∙ append_assoc (moment at) (at.rest ++ next.later) (next.step ∷ [])
-
-chain : (a b c : List Event) → (more : List Event) × (b ≡ a ++ more) → (more : List Event) × (c ≡ b ++ more) → (more : List Event) × (c ≡ a ++ more)
-chain a b c x y = (x.0 ++ y.0, y.1 ∙ (ap (λ h. h ++ y.0) x.1 ∙ append_assoc a x.0 y.0))
-
-abbrev Empty : PodId → Area → DirState → Type 0
-Empty pod area s = stands s.namespace (pod_spot pod area) ≡ false
-
-module _ (pod : PodId) (me : ℕ) (old new : List Event) (conforming : IsConforming new) where
-  abbrev name : List ℕ
-  name = pod_text pod.bytes
-
-  -- looked for in all six stages, one after the other
-  missed_in_turn : (b0 b1 b2 b3 b4 b5 : List Event) → (m : (more : List Event) × (b0 ≡ old ++ more)) → AtOwnStep me b0 b1 (Empty pod Embryo) → AtOwnStep me b1 b2 (Empty pod Prepare) → AtOwnStep me b2 b3 (Empty pod Prepared) → AtOwnStep me b3 b4 (Empty pod Run) → AtOwnStep me b4 b5 (Empty pod ExitedGarbage) → AtOwnStep me b5 new (Empty pod Garbage) → AtOwnEvent me old new (IsNowhere pod)
-  missed_in_turn b0 b1 b2 b3 b4 b5 m t0 t1 t2 t3 t4 t5 =
-      let e1 = next_moment t0 t1 in
-      let e2 = next_moment t1 t2 ∙ ap (λ h. h ++ grown t1 t2) e1 in
-      let e3 = next_moment t2 t3 ∙ ap (λ h. h ++ grown t2 t3) e2 in
-      let e4 = next_moment t3 t4 ∙ ap (λ h. h ++ grown t3 t4) e3 in
-      let e5 = next_moment t4 t5 ∙ ap (λ h. h ++ grown t4 t5) e4 in
-      by (gone_exactly name (moment t0) (grown t0 t1) (grown t1 t2) (grown t2 t3) (grown t3 t4) (grown t4 t5) (subst IsConforming e5 (conforms_at t5 conforming))
-      t0.holds (subst (Missed name Prepare) e1 t1.holds) (subst (Missed name Prepared) e2 t2.holds) (subst (Missed name Run) e3 t3.holds) (subst (Missed name ExitedGarbage) e4 t4.holds) (subst (Missed name Garbage) e5 t5.holds)) e5
-    where
-      rest : (later : List Event) × (new ≡ b1 ++ later)
-      rest = chain b1 b2 new (at_grown t1) (chain b2 b3 new (at_grown t2) (chain b3 b4 new (at_grown t3) (chain b4 b5 new (at_grown t4) (at_grown t5))))
-
-      earlier : (more : List Event) × (b5 ≡ old ++ more)
-      earlier = chain old b4 b5 (chain old b3 b4 (chain old b2 b3 (chain old b1 b2 (chain old b0 b1 m (at_grown t0)) (at_grown t1)) (at_grown t2)) (at_grown t3)) (at_grown t4)
-
-      by : (exists (pod_state name (moment t0)) ≡ false) ⊎ (exists (pod_state name (((((moment t0 ++ grown t0 t1) ++ grown t1 t2) ++ grown t2 t3) ++ grown t3 t4) ++ grown t4 t5)) ≡ false) → moment t5 ≡ ((((moment t0 ++ grown t0 t1) ++ grown t1 t2) ++ grown t2 t3) ++ grown t3 t4) ++ grown t4 t5 → AtOwnEvent me old new (IsNowhere pod)
-      by (inl none) is = event_within m.0 rest.0 m.1 rest.1 (at_event (IsNowhere pod) t0 none)
-      by (inr none) is = event_within earlier.0 [] earlier.1 (sym (append-nil new)) (at_event (IsNowhere pod) t5 (subst (IsNowhere pod) (sym is) none))
-
-  pub gone_in_turn : LeftOut me old new pod stages → AtOwnEvent me old new (IsNowhere pod)
-  gone_in_turn l =
-      let l1 = l.1 in
-      let l2 = l1.1 in
-      let l3 = l2.1 in
-      let l4 = l3.1 in
-      let l5 = l4.1 in
-      missed_in_turn l5.0 l4.0 l3.0 l2.0 l1.0 l.0 l5.1 l5.2 l4.2 l3.2 l2.2 l1.2 l.2
+-- missed in all six areas, one after the other
+pub gone_exactly : (pod : PodId) (me : ℕ) (old new : List Event) → IsConforming new → LeftOut me old new pod stages → AtOwnEvent me old new (IsNowhere pod)
+gone_exactly pod me old new conforming missed =
+    let was = misses_tell_gone new conforming me old (pod_text pod.bytes) missed in
+    record { before = was.before; step = was.step; later = was.later; rest = was.rest; begins = was.begins; ends = was.ends; own = was.own; holds = was.is }
 
 -- what was so at an own event of a part was so at one of the whole
 pub was_within : (me : ℕ) (a b c d : List Event) (pod : PodId) (found : Found) (more rest : List Event) → b ≡ a ++ more → d ≡ c ++ rest → WasSo me b c pod found → WasSo me a d pod found

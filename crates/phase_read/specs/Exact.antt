@@ -1,5 +1,5 @@
 -- What a read says in an execution in which every process keeps the local rules.
-use Rattle.std.specs.Prelude.{◌≡◌, ℕ, true, false, Some, List, [], ◌∷◌, ◌++◌}
+use Rattle.std.specs.Prelude.{◌≡◌, ℕ, Bool, true, false, Some, None, List, [], ◌∷◌, ◌++◌}
 use Rattle.dir_model.specs.declared.area.Area.{Area}
 use Rattle.dir_model.specs.declared.area.Phase.{Phase}
 use Rattle.dir_model.specs.declared.event.Event.{Event}
@@ -9,7 +9,7 @@ use Rattle.dir_model.specs.State.{stands}
 use Rattle.dir_model.specs.Trace.{state_after}
 use Rattle.dir_model.specs.Calls.{is_foreign}
 use Rattle.dir_trait.specs.DirCalls.{DirAt}
-use Rattle.lifecycle.specs.PodMachine.{pod_state, phase_of_state, exists}
+use Rattle.lifecycle.specs.PodMachine.{pod_phase}
 use Rattle.lifecycle.specs.Executions.{IsConforming}
 use Rattle.phase_read.specs.declared.found.Found.{Found}
 use Rattle.phase_read.specs.declared.found.Found.TheVariants.{At, Gone}
@@ -29,11 +29,11 @@ pub record AtOwnEvent (me : ℕ) (old new : List Event) (P : List Event → Type
 -- the pod stands in the area, and this is its phase by its history
 pub record IsInPhase (pod : PodId) (phase : Phase) (area : Area) (trace : List Event) : Type 0 where
   pub there : stands (state_after trace).namespace (pod_spot pod area) ≡ true
-  pub is : phase_of_state (pod_state (pod_text pod.bytes) trace) ≡ Some phase
+  pub is : pod_phase (pod_text pod.bytes) trace ≡ Some phase
 
 -- by its history the pod doesn't exist
 abbrev pub IsNowhere : PodId → List Event → Type 0
-IsNowhere pod trace = exists (pod_state (pod_text pod.bytes) trace) ≡ false
+IsNowhere pod trace = pod_phase (pod_text pod.bytes) trace ≡ None
 
 -- what was found was so at one own event
 abbrev pub WasSo : ℕ → List Event → List Event → PodId → Found → Type 0

@@ -1,5 +1,5 @@
 use Rattle.std.proofs.Common.{rules}
-use Rattle.lifecycle.proofs.Machines.{tells, shows}
+use Rattle.lifecycle.proofs.Replays.{tells, shows}
 use Rattle.lifecycle.proofs.pods.replay.Goals as goal
 
 pub returns-clause-states : goal.returns-clause-states

@@ -11,7 +11,7 @@ use Rattle.phase_read.proofs.InTurn.{and_left_out}
 use Rattle.dir_trait.proofs.Looking.{looks_more}
 use Rattle.dir_model.proofs.Moments.{at_after}
 use Rattle.lifecycle.proofs.Stays.{stays_between}
-use Rattle.phase_read.proofs.Exact.{found_exactly, gone_in_turn}
+use Rattle.phase_read.proofs.Exact.{found_exactly, gone_exactly}
 use Rattle.phase_read.proofs.read.read_phase.Goals as goal
 
 pub returns-in-None-clause-read : goal.returns-in-None-clause-read
@@ -99,4 +99,4 @@ returns-in-Some-clause-exact g c t conforming =
 pub returns-in-None-clause-exact : goal.returns-in-None-clause-exact
 returns-in-None-clause-exact g c t conforming =
     let shown = g.D.Dir.shown in
-    gone_in_turn c.args.pod (shown c.args.dir.now).process (shown c.args.dir.now).trace (shown c.read_at.new.dir).trace conforming (returns-in-None-clause-read g c t)
+    gone_exactly c.args.pod (shown c.args.dir.now).process (shown c.args.dir.now).trace (shown c.read_at.new.dir).trace conforming (returns-in-None-clause-read g c t)

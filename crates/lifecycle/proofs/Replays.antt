@@ -22,9 +22,9 @@ use Rattle.lifecycle.specs.Watch.{watch, watch_from, watch_next, watched, is_thi
 use Rattle.lifecycle.specs.Executions.{IsConforming}
 use Rattle.lifecycle.specs.Ownership.{ShowsPod}
 use Rattle.lifecycle.proofs.EveryPod.{shows_pod}
-use Rattle.lifecycle.proofs.World.{both, clash}
+use Rattle.lifecycle.proofs.Handles.{both, clash}
 use Rattle.lifecycle.proofs.Places.{name_same}
-use Rattle.lifecycle.proofs.Watched.{watch_is}
+use Rattle.lifecycle.proofs.ByEvents.{watch_is}
 
 turned_absent : (o : Option Transition) (p : ℕ) → (o ≡ Some turn.Make → ⊥) → turned o p Absent ≡ Absent
 turned_absent None p no_make = refl
@@ -43,11 +43,14 @@ not_make true x no_make e = no_make (out e)
     out e = cc
 not_make false x no_make e = cc
 
-makes_only : (u : List ℕ) (gs : List Grip) (p : ℕ) (request : Request) (reply : Reply) → Makes u (made_by request reply) ≡ false → watched u Absent gs p request reply ≡ Some turn.Make → ⊥
+makes_only : (u : List ℕ) (gs : List Grip) (p : ℕ) (request : Request) (reply : Reply) →
+    Makes u (made_by request reply) ≡ false → watched u Absent gs p request reply ≡ Some turn.Make → ⊥
 makes_only u gs p (MakeFolder spot) Done off e = by (is_of u spot) refl e
   where
     by : (b : Bool) → is_of u spot ≡ b → if_so b turn.Make ≡ Some turn.Make → ⊥
-    by true f e = let x = both (is_stage spot.area) (bytes_eq spot.name u) f in clash (bytes_eq spot.name u) x.1 (sym (ap (λ b. Makes u (cond b (Some spot.name) None)) x.0) ∙ off)
+    by true f e =
+        let x = both (is_stage spot.area) (bytes_eq spot.name u) f in
+        clash (bytes_eq spot.name u) x.1 (sym (ap (λ b. Makes u (cond b (Some spot.name) None)) x.0) ∙ off)
     by false f e = cc
 makes_only u gs p (MoveFolder from to) Done off e = by (is_of u to) to.area e
   where
@@ -59,12 +62,15 @@ makes_only u gs p (MoveFolder from to) Done off e = by (is_of u to) to.area e
     by true area.Garbage e = cc
     by true a e = cc
     by false a e = cc
-makes_only u gs p (TryLock h Exclusive) Done off e = not_make (not (is_gone Absent) && on_grip (λ g. g.in_garbage) (find (is_this p h) gs)) turn.BeginDelete (λ f. no_make_delete f) e
+makes_only u gs p (TryLock h Exclusive) Done off e =
+    not_make (not (is_gone Absent) && on_grip (λ g. g.in_garbage) (find (is_this p h) gs)) turn.BeginDelete
+    (λ f. no_make_delete f) e
   where
     no_make_delete : turn.BeginDelete ≡ turn.Make → ⊥
     no_make_delete f = cc
 makes_only u gs p (TryLock h Shared) Done off e = cc
-makes_only u gs p (Close h) Done off e = not_make (is_owner p Absent && on_grip (λ g. g.exclusive) (find (is_this p h) gs)) turn.End (λ f. no_make_end f) e
+makes_only u gs p (Close h) Done off e =
+    not_make (is_owner p Absent && on_grip (λ g. g.exclusive) (find (is_this p h) gs)) turn.End (λ f. no_make_end f) e
   where
     no_make_end : turn.End ≡ turn.Make → ⊥
     no_make_end f = cc
@@ -83,35 +89,53 @@ makes_only u gs p request (Items x) off e = cc
 makes_only u gs p request (Read x) off e = cc
 
 -- a pod that was never made is absent
-unmade : (u : List ℕ) (whole es : List Event) (gs : List Grip) → find (is_entry u) (entries_of whole es) ≡ None → (watch_from u (record { state = Absent; grips = gs }) es).state ≡ Absent
+unmade : (u : List ℕ) (whole es : List Event) (gs : List Grip) → find (is_entry u) (entries_of whole es) ≡ None →
+    (watch_from u (record { state = Absent; grips = gs }) es).state ≡ Absent
 unmade u whole [] gs none = refl
-unmade u whole (e ∷ es) gs none = by none (λ n. unmade u whole es (watch_next u (record { state = Absent; grips = gs }) e).grips n)
+unmade u whole (e ∷ es) gs none =
+    by none (λ n. unmade u whole es (watch_next u (record { state = Absent; grips = gs }) e).grips n)
   where
-    rest : (o : Option (List ℕ)) → find (is_entry u) (entry_for whole o ++ entries_of whole es) ≡ None → (Makes u o ≡ false) × (find (is_entry u) (entries_of whole es) ≡ None)
+    rest : (o : Option (List ℕ)) → find (is_entry u) (entry_for whole o ++ entries_of whole es) ≡ None →
+        (Makes u o ≡ false) × (find (is_entry u) (entries_of whole es) ≡ None)
     rest None n = (refl, n)
     rest (Some name) n = one (bytes_eq name u) n
       where
-        one : (b : Bool) → cond b (Some (entry_of whole name)) (find (is_entry u) (entries_of whole es)) ≡ None → (b ≡ false) × (find (is_entry u) (entries_of whole es) ≡ None)
+        one : (b : Bool) → cond b (Some (entry_of whole name)) (find (is_entry u) (entries_of whole es)) ≡ None →
+            (b ≡ false) × (find (is_entry u) (entries_of whole es) ≡ None)
         one true n = cc
         one false n = (refl, n)
 
-    by : find (is_entry u) (entries_of whole (e ∷ es)) ≡ None → (find (is_entry u) (entries_of whole es) ≡ None → (watch_from u (record { state = Absent; grips = (watch_next u (record { state = Absent; grips = gs }) e).grips }) es).state ≡ Absent) → (watch_from u (record { state = Absent; grips = gs }) (e ∷ es)).state ≡ Absent
+    by : find (is_entry u) (entries_of whole (e ∷ es)) ≡ None →
+        (find (is_entry u) (entries_of whole es) ≡ None →
+        (watch_from u (record {
+          state = Absent;
+          grips = (watch_next u (record { state = Absent; grips = gs }) e).grips;
+        }) es).state ≡ Absent) → (watch_from u (record { state = Absent; grips = gs }) (e ∷ es)).state ≡ Absent
     by n go =
         let r = rest (made_by e.request e.reply) n in
-        let still : turned (watched u Absent gs e.process e.request e.reply) e.process Absent ≡ Absent = turned_absent (watched u Absent gs e.process e.request e.reply) e.process (makes_only u gs e.process e.request e.reply r.0) in
-        ap (λ (s : PodState). (watch_from u (record { state = s; grips = (watch_next u (record { state = Absent; grips = gs }) e).grips }) es).state) still ∙ go r.1
+        let still : turned (watched u Absent gs e.process e.request e.reply) e.process Absent ≡ Absent =
+        turned_absent (watched u Absent gs e.process e.request e.reply) e.process
+        (makes_only u gs e.process e.request e.reply r.0) in
+        ap (λ (s : PodState). (watch_from u
+        (record { state = s; grips = (watch_next u (record { state = Absent; grips = gs }) e).grips }) es).state)
+        still ∙ go r.1
 
 -- what is found is that pod's state
-found : (u : List ℕ) (whole es : List Event) (x : PodEntry) → find (is_entry u) (entries_of whole es) ≡ Some x → x.state ≡ (watch u whole).state
+found : (u : List ℕ) (whole es : List Event) (x : PodEntry) → find (is_entry u) (entries_of whole es) ≡ Some x →
+    x.state ≡ (watch u whole).state
 found u whole [] x f = cc
 found u whole (e ∷ es) x f = by (made_by e.request e.reply) f (λ k. found u whole es x k)
   where
-    by : (o : Option (List ℕ)) → find (is_entry u) (entry_for whole o ++ entries_of whole es) ≡ Some x → (find (is_entry u) (entries_of whole es) ≡ Some x → x.state ≡ (watch u whole).state) → x.state ≡ (watch u whole).state
+    by : (o : Option (List ℕ)) → find (is_entry u) (entry_for whole o ++ entries_of whole es) ≡ Some x →
+        (find (is_entry u) (entries_of whole es) ≡ Some x → x.state ≡ (watch u whole).state) →
+        x.state ≡ (watch u whole).state
     by None f go = go f
     by (Some name) f go = one (bytes_eq name u) refl f
       where
-        one : (b : Bool) → bytes_eq name u ≡ b → cond b (Some (entry_of whole name)) (find (is_entry u) (entries_of whole es)) ≡ Some x → x.state ≡ (watch u whole).state
-        one true is f = ap (λ (y : PodEntry). y.state) (sym (out f)) ∙ ap (λ (v : List ℕ). (watch v whole).state) (name_same name u is)
+        one : (b : Bool) → bytes_eq name u ≡ b → cond b (Some (entry_of whole name))
+            (find (is_entry u) (entries_of whole es)) ≡ Some x → x.state ≡ (watch u whole).state
+        one true is f = ap (λ (y : PodEntry). y.state) (sym (out f))
+            ∙ ap (λ (v : List ℕ). (watch v whole).state) (name_same name u is)
           where
             out : Some (entry_of whole name) ≡ Some x → entry_of whole name ≡ x
             out f = cc
@@ -128,8 +152,12 @@ told_of u h = by (find (is_entry u) (entries_of h h)) refl
 pub replayed : (u : List ℕ) (h : List Event) → IsRun h → state_in u (entries_of h h) ≡ pod_state u h
 replayed u h run = told_of u h ∙ watch_is u h run
 
-pub tells : (entries : List PodEntry) (trace : List Event) → entries ≡ entries_of trace trace → IsRun trace → TellsStates entries trace
+pub tells : (entries : List PodEntry) (trace : List Event) → entries ≡ entries_of trace trace → IsRun trace →
+    TellsStates entries trace
 tells entries trace is run name = ap (λ (x : List PodEntry). state_in name x) is ∙ replayed name trace run
 
-pub shows : (entries : List PodEntry) (trace : List Event) → entries ≡ entries_of trace trace → IsConforming trace → ShowsPods entries trace
-shows entries trace is conforming name = subst (λ (s : PodState). ShowsPod name trace s) (sym (tells entries trace is conforming.run name)) (shows_pod name trace conforming)
+pub shows : (entries : List PodEntry) (trace : List Event) → entries ≡ entries_of trace trace → IsConforming trace →
+    ShowsPods entries trace
+shows entries trace is conforming name =
+    subst (λ (s : PodState). ShowsPod name trace s) (sym (tells entries trace is conforming.run name))
+    (shows_pod name trace conforming)
