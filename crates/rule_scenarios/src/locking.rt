@@ -1,7 +1,10 @@
 // Which locks may be had, and what isn't seen.
 use crate::judge::{Case, are_judged, breaks_for};
 use crate::script::Answer::{Ok as Done, Opened};
-use crate::script::Ask::{Begin, Close, Finish, Gate, Kill, Lock, Make, Move, Own};
+use crate::script::Ask::{
+    Append, Begin, Close, Finish, Gate, Kill, Lock, Make, MakeDir, MakeFile, Move, Own, Remove,
+    RemoveDir, RemoveFile, Sync,
+};
 use crate::script::{DRAWN, OTHER, Step};
 use dir_model::Area::{
     Embryo, ExitedGarbage, Garbage, Images, Incoming, Prepare, Prepared, Removed, Run, Trees,
@@ -168,7 +171,7 @@ const PODS: &[Case] = &[
         allowed: &[(Lock(1, Shared), Done)],
         refused: &[],
     },
-    // No other moves of pods.
+    // No other moves.
     Case {
         before: &[&[(Begin(Kind::Gc, ""), Done)]],
         allowed: &[],
@@ -180,6 +183,25 @@ const PODS: &[Case] = &[
             (Move(Prepare, Removed, OTHER), Done),
             (Move(Trees, Removed, OTHER), Done),
             (Move(Images, Garbage, OTHER), Done),
+        ],
+    },
+    // No other makes, changes and removals.
+    Case {
+        before: &[&[(Begin(Kind::Gc, ""), Done)]],
+        allowed: &[],
+        refused: &[
+            (Make(Trees, OTHER), Done),
+            (Make(Garbage, OTHER), Done),
+            (MakeFile(Garbage, OTHER, "x"), Done),
+            (MakeFile(ExitedGarbage, OTHER, "x"), Done),
+            (MakeDir(Trees, OTHER, "x"), Done),
+            (MakeDir(Removed, OTHER, "x"), Done),
+            (Append(Garbage, OTHER, "x"), Done),
+            (Sync(Trees, OTHER, ""), Done),
+            (RemoveFile(Trees, OTHER, "x"), Done),
+            (RemoveDir(Prepare, OTHER, "x"), Done),
+            (Remove(Embryo, OTHER), Done),
+            (Remove(Prepared, OTHER), Done),
         ],
     },
 ];

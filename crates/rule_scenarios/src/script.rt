@@ -71,7 +71,8 @@ fn word_of(word: &str) -> PodPrefix {
     }
 }
 
-fn intent(kind: Kind, word: &str) -> Intent {
+/// What a process says when it begins.
+pub fn intent(kind: Kind, word: &str) -> Intent {
     Intent {
         kind,
         word: word_of(word),
