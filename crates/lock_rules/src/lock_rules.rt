@@ -106,7 +106,7 @@ impl StandingTable {
         true
     }
 
-    fn may_own_own(&self, covered: bool, name: &Name, area: Area) -> bool
+    fn may_take_own(&self, covered: bool, name: &Name, area: Area) -> bool
         ensures { result ≡ may_lock_own (table_standing self.now) covered name.now area Mode.Exclusive }
     {
         match area {
@@ -136,7 +136,7 @@ impl StandingTable {
     {
         match mode {
             Mode::Shared => self.may_share_own(covered, &spot.name, spot.area),
-            Mode::Exclusive => self.may_own_own(covered, &spot.name, spot.area),
+            Mode::Exclusive => self.may_take_own(covered, &spot.name, spot.area),
         }
     }
 
