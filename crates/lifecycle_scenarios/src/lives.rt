@@ -102,8 +102,11 @@ const GARBAGE: Option<Phase> = Some(Phase::ExitedGarbage);
 
 const DELETING: Option<Phase> = Some(Phase::Deleting);
 
-// It is marked and deleted. The first that deletes it is killed, and another goes on.
-const REMOVING: [Row; 24] = [
+// The other has the activation lock now, and finds the pod gone from there. The pod is marked and
+// deleted. The first that deletes it is killed, and another goes on.
+const REMOVING: [Row; 26] = [
+    (4, Step::Lock(0, Mode::Exclusive), EXITED, None),
+    (4, Step::Open(Area::Prepared, Which::Own), EXITED, None),
     (4, Step::Kill, EXITED, None),
     (5, Step::Begin(Kind::Gc), EXITED, None),
     (5, Step::Open(Area::Run, Which::Own), EXITED, None),
