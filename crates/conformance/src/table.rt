@@ -12,8 +12,8 @@ pub struct MakingTable {
     pub unsynced: Vec<Bytes>,
 }
 
-/// A `created-` mark that a listing of a pod's folder showed. Its twenty digits may stand for more
-/// than any clock gives.
+/// A `created-` mark that a listing of a pod's folder showed. Its moment is a number of 64 bits, as
+/// its twenty digits are read.
 #[derive(Clone, Copy)]
 pub struct CreatedMark {
     pub name: Name,

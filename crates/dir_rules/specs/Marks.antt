@@ -1,5 +1,5 @@
 -- Paths inside a folder, and the names of marks.
-use Rattle.std.specs.Prelude.{ℕ, zero, suc, ◌+◌, ◌-◌, ◌*◌, ◌/◌, ◌%◌, Bool, true, false, not, ◌&&◌, nat_lt, nat_eq, cond, bytes_eq, Option, Some, None, List, [], ◌∷◌, ◌++◌, length, drop, fold, codes}
+use Rattle.std.specs.Prelude.{ℕ, zero, suc, ◌+◌, ◌-◌, ◌*◌, ◌/◌, ◌%◌, Bool, true, false, not, ◌&&◌, nat_lt, nat_le, nat_eq, cond, bytes_eq, Option, Some, None, List, [], ◌∷◌, ◌++◌, length, drop, fold, codes}
 use Rattle.std.specs.List.{list_any, starts_with}
 use Rattle.dir_model.specs.Paths.{is_slash}
 use Rattle.dir_model.specs.Trees.{mark_prefix}
@@ -40,9 +40,9 @@ marked_mark moment = mark (codes "marked-") moment
 abbrev pub number_of : List ℕ → ℕ
 number_of bs = fold (λ n b. n * 10 + (b - 48)) 0 bs
 
--- the moment of a created- mark
+-- the moment of a created- mark: its digits stand for a number of 64 bits
 abbrev pub created_moment : List ℕ → Option ℕ
-created_moment name = cond (bytes_eq name (created_mark (number_of (drop 8 name)))) (Some (number_of (drop 8 name))) None
+created_moment name = cond (bytes_eq name (created_mark (number_of (drop 8 name))) && nat_le (number_of (drop 8 name)) 18446744073709551615) (Some (number_of (drop 8 name))) None
 
 -- the mark of an app: it stands in the folder itself, and a name follows
 abbrev pub is_started_mark : List ℕ → Bool

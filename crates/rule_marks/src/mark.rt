@@ -48,7 +48,11 @@ fn number_of(digits: &[u8]) -> u128
     number
 }
 
-/// The moment of a `created-` mark.
+// The greatest moment that a clock gives.
+const LAST_MOMENT: u128 = 18_446_744_073_709_551_615;
+
+/// The moment of a `created-` mark. None where the name is none, or its digits stand for more than a
+/// number of 64 bits.
 pub fn created_moment(name: &[u8]) -> Option<u128>
     ensures { result ≡ created_moment name.now }
 {
@@ -56,7 +60,7 @@ pub fn created_moment(name: &[u8]) -> Option<u128>
         return None;
     }
     let moment = number_of(&name[8..]);
-    if is_mark(b"created-", moment, name) {
+    if is_mark(b"created-", moment, name) && moment <= LAST_MOMENT {
         Some(moment)
     } else {
         None
