@@ -1,2 +1,3 @@
 pub mod Greatest
 pub mod Requested
+pub mod Outcomes

@@ -78,6 +78,7 @@ fn drop_put_away(put_away: &mut Vec<Spot>, spot: &Spot)
 impl ContentsTable {
     ghost use Rattle.std.specs.Prelude.{◌≡◌, ◌∷◌, cond, OnOk};
     ghost use Rattle.dir_rules.specs.LockRules.{may_remove};
+    ghost use Rattle.lock_rules.specs.declared.standing.StandingTable.{StandingTable};
     ghost use Rattle.dir_rules.specs.Seen.{closed, folder_made, folder_moved, file_made, file_refused, listed, area_listed, item_removed, folder_removed, learned_done, learned_refused, learned_items, learned_names, learned};
     ghost use Rattle.conformance.specs.Tables.{seen_with};
 
@@ -108,13 +109,8 @@ impl ContentsTable {
         });
     }
 
-    fn move_folder(
-        &mut self,
-        standing: &StandingTable,
-        from: &Spot,
-        to: &Spot,
-    ) -> Result<(), NoMemory>
-        ensures { OnOk result (seen_with standing.now self.new ≡ folder_moved (seen_with standing.now self.old) from.now to.now) }
+    fn move_folder(&mut self, from: &Spot, to: &Spot) -> Result<(), NoMemory>
+        ensures { OnOk result ((s : StandingTable) → seen_with s self.new ≡ folder_moved (seen_with s self.old) from.now to.now) }
     {
         let alloc = self.alloc();
         self.stored = !is_in(Area::Incoming, from.area) && self.stored;
@@ -134,13 +130,8 @@ impl ContentsTable {
         note_piece(&mut self.making, inner, &[], parent(inner.path.as_slice()))
     }
 
-    fn append(
-        &mut self,
-        standing: &StandingTable,
-        inner: &Inner,
-        piece: &[u8],
-    ) -> Result<(), NoMemory>
-        ensures { OnOk result (seen_with standing.now self.new ≡ learned_done (seen_with standing.now self.old) (Request.AppendIn inner.now piece.now)) }
+    fn append(&mut self, inner: &Inner, piece: &[u8]) -> Result<(), NoMemory>
+        ensures { OnOk result ((s : StandingTable) → seen_with s self.new ≡ learned_done (seen_with s self.old) (Request.AppendIn inner.now piece.now)) }
     {
         note_piece(&mut self.making, inner, piece, inner.path.as_slice())
     }
@@ -188,8 +179,8 @@ impl ContentsTable {
         Ok(())
     }
 
-    fn remove_folder(&mut self, standing: &StandingTable, spot: &Spot)
-        ensures { seen_with standing.now self.new ≡ folder_removed (seen_with standing.now self.old) spot.now }
+    fn remove_folder(&mut self, spot: &Spot)
+        ensures { (s : StandingTable) → seen_with s self.new ≡ folder_removed (seen_with s self.old) spot.now }
     {
         forget_listed(&mut self.listed, spot);
         forget_items(&mut self.items, spot);
@@ -198,8 +189,8 @@ impl ContentsTable {
         drop_put_away(&mut self.put_away, spot);
     }
 
-    fn finish(&mut self, standing: &StandingTable)
-        ensures { seen_with standing.now self.new ≡ learned_done (seen_with standing.now self.old) Request.Finish }
+    fn finish(&mut self)
+        ensures { (s : StandingTable) → seen_with s self.new ≡ learned_done (seen_with s self.old) Request.Finish }
     {
         self.stored = false;
         self.listed.clear();
@@ -212,18 +203,18 @@ impl ContentsTable {
     {
         match request {
             Request::MakeFolder(spot) => self.make_folder(standing, spot),
-            Request::MoveFolder { from, to } => return self.move_folder(standing, from, to),
+            Request::MoveFolder { from, to } => return self.move_folder(from, to),
             Request::Close(handle) => self.close(standing, *handle),
             Request::MakeDirIn(inner) => return note_dir(&mut self.making, inner),
             Request::MakeFileIn(inner) => return self.make_file(standing, inner),
             Request::AppendIn { inner, piece } => {
-                return self.append(standing, inner, piece.as_slice());
+                return self.append(inner, piece.as_slice());
             }
             Request::SyncIn(inner) => note_sync(&mut self.making, inner),
             Request::RemoveFileIn(inner) => drop_item(&mut self.items, inner),
             Request::RemoveDirIn(inner) => drop_item(&mut self.items, inner),
-            Request::RemoveFolder(spot) => self.remove_folder(standing, spot),
-            Request::Finish => self.finish(standing),
+            Request::RemoveFolder(spot) => self.remove_folder(spot),
+            Request::Finish => self.finish(),
             _ => (),
         }
         Ok(())
