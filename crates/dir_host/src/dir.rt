@@ -59,7 +59,7 @@ fn counted(faults: &mut u64, error: DirError) -> DirError
 }
 
 impl<R: Files<File = File> + AllocGlobal + Clone + Drop> Dir for HostDir<R> {
-    ghost use Rattle.std.specs.Prelude.{◌≡◌, length, true, false, IfErr, IfOk, IsErrOf};
+    ghost use Rattle.std.specs.Prelude.{◌≡◌, length, true, false, Err, IfErr, IfOk, IsErrOf};
     ghost use Rattle.std.specs.Ordering.{nat_cmp};
     ghost use Rattle.std.specs.Cmp.Lexicographic.{slice_cmp};
     ghost use Rattle.std.specs.List.Sorted.{IsStrictlySortedBy};
@@ -69,6 +69,7 @@ impl<R: Files<File = File> + AllocGlobal + Clone + Drop> Dir for HostDir<R> {
     ghost use Rattle.dir_model.specs.Replies.{done_reply, opened_reply, names_reply, items_reply, read_reply, may_refuse};
     ghost use Rattle.dir_model.specs.Local.{nothing_local, IsActive, IsUnopened, IsOpen, IsUnlocked};
     ghost use Rattle.dir_trait.specs.DirCalls.{DirCall, AppendCall, ListCall, IsFilled};
+    ghost use Rattle.host_files.specs.Places.{has_dots};
     ghost use Rattle.dir_host.specs.Counts.{Counts};
     ghost use Rattle.dir_host.specs.Shown.{dir_shown};
 
@@ -195,6 +196,7 @@ impl<R: Files<File = File> + AllocGlobal + Clone + Drop> Dir for HostDir<R> {
         requires path { is_path path.now ≡ true }
         ensures cause { IsErrOf result DirError.Failed → Rose self.old.faults self.new.faults }
         ensures counts { Counts DirError.Failed result self.old.faults self.new.faults }
+        ensures dots { has_dots path.now ≡ true → result ≡ Err DirError.Missing }
         ensures refusals { IfErr result (λ e. may_refuse (Request.ListIn (record { spot = spot; path = path.now })) e ≡ true) }
         ensures ordered { IfOk result (λ items. IsStrictlySortedBy (slice_cmp nat_cmp) (item_names items)) }
         ensures called { ListCall false (dir_shown self.old) (Request.ListIn (record { spot = spot; path = path.now })) (items_reply result) (dir_shown self.new) }
@@ -210,6 +212,7 @@ impl<R: Files<File = File> + AllocGlobal + Clone + Drop> Dir for HostDir<R> {
         requires path { is_path path.now ≡ true }
         ensures cause { IsErrOf result DirError.Failed → Rose self.old.faults self.new.faults }
         ensures counts { Counts DirError.Failed result self.old.faults self.new.faults }
+        ensures dots { has_dots path.now ≡ true → result ≡ Err DirError.Missing }
         ensures refusals { IfErr result (λ e. may_refuse (Request.MakeDirIn (record { spot = spot; path = path.now })) e ≡ true) }
         ensures called { DirCall false (dir_shown self.old) (Request.MakeDirIn (record { spot = spot; path = path.now })) (done_reply result) (dir_shown self.new) }
     {
@@ -224,6 +227,7 @@ impl<R: Files<File = File> + AllocGlobal + Clone + Drop> Dir for HostDir<R> {
         requires path { is_path path.now ≡ true }
         ensures cause { IsErrOf result DirError.Failed → Rose self.old.faults self.new.faults }
         ensures counts { Counts DirError.Failed result self.old.faults self.new.faults }
+        ensures dots { has_dots path.now ≡ true → result ≡ Err DirError.Missing }
         ensures refusals { IfErr result (λ e. may_refuse (Request.MakeFileIn (record { spot = spot; path = path.now })) e ≡ true) }
         ensures called { DirCall false (dir_shown self.old) (Request.MakeFileIn (record { spot = spot; path = path.now })) (done_reply result) (dir_shown self.new) }
     {
@@ -244,6 +248,7 @@ impl<R: Files<File = File> + AllocGlobal + Clone + Drop> Dir for HostDir<R> {
         requires path { is_path path.now ≡ true }
         ensures cause { IsErrOf result DirError.Failed → Rose self.old.faults self.new.faults }
         ensures counts { Counts DirError.Failed result self.old.faults self.new.faults }
+        ensures dots { has_dots path.now ≡ true → result ≡ Err DirError.Missing }
         ensures refusals { IfErr result (λ e. may_refuse (Request.AppendIn (record { spot = spot; path = path.now }) piece.now) e ≡ true) }
         ensures called { AppendCall false (dir_shown self.old) (Request.AppendIn (record { spot = spot; path = path.now }) piece.now) result (dir_shown self.new) }
     {
@@ -265,6 +270,7 @@ impl<R: Files<File = File> + AllocGlobal + Clone + Drop> Dir for HostDir<R> {
         requires path { is_path path.now ≡ true }
         ensures cause { IsErrOf result DirError.Failed → Rose self.old.faults self.new.faults }
         ensures counts { Counts DirError.Failed result self.old.faults self.new.faults }
+        ensures dots { has_dots path.now ≡ true → result ≡ Err DirError.Missing }
         ensures refusals { IfErr result (λ e. may_refuse (Request.ReadIn (record { spot = spot; path = path.now }) at (length room.old)) e ≡ true) }
         ensures filled { IsFilled room.old result room.new }
         ensures called { DirCall false (dir_shown self.old) (Request.ReadIn (record { spot = spot; path = path.now }) at (length room.old)) (read_reply room.new result) (dir_shown self.new) }
@@ -280,6 +286,7 @@ impl<R: Files<File = File> + AllocGlobal + Clone + Drop> Dir for HostDir<R> {
         requires path { is_path path.now ≡ true }
         ensures cause { IsErrOf result DirError.Failed → Rose self.old.faults self.new.faults }
         ensures counts { Counts DirError.Failed result self.old.faults self.new.faults }
+        ensures dots { has_dots path.now ≡ true → result ≡ Err DirError.Missing }
         ensures refusals { IfErr result (λ e. may_refuse (Request.SyncIn (record { spot = spot; path = path.now })) e ≡ true) }
         ensures called { DirCall false (dir_shown self.old) (Request.SyncIn (record { spot = spot; path = path.now })) (done_reply result) (dir_shown self.new) }
     {
@@ -307,6 +314,7 @@ impl<R: Files<File = File> + AllocGlobal + Clone + Drop> Dir for HostDir<R> {
         requires path { is_path path.now ≡ true }
         ensures cause { IsErrOf result DirError.Failed → Rose self.old.faults self.new.faults }
         ensures counts { Counts DirError.Failed result self.old.faults self.new.faults }
+        ensures dots { has_dots path.now ≡ true → result ≡ Err DirError.Missing }
         ensures refusals { IfErr result (λ e. may_refuse (Request.RemoveFileIn (record { spot = spot; path = path.now })) e ≡ true) }
         ensures called { DirCall false (dir_shown self.old) (Request.RemoveFileIn (record { spot = spot; path = path.now })) (done_reply result) (dir_shown self.new) }
     {
@@ -321,6 +329,7 @@ impl<R: Files<File = File> + AllocGlobal + Clone + Drop> Dir for HostDir<R> {
         requires path { is_path path.now ≡ true }
         ensures cause { IsErrOf result DirError.Failed → Rose self.old.faults self.new.faults }
         ensures counts { Counts DirError.Failed result self.old.faults self.new.faults }
+        ensures dots { has_dots path.now ≡ true → result ≡ Err DirError.Missing }
         ensures refusals { IfErr result (λ e. may_refuse (Request.RemoveDirIn (record { spot = spot; path = path.now })) e ≡ true) }
         ensures called { DirCall false (dir_shown self.old) (Request.RemoveDirIn (record { spot = spot; path = path.now })) (done_reply result) (dir_shown self.new) }
     {

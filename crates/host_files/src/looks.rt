@@ -136,6 +136,7 @@ pub fn reach_below<R: Files>(
     folder: DirError,
 ) -> Result<String, DirError>
     ensures path { IfOk result (λ path. string_bytes path ≡ inner_path root.now spot.now inner.now) }
+    ensures dots { has_dots inner.now ≡ true → result ≡ Err DirError.Missing }
     ensures refusals { IfErr result (λ e. (e ≡ folder) ⊎ (e ≡ DirError.Missing) ⊎ (is_fault e ≡ true)) }
 {
     let path = reach(rt, alloc, root, spot, inner)?;
