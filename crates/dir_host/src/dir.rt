@@ -59,7 +59,7 @@ fn counted(faults: &mut u64, error: DirError) -> DirError
 }
 
 impl<R: Files<File = File> + AllocGlobal + Clone + Drop> Dir for HostDir<R> {
-    ghost use Rattle.std.specs.Prelude.{◌≡◌, length, true, false, Err, IfErr, IfOk, IsErrOf};
+    ghost use Rattle.std.specs.Prelude.{◌≡◌, ◌≢◌, length, true, false, [], Err, IfErr, IfOk, IsErrOf, OnOk};
     ghost use Rattle.std.specs.Ordering.{nat_cmp};
     ghost use Rattle.std.specs.Cmp.Lexicographic.{slice_cmp};
     ghost use Rattle.std.specs.List.Sorted.{IsStrictlySortedBy};
@@ -213,6 +213,7 @@ impl<R: Files<File = File> + AllocGlobal + Clone + Drop> Dir for HostDir<R> {
         ensures cause { IsErrOf result DirError.Failed → Rose self.old.faults self.new.faults }
         ensures counts { Counts DirError.Failed result self.old.faults self.new.faults }
         ensures dots { has_dots path.now ≡ true → result ≡ Err DirError.Missing }
+        ensures below { OnOk result (path.now ≢ []) }
         ensures refusals { IfErr result (λ e. may_refuse (Request.MakeDirIn (record { spot = spot; path = path.now })) e ≡ true) }
         ensures called { DirCall false (dir_shown self.old) (Request.MakeDirIn (record { spot = spot; path = path.now })) (done_reply result) (dir_shown self.new) }
     {
@@ -228,6 +229,7 @@ impl<R: Files<File = File> + AllocGlobal + Clone + Drop> Dir for HostDir<R> {
         ensures cause { IsErrOf result DirError.Failed → Rose self.old.faults self.new.faults }
         ensures counts { Counts DirError.Failed result self.old.faults self.new.faults }
         ensures dots { has_dots path.now ≡ true → result ≡ Err DirError.Missing }
+        ensures below { OnOk result (path.now ≢ []) }
         ensures refusals { IfErr result (λ e. may_refuse (Request.MakeFileIn (record { spot = spot; path = path.now })) e ≡ true) }
         ensures called { DirCall false (dir_shown self.old) (Request.MakeFileIn (record { spot = spot; path = path.now })) (done_reply result) (dir_shown self.new) }
     {
@@ -249,6 +251,7 @@ impl<R: Files<File = File> + AllocGlobal + Clone + Drop> Dir for HostDir<R> {
         ensures cause { IsErrOf result DirError.Failed → Rose self.old.faults self.new.faults }
         ensures counts { Counts DirError.Failed result self.old.faults self.new.faults }
         ensures dots { has_dots path.now ≡ true → result ≡ Err DirError.Missing }
+        ensures below { OnOk result (path.now ≢ []) }
         ensures refusals { IfErr result (λ e. may_refuse (Request.AppendIn (record { spot = spot; path = path.now }) piece.now) e ≡ true) }
         ensures called { AppendCall false (dir_shown self.old) (Request.AppendIn (record { spot = spot; path = path.now }) piece.now) result (dir_shown self.new) }
     {
@@ -271,6 +274,7 @@ impl<R: Files<File = File> + AllocGlobal + Clone + Drop> Dir for HostDir<R> {
         ensures cause { IsErrOf result DirError.Failed → Rose self.old.faults self.new.faults }
         ensures counts { Counts DirError.Failed result self.old.faults self.new.faults }
         ensures dots { has_dots path.now ≡ true → result ≡ Err DirError.Missing }
+        ensures below { OnOk result (path.now ≢ []) }
         ensures refusals { IfErr result (λ e. may_refuse (Request.ReadIn (record { spot = spot; path = path.now }) at (length room.old)) e ≡ true) }
         ensures filled { IsFilled room.old result room.new }
         ensures called { DirCall false (dir_shown self.old) (Request.ReadIn (record { spot = spot; path = path.now }) at (length room.old)) (read_reply room.new result) (dir_shown self.new) }
@@ -315,6 +319,7 @@ impl<R: Files<File = File> + AllocGlobal + Clone + Drop> Dir for HostDir<R> {
         ensures cause { IsErrOf result DirError.Failed → Rose self.old.faults self.new.faults }
         ensures counts { Counts DirError.Failed result self.old.faults self.new.faults }
         ensures dots { has_dots path.now ≡ true → result ≡ Err DirError.Missing }
+        ensures below { OnOk result (path.now ≢ []) }
         ensures refusals { IfErr result (λ e. may_refuse (Request.RemoveFileIn (record { spot = spot; path = path.now })) e ≡ true) }
         ensures called { DirCall false (dir_shown self.old) (Request.RemoveFileIn (record { spot = spot; path = path.now })) (done_reply result) (dir_shown self.new) }
     {
@@ -330,6 +335,7 @@ impl<R: Files<File = File> + AllocGlobal + Clone + Drop> Dir for HostDir<R> {
         ensures cause { IsErrOf result DirError.Failed → Rose self.old.faults self.new.faults }
         ensures counts { Counts DirError.Failed result self.old.faults self.new.faults }
         ensures dots { has_dots path.now ≡ true → result ≡ Err DirError.Missing }
+        ensures below { OnOk result (path.now ≢ []) }
         ensures refusals { IfErr result (λ e. may_refuse (Request.RemoveDirIn (record { spot = spot; path = path.now })) e ≡ true) }
         ensures called { DirCall false (dir_shown self.old) (Request.RemoveDirIn (record { spot = spot; path = path.now })) (done_reply result) (dir_shown self.new) }
     {

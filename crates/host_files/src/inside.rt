@@ -1,6 +1,7 @@
 // What stands in folders: how it is made, written, read, synced and removed.
-ghost use Rattle.std.specs.Prelude.{◌≡◌, ◌⊎◌, ◌↔◌, true, Err, IsOk, IfErr};
+ghost use Rattle.std.specs.Prelude.{◌≡◌, ◌≢◌, ◌⊎◌, ◌↔◌, true, [], Err, IsOk, IfErr, OnOk};
 ghost use Rattle.std.specs.Fs.{file_type, IsFile, new_options, with_read, with_append};
+ghost use Rattle.std.specs.Io.KnownBytes.{Appends};
 ghost use Rattle.dir_trait.specs.DirCalls.{IsFilled};
 ghost use Rattle.dir_model.specs.Replies.{is_fault};
 ghost use Rattle.host_files.specs.Places.{has_dots};
@@ -26,6 +27,7 @@ pub fn make_dir<R: Files>(
     inner: &str,
 ) -> Result<(), DirError>
     ensures dots { has_dots inner.now ≡ true → result ≡ Err DirError.Missing }
+    ensures below { OnOk result (inner.now ≢ []) }
     ensures refusals { IfErr result (λ e. (e ≡ DirError.Exists) ⊎ (e ≡ DirError.Missing) ⊎ (is_fault e ≡ true)) }
 {
     let path = reach_below(rt, alloc, root, spot, inner, DirError::Exists)?;
@@ -41,6 +43,7 @@ pub fn make_file<R: Files>(
     inner: &str,
 ) -> Result<(), DirError>
     ensures dots { has_dots inner.now ≡ true → result ≡ Err DirError.Missing }
+    ensures below { OnOk result (inner.now ≢ []) }
     ensures refusals { IfErr result (λ e. (e ≡ DirError.Exists) ⊎ (e ≡ DirError.Missing) ⊎ (is_fault e ≡ true)) }
 {
     let path = reach_below(rt, alloc, root, spot, inner, DirError::Exists)?;
@@ -90,6 +93,7 @@ pub fn open_regular<R: Files<File = File>>(
     inner: &str,
 ) -> Result<File, DirError>
     ensures dots { has_dots inner.now ≡ true → result ≡ Err DirError.Missing }
+    ensures below { OnOk result (inner.now ≢ []) }
     ensures refusals { IfErr result (λ e. (e ≡ DirError.Missing) ⊎ (is_fault e ≡ true)) }
 {
     let path = reach_below(rt, alloc, root, spot, inner, DirError::Missing)?;
@@ -121,7 +125,15 @@ pub fn open_dir<R: Files<File = File>>(
     open_dir_at(rt, path.as_str(), root, spot, inner).map_err(absent)
 }
 
-/// Adds bytes at the end of a file, by as many writes as it takes.
+/// Writes the whole piece, by as many writes as it takes.
+fn write_piece<W: Write>(file: &mut W, piece: &[u8]) -> Result<(), DirError>
+    ensures bytes { OnOk result (Appends (W.contents file.old) (W.contents file.new) piece.now) }
+    ensures refusals { IfErr result (λ e. is_fault e ≡ true) }
+{
+    file.write_all(piece).map_err(fault)
+}
+
+/// Adds bytes at the end of a file.
 pub fn append<R: Files<File = File>>(
     rt: &R,
     alloc: Global,
@@ -131,10 +143,11 @@ pub fn append<R: Files<File = File>>(
     piece: &[u8],
 ) -> Result<(), DirError>
     ensures dots { has_dots inner.now ≡ true → result ≡ Err DirError.Missing }
+    ensures below { OnOk result (inner.now ≢ []) }
     ensures refusals { IfErr result (λ e. (e ≡ DirError.Missing) ⊎ (is_fault e ≡ true)) }
 {
     let mut file = open_regular(rt, alloc, &for_appending(), root, spot, inner)?;
-    file.write_all(piece).map_err(fault)
+    write_piece(&mut file, piece)
 }
 
 /// Fills the room with the bytes of an open file from a place on. A read that fails midway leaves the
@@ -161,6 +174,7 @@ pub fn read<R: Files<File = File>>(
     room: &mut [u8],
 ) -> Result<usize, DirError>
     ensures dots { has_dots inner.now ≡ true → result ≡ Err DirError.Missing }
+    ensures below { OnOk result (inner.now ≢ []) }
     ensures filled { IsFilled room.old result room.new }
     ensures refusals { IfErr result (λ e. (e ≡ DirError.Missing) ⊎ (is_fault e ≡ true)) }
 {
@@ -211,6 +225,7 @@ pub fn remove_file<R: Files>(
     inner: &str,
 ) -> Result<(), DirError>
     ensures dots { has_dots inner.now ≡ true → result ≡ Err DirError.Missing }
+    ensures below { OnOk result (inner.now ≢ []) }
     ensures refusals { IfErr result (λ e. (e ≡ DirError.Missing) ⊎ (is_fault e ≡ true)) }
 {
     let path = reach_below(rt, alloc, root, spot, inner, DirError::Missing)?;
@@ -226,6 +241,7 @@ pub fn remove_dir<R: Files>(
     inner: &str,
 ) -> Result<(), DirError>
     ensures dots { has_dots inner.now ≡ true → result ≡ Err DirError.Missing }
+    ensures below { OnOk result (inner.now ≢ []) }
     ensures refusals { IfErr result (λ e. (e ≡ DirError.Missing) ⊎ (e ≡ DirError.NotEmpty) ⊎ (is_fault e ≡ true)) }
 {
     let path = reach_below(rt, alloc, root, spot, inner, DirError::Missing)?;
