@@ -6,6 +6,9 @@ cd "$(dirname "$0")/../.." || exit 1
 program=dir_check
 . tests/host/checks.bash
 
+# A tracer names paths without links.
+tmp=$(cd "$tmp" && pwd -P)
+
 export RKT_DIR=$tmp/data
 check=$tmp/rkt-program
 pod=00000000-0000-4000-8000-000000000001
