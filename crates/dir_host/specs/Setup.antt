@@ -1,4 +1,4 @@
--- Why a program ends before its command, and what it draws.
+-- Why a program ends before its command, which words and which data folder it is asked for, and what it draws.
 use Rattle.std.specs.Prelude.{◌≡◌, ◌↔◌, ◌==◌, Bool, if◌then◌else◌, ℕ, List, ◌++◌, length, drop, slice_index, codes, Option}
 use Rattle.std.specs.Iterator.{Drains}
 use Rattle.std.specs.Io.KnownBytes.{Consumes}
