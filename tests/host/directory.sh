@@ -6,6 +6,9 @@ cd "$(dirname "$0")/../.." || exit 1
 program=dir_check
 . tests/host/checks.bash
 
+# A tracer names paths without links.
+tmp=$(cd "$tmp" && pwd -P)
+
 export RKT_DIR=$tmp/data
 check=$tmp/rkt-program
 pod=00000000-0000-4000-8000-000000000001
@@ -198,6 +201,69 @@ if [ ${#as_user[@]} -eq 0 ] || "${as_user[@]}" "$check" >/dev/null 2>&1; then
     rm -rf "$inside/sealed"
 else
     skip 'what another user may not use: root may use all, and there is no setpriv'
+fi
+
+# Where the data folder is, and such as can't be made.
+all_areas='./pods/embryo ./pods/exited-garbage ./pods/garbage ./pods/prepare ./pods/prepared ./pods/run ./store/images ./store/incoming ./store/removed ./store/trees '
+where() {
+    local name=$1 folder=$2
+    shift 2
+    rm -rf "$tmp/here"
+    mkdir "$tmp/here"
+    same "$name" ok "$(cd "$tmp/here" && env "$@" "$check" 'sync run' 2>&1 </dev/null)"
+    same "$name: its areas" "$all_areas" "$(cd "$tmp/here/$folder" && find . -mindepth 2 -type d | sort | tr '\n' ' ')"
+}
+where 'RKT_DIR unset' rkt -u RKT_DIR
+where 'RKT_DIR empty' rkt RKT_DIR=
+where 'RKT_DIR relative' own/er RKT_DIR=own/er
+where 'RKT_DIR absolute' deep/er "RKT_DIR=$tmp/here/deep/er"
+: >"$tmp/file"
+mkdir -p "$tmp/half/store"
+: >"$tmp/half/store/removed"
+RKT_DIR=$tmp/file calls 'the data folder is a file' 'Error: no data folder' 'sync run'
+RKT_DIR=$tmp/half calls 'an area is a file' 'Error: no data folder' 'sync run'
+RKT_DIR=$tmp/$'\xff' calls 'RKT_DIR is not UTF-8' 'Error: no data folder' 'sync run'
+
+# What the system is made to answer, and what it is asked.
+# made NAME WANTED PATH ANSWER CALL..: the system answers so where the call is about the path, or about any for ''.
+made() {
+    local name=$1 wanted=$2 answer=$4 about=()
+    [ -z "$3" ] || about=(-P "$3")
+    shift 4
+    same "$name" "$wanted" "$(timeout 60 strace -qq -y -o "$tmp/trace" "${about[@]}" -e "trace=${answer%%:*}" -e "inject=$answer" \
+        "$check" "$@" 2>&1 </dev/null | paste -sd'|')"
+}
+trace_host() {
+    mkdir "$inside/s"
+    printf 'some text' >"$inside/f"
+    : >"$inside/s/f"
+    made 'a read that a signal cut short is asked again' 'some text' "$inside/f" pread64:error=EINTR:when=1 "copy run $pod f 99"
+    made 'a read that fails midway gives nothing' failed "$inside/f" pread64:error=EIO:when=2 "copy run $pod f 99"
+    made 'an append that a signal cut short is asked again' ok "$inside/f" write:error=EINTR:when=1 "append run $pod f +"
+    same 'and comes once' 'some text+' "$(cat "$inside/f")"
+    made 'an append to a full disk' failed "$inside/f" write:error=ENOSPC "append run $pod f x"
+    made 'a listing that breaks off midway' 'failed|failed' '' getdents64:error=EIO:when=2+2 "list run $pod " 'list run'
+    made 'a lock that can not be had' 'failed|failed' '' flock:error=ENOLCK "lock shared own run $pod" 'lock exclusive area run'
+    made 'a folder that has gone before its move' missing '' rename:error=ENOENT "move run $pod garbage $pod"
+    made 'a folder that came before the move' exists '' rename:error=ENOTEMPTY "move run $pod garbage $pod"
+    made 'a move to another disk' failed '' rename:error=EXDEV "move run $pod garbage $pod"
+    made 'a sync that fails' 'failed|failed|failed' '' fsync:error=EIO "sync run $pod f" "sync run $pod s" 'sync run'
+    made 'what is synced' 'ok|ok|ok|ok' '' fsync:delay_enter=1 "sync run $pod f" "sync run $pod s" "sync run $pod " 'sync run'
+    same 'is what was named' "$inside/f|$inside/s|$inside|$RKT_DIR/pods/run" "$(sed 's/.*<//; s/>.*//' "$tmp/trace" | paste -sd'|')"
+    timeout 60 strace -qq -o "$tmp/trace" -P "$inside/f" -e trace=openat -e inject=openat:delay_enter=2000000 \
+        "$check" "copy run $pod f 99" >"$tmp/out" 2>&1 </dev/null &
+    sleep 0.5
+    mv "$inside/f" "$inside/g"
+    mkdir "$inside/f"
+    wait $!
+    same 'what was opened is looked at' missing "$(cat "$tmp/out")"
+    rmdir "$inside/f"
+    rm -r "$inside/s" "$inside/g"
+}
+if command -v strace >/dev/null && strace -qq -o /dev/null true 2>/dev/null; then
+    trace_host
+else
+    skip 'what the system is made to answer: there is no strace, or it may not trace'
 fi
 
 # A listing is about the folder that it began with, wherever that moves.

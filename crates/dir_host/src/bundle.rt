@@ -1,7 +1,9 @@
 // The files of the host are a `Bundle`.
-ghost use Rattle.std.specs.Prelude.{◌≡◌, ◌≢◌, ◌≤◌, ◌+◌, ◌-◌, ◌^◌, min, [], codes};
+ghost use Rattle.std.specs.Prelude.{◌≡◌, ◌≢◌, ◌≤◌, [], codes};
+ghost use Rattle.dir_model.specs.Causes.{Rose};
+ghost use Rattle.dir_host.specs.Counts.{CountsRefusal};
 
-use dir_trait::{Bundle, BundleError, BundleItems};
+use dir_trait::{Bundle, BundleAction, BundleError, BundleItems};
 use host_files::{OpenedFile, list_folder, read_file, read_target};
 use std::alloc::Global;
 use std::fs::File;
@@ -35,8 +37,8 @@ impl<R: Files<File = File> + AllocGlobal + Clone + Drop> HostBundle<R> {
 fn counted(faults: &mut u64, error: BundleError) -> BundleError
     ensures same { result ≡ error }
     ensures kept { faults.old ≤ faults.new }
-    ensures once { error ≡ BundleError.Failed → faults.new ≡ min (faults.old + 1) (2 ^ 64 - 1) }
-    ensures calm { error ≢ BundleError.Failed → faults.new ≡ faults.old }
+    ensures cause { result ≡ BundleError.Failed → Rose faults.old faults.new }
+    ensures counts { CountsRefusal BundleError.Failed result faults.old faults.new }
 {
     if error == BundleError::Failed {
         *faults = faults.saturating_add(1);
@@ -53,11 +55,15 @@ fn path_or_here(path: &str) -> &str
 }
 
 impl<R: Files<File = File> + AllocGlobal + Clone + Drop> Bundle for HostBundle<R> {
-    ghost use Rattle.std.specs.Prelude.{false, None, []};
+    ghost use Rattle.std.specs.Prelude.{◌≡◌, ◌≤◌, length, false, IfOk, IsErrOf};
+    ghost use Rattle.dir_model.specs.Causes.{Rose};
+    ghost use Rattle.dir_trait.specs.Bundles.{bytes_given, IsListing, BundleCall, request_at};
+    ghost use Rattle.dir_host.specs.Counts.{Counts};
+    ghost use Rattle.dir_host.specs.Shown.{bundle_shown};
 
     ghost observed = { false };
 
-    ghost shown = { λ b. record { tree = λ _. None; faults = b.faults; given = 0; asked = [] } };
+    ghost shown = { λ b. bundle_shown b };
 
     fn faults(&self) -> u64 {
         self.faults
@@ -69,7 +75,12 @@ impl<R: Files<File = File> + AllocGlobal + Clone + Drop> Bundle for HostBundle<R
         path: &str,
         at: u64,
         room: &mut [u8],
-    ) -> Result<usize, BundleError> {
+    ) -> Result<usize, BundleError>
+        ensures cause { IsErrOf result BundleError.Failed → Rose self.old.faults self.new.faults }
+        ensures counts { Counts BundleError.Failed result self.old.faults self.new.faults }
+        ensures most { IfOk result (λ n. n ≤ length room.old) }
+        ensures called { BundleCall false (bundle_shown self.old) (request_at BundleAction.Read path.now) (bytes_given result) (bundle_shown self.new) }
+    {
         match read_file(&self.rt, alloc, &mut self.opened, path, at, room) {
             Ok(count) => Ok(count),
             Err(error) => Err(counted(&mut self.faults, error)),
@@ -81,14 +92,24 @@ impl<R: Files<File = File> + AllocGlobal + Clone + Drop> Bundle for HostBundle<R
         _alloc: Global,
         path: &str,
         room: &mut [u8],
-    ) -> Result<usize, BundleError> {
+    ) -> Result<usize, BundleError>
+        ensures cause { IsErrOf result BundleError.Failed → Rose self.old.faults self.new.faults }
+        ensures counts { Counts BundleError.Failed result self.old.faults self.new.faults }
+        ensures most { IfOk result (λ n. n ≤ length room.old) }
+        ensures called { BundleCall false (bundle_shown self.old) (request_at BundleAction.ReadLink path.now) (bytes_given result) (bundle_shown self.new) }
+    {
         match read_target(&self.rt, path, room) {
             Ok(count) => Ok(count),
             Err(error) => Err(counted(&mut self.faults, error)),
         }
     }
 
-    fn list(&mut self, alloc: Global, path: &str) -> Result<BundleItems, BundleError> {
+    fn list(&mut self, alloc: Global, path: &str) -> Result<BundleItems, BundleError>
+        ensures cause { IsErrOf result BundleError.Failed → Rose self.old.faults self.new.faults }
+        ensures counts { Counts BundleError.Failed result self.old.faults self.new.faults }
+        ensures ordered { IfOk result IsListing }
+        ensures called { BundleCall false (bundle_shown self.old) (request_at BundleAction.List path.now) 0 (bundle_shown self.new) }
+    {
         match list_folder(&self.rt, alloc, path_or_here(path)) {
             Ok(items) => Ok(items),
             Err(error) => Err(counted(&mut self.faults, error)),

@@ -7,9 +7,11 @@ mod dir;
 mod locks;
 mod open_folders;
 mod outside;
+mod setup;
 mod sink;
 
 pub use bundle::HostBundle;
 pub use dir::HostDir;
-pub use outside::{Outside, SetupError, assemble, read_words};
+pub use outside::{Outside, assemble};
+pub use setup::{SetupError, read_words};
 pub use sink::HostSink;

@@ -3,50 +3,17 @@ ghost use Rattle.std.specs.Prelude.{◌≡◌, ◌/◌, IfOk, IsErrOf};
 ghost use Rattle.uuid.specs.Parts.{with_version, with_variant};
 ghost use Rattle.dir_model.specs.Local.{nothing_local};
 ghost use Rattle.std.specs.Time.{system_time_nanos};
-ghost use Rattle.dir_host.specs.Setup.{StandsFor, IsDrawnOf};
-ghost use Rattle.dir_host.specs.declared.outside.SetupError.TheVariants.{NoMemory};
+ghost use Rattle.dir_host.specs.Setup.{IsDrawnOf};
 
 use crate::dir::HostDir;
+use crate::setup::{SetupError, find_root};
 use dir_trait::{Dir, Draw, PodId};
-use host_files::{AREAS, path_of_area};
-use std::alloc::{AllocError, Global};
-use std::env::VarError;
+use host_files::{AREAS, make_area_at, path_of_area};
 use std::fs::File;
 use std::io::{ErrorKind, Read};
 use std::rt::{Clock, Env, Files};
 use std::time::{SystemTime, UNIX_EPOCH};
-use std::{env, fs, io};
 use uuid::{Builder, Variant, Version};
-
-/// Why a program ends before its command.
-#[derive(Clone, Copy, Debug, PartialEq, Eq)]
-pub enum SetupError {
-    /// A word of the command line isn't UTF-8.
-    Usage,
-    /// The data folder, the clock or the random bytes can't be had.
-    DirFault,
-    /// Memory ran out.
-    NoMemory,
-}
-
-impl From<AllocError> for SetupError {
-    ghost from_gives = { λ _ error. error ≡ NoMemory };
-
-    fn from(_error: AllocError) -> SetupError {
-        SetupError::NoMemory
-    }
-}
-
-impl From<io::Error> for SetupError {
-    ghost from_gives = { StandsFor };
-
-    fn from(error: io::Error) -> SetupError {
-        match error.kind() {
-            ErrorKind::OutOfMemory => SetupError::NoMemory,
-            _ => SetupError::DirFault,
-        }
-    }
-}
 
 /// What a command is run with: the moment in seconds, random bytes, and the data folder.
 #[derive(Drop)]
@@ -56,46 +23,13 @@ pub struct Outside<R: Files<File = File> + AllocGlobal + Clone + Drop> {
     pub dir: HostDir<R>,
 }
 
-/// The words of the command line, without the program's name. `Usage` where one isn't UTF-8.
-pub fn read_words<R: Env + AllocGlobal>(rt: &R) -> Result<Vec<String>, SetupError> {
-    let mut words = Vec::new(rt.alloc());
-    let given = match env::args(rt) {
-        Ok(given) => given,
-        Err(error) if error.kind() == ErrorKind::InvalidData => return Err(SetupError::Usage),
-        Err(error) => return Err(SetupError::from(error)),
-    };
-    for word in given.skip(1) {
-        words.push(word).map_err(AllocError::from)?;
-    }
-    Ok(words)
-}
-
-/// The absolute path of the data folder: that of `RKT_DIR`, or `rkt` where it is unset or empty,
-/// seen from the current folder.
-fn find_root<R: Env + AllocGlobal>(rt: &R) -> Result<String, SetupError>
-    ensures { IsErrOf result SetupError.Usage → ⊥ }
-{
-    let named = match env::var(rt, "RKT_DIR") {
-        Ok(named) if !named.is_empty() => named,
-        Ok(_) | Err(VarError::NotPresent) => String::from_str(rt.alloc(), "rkt")?,
-        Err(VarError::OutOfMemory) => return Err(SetupError::NoMemory),
-        Err(VarError::NotUnicode) => return Err(SetupError::DirFault),
-    };
-    if named.starts_with('/') {
-        return Ok(named);
-    }
-    let current = env::current_dir(rt)?;
-    let current = current.as_str();
-    Ok(format!(in rt.alloc(); "{current}/{named}")?)
-}
-
 /// Makes the areas that are missing, and the folders above them.
 fn make_areas<R: Files + AllocGlobal>(rt: &R, root: &str) -> Result<(), SetupError>
     ensures { IsErrOf result SetupError.Usage → ⊥ }
 {
     for area in AREAS {
         let path = path_of_area(rt.alloc(), root, area)?;
-        fs::create_dir_all(rt, path.as_str())?;
+        make_area_at(rt, path.as_str(), root, area)?;
     }
     Ok(())
 }

@@ -1,8 +1,10 @@
 // A stream of the host is a `Sink`.
-ghost use Rattle.std.specs.Prelude.{◌≡◌, ◌≢◌, ◌≤◌, ◌<◌, ◌+◌, ◌-◌, ◌^◌, min, length, IfOk, IfErr};
+ghost use Rattle.std.specs.Prelude.{◌≡◌, ◌≤◌, ◌<◌, length, IfOk, IfErr};
 ghost use Rattle.std.specs.IoError.{error_kind};
 ghost use Rattle.std.specs.Io.KnownBytes.{WriteAppends};
+ghost use Rattle.dir_model.specs.Causes.{Rose};
 ghost use Rattle.host_files.specs.Refusals.{sink_error};
+ghost use Rattle.dir_host.specs.Counts.{CountsRefusal};
 
 use dir_trait::{Sink, SinkError};
 use std::alloc::Global;
@@ -84,10 +86,10 @@ fn counted(faults: &mut u64, shortages: &mut u64, error: SinkError) -> SinkError
     ensures same { result ≡ error }
     ensures kept_faults { faults.old ≤ faults.new }
     ensures kept_shortages { shortages.old ≤ shortages.new }
-    ensures fault { error ≡ SinkError.Failed → faults.new ≡ min (faults.old + 1) (2 ^ 64 - 1) }
-    ensures calm { error ≢ SinkError.Failed → faults.new ≡ faults.old }
-    ensures shortage { error ≡ SinkError.NoMemory → shortages.new ≡ min (shortages.old + 1) (2 ^ 64 - 1) }
-    ensures ample { error ≢ SinkError.NoMemory → shortages.new ≡ shortages.old }
+    ensures cause { result ≡ SinkError.Failed → Rose faults.old faults.new }
+    ensures shortage { result ≡ SinkError.NoMemory → Rose shortages.old shortages.new }
+    ensures counts { CountsRefusal SinkError.Failed result faults.old faults.new }
+    ensures counts_shortages { CountsRefusal SinkError.NoMemory result shortages.old shortages.new }
 {
     match error {
         SinkError::Failed => *faults = faults.saturating_add(1),
@@ -97,7 +99,10 @@ fn counted(faults: &mut u64, shortages: &mut u64, error: SinkError) -> SinkError
 }
 
 impl<W: Write + Drop> Sink for HostSink<W> {
-    ghost use Rattle.std.specs.Prelude.{false, []};
+    ghost use Rattle.std.specs.Prelude.{◌≡◌, ◌<◌, ◌≤◌, length, false, [], IfOk, IsErrOf};
+    ghost use Rattle.std.specs.Io.KnownBytes.{WriteAppends};
+    ghost use Rattle.dir_model.specs.Causes.{Rose};
+    ghost use Rattle.dir_host.specs.Counts.{Counts};
 
     ghost observed = { false };
 
@@ -107,7 +112,17 @@ impl<W: Write + Drop> Sink for HostSink<W> {
         self.faults
     }
 
-    fn write(&mut self, _alloc: Global, piece: &[u8]) -> Result<usize, SinkError> {
+    fn write(&mut self, _alloc: Global, piece: &[u8]) -> Result<usize, SinkError>
+        ensures faults { self.old.faults ≤ self.new.faults }
+        ensures shortages { self.old.shortages ≤ self.new.shortages }
+        ensures cause { IsErrOf result SinkError.Failed → Rose self.old.faults self.new.faults }
+        ensures shortage { IsErrOf result SinkError.NoMemory → Rose self.old.shortages self.new.shortages }
+        ensures counts { Counts SinkError.Failed result self.old.faults self.new.faults }
+        ensures counts_shortages { Counts SinkError.NoMemory result self.old.shortages self.new.shortages }
+        ensures most { IfOk result (λ n. n ≤ length piece.now) }
+        ensures some { IfOk result (λ n. 0 < length piece.now → 0 < n) }
+        ensures bytes { WriteAppends (W.contents self.old.writer) (W.contents self.new.writer) result piece.now }
+    {
         if piece.is_empty() {
             return Ok(0);
         }

@@ -7,6 +7,13 @@ use std::fs::{File, Metadata, OpenOptions};
 use std::rt::Files;
 use std::{fs, io};
 
+/// Makes an area, and the folders above it, where they are missing.
+pub fn make_area_at<R: Files>(rt: &R, path: &str, root: &str, area: Area) -> io::Result<()>
+    requires { path.now ≡ area_path root.now area }
+{
+    fs::create_dir_all(rt, path)
+}
+
 /// Looks at an area.
 pub fn look_at_area<R: Files>(rt: &R, path: &str, root: &str, area: Area) -> io::Result<Metadata>
     requires { path.now ≡ area_path root.now area }

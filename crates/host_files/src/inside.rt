@@ -1,8 +1,10 @@
 // What stands in folders: how it is made, written, read, synced and removed.
-ghost use Rattle.std.specs.Prelude.{◌≡◌, ◌⊎◌, ◌↔◌, true, IsOk, IfErr};
+ghost use Rattle.std.specs.Prelude.{◌≡◌, ◌≢◌, ◌⊎◌, ◌↔◌, true, [], Err, IsOk, IfErr, OnOk};
 ghost use Rattle.std.specs.Fs.{file_type, IsFile, new_options, with_read, with_append};
+ghost use Rattle.std.specs.Io.KnownBytes.{Appends};
 ghost use Rattle.dir_trait.specs.DirCalls.{IsFilled};
 ghost use Rattle.dir_model.specs.Replies.{is_fault};
+ghost use Rattle.host_files.specs.Places.{has_dots};
 
 use crate::asks::{
     make_dir_at, make_file_at, open_dir_at, open_file_at, remove_dir_at, remove_file_at,
@@ -24,7 +26,9 @@ pub fn make_dir<R: Files>(
     spot: &Spot,
     inner: &str,
 ) -> Result<(), DirError>
-    ensures { IfErr result (λ e. (e ≡ DirError.Exists) ⊎ (e ≡ DirError.Missing) ⊎ (is_fault e ≡ true)) }
+    ensures dots { has_dots inner.now ≡ true → result ≡ Err DirError.Missing }
+    ensures below { OnOk result (inner.now ≢ []) }
+    ensures refusals { IfErr result (λ e. (e ≡ DirError.Exists) ⊎ (e ≡ DirError.Missing) ⊎ (is_fault e ≡ true)) }
 {
     let path = reach_below(rt, alloc, root, spot, inner, DirError::Exists)?;
     make_dir_at(rt, path.as_str(), root, spot, inner).map_err(unmade)
@@ -38,7 +42,9 @@ pub fn make_file<R: Files>(
     spot: &Spot,
     inner: &str,
 ) -> Result<(), DirError>
-    ensures { IfErr result (λ e. (e ≡ DirError.Exists) ⊎ (e ≡ DirError.Missing) ⊎ (is_fault e ≡ true)) }
+    ensures dots { has_dots inner.now ≡ true → result ≡ Err DirError.Missing }
+    ensures below { OnOk result (inner.now ≢ []) }
+    ensures refusals { IfErr result (λ e. (e ≡ DirError.Exists) ⊎ (e ≡ DirError.Missing) ⊎ (is_fault e ≡ true)) }
 {
     let path = reach_below(rt, alloc, root, spot, inner, DirError::Exists)?;
     match make_file_at(rt, path.as_str(), root, spot, inner) {
@@ -86,7 +92,9 @@ pub fn open_regular<R: Files<File = File>>(
     spot: &Spot,
     inner: &str,
 ) -> Result<File, DirError>
-    ensures { IfErr result (λ e. (e ≡ DirError.Missing) ⊎ (is_fault e ≡ true)) }
+    ensures dots { has_dots inner.now ≡ true → result ≡ Err DirError.Missing }
+    ensures below { OnOk result (inner.now ≢ []) }
+    ensures refusals { IfErr result (λ e. (e ≡ DirError.Missing) ⊎ (is_fault e ≡ true)) }
 {
     let path = reach_below(rt, alloc, root, spot, inner, DirError::Missing)?;
     if look(rt, alloc, root, spot, inner)? != Found::File {
@@ -106,7 +114,8 @@ pub fn open_dir<R: Files<File = File>>(
     spot: &Spot,
     inner: &str,
 ) -> Result<File, DirError>
-    ensures { IfErr result (λ e. (e ≡ DirError.Missing) ⊎ (is_fault e ≡ true)) }
+    ensures dots { has_dots inner.now ≡ true → result ≡ Err DirError.Missing }
+    ensures refusals { IfErr result (λ e. (e ≡ DirError.Missing) ⊎ (is_fault e ≡ true)) }
 {
     let mut path = reach(rt, alloc, root, spot, inner)?;
     if look(rt, alloc, root, spot, inner)? != Found::Dir {
@@ -116,7 +125,15 @@ pub fn open_dir<R: Files<File = File>>(
     open_dir_at(rt, path.as_str(), root, spot, inner).map_err(absent)
 }
 
-/// Adds bytes at the end of a file, by as many writes as it takes.
+/// Writes the whole piece, by as many writes as it takes.
+fn write_piece<W: Write>(file: &mut W, piece: &[u8]) -> Result<(), DirError>
+    ensures bytes { OnOk result (Appends (W.contents file.old) (W.contents file.new) piece.now) }
+    ensures refusals { IfErr result (λ e. is_fault e ≡ true) }
+{
+    file.write_all(piece).map_err(fault)
+}
+
+/// Adds bytes at the end of a file.
 pub fn append<R: Files<File = File>>(
     rt: &R,
     alloc: Global,
@@ -125,10 +142,12 @@ pub fn append<R: Files<File = File>>(
     inner: &str,
     piece: &[u8],
 ) -> Result<(), DirError>
-    ensures { IfErr result (λ e. (e ≡ DirError.Missing) ⊎ (is_fault e ≡ true)) }
+    ensures dots { has_dots inner.now ≡ true → result ≡ Err DirError.Missing }
+    ensures below { OnOk result (inner.now ≢ []) }
+    ensures refusals { IfErr result (λ e. (e ≡ DirError.Missing) ⊎ (is_fault e ≡ true)) }
 {
     let mut file = open_regular(rt, alloc, &for_appending(), root, spot, inner)?;
-    file.write_all(piece).map_err(fault)
+    write_piece(&mut file, piece)
 }
 
 /// Fills the room with the bytes of an open file from a place on. A read that fails midway leaves the
@@ -154,6 +173,8 @@ pub fn read<R: Files<File = File>>(
     at: u64,
     room: &mut [u8],
 ) -> Result<usize, DirError>
+    ensures dots { has_dots inner.now ≡ true → result ≡ Err DirError.Missing }
+    ensures below { OnOk result (inner.now ≢ []) }
     ensures filled { IsFilled room.old result room.new }
     ensures refusals { IfErr result (λ e. (e ≡ DirError.Missing) ⊎ (is_fault e ≡ true)) }
 {
@@ -171,7 +192,8 @@ fn open_either<R: Files<File = File>>(
     spot: &Spot,
     inner: &str,
 ) -> Result<File, DirError>
-    ensures { IfErr result (λ e. (e ≡ DirError.Missing) ⊎ (is_fault e ≡ true)) }
+    ensures dots { has_dots inner.now ≡ true → result ≡ Err DirError.Missing }
+    ensures refusals { IfErr result (λ e. (e ≡ DirError.Missing) ⊎ (is_fault e ≡ true)) }
 {
     match open_dir(rt, alloc, root, spot, inner) {
         Err(DirError::Missing) => open_regular(rt, alloc, &for_reading(), root, spot, inner),
@@ -187,7 +209,8 @@ pub fn sync<R: Files<File = File>>(
     spot: &Spot,
     inner: &str,
 ) -> Result<(), DirError>
-    ensures { IfErr result (λ e. (e ≡ DirError.Missing) ⊎ (is_fault e ≡ true)) }
+    ensures dots { has_dots inner.now ≡ true → result ≡ Err DirError.Missing }
+    ensures refusals { IfErr result (λ e. (e ≡ DirError.Missing) ⊎ (is_fault e ≡ true)) }
 {
     let opened = open_either(rt, alloc, root, spot, inner)?;
     opened.sync_all().map_err(fault)
@@ -201,7 +224,9 @@ pub fn remove_file<R: Files>(
     spot: &Spot,
     inner: &str,
 ) -> Result<(), DirError>
-    ensures { IfErr result (λ e. (e ≡ DirError.Missing) ⊎ (is_fault e ≡ true)) }
+    ensures dots { has_dots inner.now ≡ true → result ≡ Err DirError.Missing }
+    ensures below { OnOk result (inner.now ≢ []) }
+    ensures refusals { IfErr result (λ e. (e ≡ DirError.Missing) ⊎ (is_fault e ≡ true)) }
 {
     let path = reach_below(rt, alloc, root, spot, inner, DirError::Missing)?;
     remove_file_at(rt, path.as_str(), root, spot, inner).map_err(absent)
@@ -215,7 +240,9 @@ pub fn remove_dir<R: Files>(
     spot: &Spot,
     inner: &str,
 ) -> Result<(), DirError>
-    ensures { IfErr result (λ e. (e ≡ DirError.Missing) ⊎ (e ≡ DirError.NotEmpty) ⊎ (is_fault e ≡ true)) }
+    ensures dots { has_dots inner.now ≡ true → result ≡ Err DirError.Missing }
+    ensures below { OnOk result (inner.now ≢ []) }
+    ensures refusals { IfErr result (λ e. (e ≡ DirError.Missing) ⊎ (e ≡ DirError.NotEmpty) ⊎ (is_fault e ≡ true)) }
 {
     let path = reach_below(rt, alloc, root, spot, inner, DirError::Missing)?;
     remove_dir_at(rt, path.as_str(), root, spot, inner).map_err(unremoved)

@@ -10,6 +10,7 @@ mod looks;
 mod place;
 mod refusals;
 
+pub use asks::make_area_at;
 pub use files::{OpenedFile, list_folder, read_file, read_target};
 pub use folders::{make_folder, move_folder, open_area, remove_folder, sync_area};
 pub use inside::{
@@ -17,5 +18,5 @@ pub use inside::{
     remove_file, sync,
 };
 pub use listings::{list_area, list_inside};
-pub use place::{AREAS, path_of_area};
+pub use place::{AREAS, join, path_of_area};
 pub use refusals::fault;

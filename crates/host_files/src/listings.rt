@@ -1,11 +1,12 @@
 // Listings of areas and of directories in folders.
-ghost use Rattle.std.specs.Prelude.{◌≡◌, ◌⊎◌, true, map, IfOk, IfErr};
+ghost use Rattle.std.specs.Prelude.{◌≡◌, ◌⊎◌, true, map, Err, IfOk, IfErr};
 ghost use Rattle.std.specs.Ordering.{nat_cmp};
 ghost use Rattle.std.specs.Cmp.Lexicographic.{slice_cmp};
 ghost use Rattle.std.specs.List.Sorted.{IsStrictlySortedBy};
 ghost use Rattle.dir_model.specs.Listings.{item_names};
 ghost use Rattle.dir_model.specs.Replies.{is_fault};
 ghost use Rattle.dir_trait.specs.Bundles.{IsListing};
+ghost use Rattle.host_files.specs.Places.{has_dots};
 ghost use Rattle.host_files.specs.Shown.{shown_item};
 
 use crate::files::list_folder;
@@ -88,6 +89,7 @@ pub fn list_inside<R: Files<File = File> + AllocGlobal + Clone + Drop>(
     spot: &Spot,
     inner: &str,
 ) -> Result<Items, DirError>
+    ensures dots { has_dots inner.now ≡ true → result ≡ Err DirError.Missing }
     ensures ordered { IfOk result (λ items. IsStrictlySortedBy (slice_cmp nat_cmp) (item_names items)) }
     ensures refusals { IfErr result (λ e. (e ≡ DirError.Missing) ⊎ (is_fault e ≡ true)) }
 {

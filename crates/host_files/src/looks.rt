@@ -1,5 +1,5 @@
 // What stands in the data folder, by its own kind: no link is followed.
-ghost use Rattle.std.specs.Prelude.{◌≡◌, ◌⊎◌, ◌↔◌, true, string_bytes, Err, IfOk, IfErr};
+ghost use Rattle.std.specs.Prelude.{◌≡◌, ◌≢◌, ◌⊎◌, ◌↔◌, true, [], string_bytes, Err, IfOk, IfErr, OnOk};
 ghost use Rattle.std.specs.Fs.{file_type, IsDir, IsFile};
 ghost use Rattle.dir_model.specs.Replies.{is_fault};
 ghost use Rattle.host_files.specs.Places.{inner_path, has_dots};
@@ -136,6 +136,8 @@ pub fn reach_below<R: Files>(
     folder: DirError,
 ) -> Result<String, DirError>
     ensures path { IfOk result (λ path. string_bytes path ≡ inner_path root.now spot.now inner.now) }
+    ensures dots { has_dots inner.now ≡ true → result ≡ Err DirError.Missing }
+    ensures below { OnOk result (inner.now ≢ []) }
     ensures refusals { IfErr result (λ e. (e ≡ folder) ⊎ (e ≡ DirError.Missing) ⊎ (is_fault e ≡ true)) }
 {
     let path = reach(rt, alloc, root, spot, inner)?;

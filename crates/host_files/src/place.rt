@@ -38,7 +38,7 @@ pub fn place_of_area(area: Area) -> &'static str
 }
 
 /// A path and a part below it.
-fn join(alloc: Global, path: &str, part: &str) -> Result<String, AllocError>
+pub fn join(alloc: Global, path: &str, part: &str) -> Result<String, AllocError>
     ensures { IfOk result (λ joined. string_bytes joined ≡ path.now ++ codes "/" ++ part.now) }
 {
     let mut joined = String::from_str(alloc, path)?;
