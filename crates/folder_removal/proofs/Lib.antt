@@ -1,0 +1,7 @@
+pub mod Paths
+pub mod Nested
+pub mod Weights
+pub mod Steps
+pub mod Calls
+pub mod Strays
+pub mod Knowing
