@@ -1,5 +1,5 @@
 -- What a process knows, from one turn to the next.
-use Rattle.std.proofs.Common.{◌≡◌, ℕ, Bool, true, false, List, [], ◌∷◌, ◌++◌, map, Result, Ok, refl, sym, subst}
+use Rattle.std.proofs.Common.{◌≡◌, ℕ, Bool, true, false, List, [], ◌∷◌, ◌++◌, Result, Ok, refl, sym, subst}
 use Rattle.dir_model.specs.declared.item.Item.{Item}
 use Rattle.dir_model.specs.declared.item.ItemKind.{ItemKind}
 use Rattle.dir_model.specs.declared.item.ItemKind.TheVariants as item
@@ -12,14 +12,13 @@ use Rattle.dir_model.specs.Calls.{is_begin, is_kill}
 use Rattle.dir_rules.specs.declared.seen.Seen.{Seen}
 use Rattle.dir_rules.specs.Conforms.{seen_replied, seen_listed}
 use Rattle.dir_trait.specs.DirCalls.{DirAt, DirCall, ListCall}
-use Rattle.dir_trait.specs.Knowledge.{Knows}
 use Rattle.dir_trait.proofs.Knowing.{knows_call}
 use Rattle.folder_removal.specs.declared.task.Task.{Task}
-use Rattle.folder_removal.specs.Tasks.{task_of, with_listed, is_unlisted}
+use Rattle.folder_removal.specs.Tasks.{with_listed, is_unlisted}
 use Rattle.folder_removal.specs.Removal.{is_removal_area, task_inner, removal_by, removal_of}
-use Rattle.folder_removal.specs.Known.{IsAtWork, MayDelete, KnowsBut, Learns, IsListed, OnlyLists, OnlyRemoves, OnlyWorks, WorksOff, OnlyTries, Deletes}
+use Rattle.folder_removal.specs.Known.{IsAtWork, MayDelete, Learns, IsListed, OnlyLists, OnlyRemoves, OnlyWorks, WorksOff, OnlyTries, Deletes}
 use Rattle.folder_removal.proofs.Calls.{knows_list}
-use Rattle.folder_removal.proofs.Steps.{IsReady, only_same, only_more, only_listed, only_removed, only_folder, folder_gone, ready_at, ready_at_root, after_list, after_remove, may_remove_task}
+use Rattle.folder_removal.proofs.Steps.{only_same, only_more, only_listed, only_removed, only_folder, folder_gone, ready_at, ready_at_root, after_list, after_remove, may_remove_task}
 
 -- a listing
 pub lists_only : {observed : Bool} {old new : DirAt} (spot : Spot) (path : List ℕ) (r : Result (List Item) DirError) → is_removal_area spot.area ≡ true → observed ≡ true → ListCall observed old (ListIn (record { spot = spot; path = path })) (items_reply r) new → OnlyLists spot old new

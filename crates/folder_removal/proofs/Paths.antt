@@ -1,7 +1,6 @@
 -- A path and a file name in it are a path.
-use Rattle.std.proofs.Common.{◌≡◌, ◌==◌, ℕ, Bool, true, false, not, ◌&&◌, cond, List, [], ◌∷◌, ◌++◌, refl, sym, ap, ◌∙◌, append_assoc, append-nil}
+use Rattle.std.proofs.Common.{◌≡◌, ◌==◌, ℕ, Bool, true, false, not, ◌&&◌, cond, List, [], ◌∷◌, ◌++◌, sym, ap, ◌∙◌, append_assoc, append-nil}
 use Rattle.std.specs.List.{list_all}
-use Rattle.std.specs.Str.{is_utf8}
 use Rattle.std.proofs.lemmas.List.Sums.{list_all-from_AllPass}
 use Rattle.dir_model.specs.Names.{is_file_byte, IsFileName}
 use Rattle.dir_model.specs.Paths.{is_slash, is_empty, is_file_name, are_names, is_path}

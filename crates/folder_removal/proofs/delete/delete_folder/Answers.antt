@@ -1,4 +1,4 @@
-use Rattle.std.proofs.Common.{◌≡◌, true, rules, arith, IsErrOf, ℕ, subst, ◌∙◌}
+use Rattle.std.proofs.Common.{◌≡◌, true, arith, IsErrOf, ℕ, subst, ◌∙◌}
 use Rattle.std.proofs.lemmas.Grind.{common_steps}
 use Rattle.dir_model.specs.declared.request.Request.TheVariants.{RemoveFolder}
 use Rattle.dir_model.specs.declared.request.Reply.TheVariants.{Done, Refused}
