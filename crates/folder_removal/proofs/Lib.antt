@@ -5,3 +5,4 @@ pub mod Steps
 pub mod Calls
 pub mod Strays
 pub mod Knowing
+pub mod After

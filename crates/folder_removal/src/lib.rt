@@ -8,5 +8,3 @@ mod task;
 
 pub use delete::delete_folder;
 pub use error::DeleteError;
-pub use path::ItemPath;
-pub use task::Task;
