@@ -1,0 +1,59 @@
+use Rattle.std.proofs.Common.{◌≡◌, true, arith, IsErrOf, ℕ, subst, ◌∙◌}
+use Rattle.std.proofs.lemmas.Grind.{common_steps}
+use Rattle.dir_model.specs.declared.request.Request.TheVariants.{RemoveFolder}
+use Rattle.dir_model.specs.declared.request.Reply.TheVariants.{Done, Refused}
+use Rattle.dir_model.specs.Calls.{CallStep}
+use Rattle.dir_model.proofs.Chains.{and_call, and_more}
+use Rattle.dir_model.proofs.Spots.{spot_self}
+use Rattle.folder_removal.specs.declared.error.DeleteError.TheVariants.{Stray}
+use Rattle.folder_removal.specs.Known.{OnlyTries}
+use Rattle.folder_removal.proofs.Steps.{err_any}
+use Rattle.folder_removal.proofs.Strays.{stray_after, stray_call, stray_folder}
+use Rattle.folder_removal.proofs.Knowing.{tries_tasks, tries_folder, deletes}
+use Rattle.folder_removal.proofs.delete.delete_folder.Goals as goal
+
+pub returns-in_err-empty-clause-extends : goal.returns-in_err-empty-clause-extends
+returns-in_err-empty-clause-extends g c t = and_more (c.list.ensures.extends t) c.list.ensures.same (c.empty.ensures.extends t)
+
+pub returns-in-Ok-clause-extends : goal.returns-in-Ok-clause-extends
+returns-in-Ok-clause-extends g c t = and_call (and_more (c.list.ensures.extends t) c.list.ensures.same (c.empty.ensures.extends t)) (c.empty.ensures.same ∙ c.list.ensures.same) (spot_self c.args.spot) (c.remove_folder.ensures.called.step t)
+
+pub returns-in-Err-clause-extends : goal.returns-in-Err-clause-extends
+returns-in-Err-clause-extends g c t = and_call (and_more (c.list.ensures.extends t) c.list.ensures.same (c.empty.ensures.extends t)) (c.empty.ensures.same ∙ c.list.ensures.same) (spot_self c.args.spot) (c.remove_folder.ensures.called.step t)
+
+pub returns-in-Ok-clause-deleted : goal.returns-in-Ok-clause-deleted
+returns-in-Ok-clause-deleted g c t = deletes c.args.spot c.in_ok-tasks.tasks.items c.requires.area (c.in_ok-tasks.ensures.listed t) (c.in_ok-empty.ensures.work t) t c.in-Ok.ensures.called
+
+pub returns-in-Ok-clause-gone : goal.returns-in-Ok-clause-gone
+returns-in-Ok-clause-gone g c t =
+    let shown = g.D.Dir.shown in
+    record {
+      before = (shown c.empty.new.dir).trace;
+      first = and_more (c.list.ensures.extends t) c.list.ensures.same (c.empty.ensures.extends t);
+      last = subst (λ (p : ℕ). CallStep p (shown c.empty.new.dir).trace (RemoveFolder c.args.spot) Done (shown c.remove_folder.new.self).trace) (c.empty.ensures.same ∙ c.list.ensures.same) (c.in-Ok.ensures.called.step t);
+    }
+
+pub returns-in_err-tasks-clause-refused : goal.returns-in_err-tasks-clause-refused
+returns-in_err-tasks-clause-refused g c =
+    let D = g.D.Dir in
+    err_any (λ error. D.observed ≡ true → OnlyTries c.args.spot (D.shown c.args.dir.now) (D.shown c.list.new.dir)) c.from_residual.result (λ error t s k m. c.list.ensures.known t s k)
+
+pub returns-in_err-empty-clause-refused : goal.returns-in_err-empty-clause-refused
+returns-in_err-empty-clause-refused g c =
+    let D = g.D.Dir in
+    err_any (λ error. D.observed ≡ true → OnlyTries c.args.spot (D.shown c.args.dir.now) (D.shown c.empty.new.dir)) c.from_residual-in_err-empty.result
+    (λ error t. tries_tasks c.args.spot c.in_ok-tasks.tasks.items c.requires.area (c.in_ok-tasks.ensures.listed t) (c.empty.ensures.known t))
+
+pub returns-in-Err-clause-refused : goal.returns-in-Err-clause-refused
+returns-in-Err-clause-refused g c t = tries_folder c.args.spot c.in_ok-tasks.tasks.items c.requires.area (c.in_ok-tasks.ensures.listed t) c.in-Err.error (c.in_ok-empty.ensures.work t) t c.in-Err.ensures.called
+
+pub returns-in_err-empty-clause-stray : goal.returns-in_err-empty-clause-stray
+returns-in_err-empty-clause-stray g c h t =
+    let k : IsErrOf c.empty.result Stray = grind (arith, common_steps, h, c.from_residual-in_err-empty.ensures, c.in_err-empty.is) in
+    stray_after (c.list.ensures.extends t) c.list.ensures.same (c.empty.ensures.stray k t)
+
+pub returns-in-Err-clause-stray : goal.returns-in-Err-clause-stray
+returns-in-Err-clause-stray g c h t =
+    let is : c.delete_error.result ≡ Stray = cc in
+    stray_after (and_more (c.list.ensures.extends t) c.list.ensures.same (c.empty.ensures.extends t)) (c.empty.ensures.same ∙ c.list.ensures.same)
+    (stray_call (RemoveFolder c.args.spot) (Refused c.in-Err.error 0) (spot_self c.args.spot) (stray_folder c.args.spot c.in-Err.error c.in-Err.ensures.refusals (c.delete_error.ensures.stray is)) (c.in-Err.ensures.called.step t))

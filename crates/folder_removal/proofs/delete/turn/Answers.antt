@@ -1,0 +1,58 @@
+use Rattle.std.proofs.Common.{◌≡◌, ◌<◌, ◌++◌, ◌∷◌, [], List, true, sym, subst}
+use Rattle.dir_model.specs.declared.request.Reply.TheVariants.{Done}
+use Rattle.folder_removal.specs.declared.task.Task.{Task}
+use Rattle.folder_removal.specs.Tasks.{with_listed}
+use Rattle.folder_removal.specs.Weights.{weigh}
+use Rattle.folder_removal.specs.Removal.{removal_of}
+use Rattle.folder_removal.specs.Known.{Learns, WorksOff}
+use Rattle.folder_removal.proofs.Steps.{ok_more, ok_any}
+use Rattle.folder_removal.proofs.Weights.{listed_less, removed_less}
+use Rattle.folder_removal.proofs.Knowing.{lists_off, removes_off, tries_removal}
+use Rattle.folder_removal.proofs.delete.turn.Goals as goal
+
+pub returns-in_ok-children-clause-known : goal.returns-in_ok-children-clause-known
+returns-in_ok-children-clause-known g c t s k w = c.list.ensures.known t s k
+
+pub returns-in_err-children-clause-known : goal.returns-in_err-children-clause-known
+returns-in_err-children-clause-known g c t s k w = c.list.ensures.known t s k
+
+pub returns-else-is_unlisted-clause-known : goal.returns-else-is_unlisted-clause-known
+returns-else-is_unlisted-clause-known g c t = tries_removal c.args.spot.now c.args.tasks.now.items c.args.task (sym c.if-is_unlisted.ensures) (c.remove.ensures.known t)
+
+pub returns-in_ok-children-clause-work : goal.returns-in_ok-children-clause-work
+returns-in_ok-children-clause-work g c =
+    let D = g.D.Dir in
+    let spot = c.args.spot.now in
+    let xs = c.args.tasks.now.items in
+    let t = c.args.task in
+    let children = c.in_ok-children.children.items in
+    let old = D.shown c.args.dir.now in
+    let new = D.shown c.list.new.dir in
+    ok_more (λ done. c.add.new.tasks.items ≡ (xs ++ with_listed t ∷ []) ++ children) (λ done. D.observed ≡ true → WorksOff spot (xs ++ t ∷ []) c.add.new.tasks.items old new) c.add.result
+    (λ done is o. subst (λ (l : List Task). WorksOff spot (xs ++ t ∷ []) l old new) (sym is) (lists_off spot xs t children c.requires.area (rw c.as_str.ensures.text at (c.in_ok-children.ensures.listed o))))
+    c.add.ensures.items
+
+pub returns-in_ok-children-clause-less : goal.returns-in_ok-children-clause-less
+returns-in_ok-children-clause-less g c =
+    let xs = c.args.tasks.now.items in
+    let t = c.args.task in
+    let children = c.in_ok-children.children.items in
+    let h = rw c.as_str.ensures.text at c.in_ok-children.ensures.children in
+    ok_more (λ done. c.add.new.tasks.items ≡ (xs ++ with_listed t ∷ []) ++ children) (λ done. weigh c.add.new.tasks.items < weigh (xs ++ t ∷ [])) c.add.result
+    (λ done is. subst (λ (l : List Task). weigh l < weigh (xs ++ t ∷ [])) (sym is) (listed_less xs t children h.items (sym c.if-is_unlisted.ensures) h.are))
+    c.add.ensures.items
+
+pub returns-else-is_unlisted-clause-work : goal.returns-else-is_unlisted-clause-work
+returns-else-is_unlisted-clause-work g c =
+    let D = g.D.Dir in
+    let spot = c.args.spot.now in
+    let xs = c.args.tasks.now.items in
+    let t = c.args.task in
+    let old = D.shown c.args.dir.now in
+    let new = D.shown c.remove.new.dir in
+    ok_more (λ done. D.observed ≡ true → Learns (removal_of spot t) Done old new) (λ done. D.observed ≡ true → WorksOff spot (xs ++ t ∷ []) xs old new) c.remove.result
+    (λ done is o. removes_off spot xs t (sym c.if-is_unlisted.ensures) (is o))
+    c.remove.ensures.removed
+
+pub returns-else-is_unlisted-clause-less : goal.returns-else-is_unlisted-clause-less
+returns-else-is_unlisted-clause-less g c = ok_any (λ done. weigh c.args.tasks.now.items < weigh (c.args.tasks.now.items ++ c.args.task ∷ [])) c.remove.result (λ done. removed_less c.args.tasks.now.items c.args.task)

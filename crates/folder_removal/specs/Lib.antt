@@ -1,0 +1,4 @@
+pub mod Tasks
+pub mod Weights
+pub mod Removal
+pub mod Known
