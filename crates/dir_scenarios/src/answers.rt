@@ -230,3 +230,56 @@ fn a_stopped_process_does_nothing_more(rt: HostRuntime) -> Result<(), Fail> {
     assert!(rt; is);
     Ok(())
 }
+
+// What stands in a folder is removed with it, and nothing of another.
+const DELETED: [(Ask, Answer); 15] = [
+    (Ask::Make(Area::Garbage), Answer::Done),
+    (Ask::MakeDir(Area::Garbage, "stage1"), Answer::Done),
+    (Ask::MakeDir(Area::Garbage, "stage1/rootfs"), Answer::Done),
+    (
+        Ask::MakeFile(Area::Garbage, "stage1/rootfs/a"),
+        Answer::Done,
+    ),
+    (Ask::MakeFile(Area::Garbage, "pod"), Answer::Done),
+    (Ask::Make(Area::Run), Answer::Done),
+    (Ask::MakeFile(Area::Run, "pod"), Answer::Done),
+    (
+        Ask::Lock(Area::Garbage, Which::Own, Mode::Exclusive),
+        Answer::Done,
+    ),
+    (Ask::ListIn(Area::Garbage, ""), Answer::Count(2)),
+    (Ask::Remove(Area::Garbage), NOT_EMPTY),
+    (Ask::Delete, Answer::Done),
+    (Ask::List(Area::Garbage), Answer::Count(0)),
+    (Ask::Delete, Answer::Stray),
+    (Ask::ListIn(Area::Run, ""), Answer::Count(1)),
+    (Ask::List(Area::Run), Answer::Count(1)),
+];
+
+#[test]
+fn a_folder_is_deleted_with_what_stands_in_it(rt: HostRuntime) -> Result<(), Fail> {
+    let dir = MemoryDir::new(rt.alloc(), 1)?;
+    let is = is_answered(rt.alloc(), dir, &DELETED);
+    assert!(rt; is);
+    Ok(())
+}
+
+// After the begin, three makes, the listing and one removal the seventh call fails.
+const CUT_SHORT: [(Ask, Answer); 8] = [
+    (Ask::Make(Area::Garbage), Answer::Done),
+    (Ask::MakeFile(Area::Garbage, "a"), Answer::Done),
+    (Ask::MakeFile(Area::Garbage, "b"), Answer::Done),
+    (Ask::Delete, FAILED),
+    (Ask::ListIn(Area::Garbage, ""), Answer::Count(1)),
+    (Ask::Delete, Answer::Done),
+    (Ask::List(Area::Garbage), Answer::Count(0)),
+    (Ask::Look(Area::Garbage, Which::Own), MISSING),
+];
+
+#[test]
+fn a_deletion_that_fails_is_done_again(rt: HostRuntime) -> Result<(), Fail> {
+    let dir = MemoryDir::new(rt.alloc(), 1)?.fail(rt.alloc(), 7)?;
+    let is = is_answered(rt.alloc(), dir, &CUT_SHORT);
+    assert!(rt; is);
+    Ok(())
+}

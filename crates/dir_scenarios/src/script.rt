@@ -3,8 +3,10 @@ ghost use Rattle.std.specs.Prelude.{◌≡◌, true, IfSome};
 ghost use Rattle.dir_model.specs.Paths.{is_path};
 ghost use Rattle.dir_trait.specs.Local.{IsActive};
 
+use dir_files::{items_of, names_of};
 use dir_model::is_path;
 use dir_trait::{Area, Dir, DirError, Mode, PodId, Spot, Which};
+use folder_removal::{DeleteError, delete_folder};
 use std::alloc::Global;
 
 /// The one pod of the tests, in an area.
@@ -21,6 +23,8 @@ pub enum Ask {
     Make(Area),
     Move(Area, Area),
     Remove(Area),
+    /// The pod's folder in garbage, with all that stands in it.
+    Delete,
     /// The handle is closed again.
     Look(Area, Which),
     /// The handle stays open.
@@ -49,6 +53,8 @@ pub enum Answer {
     Refused(DirError),
     /// The bytes are others.
     Differs,
+    /// A deletion found what no process that keeps the rules leaves.
+    Stray,
     /// The text of the row is no path.
     NoPath,
 }
@@ -57,6 +63,18 @@ fn done(answer: Result<(), DirError>) -> Answer {
     match answer {
         Ok(()) => Answer::Done,
         Err(error) => Answer::Refused(error),
+    }
+}
+
+fn delete<D: Dir>(alloc: Global, dir: &mut D) -> Answer
+    requires { IsActive (D.shown dir.old).local }
+    ensures { IsActive (D.shown dir.new).local }
+{
+    match delete_folder(alloc, dir, pod(Area::Garbage)) {
+        Ok(()) => Answer::Done,
+        Err(DeleteError::DirFault) => Answer::Refused(DirError::Failed),
+        Err(DeleteError::Stray) => Answer::Stray,
+        Err(DeleteError::NoMemory) => Answer::Refused(DirError::NoMemory),
     }
 }
 
@@ -107,7 +125,7 @@ fn list<D: Dir>(alloc: Global, dir: &mut D, area: Area) -> Answer
     requires { IsActive (D.shown dir.old).local }
     ensures { IsActive (D.shown dir.new).local }
 {
-    match dir.list_area(alloc, area) {
+    match names_of(alloc, dir, area) {
         Ok(names) => Answer::Count(names.as_slice().len()),
         Err(error) => Answer::Refused(error),
     }
@@ -118,7 +136,7 @@ fn list_in<D: Dir>(alloc: Global, dir: &mut D, area: Area, path: &str) -> Answer
     requires path { is_path path.now ≡ true }
     ensures { IsActive (D.shown dir.new).local }
 {
-    match dir.list_in(alloc, pod(area), path) {
+    match items_of(alloc, dir, pod(area), path) {
         Ok(items) => Answer::Count(items.as_slice().len()),
         Err(error) => Answer::Refused(error),
     }
@@ -174,6 +192,7 @@ fn call<D: Dir>(alloc: Global, dir: &mut D, ask: Ask) -> Answer
         Ask::Make(area) => done(dir.make_folder(alloc, pod(area))),
         Ask::Move(from, to) => done(dir.move_folder(alloc, pod(from), pod(to))),
         Ask::Remove(area) => done(dir.remove_folder(alloc, pod(area))),
+        Ask::Delete => delete(alloc, dir),
         Ask::Look(area, which) => look(alloc, dir, area, which),
         Ask::Lock(area, which, mode) => lock(alloc, dir, area, which, mode),
         Ask::LockArea(area, mode) => lock_area(alloc, dir, area, mode),
