@@ -10,7 +10,9 @@ use folder_removal::{DeleteError, delete_folder};
 use std::alloc::Global;
 
 /// The one pod of the tests, in an area.
-pub fn pod(area: Area) -> Spot {
+pub fn pod(area: Area) -> Spot
+    ensures { result.area ≡ area }
+{
     Spot {
         area,
         name: PodId { bytes: [7; 16] }.name(),
