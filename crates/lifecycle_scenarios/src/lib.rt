@@ -3,6 +3,10 @@
 #![tactic(auto)]
 
 #[cfg(test)]
+mod between;
+#[cfg(test)]
+mod heard;
+#[cfg(test)]
 mod lives;
 #[cfg(test)]
 mod stage;

@@ -1,14 +1,8 @@
 // Random walks of several processes that keep the local rules.
-use crate::stage::{Step, Told, told_after};
+use crate::stage::{CREATED, MARKED, STATUS, Step, Told, told_after};
 use dir_trait::{Area, Kind, Mode, NoMemory, Phase, Which};
 use std::alloc::Global;
 use std::test::Fail;
-
-const CREATED: &str = "created-00000000000000000005";
-
-const MARKED: &str = "marked-00000000000000000005";
-
-const STATUS: &str = "stage1/rootfs/rkt/status";
 
 // What each process might do, each step once.
 const POOL: [(u32, Step); 52] = [
