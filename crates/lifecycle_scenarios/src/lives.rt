@@ -102,9 +102,9 @@ const GARBAGE: Option<Phase> = Some(Phase::Garbage);
 const DELETING: Option<Phase> = Some(Phase::Deleting);
 
 // The other has the activation lock now, and finds the pod gone from there. The pod is marked at 1000 and
-// deleted. The first that deletes it is killed, and another goes on. How long a pod is left alone after
-// its mark is a matter of the gc that deletes it: the local rules don't speak of that time, and let both
-// delete it, at 2799 and at 2800, where 1800 seconds of it are over.
+// deleted. The first that deletes it is killed, and another goes on. The 1800 seconds for which gc leaves a
+// marked pod alone are the command's own: the local rules don't speak of them, and let a gc delete the
+// pod at 2799, before they are over, as well as at 2800.
 const REMOVING: [Row; 28] = [
     (4, Step::Lock(0, Mode::Exclusive), EXITED, None),
     (4, Step::Open(Area::Prepared, Which::Own), EXITED, None),
@@ -257,6 +257,7 @@ const LATE: [Answer; 6] = [
     Answer::Done,
 ];
 
+// The rm that asks while another deletes the pod, and the one that deletes it.
 const REFUSED: [Answer; 5] = [
     Answer::Done,
     Answer::Opened,
@@ -346,8 +347,8 @@ fn a_pod_is_deleted_in_garbage(rt: HostRuntime) -> Result<(), Fail> {
     Ok(())
 }
 
-/// Calls of a maker before each of which it is killed, from the first to the one that isn't among them;
-/// what is left of its pod; and what gc then makes of that.
+/// A maker that is killed before one of its calls, from the first to the end: what is left of its pod, and
+/// what a gc then makes of that.
 #[derive(Clone, Copy)]
 struct Left {
     first: usize,
@@ -371,7 +372,7 @@ const PREPARE_SWEPT: &[Step] = &[
     Step::Move(Area::Prepare, Area::Garbage),
 ];
 
-// All calls of the maker but its begin.
+// Each call of the maker but its begin.
 const LEFT: [Left; 4] = [
     Left {
         first: 1,

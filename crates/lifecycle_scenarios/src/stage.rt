@@ -183,6 +183,7 @@ pub fn found<D: Dir>(alloc: Global, dir: &mut D) -> Option<Phase>
     }
 }
 
+// What a listing showed, the history tells.
 fn is_listed<D: Dir>(alloc: Global, dir: &mut D, area: Area) -> bool
     requires { IsActive (D.shown dir.old).local }
     ensures { (D.shown dir.new).local ≡ (D.shown dir.old).local }
