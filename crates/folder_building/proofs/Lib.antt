@@ -1,0 +1,6 @@
+pub mod Working
+pub mod Strays
+pub mod Steps
+pub mod Pieces
+pub mod Entries
+pub mod Filling

@@ -1,0 +1,5 @@
+pub mod Plans
+pub mod Work
+pub mod Sources
+pub mod Making
+pub mod Changes
