@@ -1,1 +1,3 @@
-pub mod Listings
+mod Listings
+mod Fronts
+mod Reading

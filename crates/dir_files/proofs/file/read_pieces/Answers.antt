@@ -1,0 +1,27 @@
+use Rattle.std.proofs.Common.{rules, arith, ◌≡◌, ◌≤◌, ◌+◌, ◌-◌, min, take, ℕ, List, length}
+use Rattle.std.proofs.lemmas.Grind.{common_steps}
+use Rattle.dir_files.proofs.Reading.{only_more, missing_more, reads_more, reads_ended}
+use Rattle.dir_files.proofs.file.read_pieces.Goals as goal
+
+within_most : (new l w r n most : ℕ) (room : List ℕ) → new ≤ l + length (take w room) → w ≡ min r (most - n) → n ≡ l → l ≤ most → new ≤ most
+within_most new l w r n most room more wanted same within = grind (arith, common_steps)
+
+pub returns-in_err-read_piece-clause-only : goal.returns-in_err-read_piece-clause-only
+returns-in_err-read_piece-clause-only g c = only_more c.pieces.invariant.only c.read_piece.ensures.only
+
+pub returns-in_err-read_piece-clause-missing : goal.returns-in_err-read_piece-clause-missing
+returns-in_err-read_piece-clause-missing g c is t = missing_more (g.D.Dir.shown c.read_piece.new.dir) t c.pieces.invariant.only (c.read_piece.ensures.missing (search (rules, is, c.from_residual-in_err-read_piece.ensures, c.in_err-read_piece.is)) t)
+
+pub returns-then-branch-clause-only : goal.returns-then-branch-clause-only
+returns-then-branch-clause-only g c = only_more c.pieces.invariant.only c.read_piece.ensures.only
+
+pub returns-then-branch-clause-read : goal.returns-then-branch-clause-read
+returns-then-branch-clause-read g c t = reads_ended (c.pieces.invariant.reads t) c.pieces.invariant.only.same (c.in_ok-read_piece.ensures.read t) c.if-branch.true
+
+pub pieces-preserved : goal.pieces-preserved
+pieces-preserved g c = record {
+  within = let n : c.len-in-pieces-2.result ≡ length c.pieces.bytes.items = search rules in within_most _ _ _ _ _ _ _ c.in_ok-read_piece.ensures.most c.min-wanted.ensures n c.pieces.invariant.within;
+  room = search rules;
+  only = only_more c.pieces.invariant.only c.read_piece.ensures.only;
+  reads = λ t. reads_more (c.pieces.invariant.reads t) c.pieces.invariant.only.same (c.in_ok-read_piece.ensures.read t);
+}

@@ -1,0 +1,16 @@
+use Rattle.std.proofs.Common.{◌≡◌, ◌≤◌, ◌<◌, ◌-◌, true, length, vec_len}
+use Rattle.dir_files.specs.Reads.{inner_at, OnlyReads, Reads}
+use Rattle.dir_files.proofs.file.read_pieces.Given as goal
+
+abbrev pub invariant-pieces : goal.invariant-pieces
+invariant-pieces g l =
+    let D = g.D.Dir in
+    record {
+      within : length l.bytes.items ≤ l.most;
+      room : 0 < vec_len l.room;
+      only : OnlyReads D.observed (inner_at l.spot l.path) (D.shown l.initial.dir) (D.shown l.dir);
+      reads : D.observed ≡ true → Reads (inner_at l.spot l.path) (D.shown l.initial.dir) (D.shown l.dir) l.bytes.items;
+    }
+
+abbrev pub decreases-pieces : goal.decreases-pieces
+decreases-pieces g l = l.most - length l.bytes.items
