@@ -1,0 +1,12 @@
+use Rattle.std.proofs.Common.{rules}
+use Rattle.materialize.proofs.Made.{makes_tree}
+use Rattle.materialize.proofs.Nexts.{next_entries}
+use Rattle.materialize.proofs.listed.tree_plan.Goals as goal
+
+pub returns-clause-tree : goal.returns-clause-tree
+returns-clause-tree c = makes_tree c.args.prefix.now c.args.folder.now c.args.from.now c.args.listing.now c.as_slice-lines.ensures.kind
+
+pub lines-preserved : goal.lines-preserved
+lines-preserved c =
+    next_entries c.args.prefix.now c.args.folder.now c.args.from.now c.lines.plan.items c.add.new.plan.items c.args.plan.items c.as_slice-lines.result.now c.lines.line-index c.line-item.result
+    (search (rules, c.lines-test.true)) c.lines.invariant (search (rules, c.line-item.is, c.in_ok-entry.ensures, c.in_ok-add.ensures))

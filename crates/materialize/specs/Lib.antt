@@ -1,0 +1,2 @@
+pub mod Materialized
+pub mod TreePlans
