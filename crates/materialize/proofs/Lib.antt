@@ -1,2 +1,5 @@
-mod Made
+mod Carries
+mod FilePaths
+pub mod Made
 mod Nexts
+mod Texts

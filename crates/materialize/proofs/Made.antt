@@ -27,19 +27,7 @@ use Rattle.folder_building.specs.declared.plan.Content.TheVariants.{Directory, C
 use Rattle.folder_building.specs.Plans.{is_at, piece_at, pieces_at, file_at, directory_at, IsFileOf, IsMadeAs, AreMade, BothMade}
 use Rattle.materialize.specs.Materialized.{below, file_bytes, has_file_of, stands_at, is_kind, is_named, are_standing, are_named, materializes}
 use Rattle.materialize.specs.TreePlans.{content_of, tree_entry, tree_entries, MakesTree}
-
-is_same : (a b : List ℕ) → bytes_eq a b ≡ true → a ≡ b
-is_same a b h = (bytes_eq-Decides a b).0 h
-
-same_bytes : (a : List ℕ) → bytes_eq a a ≡ true
-same_bytes a = (bytes_eq-Decides a a).1 refl
-
-not_same : (a b : List ℕ) → a ≢ b → bytes_eq a b ≡ false
-not_same a b other = by (bytes_eq a b) refl
-  where
-    by : (x : Bool) → bytes_eq a b ≡ x → bytes_eq a b ≡ false
-    by false is = is
-    by true is = absurd (other (is_same a b is))
+use Rattle.materialize.proofs.Texts.{is_same, same_bytes, not_same, same_end}
 
 -- what stands at one path, and what doesn't
 
@@ -158,10 +146,6 @@ module _ (prefix : List ℕ) (folder : Option (List ℕ)) (from : List ℕ) wher
   none_named path [] e later named at = cc
   none_named path (l ∷ lines) e later named at = by (is_kind l.entry e.node) (bytes_eq e.path (below prefix l.path)) refl (λ h. none_named path lines e later.1 h at) named
     where
-      same_end : (p xs ys : List ℕ) → p ++ xs ≡ p ++ ys → xs ≡ ys
-      same_end [] xs ys h = h
-      same_end (b ∷ p) xs ys h = same_end p xs ys cc
-
       by : (a b : Bool) → bytes_eq e.path (below prefix l.path) ≡ b → (is_named prefix lines e ≡ true → ⊥) → ((a && b) || is_named prefix lines e) ≡ true → ⊥
       by true true is rest h = differ_if_less path l.path later.0 (same_end prefix path l.path (sym (is_same e.path (below prefix path) at) ∙ is_same e.path (below prefix l.path) is))
       by true false is rest h = rest h
@@ -195,10 +179,6 @@ module _ (prefix : List ℕ) (folder : Option (List ℕ)) (from : List ℕ) wher
       and_both (stands_at l.entry (below prefix l.path) (chunk ++ rest)) (are_standing prefix lines (chunk ++ rest))
       (stands_back l.entry (below prefix l.path) chunk rest (none_of_other (below prefix path) (below prefix l.path) chunk at (λ is. differ_if_less path l.path later.0 (same_end prefix path l.path is))) (and_left (stands_at l.entry (below prefix l.path) rest) (are_standing prefix lines rest) h))
       (still_standing path lines chunk rest at later.1 (and_right (stands_at l.entry (below prefix l.path) rest) (are_standing prefix lines rest) h))
-    where
-      same_end : (p xs ys : List ℕ) → p ++ xs ≡ p ++ ys → xs ≡ ys
-      same_end [] xs ys h = h
-      same_end (b ∷ p) xs ys h = same_end p xs ys cc
 
   with_chunk : (l : ListingLine) (lines : List ListingLine) (chunk rest : List Entry) → IsChunk l.entry (below prefix l.path) chunk → AllByRecursion (λ k. slice_cmp nat_cmp l.path k ≡ Less) (keys_of (entries_of lines)) → AreThere lines rest → AreThere (l ∷ lines) (chunk ++ rest)
   with_chunk l lines chunk rest c later t = record {

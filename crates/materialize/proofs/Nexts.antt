@@ -8,7 +8,7 @@ use Rattle.folder_building.specs.declared.plan.PlanEntry.{PlanEntry}
 use Rattle.materialize.specs.TreePlans.{tree_entry, tree_entries}
 
 module _ (prefix : List ℕ) (folder : Option (List ℕ)) (from : List ℕ) where
-  one_more : (lines : List ListingLine) (line : ListingLine) → tree_entries prefix folder from (lines ++ line ∷ []) ≡ tree_entries prefix folder from lines ++ option_to_list (tree_entry prefix folder from line)
+  pub one_more : (lines : List ListingLine) (line : ListingLine) → tree_entries prefix folder from (lines ++ line ∷ []) ≡ tree_entries prefix folder from lines ++ option_to_list (tree_entry prefix folder from line)
   one_more lines line = filter_map-append (tree_entry prefix folder from) lines (line ∷ []) ∙ ap (λ es. tree_entries prefix folder from lines ++ es) (alone (tree_entry prefix folder from line))
     where
       alone : (o : Option PlanEntry) → cons_option o [] ≡ option_to_list o

@@ -1,7 +1,7 @@
 // The part of a plan that makes the tree of a listing.
 ghost use Rattle.std.specs.Prelude.{◌≡◌, ◌++◌, IfOk, option_to_list};
 ghost use Rattle.materialize.specs.Materialized.{below};
-ghost use Rattle.materialize.specs.TreePlans.{tree_entry, tree_entries, content_of, MakesTree};
+ghost use Rattle.materialize.specs.TreePlans.{tree_entry, tree_entries, content_of, MakesTree, CarriesOn};
 
 use ac_types::{NoMemory, Text};
 use dir_trait::Name;
@@ -80,6 +80,7 @@ pub fn tree_plan(
     plan: Vec<PlanEntry>,
 ) -> Result<Vec<PlanEntry>, NoMemory>
     ensures entries { IfOk result (λ new. new.items ≡ plan.items ++ tree_entries prefix.now folder.now from.now listing.now) }
+    ensures plan { IfOk result (λ new. CarriesOn prefix.now from.now (tree_entries prefix.now folder.now from.now listing.now)) }
     ensures tree { IfOk result (λ new. MakesTree prefix.now listing.now (tree_entries prefix.now folder.now from.now listing.now)) }
 {
     let mut plan = plan;
