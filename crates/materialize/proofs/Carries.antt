@@ -1,5 +1,5 @@
 -- The plan of a listing's tree is a plan.
-use Rattle.std.proofs.Common.{◌≡◌, ◌≢◌, ◌+◌, ◌==◌, ◌≤◌, ℕ, Bool, true, false, not, ◌&&◌, ◌||◌, cond, nat_le, bytes_eq, nat_cmp, Less, Option, Some, None, option_to_list, List, [], ◌∷◌, ◌++◌, length, map, refl, sym, ap, subst, ◌∙◌, append_assoc, append-nil, arith, ◌⊎◌, inl, inr, ⊎_elim, length-append}
+use Rattle.std.proofs.Common.{◌≡◌, ◌+◌, ◌==◌, ◌≤◌, ℕ, Bool, true, false, not, ◌&&◌, ◌||◌, nat_le, bytes_eq, nat_cmp, Less, Option, option_to_list, List, [], ◌∷◌, ◌++◌, length, refl, sym, ap, subst, ◌∙◌, append_assoc, append-nil, arith, ◌⊎◌, inl, inr, length-append}
 use Rattle.std.specs.List.{list_any, AllByRecursion}
 use Rattle.std.specs.List.Sorted.{IsStrictlySortedBy}
 use Rattle.std.specs.Map.{keys_of}
@@ -11,8 +11,7 @@ use Rattle.std.proofs.lemmas.Map.Keys.{sorted_head, sorted_tail}
 use Rattle.std.proofs.lemmas.Slice.Eq.{bytes_eq-Decides}
 use Rattle.dir_model.specs.Paths.{is_empty, is_path, lies_below}
 use Rattle.dir_model.specs.Trees.{is_dir, is_within}
-use Rattle.dir_model.proofs.Lists.{and_left, and_right, and_both, or_none, or_last, any_of_map, all_push}
-use Rattle.dir_rules.specs.declared.seen.Entry.{Entry}
+use Rattle.dir_model.proofs.Lists.{and_both, or_none, or_last, any_of_map, all_push}
 use Rattle.dir_rules.specs.Marks.{parent}
 use Rattle.dir_rules.specs.Rules.{has_path, has_dir, is_in_directory, is_new_path}
 use Rattle.path_map.specs.declared.entry.Entry.{Entry as TreeEntry}
@@ -22,7 +21,7 @@ use Rattle.path_map.specs.Paths.{lies_below as lies_below_path, IsAbsPath, HasNo
 use Rattle.path_map.proofs.Below.{below_from}
 use Rattle.path_map.proofs.Segments.{sound_from}
 use Rattle.tree_digest.specs.declared.line.ListingLine.{ListingLine}
-use Rattle.tree_digest.specs.Listings.{IsListing, AllFollow, Follows, is_parent, has_directory, entries_of}
+use Rattle.tree_digest.specs.Listings.{IsListing, AllFollow, Follows, has_directory, entries_of}
 use Rattle.tree_digest.proofs.MapLines.{rising_lines, differ_if_less}
 use Rattle.tree_digest.proofs.Cuts.{has_none_or_last}
 use Rattle.folder_building.specs.declared.plan.PlanEntry.{PlanEntry}
@@ -30,7 +29,7 @@ use Rattle.folder_building.specs.declared.plan.Content.{Content}
 use Rattle.folder_building.specs.declared.plan.Content.TheVariants.{Directory, Copied}
 use Rattle.folder_building.specs.Plans.{outline, outline_of, is_among, has_origin, follows, is_plan_after}
 use Rattle.materialize.specs.Materialized.{below}
-use Rattle.materialize.specs.TreePlans.{content_of, entry_at, tree_entry, tree_entries, IsRoot, CarriesOn}
+use Rattle.materialize.specs.TreePlans.{entry_at, tree_entry, tree_entries, IsRoot, CarriesOn}
 use Rattle.materialize.proofs.Texts.{not_same, same_end}
 use Rattle.materialize.proofs.FilePaths.{begins_with, below_is_path, parent_of}
 use Rattle.materialize.proofs.Nexts.{one_more}

@@ -1,8 +1,8 @@
 -- Absolute paths as paths in a folder.
-use Rattle.std.proofs.Common.{◌≡◌, ◌+◌, ◌==◌, ◌<◌, ◌≤◌, ℕ, zero, suc, Bool, true, false, not, ◌&&◌, ◌||◌, cond, nat_le, nat_lt, bytes_eq, List, [], ◌∷◌, ◌++◌, length, take, drop, get_or, slice_index, refl, sym, ap, subst, ◌∙◌, arith, append_assoc, append-nil, eqb}
-use Rattle.std.specs.List.{list_any, list_all, slice_split, onto_first}
+use Rattle.std.proofs.Common.{◌≡◌, ◌+◌, ◌==◌, ◌<◌, ℕ, Bool, true, false, not, ◌&&◌, ◌||◌, cond, nat_le, nat_lt, bytes_eq, List, [], ◌∷◌, ◌++◌, length, take, drop, get_or, refl, sym, ap, subst, ◌∙◌, arith, append_assoc, append-nil}
+use Rattle.std.specs.List.{list_any, list_all, onto_first}
 use Rattle.std.specs.Str.{is_utf8, IsUtf8}
-use Rattle.std.proofs.lemmas.Bool.{or_parts, or_from, eqb-true, eq-eqb}
+use Rattle.std.proofs.lemmas.Bool.{or_parts, or_from, eqb-true}
 use Rattle.std.proofs.lemmas.Bool.Decides.{nat_tests}
 use Rattle.std.proofs.lemmas.Grind.{common_steps}
 use Rattle.std.proofs.lemmas.List.{get_or_at, drop_more}
@@ -12,7 +12,7 @@ use Rattle.dir_model.specs.Paths.{is_empty, is_slash, is_file_name, are_names, i
 use Rattle.dir_model.proofs.Lists.{and_left, and_right, and_both, or_last}
 use Rattle.dir_rules.specs.Marks.{parent, has_slash}
 use Rattle.path_map.specs.Paths.{is_dot_segment, has_bad_length, IsAbsPath, HasNone}
-use Rattle.path_map.proofs.Segments.{parts, parts_at_slash, IsSound, sound_from, path_some}
+use Rattle.path_map.proofs.Segments.{parts, parts_at_slash, sound_from, path_some}
 
 -- a text without a slash is one part
 parts_one : (name : List ℕ) → HasNone 47 name → parts name ≡ name ∷ []

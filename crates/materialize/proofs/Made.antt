@@ -1,6 +1,6 @@
 -- What was made by the plan of a listing's tree is that tree.
-use Rattle.std.proofs.Common.{◌≡◌, ◌≢◌, ◌+◌, ◌==◌, ℕ, Bool, true, false, not, ◌&&◌, ◌||◌, cond, bytes_eq, nat_cmp, Less, Option, Some, None, option_map, List, [], ◌∷◌, ◌++◌, length, filter, map, refl, sym, ap, subst, ◌∙◌, append_assoc, append-nil, arith, eqb}
-use Rattle.std.specs.List.{list_any, list_all, flat_map, filter_map, concat, AllByRecursion}
+use Rattle.std.proofs.Common.{◌≡◌, ◌≢◌, ◌==◌, ℕ, Bool, true, false, not, ◌&&◌, ◌||◌, cond, bytes_eq, nat_cmp, Less, Option, List, [], ◌∷◌, ◌++◌, length, filter, refl, sym, ap, subst, ◌∙◌, append-nil}
+use Rattle.std.specs.List.{list_any, flat_map, concat, AllByRecursion}
 use Rattle.std.specs.List.Sorted.{IsStrictlySortedBy}
 use Rattle.std.specs.Map.{keys_of}
 use Rattle.std.specs.Cmp.Lexicographic.{slice_cmp}
@@ -8,25 +8,20 @@ use Rattle.std.proofs.lemmas.Map.Keys.{sorted_head, sorted_tail}
 use Rattle.std.proofs.lemmas.Slice.Eq.{bytes_eq-Decides}
 use Rattle.std.proofs.lemmas.List.Folds.{list_any-append}
 use Rattle.std.proofs.lemmas.Grind.{flat_map-append}
-use Rattle.std.proofs.lemmas.Bool.Decides.{nat_tests}
 use Rattle.sha2.specs.Sha512.{sha512}
-use Rattle.dir_model.specs.declared.tree.TreeNode.TheVariants as node
 use Rattle.dir_model.specs.Paths.{lies_below}
 use Rattle.dir_model.specs.Trees.{is_dir, bytes_of}
-use Rattle.dir_model.proofs.Lists.{and_left, and_right, and_both, or_last, or_map, same_self}
+use Rattle.dir_model.proofs.Lists.{and_left, and_right, and_both, or_last, same_self}
 use Rattle.dir_rules.specs.declared.seen.Entry.{Entry}
-use Rattle.dir_rules.specs.Rules.{has_dir, has_file}
+use Rattle.dir_rules.specs.Rules.{has_file}
 use Rattle.path_map.specs.declared.entry.Entry.{Entry as TreeEntry}
 use Rattle.path_map.specs.declared.entry.Entry.TheVariants.{Dir, File, Link}
 use Rattle.tree_digest.specs.declared.line.ListingLine.{ListingLine}
 use Rattle.tree_digest.specs.Listings.{IsListing, entries_of}
 use Rattle.tree_digest.proofs.MapLines.{rising_lines, differ_if_less}
-use Rattle.folder_building.specs.declared.plan.PlanEntry.{PlanEntry}
-use Rattle.folder_building.specs.declared.plan.Content.{Content}
-use Rattle.folder_building.specs.declared.plan.Content.TheVariants.{Directory, Copied}
-use Rattle.folder_building.specs.Plans.{is_at, piece_at, pieces_at, file_at, directory_at, IsFileOf, IsMadeAs, AreMade, BothMade}
-use Rattle.materialize.specs.Materialized.{below, file_bytes, has_file_of, stands_at, is_kind, is_named, are_standing, are_named, materializes}
-use Rattle.materialize.specs.TreePlans.{content_of, tree_entry, tree_entries, MakesTree}
+use Rattle.folder_building.specs.Plans.{is_at, pieces_at, file_at, directory_at, AreMade}
+use Rattle.materialize.specs.Materialized.{below, file_bytes, has_file_of, stands_at, is_kind, is_named, are_standing, are_named}
+use Rattle.materialize.specs.TreePlans.{tree_entries, MakesTree}
 use Rattle.materialize.proofs.Texts.{is_same, same_bytes, not_same, same_end}
 
 -- what stands at one path, and what doesn't

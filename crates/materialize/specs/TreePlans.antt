@@ -1,5 +1,5 @@
 -- The part of a plan that makes the tree of a listing.
-use Rattle.std.specs.Prelude.{◌≡◌, ◌≤◌, ◌+◌, ℕ, Bool, true, false, ◌&&◌, not, List, [], ◌∷◌, length, Option, Some, None, option_map}
+use Rattle.std.specs.Prelude.{◌≡◌, ◌≤◌, ℕ, true, false, List, ◌∷◌, length, Option, Some, None, option_map}
 use Rattle.std.specs.List.{list_any, filter_map}
 use Rattle.dir_model.specs.Paths.{is_empty, is_path}
 use Rattle.dir_model.specs.Trees.{is_within}
