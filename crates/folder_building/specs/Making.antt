@@ -65,6 +65,12 @@ pub record Writes (observed : Bool) (spot : Spot) (path bytes : List ℕ) (old n
   pub whole : concat pieces ≡ bytes
   pub appends : observed ≡ true → Appends spot path pieces old new
 
+-- all but the rest of the bytes
+pub record WritesBut (observed : Bool) (spot : Spot) (path bytes rest : List ℕ) (old new : DirAt) : Type 0 where
+  pub begun : List ℕ
+  pub whole : begun ++ rest ≡ bytes
+  pub writes : Writes observed spot path begun old new
+
 -- under the locks that a source asks for, these pieces were appended to a file
 abbrev pub AppendsUnder : SourceAt → Spot → List ℕ → List (List ℕ) → DirAt → DirAt → Type 0
 AppendsUnder source spot path pieces old new = (s : Seen) (m : Making) → source.may s.standing ≡ true → Knows old (with_making s m) → IsSite spot s m → has_file path m.entries ≡ true → Knows new (with_making s (with_pieces path pieces m))

@@ -59,11 +59,11 @@ pub fn write<D: Dir>(
     ensures done { IfOk result (λ done. Writes D.observed spot.now path.now bytes.now (D.shown dir.old) (D.shown dir.new)) }
     ensures refused { IfErr result (λ e. D.observed ≡ true → Spoils spot.now path.now (D.shown dir.old) (D.shown dir.new)) }
 {
-    let mut rest = bytes;
-    'pieces: while !rest.is_empty() {
-        let count = rest.len().min(PIECE);
-        append(alloc, dir, spot, path, &rest[..count])?;
-        rest = &rest[count..];
+    let mut at = 0;
+    'pieces: while at < bytes.len() {
+        let end = at + PIECE.min(bytes.len() - at);
+        append(alloc, dir, spot, path, &bytes[at..end])?;
+        at = end;
     }
     Ok(())
 }
@@ -108,7 +108,8 @@ fn take_piece<D: Dir, S: Source>(
     ensures same { Same (S.shown source.old) (S.shown source.new) }
     ensures worked { Worked D.observed (S.shown source.old).asks (D.shown dir.old) (D.shown dir.new) }
     ensures known { D.observed ≡ true → ReadsOn (S.shown source.old) (D.shown dir.old) (D.shown dir.new) }
-    ensures most { IfOk result (λ count. count ≤ length room.old) }
+    ensures room { length room.new ≡ length room.old }
+    ensures most { IfOk result (λ count. count ≤ length room.new) }
     ensures left { IfOk result (λ count. count ≤ left) }
     ensures taken { IfOk result (λ count. (size : ℕ) (sha message : List ℕ)
         → HasTaken check.old size sha message → HasTaken check.new size sha (message ++ take count room.new)) }
@@ -147,7 +148,8 @@ fn copy_piece<D: Dir, S: Source>(
     ensures worked { Worked D.observed (either (builds_at spot.now) (S.shown source.old).asks) (D.shown dir.old) (D.shown dir.new) }
     ensures stray { IsErrOf result BuildError.Stray → D.observed ≡ true
         → EndsStray (either (builds_at spot.now) (S.shown source.old).asks) (D.shown dir.old) (D.shown dir.new) }
-    ensures most { IfOk result (λ count. count ≤ length room.old) }
+    ensures room { length room.new ≡ length room.old }
+    ensures most { IfOk result (λ count. count ≤ length room.new) }
     ensures left { IfOk result (λ count. count ≤ left) }
     ensures done { IfOk result (λ count. CopiesOn D.observed (S.shown source.old) spot.now path.now count check.old check.new (D.shown dir.old) (D.shown dir.new)) }
     ensures refused { IfErr result (λ e. D.observed ≡ true → SpoilsUnder (S.shown source.old) spot.now path.now (D.shown dir.old) (D.shown dir.new)) }

@@ -1,0 +1,56 @@
+use Rattle.std.proofs.Common.{◌≡◌, ◌≤◌, ◌+◌, ◌-◌, [], length, IsErrOf, IfErr, rules, arith, IsTrue}
+use Rattle.folder_building.specs.declared.error.BuildError.TheVariants.{Stray}
+use Rattle.folder_building.proofs.Working.{worked_none, worked_more}
+use Rattle.folder_building.proofs.Strays.{stray_after}
+use Rattle.folder_building.proofs.Pieces.{under_spoils, under_given_up}
+use Rattle.folder_building.proofs.Copying.{same_none, same_more, worked_same, stray_same, copies_none, copies_more, copies_all}
+use Rattle.folder_building.proofs.copy.copy.Goals as goal
+
+pub pieces-init : goal.pieces-init
+pieces-init g c = record {
+  same = same_none;
+  worked = worked_none;
+  within = omega arith;
+  room = ?;
+  copied = copies_none;
+}
+
+pub returns-in_err-count-clause-worked : goal.returns-in_err-count-clause-worked
+returns-in_err-count-clause-worked g c = worked_more c.pieces.invariant.worked (worked_same c.args.spot.now c.pieces.invariant.same c.copy_piece.ensures.worked)
+
+pub returns-in_err-count-clause-stray : goal.returns-in_err-count-clause-stray
+returns-in_err-count-clause-stray g c h t =
+    let D = g.D.Dir in
+    let i = c.pieces.invariant in
+    let k : IsErrOf c.copy_piece.result Stray = search (rules, h, c.from_residual-in_err-count.ensures, c.in_err-count.is) in
+    stray_after (D.shown c.copy_piece.new.dir) t i.worked (stray_same c.args.spot.now (D.shown c.pieces.dir) (D.shown c.copy_piece.new.dir) i.same (c.copy_piece.ensures.stray k t))
+
+pub returns-in_err-count-clause-refused : goal.returns-in_err-count-clause-refused
+returns-in_err-count-clause-refused g c t =
+    let D = g.D.Dir in
+    let S = g.S.Source in
+    let i = c.pieces.invariant in
+    under_spoils c.args.spot.now c.args.path.now (S.shown c.args.source.now) (S.shown c.pieces.source) (D.shown c.args.dir.now) (D.shown c.pieces.dir) (D.shown c.copy_piece.new.dir) i.copied.pieces i.same (i.copied.appends t) (c.in_err-count.ensures.refused t)
+
+pub pieces-preserved : goal.pieces-preserved
+pieces-preserved g c =
+    let i = c.pieces.invariant in
+    record {
+      same = same_more i.same c.copy_piece.ensures.same;
+      worked = worked_more i.worked (worked_same c.args.spot.now i.same c.copy_piece.ensures.worked);
+      within = omega (arith, i.within, c.in_ok-count.ensures.left);
+      room = search rules;
+      copied = copies_more i.same i.copied c.in_ok-count.ensures.done;
+    }
+
+pub returns-then-matches-clause-done : goal.returns-then-matches-clause-done
+returns-then-matches-clause-done g c =
+    let i = c.pieces.invariant in
+    let fits = ? in
+    copies_all c.args.size c.args.sha i.copied fits.0 fits.1
+
+pub returns-clause-refused : goal.returns-clause-refused
+returns-clause-refused g c t =
+    let D = g.D.Dir in
+    let i = c.pieces.invariant in
+    under_given_up c.args.spot.now c.args.path.now (g.S.Source.shown c.args.source.now) (D.shown c.args.dir.now) (D.shown c.pieces.dir) i.copied.pieces (i.copied.appends t)
