@@ -1,0 +1,11 @@
+pub mod Along
+pub mod Places
+pub mod Entries
+pub mod Spots
+pub mod Untouched
+pub mod Gates
+pub mod Knowledge
+pub mod Fresh
+pub mod Guards
+pub mod OwnSteps
+pub mod Known

@@ -1,0 +1,5 @@
+pub mod Entries
+pub mod Makers
+pub mod Handing
+pub mod Still
+pub mod UnderGate
