@@ -9,3 +9,9 @@ pub mod Fresh
 pub mod Guards
 pub mod OwnSteps
 pub mod Known
+pub mod Handed
+pub mod Unmoved
+pub mod LeftThere
+pub mod StaysWhole
+pub mod UnderGate
+pub mod ReadFiles
