@@ -14,4 +14,5 @@ pub mod Unmoved
 pub mod LeftThere
 pub mod StaysWhole
 pub mod UnderGate
+pub mod Marked
 pub mod ReadFiles

@@ -48,7 +48,7 @@ place_below (Some spot) = rank_below spot.area
 same_rank : (n : ℕ) → n ≤ n
 same_rank n = omega arith
 
-get_pushed : {X : Type 0} (xs : List X) (z y : X) (k : ℕ) → slice_get xs k ≡ Some y → slice_get (xs ++ z ∷ []) k ≡ Some y
+pub get_pushed : {X : Type 0} (xs : List X) (z y : X) (k : ℕ) → slice_get xs k ≡ Some y → slice_get (xs ++ z ∷ []) k ≡ Some y
 get_pushed [] z y k e = cc
 get_pushed (x ∷ xs) z y zero e = e
 get_pushed (x ∷ xs) z y (suc k) e = get_pushed xs z y k e

@@ -30,7 +30,7 @@ use Rattle.folder_contents.proofs.Handed.{brought}
 use Rattle.folder_contents.proofs.Unmoved.{unmoved, unremoved}
 use Rattle.folder_contents.proofs.Known.{alive_at}
 
-still_images : (spot : Spot) → is_in area.Images spot.area ≡ true → is_still spot.area ≡ true
+pub still_images : (spot : Spot) → is_in area.Images spot.area ≡ true → is_still spot.area ≡ true
 still_images spot is = subst (λ (a : Area). is_still a ≡ true) (in_area area.Images spot.area is) refl
 
 -- who takes an image has the gate exclusively

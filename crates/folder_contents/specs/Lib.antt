@@ -3,3 +3,4 @@ pub mod Makers
 pub mod Handing
 pub mod Still
 pub mod UnderGate
+pub mod Reads

@@ -4,7 +4,8 @@ ghost use Rattle.dir_model.specs.Calls.{IsRun};
 ghost use Rattle.lifecycle.specs.Executions.{IsConforming};
 ghost use Rattle.folder_contents.specs.Makers.{MakersKnow, NoTwoAtOneSpot};
 ghost use Rattle.folder_contents.specs.Handing.{MovesHandOver, ImagesAreLeft, PodsAreLeft};
-ghost use Rattle.folder_contents.specs.Still.{StaysAsItIs, ReadsTellFiles};
+ghost use Rattle.folder_contents.specs.Still.{StaysAsItIs};
+ghost use Rattle.folder_contents.specs.Reads.{ReadsTellFiles, UnmarkedHaveNoApp, ReadsTellOneImage};
 ghost use Rattle.folder_contents.specs.UnderGate.{ImagesStayShared, ImagesStayClosed};
 
 use dir_model::History;
@@ -53,10 +54,14 @@ pub fn images(history: &History)
     let _events = history.as_slice();
 }
 
-/// In every run a read that is answered tells a part of the file, from the entries of its folder. At
-/// and below the root of a started app nothing is promised.
+/// A read that is answered tells a part of the file, from the entries of its folder: in every run,
+/// but at and below the root of a started app, and in images and prepared a folder has such a root
+/// only where it has a started app's mark. While a process has the gate of images shared, all reads in
+/// an image without such a mark are of one and the same image.
 pub fn reads(history: &History)
-    ensures { IsRun history.now.items → ReadsTellFiles history.now.items }
+    ensures part { IsRun history.now.items → ReadsTellFiles history.now.items }
+    ensures plain { IsConforming history.now.items → UnmarkedHaveNoApp (state_after history.now.items) }
+    ensures image { IsConforming history.now.items → ReadsTellOneImage history.now.items }
 {
     let _events = history.as_slice();
 }
