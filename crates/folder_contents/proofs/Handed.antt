@@ -1,5 +1,5 @@
 -- The move by which a maker hands its folder over.
-use Rattle.std.proofs.Common.{◌≡◌, ◌⊎◌, ℕ, Bool, true, false, not, ◌&&◌, ◌||◌, cond, bytes_eq, Option, Some, None, List, [], ◌∷◌, ◌++◌, append-nil, refl, sym, ap, subst, ◌∙◌}
+use Rattle.std.proofs.Common.{◌≡◌, ℕ, true, false, ◌&&◌, ◌||◌, cond, bytes_eq, Option, Some, None, List, append-nil, refl, sym, ap, subst, ◌∙◌}
 use Rattle.dir_model.specs.declared.area.Area.{Area}
 use Rattle.dir_model.specs.declared.area.Area.TheVariants as area
 use Rattle.dir_model.specs.declared.event.Event.{Event}
@@ -8,14 +8,13 @@ use Rattle.dir_model.specs.declared.request.Request.TheVariants.{MoveFolder}
 use Rattle.dir_model.specs.declared.request.Reply.TheVariants.{Done}
 use Rattle.dir_model.specs.Areas.{is_stage}
 use Rattle.dir_model.specs.State.{DirState, spot_eq, folder_at}
-use Rattle.dir_model.specs.Trace.{state_next, state_after}
+use Rattle.dir_model.specs.Trace.{state_after}
 use Rattle.dir_model.specs.Calls.{event}
 use Rattle.dir_model.proofs.Chains.{state_after-push}
 use Rattle.dir_model.proofs.Lists.{and_left, and_right}
 use Rattle.dir_model.proofs.Spots.{spot_self}
 use Rattle.dir_rules.specs.declared.seen.Seen.{Seen}
 use Rattle.dir_rules.specs.declared.seen.Making.{Making}
-use Rattle.dir_rules.specs.declared.standing.Standing.{Standing}
 use Rattle.dir_rules.specs.Seen.{makes_at, is_making_area}
 use Rattle.dir_rules.specs.Standing.{is_in, began_as, is_prepare, is_run, holds_own}
 use Rattle.dir_rules.specs.LockRules.{may_move, may_move_between}
@@ -26,9 +25,9 @@ use Rattle.lifecycle.proofs.Handles.{both}
 use Rattle.lifecycle.proofs.Places.{moved_there, none_stands}
 use Rattle.lifecycle.proofs.Step.{stands_from}
 use Rattle.folder_contents.specs.Entries.{entries_in}
-use Rattle.folder_contents.specs.Makers.{guards, is_guarded, StandsAsKnown}
+use Rattle.folder_contents.specs.Makers.{guards}
 use Rattle.folder_contents.specs.Handing.{hands_over, then_moved, HandsOver, MovesHandOver}
-use Rattle.folder_contents.proofs.Along.{Happens, happens, conforming_to}
+use Rattle.folder_contents.proofs.Along.{happens, conforming_to}
 use Rattle.folder_contents.proofs.Spots.{one_location}
 use Rattle.folder_contents.proofs.Known.{alive_at, makers_know}
 
@@ -107,21 +106,24 @@ handed h p from to c hands =
     let r = ready s from to from.area to.area refl hands (brought s from to may) (asked s from to may) in
     let same = one_location r.making.spot from r.at in
     let w = makers_know h x.conforming p r.making (alive_at h (event p (MoveFolder from to) Done) x refl) r.knew
-        (subst (λ (z : Spot). guards s z.name z.area ≡ true) (sym same) r.guarded) in
+    (subst (λ (z : Spot). guards s z.name z.area ≡ true) (sym same) r.guarded) in
     let stood : folder_at (state_after h).namespace from ≡ Some w.folder = subst (λ (z : Spot). folder_at (state_after h).namespace z ≡ Some w.folder) same w.there in
-    let next = state_after-push h (event p (MoveFolder from to) Done) in (w.folder, record {
-      making = r.making;
-      knew = r.knew;
-      made_there = r.at;
-      whole = r.whole;
-      whole_pod = r.whole_pod;
-      stood = stood;
-      stands = ap (λ (st : DirState). folder_at st.namespace to) next
-          ∙ (moved_there (state_after h).namespace to from to
-          (none_stands (state_after h).namespace to (stands_from (state_after h) p from to x.is).1) (spot_self to) ∙ stood);
-      same = ap (λ (st : DirState). entries_in w.folder st.entries) next
-          ∙ (ap (entries_in w.folder) (append-nil (state_after h).entries) ∙ w.same (and_left r.making.clean _ r.whole));
-    })
+    let next = state_after-push h (event p (MoveFolder from to) Done) in (
+      w.folder,
+      record {
+        making = r.making;
+        knew = r.knew;
+        made_there = r.at;
+        whole = r.whole;
+        whole_pod = r.whole_pod;
+        stood = stood;
+        stands = ap (λ (st : DirState). folder_at st.namespace to) next
+            ∙ (moved_there (state_after h).namespace to from to
+            (none_stands (state_after h).namespace to (stands_from (state_after h) p from to x.is).1) (spot_self to) ∙ stood);
+        same = ap (λ (st : DirState). entries_in w.folder st.entries) next
+            ∙ (ap (entries_in w.folder) (append-nil (state_after h).entries) ∙ w.same (and_left r.making.clean _ r.whole));
+      },
+    )
 
 pub moves_hand_over : (trace : List Event) → IsConforming trace → MovesHandOver trace
 moves_hand_over trace conforming before p from to later is hands =

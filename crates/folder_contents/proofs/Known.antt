@@ -1,34 +1,31 @@
 -- Each process that guards what it makes knows the folder.
 use Rattle.std.proofs.Common.{◌≡◌, ◌⊎◌, inl, inr, ℕ, Bool, true, false, not, ◌==◌, cond, Option, Some, None, List, [], ◌∷◌, ◌++◌, length, append-nil, refl, sym, ap, subst, ◌∙◌}
 use Rattle.dir_model.specs.declared.event.Event.{Event}
-use Rattle.dir_model.specs.declared.intent.Intent.{Intent}
-use Rattle.dir_model.specs.declared.spot.Spot.{Spot}
 use Rattle.dir_model.specs.declared.request.Request.{Request}
 use Rattle.dir_model.specs.declared.request.Request.TheVariants.{Begin, MakeFolder, ListArea, ListIn, Kill}
 use Rattle.dir_model.specs.declared.request.Reply.{Reply}
 use Rattle.dir_model.specs.declared.request.Reply.TheVariants.{Done, Names, Items, Refused}
-use Rattle.dir_model.specs.State.{DirState, empty_state, has_begun, lives, folder_at}
+use Rattle.dir_model.specs.State.{DirState, has_begun, lives}
 use Rattle.dir_model.specs.Trace.{state_next, state_after}
 use Rattle.dir_model.specs.Replies.{is_reply}
 use Rattle.dir_model.specs.Calls.{is_begin, is_kill, is_foreign, event}
 use Rattle.dir_model.proofs.Chains.{state_after-push}
-use Rattle.dir_model.proofs.Lists.{not_true}
+use Rattle.dir_model.proofs.Lists.{not_true, same_self}
 use Rattle.dir_rules.specs.declared.seen.Seen.{Seen}
 use Rattle.dir_rules.specs.declared.seen.Making.{Making}
 use Rattle.dir_rules.specs.Seen.{learned}
 use Rattle.dir_rules.specs.Rules.{allows}
 use Rattle.dir_rules.specs.Conforms.{seen_of, seen_replied, nothing_seen}
 use Rattle.dir_rules.proofs.Unborn.{unborn_saw_nothing}
-use Rattle.dir_rules.proofs.Tied.{lived_before}
 use Rattle.lifecycle.specs.Executions.{IsConforming}
-use Rattle.lifecycle.proofs.Handles.{Sound, both, clash}
+use Rattle.lifecycle.proofs.Handles.{Sound, clash}
 use Rattle.lifecycle.proofs.Linked.{Linked}
 use Rattle.folder_contents.specs.Entries.{entries_in}
 use Rattle.folder_contents.specs.Makers.{is_guarded, StandsAsKnown, MakersKnow}
 use Rattle.folder_contents.proofs.Along.{Happens, along, happens, whose, stranger, foreign_same, own_next, sound_at, linked_at}
 use Rattle.folder_contents.proofs.Places.{untaken, stands_there}
 use Rattle.folder_contents.proofs.Untouched.{entries_stay}
-use Rattle.folder_contents.proofs.Knowledge.{Fits, apt}
+use Rattle.folder_contents.proofs.Knowledge.{Fits, apt, lived}
 use Rattle.folder_contents.proofs.Fresh.{fresh}
 use Rattle.folder_contents.proofs.Guards.{not_taken, untouched_there}
 use Rattle.folder_contents.proofs.OwnSteps.{KnownOf, with_making, own_step, made_known}
@@ -37,11 +34,6 @@ use Rattle.folder_contents.proofs.OwnSteps.{KnownOf, with_making, own_step, made
 pub alive_at : (h : List Event) (e : Event) → Happens h e → is_begin e.request ≡ false → lives (state_after h).namespace e.process ≡ true
 alive_at h e x on =
     ap (λ c. cond c (not (has_begun (state_after h).namespace e.process)) (lives (state_after h).namespace e.process)) (sym on) ∙ x.due
-
-pub lived : (h : List Event) (e : Event) (p : ℕ) → is_foreign p e ≡ true →
-    lives (state_after (h ++ e ∷ [])).namespace p ≡ true → lives (state_after h).namespace p ≡ true
-lived h e p f living =
-    lived_before p (state_after h) (e ∷ []) (f, tt) (subst (λ (s : DirState). lives s.namespace p ≡ true) (state_after-push h e) living)
 
 -- another's step, or the kill of this one
 module _ (h : List Event) (e : Event) (x : Happens h e) (p : ℕ) (m : Making) (f : is_foreign p e ≡ true)
@@ -79,7 +71,7 @@ module _ (h : List Event) (e : Event) (x : Happens h e) (p : ℕ) (m : Making) (
       }
     where
       differ : (a b : ℕ) → (a == b) ≡ false → a ≡ b → ⊥
-      differ a b off same = clash (a == b) (ap (λ c. a == c) (sym same) ∙ Rattle.dir_model.proofs.Lists.same_self a) off
+      differ a b off same = clash (a == b) (ap (λ c. a == c) (sym same) ∙ same_self a) off
 
   pub others_step : StandsAsKnown (state_next (state_after h) e) m
   others_step = by (is_kill e.request) (is_begin e.request) refl refl

@@ -13,6 +13,7 @@ pub mod Handed
 pub mod Unmoved
 pub mod LeftThere
 pub mod StaysWhole
+pub mod GateKept
 pub mod UnderGate
 pub mod Marked
 pub mod ReadFiles

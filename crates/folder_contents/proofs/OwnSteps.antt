@@ -1,33 +1,32 @@
 -- What a maker's own step is to the folder that it makes.
-use Rattle.std.proofs.Common.{◌≡◌, ◌⊎◌, inl, inr, ℕ, Bool, true, false, not, ◌&&◌, ◌||◌, ◌==◌, cond, bytes_eq, Option, Some, None, option_to_list, List, [], ◌∷◌, ◌++◌, length, take, append-nil, refl, sym, ap, subst, ◌∙◌}
+use Rattle.std.proofs.Common.{◌≡◌, inl, inr, ℕ, Bool, true, false, ◌&&◌, ◌||◌, ◌==◌, cond, bytes_eq, Option, Some, None, option_to_list, List, [], ◌∷◌, ◌++◌, length, take, append-nil, refl, sym, ap, subst, ◌∙◌}
 use Rattle.dir_model.specs.declared.area.Area.{Area}
 use Rattle.dir_model.specs.declared.area.Area.TheVariants as area
 use Rattle.dir_model.specs.declared.item.Inner.{Inner}
 use Rattle.dir_model.specs.declared.spot.Spot.{Spot}
-use Rattle.dir_model.specs.declared.tree.TreeEntry.{TreeEntry}
 use Rattle.dir_model.specs.declared.tree.TreeNode.{TreeNode}
 use Rattle.dir_model.specs.declared.tree.TreeNode.TheVariants.{Dir, Piece}
 use Rattle.dir_model.specs.declared.request.DirError.{DirError}
 use Rattle.dir_model.specs.declared.request.DirError.TheVariants.{Exists}
 use Rattle.dir_model.specs.declared.request.Request.{Request}
-use Rattle.dir_model.specs.declared.request.Request.TheVariants.{Begin, MakeFolder, MoveFolder, Open, OpenArea, ListArea, ListIn, MakeDirIn, MakeFileIn, AppendIn, SyncIn, RemoveFileIn, RemoveDirIn, RemoveFolder}
+use Rattle.dir_model.specs.declared.request.Request.TheVariants.{MakeFolder, MoveFolder, ListArea, ListIn, MakeDirIn, MakeFileIn, AppendIn, SyncIn, RemoveFileIn, RemoveDirIn, RemoveFolder}
 use Rattle.dir_model.specs.declared.request.Reply.{Reply}
 use Rattle.dir_model.specs.declared.request.Reply.TheVariants.{Done, Opened, Names, Items, Refused}
 use Rattle.dir_model.specs.Areas.{is_stage}
-use Rattle.dir_model.specs.State.{Namespace, DirState, folder_at, stands, spot_eq}
-use Rattle.dir_model.specs.Trace.{state_next, namespace_replied, placed}
+use Rattle.dir_model.specs.State.{DirState, folder_at, stands, spot_eq}
+use Rattle.dir_model.specs.Trace.{state_next, placed}
 use Rattle.dir_model.specs.Replies.{is_reply}
 use Rattle.dir_model.specs.Calls.{event}
 use Rattle.dir_rules.specs.declared.seen.Entry.{Entry}
 use Rattle.dir_rules.specs.declared.seen.Making.{Making}
 use Rattle.dir_rules.specs.declared.seen.Seen.{Seen}
 use Rattle.dir_rules.specs.Marks.{parent}
-use Rattle.dir_rules.specs.Seen.{learned, makes_at, is_making_area, making_changed, with_entry, without_path, spoilt}
-use Rattle.dir_rules.specs.Standing.{is_in, draws, holds_own}
-use Rattle.dir_rules.specs.LockRules.{may_ask, may_move, may_move_between, may_remove}
-use Rattle.dir_rules.specs.Rules.{allows, may_change, may_bring, may_bring_between}
+use Rattle.dir_rules.specs.Seen.{learned, makes_at, making_changed, with_entry, without_path, spoilt}
+use Rattle.dir_rules.specs.Standing.{draws, holds_own}
+use Rattle.dir_rules.specs.LockRules.{may_move, may_move_between, may_remove}
+use Rattle.dir_rules.specs.Rules.{allows, may_bring, may_bring_between}
 use Rattle.dir_rules.specs.Conforms.{seen_replied}
-use Rattle.dir_model.proofs.Lists.{and_left, and_right, and_both}
+use Rattle.dir_model.proofs.Lists.{and_left, and_right}
 use Rattle.dir_model.proofs.Spots.{spot_self}
 use Rattle.lifecycle.proofs.Handles.{Sound, both, clash, none_refused, refused_if}
 use Rattle.lifecycle.proofs.Linked.{Linked}
@@ -84,7 +83,7 @@ module _ (st : DirState) (p : ℕ) (s : Seen) (m : Making) (sound : Sound st.nam
       (record { spot = m.spot; clean = clean; entries = entries; unsynced = unsynced })
   on request reply clean entries unsynced is may off free change guarded =
       let before : guards g m.spot.name m.spot.area ≡ true =
-          guard_before st p g sound linked m.spot.name m.spot.area request reply off fits is may guarded in
+      guard_before st p g sound linked m.spot.name m.spot.area request reply off fits is may guarded in
       let quiet = guarded_area g m.spot.name m.spot.area before in
       let w = known before in record {
         folder = w.folder;
@@ -223,7 +222,7 @@ module _ (st : DirState) (p : ℕ) (s : Seen) (m : Making) (sound : Sound st.nam
           StandsAsKnown (state_next st (event p (MoveFolder from to) Done)) (record m { spot = to })
       goes same guarded =
           let before : guards g from.name from.area ≡ true =
-              guard_of_move from to from.area to.area (and_left (may_bring_between g from to from.area to.area) _ x.1) ask guarded in
+          guard_of_move from to from.area to.area (and_left (may_bring_between g from to from.area to.area) _ x.1) ask guarded in
           let w = known (subst (λ (z : Spot). guards g z.name z.area ≡ true) (sym same) before) in record {
             folder = w.folder;
             there = moved_there st.namespace to from to (none_stands st.namespace to (stands_from st p from to is).1) (spot_self to)

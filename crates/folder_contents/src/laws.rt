@@ -6,7 +6,7 @@ ghost use Rattle.folder_contents.specs.Makers.{MakersKnow, NoTwoAtOneSpot};
 ghost use Rattle.folder_contents.specs.Handing.{MovesHandOver, ImagesAreLeft, PodsAreLeft};
 ghost use Rattle.folder_contents.specs.Still.{StaysAsItIs};
 ghost use Rattle.folder_contents.specs.Reads.{ReadsTellFiles, UnmarkedHaveNoApp, ReadsTellOneImage};
-ghost use Rattle.folder_contents.specs.UnderGate.{ImagesStayShared, ImagesStayClosed};
+ghost use Rattle.folder_contents.specs.UnderGate.{GateIsKept, ImagesStayShared, ImagesStayClosed};
 
 use dir_model::History;
 
@@ -19,8 +19,8 @@ pub fn locations(history: &History)
 
 /// The folder that a living process makes stands where the process knows it, while the process holds
 /// the lock that guards it there; and it holds exactly what the process knows of it, if each change
-/// was answered Ok. That lock is the area's gate in embryo and in incoming, held since before the
-/// folder was made, and the pod's own lock in prepare.
+/// was answered Ok. That lock is the area lock in embryo and in incoming, had since before the folder
+/// was made, and the pod lock in prepare.
 pub fn makers(history: &History)
     ensures { IsConforming history.now.items → MakersKnow history.now.items }
 {
@@ -45,9 +45,11 @@ pub fn stillness(history: &History)
     let _events = history.as_slice();
 }
 
-/// While a process has the gate of images, each image stays where it is and as it is; but one that
-/// the process takes itself, which needs the gate exclusively.
+/// While a process has the area lock of images, each image stays where it is and as it is; but one that
+/// the process takes itself, which needs the lock exclusively. It has the lock all along where it
+/// gives up no handle.
 pub fn images(history: &History)
+    ensures kept { IsConforming history.now.items → GateIsKept history.now.items }
     ensures shared { IsConforming history.now.items → ImagesStayShared history.now.items }
     ensures closed { IsConforming history.now.items → ImagesStayClosed history.now.items }
 {
@@ -56,8 +58,8 @@ pub fn images(history: &History)
 
 /// A read that is answered tells a part of the file, from the entries of its folder: in every run,
 /// but at and below the root of a started app, and in images and prepared a folder has such a root
-/// only where it has a started app's mark. While a process has the gate of images shared, all reads in
-/// an image without such a mark are of one and the same image.
+/// only where it has a started app's mark. While a process has the area lock of images shared, all
+/// reads in an image without such a mark are of one and the same image.
 pub fn reads(history: &History)
     ensures part { IsRun history.now.items → ReadsTellFiles history.now.items }
     ensures plain { IsConforming history.now.items → UnmarkedHaveNoApp (state_after history.now.items) }
