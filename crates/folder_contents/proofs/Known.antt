@@ -1,5 +1,5 @@
 -- Each process that guards what it makes knows the folder.
-use Rattle.std.proofs.Common.{◌≡◌, ◌⊎◌, inl, inr, ℕ, Bool, true, false, not, ◌==◌, cond, Option, Some, None, List, [], ◌∷◌, ◌++◌, length, append-nil, refl, sym, ap, subst, ◌∙◌}
+use Rattle.std.proofs.Common.{◌≡◌, ◌⊎◌, inl, inr, ℕ, Bool, true, false, not, ◌==◌, cond, Option, Some, None, unwrap_or, List, [], ◌∷◌, ◌++◌, length, append-nil, refl, sym, ap, subst, ◌∙◌}
 use Rattle.dir_model.specs.declared.event.Event.{Event}
 use Rattle.dir_model.specs.declared.request.Request.{Request}
 use Rattle.dir_model.specs.declared.request.Request.TheVariants.{Begin, MakeFolder, ListArea, ListIn, Kill}
@@ -13,15 +13,15 @@ use Rattle.dir_model.proofs.Chains.{state_after-push}
 use Rattle.dir_model.proofs.Lists.{not_true, same_self}
 use Rattle.dir_rules.specs.declared.seen.Seen.{Seen}
 use Rattle.dir_rules.specs.declared.seen.Making.{Making}
-use Rattle.dir_rules.specs.Seen.{learned}
+use Rattle.dir_rules.specs.Seen.{learned, spoilt}
 use Rattle.dir_rules.specs.Rules.{allows}
-use Rattle.dir_rules.specs.Conforms.{seen_of, seen_replied, nothing_seen}
+use Rattle.dir_rules.specs.Conforms.{lost, with_lost, seen_of, seen_replied, nothing_seen}
 use Rattle.dir_rules.proofs.Unborn.{unborn_saw_nothing}
 use Rattle.lifecycle.specs.Executions.{IsConforming}
 use Rattle.lifecycle.proofs.Handles.{Sound, clash}
 use Rattle.lifecycle.proofs.Linked.{Linked}
 use Rattle.folder_contents.specs.Entries.{entries_in}
-use Rattle.folder_contents.specs.Makers.{is_guarded, StandsAsKnown, MakersKnow}
+use Rattle.folder_contents.specs.Makers.{is_guarded, StandsAsKnown, MakersKnow, ProcessesKnow}
 use Rattle.folder_contents.proofs.Along.{Happens, along, happens, whose, stranger, foreign_same, own_next, sound_at, linked_at}
 use Rattle.folder_contents.proofs.Places.{untaken, stands_there}
 use Rattle.folder_contents.proofs.Untouched.{entries_stay}
@@ -171,3 +171,27 @@ pub makers_know : (trace : List Event) → IsConforming trace → MakersKnow tra
 makers_know trace conforming p m living knew guarded =
     subst (λ (o : Option Making). KnownOf (state_after trace) (seen_of p trace) o) knew
     (along (λ h. (p : ℕ) → Knows h p) (λ p living. tt) (λ h e c k p. known_next p h e c (k p)) trace conforming p living) guarded
+
+-- and what the process knows itself
+module _ (p : ℕ) (trace : List Event) (conforming : IsConforming trace) (living : lives (state_after trace).namespace p ≡ true) where
+  told : (events : Seen) → seen_of p trace ≡ events → (kept spoils : Bool) (o : Option Making) → events.making ≡ o →
+      (m : Making) → lost spoils o ≡ Some m → is_guarded (with_lost events kept spoils) m ≡ true → StandsAsKnown (state_after trace) m
+  told events is kept false (Some x) e m same guarded =
+      makers_know trace conforming p m living (ap (λ (s : Seen). s.making) is ∙ (e ∙ same))
+      (ap (λ (s : Seen). is_guarded s m) is ∙ guarded)
+  told events is kept true (Some x) e m same guarded =
+      let spoilt_is : spoilt x ≡ m = ap (λ (o : Option Making). unwrap_or o m) same in
+      subst (λ (z : Making). StandsAsKnown (state_after trace) z) spoilt_is (spoilt_known
+      (makers_know trace conforming p x living (ap (λ (s : Seen). s.making) is ∙ e)
+      (ap (λ (s : Seen). is_guarded s x) is ∙ subst (λ (z : Making). is_guarded (with_lost events kept true) z ≡ true) (sym spoilt_is) guarded)))
+    where
+      spoilt_known : StandsAsKnown (state_after trace) x → StandsAsKnown (state_after trace) (spoilt x)
+      spoilt_known w = record { folder = w.folder; there = w.there; same = λ clean. clash false clean refl }
+  told events is kept false None e m same guarded = cc
+  told events is kept true None e m same guarded = cc
+
+pub processes_know : (trace : List Event) → IsConforming trace → ProcessesKnow trace
+processes_know trace conforming p s m tied living knew guarded =
+    let a = tied.living living in
+    told p trace conforming living (seen_of p trace) refl s.kept a.spoils (seen_of p trace).making refl m
+    (ap (λ (x : Seen). x.making) (sym a.same) ∙ knew) (ap (λ (x : Seen). is_guarded x m) (sym a.same) ∙ guarded)

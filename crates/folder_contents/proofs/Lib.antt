@@ -17,3 +17,4 @@ pub mod GateKept
 pub mod UnderGate
 pub mod Marked
 pub mod ReadFiles
+pub mod ImportExample

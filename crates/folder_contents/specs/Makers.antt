@@ -9,7 +9,7 @@ use Rattle.dir_model.specs.Trace.{state_after}
 use Rattle.dir_rules.specs.declared.seen.Making.{Making}
 use Rattle.dir_rules.specs.declared.seen.Seen.{Seen}
 use Rattle.dir_rules.specs.Standing.{holds_own}
-use Rattle.dir_rules.specs.Conforms.{seen_of}
+use Rattle.dir_rules.specs.Conforms.{seen_of, IsTied}
 use Rattle.folder_contents.specs.Entries.{entries_in}
 
 -- the lock under which nobody else takes the folder: the area's gate, held since before the make, or the pod's own lock
@@ -34,6 +34,12 @@ abbrev pub MakersKnow : List Event → Type 0
 MakersKnow trace =
     (p : ℕ) (m : Making) → lives (state_after trace).namespace p ≡ true → (seen_of p trace).making ≡ Some m →
     is_guarded (seen_of p trace) m ≡ true → StandsAsKnown (state_after trace) m
+
+-- the same of what a process knows itself, which is what its events say but for requests that left none
+abbrev pub ProcessesKnow : List Event → Type 0
+ProcessesKnow trace =
+    (p : ℕ) (s : Seen) (m : Making) → IsTied p trace s → lives (state_after trace).namespace p ≡ true →
+    s.making ≡ Some m → is_guarded s m ≡ true → StandsAsKnown (state_after trace) m
 
 -- no two folders stand at one location
 abbrev pub NoTwoAtOneSpot : Namespace → Type 0
