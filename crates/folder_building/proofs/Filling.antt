@@ -97,20 +97,20 @@ module _ (observed : Bool) (source : SourceAt) (spot : Spot) (plan : List PlanEn
       entries = f.entries ++ g.chunk;
       made = subst (λ (xs : List PlanEntry). AreMade xs (f.entries ++ g.chunk)) (sym taken) (made_more (take i plan) f.entries e g.chunk f.made g.made);
       fills = λ t s m k site may.
-        let x = f.fills t s m k site may in
-        let y = g.builds t s x.making x.knows (site_kept x.is.stands site) (may_same s.standing same may.may, may_next spot (take i plan) e f.entries s x.making f.made x.is.holds following (turning s may.turn)) in
-        record {
-          making = y.making;
-          is = record {
-            stands = y.is.spot ∙ x.is.stands;
-            clean = y.is.clean ∙ x.is.clean;
-            holds = y.is.entries ∙ ap (λ (es : List Entry). es ++ g.chunk) x.is.holds;
-            owes = subst (λ (xs : List PlanEntry). list_all (is_owed xs) y.making.unsynced ≡ true) (sym taken)
-              (y.is.owed (is_owed (take i plan ++ e ∷ [])) (owed_path (take i plan) e) (owed_parent (take i plan) e following)
-                (all_wider (is_owed (take i plan)) (is_owed (take i plan ++ e ∷ [])) (owed_more (take i plan) e) x.making.unsynced x.is.owes));
+          let x = f.fills t s m k site may in
+          let y = g.builds t s x.making x.knows (site_kept x.is.stands site) (may_same s.standing same may.may, may_next spot (take i plan) e f.entries s x.making f.made x.is.holds following (turning s may.turn)) in
+          record {
+            making = y.making;
+            is = record {
+              stands = y.is.spot ∙ x.is.stands;
+              clean = y.is.clean ∙ x.is.clean;
+              holds = y.is.entries ∙ ap (λ (es : List Entry). es ++ g.chunk) x.is.holds;
+              owes = subst (λ (xs : List PlanEntry). list_all (is_owed xs) y.making.unsynced ≡ true) (sym taken)
+                  (y.is.owed (is_owed (take i plan ++ e ∷ [])) (owed_path (take i plan) e) (owed_parent (take i plan) e following)
+                  (all_wider (is_owed (take i plan)) (is_owed (take i plan ++ e ∷ [])) (owed_more (take i plan) e) x.making.unsynced x.is.owes));
+            };
+            knows = y.knows;
           };
-          knows = y.knows;
-        };
     }
 
     pub begins_next : {next : SourceAt} {a b c : DirAt} → observed ≡ true → Same source next → FillsWith observed source spot plan (take i plan) a b → Tries next spot e b c → Begins source spot plan a c
@@ -185,7 +185,7 @@ module _ (spot : Spot) (plan : List PlanEntry) where
     unsynced_next a b c f g s m entries k site are filled =
         let x = f s m entries k site are filled in
         given_up spot plan e.path m entries are filled (record m { unsynced = x.unsynced }) refl refl
-          (g s (record m { unsynced = x.unsynced }) x.knows (site_kept refl site) (may_sync i e within is (record m { unsynced = x.unsynced }) entries are filled.holds))
+        (g s (record m { unsynced = x.unsynced }) x.knows (site_kept refl site) (may_sync i e within is (record m { unsynced = x.unsynced }) entries are filled.holds))
 
   -- the folder itself comes last
   pub synced_all : (a b c : DirAt) (left : List PlanEntry) → left ≡ [] → SyncedTo spot plan left a b → Syncs spot [] b c → SyncsAll spot plan a c
@@ -199,7 +199,7 @@ module _ (spot : Spot) (plan : List PlanEntry) where
   unsynced_all a b c left f g s m entries k site are filled =
       let x = f s m entries k site are filled in
       given_up spot plan [] m entries are filled (record m { unsynced = x.unsynced }) refl refl
-        (g s (record m { unsynced = x.unsynced }) x.knows (site_kept refl site) refl)
+      (g s (record m { unsynced = x.unsynced }) x.knows (site_kept refl site) refl)
 
 -- the whole
 module _ (observed : Bool) (source : SourceAt) (spot : Spot) (plan : List PlanEntry) where
@@ -218,9 +218,9 @@ module _ (observed : Bool) (source : SourceAt) (spot : Spot) (plan : List PlanEn
     entries = f.entries;
     made = f.made;
     knows = λ t s m k site may.
-      let x = f.fills t s m k site may in
-      subst (λ (y : Making). Knows c (with_making s y)) (same_making m x.making f.entries may.fresh x.is)
-      (g t s x.making f.entries x.knows (site_kept x.is.stands site) f.made (as_its_own m x.making f.entries x.is));
+        let x = f.fills t s m k site may in
+        subst (λ (y : Making). Knows c (with_making s y)) (same_making m x.making f.entries may.fresh x.is)
+        (g t s x.making f.entries x.knows (site_kept x.is.stands site) f.made (as_its_own m x.making f.entries x.is));
   }
 
   pub begins_after : (a b c : DirAt) → observed ≡ true → FillsWith observed source spot plan plan a b → UnsyncsAll spot plan b c → Begins source spot plan a c

@@ -54,7 +54,7 @@ append_call {observed} {old} {new} inner piece answer t c = (
     faults = c.faults;
     local = c.local ∙ append_local old.local inner piece answer (c.step t).left;
     step = λ o. (c.step t).step;
-  }
+  },
 )
 
 -- it changes nothing that is open

@@ -17,12 +17,7 @@ use dir_trait::{Dir, Spot};
 use std::alloc::Global;
 
 // Makes a directory.
-fn make_dir<D: Dir>(
-    alloc: Global,
-    dir: &mut D,
-    spot: &Spot,
-    path: &str,
-) -> Result<(), BuildError>
+fn make_dir<D: Dir>(alloc: Global, dir: &mut D, spot: &Spot, path: &str) -> Result<(), BuildError>
     requires active { IsActive (D.shown dir.old).local }
     requires path { is_path path.now ≡ true }
     ensures fault { IsErrOf result BuildError.DirFault → Rose (D.shown dir.old).faults (D.shown dir.new).faults }
@@ -41,12 +36,7 @@ fn make_dir<D: Dir>(
 }
 
 // Makes an empty file.
-fn make_file<D: Dir>(
-    alloc: Global,
-    dir: &mut D,
-    spot: &Spot,
-    path: &str,
-) -> Result<(), BuildError>
+fn make_file<D: Dir>(alloc: Global, dir: &mut D, spot: &Spot, path: &str) -> Result<(), BuildError>
     requires active { IsActive (D.shown dir.old).local }
     requires path { is_path path.now ≡ true }
     ensures fault { IsErrOf result BuildError.DirFault → Rose (D.shown dir.old).faults (D.shown dir.new).faults }

@@ -192,7 +192,17 @@ pub fn copy<D: Dir, S: Source>(
     let mut more = true;
     'pieces: while more {
         let count = copy_piece(
-            alloc, dir, source, spot, path, origin, place, at, size - at, &mut room, &mut check,
+            alloc,
+            dir,
+            source,
+            spot,
+            path,
+            origin,
+            place,
+            at,
+            size - at,
+            &mut room,
+            &mut check,
         )?;
         at += count as u64;
         more = count == PIECE;
