@@ -107,6 +107,10 @@ pub err_more : {T E : Type 0} (P Q : E → Type 0) (r : Result T E) → ((e : E)
 err_more P Q (Ok x) f h = h
 err_more P Q (Err e) f h = f e h
 
+pub err_any : {T E : Type 0} (P : Type 0) (r : Result T E) → P → IfErr r (λ e. P)
+err_any P (Ok x) h = tt
+err_any P (Err e) h = h
+
 -- a file that was made and filled
 pub gives_file : {observed : Bool} {spot : Spot} {path bytes : List ℕ} {b c : DirAt} (a : DirAt) → (observed ≡ true → Makes spot path true a b) → Writes observed spot path bytes b c → Gives observed spot path bytes a c
 gives_file {observed} {spot} {path} {bytes} {b} {c} a f w = record {

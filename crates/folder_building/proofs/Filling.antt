@@ -3,7 +3,7 @@ use Rattle.std.proofs.Common.{◌≡◌, ℕ, ◌+◌, ◌<◌, Bool, true, fals
 use Rattle.std.specs.List.{list_any, list_all}
 use Rattle.std.proofs.lemmas.List.{take_more, drop_more, take-append-drop}
 use Rattle.dir_model.specs.declared.spot.Spot.{Spot}
-use Rattle.dir_model.specs.Paths.{is_empty}
+use Rattle.dir_model.specs.Paths.{is_empty, is_path}
 use Rattle.dir_model.specs.declared.request.Request.{Request}
 use Rattle.dir_model.proofs.Lists.{and_left, and_right, and_both, or_last}
 use Rattle.dir_rules.specs.declared.seen.Entry.{Entry}
@@ -17,7 +17,7 @@ use Rattle.dir_trait.specs.Knowledge.{Knows}
 use Rattle.folder_building.specs.declared.plan.PlanEntry.{PlanEntry}
 use Rattle.folder_building.specs.declared.plan.Content.{Content}
 use Rattle.folder_building.specs.declared.plan.Content.TheVariants.{Directory, Given, Copied}
-use Rattle.folder_building.specs.Plans.{is_file, outline, follows, is_plan, is_in_turn, are_in_turn, piece_at, directory_at, pieces_at, file_at, is_at, IsMadeOf, AreMade, IsBegun, is_among, is_owed}
+use Rattle.folder_building.specs.Plans.{is_file, has_origin, outline, follows, is_plan, is_in_turn, are_in_turn, piece_at, directory_at, pieces_at, file_at, is_at, IsMadeOf, AreMade, IsBegun, is_among, is_owed}
 use Rattle.folder_building.specs.Sources.{SourceAt, Same}
 use Rattle.folder_building.specs.Making.{inner_at, with_making, IsSite, Grown, with_pieces, IsSpoilt, HasAdded, MayAdd, Adds, Tries, IsFresh, IsFilled, MayFill, Fills, FillsWith, HasBegun, Begins, built, CarriesOut}
 use Rattle.folder_building.specs.Changes.{with_new, Makes, Refuses, Syncs, Unsyncs, MakesFile, no_source, Gives, Takes, TriesUnder, TriesFile, SyncsAll, UnsyncsAll, SyncedTo}
@@ -235,3 +235,18 @@ module _ (observed : Bool) (source : SourceAt) (spot : Spot) (plan : List PlanEn
     is = record { stands = refl; begun = record { before = []; rest = plan; is = refl; made = []; are = refl; path = []; part = []; next = refl; holds = may.fresh.entries } };
     knows = k;
   }
+
+-- an entry whose content is known
+pub adds_as : {observed : Bool} {source : SourceAt} {spot : Spot} {content : Content} {a b : DirAt} (e : PlanEntry) → e.content ≡ content → Adds observed source spot (record { path = e.path; content = content }) a b → Adds observed source spot e a b
+adds_as {observed} {source} {spot} {content} {a} {b} e is h = subst (λ (x : Content). Adds observed source spot (record { path = e.path; content = x }) a b) (sym is) h
+
+-- each path of a plan is one, and so is where a file is copied from
+module _ (plan : List PlanEntry) (i : ℕ) (e : PlanEntry) (within : i < length plan) (is : e ≡ get_or plan i e) (well : is_plan plan ≡ true) where
+  planned : follows (take i plan) e ≡ true
+  planned = subst (λ (x : PlanEntry). follows (take i plan) x ≡ true) (sym is) (follows_at [] plan i e within well)
+
+  pub planned_path : is_path e.path ≡ true
+  planned_path = and_left (is_path e.path) _ planned
+
+  pub planned_origin : has_origin e.content ≡ true
+  planned_origin = and_right (is_new_path e.path (outline (take i plan))) (has_origin e.content) (and_right (is_path e.path) _ planned)

@@ -5,3 +5,4 @@ pub mod Pieces
 pub mod Copying
 pub mod Entries
 pub mod Filling
+pub mod Reading

@@ -173,8 +173,10 @@ fn add_all<D: Dir, S: Source>(
     ensures done { IfOk result (λ done. FillsWith D.observed (S.shown source.old) spot.now plan.now plan.now (D.shown dir.old) (D.shown dir.new)) }
     ensures refused { IfErr result (λ e. D.observed ≡ true → Begins (S.shown source.old) spot.now plan.now (D.shown dir.old) (D.shown dir.new)) }
 {
-    'entries: for place in 0..plan.len() {
-        add(alloc, dir, source, spot, &plan[place], place)?;
+    let mut place = 0;
+    'entries: for entry in plan {
+        add(alloc, dir, source, spot, entry, place)?;
+        place += 1;
     }
     Ok(())
 }

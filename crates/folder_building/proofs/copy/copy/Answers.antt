@@ -1,9 +1,10 @@
 use Rattle.std.proofs.Common.{◌≡◌, ◌≤◌, ◌+◌, ◌-◌, [], length, IsErrOf, IfErr, rules, arith, IsTrue}
+use Rattle.std.specs.List.{concat}
 use Rattle.folder_building.specs.declared.error.BuildError.TheVariants.{Stray}
 use Rattle.folder_building.proofs.Working.{worked_none, worked_more}
 use Rattle.folder_building.proofs.Strays.{stray_after}
 use Rattle.folder_building.proofs.Pieces.{under_spoils, under_given_up}
-use Rattle.folder_building.proofs.Copying.{same_none, same_more, worked_same, stray_same, copies_none, copies_more, copies_all}
+use Rattle.folder_building.proofs.Copying.{same_none, same_more, worked_same, stray_same, copies_none, copies_more, copies_all, err_any}
 use Rattle.folder_building.proofs.copy.copy.Goals as goal
 
 pub pieces-init : goal.pieces-init
@@ -11,7 +12,6 @@ pieces-init g c = record {
   same = same_none;
   worked = worked_none;
   within = omega arith;
-  room = ?;
   copied = copies_none;
 }
 
@@ -26,11 +26,11 @@ returns-in_err-count-clause-stray g c h t =
     stray_after (D.shown c.copy_piece.new.dir) t i.worked (stray_same c.args.spot.now (D.shown c.pieces.dir) (D.shown c.copy_piece.new.dir) i.same (c.copy_piece.ensures.stray k t))
 
 pub returns-in_err-count-clause-refused : goal.returns-in_err-count-clause-refused
-returns-in_err-count-clause-refused g c t =
+returns-in_err-count-clause-refused g c =
     let D = g.D.Dir in
     let S = g.S.Source in
     let i = c.pieces.invariant in
-    under_spoils c.args.spot.now c.args.path.now (S.shown c.args.source.now) (S.shown c.pieces.source) (D.shown c.args.dir.now) (D.shown c.pieces.dir) (D.shown c.copy_piece.new.dir) i.copied.pieces i.same (i.copied.appends t) (c.in_err-count.ensures.refused t)
+    err_any _ c.from_residual-in_err-count.result (λ t. under_spoils c.args.spot.now c.args.path.now (S.shown c.args.source.now) (S.shown c.pieces.source) (D.shown c.args.dir.now) (D.shown c.pieces.dir) (D.shown c.copy_piece.new.dir) i.copied.pieces i.same (i.copied.appends t) (c.in_err-count.ensures.refused t))
 
 pub pieces-preserved : goal.pieces-preserved
 pieces-preserved g c =
@@ -39,14 +39,14 @@ pieces-preserved g c =
       same = same_more i.same c.copy_piece.ensures.same;
       worked = worked_more i.worked (worked_same c.args.spot.now i.same c.copy_piece.ensures.worked);
       within = omega (arith, i.within, c.in_ok-count.ensures.left);
-      room = search rules;
       copied = copies_more i.same i.copied c.in_ok-count.ensures.done;
     }
 
 pub returns-then-matches-clause-done : goal.returns-then-matches-clause-done
 returns-then-matches-clause-done g c =
     let i = c.pieces.invariant in
-    let fits = ? in
+    let taken = i.copied.taken c.args.size c.args.sha [] c.new-check.ensures in
+    let fits = (c.matches.ensures c.args.size c.args.sha (concat i.copied.pieces) taken).0 c.if-matches.true in
     copies_all c.args.size c.args.sha i.copied fits.0 fits.1
 
 pub returns-clause-refused : goal.returns-clause-refused

@@ -1,4 +1,4 @@
-use Rattle.std.proofs.Common.{◌≡◌, ◌≤◌, ◌+◌, ◌-◌, cond, length}
+use Rattle.std.proofs.Common.{◌≡◌, ◌≤◌, ◌+◌, ◌-◌, cond}
 use Rattle.folder_building.specs.Work.{Worked, builds_at, either}
 use Rattle.folder_building.specs.Sources.{Same}
 use Rattle.folder_building.specs.Making.{CopiesOn}
@@ -12,7 +12,6 @@ invariant-pieces g l =
       same : Same (S.shown l.fn.source) (S.shown l.source);
       worked : Worked D.observed (either (builds_at l.spot) (S.shown l.fn.source).asks) (D.shown l.fn.dir) (D.shown l.dir);
       within : l.at ≤ l.size;
-      room : length l.room.items ≡ 65536;
       copied : CopiesOn D.observed (S.shown l.fn.source) l.spot l.path l.at l.initial.check l.check (D.shown l.fn.dir) (D.shown l.dir);
     }
 

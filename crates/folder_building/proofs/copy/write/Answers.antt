@@ -6,7 +6,7 @@ use Rattle.folder_building.specs.declared.error.BuildError.TheVariants.{Stray}
 use Rattle.folder_building.proofs.Working.{worked_none, worked_more}
 use Rattle.folder_building.proofs.Strays.{stray_after}
 use Rattle.folder_building.proofs.Pieces.{appends_spoilt}
-use Rattle.folder_building.proofs.Copying.{writes_none, writes_more, writes_all}
+use Rattle.folder_building.proofs.Copying.{writes_none, writes_more, writes_all, err_any}
 use Rattle.folder_building.proofs.copy.write.Goals as goal
 
 pub pieces-init : goal.pieces-init
@@ -25,10 +25,10 @@ returns-in_err-append-clause-stray g c h t =
     stray_after (g.D.Dir.shown c.append.new.dir) t c.pieces.invariant.worked (c.append.ensures.stray k t)
 
 pub returns-in_err-append-clause-refused : goal.returns-in_err-append-clause-refused
-returns-in_err-append-clause-refused g c t =
+returns-in_err-append-clause-refused g c =
     let D = g.D.Dir in
     let i = c.pieces.invariant in
-    appends_spoilt c.args.spot.now c.args.path.now (D.shown c.args.dir.now) (D.shown c.pieces.dir) (D.shown c.append.new.dir) i.written.writes.pieces (i.written.writes.appends t) (c.in_err-append.ensures.refused t)
+    err_any _ c.from_residual.result (λ t. appends_spoilt c.args.spot.now c.args.path.now (D.shown c.args.dir.now) (D.shown c.pieces.dir) (D.shown c.append.new.dir) i.written.writes.pieces (i.written.writes.appends t) (c.in_err-append.ensures.refused t))
 
 pub pieces-preserved : goal.pieces-preserved
 pieces-preserved g c =
@@ -36,8 +36,8 @@ pieces-preserved g c =
     let i = c.pieces.invariant in
     record {
       worked = worked_more i.worked c.append.ensures.worked;
-      within = ?;
-      written = writes_more _ _ (D.shown c.append.new.dir) (drop_split c.args.bytes.now c.pieces.at _ ?) i.written c.in_ok-append.ensures.done;
+      within = omega (arith, c.min.ensures, i.within);
+      written = writes_more _ _ (D.shown c.append.new.dir) (drop_split c.args.bytes.now c.pieces.at _ (omega arith)) i.written c.in_ok-append.ensures.done;
     }
 
 pub returns-clause-done : goal.returns-clause-done
