@@ -1,8 +1,10 @@
 -- A file copied piece by piece.
-use Rattle.std.proofs.Common.{◌≡◌, ℕ, ◌+◌, Bool, true, List, [], ◌∷◌, ◌++◌, length, Result, Ok, Err, IfOk, IfErr, refl, sym, ap, subst, ◌∙◌, append_assoc, append-nil, arith}
+use Rattle.std.proofs.Common.{◌≡◌, ◌≤◌, ◌<◌, ◌==◌, ◌↔◌, ℕ, ◌+◌, ◌-◌, Bool, true, false, IsTrue, Option, Some, None, take, List, [], ◌∷◌, ◌++◌, length, Result, Ok, Err, IfOk, IfErr, refl, sym, ap, subst, ◌∙◌, append_assoc, append-nil, arith}
 use Rattle.std.specs.List.{concat}
 use Rattle.std.proofs.lemmas.List.Folds.{concat-append}
 use Rattle.std.proofs.lemmas.List.{length-append}
+use Rattle.std.proofs.Math.Seq.{take-length, take-add}
+use Rattle.std.proofs.lemmas.Bool.Decides.{nat_tests}
 use Rattle.sha2.specs.Sha512.{sha512}
 use Rattle.dir_model.specs.declared.spot.Spot.{Spot}
 use Rattle.dir_model.specs.declared.request.Request.{Request}
@@ -10,18 +12,21 @@ use Rattle.dir_trait.specs.DirCalls.{DirAt}
 use Rattle.tree_digest.specs.declared.file_check.FileCheck.{FileCheck}
 use Rattle.tree_digest.specs.FileChecks.{HasTaken}
 use Rattle.folder_building.specs.Work.{Worked, EndsStray, builds_at, either}
-use Rattle.folder_building.specs.Sources.{SourceAt, Same, ReadsOn}
-use Rattle.folder_building.specs.Making.{Appends, AppendsUnder, Writes, WritesBut, CopiesOn, Copies, Spoils, SpoilsUnder}
+use Rattle.folder_building.specs.Sources.{SourceAt, Same, ReadsOn, Reads, IsLonger, IsUnlike, UnlikeContent}
+use Rattle.folder_building.specs.declared.plan.Origin.{Origin}
+use Rattle.folder_building.specs.declared.plan.Content.{Content}
+use Rattle.folder_building.specs.declared.plan.Content.TheVariants.{Directory, Given, Copied}
+use Rattle.folder_building.specs.Making.{Appends, Writes, WritesBut, CopiesOn, Copies, Spoils}
 use Rattle.folder_building.specs.Changes.{Makes, no_source, Gives, Takes, TriesFile}
-use Rattle.folder_building.proofs.Working.{worked_more, worked_wider, in_first, in_second}
+use Rattle.folder_building.proofs.Working.{worked_wider, in_first, in_second}
 use Rattle.folder_building.proofs.Strays.{stray_wider}
-use Rattle.folder_building.proofs.Pieces.{appends_none, appends_more, under_none, under_reads, under_piece, under_more, under_given_up, file_filled, file_spoilt, given_under, spoils_under}
+use Rattle.folder_building.proofs.Pieces.{appends_none, appends_more, under_none, under_reads, under_piece, under_more, file_filled, file_spoilt, given_under, spoils_under}
 
 pub same_none : {source : SourceAt} → Same source source
-same_none = record { faults = omega arith; asks = refl; may = refl }
+same_none = record { faults = omega arith; asks = refl; may = refl; told = refl; file = λ t. refl }
 
 pub same_more : {a b c : SourceAt} → Same a b → Same b c → Same a c
-same_more ab bc = record { faults = omega (arith, ab.faults, bc.faults); asks = bc.asks ∙ ab.asks; may = bc.may ∙ ab.may }
+same_more ab bc = record { faults = omega (arith, ab.faults, bc.faults); asks = bc.asks ∙ ab.asks; may = bc.may ∙ ab.may; told = bc.told ∙ ab.told; file = λ t. bc.file (ab.told ∙ t) ∙ ab.file t }
 
 -- a source asks after a read for what it asked for before
 pub worked_same : {observed : Bool} (spot : Spot) {source next : SourceAt} {a b : DirAt} → Same source next → Worked observed (either (builds_at spot) next.asks) a b → Worked observed (either (builds_at spot) source.asks) a b
@@ -129,3 +134,60 @@ takes_file {observed} {source} {spot} {path} {size} {sha} {b} {c} a f w = record
   hashed = w.hashed;
   makes = λ t. file_filled spot path source a b c w.pieces (f t) (w.appends t);
 }
+
+-- what was read so far, if there is such a file: where the reading has ended, all of it
+pub record IsFront (more : Bool) (check : FileCheck) (size : ℕ) (sha : List ℕ) (at : ℕ) (bytes : List ℕ) : Type 0 where
+  pub within : at ≤ length bytes
+  pub taken : HasTaken check size sha (take at bytes)
+  pub ended : more ≡ false → at ≡ length bytes
+
+abbrev pub Front : SourceAt → Origin → Bool → FileCheck → ℕ → List ℕ → ℕ → Type 0
+Front source origin more check size sha at = source.told ≡ true → (bytes : List ℕ) → source.file origin ≡ Some bytes → IsFront more check size sha at bytes
+
+pub front_none : (source : SourceAt) (origin : Origin) (check : FileCheck) (size : ℕ) (sha : List ℕ) → HasTaken check size sha [] → Front source origin true check size sha 0
+front_none source origin check size sha h t bytes is = record { within = omega arith; taken = h; ended = λ e. cc }
+
+told_same : {source next : SourceAt} → Same source next → source.told ≡ true → next.told ≡ true
+told_same same t = same.told ∙ t
+
+file_same : {source next : SourceAt} {origin : Origin} {bytes : List ℕ} → Same source next → source.told ≡ true → source.file origin ≡ Some bytes → next.file origin ≡ Some bytes
+file_same {source} {next} {origin} same t is = ap (λ (f : Origin → Option (List ℕ)). f origin) (same.file t) ∙ is
+
+pub front_more : (source next : SourceAt) (origin : Origin) (more : Bool) (x y : FileCheck) (size : ℕ) (sha : List ℕ) (at n room : ℕ) (bs : List ℕ) (again : Bool) → Same source next → Front source origin more x size sha at → Reads next origin at room n bs → ((k : ℕ) (s message : List ℕ) → HasTaken x k s message → HasTaken y k s (message ++ take n bs)) → (again ≡ false → n < room) → Front source origin again y size sha (at + n)
+front_more source next origin more x y size sha at n room bs again same front reads taken short t bytes is =
+    let f = front t bytes is in
+    let r = reads (told_same same t) bytes (file_same same t is) in
+    record {
+      within = omega (arith, f.within, r.count);
+      taken = subst (λ (xs : List ℕ). HasTaken y size sha xs) (ap (λ p. take at bytes ++ p) r.piece ∙ sym (take-add at n bytes)) (taken size sha (take at bytes) f.taken);
+      ended = λ e. omega (arith, f.within, r.count, short e);
+    }
+
+-- a missing file isn't the one
+pub missing_longer : (source : SourceAt) (origin : Origin) (size : ℕ) → (source.told ≡ true → source.file origin ≡ None) → IsLonger source origin size
+missing_longer source origin size none t bytes is within = let clash : Some bytes ≡ None = sym is ∙ none t in cc
+
+-- nor is one that is longer than it may be
+pub longer_unlike : (source next : SourceAt) (origin : Origin) (size at : ℕ) (sha : List ℕ) → Same source next → at ≤ size → IsLonger next origin (at + (size - at)) → IsUnlike source origin size sha
+longer_unlike source next origin size at sha same within longer t bytes is long hashed = longer (told_same same t) bytes (file_same same t is) (omega (arith, within, long))
+
+-- nor one whose bytes were all taken, and don't match
+pub ended_unlike : (source : SourceAt) (origin : Origin) (more : Bool) (check : FileCheck) (size : ℕ) (sha : List ℕ) (at : ℕ) (matches : Bool) → more ≡ false → Front source origin more check size sha at → ((k : ℕ) (s message : List ℕ) → HasTaken check k s message → (IsTrue matches ↔ ((length message ≡ k) × (sha512 message ≡ s)))) → matches ≡ false → IsUnlike source origin size sha
+ended_unlike source origin more check size sha at matches over front says never t bytes is long hashed =
+    let f = front t bytes is in
+    let whole : HasTaken check size sha bytes = subst (λ (xs : List ℕ). HasTaken check size sha xs) (ap (λ n. take n bytes) (f.ended over) ∙ take-length bytes) f.taken in
+    let found : matches ≡ true = (says size sha bytes whole).1 (long, hashed) in
+    let clash : true ≡ false = sym found ∙ never in
+    cc
+
+pub unlike_same : (source next : SourceAt) (origin : Origin) (size : ℕ) (sha : List ℕ) → Same source next → IsUnlike next origin size sha → IsUnlike source origin size sha
+unlike_same source next origin size sha same unlike t bytes is long hashed = unlike (told_same same t) bytes (file_same same t is) long hashed
+
+pub content_same : (source next : SourceAt) (content : Content) → Same source next → UnlikeContent next content → UnlikeContent source content
+content_same source next Directory same h = h
+content_same source next (Given bytes) same h = h
+content_same source next (Copied origin size sha) same h = unlike_same source next origin size sha same h
+
+-- fewer bytes than a whole piece
+pub short : (n size : ℕ) → n ≤ size → size ≡ 65536 → (n == 65536) ≡ false → n < size
+short n size within is other = grind (arith, nat_tests)

@@ -1,28 +1,26 @@
 -- A plan carried out, entry by entry.
-use Rattle.std.proofs.Common.{◌≡◌, ℕ, ◌+◌, ◌<◌, Bool, true, false, not, ◌&&◌, ◌||◌, bytes_eq, List, [], ◌∷◌, ◌++◌, filter, take, drop, length, get_or, refl, sym, ap, subst, ◌∙◌, append_assoc, append-nil, arith}
-use Rattle.std.specs.List.{list_any, list_all}
-use Rattle.std.proofs.lemmas.List.{take_more, drop_more, take-append-drop}
+use Rattle.std.proofs.Common.{◌≡◌, ℕ, ◌+◌, ◌<◌, Bool, true, false, not, bytes_eq, List, [], ◌∷◌, ◌++◌, filter, take, drop, length, get_or, refl, sym, ap, subst, ◌∙◌, append_assoc, append-nil, arith}
+use Rattle.std.specs.List.{list_all}
+use Rattle.std.proofs.lemmas.List.{take_more, drop_more, take-append-drop, length-take-le}
 use Rattle.dir_model.specs.declared.spot.Spot.{Spot}
 use Rattle.dir_model.specs.Paths.{is_empty, is_path}
-use Rattle.dir_model.specs.declared.request.Request.{Request}
 use Rattle.dir_model.proofs.Lists.{and_left, and_right, and_both, or_last}
 use Rattle.dir_rules.specs.declared.seen.Entry.{Entry}
 use Rattle.dir_rules.specs.declared.seen.Making.{Making}
 use Rattle.dir_rules.specs.declared.seen.Seen.{Seen}
-use Rattle.dir_rules.specs.Marks.{parent}
-use Rattle.dir_rules.specs.Seen.{without_path}
 use Rattle.dir_rules.specs.Rules.{has_path, is_new_path, in_order, may_make_entry, may_sync_entry}
 use Rattle.dir_trait.specs.DirCalls.{DirAt}
 use Rattle.dir_trait.specs.Knowledge.{Knows}
 use Rattle.folder_building.specs.declared.plan.PlanEntry.{PlanEntry}
 use Rattle.folder_building.specs.declared.plan.Content.{Content}
 use Rattle.folder_building.specs.declared.plan.Content.TheVariants.{Directory, Given, Copied}
-use Rattle.folder_building.specs.Plans.{is_file, has_origin, outline, follows, is_plan, is_in_turn, are_in_turn, piece_at, directory_at, pieces_at, file_at, is_at, IsMadeOf, AreMade, IsBegun, is_among, is_owed}
-use Rattle.folder_building.specs.Sources.{SourceAt, Same}
-use Rattle.folder_building.specs.Making.{inner_at, with_making, IsSite, Grown, with_pieces, IsSpoilt, HasAdded, MayAdd, Adds, Tries, IsFresh, IsFilled, MayFill, Fills, FillsWith, HasBegun, Begins, built, CarriesOut}
-use Rattle.folder_building.specs.Changes.{with_new, Makes, Refuses, Syncs, Unsyncs, MakesFile, no_source, Gives, Takes, TriesUnder, TriesFile, SyncsAll, UnsyncsAll, SyncedTo}
+use Rattle.folder_building.specs.Plans.{is_file, has_origin, outline, follows, is_plan, is_in_turn, are_in_turn, piece_at, directory_at, pieces_at, file_at, AreMade, is_among, is_owed}
+use Rattle.folder_building.specs.Sources.{SourceAt, Same, UnlikeContent, UnlikeAt}
+use Rattle.folder_building.specs.Making.{inner_at, with_making, Grown, with_pieces, IsSpoilt, HasAdded, Adds, Tries, IsFresh, IsFilled, FillsWith, HasBegun, Begins, built, CarriesOut}
+use Rattle.folder_building.specs.Changes.{with_new, Makes, Syncs, Unsyncs, Gives, Takes, SyncsAll, UnsyncsAll, SyncedTo}
 use Rattle.folder_building.proofs.Steps.{site_kept}
 use Rattle.folder_building.proofs.Pieces.{pieces_spot, pieces_clean, pieces_entries, pieces_owed, may_same}
+use Rattle.folder_building.proofs.Copying.{content_same}
 use Rattle.folder_building.proofs.Entries.{made_more, new_outline, turn_outline, follows_at, turn_at, among_at, path_made, owed_more, owed_path, owed_parent, all_wider, owed_less, owed_none}
 
 -- an entry that was made
@@ -250,3 +248,14 @@ module _ (plan : List PlanEntry) (i : ℕ) (e : PlanEntry) (within : i < length 
 
   pub planned_origin : has_origin e.content ≡ true
   planned_origin = and_right (is_new_path e.path (outline (take i plan))) (has_origin e.content) (and_right (is_path e.path) _ planned)
+
+-- the entry whose file is unlike what the plan asks for
+pub unlike_at : (source next : SourceAt) (plan : List PlanEntry) (i : ℕ) (e : PlanEntry) → i < length plan → e ≡ get_or plan i e → (n : ℕ) → n ≡ i → Same source next → UnlikeContent next e.content → UnlikeAt source plan n
+unlike_at source next plan i e within is n at same unlike = record {
+  before = take i plan;
+  entry = e;
+  rest = drop (i + 1) plan;
+  is = sym (take-append-drop i plan) ∙ ap (λ (xs : List PlanEntry). take i plan ++ xs) (next_item plan i e within is);
+  place = length-take-le i plan (omega (arith, within)) ∙ sym at;
+  unlike = content_same source next e.content same unlike;
+}

@@ -1,5 +1,5 @@
 -- Calls one after the other, and what they leave of a directory.
-use Rattle.std.proofs.Common.{◌≡◌, ◌≤◌, ℕ, Bool, true, ◌||◌, List, Result, Ok, Err, refl, sym, ap, subst, ◌∙◌, arith}
+use Rattle.std.proofs.Common.{◌≡◌, ℕ, Bool, true, List, Result, Ok, Err, refl, ◌∙◌, arith}
 use Rattle.dir_model.specs.declared.item.Inner.{Inner}
 use Rattle.dir_model.specs.declared.request.DirError.{DirError}
 use Rattle.dir_model.specs.declared.request.Request.{Request}
@@ -13,7 +13,7 @@ use Rattle.dir_model.specs.State.{spot_eq}
 use Rattle.dir_model.proofs.Lists.{or_last, and_both, same_self}
 use Rattle.dir_rules.proofs.Looks.{same_bytes}
 use Rattle.dir_model.proofs.Chains.{nothing_yet, and_call, and_more, extends_wider}
-use Rattle.dir_trait.specs.DirCalls.{DirAt, DirCall, AppendCall, ExtendsBy}
+use Rattle.dir_trait.specs.DirCalls.{DirAt, DirCall, AppendCall}
 use Rattle.folder_building.specs.Work.{Worked, either}
 
 pub worked_none : {observed : Bool} {asks : Request → Bool} {d : DirAt} → Worked observed asks d d

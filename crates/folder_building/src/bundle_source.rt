@@ -1,5 +1,6 @@
 // Files of a bundle.
-ghost use Rattle.std.specs.Prelude.{◌≡◌, IfErr};
+ghost use Rattle.std.specs.Prelude.{◌≡◌, IfErr, IfOk, string_bytes};
+ghost use Rattle.dir_trait.specs.Bundles.{child_path};
 
 use crate::plan::Origin;
 use crate::source::{Source, SourceError};
@@ -16,6 +17,7 @@ pub struct BundleSource<'a, B> {
 
 fn bundle_error(error: BundleError) -> SourceError
     ensures failed { result ≡ SourceError.Failed → error ≡ BundleError.Failed }
+    ensures missing { result ≡ SourceError.Missing → error ≡ BundleError.Missing }
     ensures never { result ≡ SourceError.DirFault → ⊥ }
 {
     match error {
@@ -33,7 +35,8 @@ fn out_of_memory(_error: AllocError) -> SourceError
 
 // The path of a file of the bundle at a path.
 fn joined(alloc: Global, root: &str, path: &str) -> Result<String, SourceError>
-    ensures { IfErr result (λ e. e ≡ SourceError.NoMemory) }
+    ensures err { IfErr result (λ e. e ≡ SourceError.NoMemory) }
+    ensures path { IfOk result (λ text. string_bytes text ≡ child_path root.now path.now) }
 {
     let mut text = String::from_str(alloc, root).map_err(out_of_memory)?;
     if !root.is_empty() {
@@ -45,9 +48,10 @@ fn joined(alloc: Global, root: &str, path: &str) -> Result<String, SourceError>
 
 impl<'a, B: Bundle> Source for BundleSource<'a, B> {
     ghost use Rattle.std.specs.Prelude.{false, true};
+    ghost use Rattle.dir_trait.specs.Bundles.{child_path, file_bytes};
     ghost use Rattle.folder_building.specs.Sources.{SourceAt};
 
-    ghost shown = { λ s. record { faults = (B.shown s.bundle.now).faults; asks = λ r. false; may = λ st. true } };
+    ghost shown = { λ s. record { faults = (B.shown s.bundle.now).faults; asks = λ r. false; may = λ st. true; told = B.observed; file = λ o. file_bytes ((B.shown s.bundle.now).tree (child_path s.root.now o.path)) } };
 
     fn read<D: Dir>(
         &mut self,
@@ -58,8 +62,9 @@ impl<'a, B: Bundle> Source for BundleSource<'a, B> {
         room: &mut [u8],
     ) -> Result<usize, SourceError> {
         let path = joined(alloc, self.root, origin.path.as_str())?;
-        self.bundle
-            .read(alloc, path.as_str(), at, room)
-            .map_err(bundle_error)
+        match self.bundle.read(alloc, path.as_str(), at, room) {
+            Ok(count) => Ok(count),
+            Err(error) => Err(bundle_error(error)),
+        }
     }
 }

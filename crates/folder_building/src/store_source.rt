@@ -23,9 +23,10 @@ fn store_error(error: DirError) -> SourceError
 
 impl Source for StoreSource {
     ghost use Rattle.folder_building.specs.Sources.{SourceAt};
+    ghost use Rattle.std.specs.Prelude.{false, None};
     ghost use Rattle.folder_building.specs.Sources.{reads_images, may_read_images};
 
-    ghost shown = { λ s. record { faults = 0; asks = reads_images; may = may_read_images } };
+    ghost shown = { λ s. record { faults = 0; asks = reads_images; may = may_read_images; told = false; file = λ o. None } };
 
     fn read<D: Dir>(
         &mut self,

@@ -1,4 +1,4 @@
-use Rattle.std.proofs.Common.{◌≡◌, refl, Ok, Err}
+use Rattle.std.proofs.Common.{◌≡◌, Ok, Err}
 use Rattle.dir_model.specs.declared.request.Request.TheVariants.{AppendIn}
 use Rattle.dir_model.specs.declared.request.Reply.TheVariants.{Refused}
 use Rattle.folder_building.specs.declared.error.BuildError.TheVariants.{Stray}

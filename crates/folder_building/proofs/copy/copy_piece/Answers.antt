@@ -1,4 +1,4 @@
-use Rattle.std.proofs.Common.{◌≡◌, IsErrOf, rules, take, length, arith, [], ap}
+use Rattle.std.proofs.Common.{◌≡◌, IsErrOf, rules, take, arith, ap}
 use Rattle.std.proofs.lemmas.List.{length-take-le}
 use Rattle.folder_building.specs.declared.error.BuildError.TheVariants.{Stray}
 use Rattle.folder_building.proofs.Working.{worked_more}

@@ -1,4 +1,3 @@
-use Rattle.std.proofs.Common.{length}
 use Rattle.folder_building.proofs.Reading.{image_worked, image_known}
 use Rattle.folder_building.proofs.store_source.StoreSourceSource.read.Goals as goal
 
