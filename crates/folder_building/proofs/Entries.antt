@@ -1,5 +1,5 @@
 -- What was made, and the plan that asks for it.
-use Rattle.std.proofs.Common.{◌≡◌, ℕ, ◌+◌, ◌<◌, Bool, true, false, not, ◌&&◌, ◌||◌, cond, bytes_eq, List, [], ◌∷◌, ◌++◌, map, filter, take, drop, length, get_or, codes, nat_le, zero, suc, ◌==◌, refl, sym, ap, subst, ◌∙◌, append_assoc, append-nil, arith}
+use Rattle.std.proofs.Common.{◌≡◌, ℕ, ◌<◌, Bool, true, false, not, ◌&&◌, ◌||◌, cond, bytes_eq, List, [], ◌∷◌, ◌++◌, filter, take, length, get_or, codes, nat_le, zero, suc, ◌==◌, refl, sym, ap, subst, ◌∙◌, append_assoc, append-nil, arith}
 use Rattle.std.proofs.lemmas.Bool.Decides.{nat_tests}
 use Rattle.std.specs.List.{list_any, list_all}
 use Rattle.std.proofs.lemmas.List.Folds.{list_any-append}
@@ -17,7 +17,7 @@ use Rattle.dir_rules.proofs.Looks.{same_bytes}
 use Rattle.folder_building.specs.declared.plan.PlanEntry.{PlanEntry}
 use Rattle.folder_building.specs.declared.plan.Content.{Content}
 use Rattle.folder_building.specs.declared.plan.Content.TheVariants.{Directory, Given, Copied}
-use Rattle.folder_building.specs.Plans.{is_file, outline_of, outline, has_origin, follows, is_plan_after, is_plan, is_in_turn, are_in_turn, piece_at, directory_at, pieces_at, file_at, IsMadeAs, IsMadeOf, AreMade, is_among, is_owed}
+use Rattle.folder_building.specs.Plans.{is_file, outline_of, outline, follows, is_plan_after, is_in_turn, are_in_turn, piece_at, directory_at, pieces_at, IsMadeAs, IsMadeOf, AreMade, is_among, is_owed}
 
 -- one entry more
 pub made_more : (before : List PlanEntry) (es : List Entry) (e : PlanEntry) (chunk : List Entry) → AreMade before es → IsMadeOf e chunk → AreMade (before ++ e ∷ []) (es ++ chunk)

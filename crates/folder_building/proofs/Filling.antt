@@ -1,28 +1,26 @@
 -- A plan carried out, entry by entry.
-use Rattle.std.proofs.Common.{◌≡◌, ℕ, ◌+◌, ◌<◌, Bool, true, false, not, ◌&&◌, ◌||◌, bytes_eq, List, [], ◌∷◌, ◌++◌, filter, take, drop, length, get_or, refl, sym, ap, subst, ◌∙◌, append_assoc, append-nil, arith}
-use Rattle.std.specs.List.{list_any, list_all}
-use Rattle.std.proofs.lemmas.List.{take_more, drop_more, take-append-drop}
+use Rattle.std.proofs.Common.{◌≡◌, ℕ, ◌+◌, ◌<◌, Bool, true, false, not, bytes_eq, List, [], ◌∷◌, ◌++◌, filter, take, drop, length, get_or, refl, sym, ap, subst, ◌∙◌, append_assoc, append-nil, arith}
+use Rattle.std.specs.List.{list_all}
+use Rattle.std.proofs.lemmas.List.{take_more, drop_more, take-append-drop, length-take-le}
 use Rattle.dir_model.specs.declared.spot.Spot.{Spot}
-use Rattle.dir_model.specs.Paths.{is_empty}
-use Rattle.dir_model.specs.declared.request.Request.{Request}
+use Rattle.dir_model.specs.Paths.{is_empty, is_path}
 use Rattle.dir_model.proofs.Lists.{and_left, and_right, and_both, or_last}
 use Rattle.dir_rules.specs.declared.seen.Entry.{Entry}
 use Rattle.dir_rules.specs.declared.seen.Making.{Making}
 use Rattle.dir_rules.specs.declared.seen.Seen.{Seen}
-use Rattle.dir_rules.specs.Marks.{parent}
-use Rattle.dir_rules.specs.Seen.{without_path}
 use Rattle.dir_rules.specs.Rules.{has_path, is_new_path, in_order, may_make_entry, may_sync_entry}
 use Rattle.dir_trait.specs.DirCalls.{DirAt}
 use Rattle.dir_trait.specs.Knowledge.{Knows}
 use Rattle.folder_building.specs.declared.plan.PlanEntry.{PlanEntry}
 use Rattle.folder_building.specs.declared.plan.Content.{Content}
 use Rattle.folder_building.specs.declared.plan.Content.TheVariants.{Directory, Given, Copied}
-use Rattle.folder_building.specs.Plans.{is_file, outline, follows, is_plan, is_in_turn, are_in_turn, piece_at, directory_at, pieces_at, file_at, is_at, IsMadeOf, AreMade, IsBegun, is_among, is_owed}
-use Rattle.folder_building.specs.Sources.{SourceAt, Same}
-use Rattle.folder_building.specs.Making.{inner_at, with_making, IsSite, Grown, with_pieces, IsSpoilt, HasAdded, MayAdd, Adds, Tries, IsFresh, IsFilled, MayFill, Fills, FillsWith, HasBegun, Begins, built, CarriesOut}
-use Rattle.folder_building.specs.Changes.{with_new, Makes, Refuses, Syncs, Unsyncs, MakesFile, no_source, Gives, Takes, TriesUnder, TriesFile, SyncsAll, UnsyncsAll, SyncedTo}
+use Rattle.folder_building.specs.Plans.{is_file, has_origin, outline, follows, is_plan, is_in_turn, are_in_turn, piece_at, directory_at, pieces_at, file_at, AreMade, is_among, is_owed}
+use Rattle.folder_building.specs.Sources.{SourceAt, Same, UnlikeContent, UnlikeAt}
+use Rattle.folder_building.specs.Making.{inner_at, with_making, Grown, with_pieces, IsSpoilt, HasAdded, Adds, Tries, IsFresh, IsFilled, FillsWith, HasBegun, Begins, built, CarriesOut}
+use Rattle.folder_building.specs.Changes.{with_new, Makes, Syncs, Unsyncs, Gives, Takes, SyncsAll, UnsyncsAll, SyncedTo}
 use Rattle.folder_building.proofs.Steps.{site_kept}
 use Rattle.folder_building.proofs.Pieces.{pieces_spot, pieces_clean, pieces_entries, pieces_owed, may_same}
+use Rattle.folder_building.proofs.Copying.{content_same}
 use Rattle.folder_building.proofs.Entries.{made_more, new_outline, turn_outline, follows_at, turn_at, among_at, path_made, owed_more, owed_path, owed_parent, all_wider, owed_less, owed_none}
 
 -- an entry that was made
@@ -97,20 +95,20 @@ module _ (observed : Bool) (source : SourceAt) (spot : Spot) (plan : List PlanEn
       entries = f.entries ++ g.chunk;
       made = subst (λ (xs : List PlanEntry). AreMade xs (f.entries ++ g.chunk)) (sym taken) (made_more (take i plan) f.entries e g.chunk f.made g.made);
       fills = λ t s m k site may.
-        let x = f.fills t s m k site may in
-        let y = g.builds t s x.making x.knows (site_kept x.is.stands site) (may_same s.standing same may.may, may_next spot (take i plan) e f.entries s x.making f.made x.is.holds following (turning s may.turn)) in
-        record {
-          making = y.making;
-          is = record {
-            stands = y.is.spot ∙ x.is.stands;
-            clean = y.is.clean ∙ x.is.clean;
-            holds = y.is.entries ∙ ap (λ (es : List Entry). es ++ g.chunk) x.is.holds;
-            owes = subst (λ (xs : List PlanEntry). list_all (is_owed xs) y.making.unsynced ≡ true) (sym taken)
-              (y.is.owed (is_owed (take i plan ++ e ∷ [])) (owed_path (take i plan) e) (owed_parent (take i plan) e following)
-                (all_wider (is_owed (take i plan)) (is_owed (take i plan ++ e ∷ [])) (owed_more (take i plan) e) x.making.unsynced x.is.owes));
+          let x = f.fills t s m k site may in
+          let y = g.builds t s x.making x.knows (site_kept x.is.stands site) (may_same s.standing same may.may, may_next spot (take i plan) e f.entries s x.making f.made x.is.holds following (turning s may.turn)) in
+          record {
+            making = y.making;
+            is = record {
+              stands = y.is.spot ∙ x.is.stands;
+              clean = y.is.clean ∙ x.is.clean;
+              holds = y.is.entries ∙ ap (λ (es : List Entry). es ++ g.chunk) x.is.holds;
+              owes = subst (λ (xs : List PlanEntry). list_all (is_owed xs) y.making.unsynced ≡ true) (sym taken)
+                  (y.is.owed (is_owed (take i plan ++ e ∷ [])) (owed_path (take i plan) e) (owed_parent (take i plan) e following)
+                  (all_wider (is_owed (take i plan)) (is_owed (take i plan ++ e ∷ [])) (owed_more (take i plan) e) x.making.unsynced x.is.owes));
+            };
+            knows = y.knows;
           };
-          knows = y.knows;
-        };
     }
 
     pub begins_next : {next : SourceAt} {a b c : DirAt} → observed ≡ true → Same source next → FillsWith observed source spot plan (take i plan) a b → Tries next spot e b c → Begins source spot plan a c
@@ -185,7 +183,7 @@ module _ (spot : Spot) (plan : List PlanEntry) where
     unsynced_next a b c f g s m entries k site are filled =
         let x = f s m entries k site are filled in
         given_up spot plan e.path m entries are filled (record m { unsynced = x.unsynced }) refl refl
-          (g s (record m { unsynced = x.unsynced }) x.knows (site_kept refl site) (may_sync i e within is (record m { unsynced = x.unsynced }) entries are filled.holds))
+        (g s (record m { unsynced = x.unsynced }) x.knows (site_kept refl site) (may_sync i e within is (record m { unsynced = x.unsynced }) entries are filled.holds))
 
   -- the folder itself comes last
   pub synced_all : (a b c : DirAt) (left : List PlanEntry) → left ≡ [] → SyncedTo spot plan left a b → Syncs spot [] b c → SyncsAll spot plan a c
@@ -199,7 +197,7 @@ module _ (spot : Spot) (plan : List PlanEntry) where
   unsynced_all a b c left f g s m entries k site are filled =
       let x = f s m entries k site are filled in
       given_up spot plan [] m entries are filled (record m { unsynced = x.unsynced }) refl refl
-        (g s (record m { unsynced = x.unsynced }) x.knows (site_kept refl site) refl)
+      (g s (record m { unsynced = x.unsynced }) x.knows (site_kept refl site) refl)
 
 -- the whole
 module _ (observed : Bool) (source : SourceAt) (spot : Spot) (plan : List PlanEntry) where
@@ -218,9 +216,9 @@ module _ (observed : Bool) (source : SourceAt) (spot : Spot) (plan : List PlanEn
     entries = f.entries;
     made = f.made;
     knows = λ t s m k site may.
-      let x = f.fills t s m k site may in
-      subst (λ (y : Making). Knows c (with_making s y)) (same_making m x.making f.entries may.fresh x.is)
-      (g t s x.making f.entries x.knows (site_kept x.is.stands site) f.made (as_its_own m x.making f.entries x.is));
+        let x = f.fills t s m k site may in
+        subst (λ (y : Making). Knows c (with_making s y)) (same_making m x.making f.entries may.fresh x.is)
+        (g t s x.making f.entries x.knows (site_kept x.is.stands site) f.made (as_its_own m x.making f.entries x.is));
   }
 
   pub begins_after : (a b c : DirAt) → observed ≡ true → FillsWith observed source spot plan plan a b → UnsyncsAll spot plan b c → Begins source spot plan a c
@@ -235,3 +233,29 @@ module _ (observed : Bool) (source : SourceAt) (spot : Spot) (plan : List PlanEn
     is = record { stands = refl; begun = record { before = []; rest = plan; is = refl; made = []; are = refl; path = []; part = []; next = refl; holds = may.fresh.entries } };
     knows = k;
   }
+
+-- an entry whose content is known
+pub adds_as : {observed : Bool} {source : SourceAt} {spot : Spot} {content : Content} {a b : DirAt} (e : PlanEntry) → e.content ≡ content → Adds observed source spot (record { path = e.path; content = content }) a b → Adds observed source spot e a b
+adds_as {observed} {source} {spot} {content} {a} {b} e is h = subst (λ (x : Content). Adds observed source spot (record { path = e.path; content = x }) a b) (sym is) h
+
+-- each path of a plan is one, and so is where a file is copied from
+module _ (plan : List PlanEntry) (i : ℕ) (e : PlanEntry) (within : i < length plan) (is : e ≡ get_or plan i e) (well : is_plan plan ≡ true) where
+  planned : follows (take i plan) e ≡ true
+  planned = subst (λ (x : PlanEntry). follows (take i plan) x ≡ true) (sym is) (follows_at [] plan i e within well)
+
+  pub planned_path : is_path e.path ≡ true
+  planned_path = and_left (is_path e.path) _ planned
+
+  pub planned_origin : has_origin e.content ≡ true
+  planned_origin = and_right (is_new_path e.path (outline (take i plan))) (has_origin e.content) (and_right (is_path e.path) _ planned)
+
+-- the entry whose file is unlike what the plan asks for
+pub unlike_at : (source next : SourceAt) (plan : List PlanEntry) (i : ℕ) (e : PlanEntry) → i < length plan → e ≡ get_or plan i e → (n : ℕ) → n ≡ i → Same source next → UnlikeContent next e.content → UnlikeAt source plan n
+unlike_at source next plan i e within is n at same unlike = record {
+  before = take i plan;
+  entry = e;
+  rest = drop (i + 1) plan;
+  is = sym (take-append-drop i plan) ∙ ap (λ (xs : List PlanEntry). take i plan ++ xs) (next_item plan i e within is);
+  place = length-take-le i plan (omega (arith, within)) ∙ sym at;
+  unlike = content_same source next e.content same unlike;
+}

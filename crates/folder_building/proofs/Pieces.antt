@@ -1,20 +1,18 @@
 -- A file in pieces, and what the process knows of it.
-use Rattle.std.proofs.Common.{◌≡◌, ℕ, Bool, true, false, not, ◌&&◌, ◌||◌, bytes_eq, List, [], ◌∷◌, ◌++◌, map, refl, sym, ap, subst, ◌∙◌, append_assoc, append-nil}
-use Rattle.std.specs.List.{list_any, list_all}
+use Rattle.std.proofs.Common.{◌≡◌, ℕ, Bool, true, not, ◌&&◌, bytes_eq, List, [], ◌∷◌, ◌++◌, refl, sym, ap, subst, ◌∙◌, append_assoc, append-nil}
+use Rattle.std.specs.List.{list_all}
 use Rattle.std.proofs.lemmas.List.Folds.{list_all-append}
 use Rattle.dir_model.specs.declared.spot.Spot.{Spot}
 use Rattle.dir_model.proofs.Lists.{and_both, any_push, any_last}
 use Rattle.dir_rules.specs.declared.seen.Making.{Making}
-use Rattle.dir_rules.specs.declared.seen.Seen.{Seen}
 use Rattle.dir_rules.specs.declared.standing.Standing.{Standing}
-use Rattle.dir_rules.specs.Marks.{parent}
 use Rattle.dir_rules.specs.Rules.{is_dir, has_file}
 use Rattle.dir_rules.proofs.Looks.{same_bytes}
 use Rattle.dir_trait.specs.DirCalls.{DirAt}
 use Rattle.dir_trait.specs.Knowledge.{Knows}
 use Rattle.folder_building.specs.Plans.{piece_at, pieces_at, is_at}
 use Rattle.folder_building.specs.Sources.{SourceAt, Same, ReadsOn}
-use Rattle.folder_building.specs.Making.{with_making, IsSite, Grown, with_piece, with_pieces, IsSpoilt, Appends, Spoils, AppendsUnder, SpoilsUnder}
+use Rattle.folder_building.specs.Making.{with_making, with_piece, with_pieces, IsSpoilt, Appends, Spoils, AppendsUnder, SpoilsUnder}
 use Rattle.folder_building.specs.Changes.{with_new, Makes, Refuses, MakesFile, TriesUnder}
 use Rattle.folder_building.proofs.Steps.{site_kept}
 

@@ -1,5 +1,5 @@
 -- One change in the folder that is made, and what the process then knows.
-use Rattle.std.proofs.Common.{◌≡◌, ℕ, Bool, true, false, not, ◌&&◌, cond, Some, List, [], ◌∷◌, ◌++◌, Result, Ok, Err, refl, sym, ap, subst, ◌∙◌, append-nil}
+use Rattle.std.proofs.Common.{◌≡◌, ℕ, Bool, true, false, ◌&&◌, Some, List, [], ◌∷◌, Ok, Err, refl, sym, ap, subst, ◌∙◌, append-nil}
 use Rattle.dir_model.specs.declared.area.Area.{Area}
 use Rattle.dir_model.specs.declared.area.Area.TheVariants.{Prepare, Run, Incoming}
 use Rattle.dir_model.specs.declared.item.Inner.{Inner}
@@ -7,19 +7,18 @@ use Rattle.dir_model.specs.declared.spot.Spot.{Spot}
 use Rattle.dir_model.specs.declared.request.DirError.{DirError}
 use Rattle.dir_model.specs.declared.request.Request.TheVariants.{MakeDirIn, MakeFileIn, AppendIn, SyncIn}
 use Rattle.dir_model.specs.declared.request.Reply.TheVariants.{Done, Refused}
-use Rattle.dir_model.specs.Replies.{done_reply, append_reply}
 use Rattle.dir_model.specs.State.{spot_eq}
-use Rattle.dir_model.proofs.Lists.{and_left, and_right, and_both}
+use Rattle.dir_model.proofs.Lists.{and_left, and_both}
 use Rattle.dir_rules.specs.declared.seen.Making.{Making}
 use Rattle.dir_rules.specs.declared.seen.Seen.{Seen}
 use Rattle.dir_rules.specs.Standing.{is_in, holds_own}
 use Rattle.dir_rules.specs.Seen.{makes_at, is_making_area, spoilt, without_path}
-use Rattle.dir_rules.specs.Rules.{makes_here, of_making, has_file, may_make_entry, may_make_file_in, may_append_in, may_sync_in, may_sync_entry, allows}
+use Rattle.dir_rules.specs.Rules.{makes_here, has_file, may_make_entry, may_make_file_in, may_append_in, may_sync_in, may_sync_entry, allows}
 use Rattle.dir_rules.specs.Conforms.{seen_replied}
 use Rattle.dir_trait.specs.DirCalls.{DirAt, DirCall, AppendCall}
 use Rattle.dir_trait.specs.Knowledge.{Knows}
 use Rattle.dir_trait.proofs.Knowing.{knows_call}
-use Rattle.folder_building.specs.Making.{inner_at, with_making, IsSite, Grown, IsSpoilt, Appends, Spoils, with_piece}
+use Rattle.folder_building.specs.Making.{inner_at, with_making, IsSite, IsSpoilt, Appends, Spoils, with_piece}
 use Rattle.folder_building.specs.Changes.{with_new, Makes, Refuses, Syncs, Unsyncs}
 use Rattle.folder_building.proofs.Working.{append_call}
 

@@ -1,5 +1,5 @@
 -- Calls one after the other, and what they leave of a directory.
-use Rattle.std.proofs.Common.{◌≡◌, ◌≤◌, ℕ, Bool, true, ◌||◌, List, Result, Ok, Err, refl, sym, ap, subst, ◌∙◌, arith}
+use Rattle.std.proofs.Common.{◌≡◌, ℕ, Bool, true, List, Result, Ok, Err, refl, ◌∙◌, arith}
 use Rattle.dir_model.specs.declared.item.Inner.{Inner}
 use Rattle.dir_model.specs.declared.request.DirError.{DirError}
 use Rattle.dir_model.specs.declared.request.Request.{Request}
@@ -7,9 +7,13 @@ use Rattle.dir_model.specs.declared.request.Request.TheVariants.{AppendIn}
 use Rattle.dir_model.specs.declared.request.Reply.{Reply}
 use Rattle.dir_model.specs.Replies.{done_reply, append_reply}
 use Rattle.dir_model.specs.Local.{Local, local_replied}
-use Rattle.dir_model.proofs.Lists.{or_last}
+use Rattle.dir_model.specs.declared.spot.Spot.{Spot}
+use Rattle.dir_model.specs.Areas.{rank}
+use Rattle.dir_model.specs.State.{spot_eq}
+use Rattle.dir_model.proofs.Lists.{or_last, and_both, same_self}
+use Rattle.dir_rules.proofs.Looks.{same_bytes}
 use Rattle.dir_model.proofs.Chains.{nothing_yet, and_call, and_more, extends_wider}
-use Rattle.dir_trait.specs.DirCalls.{DirAt, DirCall, AppendCall, ExtendsBy}
+use Rattle.dir_trait.specs.DirCalls.{DirAt, DirCall, AppendCall}
 use Rattle.folder_building.specs.Work.{Worked, either}
 
 pub worked_none : {observed : Bool} {asks : Request → Bool} {d : DirAt} → Worked observed asks d d
@@ -50,7 +54,7 @@ append_call {observed} {old} {new} inner piece answer t c = (
     faults = c.faults;
     local = c.local ∙ append_local old.local inner piece answer (c.step t).left;
     step = λ o. (c.step t).step;
-  }
+  },
 )
 
 -- it changes nothing that is open
@@ -65,3 +69,7 @@ worked_append {observed} {asks} {old} {new} inner piece answer asked c = record 
   local = c.local ∙ kept_local old.local inner piece answer;
   extends = λ t. and_call nothing_yet refl asked (c.step t).step;
 }
+
+-- a change at a spot is at that spot
+pub at_spot : (spot : Spot) → spot_eq spot spot ≡ true
+at_spot spot = and_both _ _ (same_self (rank spot.area)) (same_bytes spot.name)

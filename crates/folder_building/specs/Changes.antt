@@ -1,5 +1,5 @@
 -- What one change in the folder that is made leaves of what the process knows of it.
-use Rattle.std.specs.Prelude.{◌≡◌, ℕ, Bool, true, false, cond, List, [], ◌∷◌, ◌++◌, length}
+use Rattle.std.specs.Prelude.{◌≡◌, ℕ, Bool, true, false, cond, None, List, [], length}
 use Rattle.std.specs.List.{list_all, concat}
 use Rattle.sha2.specs.Sha512.{sha512}
 use Rattle.dir_model.specs.declared.spot.Spot.{Spot}
@@ -13,9 +13,9 @@ use Rattle.dir_rules.specs.Seen.{with_entry, without_path}
 use Rattle.dir_trait.specs.DirCalls.{DirAt}
 use Rattle.dir_trait.specs.Knowledge.{Knows}
 use Rattle.folder_building.specs.declared.plan.PlanEntry.{PlanEntry}
-use Rattle.folder_building.specs.Plans.{is_owed, AreMade, IsBegun}
+use Rattle.folder_building.specs.Plans.{is_owed, AreMade}
 use Rattle.folder_building.specs.Sources.{SourceAt}
-use Rattle.folder_building.specs.Making.{inner_at, with_making, IsSite, Grown, with_pieces, IsSpoilt, IsFilled, built, HasBegun}
+use Rattle.folder_building.specs.Making.{inner_at, with_making, IsSite, Grown, with_pieces, IsSpoilt, IsFilled, HasBegun}
 
 -- a directory or an empty file
 abbrev pub with_new : List ℕ → Bool → Making → Making
@@ -43,7 +43,7 @@ MakesFile source spot path pieces old new = (s : Seen) (m : Making) → source.m
 
 -- no source is read
 abbrev pub no_source : SourceAt
-no_source = record { faults = 0; asks = λ r. false; may = λ s. true }
+no_source = record { faults = 0; asks = λ r. false; may = λ s. true; told = false; file = λ o. None }
 
 -- a file with these bytes was made
 pub record Gives (observed : Bool) (spot : Spot) (path bytes : List ℕ) (old new : DirAt) : Type 0 where

@@ -1,10 +1,10 @@
 -- What a process knows of the folder that it makes, change by change.
-use Rattle.std.specs.Prelude.{◌≡◌, ℕ, Bool, true, false, Some, List, [], ◌∷◌, ◌++◌, length}
+use Rattle.std.specs.Prelude.{◌≡◌, ℕ, Bool, true, Some, List, [], ◌∷◌, ◌++◌, length}
 use Rattle.std.specs.List.{list_all, concat}
 use Rattle.sha2.specs.Sha512.{sha512}
 use Rattle.dir_model.specs.declared.item.Inner.{Inner}
 use Rattle.dir_model.specs.declared.spot.Spot.{Spot}
-use Rattle.dir_model.specs.declared.tree.TreeNode.TheVariants.{Dir, Piece}
+use Rattle.dir_model.specs.declared.tree.TreeNode.TheVariants.{Piece}
 use Rattle.dir_rules.specs.declared.seen.Entry.{Entry}
 use Rattle.dir_rules.specs.declared.seen.Making.{Making}
 use Rattle.dir_rules.specs.declared.seen.Seen.{Seen}
@@ -16,7 +16,7 @@ use Rattle.dir_trait.specs.Knowledge.{Knows}
 use Rattle.tree_digest.specs.declared.file_check.FileCheck.{FileCheck}
 use Rattle.tree_digest.specs.FileChecks.{HasTaken}
 use Rattle.folder_building.specs.declared.plan.PlanEntry.{PlanEntry}
-use Rattle.folder_building.specs.Plans.{is_file, are_in_turn, pieces_at, is_at, is_owed, IsMadeOf, AreMade, IsBegun}
+use Rattle.folder_building.specs.Plans.{is_file, are_in_turn, is_at, is_owed, IsMadeOf, AreMade, IsBegun}
 use Rattle.folder_building.specs.Sources.{SourceAt}
 
 abbrev pub inner_at : Spot → List ℕ → Inner
@@ -64,6 +64,12 @@ pub record Writes (observed : Bool) (spot : Spot) (path bytes : List ℕ) (old n
   pub pieces : List (List ℕ)
   pub whole : concat pieces ≡ bytes
   pub appends : observed ≡ true → Appends spot path pieces old new
+
+-- all but the rest of the bytes
+pub record WritesBut (observed : Bool) (spot : Spot) (path bytes rest : List ℕ) (old new : DirAt) : Type 0 where
+  pub begun : List ℕ
+  pub whole : begun ++ rest ≡ bytes
+  pub writes : Writes observed spot path begun old new
 
 -- under the locks that a source asks for, these pieces were appended to a file
 abbrev pub AppendsUnder : SourceAt → Spot → List ℕ → List (List ℕ) → DirAt → DirAt → Type 0

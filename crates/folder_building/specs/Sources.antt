@@ -1,10 +1,18 @@
 -- What files are copied from, at a moment.
-use Rattle.std.specs.Prelude.{◌≡◌, ◌≤◌, ℕ, Bool, true}
+use Rattle.std.specs.Prelude.{◌≡◌, ◌≤◌, ℕ, ◌-◌, min, Bool, true, false, ◌||◌, Option, Some, None, List, ◌∷◌, ◌++◌, length, take, drop}
+use Rattle.sha2.specs.Sha512.{sha512}
+use Rattle.dir_model.specs.declared.area.Area.TheVariants.{Images}
 use Rattle.dir_model.specs.declared.request.Request.{Request}
+use Rattle.dir_model.specs.declared.request.Request.TheVariants.{ReadIn}
 use Rattle.dir_rules.specs.declared.standing.Standing.{Standing}
 use Rattle.dir_rules.specs.declared.seen.Seen.{Seen}
+use Rattle.dir_rules.specs.Standing.{is_in, holds_gate, closes_gate}
 use Rattle.dir_trait.specs.DirCalls.{DirAt}
 use Rattle.dir_trait.specs.Knowledge.{Knows}
+use Rattle.folder_building.specs.declared.plan.Origin.{Origin}
+use Rattle.folder_building.specs.declared.plan.PlanEntry.{PlanEntry}
+use Rattle.folder_building.specs.declared.plan.Content.{Content}
+use Rattle.folder_building.specs.declared.plan.Content.TheVariants.{Directory, Given, Copied}
 
 pub record SourceAt : Type 0 where
   -- how often it failed
@@ -13,13 +21,63 @@ pub record SourceAt : Type 0 where
   pub asks : Request → Bool
   -- the locks under which it may
   pub may : Standing → Bool
+  -- whether it tells what stands in it
+  pub told : Bool
+  -- the bytes of each file
+  pub file : Origin → Option (List ℕ)
 
 -- one read more
 pub record Same (old new : SourceAt) : Type 0 where
   pub faults : old.faults ≤ new.faults
   pub asks : new.asks ≡ old.asks
   pub may : new.may ≡ old.may
+  pub told : new.told ≡ old.told
+  pub file : old.told ≡ true → new.file ≡ old.file
+
+-- n bytes of the room are those of the file from a place on, as many as the room takes
+pub record IsRead (bytes : List ℕ) (at size n : ℕ) (room : List ℕ) : Type 0 where
+  pub count : n ≡ min size (length bytes - at)
+  pub piece : take n room ≡ take n (drop at bytes)
+
+-- what was read of a file
+abbrev pub Reads : SourceAt → Origin → ℕ → ℕ → ℕ → List ℕ → Type 0
+Reads source origin at size n room = source.told ≡ true → (bytes : List ℕ) → source.file origin ≡ Some bytes → IsRead bytes at size n room
+
+-- it has no such file
+abbrev pub IsMissing : SourceAt → Origin → Type 0
+IsMissing source origin = source.told ≡ true → source.file origin ≡ None
+
+-- no file of at most this size stands there
+abbrev pub IsLonger : SourceAt → Origin → ℕ → Type 0
+IsLonger source origin size = source.told ≡ true → (bytes : List ℕ) → source.file origin ≡ Some bytes → length bytes ≤ size → ⊥
+
+-- no file of this size and SHA-512 stands there
+abbrev pub IsUnlike : SourceAt → Origin → ℕ → List ℕ → Type 0
+IsUnlike source origin size sha = source.told ≡ true → (bytes : List ℕ) → source.file origin ≡ Some bytes → length bytes ≡ size → sha512 bytes ≡ sha → ⊥
+
+-- an entry's file is not what the plan asks for
+abbrev pub UnlikeContent : SourceAt → Content → Type 0
+UnlikeContent source Directory = ⊥
+UnlikeContent source (Given bytes) = ⊥
+UnlikeContent source (Copied origin size sha) = IsUnlike source origin size sha
+
+-- the file of the entry with this number
+pub record UnlikeAt (source : SourceAt) (plan : List PlanEntry) (n : ℕ) : Type 0 where
+  pub before : List PlanEntry
+  pub entry : PlanEntry
+  pub rest : List PlanEntry
+  pub is : plan ≡ before ++ entry ∷ rest
+  pub place : length before ≡ n
+  pub unlike : UnlikeContent source entry.content
 
 -- under those locks a process knows after it what it knew
 abbrev pub ReadsOn : SourceAt → DirAt → DirAt → Type 0
 ReadsOn source old new = (s : Seen) → source.may s.standing ≡ true → Knows old s → Knows new s
+
+-- reads in images, under their lock
+abbrev pub reads_images : Request → Bool
+reads_images (ReadIn inner at room) = is_in Images inner.spot.area
+reads_images _ = false
+
+abbrev pub may_read_images : Standing → Bool
+may_read_images s = holds_gate Images s || closes_gate Images s

@@ -1,10 +1,10 @@
 // A plan carried out in the folder that this process makes.
-ghost use Rattle.std.specs.Prelude.{◌≡◌, true, false, IfOk, IfErr, IsErrOf};
+ghost use Rattle.std.specs.Prelude.{◌≡◌, ℕ, true, false, IfOk, IfErr, IsErrOf};
 ghost use Rattle.dir_trait.specs.Causes.{Rose};
 ghost use Rattle.dir_trait.specs.Paths.{is_path};
 ghost use Rattle.dir_trait.specs.Local.{IsActive};
 ghost use Rattle.folder_building.specs.Work.{Worked, EndsStray, builds_at, either};
-ghost use Rattle.folder_building.specs.Sources.{Same};
+ghost use Rattle.folder_building.specs.Sources.{Same, IsUnlike, UnlikeContent, UnlikeAt};
 ghost use Rattle.folder_building.specs.Making.{Adds, Tries, FillsWith, Begins, CarriesOut};
 ghost use Rattle.folder_building.specs.Changes.{Makes, Refuses, Syncs, Unsyncs, Gives, Takes, TriesFile, TriesUnder, SyncsAll, UnsyncsAll};
 ghost use Rattle.folder_building.specs.Plans.{is_plan, has_origin};
@@ -17,16 +17,12 @@ use dir_trait::{Dir, Spot};
 use std::alloc::Global;
 
 // Makes a directory.
-fn make_dir<D: Dir>(
-    alloc: Global,
-    dir: &mut D,
-    spot: &Spot,
-    path: &str,
-) -> Result<(), BuildError>
+fn make_dir<D: Dir>(alloc: Global, dir: &mut D, spot: &Spot, path: &str) -> Result<(), BuildError>
     requires active { IsActive (D.shown dir.old).local }
     requires path { is_path path.now ≡ true }
     ensures fault { IsErrOf result BuildError.DirFault → Rose (D.shown dir.old).faults (D.shown dir.new).faults }
     ensures never { IfErr result (λ e. e ≡ BuildError.SourceFault → ⊥) }
+    ensures plain { (n : ℕ) → IsErrOf result (BuildError.Unlike n) → ⊥ }
     ensures worked { Worked D.observed (builds_at spot.now) (D.shown dir.old) (D.shown dir.new) }
     ensures stray { IsErrOf result BuildError.Stray → D.observed ≡ true
         → EndsStray (builds_at spot.now) (D.shown dir.old) (D.shown dir.new) }
@@ -41,16 +37,12 @@ fn make_dir<D: Dir>(
 }
 
 // Makes an empty file.
-fn make_file<D: Dir>(
-    alloc: Global,
-    dir: &mut D,
-    spot: &Spot,
-    path: &str,
-) -> Result<(), BuildError>
+fn make_file<D: Dir>(alloc: Global, dir: &mut D, spot: &Spot, path: &str) -> Result<(), BuildError>
     requires active { IsActive (D.shown dir.old).local }
     requires path { is_path path.now ≡ true }
     ensures fault { IsErrOf result BuildError.DirFault → Rose (D.shown dir.old).faults (D.shown dir.new).faults }
     ensures never { IfErr result (λ e. e ≡ BuildError.SourceFault → ⊥) }
+    ensures plain { (n : ℕ) → IsErrOf result (BuildError.Unlike n) → ⊥ }
     ensures worked { Worked D.observed (builds_at spot.now) (D.shown dir.old) (D.shown dir.new) }
     ensures stray { IsErrOf result BuildError.Stray → D.observed ≡ true
         → EndsStray (builds_at spot.now) (D.shown dir.old) (D.shown dir.new) }
@@ -70,6 +62,7 @@ fn sync<D: Dir>(alloc: Global, dir: &mut D, spot: &Spot, path: &str) -> Result<(
     requires path { is_path path.now ≡ true }
     ensures fault { IsErrOf result BuildError.DirFault → Rose (D.shown dir.old).faults (D.shown dir.new).faults }
     ensures never { IfErr result (λ e. e ≡ BuildError.SourceFault → ⊥) }
+    ensures plain { (n : ℕ) → IsErrOf result (BuildError.Unlike n) → ⊥ }
     ensures worked { Worked D.observed (builds_at spot.now) (D.shown dir.old) (D.shown dir.new) }
     ensures stray { IsErrOf result BuildError.Stray → D.observed ≡ true
         → EndsStray (builds_at spot.now) (D.shown dir.old) (D.shown dir.new) }
@@ -95,6 +88,7 @@ fn add_given<D: Dir>(
     requires path { is_path path.now ≡ true }
     ensures fault { IsErrOf result BuildError.DirFault → Rose (D.shown dir.old).faults (D.shown dir.new).faults }
     ensures never { IfErr result (λ e. e ≡ BuildError.SourceFault → ⊥) }
+    ensures plain { (n : ℕ) → IsErrOf result (BuildError.Unlike n) → ⊥ }
     ensures worked { Worked D.observed (builds_at spot.now) (D.shown dir.old) (D.shown dir.new) }
     ensures stray { IsErrOf result BuildError.Stray → D.observed ≡ true
         → EndsStray (builds_at spot.now) (D.shown dir.old) (D.shown dir.new) }
@@ -122,6 +116,7 @@ fn add_copied<D: Dir, S: Source>(
     requires origin { is_path origin.now.path ≡ true }
     ensures fault { IsErrOf result BuildError.DirFault → Rose (D.shown dir.old).faults (D.shown dir.new).faults }
     ensures source { IsErrOf result BuildError.SourceFault → Rose (S.shown source.old).faults (S.shown source.new).faults }
+    ensures unlike { (n : ℕ) → IsErrOf result (BuildError.Unlike n) → (n ≡ place) × IsUnlike (S.shown source.old) origin.now size sha }
     ensures same { Same (S.shown source.old) (S.shown source.new) }
     ensures worked { Worked D.observed (either (builds_at spot.now) (S.shown source.old).asks) (D.shown dir.old) (D.shown dir.new) }
     ensures stray { IsErrOf result BuildError.Stray → D.observed ≡ true
@@ -147,6 +142,7 @@ fn add<D: Dir, S: Source>(
     requires origin { has_origin entry.now.content ≡ true }
     ensures fault { IsErrOf result BuildError.DirFault → Rose (D.shown dir.old).faults (D.shown dir.new).faults }
     ensures source { IsErrOf result BuildError.SourceFault → Rose (S.shown source.old).faults (S.shown source.new).faults }
+    ensures unlike { (n : ℕ) → IsErrOf result (BuildError.Unlike n) → (n ≡ place) × UnlikeContent (S.shown source.old) entry.now.content }
     ensures same { Same (S.shown source.old) (S.shown source.new) }
     ensures worked { Worked D.observed (either (builds_at spot.now) (S.shown source.old).asks) (D.shown dir.old) (D.shown dir.new) }
     ensures stray { IsErrOf result BuildError.Stray → D.observed ≡ true
@@ -176,6 +172,7 @@ fn add_all<D: Dir, S: Source>(
     requires plan { is_plan plan.now ≡ true }
     ensures fault { IsErrOf result BuildError.DirFault → Rose (D.shown dir.old).faults (D.shown dir.new).faults }
     ensures source { IsErrOf result BuildError.SourceFault → Rose (S.shown source.old).faults (S.shown source.new).faults }
+    ensures unlike { (n : ℕ) → IsErrOf result (BuildError.Unlike n) → UnlikeAt (S.shown source.old) plan.now n }
     ensures same { Same (S.shown source.old) (S.shown source.new) }
     ensures worked { Worked D.observed (either (builds_at spot.now) (S.shown source.old).asks) (D.shown dir.old) (D.shown dir.new) }
     ensures stray { IsErrOf result BuildError.Stray → D.observed ≡ true
@@ -183,8 +180,10 @@ fn add_all<D: Dir, S: Source>(
     ensures done { IfOk result (λ done. FillsWith D.observed (S.shown source.old) spot.now plan.now plan.now (D.shown dir.old) (D.shown dir.new)) }
     ensures refused { IfErr result (λ e. D.observed ≡ true → Begins (S.shown source.old) spot.now plan.now (D.shown dir.old) (D.shown dir.new)) }
 {
-    'entries: for place in 0..plan.len() {
-        add(alloc, dir, source, spot, &plan[place], place)?;
+    let mut place = 0;
+    'entries: for entry in plan {
+        add(alloc, dir, source, spot, entry, place)?;
+        place += 1;
     }
     Ok(())
 }
@@ -200,6 +199,7 @@ fn sync_all<D: Dir>(
     requires plan { is_plan plan.now ≡ true }
     ensures fault { IsErrOf result BuildError.DirFault → Rose (D.shown dir.old).faults (D.shown dir.new).faults }
     ensures never { IfErr result (λ e. e ≡ BuildError.SourceFault → ⊥) }
+    ensures plain { (n : ℕ) → IsErrOf result (BuildError.Unlike n) → ⊥ }
     ensures worked { Worked D.observed (builds_at spot.now) (D.shown dir.old) (D.shown dir.new) }
     ensures stray { IsErrOf result BuildError.Stray → D.observed ≡ true
         → EndsStray (builds_at spot.now) (D.shown dir.old) (D.shown dir.new) }
@@ -229,6 +229,7 @@ pub fn carry_out<D: Dir, S: Source>(
     requires plan { is_plan plan.now ≡ true }
     ensures fault { IsErrOf result BuildError.DirFault → Rose (D.shown dir.old).faults (D.shown dir.new).faults }
     ensures source { IsErrOf result BuildError.SourceFault → Rose (S.shown source.old).faults (S.shown source.new).faults }
+    ensures unlike { (n : ℕ) → IsErrOf result (BuildError.Unlike n) → UnlikeAt (S.shown source.old) plan.now n }
     ensures same { Same (S.shown source.old) (S.shown source.new) }
     ensures worked { Worked D.observed (either (builds_at spot) (S.shown source.old).asks) (D.shown dir.old) (D.shown dir.new) }
     ensures stray { IsErrOf result BuildError.Stray → D.observed ≡ true

@@ -1,11 +1,11 @@
 // The bytes of a file that is made: given, or copied in pieces.
-ghost use Rattle.std.specs.Prelude.{◌≡◌, ◌≤◌, ℕ, true, List, [], ◌∷◌, ◌++◌, length, take, IfOk, IfErr, IsErrOf};
+ghost use Rattle.std.specs.Prelude.{◌≡◌, ◌≤◌, ◌+◌, ℕ, true, List, [], ◌∷◌, ◌++◌, length, take, IfOk, IfErr, IsErrOf};
 ghost use Rattle.dir_trait.specs.Causes.{Rose};
 ghost use Rattle.dir_trait.specs.Paths.{is_path};
 ghost use Rattle.dir_trait.specs.Local.{IsActive};
 ghost use Rattle.folder_building.specs.Work.{Worked, EndsStray, builds_at, either};
 ghost use Rattle.tree_digest.specs.FileChecks.{HasTaken};
-ghost use Rattle.folder_building.specs.Sources.{Same, ReadsOn};
+ghost use Rattle.folder_building.specs.Sources.{Same, ReadsOn, Reads, IsLonger, IsUnlike};
 ghost use Rattle.folder_building.specs.Making.{Appends, Writes, CopiesOn, Copies, Spoils, SpoilsUnder};
 
 use crate::error::{BuildError, build_error};
@@ -30,6 +30,7 @@ fn append<D: Dir>(
     requires path { is_path path.now ≡ true }
     ensures fault { IsErrOf result BuildError.DirFault → Rose (D.shown dir.old).faults (D.shown dir.new).faults }
     ensures never { IfErr result (λ e. e ≡ BuildError.SourceFault → ⊥) }
+    ensures plain { (n : ℕ) → IsErrOf result (BuildError.Unlike n) → ⊥ }
     ensures worked { Worked D.observed (builds_at spot.now) (D.shown dir.old) (D.shown dir.new) }
     ensures stray { IsErrOf result BuildError.Stray → D.observed ≡ true → EndsStray (builds_at spot.now) (D.shown dir.old) (D.shown dir.new) }
     ensures done { IfOk result (λ done. D.observed ≡ true → Appends spot.now path.now (piece.now ∷ []) (D.shown dir.old) (D.shown dir.new)) }
@@ -54,16 +55,17 @@ pub fn write<D: Dir>(
     requires path { is_path path.now ≡ true }
     ensures fault { IsErrOf result BuildError.DirFault → Rose (D.shown dir.old).faults (D.shown dir.new).faults }
     ensures never { IfErr result (λ e. e ≡ BuildError.SourceFault → ⊥) }
+    ensures plain { (n : ℕ) → IsErrOf result (BuildError.Unlike n) → ⊥ }
     ensures worked { Worked D.observed (builds_at spot.now) (D.shown dir.old) (D.shown dir.new) }
     ensures stray { IsErrOf result BuildError.Stray → D.observed ≡ true → EndsStray (builds_at spot.now) (D.shown dir.old) (D.shown dir.new) }
     ensures done { IfOk result (λ done. Writes D.observed spot.now path.now bytes.now (D.shown dir.old) (D.shown dir.new)) }
     ensures refused { IfErr result (λ e. D.observed ≡ true → Spoils spot.now path.now (D.shown dir.old) (D.shown dir.new)) }
 {
-    let mut rest = bytes;
-    'pieces: while !rest.is_empty() {
-        let count = rest.len().min(PIECE);
-        append(alloc, dir, spot, path, &rest[..count])?;
-        rest = &rest[count..];
+    let mut at = 0;
+    'pieces: while at < bytes.len() {
+        let end = at + PIECE.min(bytes.len() - at);
+        append(alloc, dir, spot, path, &bytes[at..end])?;
+        at = end;
     }
     Ok(())
 }
@@ -72,7 +74,7 @@ fn source_error(error: SourceError, place: usize) -> BuildError
     ensures source { result ≡ BuildError.SourceFault → error ≡ SourceError.Failed }
     ensures fault { result ≡ BuildError.DirFault → error ≡ SourceError.DirFault }
     ensures stray { result ≡ BuildError.Stray → ⊥ }
-    ensures unlike { (n : ℕ) → result ≡ BuildError.Unlike n → n ≡ place }
+    ensures unlike { (n : ℕ) → result ≡ BuildError.Unlike n → (n ≡ place) × (error ≡ SourceError.Missing) }
 {
     match error {
         SourceError::Missing => BuildError::Unlike(place),
@@ -108,7 +110,10 @@ fn take_piece<D: Dir, S: Source>(
     ensures same { Same (S.shown source.old) (S.shown source.new) }
     ensures worked { Worked D.observed (S.shown source.old).asks (D.shown dir.old) (D.shown dir.new) }
     ensures known { D.observed ≡ true → ReadsOn (S.shown source.old) (D.shown dir.old) (D.shown dir.new) }
-    ensures most { IfOk result (λ count. count ≤ length room.old) }
+    ensures room { length room.new ≡ length room.old }
+    ensures unlike { (n : ℕ) → IsErrOf result (BuildError.Unlike n) → (n ≡ place) × IsLonger (S.shown source.old) origin.now (at + left) }
+    ensures read { IfOk result (λ count. Reads (S.shown source.old) origin.now at (length room.old) count room.new) }
+    ensures most { IfOk result (λ count. count ≤ length room.new) }
     ensures left { IfOk result (λ count. count ≤ left) }
     ensures taken { IfOk result (λ count. (size : ℕ) (sha message : List ℕ)
         → HasTaken check.old size sha message → HasTaken check.new size sha (message ++ take count room.new)) }
@@ -147,8 +152,13 @@ fn copy_piece<D: Dir, S: Source>(
     ensures worked { Worked D.observed (either (builds_at spot.now) (S.shown source.old).asks) (D.shown dir.old) (D.shown dir.new) }
     ensures stray { IsErrOf result BuildError.Stray → D.observed ≡ true
         → EndsStray (either (builds_at spot.now) (S.shown source.old).asks) (D.shown dir.old) (D.shown dir.new) }
-    ensures most { IfOk result (λ count. count ≤ length room.old) }
+    ensures room { length room.new ≡ length room.old }
+    ensures unlike { (n : ℕ) → IsErrOf result (BuildError.Unlike n) → (n ≡ place) × IsLonger (S.shown source.old) origin.now (at + left) }
+    ensures read { IfOk result (λ count. Reads (S.shown source.old) origin.now at (length room.old) count room.new) }
+    ensures most { IfOk result (λ count. count ≤ length room.new) }
     ensures left { IfOk result (λ count. count ≤ left) }
+    ensures taken { IfOk result (λ count. (size : ℕ) (sha message : List ℕ)
+        → HasTaken check.old size sha message → HasTaken check.new size sha (message ++ take count room.new)) }
     ensures done { IfOk result (λ count. CopiesOn D.observed (S.shown source.old) spot.now path.now count check.old check.new (D.shown dir.old) (D.shown dir.new)) }
     ensures refused { IfErr result (λ e. D.observed ≡ true → SpoilsUnder (S.shown source.old) spot.now path.now (D.shown dir.old) (D.shown dir.new)) }
 {
@@ -177,6 +187,7 @@ pub fn copy<D: Dir, S: Source>(
     requires origin { is_path origin.now.path ≡ true }
     ensures fault { IsErrOf result BuildError.DirFault → Rose (D.shown dir.old).faults (D.shown dir.new).faults }
     ensures source { IsErrOf result BuildError.SourceFault → Rose (S.shown source.old).faults (S.shown source.new).faults }
+    ensures unlike { (n : ℕ) → IsErrOf result (BuildError.Unlike n) → (n ≡ place) × IsUnlike (S.shown source.old) origin.now size sha }
     ensures same { Same (S.shown source.old) (S.shown source.new) }
     ensures worked { Worked D.observed (either (builds_at spot.now) (S.shown source.old).asks) (D.shown dir.old) (D.shown dir.new) }
     ensures stray { IsErrOf result BuildError.Stray → D.observed ≡ true
@@ -190,7 +201,17 @@ pub fn copy<D: Dir, S: Source>(
     let mut more = true;
     'pieces: while more {
         let count = copy_piece(
-            alloc, dir, source, spot, path, origin, place, at, size - at, &mut room, &mut check,
+            alloc,
+            dir,
+            source,
+            spot,
+            path,
+            origin,
+            place,
+            at,
+            size - at,
+            &mut room,
+            &mut check,
         )?;
         at += count as u64;
         more = count == PIECE;

@@ -3,12 +3,16 @@
 #![tactic(auto)]
 
 mod build;
+mod bundle_source;
 mod copy;
 mod error;
 mod plan;
 mod source;
+mod store_source;
 
 pub use build::carry_out;
+pub use bundle_source::BundleSource;
 pub use error::BuildError;
 pub use plan::{Content, Origin, PlanEntry};
 pub use source::{Source, SourceError};
+pub use store_source::StoreSource;

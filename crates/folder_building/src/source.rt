@@ -4,7 +4,7 @@ ghost use Rattle.dir_trait.specs.Causes.{Rose};
 ghost use Rattle.dir_trait.specs.Paths.{is_path};
 ghost use Rattle.dir_trait.specs.Local.{IsActive};
 ghost use Rattle.folder_building.specs.Work.{Worked};
-ghost use Rattle.folder_building.specs.Sources.{Same, ReadsOn};
+ghost use Rattle.folder_building.specs.Sources.{Same, ReadsOn, IsMissing, Reads};
 
 use crate::plan::Origin;
 use dir_trait::Dir;
@@ -27,8 +27,8 @@ pub enum SourceError {
 pub trait Source {
     ghost use Rattle.folder_building.specs.Sources.{SourceAt};
 
-    /// What it shows at a moment: how often it failed, what it asks the data folder for, and under which
-    /// locks it may.
+    /// What it shows at a moment: how often it failed, what it asks the data folder for and under which
+    /// locks it may, and where it tells them the bytes of its files.
     ghost shown: { Self → SourceAt };
 
     /// Fills the room with the bytes of a file, from byte `at` on, and answers how many it filled: fewer
@@ -46,6 +46,8 @@ pub trait Source {
         ensures fault { IsErrOf result SourceError.DirFault → Rose (D.shown dir.old).faults (D.shown dir.new).faults }
         ensures cause { IsErrOf result SourceError.Failed → Rose (shown self.old).faults (shown self.new).faults }
         ensures most { IfOk result (λ n. n ≤ length room.old) }
+        ensures missing { IsErrOf result SourceError.Missing → IsMissing (shown self.old) origin.now }
+        ensures read { IfOk result (λ n. Reads (shown self.old) origin.now at (length room.old) n room.new) }
         ensures same { Same (shown self.old) (shown self.new) }
         ensures worked { Worked D.observed (shown self.old).asks (D.shown dir.old) (D.shown dir.new) }
         ensures known { D.observed ≡ true → ReadsOn (shown self.old) (D.shown dir.old) (D.shown dir.new) };

@@ -1,0 +1,22 @@
+use Rattle.std.proofs.Common.{◌≡◌, ◌≤◌, ◌+◌, ◌-◌, cond, vec_len}
+use Rattle.folder_building.specs.Work.{Worked, builds_at, either}
+use Rattle.folder_building.specs.Sources.{Same}
+use Rattle.folder_building.specs.Making.{CopiesOn}
+use Rattle.folder_building.proofs.Copying.{Front}
+use Rattle.folder_building.proofs.copy.copy.Given as goal
+
+abbrev pub invariant-pieces : goal.invariant-pieces
+invariant-pieces g l =
+    let D = g.D.Dir in
+    let S = g.S.Source in
+    record {
+      same : Same (S.shown l.fn.source) (S.shown l.source);
+      worked : Worked D.observed (either (builds_at l.spot) (S.shown l.fn.source).asks) (D.shown l.fn.dir) (D.shown l.dir);
+      within : l.at ≤ l.size;
+      room : vec_len l.room ≡ 65536;
+      front : Front (S.shown l.fn.source) l.origin l.more l.check l.size l.fn.sha l.at;
+      copied : CopiesOn D.observed (S.shown l.fn.source) l.spot l.path l.at l.initial.check l.check (D.shown l.fn.dir) (D.shown l.dir);
+    }
+
+abbrev pub decreases-pieces : goal.decreases-pieces
+decreases-pieces g l = (l.size - l.at) + cond l.more 1 0

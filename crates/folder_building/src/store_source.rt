@@ -1,0 +1,49 @@
+// Files of the images in the data folder.
+ghost use Rattle.std.specs.Prelude.{◌≡◌};
+
+use crate::plan::Origin;
+use crate::source::{Source, SourceError};
+use dir_trait::{Area, Dir, DirError, Spot};
+use std::alloc::Global;
+
+/// The files of the store's images. An origin names the image's folder. Whoever reads them holds the
+/// lock of images.
+pub struct StoreSource;
+
+fn store_error(error: DirError) -> SourceError
+    ensures fault { result ≡ SourceError.DirFault → error ≡ DirError.Failed }
+    ensures never { result ≡ SourceError.Failed → ⊥ }
+{
+    match error {
+        DirError::Failed => SourceError::DirFault,
+        DirError::NoMemory => SourceError::NoMemory,
+        _ => SourceError::Missing,
+    }
+}
+
+impl Source for StoreSource {
+    ghost use Rattle.folder_building.specs.Sources.{SourceAt};
+    ghost use Rattle.std.specs.Prelude.{false, None};
+    ghost use Rattle.folder_building.specs.Sources.{reads_images, may_read_images};
+
+    ghost shown = { λ s. record { faults = 0; asks = reads_images; may = may_read_images; told = false; file = λ o. None } };
+
+    fn read<D: Dir>(
+        &mut self,
+        alloc: Global,
+        dir: &mut D,
+        origin: &Origin,
+        at: u64,
+        room: &mut [u8],
+    ) -> Result<usize, SourceError> {
+        let Some(name) = origin.folder else {
+            return Err(SourceError::Missing);
+        };
+        let spot = Spot {
+            area: Area::Images,
+            name,
+        };
+        dir.read_in(alloc, spot, origin.path.as_str(), at, room)
+            .map_err(store_error)
+    }
+}
