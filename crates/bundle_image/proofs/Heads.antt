@@ -1,5 +1,5 @@
 -- What the first bytes of a file tell of the whole file.
-use Rattle.std.proofs.Common.{arith, ◌≡◌, ◌⊎◌, inl, inr, ◌≤◌, ◌<◌, ◌+◌, ◌*◌, ℕ, Bool, true, false, cond, ◌&&◌, ◌==◌, eqb, nat_le, List, [], ◌∷◌, ◌++◌, length, take, get_or, Option, None, Some, IsSomeAnd, codes, refl, sym, ap, subst, ◌∙◌, ⊎_elim, length-append}
+use Rattle.std.proofs.Common.{arith, ◌≡◌, ◌⊎◌, inl, inr, ◌<◌, ◌+◌, ℕ, Bool, true, false, eqb, nat_le, List, [], ◌∷◌, ◌++◌, length, take, get_or, Option, None, Some, IsSomeAnd, codes, refl, sym, ap, subst, ◌∙◌, ⊎_elim, length-append}
 use Rattle.std.specs.Prelude.{IsUtf8, nat_lt}
 use Rattle.std.specs.List.{list_all}
 use Rattle.std.specs.Str.{IsAscii}
@@ -9,12 +9,11 @@ use Rattle.std.proofs.lemmas.Grind.{common_steps}
 use Rattle.std.proofs.lemmas.List.{take_at, get_or_at, take_more, take_all}
 use Rattle.std.proofs.lemmas.Str.{IsUtf8-from_ascii, IsAscii-append}
 use Rattle.std.proofs.lemmas.Str.Ascii.{IsAscii-nil, IsAscii-cons}
-use Rattle.hex.specs.Hex.{encode_lower, encode_with, lower_digits}
+use Rattle.hex.specs.Hex.{encode_with, lower_digits}
 use Rattle.hex.proofs.HexLemmas.{length-encode_with, IsAscii-encode_with}
-use Rattle.ac_types.specs.declared.fault.FaultKind.{FaultKind}
 use Rattle.ac_types.specs.declared.fault.FaultKind.TheVariants.{TooLong}
 use Rattle.ac_types.specs.Ids.{id_text, AreBytes}
-use Rattle.ac_types.specs.Outcomes.{Outcome, reads, fails}
+use Rattle.ac_types.specs.Outcomes.{reads, fails}
 use Rattle.manifest_parts.specs.DocumentForm.{document}
 use Rattle.manifests.specs.ImageData.{ImageData, image_data}
 use Rattle.manifests.specs.ImageForm.{image_manifest}

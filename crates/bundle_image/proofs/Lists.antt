@@ -1,5 +1,5 @@
 -- What a bundle's listing tells of a directory below the root.
-use Rattle.std.proofs.Common.{arith, ◌≡◌, ◌<◌, ◌+◌, ℕ, suc, Bool, true, false, cond, eqb, List, [], ◌∷◌, ◌++◌, length, get_or, Some, IsSome, refl, sym, ap, subst, ◌∙◌, append_assoc, length-append}
+use Rattle.std.proofs.Common.{arith, ◌≡◌, ◌<◌, ℕ, suc, eqb, List, [], ◌∷◌, ◌++◌, length, Some, IsSome, sym, ap, subst, ◌∙◌, append_assoc, length-append}
 use Rattle.std.specs.List.{All, AllByRecursion}
 use Rattle.std.proofs.lemmas.Bool.{ne_eqb, cond-false}
 use Rattle.dir_trait.specs.declared.bundle.BundleItem.{BundleItem}

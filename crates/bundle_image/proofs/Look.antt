@@ -1,5 +1,5 @@
 -- What stands at a path among the lines of a walk.
-use Rattle.std.proofs.Common.{◌≡◌, ◌≢◌, ℕ, Bool, true, false, cond, List, [], ◌∷◌, ◌++◌, Option, Some, None, IsSome, nat_cmp, sym, refl, ap, subst, ◌∙◌, ◌⊎◌, inl, inr, ⊎_elim}
+use Rattle.std.proofs.Common.{◌≡◌, ◌≢◌, ℕ, true, false, cond, List, [], ◌∷◌, ◌++◌, Some, None, IsSome, nat_cmp, sym, refl, ap, subst, ◌∙◌, inl, inr, ⊎_elim}
 use Rattle.std.specs.Cmp.Lexicographic.{slice_cmp}
 use Rattle.std.specs.List.{AllByRecursion}
 use Rattle.std.specs.BTreeMap.{is_at}

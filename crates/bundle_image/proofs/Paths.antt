@@ -1,10 +1,9 @@
 -- The order in which a walk comes to paths.
-use Rattle.std.proofs.Common.{◌≡◌, ◌≢◌, ℕ, suc, true, false, eqb, ◌||◌, List, [], ◌∷◌, ◌++◌, length, get_or, ◌<◌, ◌+◌, sym, refl, ap, subst, ◌∙◌, ◌⊎◌, inl, inr, ⊎_elim, arith, append_assoc, append-nil, length-append, nat_cmp, Less}
-use Rattle.std.specs.List.{AllByRecursion, All, AllPass, list_any}
+use Rattle.std.proofs.Common.{◌≡◌, ℕ, List, [], ◌∷◌, ◌++◌, length, sym, refl, ap, ◌∙◌, ◌⊎◌, inl, inr, arith, append_assoc, append-nil, length-append, nat_cmp, Less}
 use Rattle.std.specs.Cmp.Lexicographic.{slice_cmp}
-use Rattle.std.proofs.lemmas.Bool.{or_parts, or_from, eq-eqb, both_ways, and_parts, not-true}
+use Rattle.std.proofs.lemmas.Bool.{or_parts, eq-eqb, both_ways, and_parts, not-true}
 use Rattle.dir_model.proofs.Lists.{same_rest}
-use Rattle.dir_model.specs.Names.{IsFileName, is_file_byte}
+use Rattle.dir_model.specs.Names.{IsFileName}
 use Rattle.path_map.specs.Paths.{HasNone}
 use Rattle.path_map.proofs.Ends.{none_from_places}
 use Rattle.tree_digest.proofs.MapLines.{differ_if_less}

@@ -1,10 +1,8 @@
 -- What was read of a file or of a link, and what stands there.
-use Rattle.std.proofs.Common.{arith, ◌≡◌, ◌⊎◌, inl, inr, ◌≤◌, ◌<◌, ◌+◌, ◌-◌, ℕ, Bool, true, false, min, List, [], ◌++◌, length, take, drop, refl, sym, ap, subst, ◌∙◌, Option, Some, None, IsSomeAnd, ⊎_elim, length-append, length-take, length-drop}
+use Rattle.std.proofs.Common.{arith, ◌≡◌, inl, inr, ◌≤◌, ◌<◌, ℕ, Bool, true, List, length, take, ap, subst, ◌∙◌, Option, Some, None, IsSomeAnd, ⊎_elim}
 use Rattle.std.proofs.lemmas.Bool.{cases_lt}
 use Rattle.std.proofs.lemmas.Grind.{common_steps}
-use Rattle.sha2.specs.Sha512.{sha512}
 use Rattle.dir_trait.specs.Bundles.{Fills}
-use Rattle.tree_digest.specs.Fields.{IsTarget}
 use Rattle.bundle_read.specs.Fronts.{IsBegun, IsFront}
 use Rattle.bundle_image.specs.declared.file_sum.FileSum.{FileSum}
 use Rattle.bundle_image.specs.FileSums.{IsSumOf}

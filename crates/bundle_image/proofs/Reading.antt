@@ -1,5 +1,5 @@
 -- Calls of a bundle, one after the other.
-use Rattle.std.proofs.Common.{◌≡◌, ◌≤◌, ◌+◌, ◌-◌, ◌^◌, min, ℕ, Bool, true, List, [], ◌++◌, sym, refl, ap, subst, ◌∙◌, append_assoc, append-nil, arith}
+use Rattle.std.proofs.Common.{◌≡◌, ◌≤◌, ℕ, Bool, true, List, [], ◌++◌, sym, refl, ap, ◌∙◌, append_assoc, append-nil, arith}
 use Rattle.dir_model.proofs.Lists.{all_both, all_weaker}
 use Rattle.dir_model.specs.Causes.{Rose}
 use Rattle.dir_trait.specs.declared.bundle.BundleRequest.{BundleRequest}

@@ -1,7 +1,6 @@
 -- The entries that are still to come, the next one last.
-use Rattle.std.proofs.Common.{◌≡◌, ℕ, zero, suc, ◌<◌, Bool, true, List, [], ◌∷◌, ◌++◌, length, get_or, map, reverse, Option, Some, None, IsSome, sym, refl, ap, subst, ◌∙◌, ◌⊎◌, inl, inr, ⊎_elim, arith, append_assoc, nat_cmp, Less}
-use Rattle.std.specs.List.{AllByRecursion, All, Contains}
-use Rattle.std.specs.List.Sorted.{IsStrictlySortedBy}
+use Rattle.std.proofs.Common.{◌≡◌, ℕ, zero, suc, ◌<◌, List, [], ◌∷◌, ◌++◌, length, get_or, map, reverse, sym, subst, ◌⊎◌, inl, inr, ⊎_elim, arith, nat_cmp, Less}
+use Rattle.std.specs.List.{AllByRecursion, Contains}
 use Rattle.std.specs.Cmp.Lexicographic.{slice_cmp}
 use Rattle.std.proofs.lemmas.List.{reverse-append}
 use Rattle.std.proofs.lemmas.Map.Keys.{sorted_head, sorted_tail}

@@ -4,7 +4,6 @@ use Rattle.tree_digest.specs.declared.line.ListingLine.{ListingLine}
 use Rattle.tree_digest.specs.declared.listing_error.ListingError.{ListingError}
 use Rattle.tree_digest.specs.declared.listing_error.ListingError.TheVariants.{BadLine, NotSorted, NoParent, TooMany, FileTooLong, NoMemory}
 use Rattle.tree_digest.specs.Listings.{listing_text, Fails}
-use Rattle.bundle_image.specs.declared.refusal.BundleRefusal.{BundleRefusal}
 use Rattle.bundle_image.specs.Heads.{IsTreeFault}
 use Rattle.bundle_image.specs.Refusals.{of_listing, IsOutside}
 use Rattle.bundle_image.proofs.Heads.{not_cut}

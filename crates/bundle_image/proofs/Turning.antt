@@ -1,5 +1,5 @@
 -- A walk, entry by entry.
-use Rattle.std.proofs.Common.{◌≡◌, ◌≢◌, ℕ, Bool, true, false, cond, ◌&&◌, ◌||◌, List, [], ◌∷◌, ◌++◌, length, map, reverse, Some, IsSome, sym, refl, ap, subst, ◌∙◌, ◌⊎◌, inl, inr, ⊎_elim, arith, append_assoc, append-nil}
+use Rattle.std.proofs.Common.{◌≡◌, ℕ, Bool, true, false, List, [], ◌∷◌, ◌++◌, map, reverse, Some, sym, refl, ap, subst, ◌∙◌, ◌⊎◌, inl, inr, ⊎_elim, append_assoc, append-nil}
 use Rattle.std.specs.List.{AllByRecursion}
 use Rattle.std.proofs.lemmas.Bool.{cases_Bool, both_ways}
 use Rattle.dir_model.proofs.Lists.{all_push, all_weaker, all_both, all_left, all_right}
@@ -9,7 +9,6 @@ use Rattle.dir_trait.specs.declared.bundle.BundleKind.{BundleKind}
 use Rattle.dir_trait.specs.declared.bundle.BundleKind.TheVariants as kinds
 use Rattle.dir_trait.specs.Bundles.{Tree, kind_at}
 use Rattle.path_map.specs.Entries.{entry_at, is_directory, is_directory_at}
-use Rattle.path_map.specs.Paths.{is_ancestor, EndsIn}
 use Rattle.path_map.proofs.Ends.{parent_or_above, none_in_root}
 use Rattle.tree_digest.specs.declared.line.ListingLine.{ListingLine}
 use Rattle.tree_digest.specs.Listings.{entries_of, IsListable}
@@ -18,8 +17,8 @@ use Rattle.bundle_image.specs.declared.refusal.BundleRefusal.{BundleRefusal}
 use Rattle.bundle_image.specs.Lines.{AreFew}
 use Rattle.bundle_image.specs.Entries.{IsEntryOf}
 use Rattle.bundle_image.specs.Tasks.{task_of, is_dir_kind}
-use Rattle.bundle_image.specs.Walks.{in_directory, LeadsTo, Stands, IsAtOrBelow, IsBeside, ComesBefore, IsLinePath, AreInWalkOrder, IsLineOf, AreBefore, FaultWith, IsFirstFault, IsWalked}
-use Rattle.bundle_image.specs.Work.{ListsIn, AddsChildren, Descends, AddsLine, Turns, Begins, FailsAt, EndsWalk, HasDirectories, HaveDirectories, AreLaid, IsStack, MayCome, IsAtWork, IsTaskOf, IsUnder, HasSeen}
+use Rattle.bundle_image.specs.Walks.{in_directory, Stands, IsAtOrBelow, IsBeside, ComesBefore, IsLinePath, AreInWalkOrder, IsLineOf, FaultWith, IsFirstFault, IsWalked}
+use Rattle.bundle_image.specs.Work.{AddsChildren, Turns, Begins, FailsAt, EndsWalk, HasDirectories, HaveDirectories, AreLaid, IsStack, MayCome, IsAtWork, IsTaskOf, IsUnder, HasSeen}
 use Rattle.bundle_image.proofs.Paths.{name_has_no_slash, beside_first, beside_second, before_deeper}
 use Rattle.bundle_image.proofs.Look.{directory_left, at_end, walked_lines}
 use Rattle.bundle_image.proofs.Ways.{some_of_kind, stands_in, stands_first, leads_below, FirstStep, step_from_root, way_ends_or_on}

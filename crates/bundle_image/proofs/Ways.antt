@@ -1,5 +1,5 @@
 -- The ways on which a walk comes to paths.
-use Rattle.std.proofs.Common.{◌≡◌, ℕ, Bool, true, List, [], ◌∷◌, ◌++◌, Option, Some, None, IsSome, sym, refl, ap, subst, ◌∙◌, ◌⊎◌, inl, inr}
+use Rattle.std.proofs.Common.{◌≡◌, ℕ, List, [], ◌∷◌, ◌++◌, Option, Some, None, IsSome, sym, refl, ap, subst, ◌∙◌, ◌⊎◌, inl, inr}
 use Rattle.dir_model.specs.Names.{IsFileName}
 use Rattle.dir_trait.specs.declared.node.Node.{Node}
 use Rattle.dir_trait.specs.declared.bundle.BundleKind.{BundleKind}

@@ -1,8 +1,6 @@
 -- What an image carries of what stands in its bundle.
-use Rattle.std.specs.Prelude.{◌≡◌, ◌⊎◌, ◌≤◌, ◌<◌, ℕ, ◌+◌, Bool, true, false, List, ◌++◌, length, Option, Some, None, IsSome, codes}
+use Rattle.std.specs.Prelude.{◌≡◌, ◌⊎◌, ◌≤◌, ◌<◌, ℕ, ◌+◌, List, ◌++◌, length, Option, Some, None, IsSome, codes}
 use Rattle.sha2.specs.Sha512.{sha512}
-use Rattle.dir_trait.specs.declared.bundle.BundleKind.{BundleKind}
-use Rattle.dir_trait.specs.declared.bundle.BundleKind.TheVariants as kinds
 use Rattle.dir_trait.specs.declared.node.Node.{Node}
 use Rattle.dir_trait.specs.declared.node.Node.TheVariants as nodes
 use Rattle.path_map.specs.declared.entry.Meta.{Meta}

@@ -1,10 +1,10 @@
 -- What an image bundle says, and why it says nothing.
-use Rattle.std.specs.Prelude.{◌≡◌, ◌⊎◌, ℕ, Bool, List, Some, None, MatchBool, codes}
+use Rattle.std.specs.Prelude.{◌⊎◌, ℕ, Bool, List, Some, None, MatchBool, codes}
 use Rattle.dir_trait.specs.Bundles.{Tree, child_path}
 use Rattle.tree_digest.specs.declared.line.ListingLine.{ListingLine}
 use Rattle.bundle_image.specs.declared.refusal.BundleRefusal.{BundleRefusal}
 use Rattle.bundle_image.specs.declared.image.BundleImage.{BundleImage}
-use Rattle.bundle_image.specs.Heads.{file_at, ReadsManifest, FailsManifest, HasManifest, ReadsId, FailsId, HasId, ReadsTree, FailsTree}
+use Rattle.bundle_image.specs.Heads.{ReadsManifest, FailsManifest, HasManifest, ReadsId, FailsId, HasId, ReadsTree, FailsTree}
 use Rattle.bundle_image.specs.Walks.{below, IsWalked, IsFirstFault}
 
 -- what stands below the bundle's `rootfs`

@@ -1,5 +1,5 @@
 -- A walk under way: the lines so far, and the entries that are still to come, the next one last.
-use Rattle.std.specs.Prelude.{◌≡◌, ◌≢◌, ◌⊎◌, ◌≤◌, ℕ, Bool, true, false, List, [], ◌∷◌, ◌++◌, map, reverse, length, Some, IsSome, Contains}
+use Rattle.std.specs.Prelude.{◌≡◌, ◌≢◌, ◌⊎◌, ℕ, Bool, true, false, List, [], ◌∷◌, ◌++◌, map, reverse, Some, IsSome, Contains}
 use Rattle.std.specs.List.{AllByRecursion}
 use Rattle.dir_model.specs.Names.{IsFileName}
 use Rattle.dir_trait.specs.Bundles.{Tree, kind_at, IsListing}

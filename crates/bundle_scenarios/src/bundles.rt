@@ -19,18 +19,29 @@ struct Case {
     says: &'static str,
 }
 
-const LIB: &str = "{\"acKind\":\"ImageManifest\",\"acVersion\":\"0.8.0\",\"name\":\"example.com/lib\"}";
+const LIB: &str =
+    "{\"acKind\":\"ImageManifest\",\"acVersion\":\"0.8.0\",\"name\":\"example.com/lib\"}";
 
 const MANIFEST: Put = Put::File("b/manifest", LIB);
 
 const TREE: Put = Put::File("b/tree", "d 0755 0 0 /a\n");
-const ID: Put = Put::File("b/id", "sha512-aaaaaaaaaaaaaaaaaaaaaaaaaaaaaaaaaaaaaaaaaaaaaaaaaaaaaaaaaaaaaaaaaaaaaaaaaaaaaaaaaaaaaaaaaaaaaaaaaaaaaaaaaaaaaaaaaaaaaaaaaaaaaaaa\n");
+
+const ID: Put = Put::File(
+    "b/id",
+    "sha512-aaaaaaaaaaaaaaaaaaaaaaaaaaaaaaaaaaaaaaaaaaaaaaaaaaaaaaaaaaaaaaaaaaaaaaaaaaaaaaaaaaaaaaaaaaaaaaaaaaaaaaaaaaaaaaaaaaaaaaaaaaaaaaaa\n",
+);
 
 const CASES: &[Case] = &[
     Case {
         puts: &[
-            Put::File("b/manifest", "{\"acKind\":\"ImageManifest\",\"acVersion\":\"0.8.0\",\"name\":\"example.com/base\",\"labels\":[{\"name\":\"version\",\"value\":\"1.0.0\"},{\"name\":\"os\",\"value\":\"linux\"},{\"name\":\"arch\",\"value\":\"amd64\"}]}"),
-            Put::File("b/id", "sha512-aaaaaaaaaaaaaaaaaaaaaaaaaaaaaaaaaaaaaaaaaaaaaaaaaaaaaaaaaaaaaaaaaaaaaaaaaaaaaaaaaaaaaaaaaaaaaaaaaaaaaaaaaaaaaaaaaaaaaaaaaaaaaaaa"),
+            Put::File(
+                "b/manifest",
+                "{\"acKind\":\"ImageManifest\",\"acVersion\":\"0.8.0\",\"name\":\"example.com/base\",\"labels\":[{\"name\":\"version\",\"value\":\"1.0.0\"},{\"name\":\"os\",\"value\":\"linux\"},{\"name\":\"arch\",\"value\":\"amd64\"}]}",
+            ),
+            Put::File(
+                "b/id",
+                "sha512-aaaaaaaaaaaaaaaaaaaaaaaaaaaaaaaaaaaaaaaaaaaaaaaaaaaaaaaaaaaaaaaaaaaaaaaaaaaaaaaaaaaaaaaaaaaaaaaaaaaaaaaaaaaaaaaaaaaaaaaaaaaaaaaa",
+            ),
             Put::File("b/rootfs/bin/abc", "abc"),
             Put::File("b/rootfs/etc/motd", ""),
             Put::Link("b/rootfs/etc/issue", "motd"),
@@ -41,7 +52,10 @@ const CASES: &[Case] = &[
         puts: &[
             MANIFEST,
             ID,
-            Put::File("b/tree", "d 0755 0 0 /etc\nf 0644 0 0 3 ddaf35a193617abacc417349ae20413112e6fa4e89a97ea20a9eeee64b55d39a2192992a274fc1a836ba3c23a3feebbd454d4423643ce80e2a9ac94fa54ca49f /etc/motd\n"),
+            Put::File(
+                "b/tree",
+                "d 0755 0 0 /etc\nf 0644 0 0 3 ddaf35a193617abacc417349ae20413112e6fa4e89a97ea20a9eeee64b55d39a2192992a274fc1a836ba3c23a3feebbd454d4423643ce80e2a9ac94fa54ca49f /etc/motd\n",
+            ),
             Put::File("b/rootfs/etc/motd", "abc"),
             Put::Other("b/rootfs/other"),
         ],
@@ -49,121 +63,113 @@ const CASES: &[Case] = &[
     },
     Case {
         puts: &[
-            Put::File("b/manifest", "{\"acKind\":\"ImageManifest\",\"acVersion\":\"0.8.0\",\"name\":\"example.com/reduce-worker\",\"labels\":[{\"name\":\"version\",\"value\":\"1.0.0\"}],\"app\":{\"exec\":[\"/bin/run\",\"-q\"],\"user\":\"0\",\"group\":\"0\"},\"dependencies\":[{\"imageName\":\"example.com/base\",\"labels\":[{\"name\":\"version\",\"value\":\"1.0.0\"}]},{\"imageName\":\"example.com/lib\"}]}"),
-            Put::File("b/id", "sha512-cccccccccccccccccccccccccccccccccccccccccccccccccccccccccccccccccccccccccccccccccccccccccccccccccccccccccccccccccccccccccccccccc"),
+            Put::File(
+                "b/manifest",
+                "{\"acKind\":\"ImageManifest\",\"acVersion\":\"0.8.0\",\"name\":\"example.com/reduce-worker\",\"labels\":[{\"name\":\"version\",\"value\":\"1.0.0\"}],\"app\":{\"exec\":[\"/bin/run\",\"-q\"],\"user\":\"0\",\"group\":\"0\"},\"dependencies\":[{\"imageName\":\"example.com/base\",\"labels\":[{\"name\":\"version\",\"value\":\"1.0.0\"}]},{\"imageName\":\"example.com/lib\"}]}",
+            ),
+            Put::File(
+                "b/id",
+                "sha512-cccccccccccccccccccccccccccccccccccccccccccccccccccccccccccccccccccccccccccccccccccccccccccccccccccccccccccccccccccccccccccccccc",
+            ),
             Put::File("b/rootfs/bin/run", "abc"),
         ],
         says: "d 0755 0 0 /bin\nf 0755 0 0 3 ddaf35a193617abacc417349ae20413112e6fa4e89a97ea20a9eeee64b55d39a2192992a274fc1a836ba3c23a3feebbd454d4423643ce80e2a9ac94fa54ca49f /bin/run\n",
     },
     Case {
-        puts: &[
-            MANIFEST,
-            ID,
-        ],
+        puts: &[MANIFEST, ID],
         says: "",
     },
     Case {
-        puts: &[
-            MANIFEST,
-            ID,
-            Put::File("b/rootfs", "x"),
-        ],
+        puts: &[MANIFEST, ID, Put::File("b/rootfs", "x")],
         says: "",
     },
     Case {
-        puts: &[
-            MANIFEST,
-            ID,
-            Put::Dir("b/rootfs"),
-        ],
+        puts: &[MANIFEST, ID, Put::Dir("b/rootfs")],
         says: "",
     },
     Case {
-        puts: &[
-        ],
+        puts: &[],
         says: "no file manifest",
     },
     Case {
-        puts: &[
-            Put::File("b/manifest", "{"),
-        ],
+        puts: &[Put::File("b/manifest", "{")],
         says: "manifest $ 20",
     },
     Case {
-        puts: &[
-            Put::File("b/manifest", "{\"acKind\":\"PodManifest\",\"acVersion\":\"0.8.0\",\"apps\":[]}"),
-        ],
+        puts: &[Put::File(
+            "b/manifest",
+            "{\"acKind\":\"PodManifest\",\"acVersion\":\"0.8.0\",\"apps\":[]}",
+        )],
         says: "manifest acKind 21",
     },
     Case {
-        puts: &[
-            MANIFEST,
-        ],
+        puts: &[MANIFEST],
         says: "no file id",
     },
     Case {
-        puts: &[
-            Put::File("b/manifest", "{"),
-            Put::File("b/id", "x"),
-        ],
+        puts: &[Put::File("b/manifest", "{"), Put::File("b/id", "x")],
         says: "manifest $ 20",
     },
     Case {
         puts: &[
             MANIFEST,
-            Put::File("b/id", "sha512-aaaaaaaaaaaaaaaaaaaaaaaaaaaaaaaaaaaaaaaaaaaaaaaaaaaaaaaaaaaaaaaaaaaaaaaaaaaaaaaaaaaaaaaaaaaaaaaaaaaaaaaaaaaaaaaaaaaaaaaaaaaaaaaa"),
+            Put::File(
+                "b/id",
+                "sha512-aaaaaaaaaaaaaaaaaaaaaaaaaaaaaaaaaaaaaaaaaaaaaaaaaaaaaaaaaaaaaaaaaaaaaaaaaaaaaaaaaaaaaaaaaaaaaaaaaaaaaaaaaaaaaaaaaaaaaaaaaaaaaaaa",
+            ),
         ],
         says: "",
     },
     Case {
         puts: &[
             MANIFEST,
-            Put::File("b/id", "sha512-aaaaaaaaaaaaaaaaaaaaaaaaaaaaaaaaaaaaaaaaaaaaaaaaaaaaaaaaaaaaaaaaaaaaaaaaaaaaaaaaaaaaaaaaaaaaaaaaaaaaaaaaaaaaaaaaaaaaaaaaaaaaaaaa\n\n"),
+            Put::File(
+                "b/id",
+                "sha512-aaaaaaaaaaaaaaaaaaaaaaaaaaaaaaaaaaaaaaaaaaaaaaaaaaaaaaaaaaaaaaaaaaaaaaaaaaaaaaaaaaaaaaaaaaaaaaaaaaaaaaaaaaaaaaaaaaaaaaaaaaaaaaaa\n\n",
+            ),
         ],
         says: "bad id",
     },
     Case {
         puts: &[
             MANIFEST,
-            Put::File("b/id", "sha512-aaaaaaaaaaaaaaaaaaaaaaaaaaaaaaaaaaaaaaaaaaaaaaaaaaaaaaaaaaaaaaaaaaaaaaaaaaaaaaaaaaaaaaaaaaaaaaaaaaaaaaaaaaaaaaaaaaaaaaaaaaaaaaaa "),
+            Put::File(
+                "b/id",
+                "sha512-aaaaaaaaaaaaaaaaaaaaaaaaaaaaaaaaaaaaaaaaaaaaaaaaaaaaaaaaaaaaaaaaaaaaaaaaaaaaaaaaaaaaaaaaaaaaaaaaaaaaaaaaaaaaaaaaaaaaaaaaaaaaaaaa ",
+            ),
+        ],
+        says: "bad id",
+    },
+    Case {
+        puts: &[MANIFEST, Put::File("b/id", "")],
+        says: "bad id",
+    },
+    Case {
+        puts: &[
+            MANIFEST,
+            Put::File(
+                "b/id",
+                "sha512-AAAAAAAAAAAAAAAAAAAAAAAAAAAAAAAAAAAAAAAAAAAAAAAAAAAAAAAAAAAAAAAAAAAAAAAAAAAAAAAAAAAAAAAAAAAAAAAAAAAAAAAAAAAAAAAAAAAAAAAAAAAAAAAA",
+            ),
         ],
         says: "bad id",
     },
     Case {
         puts: &[
             MANIFEST,
-            Put::File("b/id", ""),
+            Put::File(
+                "b/id",
+                "sha512-aaaaaaaaaaaaaaaaaaaaaaaaaaaaaaaaaaaaaaaaaaaaaaaaaaaaaaaaaaaaaaaaaaaaaaaaaaaaaaaaaaaaaaaaaaaaaaaaaaaaaaaaaaaaaaaaaaaaaaaaaaaaaaa\n",
+            ),
         ],
         says: "bad id",
     },
     Case {
-        puts: &[
-            MANIFEST,
-            Put::File("b/id", "sha512-AAAAAAAAAAAAAAAAAAAAAAAAAAAAAAAAAAAAAAAAAAAAAAAAAAAAAAAAAAAAAAAAAAAAAAAAAAAAAAAAAAAAAAAAAAAAAAAAAAAAAAAAAAAAAAAAAAAAAAAAAAAAAAAA"),
-        ],
+        puts: &[MANIFEST, Put::File("b/id", "x"), Put::File("b/tree", "x")],
         says: "bad id",
     },
     Case {
-        puts: &[
-            MANIFEST,
-            Put::File("b/id", "sha512-aaaaaaaaaaaaaaaaaaaaaaaaaaaaaaaaaaaaaaaaaaaaaaaaaaaaaaaaaaaaaaaaaaaaaaaaaaaaaaaaaaaaaaaaaaaaaaaaaaaaaaaaaaaaaaaaaaaaaaaaaaaaaaa\n"),
-        ],
-        says: "bad id",
-    },
-    Case {
-        puts: &[
-            MANIFEST,
-            Put::File("b/id", "x"),
-            Put::File("b/tree", "x"),
-        ],
-        says: "bad id",
-    },
-    Case {
-        puts: &[
-            MANIFEST,
-            ID,
-            Put::File("b/tree", ""),
-        ],
+        puts: &[MANIFEST, ID, Put::File("b/tree", "")],
         says: "",
     },
     Case {
@@ -176,43 +182,30 @@ const CASES: &[Case] = &[
         says: "listing: line 2 is out of order",
     },
     Case {
-        puts: &[
-            MANIFEST,
-            ID,
-            Put::File("b/tree", "d 0755 0 0 /a/b\n"),
-        ],
+        puts: &[MANIFEST, ID, Put::File("b/tree", "d 0755 0 0 /a/b\n")],
         says: "listing: line 1 has no parent",
     },
     Case {
-        puts: &[
-            MANIFEST,
-            ID,
-            Put::File("b/tree", "d 755 0 0 /b\n"),
-        ],
+        puts: &[MANIFEST, ID, Put::File("b/tree", "d 755 0 0 /b\n")],
+        says: "listing: line 1 is of no form",
+    },
+    Case {
+        puts: &[MANIFEST, ID, Put::File("b/tree", "d 0755 0 0 /b")],
         says: "listing: line 1 is of no form",
     },
     Case {
         puts: &[
             MANIFEST,
             ID,
-            Put::File("b/tree", "d 0755 0 0 /b"),
-        ],
-        says: "listing: line 1 is of no form",
-    },
-    Case {
-        puts: &[
-            MANIFEST,
-            ID,
-            Put::File("b/tree", "f 0755 0 0 1073741825 cf83e1357eefb8bdf1542850d66d8007d620e4050b5715dc83f4a921d36ce9ce47d0d13c5d85f2b0ff8318d2877eec2f63b931bd47417a81a538327af927da3e /a\n"),
+            Put::File(
+                "b/tree",
+                "f 0755 0 0 1073741825 cf83e1357eefb8bdf1542850d66d8007d620e4050b5715dc83f4a921d36ce9ce47d0d13c5d85f2b0ff8318d2877eec2f63b931bd47417a81a538327af927da3e /a\n",
+            ),
         ],
         says: "listing: the file of line 1 is too long",
     },
     Case {
-        puts: &[
-            MANIFEST,
-            ID,
-            Put::Other("b/rootfs/a"),
-        ],
+        puts: &[MANIFEST, ID, Put::Other("b/rootfs/a")],
         says: "bad kind rootfs/a",
     },
     Case {
@@ -236,11 +229,7 @@ const CASES: &[Case] = &[
         says: "bad kind rootfs/a.txt",
     },
     Case {
-        puts: &[
-            MANIFEST,
-            ID,
-            Put::Link("b/rootfs/l", "/etc/passwd"),
-        ],
+        puts: &[MANIFEST, ID, Put::Link("b/rootfs/l", "/etc/passwd")],
         says: "l 0777 0 0 /etc/passwd /l\n",
     },
     Case {
@@ -254,35 +243,19 @@ const CASES: &[Case] = &[
         says: "d 0755 0 0 /d\nl 0777 0 0 ../.. /l\nf 0755 0 0 0 cf83e1357eefb8bdf1542850d66d8007d620e4050b5715dc83f4a921d36ce9ce47d0d13c5d85f2b0ff8318d2877eec2f63b931bd47417a81a538327af927da3e /l2\n",
     },
     Case {
-        puts: &[
-            MANIFEST,
-            ID,
-            Put::Link("b/rootfs/l", ""),
-        ],
+        puts: &[MANIFEST, ID, Put::Link("b/rootfs/l", "")],
         says: "bad kind rootfs/l",
     },
     Case {
-        puts: &[
-            MANIFEST,
-            ID,
-            Put::Link("b/rootfs/l", "a\0b"),
-        ],
+        puts: &[MANIFEST, ID, Put::Link("b/rootfs/l", "a\0b")],
         says: "bad kind rootfs/l",
     },
     Case {
-        puts: &[
-            MANIFEST,
-            ID,
-            Put::File("b/rootfs/..", ""),
-        ],
+        puts: &[MANIFEST, ID, Put::File("b/rootfs/..", "")],
         says: "bad kind rootfs/..",
     },
     Case {
-        puts: &[
-            MANIFEST,
-            ID,
-            Put::File("b/rootfs/a/.", ""),
-        ],
+        puts: &[MANIFEST, ID, Put::File("b/rootfs/a/.", "")],
         says: "bad kind rootfs/a/.",
     },
     Case {

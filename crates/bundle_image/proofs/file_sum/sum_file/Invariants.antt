@@ -1,4 +1,4 @@
-use Rattle.std.proofs.Common.{◌≡◌, ◌≤◌, ◌<◌, ◌+◌, ◌-◌, ℕ, true, List, vec_len}
+use Rattle.std.proofs.Common.{◌≡◌, ◌≤◌, ◌<◌, ◌-◌, ℕ, true, List, vec_len}
 use Rattle.dir_trait.specs.Bundles.{file_bytes}
 use Rattle.bundle_read.specs.Fronts.{IsBegun}
 use Rattle.bundle_image.specs.FileSums.{HasTaken}

@@ -1,5 +1,4 @@
-use Rattle.std.proofs.Common.{◌≡◌, rules, sym, ◌∙◌}
-use Rattle.bundle_image.specs.Heads.{without_end}
+use Rattle.std.proofs.Common.{◌∙◌}
 use Rattle.bundle_image.proofs.Heads.{no_id, no_utf8, an_id}
 use Rattle.bundle_image.proofs.head.id_of.Goals as goal
 

@@ -1,4 +1,4 @@
-use Rattle.std.proofs.Common.{inr, ◌≡◌, ◌⊎◌, codes, subst}
+use Rattle.std.proofs.Common.{inr, ◌⊎◌, codes, subst}
 use Rattle.dir_trait.specs.Bundles.{Tree}
 use Rattle.bundle_image.specs.Refusals.{IsOutside}
 use Rattle.bundle_image.specs.Images.{FailsBehind}

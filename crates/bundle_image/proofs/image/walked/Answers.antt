@@ -1,4 +1,4 @@
-use Rattle.std.proofs.Common.{rules, inl, ◌≡◌, ◌++◌, ◌⊎◌, codes, sym, subst}
+use Rattle.std.proofs.Common.{rules, inl, ◌≡◌, codes, sym, subst}
 use Rattle.dir_trait.specs.Bundles.{child_path, directory_prefix}
 use Rattle.bundle_image.specs.declared.refusal.BundleRefusal.{BundleRefusal}
 use Rattle.bundle_image.specs.declared.refusal.BundleRefusal.TheVariants.{NoMemory}

@@ -1,4 +1,3 @@
-use Rattle.std.proofs.Common.{◌≡◌, length, take}
 use Rattle.bundle_image.proofs.Pieces.{target_whole}
 use Rattle.bundle_image.proofs.Reading.{itself, reads_call}
 use Rattle.bundle_image.proofs.link.target_in.Goals as goal

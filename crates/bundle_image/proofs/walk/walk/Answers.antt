@@ -1,4 +1,4 @@
-use Rattle.std.proofs.Common.{rules, arith, ◌≡◌, [], ◌∷◌, ◌++◌, ℕ, List, length, Some, refl, subst, sym}
+use Rattle.std.proofs.Common.{rules, arith, ◌≡◌, [], ◌∷◌, ◌++◌, List, length, Some, refl, subst, sym}
 use Rattle.dir_trait.specs.Bundles.{Tree, kind_at}
 use Rattle.bundle_image.specs.declared.task.Task.{Task}
 use Rattle.bundle_image.specs.Walks.{below, IsWalked}
