@@ -300,7 +300,7 @@ const X65536: &str =
 const X65537: &str =
     "9e5a0b8f0571b6ca26cac0c2252e96041860bd15c34f94e1e2c7ae7ab8d9a7b63fbec9e20c96909a468a711ca8f6e6daac73f2fa4ae2c9f2a964cfe7a5ce45bb";
 
-fn put(alloc: Global, bundle: MemoryBundle, what: &Put) -> Result<MemoryBundle, Fail> {
+fn placed(alloc: Global, bundle: MemoryBundle, what: &Put) -> Result<MemoryBundle, Fail> {
     match what {
         Put::File(path, bytes) => Ok(bundle.file(alloc, path, bytes.as_bytes())?),
         Put::Link(path, target) => Ok(bundle.link(alloc, path, target)?),
@@ -312,7 +312,7 @@ fn put(alloc: Global, bundle: MemoryBundle, what: &Put) -> Result<MemoryBundle, 
 fn bundle_of(alloc: Global, puts: &[Put]) -> Result<MemoryBundle, Fail> {
     let mut bundle = MemoryBundle::new(alloc);
     for what in puts {
-        bundle = put(alloc, bundle, what)?;
+        bundle = placed(alloc, bundle, what)?;
     }
     Ok(bundle)
 }
