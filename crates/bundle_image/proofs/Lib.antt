@@ -1,0 +1,13 @@
+pub mod Reading
+pub mod Paths
+pub mod Ways
+pub mod Stacks
+pub mod Turning
+pub mod Look
+pub mod Laying
+pub mod Sums
+pub mod Pieces
+pub mod Lists
+pub mod Heads
+pub mod Trees
+pub mod Results

@@ -1,0 +1,11 @@
+pub mod Entries
+pub mod FileSums
+pub mod Heads
+pub mod Images
+pub mod Lines
+pub mod Links
+pub mod Reads
+pub mod Refusals
+pub mod Tasks
+pub mod Walks
+pub mod Work

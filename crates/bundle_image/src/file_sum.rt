@@ -1,0 +1,99 @@
+// The size and the SHA-512 of a file.
+ghost use Rattle.std.specs.Prelude.{◌≡◌, ◌≤◌, ◌<◌, ◌+◌, ℕ, List, [], true, false, IfOk, IsErrOf, IsSomeAnd, None, length};
+ghost use Rattle.dir_model.specs.Causes.{Rose};
+ghost use Rattle.dir_trait.specs.Bundles.{file_bytes};
+ghost use Rattle.bundle_image.specs.FileSums.{HasTaken, Takes, IsSumOf};
+ghost use Rattle.bundle_image.specs.Reads.{ReadsWithin};
+
+use crate::refusal::no_memory;
+use dir_trait::{Bundle, BundleError};
+use sha2::{Digest, Sha512};
+use std::alloc::Global;
+use tree_digest::refusals::MAX_FILE;
+
+// How much one read asks for at most.
+const PIECE: usize = 65_536;
+
+/// The size of a file and the SHA-512 of its bytes.
+#[derive(Drop)]
+pub(crate) struct FileSum {
+    pub(crate) size: u64,
+    pub(crate) sha: [u8; 64],
+}
+
+/// The bytes of a file that were taken so far.
+#[derive(Drop)]
+struct Hashing {
+    hasher: Sha512,
+    size: u64,
+}
+
+impl Hashing {
+    fn new() -> Hashing
+        ensures { HasTaken result [] }
+    {
+        Hashing {
+            hasher: Sha512::new(),
+            size: 0,
+        }
+    }
+
+    fn finish(self) -> Option<FileSum>
+        ensures { (message : List ℕ) → HasTaken self message → IsSumOf message result }
+    {
+        if self.size > MAX_FILE {
+            return None;
+        }
+        Some(FileSum {
+            size: self.size,
+            sha: self.hasher.finalize(),
+        })
+    }
+}
+
+/// Takes the next bytes of the file, as many as the room takes, and answers whether it ends there.
+fn take_piece<B: Bundle>(
+    alloc: Global,
+    bundle: &mut B,
+    path: &str,
+    room: &mut [u8],
+    hashing: &mut Hashing,
+) -> Result<bool, BundleError>
+    requires some { 0 < length room.old }
+    requires room { length room.old ≤ PIECE }
+    requires short { hashing.old.size ≤ MAX_FILE }
+    ensures reads { ReadsWithin B.observed path.now (B.shown bundle.old) (B.shown bundle.new) }
+    ensures cause { IsErrOf result BundleError.Failed → Rose (B.shown bundle.old).faults (B.shown bundle.new).faults }
+    ensures missing { IsErrOf result BundleError.Missing → B.observed ≡ true → file_bytes ((B.shown bundle.old).tree path.now) ≡ None }
+    ensures grew { IfOk result (λ ended. ended ≡ false → hashing.old.size < hashing.new.size) }
+    ensures took { IfOk result (λ ended. (message : List ℕ) → HasTaken hashing.old message
+        → Takes B.observed (file_bytes ((B.shown bundle.old).tree path.now)) message ended hashing.new) }
+{
+    let count = bundle.read(alloc, path, hashing.size, room)?;
+    hashing.hasher.update(&room[..count]);
+    hashing.size += count as u64;
+    Ok(count < room.len())
+}
+
+/// The size and the SHA-512 of the file at a path; none where it has more than 1 GiB. `Missing` where no
+/// file stands there, `Failed` where the bundle failed, `NoMemory` where memory ran out.
+pub(crate) fn sum_file<B: Bundle>(
+    alloc: Global,
+    bundle: &mut B,
+    path: &str,
+) -> Result<Option<FileSum>, BundleError>
+    ensures reads { ReadsWithin B.observed path.now (B.shown bundle.old) (B.shown bundle.new) }
+    ensures cause { IsErrOf result BundleError.Failed → Rose (B.shown bundle.old).faults (B.shown bundle.new).faults }
+    ensures missing { IsErrOf result BundleError.Missing → B.observed ≡ true → file_bytes ((B.shown bundle.old).tree path.now) ≡ None }
+    ensures short { IfOk result (λ sum. (message : List ℕ) × IsSumOf message sum) }
+    ensures sum { IfOk result (λ sum. B.observed ≡ true → IsSomeAnd (file_bytes ((B.shown bundle.old).tree path.now)) (λ bytes. IsSumOf bytes sum)) }
+{
+    let mut room = vec![in alloc; 0; PIECE].map_err(no_memory)?;
+    let mut hashing = Hashing::new();
+    'pieces: while hashing.size <= MAX_FILE {
+        if take_piece(alloc, bundle, path, &mut room, &mut hashing)? {
+            return Ok(hashing.finish());
+        }
+    }
+    Ok(hashing.finish())
+}
