@@ -4,7 +4,7 @@ use Rattle.std.specs.List.{list_any, AllByRecursion}
 use Rattle.std.specs.List.Sorted.{IsStrictlySortedBy}
 use Rattle.std.specs.Map.{keys_of}
 use Rattle.std.specs.Cmp.Lexicographic.{slice_cmp}
-use Rattle.std.proofs.lemmas.Bool.{or_parts, or_cases, ne_eqb}
+use Rattle.std.proofs.lemmas.Bool.{or_parts, or_cases}
 use Rattle.std.proofs.lemmas.Bool.Decides.{nat_tests}
 use Rattle.std.proofs.lemmas.List.Folds.{list_any-append}
 use Rattle.std.proofs.lemmas.Map.Keys.{sorted_head, sorted_tail}
@@ -17,8 +17,7 @@ use Rattle.dir_rules.specs.Rules.{has_path, has_dir, is_in_directory, is_new_pat
 use Rattle.path_map.specs.declared.entry.Entry.{Entry as TreeEntry}
 use Rattle.path_map.specs.declared.entry.Entry.TheVariants.{Dir, File, Link}
 use Rattle.path_map.specs.Entries.{is_directory}
-use Rattle.path_map.specs.Paths.{lies_below as lies_below_path, IsAbsPath, HasNone, EndsIn}
-use Rattle.path_map.proofs.Below.{below_from}
+use Rattle.path_map.specs.Paths.{IsAbsPath, HasNone, EndsIn}
 use Rattle.path_map.proofs.Segments.{sound_from}
 use Rattle.tree_digest.specs.declared.line.ListingLine.{ListingLine}
 use Rattle.tree_digest.specs.Listings.{IsListing, AllFollow, Follows, has_directory, entries_of}
@@ -31,7 +30,7 @@ use Rattle.folder_building.specs.Plans.{outline, outline_of, is_among, has_origi
 use Rattle.materialize.specs.Materialized.{below}
 use Rattle.materialize.specs.TreePlans.{entry_at, tree_entry, tree_entries, IsRoot, CarriesOn}
 use Rattle.materialize.proofs.Texts.{not_same, same_end}
-use Rattle.materialize.proofs.FilePaths.{begins_with, below_is_path, parent_of}
+use Rattle.materialize.proofs.FilePaths.{begins_with, below_is_path, parent_of, no_length, lies_there}
 use Rattle.materialize.proofs.Nexts.{one_more}
 
 -- which paths a plan has made, and which directories
@@ -64,15 +63,6 @@ ends_of path abs = by (has_none_or_last 47 path)
     by : HasNone 47 path ⊎ ((a : List ℕ) × (b : List ℕ) × (path ≡ a ++ 47 ∷ b) × HasNone 47 b) → (a : List ℕ) × (name : List ℕ) × EndsIn path a name
     by (inl none) = let b = begins_with path abs in let e : true ≡ false = sym (ap (list_any (λ x. x == 47)) b.1) ∙ none in absurd cc
     by (inr l) = (l.0, l.1, record { text = l.2; last = l.3 })
-
-no_length : (p : List ℕ) → is_empty p ≡ false → (length p == 0) ≡ false
-no_length [] h = cc
-no_length (x ∷ p) h = ne_eqb (length (x ∷ p)) 0 (λ e. omega (arith, e))
-
--- what lies behind the prefix lies below it
-lies_there : (prefix rest : List ℕ) → is_empty prefix ≡ false → lies_below (prefix ++ 47 ∷ rest) prefix ≡ true
-unfolding lies_below lies_below_path
-lies_there prefix rest some = rw (no_length prefix some) (below_from prefix rest)
 
 none_within : (prefix path : List ℕ) (plan : List PlanEntry) → is_within prefix path ≡ true → list_any (λ e. is_within prefix e.path) plan ≡ false → is_among path plan ≡ false
 none_within prefix path [] within free = refl

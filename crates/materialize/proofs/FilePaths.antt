@@ -2,16 +2,17 @@
 use Rattle.std.proofs.Common.{◌≡◌, ◌+◌, ◌==◌, ◌<◌, ℕ, Bool, true, false, not, ◌&&◌, ◌||◌, cond, nat_le, nat_lt, bytes_eq, List, [], ◌∷◌, ◌++◌, length, take, drop, get_or, refl, sym, ap, subst, ◌∙◌, arith, append_assoc, append-nil}
 use Rattle.std.specs.List.{list_any, list_all, onto_first}
 use Rattle.std.specs.Str.{is_utf8, IsUtf8}
-use Rattle.std.proofs.lemmas.Bool.{or_parts, or_from, eqb-true}
+use Rattle.std.proofs.lemmas.Bool.{or_parts, or_from, eqb-true, ne_eqb}
 use Rattle.std.proofs.lemmas.Bool.Decides.{nat_tests}
 use Rattle.std.proofs.lemmas.Grind.{common_steps}
 use Rattle.std.proofs.lemmas.List.{get_or_at, drop_more}
 use Rattle.std.proofs.lemmas.Str.{IsUtf8-take, IsUtf8-drop, IsCharBoundary-before_ascii, IsCharBoundary-after_ascii, is_utf8-from_IsUtf8}
 use Rattle.dir_model.specs.Names.{is_file_byte}
-use Rattle.dir_model.specs.Paths.{is_empty, is_slash, is_file_name, are_names, is_path}
+use Rattle.dir_model.specs.Paths.{is_empty, is_slash, is_file_name, are_names, is_path, lies_below}
 use Rattle.dir_model.proofs.Lists.{and_left, and_right, and_both, or_last}
 use Rattle.dir_rules.specs.Marks.{parent, has_slash}
-use Rattle.path_map.specs.Paths.{is_dot_segment, has_bad_length, IsAbsPath, HasNone}
+use Rattle.path_map.specs.Paths.{lies_below as lies_below_path, is_dot_segment, has_bad_length, IsAbsPath, HasNone}
+use Rattle.path_map.proofs.Below.{below_from}
 use Rattle.path_map.proofs.Segments.{parts, parts_at_slash, sound_from, path_some}
 
 -- a text without a slash is one part
@@ -154,3 +155,12 @@ slash_in (x ∷ a) name = or_last (is_slash x) (has_slash (a ++ 47 ∷ name)) (s
 pub parent_of : (a name : List ℕ) → HasNone 47 name → parent (a ++ 47 ∷ name) ≡ a
 parent_of [] name none = rw none refl
 parent_of (x ∷ a) name none = rw (slash_in a name) (ap (λ p. x ∷ p) (parent_of a name none))
+
+pub no_length : (p : List ℕ) → is_empty p ≡ false → (length p == 0) ≡ false
+no_length [] h = cc
+no_length (x ∷ p) h = ne_eqb (length (x ∷ p)) 0 (λ e. omega (arith, e))
+
+-- what lies behind the prefix lies below it
+pub lies_there : (prefix rest : List ℕ) → is_empty prefix ≡ false → lies_below (prefix ++ 47 ∷ rest) prefix ≡ true
+unfolding lies_below lies_below_path
+lies_there prefix rest some = rw (no_length prefix some) (below_from prefix rest)

@@ -1,3 +1,4 @@
+pub mod Among
 mod Carries
 mod FilePaths
 pub mod Made
