@@ -154,7 +154,7 @@ fn a_pod_that_moves_inside_a_listing_is_in_the_next(rt: HostRuntime) -> Result<(
     Ok(())
 }
 
-const FILES: [(Ask, Answer); 22] = [
+const FILES: [(Ask, Answer); 28] = [
     (Ask::Make(Area::Embryo), Answer::Done),
     (Ask::Make(Area::Embryo), EXISTS),
     (Ask::MakeFile(Area::Embryo, "etc/motd"), MISSING),
@@ -168,6 +168,18 @@ const FILES: [(Ask, Answer); 22] = [
     (Ask::Sync(Area::Embryo, "var"), MISSING),
     (Ask::Read(Area::Embryo, "etc/motd", "bcde"), Answer::Done),
     (Ask::Read(Area::Embryo, "etc", ""), MISSING),
+    (
+        Ask::ReadFile(Area::Embryo, "etc/motd", "abcd"),
+        Answer::Done,
+    ),
+    (Ask::ReadFile(Area::Embryo, "etc", ""), MISSING),
+    (Ask::MakeFile(Area::Embryo, "etc/issue"), Answer::Done),
+    (Ask::Append(Area::Embryo, "etc/issue", "xyz"), Answer::Done),
+    (
+        Ask::ReadFile(Area::Embryo, "etc/issue", "xyz"),
+        Answer::Done,
+    ),
+    (Ask::RemoveFile(Area::Embryo, "etc/issue"), Answer::Done),
     (Ask::ListIn(Area::Embryo, "etc"), Answer::Count(1)),
     (Ask::ListIn(Area::Embryo, "etc/motd"), MISSING),
     (Ask::RemoveDir(Area::Embryo, "etc"), NOT_EMPTY),

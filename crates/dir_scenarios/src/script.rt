@@ -3,7 +3,7 @@ ghost use Rattle.std.specs.Prelude.{◌≡◌, true, IfSome};
 ghost use Rattle.dir_model.specs.Paths.{is_path};
 ghost use Rattle.dir_trait.specs.Local.{IsActive};
 
-use dir_files::{items_of, names_of};
+use dir_files::{ReadError, items_of, names_of, read_file};
 use dir_model::is_path;
 use dir_trait::{Area, Dir, DirError, Mode, PodId, Spot, Which};
 use folder_removal::{DeleteError, delete_folder};
@@ -41,6 +41,8 @@ pub enum Ask {
     Sync(Area, &'static str),
     /// Four bytes from the second on, which are to be these.
     Read(Area, &'static str, &'static str),
+    /// The whole file, or its first four bytes, which are to be these.
+    ReadFile(Area, &'static str, &'static str),
     ListIn(Area, &'static str),
     RemoveFile(Area, &'static str),
     RemoveDir(Area, &'static str),
@@ -157,6 +159,20 @@ fn read<D: Dir>(alloc: Global, dir: &mut D, area: Area, path: &str, bytes: &str)
     }
 }
 
+fn read_front<D: Dir>(alloc: Global, dir: &mut D, area: Area, path: &str, bytes: &str) -> Answer
+    requires active { IsActive (D.shown dir.old).local }
+    requires path { is_path path.now ≡ true }
+    ensures { IsActive (D.shown dir.new).local }
+{
+    match read_file(alloc, dir, pod(area), path, 4) {
+        Ok(Some(found)) if found.as_slice() == bytes.as_bytes() => Answer::Done,
+        Ok(Some(_)) => Answer::Differs,
+        Ok(None) => Answer::Refused(DirError::Missing),
+        Err(ReadError::DirFault) => Answer::Refused(DirError::Failed),
+        Err(ReadError::NoMemory) => Answer::Refused(DirError::NoMemory),
+    }
+}
+
 /// A call that has a path in the pod's folder.
 fn ask_inside<D: Dir>(alloc: Global, dir: &mut D, ask: Ask, path: &str) -> Answer
     requires active { IsActive (D.shown dir.old).local }
@@ -169,6 +185,7 @@ fn ask_inside<D: Dir>(alloc: Global, dir: &mut D, ask: Ask, path: &str) -> Answe
         Ask::Append(area, _, text) => done(dir.append_in(alloc, pod(area), path, text.as_bytes())),
         Ask::Sync(area, _) => done(dir.sync_in(alloc, pod(area), path)),
         Ask::Read(area, _, text) => read(alloc, dir, area, path, text),
+        Ask::ReadFile(area, _, text) => read_front(alloc, dir, area, path, text),
         Ask::ListIn(area, _) => list_in(alloc, dir, area, path),
         Ask::RemoveFile(area, _) => done(dir.remove_file_in(alloc, pod(area), path)),
         Ask::RemoveDir(area, _) => done(dir.remove_dir_in(alloc, pod(area), path)),
@@ -205,6 +222,7 @@ fn call<D: Dir>(alloc: Global, dir: &mut D, ask: Ask) -> Answer
         | Ask::Append(_, path, _)
         | Ask::Sync(_, path)
         | Ask::Read(_, path, _)
+        | Ask::ReadFile(_, path, _)
         | Ask::ListIn(_, path)
         | Ask::RemoveFile(_, path)
         | Ask::RemoveDir(_, path) => ask_at(alloc, dir, ask, path),
