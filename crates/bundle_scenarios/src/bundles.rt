@@ -31,22 +31,28 @@ const ID: Put = Put::File(
     "sha512-aaaaaaaaaaaaaaaaaaaaaaaaaaaaaaaaaaaaaaaaaaaaaaaaaaaaaaaaaaaaaaaaaaaaaaaaaaaaaaaaaaaaaaaaaaaaaaaaaaaaaaaaaaaaaaaaaaaaaaaaaaaaaaaa\n",
 );
 
-const CASES: &[Case] = &[
+const FIRST: &[Put] = &[
+    Put::File(
+        "b/manifest",
+        "{\"acKind\":\"ImageManifest\",\"acVersion\":\"0.8.0\",\"name\":\"example.com/base\",\"labels\":[{\"name\":\"version\",\"value\":\"1.0.0\"},{\"name\":\"os\",\"value\":\"linux\"},{\"name\":\"arch\",\"value\":\"amd64\"}]}",
+    ),
+    Put::File(
+        "b/id",
+        "sha512-aaaaaaaaaaaaaaaaaaaaaaaaaaaaaaaaaaaaaaaaaaaaaaaaaaaaaaaaaaaaaaaaaaaaaaaaaaaaaaaaaaaaaaaaaaaaaaaaaaaaaaaaaaaaaaaaaaaaaaaaaaaaaaaa",
+    ),
+    Put::File("b/rootfs/bin/abc", "abc"),
+    Put::File("b/rootfs/etc/motd", ""),
+    Put::Link("b/rootfs/etc/issue", "motd"),
+];
+
+const FIRST_SAYS: &str =
+    "d 0755 0 0 /bin\nf 0755 0 0 3 ddaf35a193617abacc417349ae20413112e6fa4e89a97ea20a9eeee64b55d39a2192992a274fc1a836ba3c23a3feebbd454d4423643ce80e2a9ac94fa54ca49f /bin/abc\nd 0755 0 0 /etc\nl 0777 0 0 motd /etc/issue\nf 0755 0 0 0 cf83e1357eefb8bdf1542850d66d8007d620e4050b5715dc83f4a921d36ce9ce47d0d13c5d85f2b0ff8318d2877eec2f63b931bd47417a81a538327af927da3e /etc/motd\n";
+
+// Bundles that say their listing, given or walked.
+const WHOLE: &[Case] = &[
     Case {
-        puts: &[
-            Put::File(
-                "b/manifest",
-                "{\"acKind\":\"ImageManifest\",\"acVersion\":\"0.8.0\",\"name\":\"example.com/base\",\"labels\":[{\"name\":\"version\",\"value\":\"1.0.0\"},{\"name\":\"os\",\"value\":\"linux\"},{\"name\":\"arch\",\"value\":\"amd64\"}]}",
-            ),
-            Put::File(
-                "b/id",
-                "sha512-aaaaaaaaaaaaaaaaaaaaaaaaaaaaaaaaaaaaaaaaaaaaaaaaaaaaaaaaaaaaaaaaaaaaaaaaaaaaaaaaaaaaaaaaaaaaaaaaaaaaaaaaaaaaaaaaaaaaaaaaaaaaaaaa",
-            ),
-            Put::File("b/rootfs/bin/abc", "abc"),
-            Put::File("b/rootfs/etc/motd", ""),
-            Put::Link("b/rootfs/etc/issue", "motd"),
-        ],
-        says: "d 0755 0 0 /bin\nf 0755 0 0 3 ddaf35a193617abacc417349ae20413112e6fa4e89a97ea20a9eeee64b55d39a2192992a274fc1a836ba3c23a3feebbd454d4423643ce80e2a9ac94fa54ca49f /bin/abc\nd 0755 0 0 /etc\nl 0777 0 0 motd /etc/issue\nf 0755 0 0 0 cf83e1357eefb8bdf1542850d66d8007d620e4050b5715dc83f4a921d36ce9ce47d0d13c5d85f2b0ff8318d2877eec2f63b931bd47417a81a538327af927da3e /etc/motd\n",
+        puts: FIRST,
+        says: FIRST_SAYS,
     },
     Case {
         puts: &[
@@ -87,6 +93,10 @@ const CASES: &[Case] = &[
         puts: &[MANIFEST, ID, Put::Dir("b/rootfs")],
         says: "",
     },
+];
+
+// Manifests and IDs, read or refused.
+const HEADS: &[Case] = &[
     Case {
         puts: &[],
         says: "no file manifest",
@@ -168,6 +178,10 @@ const CASES: &[Case] = &[
         puts: &[MANIFEST, Put::File("b/id", "x"), Put::File("b/tree", "x")],
         says: "bad id",
     },
+];
+
+// Listings that are given.
+const LISTINGS: &[Case] = &[
     Case {
         puts: &[MANIFEST, ID, Put::File("b/tree", "")],
         says: "",
@@ -204,6 +218,10 @@ const CASES: &[Case] = &[
         ],
         says: "listing: the file of line 1 is too long",
     },
+];
+
+// Roots that are walked.
+const WALKS: &[Case] = &[
     Case {
         puts: &[MANIFEST, ID, Put::Other("b/rootfs/a")],
         says: "bad kind rootfs/a",
@@ -345,11 +363,37 @@ fn meets(alloc: Global, case: &Case) -> Result<bool, Fail> {
     Ok(answer.as_slice() == case.says.as_bytes())
 }
 
-#[test]
-fn each_bundle_says_its_listing_or_its_first_fault(rt: HostRuntime) -> Result<(), Fail> {
-    for (place, case) in CASES.iter().enumerate() {
-        assert!(&rt; meets(rt.alloc(), case)?, "case {place}");
+/// The place of the first case that isn't met.
+fn first_unmet(alloc: Global, cases: &[Case]) -> Result<Option<usize>, Fail> {
+    for place in 0..cases.len() {
+        if !meets(alloc, &cases[place])? {
+            return Ok(Some(place));
+        }
     }
+    Ok(None)
+}
+
+#[test]
+fn each_bundle_says_its_listing(rt: HostRuntime) -> Result<(), Fail> {
+    assert!(&rt; first_unmet(rt.alloc(), WHOLE)?.is_none());
+    Ok(())
+}
+
+#[test]
+fn each_head_is_read_or_refused(rt: HostRuntime) -> Result<(), Fail> {
+    assert!(&rt; first_unmet(rt.alloc(), HEADS)?.is_none());
+    Ok(())
+}
+
+#[test]
+fn each_given_listing_is_read_or_refused(rt: HostRuntime) -> Result<(), Fail> {
+    assert!(&rt; first_unmet(rt.alloc(), LISTINGS)?.is_none());
+    Ok(())
+}
+
+#[test]
+fn each_root_is_walked_or_refused(rt: HostRuntime) -> Result<(), Fail> {
+    assert!(&rt; first_unmet(rt.alloc(), WALKS)?.is_none());
     Ok(())
 }
 
@@ -434,7 +478,7 @@ fn a_path_has_at_most_4096_bytes(rt: HostRuntime) -> Result<(), Fail> {
 
 /// The bundle of the first case, whose call with that number fails.
 fn failing_answer(alloc: Global, call: u64) -> Result<Vec<u8>, Fail> {
-    let bundle = bundle_of(alloc, CASES[0].puts)?;
+    let bundle = bundle_of(alloc, FIRST)?;
     let mut bundle = bundle.fail(alloc, call)?;
     answer(alloc, &mut bundle, "b")
 }
@@ -445,7 +489,7 @@ fn each_failing_call_is_a_fault(rt: HostRuntime) -> Result<(), Fail> {
     for call in 1..10 {
         assert!(&rt; failing_answer(rt.alloc(), call)?.as_slice() == b"bundle fault".as_slice());
     }
-    assert!(&rt; failing_answer(rt.alloc(), 10)?.as_slice() == CASES[0].says.as_bytes());
+    assert!(&rt; failing_answer(rt.alloc(), 10)?.as_slice() == FIRST_SAYS.as_bytes());
     Ok(())
 }
 
