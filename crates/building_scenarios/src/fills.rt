@@ -97,7 +97,8 @@ fn bring<D: Dir>(alloc: Global, dir: &mut D) -> bool
                 area: Area::Images,
                 name,
             };
-            dir.move_folder(alloc, spot(Area::Incoming, DRAW), to).is_ok()
+            dir.move_folder(alloc, spot(Area::Incoming, DRAW), to)
+                .is_ok()
         }
         None => false,
     }
@@ -231,7 +232,12 @@ fn left_by(alloc: Global, dir: MemoryDir) -> Result<Option<Left>, NoMemory>
     }))
 }
 
-fn is_left(alloc: Global, call: u64, built: Result<(), BuildError>, whole: usize) -> Result<bool, NoMemory>
+fn is_left(
+    alloc: Global,
+    call: u64,
+    built: Result<(), BuildError>,
+    whole: usize,
+) -> Result<bool, NoMemory>
     requires { 2 ≤ call }
 {
     let dir = MemoryDir::new(alloc, 1)?.stop(call);

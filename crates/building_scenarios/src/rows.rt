@@ -113,7 +113,11 @@ pub fn plan_of(alloc: Global, rows: &[Row]) -> Result<Vec<PlanEntry>, NoMemory> 
     Ok(plan)
 }
 
-fn with_file(alloc: Global, bundle: MemoryBundle, copied: Copied) -> Result<MemoryBundle, NoMemory> {
+fn with_file(
+    alloc: Global,
+    bundle: MemoryBundle,
+    copied: Copied,
+) -> Result<MemoryBundle, NoMemory> {
     let bytes = bytes_of(alloc, copied.bytes)?;
     bundle.file(alloc, copied.from, bytes.as_slice())
 }

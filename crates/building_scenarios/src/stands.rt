@@ -147,5 +147,9 @@ pub fn standing<D: Dir>(
         look(alloc, dir, spot, *row, &mut tally)?;
     }
     let only = tally.listed == tally.standing;
-    Ok(if tally.so && only { Some(tally.whole) } else { None })
+    Ok(if tally.so && only {
+        Some(tally.whole)
+    } else {
+        None
+    })
 }

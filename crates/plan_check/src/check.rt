@@ -28,9 +28,7 @@ fn has_path(path: &[u8], before: &[PlanEntry]) -> bool
 fn has_dir(path: &[u8], before: &[PlanEntry]) -> bool
     ensures { result ≡ has_dir path.now (outline before.now) }
 {
-    before
-        .iter()
-        .any(|entry| !is_file(&entry.content) && entry.path.as_str().as_bytes() == path)
+    before.iter().any(|entry| !is_file(&entry.content) && entry.path.as_str().as_bytes() == path)
 }
 
 fn is_in_directory(path: &[u8], before: &[PlanEntry]) -> bool
