@@ -1,8 +1,8 @@
 // The test of a plan, entry by entry.
-ghost use Rattle.std.specs.Prelude.{◌≡◌, ◌&&◌};
+ghost use Rattle.std.specs.Prelude.{◌≡◌, ◌&&◌, not, bytes_eq};
 ghost use Rattle.std.specs.List.{list_any};
 ghost use Rattle.dir_rules.specs.Rules.{has_path, has_dir, is_in_directory, is_new_path};
-ghost use Rattle.folder_building.specs.Plans.{is_file, outline, has_origin, follows, is_plan};
+ghost use Rattle.folder_building.specs.Plans.{is_among, is_file, outline, has_origin, follows, is_plan};
 
 use dir_model::is_path;
 use folder_building::{Content, PlanEntry};
@@ -17,18 +17,42 @@ fn is_file(content: &Content) -> bool
     }
 }
 
+fn is_at(path: &[u8], entry: &PlanEntry) -> bool
+    ensures { result ≡ bytes_eq entry.now.path path.now }
+{
+    entry.path.as_str().as_bytes() == path
+}
+
+fn is_dir_at(path: &[u8], entry: &PlanEntry) -> bool
+    ensures { result ≡ (not (is_file entry.now.content) && bytes_eq entry.now.path path.now) }
+{
+    !is_file(&entry.content) && is_at(path, entry)
+}
+
+fn is_among(path: &[u8], before: &[PlanEntry]) -> bool
+    ensures { result ≡ is_among path.now before.now }
+{
+    before.iter().any(|entry| is_at(path, entry))
+}
+
+fn is_among_dirs(path: &[u8], before: &[PlanEntry]) -> bool
+    ensures { result ≡ list_any (λ e. not (is_file e.content) && bytes_eq e.path path.now) before.now }
+{
+    before.iter().any(|entry| is_dir_at(path, entry))
+}
+
+#[tactic(auto, using(crate::proofs::Outlines::path_in))]
 fn has_path(path: &[u8], before: &[PlanEntry]) -> bool
     ensures { result ≡ has_path path.now (outline before.now) }
 {
-    before
-        .iter()
-        .any(|entry| entry.path.as_str().as_bytes() == path)
+    is_among(path, before)
 }
 
+#[tactic(auto, using(crate::proofs::Outlines::dir_in))]
 fn has_dir(path: &[u8], before: &[PlanEntry]) -> bool
     ensures { result ≡ has_dir path.now (outline before.now) }
 {
-    before.iter().any(|entry| !is_file(&entry.content) && entry.path.as_str().as_bytes() == path)
+    is_among_dirs(path, before)
 }
 
 fn is_in_directory(path: &[u8], before: &[PlanEntry]) -> bool
