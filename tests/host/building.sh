@@ -62,7 +62,7 @@ same 'nothing is left in incoming' 0 "$(count "$incoming")"
 filled 'another of that key stands already' 'Error: not moved' "$key" "$tmp/plan"
 same 'the folder is left in incoming' 1 "$(count "$incoming")"
 
-# Files that aren't what the plan asks for: entry 10 is the first file in rootfs/etc.
+# Files that aren't what the plan asks for. Entries are counted from 0.
 refuse() {
     local name=$1 wanted=$2 plan=$3
     rm -rf "$incoming" "$images"
@@ -108,7 +108,7 @@ unsynced() {
             for (path in made) {
                 if (index(path, below) != 1) continue
                 count++
-                if (!(synced[path] > changed[path] && synced[path] < moved)) print substr(path, length(below) + 38)
+                if (!(synced[path] > changed[path] && synced[path] < moved)) print substr(path, length(below) + 37)
             }
             print count + 0
         }' "$1" | sort
@@ -128,7 +128,9 @@ trace_host() {
         grep -v "^fsync(.*$what>" "$tmp/trace" >"$tmp/less"
         same "a sync that lacks is seen: $what" "$what" "$(unsynced "$tmp/less" | grep -v '^[0-9]*$')"
     done
-    for what in write:error=ENOSPC:when=3 fsync:error=EIO:when=1 fsync:error=EIO:when=9 mkdir,mkdirat:error=EIO:when=4; do
+    local last
+    last=$(grep -c '^mkdir(' "$tmp/trace")
+    for what in write:error=ENOSPC:when=3 fsync:error=EIO:when=1 fsync:error=EIO:when=9 "mkdir:error=EIO:when=$last"; do
         rm -rf "$incoming"/* "$images"/*
         same "$what" 'Error: directory fault' "$(trace -e "trace=${what%%:*}" -e "inject=$what")"
         same "$what: nothing in images" 0 "$(count "$images")"

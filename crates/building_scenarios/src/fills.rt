@@ -1,6 +1,6 @@
 // A folder in incoming filled by a plan: as a whole, and where a call fails, the process is killed before
 // one, or the bundle fails.
-ghost use Rattle.std.specs.Prelude.{◌≡◌};
+ghost use Rattle.std.specs.Prelude.{◌≡◌, ◌≤◌};
 ghost use Rattle.dir_trait.specs.Local.{nothing_local, IsActive};
 
 use crate::rows::{Copied, Filling, Row, bundle_of, plan_of};
@@ -120,7 +120,7 @@ pub fn told_of(
     let here = spot(Area::Incoming, DRAW);
     let built = fill_from(alloc, dir, bundle, here, plan.as_slice());
     let faults = dir.fault_count();
-    let whole = standing(alloc, dir, here, rows)?;
+    let whole = standing(alloc, dir, spot(Area::Incoming, DRAW), rows)?;
     let kept = are_kept(alloc, dir)?;
     let moved = bring(alloc, dir);
     let brought = moved && are_kept(alloc, dir)?;
@@ -216,11 +216,14 @@ fn left_by(alloc: Global, dir: MemoryDir) -> Result<Option<Left>, NoMemory>
     let plan = plan_of(alloc, &PLAN)?;
     let mut bundle = bundle_of(alloc, &PLAN)?;
     let begun = begin_import(alloc, &mut dir);
-    if begun.is_err() || dir.has_begun(2) {
+    if begun.is_err() {
         return Ok(None);
     }
     let here = spot(Area::Incoming, DRAW);
     let built = fill_from(alloc, &mut dir, &mut bundle, here, plan.as_slice());
+    if dir.has_begun(2) {
+        return Ok(None);
+    }
     let mut dir = dir.next_process(2);
     let (freed, whole) = found(alloc, &mut dir, &PLAN)?;
     let kept = are_kept(alloc, &dir)?;

@@ -111,11 +111,11 @@ fn begin_prepare<D: Dir>(alloc: Global, dir: &mut D) -> Result<(), DirError>
 {
     dir.begin(alloc, intent(Kind::Prepare, DRAW))?;
     let _gate = lock_gate(alloc, dir, Area::Embryo, Mode::Shared)?;
-    let embryo = spot(Area::Embryo, DRAW);
-    dir.make_folder(alloc, embryo)?;
-    let own = dir.open(alloc, embryo, Which::Own)?;
+    dir.make_folder(alloc, spot(Area::Embryo, DRAW))?;
+    let own = dir.open(alloc, spot(Area::Embryo, DRAW), Which::Own)?;
     dir.try_lock(alloc, own, Mode::Exclusive)?;
-    dir.move_folder(alloc, embryo, spot(Area::Prepare, DRAW))
+    let (from, to) = (spot(Area::Embryo, DRAW), spot(Area::Prepare, DRAW));
+    dir.move_folder(alloc, from, to)
 }
 
 // Carries out the plan. The gate of images is held meanwhile, or not.
@@ -156,11 +156,9 @@ fn told_of(alloc: Global, dir: MemoryDir, gated: bool) -> Result<Option<Told>, N
         return Ok(None);
     }
     let built = fill_pod(alloc, &mut dir, plan.as_slice(), gated);
-    let here = spot(Area::Prepare, DRAW);
-    let whole = standing(alloc, &mut dir, here, &POD)?;
-    let moved = dir
-        .move_folder(alloc, here, spot(Area::Prepared, DRAW))
-        .is_ok();
+    let whole = standing(alloc, &mut dir, spot(Area::Prepare, DRAW), &POD)?;
+    let (from, to) = (spot(Area::Prepare, DRAW), spot(Area::Prepared, DRAW));
+    let moved = dir.move_folder(alloc, from, to).is_ok();
     let kept = are_kept(alloc, &dir)?;
     Ok(Some(Told {
         built,

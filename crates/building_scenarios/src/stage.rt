@@ -1,6 +1,6 @@
 // Processes that make a folder and fill it.
 ghost use Rattle.std.specs.Prelude.{◌≡◌, IfOk};
-ghost use Rattle.dir_trait.specs.Local.{nothing_local, IsActive, IsOpen};
+ghost use Rattle.dir_trait.specs.Local.{nothing_local, IsActive, IsOpen, IsUnlocked};
 
 use conformance::keeps_rules;
 use dir_memory::MemoryDir;
@@ -16,6 +16,7 @@ pub const DRAW: PodId = PodId { bytes: [1; 16] };
 
 /// What a process begins with.
 pub fn intent(kind: Kind, draw: PodId) -> Intent {
+    let token = draw.bytes;
     Intent {
         kind,
         word: PodPrefix::empty(),
@@ -23,7 +24,7 @@ pub fn intent(kind: Kind, draw: PodId) -> Intent {
         grace: 1800,
         expire: 86_400,
         draw,
-        token: draw.bytes,
+        token,
     }
 }
 
@@ -32,6 +33,28 @@ pub fn spot(area: Area, draw: PodId) -> Spot {
         area,
         name: draw.name(),
     }
+}
+
+/// Asks for the lock of an open handle, which stays open.
+fn lock<D: Dir>(alloc: Global, dir: &mut D, gate: Handle, mode: Mode) -> Result<(), DirError>
+    requires active { IsActive (D.shown dir.old).local }
+    requires open { IsOpen (D.shown dir.old).local gate }
+    requires unlocked { IsUnlocked (D.shown dir.old).local gate }
+    ensures active { IsActive (D.shown dir.new).local }
+    ensures open { IsOpen (D.shown dir.new).local gate }
+{
+    dir.try_lock(alloc, gate, mode)
+}
+
+fn locked<D: Dir>(alloc: Global, dir: &mut D, gate: Handle, mode: Mode) -> Result<Handle, DirError>
+    requires active { IsActive (D.shown dir.old).local }
+    requires open { IsOpen (D.shown dir.old).local gate }
+    requires unlocked { IsUnlocked (D.shown dir.old).local gate }
+    ensures active { IsActive (D.shown dir.new).local }
+    ensures open { IfOk result (λ gate. IsOpen (D.shown dir.new).local gate) }
+{
+    lock(alloc, dir, gate, mode)?;
+    Ok(gate)
 }
 
 /// Opens the gate of an area and locks it.
@@ -45,9 +68,10 @@ pub fn lock_gate<D: Dir>(
     ensures active { IsActive (D.shown dir.new).local }
     ensures open { IfOk result (λ gate. IsOpen (D.shown dir.new).local gate) }
 {
-    let gate = dir.open_area(alloc, area)?;
-    dir.try_lock(alloc, gate, mode)?;
-    Ok(gate)
+    match dir.open_area(alloc, area) {
+        Ok(gate) => locked(alloc, dir, gate, mode),
+        Err(error) => Err(error),
+    }
 }
 
 /// Begins as an importer, holds the gate of incoming and makes a folder there. Answers the gate.
