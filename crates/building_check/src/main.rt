@@ -31,14 +31,24 @@ fn intent(now: u64, draw: &Draw) -> Intent {
     }
 }
 
-/// Holds the gate of incoming and makes the folder.
-fn make<D: Dir>(rt: &HostRuntime, dir: &mut D, spot: Spot) -> result::Result<(), DirError>
+/// Holds the gate of incoming.
+fn lock<D: Dir>(rt: &HostRuntime, dir: &mut D) -> result::Result<(), DirError>
     requires { IsActive (D.shown dir.old).local }
     ensures { IsActive (D.shown dir.new).local }
 {
-    let gate = dir.open_area(rt.alloc(), Area::Incoming)?;
-    dir.try_lock(rt.alloc(), gate, Mode::Shared)?;
-    dir.make_folder(rt.alloc(), spot)
+    match dir.open_area(rt.alloc(), Area::Incoming) {
+        Ok(gate) => dir.try_lock(rt.alloc(), gate, Mode::Shared),
+        Err(error) => Err(error),
+    }
+}
+
+/// Holds the gate of incoming and makes the folder.
+fn make<D: Dir>(rt: &HostRuntime, dir: &mut D, spot: &Spot) -> result::Result<(), DirError>
+    requires { IsActive (D.shown dir.old).local }
+    ensures { IsActive (D.shown dir.new).local }
+{
+    lock(rt, dir)?;
+    dir.make_folder(rt.alloc(), *spot)
 }
 
 /// Fills the folder with the files of a bundle.
@@ -47,7 +57,7 @@ fn fill<D: Dir, B: Bundle>(
     dir: &mut D,
     bundle: &mut B,
     root: &str,
-    spot: Spot,
+    spot: &Spot,
     plan: &[PlanEntry],
 ) -> Result<()>
     requires { IsActive (D.shown dir.old).local }
@@ -57,7 +67,7 @@ fn fill<D: Dir, B: Bundle>(
         return Err(anyhow!("no plan"));
     }
     let mut source = BundleSource { bundle, root };
-    let built = carry_out(rt.alloc(), dir, &mut source, spot, plan);
+    let built = carry_out(rt.alloc(), dir, &mut source, *spot, plan);
     let BundleSource { bundle: _, root: _ } = source;
     match built {
         Ok(()) => Ok(()),
@@ -73,7 +83,7 @@ fn fill<D: Dir, B: Bundle>(
 fn bring<D: Dir>(
     rt: &HostRuntime,
     dir: &mut D,
-    from: Spot,
+    from: &Spot,
     name: Name,
 ) -> result::Result<(), DirError>
     requires { IsActive (D.shown dir.old).local }
@@ -83,7 +93,7 @@ fn bring<D: Dir>(
         area: Area::Images,
         name,
     };
-    dir.move_folder(rt.alloc(), from, to)?;
+    dir.move_folder(rt.alloc(), *from, to)?;
     dir.sync_area(rt.alloc(), Area::Images)
 }
 
@@ -99,7 +109,7 @@ fn not_brought(_error: DirError) -> anyhow::Error {
 fn import<D: Dir>(
     rt: &HostRuntime,
     dir: &mut D,
-    spot: Spot,
+    spot: &Spot,
     name: Name,
     root: &str,
     timed: bool,
@@ -141,7 +151,7 @@ fn run(rt: &HostRuntime, key: &str, root: &str, timed: bool) -> Result<()> {
         area: Area::Incoming,
         name: draw.uuid.name(),
     };
-    let done = import(rt, &mut dir, spot, name, root, timed);
+    let done = import(rt, &mut dir, &spot, name, root, timed);
     dir.finish();
     done
 }
