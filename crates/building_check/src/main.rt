@@ -1,0 +1,168 @@
+//! Fills a folder in incoming by a plan and moves it to images: a program by which folders that are filled
+//! on a host are tested and timed. Its words are the key of the image, the folder that files are copied
+//! from, and `time` where it is to print how many milliseconds the plan took. The plan is its standard
+//! input, whose lines tests/host/building.sh has.
+#![tactic(auto)]
+
+mod plan;
+
+ghost use Rattle.std.specs.Prelude.{◌≡◌};
+ghost use Rattle.dir_trait.specs.Local.{nothing_local, IsActive};
+
+use crate::plan::plan_of;
+use anyhow::{Result, anyhow};
+use dir_host::{HostBundle, Outside, SetupError, assemble, read_words};
+use dir_trait::{Area, Bundle, Dir, DirError, Draw, Intent, Kind, Mode, Name, PodPrefix, Spot};
+use folder_building::{BuildError, BundleSource, PlanEntry, carry_out};
+use plan_check::is_plan;
+use std::time::Instant;
+use std::{io, process, result};
+
+/// What this process says when it begins.
+fn intent(now: u64, draw: &Draw) -> Intent {
+    Intent {
+        kind: Kind::ImageImport,
+        word: PodPrefix::empty(),
+        now,
+        grace: 0,
+        expire: 0,
+        draw: draw.uuid,
+        token: draw.token,
+    }
+}
+
+/// Holds the gate of incoming.
+fn lock<D: Dir>(rt: &HostRuntime, dir: &mut D) -> result::Result<(), DirError>
+    requires { IsActive (D.shown dir.old).local }
+    ensures { IsActive (D.shown dir.new).local }
+{
+    match dir.open_area(rt.alloc(), Area::Incoming) {
+        Ok(gate) => dir.try_lock(rt.alloc(), gate, Mode::Shared),
+        Err(error) => Err(error),
+    }
+}
+
+/// Holds the gate of incoming and makes the folder.
+fn make<D: Dir>(rt: &HostRuntime, dir: &mut D, spot: &Spot) -> result::Result<(), DirError>
+    requires { IsActive (D.shown dir.old).local }
+    ensures { IsActive (D.shown dir.new).local }
+{
+    lock(rt, dir)?;
+    dir.make_folder(rt.alloc(), *spot)
+}
+
+/// Fills the folder with the files of a bundle.
+fn fill<D: Dir, B: Bundle>(
+    rt: &HostRuntime,
+    dir: &mut D,
+    bundle: &mut B,
+    root: &str,
+    spot: &Spot,
+    plan: &[PlanEntry],
+) -> Result<()>
+    requires { IsActive (D.shown dir.old).local }
+    ensures { IsActive (D.shown dir.new).local }
+{
+    if !is_plan(plan) {
+        return Err(anyhow!("no plan"));
+    }
+    let mut source = BundleSource { bundle, root };
+    let built = carry_out(rt.alloc(), dir, &mut source, *spot, plan);
+    let BundleSource { bundle: _, root: _ } = source;
+    match built {
+        Ok(()) => Ok(()),
+        Err(BuildError::Unlike(place)) => Err(anyhow!("unlike: entry {place}")),
+        Err(BuildError::SourceFault) => Err(anyhow!("source fault")),
+        Err(BuildError::DirFault) => Err(anyhow!("directory fault")),
+        Err(BuildError::Stray) => Err(anyhow!("stray")),
+        Err(BuildError::NoMemory) => Err(anyhow!("out of memory")),
+    }
+}
+
+/// Moves the folder to images, and syncs what makes that last.
+fn bring<D: Dir>(
+    rt: &HostRuntime,
+    dir: &mut D,
+    from: &Spot,
+    name: Name,
+) -> result::Result<(), DirError>
+    requires { IsActive (D.shown dir.old).local }
+    ensures { IsActive (D.shown dir.new).local }
+{
+    let to = Spot {
+        area: Area::Images,
+        name,
+    };
+    dir.move_folder(rt.alloc(), *from, to)?;
+    dir.sync_area(rt.alloc(), Area::Images)
+}
+
+fn no_folder(_error: DirError) -> anyhow::Error {
+    anyhow!("no folder")
+}
+
+fn not_brought(_error: DirError) -> anyhow::Error {
+    anyhow!("not moved")
+}
+
+/// Makes the folder, fills it, and moves it.
+fn import<D: Dir>(
+    rt: &HostRuntime,
+    dir: &mut D,
+    spot: &Spot,
+    name: Name,
+    root: &str,
+    timed: bool,
+) -> Result<()>
+    requires { IsActive (D.shown dir.old).local }
+    ensures { IsActive (D.shown dir.new).local }
+{
+    let text = io::read_to_string(rt.alloc(), rt.stdin())?;
+    let plan = plan_of(rt.alloc(), text.as_str())?;
+    let mut bundle = HostBundle::new(rt);
+    make(rt, dir, spot).map_err(no_folder)?;
+    let start = Instant::now(rt)?;
+    fill(rt, dir, &mut bundle, root, spot, plan.as_slice())?;
+    let took = start.elapsed(rt)?;
+    bring(rt, dir, spot, name).map_err(not_brought)?;
+    if timed {
+        println!(rt; "{}", took.as_millis())?;
+    }
+    println!(rt; "ok")?;
+    Ok(())
+}
+
+fn setup_fault(_error: SetupError) -> anyhow::Error {
+    anyhow!("no data folder")
+}
+
+fn refused(_error: DirError) -> anyhow::Error {
+    anyhow!("no begin")
+}
+
+/// Begins, imports and finishes.
+fn run(rt: &HostRuntime, key: &str, root: &str, timed: bool) -> Result<()> {
+    let name = Name::of(key).ok_or(anyhow!("no key"))?;
+    let Outside { now, draw, mut dir } = assemble(rt, process::id(rt.process())).map_err(
+        setup_fault,
+    )?;
+    dir.begin(rt.alloc(), intent(now, &draw)).map_err(refused)?;
+    let spot = Spot {
+        area: Area::Incoming,
+        name: draw.uuid.name(),
+    };
+    let done = import(rt, &mut dir, &spot, name, root, timed);
+    dir.finish();
+    done
+}
+
+fn main(rt: HostRuntime) -> Result<()> {
+    let words = read_words(&rt).map_err(setup_fault)?;
+    match words.as_slice() {
+        [key, root] => run(&rt, key.as_str(), root.as_str(), false),
+        [key, root, word] if word.as_str() == "time" => {
+            run(&rt, key.as_str(), root.as_str(), true)
+        }
+        _ => Err(anyhow!("the words are a key, a folder, and time or nothing")),
+    }
+}

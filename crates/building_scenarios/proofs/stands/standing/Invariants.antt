@@ -1,0 +1,5 @@
+use Rattle.dir_model.specs.Local.{IsActive}
+use Rattle.building_scenarios.proofs.stands.standing.Given as goal
+
+abbrev pub invariant-rows : goal.invariant-rows
+invariant-rows g l = IsActive (g.D.Dir.shown l.dir).local

@@ -1,0 +1,19 @@
+//! Tests of folders that are filled by a plan, and deleted, in the data folder in memory: what stands,
+//! what is answered, and whether the local rules were kept, where calls fail, processes are killed and
+//! files differ.
+#![tactic(auto)]
+
+#[cfg(test)]
+mod copies;
+#[cfg(test)]
+mod fills;
+#[cfg(test)]
+mod prepares;
+#[cfg(test)]
+mod removes;
+#[cfg(test)]
+mod rows;
+#[cfg(test)]
+mod stage;
+#[cfg(test)]
+mod stands;
