@@ -6,7 +6,8 @@
 
 mod plan;
 
-ghost use Rattle.std.specs.Prelude.{◌≡◌};
+ghost use Rattle.std.specs.Prelude.{◌≡◌, true};
+ghost use Rattle.folder_building.specs.Plans.{is_plan};
 ghost use Rattle.dir_trait.specs.Local.{nothing_local, IsActive};
 
 use crate::plan::plan_of;
@@ -60,15 +61,12 @@ fn fill<D: Dir, B: Bundle>(
     spot: &Spot,
     plan: &[PlanEntry],
 ) -> Result<()>
-    requires { IsActive (D.shown dir.old).local }
+    requires active { IsActive (D.shown dir.old).local }
+    requires plan { is_plan plan.now ≡ true }
     ensures { IsActive (D.shown dir.new).local }
 {
-    if !is_plan(plan) {
-        return Err(anyhow!("no plan"));
-    }
     let mut source = BundleSource { bundle, root };
     let built = carry_out(rt.alloc(), dir, &mut source, *spot, plan);
-    let BundleSource { bundle: _, root: _ } = source;
     match built {
         Ok(()) => Ok(()),
         Err(BuildError::Unlike(place)) => Err(anyhow!("unlike: entry {place}")),
@@ -119,6 +117,9 @@ fn import<D: Dir>(
 {
     let text = io::read_to_string(rt.alloc(), rt.stdin())?;
     let plan = plan_of(rt.alloc(), text.as_str())?;
+    if !is_plan(plan.as_slice()) {
+        return Err(anyhow!("no plan"));
+    }
     let mut bundle = HostBundle::new(rt);
     make(rt, dir, spot).map_err(no_folder)?;
     let start = Instant::now(rt)?;
@@ -136,8 +137,20 @@ fn setup_fault(_error: SetupError) -> anyhow::Error {
     anyhow!("no data folder")
 }
 
-fn refused(_error: DirError) -> anyhow::Error {
-    anyhow!("no begin")
+/// Imports in a process that has begun, and finishes it.
+fn import_and_finish<D: Dir>(
+    rt: &HostRuntime,
+    dir: &mut D,
+    spot: &Spot,
+    name: Name,
+    root: &str,
+    timed: bool,
+) -> Result<()>
+    requires { IsActive (D.shown dir.old).local }
+{
+    let done = import(rt, dir, spot, name, root, timed);
+    dir.finish();
+    done
 }
 
 /// Begins, imports and finishes.
@@ -146,14 +159,14 @@ fn run(rt: &HostRuntime, key: &str, root: &str, timed: bool) -> Result<()> {
     let Outside { now, draw, mut dir } = assemble(rt, process::id(rt.process())).map_err(
         setup_fault,
     )?;
-    dir.begin(rt.alloc(), intent(now, &draw)).map_err(refused)?;
     let spot = Spot {
         area: Area::Incoming,
         name: draw.uuid.name(),
     };
-    let done = import(rt, &mut dir, &spot, name, root, timed);
-    dir.finish();
-    done
+    match dir.begin(rt.alloc(), intent(now, &draw)) {
+        Ok(()) => import_and_finish(rt, &mut dir, &spot, name, root, timed),
+        Err(_) => Err(anyhow!("no begin")),
+    }
 }
 
 fn main(rt: HostRuntime) -> Result<()> {

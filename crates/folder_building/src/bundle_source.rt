@@ -10,6 +10,7 @@ use std::alloc::{AllocError, Global};
 
 /// The files of the bundle at a path. An origin's path is taken from there on; its folder is passed
 /// over.
+#[derive(Drop)]
 pub struct BundleSource<'a, B> {
     pub bundle: &'a mut B,
     pub root: &'a str,

@@ -8,6 +8,7 @@ use std::alloc::Global;
 
 /// The files of the store's images. An origin names the image's folder. Whoever reads them holds the
 /// lock of images.
+#[derive(Drop)]
 pub struct StoreSource;
 
 fn store_error(error: DirError) -> SourceError
