@@ -15,7 +15,7 @@ const SWEEPER: PodId = PodId { bytes: [2; 16] };
 
 const OTHER: PodId = PodId { bytes: [3; 16] };
 
-const LEFT: [Row; 4] = [
+const LEFT: &[Row] = &[
     Row::Directory("rootfs"),
     Row::Directory("rootfs/etc"),
     Row::Given("rootfs/etc/motd", Filling::Text("hello\n")),
@@ -31,14 +31,19 @@ const LEFT: [Row; 4] = [
     ),
 ];
 
+// A call, so that who carries the plan out needn't look into it.
+fn left_rows() -> &'static [Row] {
+    LEFT
+}
+
 /// What an importer leaves that is killed once it has filled its folder, for process 2. None where it
 /// could not fill it.
 fn left(alloc: Global) -> Result<Option<MemoryDir>, NoMemory>
     ensures { IfOk result (λ dir. IfSome dir (λ dir. dir.local ≡ nothing_local)) }
 {
     let mut dir = MemoryDir::new(alloc, 1)?;
-    let plan = plan_of(alloc, &LEFT)?;
-    let mut bundle = bundle_of(alloc, &LEFT)?;
+    let plan = plan_of(alloc, left_rows())?;
+    let mut bundle = bundle_of(alloc, left_rows())?;
     if begin_import(alloc, &mut dir).is_err() {
         return Ok(None);
     }
@@ -120,7 +125,12 @@ fn heard(events: &[Event]) -> (usize, usize) {
 }
 
 // The deletion lists three directories, removes four items and the folder. Then the gate is given up.
-const CALLS: [u64; 9] = [7, 8, 9, 10, 11, 12, 13, 14, 15];
+const CALLS: &[u64] = &[7, 8, 9, 10, 11, 12, 13, 14, 15];
+
+// Likewise.
+fn call_rows() -> &'static [u64] {
+    CALLS
+}
 
 #[test]
 fn a_folder_is_deleted_while_another_asks_for_the_gate(rt: HostRuntime) -> Result<(), Fail> {
@@ -128,7 +138,7 @@ fn a_folder_is_deleted_while_another_asks_for_the_gate(rt: HostRuntime) -> Resul
         assert!(rt; false, "it was not filled");
         return Ok(());
     };
-    let mut dir = asked(rt.alloc(), dir, &CALLS)?;
+    let mut dir = asked(rt.alloc(), dir, call_rows())?;
     let names = sweep(rt.alloc(), &mut dir);
     assert!(rt; names == Some(0));
     let heard = heard(dir.history().as_slice());

@@ -1,0 +1,65 @@
+use Rattle.std.proofs.Common.{IsErrOf, rules, refl, subst, List, ◌∙◌}
+use Rattle.std.proofs.lemmas.List.{take_all}
+use Rattle.folder_building.specs.declared.plan.PlanEntry.{PlanEntry}
+use Rattle.folder_building.specs.declared.error.BuildError.TheVariants.{Stray, Unlike}
+use Rattle.folder_building.specs.Making.{FillsWith}
+use Rattle.folder_building.proofs.Working.{worked_none, worked_more}
+use Rattle.folder_building.proofs.Strays.{stray_after}
+use Rattle.folder_building.proofs.Copying.{same_none, same_more, worked_same, stray_same, err_any}
+use Rattle.folder_building.proofs.Filling.{fills_none, fills_next, begins_next, planned_path, planned_origin, unlike_at}
+use Rattle.folder_building.proofs.build.add_all.Goals as goal
+
+pub entries-init : goal.entries-init
+entries-init g c = record { place = refl; same = same_none; worked = worked_none; filled = fills_none g.D.Dir.observed (g.S.Source.shown c.args.source.now) c.args.spot.now c.args.plan.now }
+
+pub add-requires-clause-active : goal.add-requires-clause-active
+add-requires-clause-active g c = rw c.entries.invariant.worked.local c.requires.active
+
+pub add-requires-clause-path : goal.add-requires-clause-path
+add-requires-clause-path g c = planned_path c.args.plan.now c.entries.entry-index c.entry-item.result c.entries-test.true c.entry-item.is c.requires.plan
+
+pub add-requires-clause-origin : goal.add-requires-clause-origin
+add-requires-clause-origin g c = planned_origin c.args.plan.now c.entries.entry-index c.entry-item.result c.entries-test.true c.entry-item.is c.requires.plan
+
+pub entries-preserved : goal.entries-preserved
+entries-preserved g c =
+    let D = g.D.Dir in
+    let S = g.S.Source in
+    let i = c.entries.invariant in
+    record {
+      place = rw i.place refl;
+      same = same_more i.same c.add.ensures.same;
+      worked = worked_more i.worked (worked_same c.args.spot.now i.same c.add.ensures.worked);
+      filled = fills_next D.observed (S.shown c.args.source.now) c.args.spot.now c.args.plan.now c.entries.entry-index c.entry-item.result c.entries-test.true c.entry-item.is c.requires.plan i.same i.filled c.in_ok-add.ensures.done;
+    }
+
+pub returns-in_err-add-clause-worked : goal.returns-in_err-add-clause-worked
+returns-in_err-add-clause-worked g c = worked_more c.entries.invariant.worked (worked_same c.args.spot.now c.entries.invariant.same c.add.ensures.worked)
+
+pub returns-in_err-add-clause-stray : goal.returns-in_err-add-clause-stray
+returns-in_err-add-clause-stray g c h t =
+    let D = g.D.Dir in
+    let i = c.entries.invariant in
+    let k : IsErrOf c.add.result Stray = search (rules, h, c.from_residual.ensures, c.in_err-add.is) in
+    stray_after (D.shown c.add.new.dir) t i.worked (stray_same c.args.spot.now (D.shown c.entries.dir) (D.shown c.add.new.dir) i.same (c.add.ensures.stray k t))
+
+pub returns-in_err-add-clause-refused : goal.returns-in_err-add-clause-refused
+returns-in_err-add-clause-refused g c =
+    let D = g.D.Dir in
+    let S = g.S.Source in
+    let i = c.entries.invariant in
+    err_any _ c.from_residual.result (λ t. begins_next D.observed (S.shown c.args.source.now) c.args.spot.now c.args.plan.now c.entries.entry-index c.entry-item.result c.entries-test.true c.entry-item.is c.requires.plan t i.same i.filled (c.in_err-add.ensures.refused t))
+
+pub returns-clause-done : goal.returns-clause-done
+returns-clause-done g c =
+    let D = g.D.Dir in
+    let plan = c.args.plan.now in
+    subst (λ (xs : List PlanEntry). FillsWith D.observed (g.S.Source.shown c.args.source.now) c.args.spot.now plan xs (D.shown c.args.dir.now) (D.shown c.entries.dir)) (take_all c.entries.entry-index plan c.entries-test.false) c.entries.invariant.filled
+
+pub returns-in_err-add-clause-unlike : goal.returns-in_err-add-clause-unlike
+returns-in_err-add-clause-unlike g c n h =
+    let S = g.S.Source in
+    let i = c.entries.invariant in
+    let k : IsErrOf c.add.result (Unlike n) = search (rules, h, c.from_residual.ensures, c.in_err-add.is) in
+    let why = c.add.ensures.unlike n k in
+    unlike_at (S.shown c.args.source.now) (S.shown c.entries.source) c.args.plan.now c.entries.entry-index c.entry-item.result c.entries-test.true c.entry-item.is n (why.0 ∙ i.place) i.same why.1
