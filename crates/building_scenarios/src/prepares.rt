@@ -3,7 +3,7 @@ ghost use Rattle.std.specs.Prelude.{◌≡◌, IfOk};
 ghost use Rattle.dir_trait.specs.Local.{nothing_local, IsActive, IsOpen};
 
 use crate::rows::{Copied, Filling, Row, bytes_of, plan_of};
-use crate::stage::{DRAW, are_kept, fill, intent, lock_gate, spot};
+use crate::stage::{DRAW, are_kept, fill, intent, lock_gate, lock_own, spot};
 use crate::stands::standing;
 use dir_memory::MemoryDir;
 use dir_trait::{
@@ -117,8 +117,7 @@ fn begin_prepare<D: Dir>(alloc: Global, dir: &mut D) -> Result<(), DirError>
     dir.begin(alloc, intent(Kind::Prepare, DRAW))?;
     let _gate = lock_gate(alloc, dir, Area::Embryo, Mode::Shared)?;
     dir.make_folder(alloc, spot(Area::Embryo, DRAW))?;
-    let own = dir.open(alloc, spot(Area::Embryo, DRAW), Which::Own)?;
-    dir.try_lock(alloc, own, Mode::Exclusive)?;
+    lock_own(alloc, dir, spot(Area::Embryo, DRAW), Mode::Exclusive)?;
     let (from, to) = (spot(Area::Embryo, DRAW), spot(Area::Prepare, DRAW));
     dir.move_folder(alloc, from, to)
 }

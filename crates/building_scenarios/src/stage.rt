@@ -6,7 +6,7 @@ use conformance::keeps_rules;
 use dir_memory::MemoryDir;
 use dir_trait::{
     Area, Bundle, Dir, DirError, Handle, Intent, Kind, Mode, NoMemory, PodId, PodPrefix, Spot,
-};
+, Which};
 use folder_building::{BuildError, BundleSource, PlanEntry, Source, carry_out};
 use plan_check::is_plan;
 use std::alloc::Global;
@@ -28,7 +28,9 @@ pub fn intent(kind: Kind, draw: PodId) -> Intent {
     }
 }
 
-pub fn spot(area: Area, draw: PodId) -> Spot {
+pub fn spot(area: Area, draw: PodId) -> Spot
+    ensures { result.area ≡ area }
+{
     Spot {
         area,
         name: draw.name(),
@@ -70,6 +72,23 @@ pub fn lock_gate<D: Dir>(
 {
     match dir.open_area(alloc, area) {
         Ok(gate) => locked(alloc, dir, gate, mode),
+        Err(error) => Err(error),
+    }
+}
+
+/// Opens the lock of the folder at a location and takes it.
+pub fn lock_own<D: Dir>(
+    alloc: Global,
+    dir: &mut D,
+    spot: Spot,
+    mode: Mode,
+) -> Result<(), DirError>
+    requires { IsActive (D.shown dir.old).local }
+    ensures { IsActive (D.shown dir.new).local }
+{
+    let spot = &spot;
+    match dir.open(alloc, *spot, Which::Own) {
+        Ok(own) => dir.try_lock(alloc, own, mode),
         Err(error) => Err(error),
     }
 }

@@ -48,7 +48,8 @@ fn read<D: Dir>(
 ) -> Stand
     requires active { IsActive (D.shown dir.old).local }
     requires path { is_path path.now ≡ true }
-    ensures { IsActive (D.shown dir.new).local }
+    ensures active { IsActive (D.shown dir.new).local }
+    ensures same { (D.shown dir.new).local ≡ (D.shown dir.old).local }
 {
     match dir.read_in(alloc, spot, path, 0, room) {
         Ok(count) => compare(&room[..count], wanted),
@@ -65,7 +66,8 @@ fn file_stand<D: Dir>(
     filling: Filling,
 ) -> Result<Stand, NoMemory>
     requires { IsActive (D.shown dir.old).local }
-    ensures { IsActive (D.shown dir.new).local }
+    ensures active { IsActive (D.shown dir.new).local }
+    ensures same { (D.shown dir.new).local ≡ (D.shown dir.old).local }
 {
     let wanted = bytes_of(alloc, filling)?;
     let mut room = vec![in alloc; 0; wanted.as_slice().len().saturating_add(1)]?;
@@ -78,7 +80,8 @@ fn file_stand<D: Dir>(
 // How many items a listing of a directory shows, where it is one.
 fn count_in<D: Dir>(alloc: Global, dir: &mut D, spot: Spot, text: &'static str) -> Option<usize>
     requires { IsActive (D.shown dir.old).local }
-    ensures { IsActive (D.shown dir.new).local }
+    ensures active { IsActive (D.shown dir.new).local }
+    ensures same { (D.shown dir.new).local ≡ (D.shown dir.old).local }
 {
     let path = path_of(text)?;
     match items_of(alloc, dir, spot, path) {
@@ -107,7 +110,8 @@ fn look<D: Dir>(
     tally: &mut Tally,
 ) -> Result<(), NoMemory>
     requires { IsActive (D.shown dir.old).local }
-    ensures { IsActive (D.shown dir.new).local }
+    ensures active { IsActive (D.shown dir.new).local }
+    ensures same { (D.shown dir.new).local ≡ (D.shown dir.old).local }
 {
     match row {
         Row::Directory(path) => match count_in(alloc, dir, spot, path) {
@@ -131,7 +135,8 @@ pub fn standing<D: Dir>(
     rows: &[Row],
 ) -> Result<Option<usize>, NoMemory>
     requires { IsActive (D.shown dir.old).local }
-    ensures { IsActive (D.shown dir.new).local }
+    ensures active { IsActive (D.shown dir.new).local }
+    ensures same { (D.shown dir.new).local ≡ (D.shown dir.old).local }
 {
     let Some(listed) = count_in(alloc, dir, spot, "") else {
         return Ok(None);
