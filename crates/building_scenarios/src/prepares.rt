@@ -8,7 +8,6 @@ use crate::stands::standing;
 use dir_memory::MemoryDir;
 use dir_trait::{
     Area, Bytes, Dir, DirError, Handle, Inner, Kind, Mode, Name, NoMemory, PodId, Request, Spot,
-    Which,
 };
 use folder_building::{BuildError, PlanEntry, StoreSource};
 use std::alloc::Global;

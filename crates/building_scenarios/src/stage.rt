@@ -6,7 +6,8 @@ use conformance::keeps_rules;
 use dir_memory::MemoryDir;
 use dir_trait::{
     Area, Bundle, Dir, DirError, Handle, Intent, Kind, Mode, NoMemory, PodId, PodPrefix, Spot,
-, Which};
+    Which,
+};
 use folder_building::{BuildError, BundleSource, PlanEntry, Source, carry_out};
 use plan_check::is_plan;
 use std::alloc::Global;
@@ -77,12 +78,7 @@ pub fn lock_gate<D: Dir>(
 }
 
 /// Opens the lock of the folder at a location and takes it.
-pub fn lock_own<D: Dir>(
-    alloc: Global,
-    dir: &mut D,
-    spot: Spot,
-    mode: Mode,
-) -> Result<(), DirError>
+pub fn lock_own<D: Dir>(alloc: Global, dir: &mut D, spot: Spot, mode: Mode) -> Result<(), DirError>
     requires { IsActive (D.shown dir.old).local }
     ensures { IsActive (D.shown dir.new).local }
 {
