@@ -62,13 +62,13 @@ same 'nothing is left in incoming' 0 "$(count "$incoming")"
 filled 'another of that key stands already' 'Error: not moved' "$key" "$tmp/plan"
 same 'the folder is left in incoming' 1 "$(count "$incoming")"
 
-# Files that aren't what the plan asks for. Entries are counted from 0.
+# Files that aren't what the plan asks for. Entries are counted from 0. Before what is no plan no folder is made.
 refuse() {
-    local name=$1 wanted=$2 plan=$3
+    local name=$1 wanted=$2 plan=$3 left=${4:-1}
     rm -rf "$incoming" "$images"
     filled "$name" "$wanted" "$key" "$plan"
     same "$name: nothing in images" 0 "$(count "$images")"
-    same "$name: its folder is left" 1 "$(count "$incoming")"
+    same "$name: its folder is left" "$left" "$(count "$incoming")"
 }
 place=$(($(grep -n ' rootfs/etc/f65537 ' "$tmp/copies" | cut -d: -f1) - 1))
 other=$bundle/rootfs/etc/f65537
@@ -86,9 +86,9 @@ refuse 'a directory in its place' "Error: unlike: entry $place" "$tmp/copies"
 rmdir "$other"
 cp "$tmp/kept" "$other"
 printf 'd a\nd a\n' >"$tmp/twice"
-refuse 'a path that comes twice' 'Error: no plan' "$tmp/twice"
+refuse 'a path that comes twice' 'Error: no plan' "$tmp/twice" 0
 printf 'g a/b x\nd a\n' >"$tmp/early"
-refuse 'a file before its directory' 'Error: no plan' "$tmp/early"
+refuse 'a file before its directory' 'Error: no plan' "$tmp/early" 0
 
 # unsynced TRACE: what was made in incoming and not synced after its last change and before the move, and
 # then how many things were made.
