@@ -4,7 +4,7 @@ ghost use Rattle.std.specs.List.{list_any};
 ghost use Rattle.dir_rules.specs.Marks.{parent, is_below_status, is_later_mark};
 ghost use Rattle.dir_rules.specs.Seen.{is_making_area, makes_at, with_entry, without_path, spoilt, making_changed, moved_making};
 ghost use Rattle.dir_rules.specs.Rules.{has_made_none, is_dir, has_path, has_dir, has_file, is_all_done, is_whole_pod, of_making, is_in_directory, is_new_path, may_sync_entry};
-ghost use Rattle.conformance.specs.Tables.{table_making};
+ghost use Rattle.conformance.specs.Tables.{table_making, with_piece};
 
 use crate::table::MakingTable;
 use dir_model::{Area, Bytes, Inner, NoMemory, Spot, TreeNode};
@@ -100,7 +100,7 @@ pub fn note_piece(
     piece: &[u8],
     directory: &[u8],
 ) -> Result<(), NoMemory>
-    ensures { OnOk result (option_map table_making making.new ≡ making_changed inner.now.spot (with_entry inner.now.path (TreeNode.Piece piece.now) directory.now) (option_map table_making making.old)) }
+    ensures { OnOk result (option_map table_making making.new ≡ with_piece inner.now piece.now directory.now (option_map table_making making.old)) }
 {
     if !makes_at(making, &inner.spot) {
         return Ok(());

@@ -232,3 +232,8 @@ pub record IsMemory (past : Reserved Event) (process : ℕ) (local : Local) (hel
   pub listing : is_listing (state_after past.items) process ≡ false
   pub was : killed ≡ true → is_some local.intent ≡ true
   pub room : IsActive local → killed ≡ false → held + 1 ≤ past.spare
+
+-- a listing whose steps came ends with what it shows, or with a failure where it is to fail. Memory left for nothing is
+-- a failure
+abbrev pub EndsWhole : DirState → ℕ → Bool → Bool → Reply → Type 0
+EndsWhole s p fails came reply = (came ≡ true) × (reply ≡ cond fails (Refused Failed 0) (listing_answer s p)) × ((left : ℕ) → reply ≡ Refused Failed left → fails ≡ true)

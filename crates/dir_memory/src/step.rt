@@ -277,7 +277,7 @@ pub fn end_step(past: &mut Past, me: u32, fails: bool, came: bool, request: Requ
     ensures run { IsRun past.new.items }
     ensures ends { is_end_of request result.reply ≡ true }
     ensures cut { result.cut ≡ true → result.reply ≡ Reply.Refused DirError.NoMemory 0 }
-    ensures whole { result.cut ≡ false → (came ≡ true) × (result.reply ≡ cond fails (Reply.Refused DirError.Failed 0) (listing_answer (state_after past.old.items) me)) × ((left : ℕ) → result.reply ≡ Reply.Refused DirError.Failed left → fails ≡ true) }
+    ensures whole { result.cut ≡ false → EndsWhole (state_after past.old.items) me fails came result.reply }
 {
     match end_of(past, me, fails, came) {
         Ok((copy, reply)) => {

@@ -108,3 +108,7 @@ end_events s p request = cond (is_listing_request request) (event p request (lis
 -- the events of a whole step
 abbrev pub step_of : DirState → ℕ → Request → List Event
 step_of s p request = event p request (answer s p request) ∷ end_events s p request
+
+-- the events of a whole step where the process may take it now, and else none
+abbrev pub taken_step : DirState → ℕ → Request → List Event
+taken_step s p request = cond (is_possible s p request) (step_of s p request) []

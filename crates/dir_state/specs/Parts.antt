@@ -37,11 +37,19 @@ closes_listing request _ = false
 abbrev pub listings_left : DirState → ℕ → Request → Reply → List OpenListing
 listings_left s p request reply = cond (closes_listing request reply) (without_listing p s.listings) s.listings
 
+-- it leaves the open listings as they are, but for the one that goes with it
+abbrev pub LeavesListings : DirState → ℕ → Request → Reply → Type 0
+LeavesListings s p request reply = listings_replied s p request reply ≡ listings_left s p request reply
+
+-- these are the open listings after it
+abbrev pub AreListings : DirState → ℕ → Request → Reply → List OpenListing → Type 0
+AreListings s p request reply listings = listings ≡ listings_replied s p request reply
+
 -- what an event brings to the trees and the listings was made for it. Where no listings were, some are only left
 pub record IsBrought (s : DirState) (p : ℕ) (request : Request) (reply : Reply) (b : Brought) : Type 0 where
   pub entry : b.entry ≡ entry_made s.namespace request reply
   pub app : b.app ≡ app_started s.namespace request reply
-  pub listings : MatchOption b.listings (listings_replied s p request reply ≡ listings_left s p request reply) (λ ls. ls.items ≡ listings_replied s p request reply)
+  pub listings : MatchOption b.listings (LeavesListings s p request reply) (λ ls. AreListings s p request reply ls.items)
 
 -- an event that makes no entry, starts no app and begins or notes no listing
 abbrev pub brings_nothing : Request → Reply → Bool

@@ -93,7 +93,7 @@ impl Table {
     ghost use Rattle.dir_model.specs.Trees.{names_in};
     ghost use Rattle.dir_model.specs.Listings.{noted, noted_by, noted_all, begun_at, begun};
     ghost use Rattle.dir_model.specs.Trace.{entry_made, app_started, listings_replied};
-    ghost use Rattle.dir_state.specs.Parts.{table_state, namespace_of, listings_left, IsBrought};
+    ghost use Rattle.dir_state.specs.Parts.{table_state, namespace_of, LeavesListings, AreListings, IsBrought};
 
     /// The allocator.
     pub fn alloc(&self) -> Global {
@@ -327,7 +327,7 @@ impl Table {
         process: u32,
         request: &Request,
     ) -> Result<Option<Vec<OpenListing>>, NoMemory>
-        ensures { IfOk result (λ o. MatchOption o (listings_replied (table_state self.now) process request.now Reply.Done ≡ listings_left (table_state self.now) process request.now Reply.Done) (λ ls. ls.items ≡ listings_replied (table_state self.now) process request.now Reply.Done)) }
+        ensures { IfOk result (λ o. MatchOption o (LeavesListings (table_state self.now) process request.now Reply.Done) (λ ls. AreListings (table_state self.now) process request.now Reply.Done ls.items)) }
     {
         if changes_names(request) {
             return Ok(Some(self.noted_all()?));
@@ -341,7 +341,7 @@ impl Table {
         request: &Request,
         reply: &Reply,
     ) -> Result<Option<Vec<OpenListing>>, NoMemory>
-        ensures { IfOk result (λ o. MatchOption o (listings_replied (table_state self.now) process request.now reply.now ≡ listings_left (table_state self.now) process request.now reply.now) (λ ls. ls.items ≡ listings_replied (table_state self.now) process request.now reply.now)) }
+        ensures { IfOk result (λ o. MatchOption o (LeavesListings (table_state self.now) process request.now reply.now) (λ ls. AreListings (table_state self.now) process request.now reply.now ls.items)) }
     {
         match reply {
             Reply::Done => self.listings_done(process, request),

@@ -63,7 +63,7 @@ impl Past {
     ghost use Rattle.dir_model.specs.State.{has_begun, lives};
     ghost use Rattle.dir_model.specs.Listings.{is_listing_request};
     ghost use Rattle.dir_state.specs.Parts.{brings_nothing, kill_of};
-    ghost use Rattle.dir_state.specs.Answers.{answer, listing_answer, is_met, is_possible, step_of};
+    ghost use Rattle.dir_state.specs.Answers.{answer, listing_answer, is_met, step_of, taken_step};
 
     /// No event. Takes no memory.
     pub fn new(alloc: Global) -> Past
@@ -235,7 +235,7 @@ impl Past {
     /// The process takes the whole step, where that is possible, and is answered as the state says.
     /// Refused only where memory ran out, and then nothing has changed but the room.
     pub fn take_step(&mut self, process: u32, request: &Request) -> Result<(), NoMemory>
-        ensures ok { OnOk result (self.new.items ≡ self.old.items ++ cond (is_possible (state_after self.old.items) process request.now) (step_of (state_after self.old.items) process request.now) []) }
+        ensures ok { OnOk result (self.new.items ≡ self.old.items ++ taken_step (state_after self.old.items) process request.now) }
         ensures err { OnErr result (self.new.items ≡ self.old.items) }
         ensures kept { self.old.spare ≤ self.new.spare }
         ensures run { IsRun self.old.items → IsRun self.new.items }
