@@ -10,7 +10,7 @@ ghost use Rattle.dir_model.specs.Reserved.{reserved};
 ghost use Rattle.dir_state.specs.Answers.{listing_answer};
 ghost use Rattle.dir_memory.specs.Schedules.{is_due, due, not_due, step_events, with_steps};
 ghost use Rattle.dir_memory.specs.Interludes.{Interlude, TakesFirst, is_about_open};
-ghost use Rattle.dir_memory.specs.Memories.{answer_or_failure, is_end_of, local_of};
+ghost use Rattle.dir_memory.specs.Memories.{answer_or_failure, is_end_of, local_of, EndsWhole};
 
 use crate::local::LocalView;
 use crate::planned::Planned;
