@@ -11,10 +11,11 @@ use Rattle.dir_model.specs.declared.request.DirError.TheVariants.{Locked}
 use Rattle.dir_model.specs.declared.request.Request.TheVariants.{OpenArea, TryLock, Close}
 use Rattle.dir_model.specs.declared.request.Reply.TheVariants.{Done, Opened, Refused}
 use Rattle.dir_model.specs.Calls.{AtOwnStep, CallStep, Extends}
-use Rattle.dir_model.specs.Local.{Local, is_number, held_in, with_handle, with_lock, is_open_among, IsActive, IsOpen, IsUnopened}
+use Rattle.dir_model.specs.Local.{Local, is_number, held_in, with_handle, with_lock, without, is_open_among, IsActive, IsOpen, IsUnopened}
 use Rattle.dir_model.specs.State.{DirState}
 use Rattle.dir_model.proofs.Lists.{same_self, map_push, any_last}
 use Rattle.dir_model.proofs.Chains.{nothing_yet, and_call}
+use Rattle.dir_model.proofs.Holdings.{closed_after_lock}
 use Rattle.dir_model.proofs.Moments.{at_after, at_before}
 use Rattle.dir_rules.specs.declared.seen.Seen.{Seen}
 use Rattle.dir_rules.specs.Conforms.{IsTied}
@@ -57,6 +58,13 @@ locked_open {b} m h area mode is = ap (λ (x : Local). is_open_among h x.holding
 
 pub locked_active : {b : Local} (m : Local) (h : Handle) (area : Area) (mode : Mode) → IsActive m → b ≡ and_lock m h area mode → IsActive b
 locked_active {b} m h area mode active is = subst IsActive (sym is) (record { begun = active.begun; unfinished = active.unfinished })
+
+-- and once it is given back
+pub unlocked_same : {b c : Local} (m : Local) (h : Handle) (area : Area) (mode : Mode) → IsUnopened m h → b ≡ and_lock m h area mode →
+    c ≡ without b h → c ≡ m
+unlocked_same {b} {c} m h area mode unopened lock_is close_is =
+    close_is ∙ (ap (λ (x : Local). without x h) (lock_is ∙ sym (locked_by m h area mode unopened refl refl))
+    ∙ closed_after_lock m h (Gate area) unopened mode)
 
 -- what is known
 
