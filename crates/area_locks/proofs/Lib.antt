@@ -1,0 +1,4 @@
+pub mod OwnHandles
+pub mod Opposed
+pub mod Gates
+pub mod Locking
