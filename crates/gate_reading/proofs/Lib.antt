@@ -1,0 +1,3 @@
+pub mod OwnSteps
+pub mod PlainPaths
+pub mod StoredFiles
