@@ -1,3 +1,4 @@
 pub mod OwnSteps
 pub mod PlainPaths
 pub mod StoredFiles
+pub mod Callers
