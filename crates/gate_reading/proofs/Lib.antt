@@ -1,4 +1,6 @@
 pub mod OwnSteps
 pub mod PlainPaths
 pub mod StoredFiles
+pub mod Listed
+pub mod AreaNames
 pub mod Callers

@@ -1,6 +1,7 @@
 // The laws of what reads and listings tell of images, each the contract of a function.
 ghost use Rattle.lifecycle.specs.Executions.{IsConforming};
 ghost use Rattle.gate_reading.specs.Files.{FilesStay, NoneComes};
+ghost use Rattle.gate_reading.specs.Areas.{AreasTell};
 
 use dir_model::History;
 
@@ -10,6 +11,14 @@ use dir_model::History;
 pub fn files(history: &History)
     ensures stay { IsConforming history.now.items → FilesStay history.now.items }
     ensures missing { IsConforming history.now.items → NoneComes history.now.items }
+{
+    let _events = history.as_slice();
+}
+
+/// A listing of the area, made by such a process, shows each image that stood since it had the lock, and
+/// only images that stand when it ends.
+pub fn areas(history: &History)
+    ensures { IsConforming history.now.items → AreasTell history.now.items }
 {
     let _events = history.as_slice();
 }

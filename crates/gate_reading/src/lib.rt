@@ -3,4 +3,4 @@
 
 mod laws;
 
-pub use laws::files;
+pub use laws::{areas, files};
