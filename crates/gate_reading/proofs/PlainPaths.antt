@@ -44,7 +44,7 @@ all_rooted s (e ∷ es) a = all_rooted (state_next s e) es
     (all_both Rooted s.apps (option_to_list (app_started s.namespace e.request e.reply)) a (started_rooted s.namespace e.request e.reply))
 
 -- what lies below a path begins with it
-not_empty : (x : ℕ) (xs : List ℕ) → (length (x ∷ xs) == 0) ≡ false
+pub not_empty : (x : ℕ) (xs : List ℕ) → (length (x ∷ xs) == 0) ≡ false
 not_empty x xs = grind (arith, nat_tests, common_steps)
 
 below_front : (path q : List ℕ) → (length q == 0) ≡ false → lies_below path q ≡ true → path ≡ q ++ drop (length q) path

@@ -2,6 +2,7 @@
 ghost use Rattle.lifecycle.specs.Executions.{IsConforming};
 ghost use Rattle.gate_reading.specs.Files.{FilesStay, NoneComes};
 ghost use Rattle.gate_reading.specs.Areas.{AreasTell};
+ghost use Rattle.gate_reading.specs.Listings.{ListingsTell};
 
 use dir_model::History;
 
@@ -19,6 +20,14 @@ pub fn files(history: &History)
 /// only images that stand when it ends.
 pub fn areas(history: &History)
     ensures { IsConforming history.now.items → AreasTell history.now.items }
+{
+    let _events = history.as_slice();
+}
+
+/// A listing of an image, made by such a process, shows exactly the names of what stood directly in the
+/// image since it had the lock, each with its kind.
+pub fn listings(history: &History)
+    ensures { IsConforming history.now.items → ListingsTell history.now.items }
 {
     let _events = history.as_slice();
 }

@@ -3,4 +3,4 @@
 
 mod laws;
 
-pub use laws::{areas, files};
+pub use laws::{areas, files, listings};
