@@ -8,15 +8,15 @@ use Rattle.dir_model.specs.declared.request.Request.{Request}
 use Rattle.dir_model.specs.declared.request.Request.TheVariants.{Begin, Open, OpenArea, Finish, Kill}
 use Rattle.dir_model.specs.declared.request.Reply.{Reply}
 use Rattle.dir_model.specs.declared.request.Reply.TheVariants.{Done, Opened}
-use Rattle.dir_model.specs.State.{Namespace, DirState, empty_state, has_begun, has_ended, lives, stands}
+use Rattle.dir_model.specs.State.{Namespace, DirState, empty_state, has_begun, has_ended, lives, stands, folder_at}
 use Rattle.dir_model.specs.Trace.{namespace_replied, state_next, states_next, state_after}
-use Rattle.dir_model.specs.Calls.{is_begin, is_kill, is_foreign, Extends}
+use Rattle.dir_model.specs.Calls.{is_begin, is_kill, is_foreign, Extends, event}
 use Rattle.dir_model.proofs.Chains.{states_next-append}
-use Rattle.dir_model.proofs.Lists.{and_left, and_right, and_both, any_push, not_true, all_left, all_right, all_weaker, or_map, same_rest}
+use Rattle.dir_model.proofs.Lists.{and_left, and_right, and_both, any_push, not_true, all_left, all_right, all_weaker, or_map, same_rest, same_self}
 use Rattle.dir_rules.specs.declared.seen.Seen.{Seen}
 use Rattle.dir_rules.specs.Standing.{is_in}
 use Rattle.dir_rules.specs.Conforms.{seen_of}
-use Rattle.dir_trait.specs.DirCalls.{DirAt}
+use Rattle.dir_trait.specs.DirCalls.{DirAt, ExtendsBy}
 use Rattle.dir_trait.specs.Knowledge.{Knows}
 use Rattle.dir_files.specs.Reads.{inner_at, file_at, StaysBetween}
 use Rattle.lifecycle.proofs.Handles.{clash}
@@ -24,6 +24,15 @@ use Rattle.lifecycle.proofs.Lives.{lived}
 use Rattle.folder_contents.specs.UnderGate.{keeps_handles, shares_images}
 use Rattle.folder_contents.proofs.Along.{happens, conforming_to}
 use Rattle.folder_contents.proofs.Known.{alive_at}
+use Rattle.dir_model.specs.declared.item.Item.{Item}
+use Rattle.dir_files.specs.Listed.{Stretch, ShowsArea, ShowsAreaBetween, ShowsDirectory, ShowsDirectoryBetween}
+use Rattle.folder_contents.specs.Entries.{entries_in}
+use Rattle.folder_contents.proofs.GateKept.{gate_is_kept}
+use Rattle.folder_contents.proofs.UnderGate.{images_stay_shared}
+use Rattle.gate_reading.proofs.ImageItems.{listings_tell}
+use Rattle.gate_reading.proofs.AreaNames.{areas_tell}
+use Rattle.gate_reading.specs.Listings.{ShowsEntries}
+use Rattle.gate_reading.specs.Areas.{NamesImages}
 use Rattle.gate_reading.specs.Gate.{HasGate, goes_on, GoesOn}
 use Rattle.gate_reading.specs.Files.{is_plain, FindsFrom}
 use Rattle.gate_reading.proofs.OwnSteps.{own_is}
@@ -136,3 +145,76 @@ module _ {asks : Request → Bool} {s : Seen} {old new : DirAt} (g : GoesOn asks
   none_stays spot path is plain there none x rest step split own =
       none_comes new.trace g.conforms old.process old.trace g.extends.more [] spot path whole_trace is plain
       (has_gate (lived_at_first x rest step split own)) there none x rest step (sym g.extends.grown ∙ split) own
+
+  -- an image that stands there stays, up to a moment at which the process still lives
+  pub image_stays : (spot : Spot) (folder : ℕ) → is_in Images spot.area ≡ true →
+      folder_at (state_after old.trace).namespace spot ≡ Some folder → lives (state_after new.trace).namespace old.process ≡ true →
+      (folder_at (state_after new.trace).namespace spot ≡ Some folder) ×
+      (entries_in folder (state_after new.trace).entries ≡ entries_in folder (state_after old.trace).entries)
+  image_stays spot folder is at living =
+      let more : List Event = g.extends.more in
+      let last : lives (state_after (old.trace ++ more)).namespace old.process ≡ true =
+      subst (λ (h : List Event). lives (state_after h).namespace old.process ≡ true) g.extends.grown living in
+      let first = lived_first old.process (state_after old.trace) more each_goes_on
+      (subst (λ (z : DirState). lives z.namespace old.process ≡ true) (states_next-append empty_state old.trace more) last) in
+      let gate = has_gate first in
+      let knows = gate_is_kept new.trace g.conforms old.process old.trace more [] whole_trace gate.shares last gate.keeps in
+      let here = images_stay_shared new.trace g.conforms old.process old.trace more [] spot folder whole_trace is knows at
+      more [] (sym (append-nil more)) in
+      subst (λ (h : List Event). (folder_at (state_after h).namespace spot ≡ Some folder) ×
+      (entries_in folder (state_after h).entries ≡ entries_in folder (state_after old.trace).entries)) (sym g.extends.grown) here
+
+  -- a listing that ends the stretch is an own step
+  module _ {mid : List Event} {request : Request} {reply : Reply} (x : List Event) (begins : mid ≡ old.trace ++ x)
+      (alive : is_kill request ≡ false) (st : Stretch old.process mid new.trace request reply) where
+    abbrev last : Event
+    last = event old.process request reply
+
+    abbrev y : List Event
+    y = st.earlier ++ (st.others ++ last ∷ [])
+
+    ends : new.trace ≡ (old.trace ++ (x ++ (st.earlier ++ st.others))) ++ last ∷ []
+    ends = st.ends
+        ∙ (ap (λ (h : List Event). (h ++ st.others) ++ last ∷ []) (st.begins ∙ ap (λ (h : List Event). h ++ st.earlier) begins)
+        ∙ simp append_assoc)
+
+    in_parts : new.trace ≡ (old.trace ++ x) ++ y
+    in_parts = ends ∙ simp append_assoc
+
+    listed_gate : HasGate old.process old.trace (x ++ y)
+    listed_gate =
+        let living = lived_at_first (x ++ (st.earlier ++ st.others)) [] last
+        (ends ∙ sym (append-nil ((old.trace ++ (x ++ (st.earlier ++ st.others))) ++ last ∷ []))) (rw (same_self old.process) alive) in
+        subst (λ (l : List Event). HasGate old.process old.trace l)
+        (same_rest old.trace g.extends.more (x ++ y) (sym g.extends.grown ∙ (in_parts ∙ append_assoc old.trace x y)))
+        (has_gate living)
+
+    listed_whole : new.trace ≡ ((old.trace ++ x) ++ y) ++ []
+    listed_whole = in_parts ∙ sym (append-nil ((old.trace ++ x) ++ y))
+
+    -- the same stretch, in parts
+    as_parts : (P : List Event → List Event → Type 0) → P mid new.trace → P (old.trace ++ x) ((old.trace ++ x) ++ y)
+    as_parts P d = subst (λ (h : List Event). P h ((old.trace ++ x) ++ y)) begins (subst (λ (h : List Event). P mid h) in_parts d)
+
+  -- a listing of the area that ends the stretch
+  pub area_listed : {first : Request → Bool} (mid : DirAt) (names : List (List ℕ)) → ExtendsBy first old mid → mid.process ≡ old.process →
+      ShowsAreaBetween mid new Images names → NamesImages (state_after old.trace) (state_after new.trace) names
+  area_listed {first} mid names e same d =
+      let shown = subst (λ (q : ℕ). ShowsArea q mid.trace new.trace Images names) same d in
+      let rest = y e.more e.grown refl shown.stretch in
+      subst (λ (h : List Event). NamesImages (state_after old.trace) (state_after h) names)
+      (sym (in_parts e.more e.grown refl shown.stretch))
+      (areas_tell new.trace g.conforms old.process old.trace e.more rest [] names (listed_whole e.more e.grown refl shown.stretch)
+      (listed_gate e.more e.grown refl shown.stretch)
+      (as_parts e.more e.grown refl shown.stretch (λ a b. ShowsArea old.process a b Images names) shown))
+
+  -- a listing of an image that ends the stretch
+  pub image_listed : {first : Request → Bool} (mid : DirAt) (spot : Spot) (folder : ℕ) (items : List Item) → ExtendsBy first old mid →
+      mid.process ≡ old.process → is_in Images spot.area ≡ true → folder_at (state_after old.trace).namespace spot ≡ Some folder →
+      ShowsDirectoryBetween mid new (inner_at spot []) items → ShowsEntries (entries_in folder (state_after old.trace).entries) items
+  image_listed {first} mid spot folder items e same is at d =
+      let shown = subst (λ (q : ℕ). ShowsDirectory q mid.trace new.trace (inner_at spot []) items) same d in
+      let rest = y e.more e.grown refl shown.stretch in
+      listings_tell new.trace g.conforms old.process old.trace e.more rest [] spot folder items (listed_whole e.more e.grown refl shown.stretch)
+      is (listed_gate e.more e.grown refl shown.stretch) at
+      (as_parts e.more e.grown refl shown.stretch (λ a b. ShowsDirectory old.process a b (inner_at spot []) items) shown)
