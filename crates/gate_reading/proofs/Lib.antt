@@ -5,4 +5,6 @@ pub mod Listed
 pub mod AreaNames
 pub mod DirectItems
 pub mod ImageItems
+pub mod GoingOn
 pub mod Callers
+pub mod WholeReads

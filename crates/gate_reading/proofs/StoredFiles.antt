@@ -55,7 +55,7 @@ same_file s t inner k here there same =
     ∙ sym (ap (bytes_in t.entries inner.path) there))))
 
 -- at each own step the file is that of the beginning
-finds : (trace : List Event) → IsConforming trace → (p : ℕ) (before more later : List Event) (spot : Spot) (path : List ℕ) (folder : ℕ) →
+pub finds : (trace : List Event) → IsConforming trace → (p : ℕ) (before more later : List Event) (spot : Spot) (path : List ℕ) (folder : ℕ) →
     trace ≡ (before ++ more) ++ later → is_in Images spot.area ≡ true → is_plain path ≡ true → HasGate p before more →
     folder_at (state_after before).namespace spot ≡ Some folder →
     FindsFrom p (inner_at spot path) (file_at (state_after before) (inner_at spot path)) before (before ++ more)

@@ -5,9 +5,8 @@ use Rattle.dir_model.specs.declared.event.Event.{Event}
 use Rattle.dir_model.specs.declared.request.Request.{Request}
 use Rattle.dir_model.specs.Calls.{is_begin, is_foreign}
 use Rattle.dir_rules.specs.declared.seen.Seen.{Seen}
-use Rattle.dir_rules.specs.Conforms.{seen_of}
+use Rattle.dir_rules.specs.Conforms.{seen_of, IsTied}
 use Rattle.dir_trait.specs.DirCalls.{DirAt, ExtendsBy}
-use Rattle.dir_trait.specs.Knowledge.{Knows}
 use Rattle.lifecycle.specs.Executions.{IsConforming}
 use Rattle.folder_contents.specs.UnderGate.{keeps_handles, shares_images}
 
@@ -24,7 +23,7 @@ goes_on request = not (is_begin request) && keeps_handles request
 -- the gate
 pub record GoesOn (asks : Request → Bool) (s : Seen) (old new : DirAt) : Type 0 where
   pub conforms : IsConforming new.trace
-  pub knows : Knows old s
+  pub tied : IsTied old.process old.trace s
   pub shares : shares_images s ≡ true
   pub each : (request : Request) → asks request ≡ true → goes_on request ≡ true
   pub extends : ExtendsBy asks old new
