@@ -1,6 +1,7 @@
 -- From what the calls of a process promised and what it knows, to the gate that it has.
 use Rattle.std.proofs.Common.{◌≡◌, ℕ, Bool, true, false, not, ◌&&◌, ◌||◌, ◌==◌, List, [], ◌∷◌, ◌++◌, append_assoc, append-nil, refl, sym, ap, subst, ◌∙◌}
 use Rattle.std.specs.List.{list_any, AllByRecursion}
+use Rattle.dir_model.specs.declared.area.Area.TheVariants.{Images}
 use Rattle.dir_model.specs.declared.event.Event.{Event}
 use Rattle.dir_model.specs.declared.request.Request.{Request}
 use Rattle.dir_model.specs.declared.request.Request.TheVariants.{Begin, Open, OpenArea, Finish, Kill, ReadIn, ListArea, ListIn}
@@ -14,6 +15,7 @@ use Rattle.dir_model.specs.Calls.{is_begin, is_kill, is_foreign, Extends}
 use Rattle.dir_model.proofs.Chains.{states_next-append}
 use Rattle.dir_model.proofs.Lists.{and_left, and_right, and_both, any_push, not_true, all_left, all_right, all_weaker, or_map, same_rest}
 use Rattle.dir_rules.specs.declared.seen.Seen.{Seen}
+use Rattle.dir_rules.specs.Standing.{holds_gate}
 use Rattle.dir_rules.specs.Conforms.{seen_of, IsTied}
 use Rattle.dir_trait.specs.DirCalls.{DirAt}
 use Rattle.dir_files.specs.Reads.{reads_at}
@@ -49,9 +51,13 @@ listings_go_on (ListIn inner) h = refl
 listings_go_on request h = cc
 
 -- while a process lives, its events say what it knows of its locks
+pub knows_standing : {p : ℕ} {trace : List Event} {s : Seen} → IsTied p trace s → lives (state_after trace).namespace p ≡ true →
+    s.standing ≡ (seen_of p trace).standing
+knows_standing {p} {trace} {s} t living = ap (λ (x : Seen). x.standing) (t.living living).same
+
 pub knows_gate : {p : ℕ} {trace : List Event} {s : Seen} → IsTied p trace s → lives (state_after trace).namespace p ≡ true →
     shares_images s ≡ true → shares_images (seen_of p trace) ≡ true
-knows_gate {p} {trace} {s} t living held = ap shares_images (sym (t.living living).same) ∙ held
+knows_gate {p} {trace} {s} t living held = ap (holds_gate Images) (sym (knows_standing t living)) ∙ held
 
 -- who lives after such steps lived before them
 not_me : (b : Bool) → ((not b || false) || false) ≡ true → b ≡ false
