@@ -1,0 +1,10 @@
+pub mod OwnSteps
+pub mod PlainPaths
+pub mod StoredFiles
+pub mod Listed
+pub mod AreaNames
+pub mod DirectItems
+pub mod ImageItems
+pub mod GoingOn
+pub mod Callers
+pub mod WholeReads

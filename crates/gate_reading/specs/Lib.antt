@@ -1,0 +1,4 @@
+pub mod Gate
+pub mod Files
+pub mod Areas
+pub mod Listings
