@@ -1,0 +1,49 @@
+-- What a file's read tells, where its bytes are a value and where they are none.
+use Rattle.std.proofs.Common.{◌≡◌, ◌⊎◌, inl, inr, ℕ, Bool, true, List, take, Result, Ok, Err, IsErrOf, refl, subst, sym}
+use Rattle.std.specs.Prelude.{Vec, IfOk, IfErr, MatchResult, IsSomeAnd, Option, Some, None, MatchOption}
+use Rattle.dir_model.specs.declared.item.Inner.{Inner}
+use Rattle.ac_types.specs.declared.store_key.StoreKey.{StoreKey}
+use Rattle.dir_model.specs.declared.spot.Spot.{Spot}
+use Rattle.dir_trait.specs.DirCalls.{DirAt}
+use Rattle.dir_files.specs.Reads.{inner_at, ReadsUp, WasMissing, StaysBetween}
+use Rattle.image_reading.specs.declared.error.StoreError.{StoreError}
+use Rattle.image_reading.specs.declared.error.StoreError.TheVariants.{DirFault}
+use Rattle.image_reading.specs.Refusals.{IsOutside, IsReadRefusal, IsDamage, IsDamaged}
+use Rattle.image_reading.specs.Places.{image_spot}
+use Rattle.image_reading.specs.Files.{ReadsFile, LacksFile}
+use Rattle.image_reading.proofs.Results.{if_ok, if_err, either_of, never, damage_why, damage_refusal}
+use Rattle.image_reading.proofs.Widths.{within_self}
+
+-- some bytes were read
+module _ {observed : Bool} {V : Type 0} (inner : Inner) (most : ℕ) (old new : DirAt) (bytes : List ℕ) (read : observed ≡ true → ReadsUp inner most old new bytes) (Is : V → List ℕ → Type 0) (IsNone : List ℕ → Type 0) (r : Result V StoreError) where
+  pub some_read : IfOk r (λ v. Is v bytes) → IfOk r (λ v. observed ≡ true → ReadsFile inner most (Is v) old new)
+  some_read ok = if_ok _ _ r (λ v is t. record { bytes = bytes; read = within_self (read t); holds = is }) ok
+
+  pub some_lacks : (at : List ℕ) → IfErr r (IsDamage at (IsNone bytes)) → IfErr r (λ e. IsDamaged e → observed ≡ true → LacksFile inner most IsNone old new)
+  some_lacks at err = if_err _ _ r (λ e is damaged t. inr (record { bytes = bytes; read = within_self (read t); holds = damage_why at (IsNone bytes) e is damaged })) err
+
+  pub some_whole : (at : List ℕ) → IfOk r (λ v. Is v bytes) → IfErr r (IsDamage at (IsNone bytes)) → (file : List ℕ) → bytes ≡ take most file → ((v : V) → Is v (take most file) → Is v file) → (IsNone (take most file) → IsNone file)
+      → MatchResult r (λ v. Is v file) (λ e. IsDamaged e → IsNone file)
+  some_whole at ok err file is on none =
+      either_of _ _ _ _ r (λ v h. on v (subst (λ (b : List ℕ). Is v b) is h)) (λ e h damaged. none (subst IsNone is (damage_why at (IsNone bytes) e h damaged))) ok err
+
+-- no read of bytes ends with a fault of the directory
+pub no_fault : {V : Type 0} (at : List ℕ) (Why : Type 0) (r : Result V StoreError) → IfErr r (IsDamage at Why) → IsErrOf r DirFault → ⊥
+no_fault at Why r err is = never (IsDamage at Why) DirFault r (λ h. h) err is
+
+pub refusals_at : {V : Type 0} (at : List ℕ) (Why : Type 0) (r : Result V StoreError) → IfErr r (IsDamage at Why) → IfErr r (IsReadRefusal (λ path. path ≡ at))
+refusals_at at Why r err = if_err (IsDamage at Why) (IsReadRefusal (λ path. path ≡ at)) r (λ e is. damage_refusal (λ path. path ≡ at) at Why e refl is) err
+
+-- by a location that is the image's
+module _ {observed : Bool} (key : StoreKey) (name : List ℕ) (spot : Spot) (same : spot ≡ image_spot key) (most : ℕ) (old new : DirAt) (found : Option (Vec ℕ)) where
+  abbrev Read : Spot → Type 0
+  Read x = observed ≡ true → MatchOption found (WasMissing (inner_at x name) old new) (λ bytes. ReadsUp (inner_at x name) most old new bytes.items)
+
+  pub part_read : Read spot → Read (image_spot key)
+  part_read h = subst Read same h
+
+  abbrev Whole : Spot → Type 0
+  Whole x = observed ≡ true → (file : List ℕ) → StaysBetween (inner_at x name) file old new → IsSomeAnd found (λ bytes. bytes.items ≡ take most file)
+
+  pub part_whole : Whole spot → Whole (image_spot key)
+  part_whole h = subst Whole same h

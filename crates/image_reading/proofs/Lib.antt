@@ -1,0 +1,7 @@
+mod Results
+mod Widths
+mod Asking
+mod Places
+mod Values
+mod Files
+mod Marking
