@@ -1,4 +1,4 @@
 mod Listings
 mod Fronts
 mod Reading
-mod Folders
+pub mod Folders

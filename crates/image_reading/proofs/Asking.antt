@@ -9,6 +9,7 @@ use Rattle.dir_model.specs.declared.item.Item.{Item}
 use Rattle.dir_model.specs.declared.opening.Target.{Target}
 use Rattle.dir_model.specs.declared.opening.Target.TheVariants.{Own, Claim, Gate}
 use Rattle.dir_model.specs.declared.request.DirError.{DirError}
+use Rattle.dir_model.specs.declared.request.DirError.TheVariants.{Missing}
 use Rattle.dir_model.specs.declared.request.Request.{Request}
 use Rattle.dir_model.specs.declared.request.Request.TheVariants.{ListArea, ListIn, ReadIn}
 use Rattle.dir_model.specs.declared.request.Reply.{Reply}
@@ -33,10 +34,11 @@ use Rattle.dir_rules.specs.LockRules.{is_removal_held, is_removal_target, may_re
 use Rattle.dir_rules.specs.Seen.{inner_eq, with_items, with_names, listed_created}
 use Rattle.dir_rules.specs.Conforms.{seen_replied, seen_listed, IsTied}
 use Rattle.dir_rules.proofs.Tied.{tied_step, tied_unbegun}
-use Rattle.dir_trait.specs.DirCalls.{DirAt, ListCall}
+use Rattle.dir_trait.specs.DirCalls.{DirAt, ListCall, HeldBetween}
+use Rattle.dir_files.proofs.Folders.{tells_present, tells_absent}
 use Rattle.dir_trait.specs.Knowledge.{SameHandles, Knows}
 use Rattle.dir_files.specs.Reads.{inner_at, OnlyReads, KeepsKnown, may_read, reads_at}
-use Rattle.image_reading.specs.Places.{image_spot, image_inner}
+use Rattle.image_reading.specs.Places.{image_spot, image_inner, IsPresent, IsAbsent}
 use Rattle.image_reading.specs.Looks.{reads_image, reads_images, OnlyAsks, OnlyReadsImage, KnowsNamed, KeepsNamed, OnlyReadsImages}
 
 -- a listing that left nothing is one call
@@ -92,6 +94,7 @@ module _ (s : Seen) (key : StoreKey) (may : may_read Images s.standing ≡ true)
       one ∙ (two ∙ three)
   seen_items (Err e) = ap (λ (a : Bool). let x : Seen = record s { kept = a && (a && s.kept) } in x) may
 
+module _ (s : Seen) (may : may_read Images s.standing ≡ true) where
   seen_names : (r : Result (List (List ℕ)) DirError) → (areas : List ShownArea) × (closes_gate Images s.standing ≡ false → areas ≡ s.areas) × (seen_listed s (ListArea Images) (names_reply r) ≡ record s { areas = areas })
   seen_names (Ok names) =
       let areas = cond (closes_gate Images s.standing) (with_names Images names s.areas) s.areas in
@@ -107,11 +110,11 @@ names_standing s (Ok names) = refl
 names_standing s (Err e) = refl
 
 -- of one image
-pub image_none : {observed : Bool} {key : StoreKey} {d : DirAt} → OnlyReadsImage observed key d d
-image_none = record { same = refl; faults = omega arith; local = refl; extends = λ t. nothing_yet; known = λ t s may k. k }
+pub image_none : {observed : Bool} (key : StoreKey) {d : DirAt} → OnlyReadsImage observed key d d
+image_none key = record { same = refl; faults = omega arith; local = refl; extends = λ t. nothing_yet; known = λ t s may k. k }
 
-pub image_more : {observed : Bool} {key : StoreKey} {a b c : DirAt} → OnlyReadsImage observed key a b → OnlyReadsImage observed key b c → OnlyReadsImage observed key a c
-image_more ab bc = record {
+pub image_more : {observed : Bool} (key : StoreKey) {a b c : DirAt} → OnlyReadsImage observed key a b → OnlyReadsImage observed key b c → OnlyReadsImage observed key a c
+image_more key ab bc = record {
   same = bc.same ∙ ab.same;
   faults = omega (arith, ab.faults, bc.faults);
   local = bc.local ∙ ab.local;
@@ -156,8 +159,8 @@ image_asked key (ListIn inner) h =
     (and_right (spot_eq inner.spot (image_spot key)) (is_empty inner.path) h)
 image_asked key r h = cc
 
-pub images_one : {observed : Bool} {old new : DirAt} {key : StoreKey} → OnlyReadsImage observed key old new → OnlyReadsImages observed old new
-images_one {observed} {old} {new} {key} o = record {
+pub images_one : {observed : Bool} {old new : DirAt} (key : StoreKey) → OnlyReadsImage observed key old new → OnlyReadsImages observed old new
+images_one {observed} {old} {new} key o = record {
   same = o.same;
   faults = o.faults;
   local = o.local;
@@ -185,3 +188,9 @@ image_file_at {observed} {old} {new} key name spot same o = image_file key name 
 
 pub image_items_at : {observed : Bool} {old new : DirAt} (key : StoreKey) (spot : Spot) (r : Result (List Item) DirError) → spot ≡ image_spot key → ListCall observed old (ListIn (inner_at spot [])) (items_reply r) new → OnlyReadsImage observed key old new
 image_items_at {observed} {old} {new} key spot r same c = image_items key r (subst (λ (x : Spot). ListCall observed old (ListIn (inner_at x [])) (items_reply r) new) same c)
+
+pub present_at : {observed : Bool} {old new : DirAt} {items : List Item} (key : StoreKey) (spot : Spot) → spot ≡ image_spot key → observed ≡ true → ListCall observed old (ListIn (inner_at spot [])) (Items items) new → HeldBetween old new (IsPresent key)
+present_at {observed} {old} {new} {items} key spot same t c = tells_present t (subst (λ (x : Spot). ListCall observed old (ListIn (inner_at x [])) (Items items) new) same c)
+
+pub absent_at : {observed : Bool} {old new : DirAt} (key : StoreKey) (spot : Spot) → spot ≡ image_spot key → observed ≡ true → ListCall observed old (ListIn (inner_at spot [])) (Refused Missing 0) new → HeldBetween old new (IsAbsent key)
+absent_at {observed} {old} {new} key spot same t c = tells_absent t (subst (λ (x : Spot). ListCall observed old (ListIn (inner_at x [])) (Refused Missing 0) new) same c)

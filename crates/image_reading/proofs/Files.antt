@@ -1,15 +1,12 @@
 -- What a file's read tells, where its bytes are a value and where they are none.
 use Rattle.std.proofs.Common.{◌≡◌, ◌⊎◌, inl, inr, ℕ, Bool, true, List, take, Result, Ok, Err, IsErrOf, refl, subst, sym}
-use Rattle.std.specs.Prelude.{Vec, IfOk, IfErr, MatchResult, IsSomeAnd, Option, Some, None, MatchOption}
+use Rattle.std.specs.Prelude.{IfOk, IfErr, MatchResult}
 use Rattle.dir_model.specs.declared.item.Inner.{Inner}
-use Rattle.ac_types.specs.declared.store_key.StoreKey.{StoreKey}
-use Rattle.dir_model.specs.declared.spot.Spot.{Spot}
 use Rattle.dir_trait.specs.DirCalls.{DirAt}
-use Rattle.dir_files.specs.Reads.{inner_at, ReadsUp, WasMissing, StaysBetween}
+use Rattle.dir_files.specs.Reads.{ReadsUp}
 use Rattle.image_reading.specs.declared.error.StoreError.{StoreError}
 use Rattle.image_reading.specs.declared.error.StoreError.TheVariants.{DirFault}
-use Rattle.image_reading.specs.Refusals.{IsOutside, IsReadRefusal, IsDamage, IsDamaged}
-use Rattle.image_reading.specs.Places.{image_spot}
+use Rattle.image_reading.specs.Refusals.{IsReadRefusal, IsDamage, IsDamaged}
 use Rattle.image_reading.specs.Files.{ReadsFile, LacksFile}
 use Rattle.image_reading.proofs.Results.{if_ok, if_err, either_of, never, damage_why, damage_refusal}
 use Rattle.image_reading.proofs.Widths.{within_self}
@@ -33,17 +30,3 @@ no_fault at Why r err is = never (IsDamage at Why) DirFault r (λ h. h) err is
 
 pub refusals_at : {V : Type 0} (at : List ℕ) (Why : Type 0) (r : Result V StoreError) → IfErr r (IsDamage at Why) → IfErr r (IsReadRefusal (λ path. path ≡ at))
 refusals_at at Why r err = if_err (IsDamage at Why) (IsReadRefusal (λ path. path ≡ at)) r (λ e is. damage_refusal (λ path. path ≡ at) at Why e refl is) err
-
--- by a location that is the image's
-module _ {observed : Bool} (key : StoreKey) (name : List ℕ) (spot : Spot) (same : spot ≡ image_spot key) (most : ℕ) (old new : DirAt) (found : Option (Vec ℕ)) where
-  abbrev Read : Spot → Type 0
-  Read x = observed ≡ true → MatchOption found (WasMissing (inner_at x name) old new) (λ bytes. ReadsUp (inner_at x name) most old new bytes.items)
-
-  pub part_read : Read spot → Read (image_spot key)
-  part_read h = subst Read same h
-
-  abbrev Whole : Spot → Type 0
-  Whole x = observed ≡ true → (file : List ℕ) → StaysBetween (inner_at x name) file old new → IsSomeAnd found (λ bytes. bytes.items ≡ take most file)
-
-  pub part_whole : Whole spot → Whole (image_spot key)
-  part_whole h = subst Whole same h

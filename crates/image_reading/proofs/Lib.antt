@@ -5,3 +5,5 @@ mod Places
 mod Values
 mod Files
 mod Marking
+mod Images
+mod Stores

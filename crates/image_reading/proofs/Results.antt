@@ -57,3 +57,7 @@ more_paths P Q e f is = absurd is
 pub err_same : {A B E : Type 0} (Q : E → Type 0) (r : Result A E) (other : Result B E) → ((e : E) → other ≡ Err e → r ≡ Err e) → IfErr r Q → IfErr other Q
 err_same Q r (Ok b) f h = tt
 err_same Q r (Err e) f h = subst (λ x. IfErr x Q) (f e refl) h
+
+pub err_both : {A E : Type 0} (P Q R : E → Type 0) (r : Result A E) → ((e : E) → P e → Q e → R e) → IfErr r P → IfErr r Q → IfErr r R
+err_both P Q R (Ok a) f p q = tt
+err_both P Q R (Err e) f p q = f e p q

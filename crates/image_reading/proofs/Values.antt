@@ -1,14 +1,10 @@
 -- What the bytes of a file are, and what its first bytes tell of the whole.
-use Rattle.std.proofs.Common.{arith, ◌≡◌, ◌⊎◌, inl, inr, ◌<◌, ◌≤◌, ◌+◌, ℕ, Bool, true, false, nat_le, nat_lt, List, [], ◌∷◌, ◌++◌, length, take, Some, codes, refl, sym, ap, subst, ◌∙◌, length-append}
-use Rattle.std.specs.Prelude.{IsUtf8}
-use Rattle.std.specs.List.{list_all}
-use Rattle.std.specs.Str.{IsAscii}
+use Rattle.std.proofs.Common.{arith, ◌≡◌, ◌⊎◌, inl, inr, ◌<◌, ◌≤◌, ◌+◌, ℕ, Bool, true, false, nat_le, nat_lt, List, [], ◌∷◌, ◌++◌, length, take, Option, Some, None, codes, refl, sym, ap, subst, ◌∙◌, length-append}
+use Rattle.std.specs.Prelude.{IsUtf8, MatchOption}
 use Rattle.std.proofs.lemmas.Bool.Decides.{nat_tests}
-use Rattle.std.proofs.lemmas.Bool.{and_parts, ltb-true}
 use Rattle.std.proofs.lemmas.Grind.{common_steps}
 use Rattle.std.proofs.lemmas.List.{append_cancel_right}
 use Rattle.std.proofs.lemmas.Str.{IsUtf8-from_ascii, IsAscii-append}
-use Rattle.std.proofs.lemmas.Str.Ascii.{IsAscii-nil, IsAscii-cons}
 use Rattle.hex.specs.Hex.{encode_with, lower_digits}
 use Rattle.hex.proofs.HexLemmas.{IsAscii-encode_with}
 use Rattle.ac_types.specs.declared.fault.FaultKind.{FaultKind}
@@ -28,7 +24,7 @@ use Rattle.tree_digest.specs.declared.listing_error.ListingError.TheVariants as 
 use Rattle.tree_digest.specs.Listings.{listing_text, Fails, line_count}
 use Rattle.image_reading.specs.declared.file.KeptManifest.{KeptManifest}
 use Rattle.image_reading.specs.Files.{IsManifestOf, IsNoManifest, IsKeptOf, IsIdOf, IsNoId, IsListingOf, IsNoListing}
-use Rattle.image_reading.proofs.Places.{text_length}
+use Rattle.image_reading.proofs.Places.{text_length, ascii_from}
 
 take_short : (n : ℕ) (bytes : List ℕ) → nat_le (length bytes) n ≡ true → take (n + 1) bytes ≡ bytes
 take_short n bytes short = grind (arith, nat_tests, common_steps)
@@ -69,9 +65,6 @@ manifest_front file kept is = (is.0 ∙ manifest_whole file (image_data kept.man
 pub no_manifest_front : (file : List ℕ) → IsNoManifest (take 1048577 file) → IsNoManifest file
 no_manifest_front file none = λ manifest is. none manifest (manifest_so file ∙ is)
 
-pub failed_manifest : (bytes path : List ℕ) (kind : FaultKind) → image_manifest bytes ≡ fails path kind → IsNoManifest bytes
-failed_manifest bytes path kind is = λ manifest read. let both : fails path kind ≡ reads manifest = sym is ∙ read in cc
-
 -- IDs
 id_length : (key : StoreKey) (id : ImageId) (bytes : List ℕ) → IsIdOf key id bytes → length bytes < 137
 id_length key id bytes is = omega (arith, ap length is.text, length-append (id_text id.bytes) (10 ∷ []), text_length 64 id.bytes is.kind)
@@ -82,13 +75,7 @@ id_front key file id is = subst (λ (b : List ℕ). IsIdOf key id b) (not_cut 13
 pub no_id_front : (key : StoreKey) (file : List ℕ) → IsNoId key (take 137 file) → IsNoId key file
 no_id_front key file none = λ id is. none id (subst (λ (b : List ℕ). IsIdOf key id b) (sym (within_take 137 file (id_length key id file is))) is)
 
-ascii_from : (bytes : List ℕ) → list_all (λ b. nat_lt b 128) bytes ≡ true → IsAscii bytes
-ascii_from [] all = IsAscii-nil
-ascii_from (x ∷ xs) all =
-    let parts = and_parts _ _ all in
-    IsAscii-cons x xs (ltb-true x 128 parts.0) (ascii_from xs parts.1)
-
-id_utf8 : (id : List ℕ) → IsUtf8 (id_text id)
+pub id_utf8 : (id : List ℕ) → IsUtf8 (id_text id)
 unfolding id_text
 id_utf8 id =
     IsUtf8-from_ascii (codes "sha512-" ++ encode_with lower_digits id)
@@ -120,6 +107,11 @@ module _ (key : StoreKey) (bytes line : List ℕ) (ends : bytes ≡ line ++ 10 �
     pub an_id : take 32 id.bytes ≡ key.bytes → IsIdOf key id bytes
     an_id front = record { kind = are; text = ends ∙ ap (λ (t : List ℕ). t ++ 10 ∷ []) text; front = front }
 
+-- the ID, where its key is the wanted one
+pub key_in : (key : StoreKey) (bytes line : List ℕ) → bytes ≡ line ++ 10 ∷ [] → (id : ImageId) → AreBytes 64 id.bytes → line ≡ id_text id.bytes → (r : Option ImageId) → MatchOption r (take 32 id.bytes ≡ key.bytes → ⊥) (λ same. (same ≡ id) × (take 32 id.bytes ≡ key.bytes)) → MatchOption r (IsNoId key bytes) (λ i. IsIdOf key i bytes)
+key_in key bytes line ends id are text None none = other_key key bytes line ends id are text none
+key_in key bytes line ends id are text (Some i) is = subst (λ (x : ImageId). IsIdOf key x bytes) (sym is.0) (an_id key bytes line ends id are text is.1)
+
 -- listings
 pub tree_front : (file : List ℕ) (lines : List ListingLine) → IsListingOf lines (take 33554433 file) → IsListingOf lines file
 tree_front file lines is =
@@ -144,6 +136,3 @@ no_tree_front file none = by (nat_le (length file) 33554432) refl
     by true short = subst IsNoListing (take_short 33554432 file short) none
     by false long = long_listing file (longer file long)
 
-pub failed_listing : (bytes : List ℕ) (error : ListingError) → (error ≡ faults.NoMemory → ⊥) → (error ≡ faults.NoMemory) ⊎ Fails bytes error → IsNoListing bytes
-failed_listing bytes error other (inl memory) = absurd (other memory)
-failed_listing bytes error other (inr fault) = (error, fault)

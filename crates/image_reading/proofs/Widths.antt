@@ -40,11 +40,11 @@ within_before {asks} {R} {a} {b} {c} w bc = record {
 }
 
 module _ {observed : Bool} {asks : Request → Bool} {Keeps : DirAt → DirAt → Type 0} (t : observed ≡ true) where
-  pub held_after : {a b c : DirAt} {P : DirState → Type 0} → OnlyAsks observed asks Keeps a b → HeldBetween b c P → HeldBetween a c P
-  held_after ab h = at_after (ab.extends t) ab.same h
+  pub held_after : {a b : DirAt} (c : DirAt) {P : DirState → Type 0} → OnlyAsks observed asks Keeps a b → HeldBetween b c P → HeldBetween a c P
+  held_after c ab h = at_after (ab.extends t) ab.same h
 
-  pub held_before : {a b c : DirAt} {P : DirState → Type 0} → b.process ≡ a.process → HeldBetween a b P → OnlyAsks observed asks Keeps b c → HeldBetween a c P
-  held_before same h bc = at_before h same (bc.extends t)
+  pub held_before : (a : DirAt) {b c : DirAt} {P : DirState → Type 0} → b.process ≡ a.process → HeldBetween a b P → OnlyAsks observed asks Keeps b c → HeldBetween a c P
+  held_before a same h bc = at_before h same (bc.extends t)
 
   pub told_after : {R : DirAt → DirAt → Type 0} {a b c : DirAt} → OnlyAsks observed asks Keeps a b → Within R b c → Within R a c
   told_after ab w = within_after (ab.extends t) ab.same w
@@ -58,13 +58,13 @@ module _ {observed : Bool} {asks : Request → Bool} {Keeps : DirAt → DirAt �
   pub file_before : {inner : Inner} {most : ℕ} {P : List ℕ → Type 0} {a b c : DirAt} → ReadsFile inner most P a b → OnlyAsks observed asks Keeps b c → ReadsFile inner most P a c
   file_before r bc = record { bytes = r.bytes; read = told_before r.read bc; holds = r.holds }
 
-  pub lack_after : (inner : Inner) (most : ℕ) (P : List ℕ → Type 0) {a b c : DirAt} → OnlyAsks observed asks Keeps a b → LacksFile inner most P b c → LacksFile inner most P a c
-  lack_after inner most P ab (inl missing) = inl (held_after ab missing)
-  lack_after inner most P ab (inr read) = inr (file_after ab read)
+  pub lack_after : (inner : Inner) (most : ℕ) (P : List ℕ → Type 0) {a b : DirAt} (c : DirAt) → OnlyAsks observed asks Keeps a b → LacksFile inner most P b c → LacksFile inner most P a c
+  lack_after inner most P c ab (inl missing) = inl (held_after c ab missing)
+  lack_after inner most P c ab (inr read) = inr (file_after ab read)
 
-  pub lack_before : (inner : Inner) (most : ℕ) (P : List ℕ → Type 0) {a b c : DirAt} → b.process ≡ a.process → LacksFile inner most P a b → OnlyAsks observed asks Keeps b c → LacksFile inner most P a c
-  lack_before inner most P same (inl missing) bc = inl (held_before same missing bc)
-  lack_before inner most P same (inr read) bc = inr (file_before read bc)
+  pub lack_before : (inner : Inner) (most : ℕ) (P : List ℕ → Type 0) (a : DirAt) {b c : DirAt} → b.process ≡ a.process → LacksFile inner most P a b → OnlyAsks observed asks Keeps b c → LacksFile inner most P a c
+  lack_before inner most P a same (inl missing) bc = inl (held_before a same missing bc)
+  lack_before inner most P a same (inr read) bc = inr (file_before read bc)
 
   pub marks_after : {key : StoreKey} {P : List ℕ → Type 0} {a b c : DirAt} → OnlyAsks observed asks Keeps a b → ShowsMarks key P b c → ShowsMarks key P a c
   marks_after ab r = record { items = r.items; shown = told_after ab r.shown; holds = r.holds }

@@ -1,5 +1,5 @@
 -- All images of the store.
-use Rattle.std.specs.Prelude.{◌≡◌, ℕ, List, map}
+use Rattle.std.specs.Prelude.{◌≡◌, ℕ, Option, Some, None, List, [], ◌∷◌, ◌++◌, map}
 use Rattle.std.specs.List.{AllByRecursion}
 use Rattle.ac_types.specs.declared.store_key.StoreKey.{StoreKey}
 use Rattle.dep_match.specs.declared.stored.Stored.{Stored}
@@ -14,6 +14,11 @@ use Rattle.image_reading.specs.Images.{ReadsImage, LacksImage}
 
 abbrev pub keys : List Stored → List StoreKey
 keys images = map (λ (image : Stored). image.key) images
+
+-- an image was added that was read so; for no key nothing was
+abbrev pub AddsImage : Option StoreKey → List Stored → List Stored → DirAt → DirAt → Type 0
+AddsImage None before after old new = after ≡ before
+AddsImage (Some key) before after old new = (image : Stored) × (after ≡ before ++ image ∷ []) × (image.key ≡ key) × ReadsImage image old new
 
 -- these are the images of the keys, and each was read
 pub record AreRead (names : List (List ℕ)) (images : List Stored) (old new : DirAt) : Type 0 where

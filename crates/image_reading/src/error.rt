@@ -1,10 +1,11 @@
 // Why the store gives no answer.
-ghost use Rattle.std.specs.Prelude.{◌≡◌};
+ghost use Rattle.std.specs.Prelude.{◌≡◌, true};
+ghost use Rattle.dir_model.specs.Replies.{is_fault};
 ghost use Rattle.image_reading.specs.Refusals.{IsOutside};
 
 use ac_types::{Fault, NoMemory, StoreKey, Text};
 use dir_files::ReadError;
-use dir_trait::Area;
+use dir_trait::{Area, DirError};
 use std::alloc::AllocFailed;
 use tree_digest::ListingError;
 
@@ -50,6 +51,19 @@ pub(crate) fn short_of_memory<T: Drop>(_refused: AllocFailed<T>) -> StoreError
     ensures { result ≡ StoreError.NoMemory }
 {
     StoreError::NoMemory
+}
+
+/// The refusal where the directory failed or memory ran out.
+pub(crate) fn fault_error(error: DirError) -> StoreError
+    requires { is_fault error ≡ true }
+    ensures fault { result ≡ StoreError.DirFault → error ≡ DirError.Failed }
+    ensures outside { IsOutside result }
+{
+    match error {
+        DirError::Failed => StoreError::DirFault,
+        DirError::NoMemory => StoreError::NoMemory,
+        _ => unreachable!(),
+    }
 }
 
 /// The refusal of a read of a file.

@@ -1,5 +1,5 @@
 // The marks that say when an image was imported.
-ghost use Rattle.std.specs.Prelude.{◌≡◌, ◌≤◌, [], length, MatchOption};
+ghost use Rattle.std.specs.Prelude.{◌≡◌, ◌≤◌, [], length, drop, nat_le, cond, Some, None, MatchOption};
 ghost use Rattle.dir_rules.specs.Marks.{number_of};
 ghost use Rattle.dir_rules.specs.Seen.{later};
 ghost use Rattle.image_reading.specs.Marks.{imported_moment, imported_moments, IsGreatest};
@@ -19,6 +19,27 @@ fn number_of(digits: &[u8]) -> u128
     number
 }
 
+// The greatest number of 64 bits.
+const MOST: u128 = 18_446_744_073_709_551_615;
+
+fn in_64_bits(number: u128) -> Option<u64>
+    ensures { result ≡ cond (nat_le number 18446744073709551615) (Some number) None }
+{
+    if number <= MOST {
+        Some(number as u64)
+    } else {
+        None
+    }
+}
+
+// The number behind the front of a mark.
+fn number_in(name: &[u8]) -> u128
+    requires { length name.now ≡ 29 }
+    ensures { result ≡ number_of (drop 9 name.now) }
+{
+    number_of(&name[9..])
+}
+
 /// The moment of a mark. None where the name is no mark, or its digits stand for more than a number of 64
 /// bits.
 fn imported_moment(name: &[u8]) -> Option<u64>
@@ -27,9 +48,9 @@ fn imported_moment(name: &[u8]) -> Option<u64>
     if name.len() != 29 {
         return None;
     }
-    let moment = number_of(&name[9..]);
+    let moment = number_in(name);
     if is_mark(b"imported-", moment, name) {
-        u64::try_from(moment).ok()
+        in_64_bits(moment)
     } else {
         None
     }

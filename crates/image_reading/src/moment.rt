@@ -9,7 +9,7 @@ ghost use Rattle.image_reading.specs.Looks.{OnlyReadsImage};
 ghost use Rattle.image_reading.specs.Refusals.{IsOutside, IsReadRefusal, IsDamaged};
 ghost use Rattle.image_reading.specs.Files.{ReadsMoment, LacksMoment};
 
-use crate::error::StoreError;
+use crate::error::{StoreError, fault_error};
 use crate::mark::greatest_moment;
 use crate::place::{damaged, spot_of};
 use ac_types::StoreKey;
@@ -36,8 +36,7 @@ pub(crate) fn read_items<D: Dir>(
     match items_of(alloc, dir, spot, "") {
         Ok(items) => Ok(Some(items)),
         Err(DirError::Missing) => Ok(None),
-        Err(DirError::NoMemory) => Err(StoreError::NoMemory),
-        Err(_) => Err(StoreError::DirFault),
+        Err(error) => Err(fault_error(error)),
     }
 }
 

@@ -4,13 +4,13 @@ ghost use Rattle.ac_types.specs.declared.store_key.StoreKey.{StoreKey};
 ghost use Rattle.dir_model.specs.Causes.{Rose};
 ghost use Rattle.dir_model.specs.Local.{IsActive};
 ghost use Rattle.dir_trait.specs.DirCalls.{HeldBetween};
-ghost use Rattle.image_reading.specs.Places.{IsAbsent};
+ghost use Rattle.image_reading.specs.Places.{IsAbsent, key_of};
 ghost use Rattle.image_reading.specs.Looks.{OnlyReadsImage, OnlyReadsImages, HoldsImages};
 ghost use Rattle.image_reading.specs.Refusals.{IsReadRefusal, IsTreeRefusal, IsDamaged};
 ghost use Rattle.image_reading.specs.Files.{ReadsTree, LacksTree};
-ghost use Rattle.image_reading.specs.Store.{AreRead, ReadsStore, IsStorePath, LacksStore};
+ghost use Rattle.image_reading.specs.Store.{AddsImage, AreRead, ReadsStore, IsStorePath, LacksStore};
 
-use crate::error::{StoreError, short_of_memory};
+use crate::error::{StoreError, fault_error, short_of_memory};
 use crate::file::{MOST_OF_TREE, read_part};
 use crate::image::read_image;
 use crate::moment::read_items;
@@ -19,9 +19,32 @@ use crate::value::listing_of;
 use ac_types::StoreKey;
 use dep_match::Stored;
 use dir_files::names_of;
-use dir_trait::{Area, Dir, DirError, Handle, Name};
+use dir_trait::{Area, Dir, Handle, Name};
 use std::alloc::Global;
 use tree_digest::Listing;
+
+/// Reads the image of a name, where the name is a key's text.
+fn read_next<D: Dir>(
+    alloc: Global,
+    dir: &mut D,
+    name: &Name,
+    images: &mut Vec<Stored>,
+) -> Result<(), StoreError>
+    requires active { IsActive (D.shown dir.old).local }
+    ensures cause { IsErrOf result StoreError.DirFault → Rose (D.shown dir.old).faults (D.shown dir.new).faults }
+    ensures only { OnlyReadsImages D.observed (D.shown dir.old) (D.shown dir.new) }
+    ensures refusals { IfErr result (IsReadRefusal IsStorePath) }
+    ensures read { IfOk result (λ done. D.observed ≡ true → AddsImage (key_of name.now) images.old.items images.new.items (D.shown dir.old) (D.shown dir.new)) }
+    ensures damaged { IfErr result (λ e. D.observed ≡ true → LacksStore e (D.shown dir.old) (D.shown dir.new)) }
+{
+    let Some(key) = key_of(name) else {
+        return Ok(());
+    };
+    match read_image(alloc, dir, key) {
+        Ok(image) => images.push(image).map_err(short_of_memory),
+        Err(error) => Err(error),
+    }
+}
 
 /// Reads each image of which a name is the key's text.
 fn read_each<D: Dir>(alloc: Global, dir: &mut D, names: &[Name]) -> Result<Vec<Stored>, StoreError>
@@ -34,10 +57,7 @@ fn read_each<D: Dir>(alloc: Global, dir: &mut D, names: &[Name]) -> Result<Vec<S
 {
     let mut images = Vec::new(alloc);
     'names: for name in names {
-        if let Some(key) = key_of(name) {
-            let image = read_image(alloc, dir, key)?;
-            images.push(image).map_err(short_of_memory)?;
-        }
+        read_next(alloc, dir, name, &mut images)?;
     }
     Ok(images)
 }
@@ -57,8 +77,7 @@ pub fn stored<D: Dir>(alloc: Global, dir: &mut D, gate: Handle) -> Result<Vec<St
     let _gate = gate;
     match names_of(alloc, dir, Area::Images) {
         Ok(names) => read_each(alloc, dir, names.as_slice()),
-        Err(DirError::NoMemory) => Err(StoreError::NoMemory),
-        Err(_) => Err(StoreError::DirFault),
+        Err(error) => Err(fault_error(error)),
     }
 }
 

@@ -1,5 +1,6 @@
 // What the bytes of an image's files are.
-ghost use Rattle.std.specs.Prelude.{◌≡◌, ◌++◌, ◌∷◌, [], ℕ, List, IfOk, IfErr, MatchOption};
+ghost use Rattle.std.specs.Prelude.{◌≡◌, ◌++◌, ◌∷◌, [], ℕ, List, take, IfOk, IfErr, MatchOption};
+ghost use Rattle.ac_types.specs.Ids.{AreBytes, id_text};
 ghost use Rattle.image_reading.specs.Places.{stored_path, manifest_name, id_name, tree_name};
 ghost use Rattle.image_reading.specs.Refusals.{IsDamage};
 ghost use Rattle.image_reading.specs.Files.{IsKeptOf, IsNoManifest, IsIdOf, IsNoId, IsListingOf, IsNoListing};
@@ -39,17 +40,38 @@ fn line_of(bytes: &[u8]) -> Option<&[u8]>
     }
 }
 
+/// The ID whose text it is.
+fn id_text_of(line: &[u8]) -> Option<ImageId>
+    ensures { MatchOption result ((other : List ℕ) → AreBytes 64 other → line.now ≡ id_text other → ⊥) (λ id. AreBytes 64 id.bytes × (line.now ≡ id_text id.bytes)) }
+{
+    let Ok(text) = str::from_utf8(line) else {
+        return None;
+    };
+    match ImageId::parse(text) {
+        Ok(id) => Some(id),
+        Err(_) => None,
+    }
+}
+
+/// The ID, where it is that of an image with this key.
+fn with_key(key: StoreKey, id: ImageId) -> Option<ImageId>
+    ensures { MatchOption result (take 32 id.bytes ≡ key.bytes → ⊥) (λ same. (same ≡ id) × (take 32 id.bytes ≡ key.bytes)) }
+{
+    if StoreKey::of(id) == key {
+        Some(id)
+    } else {
+        None
+    }
+}
+
 /// The ID whose text and line end the bytes are, where it is that of an image with this key.
 fn id_in(key: StoreKey, bytes: &[u8]) -> Option<ImageId>
     ensures { MatchOption result (IsNoId key bytes.now) (λ id. IsIdOf key id bytes.now) }
 {
     let line = line_of(bytes)?;
-    let text = str::from_utf8(line).ok()?;
-    let id = ImageId::parse(text).ok()?;
-    if StoreKey::of(id) == key {
-        Some(id)
-    } else {
-        None
+    match id_text_of(line) {
+        Some(id) => with_key(key, id),
+        None => None,
     }
 }
 
