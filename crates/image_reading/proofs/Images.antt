@@ -12,11 +12,11 @@ use Rattle.image_reading.specs.Places.{stored_path, image_inner, manifest_name, 
 use Rattle.image_reading.specs.Looks.{OnlyAsks, OnlyReadsImage}
 use Rattle.image_reading.specs.Refusals.{IsReadRefusal, IsDamaged}
 use Rattle.image_reading.specs.Files.{most_of_manifest, most_of_id, most_of_tree, IsNoManifest, IsNoId, IsNoListing, IsIdOf, ReadsKept, ReadsManifest, LacksManifest, ReadsId, LacksId, LacksTree, ReadsMoment, LacksMoment}
-use Rattle.image_reading.specs.Images.{ReadsImage, HasManifest, HasId, LacksInTurn, IsFirstLack, LacksImage, LacksDigest}
+use Rattle.image_reading.specs.Images.{ReadsParts, ReadsImage, HasManifest, HasId, LacksInTurn, IsFirstLack, LacksImage, LacksDigest}
 use Rattle.image_reading.proofs.Widths.{held_after, held_before, file_after, file_before, lack_after, lack_before, marks_after, marks_before}
 
-pub manifest_kept : {key : StoreKey} {old new : DirAt} (kept : KeptManifest) → ReadsKept key kept old new → ReadsManifest key kept.manifest old new
-manifest_kept kept r = record { bytes = r.bytes; read = r.read; holds = r.holds.1 }
+pub manifest_kept : (key : StoreKey) {old new : DirAt} (kept : KeptManifest) → ReadsKept key kept old new → ReadsManifest key kept.manifest old new
+manifest_kept key kept r = record { bytes = r.bytes; read = r.read; holds = r.holds.1 }
 
 module _ {observed : Bool} {asks : Request → Bool} {Keeps : DirAt → DirAt → Type 0} (t : observed ≡ true) where
   pub moment_lack_after : (key : StoreKey) {a b : DirAt} (c : DirAt) → OnlyAsks observed asks Keeps a b → LacksMoment key b c → LacksMoment key a c
@@ -69,7 +69,6 @@ module _ (key : StoreKey) (third : List ℕ) (LacksThird : DirAt → DirAt → T
   lacks_third (Damaged path) has both at lacks = inr (inr (at, has, both, lacks tt))
   lacks_third e has both at lacks = tt
 
--- the directory failed, or memory ran out
-pub lacks_nothing : (key : StoreKey) (third : List ℕ) (LacksThird : DirAt → DirAt → Type 0) (e : StoreError) {old new : DirAt} → (IsDamaged e → ⊥) → IsFirstLack key third LacksThird e old new
-lacks_nothing key third LacksThird (Damaged path) none = absurd (none tt)
-lacks_nothing key third LacksThird e none = tt
+-- the digest of parts that were read in a part of the time
+pub parts_after : {observed : Bool} {key : StoreKey} {digest : List ℕ} {a b c : DirAt} → observed ≡ true → OnlyReadsImage observed key a b → ReadsParts key digest b c → ReadsParts key digest a c
+parts_after t ab p = record { kept = p.kept; id = p.id; lines = p.lines; manifest = file_after t ab p.manifest; id_file = file_after t ab p.id_file; tree = file_after t ab p.tree; is = p.is }

@@ -10,7 +10,7 @@ ghost use Rattle.image_reading.specs.Images.{ReadsParts, HasDigest, LacksDigest}
 
 use crate::error::{StoreError, out_of_memory};
 use crate::file::{read_id, read_listing, read_manifest};
-use crate::moment::read_items;
+use crate::moment::is_there;
 use ac_types::StoreKey;
 use dir_trait::Dir;
 use std::alloc::Global;
@@ -49,8 +49,11 @@ pub fn stored_digest<D: Dir>(
     ensures there { IfOk result (λ found. IfSome found (λ digest. D.observed ≡ true → HasDigest key digest (D.shown dir.old) (D.shown dir.new))) }
     ensures damaged { IfErr result (λ e. D.observed ≡ true → LacksDigest key e (D.shown dir.old) (D.shown dir.new)) }
 {
-    match read_items(alloc, dir, key)? {
-        None => Ok(None),
-        Some(_) => Ok(Some(digest_of(alloc, dir, key)?)),
+    if !is_there(alloc, dir, key)? {
+        return Ok(None);
+    }
+    match digest_of(alloc, dir, key) {
+        Ok(digest) => Ok(Some(digest)),
+        Err(error) => Err(error),
     }
 }

@@ -1,5 +1,5 @@
 // The moment at which an image was imported.
-ghost use Rattle.std.specs.Prelude.{◌≡◌, [], true, Ok, None, IfOk, IfErr, IsErrOf, IfSome, MatchOption};
+ghost use Rattle.std.specs.Prelude.{◌≡◌, [], true, Ok, None, IfOk, IfErr, IsErrOf, IfSome, MatchOption, MatchBool};
 ghost use Rattle.dir_model.specs.Causes.{Rose};
 ghost use Rattle.dir_model.specs.Local.{IsActive};
 ghost use Rattle.dir_trait.specs.DirCalls.{HeldBetween};
@@ -37,6 +37,26 @@ pub(crate) fn read_items<D: Dir>(
         Ok(items) => Ok(Some(items)),
         Err(DirError::Missing) => Ok(None),
         Err(error) => Err(fault_error(error)),
+    }
+}
+
+/// Whether a folder of an image stands there.
+pub(crate) fn is_there<D: Dir>(
+    alloc: Global,
+    dir: &mut D,
+    key: StoreKey,
+) -> Result<bool, StoreError>
+    requires active { IsActive (D.shown dir.old).local }
+    ensures cause { IsErrOf result StoreError.DirFault → Rose (D.shown dir.old).faults (D.shown dir.new).faults }
+    ensures only { OnlyReadsImage D.observed key (D.shown dir.old) (D.shown dir.new) }
+    ensures refusals { IfErr result IsOutside }
+    ensures there { IfOk result (λ there. D.observed ≡ true
+        → MatchBool there (HeldBetween (D.shown dir.old) (D.shown dir.new) (IsPresent key)) (HeldBetween (D.shown dir.old) (D.shown dir.new) (IsAbsent key))) }
+{
+    match read_items(alloc, dir, key) {
+        Ok(Some(_)) => Ok(true),
+        Ok(None) => Ok(false),
+        Err(error) => Err(error),
     }
 }
 

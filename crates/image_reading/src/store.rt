@@ -13,7 +13,7 @@ ghost use Rattle.image_reading.specs.Store.{AddsImage, AreRead, ReadsStore, IsSt
 use crate::error::{StoreError, fault_error, short_of_memory};
 use crate::file::{MOST_OF_TREE, read_part};
 use crate::image::read_image;
-use crate::moment::read_items;
+use crate::moment::is_there;
 use crate::place::{damaged, key_of};
 use crate::value::listing_of;
 use ac_types::StoreKey;
@@ -89,9 +89,9 @@ fn no_tree<D: Dir>(alloc: Global, dir: &mut D, key: StoreKey) -> StoreError
     ensures refusals { IsTreeRefusal key result }
     ensures absent { (other : StoreKey) → result ≡ StoreError.NoImage other → D.observed ≡ true → HeldBetween (D.shown dir.old) (D.shown dir.new) (IsAbsent key) }
 {
-    match read_items(alloc, dir, key) {
-        Ok(Some(_)) => damaged(alloc, key, "tree"),
-        Ok(None) => StoreError::NoImage(key),
+    match is_there(alloc, dir, key) {
+        Ok(true) => damaged(alloc, key, "tree"),
+        Ok(false) => StoreError::NoImage(key),
         Err(error) => error,
     }
 }
