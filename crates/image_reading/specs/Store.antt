@@ -9,7 +9,7 @@ use Rattle.dir_files.specs.Listed.{ShowsAreaBetween}
 use Rattle.image_reading.specs.declared.error.StoreError.{StoreError}
 use Rattle.image_reading.specs.Within.{Within}
 use Rattle.image_reading.specs.Places.{keys_among}
-use Rattle.image_reading.specs.Refusals.{IsImagePath}
+use Rattle.image_reading.specs.Refusals.{IsDamaged, IsImagePath}
 use Rattle.image_reading.specs.Images.{ReadsImage, LacksImage}
 
 abbrev pub keys : List Stored → List StoreKey
@@ -35,6 +35,6 @@ pub record ReadsStore (images : List Stored) (old new : DirAt) : Type 0 where
 abbrev pub IsStorePath : List ℕ → Type 0
 IsStorePath path = (key : StoreKey) × IsImagePath key path
 
--- some image lacks it
+-- where the error says that a file is damaged, some image lacks it
 abbrev pub LacksStore : StoreError → DirAt → DirAt → Type 0
-LacksStore error old new = (key : StoreKey) × LacksImage key error old new
+LacksStore error old new = IsDamaged error → (key : StoreKey) × LacksImage key error old new
