@@ -1,5 +1,5 @@
 -- What a file's read tells, where its bytes are a value and where they are none.
-use Rattle.std.proofs.Common.{◌≡◌, ◌⊎◌, inl, inr, ℕ, Bool, true, List, take, Result, Ok, Err, IsErrOf, refl, subst, sym}
+use Rattle.std.proofs.Common.{◌≡◌, ◌≤◌, ◌⊎◌, inl, inr, ℕ, Bool, true, List, length, take, Result, Ok, Err, IsErrOf, refl, subst, sym}
 use Rattle.std.specs.Prelude.{IfOk, IfErr, MatchResult}
 use Rattle.dir_model.specs.declared.item.Inner.{Inner}
 use Rattle.dir_trait.specs.DirCalls.{DirAt}
@@ -12,12 +12,12 @@ use Rattle.image_reading.proofs.Results.{if_ok, if_err, either_of, never, damage
 use Rattle.image_reading.proofs.Widths.{within_self}
 
 -- some bytes were read
-module _ {observed : Bool} {V : Type 0} (inner : Inner) (most : ℕ) (old new : DirAt) (bytes : List ℕ) (read : observed ≡ true → ReadsUp inner most old new bytes) (Is : V → List ℕ → Type 0) (IsNone : List ℕ → Type 0) (r : Result V StoreError) where
+module _ {observed : Bool} {V : Type 0} (inner : Inner) (most : ℕ) (old new : DirAt) (bytes : List ℕ) (few : length bytes ≤ most) (read : observed ≡ true → ReadsUp inner most old new bytes) (Is : V → List ℕ → Type 0) (IsNone : List ℕ → Type 0) (r : Result V StoreError) where
   pub some_read : IfOk r (λ v. Is v bytes) → IfOk r (λ v. observed ≡ true → ReadsFile inner most (Is v) old new)
-  some_read ok = if_ok _ _ r (λ v is t. record { bytes = bytes; read = within_self (read t); holds = is }) ok
+  some_read ok = if_ok _ _ r (λ v is t. record { bytes = bytes; few = few; read = within_self (read t); holds = is }) ok
 
   pub some_lacks : (at : List ℕ) → IfErr r (IsDamage at (IsNone bytes)) → IfErr r (λ e. IsDamaged e → observed ≡ true → LacksFile inner most IsNone old new)
-  some_lacks at err = if_err _ _ r (λ e is damaged t. inr (record { bytes = bytes; read = within_self (read t); holds = damage_why at (IsNone bytes) e is damaged })) err
+  some_lacks at err = if_err _ _ r (λ e is damaged t. inr (record { bytes = bytes; few = few; read = within_self (read t); holds = damage_why at (IsNone bytes) e is damaged })) err
 
   pub some_whole : (at : List ℕ) → IfOk r (λ v. Is v bytes) → IfErr r (IsDamage at (IsNone bytes)) → (file : List ℕ) → bytes ≡ take most file → ((v : V) → Is v (take most file) → Is v file) → (IsNone (take most file) → IsNone file)
       → MatchResult r (λ v. Is v file) (λ e. IsDamaged e → IsNone file)

@@ -16,7 +16,7 @@ use Rattle.image_reading.specs.Images.{ReadsParts, ReadsImage, HasManifest, HasI
 use Rattle.image_reading.proofs.Widths.{held_after, held_before, file_after, file_before, lack_after, lack_before, marks_after, marks_before}
 
 pub manifest_kept : (key : StoreKey) {old new : DirAt} (kept : KeptManifest) → ReadsKept key kept old new → ReadsManifest key kept.manifest old new
-manifest_kept key kept r = record { bytes = r.bytes; read = r.read; holds = r.holds.1 }
+manifest_kept key kept r = record { bytes = r.bytes; few = r.few; read = r.read; holds = r.holds.1 }
 
 module _ {observed : Bool} {asks : Request → Bool} {Keeps : DirAt → DirAt → Type 0} (t : observed ≡ true) where
   pub moment_lack_after : (key : StoreKey) {a b : DirAt} (c : DirAt) → OnlyAsks observed asks Keeps a b → LacksMoment key b c → LacksMoment key a c

@@ -1,9 +1,11 @@
-mod Results
-mod Widths
-mod Asking
-mod Places
-mod Values
-mod Files
-mod Marking
-mod Images
-mod Stores
+pub mod Results
+pub mod Widths
+pub mod Stays
+pub mod Asking
+pub mod Holding
+pub mod Places
+pub mod Values
+pub mod Files
+pub mod Marking
+pub mod Images
+pub mod Stores

@@ -53,10 +53,10 @@ module _ {observed : Bool} {asks : Request → Bool} {Keeps : DirAt → DirAt �
   told_before w bc = within_before w (bc.extends t)
 
   pub file_after : {inner : Inner} {most : ℕ} {P : List ℕ → Type 0} {a b c : DirAt} → OnlyAsks observed asks Keeps a b → ReadsFile inner most P b c → ReadsFile inner most P a c
-  file_after ab r = record { bytes = r.bytes; read = told_after ab r.read; holds = r.holds }
+  file_after ab r = record { bytes = r.bytes; few = r.few; read = told_after ab r.read; holds = r.holds }
 
   pub file_before : {inner : Inner} {most : ℕ} {P : List ℕ → Type 0} {a b c : DirAt} → ReadsFile inner most P a b → OnlyAsks observed asks Keeps b c → ReadsFile inner most P a c
-  file_before r bc = record { bytes = r.bytes; read = told_before r.read bc; holds = r.holds }
+  file_before r bc = record { bytes = r.bytes; few = r.few; read = told_before r.read bc; holds = r.holds }
 
   pub lack_after : (inner : Inner) (most : ℕ) (P : List ℕ → Type 0) {a b : DirAt} (c : DirAt) → OnlyAsks observed asks Keeps a b → LacksFile inner most P b c → LacksFile inner most P a c
   lack_after inner most P c ab (inl missing) = inl (held_after c ab missing)

@@ -1,5 +1,5 @@
 -- The files of an image's folder: the manifest, the ID, the listing and the marks.
-use Rattle.std.specs.Prelude.{◌≡◌, ◌⊎◌, ℕ, List, [], ◌∷◌, ◌++◌, take}
+use Rattle.std.specs.Prelude.{◌≡◌, ◌⊎◌, ℕ, ◌≤◌, List, [], ◌∷◌, ◌++◌, length, take}
 use Rattle.ac_types.specs.declared.image_id.ImageId.{ImageId}
 use Rattle.ac_types.specs.declared.store_key.StoreKey.{StoreKey}
 use Rattle.ac_types.specs.Ids.{id_text, AreBytes}
@@ -52,6 +52,7 @@ IsNoListing bytes = (error : ListingError) × Fails bytes error
 -- the bytes of a file were read, all of them or the first so many, and this holds of them
 pub record ReadsFile (inner : Inner) (most : ℕ) (P : List ℕ → Type 0) (old new : DirAt) : Type 0 where
   pub bytes : List ℕ
+  pub few : length bytes ≤ most
   pub read : Within (λ first last. ReadsUp inner most first last bytes) old new
   pub holds : P bytes
 

@@ -63,3 +63,11 @@ is_images_lock gate h = is_number gate h && (is_gate_of Images h.target && is_so
 
 abbrev pub HoldsImages : Local → Handle → Type 0
 HoldsImages m gate = list_any (is_images_lock gate) m.holdings ≡ true
+
+-- whatever the process knew, it knows
+abbrev pub KnowsStill : DirAt → DirAt → Type 0
+KnowsStill old new = (s : Seen) → Knows old s → Knows new s
+
+-- but for the names that may be noted
+abbrev pub KnowsStillNamed : DirAt → DirAt → Type 0
+KnowsStillNamed old new = (s : Seen) → Knows old s → KnowsNamed s new

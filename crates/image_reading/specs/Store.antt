@@ -1,6 +1,9 @@
 -- All images of the store.
 use Rattle.std.specs.Prelude.{◌≡◌, ℕ, Option, Some, None, List, [], ◌∷◌, ◌++◌, map}
 use Rattle.std.specs.List.{AllByRecursion}
+use Rattle.std.specs.List.Sorted.{IsStrictlySortedBy}
+use Rattle.std.specs.Ordering.{nat_cmp}
+use Rattle.std.specs.Cmp.Lexicographic.{slice_cmp}
 use Rattle.ac_types.specs.declared.store_key.StoreKey.{StoreKey}
 use Rattle.dep_match.specs.declared.stored.Stored.{Stored}
 use Rattle.dir_model.specs.declared.area.Area.TheVariants.{Images}
@@ -25,9 +28,10 @@ pub record AreRead (names : List (List ℕ)) (images : List Stored) (old new : D
   pub of_names : keys images ≡ keys_among names
   pub each : AllByRecursion (λ image. ReadsImage image old new) images
 
--- the area was listed, and the images are those of the keys among its names
+-- the area was listed, its names in byte order, and the images are those of the keys among its names
 pub record ReadsStore (images : List Stored) (old new : DirAt) : Type 0 where
   pub names : List (List ℕ)
+  pub ordered : IsStrictlySortedBy (slice_cmp nat_cmp) names
   pub shown : Within (λ first last. ShowsAreaBetween first last Images names) old new
   pub read : AreRead names images old new
 

@@ -1,5 +1,5 @@
 // The manifest, the ID and the listing of an image.
-ghost use Rattle.std.specs.Prelude.{◌≡◌, ◌<◌, ℕ, List, true, take, IfOk, IfErr, IsErrOf, IsSomeAnd, MatchOption, MatchResult};
+ghost use Rattle.std.specs.Prelude.{◌≡◌, ◌<◌, ◌≤◌, ℕ, List, true, length, take, IfSome, IfOk, IfErr, IsErrOf, IsSomeAnd, MatchOption, MatchResult};
 ghost use Rattle.dir_model.specs.Causes.{Rose};
 ghost use Rattle.dir_model.specs.Paths.{is_path};
 ghost use Rattle.dir_model.specs.Local.{IsActive};
@@ -49,6 +49,7 @@ pub(crate) fn read_part<D: Dir>(
     ensures cause { IsErrOf result StoreError.DirFault → Rose (D.shown dir.old).faults (D.shown dir.new).faults }
     ensures only { OnlyReadsImage D.observed key (D.shown dir.old) (D.shown dir.new) }
     ensures refusals { IfErr result IsOutside }
+    ensures most { IfOk result (λ found. IfSome found (λ bytes. length bytes.items ≤ most)) }
     ensures read { IfOk result (λ found. D.observed ≡ true → MatchOption found
         (WasMissing (image_inner key name.now) (D.shown dir.old) (D.shown dir.new))
         (λ bytes. ReadsUp (image_inner key name.now) most (D.shown dir.old) (D.shown dir.new) bytes.items)) }

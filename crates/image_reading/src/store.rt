@@ -5,7 +5,7 @@ ghost use Rattle.dir_model.specs.Causes.{Rose};
 ghost use Rattle.dir_model.specs.Local.{IsActive};
 ghost use Rattle.dir_trait.specs.DirCalls.{HeldBetween};
 ghost use Rattle.image_reading.specs.Places.{IsAbsent, key_of};
-ghost use Rattle.image_reading.specs.Looks.{OnlyReadsImage, OnlyReadsImages, HoldsImages};
+ghost use Rattle.image_reading.specs.Looks.{OnlyReadsImage, OnlyReadsImages, HoldsImages, KnowsStill, KnowsStillNamed};
 ghost use Rattle.image_reading.specs.Refusals.{IsReadRefusal, IsTreeRefusal, IsDamaged};
 ghost use Rattle.image_reading.specs.Files.{ReadsTree, LacksTree};
 ghost use Rattle.image_reading.specs.Store.{AddsImage, AreRead, ReadsStore, IsStorePath, LacksStore};
@@ -70,6 +70,7 @@ pub fn stored<D: Dir>(alloc: Global, dir: &mut D, gate: Handle) -> Result<Vec<St
     requires held { HoldsImages (D.shown dir.old).local gate }
     ensures cause { IsErrOf result StoreError.DirFault → Rose (D.shown dir.old).faults (D.shown dir.new).faults }
     ensures only { OnlyReadsImages D.observed (D.shown dir.old) (D.shown dir.new) }
+    ensures known { D.observed ≡ true → KnowsStillNamed (D.shown dir.old) (D.shown dir.new) }
     ensures refusals { IfErr result (IsReadRefusal IsStorePath) }
     ensures listed { IfOk result (λ images. D.observed ≡ true → ReadsStore images.items (D.shown dir.old) (D.shown dir.new)) }
     ensures damaged { IfErr result (λ e. D.observed ≡ true → LacksStore e (D.shown dir.old) (D.shown dir.new)) }
@@ -109,6 +110,7 @@ pub fn read_tree<D: Dir>(
     requires held { HoldsImages (D.shown dir.old).local gate }
     ensures cause { IsErrOf result StoreError.DirFault → Rose (D.shown dir.old).faults (D.shown dir.new).faults }
     ensures only { OnlyReadsImage D.observed key (D.shown dir.old) (D.shown dir.new) }
+    ensures known { D.observed ≡ true → KnowsStill (D.shown dir.old) (D.shown dir.new) }
     ensures refusals { IfErr result (IsTreeRefusal key) }
     ensures read { IfOk result (λ lines. D.observed ≡ true → ReadsTree key lines (D.shown dir.old) (D.shown dir.new)) }
     ensures damaged { IfErr result (λ e. IsDamaged e → D.observed ≡ true → LacksTree key (D.shown dir.old) (D.shown dir.new)) }
