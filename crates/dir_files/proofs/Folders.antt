@@ -1,5 +1,5 @@
 -- A listing of a folder itself tells whether the folder stood there when it began.
-use Rattle.std.proofs.Common.{◌≡◌, inl, inr, ℕ, Bool, true, false, not, ◌&&◌, ◌==◌, cond, Option, Some, None, option_to_list, List, [], ◌∷◌, ◌++◌, append-nil, append_assoc, length, drop, find, refl, sym, ap, subst, ◌∙◌}
+use Rattle.std.proofs.Common.{◌≡◌, inl, inr, ℕ, Bool, true, false, ◌&&◌, ◌==◌, cond, Option, Some, None, option_to_list, List, [], ◌∷◌, ◌++◌, append-nil, append_assoc, length, drop, find, refl, sym, ap, subst, ◌∙◌}
 use Rattle.std.specs.List.{AllByRecursion}
 use Rattle.dir_model.specs.declared.event.Event.{Event}
 use Rattle.dir_model.specs.declared.item.Inner.{Inner}
@@ -19,7 +19,7 @@ use Rattle.dir_model.specs.Trace.{state_next, states_next, state_after, app_star
 use Rattle.dir_model.specs.Trees.{items_in, mark_prefix, app_root, is_within, is_apps_own}
 use Rattle.dir_model.specs.Listings.{is_of, is_listing, begun_at, listing_of, shows_inside, shows_missing}
 use Rattle.dir_model.specs.Replies.{is_own_at, is_own_of, is_any_reply, is_late_reply, is_reply, is_state_reply}
-use Rattle.dir_model.specs.Calls.{Listing, ListStep, AtOwnStep, is_foreign, event}
+use Rattle.dir_model.specs.Calls.{Listing, ListStep, AtOwnStep, event}
 use Rattle.dir_model.proofs.Lists.{not_true, any_last_not, and_false, same_self}
 use Rattle.dir_model.proofs.Allowed.{allowed_reply}
 use Rattle.dir_laws.proofs.Directories.{item_name, inside_now}

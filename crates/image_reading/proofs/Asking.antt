@@ -1,5 +1,5 @@
 -- What a process asked for, and what it knows afterwards.
-use Rattle.std.proofs.Common.{arith, ◌≡◌, ◌⊎◌, inl, inr, ◌≤◌, ℕ, Bool, true, false, ◌&&◌, ◌||◌, cond, bytes_eq, nat_eq, List, [], ◌∷◌, Result, Ok, Err, refl, sym, ap, subst, ◌∙◌}
+use Rattle.std.proofs.Common.{arith, ◌≡◌, inl, inr, ℕ, Bool, true, false, ◌&&◌, ◌||◌, cond, bytes_eq, nat_eq, List, [], ◌∷◌, Result, Ok, Err, refl, sym, ap, subst, ◌∙◌}
 use Rattle.std.specs.List.{list_any}
 use Rattle.ac_types.specs.declared.store_key.StoreKey.{StoreKey}
 use Rattle.dir_model.specs.declared.area.Area.TheVariants.{Images}
@@ -13,7 +13,7 @@ use Rattle.dir_model.specs.declared.request.DirError.TheVariants.{Missing}
 use Rattle.dir_model.specs.declared.request.Request.{Request}
 use Rattle.dir_model.specs.declared.request.Request.TheVariants.{ListArea, ListIn, ReadIn}
 use Rattle.dir_model.specs.declared.request.Reply.{Reply}
-use Rattle.dir_model.specs.declared.request.Reply.TheVariants.{Begun, Names, Items, Refused}
+use Rattle.dir_model.specs.declared.request.Reply.TheVariants.{Begun, Items, Refused}
 use Rattle.dir_model.specs.declared.spot.Spot.{Spot}
 use Rattle.dir_model.specs.Areas.{rank}
 use Rattle.dir_model.specs.Calls.{CallStep, Unlisted, ListStep, Extends, is_begin, is_kill}
@@ -29,17 +29,17 @@ use Rattle.dir_rules.specs.declared.standing.Held.{Held}
 use Rattle.dir_rules.specs.declared.standing.Standing.{Standing}
 use Rattle.dir_rules.specs.declared.seen.Seen.{Seen}
 use Rattle.dir_rules.specs.declared.seen.ShownArea.{ShownArea}
-use Rattle.dir_rules.specs.Standing.{closes_gate, standing_replied}
+use Rattle.dir_rules.specs.Standing.{closes_gate}
 use Rattle.dir_rules.specs.LockRules.{is_removal_held, is_removal_target, may_remove}
-use Rattle.dir_rules.specs.Seen.{inner_eq, with_items, with_names, listed_created}
+use Rattle.dir_rules.specs.Seen.{with_items, with_names}
 use Rattle.dir_rules.specs.Conforms.{seen_replied, seen_listed, IsTied}
 use Rattle.dir_rules.proofs.Tied.{tied_step, tied_unbegun}
 use Rattle.dir_trait.specs.DirCalls.{DirAt, ListCall, HeldBetween}
 use Rattle.dir_files.proofs.Folders.{tells_present, tells_absent}
 use Rattle.dir_trait.specs.Knowledge.{SameHandles, Knows}
-use Rattle.dir_files.specs.Reads.{inner_at, OnlyReads, KeepsKnown, may_read, reads_at}
+use Rattle.dir_files.specs.Reads.{inner_at, OnlyReads, may_read, reads_at}
 use Rattle.image_reading.specs.Places.{image_spot, image_inner, IsPresent, IsAbsent}
-use Rattle.image_reading.specs.Looks.{reads_image, reads_images, OnlyAsks, OnlyReadsImage, KnowsNamed, KeepsNamed, OnlyReadsImages}
+use Rattle.image_reading.specs.Looks.{reads_image, reads_images, OnlyReadsImage, OnlyReadsImages}
 
 -- a listing that left nothing is one call
 left_step : {me : ℕ} {old new : List Event} {request : Request} {reply : Reply} → Unlisted me old request reply new → CallStep me old request reply new
@@ -146,9 +146,9 @@ images_more ab bc = record {
   local = bc.local ∙ ab.local;
   extends = λ t. and_more (ab.extends t) ab.same (bc.extends t);
   known = λ t s may k.
-    let x = ab.known t s may k in
-    let y = bc.known t (record s { areas = x.areas }) may x.knows in
-    record { areas = y.areas; shared = λ off. y.shared off ∙ x.shared off; knows = y.knows };
+      let x = ab.known t s may k in
+      let y = bc.known t (record s { areas = x.areas }) may x.knows in
+      record { areas = y.areas; shared = λ off. y.shared off ∙ x.shared off; knows = y.knows };
 }
 
 image_asked : (key : StoreKey) (r : Request) → reads_image key r ≡ true → reads_images r ≡ true
@@ -178,8 +178,8 @@ images_names {observed} {old} {new} r c = record {
   local = c.local ∙ local_names old.local r;
   extends = λ t. list_extends refl (c.step t);
   known = λ t s may k.
-    let n = seen_names s may r in
-    record { areas = n.0; shared = n.1; knows = subst (λ (x : Seen). Knows new x) n.2 (knows_list refl refl (local_names old.local r) (names_standing s r) t k c) };
+      let n = seen_names s may r in
+      record { areas = n.0; shared = n.1; knows = subst (λ (x : Seen). Knows new x) n.2 (knows_list refl refl (local_names old.local r) (names_standing s r) t k c) };
 }
 
 -- by a location that is the image's

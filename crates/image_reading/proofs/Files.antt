@@ -1,5 +1,5 @@
 -- What a file's read tells, where its bytes are a value and where they are none.
-use Rattle.std.proofs.Common.{◌≡◌, ◌≤◌, ◌⊎◌, inl, inr, ℕ, Bool, true, List, length, take, Result, Ok, Err, IsErrOf, refl, subst, sym}
+use Rattle.std.proofs.Common.{◌≡◌, ◌≤◌, inr, ℕ, Bool, true, List, length, take, Result, IsErrOf, refl, subst}
 use Rattle.std.specs.Prelude.{IfOk, IfErr, MatchResult}
 use Rattle.dir_model.specs.declared.item.Inner.{Inner}
 use Rattle.dir_trait.specs.DirCalls.{DirAt}

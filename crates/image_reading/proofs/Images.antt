@@ -1,6 +1,5 @@
 -- Several files of an image, read one after the other.
-use Rattle.std.proofs.Common.{◌≡◌, ◌⊎◌, inl, inr, Bool, true, List, ℕ}
-use Rattle.ac_types.specs.declared.image_id.ImageId.{ImageId}
+use Rattle.std.proofs.Common.{◌≡◌, inl, inr, Bool, true, List, ℕ}
 use Rattle.ac_types.specs.declared.store_key.StoreKey.{StoreKey}
 use Rattle.dep_match.specs.declared.stored.Stored.{Stored}
 use Rattle.dir_model.specs.declared.request.Request.{Request}
@@ -11,9 +10,9 @@ use Rattle.image_reading.specs.declared.file.KeptManifest.{KeptManifest}
 use Rattle.image_reading.specs.Places.{stored_path, image_inner, manifest_name, id_name, tree_name, mark_name}
 use Rattle.image_reading.specs.Looks.{OnlyAsks, OnlyReadsImage}
 use Rattle.image_reading.specs.Refusals.{IsReadRefusal, IsDamaged}
-use Rattle.image_reading.specs.Files.{most_of_manifest, most_of_id, most_of_tree, IsNoManifest, IsNoId, IsNoListing, IsIdOf, ReadsKept, ReadsManifest, LacksManifest, ReadsId, LacksId, LacksTree, ReadsMoment, LacksMoment}
+use Rattle.image_reading.specs.Files.{most_of_manifest, most_of_id, most_of_tree, IsNoManifest, IsNoId, IsNoListing, ReadsKept, ReadsManifest, LacksManifest, LacksId, LacksTree, LacksMoment}
 use Rattle.image_reading.specs.Images.{ReadsParts, ReadsImage, HasManifest, HasId, LacksInTurn, IsFirstLack, LacksImage, LacksDigest}
-use Rattle.image_reading.proofs.Widths.{held_after, held_before, file_after, file_before, lack_after, lack_before, marks_after, marks_before}
+use Rattle.image_reading.proofs.Widths.{held_after, file_after, file_before, lack_after, lack_before, marks_after, marks_before}
 
 pub manifest_kept : (key : StoreKey) {old new : DirAt} (kept : KeptManifest) → ReadsKept key kept old new → ReadsManifest key kept.manifest old new
 manifest_kept key kept r = record { bytes = r.bytes; few = r.few; read = r.read; holds = r.holds.1 }

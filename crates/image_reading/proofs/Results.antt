@@ -1,8 +1,8 @@
 -- What is known of a result, carried on.
-use Rattle.std.proofs.Common.{◌≡◌, Bool, true, ℕ, List, Result, Ok, Err, Option, Some, None, refl, sym, subst}
+use Rattle.std.proofs.Common.{◌≡◌, ℕ, List, Result, Ok, Err, refl, sym, subst}
 use Rattle.std.specs.Prelude.{IfOk, IfErr, MatchResult}
 use Rattle.image_reading.specs.declared.error.StoreError.{StoreError}
-use Rattle.image_reading.specs.declared.error.StoreError.TheVariants.{Damaged, NoImage, DirFault, NoMemory}
+use Rattle.image_reading.specs.declared.error.StoreError.TheVariants.{Damaged, DirFault, NoMemory}
 use Rattle.image_reading.specs.Refusals.{IsOutside, IsReadRefusal, IsDamage, IsDamaged}
 
 pub if_ok : {A E : Type 0} (P Q : A → Type 0) (r : Result A E) → ((a : A) → P a → Q a) → IfOk r P → IfOk r Q

@@ -1,5 +1,5 @@
 -- The images of a list of names, read one after the other.
-use Rattle.std.proofs.Common.{◌≡◌, Bool, true, ℕ, Option, Some, None, List, [], ◌∷◌, ◌++◌, map, append-nil, refl, sym, ap, subst, ◌∙◌}
+use Rattle.std.proofs.Common.{◌≡◌, Bool, true, ℕ, Option, Some, None, List, [], ◌∷◌, ◌++◌, append-nil, sym, ap, subst, ◌∙◌}
 use Rattle.std.specs.List.{AllByRecursion, cons_option}
 use Rattle.std.proofs.lemmas.List.{map-append}
 use Rattle.std.proofs.lemmas.List.Elements.{filter_map-append}
@@ -37,11 +37,11 @@ module _ {observed : Bool} (t : observed ≡ true) (names : List (List ℕ)) (im
     }
     are_added (Some key) after is added = record {
       of_names =
-        ap keys added.1
-        ∙ (map-append (λ (x : Stored). x.key) images (added.0 ∷ [])
-        ∙ (ap (λ (ks : List StoreKey). ks ++ added.0.key ∷ []) r.of_names
-        ∙ (ap (λ (k : StoreKey). keys_among names ++ k ∷ []) added.2
-        ∙ (ap (λ (o : Option StoreKey). keys_among names ++ cons_option o []) is ∙ sym keys_more))));
+          ap keys added.1
+          ∙ (map-append (λ (x : Stored). x.key) images (added.0 ∷ [])
+          ∙ (ap (λ (ks : List StoreKey). ks ++ added.0.key ∷ []) r.of_names
+          ∙ (ap (λ (k : StoreKey). keys_among names ++ k ∷ []) added.2
+          ∙ (ap (λ (o : Option StoreKey). keys_among names ++ cons_option o []) is ∙ sym keys_more))));
       each = subst (λ (xs : List Stored). AllByRecursion (λ x. ReadsImage x a c) xs) (sym added.1) (all_both (λ x. ReadsImage x a c) images (added.0 ∷ []) each_later (image_after t ab added.3, tt));
     }
 

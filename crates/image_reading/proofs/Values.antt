@@ -1,5 +1,5 @@
 -- What the bytes of a file are, and what its first bytes tell of the whole.
-use Rattle.std.proofs.Common.{arith, ◌≡◌, ◌⊎◌, inl, inr, ◌<◌, ◌≤◌, ◌+◌, ℕ, Bool, true, false, nat_le, nat_lt, List, [], ◌∷◌, ◌++◌, length, take, Option, Some, None, codes, refl, sym, ap, subst, ◌∙◌, length-append}
+use Rattle.std.proofs.Common.{arith, ◌≡◌, inl, ◌<◌, ◌≤◌, ◌+◌, ℕ, Bool, true, false, nat_le, nat_lt, List, [], ◌∷◌, ◌++◌, length, take, Option, Some, None, codes, refl, sym, ap, subst, ◌∙◌, length-append}
 use Rattle.std.specs.Prelude.{IsUtf8, MatchOption}
 use Rattle.std.proofs.lemmas.Bool.Decides.{nat_tests}
 use Rattle.std.proofs.lemmas.Grind.{common_steps}
@@ -7,7 +7,6 @@ use Rattle.std.proofs.lemmas.List.{append_cancel_right}
 use Rattle.std.proofs.lemmas.Str.{IsUtf8-from_ascii, IsAscii-append}
 use Rattle.hex.specs.Hex.{encode_with, lower_digits}
 use Rattle.hex.proofs.HexLemmas.{IsAscii-encode_with}
-use Rattle.ac_types.specs.declared.fault.FaultKind.{FaultKind}
 use Rattle.ac_types.specs.declared.fault.FaultKind.TheVariants.{TooLong}
 use Rattle.ac_types.specs.declared.image_id.ImageId.{ImageId}
 use Rattle.ac_types.specs.declared.store_key.StoreKey.{StoreKey}
@@ -18,12 +17,10 @@ use Rattle.manifest_parts.specs.DocumentForm.{document}
 use Rattle.manifests.specs.ImageData.{ImageData, image_data}
 use Rattle.manifests.specs.ImageForm.{image_manifest}
 use Rattle.tree_digest.specs.declared.line.ListingLine.{ListingLine}
-use Rattle.tree_digest.specs.declared.listing_error.ListingError.{ListingError}
 use Rattle.tree_digest.specs.declared.listing_error.ListingError.TheVariants.{TooMany}
-use Rattle.tree_digest.specs.declared.listing_error.ListingError.TheVariants as faults
-use Rattle.tree_digest.specs.Listings.{listing_text, Fails, line_count}
+use Rattle.tree_digest.specs.Listings.{listing_text, line_count}
 use Rattle.image_reading.specs.declared.file.KeptManifest.{KeptManifest}
-use Rattle.image_reading.specs.Files.{IsManifestOf, IsNoManifest, IsKeptOf, IsIdOf, IsNoId, IsListingOf, IsNoListing}
+use Rattle.image_reading.specs.Files.{IsNoManifest, IsKeptOf, IsIdOf, IsNoId, IsListingOf, IsNoListing}
 use Rattle.image_reading.proofs.Places.{text_length, ascii_from}
 
 take_short : (n : ℕ) (bytes : List ℕ) → nat_le (length bytes) n ≡ true → take (n + 1) bytes ≡ bytes
@@ -135,4 +132,3 @@ no_tree_front file none = by (nat_le (length file) 33554432) refl
     by : (b : Bool) → nat_le (length file) 33554432 ≡ b → IsNoListing file
     by true short = subst IsNoListing (take_short 33554432 file short) none
     by false long = long_listing file (longer file long)
-

@@ -1,5 +1,5 @@
 -- What came about in a part of a time came about in the whole.
-use Rattle.std.proofs.Common.{◌≡◌, ◌⊎◌, inl, inr, Bool, true, ℕ, List, [], ◌++◌, refl, sym, ap, ◌∙◌, append-nil, append_assoc}
+use Rattle.std.proofs.Common.{◌≡◌, inl, inr, Bool, true, ℕ, List, [], ◌++◌, refl, sym, ap, ◌∙◌, append-nil, append_assoc}
 use Rattle.dir_model.specs.declared.item.Inner.{Inner}
 use Rattle.dir_model.specs.declared.request.Request.{Request}
 use Rattle.dir_model.specs.State.{DirState}
@@ -7,7 +7,6 @@ use Rattle.dir_model.specs.Calls.{Extends}
 use Rattle.dir_model.proofs.Moments.{at_after, at_before}
 use Rattle.dir_trait.specs.DirCalls.{DirAt, HeldBetween}
 use Rattle.ac_types.specs.declared.store_key.StoreKey.{StoreKey}
-use Rattle.dir_files.specs.Reads.{ReadsUp}
 use Rattle.image_reading.specs.Within.{Within}
 use Rattle.image_reading.specs.Looks.{OnlyAsks}
 use Rattle.image_reading.specs.Files.{ReadsFile, LacksFile, ShowsMarks}

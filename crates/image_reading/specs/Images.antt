@@ -3,8 +3,6 @@ use Rattle.std.specs.Prelude.{◌≡◌, ◌⊎◌, ℕ, List}
 use Rattle.ac_types.specs.declared.image_id.ImageId.{ImageId}
 use Rattle.ac_types.specs.declared.store_key.StoreKey.{StoreKey}
 use Rattle.dep_match.specs.declared.stored.Stored.{Stored}
-use Rattle.manifests.specs.declared.image_manifest.ImageManifest.{ImageManifest}
-use Rattle.manifests.specs.ImageData.{ImageData}
 use Rattle.tree_digest.specs.declared.line.ListingLine.{ListingLine}
 use Rattle.tree_digest.specs.Digests.{image_digest}
 use Rattle.dir_trait.specs.DirCalls.{DirAt, HeldBetween}

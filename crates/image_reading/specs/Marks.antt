@@ -1,5 +1,5 @@
 -- When an image was imported.
-use Rattle.std.specs.Prelude.{◌≡◌, ℕ, ◌≤◌, Bool, ◌&&◌, nat_le, cond, bytes_eq, Option, Some, None, List, drop, filter_map, Contains}
+use Rattle.std.specs.Prelude.{ℕ, ◌≤◌, Bool, ◌&&◌, nat_le, cond, bytes_eq, Option, Some, None, List, drop, filter_map, Contains}
 use Rattle.std.specs.List.{AllByRecursion}
 use Rattle.dir_model.specs.declared.item.Item.{Item}
 use Rattle.dir_rules.specs.Marks.{mark, number_of}

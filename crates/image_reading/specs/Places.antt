@@ -1,11 +1,11 @@
 -- Where the images of the store stand.
-use Rattle.std.specs.Prelude.{◌≡◌, ℕ, List, [], ◌∷◌, ◌++◌, Option, Some, None, filter_map, codes}
+use Rattle.std.specs.Prelude.{◌≡◌, ℕ, List, ◌∷◌, ◌++◌, Option, Some, None, filter_map, codes}
 use Rattle.ac_types.specs.declared.store_key.StoreKey.{StoreKey}
 use Rattle.ac_types.specs.Ids.{id_text, id_read}
 use Rattle.dir_model.specs.declared.area.Area.TheVariants.{Images}
 use Rattle.dir_model.specs.declared.item.Inner.{Inner}
 use Rattle.dir_model.specs.declared.spot.Spot.{Spot}
-use Rattle.dir_model.specs.State.{DirState, folder_at, stands}
+use Rattle.dir_model.specs.State.{DirState, folder_at}
 use Rattle.dir_files.specs.Reads.{inner_at}
 
 -- the folder of an image

@@ -108,7 +108,11 @@ pub fn read_id<D: Dir>(alloc: Global, dir: &mut D, key: StoreKey) -> Result<Imag
 
 /// The listing of an image's tree. `Damaged` where there is no file `tree` in its folder, or it is no
 /// listing; `DirFault` and `NoMemory` as for the manifest.
-pub fn read_listing<D: Dir>(alloc: Global, dir: &mut D, key: StoreKey) -> Result<Listing, StoreError>
+pub fn read_listing<D: Dir>(
+    alloc: Global,
+    dir: &mut D,
+    key: StoreKey,
+) -> Result<Listing, StoreError>
     requires active { IsActive (D.shown dir.old).local }
     ensures cause { IsErrOf result StoreError.DirFault → Rose (D.shown dir.old).faults (D.shown dir.new).faults }
     ensures only { OnlyReadsImage D.observed key (D.shown dir.old) (D.shown dir.new) }

@@ -62,13 +62,7 @@ fn later(a: Option<u64>, b: Option<u64>) -> Option<u64>
     match (a, b) {
         (None, _) => b,
         (Some(_), None) => a,
-        (Some(x), Some(y)) => {
-            if x <= y {
-                b
-            } else {
-                a
-            }
-        }
+        (Some(x), Some(y)) => { if x <= y { b } else { a } }
     }
 }
 

@@ -1,4 +1,4 @@
-use Rattle.std.proofs.Common.{rules, ◌≡◌, ◌+◌, ◌∷◌, ◌++◌, [], take, ap, sym, subst, ◌∙◌, Option, ℕ}
+use Rattle.std.proofs.Common.{◌≡◌, ◌+◌, ◌∷◌, ◌++◌, [], take, ap, sym, subst, ◌∙◌, Option, ℕ}
 use Rattle.std.proofs.lemmas.List.{take_more}
 use Rattle.dir_rules.specs.Seen.{later}
 use Rattle.image_reading.specs.Marks.{imported_moment, imported_moments}

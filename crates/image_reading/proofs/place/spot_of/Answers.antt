@@ -1,6 +1,6 @@
 use Rattle.std.proofs.Common.{rules, ◌≡◌, ◌<◌, ℕ, length, slice_index, sym, subst}
 use Rattle.dir_model.specs.Names.{IsName}
-use Rattle.ac_types.specs.Ids.{AreBytes, id_text}
+use Rattle.ac_types.specs.Ids.{id_text}
 use Rattle.image_reading.proofs.Places.{key_is_name}
 use Rattle.image_reading.proofs.place.spot_of.Goals as goal
 

@@ -1,4 +1,4 @@
-use Rattle.std.proofs.Common.{◌≡◌, ◌≤◌, ◌∙◌, ℕ, length, List, true, inl, sym, subst}
+use Rattle.std.proofs.Common.{◌≡◌, ◌≤◌, ℕ, length, List, true, inl, sym, subst}
 use Rattle.dir_files.specs.Reads.{ReadsUp}
 use Rattle.image_reading.specs.declared.error.StoreError.TheVariants.{NoImage}
 use Rattle.image_reading.specs.Places.{image_inner, stored_path, tree_name}

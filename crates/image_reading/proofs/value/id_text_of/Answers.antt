@@ -1,4 +1,4 @@
-use Rattle.std.proofs.Common.{◌∙◌, sym, subst}
+use Rattle.std.proofs.Common.{sym, subst}
 use Rattle.std.specs.Prelude.{IsUtf8}
 use Rattle.image_reading.proofs.Values.{id_utf8}
 use Rattle.image_reading.proofs.value.id_text_of.Goals as goal
