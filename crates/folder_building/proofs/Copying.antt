@@ -23,10 +23,10 @@ use Rattle.folder_building.proofs.Strays.{stray_wider}
 use Rattle.folder_building.proofs.Pieces.{appends_none, appends_more, under_none, under_reads, under_piece, under_more, file_filled, file_spoilt, given_under, spoils_under}
 
 pub same_none : {source : SourceAt} → Same source source
-same_none = record { faults = omega arith; asks = refl; may = refl; told = refl; file = λ t. refl }
+same_none = record { faults = omega arith; asks = refl; may = refl; told = refl; file = λ t. refl; reference = refl }
 
 pub same_more : {a b c : SourceAt} → Same a b → Same b c → Same a c
-same_more ab bc = record { faults = omega (arith, ab.faults, bc.faults); asks = bc.asks ∙ ab.asks; may = bc.may ∙ ab.may; told = bc.told ∙ ab.told; file = λ t. bc.file (ab.told ∙ t) ∙ ab.file t }
+same_more ab bc = record { faults = omega (arith, ab.faults, bc.faults); asks = bc.asks ∙ ab.asks; may = bc.may ∙ ab.may; told = bc.told ∙ ab.told; file = λ t. bc.file (ab.told ∙ t) ∙ ab.file t; reference = bc.reference ∙ ab.reference }
 
 -- a source asks after a read for what it asked for before
 pub worked_same : {observed : Bool} (spot : Spot) {source next : SourceAt} {a b : DirAt} → Same source next → Worked observed (either (builds_at spot) next.asks) a b → Worked observed (either (builds_at spot) source.asks) a b

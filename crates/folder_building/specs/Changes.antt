@@ -43,7 +43,7 @@ MakesFile source spot path pieces old new = (s : Seen) (m : Making) → source.m
 
 -- no source is read
 abbrev pub no_source : SourceAt
-no_source = record { faults = 0; asks = λ r. false; may = λ s. true; told = false; file = λ o. None }
+no_source = record { faults = 0; asks = λ r. false; may = λ s. true; told = false; file = λ o. None; reference = None }
 
 -- a file with these bytes was made
 pub record Gives (observed : Bool) (spot : Spot) (path bytes : List ℕ) (old new : DirAt) : Type 0 where

@@ -1,5 +1,6 @@
 -- What files are copied from, at a moment.
 use Rattle.std.specs.Prelude.{◌≡◌, ◌≤◌, ℕ, ◌-◌, min, Bool, true, false, ◌||◌, Option, Some, None, List, ◌∷◌, ◌++◌, length, take, drop}
+use Rattle.std.specs.Borrow.{GName}
 use Rattle.sha2.specs.Sha512.{sha512}
 use Rattle.dir_model.specs.declared.area.Area.TheVariants.{Images}
 use Rattle.dir_model.specs.declared.request.Request.{Request}
@@ -25,6 +26,8 @@ pub record SourceAt : Type 0 where
   pub told : Bool
   -- the bytes of each file
   pub file : Origin → Option (List ℕ)
+  -- the reference behind which it reads, if it holds one
+  pub reference : Option GName
 
 -- one read more
 pub record Same (old new : SourceAt) : Type 0 where
@@ -33,6 +36,7 @@ pub record Same (old new : SourceAt) : Type 0 where
   pub may : new.may ≡ old.may
   pub told : new.told ≡ old.told
   pub file : old.told ≡ true → new.file ≡ old.file
+  pub reference : new.reference ≡ old.reference
 
 -- n bytes of the room are those of the file from a place on, as many as the room takes
 pub record IsRead (bytes : List ℕ) (at size n : ℕ) (room : List ℕ) : Type 0 where

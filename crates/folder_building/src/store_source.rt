@@ -27,7 +27,7 @@ impl Source for StoreSource {
     ghost use Rattle.std.specs.Prelude.{false, None};
     ghost use Rattle.folder_building.specs.Sources.{reads_images, may_read_images};
 
-    ghost shown = { λ s. record { faults = 0; asks = reads_images; may = may_read_images; told = false; file = λ o. None } };
+    ghost shown = { λ s. record { faults = 0; asks = reads_images; may = may_read_images; told = false; file = λ o. None; reference = None } };
 
     fn read<D: Dir>(
         &mut self,

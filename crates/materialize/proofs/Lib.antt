@@ -1,6 +1,6 @@
 pub mod Among
 mod Carries
-mod FilePaths
+pub mod FilePaths
 pub mod Made
 mod Nexts
 mod Texts

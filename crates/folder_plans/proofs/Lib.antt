@@ -1,0 +1,3 @@
+mod Made
+mod Marks
+mod Images
