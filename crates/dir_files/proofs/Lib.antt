@@ -1,3 +1,4 @@
 mod Listings
 mod Fronts
-mod Reading
+pub mod Reading
+pub mod Folders

@@ -79,16 +79,16 @@ module _ (me : ℕ) (old new : List Event) (request : Request) (reply : Reply) (
   abbrev first : DirState
   first = state_after l.between
 
-  began : TookPlace l.begins.before me request Begun l.between
+  pub began : TookPlace l.begins.before me request Begun l.between
   began = took early l.begins.own
 
-  ended : TookPlace l.ends.before me request reply new
+  pub ended : TookPlace l.ends.before me request reply new
   ended = took timely l.ends.own
 
   first_is : first ≡ state_next (state_after l.begins.before) (event me request Begun)
   first_is = ap state_after began.grown ∙ state_after-push l.begins.before (event me request Begun)
 
-  last_is : state_after l.ends.before ≡ states_next first others
+  pub last_is : state_after l.ends.before ≡ states_next first others
   last_is = ap state_after l.ends.meanwhile.grown ∙ states_next-append empty_state l.between others
 
   alive : lives (states_next first others).namespace me ≡ true
@@ -98,7 +98,7 @@ module _ (me : ℕ) (old new : List Event) (request : Request) (reply : Reply) (
       living true off h = cc
       living false off h = h
 
-  of_others : AllByRecursion (λ e. (e.process == me) ≡ false) others
+  pub of_others : AllByRecursion (λ e. (e.process == me) ≡ false) others
   of_others =
       let whole : IsRun (l.between ++ others) = subst IsRun l.ends.meanwhile.grown (run-left l.ends.before (event me request reply ∷ []) (subst IsRun ended.grown l.ends.run)) in
       apart me first others (run_from-right empty_state l.between others whole) l.ends.meanwhile.foreign alive
@@ -113,10 +113,10 @@ module _ (me : ℕ) (old new : List Event) (request : Request) (reply : Reply) (
   }
 
   -- the listing that it began is open
-  opened : is_listing (state_after l.begins.before) me ≡ false → (x : OpenListing) → find (is_of me) (listings_replied (state_after l.begins.before) me request Begun) ≡ Some x → find (is_of me) first.listings ≡ Some x
+  pub opened : is_listing (state_after l.begins.before) me ≡ false → (x : OpenListing) → find (is_of me) (listings_replied (state_after l.begins.before) me request Begun) ≡ Some x → find (is_of me) first.listings ≡ Some x
   opened none x is = ap (λ (s : DirState). find (is_of me) s.listings) first_is ∙ is
 
-  same_namespace : first.namespace ≡ (state_next (state_after l.begins.before) (event me request Begun)).namespace
+  pub same_namespace : first.namespace ≡ (state_next (state_after l.begins.before) (event me request Begun)).namespace
   same_namespace = ap (λ (s : DirState). s.namespace) first_is
 
   same_entries : first.entries ≡ (state_next (state_after l.begins.before) (event me request Begun)).entries

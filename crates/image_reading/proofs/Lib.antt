@@ -1,0 +1,11 @@
+pub mod Results
+pub mod Widths
+pub mod Stays
+pub mod Asking
+pub mod Holding
+pub mod Places
+pub mod Values
+pub mod Files
+pub mod Marking
+pub mod Images
+pub mod Stores
