@@ -29,8 +29,8 @@ pub record WasRead (pod : PodId) (me : ℕ) (old new : List Event) (o : Outcome)
   pub is : o ≡ read_outcome found
   pub so : WasSo me old new pod found
 
-module _ (pod : PodId) (old new : Outside) (t : old.dir.observed ≡ true) (conforming : IsConforming new.dir.trace) where
-  status_read : (intent : Option Intent) (o : Outcome) → is_own_end o ≡ true → Performs (Status pod) intent old new o → WasRead pod old.dir.process old.dir.trace new.dir.trace o
+module _ (pod : PodId) (draw : Draw) (old new : Outside) (t : old.dir.observed ≡ true) (conforming : IsConforming new.dir.trace) where
+  status_read : (intent : Option Intent) (o : Outcome) → is_own_end o ≡ true → Performs (Status pod) draw intent old new o → WasRead pod old.dir.process old.dir.trace new.dir.trace o
   status_read None o own p = let clash : true ≡ false = p.apart in cc
   status_read (Some intent) o own (inr n) = let clash : true ≡ false = sym own ∙ ap is_own_end n.is in cc
   status_read (Some intent) o own (inl s) =
@@ -53,14 +53,14 @@ tells_gone pod me old new (At phase area) is so = cc
 tells_gone pod me old new Gone is so = so
 
 module _ (now : ℕ) (draw : Draw) (old new : Moment) (status : ℕ) (t : old.outside.dir.observed ≡ true) (conforming : IsConforming new.outside.dir.trace) where
-  line_tells : (pod : PodId) → RunOfLine (Status pod) (intent_of (Status pod) now draw) old new status → TellsHistory (Some (Status pod)) status old.outside.dir new.outside.dir old.out new.out
+  line_tells : (pod : PodId) → RunOfLine (Status pod) draw (intent_of (Status pod) now draw) old new status → TellsHistory (Some (Status pod)) status old.outside.dir new.outside.dir old.out new.out
   line_tells pod r = (printed, missing)
     where
       me : ℕ
       me = old.outside.dir.process
 
       was : (o : Outcome) → r.outcome ≡ o → is_own_end o ≡ true → WasRead pod me old.outside.dir.trace new.outside.dir.trace o
-      was o is own = status_read pod old.outside new.outside t conforming (intent_of (Status pod) now draw) o own (subst (λ (o : Outcome). Performs (Status pod) (intent_of (Status pod) now draw) old.outside new.outside o) is r.performs)
+      was o is own = status_read pod draw old.outside new.outside t conforming (intent_of (Status pod) now draw) o own (subst (λ (o : Outcome). Performs (Status pod) draw (intent_of (Status pod) now draw) old.outside new.outside o) is r.performs)
 
       printed : status ≡ 0 → (text : List ℕ) × TellsPhase pod me old.outside.dir.trace new.outside.dir.trace text × (old.out.observed ≡ true → new.out.bytes ≡ old.out.bytes ++ text)
       printed zero =

@@ -13,9 +13,9 @@ use Rattle.dir_trait.specs.State.{DirState}
 use Rattle.rkt_cli.specs.declared.line.Line.{Line}
 use Rattle.rkt_cli.specs.declared.line.Line.TheVariants.{Status, Validate}
 use Rattle.rkt_cli.specs.declared.refusal.Refusal.{Refusal}
-use Rattle.rkt_cli.specs.declared.refusal.Refusal.TheVariants.{Usage, NoPod, BadManifest, DirFault, BundleFault, OutFault, NoMemory, NoFile}
+use Rattle.rkt_cli.specs.declared.refusal.Refusal.TheVariants.{Usage, DirFault, BundleFault, OutFault, NoMemory}
 use Rattle.rkt_cli.specs.Moments.{BundleSeen, Outside, Outcome}
-use Rattle.rkt_cli.specs.Ends.{is_own_end}
+use Rattle.rkt_cli.specs.Ends.{is_own_end, IsUnchanged}
 use Rattle.rkt_cli.specs.Status.{status_refusal, StatusSays, sequential_status}
 use Rattle.rkt_cli.specs.Validate.{validate_refusal, ValidateSays, ReadsFile, sequential_validate}
 
@@ -33,10 +33,10 @@ abbrev pub intent_of : Line → ℕ → Draw → Option Intent
 intent_of (Status pod) now draw = Some (record { kind = kind.Status; word = pod_text pod.bytes; now = now; grace = 0; expire = 0; draw = draw.uuid; token = draw.token })
 intent_of (Validate path) now draw = None
 
--- what it asks of the directory: `status` looks at the pod's six locations
-abbrev pub asks : Line → Request → Bool
-asks (Status pod) request = is_look_at (is_pod_spot pod) request
-asks (Validate path) request = false
+-- what it asks of the directory, which may be of what was drawn for it: `status` looks at the pod's six locations
+abbrev pub asks : Line → Draw → Request → Bool
+asks (Status pod) draw request = is_look_at (is_pod_spot pod) request
+asks (Validate path) draw request = false
 
 -- the refusals of its own
 abbrev pub own_refusal : Line → Refusal → Bool
@@ -50,9 +50,7 @@ may line DirFault = uses_dir line
 may line BundleFault = reads_bundle line
 may line Usage = false
 may line OutFault = false
-may line NoPod = own_refusal line NoPod
-may line (BadManifest path number) = own_refusal line (BadManifest path number)
-may line (NoFile path) = own_refusal line (NoFile path)
+may line refusal = own_refusal line refusal
 
 -- what a process of it has open before: no handle on the lock of that pod
 abbrev pub IsReady : Line → Local → Type 0
@@ -73,3 +71,8 @@ ReadsOnly (Validate path) old new = ReadsFile path old new
 abbrev pub sequential_outcome : Line → DirState → Tree → Outcome
 sequential_outcome (Status pod) s tree = sequential_status pod s
 sequential_outcome (Validate path) s tree = sequential_validate path tree
+
+-- and what it leaves in the directory then, from one state to the other: by its moment, its draw and the bundle's tree
+abbrev pub LeavesQuietly : Line → ℕ → Draw → Tree → DirState → DirState → Type 0
+LeavesQuietly (Status pod) now draw tree old new = IsUnchanged old new
+LeavesQuietly (Validate path) now draw tree old new = Unit {0}

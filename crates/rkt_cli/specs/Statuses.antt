@@ -11,7 +11,7 @@ use Rattle.dir_trait.specs.Calls.{is_begin, is_finish}
 use Rattle.dir_trait.specs.Local.{Local}
 use Rattle.dir_trait.specs.Quiet.{Quiet}
 use Rattle.dir_trait.specs.Sinks.{WritesPart}
-use Rattle.dir_trait.specs.State.{DirState, is_owned}
+use Rattle.dir_trait.specs.State.{DirState}
 use Rattle.dir_trait.specs.Trace.{state_after}
 use Rattle.ac_types.specs.FaultNumbers.{number_of}
 use Rattle.ac_types.specs.Outcomes.{fails}
@@ -24,7 +24,7 @@ use Rattle.rkt_cli.specs.declared.refusal.Refusal.{Refusal}
 use Rattle.rkt_cli.specs.declared.refusal.Refusal.TheVariants.{Usage, BadManifest, NoFile}
 use Rattle.rkt_cli.specs.Texts.{status_of, state_text, valid_text}
 use Rattle.rkt_cli.specs.Moments.{DirSeen, BundleSeen, SinkSeen, Outside, Moment, Outcome}
-use Rattle.rkt_cli.specs.Commands.{uses_dir, reads_bundle, intent_of, asks, ReadsOnly, sequential_outcome}
+use Rattle.rkt_cli.specs.Commands.{uses_dir, reads_bundle, intent_of, asks, ReadsOnly, sequential_outcome, LeavesQuietly}
 use Rattle.rkt_cli.specs.Validate.{sequential_validate}
 use Rattle.rkt_cli.specs.Runs.{Complained, ended_local}
 
@@ -63,9 +63,9 @@ IsNoFile (Some (Validate path)) bundle old new = (bundle.observed ≡ true → f
 IsNoFile _ bundle old new = ⊥
 
 -- the process's own requests: its begin, those of the command, its finish
-abbrev pub asks_in : Option Line → Request → Bool
-asks_in None request = false
-asks_in (Some line) request = is_begin request || (asks line request || is_finish request)
+abbrev pub asks_in : Option Line → Draw → Request → Bool
+asks_in None draw request = false
+asks_in (Some line) draw request = is_begin request || (asks line draw request || is_finish request)
 
 -- a text that the command prints
 abbrev pub Prints : Option Line → List ℕ → Type 0
@@ -121,17 +121,17 @@ pub record IsUndisturbed (line : Option Line) (old new : Outside) : Type 0 where
 abbrev pub Works : SinkSeen → SinkSeen → Type 0
 Works old new = Rose old.faults new.faults → ⊥
 
--- the folders, and whose lock is held exclusively, are as before
-pub record IsUnchanged (old new : DirState) : Type 0 where
-  pub folders : new.namespace.folders ≡ old.namespace.folders
-  pub owned : (folder : ℕ) → is_owned new.namespace folder ≡ is_owned old.namespace folder
+-- what the words leave in the directory then
+abbrev pub LeavesIn : Option Line → ℕ → Draw → Tree → DirState → DirState → Type 0
+LeavesIn None now draw tree old new = Unit {0}
+LeavesIn (Some line) now draw tree old new = LeavesQuietly line now draw tree old new
 
--- memory ran out, or so it was answered, and a command on the directory changed nothing
-abbrev pub IsQuietAnswer : Option Line → ℕ → Moment → Moment → Type 0
-IsQuietAnswer line status old new =
+-- memory ran out, or so it was answered, and so the directory was left
+abbrev pub IsQuietAnswer : Option Line → ℕ → Draw → ℕ → Moment → Moment → Type 0
+IsQuietAnswer line now draw status old new =
     (status ≡ 14)
     ⊎ (IsAnswer (sequential_run line (state_after old.outside.dir.trace) old.outside.bundle.tree) status old new
-    × (uses_dir_in line ≡ true → IsUnchanged (state_after old.outside.dir.trace) (state_after new.outside.dir.trace)))
+    × LeavesIn line now draw old.outside.bundle.tree (state_after old.outside.dir.trace) (state_after new.outside.dir.trace))
 
 -- the run answered as the bundle's file is to be judged, or the bundle failed, the line wasn't written or memory ran out
 abbrev pub IsJudgement : Option Line → ℕ → Moment → Moment → Type 0

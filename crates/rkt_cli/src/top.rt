@@ -78,13 +78,13 @@ pub fn rkt<D: Dir, B: Bundle, O: Sink, E: Sink>(
         (dir.old, bundle.old, out.old, err.old) (dir.new, bundle.new, out.new, err.new) }
     ensures over { IsOver (line_in words.now) now draw.now result (D.shown dir.old).local (D.shown dir.new).local }
     ensures reads { ReadsIn (line_in words.now) (bundle_at B.Bundle bundle.old) (bundle_at B.Bundle bundle.new) }
-    ensures extends { D.observed ≡ true → ExtendsBy (asks_in (line_in words.now)) (D.shown dir.old) (D.shown dir.new) }
+    ensures extends { D.observed ≡ true → ExtendsBy (asks_in (line_in words.now) draw.now) (D.shown dir.old) (D.shown dir.new) }
     ensures conforms { D.observed ≡ true → KeepsConforming (dir_at D.Dir dir.old) (dir_at D.Dir dir.new) }
     ensures history { D.observed ≡ true → IsConforming (D.shown dir.new).trace → TellsHistory (line_in words.now) result
         (dir_at D.Dir dir.old) (dir_at D.Dir dir.new) (sink_at O.Sink out.old) (sink_at O.Sink out.new) }
     ensures out { O.observed ≡ true → IsOutput (line_in words.now) result (O.shown out.old).bytes (O.shown out.new).bytes }
     ensures err { IsComplaint result (sink_at E.Sink err.old) (sink_at E.Sink err.new) }
-    ensures quiet { QuietBetween D.Dir B.Bundle O.Sink E.Sink (line_in words.now) result
+    ensures quiet { QuietBetween D.Dir B.Bundle O.Sink E.Sink (line_in words.now) now draw.now result
         (dir.old, bundle.old, out.old, err.old) (dir.new, bundle.new, out.new, err.new) }
     ensures ran { RunBetween D.Dir B.Bundle O.Sink E.Sink (line_in words.now) now draw.now result
         (dir.old, bundle.old, out.old, err.old) (dir.new, bundle.new, out.new, err.new) }
