@@ -1,5 +1,7 @@
 -- A run of the program keeps the local rules.
 use Rattle.std.proofs.Common.{◌≡◌, inl, inr, ℕ, Bool, true, Option, Some, None, [], refl, sym, ap, subst, ◌∙◌}
+use Rattle.area_locks.specs.AreaLocks.{is_free_of}
+use Rattle.dir_model.specs.declared.area.Area.TheVariants.{Images}
 use Rattle.dir_model.specs.declared.intent.Draw.{Draw}
 use Rattle.dir_model.specs.declared.intent.Intent.{Intent}
 use Rattle.dir_model.specs.declared.request.Request.TheVariants.{Finish}
@@ -17,7 +19,7 @@ use Rattle.rkt_cli.specs.Conforming.{shown_at, begun, KeepsRules, StaysConformin
 use Rattle.rkt_cli.specs.Commands.{intent_of}
 use Rattle.rkt_cli.specs.Runs.{Performs, InProcess, NeverBegan, RunOf, RunIs}
 
-abbrev seen_at : Bool → DirAt → DirSeen
+abbrev pub seen_at : Bool → DirAt → DirSeen
 seen_at observed d = record { observed = observed; process = d.process; faults = d.faults; local = d.local; trace = d.trace }
 
 -- looks keep them
@@ -26,18 +28,27 @@ looks_conforming intent observed old new looks k =
     let l = looks (begun intent) (record { tied = k.tied; handles = k.handles }) in
     record { known = l.known; knows = record { tied = l.knows.tied; handles = l.knows.handles }; kept = ap (λ (f : Seen). f.kept) l.looked.same }
 
+-- and so does what knows all that it knew, where it had no handle open on the lock of the images
+pub list_conforming : (intent : Intent) (observed : Bool) (old new : DirAt) → ((s : Seen) → Knows old s → is_free_of Images s ≡ true → Knows new s) → StaysConforming intent (seen_at observed old) (seen_at observed new)
+list_conforming intent observed old new known k =
+    let l = known (begun intent) (record { tied = k.tied; handles = k.handles }) refl in
+    record { known = begun intent; knows = record { tied = l.tied; handles = l.handles }; kept = refl }
+
 -- what makes no call keeps them
 pub apart_conforming : (intent : Intent) (d : DirSeen) → StaysConforming intent d d
 apart_conforming intent d k = record { known = begun intent; knows = k; kept = refl }
 
+-- what the process knows when it has begun
+pub begun_knows : {line : Line} {draw : Draw} {intent : Intent} {old new : Outside} {o : Outcome} (s : InProcess line draw intent old new o) → old.dir.observed ≡ true → Knows (shown_at s.begun.dir) (begun intent)
+begun_knows {line} {draw} {intent} {old} {new} {o} s t = record {
+  tied = subst (λ (me : ℕ). IsTied me s.begun.dir.trace (begun intent)) (sym s.me) (tied_begun (s.begins t));
+  handles = subst (λ (m : Local). SameHandles [] m.holdings) (sym s.started) (λ test. refl);
+}
+
 module _ (line : Line) (draw : Draw) (old new : Outside) (o : Outcome) (t : old.dir.observed ≡ true) where
   begun_keeps : (intent : Intent) → InProcess line draw intent old new o → KeepsConforming old.dir new.dir
   begun_keeps intent s before =
-      let knows : Knows (shown_at s.begun.dir) (begun intent) = record {
-        tied = subst (λ (me : ℕ). IsTied me s.begun.dir.trace (begun intent)) (sym s.me) (tied_begun (s.begins t));
-        handles = subst (λ (m : Local). SameHandles [] m.holdings) (sym s.started) (λ test. refl);
-      } in
-      let kept : KeepsRules s.ended.dir = s.keeps t knows in
+      let kept : KeepsRules s.ended.dir = s.keeps t (begun_knows s t) in
       let after : IsTied s.ended.dir.process new.dir.trace (seen_replied kept.known Finish Done) = tied_call kept.knows.tied refl refl refl (s.finishes t) in
       subst (λ (me : ℕ). Conforms me new.dir.trace) (s.ran.same ∙ s.me) (after.conforms kept.kept)
 

@@ -1,10 +1,11 @@
 -- What a status says of the end of a run.
 use Rattle.std.proofs.Common.{arith, ◌≡◌, ◌⊎◌, inl, inr, ℕ, Bool, true, false, ◌||◌, ◌==◌, cond, List, Ok, Err, IfErr, refl, sym, ap, subst, ◌∙◌}
 use Rattle.std.proofs.lemmas.Bool.Decides.{nat_tests}
+use Rattle.dir_model.specs.declared.area.Area.{Area}
 use Rattle.rkt_cli.specs.declared.line.Line.{Line}
-use Rattle.rkt_cli.specs.declared.line.Line.TheVariants.{Status, Validate}
+use Rattle.rkt_cli.specs.declared.line.Line.TheVariants.{Status, Validate, ImageList}
 use Rattle.rkt_cli.specs.declared.refusal.Refusal.{Refusal}
-use Rattle.rkt_cli.specs.declared.refusal.Refusal.TheVariants.{Usage, NoPod, BadManifest, DirFault, BundleFault, OutFault, NoMemory, NoFile, Conflict, Damaged, BadKind, Stray}
+use Rattle.rkt_cli.specs.declared.refusal.Refusal.TheVariants.{Usage, NoPod, Busy, BadManifest, DirFault, BundleFault, OutFault, NoMemory, NoFile, Conflict, Damaged, BadKind, Stray}
 use Rattle.rkt_cli.specs.Texts.{status_of}
 use Rattle.rkt_cli.specs.Moments.{SinkSeen, Outcome}
 use Rattle.rkt_cli.specs.Commands.{may}
@@ -44,6 +45,10 @@ pub is_bad_manifest : (r : Refusal) → status_of r ≡ 6 → (path : List ℕ) 
 is_bad_manifest (BadManifest path number) is = (path, number, refl)
 is_bad_manifest r is = absurd_number (status_of r) 6 is refl
 
+pub is_busy : (r : Refusal) → status_of r ≡ 5 → (area : Area) × (r ≡ Busy area)
+is_busy (Busy area) is = (area, refl)
+is_busy r is = absurd_number (status_of r) 5 is refl
+
 -- the refusals of an output
 abbrev pub is_of_output : Refusal → Bool
 is_of_output OutFault = true
@@ -78,6 +83,7 @@ output_known r is = let clash : false ≡ true = is in cc
 pub refusal_known : (line : Line) (r : Refusal) → may line r ≡ true → IsStatus (status_of r)
 refusal_known line Usage allowed = refl
 refusal_known line NoPod allowed = refl
+refusal_known line (Busy area) allowed = refl
 refusal_known line (BadManifest path number) allowed = refl
 refusal_known line DirFault allowed = refl
 refusal_known line BundleFault allowed = refl
@@ -89,6 +95,7 @@ refusal_known line (Damaged path) allowed = refl
 refusal_known line (BadKind path) allowed = refl
 refusal_known (Status pod) r allowed = let clash : false ≡ true = allowed in cc
 refusal_known (Validate path) r allowed = let clash : false ≡ true = allowed in cc
+refusal_known ImageList r allowed = let clash : false ≡ true = allowed in cc
 
 -- the others are the command's
 pub from_command : (o : Outcome) (old new : SinkSeen) (end : End) (r : Refusal) → Printed o old new end → end ≡ Err r → is_of_output r ≡ false → o ≡ Err r

@@ -11,7 +11,7 @@ use Rattle.phase_read.specs.declared.found.Found.TheVariants.{At, Gone}
 use Rattle.phase_read.specs.Exact.{WasSo, AtOwnEvent, IsNowhere}
 use Rattle.phase_read.proofs.Exact.{was_within}
 use Rattle.rkt_cli.specs.declared.line.Line.{Line}
-use Rattle.rkt_cli.specs.declared.line.Line.TheVariants.{Status, Validate}
+use Rattle.rkt_cli.specs.declared.line.Line.TheVariants.{Status, Validate, ImageList}
 use Rattle.rkt_cli.specs.declared.refusal.Refusal.TheVariants.{NoPod}
 use Rattle.rkt_cli.specs.Texts.{state_text}
 use Rattle.rkt_cli.specs.Moments.{Outside, Moment, Outcome}
@@ -77,6 +77,7 @@ module _ (now : ℕ) (draw : Draw) (old new : Moment) (status : ℕ) (t : old.ou
   tells_of : (l : Option Line) → RunOf l now draw old new status → TellsHistory l status old.outside.dir new.outside.dir old.out new.out
   tells_of None r = tt
   tells_of (Some (Validate path)) r = tt
+  tells_of (Some ImageList) r = tt
   tells_of (Some (Status pod)) (inr n) = ((λ zero. absurd_number 0 14 (sym zero ∙ n.is) refl), (λ two. absurd_number 2 14 (sym two ∙ n.is) refl))
   tells_of (Some (Status pod)) (inl r) = line_tells pod r
 

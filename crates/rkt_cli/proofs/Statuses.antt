@@ -1,5 +1,7 @@
 -- From a run to what a caller is told of it.
 use Rattle.std.proofs.Common.{arith, ◌≤◌, ◌+◌, ◌≡◌, ◌↔◌, ◌⊎◌, inl, inr, ℕ, Bool, true, false, ◌&&◌, ◌||◌, ◌==◌, List, ◌++◌, Option, Some, None, Ok, Err, IsOk, refl, sym, ap, subst, ◌∙◌}
+use Rattle.dir_model.specs.declared.area.Area.{Area}
+use Rattle.dir_model.specs.declared.area.Area.TheVariants.{Images}
 use Rattle.dir_model.specs.declared.event.Event.{Event}
 use Rattle.dir_model.specs.declared.intent.Draw.{Draw}
 use Rattle.dir_model.specs.declared.intent.Intent.{Intent}
@@ -15,9 +17,9 @@ use Rattle.phase_read.specs.declared.found.Found.TheVariants.{At, Gone}
 use Rattle.phase_read.specs.Read.{IsReading, LeftOut, stages}
 use Rattle.phase_read.proofs.InTurn.{left_out_after, left_out_before}
 use Rattle.rkt_cli.specs.declared.line.Line.{Line}
-use Rattle.rkt_cli.specs.declared.line.Line.TheVariants.{Status, Validate}
+use Rattle.rkt_cli.specs.declared.line.Line.TheVariants.{Status, Validate, ImageList}
 use Rattle.rkt_cli.specs.declared.refusal.Refusal.{Refusal}
-use Rattle.rkt_cli.specs.declared.refusal.Refusal.TheVariants.{Usage, NoPod, BadManifest, DirFault, BundleFault, OutFault, NoMemory, NoFile}
+use Rattle.rkt_cli.specs.declared.refusal.Refusal.TheVariants.{Usage, NoPod, Busy, BadManifest, DirFault, BundleFault, OutFault, NoMemory, NoFile, Damaged}
 use Rattle.rkt_cli.specs.Texts.{status_of, state_text}
 use Rattle.rkt_cli.specs.Moments.{DirSeen, BundleSeen, Outside, SinkSeen, Moment, Outcome}
 use Rattle.rkt_cli.specs.Ends.{is_own_end}
@@ -25,9 +27,10 @@ use Rattle.rkt_cli.specs.Status.{read_outcome}
 use Rattle.rkt_cli.specs.Validate.{ReadsFile, most_read}
 use Rattle.rkt_cli.specs.Commands.{intent_of, asks, may, ReadsOnly}
 use Rattle.rkt_cli.specs.Runs.{Performs, End, Unwritten, Printed, Reported, Complained, end_status, RunOf, RunIs}
-use Rattle.rkt_cli.specs.Statuses.{IsStatus, IsMissing, IsBadManifest, IsNoFile, IsJudgement, asks_in, Prints, IsOutput, IsComplaint, IsAnswer, IsOver, EndsAs, ReadsIn}
-use Rattle.rkt_cli.proofs.Ends.{absurd_number, end_at, refusal_end, is_bad_manifest, lacks_no_output, is_of_output, output_known, refusal_known, refusal_status, from_end, from_command}
+use Rattle.rkt_cli.specs.Statuses.{IsStatus, IsMissing, IsBadManifest, IsLacking, IsLockBusy, IsJudgement, asks_in, Prints, IsOutput, IsComplaint, IsAnswer, IsOver, EndsAs, ReadsIn}
+use Rattle.rkt_cli.proofs.Ends.{absurd_number, end_at, refusal_end, is_bad_manifest, is_busy, lacks_no_output, is_of_output, output_known, refusal_known, refusal_status, from_end, from_command}
 use Rattle.rkt_cli.proofs.Outcomes.{fault_cause, bundle_cause, refusals_of, answered, does_validate, validate_told, file_prints, unreadable, no_such_file}
+use Rattle.rkt_cli.proofs.Listed.{list_printed, list_lacked, list_busy}
 use Rattle.rkt_cli.proofs.Sessions.{any_call, begin_part, finish_part, all_parts}
 
 or_left : (a b : Bool) → a ≡ true → (a || b) ≡ true
@@ -51,9 +54,11 @@ missing_of (Status pod) draw (Some intent) old new t (inl s) =
 missing_of (Status pod) draw (Some intent) old new t (inr n) = let e = n.is in cc
 missing_of (Status pod) draw None old new t p = let clash : true ≡ false = p.apart in cc
 missing_of (Validate path) draw intent old new t p = let clash : false ≡ true = refusals_of (Validate path) draw intent old new (Err NoPod) NoPod p refl in cc
+missing_of ImageList draw intent old new t p = let clash : false ≡ true = refusals_of ImageList draw intent old new (Err NoPod) NoPod p refl in cc
 
 bad_manifest_of : (line : Line) (draw : Draw) (intent : Option Intent) (old new : Outside) (err err' : SinkSeen) (at : List ℕ) (number : ℕ) → Performs line draw intent old new (Err (BadManifest at number)) → Complained (BadManifest at number) err err' → IsBadManifest (Some line) old.bundle err err'
 bad_manifest_of (Status pod) draw intent old new err err' at number p said = let clash : false ≡ true = refusals_of (Status pod) draw intent old new (Err (BadManifest at number)) (BadManifest at number) p refl in cc
+bad_manifest_of ImageList draw intent old new err err' at number p said = let clash : false ≡ true = refusals_of ImageList draw intent old new (Err (BadManifest at number)) (BadManifest at number) p refl in cc
 bad_manifest_of (Validate path) draw intent old new err err' at number p said = unreadable path at number old.bundle err err' (does_validate path draw intent old new (Err (BadManifest at number)) refl p) said
 
 never_both : (a b : Bool) {X : Type 0} → (a && b) ≡ false → a ≡ true → b ≡ true → X
@@ -67,10 +72,19 @@ none_lacks pod NoPod = refl
 none_lacks pod r = refl
 
 -- a refusal with status 15
-no_file_of : (line : Line) (draw : Draw) (intent : Option Intent) (old new : Outside) (err err' : SinkSeen) (r : Refusal) → status_of r ≡ 15 → Performs line draw intent old new (Err r) → Complained r err err' → IsNoFile (Some line) old.bundle err err'
-no_file_of (Status pod) draw intent old new err err' r is p said = never_both (status_of r == 15) (may (Status pod) r) (none_lacks pod r) (ap (λ n. n == 15) is) (refusals_of (Status pod) draw intent old new (Err r) r p refl)
-no_file_of (Validate path) draw intent old new err err' (NoFile named) is p said = no_such_file path named old.bundle err err' (does_validate path draw intent old new (Err (NoFile named)) refl p) said
-no_file_of (Validate path) draw intent old new err err' r is p said = never_both (status_of r == 15) (may (Validate path) r) refl (ap (λ n. n == 15) is) (refusals_of (Validate path) draw intent old new (Err r) r p refl)
+lacking_of : (line : Line) (draw : Draw) (intent : Option Intent) (old new : Outside) (err err' : SinkSeen) (r : Refusal) → status_of r ≡ 15 → Performs line draw intent old new (Err r) → Complained r err err' → IsLacking (Some line) old new err err'
+lacking_of (Status pod) draw intent old new err err' r is p said = never_both (status_of r == 15) (may (Status pod) r) (none_lacks pod r) (ap (λ n. n == 15) is) (refusals_of (Status pod) draw intent old new (Err r) r p refl)
+lacking_of (Validate path) draw intent old new err err' (NoFile named) is p said = let x = no_such_file path named old.bundle err err' (does_validate path draw intent old new (Err (NoFile named)) refl p) said in record { none = x.0; said = x.1 }
+lacking_of (Validate path) draw intent old new err err' r is p said = never_both (status_of r == 15) (may (Validate path) r) refl (ap (λ n. n == 15) is) (refusals_of (Validate path) draw intent old new (Err r) r p refl)
+lacking_of ImageList draw intent old new err err' (Damaged path) is p said = record { path = path; lacks = list_lacked draw intent old new path p; said = said }
+lacking_of ImageList draw intent old new err err' r is p said = never_both (status_of r == 15) (may ImageList r) refl (ap (λ n. n == 15) is) (refusals_of ImageList draw intent old new (Err r) r p refl)
+
+-- a lock that another process holds
+locks_of : (line : Line) (draw : Draw) (intent : Option Intent) (old new : Outside) (err err' : SinkSeen) (area : Area) → Performs line draw intent old new (Err (Busy area)) → Complained (Busy area) err err' → IsLockBusy (Some line) old.dir new.dir err err'
+locks_of (Status pod) draw intent old new err err' area p said = let clash : false ≡ true = refusals_of (Status pod) draw intent old new (Err (Busy area)) (Busy area) p refl in cc
+locks_of (Validate path) draw intent old new err err' area p said = let clash : false ≡ true = refusals_of (Validate path) draw intent old new (Err (Busy area)) (Busy area) p refl in cc
+locks_of ImageList draw intent old new err err' Images p said = record { held = list_busy draw intent old new Images p; said = said }
+locks_of ImageList draw intent old new err err' area p said = let clash : false ≡ true = refusals_of ImageList draw intent old new (Err (Busy area)) (Busy area) p refl in cc
 
 read_prints : (found : Found) (text : List ℕ) (pod : PodId) → Ok text ≡ read_outcome found → Prints (Some (Status pod)) text
 read_prints (At phase area) text pod is = (phase, let e : text ≡ state_text phase = cc in e)
@@ -81,6 +95,7 @@ prints_of : (line : Line) (draw : Draw) (intent : Option Intent) (old new : Outs
 prints_of (Status pod) draw (Some intent) old new text (inl s) = let d = s.ran.says refl in read_prints d.found text pod d.is
 prints_of (Status pod) draw (Some intent) old new text (inr n) = let e = n.is in cc
 prints_of (Status pod) draw None old new text p = let d = p.ran.says refl in read_prints d.found text pod d.is
+prints_of ImageList draw intent old new text p = let d = list_printed draw intent old new text p in (d.images, d.is)
 prints_of (Validate path) draw intent old new text p = let d = does_validate path draw intent old new (Ok text) refl p in file_prints path d.found text d.is
 
 output_of : (line : Line) (draw : Draw) (intent : Option Intent) (before after : Outside) (o : Outcome) (old new : SinkSeen) (end : End) (status : ℕ) → Performs line draw intent before after o → Printed o old new end → status ≡ end_status end → old.observed ≡ true → IsOutput (Some line) status old.bytes new.bytes
@@ -131,10 +146,12 @@ nothing_given given = omega arith
 
 reads_nothing : (line : Line) (old new : BundleSeen) → new ≡ old → ReadsOnly line old new
 reads_nothing (Status pod) old new same = tt
+reads_nothing ImageList old new same = tt
 reads_nothing (Validate path) old new same = subst (λ (x : BundleSeen). ReadsFile path old x) (sym same) (record { given = nothing_given old.given; asked = λ t. asks_nothing })
 
 reads_of : (line : Line) (now : ℕ) (draw : Draw) (old new : Outside) (o : Outcome) → Performs line draw (intent_of line now draw) old new o → ReadsOnly line old.bundle new.bundle
 reads_of (Status pod) now draw old new o p = tt
+reads_of ImageList now draw old new o p = tt
 reads_of (Validate path) now draw old new o p = p.ran.reads
 
 module _ (now : ℕ) (draw : Draw) (old new : Moment) (status : ℕ) where
@@ -171,13 +188,23 @@ module _ (now : ℕ) (draw : Draw) (old new : Moment) (status : ℕ) where
       let e : r.outcome ≡ Err (BadManifest f.0 f.1) = from_command r.outcome old.out new.out r.end (BadManifest f.0 f.1) r.printed ends refl in
       bad_manifest_of line draw (intent_of line now draw) old.outside new.outside old.err new.err f.0 f.1 (subst (λ (o : Outcome). Performs line draw (intent_of line now draw) old.outside new.outside o) e r.performs) (subst (λ (end : End). Reported end old.err new.err) ends r.reported)
 
-  no_file_in : (l : Option Line) → Is l → status ≡ 15 → IsNoFile l old.outside.bundle old.err new.err
-  no_file_in None r is = absurd_number 15 1 (sym is ∙ r.is) refl
-  no_file_in (Some line) (inr n) is = absurd_number 15 14 (sym is ∙ n.is) refl
-  no_file_in (Some line) (inl r) is =
+  lacking_in : (l : Option Line) → Is l → status ≡ 15 → IsLacking l old.outside new.outside old.err new.err
+  lacking_in None r is = absurd_number 15 1 (sym is ∙ r.is) refl
+  lacking_in (Some line) (inr n) is = absurd_number 15 14 (sym is ∙ n.is) refl
+  lacking_in (Some line) (inl r) is =
       let x = refusal_end r.end 15 (sym r.is ∙ is) refl in
       let e : r.outcome ≡ Err x.0 = from_command r.outcome old.out new.out r.end x.0 r.printed x.1 (lacks_no_output x.0 x.2) in
-      no_file_of line draw (intent_of line now draw) old.outside new.outside old.err new.err x.0 x.2 (subst (λ (o : Outcome). Performs line draw (intent_of line now draw) old.outside new.outside o) e r.performs) (subst (λ (end : End). Reported end old.err new.err) x.1 r.reported)
+      lacking_of line draw (intent_of line now draw) old.outside new.outside old.err new.err x.0 x.2 (subst (λ (o : Outcome). Performs line draw (intent_of line now draw) old.outside new.outside o) e r.performs) (subst (λ (end : End). Reported end old.err new.err) x.1 r.reported)
+
+  busy_in : (l : Option Line) → Is l → status ≡ 5 → IsLockBusy l old.outside.dir new.outside.dir old.err new.err
+  busy_in None r is = absurd_number 5 1 (sym is ∙ r.is) refl
+  busy_in (Some line) (inr n) is = absurd_number 5 14 (sym is ∙ n.is) refl
+  busy_in (Some line) (inl r) is =
+      let x = refusal_end r.end 5 (sym r.is ∙ is) refl in
+      let f = is_busy x.0 x.2 in
+      let ends : r.end ≡ Err (Busy f.0) = x.1 ∙ ap (λ (q : Refusal). Err q) f.1 in
+      let e : r.outcome ≡ Err (Busy f.0) = from_command r.outcome old.out new.out r.end (Busy f.0) r.printed ends refl in
+      locks_of line draw (intent_of line now draw) old.outside new.outside old.err new.err f.0 (subst (λ (o : Outcome). Performs line draw (intent_of line now draw) old.outside new.outside o) e r.performs) (subst (λ (end : End). Reported end old.err new.err) ends r.reported)
 
   dir_fault_of : (l : Option Line) → Is l → status ≡ 9 → Rose old.outside.dir.faults new.outside.dir.faults
   dir_fault_of None r is = absurd_number 9 1 (sym is ∙ r.is) refl
@@ -230,6 +257,7 @@ module _ (now : ℕ) (draw : Draw) (old new : Moment) (status : ℕ) where
   judged_of : (l : Option Line) → Is l → old.outside.bundle.observed ≡ true → IsJudgement l status old new
   judged_of None r t = tt
   judged_of (Some (Status pod)) r t = tt
+  judged_of (Some ImageList) r t = tt
   judged_of (Some (Validate path)) (inr n) t = inr (inl n.is)
   judged_of (Some (Validate path)) (inl r) t = judgement_of path draw (intent_of (Validate path) now draw) r.outcome old new r.end status t r.performs r.printed r.reported r.is
 
@@ -261,8 +289,11 @@ module _ {l : Option Line} {now : ℕ} {draw : Draw} {old new : Moment} {status 
   pub bad_manifest : status ≡ 6 → IsBadManifest l old.outside.bundle old.err new.err
   bad_manifest = bad_manifest_in now draw old new status l run.ran
 
-  pub no_file : status ≡ 15 → IsNoFile l old.outside.bundle old.err new.err
-  no_file = no_file_in now draw old new status l run.ran
+  pub busy : status ≡ 5 → IsLockBusy l old.outside.dir new.outside.dir old.err new.err
+  busy = busy_in now draw old new status l run.ran
+
+  pub lacking : status ≡ 15 → IsLacking l old.outside new.outside old.err new.err
+  lacking = lacking_in now draw old new status l run.ran
 
   pub dir_fault : status ≡ 9 → Rose old.outside.dir.faults new.outside.dir.faults
   dir_fault = dir_fault_of now draw old new status l run.ran

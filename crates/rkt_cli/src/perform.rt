@@ -4,9 +4,10 @@ ghost use Rattle.dir_model.specs.declared.intent.Intent.{Intent};
 ghost use Rattle.dir_trait.specs.Local.{IsActive, nothing_local};
 ghost use Rattle.rkt_cli.specs.Moments.{dir_at, outside_at};
 ghost use Rattle.rkt_cli.specs.Conforming.{StaysConforming};
-ghost use Rattle.rkt_cli.specs.Commands.{uses_dir, reads_bundle, intent_of, IsReady};
+ghost use Rattle.rkt_cli.specs.Commands.{uses_dir, reads_bundle, intent_for, intent_of, IsReady};
 ghost use Rattle.rkt_cli.specs.Runs.{CommandRan, Performs};
 
+use crate::image_list::image_list;
 use crate::line::Line;
 use crate::output::Output;
 use crate::refusal::Refusal;
@@ -15,6 +16,20 @@ use crate::validate::validate;
 use dir_trait::{Bundle, Dir, Draw, Intent, Kind, PodPrefix};
 use std::alloc::Global;
 
+fn intent_for(kind: Kind, word: PodPrefix, now: u64, draw: &Draw) -> Intent
+    ensures { result ≡ intent_for kind word now draw.now }
+{
+    Intent {
+        kind,
+        word,
+        now,
+        grace: 0,
+        expire: 0,
+        draw: draw.uuid,
+        token: draw.token,
+    }
+}
+
 // What a process says of a line when it begins. None where the command needs no process.
 fn line_intent(line: &Line, now: u64, draw: &Draw) -> Option<Intent>
     ensures intent { result ≡ intent_of line.now now draw.now }
@@ -22,16 +37,9 @@ fn line_intent(line: &Line, now: u64, draw: &Draw) -> Option<Intent>
     ensures none { IsNone result → uses_dir line.now ≡ false }
 {
     match line {
-        Line::Status(pod) => Some(Intent {
-            kind: Kind::Status,
-            word: PodPrefix::of(*pod),
-            now,
-            grace: 0,
-            expire: 0,
-            draw: draw.uuid,
-            token: draw.token,
-        }),
+        Line::Status(pod) => Some(intent_for(Kind::Status, PodPrefix::of(*pod), now, draw)),
         Line::Validate(_) => None,
+        Line::ImageList => Some(intent_for(Kind::ImageList, PodPrefix::empty(), now, draw)),
     }
 }
 
@@ -56,6 +64,7 @@ fn act<D: Dir, B: Bundle>(
     match line {
         Line::Status(pod) => pod_status(alloc, *pod, dir),
         Line::Validate(path) => validate(alloc, path, bundle),
+        Line::ImageList => image_list(alloc, dir),
     }
 }
 

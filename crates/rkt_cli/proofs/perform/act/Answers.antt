@@ -1,5 +1,5 @@
 use Rattle.rkt_cli.specs.Moments.{dir_at}
-use Rattle.rkt_cli.proofs.Conforming.{looks_conforming, apart_conforming}
+use Rattle.rkt_cli.proofs.Conforming.{looks_conforming, apart_conforming, list_conforming}
 use Rattle.rkt_cli.proofs.Files.{validate_ran}
 use Rattle.rkt_cli.proofs.perform.act.Goals as goal
 
@@ -11,3 +11,6 @@ returns-in-Status-clause-keeps g c t intent said = looks_conforming intent g.D.D
 
 pub returns-in-Validate-clause-keeps : goal.returns-in-Validate-clause-keeps
 returns-in-Validate-clause-keeps g c t intent said = apart_conforming intent (dir_at g.D.Dir c.args.dir.now)
+
+pub returns-in-ImageList-clause-keeps : goal.returns-in-ImageList-clause-keeps
+returns-in-ImageList-clause-keeps g c t intent said = list_conforming intent g.D.Dir.observed _ _ (c.image_list.ensures.known t)
