@@ -7,6 +7,7 @@ const VERSION: &str = "rkt 0.1.0\n";
 const HELP: &str = "\
 usage: rkt status UUID
        rkt validate FILE
+       rkt image list
        rkt --help
        rkt --version
 
@@ -19,6 +20,10 @@ or valid PodManifest N, N being the number of its apps. Of a bad manifest it
 tells the place and the number of the first fault. A FILE that begins with -
 is named with its folder, as ./-x.
 
+rkt image list prints a line KEY NAME MOMENT for each image of the store, in the
+order of the keys: NAME is that of its manifest, MOMENT the time of its import in
+seconds since 1970. It changes nothing.
+
 RKT_DIR names the data folder. Where it is unset or empty, the data folder is
 rkt in the current folder. Whatever is missing of it is made.
 
@@ -26,12 +31,14 @@ exit status
   0   done
   1   usage: the words are none of the above
   2   no such pod
+  5   busy: another process holds the lock of the images
   6   bad manifest
   9   directory fault: the data folder can't be made, read or locked
   10  bundle fault: the file can't be read
   12  output fault: standard output can't be written
   14  out of memory
   15  no file: no regular file stands at the path
+      damaged: a part of a stored image is missing or has no reading
 ";
 
 /// The text that answers these words, before anything is asked of the host.

@@ -1,51 +1,61 @@
 -- A run of the program keeps the local rules.
 use Rattle.std.proofs.Common.{◌≡◌, inl, inr, ℕ, Bool, true, Option, Some, None, [], refl, sym, ap, subst, ◌∙◌}
+use Rattle.area_locks.specs.AreaLocks.{is_free_of}
+use Rattle.dir_model.specs.declared.area.Area.TheVariants.{Images}
 use Rattle.dir_model.specs.declared.intent.Draw.{Draw}
 use Rattle.dir_model.specs.declared.intent.Intent.{Intent}
-use Rattle.dir_model.specs.declared.request.Request.TheVariants.{Begin, Finish}
+use Rattle.dir_model.specs.declared.request.Request.TheVariants.{Finish}
 use Rattle.dir_model.specs.declared.request.Reply.TheVariants.{Done}
 use Rattle.dir_model.specs.Local.{Local}
 use Rattle.dir_rules.specs.declared.seen.Seen.{Seen}
-use Rattle.dir_rules.specs.Conforms.{Conforms, IsTied, nothing_seen, seen_replied}
+use Rattle.dir_rules.specs.Conforms.{Conforms, IsTied, seen_replied}
 use Rattle.dir_rules.proofs.Tied.{tied_call}
 use Rattle.dir_rules.proofs.Unborn.{tied_begun, refused_unseen}
 use Rattle.dir_trait.specs.DirCalls.{DirAt}
 use Rattle.dir_trait.specs.Knowledge.{Knows, SameHandles, OnlyLooks}
 use Rattle.rkt_cli.specs.declared.line.Line.{Line}
 use Rattle.rkt_cli.specs.Moments.{DirSeen, Outside, Moment, Outcome}
-use Rattle.rkt_cli.specs.Conforming.{shown_at, KeepsRules, StaysConforming, KeepsConforming}
+use Rattle.rkt_cli.specs.Conforming.{shown_at, begun, KeepsRules, StaysConforming, KeepsConforming}
 use Rattle.rkt_cli.specs.Commands.{intent_of}
 use Rattle.rkt_cli.specs.Runs.{Performs, InProcess, NeverBegan, RunOf, RunIs}
 
-abbrev seen_at : Bool → DirAt → DirSeen
+abbrev pub seen_at : Bool → DirAt → DirSeen
 seen_at observed d = record { observed = observed; process = d.process; faults = d.faults; local = d.local; trace = d.trace }
 
 -- looks keep them
-pub looks_conforming : (observed : Bool) (old new : DirAt) → OnlyLooks old new → StaysConforming (seen_at observed old) (seen_at observed new)
-looks_conforming observed old new looks s k kept =
-    let l = looks s (record { tied = k.tied; handles = k.handles }) in
-    record { known = l.known; knows = record { tied = l.knows.tied; handles = l.knows.handles }; kept = ap (λ (f : Seen). f.kept) l.looked.same ∙ kept }
+pub looks_conforming : (intent : Intent) (observed : Bool) (old new : DirAt) → OnlyLooks old new → StaysConforming intent (seen_at observed old) (seen_at observed new)
+looks_conforming intent observed old new looks k =
+    let l = looks (begun intent) (record { tied = k.tied; handles = k.handles }) in
+    record { known = l.known; knows = record { tied = l.knows.tied; handles = l.knows.handles }; kept = ap (λ (f : Seen). f.kept) l.looked.same }
+
+-- and so does what knows all that it knew, where it had no handle open on the lock of the images
+pub list_conforming : (intent : Intent) (observed : Bool) (old new : DirAt) → ((s : Seen) → Knows old s → is_free_of Images s ≡ true → Knows new s) → StaysConforming intent (seen_at observed old) (seen_at observed new)
+list_conforming intent observed old new known k =
+    let l = known (begun intent) (record { tied = k.tied; handles = k.handles }) refl in
+    record { known = begun intent; knows = record { tied = l.tied; handles = l.handles }; kept = refl }
 
 -- what makes no call keeps them
-pub apart_conforming : (d : DirSeen) → StaysConforming d d
-apart_conforming d s k kept = record { known = s; knows = k; kept = kept }
+pub apart_conforming : (intent : Intent) (d : DirSeen) → StaysConforming intent d d
+apart_conforming intent d k = record { known = begun intent; knows = k; kept = refl }
 
-module _ (line : Line) (old new : Outside) (o : Outcome) (t : old.dir.observed ≡ true) where
-  begun_keeps : (intent : Intent) → InProcess line intent old new o → KeepsConforming old.dir new.dir
+-- what the process knows when it has begun
+pub begun_knows : {line : Line} {draw : Draw} {intent : Intent} {old new : Outside} {o : Outcome} (s : InProcess line draw intent old new o) → old.dir.observed ≡ true → Knows (shown_at s.begun.dir) (begun intent)
+begun_knows {line} {draw} {intent} {old} {new} {o} s t = record {
+  tied = subst (λ (me : ℕ). IsTied me s.begun.dir.trace (begun intent)) (sym s.me) (tied_begun (s.begins t));
+  handles = subst (λ (m : Local). SameHandles [] m.holdings) (sym s.started) (λ test. refl);
+}
+
+module _ (line : Line) (draw : Draw) (old new : Outside) (o : Outcome) (t : old.dir.observed ≡ true) where
+  begun_keeps : (intent : Intent) → InProcess line draw intent old new o → KeepsConforming old.dir new.dir
   begun_keeps intent s before =
-      let first = seen_replied nothing_seen (Begin intent) Done in
-      let knows : Knows (shown_at s.begun.dir) first = record {
-        tied = subst (λ (me : ℕ). IsTied me s.begun.dir.trace first) (sym s.me) (tied_begun (s.begins t));
-        handles = subst (λ (m : Local). SameHandles [] m.holdings) (sym s.started) (λ test. refl);
-      } in
-      let kept : KeepsRules s.ended.dir = s.keeps t first knows refl in
+      let kept : KeepsRules s.ended.dir = s.keeps t (begun_knows s t) in
       let after : IsTied s.ended.dir.process new.dir.trace (seen_replied kept.known Finish Done) = tied_call kept.knows.tied refl refl refl (s.finishes t) in
       subst (λ (me : ℕ). Conforms me new.dir.trace) (s.ran.same ∙ s.me) (after.conforms kept.kept)
 
   never_keeps : (intent : Intent) → NeverBegan intent old new o → KeepsConforming old.dir new.dir
   never_keeps intent n before = ap (λ (f : Seen). f.kept) (refused_unseen (n.step t)) ∙ before
 
-  performed_keeps : (i : Option Intent) → Performs line i old new o → KeepsConforming old.dir new.dir
+  performed_keeps : (i : Option Intent) → Performs line draw i old new o → KeepsConforming old.dir new.dir
   performed_keeps None p before = subst (λ (d : DirSeen). Conforms old.dir.process d.trace) (sym p.dir) before
   performed_keeps (Some intent) (inl s) before = begun_keeps intent s before
   performed_keeps (Some intent) (inr n) before = never_keeps intent n before
@@ -57,4 +67,4 @@ run_conforms {l} {now} {draw} {old} {new} {status} run t = by l run.ran
     by : (l : Option Line) → RunOf l now draw old new status → KeepsConforming old.outside.dir new.outside.dir
     by None r before = subst (λ (x : Outside). Conforms old.outside.dir.process x.dir.trace) (sym r.outside) before
     by (Some line) (inr n) before = subst (λ (x : Outside). Conforms old.outside.dir.process x.dir.trace) (sym n.outside) before
-    by (Some line) (inl r) before = performed_keeps line old.outside new.outside r.outcome t (intent_of line now draw) r.performs before
+    by (Some line) (inl r) before = performed_keeps line draw old.outside new.outside r.outcome t (intent_of line now draw) r.performs before

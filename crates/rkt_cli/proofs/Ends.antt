@@ -1,79 +1,69 @@
 -- What a status says of the end of a run.
 use Rattle.std.proofs.Common.{arith, ◌≡◌, ◌⊎◌, inl, inr, ℕ, Bool, true, false, ◌||◌, ◌==◌, cond, List, Ok, Err, IfErr, refl, sym, ap, subst, ◌∙◌}
 use Rattle.std.proofs.lemmas.Bool.Decides.{nat_tests}
+use Rattle.dir_model.specs.declared.area.Area.{Area}
+use Rattle.rkt_cli.specs.declared.line.Line.{Line}
+use Rattle.rkt_cli.specs.declared.line.Line.TheVariants.{Status, Validate, ImageList}
 use Rattle.rkt_cli.specs.declared.refusal.Refusal.{Refusal}
-use Rattle.rkt_cli.specs.declared.refusal.Refusal.TheVariants.{Usage, NoPod, BadManifest, DirFault, BundleFault, OutFault, NoMemory, NoFile}
+use Rattle.rkt_cli.specs.declared.refusal.Refusal.TheVariants.{Usage, NoPod, Busy, BadManifest, DirFault, BundleFault, OutFault, NoMemory, NoFile, Conflict, Damaged, BadKind, Stray}
 use Rattle.rkt_cli.specs.Texts.{status_of}
 use Rattle.rkt_cli.specs.Moments.{SinkSeen, Outcome}
+use Rattle.rkt_cli.specs.Commands.{may}
 use Rattle.rkt_cli.specs.Runs.{End, Unwritten, Printed, end_status}
 use Rattle.rkt_cli.specs.Statuses.{IsStatus}
 
 pub absurd_number : {X : Type 0} → (m n : ℕ) → m ≡ n → (m == n) ≡ false → X
 absurd_number m n h apart = absurd (grind (arith, nat_tests))
 
--- the end that a status stands for, but for the two that name something
+-- the end that a status stands for, but for those that name something
 abbrev pub end_of : ℕ → End
-end_of n = cond (n == 0) (Ok tt) (cond (n == 1) (Err Usage) (cond (n == 2) (Err NoPod) (cond (n == 9) (Err DirFault) (cond (n == 10) (Err BundleFault) (cond (n == 12) (Err OutFault) (Err NoMemory))))))
+end_of n = cond (n == 0) (Ok tt) (cond (n == 1) (Err Usage) (cond (n == 2) (Err NoPod) (cond (n == 9) (Err DirFault) (cond (n == 10) (Err BundleFault) (cond (n == 12) (Err OutFault) (cond (n == 20) (Err Stray) (Err NoMemory)))))))
 
 abbrev pub names : ℕ → Bool
-names n = (n == 6) || (n == 15)
+names n = (n == 5) || ((n == 6) || ((n == 7) || ((n == 8) || (n == 15))))
 
 end_again : (end : End) → names (end_status end) ≡ false → end ≡ end_of (end_status end)
 end_again (Ok done) plain = refl
 end_again (Err Usage) plain = refl
 end_again (Err NoPod) plain = refl
-end_again (Err (BadManifest path number)) plain = let clash : true ≡ false = plain in cc
 end_again (Err DirFault) plain = refl
 end_again (Err BundleFault) plain = refl
 end_again (Err OutFault) plain = refl
 end_again (Err NoMemory) plain = refl
-end_again (Err (NoFile path)) plain = let clash : true ≡ false = plain in cc
+end_again (Err Stray) plain = refl
+end_again (Err r) plain = let clash : true ≡ false = plain in cc
 
 pub end_at : (end : End) (status n : ℕ) → status ≡ end_status end → status ≡ n → names n ≡ false → end ≡ end_of n
 end_at end status n is at plain = let e : end_status end ≡ n = sym is ∙ at in end_again end (ap names e ∙ plain) ∙ ap end_of e
 
-pub bad_manifest_end : (end : End) → end_status end ≡ 6 → (path : List ℕ) × (number : ℕ) × (end ≡ Err (BadManifest path number))
-bad_manifest_end (Ok done) is = absurd_number 0 6 is refl
-bad_manifest_end (Err Usage) is = absurd_number 1 6 is refl
-bad_manifest_end (Err NoPod) is = absurd_number 2 6 is refl
-bad_manifest_end (Err (BadManifest path number)) is = (path, number, refl)
-bad_manifest_end (Err DirFault) is = absurd_number 9 6 is refl
-bad_manifest_end (Err BundleFault) is = absurd_number 10 6 is refl
-bad_manifest_end (Err OutFault) is = absurd_number 12 6 is refl
-bad_manifest_end (Err NoMemory) is = absurd_number 14 6 is refl
-bad_manifest_end (Err (NoFile path)) is = absurd_number 15 6 is refl
+-- the others that it may stand for
+pub refusal_end : (end : End) (n : ℕ) → end_status end ≡ n → (n == 0) ≡ false → (r : Refusal) × (end ≡ Err r) × (status_of r ≡ n)
+refusal_end (Ok done) n is apart = absurd_number n 0 (sym is) apart
+refusal_end (Err r) n is apart = (r, refl, is)
 
-pub no_file_end : (end : End) → end_status end ≡ 15 → (path : List ℕ) × (end ≡ Err (NoFile path))
-no_file_end (Ok done) is = absurd_number 0 15 is refl
-no_file_end (Err Usage) is = absurd_number 1 15 is refl
-no_file_end (Err NoPod) is = absurd_number 2 15 is refl
-no_file_end (Err (BadManifest path number)) is = absurd_number 6 15 is refl
-no_file_end (Err DirFault) is = absurd_number 9 15 is refl
-no_file_end (Err BundleFault) is = absurd_number 10 15 is refl
-no_file_end (Err OutFault) is = absurd_number 12 15 is refl
-no_file_end (Err NoMemory) is = absurd_number 14 15 is refl
-no_file_end (Err (NoFile path)) is = (path, refl)
+pub is_bad_manifest : (r : Refusal) → status_of r ≡ 6 → (path : List ℕ) × (number : ℕ) × (r ≡ BadManifest path number)
+is_bad_manifest (BadManifest path number) is = (path, number, refl)
+is_bad_manifest r is = absurd_number (status_of r) 6 is refl
 
-pub status_known : (end : End) → IsStatus (end_status end)
-status_known (Ok done) = refl
-status_known (Err Usage) = refl
-status_known (Err NoPod) = refl
-status_known (Err (BadManifest path number)) = refl
-status_known (Err DirFault) = refl
-status_known (Err BundleFault) = refl
-status_known (Err OutFault) = refl
-status_known (Err NoMemory) = refl
-status_known (Err (NoFile path)) = refl
+pub is_busy : (r : Refusal) → status_of r ≡ 5 → (area : Area) × (r ≡ Busy area)
+is_busy (Busy area) is = (area, refl)
+is_busy r is = absurd_number (status_of r) 5 is refl
+
+-- the refusals of an output
+abbrev pub is_of_output : Refusal → Bool
+is_of_output OutFault = true
+is_of_output NoMemory = true
+is_of_output _ = false
+
+-- no refusal of an output has status 15
+pub lacks_no_output : (r : Refusal) → status_of r ≡ 15 → is_of_output r ≡ false
+lacks_no_output OutFault is = absurd_number 12 15 is refl
+lacks_no_output NoMemory is = absurd_number 14 15 is refl
+lacks_no_output r is = refl
 
 pub refusal_status : (r : Refusal) → (status_of r == 0) ≡ false
-refusal_status Usage = refl
 refusal_status NoPod = refl
-refusal_status (BadManifest path number) = refl
-refusal_status DirFault = refl
-refusal_status BundleFault = refl
-refusal_status OutFault = refl
-refusal_status NoMemory = refl
-refusal_status (NoFile path) = refl
+refusal_status r = refl
 
 abbrev refusal_in : End → Refusal → Refusal
 refusal_in (Ok done) other = other
@@ -84,11 +74,28 @@ pub from_end : (o : Outcome) (old new : SinkSeen) (end : End) (r : Refusal) → 
 from_end (Err x) old new end r p is = inl (ap (λ (e : End). Err (refusal_in e r)) (sym (p.refused.0) ∙ is))
 from_end (Ok text) old new end r p is = inr (subst (λ (e : End). IfErr e (λ r. Unwritten r old new)) is (p.cause text refl))
 
--- the refusals of an output
-abbrev pub is_of_output : Refusal → Bool
-is_of_output OutFault = true
-is_of_output NoMemory = true
-is_of_output _ = false
+-- a status that the command can have, or that of an output
+pub output_known : (r : Refusal) → is_of_output r ≡ true → IsStatus (status_of r)
+output_known OutFault is = refl
+output_known NoMemory is = refl
+output_known r is = let clash : false ≡ true = is in cc
+
+pub refusal_known : (line : Line) (r : Refusal) → may line r ≡ true → IsStatus (status_of r)
+refusal_known line Usage allowed = refl
+refusal_known line NoPod allowed = refl
+refusal_known line (Busy area) allowed = refl
+refusal_known line (BadManifest path number) allowed = refl
+refusal_known line DirFault allowed = refl
+refusal_known line BundleFault allowed = refl
+refusal_known line OutFault allowed = refl
+refusal_known line NoMemory allowed = refl
+refusal_known line (NoFile path) allowed = refl
+refusal_known line (Conflict key stored new) allowed = refl
+refusal_known line (Damaged path) allowed = refl
+refusal_known line (BadKind path) allowed = refl
+refusal_known (Status pod) r allowed = let clash : false ≡ true = allowed in cc
+refusal_known (Validate path) r allowed = let clash : false ≡ true = allowed in cc
+refusal_known ImageList r allowed = let clash : false ≡ true = allowed in cc
 
 -- the others are the command's
 pub from_command : (o : Outcome) (old new : SinkSeen) (end : End) (r : Refusal) → Printed o old new end → end ≡ Err r → is_of_output r ≡ false → o ≡ Err r

@@ -1,5 +1,6 @@
 -- A file that was read, or not, and what `validate` owes.
 use Rattle.std.proofs.Common.{arith, ◌≡◌, ◌⊎◌, inl, inr, ◌≤◌, ℕ, true, false, List, take, Option, Some, None, option_map, IsSomeAnd, Ok, Err, IsErrOf, IfErr, refl, sym, ap, subst, ◌∙◌}
+use Rattle.dir_model.specs.declared.intent.Draw.{Draw}
 use Rattle.dir_model.specs.Causes.{Rose}
 use Rattle.dir_model.proofs.Chains.{nothing_yet}
 use Rattle.dir_trait.specs.Bundles.{file_bytes}
@@ -10,7 +11,7 @@ use Rattle.manifests.specs.DocumentData.{any_manifest}
 use Rattle.rkt_cli.specs.declared.line.Line.{Line}
 use Rattle.rkt_cli.specs.declared.line.Line.TheVariants.{Validate}
 use Rattle.rkt_cli.specs.declared.refusal.Refusal.{Refusal}
-use Rattle.rkt_cli.specs.declared.refusal.Refusal.TheVariants.{Usage, NoPod, BadManifest, DirFault, BundleFault, OutFault, NoMemory, NoFile}
+use Rattle.rkt_cli.specs.declared.refusal.Refusal.TheVariants.{DirFault, BundleFault, NoMemory}
 use Rattle.rkt_cli.specs.Moments.{DirSeen, BundleSeen, Outside, Outcome}
 use Rattle.rkt_cli.specs.Ends.{is_own_end}
 use Rattle.rkt_cli.specs.Validate.{ValidateSays, ReadsFile, IsRefusalOf, validate_refusal, manifest_outcome, most_read}
@@ -39,14 +40,8 @@ never_dir (Ok text) known is = cc
 never_dir (Err r) known is = let e : DirFault ≡ r = cc in let clash : false ≡ true = ap validate_refusal e ∙ known in cc
 
 may_refuse : (path : List ℕ) (r : Refusal) → validate_refusal r ≡ true → may (Validate path) r ≡ true
-may_refuse path Usage known = known
-may_refuse path NoPod known = known
-may_refuse path (BadManifest at number) known = known
-may_refuse path DirFault known = known
-may_refuse path BundleFault known = known
-may_refuse path OutFault known = known
 may_refuse path NoMemory known = known
-may_refuse path (NoFile named) known = known
+may_refuse path r known = known
 
 may_end : (path : List ℕ) (o : Outcome) → IfErr o (λ r. validate_refusal r ≡ true) → IfErr o (λ r. may (Validate path) r ≡ true)
 may_end path (Ok text) known = known
@@ -55,10 +50,10 @@ may_end path (Err r) known = may_refuse path r known
 abbrev beside : DirSeen → BundleSeen → Outside
 beside dir bundle = record { dir = dir; bundle = bundle }
 
-pub validate_ran : (line : Line) (path : List ℕ) (dir : DirSeen) (old new : BundleSeen) (o : Outcome) → line ≡ Validate path → old.faults ≤ new.faults → (IsErrOf o BundleFault → Rose old.faults new.faults) → IfErr o (λ r. validate_refusal r ≡ true) → ReadsFile path old new → (is_own_end o ≡ true → ValidateSays path old o) → CommandRan line (beside dir old) (beside dir new) o
-validate_ran line path dir old new o is faults cause known reads says = subst (λ (l : Line). CommandRan l (beside dir old) (beside dir new) o) (sym is) ran
+pub validate_ran : (line : Line) (draw : Draw) (path : List ℕ) (dir : DirSeen) (old new : BundleSeen) (o : Outcome) → line ≡ Validate path → old.faults ≤ new.faults → (IsErrOf o BundleFault → Rose old.faults new.faults) → IfErr o (λ r. validate_refusal r ≡ true) → ReadsFile path old new → (is_own_end o ≡ true → ValidateSays path old o) → CommandRan line draw (beside dir old) (beside dir new) o
+validate_ran line draw path dir old new o is faults cause known reads says = subst (λ (l : Line). CommandRan l draw (beside dir old) (beside dir new) o) (sym is) ran
   where
-    ran : CommandRan (Validate path) (beside dir old) (beside dir new) o
+    ran : CommandRan (Validate path) draw (beside dir old) (beside dir new) o
     ran = record {
       same = refl;
       local = refl;

@@ -11,7 +11,7 @@ use Rattle.phase_read.specs.declared.found.Found.TheVariants.{At, Gone}
 use Rattle.phase_read.specs.Exact.{WasSo, AtOwnEvent, IsNowhere}
 use Rattle.phase_read.proofs.Exact.{was_within}
 use Rattle.rkt_cli.specs.declared.line.Line.{Line}
-use Rattle.rkt_cli.specs.declared.line.Line.TheVariants.{Status, Validate}
+use Rattle.rkt_cli.specs.declared.line.Line.TheVariants.{Status, Validate, ImageList}
 use Rattle.rkt_cli.specs.declared.refusal.Refusal.TheVariants.{NoPod}
 use Rattle.rkt_cli.specs.Texts.{state_text}
 use Rattle.rkt_cli.specs.Moments.{Outside, Moment, Outcome}
@@ -29,8 +29,8 @@ pub record WasRead (pod : PodId) (me : ℕ) (old new : List Event) (o : Outcome)
   pub is : o ≡ read_outcome found
   pub so : WasSo me old new pod found
 
-module _ (pod : PodId) (old new : Outside) (t : old.dir.observed ≡ true) (conforming : IsConforming new.dir.trace) where
-  status_read : (intent : Option Intent) (o : Outcome) → is_own_end o ≡ true → Performs (Status pod) intent old new o → WasRead pod old.dir.process old.dir.trace new.dir.trace o
+module _ (pod : PodId) (draw : Draw) (old new : Outside) (t : old.dir.observed ≡ true) (conforming : IsConforming new.dir.trace) where
+  status_read : (intent : Option Intent) (o : Outcome) → is_own_end o ≡ true → Performs (Status pod) draw intent old new o → WasRead pod old.dir.process old.dir.trace new.dir.trace o
   status_read None o own p = let clash : true ≡ false = p.apart in cc
   status_read (Some intent) o own (inr n) = let clash : true ≡ false = sym own ∙ ap is_own_end n.is in cc
   status_read (Some intent) o own (inl s) =
@@ -53,14 +53,14 @@ tells_gone pod me old new (At phase area) is so = cc
 tells_gone pod me old new Gone is so = so
 
 module _ (now : ℕ) (draw : Draw) (old new : Moment) (status : ℕ) (t : old.outside.dir.observed ≡ true) (conforming : IsConforming new.outside.dir.trace) where
-  line_tells : (pod : PodId) → RunOfLine (Status pod) (intent_of (Status pod) now draw) old new status → TellsHistory (Some (Status pod)) status old.outside.dir new.outside.dir old.out new.out
+  line_tells : (pod : PodId) → RunOfLine (Status pod) draw (intent_of (Status pod) now draw) old new status → TellsHistory (Some (Status pod)) status old.outside.dir new.outside.dir old.out new.out
   line_tells pod r = (printed, missing)
     where
       me : ℕ
       me = old.outside.dir.process
 
       was : (o : Outcome) → r.outcome ≡ o → is_own_end o ≡ true → WasRead pod me old.outside.dir.trace new.outside.dir.trace o
-      was o is own = status_read pod old.outside new.outside t conforming (intent_of (Status pod) now draw) o own (subst (λ (o : Outcome). Performs (Status pod) (intent_of (Status pod) now draw) old.outside new.outside o) is r.performs)
+      was o is own = status_read pod draw old.outside new.outside t conforming (intent_of (Status pod) now draw) o own (subst (λ (o : Outcome). Performs (Status pod) draw (intent_of (Status pod) now draw) old.outside new.outside o) is r.performs)
 
       printed : status ≡ 0 → (text : List ℕ) × TellsPhase pod me old.outside.dir.trace new.outside.dir.trace text × (old.out.observed ≡ true → new.out.bytes ≡ old.out.bytes ++ text)
       printed zero =
@@ -77,6 +77,7 @@ module _ (now : ℕ) (draw : Draw) (old new : Moment) (status : ℕ) (t : old.ou
   tells_of : (l : Option Line) → RunOf l now draw old new status → TellsHistory l status old.outside.dir new.outside.dir old.out new.out
   tells_of None r = tt
   tells_of (Some (Validate path)) r = tt
+  tells_of (Some ImageList) r = tt
   tells_of (Some (Status pod)) (inr n) = ((λ zero. absurd_number 0 14 (sym zero ∙ n.is) refl), (λ two. absurd_number 2 14 (sym two ∙ n.is) refl))
   tells_of (Some (Status pod)) (inl r) = line_tells pod r
 

@@ -3,8 +3,12 @@ pub mod Judged
 pub mod Files
 pub mod Ends
 pub mod Sessions
+pub mod StoreQuiet
 pub mod Outcomes
+pub mod Listed
 pub mod Statuses
 pub mod QuietRun
 pub mod Conforming
+pub mod Parts
+pub mod ImageLists
 pub mod Histories

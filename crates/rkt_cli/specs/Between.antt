@@ -18,8 +18,8 @@ abbrev pub JudgedBetween : {D B O E : Type 0} → DirGhosts D → BundleGhosts B
 JudgedBetween d b o e line status old new = IsJudgement line status (moment_at d b o e old) (moment_at d b o e new)
 
 -- the answer where nobody else steps and nothing fails
-abbrev pub QuietBetween : {D B O E : Type 0} → DirGhosts D → BundleGhosts B → SinkGhosts O → SinkGhosts E → Option Line → ℕ → D × B × O × E → D × B × O × E → Type 0
-QuietBetween d b o e line status old new =
+abbrev pub QuietBetween : {D B O E : Type 0} → DirGhosts D → BundleGhosts B → SinkGhosts O → SinkGhosts E → Option Line → ℕ → Draw → ℕ → D × B × O × E → D × B × O × E → Type 0
+QuietBetween d b o e line now draw status old new =
     IsUndisturbed line (moment_at d b o e old).outside (moment_at d b o e new).outside
     → Works (moment_at d b o e old).out (moment_at d b o e new).out
-    → IsQuietAnswer line status (moment_at d b o e old) (moment_at d b o e new)
+    → IsQuietAnswer line now draw status (moment_at d b o e old) (moment_at d b o e new)

@@ -1,7 +1,8 @@
 -- What each command does between its begin and its finish. A new command is one line in each of these.
-use Rattle.std.specs.Prelude.{◌≡◌, ℕ, Bool, true, false, Option, Some, None}
+use Rattle.std.specs.Prelude.{◌≡◌, ℕ, Bool, true, false, Option, Some, None, List, []}
 use Rattle.dir_model.specs.declared.intent.Draw.{Draw}
 use Rattle.dir_model.specs.declared.intent.Intent.{Intent}
+use Rattle.dir_model.specs.declared.intent.Kind.{Kind}
 use Rattle.dir_model.specs.declared.intent.Kind.TheVariants as kind
 use Rattle.dir_model.specs.declared.request.Request.{Request}
 use Rattle.dir_trait.specs.Bundles.{Tree}
@@ -10,38 +11,50 @@ use Rattle.dir_trait.specs.Replies.{is_look_at}
 use Rattle.dir_trait.specs.Local.{Local, has_own_open}
 use Rattle.phase_read.specs.Read.{is_pod_spot}
 use Rattle.dir_trait.specs.State.{DirState}
+use Rattle.dir_trait.specs.Trace.{state_after}
 use Rattle.rkt_cli.specs.declared.line.Line.{Line}
-use Rattle.rkt_cli.specs.declared.line.Line.TheVariants.{Status, Validate}
+use Rattle.rkt_cli.specs.declared.line.Line.TheVariants.{Status, Validate, ImageList}
 use Rattle.rkt_cli.specs.declared.refusal.Refusal.{Refusal}
-use Rattle.rkt_cli.specs.declared.refusal.Refusal.TheVariants.{Usage, NoPod, BadManifest, DirFault, BundleFault, OutFault, NoMemory, NoFile}
+use Rattle.rkt_cli.specs.declared.refusal.Refusal.TheVariants.{Usage, DirFault, BundleFault, OutFault, NoMemory}
 use Rattle.rkt_cli.specs.Moments.{BundleSeen, Outside, Outcome}
-use Rattle.rkt_cli.specs.Ends.{is_own_end}
+use Rattle.rkt_cli.specs.Ends.{is_own_end, IsUnchanged}
 use Rattle.rkt_cli.specs.Status.{status_refusal, StatusSays, sequential_status}
+use Rattle.rkt_cli.specs.ImageList.{image_list_refusal, lists_images, ImageListSays, ListsQuietly}
 use Rattle.rkt_cli.specs.Validate.{validate_refusal, ValidateSays, ReadsFile, sequential_validate}
 
 -- whether it works on the directory, and whether it reads the bundle
 abbrev pub uses_dir : Line → Bool
 uses_dir (Status pod) = true
 uses_dir (Validate path) = false
+uses_dir ImageList = true
 
 abbrev pub reads_bundle : Line → Bool
 reads_bundle (Status pod) = false
 reads_bundle (Validate path) = true
+reads_bundle ImageList = false
+
+-- what a process says when it begins that has no times of its own
+abbrev pub intent_for : Kind → List ℕ → ℕ → Draw → Intent
+intent_for kind word now draw = record { kind = kind; word = word; now = now; grace = 0; expire = 0; draw = draw.uuid; token = draw.token }
 
 -- what its process says when it begins. A command that doesn't work on the directory begins none
 abbrev pub intent_of : Line → ℕ → Draw → Option Intent
-intent_of (Status pod) now draw = Some (record { kind = kind.Status; word = pod_text pod.bytes; now = now; grace = 0; expire = 0; draw = draw.uuid; token = draw.token })
+intent_of (Status pod) now draw = Some (intent_for kind.Status (pod_text pod.bytes) now draw)
 intent_of (Validate path) now draw = None
+intent_of ImageList now draw = Some (intent_for kind.ImageList [] now draw)
 
--- what it asks of the directory: `status` looks at the pod's six locations
-abbrev pub asks : Line → Request → Bool
-asks (Status pod) request = is_look_at (is_pod_spot pod) request
-asks (Validate path) request = false
+-- what it asks of the directory, which may be of what was drawn for it: `status` looks at the pod's six locations, `image list` asks
+-- for images and their lock
+abbrev pub asks : Line → Draw → Request → Bool
+asks (Status pod) draw request = is_look_at (is_pod_spot pod) request
+asks (Validate path) draw request = false
+asks ImageList draw request = lists_images request
 
 -- the refusals of its own
 abbrev pub own_refusal : Line → Refusal → Bool
 own_refusal (Status pod) refusal = status_refusal refusal
 own_refusal (Validate path) refusal = validate_refusal refusal
+own_refusal ImageList refusal = image_list_refusal refusal
 
 -- the refusals that it may have
 abbrev pub may : Line → Refusal → Bool
@@ -50,26 +63,34 @@ may line DirFault = uses_dir line
 may line BundleFault = reads_bundle line
 may line Usage = false
 may line OutFault = false
-may line NoPod = own_refusal line NoPod
-may line (BadManifest path number) = own_refusal line (BadManifest path number)
-may line (NoFile path) = own_refusal line (NoFile path)
+may line refusal = own_refusal line refusal
 
--- what a process of it has open before: no handle on the lock of that pod
+-- what a process of it has open before: for `status` no handle on the lock of that pod
 abbrev pub IsReady : Line → Local → Type 0
 IsReady (Status pod) m = has_own_open m (pod_text pod.bytes) ≡ false
 IsReady (Validate path) m = Unit {0}
+IsReady ImageList m = Unit {0}
 
 -- what it did, where it came to an end of its own
 abbrev pub CommandSays : Line → Outside → Outside → Outcome → Type 0
 CommandSays (Status pod) old new o = is_own_end o ≡ true → StatusSays pod old.dir new.dir o
 CommandSays (Validate path) old new o = is_own_end o ≡ true → ValidateSays path old.bundle o
+CommandSays ImageList old new o = ImageListSays old.dir new.dir o
 
 -- what it reads of the bundle
 abbrev pub ReadsOnly : Line → BundleSeen → BundleSeen → Type 0
 ReadsOnly (Status pod) old new = Unit {0}
 ReadsOnly (Validate path) old new = ReadsFile path old new
+ReadsOnly ImageList old new = Unit {0}
 
--- what it comes to where nobody else steps
-abbrev pub sequential_outcome : Line → DirState → Tree → Outcome
-sequential_outcome (Status pod) s tree = sequential_status pod s
-sequential_outcome (Validate path) s tree = sequential_validate path tree
+-- what it comes to where nobody else steps: for `status` and `validate` by the state and the bundle before
+abbrev pub ComesQuietly : Line → Outside → Outside → Outcome → Type 0
+ComesQuietly (Status pod) old new o = o ≡ sequential_status pod (state_after old.dir.trace)
+ComesQuietly (Validate path) old new o = o ≡ sequential_validate path old.bundle.tree
+ComesQuietly ImageList old new o = ListsQuietly old.dir new.dir o
+
+-- and what it leaves in the directory then, from one state to the other: by its moment, its draw and the bundle's tree
+abbrev pub LeavesQuietly : Line → ℕ → Draw → Tree → DirState → DirState → Type 0
+LeavesQuietly (Status pod) now draw tree old new = IsUnchanged old new
+LeavesQuietly (Validate path) now draw tree old new = Unit {0}
+LeavesQuietly ImageList now draw tree old new = IsUnchanged old new

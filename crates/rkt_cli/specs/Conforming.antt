@@ -1,7 +1,10 @@
 -- Whether a process has asked for nothing but what the local rules allow.
 use Rattle.std.specs.Prelude.{◌≡◌, true}
+use Rattle.dir_model.specs.declared.intent.Intent.{Intent}
+use Rattle.dir_model.specs.declared.request.Request.TheVariants.{Begin}
+use Rattle.dir_model.specs.declared.request.Reply.TheVariants.{Done}
 use Rattle.dir_rules.specs.declared.seen.Seen.{Seen}
-use Rattle.dir_rules.specs.Conforms.{Conforms}
+use Rattle.dir_rules.specs.Conforms.{Conforms, nothing_seen, seen_replied}
 use Rattle.dir_trait.specs.DirCalls.{DirAt}
 use Rattle.dir_trait.specs.Knowledge.{Knows}
 use Rattle.rkt_cli.specs.Moments.{DirSeen}
@@ -16,9 +19,13 @@ pub record KeepsRules (d : DirSeen) : Type 0 where
   pub knows : Knows (shown_at d) known
   pub kept : known.kept ≡ true
 
--- a process that kept the rules before, whatever it knew, has kept them since
-abbrev pub StaysConforming : DirSeen → DirSeen → Type 0
-StaysConforming old new = (s : Seen) → Knows (shown_at old) s → s.kept ≡ true → KeepsRules new
+-- what a process knows that has just begun
+abbrev pub begun : Intent → Seen
+begun intent = seen_replied nothing_seen (Begin intent) Done
+
+-- a process that had just begun has kept the rules since
+abbrev pub StaysConforming : Intent → DirSeen → DirSeen → Type 0
+StaysConforming intent old new = Knows (shown_at old) (begun intent) → KeepsRules new
 
 -- where the process kept the local rules before, it keeps them afterwards
 abbrev pub KeepsConforming : DirSeen → DirSeen → Type 0

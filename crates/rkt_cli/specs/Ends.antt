@@ -1,5 +1,6 @@
 -- How a command may come to its end.
-use Rattle.std.specs.Prelude.{Bool, true, false, Ok, Err}
+use Rattle.std.specs.Prelude.{◌≡◌, ℕ, Bool, true, false, Ok, Err}
+use Rattle.dir_trait.specs.State.{DirState, is_owned}
 use Rattle.rkt_cli.specs.declared.refusal.Refusal.{Refusal}
 use Rattle.rkt_cli.specs.declared.refusal.Refusal.TheVariants.{DirFault, BundleFault, NoMemory}
 use Rattle.rkt_cli.specs.Moments.{Outcome}
@@ -17,3 +18,8 @@ abbrev pub is_common : Refusal → Bool
 is_common NoMemory = true
 is_common DirFault = true
 is_common refusal = false
+
+-- the folders, and whose lock is held exclusively, are as before
+pub record IsUnchanged (old new : DirState) : Type 0 where
+  pub folders : new.namespace.folders ≡ old.namespace.folders
+  pub owned : (folder : ℕ) → is_owned new.namespace folder ≡ is_owned old.namespace folder

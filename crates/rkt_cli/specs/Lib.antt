@@ -5,6 +5,7 @@ pub mod Conforming
 pub mod Ends
 pub mod Status
 pub mod Validate
+pub mod ImageList
 pub mod Commands
 pub mod Runs
 pub mod Histories

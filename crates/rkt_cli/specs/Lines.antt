@@ -3,7 +3,7 @@ use Rattle.std.specs.Prelude.{◌≡◌, ℕ, Bool, false, not, ◌&&◌, ◌==�
 use Rattle.std.specs.Global.{Global}
 use Rattle.dir_trait.specs.Pods.{pod_of}
 use Rattle.rkt_cli.specs.declared.line.Line.{Line}
-use Rattle.rkt_cli.specs.declared.line.Line.TheVariants.{Status, Validate}
+use Rattle.rkt_cli.specs.declared.line.Line.TheVariants.{Status, Validate, ImageList}
 use Rattle.rkt_cli.specs.declared.line.WordsError.{WordsError}
 use Rattle.rkt_cli.specs.declared.line.WordsError.TheVariants.{Usage, NoMemory}
 
@@ -16,9 +16,10 @@ is_file_word (first ∷ rest) = not (first == 45)
 abbrev pub command_of : List ℕ → List ℕ → Option Line
 command_of command word =
     cond (bytes_eq command (codes "status")) (option_map Status (pod_of word))
-    (cond (bytes_eq command (codes "validate") && is_file_word word) (Some (Validate word)) None)
+    (cond (bytes_eq command (codes "validate") && is_file_word word) (Some (Validate word))
+    (cond (bytes_eq command (codes "image") && bytes_eq word (codes "list")) (Some ImageList) None))
 
--- `status` and the text of a pod, or `validate` and the path of a file; any other words are no command
+-- `status` and the text of a pod, `validate` and the path of a file, or `image` and `list`; any other words are no command
 abbrev pub line_of : List (List ℕ) → Option Line
 line_of (command ∷ word ∷ []) = command_of command word
 line_of _ = None

@@ -11,14 +11,14 @@ use Rattle.dir_trait.specs.Local.{Local}
 use Rattle.dir_trait.specs.Sinks.{WritesPart}
 use Rattle.rkt_cli.specs.declared.line.Line.{Line}
 use Rattle.rkt_cli.specs.declared.refusal.Refusal.{Refusal}
-use Rattle.rkt_cli.specs.declared.refusal.Refusal.TheVariants.{Usage, BadManifest, DirFault, BundleFault, OutFault, NoMemory, NoFile}
+use Rattle.rkt_cli.specs.declared.refusal.Refusal.TheVariants.{Usage, BadManifest, NoImage, Limit, DirFault, BundleFault, OutFault, NoMemory, NoFile, Conflict, Damaged, BadKind}
 use Rattle.rkt_cli.specs.Texts.{status_of, message}
 use Rattle.rkt_cli.specs.Conforming.{StaysConforming}
 use Rattle.rkt_cli.specs.Moments.{Outside, Moment, SinkSeen, Outcome}
 use Rattle.rkt_cli.specs.Commands.{uses_dir, intent_of, asks, may, CommandSays, ReadsOnly}
 
 -- what a command leaves and answers, whichever it is
-pub record CommandRan (line : Line) (old new : Outside) (o : Outcome) : Type 0 where
+pub record CommandRan (line : Line) (draw : Draw) (old new : Outside) (o : Outcome) : Type 0 where
   pub same : new.dir.process ≡ old.dir.process
   pub local : new.dir.local ≡ old.dir.local
   pub faults : old.dir.faults ≤ new.dir.faults
@@ -26,7 +26,7 @@ pub record CommandRan (line : Line) (old new : Outside) (o : Outcome) : Type 0 w
   pub bundle_faults : old.bundle.faults ≤ new.bundle.faults
   pub bundle_cause : IsErrOf o BundleFault → Rose old.bundle.faults new.bundle.faults
   pub refusals : IfErr o (λ r. may line r ≡ true)
-  pub extends : old.dir.observed ≡ true → Extends (asks line) old.dir.process old.dir.trace new.dir.trace
+  pub extends : old.dir.observed ≡ true → Extends (asks line draw) old.dir.process old.dir.trace new.dir.trace
   pub reads : ReadsOnly line old.bundle new.bundle
   pub says : CommandSays line old new o
 
@@ -38,7 +38,7 @@ abbrev pub ended_local : Intent → Local
 ended_local intent = record { intent = Some intent; finished = true; holdings = [] }
 
 -- the process began, the command ran, and the process finished
-pub record InProcess (line : Line) (intent : Intent) (old new : Outside) (o : Outcome) : Type 0 where
+pub record InProcess (line : Line) (draw : Draw) (intent : Intent) (old new : Outside) (o : Outcome) : Type 0 where
   pub uses : uses_dir line ≡ true
   pub begun : Outside
   pub ended : Outside
@@ -48,8 +48,8 @@ pub record InProcess (line : Line) (intent : Intent) (old new : Outside) (o : Ou
   pub started : begun.dir.local ≡ begun_local intent
   pub begins : old.dir.observed ≡ true → CallStep old.dir.process old.dir.trace (Begin intent) Done begun.dir.trace
   pub bundle_before : begun.bundle ≡ old.bundle
-  pub ran : CommandRan line begun ended o
-  pub keeps : old.dir.observed ≡ true → StaysConforming begun.dir ended.dir
+  pub ran : CommandRan line draw begun ended o
+  pub keeps : old.dir.observed ≡ true → StaysConforming intent begun.dir ended.dir
   pub finishes : old.dir.observed ≡ true → CallStep ended.dir.process ended.dir.trace Finish Done new.dir.trace
   pub faults : new.dir.faults ≡ ended.dir.faults
   pub same : new.dir.process ≡ ended.dir.process
@@ -66,14 +66,14 @@ pub record NeverBegan (intent : Intent) (old new : Outside) (o : Outcome) : Type
   pub bundle : new.bundle ≡ old.bundle
 
 -- the command ran, and made no call on the directory
-pub record Apart (line : Line) (old new : Outside) (o : Outcome) : Type 0 where
+pub record Apart (line : Line) (draw : Draw) (old new : Outside) (o : Outcome) : Type 0 where
   pub apart : uses_dir line ≡ false
   pub dir : new.dir ≡ old.dir
-  pub ran : CommandRan line old new o
+  pub ran : CommandRan line draw old new o
 
-abbrev pub Performs : Line → Option Intent → Outside → Outside → Outcome → Type 0
-Performs line None old new o = Apart line old new o
-Performs line (Some intent) old new o = InProcess line intent old new o ⊎ NeverBegan intent old new o
+abbrev pub Performs : Line → Draw → Option Intent → Outside → Outside → Outcome → Type 0
+Performs line draw None old new o = Apart line draw old new o
+Performs line draw (Some intent) old new o = InProcess line draw intent old new o ⊎ NeverBegan intent old new o
 
 -- how a run ended
 abbrev pub End : Type 0
@@ -95,10 +95,15 @@ pub record Printed (o : Outcome) (old new : SinkSeen) (end : End) : Type 0 where
   pub part : (text : List ℕ) → o ≡ Ok text → old.observed ≡ true → WritesPart old.bytes text new.bytes
   pub cause : (text : List ℕ) → o ≡ Ok text → IfErr end (λ r. Unwritten r old new)
 
--- the message has a path in it, so that it takes memory
+-- the message has a path, a key or a number in it, so that it takes memory
 abbrev pub is_made : Refusal → Bool
 is_made (BadManifest path number) = true
+is_made (NoImage key) = true
+is_made (Limit number) = true
 is_made (NoFile path) = true
+is_made (Conflict key stored new) = true
+is_made (Damaged path) = true
+is_made (BadKind path) = true
 is_made _ = false
 
 -- the sink refused a piece
@@ -117,10 +122,10 @@ Reported (Ok done) old new = new ≡ old
 Reported (Err refusal) old new = Complained refusal old new
 
 -- the words are a command, and it ran
-pub record RunOfLine (line : Line) (intent : Option Intent) (old new : Moment) (status : ℕ) : Type 0 where
+pub record RunOfLine (line : Line) (draw : Draw) (intent : Option Intent) (old new : Moment) (status : ℕ) : Type 0 where
   pub outcome : Outcome
   pub end : End
-  pub performs : Performs line intent old.outside new.outside outcome
+  pub performs : Performs line draw intent old.outside new.outside outcome
   pub printed : Printed outcome old.out new.out end
   pub reported : Reported end old.err new.err
   pub is : status ≡ end_status end
@@ -135,7 +140,7 @@ pub record RunOfNothing (reason : Refusal) (old new : Moment) (status : ℕ) : T
 -- words that are a command are run, but where memory ran out before
 abbrev pub RunOf : Option Line → ℕ → Draw → Moment → Moment → ℕ → Type 0
 RunOf None now draw old new status = RunOfNothing Usage old new status
-RunOf (Some line) now draw old new status = RunOfLine line (intent_of line now draw) old new status ⊎ RunOfNothing NoMemory old new status
+RunOf (Some line) now draw old new status = RunOfLine line draw (intent_of line now draw) old new status ⊎ RunOfNothing NoMemory old new status
 
 -- a run of these words, whatever they are
 pub record RunIs (line : Option Line) (now : ℕ) (draw : Draw) (old new : Moment) (status : ℕ) : Type 0 where

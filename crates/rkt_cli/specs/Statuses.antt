@@ -1,6 +1,7 @@
 -- What a caller is told of a run.
 use Rattle.std.specs.Prelude.{◌≡◌, ◌⊎◌, ℕ, Bool, true, false, ◌||◌, ◌==◌, List, [], ◌∷◌, ◌++◌, Option, Some, None, Ok, Err, IsOk}
 use Rattle.std.specs.List.{list_any}
+use Rattle.dir_model.specs.declared.area.Area.TheVariants.{Images}
 use Rattle.dir_model.specs.declared.area.Phase.{Phase}
 use Rattle.dir_model.specs.declared.intent.Draw.{Draw}
 use Rattle.dir_model.specs.declared.intent.Intent.{Intent}
@@ -11,21 +12,23 @@ use Rattle.dir_trait.specs.Calls.{is_begin, is_finish}
 use Rattle.dir_trait.specs.Local.{Local}
 use Rattle.dir_trait.specs.Quiet.{Quiet}
 use Rattle.dir_trait.specs.Sinks.{WritesPart}
-use Rattle.dir_trait.specs.State.{DirState, is_owned}
+use Rattle.dir_trait.specs.State.{DirState}
 use Rattle.dir_trait.specs.Trace.{state_after}
 use Rattle.ac_types.specs.FaultNumbers.{number_of}
 use Rattle.ac_types.specs.Outcomes.{fails}
 use Rattle.ac_types.specs.declared.fault.FaultKind.{FaultKind}
+use Rattle.dep_match.specs.declared.stored.Stored.{Stored}
 use Rattle.manifests.specs.DocumentData.{DocumentData, any_manifest}
 use Rattle.phase_read.specs.Read.{LeftOut, stages}
 use Rattle.rkt_cli.specs.declared.line.Line.{Line}
-use Rattle.rkt_cli.specs.declared.line.Line.TheVariants.{Status, Validate}
+use Rattle.rkt_cli.specs.declared.line.Line.TheVariants.{Status, Validate, ImageList}
 use Rattle.rkt_cli.specs.declared.refusal.Refusal.{Refusal}
-use Rattle.rkt_cli.specs.declared.refusal.Refusal.TheVariants.{Usage, BadManifest, NoFile}
+use Rattle.rkt_cli.specs.declared.refusal.Refusal.TheVariants.{Usage, Busy, BadManifest, NoFile, Damaged}
 use Rattle.rkt_cli.specs.Texts.{status_of, state_text, valid_text}
 use Rattle.rkt_cli.specs.Moments.{DirSeen, BundleSeen, SinkSeen, Outside, Moment, Outcome}
-use Rattle.rkt_cli.specs.Commands.{uses_dir, reads_bundle, intent_of, asks, ReadsOnly, sequential_outcome}
+use Rattle.rkt_cli.specs.Commands.{uses_dir, reads_bundle, intent_of, asks, ReadsOnly, ComesQuietly, LeavesQuietly}
 use Rattle.rkt_cli.specs.Validate.{sequential_validate}
+use Rattle.rkt_cli.specs.ImageList.{images_text, LacksPart, IsHeldElsewhere}
 use Rattle.rkt_cli.specs.Runs.{Complained, ended_local}
 
 -- whether the words are a command on the directory, and whether they are one that reads the bundle
@@ -39,7 +42,7 @@ reads_bundle_in (Some line) = reads_bundle line
 
 -- the exit statuses
 abbrev pub IsStatus : ℕ → Type 0
-IsStatus status = list_any (λ n. n == status) (0 ∷ 1 ∷ 2 ∷ 6 ∷ 9 ∷ 10 ∷ 12 ∷ 14 ∷ 15 ∷ []) ≡ true
+IsStatus status = list_any (λ n. n == status) (0 ∷ 1 ∷ 2 ∷ 5 ∷ 6 ∷ 9 ∷ 10 ∷ 12 ∷ 14 ∷ 15 ∷ []) ≡ true
 
 -- each of the six areas was without the pod at an own step, one after the other
 abbrev pub IsMissing : Option Line → DirSeen → DirSeen → Type 0
@@ -58,19 +61,42 @@ IsBadManifest (Some (Validate path)) bundle old new = IsUnreadable path bundle o
 IsBadManifest _ bundle old new = ⊥
 
 -- no file stands in the bundle at the path, which was said
-abbrev pub IsNoFile : Option Line → BundleSeen → SinkSeen → SinkSeen → Type 0
-IsNoFile (Some (Validate path)) bundle old new = (bundle.observed ≡ true → file_bytes (bundle.tree path) ≡ None) × Complained (NoFile path) old new
-IsNoFile _ bundle old new = ⊥
+pub record IsNoFile (path : List ℕ) (bundle : BundleSeen) (old new : SinkSeen) : Type 0 where
+  pub none : bundle.observed ≡ true → file_bytes (bundle.tree path) ≡ None
+  pub said : Complained (NoFile path) old new
+
+-- a part of an image wasn't there or had no reading, and its path was said
+pub record IsDamage (before after : DirSeen) (old new : SinkSeen) : Type 0 where
+  pub path : List ℕ
+  pub lacks : LacksPart path before after
+  pub said : Complained (Damaged path) old new
+
+-- what a command asked for isn't there, or isn't whole
+abbrev pub IsLacking : Option Line → Outside → Outside → SinkSeen → SinkSeen → Type 0
+IsLacking (Some (Validate path)) before after old new = IsNoFile path before.bundle old new
+IsLacking (Some ImageList) before after old new = IsDamage before.dir after.dir old new
+IsLacking _ before after old new = ⊥
+
+-- another process held the lock of the images exclusively at an own step, which was said
+pub record IsImagesBusy (before after : DirSeen) (old new : SinkSeen) : Type 0 where
+  pub held : before.observed ≡ true → IsHeldElsewhere before after
+  pub said : Complained (Busy Images) old new
+
+-- another process held a lock that the command asked for
+abbrev pub IsLockBusy : Option Line → DirSeen → DirSeen → SinkSeen → SinkSeen → Type 0
+IsLockBusy (Some ImageList) before after old new = IsImagesBusy before after old new
+IsLockBusy _ before after old new = ⊥
 
 -- the process's own requests: its begin, those of the command, its finish
-abbrev pub asks_in : Option Line → Request → Bool
-asks_in None request = false
-asks_in (Some line) request = is_begin request || (asks line request || is_finish request)
+abbrev pub asks_in : Option Line → Draw → Request → Bool
+asks_in None draw request = false
+asks_in (Some line) draw request = is_begin request || (asks line draw request || is_finish request)
 
 -- a text that the command prints
 abbrev pub Prints : Option Line → List ℕ → Type 0
 Prints (Some (Status pod)) text = (phase : Phase) × (text ≡ state_text phase)
 Prints (Some (Validate path)) text = (manifest : DocumentData) × (text ≡ valid_text manifest)
+Prints (Some ImageList) text = (images : List Stored) × (text ≡ images_text images)
 Prints None text = ⊥
 
 -- with status 0 the command's text was written, with 12 and 14 a part of it from its start or nothing, and else nothing
@@ -100,9 +126,9 @@ ReadsIn None old new = Unit {0}
 ReadsIn (Some line) old new = ReadsOnly line old new
 
 -- what a run comes to where nobody else steps
-abbrev pub sequential_run : Option Line → DirState → Tree → Outcome
-sequential_run None s tree = Err Usage
-sequential_run (Some line) s tree = sequential_outcome line s tree
+abbrev pub ComesIn : Option Line → Outside → Outside → Outcome → Type 0
+ComesIn None old new o = o ≡ Err Usage
+ComesIn (Some line) old new o = ComesQuietly line old new o
 
 -- the status is an outcome's, and so is what was written
 abbrev pub IsAnswer : Outcome → ℕ → Moment → Moment → Type 0
@@ -121,17 +147,19 @@ pub record IsUndisturbed (line : Option Line) (old new : Outside) : Type 0 where
 abbrev pub Works : SinkSeen → SinkSeen → Type 0
 Works old new = Rose old.faults new.faults → ⊥
 
--- the folders, and whose lock is held exclusively, are as before
-pub record IsUnchanged (old new : DirState) : Type 0 where
-  pub folders : new.namespace.folders ≡ old.namespace.folders
-  pub owned : (folder : ℕ) → is_owned new.namespace folder ≡ is_owned old.namespace folder
+-- what the words leave in the directory then
+abbrev pub LeavesIn : Option Line → ℕ → Draw → Tree → DirState → DirState → Type 0
+LeavesIn None now draw tree old new = Unit {0}
+LeavesIn (Some line) now draw tree old new = LeavesQuietly line now draw tree old new
 
--- memory ran out, or so it was answered, and a command on the directory changed nothing
-abbrev pub IsQuietAnswer : Option Line → ℕ → Moment → Moment → Type 0
-IsQuietAnswer line status old new =
+-- memory ran out, or so it was answered, and so the directory was left
+abbrev pub IsQuietAnswer : Option Line → ℕ → Draw → ℕ → Moment → Moment → Type 0
+IsQuietAnswer line now draw status old new =
     (status ≡ 14)
-    ⊎ (IsAnswer (sequential_run line (state_after old.outside.dir.trace) old.outside.bundle.tree) status old new
-    × (uses_dir_in line ≡ true → IsUnchanged (state_after old.outside.dir.trace) (state_after new.outside.dir.trace)))
+    ⊎ ((o : Outcome)
+    × ComesIn line old.outside new.outside o
+    × IsAnswer o status old new
+    × LeavesIn line now draw old.outside.bundle.tree (state_after old.outside.dir.trace) (state_after new.outside.dir.trace))
 
 -- the run answered as the bundle's file is to be judged, or the bundle failed, the line wasn't written or memory ran out
 abbrev pub IsJudgement : Option Line → ℕ → Moment → Moment → Type 0

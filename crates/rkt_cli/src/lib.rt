@@ -1,6 +1,7 @@
 //! The top call: the words of a command line, what the command does, what it writes and its status.
 #![tactic(auto)]
 
+mod image_list;
 mod line;
 mod output;
 mod perform;

@@ -13,6 +13,8 @@ pub enum Line {
     Status(PodId),
     /// `validate FILE`: judge a file of the bundle as a manifest.
     Validate(Text),
+    /// `image list`: print the images of the store.
+    ImageList,
 }
 
 /// Why words weren't read.
@@ -53,6 +55,9 @@ fn read_command(alloc: Global, command: &str, word: &str) -> Result<Line, WordsE
     }
     if command == "validate" && is_file(word) {
         return file_line(alloc, word);
+    }
+    if command == "image" && word == "list" {
+        return Ok(Line::ImageList);
     }
     Err(WordsError::Usage)
 }

@@ -46,6 +46,14 @@ impl Output {
         Ok(())
     }
 
+    /// Appends a text. Refused only where memory ran out.
+    pub fn append(&mut self, text: &Output) -> Result<(), AllocError>
+        ensures { OnOk result (self.new ≡ self.old ++ text.now) }
+    {
+        self.text.extend_from_slice(text.as_slice())?;
+        Ok(())
+    }
+
     /// Appends a number in decimal. Refused only where memory ran out.
     pub fn push_number(&mut self, alloc: Global, number: u64) -> Result<(), AllocError>
         ensures { OnOk result (self.new ≡ self.old ++ decimal number) }

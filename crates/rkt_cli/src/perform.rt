@@ -1,11 +1,13 @@
 // What a command line does to the directory and the bundle.
 ghost use Rattle.std.specs.Prelude.{◌≡◌, true, false, Some, IsSome, IsNone};
+ghost use Rattle.dir_model.specs.declared.intent.Intent.{Intent};
 ghost use Rattle.dir_trait.specs.Local.{IsActive, nothing_local};
 ghost use Rattle.rkt_cli.specs.Moments.{dir_at, outside_at};
 ghost use Rattle.rkt_cli.specs.Conforming.{StaysConforming};
-ghost use Rattle.rkt_cli.specs.Commands.{uses_dir, reads_bundle, intent_of, IsReady};
+ghost use Rattle.rkt_cli.specs.Commands.{uses_dir, reads_bundle, intent_for, intent_of, IsReady};
 ghost use Rattle.rkt_cli.specs.Runs.{CommandRan, Performs};
 
+use crate::image_list::image_list;
 use crate::line::Line;
 use crate::output::Output;
 use crate::refusal::Refusal;
@@ -14,6 +16,20 @@ use crate::validate::validate;
 use dir_trait::{Bundle, Dir, Draw, Intent, Kind, PodPrefix};
 use std::alloc::Global;
 
+fn intent_for(kind: Kind, word: PodPrefix, now: u64, draw: &Draw) -> Intent
+    ensures { result ≡ intent_for kind word now draw.now }
+{
+    Intent {
+        kind,
+        word,
+        now,
+        grace: 0,
+        expire: 0,
+        draw: draw.uuid,
+        token: draw.token,
+    }
+}
+
 // What a process says of a line when it begins. None where the command needs no process.
 fn line_intent(line: &Line, now: u64, draw: &Draw) -> Option<Intent>
     ensures intent { result ≡ intent_of line.now now draw.now }
@@ -21,16 +37,9 @@ fn line_intent(line: &Line, now: u64, draw: &Draw) -> Option<Intent>
     ensures none { IsNone result → uses_dir line.now ≡ false }
 {
     match line {
-        Line::Status(pod) => Some(Intent {
-            kind: Kind::Status,
-            word: PodPrefix::of(*pod),
-            now,
-            grace: 0,
-            expire: 0,
-            draw: draw.uuid,
-            token: draw.token,
-        }),
+        Line::Status(pod) => Some(intent_for(Kind::Status, PodPrefix::of(*pod), now, draw)),
         Line::Validate(_) => None,
+        Line::ImageList => Some(intent_for(Kind::ImageList, PodPrefix::empty(), now, draw)),
     }
 }
 
@@ -38,6 +47,8 @@ fn line_intent(line: &Line, now: u64, draw: &Draw) -> Option<Intent>
 fn act<D: Dir, B: Bundle>(
     alloc: Global,
     line: &Line,
+    now: u64,
+    draw: &Draw,
     dir: &mut D,
     bundle: &mut B,
 ) -> Result<Output, Refusal>
@@ -46,12 +57,14 @@ fn act<D: Dir, B: Bundle>(
     ensures local { (D.shown dir.new).local ≡ (D.shown dir.old).local }
     ensures apart { uses_dir line.now ≡ false → dir.new ≡ dir.old }
     ensures unread { reads_bundle line.now ≡ false → bundle.new ≡ bundle.old }
-    ensures keeps { D.observed ≡ true → StaysConforming (dir_at D.Dir dir.old) (dir_at D.Dir dir.new) }
-    ensures ran { CommandRan line.now (outside_at D.Dir B.Bundle dir.old bundle.old) (outside_at D.Dir B.Bundle dir.new bundle.new) result }
+    ensures keeps { D.observed ≡ true → (intent : Intent) → intent_of line.now now draw.now ≡ Some intent
+        → StaysConforming intent (dir_at D.Dir dir.old) (dir_at D.Dir dir.new) }
+    ensures ran { CommandRan line.now draw.now (outside_at D.Dir B.Bundle dir.old bundle.old) (outside_at D.Dir B.Bundle dir.new bundle.new) result }
 {
     match line {
         Line::Status(pod) => pod_status(alloc, *pod, dir),
         Line::Validate(path) => validate(alloc, path, bundle),
+        Line::ImageList => image_list(alloc, dir),
     }
 }
 
@@ -60,18 +73,21 @@ fn act_in_process<D: Dir, B: Bundle>(
     alloc: Global,
     line: &Line,
     intent: Intent,
+    now: u64,
+    draw: &Draw,
     dir: &mut D,
     bundle: &mut B,
 ) -> Result<Output, Refusal>
     requires fresh { (D.shown dir.old).local ≡ nothing_local }
     requires uses { uses_dir line.now ≡ true }
+    requires said { intent_of line.now now draw.now ≡ Some intent }
     ensures unread { reads_bundle line.now ≡ false → bundle.new ≡ bundle.old }
-    ensures performs { Performs line.now (Some intent) (outside_at D.Dir B.Bundle dir.old bundle.old)
+    ensures performs { Performs line.now draw.now (Some intent) (outside_at D.Dir B.Bundle dir.old bundle.old)
         (outside_at D.Dir B.Bundle dir.new bundle.new) result }
 {
     match dir.begin(alloc, intent) {
         Ok(()) => {
-            let outcome = act(alloc, line, dir, bundle);
+            let outcome = act(alloc, line, now, draw, dir, bundle);
             // Before anything is printed, so that a slow reader of the output keeps no process alive.
             dir.finish();
             outcome
@@ -92,11 +108,11 @@ pub fn perform<D: Dir, B: Bundle>(
     requires fresh { (D.shown dir.old).local ≡ nothing_local }
     ensures apart { uses_dir line.now ≡ false → dir.new ≡ dir.old }
     ensures unread { reads_bundle line.now ≡ false → bundle.new ≡ bundle.old }
-    ensures performs { Performs line.now (intent_of line.now now draw.now) (outside_at D.Dir B.Bundle dir.old bundle.old)
+    ensures performs { Performs line.now draw.now (intent_of line.now now draw.now) (outside_at D.Dir B.Bundle dir.old bundle.old)
         (outside_at D.Dir B.Bundle dir.new bundle.new) result }
 {
     match line_intent(line, now, draw) {
-        Some(intent) => act_in_process(alloc, line, intent, dir, bundle),
-        None => act(alloc, line, dir, bundle),
+        Some(intent) => act_in_process(alloc, line, intent, now, draw, dir, bundle),
+        None => act(alloc, line, now, draw, dir, bundle),
     }
 }

@@ -7,9 +7,9 @@ ghost use Rattle.rkt_cli.specs.Lines.{line_in};
 ghost use Rattle.lifecycle.specs.Executions.{IsConforming};
 ghost use Rattle.rkt_cli.specs.Histories.{TellsHistory};
 ghost use Rattle.rkt_cli.specs.Conforming.{KeepsConforming};
-ghost use Rattle.rkt_cli.specs.Moments.{dir_at, bundle_at, sink_at};
+ghost use Rattle.rkt_cli.specs.Moments.{dir_at, bundle_at, outside_at, sink_at};
 ghost use Rattle.rkt_cli.specs.Between.{RunBetween, JudgedBetween, QuietBetween};
-ghost use Rattle.rkt_cli.specs.Statuses.{uses_dir_in, reads_bundle_in, IsMissing, IsBadManifest, IsNoFile, asks_in, IsStatus, IsOutput, IsComplaint, IsOver, ReadsIn};
+ghost use Rattle.rkt_cli.specs.Statuses.{uses_dir_in, reads_bundle_in, IsMissing, IsBadManifest, IsLacking, IsLockBusy, asks_in, IsStatus, IsOutput, IsComplaint, IsOver, ReadsIn};
 
 use crate::line::{WordsError, read_line};
 use crate::perform::perform;
@@ -72,19 +72,21 @@ pub fn rkt<D: Dir, B: Bundle, O: Sink, E: Sink>(
     ensures dir_fault { result ≡ 9 → Rose (D.shown dir.old).faults (D.shown dir.new).faults }
     ensures bundle_fault { result ≡ 10 → Rose (B.shown bundle.old).faults (B.shown bundle.new).faults }
     ensures out_fault { result ≡ 12 → Rose (O.shown out.old).faults (O.shown out.new).faults }
-    ensures no_file { result ≡ 15
-        → IsNoFile (line_in words.now) (bundle_at B.Bundle bundle.old) (sink_at E.Sink err.old) (sink_at E.Sink err.new) }
+    ensures busy { result ≡ 5 → IsLockBusy (line_in words.now) (dir_at D.Dir dir.old) (dir_at D.Dir dir.new)
+        (sink_at E.Sink err.old) (sink_at E.Sink err.new) }
+    ensures lacking { result ≡ 15 → IsLacking (line_in words.now) (outside_at D.Dir B.Bundle dir.old bundle.old)
+        (outside_at D.Dir B.Bundle dir.new bundle.new) (sink_at E.Sink err.old) (sink_at E.Sink err.new) }
     ensures judged { B.observed ≡ true → JudgedBetween D.Dir B.Bundle O.Sink E.Sink (line_in words.now) result
         (dir.old, bundle.old, out.old, err.old) (dir.new, bundle.new, out.new, err.new) }
     ensures over { IsOver (line_in words.now) now draw.now result (D.shown dir.old).local (D.shown dir.new).local }
     ensures reads { ReadsIn (line_in words.now) (bundle_at B.Bundle bundle.old) (bundle_at B.Bundle bundle.new) }
-    ensures extends { D.observed ≡ true → ExtendsBy (asks_in (line_in words.now)) (D.shown dir.old) (D.shown dir.new) }
+    ensures extends { D.observed ≡ true → ExtendsBy (asks_in (line_in words.now) draw.now) (D.shown dir.old) (D.shown dir.new) }
     ensures conforms { D.observed ≡ true → KeepsConforming (dir_at D.Dir dir.old) (dir_at D.Dir dir.new) }
     ensures history { D.observed ≡ true → IsConforming (D.shown dir.new).trace → TellsHistory (line_in words.now) result
         (dir_at D.Dir dir.old) (dir_at D.Dir dir.new) (sink_at O.Sink out.old) (sink_at O.Sink out.new) }
     ensures out { O.observed ≡ true → IsOutput (line_in words.now) result (O.shown out.old).bytes (O.shown out.new).bytes }
     ensures err { IsComplaint result (sink_at E.Sink err.old) (sink_at E.Sink err.new) }
-    ensures quiet { QuietBetween D.Dir B.Bundle O.Sink E.Sink (line_in words.now) result
+    ensures quiet { QuietBetween D.Dir B.Bundle O.Sink E.Sink (line_in words.now) now draw.now result
         (dir.old, bundle.old, out.old, err.old) (dir.new, bundle.new, out.new, err.new) }
     ensures ran { RunBetween D.Dir B.Bundle O.Sink E.Sink (line_in words.now) now draw.now result
         (dir.old, bundle.old, out.old, err.old) (dir.new, bundle.new, out.new, err.new) }

@@ -4,6 +4,8 @@
 #[cfg(test)]
 mod byte_sink;
 #[cfg(test)]
+mod image_list;
+#[cfg(test)]
 mod memory;
 #[cfg(test)]
 mod stage;

@@ -14,7 +14,7 @@ fn an_empty_folder_has_no_pod(rt: HostRuntime) -> Result<(), Fail> {
 
 #[test]
 fn other_words_are_usage_and_call_nothing(rt: HostRuntime) -> Result<(), Fail> {
-    let lines: [&[&str]; 13] = [
+    let lines: [&[&str]; 18] = [
         &[],
         &["frob"],
         &["status"],
@@ -28,6 +28,11 @@ fn other_words_are_usage_and_call_nothing(rt: HostRuntime) -> Result<(), Fail> {
         &["validate", "--strict"],
         &["validate", "a", "b"],
         &["Validate", "a"],
+        &["image"],
+        &["image", ""],
+        &["image", "frob"],
+        &["image", "list", "list"],
+        &["list", "image"],
     ];
     for line in lines {
         let mut dir = MemoryDir::new(rt.alloc(), 1)?;

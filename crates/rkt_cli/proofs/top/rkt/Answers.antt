@@ -1,4 +1,4 @@
-use Rattle.rkt_cli.proofs.Statuses.{statuses, usage, no_pod, bad_manifest, no_file, dir_fault, bundle_fault, out_fault, extends, output, complaint, judged, over, reads}
+use Rattle.rkt_cli.proofs.Statuses.{statuses, usage, no_pod, bad_manifest, busy, lacking, dir_fault, bundle_fault, out_fault, extends, output, complaint, judged, over, reads}
 use Rattle.rkt_cli.proofs.QuietRun.{quiet}
 use Rattle.rkt_cli.proofs.Conforming.{run_conforms}
 use Rattle.rkt_cli.proofs.Histories.{run_tells}
@@ -25,8 +25,11 @@ returns-clause-bundle_fault g c = bundle_fault c.run.ensures.ran
 pub returns-clause-out_fault : goal.returns-clause-out_fault
 returns-clause-out_fault g c = out_fault c.run.ensures.ran
 
-pub returns-clause-no_file : goal.returns-clause-no_file
-returns-clause-no_file g c = no_file c.run.ensures.ran
+pub returns-clause-busy : goal.returns-clause-busy
+returns-clause-busy g c = busy c.run.ensures.ran
+
+pub returns-clause-lacking : goal.returns-clause-lacking
+returns-clause-lacking g c = lacking c.run.ensures.ran
 
 pub returns-clause-judged : goal.returns-clause-judged
 returns-clause-judged g c = judged c.run.ensures.ran

@@ -1,0 +1,52 @@
+-- What `image list` tells of the whole run.
+use Rattle.std.proofs.Common.{◌≡◌, inl, inr, ℕ, true, false, List, Option, Some, None, Ok, Err, refl, subst, ◌∙◌}
+use Rattle.dir_model.specs.declared.area.Area.{Area}
+use Rattle.dir_model.specs.declared.area.Area.TheVariants.{Images}
+use Rattle.dir_model.specs.declared.intent.Draw.{Draw}
+use Rattle.dir_model.specs.declared.intent.Intent.{Intent}
+use Rattle.dir_model.specs.declared.spot.Mode.TheVariants.{Shared}
+use Rattle.area_locks.specs.AreaLocks.{IsBusyElsewhere}
+use Rattle.dir_trait.specs.DirCalls.{HeldBetween}
+use Rattle.rkt_cli.specs.declared.line.Line.{Line}
+use Rattle.rkt_cli.specs.declared.line.Line.TheVariants.{ImageList}
+use Rattle.rkt_cli.specs.declared.refusal.Refusal.TheVariants.{Busy, Damaged}
+use Rattle.rkt_cli.specs.Moments.{Outside, Outcome}
+use Rattle.rkt_cli.specs.Conforming.{shown_at, begun}
+use Rattle.rkt_cli.specs.ImageList.{ListsStore, LacksPart, IsHeldElsewhere}
+use Rattle.rkt_cli.specs.Runs.{InProcess, Performs}
+use Rattle.rkt_cli.proofs.Parts.{Part, held_wider, store_wider, image_lack_wider}
+use Rattle.rkt_cli.proofs.Sessions.{any_call, begin_part, finish_part}
+use Rattle.rkt_cli.proofs.Conforming.{begun_knows}
+
+module _ {line : Line} {draw : Draw} {intent : Intent} {old new : Outside} {o : Outcome} (s : InProcess line draw intent old new o) where
+  process_part : old.dir.observed ≡ true → Part (shown_at old.dir) (shown_at s.begun.dir) (shown_at s.ended.dir) (shown_at new.dir)
+  process_part t =
+      let first = begin_part s t any_call refl in
+      let last = finish_part s t any_call refl in
+      record { earlier = first.more; later = last.more; same = s.me; begins = first.grown; ends = last.grown }
+
+  pub listed_in_process : {text : List ℕ} → ListsStore s.begun.dir s.ended.dir text → ListsStore old.dir new.dir text
+  listed_in_process says = record { images = says.images; told = λ t. store_wider (process_part t) says.images (says.told (s.told ∙ t)); is = says.is }
+
+  pub lacked_in_process : {path : List ℕ} → LacksPart path s.begun.dir s.ended.dir → LacksPart path old.dir new.dir
+  lacked_in_process {path} says = record { place = says.place; told = λ t. let x = says.told (s.told ∙ t) in (x.0, image_lack_wider (process_part t) x.0 path x.1) }
+
+-- what was printed, or wasn't
+pub list_printed : (draw : Draw) (intent : Option Intent) (old new : Outside) (text : List ℕ) → Performs ImageList draw intent old new (Ok text) → ListsStore old.dir new.dir text
+list_printed draw (Some intent) old new text (inl s) = listed_in_process s s.ran.says
+list_printed draw (Some intent) old new text (inr n) = let e = n.is in cc
+list_printed draw None old new text p = let clash : true ≡ false = p.apart in cc
+
+pub list_lacked : (draw : Draw) (intent : Option Intent) (old new : Outside) (path : List ℕ) → Performs ImageList draw intent old new (Err (Damaged path)) → LacksPart path old.dir new.dir
+list_lacked draw (Some intent) old new path (inl s) = lacked_in_process s s.ran.says
+list_lacked draw (Some intent) old new path (inr n) = let e = n.is in cc
+list_lacked draw None old new path p = let clash : true ≡ false = p.apart in cc
+
+pub list_busy : (draw : Draw) (intent : Option Intent) (old new : Outside) (area : Area) → Performs ImageList draw intent old new (Err (Busy area)) → old.dir.observed ≡ true →
+    IsHeldElsewhere old.dir new.dir
+list_busy draw (Some intent) old new area (inl s) t =
+    held_wider (process_part s t) (IsBusyElsewhere old.dir.process Images Shared)
+    (subst (λ (me : ℕ). HeldBetween (shown_at s.begun.dir) (shown_at s.ended.dir) (IsBusyElsewhere me Images Shared)) s.me
+    (s.ran.says (s.told ∙ t) (begun intent) (begun_knows s t) refl))
+list_busy draw (Some intent) old new area (inr n) t = let e = n.is in cc
+list_busy draw None old new area p t = let clash : true ≡ false = p.apart in cc
