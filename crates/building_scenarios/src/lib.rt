@@ -1,6 +1,6 @@
 //! Tests of folders that are filled by a plan, and deleted, in the data folder in memory: what stands,
 //! what is answered, and whether the local rules were kept, where calls fail, processes are killed and
-//! files differ.
+//! files differ; and of the plan that a listing has.
 #![tactic(auto)]
 
 #[cfg(test)]
@@ -17,3 +17,5 @@ mod rows;
 mod stage;
 #[cfg(test)]
 mod stands;
+#[cfg(test)]
+mod trees;

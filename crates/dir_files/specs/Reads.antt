@@ -1,5 +1,5 @@
 -- What a file that was read in pieces tells of the time that it took.
-use Rattle.std.specs.Prelude.{◌≡◌, ◌⊎◌, ◌<◌, ◌≤◌, ℕ, Bool, true, false, cond, Option, Some, None, IsSomeAnd, List, [], ◌∷◌, ◌++◌, length, take, drop}
+use Rattle.std.specs.Prelude.{◌≡◌, ◌⊎◌, ◌<◌, ◌≤◌, ◌+◌, ◌*◌, ℕ, Bool, true, false, cond, Option, Some, None, IsSomeAnd, List, [], ◌∷◌, ◌++◌, length, take, drop}
 use Rattle.dir_model.specs.declared.area.Area.{Area}
 use Rattle.dir_model.specs.declared.event.Event.{Event}
 use Rattle.dir_model.specs.declared.item.Inner.{Inner}
@@ -109,6 +109,10 @@ pub record OnlyReads (observed : Bool) (inner : Inner) (old new : DirAt) : Type 
   pub local : new.local ≡ old.local
   pub extends : observed ≡ true → ExtendsBy (reads_at inner) old new
   pub known : observed ≡ true → KeepsKnown inner.spot.area old new
+
+-- one call for each 65,536 bytes of so many, and one for what is left over
+abbrev pub IsCounted : ℕ → DirAt → DirAt → Type 0
+IsCounted most old new = 65536 * new.calls ≤ 65536 * old.calls + (most + 65535)
 
 -- what a read is refused with
 abbrev pub is_read_refusal : DirError → Bool

@@ -3,7 +3,8 @@ ghost use Rattle.std.specs.Prelude.{◌≡◌, ◌≤◌, ◌<◌, ◌+◌, ℕ,
 ghost use Rattle.dir_trait.specs.Causes.{Rose};
 ghost use Rattle.dir_trait.specs.Paths.{is_path};
 ghost use Rattle.dir_trait.specs.Local.{IsActive};
-ghost use Rattle.dir_files.specs.Reads.{inner_at, OnlyReads, ReadsNext, ReadsUp, WasMissing, StaysBetween, is_read_refusal};
+ghost use Rattle.dir_model.specs.Replies.{is_fault};
+ghost use Rattle.dir_files.specs.Reads.{inner_at, OnlyReads, ReadsNext, ReadsUp, WasMissing, StaysBetween, IsCounted, is_read_refusal};
 
 use dir_trait::{Dir, DirError, Spot};
 use std::alloc::{AllocError, Global};
@@ -18,6 +19,19 @@ pub enum ReadError {
     DirFault,
     /// Memory ran out.
     NoMemory,
+}
+
+// What a fault of the directory means to a reader.
+fn read_error(error: DirError) -> ReadError
+    requires { is_fault error ≡ true }
+    ensures fault { result ≡ ReadError.DirFault → error ≡ DirError.Failed }
+    ensures memory { result ≡ ReadError.NoMemory → error ≡ DirError.NoMemory }
+{
+    match error {
+        DirError::Failed => ReadError::DirFault,
+        DirError::NoMemory => ReadError::NoMemory,
+        _ => unreachable!(),
+    }
 }
 
 fn out_of_memory(_error: AllocError) -> DirError
@@ -38,11 +52,13 @@ fn read_piece<D: Dir>(
     requires active { IsActive (D.shown dir.old).local }
     requires path { is_path path.now ≡ true }
     requires room { 0 < length room.old }
+    ensures counted { (D.shown dir.new).calls ≤ (D.shown dir.old).calls + 1 }
     ensures cause { IsErrOf result DirError.Failed → Rose (D.shown dir.old).faults (D.shown dir.new).faults }
     ensures refusals { IfErr result (λ e. is_read_refusal e ≡ true) }
     ensures only { OnlyReads D.observed (inner_at spot.now path.now) (D.shown dir.old) (D.shown dir.new) }
     ensures most { IfOk result (λ ended. length bytes.new.items ≤ length bytes.old.items + length room.old) }
     ensures grew { IfOk result (λ ended. ended ≡ false → length bytes.old.items < length bytes.new.items) }
+    ensures full { IfOk result (λ ended. ended ≡ false → length bytes.new.items ≡ length bytes.old.items + length room.old) }
     ensures read { IfOk result (λ ended. D.observed ≡ true
         → ReadsNext (inner_at spot.now path.now) (length room.old) ended bytes.old.items bytes.new.items (D.shown dir.old) (D.shown dir.new)) }
     ensures missing { IsErrOf result DirError.Missing → D.observed ≡ true → WasMissing (inner_at spot.now path.now) (D.shown dir.old) (D.shown dir.new) }
@@ -66,6 +82,7 @@ fn read_pieces<D: Dir>(
     requires active { IsActive (D.shown dir.old).local }
     requires path { is_path path.now ≡ true }
     requires most { 0 < most }
+    ensures counted { IsCounted most (D.shown dir.old) (D.shown dir.new) }
     ensures cause { IsErrOf result DirError.Failed → Rose (D.shown dir.old).faults (D.shown dir.new).faults }
     ensures refusals { IfErr result (λ e. is_read_refusal e ≡ true) }
     ensures only { OnlyReads D.observed (inner_at spot.now path.now) (D.shown dir.old) (D.shown dir.new) }
@@ -86,9 +103,9 @@ fn read_pieces<D: Dir>(
 }
 
 /// The bytes of the file at a path of the folder at a location: all of them, or the first `most` where it
-/// has more. They are read in pieces of 65,536 bytes, each as the file stands then. `None` where no file
-/// stands there, at the first piece or a later one. `DirFault` where the directory failed, `NoMemory`
-/// where memory ran out.
+/// has more. They are read in pieces of 65,536 bytes, each by one call and as the file stands then. `None`
+/// where no file stands there, at the first piece or a later one. `DirFault` where the directory failed,
+/// `NoMemory` where memory ran out.
 pub fn read_file<D: Dir>(
     alloc: Global,
     dir: &mut D,
@@ -99,6 +116,7 @@ pub fn read_file<D: Dir>(
     requires active { IsActive (D.shown dir.old).local }
     requires path { is_path path.now ≡ true }
     requires most { 0 < most }
+    ensures counted { IsCounted most (D.shown dir.old) (D.shown dir.new) }
     ensures cause { IsErrOf result ReadError.DirFault → Rose (D.shown dir.old).faults (D.shown dir.new).faults }
     ensures only { OnlyReads D.observed (inner_at spot path.now) (D.shown dir.old) (D.shown dir.new) }
     ensures most { IfOk result (λ found. IfSome found (λ bytes. length bytes.items ≤ most)) }
@@ -112,7 +130,6 @@ pub fn read_file<D: Dir>(
     match read_pieces(alloc, dir, spot, path, most) {
         Ok(bytes) => Ok(Some(bytes)),
         Err(DirError::Missing) => Ok(None),
-        Err(DirError::NoMemory) => Err(ReadError::NoMemory),
-        Err(_) => Err(ReadError::DirFault),
+        Err(error) => Err(read_error(error)),
     }
 }
