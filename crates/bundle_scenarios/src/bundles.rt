@@ -19,17 +19,17 @@ struct Case {
     says: &'static str,
 }
 
-const LIB: &str =
+pub const LIB: &str =
     "{\"acKind\":\"ImageManifest\",\"acVersion\":\"0.8.0\",\"name\":\"example.com/lib\"}";
 
 const MANIFEST: Put = Put::File("b/manifest", LIB);
 
 const TREE: Put = Put::File("b/tree", "d 0755 0 0 /a\n");
 
-const ID: Put = Put::File(
-    "b/id",
-    "sha512-aaaaaaaaaaaaaaaaaaaaaaaaaaaaaaaaaaaaaaaaaaaaaaaaaaaaaaaaaaaaaaaaaaaaaaaaaaaaaaaaaaaaaaaaaaaaaaaaaaaaaaaaaaaaaaaaaaaaaaaaaaaaaaaa\n",
-);
+pub const ID_TEXT: &str =
+    "sha512-aaaaaaaaaaaaaaaaaaaaaaaaaaaaaaaaaaaaaaaaaaaaaaaaaaaaaaaaaaaaaaaaaaaaaaaaaaaaaaaaaaaaaaaaaaaaaaaaaaaaaaaaaaaaaaaaaaaaaaaaaaaaaaaa\n";
+
+const ID: Put = Put::File("b/id", ID_TEXT);
 
 const FIRST: &[Put] = &[
     Put::File(

@@ -3,3 +3,5 @@
 
 #[cfg(test)]
 mod bundles;
+#[cfg(test)]
+mod wide;

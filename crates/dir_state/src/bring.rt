@@ -327,7 +327,8 @@ impl Table {
         process: u32,
         request: &Request,
     ) -> Result<Option<Vec<OpenListing>>, NoMemory>
-        ensures { IfOk result (λ o. MatchOption o (LeavesListings (table_state self.now) process request.now Reply.Done) (λ ls. AreListings (table_state self.now) process request.now Reply.Done ls.items)) }
+        ensures { IfOk result (λ o. MatchOption o (LeavesListings (table_state self.now) process request.now Reply.Done)
+            (λ ls. AreListings (table_state self.now) process request.now Reply.Done ls.items)) }
     {
         if changes_names(request) {
             return Ok(Some(self.noted_all()?));
@@ -341,7 +342,8 @@ impl Table {
         request: &Request,
         reply: &Reply,
     ) -> Result<Option<Vec<OpenListing>>, NoMemory>
-        ensures { IfOk result (λ o. MatchOption o (LeavesListings (table_state self.now) process request.now reply.now) (λ ls. AreListings (table_state self.now) process request.now reply.now ls.items)) }
+        ensures { IfOk result (λ o. MatchOption o (LeavesListings (table_state self.now) process request.now reply.now)
+            (λ ls. AreListings (table_state self.now) process request.now reply.now ls.items)) }
     {
         match reply {
             Reply::Done => self.listings_done(process, request),

@@ -52,7 +52,14 @@ impl<'a, B: Bundle> Source for BundleSource<'a, B> {
     ghost use Rattle.dir_trait.specs.Bundles.{child_path, file_bytes};
     ghost use Rattle.folder_building.specs.Sources.{SourceAt};
 
-    ghost shown = { λ s. record { faults = (B.shown s.bundle.now).faults; asks = λ r. false; may = λ st. true; told = B.observed; file = λ o. file_bytes ((B.shown s.bundle.now).tree (child_path s.root.now o.path)); reference = Some s.bundle.ghost_name } };
+    ghost shown = { λ s. record {
+      faults = (B.shown s.bundle.now).faults;
+      asks = λ r. false;
+      may = λ st. true;
+      told = B.observed;
+      file = λ o. file_bytes ((B.shown s.bundle.now).tree (child_path s.root.now o.path));
+      reference = Some s.bundle.ghost_name;
+    } };
 
     fn read<D: Dir>(
         &mut self,

@@ -7,6 +7,7 @@ const VERSION: &str = "rkt 0.1.0\n";
 const HELP: &str = "\
 usage: rkt status UUID
        rkt validate FILE
+       rkt image import PATH
        rkt image list
        rkt --help
        rkt --version
@@ -20,6 +21,12 @@ or valid PodManifest N, N being the number of its apps. Of a bad manifest it
 tells the place and the number of the first fault. A FILE that begins with -
 is named with its folder, as ./-x.
 
+rkt image import PATH imports the image of the bundle at PATH into the store, and
+prints its key. A bundle is a folder with the files manifest and id, a folder
+rootfs and, if it has one, a file tree, the listing of rootfs. Where the same
+image is stored already, nothing changes. A PATH that begins with - is named with
+its folder, as ./-x.
+
 rkt image list prints a line KEY NAME MOMENT for each image of the store, in the
 order of the keys: NAME is that of its manifest, MOMENT the time of its import in
 seconds since 1970. It changes nothing.
@@ -31,14 +38,19 @@ exit status
   0   done
   1   usage: the words are none of the above
   2   no such pod
-  5   busy: another process holds the lock of the images
-  6   bad manifest
+  5   busy: another process holds the lock of images or of incoming
+  6   bad manifest, or in a bundle bad image ID or listing
+  8   limit: a bundle has too many entries, or too long a file or listing
   9   directory fault: the data folder can't be made, read or locked
-  10  bundle fault: the file can't be read
+  10  bundle fault: the file or the bundle can't be read
   12  output fault: standard output can't be written
   14  out of memory
   15  no file: no regular file stands at the path
-      damaged: a part of a stored image is missing or has no reading
+      damaged: a part of a stored image is missing or has no reading, or a file
+      of a bundle isn't what its listing says
+      bad kind: what stands at the path is of no kind that an image carries
+      conflict: another image with this key is stored
+  20  stray reply: another process changed what is this process's own
 ";
 
 /// The text that answers these words, before anything is asked of the host.

@@ -39,14 +39,14 @@ pub apart_conforming : (intent : Intent) (d : DirSeen) → StaysConforming inten
 apart_conforming intent d k = record { known = begun intent; knows = k; kept = refl }
 
 -- what the process knows when it has begun
-pub begun_knows : {line : Line} {draw : Draw} {intent : Intent} {old new : Outside} {o : Outcome} (s : InProcess line draw intent old new o) → old.dir.observed ≡ true → Knows (shown_at s.begun.dir) (begun intent)
-begun_knows {line} {draw} {intent} {old} {new} {o} s t = record {
+pub begun_knows : {line : Line} {now : ℕ} {draw : Draw} {intent : Intent} {old new : Outside} {o : Outcome} (s : InProcess line now draw intent old new o) → old.dir.observed ≡ true → Knows (shown_at s.begun.dir) (begun intent)
+begun_knows {line} {now} {draw} {intent} {old} {new} {o} s t = record {
   tied = subst (λ (me : ℕ). IsTied me s.begun.dir.trace (begun intent)) (sym s.me) (tied_begun (s.begins t));
   handles = subst (λ (m : Local). SameHandles [] m.holdings) (sym s.started) (λ test. refl);
 }
 
-module _ (line : Line) (draw : Draw) (old new : Outside) (o : Outcome) (t : old.dir.observed ≡ true) where
-  begun_keeps : (intent : Intent) → InProcess line draw intent old new o → KeepsConforming old.dir new.dir
+module _ (line : Line) (now : ℕ) (draw : Draw) (old new : Outside) (o : Outcome) (t : old.dir.observed ≡ true) where
+  begun_keeps : (intent : Intent) → InProcess line now draw intent old new o → KeepsConforming old.dir new.dir
   begun_keeps intent s before =
       let kept : KeepsRules s.ended.dir = s.keeps t (begun_knows s t) in
       let after : IsTied s.ended.dir.process new.dir.trace (seen_replied kept.known Finish Done) = tied_call kept.knows.tied refl refl refl (s.finishes t) in
@@ -55,7 +55,7 @@ module _ (line : Line) (draw : Draw) (old new : Outside) (o : Outcome) (t : old.
   never_keeps : (intent : Intent) → NeverBegan intent old new o → KeepsConforming old.dir new.dir
   never_keeps intent n before = ap (λ (f : Seen). f.kept) (refused_unseen (n.step t)) ∙ before
 
-  performed_keeps : (i : Option Intent) → Performs line draw i old new o → KeepsConforming old.dir new.dir
+  performed_keeps : (i : Option Intent) → Performs line now draw i old new o → KeepsConforming old.dir new.dir
   performed_keeps None p before = subst (λ (d : DirSeen). Conforms old.dir.process d.trace) (sym p.dir) before
   performed_keeps (Some intent) (inl s) before = begun_keeps intent s before
   performed_keeps (Some intent) (inr n) before = never_keeps intent n before
@@ -67,4 +67,4 @@ run_conforms {l} {now} {draw} {old} {new} {status} run t = by l run.ran
     by : (l : Option Line) → RunOf l now draw old new status → KeepsConforming old.outside.dir new.outside.dir
     by None r before = subst (λ (x : Outside). Conforms old.outside.dir.process x.dir.trace) (sym r.outside) before
     by (Some line) (inr n) before = subst (λ (x : Outside). Conforms old.outside.dir.process x.dir.trace) (sym n.outside) before
-    by (Some line) (inl r) before = performed_keeps line draw old.outside new.outside r.outcome t (intent_of line now draw) r.performs before
+    by (Some line) (inl r) before = performed_keeps line now draw old.outside new.outside r.outcome t (intent_of line now draw) r.performs before

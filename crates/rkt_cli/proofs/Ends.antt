@@ -3,9 +3,8 @@ use Rattle.std.proofs.Common.{arith, ◌≡◌, ◌⊎◌, inl, inr, ℕ, Bool, 
 use Rattle.std.proofs.lemmas.Bool.Decides.{nat_tests}
 use Rattle.dir_model.specs.declared.area.Area.{Area}
 use Rattle.rkt_cli.specs.declared.line.Line.{Line}
-use Rattle.rkt_cli.specs.declared.line.Line.TheVariants.{Status, Validate, ImageList}
 use Rattle.rkt_cli.specs.declared.refusal.Refusal.{Refusal}
-use Rattle.rkt_cli.specs.declared.refusal.Refusal.TheVariants.{Usage, NoPod, Busy, BadManifest, DirFault, BundleFault, OutFault, NoMemory, NoFile, Conflict, Damaged, BadKind, Stray}
+use Rattle.rkt_cli.specs.declared.refusal.Refusal.TheVariants.{Usage, NoPod, Busy, BadManifest, NoImage, Limit, DirFault, BundleFault, OutFault, NoMemory, NoFile, Conflict, Damaged, BadKind, Stray}
 use Rattle.rkt_cli.specs.Texts.{status_of}
 use Rattle.rkt_cli.specs.Moments.{SinkSeen, Outcome}
 use Rattle.rkt_cli.specs.Commands.{may}
@@ -44,6 +43,14 @@ refusal_end (Err r) n is apart = (r, refl, is)
 pub is_bad_manifest : (r : Refusal) → status_of r ≡ 6 → (path : List ℕ) × (number : ℕ) × (r ≡ BadManifest path number)
 is_bad_manifest (BadManifest path number) is = (path, number, refl)
 is_bad_manifest r is = absurd_number (status_of r) 6 is refl
+
+pub is_limit : (r : Refusal) → status_of r ≡ 8 → (number : ℕ) × (r ≡ Limit number)
+is_limit (Limit number) is = (number, refl)
+is_limit r is = absurd_number (status_of r) 8 is refl
+
+pub is_no_image : (r : Refusal) → status_of r ≡ 7 → (key : List ℕ) × (r ≡ NoImage key)
+is_no_image (NoImage key) is = (key, refl)
+is_no_image r is = absurd_number (status_of r) 7 is refl
 
 pub is_busy : (r : Refusal) → status_of r ≡ 5 → (area : Area) × (r ≡ Busy area)
 is_busy (Busy area) is = (area, refl)
@@ -85,6 +92,7 @@ refusal_known line Usage allowed = refl
 refusal_known line NoPod allowed = refl
 refusal_known line (Busy area) allowed = refl
 refusal_known line (BadManifest path number) allowed = refl
+refusal_known line (NoImage key) allowed = refl
 refusal_known line DirFault allowed = refl
 refusal_known line BundleFault allowed = refl
 refusal_known line OutFault allowed = refl
@@ -93,9 +101,8 @@ refusal_known line (NoFile path) allowed = refl
 refusal_known line (Conflict key stored new) allowed = refl
 refusal_known line (Damaged path) allowed = refl
 refusal_known line (BadKind path) allowed = refl
-refusal_known (Status pod) r allowed = let clash : false ≡ true = allowed in cc
-refusal_known (Validate path) r allowed = let clash : false ≡ true = allowed in cc
-refusal_known ImageList r allowed = let clash : false ≡ true = allowed in cc
+refusal_known line (Limit number) allowed = refl
+refusal_known line Stray allowed = refl
 
 -- the others are the command's
 pub from_command : (o : Outcome) (old new : SinkSeen) (end : End) (r : Refusal) → Printed o old new end → end ≡ Err r → is_of_output r ≡ false → o ≡ Err r

@@ -47,13 +47,13 @@ may_end : (path : List ℕ) (o : Outcome) → IfErr o (λ r. validate_refusal r 
 may_end path (Ok text) known = known
 may_end path (Err r) known = may_refuse path r known
 
-abbrev beside : DirSeen → BundleSeen → Outside
+abbrev pub beside : DirSeen → BundleSeen → Outside
 beside dir bundle = record { dir = dir; bundle = bundle }
 
-pub validate_ran : (line : Line) (draw : Draw) (path : List ℕ) (dir : DirSeen) (old new : BundleSeen) (o : Outcome) → line ≡ Validate path → old.faults ≤ new.faults → (IsErrOf o BundleFault → Rose old.faults new.faults) → IfErr o (λ r. validate_refusal r ≡ true) → ReadsFile path old new → (is_own_end o ≡ true → ValidateSays path old o) → CommandRan line draw (beside dir old) (beside dir new) o
-validate_ran line draw path dir old new o is faults cause known reads says = subst (λ (l : Line). CommandRan l draw (beside dir old) (beside dir new) o) (sym is) ran
+pub validate_ran : (line : Line) (now : ℕ) (draw : Draw) (path : List ℕ) (dir : DirSeen) (old new : BundleSeen) (o : Outcome) → line ≡ Validate path → old.faults ≤ new.faults → (IsErrOf o BundleFault → Rose old.faults new.faults) → IfErr o (λ r. validate_refusal r ≡ true) → ReadsFile path old new → (is_own_end o ≡ true → ValidateSays path old o) → CommandRan line now draw (beside dir old) (beside dir new) o
+validate_ran line now draw path dir old new o is faults cause known reads says = subst (λ (l : Line). CommandRan l now draw (beside dir old) (beside dir new) o) (sym is) ran
   where
-    ran : CommandRan (Validate path) draw (beside dir old) (beside dir new) o
+    ran : CommandRan (Validate path) now draw (beside dir old) (beside dir new) o
     ran = record {
       same = refl;
       local = refl;

@@ -1,5 +1,5 @@
 -- What a run tells of a pod was so, in an execution in which every process keeps the local rules.
-use Rattle.std.proofs.Common.{◌≡◌, inl, inr, ℕ, true, false, List, Option, Some, None, Ok, Err, ◌++◌, refl, sym, ap, subst, ◌∙◌}
+use Rattle.std.proofs.Common.{◌≡◌, inl, inr, ℕ, true, false, List, Option, Some, None, Ok, Err, refl, sym, ap, subst, ◌∙◌}
 use Rattle.dir_model.specs.declared.event.Event.{Event}
 use Rattle.dir_model.specs.declared.intent.Draw.{Draw}
 use Rattle.dir_model.specs.declared.intent.Intent.{Intent}
@@ -11,7 +11,7 @@ use Rattle.phase_read.specs.declared.found.Found.TheVariants.{At, Gone}
 use Rattle.phase_read.specs.Exact.{WasSo, AtOwnEvent, IsNowhere}
 use Rattle.phase_read.proofs.Exact.{was_within}
 use Rattle.rkt_cli.specs.declared.line.Line.{Line}
-use Rattle.rkt_cli.specs.declared.line.Line.TheVariants.{Status, Validate, ImageList}
+use Rattle.rkt_cli.specs.declared.line.Line.TheVariants.{Status, Validate, ImageList, ImageImport, ImageRm, ImageGc}
 use Rattle.rkt_cli.specs.declared.refusal.Refusal.TheVariants.{NoPod}
 use Rattle.rkt_cli.specs.Texts.{state_text}
 use Rattle.rkt_cli.specs.Moments.{Outside, Moment, Outcome}
@@ -19,8 +19,11 @@ use Rattle.rkt_cli.specs.Ends.{is_own_end}
 use Rattle.rkt_cli.specs.Status.{read_outcome}
 use Rattle.rkt_cli.specs.Commands.{intent_of}
 use Rattle.rkt_cli.specs.Runs.{Performs, RunOfLine, RunOf, RunIs}
-use Rattle.rkt_cli.specs.Histories.{TellsPhase, TellsHistory}
+use Rattle.rkt_cli.specs.Histories.{TellsPhase, WritesOf, TellsHistory, TellsDeed}
 use Rattle.rkt_cli.proofs.Ends.{absurd_number, end_at, from_command}
+use Rattle.rkt_cli.proofs.Imports.{import_stored}
+use Rattle.rkt_cli.proofs.Listed.{list_printed}
+use Rattle.rkt_cli.proofs.Removals.{removal_printed, removal_done, sweep_done}
 use Rattle.rkt_cli.proofs.Sessions.{any_call, begin_part, finish_part}
 
 -- what a command `status` read, and that it was so
@@ -29,8 +32,8 @@ pub record WasRead (pod : PodId) (me : ℕ) (old new : List Event) (o : Outcome)
   pub is : o ≡ read_outcome found
   pub so : WasSo me old new pod found
 
-module _ (pod : PodId) (draw : Draw) (old new : Outside) (t : old.dir.observed ≡ true) (conforming : IsConforming new.dir.trace) where
-  status_read : (intent : Option Intent) (o : Outcome) → is_own_end o ≡ true → Performs (Status pod) draw intent old new o → WasRead pod old.dir.process old.dir.trace new.dir.trace o
+module _ (pod : PodId) (now : ℕ) (draw : Draw) (old new : Outside) (t : old.dir.observed ≡ true) (conforming : IsConforming new.dir.trace) where
+  status_read : (intent : Option Intent) (o : Outcome) → is_own_end o ≡ true → Performs (Status pod) now draw intent old new o → WasRead pod old.dir.process old.dir.trace new.dir.trace o
   status_read None o own p = let clash : true ≡ false = p.apart in cc
   status_read (Some intent) o own (inr n) = let clash : true ≡ false = sym own ∙ ap is_own_end n.is in cc
   status_read (Some intent) o own (inl s) =
@@ -53,16 +56,16 @@ tells_gone pod me old new (At phase area) is so = cc
 tells_gone pod me old new Gone is so = so
 
 module _ (now : ℕ) (draw : Draw) (old new : Moment) (status : ℕ) (t : old.outside.dir.observed ≡ true) (conforming : IsConforming new.outside.dir.trace) where
-  line_tells : (pod : PodId) → RunOfLine (Status pod) draw (intent_of (Status pod) now draw) old new status → TellsHistory (Some (Status pod)) status old.outside.dir new.outside.dir old.out new.out
+  line_tells : (pod : PodId) → RunOfLine (Status pod) now draw (intent_of (Status pod) now draw) old new status → TellsHistory (Some (Status pod)) now draw status old.outside new.outside old.out new.out
   line_tells pod r = (printed, missing)
     where
       me : ℕ
       me = old.outside.dir.process
 
       was : (o : Outcome) → r.outcome ≡ o → is_own_end o ≡ true → WasRead pod me old.outside.dir.trace new.outside.dir.trace o
-      was o is own = status_read pod draw old.outside new.outside t conforming (intent_of (Status pod) now draw) o own (subst (λ (o : Outcome). Performs (Status pod) draw (intent_of (Status pod) now draw) old.outside new.outside o) is r.performs)
+      was o is own = status_read pod now draw old.outside new.outside t conforming (intent_of (Status pod) now draw) o own (subst (λ (o : Outcome). Performs (Status pod) now draw (intent_of (Status pod) now draw) old.outside new.outside o) is r.performs)
 
-      printed : status ≡ 0 → (text : List ℕ) × TellsPhase pod me old.outside.dir.trace new.outside.dir.trace text × (old.out.observed ≡ true → new.out.bytes ≡ old.out.bytes ++ text)
+      printed : status ≡ 0 → WritesOf (TellsPhase pod me old.outside.dir.trace new.outside.dir.trace) old.out new.out
       printed zero =
           let done = r.printed.done (end_at r.end status 0 r.is zero refl) in
           let w = was (Ok done.0) done.1 refl in
@@ -74,12 +77,44 @@ module _ (now : ℕ) (draw : Draw) (old new : Moment) (status : ℕ) (t : old.ou
           let w = was (Err NoPod) e refl in
           tells_gone pod me old.outside.dir.trace new.outside.dir.trace w.found w.is w.so
 
-  tells_of : (l : Option Line) → RunOf l now draw old new status → TellsHistory l status old.outside.dir new.outside.dir old.out new.out
+  image_tells : (path : List ℕ) → RunOfLine (ImageImport path) now draw (intent_of (ImageImport path) now draw) old new status → TellsHistory (Some (ImageImport path)) now draw status old.outside new.outside old.out new.out
+  image_tells path r zero =
+      let done = r.printed.done (end_at r.end status 0 r.is zero refl) in
+      let p = subst (λ (o : Outcome). Performs (ImageImport path) now draw (intent_of (ImageImport path) now draw) old.outside new.outside o) done.1 r.performs in
+      (done.0, import_stored path now draw old.outside new.outside done.0 p t conforming, done.2)
+
+  tells_of : (l : Option Line) → RunOf l now draw old new status → TellsHistory l now draw status old.outside new.outside old.out new.out
   tells_of None r = tt
   tells_of (Some (Validate path)) r = tt
   tells_of (Some ImageList) r = tt
+  tells_of (Some (ImageRm key)) r = tt
+  tells_of (Some ImageGc) r = tt
+  tells_of (Some (ImageImport path)) (inr n) = λ zero. absurd_number 0 14 (sym zero ∙ n.is) refl
+  tells_of (Some (ImageImport path)) (inl r) = image_tells path r
   tells_of (Some (Status pod)) (inr n) = ((λ zero. absurd_number 0 14 (sym zero ∙ n.is) refl), (λ two. absurd_number 2 14 (sym two ∙ n.is) refl))
   tells_of (Some (Status pod)) (inl r) = line_tells pod r
 
-pub run_tells : {l : Option Line} {now : ℕ} {draw : Draw} {old new : Moment} {status : ℕ} → RunIs l now draw old new status → old.outside.dir.observed ≡ true → IsConforming new.outside.dir.trace → TellsHistory l status old.outside.dir new.outside.dir old.out new.out
+pub run_tells : {l : Option Line} {now : ℕ} {draw : Draw} {old new : Moment} {status : ℕ} → RunIs l now draw old new status → old.outside.dir.observed ≡ true → IsConforming new.outside.dir.trace → TellsHistory l now draw status old.outside new.outside old.out new.out
 run_tells {l} {now} {draw} {old} {new} {status} run t conforming = tells_of now draw old new status t conforming l run.ran
+
+-- what it did, by its own answers
+module _ (now : ℕ) (draw : Draw) (old new : Moment) (status : ℕ) (t : old.outside.dir.observed ≡ true) where
+  -- where the status is 0, the line ran and its text was written
+  wrote : (line : Line) (P : List ℕ → Type 0) → ((text : List ℕ) → Performs line now draw (intent_of line now draw) old.outside new.outside (Ok text) → P text) →
+      RunOf (Some line) now draw old new status → status ≡ 0 → WritesOf P old.out new.out
+  wrote line P so (inr n) zero = absurd_number 0 14 (sym zero ∙ n.is) refl
+  wrote line P so (inl r) zero =
+      let done = r.printed.done (end_at r.end status 0 r.is zero refl) in
+      (done.0, so done.0 (subst (λ (o : Outcome). Performs line now draw (intent_of line now draw) old.outside new.outside o) done.1 r.performs), done.2)
+
+  deed_of : (l : Option Line) → RunOf l now draw old new status → TellsDeed l draw status old.outside.dir new.outside.dir old.out new.out
+  deed_of None r = tt
+  deed_of (Some (Status pod)) r = tt
+  deed_of (Some (Validate path)) r = tt
+  deed_of (Some (ImageImport path)) r = tt
+  deed_of (Some ImageList) r = wrote ImageList _ (λ text p. list_printed now draw (intent_of ImageList now draw) old.outside new.outside text p) r
+  deed_of (Some (ImageRm key)) r = wrote (ImageRm key) _ (λ text p. (removal_printed key now draw (intent_of (ImageRm key) now draw) old.outside new.outside text p, removal_done key now draw old.outside new.outside text p t)) r
+  deed_of (Some ImageGc) r = wrote ImageGc _ (λ text p. sweep_done now draw old.outside new.outside text p t) r
+
+pub run_deed : {l : Option Line} {now : ℕ} {draw : Draw} {old new : Moment} {status : ℕ} → RunIs l now draw old new status → old.outside.dir.observed ≡ true → TellsDeed l draw status old.outside.dir new.outside.dir old.out new.out
+run_deed {l} {now} {draw} {old} {new} {status} run t = deed_of now draw old new status t l run.ran

@@ -16,9 +16,9 @@ use Rattle.dir_rules.specs.declared.seen.Seen.{Seen}
 use Rattle.dir_rules.specs.declared.seen.ShownArea.{ShownArea}
 use Rattle.dir_rules.specs.Standing.{is_known, closes_gate, is_gate_exclusive, is_gate_of}
 use Rattle.dir_rules.specs.LockRules.{is_same_target}
-use Rattle.dir_trait.specs.DirCalls.{DirAt, ExtendsBy, HeldBetween}
+use Rattle.dir_trait.specs.DirCalls.{DirAt, ExtendsBy}
 use Rattle.dir_trait.specs.Knowledge.{Knows}
-use Rattle.area_locks.specs.AreaLocks.{takes, closes, and_lock, with_gate, is_free_of, IsBusyElsewhere, shared_given}
+use Rattle.area_locks.specs.AreaLocks.{takes, closes, and_lock, with_gate, is_free_of, shared_given}
 use Rattle.area_locks.specs.declared.error.LockError.{LockError}
 use Rattle.area_locks.specs.declared.error.LockError.TheVariants.{Busy}
 use Rattle.area_locks.specs.declared.error.LockError.TheVariants as lock_error

@@ -11,4 +11,16 @@ pub mod QuietRun
 pub mod Conforming
 pub mod Parts
 pub mod ImageLists
+pub mod ImportParts
+pub mod ImageImports
+pub mod Imports
+pub mod BundleJudged
+pub mod ImportQuiet
+pub mod ImagesKept
+pub mod PlacesKept
 pub mod Histories
+pub mod ImageRemovals
+pub mod Removals
+pub mod RemovalQuiet
+pub mod RemovalEnds
+pub mod SweepEnds

@@ -18,8 +18,8 @@ use Rattle.rkt_cli.proofs.Parts.{Part, held_wider, store_wider, image_lack_wider
 use Rattle.rkt_cli.proofs.Sessions.{any_call, begin_part, finish_part}
 use Rattle.rkt_cli.proofs.Conforming.{begun_knows}
 
-module _ {line : Line} {draw : Draw} {intent : Intent} {old new : Outside} {o : Outcome} (s : InProcess line draw intent old new o) where
-  process_part : old.dir.observed ≡ true → Part (shown_at old.dir) (shown_at s.begun.dir) (shown_at s.ended.dir) (shown_at new.dir)
+module _ {line : Line} {now : ℕ} {draw : Draw} {intent : Intent} {old new : Outside} {o : Outcome} (s : InProcess line now draw intent old new o) where
+  pub process_part : old.dir.observed ≡ true → Part (shown_at old.dir) (shown_at s.begun.dir) (shown_at s.ended.dir) (shown_at new.dir)
   process_part t =
       let first = begin_part s t any_call refl in
       let last = finish_part s t any_call refl in
@@ -32,21 +32,21 @@ module _ {line : Line} {draw : Draw} {intent : Intent} {old new : Outside} {o : 
   lacked_in_process {path} says = record { place = says.place; told = λ t. let x = says.told (s.told ∙ t) in (x.0, image_lack_wider (process_part t) x.0 path x.1) }
 
 -- what was printed, or wasn't
-pub list_printed : (draw : Draw) (intent : Option Intent) (old new : Outside) (text : List ℕ) → Performs ImageList draw intent old new (Ok text) → ListsStore old.dir new.dir text
-list_printed draw (Some intent) old new text (inl s) = listed_in_process s s.ran.says
-list_printed draw (Some intent) old new text (inr n) = let e = n.is in cc
-list_printed draw None old new text p = let clash : true ≡ false = p.apart in cc
+pub list_printed : (now : ℕ) (draw : Draw) (intent : Option Intent) (old new : Outside) (text : List ℕ) → Performs ImageList now draw intent old new (Ok text) → ListsStore old.dir new.dir text
+list_printed now draw (Some intent) old new text (inl s) = listed_in_process s s.ran.says
+list_printed now draw (Some intent) old new text (inr n) = let e = n.is in cc
+list_printed now draw None old new text p = let clash : true ≡ false = p.apart in cc
 
-pub list_lacked : (draw : Draw) (intent : Option Intent) (old new : Outside) (path : List ℕ) → Performs ImageList draw intent old new (Err (Damaged path)) → LacksPart path old.dir new.dir
-list_lacked draw (Some intent) old new path (inl s) = lacked_in_process s s.ran.says
-list_lacked draw (Some intent) old new path (inr n) = let e = n.is in cc
-list_lacked draw None old new path p = let clash : true ≡ false = p.apart in cc
+pub list_lacked : (now : ℕ) (draw : Draw) (intent : Option Intent) (old new : Outside) (path : List ℕ) → Performs ImageList now draw intent old new (Err (Damaged path)) → LacksPart path old.dir new.dir
+list_lacked now draw (Some intent) old new path (inl s) = lacked_in_process s s.ran.says
+list_lacked now draw (Some intent) old new path (inr n) = let e = n.is in cc
+list_lacked now draw None old new path p = let clash : true ≡ false = p.apart in cc
 
-pub list_busy : (draw : Draw) (intent : Option Intent) (old new : Outside) (area : Area) → Performs ImageList draw intent old new (Err (Busy area)) → old.dir.observed ≡ true →
+pub list_busy : (now : ℕ) (draw : Draw) (intent : Option Intent) (old new : Outside) (area : Area) → Performs ImageList now draw intent old new (Err (Busy area)) → old.dir.observed ≡ true →
     IsHeldElsewhere old.dir new.dir
-list_busy draw (Some intent) old new area (inl s) t =
+list_busy now draw (Some intent) old new area (inl s) t =
     held_wider (process_part s t) (IsBusyElsewhere old.dir.process Images Shared)
     (subst (λ (me : ℕ). HeldBetween (shown_at s.begun.dir) (shown_at s.ended.dir) (IsBusyElsewhere me Images Shared)) s.me
     (s.ran.says (s.told ∙ t) (begun intent) (begun_knows s t) refl))
-list_busy draw (Some intent) old new area (inr n) t = let e = n.is in cc
-list_busy draw None old new area p t = let clash : true ≡ false = p.apart in cc
+list_busy now draw (Some intent) old new area (inr n) t = let e = n.is in cc
+list_busy now draw None old new area p t = let clash : true ≡ false = p.apart in cc

@@ -28,20 +28,20 @@ rose_wider a b c d ab rose dc = omega arith
 pub rose_between : (a b c d : ℕ) → b ≡ a → Rose b c → d ≡ c → Rose a d
 rose_between a b c d ba rose dc = omega arith
 
-pub fault_cause : (line : Line) (draw : Draw) (intent : Option Intent) (old new : Outside) (o : Outcome) → Performs line draw intent old new o → o ≡ Err DirFault → Rose old.dir.faults new.dir.faults
-fault_cause line draw (Some intent) old new o (inl s) is = rose_wider old.dir.faults s.begun.dir.faults s.ended.dir.faults new.dir.faults s.risen (subst (λ (o : Outcome). IsErrOf o DirFault → Rose s.begun.dir.faults s.ended.dir.faults) is s.ran.cause refl) s.faults
-fault_cause line draw (Some intent) old new o (inr n) is = let e : Err DirFault ≡ Err NoMemory = sym is ∙ n.is in cc
-fault_cause line draw None old new o p is = subst (λ (o : Outcome). IsErrOf o DirFault → Rose old.dir.faults new.dir.faults) is p.ran.cause refl
+pub fault_cause : (line : Line) (now : ℕ) (draw : Draw) (intent : Option Intent) (old new : Outside) (o : Outcome) → Performs line now draw intent old new o → o ≡ Err DirFault → Rose old.dir.faults new.dir.faults
+fault_cause line now draw (Some intent) old new o (inl s) is = rose_wider old.dir.faults s.begun.dir.faults s.ended.dir.faults new.dir.faults s.risen (subst (λ (o : Outcome). IsErrOf o DirFault → Rose s.begun.dir.faults s.ended.dir.faults) is s.ran.cause refl) s.faults
+fault_cause line now draw (Some intent) old new o (inr n) is = let e : Err DirFault ≡ Err NoMemory = sym is ∙ n.is in cc
+fault_cause line now draw None old new o p is = subst (λ (o : Outcome). IsErrOf o DirFault → Rose old.dir.faults new.dir.faults) is p.ran.cause refl
 
-pub bundle_cause : (line : Line) (draw : Draw) (intent : Option Intent) (old new : Outside) (o : Outcome) → Performs line draw intent old new o → o ≡ Err BundleFault → Rose old.bundle.faults new.bundle.faults
-bundle_cause line draw (Some intent) old new o (inl s) is = rose_between old.bundle.faults s.begun.bundle.faults s.ended.bundle.faults new.bundle.faults (ap (λ (x : BundleSeen). x.faults) s.bundle_before) (subst (λ (o : Outcome). IsErrOf o BundleFault → Rose s.begun.bundle.faults s.ended.bundle.faults) is s.ran.bundle_cause refl) (ap (λ (x : BundleSeen). x.faults) s.bundle_after)
-bundle_cause line draw (Some intent) old new o (inr n) is = let e : Err BundleFault ≡ Err NoMemory = sym is ∙ n.is in cc
-bundle_cause line draw None old new o p is = subst (λ (o : Outcome). IsErrOf o BundleFault → Rose old.bundle.faults new.bundle.faults) is p.ran.bundle_cause refl
+pub bundle_cause : (line : Line) (now : ℕ) (draw : Draw) (intent : Option Intent) (old new : Outside) (o : Outcome) → Performs line now draw intent old new o → o ≡ Err BundleFault → Rose old.bundle.faults new.bundle.faults
+bundle_cause line now draw (Some intent) old new o (inl s) is = rose_between old.bundle.faults s.begun.bundle.faults s.ended.bundle.faults new.bundle.faults (ap (λ (x : BundleSeen). x.faults) s.bundle_before) (subst (λ (o : Outcome). IsErrOf o BundleFault → Rose s.begun.bundle.faults s.ended.bundle.faults) is s.ran.bundle_cause refl) (ap (λ (x : BundleSeen). x.faults) s.bundle_after)
+bundle_cause line now draw (Some intent) old new o (inr n) is = let e : Err BundleFault ≡ Err NoMemory = sym is ∙ n.is in cc
+bundle_cause line now draw None old new o p is = subst (λ (o : Outcome). IsErrOf o BundleFault → Rose old.bundle.faults new.bundle.faults) is p.ran.bundle_cause refl
 
-pub refusals_of : (line : Line) (draw : Draw) (intent : Option Intent) (old new : Outside) (o : Outcome) (r : Refusal) → Performs line draw intent old new o → o ≡ Err r → may line r ≡ true
-refusals_of line draw (Some intent) old new o r (inl s) is = subst (λ (o : Outcome). IfErr o (λ r. may line r ≡ true)) is s.ran.refusals
-refusals_of line draw (Some intent) old new o r (inr n) is = subst (λ (o : Outcome). IfErr o (λ r. may line r ≡ true)) (sym n.is ∙ is) refl
-refusals_of line draw None old new o r p is = subst (λ (o : Outcome). IfErr o (λ r. may line r ≡ true)) is p.ran.refusals
+pub refusals_of : (line : Line) (now : ℕ) (draw : Draw) (intent : Option Intent) (old new : Outside) (o : Outcome) (r : Refusal) → Performs line now draw intent old new o → o ≡ Err r → may line r ≡ true
+refusals_of line now draw (Some intent) old new o r (inl s) is = subst (λ (o : Outcome). IfErr o (λ r. may line r ≡ true)) is s.ran.refusals
+refusals_of line now draw (Some intent) old new o r (inr n) is = subst (λ (o : Outcome). IfErr o (λ r. may line r ≡ true)) (sym n.is ∙ is) refl
+refusals_of line now draw None old new o r p is = subst (λ (o : Outcome). IfErr o (λ r. may line r ≡ true)) is p.ran.refusals
 
 abbrev printing : List ℕ → Outcome
 printing text = Ok text
@@ -64,10 +64,10 @@ answered (Ok text) old new (Err r) status p said is = by (p.cause text refl)
     by (inr x) = inl (is ∙ ap status_of x.0)
 
 -- the file of `validate`
-pub does_validate : (path : List ℕ) (draw : Draw) (intent : Option Intent) (old new : Outside) (o : Outcome) → is_own_end o ≡ true → Performs (Validate path) draw intent old new o → ValidateSays path old.bundle o
-does_validate path draw None old new o own p = p.ran.says own
-does_validate path draw (Some intent) old new o own (inl s) = subst (λ (x : BundleSeen). ValidateSays path x o) s.bundle_before (s.ran.says own)
-does_validate path draw (Some intent) old new o own (inr n) = let clash : true ≡ false = sym own ∙ ap is_own_end n.is in cc
+pub does_validate : (path : List ℕ) (now : ℕ) (draw : Draw) (intent : Option Intent) (old new : Outside) (o : Outcome) → is_own_end o ≡ true → Performs (Validate path) now draw intent old new o → ValidateSays path old.bundle o
+does_validate path now draw None old new o own p = p.ran.says own
+does_validate path now draw (Some intent) old new o own (inl s) = subst (λ (x : BundleSeen). ValidateSays path x o) s.bundle_before (s.ran.says own)
+does_validate path now draw (Some intent) old new o own (inr n) = let clash : true ≡ false = sym own ∙ ap is_own_end n.is in cc
 
 pub validate_told : (path : List ℕ) (old : BundleSeen) (o : Outcome) → ValidateSays path old o → old.observed ≡ true → o ≡ sequential_validate path old.tree
 validate_told path old o d t = d.is ∙ judged_whole path d.found (file_bytes (old.tree path)) (d.told t)

@@ -25,7 +25,7 @@ pub record Part (old first last new : DirAt) : Type 0 where
   pub ends : new.trace ≡ last.trace ++ later
 
 module _ {old first last new : DirAt} (p : Part old first last new) where
-  within_wider : {R : DirAt → DirAt → Type 0} → Within R first last → Within R old new
+  pub within_wider : {R : DirAt → DirAt → Type 0} → Within R first last → Within R old new
   within_wider w = record {
     first = w.first;
     last = w.last;

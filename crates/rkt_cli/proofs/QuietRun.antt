@@ -1,11 +1,13 @@
 -- Where nobody else steps and nothing fails, a run gives what the state and the bundle before it say.
-use Rattle.std.proofs.Common.{◌≡◌, ◌⊎◌, inl, inr, ℕ, true, false, Option, Some, None, Ok, Err, refl, sym, ap, subst, ◌∙◌}
+use Rattle.std.proofs.Common.{◌≡◌, ◌⊎◌, inl, inr, ℕ, true, false, List, [], Option, Some, None, Ok, Err, refl, sym, ap, subst, ◌∙◌}
 use Rattle.area_locks.specs.AreaLocks.{is_against, IsBusyElsewhere}
 use Rattle.dir_model.specs.declared.area.Area.{Area}
+use Rattle.ac_types.specs.declared.store_key.StoreKey.{StoreKey}
 use Rattle.dir_model.specs.declared.area.Area.TheVariants.{Images}
-use Rattle.dir_model.specs.declared.spot.Mode.TheVariants.{Shared}
+use Rattle.dir_model.specs.declared.spot.Mode.TheVariants.{Shared, Exclusive}
 use Rattle.dir_model.specs.declared.intent.Draw.{Draw}
 use Rattle.dir_model.specs.declared.intent.Intent.{Intent}
+use Rattle.dir_model.specs.declared.intent.Kind.TheVariants as kind
 use Rattle.dir_model.specs.declared.pod.PodId.{PodId}
 use Rattle.dir_model.specs.declared.request.Request.{Request}
 use Rattle.dir_model.specs.declared.request.Request.TheVariants.{Begin}
@@ -19,17 +21,23 @@ use Rattle.dir_model.proofs.Chains.{extends_wider}
 use Rattle.dir_model.proofs.Quiet.{is_harmless, look_is_harmless, end_quiet}
 use Rattle.dir_model.proofs.Spots.{look_wider}
 use Rattle.dir_trait.specs.Bundles.{file_bytes}
+use Rattle.image_store.specs.Requests.{building_spot}
+use Rattle.image_removal.specs.Requests.{removes_at, sweeps}
+use Rattle.image_removal.proofs.Begun.{begun_removes}
 use Rattle.phase_read.specs.Read.{is_pod_spot}
 use Rattle.phase_read.proofs.Quiet.{read_quiet}
 use Rattle.rkt_cli.specs.declared.line.Line.{Line}
-use Rattle.rkt_cli.specs.declared.line.Line.TheVariants.{Status, Validate, ImageList}
-use Rattle.rkt_cli.specs.declared.refusal.Refusal.TheVariants.{Usage, Busy, DirFault, BundleFault, NoMemory, Damaged}
+use Rattle.rkt_cli.specs.declared.line.Line.TheVariants.{Status, Validate, ImageList, ImageImport, ImageRm, ImageGc}
+use Rattle.rkt_cli.specs.declared.refusal.Refusal.TheVariants.{Usage, Busy, NoImage, DirFault, BundleFault, NoMemory, Damaged, Stray}
 use Rattle.rkt_cli.specs.Moments.{BundleSeen, Outside, Moment, SinkSeen, Outcome}
-use Rattle.rkt_cli.specs.Ends.{is_own_end, IsUnchanged}
+use Rattle.rkt_cli.specs.Ends.{is_own_end, IsUnchanged, StaysBeside}
 use Rattle.rkt_cli.specs.Status.{read_outcome, sequential_status}
 use Rattle.rkt_cli.specs.ImageList.{image_list_refusal, ListsQuietly}
+use Rattle.rkt_cli.specs.ImageImport.{IsAreaHeld, LeavesImages, ImportsQuietly, LeavesOthers}
+use Rattle.rkt_cli.specs.ImageRm.{image_rm_refusal, is_removal_place, FindsBusy, RemovesQuietly}
+use Rattle.rkt_cli.specs.ImageGc.{is_swept_place, SweepsQuietly}
 use Rattle.rkt_cli.specs.Conforming.{begun}
-use Rattle.rkt_cli.specs.Commands.{asks, ComesQuietly, LeavesQuietly}
+use Rattle.rkt_cli.specs.Commands.{intent_for, intent_of, asks, ComesQuietly, LeavesQuietly}
 use Rattle.rkt_cli.specs.Runs.{CommandRan, Performs, InProcess, Apart, Printed, RunOf, RunIs, end_status}
 use Rattle.rkt_cli.specs.Statuses.{IsAnswer, IsUndisturbed, Works, IsQuietAnswer}
 use Rattle.rkt_cli.proofs.Judged.{judged_whole}
@@ -37,21 +45,30 @@ use Rattle.rkt_cli.proofs.Outcomes.{rose_wider, rose_between, answered, WasAnswe
 use Rattle.rkt_cli.proofs.Conforming.{begun_knows}
 use Rattle.rkt_cli.proofs.Listed.{listed_in_process, lacked_in_process}
 use Rattle.rkt_cli.proofs.StoreQuiet.{is_tame, lists_is_tame, at_tame, end_tame}
+use Rattle.rkt_cli.proofs.ImageImports.{imports}
+use Rattle.rkt_cli.proofs.Imports.{import_printed, stored_in_process, import_refused}
+use Rattle.rkt_cli.proofs.ImagesKept.{images_kept, image_held}
+use Rattle.rkt_cli.proofs.PlacesKept.{places_kept}
+use Rattle.rkt_cli.proofs.Removals.{removal_done, removal_none, removal_stray, sweep_done, sweep_stray}
+use Rattle.rkt_cli.proofs.RemovalEnds.{removal_ends, none_before}
+use Rattle.rkt_cli.proofs.SweepEnds.{incoming_left, removed_left}
+use Rattle.rkt_cli.proofs.RemovalQuiet.{in_process, asks_in_process, places_beside, removal_changes, sweep_changes, held_before}
+use Rattle.rkt_cli.proofs.ImportQuiet.{is_modest, imports_is_modest, at_modest, end_modest}
 use Rattle.rkt_cli.proofs.Sessions.{all_parts, quiet_act, state_begun, idle}
 
 -- undisturbed it came to an end of its own, or memory ran out
-own_end : (line : Line) (draw : Draw) (old new : Outside) (o : Outcome) → CommandRan line draw old new o → IsUndisturbed (Some line) old new → (o ≡ Err NoMemory) ⊎ (is_own_end o ≡ true)
-own_end line draw old new (Ok text) d u = inr refl
-own_end line draw old new (Err NoMemory) d u = inl refl
-own_end line draw old new (Err DirFault) d u = absurd (u.works d.refusals (d.cause refl))
-own_end line draw old new (Err BundleFault) d u = absurd (u.bundle_works d.refusals (d.bundle_cause refl))
-own_end line draw old new (Err r) d u = inr refl
+own_end : (line : Line) (now : ℕ) (draw : Draw) (old new : Outside) (o : Outcome) → CommandRan line now draw old new o → IsUndisturbed (Some line) old new → (o ≡ Err NoMemory) ⊎ (is_own_end o ≡ true)
+own_end line now draw old new (Ok text) d u = inr refl
+own_end line now draw old new (Err NoMemory) d u = inl refl
+own_end line now draw old new (Err DirFault) d u = absurd (u.works d.refusals (d.cause refl))
+own_end line now draw old new (Err BundleFault) d u = absurd (u.bundle_works d.refusals (d.bundle_cause refl))
+own_end line now draw old new (Err r) d u = inr refl
 
 -- a look at the pod's locations is a look
 pod_look : (pod : PodId) (r : Request) → is_look_at (is_pod_spot pod) r ≡ true → is_look r ≡ true
 pod_look pod r h = look_wider (is_pod_spot pod) is_any_spot (λ spot is. refl) r h
 
-module _ (line : Line) (draw : Draw) (intent : Intent) (old new : Outside) (o : Outcome) (s : InProcess line draw intent old new o) (u : IsUndisturbed (Some line) old new) where
+module _ (line : Line) (now : ℕ) (draw : Draw) (intent : Intent) (old new : Outside) (o : Outcome) (s : InProcess line now draw intent old new o) (u : IsUndisturbed (Some line) old new) where
   abbrev t : old.dir.observed ≡ true
   t = u.observed s.uses
 
@@ -74,7 +91,7 @@ module _ (line : Line) (draw : Draw) (intent : Intent) (old new : Outside) (o : 
   idle_act = subst (λ (p : ℕ). OwnsNothing p (state_after s.begun.dir.trace).namespace) (sym s.me) (subst (λ (x : DirState). OwnsNothing old.dir.process x.namespace) (sym state) (idle s t (u.alone s.uses)))
 
   ends_own : (o ≡ Err NoMemory) ⊎ (is_own_end o ≡ true)
-  ends_own = own_end line draw s.begun s.ended o s.ran undisturbed_act
+  ends_own = own_end line now draw s.begun s.ended o s.ran undisturbed_act
 
   unchanged : ((r : Request) → asks line draw r ≡ true → is_harmless r ≡ true) → IsUnchanged (state_after old.dir.trace) (state_after new.dir.trace)
   unchanged harmless =
@@ -89,69 +106,196 @@ module _ (line : Line) (draw : Draw) (intent : Intent) (old new : Outside) (o : 
       record { folders = end.same.folders; owned = end.same.owned }
 
 -- what `status` comes to. That this process has begun makes no difference to it
-status_quiet : (pod : PodId) (draw : Draw) (intent : Intent) (old new : Outside) (o : Outcome) → InProcess (Status pod) draw intent old new o → IsUndisturbed (Some (Status pod)) old new → is_own_end o ≡ true → o ≡ sequential_status pod (state_after old.dir.trace)
-status_quiet pod draw intent old new o s u own =
+status_quiet : (pod : PodId) (now : ℕ) (draw : Draw) (intent : Intent) (old new : Outside) (o : Outcome) → InProcess (Status pod) now draw intent old new o → IsUndisturbed (Some (Status pod)) old new → is_own_end o ≡ true → o ≡ sequential_status pod (state_after old.dir.trace)
+status_quiet pod now draw intent old new o s u own =
     let says = s.ran.says own in
     let told = says.told (s.told ∙ u.observed refl) in
     let looks = extends_wider (pod_look pod) (s.ran.extends (s.told ∙ u.observed refl)) in
-    let here : o ≡ sequential_status pod (state_after s.begun.dir.trace) = says.is ∙ ap read_outcome (sym (read_quiet looks (quiet_between (Status pod) draw intent old new o s u) (idle_act (Status pod) draw intent old new o s u) pod says.found told)) in
-    here ∙ ap (λ (x : DirState). sequential_status pod x) (state (Status pod) draw intent old new o s u)
+    let here : o ≡ sequential_status pod (state_after s.begun.dir.trace) = says.is ∙ ap read_outcome (sym (read_quiet looks (quiet_between (Status pod) now draw intent old new o s u) (idle_act (Status pod) now draw intent old new o s u) pod says.found told)) in
+    here ∙ ap (λ (x : DirState). sequential_status pod x) (state (Status pod) now draw intent old new o s u)
 
 -- and `image list`
 busy_area : (area : Area) → image_list_refusal (Busy area) ≡ true → area ≡ Images
 busy_area Images h = refl
 busy_area area h = let clash : false ≡ true = h in cc
 
-busy_before : (draw : Draw) (intent : Intent) (old new : Outside) (area : Area) → InProcess ImageList draw intent old new (Err (Busy area)) → IsUndisturbed (Some ImageList) old new → IsBusyElsewhere old.dir.process Images Shared (state_after old.dir.trace)
-busy_before draw intent old new area s u =
+busy_before : (now : ℕ) (draw : Draw) (intent : Intent) (old new : Outside) (area : Area) → InProcess ImageList now draw intent old new (Err (Busy area)) → IsUndisturbed (Some ImageList) old new → IsBusyElsewhere old.dir.process Images Shared (state_after old.dir.trace)
+busy_before now draw intent old new area s u =
     let t = u.observed refl in
     let me = s.begun.dir.process in
     let held = s.ran.says (s.told ∙ t) (begun intent) (begun_knows s t) refl in
     let ext : Extends is_tame me s.begun.dir.trace s.ended.dir.trace = extends_wider lists_is_tame (s.ran.extends (s.told ∙ t)) in
-    let found = at_tame (IsBusyElsewhere me Images Shared) held ext (quiet_between ImageList draw intent old new (Err (Busy area)) s u) (idle_act ImageList draw intent old new (Err (Busy area)) s u) in
+    let found = at_tame (IsBusyElsewhere me Images Shared) held ext (quiet_between ImageList now draw intent old new (Err (Busy area)) s u) (idle_act ImageList now draw intent old new (Err (Busy area)) s u) in
     let first : IsBusyElsewhere me Images Shared (state_after s.begun.dir.trace) = found.1.others (is_against Images Shared) found.2 in
-    subst (λ (p : ℕ). IsBusyElsewhere p Images Shared (state_after old.dir.trace)) s.me (subst (λ (x : DirState). IsBusyElsewhere me Images Shared x) (state ImageList draw intent old new (Err (Busy area)) s u) first)
+    subst (λ (p : ℕ). IsBusyElsewhere p Images Shared (state_after old.dir.trace)) s.me (subst (λ (x : DirState). IsBusyElsewhere me Images Shared x) (state ImageList now draw intent old new (Err (Busy area)) s u) first)
 
-list_quiet : (draw : Draw) (intent : Intent) (old new : Outside) (o : Outcome) → InProcess ImageList draw intent old new o → IsUndisturbed (Some ImageList) old new → is_own_end o ≡ true → ListsQuietly old.dir new.dir o
-list_quiet draw intent old new (Ok text) s u own = listed_in_process s s.ran.says
-list_quiet draw intent old new (Err (Busy area)) s u own = (busy_area area s.ran.refusals, busy_before draw intent old new area s u)
-list_quiet draw intent old new (Err (Damaged path)) s u own = lacked_in_process s s.ran.says
-list_quiet draw intent old new (Err NoMemory) s u own = let clash : false ≡ true = own in cc
-list_quiet draw intent old new (Err DirFault) s u own = let clash : false ≡ true = own in cc
-list_quiet draw intent old new (Err BundleFault) s u own = let clash : false ≡ true = own in cc
-list_quiet draw intent old new (Err r) s u own = let clash : false ≡ true = s.ran.refusals in cc
+list_quiet : (now : ℕ) (draw : Draw) (intent : Intent) (old new : Outside) (o : Outcome) → InProcess ImageList now draw intent old new o → IsUndisturbed (Some ImageList) old new → is_own_end o ≡ true → ListsQuietly old.dir new.dir o
+list_quiet now draw intent old new (Ok text) s u own = listed_in_process s s.ran.says
+list_quiet now draw intent old new (Err (Busy area)) s u own = (busy_area area s.ran.refusals, busy_before now draw intent old new area s u)
+list_quiet now draw intent old new (Err (Damaged path)) s u own = lacked_in_process s s.ran.says
+list_quiet now draw intent old new (Err NoMemory) s u own = let clash : false ≡ true = own in cc
+list_quiet now draw intent old new (Err DirFault) s u own = let clash : false ≡ true = own in cc
+list_quiet now draw intent old new (Err BundleFault) s u own = let clash : false ≡ true = own in cc
+list_quiet now draw intent old new (Err r) s u own = let clash : false ≡ true = s.ran.refusals in cc
+
+-- and `image import`
+import_held_before : (path : List ℕ) (now : ℕ) (draw : Draw) (intent : Intent) (old new : Outside) (area : Area) (s : InProcess (ImageImport path) now draw intent old new (Err (Busy area))) → IsUndisturbed (Some (ImageImport path)) old new →
+    IsAreaHeld area s.begun.dir s.ended.dir → IsBusyElsewhere old.dir.process area Shared (state_after old.dir.trace)
+import_held_before path now draw intent old new area s u held =
+    let t = u.observed refl in
+    let me = s.begun.dir.process in
+    let o : Outcome = Err (Busy area) in
+    let ext : Extends (is_modest (building_spot draw.uuid)) me s.begun.dir.trace s.ended.dir.trace = extends_wider (imports_is_modest (building_spot draw.uuid)) (s.ran.extends (s.told ∙ t)) in
+    let found = at_modest (building_spot draw.uuid) (IsBusyElsewhere me area Shared) held ext (quiet_between (ImageImport path) now draw intent old new o s u) (idle_act (ImageImport path) now draw intent old new o s u) in
+    let first : IsBusyElsewhere me area Shared (state_after s.begun.dir.trace) = found.1.others (is_against area Shared) found.2 in
+    subst (λ (p : ℕ). IsBusyElsewhere p area Shared (state_after old.dir.trace)) s.me
+    (subst (λ (x : DirState). IsBusyElsewhere me area Shared x) (state (ImageImport path) now draw intent old new o s u) first)
+
+-- its own requests
+import_extends : (path : List ℕ) (now : ℕ) (draw : Draw) (intent : Intent) (old new : Outside) (o : Outcome) → InProcess (ImageImport path) now draw intent old new o → IsUndisturbed (Some (ImageImport path)) old new →
+    Extends (is_modest (building_spot draw.uuid)) old.dir.process old.dir.trace new.dir.trace
+import_extends path now draw intent old new o s u = all_parts s (u.observed refl) (is_modest (building_spot draw.uuid)) refl (imports_is_modest (building_spot draw.uuid)) refl
+
+import_keeps_images : (path : List ℕ) (now : ℕ) (draw : Draw) (intent : Intent) (old new : Outside) (o : Outcome) → InProcess (ImageImport path) now draw intent old new o → IsUndisturbed (Some (ImageImport path)) old new →
+    LeavesImages old.dir new.dir
+import_keeps_images path now draw intent old new o s u conforming = images_kept draw.uuid (import_extends path now draw intent old new o s u) (u.alone refl) conforming
+
+import_quiet : (path : List ℕ) (now : ℕ) (draw : Draw) (intent : Intent) (old new : Outside) (o : Outcome) (said : intent_of (ImageImport path) now draw ≡ Some intent) → InProcess (ImageImport path) now draw intent old new o →
+    IsUndisturbed (Some (ImageImport path)) old new → is_own_end o ≡ true → ImportsQuietly path now draw.uuid old new o
+import_quiet path now draw intent old new (Ok text) said s u own = (
+  import_printed path now draw (Some intent) old new text (inl s),
+  λ conforming. record {
+    stores =
+        let x = stored_in_process path now draw intent old new text said s (u.observed refl) conforming in
+        (x.0, x.1, (x.2.0, elim x.2.1 [ inl there ↦ inl there | inr came ↦ inr (image_held draw.uuid (import_extends path now draw intent old new (Ok text) s u) (u.alone refl) conforming x.0 now came) ]));
+    keeps = import_keeps_images path now draw intent old new (Ok text) s u conforming;
+  },
+)
+import_quiet path now draw intent old new (Err (Busy area)) said s u own =
+    let held = s.ran.says.1 area refl (s.told ∙ u.observed refl) intent (imports path now draw intent said) (begun_knows s (u.observed refl)) in
+    (import_refused path now draw (Some intent) old new (Busy area) refl (inl s), import_keeps_images path now draw intent old new (Err (Busy area)) s u, import_held_before path now draw intent old new area s u held)
+import_quiet path now draw intent old new (Err NoMemory) said s u own = let clash : false ≡ true = own in cc
+import_quiet path now draw intent old new (Err DirFault) said s u own = let clash : false ≡ true = own in cc
+import_quiet path now draw intent old new (Err BundleFault) said s u own = let clash : false ≡ true = own in cc
+import_quiet path now draw intent old new (Err r) said s u own = (import_refused path now draw (Some intent) old new r refl (inl s), import_keeps_images path now draw intent old new (Err r) s u)
+
+import_leaves : (path : List ℕ) (now : ℕ) (draw : Draw) (intent : Intent) (old new : Outside) (o : Outcome) → InProcess (ImageImport path) now draw intent old new o → IsUndisturbed (Some (ImageImport path)) old new →
+    LeavesOthers draw.uuid (state_after old.dir.trace) (state_after new.dir.trace)
+import_leaves path now draw intent old new o s u =
+    let q = u.alone refl in
+    let ext = import_extends path now draw intent old new o s u in
+    record {
+      places = places_kept (building_spot draw.uuid) ext q;
+      owned = (end_modest (building_spot draw.uuid) ext q (idle s (u.observed refl) q)).owned;
+    }
+
+-- and `image rm`
+removal_area : (area : Area) → image_rm_refusal (Busy area) ≡ true → area ≡ Images
+removal_area Images h = refl
+removal_area area h = let clash : false ≡ true = h in cc
+
+abbrev removal_intent : ℕ → Draw → Intent
+removal_intent now draw = intent_for kind.ImageRm [] now draw
+
+removal_held : (key : StoreKey) (now : ℕ) (draw : Draw) (old new : Outside) (area : Area) → InProcess (ImageRm key) now draw (removal_intent now draw) old new (Err (Busy area)) → IsUndisturbed (Some (ImageRm key)) old new →
+    IsBusyElsewhere old.dir.process Images Exclusive (state_after old.dir.trace)
+removal_held key now draw old new area s u =
+    let t = u.observed refl in
+    let me = s.begun.dir.process in
+    let o : Outcome = Err (Busy area) in
+    let intent = removal_intent now draw in
+    let found : FindsBusy me s.begun.dir.trace s.ended.dir.trace = s.ran.says (s.told ∙ t) (begun intent) (begun_knows s t) (begun_removes intent draw.uuid refl refl) in
+    let first : IsBusyElsewhere me Images Exclusive (state_after s.begun.dir.trace) = held_before (is_against Images Exclusive) found.held (quiet_between (ImageRm key) now draw intent old new o s u) in
+    subst (λ (p : ℕ). IsBusyElsewhere p Images Exclusive (state_after old.dir.trace)) s.me
+    (subst (λ (x : DirState). IsBusyElsewhere me Images Exclusive x) (state (ImageRm key) now draw intent old new o s u) first)
+
+removal_extends : (key : StoreKey) (now : ℕ) (draw : Draw) (intent : Intent) (old new : Outside) (o : Outcome) → InProcess (ImageRm key) now draw intent old new o → IsUndisturbed (Some (ImageRm key)) old new →
+    Extends (in_process (removes_at key draw.uuid)) old.dir.process old.dir.trace new.dir.trace
+removal_extends key now draw intent old new o s u = all_parts s (u.observed refl) (in_process (removes_at key draw.uuid)) refl (asks_in_process (removes_at key draw.uuid)) refl
+
+removal_quiet : (key : StoreKey) (now : ℕ) (draw : Draw) (old new : Outside) (o : Outcome) → InProcess (ImageRm key) now draw (removal_intent now draw) old new o → IsUndisturbed (Some (ImageRm key)) old new → is_own_end o ≡ true →
+    RemovesQuietly key draw.uuid old.dir new.dir o
+removal_quiet key now draw old new (Ok text) s u own =
+    let done = removal_done key now draw old new text (inl s) (u.observed refl) in
+    let ends = removal_ends key draw.uuid (removal_extends key now draw (removal_intent now draw) old new (Ok text) s u) (u.alone refl) done in
+    (s.ran.says.is, done, record { absent = ends.0; gone = ends.1 })
+removal_quiet key now draw old new (Err (Busy area)) s u own = (removal_area area s.ran.refusals, removal_held key now draw old new area s u)
+removal_quiet key now draw old new (Err (NoImage named)) s u own =
+    let found = removal_none key now draw (Some (removal_intent now draw)) old new named (inl s) (u.observed refl) in
+    (s.ran.says.is, found, none_before key draw.uuid (u.alone refl) found)
+removal_quiet key now draw old new (Err Stray) s u own = removal_stray key now draw (Some (removal_intent now draw)) old new (inl s) (u.observed refl)
+removal_quiet key now draw old new (Err NoMemory) s u own = let clash : false ≡ true = own in cc
+removal_quiet key now draw old new (Err DirFault) s u own = let clash : false ≡ true = own in cc
+removal_quiet key now draw old new (Err BundleFault) s u own = let clash : false ≡ true = own in cc
+removal_quiet key now draw old new (Err r) s u own = let clash : false ≡ true = s.ran.refusals in cc
+
+-- and `image gc`
+sweep_quiet : (now : ℕ) (draw : Draw) (old new : Outside) (o : Outcome) → InProcess ImageGc now draw (intent_for kind.ImageGc [] now draw) old new o → IsUndisturbed (Some ImageGc) old new → is_own_end o ≡ true →
+    SweepsQuietly old.dir new.dir o
+sweep_quiet now draw old new (Ok text) s u own =
+    let done = sweep_done now draw old new text (inl s) (u.observed refl) in
+    let ext : Extends (in_process sweeps) old.dir.process old.dir.trace new.dir.trace = all_parts s (u.observed refl) (in_process sweeps) refl (asks_in_process sweeps) refl in
+    (done, incoming_left ext (u.alone refl) done.swept, removed_left ext (u.alone refl) done.swept)
+sweep_quiet now draw old new (Err Stray) s u own = sweep_stray now draw (Some (intent_for kind.ImageGc [] now draw)) old new (inl s) (u.observed refl)
+sweep_quiet now draw old new (Err NoMemory) s u own = let clash : false ≡ true = own in cc
+sweep_quiet now draw old new (Err DirFault) s u own = let clash : false ≡ true = own in cc
+sweep_quiet now draw old new (Err BundleFault) s u own = let clash : false ≡ true = own in cc
+sweep_quiet now draw old new (Err r) s u own = let clash : false ≡ true = s.ran.refusals in cc
+
+removal_leaves : (key : StoreKey) (now : ℕ) (draw : Draw) (intent : Intent) (old new : Outside) (o : Outcome) → InProcess (ImageRm key) now draw intent old new o → IsUndisturbed (Some (ImageRm key)) old new →
+    StaysBeside (is_removal_place key draw.uuid) (state_after old.dir.trace) (state_after new.dir.trace)
+removal_leaves key now draw intent old new o s u =
+    places_beside (is_removal_place key draw.uuid) (removes_at key draw.uuid) (removal_changes key draw.uuid) (removal_extends key now draw intent old new o s u) (u.alone refl)
+
+sweep_leaves : (now : ℕ) (draw : Draw) (intent : Intent) (old new : Outside) (o : Outcome) → InProcess ImageGc now draw intent old new o → IsUndisturbed (Some ImageGc) old new →
+    StaysBeside is_swept_place (state_after old.dir.trace) (state_after new.dir.trace)
+sweep_leaves now draw intent old new o s u = places_beside is_swept_place sweeps sweep_changes (all_parts s (u.observed refl) (in_process sweeps) refl (asks_in_process sweeps) refl) (u.alone refl)
 
 -- each command
-comes_of : (line : Line) (draw : Draw) (intent : Intent) (old new : Outside) (o : Outcome) → InProcess line draw intent old new o → IsUndisturbed (Some line) old new → is_own_end o ≡ true → ComesQuietly line old new o
-comes_of (Status pod) draw intent old new o s u own = status_quiet pod draw intent old new o s u own
-comes_of (Validate path) draw intent old new o s u own = let clash : false ≡ true = s.uses in cc
-comes_of ImageList draw intent old new o s u own = list_quiet draw intent old new o s u own
+comes_of : (line : Line) (now : ℕ) (draw : Draw) (intent : Intent) (old new : Outside) (o : Outcome) → intent_of line now draw ≡ Some intent → InProcess line now draw intent old new o → IsUndisturbed (Some line) old new → is_own_end o ≡ true → ComesQuietly line now draw old new o
+comes_of (Status pod) now draw intent old new o said s u own = status_quiet pod now draw intent old new o s u own
+comes_of (Validate path) now draw intent old new o said s u own = let clash : false ≡ true = s.uses in cc
+comes_of ImageList now draw intent old new o said s u own = list_quiet now draw intent old new o s u own
+comes_of (ImageImport path) now draw intent old new o said s u own = import_quiet path now draw intent old new o said s u own
+comes_of (ImageRm key) now draw intent old new o said s u own =
+    removal_quiet key now draw old new o (subst (λ (i : Intent). InProcess (ImageRm key) now draw i old new o) (let e : intent ≡ removal_intent now draw = cc in e) s) u own
+comes_of ImageGc now draw intent old new o said s u own =
+    sweep_quiet now draw old new o (subst (λ (i : Intent). InProcess ImageGc now draw i old new o) (let e : intent ≡ intent_for kind.ImageGc [] now draw = cc in e) s) u own
 
-comes_apart : (line : Line) (draw : Draw) (old new : Outside) (o : Outcome) → Apart line draw old new o → IsUndisturbed (Some line) old new → is_own_end o ≡ true → ComesQuietly line old new o
-comes_apart (Status pod) draw old new o p u own = let clash : true ≡ false = p.apart in cc
-comes_apart (Validate path) draw old new o p u own = let s = p.ran.says own in s.is ∙ judged_whole path s.found (file_bytes (old.bundle.tree path)) (s.told (u.bundle_observed refl))
-comes_apart ImageList draw old new o p u own = let clash : true ≡ false = p.apart in cc
+comes_apart : (line : Line) (now : ℕ) (draw : Draw) (old new : Outside) (o : Outcome) → Apart line now draw old new o → IsUndisturbed (Some line) old new → is_own_end o ≡ true → ComesQuietly line now draw old new o
+comes_apart (Status pod) now draw old new o p u own = let clash : true ≡ false = p.apart in cc
+comes_apart (Validate path) now draw old new o p u own = let s = p.ran.says own in s.is ∙ judged_whole path s.found (file_bytes (old.bundle.tree path)) (s.told (u.bundle_observed refl))
+comes_apart ImageList now draw old new o p u own = let clash : true ≡ false = p.apart in cc
+comes_apart (ImageImport path) now draw old new o p u own = let clash : true ≡ false = p.apart in cc
+comes_apart (ImageRm key) now draw old new o p u own = let clash : true ≡ false = p.apart in cc
+comes_apart ImageGc now draw old new o p u own = let clash : true ≡ false = p.apart in cc
 
 -- what each command leaves
-leaves_quietly : (line : Line) (now : ℕ) (draw : Draw) (intent : Intent) (old new : Outside) (o : Outcome) → InProcess line draw intent old new o → IsUndisturbed (Some line) old new → LeavesQuietly line now draw old.bundle.tree (state_after old.dir.trace) (state_after new.dir.trace)
-leaves_quietly (Status pod) now draw intent old new o s u = unchanged (Status pod) draw intent old new o s u (λ r h. look_is_harmless r (pod_look pod r h))
+leaves_quietly : (line : Line) (now : ℕ) (draw : Draw) (intent : Intent) (old new : Outside) (o : Outcome) → InProcess line now draw intent old new o → IsUndisturbed (Some line) old new → LeavesQuietly line now draw old.bundle.tree (state_after old.dir.trace) (state_after new.dir.trace)
+leaves_quietly (Status pod) now draw intent old new o s u = unchanged (Status pod) now draw intent old new o s u (λ r h. look_is_harmless r (pod_look pod r h))
 leaves_quietly (Validate path) now draw intent old new o s u = tt
-leaves_quietly ImageList now draw intent old new o s u = tame_unchanged ImageList draw intent old new o s u lists_is_tame
+leaves_quietly ImageList now draw intent old new o s u = tame_unchanged ImageList now draw intent old new o s u lists_is_tame
+leaves_quietly (ImageImport path) now draw intent old new o s u = import_leaves path now draw intent old new o s u
+leaves_quietly (ImageRm key) now draw intent old new o s u = removal_leaves key now draw intent old new o s u
+leaves_quietly ImageGc now draw intent old new o s u = sweep_leaves now draw intent old new o s u
 
-leaves_apart : (line : Line) (now : ℕ) (draw : Draw) (old new : Outside) (o : Outcome) → Apart line draw old new o → LeavesQuietly line now draw old.bundle.tree (state_after old.dir.trace) (state_after new.dir.trace)
+leaves_apart : (line : Line) (now : ℕ) (draw : Draw) (old new : Outside) (o : Outcome) → Apart line now draw old new o → LeavesQuietly line now draw old.bundle.tree (state_after old.dir.trace) (state_after new.dir.trace)
 leaves_apart (Status pod) now draw old new o p = let clash : true ≡ false = p.apart in cc
 leaves_apart (Validate path) now draw old new o p = tt
 leaves_apart ImageList now draw old new o p = let clash : true ≡ false = p.apart in cc
+leaves_apart (ImageImport path) now draw old new o p = let clash : true ≡ false = p.apart in cc
+leaves_apart (ImageRm key) now draw old new o p = let clash : true ≡ false = p.apart in cc
+leaves_apart ImageGc now draw old new o p = let clash : true ≡ false = p.apart in cc
 
 abbrev IsQuiet : Line → ℕ → Draw → Outside → Outside → Outcome → Type 0
 IsQuiet line now draw old new o =
     (o ≡ Err NoMemory)
-    ⊎ (ComesQuietly line old new o × LeavesQuietly line now draw old.bundle.tree (state_after old.dir.trace) (state_after new.dir.trace))
+    ⊎ (ComesQuietly line now draw old new o × LeavesQuietly line now draw old.bundle.tree (state_after old.dir.trace) (state_after new.dir.trace))
 
-performs_quiet : (line : Line) (now : ℕ) (draw : Draw) (intent : Option Intent) (old new : Outside) (o : Outcome) → Performs line draw intent old new o → IsUndisturbed (Some line) old new → IsQuiet line now draw old new o
-performs_quiet line now draw (Some intent) old new o (inr n) u = inl n.is
-performs_quiet line now draw (Some intent) old new o (inl s) u = elim (ends_own line draw intent old new o s u) [ inl e ↦ inl e | inr own ↦ inr (comes_of line draw intent old new o s u own, leaves_quietly line now draw intent old new o s u) ]
-performs_quiet line now draw None old new o p u = elim (own_end line draw old new o p.ran u) [ inl e ↦ inl e | inr own ↦ inr (comes_apart line draw old new o p u own, leaves_apart line now draw old new o p) ]
+performs_quiet : (line : Line) (now : ℕ) (draw : Draw) (intent : Option Intent) (old new : Outside) (o : Outcome) → intent_of line now draw ≡ intent → Performs line now draw intent old new o → IsUndisturbed (Some line) old new → IsQuiet line now draw old new o
+performs_quiet line now draw (Some intent) old new o said (inr n) u = inl n.is
+performs_quiet line now draw (Some intent) old new o said (inl s) u = elim (ends_own line now draw intent old new o s u) [ inl e ↦ inl e | inr own ↦ inr (comes_of line now draw intent old new o said s u own, leaves_quietly line now draw intent old new o s u) ]
+performs_quiet line now draw None old new o said p u = elim (own_end line now draw old new o p.ran u) [ inl e ↦ inl e | inr own ↦ inr (comes_apart line now draw old new o p u own, leaves_apart line now draw old new o p) ]
 
 -- and what it comes to is said, or memory ran out
 said_quiet : (o : Outcome) (old new : Moment) (status : ℕ) → WasAnswered o status old new → Works old.out new.out → (status ≡ 14) ⊎ IsAnswer o status old new
@@ -163,7 +307,7 @@ module _ (now : ℕ) (draw : Draw) (old new : Moment) (status : ℕ) where
   quiet_of : (l : Option Line) → RunOf l now draw old new status → IsUndisturbed l old.outside new.outside → Works old.out new.out → IsQuietAnswer l now draw status old new
   quiet_of None r u works = inr (Err Usage, refl, (r.is, λ t. ap (λ (s : SinkSeen). s.bytes) r.out, r.reported), tt)
   quiet_of (Some line) (inr n) u works = inl n.is
-  quiet_of (Some line) (inl r) u works = by (performs_quiet line now draw _ old.outside new.outside r.outcome r.performs u)
+  quiet_of (Some line) (inl r) u works = by (performs_quiet line now draw (intent_of line now draw) old.outside new.outside r.outcome refl r.performs u)
     where
       by : IsQuiet line now draw old.outside new.outside r.outcome → IsQuietAnswer (Some line) now draw status old new
       by (inl e) = inl (r.is ∙ ap end_status ((subst (λ (o : Outcome). Printed o old.out new.out r.end) e r.printed).refused.0))

@@ -67,7 +67,7 @@ module _ (me : ℕ) (old new : List Event) (intent : Intent) (s : CallStep me ol
 abbrev pub any_call : Request → Bool
 any_call r = true
 
-module _ {line : Line} {draw : Draw} {intent : Intent} {old new : Outside} {o : Outcome} (s : InProcess line draw intent old new o) (t : old.dir.observed ≡ true) where
+module _ {line : Line} {now : ℕ} {draw : Draw} {intent : Intent} {old new : Outside} {o : Outcome} (s : InProcess line now draw intent old new o) (t : old.dir.observed ≡ true) where
   pub begin_part : (asked : Request → Bool) → asked (Begin intent) ≡ true → Extends asked old.dir.process old.dir.trace s.begun.dir.trace
   begin_part asked is = step_extends asked old.dir.process old.dir.trace (Begin intent) Done s.begun.dir.trace is (s.begins t)
 

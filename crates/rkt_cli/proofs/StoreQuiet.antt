@@ -47,7 +47,7 @@ one_same : (me : ℕ) (w : Namespace) (request : Request) (reply : Reply) → ((
 one_same me w request reply asked idle = harmless_all me (record empty_state { namespace = w }) (event me request reply ∷ []) (refl, tt) (asked, tt) idle
 
 -- a list without some of its openings
-fewer : (t q : Opening → Bool) (xs : List Opening) → list_any t (filter q xs) ≡ true → list_any t xs ≡ true
+pub fewer : (t q : Opening → Bool) (xs : List Opening) → list_any t (filter q xs) ≡ true → list_any t xs ≡ true
 fewer t q [] any = any
 fewer t q (x ∷ xs) any = by (q x) any (λ rest. fewer t q xs rest)
   where
@@ -55,7 +55,7 @@ fewer t q (x ∷ xs) any = by (q x) any (λ rest. fewer t q xs rest)
     by true found rest = or_map (t x) (list_any t (filter q xs)) (list_any t xs) rest found
     by false found rest = or_last (t x) (list_any t xs) (rest found)
 
-mine_only : (me : ℕ) (test : Opening → Bool) (h : Handle) (mode : Mode) (o : Opening) → elsewhere me test (locked me h mode o) ≡ elsewhere me test o
+pub mine_only : (me : ℕ) (test : Opening → Bool) (h : Handle) (mode : Mode) (o : Opening) → elsewhere me test (locked me h mode o) ≡ elsewhere me test o
 mine_only me test h mode o = by (is_handle me h o) (λ it. and_left (o.process == me) (o.handle.number == h.number) it)
   where
     by : (b : Bool) → (b ≡ true → (o.process == me) ≡ true) → elsewhere me test (cond b (record o { lock = Some mode }) o) ≡ elsewhere me test o
@@ -91,7 +91,7 @@ unchanged me w request Done done opened idle = subst (λ (x : Namespace). Tame m
 unchanged me w request (Opened handle) done opened idle = subst (λ (x : Namespace). Tame me w x) (sym (opened handle)) (as_it_is me w idle)
 unchanged me w request reply done opened idle = as_it_is me w idle
 
-opens_tame : (me : ℕ) (w : Namespace) (area : Area) (reply : Reply) → OwnsNothing me w → Tame me w (namespace_replied w me (OpenArea area) reply)
+pub opens_tame : (me : ℕ) (w : Namespace) (area : Area) (reply : Reply) → OwnsNothing me w → Tame me w (namespace_replied w me (OpenArea area) reply)
 opens_tame me w area (Opened handle) idle = record {
   same = record {
     folders = refl;
@@ -103,7 +103,7 @@ opens_tame me w area (Opened handle) idle = record {
 opens_tame me w area Done idle = as_it_is me w idle
 opens_tame me w area reply idle = as_it_is me w idle
 
-locks_tame : (me : ℕ) (w : Namespace) (handle : Handle) (reply : Reply) → OwnsNothing me w → Tame me w (namespace_replied w me (TryLock handle Shared) reply)
+pub locks_tame : (me : ℕ) (w : Namespace) (handle : Handle) (reply : Reply) → OwnsNothing me w → Tame me w (namespace_replied w me (TryLock handle Shared) reply)
 locks_tame me w handle Done idle = record {
   same = one_same me w (TryLock handle Shared) Done (or_last (not (me == me) || false) true refl) idle;
   others = λ test any. sym (any_map (elsewhere me test) (locked me handle Shared) (mine_only me test handle Shared) w.openings) ∙ any;
@@ -111,7 +111,7 @@ locks_tame me w handle Done idle = record {
 locks_tame me w handle (Opened other) idle = as_it_is me w idle
 locks_tame me w handle reply idle = as_it_is me w idle
 
-closes_tame : (me : ℕ) (w : Namespace) (handle : Handle) (reply : Reply) → OwnsNothing me w → Tame me w (namespace_replied w me (Close handle) reply)
+pub closes_tame : (me : ℕ) (w : Namespace) (handle : Handle) (reply : Reply) → OwnsNothing me w → Tame me w (namespace_replied w me (Close handle) reply)
 closes_tame me w handle Done idle = record {
   same = one_same me w (Close handle) Done (or_last (not (me == me) || false) true refl) idle;
   others = λ test any. fewer (elsewhere me test) (λ o. not (is_handle me handle o)) w.openings any;
@@ -140,7 +140,7 @@ lists_is_tame r h = or_last (is_begin r) (lists_images r || is_finish r) (by (li
     by true k = refl
     by false k = cc
 
-tame_step : (me : ℕ) (w : Namespace) (request : Request) (reply : Reply) → ((not (me == me) || is_kill request) || is_tame request) ≡ true → OwnsNothing me w →
+pub tame_step : (me : ℕ) (w : Namespace) (request : Request) (reply : Reply) → ((not (me == me) || is_kill request) || is_tame request) ≡ true → OwnsNothing me w →
     Tame me w (namespace_replied w me request reply)
 tame_step me w request reply asked idle =
     by (is_kill request) (is_begin request) (lists_images request) (is_finish request) refl refl refl refl (ap (λ b. (not b || is_kill request) || is_tame request) (sym (same_self me)) ∙ asked)

@@ -9,17 +9,22 @@ use Rattle.dir_trait.specs.Bundles.{Tree}
 use Rattle.dir_trait.specs.Pods.{pod_text}
 use Rattle.dir_trait.specs.Replies.{is_look_at}
 use Rattle.dir_trait.specs.Local.{Local, has_own_open}
+use Rattle.image_store.specs.Requests.{building_spot, imports_at}
+use Rattle.image_removal.specs.Requests.{removes_at, sweeps}
 use Rattle.phase_read.specs.Read.{is_pod_spot}
 use Rattle.dir_trait.specs.State.{DirState}
 use Rattle.dir_trait.specs.Trace.{state_after}
 use Rattle.rkt_cli.specs.declared.line.Line.{Line}
-use Rattle.rkt_cli.specs.declared.line.Line.TheVariants.{Status, Validate, ImageList}
+use Rattle.rkt_cli.specs.declared.line.Line.TheVariants.{Status, Validate, ImageList, ImageImport, ImageRm, ImageGc}
 use Rattle.rkt_cli.specs.declared.refusal.Refusal.{Refusal}
 use Rattle.rkt_cli.specs.declared.refusal.Refusal.TheVariants.{Usage, DirFault, BundleFault, OutFault, NoMemory}
 use Rattle.rkt_cli.specs.Moments.{BundleSeen, Outside, Outcome}
-use Rattle.rkt_cli.specs.Ends.{is_own_end, IsUnchanged}
+use Rattle.rkt_cli.specs.Ends.{is_own_end, IsUnchanged, StaysBeside}
 use Rattle.rkt_cli.specs.Status.{status_refusal, StatusSays, sequential_status}
 use Rattle.rkt_cli.specs.ImageList.{image_list_refusal, lists_images, ImageListSays, ListsQuietly}
+use Rattle.rkt_cli.specs.ImageImport.{image_import_refusal, ImageImportSays, ImportsQuietly, LeavesOthers}
+use Rattle.rkt_cli.specs.ImageRm.{image_rm_refusal, ImageRmSays, RemovesQuietly, is_removal_place}
+use Rattle.rkt_cli.specs.ImageGc.{image_gc_refusal, ImageGcSays, SweepsQuietly, is_swept_place}
 use Rattle.rkt_cli.specs.Validate.{validate_refusal, ValidateSays, ReadsFile, sequential_validate}
 
 -- whether it works on the directory, and whether it reads the bundle
@@ -27,11 +32,17 @@ abbrev pub uses_dir : Line → Bool
 uses_dir (Status pod) = true
 uses_dir (Validate path) = false
 uses_dir ImageList = true
+uses_dir (ImageImport path) = true
+uses_dir (ImageRm key) = true
+uses_dir ImageGc = true
 
 abbrev pub reads_bundle : Line → Bool
 reads_bundle (Status pod) = false
 reads_bundle (Validate path) = true
 reads_bundle ImageList = false
+reads_bundle (ImageImport path) = true
+reads_bundle (ImageRm key) = false
+reads_bundle ImageGc = false
 
 -- what a process says when it begins that has no times of its own
 abbrev pub intent_for : Kind → List ℕ → ℕ → Draw → Intent
@@ -42,19 +53,30 @@ abbrev pub intent_of : Line → ℕ → Draw → Option Intent
 intent_of (Status pod) now draw = Some (intent_for kind.Status (pod_text pod.bytes) now draw)
 intent_of (Validate path) now draw = None
 intent_of ImageList now draw = Some (intent_for kind.ImageList [] now draw)
+intent_of (ImageImport path) now draw = Some (intent_for kind.ImageImport [] now draw)
+intent_of (ImageRm key) now draw = Some (intent_for kind.ImageRm [] now draw)
+intent_of ImageGc now draw = Some (intent_for kind.ImageGc [] now draw)
 
 -- what it asks of the directory, which may be of what was drawn for it: `status` looks at the pod's six locations, `image list` asks
--- for images and their lock
+-- for images and their lock, `image import` also for the lock of incoming and for its own folder; `image rm` for the locks of images
+-- and removed, for its image's move and for the deletion of what was moved; `image gc` for the locks and listings of incoming and
+-- removed, for moves from the first to the second and for deletions there
 abbrev pub asks : Line → Draw → Request → Bool
 asks (Status pod) draw request = is_look_at (is_pod_spot pod) request
 asks (Validate path) draw request = false
 asks ImageList draw request = lists_images request
+asks (ImageImport path) draw request = imports_at (building_spot draw.uuid) request
+asks (ImageRm key) draw request = removes_at key draw.uuid request
+asks ImageGc draw request = sweeps request
 
 -- the refusals of its own
 abbrev pub own_refusal : Line → Refusal → Bool
 own_refusal (Status pod) refusal = status_refusal refusal
 own_refusal (Validate path) refusal = validate_refusal refusal
 own_refusal ImageList refusal = image_list_refusal refusal
+own_refusal (ImageImport path) refusal = image_import_refusal refusal
+own_refusal (ImageRm key) refusal = image_rm_refusal refusal
+own_refusal ImageGc refusal = image_gc_refusal refusal
 
 -- the refusals that it may have
 abbrev pub may : Line → Refusal → Bool
@@ -70,27 +92,42 @@ abbrev pub IsReady : Line → Local → Type 0
 IsReady (Status pod) m = has_own_open m (pod_text pod.bytes) ≡ false
 IsReady (Validate path) m = Unit {0}
 IsReady ImageList m = Unit {0}
+IsReady (ImageImport path) m = Unit {0}
+IsReady (ImageRm key) m = Unit {0}
+IsReady ImageGc m = Unit {0}
 
 -- what it did, where it came to an end of its own
-abbrev pub CommandSays : Line → Outside → Outside → Outcome → Type 0
-CommandSays (Status pod) old new o = is_own_end o ≡ true → StatusSays pod old.dir new.dir o
-CommandSays (Validate path) old new o = is_own_end o ≡ true → ValidateSays path old.bundle o
-CommandSays ImageList old new o = ImageListSays old.dir new.dir o
+abbrev pub CommandSays : Line → ℕ → Draw → Outside → Outside → Outcome → Type 0
+CommandSays (Status pod) now draw old new o = is_own_end o ≡ true → StatusSays pod old.dir new.dir o
+CommandSays (Validate path) now draw old new o = is_own_end o ≡ true → ValidateSays path old.bundle o
+CommandSays ImageList now draw old new o = ImageListSays old.dir new.dir o
+CommandSays (ImageImport path) now draw old new o = ImageImportSays path now draw.uuid old new o
+CommandSays (ImageRm key) now draw old new o = ImageRmSays key draw.uuid old.dir new.dir o
+CommandSays ImageGc now draw old new o = ImageGcSays old.dir new.dir o
 
 -- what it reads of the bundle
 abbrev pub ReadsOnly : Line → BundleSeen → BundleSeen → Type 0
 ReadsOnly (Status pod) old new = Unit {0}
 ReadsOnly (Validate path) old new = ReadsFile path old new
 ReadsOnly ImageList old new = Unit {0}
+ReadsOnly (ImageImport path) old new = Unit {0}
+ReadsOnly (ImageRm key) old new = Unit {0}
+ReadsOnly ImageGc old new = Unit {0}
 
 -- what it comes to where nobody else steps: for `status` and `validate` by the state and the bundle before
-abbrev pub ComesQuietly : Line → Outside → Outside → Outcome → Type 0
-ComesQuietly (Status pod) old new o = o ≡ sequential_status pod (state_after old.dir.trace)
-ComesQuietly (Validate path) old new o = o ≡ sequential_validate path old.bundle.tree
-ComesQuietly ImageList old new o = ListsQuietly old.dir new.dir o
+abbrev pub ComesQuietly : Line → ℕ → Draw → Outside → Outside → Outcome → Type 0
+ComesQuietly (Status pod) now draw old new o = o ≡ sequential_status pod (state_after old.dir.trace)
+ComesQuietly (Validate path) now draw old new o = o ≡ sequential_validate path old.bundle.tree
+ComesQuietly ImageList now draw old new o = ListsQuietly old.dir new.dir o
+ComesQuietly (ImageImport path) now draw old new o = ImportsQuietly path now draw.uuid old new o
+ComesQuietly (ImageRm key) now draw old new o = RemovesQuietly key draw.uuid old.dir new.dir o
+ComesQuietly ImageGc now draw old new o = SweepsQuietly old.dir new.dir o
 
 -- and what it leaves in the directory then, from one state to the other: by its moment, its draw and the bundle's tree
 abbrev pub LeavesQuietly : Line → ℕ → Draw → Tree → DirState → DirState → Type 0
 LeavesQuietly (Status pod) now draw tree old new = IsUnchanged old new
 LeavesQuietly (Validate path) now draw tree old new = Unit {0}
 LeavesQuietly ImageList now draw tree old new = IsUnchanged old new
+LeavesQuietly (ImageImport path) now draw tree old new = LeavesOthers draw.uuid old new
+LeavesQuietly (ImageRm key) now draw tree old new = StaysBeside (is_removal_place key draw.uuid) old new
+LeavesQuietly ImageGc now draw tree old new = StaysBeside is_swept_place old new

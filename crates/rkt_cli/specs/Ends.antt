@@ -1,5 +1,6 @@
 -- How a command may come to its end.
-use Rattle.std.specs.Prelude.{◌≡◌, ℕ, Bool, true, false, Ok, Err}
+use Rattle.std.specs.Prelude.{◌≡◌, ℕ, Bool, true, false, Some, slice_get, Ok, Err}
+use Rattle.dir_model.specs.declared.spot.Spot.{Spot}
 use Rattle.dir_trait.specs.State.{DirState, is_owned}
 use Rattle.rkt_cli.specs.declared.refusal.Refusal.{Refusal}
 use Rattle.rkt_cli.specs.declared.refusal.Refusal.TheVariants.{DirFault, BundleFault, NoMemory}
@@ -23,3 +24,9 @@ is_common refusal = false
 pub record IsUnchanged (old new : DirState) : Type 0 where
   pub folders : new.namespace.folders ≡ old.namespace.folders
   pub owned : (folder : ℕ) → is_owned new.namespace folder ≡ is_owned old.namespace folder
+
+-- each folder that stood at a location of another kind than these stands there still
+abbrev pub StaysBeside : (Spot → Bool) → DirState → DirState → Type 0
+StaysBeside touched old new =
+    (folder : ℕ) (place : Spot) → slice_get old.namespace.folders folder ≡ Some (Some place) → touched place ≡ false →
+    slice_get new.namespace.folders folder ≡ Some (Some place)

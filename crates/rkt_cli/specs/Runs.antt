@@ -18,7 +18,7 @@ use Rattle.rkt_cli.specs.Moments.{Outside, Moment, SinkSeen, Outcome}
 use Rattle.rkt_cli.specs.Commands.{uses_dir, intent_of, asks, may, CommandSays, ReadsOnly}
 
 -- what a command leaves and answers, whichever it is
-pub record CommandRan (line : Line) (draw : Draw) (old new : Outside) (o : Outcome) : Type 0 where
+pub record CommandRan (line : Line) (now : ℕ) (draw : Draw) (old new : Outside) (o : Outcome) : Type 0 where
   pub same : new.dir.process ≡ old.dir.process
   pub local : new.dir.local ≡ old.dir.local
   pub faults : old.dir.faults ≤ new.dir.faults
@@ -28,7 +28,7 @@ pub record CommandRan (line : Line) (draw : Draw) (old new : Outside) (o : Outco
   pub refusals : IfErr o (λ r. may line r ≡ true)
   pub extends : old.dir.observed ≡ true → Extends (asks line draw) old.dir.process old.dir.trace new.dir.trace
   pub reads : ReadsOnly line old.bundle new.bundle
-  pub says : CommandSays line old new o
+  pub says : CommandSays line now draw old new o
 
 -- what a process knows when it has begun so, and when it has finished
 abbrev pub begun_local : Intent → Local
@@ -38,7 +38,7 @@ abbrev pub ended_local : Intent → Local
 ended_local intent = record { intent = Some intent; finished = true; holdings = [] }
 
 -- the process began, the command ran, and the process finished
-pub record InProcess (line : Line) (draw : Draw) (intent : Intent) (old new : Outside) (o : Outcome) : Type 0 where
+pub record InProcess (line : Line) (now : ℕ) (draw : Draw) (intent : Intent) (old new : Outside) (o : Outcome) : Type 0 where
   pub uses : uses_dir line ≡ true
   pub begun : Outside
   pub ended : Outside
@@ -48,7 +48,7 @@ pub record InProcess (line : Line) (draw : Draw) (intent : Intent) (old new : Ou
   pub started : begun.dir.local ≡ begun_local intent
   pub begins : old.dir.observed ≡ true → CallStep old.dir.process old.dir.trace (Begin intent) Done begun.dir.trace
   pub bundle_before : begun.bundle ≡ old.bundle
-  pub ran : CommandRan line draw begun ended o
+  pub ran : CommandRan line now draw begun ended o
   pub keeps : old.dir.observed ≡ true → StaysConforming intent begun.dir ended.dir
   pub finishes : old.dir.observed ≡ true → CallStep ended.dir.process ended.dir.trace Finish Done new.dir.trace
   pub faults : new.dir.faults ≡ ended.dir.faults
@@ -66,14 +66,14 @@ pub record NeverBegan (intent : Intent) (old new : Outside) (o : Outcome) : Type
   pub bundle : new.bundle ≡ old.bundle
 
 -- the command ran, and made no call on the directory
-pub record Apart (line : Line) (draw : Draw) (old new : Outside) (o : Outcome) : Type 0 where
+pub record Apart (line : Line) (now : ℕ) (draw : Draw) (old new : Outside) (o : Outcome) : Type 0 where
   pub apart : uses_dir line ≡ false
   pub dir : new.dir ≡ old.dir
-  pub ran : CommandRan line draw old new o
+  pub ran : CommandRan line now draw old new o
 
-abbrev pub Performs : Line → Draw → Option Intent → Outside → Outside → Outcome → Type 0
-Performs line draw None old new o = Apart line draw old new o
-Performs line draw (Some intent) old new o = InProcess line draw intent old new o ⊎ NeverBegan intent old new o
+abbrev pub Performs : Line → ℕ → Draw → Option Intent → Outside → Outside → Outcome → Type 0
+Performs line now draw None old new o = Apart line now draw old new o
+Performs line now draw (Some intent) old new o = InProcess line now draw intent old new o ⊎ NeverBegan intent old new o
 
 -- how a run ended
 abbrev pub End : Type 0
@@ -122,10 +122,10 @@ Reported (Ok done) old new = new ≡ old
 Reported (Err refusal) old new = Complained refusal old new
 
 -- the words are a command, and it ran
-pub record RunOfLine (line : Line) (draw : Draw) (intent : Option Intent) (old new : Moment) (status : ℕ) : Type 0 where
+pub record RunOfLine (line : Line) (now : ℕ) (draw : Draw) (intent : Option Intent) (old new : Moment) (status : ℕ) : Type 0 where
   pub outcome : Outcome
   pub end : End
-  pub performs : Performs line draw intent old.outside new.outside outcome
+  pub performs : Performs line now draw intent old.outside new.outside outcome
   pub printed : Printed outcome old.out new.out end
   pub reported : Reported end old.err new.err
   pub is : status ≡ end_status end
@@ -140,7 +140,7 @@ pub record RunOfNothing (reason : Refusal) (old new : Moment) (status : ℕ) : T
 -- words that are a command are run, but where memory ran out before
 abbrev pub RunOf : Option Line → ℕ → Draw → Moment → Moment → ℕ → Type 0
 RunOf None now draw old new status = RunOfNothing Usage old new status
-RunOf (Some line) now draw old new status = RunOfLine line draw (intent_of line now draw) old new status ⊎ RunOfNothing NoMemory old new status
+RunOf (Some line) now draw old new status = RunOfLine line now draw (intent_of line now draw) old new status ⊎ RunOfNothing NoMemory old new status
 
 -- a run of these words, whatever they are
 pub record RunIs (line : Option Line) (now : ℕ) (draw : Draw) (old new : Moment) (status : ℕ) : Type 0 where

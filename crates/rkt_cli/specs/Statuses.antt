@@ -1,6 +1,7 @@
 -- What a caller is told of a run.
-use Rattle.std.specs.Prelude.{◌≡◌, ◌⊎◌, ℕ, Bool, true, false, ◌||◌, ◌==◌, List, [], ◌∷◌, ◌++◌, Option, Some, None, Ok, Err, IsOk}
+use Rattle.std.specs.Prelude.{◌≡◌, ◌≢◌, ◌⊎◌, ℕ, Bool, true, false, ◌||◌, ◌==◌, List, [], ◌∷◌, ◌++◌, Option, Some, None, Ok, Err, IsOk}
 use Rattle.std.specs.List.{list_any}
+use Rattle.dir_model.specs.declared.area.Area.{Area}
 use Rattle.dir_model.specs.declared.area.Area.TheVariants.{Images}
 use Rattle.dir_model.specs.declared.area.Phase.{Phase}
 use Rattle.dir_model.specs.declared.intent.Draw.{Draw}
@@ -14,21 +15,36 @@ use Rattle.dir_trait.specs.Quiet.{Quiet}
 use Rattle.dir_trait.specs.Sinks.{WritesPart}
 use Rattle.dir_trait.specs.State.{DirState}
 use Rattle.dir_trait.specs.Trace.{state_after}
+use Rattle.hex.specs.Hex.{encode_lower}
 use Rattle.ac_types.specs.FaultNumbers.{number_of}
+use Rattle.ac_types.specs.Ids.{id_text}
 use Rattle.ac_types.specs.Outcomes.{fails}
 use Rattle.ac_types.specs.declared.fault.FaultKind.{FaultKind}
+use Rattle.ac_types.specs.declared.store_key.StoreKey.{StoreKey}
 use Rattle.dep_match.specs.declared.stored.Stored.{Stored}
 use Rattle.manifests.specs.DocumentData.{DocumentData, any_manifest}
+use Rattle.bundle_image.specs.declared.image.BundleImage.{BundleImage}
+use Rattle.bundle_image.specs.declared.refusal.BundleRefusal.{BundleRefusal}
+use Rattle.bundle_image.specs.Images.{IsImage, FailsBundle}
+use Rattle.image_store.specs.Causes.{WasThere, LacksPart as LacksStored, UnlikeListed, StrayCause}
+use Rattle.image_store.specs.Imports.{key_of, digest_of, OfBundle}
+use Rattle.image_store.specs.Refusals.{bundle_refusal}
+use Rattle.image_removal.specs.declared.pass.SweepLine.{SweepLine}
 use Rattle.phase_read.specs.Read.{LeftOut, stages}
 use Rattle.rkt_cli.specs.declared.line.Line.{Line}
-use Rattle.rkt_cli.specs.declared.line.Line.TheVariants.{Status, Validate, ImageList}
+use Rattle.rkt_cli.specs.declared.line.Line.TheVariants.{Status, Validate, ImageList, ImageImport, ImageRm, ImageGc}
 use Rattle.rkt_cli.specs.declared.refusal.Refusal.{Refusal}
-use Rattle.rkt_cli.specs.declared.refusal.Refusal.TheVariants.{Usage, Busy, BadManifest, NoFile, Damaged}
+use Rattle.rkt_cli.specs.declared.refusal.Refusal.TheVariants.{Usage, Busy, BadManifest, NoImage, Limit, NoFile, Conflict, Damaged}
 use Rattle.rkt_cli.specs.Texts.{status_of, state_text, valid_text}
 use Rattle.rkt_cli.specs.Moments.{DirSeen, BundleSeen, SinkSeen, Outside, Moment, Outcome}
 use Rattle.rkt_cli.specs.Commands.{uses_dir, reads_bundle, intent_of, asks, ReadsOnly, ComesQuietly, LeavesQuietly}
 use Rattle.rkt_cli.specs.Validate.{sequential_validate}
 use Rattle.rkt_cli.specs.ImageList.{images_text, LacksPart, IsHeldElsewhere}
+use Rattle.rkt_cli.specs.ImageImport.{import_refusal, source_of, PrintsKey, IsAreaHeld}
+use Rattle.rkt_cli.specs.Meanwhile.{Meanwhile}
+use Rattle.rkt_cli.specs.ImageRm.{removed_text, FindsBusy, HasFoundNone, HasMetStray}
+use Rattle.rkt_cli.specs.ImageGc.{sweep_texts, HasMetStrayInSweep}
+use Rattle.rkt_cli.specs.Conforming.{shown_at}
 use Rattle.rkt_cli.specs.Runs.{Complained, ended_local}
 
 -- whether the words are a command on the directory, and whether they are one that reads the bundle
@@ -42,7 +58,7 @@ reads_bundle_in (Some line) = reads_bundle line
 
 -- the exit statuses
 abbrev pub IsStatus : ℕ → Type 0
-IsStatus status = list_any (λ n. n == status) (0 ∷ 1 ∷ 2 ∷ 5 ∷ 6 ∷ 9 ∷ 10 ∷ 12 ∷ 14 ∷ 15 ∷ []) ≡ true
+IsStatus status = list_any (λ n. n == status) (0 ∷ 1 ∷ 2 ∷ 5 ∷ 6 ∷ 7 ∷ 8 ∷ 9 ∷ 10 ∷ 12 ∷ 14 ∷ 15 ∷ 20 ∷ []) ≡ true
 
 -- each of the six areas was without the pod at an own step, one after the other
 abbrev pub IsMissing : Option Line → DirSeen → DirSeen → Type 0
@@ -56,9 +72,23 @@ pub record IsUnreadable (path : List ℕ) (bundle : BundleSeen) (old new : SinkS
   pub file : bundle.observed ≡ true → (bytes : List ℕ) × (file_bytes (bundle.tree path) ≡ Some bytes) × (any_manifest bytes ≡ fails at kind)
   pub said : Complained (BadManifest at (number_of kind)) old new
 
+-- the bundle holds no image, by its first fault, of which this was said
+pub record IsBadBundle (path : List ℕ) (refusal : Refusal) (bundle : BundleSeen) (old new : SinkSeen) : Type 0 where
+  pub fault : BundleRefusal
+  pub is : refusal ≡ import_refusal (bundle_refusal fault)
+  pub first : bundle.observed ≡ true → FailsBundle bundle.tree path fault
+  pub said : Complained refusal old new
+
+-- a file has no reading as what it is to be: a manifest, or in a bundle an ID or a listing
 abbrev pub IsBadManifest : Option Line → BundleSeen → SinkSeen → SinkSeen → Type 0
 IsBadManifest (Some (Validate path)) bundle old new = IsUnreadable path bundle old new
+IsBadManifest (Some (ImageImport path)) bundle old new = (at : List ℕ) × (number : ℕ) × IsBadBundle path (BadManifest at number) bundle old new
 IsBadManifest _ bundle old new = ⊥
+
+-- the listing of a bundle passes a limit
+abbrev pub IsLimit : Option Line → BundleSeen → SinkSeen → SinkSeen → Type 0
+IsLimit (Some (ImageImport path)) bundle old new = (limit : ℕ) × IsBadBundle path (Limit limit) bundle old new
+IsLimit _ bundle old new = ⊥
 
 -- no file stands in the bundle at the path, which was said
 pub record IsNoFile (path : List ℕ) (bundle : BundleSeen) (old new : SinkSeen) : Type 0 where
@@ -71,10 +101,30 @@ pub record IsDamage (before after : DirSeen) (old new : SinkSeen) : Type 0 where
   pub lacks : LacksPart path before after
   pub said : Complained (Damaged path) old new
 
+-- a part of the stored image wasn't there or had no reading, or a file of the bundle isn't what its line says, and its path was said
+pub record IsImportDamage (path : List ℕ) (image : BundleImage) (before after : Outside) (old new : SinkSeen) : Type 0 where
+  pub at : List ℕ
+  pub lacks : LacksStored before.dir.observed (key_of image) at (shown_at before.dir) (shown_at after.dir) ⊎ UnlikeListed (source_of path before.bundle) image.listing at
+  pub said : Complained (Damaged at) old new
+
+-- an image with the key and another digest was there, and the key and both digests were said
+pub record IsConflict (image : BundleImage) (before after : DirSeen) (old new : SinkSeen) : Type 0 where
+  pub stored : List ℕ
+  pub differ : stored ≢ digest_of image
+  pub there : before.observed ≡ true → WasThere (key_of image) stored (shown_at before) (shown_at after)
+  pub said : Complained (Conflict (id_text (key_of image).bytes) (encode_lower stored) (encode_lower (digest_of image))) old new
+
+-- the bundle holds no image, for a file that isn't there or an entry that isn't carried, or its image isn't whole, or another
+abbrev pub IsUnlike : List ℕ → Outside → Outside → SinkSeen → SinkSeen → Type 0
+IsUnlike path before after old new =
+    ((refusal : Refusal) × (status_of refusal ≡ 15) × IsBadBundle path refusal before.bundle old new)
+    ⊎ OfBundle (source_of path before.bundle) (λ image. IsImportDamage path image before after old new ⊎ IsConflict image before.dir after.dir old new)
+
 -- what a command asked for isn't there, or isn't whole
 abbrev pub IsLacking : Option Line → Outside → Outside → SinkSeen → SinkSeen → Type 0
 IsLacking (Some (Validate path)) before after old new = IsNoFile path before.bundle old new
 IsLacking (Some ImageList) before after old new = IsDamage before.dir after.dir old new
+IsLacking (Some (ImageImport path)) before after old new = IsUnlike path before after old new
 IsLacking _ before after old new = ⊥
 
 -- another process held the lock of the images exclusively at an own step, which was said
@@ -82,10 +132,42 @@ pub record IsImagesBusy (before after : DirSeen) (old new : SinkSeen) : Type 0 w
   pub held : before.observed ≡ true → IsHeldElsewhere before after
   pub said : Complained (Busy Images) old new
 
+-- another process held the lock of an area exclusively at an own step, and the area was said
+pub record IsAreaBusy (before after : DirSeen) (old new : SinkSeen) : Type 0 where
+  pub area : Area
+  pub held : before.observed ≡ true → IsAreaHeld area before after
+  pub said : Complained (Busy area) old new
+
+-- another process held the lock of the images at an own step, and nothing but that lock was asked for, and so it was said
+pub record IsRemovalBusy (before after : DirSeen) (old new : SinkSeen) : Type 0 where
+  pub held : before.observed ≡ true → Meanwhile FindsBusy before.process before.trace after.trace
+  pub said : Complained (Busy Images) old new
+
 -- another process held a lock that the command asked for
 abbrev pub IsLockBusy : Option Line → DirSeen → DirSeen → SinkSeen → SinkSeen → Type 0
 IsLockBusy (Some ImageList) before after old new = IsImagesBusy before after old new
+IsLockBusy (Some (ImageImport path)) before after old new = IsAreaBusy before after old new
+IsLockBusy (Some (ImageRm key)) before after old new = IsRemovalBusy before after old new
 IsLockBusy _ before after old new = ⊥
+
+-- no image had the key when its own move was answered so, before which nothing but the lock of images was asked for; and the key was said
+pub record IsKeyUnknown (key : StoreKey) (draw : Draw) (before after : DirSeen) (old new : SinkSeen) : Type 0 where
+  pub found : before.observed ≡ true → HasFoundNone key draw.uuid before after
+  pub said : Complained (NoImage (id_text key.bytes)) old new
+
+-- no image has the key that was given
+abbrev pub IsNoImage : Option Line → Draw → DirSeen → DirSeen → SinkSeen → SinkSeen → Type 0
+IsNoImage (Some (ImageRm key)) draw before after old new = IsKeyUnknown key draw before after old new
+IsNoImage _ draw before after old new = ⊥
+
+-- of `image import`: an answer came that the folder which the process builds doesn't explain, or the image that stood at its key
+-- vanished; of `image rm` and `image gc`: one came that what the locks keep doesn't explain
+abbrev pub IsStray : Option Line → Outside → Outside → Type 0
+IsStray (Some (ImageImport path)) before after =
+    OfBundle (source_of path before.bundle) (λ image. before.dir.observed ≡ true → StrayCause (key_of image) (shown_at before.dir) (shown_at after.dir))
+IsStray (Some (ImageRm key)) before after = before.dir.observed ≡ true → HasMetStray before.dir after.dir
+IsStray (Some ImageGc) before after = before.dir.observed ≡ true → HasMetStrayInSweep before.dir after.dir
+IsStray _ before after = ⊥
 
 -- the process's own requests: its begin, those of the command, its finish
 abbrev pub asks_in : Option Line → Draw → Request → Bool
@@ -93,17 +175,20 @@ asks_in None draw request = false
 asks_in (Some line) draw request = is_begin request || (asks line draw request || is_finish request)
 
 -- a text that the command prints
-abbrev pub Prints : Option Line → List ℕ → Type 0
-Prints (Some (Status pod)) text = (phase : Phase) × (text ≡ state_text phase)
-Prints (Some (Validate path)) text = (manifest : DocumentData) × (text ≡ valid_text manifest)
-Prints (Some ImageList) text = (images : List Stored) × (text ≡ images_text images)
-Prints None text = ⊥
+abbrev pub Prints : Option Line → BundleSeen → List ℕ → Type 0
+Prints (Some (Status pod)) bundle text = (phase : Phase) × (text ≡ state_text phase)
+Prints (Some (Validate path)) bundle text = (manifest : DocumentData) × (text ≡ valid_text manifest)
+Prints (Some ImageList) bundle text = (images : List Stored) × (text ≡ images_text images)
+Prints (Some (ImageImport path)) bundle text = PrintsKey path bundle text
+Prints (Some (ImageRm key)) bundle text = text ≡ removed_text key
+Prints (Some ImageGc) bundle text = (lines : List SweepLine) × (text ≡ sweep_texts lines)
+Prints None bundle text = ⊥
 
 -- with status 0 the command's text was written, with 12 and 14 a part of it from its start or nothing, and else nothing
-abbrev pub IsOutput : Option Line → ℕ → List ℕ → List ℕ → Type 0
-IsOutput line status old new =
-    ((status ≡ 0) × (text : List ℕ) × Prints line text × (new ≡ old ++ text))
-    ⊎ (((status ≡ 12) ⊎ (status ≡ 14)) × (text : List ℕ) × Prints line text × WritesPart old text new)
+abbrev pub IsOutput : Option Line → BundleSeen → ℕ → List ℕ → List ℕ → Type 0
+IsOutput line bundle status old new =
+    ((status ≡ 0) × (text : List ℕ) × Prints line bundle text × (new ≡ old ++ text))
+    ⊎ (((status ≡ 12) ⊎ (status ≡ 14)) × (text : List ℕ) × Prints line bundle text × WritesPart old text new)
     ⊎ (((status == 0) ≡ false) × (new ≡ old))
 
 -- with status 0 nothing was said, and else the message of a refusal with that status
@@ -126,9 +211,9 @@ ReadsIn None old new = Unit {0}
 ReadsIn (Some line) old new = ReadsOnly line old new
 
 -- what a run comes to where nobody else steps
-abbrev pub ComesIn : Option Line → Outside → Outside → Outcome → Type 0
-ComesIn None old new o = o ≡ Err Usage
-ComesIn (Some line) old new o = ComesQuietly line old new o
+abbrev pub ComesIn : Option Line → ℕ → Draw → Outside → Outside → Outcome → Type 0
+ComesIn None now draw old new o = o ≡ Err Usage
+ComesIn (Some line) now draw old new o = ComesQuietly line now draw old new o
 
 -- the status is an outcome's, and so is what was written
 abbrev pub IsAnswer : Outcome → ℕ → Moment → Moment → Type 0
@@ -157,9 +242,17 @@ abbrev pub IsQuietAnswer : Option Line → ℕ → Draw → ℕ → Moment → M
 IsQuietAnswer line now draw status old new =
     (status ≡ 14)
     ⊎ ((o : Outcome)
-    × ComesIn line old.outside new.outside o
+    × ComesIn line now draw old.outside new.outside o
     × IsAnswer o status old new
     × LeavesIn line now draw old.outside.bundle.tree (state_after old.outside.dir.trace) (state_after new.outside.dir.trace))
+
+-- the bundle's first fault was answered, or the bundle has an image; or the bundle failed, or memory ran out
+abbrev pub IsBundleJudgement : List ℕ → ℕ → Moment → Moment → Type 0
+IsBundleJudgement path status old new =
+    (status ≡ 10)
+    ⊎ (status ≡ 14)
+    ⊎ ((fault : BundleRefusal) × FailsBundle old.outside.bundle.tree path fault × IsAnswer (Err (import_refusal (bundle_refusal fault))) status old new)
+    ⊎ ((image : BundleImage) × IsImage old.outside.bundle.tree path image)
 
 -- the run answered as the bundle's file is to be judged, or the bundle failed, the line wasn't written or memory ran out
 abbrev pub IsJudgement : Option Line → ℕ → Moment → Moment → Type 0
@@ -168,4 +261,5 @@ IsJudgement (Some (Validate path)) status old new =
     ⊎ (status ≡ 14)
     ⊎ ((status ≡ 12) × IsOk (sequential_validate path old.outside.bundle.tree))
     ⊎ IsAnswer (sequential_validate path old.outside.bundle.tree) status old new
+IsJudgement (Some (ImageImport path)) status old new = IsBundleJudgement path status old new
 IsJudgement _ status old new = Unit {0}

@@ -1,7 +1,10 @@
 //! The top call: the words of a command line, what the command does, what it writes and its status.
 #![tactic(auto)]
 
+mod image_gc;
+mod image_import;
 mod image_list;
+mod image_rm;
 mod line;
 mod output;
 mod perform;

@@ -1,8 +1,8 @@
 // The words of a command line.
 ghost use Rattle.std.specs.Prelude.{◌≡◌, Some};
-ghost use Rattle.rkt_cli.specs.Lines.{is_file_word, command_of, line_in, IsReading};
+ghost use Rattle.rkt_cli.specs.Lines.{is_file_word, command_of, removal_of, long_command_of, line_in, IsReading};
 
-use ac_types::Text;
+use ac_types::{StoreKey, Text};
 use dir_trait::PodId;
 use std::alloc::Global;
 
@@ -15,6 +15,12 @@ pub enum Line {
     Validate(Text),
     /// `image list`: print the images of the store.
     ImageList,
+    /// `image import PATH`: import the image of a bundle into the store.
+    ImageImport(Text),
+    /// `image rm KEY`: remove an image from the store.
+    ImageRm(StoreKey),
+    /// `image gc`: sweep what dead processes left in the store.
+    ImageGc,
 }
 
 /// Why words weren't read.
@@ -59,17 +65,59 @@ fn read_command(alloc: Global, command: &str, word: &str) -> Result<Line, WordsE
     if command == "image" && word == "list" {
         return Ok(Line::ImageList);
     }
+    if command == "image" && word == "gc" {
+        return Ok(Line::ImageGc);
+    }
+    Err(WordsError::Usage)
+}
+
+fn bundle_line(alloc: Global, word: &str) -> Result<Line, WordsError>
+    ensures { IsReading (Some (Line.ImageImport word.now)) result }
+{
+    match Text::of(alloc, word) {
+        Ok(path) => Ok(Line::ImageImport(path)),
+        Err(_) => Err(WordsError::NoMemory),
+    }
+}
+
+fn removal_line(word: &str) -> Result<Line, WordsError>
+    ensures { IsReading (removal_of word.now) result }
+{
+    match StoreKey::parse(word) {
+        Ok(key) => Ok(Line::ImageRm(key)),
+        Err(_) => Err(WordsError::Usage),
+    }
+}
+
+fn read_long_command(
+    alloc: Global,
+    command: &str,
+    word: &str,
+    last: &str,
+) -> Result<Line, WordsError>
+    ensures { IsReading (long_command_of command.now word.now last.now) result }
+{
+    if command == "image" && word == "import" && is_file(last) {
+        return bundle_line(alloc, last);
+    }
+    if command == "image" && word == "rm" {
+        return removal_line(last);
+    }
     Err(WordsError::Usage)
 }
 
 /// The command that the words are. `Usage` where they are none: an unknown word, too few or too many
-/// words, a uuid that isn't whole, hyphenated and in lower case, or a file that is empty or an option.
+/// words, a uuid that isn't whole, hyphenated and in lower case, a path that is empty or an option, or
+/// a key that isn't `sha512-` and 64 or 128 hex digits in lower case.
 /// `NoMemory` only where they are one.
 pub fn read_line(alloc: Global, words: &[String]) -> Result<Line, WordsError>
     ensures { IsReading (line_in words.now) result }
 {
     match words {
         [command, word] => read_command(alloc, command.as_str(), word.as_str()),
+        [command, word, last] => {
+            read_long_command(alloc, command.as_str(), word.as_str(), last.as_str())
+        }
         _ => Err(WordsError::Usage),
     }
 }

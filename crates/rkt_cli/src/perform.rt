@@ -7,7 +7,10 @@ ghost use Rattle.rkt_cli.specs.Conforming.{StaysConforming};
 ghost use Rattle.rkt_cli.specs.Commands.{uses_dir, reads_bundle, intent_for, intent_of, IsReady};
 ghost use Rattle.rkt_cli.specs.Runs.{CommandRan, Performs};
 
+use crate::image_gc::image_gc;
+use crate::image_import::image_import;
 use crate::image_list::image_list;
+use crate::image_rm::image_rm;
 use crate::line::Line;
 use crate::output::Output;
 use crate::refusal::Refusal;
@@ -40,6 +43,9 @@ fn line_intent(line: &Line, now: u64, draw: &Draw) -> Option<Intent>
         Line::Status(pod) => Some(intent_for(Kind::Status, PodPrefix::of(*pod), now, draw)),
         Line::Validate(_) => None,
         Line::ImageList => Some(intent_for(Kind::ImageList, PodPrefix::empty(), now, draw)),
+        Line::ImageImport(_) => Some(intent_for(Kind::ImageImport, PodPrefix::empty(), now, draw)),
+        Line::ImageRm(_) => Some(intent_for(Kind::ImageRm, PodPrefix::empty(), now, draw)),
+        Line::ImageGc => Some(intent_for(Kind::ImageGc, PodPrefix::empty(), now, draw)),
     }
 }
 
@@ -59,12 +65,15 @@ fn act<D: Dir, B: Bundle>(
     ensures unread { reads_bundle line.now ≡ false → bundle.new ≡ bundle.old }
     ensures keeps { D.observed ≡ true → (intent : Intent) → intent_of line.now now draw.now ≡ Some intent
         → StaysConforming intent (dir_at D.Dir dir.old) (dir_at D.Dir dir.new) }
-    ensures ran { CommandRan line.now draw.now (outside_at D.Dir B.Bundle dir.old bundle.old) (outside_at D.Dir B.Bundle dir.new bundle.new) result }
+    ensures ran { CommandRan line.now now draw.now (outside_at D.Dir B.Bundle dir.old bundle.old) (outside_at D.Dir B.Bundle dir.new bundle.new) result }
 {
     match line {
         Line::Status(pod) => pod_status(alloc, *pod, dir),
         Line::Validate(path) => validate(alloc, path, bundle),
         Line::ImageList => image_list(alloc, dir),
+        Line::ImageImport(path) => image_import(alloc, path, now, draw.uuid, dir, bundle),
+        Line::ImageRm(key) => image_rm(alloc, *key, draw.uuid, dir),
+        Line::ImageGc => image_gc(alloc, dir),
     }
 }
 
@@ -82,7 +91,7 @@ fn act_in_process<D: Dir, B: Bundle>(
     requires uses { uses_dir line.now ≡ true }
     requires said { intent_of line.now now draw.now ≡ Some intent }
     ensures unread { reads_bundle line.now ≡ false → bundle.new ≡ bundle.old }
-    ensures performs { Performs line.now draw.now (Some intent) (outside_at D.Dir B.Bundle dir.old bundle.old)
+    ensures performs { Performs line.now now draw.now (Some intent) (outside_at D.Dir B.Bundle dir.old bundle.old)
         (outside_at D.Dir B.Bundle dir.new bundle.new) result }
 {
     match dir.begin(alloc, intent) {
@@ -108,7 +117,7 @@ pub fn perform<D: Dir, B: Bundle>(
     requires fresh { (D.shown dir.old).local ≡ nothing_local }
     ensures apart { uses_dir line.now ≡ false → dir.new ≡ dir.old }
     ensures unread { reads_bundle line.now ≡ false → bundle.new ≡ bundle.old }
-    ensures performs { Performs line.now draw.now (intent_of line.now now draw.now) (outside_at D.Dir B.Bundle dir.old bundle.old)
+    ensures performs { Performs line.now now draw.now (intent_of line.now now draw.now) (outside_at D.Dir B.Bundle dir.old bundle.old)
         (outside_at D.Dir B.Bundle dir.new bundle.new) result }
 {
     match line_intent(line, now, draw) {

@@ -27,8 +27,8 @@ pub fn print<O: Sink>(
     }
 }
 
-// Writes a refusal's message. One with a path in it is made first, so that it is one write, and is lost
-// where there is no memory for that.
+// Writes a refusal's message. One with a path, a key or a number in it is made first, so that it is one write,
+// and is lost where there is no memory for that.
 fn complain<E: Sink>(alloc: Global, err: &mut E, refusal: &Refusal)
     ensures { Complained refusal.now (sink_at E.Sink err.old) (sink_at E.Sink err.new) }
 {

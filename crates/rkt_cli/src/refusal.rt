@@ -160,7 +160,8 @@ fn conflict(alloc: Global, key: &Text, stored: &Text, new: &Text) -> Result<Outp
     Ok(line)
 }
 
-fn named(alloc: Global, front: &str, name: &Text) -> Result<Output, AllocError>
+/// A line that ends with a name.
+pub(crate) fn named(alloc: Global, front: &str, name: &Text) -> Result<Output, AllocError>
     ensures { IfOk result (λ line. line ≡ named_line front.now name.now) }
 {
     let mut line = Output::of(alloc, front)?;

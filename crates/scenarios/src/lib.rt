@@ -4,9 +4,13 @@
 #[cfg(test)]
 mod byte_sink;
 #[cfg(test)]
+mod image_import;
+#[cfg(test)]
 mod image_list;
 #[cfg(test)]
 mod memory;
+#[cfg(test)]
+mod removals;
 #[cfg(test)]
 mod stage;
 #[cfg(test)]

@@ -44,6 +44,23 @@ fn texts(alloc: Global, words: &[&str]) -> Result<Vec<String>, NoMemory> {
     Ok(list)
 }
 
+/// The program on these words at a moment, with a directory and a bundle.
+pub fn run_at(
+    alloc: Global,
+    words: &[&str],
+    now: u64,
+    dir: &mut MemoryDir,
+    bundle: &mut MemoryBundle,
+) -> Result<Ran, NoMemory>
+    requires { dir.old.local ≡ nothing_local }
+{
+    let words = texts(alloc, words)?;
+    let mut out = MemorySink::new(alloc);
+    let mut err = MemorySink::new(alloc);
+    let status = rkt(alloc, &words, now, &draw(), dir, bundle, &mut out, &mut err);
+    Ok(Ran { status, out, err })
+}
+
 /// The program on these words, with a directory and a bundle.
 pub fn run_with(
     alloc: Global,
@@ -53,11 +70,7 @@ pub fn run_with(
 ) -> Result<Ran, NoMemory>
     requires { dir.old.local ≡ nothing_local }
 {
-    let words = texts(alloc, words)?;
-    let mut out = MemorySink::new(alloc);
-    let mut err = MemorySink::new(alloc);
-    let status = rkt(alloc, &words, 100, &draw(), dir, bundle, &mut out, &mut err);
-    Ok(Ran { status, out, err })
+    run_at(alloc, words, 100, dir, bundle)
 }
 
 /// The program on these words, with an empty bundle.

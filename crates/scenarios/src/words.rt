@@ -3,6 +3,17 @@ use crate::stage::{POD, run, status_unheard};
 use dir_memory::MemoryDir;
 use std::test::Fail;
 
+// A key, and texts that are none: a digit too few, one too many, a digit in upper case, another hash.
+const KEY: &str = "sha512-bbbbbbbbbbbbbbbbbbbbbbbbbbbbbbbbbbbbbbbbbbbbbbbbbbbbbbbbbbbbbbbb";
+
+const SHORT_KEY: &str = "sha512-bbbbbbbbbbbbbbbbbbbbbbbbbbbbbbbbbbbbbbbbbbbbbbbbbbbbbbbbbbbbbbb";
+
+const LONG_KEY: &str = "sha512-bbbbbbbbbbbbbbbbbbbbbbbbbbbbbbbbbbbbbbbbbbbbbbbbbbbbbbbbbbbbbbbbb";
+
+const UPPER_KEY: &str = "sha512-bbbbbbbbbbbbbbbbbbbbbbbbbbbbbbbbbbbbbbbbbbbbbbbbbbbbbbbbbbbbbbbB";
+
+const OTHER_KEY: &str = "sha256-bbbbbbbbbbbbbbbbbbbbbbbbbbbbbbbbbbbbbbbbbbbbbbbbbbbbbbbbbbbbbbbb";
+
 #[test]
 fn an_empty_folder_has_no_pod(rt: HostRuntime) -> Result<(), Fail> {
     let mut dir = MemoryDir::new(rt.alloc(), 1)?;
@@ -14,7 +25,7 @@ fn an_empty_folder_has_no_pod(rt: HostRuntime) -> Result<(), Fail> {
 
 #[test]
 fn other_words_are_usage_and_call_nothing(rt: HostRuntime) -> Result<(), Fail> {
-    let lines: [&[&str]; 18] = [
+    let lines: [&[&str]; 34] = [
         &[],
         &["frob"],
         &["status"],
@@ -33,6 +44,22 @@ fn other_words_are_usage_and_call_nothing(rt: HostRuntime) -> Result<(), Fail> {
         &["image", "frob"],
         &["image", "list", "list"],
         &["list", "image"],
+        &["image", "import"],
+        &["image", "import", ""],
+        &["image", "import", "-"],
+        &["image", "import", "--force"],
+        &["image", "import", "a", "b"],
+        &["image", "Import", "a"],
+        &["image", "gc", "gc"],
+        &["image", "rm"],
+        &["image", "rm", ""],
+        &["image", "rm", "sha512-"],
+        &["image", "rm", SHORT_KEY],
+        &["image", "rm", LONG_KEY],
+        &["image", "rm", UPPER_KEY],
+        &["image", "rm", OTHER_KEY],
+        &["image", "rm", KEY, KEY],
+        &["rm", KEY],
     ];
     for line in lines {
         let mut dir = MemoryDir::new(rt.alloc(), 1)?;
@@ -46,10 +73,13 @@ fn other_words_are_usage_and_call_nothing(rt: HostRuntime) -> Result<(), Fail> {
 
 #[test]
 fn an_error_output_that_fails_leaves_the_status(rt: HostRuntime) -> Result<(), Fail> {
-    let lines: [(&[&str], u8); 3] = [
+    let lines: [(&[&str], u8); 6] = [
         (&["frob"], 1),
         (&["status", POD], 2),
         (&["validate", "x"], 15),
+        (&["image", "import", "x"], 15),
+        (&["image", "rm", KEY], 7),
+        (&["image", "gc"], 0),
     ];
     for (line, status) in lines {
         let unheard = status_unheard(rt.alloc(), line)?;

@@ -1,10 +1,15 @@
+use Rattle.std.proofs.Common.{◌≡◌, Some, subst}
+use Rattle.rkt_cli.specs.declared.line.Line.{Line}
+use Rattle.rkt_cli.specs.Commands.{intent_of}
 use Rattle.rkt_cli.specs.Moments.{dir_at}
 use Rattle.rkt_cli.proofs.Conforming.{looks_conforming, apart_conforming, list_conforming}
+use Rattle.rkt_cli.proofs.ImageImports.{imports, import_ran}
+use Rattle.rkt_cli.proofs.ImageRemovals.{removal_conforming, sweep_conforming, removal_ran, sweep_ran}
 use Rattle.rkt_cli.proofs.Files.{validate_ran}
 use Rattle.rkt_cli.proofs.perform.act.Goals as goal
 
 pub returns-in-Validate-clause-ran : goal.returns-in-Validate-clause-ran
-returns-in-Validate-clause-ran g c = validate_ran _ _ c.in-Validate.path _ _ _ _ c.in-Validate.is c.validate.ensures.faults c.validate.ensures.cause c.validate.ensures.refusals c.validate.ensures.reads c.validate.ensures.says
+returns-in-Validate-clause-ran g c = validate_ran _ _ _ c.in-Validate.path _ _ _ _ c.in-Validate.is c.validate.ensures.faults c.validate.ensures.cause c.validate.ensures.refusals c.validate.ensures.reads c.validate.ensures.says
 
 pub returns-in-Status-clause-keeps : goal.returns-in-Status-clause-keeps
 returns-in-Status-clause-keeps g c t intent said = looks_conforming intent g.D.Dir.observed _ _ (c.pod_status.ensures.known t)
@@ -14,3 +19,30 @@ returns-in-Validate-clause-keeps g c t intent said = apart_conforming intent (di
 
 pub returns-in-ImageList-clause-keeps : goal.returns-in-ImageList-clause-keeps
 returns-in-ImageList-clause-keeps g c t intent said = list_conforming intent g.D.Dir.observed _ _ (c.image_list.ensures.known t)
+
+pub returns-in-ImageImport-clause-keeps : goal.returns-in-ImageImport-clause-keeps
+returns-in-ImageImport-clause-keeps g c t intent said = c.image_import.ensures.known t intent (imports c.in-ImageImport.path c.args.now c.args.draw.now intent (subst (λ (line : Line). intent_of line c.args.now c.args.draw.now ≡ Some intent) c.in-ImageImport.is said))
+
+pub returns-in-ImageImport-clause-ran : goal.returns-in-ImageImport-clause-ran
+returns-in-ImageImport-clause-ran g c =
+    let D = g.D.Dir in
+    import_ran _ _ _ c.in-ImageImport.path D.observed (D.shown c.args.dir.now) (D.shown c.image_import.new.dir) _ _ _ c.in-ImageImport.is c.image_import.ensures.worked c.image_import.ensures.cause
+    c.image_import.ensures.bundle c.image_import.ensures.bundle_cause c.image_import.ensures.refusals c.image_import.ensures.says
+
+pub returns-in-ImageRm-clause-keeps : goal.returns-in-ImageRm-clause-keeps
+returns-in-ImageRm-clause-keeps g c t intent said =
+    removal_conforming c.in-ImageRm.key c.args.now c.args.draw.now intent g.D.Dir.observed _ _ (subst (λ (line : Line). intent_of line c.args.now c.args.draw.now ≡ Some intent) c.in-ImageRm.is said) (c.image_rm.ensures.conforms t)
+
+pub returns-in-ImageRm-clause-ran : goal.returns-in-ImageRm-clause-ran
+returns-in-ImageRm-clause-ran g c =
+    let D = g.D.Dir in
+    removal_ran _ _ _ c.in-ImageRm.key D.observed (D.shown c.args.dir.now) (D.shown c.image_rm.new.dir) _ _ c.in-ImageRm.is c.image_rm.ensures.worked c.image_rm.ensures.cause c.image_rm.ensures.refusals c.image_rm.ensures.says
+
+pub returns-in-ImageGc-clause-keeps : goal.returns-in-ImageGc-clause-keeps
+returns-in-ImageGc-clause-keeps g c t intent said =
+    sweep_conforming c.args.now c.args.draw.now intent g.D.Dir.observed _ _ (subst (λ (line : Line). intent_of line c.args.now c.args.draw.now ≡ Some intent) c.in-ImageGc.is said) (c.image_gc.ensures.conforms t)
+
+pub returns-in-ImageGc-clause-ran : goal.returns-in-ImageGc-clause-ran
+returns-in-ImageGc-clause-ran g c =
+    let D = g.D.Dir in
+    sweep_ran _ _ _ D.observed (D.shown c.args.dir.now) (D.shown c.image_gc.new.dir) _ _ c.in-ImageGc.is c.image_gc.ensures.worked c.image_gc.ensures.cause c.image_gc.ensures.refusals c.image_gc.ensures.says

@@ -1,7 +1,7 @@
-use Rattle.rkt_cli.proofs.Statuses.{statuses, usage, no_pod, bad_manifest, busy, lacking, dir_fault, bundle_fault, out_fault, extends, output, complaint, judged, over, reads}
+use Rattle.rkt_cli.proofs.Statuses.{statuses, usage, no_pod, bad_manifest, limit, no_image, stray, busy, lacking, dir_fault, bundle_fault, out_fault, extends, output, complaint, judged, over, reads}
 use Rattle.rkt_cli.proofs.QuietRun.{quiet}
 use Rattle.rkt_cli.proofs.Conforming.{run_conforms}
-use Rattle.rkt_cli.proofs.Histories.{run_tells}
+use Rattle.rkt_cli.proofs.Histories.{run_tells, run_deed}
 use Rattle.rkt_cli.proofs.top.rkt.Goals as goal
 
 pub returns-clause-statuses : goal.returns-clause-statuses
@@ -15,6 +15,15 @@ returns-clause-no_pod g c = no_pod c.run.ensures.ran
 
 pub returns-clause-bad_manifest : goal.returns-clause-bad_manifest
 returns-clause-bad_manifest g c = bad_manifest c.run.ensures.ran
+
+pub returns-clause-limit : goal.returns-clause-limit
+returns-clause-limit g c = limit c.run.ensures.ran
+
+pub returns-clause-no_image : goal.returns-clause-no_image
+returns-clause-no_image g c = no_image c.run.ensures.ran
+
+pub returns-clause-stray : goal.returns-clause-stray
+returns-clause-stray g c = stray c.run.ensures.ran
 
 pub returns-clause-dir_fault : goal.returns-clause-dir_fault
 returns-clause-dir_fault g c = dir_fault c.run.ensures.ran
@@ -45,6 +54,9 @@ returns-clause-extends g c = extends c.run.ensures.ran
 
 pub returns-clause-conforms : goal.returns-clause-conforms
 returns-clause-conforms g c t = run_conforms c.run.ensures.ran t
+
+pub returns-clause-deed : goal.returns-clause-deed
+returns-clause-deed g c t = run_deed c.run.ensures.ran t
 
 pub returns-clause-history : goal.returns-clause-history
 returns-clause-history g c t conforming = run_tells c.run.ensures.ran t conforming

@@ -1,0 +1,9 @@
+pub mod Times
+pub mod Knowing
+pub mod Causes
+pub mod Locked
+pub mod Listings
+pub mod Names
+pub mod Ends
+pub mod Passing
+pub mod Begun

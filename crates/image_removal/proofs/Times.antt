@@ -1,0 +1,80 @@
+-- What came about in a part of a time came about in the whole.
+use Rattle.std.proofs.Common.{◌≡◌, ◌≤◌, ℕ, Bool, true, List, [], ◌++◌, sym, ap, subst, ◌∙◌, append-nil, append_assoc, arith}
+use Rattle.dir_model.specs.declared.event.Event.{Event}
+use Rattle.dir_model.specs.declared.request.Request.{Request}
+use Rattle.dir_model.specs.declared.request.Reply.{Reply}
+use Rattle.dir_model.specs.Causes.{Rose}
+use Rattle.dir_model.specs.Calls.{CallStep, Extends}
+use Rattle.dir_trait.specs.DirCalls.{DirAt, ExtendsBy}
+use Rattle.folder_building.specs.Work.{Worked}
+use Rattle.image_reading.specs.declared.error.StoreError.{StoreError}
+use Rattle.image_removal.specs.Calls.{Called}
+use Rattle.image_removal.specs.Causes.{WasStray, WorkCause}
+
+-- calls, whatever they leave open
+pub record Follows (observed : Bool) (old new : DirAt) : Type 0 where
+  pub same : new.process ≡ old.process
+  pub faults : old.faults ≤ new.faults
+  pub asks : Request → Bool
+  pub extends : observed ≡ true → ExtendsBy asks old new
+
+pub follows_work : {observed : Bool} {asks : Request → Bool} {a b : DirAt} → Worked observed asks a b → Follows observed a b
+follows_work {observed} {asks} w = record { same = w.same; faults = w.faults; asks = asks; extends = w.extends }
+
+pub rose_later : (a b c : ℕ) → a ≤ b → Rose b c → Rose a c
+rose_later a b c before rose = omega arith
+
+pub rose_still : (a b c : ℕ) → Rose a b → b ≤ c → Rose a c
+rose_still a b c rose after = omega arith
+
+-- a call
+pub called_self : {request : Request} {reply : Reply} {me : ℕ} {old new : List Event} → CallStep me old request reply new → Called request reply me old new
+called_self {request} {reply} {me} {old} {new} s = record { before = old; after = new; earlier = []; later = []; begins = sym (append-nil old); step = s; ends = sym (append-nil new) }
+
+pub called_after : {asks : Request → Bool} {request : Request} {reply : Reply} {me other : ℕ} {a b c : List Event} → Extends asks me a b → other ≡ me
+    → Called request reply other b c → Called request reply me a c
+called_after {asks} {request} {reply} {me} {other} {a} {b} {c} ab same w =
+    let v = subst (λ (p : ℕ). Called request reply p b c) same w in
+    record {
+      before = v.before;
+      after = v.after;
+      earlier = ab.more ++ v.earlier;
+      later = v.later;
+      begins = v.begins ∙ (ap (λ h. h ++ v.earlier) ab.grown ∙ append_assoc a ab.more v.earlier);
+      step = v.step;
+      ends = v.ends;
+    }
+
+pub called_before : {asks : Request → Bool} {request : Request} {reply : Reply} {me other : ℕ} {a b c : List Event} → Called request reply me a b → Extends asks other b c
+    → Called request reply me a c
+called_before {asks} {request} {reply} {me} {other} {a} {b} {c} w bc = record {
+  before = w.before;
+  after = w.after;
+  earlier = w.earlier;
+  later = w.later ++ bc.more;
+  begins = w.begins;
+  step = w.step;
+  ends = bc.grown ∙ (ap (λ h. h ++ bc.more) w.ends ∙ append_assoc w.after w.later bc.more);
+}
+
+-- a stray answer
+pub stray_after : {asks : Request → Bool} {me other : ℕ} {a b c : List Event} → Extends asks me a b → other ≡ me → WasStray other b c → WasStray me a c
+stray_after ab same w = record { request = w.request; reply = w.reply; stray = w.stray; called = called_after ab same w.called }
+
+pub stray_before : {asks : Request → Bool} {me other : ℕ} {a b c : List Event} → WasStray me a b → Extends asks other b c → WasStray me a c
+stray_before w bc = record { request = w.request; reply = w.reply; stray = w.stray; called = called_before w.called bc }
+
+-- the cause of a refusal
+pub work_after : {observed : Bool} {e : StoreError} {a b c : DirAt} → Follows observed a b → WorkCause observed e b c → WorkCause observed e a c
+work_after {observed} {e} {a} {b} {c} ab w = record {
+  kind = w.kind;
+  fault = λ is. rose_later a.faults b.faults c.faults ab.faults (w.fault is);
+  stray = λ is t. stray_after (ab.extends t) ab.same (w.stray is t);
+}
+
+pub work_before : {observed : Bool} {e : StoreError} {a b c : DirAt} → WorkCause observed e a b → Follows observed b c → WorkCause observed e a c
+work_before {observed} {e} {a} {b} {c} w bc = record {
+  kind = w.kind;
+  fault = λ is. rose_still a.faults b.faults c.faults (w.fault is) bc.faults;
+  stray = λ is t. stray_before (w.stray is t) (bc.extends t);
+}

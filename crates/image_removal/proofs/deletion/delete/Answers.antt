@@ -1,0 +1,36 @@
+use Rattle.std.proofs.Common.{Err, ap, sym, subst}
+use Rattle.dir_model.specs.declared.spot.Spot.{Spot}
+use Rattle.dir_trait.specs.DirCalls.{ExtendsBy}
+use Rattle.folder_removal.specs.Removal.{deletes_at}
+use Rattle.folder_removal.specs.Known.{Deletes, OnlyTries}
+use Rattle.image_reading.specs.declared.error.StoreError.{StoreError}
+use Rattle.image_removal.specs.Causes.{WorkCause}
+use Rattle.image_removal.proofs.Causes.{delete_cause}
+use Rattle.image_removal.proofs.Knowing.{deleted_stays, tried_stays}
+use Rattle.image_removal.proofs.deletion.delete.Goals as goal
+
+pub returns-in-Ok-clause-stays : goal.returns-in-Ok-clause-stays
+returns-in-Ok-clause-stays g c t =
+    let D = g.D.Dir in
+    deleted_stays c.args.name (subst (λ (spot : Spot). Deletes spot (D.shown c.args.dir.now) (D.shown c.delete_folder.new.dir)) c.removed_spot.ensures (c.in-Ok.ensures.deleted t))
+
+pub returns-in-Err-clause-worked : goal.returns-in-Err-clause-worked
+returns-in-Err-clause-worked g c =
+    let D = g.D.Dir in
+    record {
+      same = c.delete_folder.ensures.same;
+      faults = c.delete_folder.ensures.faults;
+      local = c.delete_folder.ensures.local;
+      extends = λ t. subst (λ (spot : Spot). ExtendsBy (deletes_at spot) (D.shown c.args.dir.now) (D.shown c.delete_folder.new.dir)) c.removed_spot.ensures (c.delete_folder.ensures.extends t);
+    }
+
+pub returns-in-Err-clause-cause : goal.returns-in-Err-clause-cause
+returns-in-Err-clause-cause g c =
+    let D = g.D.Dir in
+    subst (λ (e : StoreError). WorkCause D.observed e (D.shown c.args.dir.now) (D.shown c.delete_folder.new.dir)) (sym c.delete_refusal.ensures)
+    (delete_cause c.removed_spot.result c.in-Err.error (λ is. c.in-Err.ensures.cause (ap Err is)) (λ is. c.in-Err.ensures.stray (ap Err is)))
+
+pub returns-in-Err-clause-left : goal.returns-in-Err-clause-left
+returns-in-Err-clause-left g c t =
+    let D = g.D.Dir in
+    tried_stays c.args.name (subst (λ (spot : Spot). OnlyTries spot (D.shown c.args.dir.now) (D.shown c.delete_folder.new.dir)) c.removed_spot.ensures (c.in-Err.ensures.refused t))

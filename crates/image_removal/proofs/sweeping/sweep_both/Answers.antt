@@ -1,0 +1,79 @@
+use Rattle.std.proofs.Common.{◌≡◌, ℕ, true, subst}
+use Rattle.dir_model.specs.declared.area.Area.TheVariants.{Removed}
+use Rattle.dir_rules.specs.declared.seen.Seen.{Seen}
+use Rattle.dir_trait.specs.Knowledge.{Knows}
+use Rattle.area_locks.specs.AreaLocks.{is_free_of}
+use Rattle.folder_building.proofs.Copying.{ok_more, err_more}
+use Rattle.image_removal.specs.declared.pass.Pass.TheVariants.{PutAway, Delete}
+use Rattle.image_removal.specs.Causes.{WorkCause}
+use Rattle.image_removal.specs.Sweeps.{Adds, PassedBetween, Tried, TriedBetween, IsSweptBetween, HasTriedBetween, BusyNow, BusyApart}
+use Rattle.image_removal.specs.Work.{MayPass, MaySweep}
+use Rattle.image_removal.proofs.Times.{follows_work, work_after}
+use Rattle.image_removal.proofs.Knowing.{conforms_more}
+use Rattle.image_removal.proofs.Locked.{first_pass, second_pass, pass_still}
+use Rattle.image_removal.proofs.Passing.{passed_tried, adds_both, either_conforms}
+use Rattle.image_removal.proofs.sweeping.sweep_both.Goals as goal
+
+pub returns-clause-cause : goal.returns-clause-cause
+returns-clause-cause g c =
+    let D = g.D.Dir in
+    let old = D.shown c.args.dir.now in
+    let mid = D.shown c.sweep_area.new.dir in
+    let new = D.shown c.sweep_area-2.new.dir in
+    err_more (λ e. WorkCause D.observed e mid new) (λ e. WorkCause D.observed e old new) c.sweep_area-2.result (λ e w. work_after (follows_work c.sweep_area.ensures.worked) w)
+    c.sweep_area-2.ensures.cause
+
+pub returns-clause-swept : goal.returns-clause-swept
+returns-clause-swept g c =
+    let D = g.D.Dir in
+    let old = D.shown c.args.dir.now in
+    let mid = D.shown c.sweep_area.new.dir in
+    let new = D.shown c.sweep_area-2.new.dir in
+    let before = c.args.lines.now.items in
+    let between = c.sweep_area.new.lines.items in
+    let after = c.sweep_area-2.new.lines.items in
+    ok_more (λ done. D.observed ≡ true → Adds (PassedBetween BusyNow Delete mid new) between after) (λ done. D.observed ≡ true → Adds (IsSweptBetween BusyNow old new) before after)
+    c.sweep_area-2.result
+    (λ done passed t. adds_both BusyNow old mid new c.sweep_area.ensures.worked.same before between after (c.in_ok-sweep_area.ensures.passed t) (passed t)) c.sweep_area-2.ensures.passed
+
+pub returns-clause-swept_unless_another : goal.returns-clause-swept_unless_another
+returns-clause-swept_unless_another g c =
+    let D = g.D.Dir in
+    let old = D.shown c.args.dir.now in
+    let mid = D.shown c.sweep_area.new.dir in
+    let new = D.shown c.sweep_area-2.new.dir in
+    let before = c.args.lines.now.items in
+    let between = c.sweep_area.new.lines.items in
+    let after = c.sweep_area-2.new.lines.items in
+    let same = c.sweep_area.ensures.worked.same in
+    ok_more (λ done. D.observed ≡ true → (s : Seen) → Knows mid s → is_free_of Removed s ≡ true → Adds (PassedBetween (BusyApart mid.process) Delete mid new) between after)
+    (λ done. D.observed ≡ true → (s : Seen) → Knows old s → MaySweep s → Adds (IsSweptBetween (BusyApart old.process) old new) before after) c.sweep_area-2.result
+    (λ done passed t s k may.
+    let x = c.in_ok-sweep_area.ensures.stays t s k (first_pass may) in
+    adds_both (BusyApart old.process) old mid new same before between after (c.in_ok-sweep_area.ensures.another t s k may.incoming)
+    (subst (λ (me : ℕ). Adds (PassedBetween (BusyApart me) Delete mid new) between after) same (passed t x.known x.knows (pass_still (second_pass may) x).free)))
+    c.sweep_area-2.ensures.another
+
+pub returns-clause-tried : goal.returns-clause-tried
+returns-clause-tried g c =
+    let D = g.D.Dir in
+    let old = D.shown c.args.dir.now in
+    let mid = D.shown c.sweep_area.new.dir in
+    let new = D.shown c.sweep_area-2.new.dir in
+    err_more (λ e. D.observed ≡ true → TriedBetween Delete mid new) (λ e. D.observed ≡ true → HasTriedBetween old new) c.sweep_area-2.result
+    (λ e tried t.
+    let x = c.in_ok-sweep_area.ensures.passed t in
+    record {
+      between = mid.trace;
+      puts_away = passed_tried BusyNow PutAway x.0 old.process old.trace mid.trace x.2;
+      deletes = subst (λ (me : ℕ). Tried Delete me mid.trace new.trace) c.sweep_area.ensures.worked.same (tried t);
+    })
+    c.sweep_area-2.ensures.tried
+
+pub returns-clause-conforms : goal.returns-clause-conforms
+returns-clause-conforms g c t s k may =
+    let D = g.D.Dir in
+    let x = c.in_ok-sweep_area.ensures.stays t s k (first_pass may) in
+    conforms_more x (either_conforms (MayPass Removed) D.observed (D.shown c.sweep_area.new.dir) (D.shown c.sweep_area-2.new.dir) c.sweep_area-2.result c.sweep_area-2.ensures.stays
+    c.sweep_area-2.ensures.left t
+    x.known x.knows (pass_still (second_pass may) x))

@@ -1,0 +1,15 @@
+use Rattle.std.proofs.Common.{◌≡◌, true, take}
+use Rattle.folder_building.specs.Work.{Worked}
+use Rattle.image_removal.specs.Passes.{area_of, deals_with_some}
+use Rattle.image_removal.specs.Sweeps.{AddsLines}
+use Rattle.image_removal.specs.Work.{HoldsArea, StaysBare, Stays}
+use Rattle.image_removal.proofs.sweeping.sweep_each.Given as goal
+
+abbrev pub invariant-names : goal.invariant-names
+invariant-names g l =
+    let D = g.D.Dir in
+    record {
+      worked : Worked D.observed (deals_with_some l.pass l.names) (D.shown l.initial.dir) (D.shown l.dir);
+      swept : AddsLines D.observed l.pass (take l.name-index l.names) l.initial.lines.items l.lines.items (D.shown l.initial.dir) (D.shown l.dir);
+      stays : D.observed ≡ true → Stays (HoldsArea (area_of l.pass)) StaysBare (D.shown l.initial.dir) (D.shown l.dir);
+    }

@@ -1,0 +1,136 @@
+-- Why an image isn't removed, or a sweep ends early.
+use Rattle.std.specs.Prelude.{◌≡◌, ℕ, Bool, true, false, List, Result, Ok, Err}
+use Rattle.ac_types.specs.declared.store_key.StoreKey.{StoreKey}
+use Rattle.dir_model.specs.declared.area.Area.{Area}
+use Rattle.dir_model.specs.declared.area.Area.TheVariants.{Images}
+use Rattle.dir_model.specs.declared.event.Event.{Event}
+use Rattle.dir_model.specs.declared.pod.PodId.{PodId}
+use Rattle.dir_model.specs.declared.spot.Mode.TheVariants.{Exclusive}
+use Rattle.dir_model.specs.declared.request.DirError.{DirError}
+use Rattle.dir_model.specs.declared.request.DirError.TheVariants as dir
+use Rattle.dir_model.specs.declared.request.Reply.{Reply}
+use Rattle.dir_model.specs.declared.request.Reply.TheVariants.{Refused}
+use Rattle.dir_model.specs.declared.request.Request.{Request}
+use Rattle.dir_model.specs.Causes.{Rose}
+use Rattle.dir_model.specs.Calls.{CallStep, Extends, AtOwnStep}
+use Rattle.dir_trait.specs.DirCalls.{DirAt, HeldBetween, ExtendsBy}
+use Rattle.area_locks.specs.declared.error.LockError.{LockError}
+use Rattle.area_locks.specs.declared.error.LockError.TheVariants as lock
+use Rattle.area_locks.specs.AreaLocks.{takes, IsBusy, IsBusyElsewhere}
+use Rattle.folder_removal.specs.declared.error.DeleteError.{DeleteError}
+use Rattle.folder_removal.specs.declared.error.DeleteError.TheVariants as delete
+use Rattle.image_reading.specs.declared.error.StoreError.{StoreError}
+use Rattle.image_reading.specs.declared.error.StoreError.TheVariants.{Busy, NoImage, DirFault, NoMemory, Stray}
+use Rattle.image_reading.specs.Places.{IsAbsent}
+use Rattle.image_removal.specs.Requests.{puts_away, is_stray_answer}
+use Rattle.image_removal.specs.Calls.{Called}
+
+-- the refusals of lower calls
+abbrev pub lock_refusal : Area → LockError → StoreError
+lock_refusal area lock.Busy = Busy area
+lock_refusal area lock.DirFault = DirFault
+lock_refusal area lock.NoMemory = NoMemory
+
+-- where the lock of removed is busy, nothing is refused
+abbrev pub lock_free : LockError → Result (Unit {0}) StoreError
+lock_free lock.Busy = Ok tt
+lock_free lock.DirFault = Err DirFault
+lock_free lock.NoMemory = Err NoMemory
+
+abbrev pub change_refusal : DirError → StoreError
+change_refusal dir.Failed = DirFault
+change_refusal dir.NoMemory = NoMemory
+change_refusal error = Stray
+
+-- of a look at a folder: whether one stands there
+abbrev pub look_answer : DirError → Result Bool StoreError
+look_answer dir.Missing = Ok false
+look_answer error = Err (change_refusal error)
+
+-- of the move of an image
+abbrev pub move_refusal : StoreKey → DirError → StoreError
+move_refusal key dir.Missing = NoImage key
+move_refusal key error = change_refusal error
+
+abbrev pub delete_refusal : DeleteError → StoreError
+delete_refusal delete.DirFault = DirFault
+delete_refusal delete.Stray = Stray
+delete_refusal delete.NoMemory = NoMemory
+
+-- the refusals of work in a folder under its lock
+abbrev pub is_work_refusal : StoreError → Bool
+is_work_refusal DirFault = true
+is_work_refusal NoMemory = true
+is_work_refusal Stray = true
+is_work_refusal error = false
+
+-- of a lock or a line that wasn't had
+abbrev pub is_fault_refusal : StoreError → Bool
+is_fault_refusal DirFault = true
+is_fault_refusal NoMemory = true
+is_fault_refusal error = false
+
+-- of an image's move
+abbrev pub is_move_refusal : StoreError → Bool
+is_move_refusal (NoImage key) = true
+is_move_refusal error = is_work_refusal error
+
+abbrev pub is_remove_refusal : StoreError → Bool
+is_remove_refusal (Busy area) = true
+is_remove_refusal error = is_move_refusal error
+
+-- an own step was answered as what the locks keep doesn't explain
+pub record WasStray (me : ℕ) (old new : List Event) : Type 0 where
+  pub request : Request
+  pub reply : Reply
+  pub stray : is_stray_answer request reply ≡ true
+  pub called : Called request reply me old new
+
+abbrev pub WasStrayBetween : DirAt → DirAt → Type 0
+WasStrayBetween old new = WasStray old.process old.trace new.trace
+
+-- why the work in a folder ended early
+pub record WorkCause (observed : Bool) (error : StoreError) (old new : DirAt) : Type 0 where
+  pub kind : is_work_refusal error ≡ true
+  pub fault : error ≡ DirFault → Rose old.faults new.faults
+  pub stray : error ≡ Stray → observed ≡ true → WasStrayBetween old new
+
+-- its own move was answered that nothing stands there, and nothing did
+pub record WasTold (key : StoreKey) (draw : PodId) (me : ℕ) (old new : List Event) : Type 0 where
+  pub told : CallStep me old (puts_away key draw) (Refused dir.Missing 0) new
+  pub absent : AtOwnStep me old new (IsAbsent key)
+
+-- why an image wasn't moved
+pub record MoveCause (observed : Bool) (key : StoreKey) (draw : PodId) (error : StoreError) (old new : DirAt) : Type 0 where
+  pub kind : is_move_refusal error ≡ true
+  pub fault : error ≡ DirFault → Rose old.faults new.faults
+  pub absent : (other : StoreKey) → error ≡ NoImage other → (other ≡ key) × (observed ≡ true → WasTold key draw old.process old.trace new.trace)
+  pub stray : error ≡ Stray → observed ≡ true → WasStrayBetween old new
+
+-- some handle held the lock of images at an own step, and nothing but that lock was asked for
+pub record WasBusy (old new : DirAt) : Type 0 where
+  pub busy : HeldBetween old new (IsBusy Images Exclusive)
+  pub only : ExtendsBy (takes Images Exclusive) old new
+
+-- under the lock of images, which was all that it had asked for before, it was told so; then it only gave that lock up
+pub record FoundNone (key : StoreKey) (draw : PodId) (me : ℕ) (old new : List Event) : Type 0 where
+  pub before : List Event
+  pub after : List Event
+  pub first : Extends (takes Images Exclusive) me old before
+  pub told : WasTold key draw me before after
+  pub last : Extends (takes Images Exclusive) me after new
+
+abbrev pub FoundNoneBetween : StoreKey → PodId → DirAt → DirAt → Type 0
+FoundNoneBetween key draw old new = FoundNone key draw old.process old.trace new.trace
+
+-- why an image wasn't removed
+pub record RemoveCause (observed : Bool) (key : StoreKey) (draw : PodId) (error : StoreError) (old new : DirAt) : Type 0 where
+  pub kind : is_remove_refusal error ≡ true
+  pub fault : error ≡ DirFault → Rose old.faults new.faults
+  pub busy : (area : Area) → error ≡ Busy area → (area ≡ Images) × (observed ≡ true → WasBusy old new)
+  pub absent : (other : StoreKey) → error ≡ NoImage other → (other ≡ key) × (observed ≡ true → FoundNoneBetween key draw old new)
+  pub stray : error ≡ Stray → observed ≡ true → WasStrayBetween old new
+
+-- where the lock of an area was refused, a handle of another process held it
+abbrev pub BusyElsewhere : StoreError → DirAt → DirAt → Type 0
+BusyElsewhere error old new = (area : Area) → error ≡ Busy area → HeldBetween old new (IsBusyElsewhere old.process area Exclusive)

@@ -1,0 +1,109 @@
+-- What a sweep comes to.
+use Rattle.std.specs.Prelude.{◌≡◌, ◌⊎◌, ℕ, Bool, true, List, [], ◌∷◌, ◌++◌, map}
+use Rattle.std.specs.List.{AllByRecursion}
+use Rattle.dir_model.specs.declared.area.Area.{Area}
+use Rattle.dir_model.specs.declared.event.Event.{Event}
+use Rattle.dir_model.specs.declared.request.Reply.TheVariants.{Done}
+use Rattle.dir_model.specs.declared.spot.Mode.TheVariants.{Exclusive}
+use Rattle.dir_model.specs.Calls.{Extends, AtOwnStep}
+use Rattle.dir_model.specs.State.{DirState}
+use Rattle.dir_trait.specs.DirCalls.{DirAt}
+use Rattle.dir_files.specs.Listed.{ShowsArea}
+use Rattle.area_locks.specs.AreaLocks.{takes, IsBusy, IsBusyElsewhere}
+use Rattle.image_removal.specs.declared.pass.Pass.{Pass}
+use Rattle.image_removal.specs.declared.pass.Pass.TheVariants.{PutAway, Delete}
+use Rattle.image_removal.specs.declared.pass.SweepLine.{SweepLine}
+use Rattle.image_removal.specs.declared.pass.SweepLine.TheVariants.{BusyGate}
+use Rattle.image_removal.specs.Requests.{lists}
+use Rattle.image_removal.specs.Passes.{area_of, line_of, deed_of, uuids, deals_with_some, is_close}
+use Rattle.image_removal.specs.Calls.{Called}
+
+-- the area was listed, and then there was nothing but work at folders with names that it showed
+pub record WorksAtShown (pass : Pass) (names : List (List ℕ)) (me : ℕ) (old new : List Event) : Type 0 where
+  pub listed : List Event
+  pub only_lists : Extends (lists (area_of pass)) me old listed
+  pub shows : ShowsArea me old listed (area_of pass) names
+  pub only : Extends (deals_with_some pass names) me listed new
+
+-- each uuid that was shown was dealt with by its own request, and has its line, in that order
+pub record SweepsUnder (pass : Pass) (lines : List SweepLine) (me : ℕ) (old new : List Event) : Type 0 where
+  pub names : List (List ℕ)
+  pub works : WorksAtShown pass names me old new
+  pub each : AllByRecursion (λ name. Called (deed_of pass name) Done me works.listed new) (uuids names)
+  pub lines_are : lines ≡ map (line_of pass) (uuids names)
+
+-- what ended early: nothing was done but to list, or there was work at what was shown
+abbrev pub TriesUnder : Pass → ℕ → List Event → List Event → Type 0
+TriesUnder pass me old new = Extends (lists (area_of pass)) me old new ⊎ ((names : List (List ℕ)) × WorksAtShown pass names me old new)
+
+-- it took the lock of an area, did this and gave the lock up
+pub record UnderLock (area : Area) (P : ℕ → List Event → List Event → Type 0) (me : ℕ) (old new : List Event) : Type 0 where
+  pub locked : List Event
+  pub done : List Event
+  pub takes_lock : Extends (takes area Exclusive) me old locked
+  pub under : P me locked done
+  pub gives_back : Extends is_close me done new
+
+-- the lock was busy at an own step, which is the one line, and nothing but the lock was asked for
+pub record WasLocked (Busy : DirState → Type 0) (area : Area) (lines : List SweepLine) (me : ℕ) (old new : List Event) : Type 0 where
+  pub busy : AtOwnStep me old new Busy
+  pub only : Extends (takes area Exclusive) me old new
+  pub line_is : lines ≡ BusyGate area ∷ []
+
+-- one pass
+abbrev pub Passed : (Area → DirState → Type 0) → Pass → List SweepLine → ℕ → List Event → List Event → Type 0
+Passed Busy pass lines me old new = UnderLock (area_of pass) (SweepsUnder pass lines) me old new ⊎ WasLocked (Busy (area_of pass)) (area_of pass) lines me old new
+
+-- first the folders of incoming were put away, then those of removed deleted
+pub record IsSwept (Busy : Area → DirState → Type 0) (lines : List SweepLine) (me : ℕ) (old new : List Event) : Type 0 where
+  pub between : List Event
+  pub moved : List SweepLine
+  pub deleted : List SweepLine
+  pub puts_away : Passed Busy PutAway moved me old between
+  pub deletes : Passed Busy Delete deleted me between new
+  pub lines_are : lines ≡ moved ++ deleted
+
+-- a pass that ended early: each of its requests was about what its own listing showed
+abbrev pub Tried : Pass → ℕ → List Event → List Event → Type 0
+Tried pass me old new = Extends (takes (area_of pass) Exclusive) me old new ⊎ UnderLock (area_of pass) (TriesUnder pass) me old new
+
+-- and so of a sweep
+pub record HasTried (me : ℕ) (old new : List Event) : Type 0 where
+  pub between : List Event
+  pub puts_away : Tried PutAway me old between
+  pub deletes : Tried Delete me between new
+
+-- these lines were added, of which this holds
+abbrev pub Adds : (List SweepLine → Type 0) → List SweepLine → List SweepLine → Type 0
+Adds P before after = (added : List SweepLine) × (after ≡ before ++ added) × P added
+
+-- the folders with these names were dealt with, and their lines added
+pub record AddsLines (observed : Bool) (pass : Pass) (names : List (List ℕ)) (before after : List SweepLine) (old new : DirAt) : Type 0 where
+  pub lines : after ≡ before ++ map (line_of pass) (uuids names)
+  pub each : observed ≡ true → AllByRecursion (λ name. Called (deed_of pass name) Done old.process old.trace new.trace) (uuids names)
+
+-- between two moments
+abbrev pub SweepsBetween : Pass → DirAt → DirAt → List SweepLine → Type 0
+SweepsBetween pass old new lines = SweepsUnder pass lines old.process old.trace new.trace
+
+abbrev pub TriesBetween : Pass → DirAt → DirAt → Type 0
+TriesBetween pass old new = TriesUnder pass old.process old.trace new.trace
+
+abbrev pub PassedBetween : (Area → DirState → Type 0) → Pass → DirAt → DirAt → List SweepLine → Type 0
+PassedBetween Busy pass old new lines = Passed Busy pass lines old.process old.trace new.trace
+
+abbrev pub TriedBetween : Pass → DirAt → DirAt → Type 0
+TriedBetween pass old new = Tried pass old.process old.trace new.trace
+
+abbrev pub IsSweptBetween : (Area → DirState → Type 0) → DirAt → DirAt → List SweepLine → Type 0
+IsSweptBetween Busy old new lines = IsSwept Busy lines old.process old.trace new.trace
+
+abbrev pub HasTriedBetween : DirAt → DirAt → Type 0
+HasTriedBetween old new = HasTried old.process old.trace new.trace
+
+-- a lock that some handle holds, or one of another process
+abbrev pub BusyNow : Area → DirState → Type 0
+BusyNow area s = IsBusy area Exclusive s
+
+abbrev pub BusyApart : ℕ → Area → DirState → Type 0
+BusyApart me area s = IsBusyElsewhere me area Exclusive s

@@ -1,0 +1,110 @@
+// The removal of an image.
+ghost use Rattle.std.specs.Prelude.{◌≡◌, true, IfOk, IfErr};
+ghost use Rattle.dir_rules.specs.declared.seen.Seen.{Seen};
+ghost use Rattle.dir_trait.specs.Local.{IsActive};
+ghost use Rattle.dir_trait.specs.Knowledge.{Knows};
+ghost use Rattle.area_locks.specs.AreaLocks.{is_free_of, IsBusy, IsBusyElsewhere};
+ghost use Rattle.folder_building.specs.Work.{Worked};
+ghost use Rattle.image_removal.specs.Requests.{away_spot, puts_away, deletes_away, removes_at};
+ghost use Rattle.image_removal.specs.Calls.{Called};
+ghost use Rattle.image_removal.specs.Causes.{lock_free, WorkCause, RemoveCause, BusyElsewhere};
+ghost use Rattle.image_removal.specs.Removals.{IsGoneUnless, IsRemovedBetween};
+ghost use Rattle.image_removal.specs.Work.{MayPass, MayRemove, StaysConforming, StaysBare, Stays};
+ghost use Rattle.dir_model.specs.declared.request.Reply.TheVariants.{Done};
+
+use crate::deletion::delete_if_there;
+use crate::error::lock_refusal;
+use crate::putting::put_image_away;
+use ac_types::StoreKey;
+use area_locks::{LockError, lock_area, unlock_area};
+use dir_trait::{Area, Dir, Mode, PodId};
+use image_reading::StoreError;
+use std::alloc::Global;
+
+// Moves the image to removed under the lock of images, and gives that lock up.
+fn put_away_locked<D: Dir>(
+    alloc: Global,
+    dir: &mut D,
+    key: StoreKey,
+    draw: PodId,
+) -> Result<(), StoreError>
+    requires active { IsActive (D.shown dir.old).local }
+    ensures worked { Worked D.observed (removes_at key draw) (D.shown dir.old) (D.shown dir.new) }
+    ensures cause { IfErr result (λ e. RemoveCause D.observed key draw e (D.shown dir.old) (D.shown dir.new)) }
+    ensures another { IfErr result (λ e. D.observed ≡ true → (s : Seen) → Knows (D.shown dir.old) s → is_free_of Area.Images s ≡ true
+        → BusyElsewhere e (D.shown dir.old) (D.shown dir.new)) }
+    ensures moved { IfOk result (λ done. D.observed ≡ true
+        → Called (puts_away key draw) Done (D.shown dir.old).process (D.shown dir.old).trace (D.shown dir.new).trace) }
+    ensures stays { D.observed ≡ true → Stays (MayRemove draw) StaysBare (D.shown dir.old) (D.shown dir.new) }
+{
+    match lock_area(alloc, dir, Area::Images, Mode::Exclusive) {
+        Ok(gate) => {
+            let result = put_image_away(alloc, dir, key, draw);
+            unlock_area(dir, gate);
+            result
+        }
+        Err(error) => Err(lock_refusal(Area::Images, error)),
+    }
+}
+
+// Where the lock of removed is busy, the folder stays there for a later sweep.
+fn lock_free(error: LockError) -> Result<(), StoreError>
+    ensures { result ≡ lock_free error }
+{
+    match error {
+        LockError::Busy => Ok(()),
+        LockError::DirFault => Err(StoreError::DirFault),
+        LockError::NoMemory => Err(StoreError::NoMemory),
+    }
+}
+
+// Deletes what was put away, where the lock of removed is free.
+fn delete_if_free<D: Dir>(alloc: Global, dir: &mut D, draw: PodId) -> Result<(), StoreError>
+    requires active { IsActive (D.shown dir.old).local }
+    ensures worked { Worked D.observed (deletes_away draw) (D.shown dir.old) (D.shown dir.new) }
+    ensures cause { IfErr result (λ e. WorkCause D.observed e (D.shown dir.old) (D.shown dir.new)) }
+    ensures gone { IfOk result (λ done. D.observed ≡ true
+        → IsGoneUnless (IsBusy Area.Removed Mode.Exclusive) (away_spot draw)
+        (D.shown dir.old).process (D.shown dir.old).trace (D.shown dir.new).trace) }
+    ensures another { IfOk result (λ done. D.observed ≡ true → (s : Seen) → Knows (D.shown dir.old) s → is_free_of Area.Removed s ≡ true
+        → IsGoneUnless (IsBusyElsewhere (D.shown dir.old).process Area.Removed Mode.Exclusive) (away_spot draw)
+        (D.shown dir.old).process (D.shown dir.old).trace (D.shown dir.new).trace) }
+    ensures stays { D.observed ≡ true → Stays (MayPass Area.Removed) StaysConforming (D.shown dir.old) (D.shown dir.new) }
+{
+    match lock_area(alloc, dir, Area::Removed, Mode::Exclusive) {
+        Ok(gate) => {
+            let result = delete_if_there(alloc, dir, draw.name());
+            unlock_area(dir, gate);
+            result
+        }
+        Err(error) => lock_free(error),
+    }
+}
+
+/// Removes the image with this key: moves its folder from images to removed, under the draw's name, while
+/// it holds the lock of images exclusively, and deletes it there where the lock of removed is free. Where
+/// that lock is busy, the folder stays in removed until a later sweep.
+///
+/// `Busy` with images, where another process holds that area's lock; `NoImage`, where no image has this
+/// key: in both the store is as it was. `Stray`, where the directory's answers contradict what the locks
+/// keep; `DirFault`, where it failed; `NoMemory`, where memory ran out. No lock is held afterwards.
+pub fn remove<D: Dir>(
+    alloc: Global,
+    dir: &mut D,
+    key: StoreKey,
+    draw: PodId,
+) -> Result<(), StoreError>
+    requires active { IsActive (D.shown dir.old).local }
+    ensures worked { Worked D.observed (removes_at key draw) (D.shown dir.old) (D.shown dir.new) }
+    ensures cause { IfErr result (λ e. RemoveCause D.observed key draw e (D.shown dir.old) (D.shown dir.new)) }
+    ensures another { IfErr result (λ e. D.observed ≡ true → (s : Seen) → Knows (D.shown dir.old) s → MayRemove draw s
+        → BusyElsewhere e (D.shown dir.old) (D.shown dir.new)) }
+    ensures removed { IfOk result (λ done. D.observed ≡ true
+        → IsRemovedBetween (IsBusy Area.Removed Mode.Exclusive) key draw (D.shown dir.old) (D.shown dir.new)) }
+    ensures removed_unless_another { IfOk result (λ done. D.observed ≡ true → (s : Seen) → Knows (D.shown dir.old) s → MayRemove draw s
+        → IsRemovedBetween (IsBusyElsewhere (D.shown dir.old).process Area.Removed Mode.Exclusive) key draw (D.shown dir.old) (D.shown dir.new)) }
+    ensures conforms { D.observed ≡ true → Stays (MayRemove draw) StaysConforming (D.shown dir.old) (D.shown dir.new) }
+{
+    put_away_locked(alloc, dir, key, draw)?;
+    delete_if_free(alloc, dir, draw)
+}

@@ -1,0 +1,10 @@
+mod Steps
+mod Widths
+mod Locked
+mod Changes
+mod Fillings
+mod Unlikes
+mod Refusals
+mod Placings
+mod Outcomes
+mod Ends

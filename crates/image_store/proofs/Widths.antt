@@ -1,0 +1,93 @@
+-- What came about in a part of a time came about in the whole.
+use Rattle.std.proofs.Common.{◌≡◌, ◌⊎◌, inl, inr, ◌≤◌, ℕ, Bool, true, List, sym, ◌∙◌}
+use Rattle.dir_model.specs.declared.request.Request.{Request}
+use Rattle.dir_model.specs.Causes.{Rose}
+use Rattle.dir_model.specs.State.{DirState}
+use Rattle.dir_model.proofs.Moments.{at_after, at_before}
+use Rattle.dir_trait.specs.DirCalls.{DirAt, HeldBetween, ExtendsBy}
+use Rattle.ac_types.specs.declared.store_key.StoreKey.{StoreKey}
+use Rattle.tree_digest.specs.declared.line.ListingLine.{ListingLine}
+use Rattle.image_reading.specs.declared.error.StoreError.{StoreError}
+use Rattle.image_reading.specs.Within.{Within}
+use Rattle.image_reading.proofs.Widths.{within_after, within_before}
+use Rattle.bundle_image.proofs.Reading.{rose_later, rose_still}
+use Rattle.folder_building.specs.Work.{Worked}
+use Rattle.image_store.specs.Causes.{Source, Vanished, StrayCause, Conflicts, LacksPart, UnlikeListed, ImportCause}
+
+-- calls, whatever they leave open
+pub record Follows (observed : Bool) (old new : DirAt) : Type 0 where
+  pub same : new.process ≡ old.process
+  pub faults : old.faults ≤ new.faults
+  pub asks : Request → Bool
+  pub extends : observed ≡ true → ExtendsBy asks old new
+
+pub follows_work : {observed : Bool} {asks : Request → Bool} {a b : DirAt} → Worked observed asks a b → Follows observed a b
+follows_work {observed} {asks} w = record { same = w.same; faults = w.faults; asks = asks; extends = w.extends }
+
+module _ {observed : Bool} (a b c : DirAt) (ab : Follows observed a b) where
+  pub fault_after : Rose b.faults c.faults → Rose a.faults c.faults
+  fault_after r = rose_later a.faults b.faults c.faults ab.faults r
+
+  pub held_after : {P : DirState → Type 0} → observed ≡ true → HeldBetween b c P → HeldBetween a c P
+  held_after t h = at_after (ab.extends t) ab.same h
+
+  pub told_after : {R : DirAt → DirAt → Type 0} → observed ≡ true → Within R b c → Within R a c
+  told_after t w = within_after (ab.extends t) ab.same w
+
+module _ {observed : Bool} (a b c : DirAt) (same : b.process ≡ a.process) (bc : Follows observed b c) where
+  pub fault_before : Rose a.faults b.faults → Rose a.faults c.faults
+  fault_before r = rose_still a.faults b.faults c.faults r bc.faults
+
+  pub held_before : {P : DirState → Type 0} → observed ≡ true → HeldBetween a b P → HeldBetween a c P
+  held_before t h = at_before h same (bc.extends t)
+
+  pub told_before : {R : DirAt → DirAt → Type 0} → observed ≡ true → Within R a b → Within R a c
+  told_before t w = within_before w (bc.extends t)
+
+vanished_after : {observed : Bool} {key : StoreKey} {a b c : DirAt} → observed ≡ true → Follows observed a b → Vanished key b c → Vanished key a c
+vanished_after {observed} {key} {a} {b} {c} t ab v = record { between = v.between; same = v.same ∙ ab.same; taken = told_after a b v.between ab t v.taken; gone = v.gone }
+
+vanished_before : {observed : Bool} {key : StoreKey} {a b c : DirAt} → observed ≡ true → b.process ≡ a.process → Vanished key a b → Follows observed b c → Vanished key a c
+vanished_before {observed} {key} {a} {b} {c} t same v bc = record { between = v.between; same = v.same; taken = v.taken; gone = held_before v.between b c (same ∙ sym v.same) bc t v.gone }
+
+pub stray_after : {observed : Bool} {key : StoreKey} {a b c : DirAt} → observed ≡ true → Follows observed a b → StrayCause key b c → StrayCause key a c
+stray_after {observed} {key} {a} {b} {c} t ab (inl w) = inl (told_after a b c ab t w)
+stray_after {observed} {key} {a} {b} {c} t ab (inr v) = inr (vanished_after t ab v)
+
+pub stray_before : {observed : Bool} {key : StoreKey} {a b c : DirAt} → observed ≡ true → b.process ≡ a.process → StrayCause key a b → Follows observed b c → StrayCause key a c
+stray_before {observed} {key} {a} {b} {c} t same (inl w) bc = inl (told_before a b c same bc t w)
+stray_before {observed} {key} {a} {b} {c} t same (inr v) bc = inr (vanished_before t same v bc)
+
+pub conflict_after : {observed : Bool} {key other : StoreKey} {digest stored fresh : List ℕ} {a b c : DirAt} → Follows observed a b → Conflicts observed key other digest stored fresh b c → Conflicts observed key other digest stored fresh a c
+conflict_after {observed} {key} {other} {digest} {stored} {fresh} {a} {b} {c} ab x = record { key_is = x.key_is; new_is = x.new_is; differ = x.differ; there = λ t. told_after a b c ab t (x.there t) }
+
+pub conflict_before : {observed : Bool} {key other : StoreKey} {digest stored fresh : List ℕ} {a b c : DirAt} → b.process ≡ a.process → Conflicts observed key other digest stored fresh a b → Follows observed b c → Conflicts observed key other digest stored fresh a c
+conflict_before {observed} {key} {other} {digest} {stored} {fresh} {a} {b} {c} same x bc = record { key_is = x.key_is; new_is = x.new_is; differ = x.differ; there = λ t. told_before a b c same bc t (x.there t) }
+
+part_after : (observed : Bool) (key : StoreKey) (path : List ℕ) (lines : List ListingLine) (source : Source) (a b c : DirAt) → Follows observed a b → LacksPart observed key path b c ⊎ UnlikeListed source lines path → LacksPart observed key path a c ⊎ UnlikeListed source lines path
+part_after observed key path lines source a b c ab (inl l) = inl (λ t. told_after a b c ab t (l t))
+part_after observed key path lines source a b c ab (inr u) = inr u
+
+part_before : (observed : Bool) (key : StoreKey) (path : List ℕ) (lines : List ListingLine) (source : Source) (a b c : DirAt) → b.process ≡ a.process → LacksPart observed key path a b ⊎ UnlikeListed source lines path → Follows observed b c → LacksPart observed key path a c ⊎ UnlikeListed source lines path
+part_before observed key path lines source a b c same (inl l) bc = inl (λ t. told_before a b c same bc t (l t))
+part_before observed key path lines source a b c same (inr u) bc = inr u
+
+pub cause_after : {may : StoreError → Bool} {observed : Bool} {source : Source} {key : StoreKey} {digest : List ℕ} {lines : List ListingLine} {e : StoreError} {a b c : DirAt} → Follows observed a b → ImportCause may observed source key digest lines e b c → ImportCause may observed source key digest lines e a c
+cause_after {may} {observed} {source} {key} {digest} {lines} {e} {a} {b} {c} ab x = record {
+  kind = x.kind;
+  fault = λ is. fault_after a b c ab (x.fault is);
+  busy = λ area is t. held_after a b c ab t (x.busy area is t);
+  damaged = λ path is. part_after observed key path lines source a b c ab (x.damaged path is);
+  conflict = λ other stored fresh is. conflict_after ab (x.conflict other stored fresh is);
+  stray = λ is t. stray_after t ab (x.stray is t);
+}
+
+pub cause_before : {may : StoreError → Bool} {observed : Bool} {source : Source} {key : StoreKey} {digest : List ℕ} {lines : List ListingLine} {e : StoreError} {a b c : DirAt} → b.process ≡ a.process → ImportCause may observed source key digest lines e a b → Follows observed b c → ImportCause may observed source key digest lines e a c
+cause_before {may} {observed} {source} {key} {digest} {lines} {e} {a} {b} {c} same x bc = record {
+  kind = x.kind;
+  fault = λ is. fault_before a b c same bc (x.fault is);
+  busy = λ area is t. held_before a b c same bc t (x.busy area is t);
+  damaged = λ path is. part_before observed key path lines source a b c same (x.damaged path is) bc;
+  conflict = λ other stored fresh is. conflict_before same (x.conflict other stored fresh is) bc;
+  stray = λ is t. stray_before t same (x.stray is t) bc;
+}

@@ -1,0 +1,44 @@
+use Rattle.std.proofs.Common.{◌≡◌, true, Ok, false, rules, subst}
+use Rattle.ac_types.specs.declared.store_key.StoreKey.{StoreKey}
+use Rattle.folder_building.proofs.Copying.{err_more}
+use Rattle.image_reading.proofs.Results.{err_same}
+use Rattle.image_reading.specs.Places.{image_spot}
+use Rattle.image_store.specs.Refusals.{is_work_refusal}
+use Rattle.image_store.specs.Work.{FromFilled, IsPlaced}
+use Rattle.image_store.specs.Causes.{source_at, BuildCause, PlaceCause, ImportCause}
+use Rattle.image_store.specs.Imports.{key_of}
+use Rattle.image_store.proofs.Widths.{follows_work, cause_after}
+use Rattle.image_store.proofs.Refusals.{build_import, place_import}
+use Rattle.image_store.proofs.Placings.{same_key}
+use Rattle.image_store.proofs.Outcomes.{placed_leaves}
+use Rattle.image_store.proofs.importing.build_and_place.Goals as goal
+
+pub returns-in_err-build-clause-cause : goal.returns-in_err-build-clause-cause
+returns-in_err-build-clause-cause g c =
+    let D = g.D.Dir in
+    let source = source_at g.B.Bundle.observed (g.B.Bundle.shown c.args.bundle.now).tree c.args.path.now in
+    let old = D.shown c.args.dir.now in
+    let new = D.shown c.build.new.dir in
+    let image = c.args.image.now in
+    err_same (λ e. ImportCause is_work_refusal D.observed source (key_of image) c.args.digest.now image.listing e old new) c.build.result c.from_residual.result (λ e h. search (rules, h, c.from_residual.ensures, c.in_err-build.is))
+    (err_more (λ e. BuildCause D.observed source image.listing e old new) (λ e. ImportCause is_work_refusal D.observed source (key_of image) c.args.digest.now image.listing e old new) c.build.result (λ e x. build_import e x) c.build.ensures.cause)
+
+pub returns-clause-cause : goal.returns-clause-cause
+returns-clause-cause g c =
+    let D = g.D.Dir in
+    let source = source_at g.B.Bundle.observed (g.B.Bundle.shown c.args.bundle.now).tree c.args.path.now in
+    let old = D.shown c.args.dir.now in
+    let mid = D.shown c.build.new.dir in
+    let new = D.shown c.place.new.dir in
+    let image = c.args.image.now in
+    err_more (λ e. PlaceCause D.observed c.of.result c.args.digest.now e mid new) (λ e. ImportCause is_work_refusal D.observed source (key_of image) c.args.digest.now image.listing e old new) c.place.result
+    (λ e x. cause_after (follows_work c.build.ensures.worked) (place_import e (subst (λ (k : StoreKey). PlaceCause D.observed k c.args.digest.now e mid new) (same_key c.of.result image c.of.ensures) x))) c.place.ensures.cause
+
+pub returns-clause-leaves : goal.returns-clause-leaves
+returns-clause-leaves g c t =
+    let D = g.D.Dir in
+    let mid = D.shown c.build.new.dir in
+    let new = D.shown c.place.new.dir in
+    placed_leaves c.args.draw c.args.now c.args.image.now c.place.result t (follows_work c.build.ensures.worked)
+    (subst (λ (k : StoreKey). c.place.result ≡ Ok false → D.observed ≡ true → FromFilled c.args.draw mid (λ intent hs entries. IsPlaced c.args.draw (image_spot k) intent hs entries mid new)) (same_key c.of.result c.args.image.now c.of.ensures) c.place.ensures.placed)
+    c.place.ensures.left (c.in_ok-build.ensures.done t)

@@ -1,0 +1,36 @@
+use Rattle.std.proofs.Common.{inr, rules}
+use Rattle.folder_building.proofs.Copying.{err_more}
+use Rattle.image_reading.proofs.Results.{err_same}
+use Rattle.image_store.specs.Refusals.{is_import_refusal}
+use Rattle.image_store.specs.Causes.{source_at, ImportCause}
+use Rattle.image_store.specs.Imports.{key_of, digest_of, IsRefused}
+use Rattle.image_store.proofs.Placings.{same_key}
+use Rattle.image_store.proofs.Ends.{cause_before_reads, brought_is_imported}
+use Rattle.image_store.proofs.importing.import.Goals as goal
+
+pub returns-in_err-there-in-Ok-clause-refused : goal.returns-in_err-there-in-Ok-clause-refused
+returns-in_err-there-in-Ok-clause-refused g c =
+    let D = g.D.Dir in
+    let B = g.B.Bundle in
+    let root = c.args.path.now in
+    let first = source_at B.observed (B.shown c.args.bundle.now).tree root in
+    let read = source_at B.observed (B.shown c.read_bundle.new.bundle).tree root in
+    let old = D.shown c.args.dir.now in
+    let new = D.shown c.import_image.new.dir in
+    let image = c.in-Ok.image in
+    err_same (λ e. IsRefused D.observed first e old new) c.import_image.result c.from_residual.result (λ e h. search (rules, h, c.from_residual.ensures, c.in_err-there-in-Ok.is))
+    (err_more (λ e. ImportCause is_import_refusal D.observed read (key_of image) (digest_of image) image.listing e old new) (λ e. IsRefused D.observed first e old new) c.import_image.result
+    (λ e x. inr (image, c.in-Ok.ensures.ok, cause_before_reads c.read_bundle.ensures.reads.same x)) c.import_image.ensures.cause)
+
+pub returns-in_ok-there-in-Ok-clause-imported : goal.returns-in_ok-there-in-Ok-clause-imported
+returns-in_ok-there-in-Ok-clause-imported g c fresh t conforms intent hs imports alone k =
+    let D = g.D.Dir in
+    let image = c.in-Ok.image in (
+      image,
+      c.in-Ok.ensures.ok,
+      (
+        same_key c.of-key.result image c.of-key.ensures,
+        brought_is_imported c.args.draw c.args.now image intent hs (D.shown c.args.dir.now) (D.shown c.import_image.new.dir) c.of-key.result c.in_ok-there-in-Ok.there fresh (same_key c.of-key.result image c.of-key.ensures) conforms
+            (c.in_ok-there-in-Ok.ensures.leaves t intent hs imports alone k),
+      ),
+    )

@@ -1,0 +1,70 @@
+use Rattle.std.proofs.Common.{◌≡◌, true, false, None, Ok, ap, rules, subst}
+use Rattle.ac_types.specs.declared.store_key.StoreKey.{StoreKey}
+use Rattle.folder_building.proofs.Copying.{err_more}
+use Rattle.folder_building.proofs.Working.{worked_more}
+use Rattle.image_reading.proofs.Results.{err_same}
+use Rattle.image_store.specs.Refusals.{is_import_refusal}
+use Rattle.image_store.specs.Requests.{building_spot}
+use Rattle.image_store.specs.Work.{at_work, UnderImages, From}
+use Rattle.image_store.specs.Causes.{source_at, BusyElsewhere, WasThere, LookCause, ImportCause}
+use Rattle.image_store.specs.Imports.{key_of}
+use Rattle.image_store.proofs.Widths.{follows_work, cause_after}
+use Rattle.image_store.proofs.Refusals.{look_importing}
+use Rattle.image_store.proofs.Placings.{worked_reads, may_read_there, same_key}
+use Rattle.image_store.proofs.Outcomes.{elsewhere_after, leaves_after}
+use Rattle.image_store.proofs.importing.import_or_find.Goals as goal
+
+pub returns-in_err-is_there-clause-worked : goal.returns-in_err-is_there-clause-worked
+returns-in_err-is_there-clause-worked g c = worked_reads (building_spot c.args.draw) c.of.result c.is_there.ensures.only
+
+pub returns-in_err-is_there-clause-cause : goal.returns-in_err-is_there-clause-cause
+returns-in_err-is_there-clause-cause g c =
+    let D = g.D.Dir in
+    let source = source_at g.B.Bundle.observed (g.B.Bundle.shown c.args.bundle.now).tree c.args.path.now in
+    let old = D.shown c.args.dir.now in
+    let new = D.shown c.is_there.new.dir in
+    let image = c.args.image.now in
+    err_same (λ e. ImportCause is_import_refusal D.observed source (key_of image) c.args.digest.now image.listing e old new) c.is_there.result c.from_residual.result (λ e h. search (rules, h, c.from_residual.ensures, c.in_err-is_there.is))
+    (err_more (λ e. LookCause D.observed c.of.result c.args.digest.now e old new) (λ e. ImportCause is_import_refusal D.observed source (key_of image) c.args.digest.now image.listing e old new) c.is_there.result
+    (λ e x. look_importing e (subst (λ (k : StoreKey). LookCause D.observed k c.args.digest.now e old new) (same_key c.of.result image c.of.ensures) x)) c.is_there.ensures.cause)
+
+pub returns-then-branch-clause-worked : goal.returns-then-branch-clause-worked
+returns-then-branch-clause-worked g c = worked_reads (building_spot c.args.draw) c.of.result c.is_there.ensures.only
+
+pub returns-then-branch-clause-there : goal.returns-then-branch-clause-there
+returns-then-branch-clause-there g c is t =
+    let D = g.D.Dir in
+    subst (λ (k : StoreKey). WasThere k c.args.digest.now (D.shown c.args.dir.now) (D.shown c.is_there.new.dir)) (same_key c.of.result c.args.image.now c.of.ensures)
+    (c.in_ok-is_there.ensures.there (ap Ok c.if-branch.true) t)
+
+pub returns-else-branch-clause-worked : goal.returns-else-branch-clause-worked
+returns-else-branch-clause-worked g c = worked_more (worked_reads (building_spot c.args.draw) c.of.result c.is_there.ensures.only) c.import_new.ensures.worked
+
+pub returns-else-branch-clause-cause : goal.returns-else-branch-clause-cause
+returns-else-branch-clause-cause g c =
+    let D = g.D.Dir in
+    let source = source_at g.B.Bundle.observed (g.B.Bundle.shown c.args.bundle.now).tree c.args.path.now in
+    let old = D.shown c.args.dir.now in
+    let mid = D.shown c.is_there.new.dir in
+    let new = D.shown c.import_new.new.dir in
+    let image = c.args.image.now in
+    err_more (λ e. ImportCause is_import_refusal D.observed source (key_of image) c.args.digest.now image.listing e mid new)
+    (λ e. ImportCause is_import_refusal D.observed source (key_of image) c.args.digest.now image.listing e old new) c.import_new.result
+    (λ e x. cause_after (follows_work (worked_reads (building_spot c.args.draw) c.of.result c.is_there.ensures.only)) x) c.import_new.ensures.cause
+
+pub returns-else-branch-clause-another : goal.returns-else-branch-clause-another
+returns-else-branch-clause-another g c =
+    let D = g.D.Dir in
+    let old = D.shown c.args.dir.now in
+    let mid = D.shown c.is_there.new.dir in
+    let new = D.shown c.import_new.new.dir in
+    err_more (λ e. D.observed ≡ true → From c.args.draw UnderImages false None mid (λ intent hs. BusyElsewhere e mid new))
+    (λ e. D.observed ≡ true → From c.args.draw UnderImages false None old (λ intent hs. BusyElsewhere e old new)) c.import_new.result
+    (λ e x t intent hs imports under k. elsewhere_after old mid new t (follows_work (worked_reads (building_spot c.args.draw) c.of.result c.is_there.ensures.only))
+    (x t intent hs imports under (c.is_there.ensures.only.known t (at_work intent hs false None) (may_read_there intent hs false None under.images) k))) c.import_new.ensures.another
+
+pub returns-else-branch-clause-leaves : goal.returns-else-branch-clause-leaves
+returns-else-branch-clause-leaves g c t intent hs imports under k =
+    let D = g.D.Dir in
+    leaves_after c.args.draw c.args.now c.args.image.now intent hs (D.shown c.args.dir.now) (D.shown c.is_there.new.dir) (D.shown c.import_new.new.dir) c.import_new.result t (follows_work (worked_reads (building_spot c.args.draw) c.of.result c.is_there.ensures.only))
+    (c.import_new.ensures.leaves t intent hs imports under (c.is_there.ensures.only.known t (at_work intent hs false None) (may_read_there intent hs false None under.images) k))

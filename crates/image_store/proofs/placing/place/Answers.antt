@@ -1,0 +1,30 @@
+use Rattle.std.proofs.Common.{◌≡◌, true, Some, Ok, ap}
+use Rattle.dir_trait.specs.Knowledge.{Knows}
+use Rattle.folder_building.proofs.Copying.{err_more}
+use Rattle.folder_building.proofs.Working.{worked_more}
+use Rattle.image_store.specs.Requests.{building_spot}
+use Rattle.image_store.specs.Work.{at_work, holding, FromFilled}
+use Rattle.image_store.specs.Causes.{CompareCause, PlaceCause}
+use Rattle.image_store.proofs.Widths.{follows_work}
+use Rattle.image_store.proofs.Refusals.{compare_placing}
+use Rattle.image_store.proofs.Placings.{worked_reads, may_read_there, unbrought_any}
+use Rattle.image_store.proofs.placing.place.Goals as goal
+
+pub returns-in-Ok-true-clause-worked : goal.returns-in-Ok-true-clause-worked
+returns-in-Ok-true-clause-worked g c = worked_more c.bring.ensures.worked (worked_reads (building_spot c.args.draw) c.args.key c.compare.ensures.only)
+
+pub returns-in-Ok-true-clause-cause : goal.returns-in-Ok-true-clause-cause
+returns-in-Ok-true-clause-cause g c =
+    let D = g.D.Dir in
+    let old = D.shown c.args.dir.now in
+    let mid = D.shown c.bring.new.dir in
+    let new = D.shown c.compare.new.dir in
+    err_more (λ e. CompareCause D.observed c.args.key c.args.digest.now e mid new) (λ e. PlaceCause D.observed c.args.key c.args.digest.now e old new) c.compare.result
+    (λ e x. compare_placing (follows_work c.bring.ensures.worked) (c.in-Ok-true.ensures.taken (ap Ok c.in-Ok-true.field-0-test)) x) c.compare.ensures.cause
+
+pub returns-in-Ok-true-clause-left : goal.returns-in-Ok-true-clause-left
+returns-in-Ok-true-clause-left g c =
+    let D = g.D.Dir in
+    let left = rw c.in-Ok-true.field-0-test at c.in-Ok-true.ensures.left in
+    unbrought_any c.compare.result (D.observed ≡ true → FromFilled c.args.draw (D.shown c.args.dir.now) (λ intent hs entries. Knows (D.shown c.compare.new.dir) (at_work intent hs true (Some (holding (building_spot c.args.draw) entries)))))
+    (λ t intent hs entries imports under k. c.compare.ensures.only.known t (at_work intent hs true (Some (holding (building_spot c.args.draw) entries))) (may_read_there intent hs true (Some (holding (building_spot c.args.draw) entries)) under.images) (left t intent hs entries imports under k))

@@ -1,0 +1,44 @@
+-- What an import asks the directory for, and which answers nothing explains.
+use Rattle.std.specs.Prelude.{Bool, true, false, ◌&&◌, ◌||◌}
+use Rattle.dir_model.specs.declared.area.Area.TheVariants.{Incoming, Images}
+use Rattle.dir_model.specs.declared.pod.PodId.{PodId}
+use Rattle.dir_model.specs.declared.spot.Mode.TheVariants.{Shared, Exclusive}
+use Rattle.dir_model.specs.declared.spot.Spot.{Spot}
+use Rattle.dir_model.specs.declared.request.DirError.TheVariants.{Missing, Exists}
+use Rattle.dir_model.specs.declared.request.Reply.{Reply}
+use Rattle.dir_model.specs.declared.request.Reply.TheVariants.{Refused}
+use Rattle.dir_model.specs.declared.request.Request.{Request}
+use Rattle.dir_model.specs.declared.request.Request.TheVariants.{OpenArea, TryLock, Close, MakeFolder, MoveFolder}
+use Rattle.dir_model.specs.Pods.{pod_text}
+use Rattle.dir_model.specs.State.{spot_eq}
+use Rattle.dir_rules.specs.Standing.{is_in}
+use Rattle.folder_building.specs.Work.{builds_at, is_stray}
+use Rattle.image_reading.specs.Looks.{reads_images}
+
+-- where the process with this draw builds an image
+abbrev pub building_spot : PodId → Spot
+building_spot draw = record { area = Incoming; name = pod_text draw.bytes }
+
+-- the lock of incoming or of images, shared
+abbrev pub takes_lock : Request → Bool
+takes_lock (OpenArea area) = is_in Images area || is_in Incoming area
+takes_lock (TryLock handle Shared) = true
+takes_lock (TryLock handle Exclusive) = false
+takes_lock (Close handle) = true
+takes_lock request = false
+
+-- the folder in which it builds, made and moved to images
+abbrev pub brings : Spot → Request → Bool
+brings spot (MakeFolder here) = spot_eq here spot
+brings spot (MoveFolder from to) = spot_eq from spot && is_in Images to.area
+brings spot request = false
+
+-- what it asks for in all: the locks, looks at images, and changes of its own folder
+abbrev pub imports_at : Spot → Request → Bool
+imports_at spot request = takes_lock request || (reads_images request || (brings spot request || builds_at spot request))
+
+-- an answer that its own folder doesn't explain
+abbrev pub is_stray_import : Request → Reply → Bool
+is_stray_import (MakeFolder spot) (Refused Exists left) = true
+is_stray_import (MoveFolder from to) (Refused Missing left) = true
+is_stray_import request reply = is_stray request reply

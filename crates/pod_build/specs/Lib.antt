@@ -1,0 +1,2 @@
+pub mod FaithfulBuild
+pub mod LegalExecutions

@@ -1,0 +1,2 @@
+//! What a pod's maker has made when it hands the pod over, and executions in which every maker has: definitions alone.
+#![tactic(auto)]

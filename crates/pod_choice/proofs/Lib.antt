@@ -1,0 +1,4 @@
+pub mod Mapped
+pub mod Roots
+pub mod Faults
+pub mod Pods

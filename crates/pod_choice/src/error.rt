@@ -1,0 +1,72 @@
+// Why some references make no pod.
+ghost use Rattle.std.specs.Prelude.{◌≡◌};
+ghost use Rattle.pod_choice.specs.Refusals.{tree_refusal, manifest_refusal, render_refusal, listing_refusal};
+
+use ac_types::NoMemory;
+use dep_match::DepError;
+use pod_manifest::GenError;
+use render::RenderError;
+use tree_digest::ListingError;
+
+/// Why some references make no pod.
+#[derive(Drop)]
+pub enum ChoiceError {
+    /// No image matches the reference at that place.
+    NoMatch(usize),
+    /// The first fault in the dependencies of an image.
+    DepError(DepError),
+    /// The first refusal of the pod's manifest.
+    GenError(GenError),
+    /// An app's root is made of too many entries.
+    RenderError(RenderError),
+    /// The listing of an app's root passes a limit.
+    ListingError(ListingError),
+    /// Memory ran out.
+    NoMemory,
+}
+
+impl From<NoMemory> for ChoiceError {
+    ghost use Rattle.pod_choice.specs.declared.error.ChoiceError.TheVariants.{NoMemory as OutOfMemory};
+
+    ghost from_gives = { λ _ e. e ≡ OutOfMemory };
+
+    fn from(_error: NoMemory) -> ChoiceError {
+        ChoiceError::NoMemory
+    }
+}
+
+pub(crate) fn tree_refusal(error: DepError) -> ChoiceError
+    ensures { result ≡ tree_refusal error }
+{
+    match error {
+        DepError::NoMemory => ChoiceError::NoMemory,
+        error => ChoiceError::DepError(error),
+    }
+}
+
+pub(crate) fn manifest_refusal(error: GenError) -> ChoiceError
+    ensures { result ≡ manifest_refusal error }
+{
+    match error {
+        GenError::NoMemory => ChoiceError::NoMemory,
+        error => ChoiceError::GenError(error),
+    }
+}
+
+pub(crate) fn render_refusal(error: RenderError) -> ChoiceError
+    ensures { result ≡ render_refusal error }
+{
+    match error {
+        RenderError::NoMemory => ChoiceError::NoMemory,
+        error => ChoiceError::RenderError(error),
+    }
+}
+
+pub(crate) fn listing_refusal(error: ListingError) -> ChoiceError
+    ensures { result ≡ listing_refusal error }
+{
+    match error {
+        ListingError::NoMemory => ChoiceError::NoMemory,
+        error => ChoiceError::ListingError(error),
+    }
+}

@@ -1,0 +1,7 @@
+mod Apps
+mod Loops
+mod Names
+mod Plans
+mod Pods
+mod Roots
+mod Under

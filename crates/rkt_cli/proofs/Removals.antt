@@ -1,0 +1,96 @@
+-- What `image rm` and `image gc` tell of the whole run.
+use Rattle.std.proofs.Common.{◌≡◌, inl, inr, ℕ, true, false, List, [], Option, Some, None, Ok, Err, refl, subst, ◌∙◌}
+use Rattle.ac_types.specs.Ids.{id_text}
+use Rattle.ac_types.specs.declared.store_key.StoreKey.{StoreKey}
+use Rattle.dir_model.specs.declared.area.Area.{Area}
+use Rattle.dir_model.specs.declared.event.Event.{Event}
+use Rattle.dir_model.specs.declared.intent.Draw.{Draw}
+use Rattle.dir_model.specs.declared.intent.Intent.{Intent}
+use Rattle.dir_model.specs.declared.intent.Kind.TheVariants as kind
+use Rattle.dir_model.specs.Calls.{is_begin, is_finish}
+use Rattle.image_removal.specs.declared.pass.SweepLine.{SweepLine}
+use Rattle.image_removal.specs.Causes.{WasStray, FoundNone}
+use Rattle.image_removal.proofs.Begun.{begun_removes, begun_sweeps}
+use Rattle.rkt_cli.specs.declared.line.Line.{Line}
+use Rattle.rkt_cli.specs.declared.line.Line.TheVariants.{ImageRm, ImageGc}
+use Rattle.rkt_cli.specs.declared.refusal.Refusal.TheVariants.{Busy, NoImage, Stray}
+use Rattle.rkt_cli.specs.Moments.{Outside, Outcome}
+use Rattle.rkt_cli.specs.Conforming.{begun}
+use Rattle.rkt_cli.specs.Commands.{intent_for, intent_of}
+use Rattle.rkt_cli.specs.Meanwhile.{Meanwhile}
+use Rattle.rkt_cli.specs.ImageRm.{removed_text, Removes, FindsBusy, HasRemoved, HasFoundNone, HasMetStray}
+use Rattle.rkt_cli.specs.ImageGc.{sweep_texts, Sweeps, StrayInSweep, HasSwept, HasMetStrayInSweep}
+use Rattle.rkt_cli.specs.Runs.{InProcess, Performs}
+use Rattle.rkt_cli.proofs.Sessions.{begin_part, finish_part}
+use Rattle.rkt_cli.proofs.Conforming.{begun_knows}
+
+-- what was so of the command is so of the process between its begin and its finish
+pub meanwhile : {line : Line} {now : ℕ} {draw : Draw} {intent : Intent} {old new : Outside} {o : Outcome} (P : ℕ → List Event → List Event → Type 0) (s : InProcess line now draw intent old new o) → old.dir.observed ≡ true →
+    P s.begun.dir.process s.begun.dir.trace s.ended.dir.trace → Meanwhile P old.dir.process old.dir.trace new.dir.trace
+meanwhile P s t so = record {
+  begun = s.begun.dir.trace;
+  ended = s.ended.dir.trace;
+  begins = begin_part s t is_begin refl;
+  so = subst (λ (me : ℕ). P me s.begun.dir.trace s.ended.dir.trace) s.me so;
+  finishes = finish_part s t is_finish refl;
+}
+
+-- `image rm`: what was printed
+pub removal_printed : (key : StoreKey) (now : ℕ) (draw : Draw) (intent : Option Intent) (old new : Outside) (text : List ℕ) → Performs (ImageRm key) now draw intent old new (Ok text) → text ≡ removed_text key
+removal_printed key now draw (Some intent) old new text (inl s) = s.ran.says.is
+removal_printed key now draw (Some intent) old new text (inr n) = let e = n.is in cc
+removal_printed key now draw None old new text p = let clash : true ≡ false = p.apart in cc
+
+-- and done
+pub removal_done : (key : StoreKey) (now : ℕ) (draw : Draw) (old new : Outside) (text : List ℕ) → Performs (ImageRm key) now draw (intent_of (ImageRm key) now draw) old new (Ok text) → old.dir.observed ≡ true →
+    HasRemoved key draw.uuid old.dir new.dir
+removal_done key now draw old new text (inl s) t =
+    let intent = intent_for kind.ImageRm [] now draw in
+    meanwhile (Removes key draw.uuid) s t (s.ran.says.removed (s.told ∙ t) (begun intent) (begun_knows s t) (begun_removes intent draw.uuid refl refl))
+removal_done key now draw old new text (inr n) t = let e = n.is in cc
+
+-- or why not
+pub removal_busy : (key : StoreKey) (now : ℕ) (draw : Draw) (old new : Outside) (area : Area) → Performs (ImageRm key) now draw (intent_of (ImageRm key) now draw) old new (Err (Busy area)) → old.dir.observed ≡ true →
+    Meanwhile FindsBusy old.dir.process old.dir.trace new.dir.trace
+removal_busy key now draw old new area (inl s) t =
+    let intent = intent_for kind.ImageRm [] now draw in
+    meanwhile FindsBusy s t (s.ran.says (s.told ∙ t) (begun intent) (begun_knows s t) (begun_removes intent draw.uuid refl refl))
+removal_busy key now draw old new area (inr n) t = let e = n.is in cc
+
+pub removal_unnamed : (key : StoreKey) (now : ℕ) (draw : Draw) (intent : Option Intent) (old new : Outside) (named : List ℕ) → Performs (ImageRm key) now draw intent old new (Err (NoImage named)) → named ≡ id_text key.bytes
+removal_unnamed key now draw (Some intent) old new named (inl s) = s.ran.says.is
+removal_unnamed key now draw (Some intent) old new named (inr n) = let e = n.is in cc
+removal_unnamed key now draw None old new named p = let clash : true ≡ false = p.apart in cc
+
+pub removal_none : (key : StoreKey) (now : ℕ) (draw : Draw) (intent : Option Intent) (old new : Outside) (named : List ℕ) → Performs (ImageRm key) now draw intent old new (Err (NoImage named)) → old.dir.observed ≡ true →
+    HasFoundNone key draw.uuid old.dir new.dir
+removal_none key now draw (Some intent) old new named (inl s) t = meanwhile (FoundNone key draw.uuid) s t (s.ran.says.found (s.told ∙ t))
+removal_none key now draw (Some intent) old new named (inr n) t = let e = n.is in cc
+removal_none key now draw None old new named p t = let clash : true ≡ false = p.apart in cc
+
+pub removal_stray : (key : StoreKey) (now : ℕ) (draw : Draw) (intent : Option Intent) (old new : Outside) → Performs (ImageRm key) now draw intent old new (Err Stray) → old.dir.observed ≡ true → HasMetStray old.dir new.dir
+removal_stray key now draw (Some intent) old new (inl s) t = meanwhile WasStray s t (s.ran.says (s.told ∙ t))
+removal_stray key now draw (Some intent) old new (inr n) t = let e = n.is in cc
+removal_stray key now draw None old new p t = let clash : true ≡ false = p.apart in cc
+
+-- `image gc`: what was printed
+pub sweep_printed : (now : ℕ) (draw : Draw) (intent : Option Intent) (old new : Outside) (text : List ℕ) → Performs ImageGc now draw intent old new (Ok text) → (lines : List SweepLine) × (text ≡ sweep_texts lines)
+sweep_printed now draw (Some intent) old new text (inl s) = (s.ran.says.lines, s.ran.says.is)
+sweep_printed now draw (Some intent) old new text (inr n) = let e = n.is in cc
+sweep_printed now draw None old new text p = let clash : true ≡ false = p.apart in cc
+
+-- and done
+pub sweep_done : (now : ℕ) (draw : Draw) (old new : Outside) (text : List ℕ) → Performs ImageGc now draw (intent_of ImageGc now draw) old new (Ok text) → old.dir.observed ≡ true → HasSwept old.dir new.dir text
+sweep_done now draw old new text (inl s) t =
+    let intent = intent_for kind.ImageGc [] now draw in
+    record {
+      lines = s.ran.says.lines;
+      is = s.ran.says.is;
+      swept = meanwhile (Sweeps s.ran.says.lines) s t (s.ran.says.swept (s.told ∙ t) (begun intent) (begun_knows s t) (begun_sweeps intent refl));
+    }
+sweep_done now draw old new text (inr n) t = let e = n.is in cc
+
+pub sweep_stray : (now : ℕ) (draw : Draw) (intent : Option Intent) (old new : Outside) → Performs ImageGc now draw intent old new (Err Stray) → old.dir.observed ≡ true → HasMetStrayInSweep old.dir new.dir
+sweep_stray now draw (Some intent) old new (inl s) t = meanwhile StrayInSweep s t (s.ran.says (s.told ∙ t))
+sweep_stray now draw (Some intent) old new (inr n) t = let e = n.is in cc
+sweep_stray now draw None old new p t = let clash : true ≡ false = p.apart in cc
