@@ -132,6 +132,24 @@ printf abd >"$tmp/f/rootfs/etc/motd"
 printf 'd 0755 0 0 /etc\nf 0644 0 0 3 %s /etc/motd\n' "$abc" >"$tmp/f/tree"
 faulty 'a file differs from the listing' 15 'damaged: rootfs/etc/motd' 1
 bundle f f f
+mkdir "$tmp/f/rootfs/etc" "$tmp/outside"
+printf abc >"$tmp/outside/motd"
+ln -s "$tmp/outside/motd" "$tmp/f/rootfs/etc/motd"
+printf 'd 0755 0 0 /etc\nf 0644 0 0 3 %s /etc/motd\n' "$abc" >"$tmp/f/tree"
+faulty 'a link in place of a file is not followed' 15 'damaged: rootfs/etc/motd' 1
+bundle f f f
+ln -s "$tmp/outside" "$tmp/f/rootfs/etc"
+printf 'd 0755 0 0 /etc\nf 0644 0 0 3 %s /etc/motd\n' "$abc" >"$tmp/f/tree"
+faulty 'a link in place of a folder is not followed' 15 'damaged: rootfs/etc/motd' 1
+bundle f f f
+mv "$tmp/f/manifest" "$tmp/outside/manifest"
+ln -s "$tmp/outside/manifest" "$tmp/f/manifest"
+faulty 'a link in place of the manifest is not followed' 15 'no file: manifest' 0
+bundle f f f
+mv "$tmp/f/id" "$tmp/outside/id"
+ln -s "$tmp/outside/id" "$tmp/f/id"
+faulty 'a link in place of the ID is not followed' 15 'no file: id' 0
+bundle f f f
 printf 'd 0755 0 0 /a\n' >"$tmp/f/rootfs/a"
 if chmod 000 "$tmp/f/rootfs/a" && ! cat "$tmp/f/rootfs/a" >/dev/null 2>&1; then
     faulty 'a file that can not be read' 10 'bundle fault' 0
@@ -145,6 +163,14 @@ ln -s / "$tmp/loop/rootfs/root"
 expect 'links are kept as they are' 0 "$(key e)" '' timeout 20 "$rkt" image import "$tmp/loop"
 same 'they stand in the listing alone' 'l 0777 0 0 loop /loop
 l 0777 0 0 / /root' "$(cat "$(images)/$(key e)/tree")"
+
+bundle listed 9 example.com/listed
+printf 'd 0755 0 0 /etc\n' >"$tmp/outside/tree"
+ln -s "$tmp/outside/tree" "$tmp/listed/tree"
+expect 'a link in place of a listing is none' 0 "$(key 9)" '' "$rkt" image import "$tmp/listed"
+same 'the folder is listed' '' "$(cat "$(images)/$(key 9)/tree")"
+ln -s listed "$tmp/named"
+expect 'a link that is named is followed' 0 "$(key 9)" '' "$rkt" image import "$tmp/named"
 
 # 20,000 files.
 bundle many d example.com/many

@@ -4,29 +4,31 @@ ghost use Rattle.dir_model.specs.Causes.{Rose};
 ghost use Rattle.dir_host.specs.Counts.{CountsRefusal};
 
 use dir_trait::{Bundle, BundleAction, BundleError, BundleItems};
-use host_files::{OpenedFile, list_folder, read_file, read_target};
+use host_files::{OpenedFile, list_bundle, read_file, read_target};
 use std::alloc::Global;
 use std::fs::File;
 use std::rt::Files;
 
 /// The files of the host. A path is any of the host's, seen from the current folder. Symbolic links are
-/// followed, but not by `read_link` and `list` at the last name. A read from a file's start opens it, and
-/// the next reads at that path go on in it, whatever stands there by then. Each failure of the system is
-/// counted once.
+/// followed in the path that was named, and none behind it: what lies there behind a link is `Missing`. A
+/// read from a file's start opens it, and the next reads at that path go on in it, whatever stands there by
+/// then. Each failure of the system is counted once.
 #[derive(Drop)]
-pub struct HostBundle<R: Files<File = File> + AllocGlobal + Clone + Drop> {
+pub struct HostBundle<'a, R: Files<File = File> + AllocGlobal + Clone + Drop> {
     rt: R,
+    named: &'a str,
     opened: Option<OpenedFile>,
     faults: u64,
 }
 
-impl<R: Files<File = File> + AllocGlobal + Clone + Drop> HostBundle<R> {
-    /// All files that the system has. The bundle hasn't failed.
-    pub fn new(rt: R) -> HostBundle<R>
-        ensures { (⟦<HostBundle<R> as Bundle>⟧.shown result).faults ≡ 0 }
+impl<'a, R: Files<File = File> + AllocGlobal + Clone + Drop> HostBundle<'a, R> {
+    /// All files that the system has, of which the user named this path. The bundle hasn't failed.
+    pub fn new(rt: R, named: &'a str) -> HostBundle<'a, R>
+        ensures { (⟦<HostBundle<'a, R> as Bundle>⟧.shown result).faults ≡ 0 }
     {
         HostBundle {
             rt,
+            named,
             opened: None,
             faults: 0,
         }
@@ -54,7 +56,7 @@ fn path_or_here(path: &str) -> &str
     if path.is_empty() { "." } else { path }
 }
 
-impl<R: Files<File = File> + AllocGlobal + Clone + Drop> Bundle for HostBundle<R> {
+impl<'a, R: Files<File = File> + AllocGlobal + Clone + Drop> Bundle for HostBundle<'a, R> {
     ghost use Rattle.std.specs.Prelude.{◌≡◌, ◌≤◌, length, false, IfOk, IsErrOf};
     ghost use Rattle.dir_model.specs.Causes.{Rose};
     ghost use Rattle.dir_trait.specs.Bundles.{bytes_given, IsListing, BundleCall, request_at};
@@ -81,7 +83,15 @@ impl<R: Files<File = File> + AllocGlobal + Clone + Drop> Bundle for HostBundle<R
         ensures most { IfOk result (λ n. n ≤ length room.old) }
         ensures called { BundleCall false (bundle_shown self.old) (request_at BundleAction.Read path.now) (bytes_given result) (bundle_shown self.new) }
     {
-        match read_file(&self.rt, alloc, &mut self.opened, path, at, room) {
+        match read_file(
+            &self.rt,
+            alloc,
+            &mut self.opened,
+            path,
+            self.named,
+            at,
+            room,
+        ) {
             Ok(count) => Ok(count),
             Err(error) => Err(counted(&mut self.faults, error)),
         }
@@ -98,7 +108,7 @@ impl<R: Files<File = File> + AllocGlobal + Clone + Drop> Bundle for HostBundle<R
         ensures most { IfOk result (λ n. n ≤ length room.old) }
         ensures called { BundleCall false (bundle_shown self.old) (request_at BundleAction.ReadLink path.now) (bytes_given result) (bundle_shown self.new) }
     {
-        match read_target(&self.rt, path, room) {
+        match read_target(&self.rt, path, self.named, room) {
             Ok(count) => Ok(count),
             Err(error) => Err(counted(&mut self.faults, error)),
         }
@@ -110,7 +120,12 @@ impl<R: Files<File = File> + AllocGlobal + Clone + Drop> Bundle for HostBundle<R
         ensures ordered { IfOk result IsListing }
         ensures called { BundleCall false (bundle_shown self.old) (request_at BundleAction.List path.now) 0 (bundle_shown self.new) }
     {
-        match list_folder(&self.rt, alloc, path_or_here(path)) {
+        match list_bundle(
+            &self.rt,
+            alloc,
+            path_or_here(path),
+            path_or_here(self.named),
+        ) {
             Ok(items) => Ok(items),
             Err(error) => Err(counted(&mut self.faults, error)),
         }

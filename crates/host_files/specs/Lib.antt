@@ -1,3 +1,4 @@
+pub mod Named
 pub mod Places
 pub mod Readings
 pub mod Refusals

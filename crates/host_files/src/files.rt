@@ -7,17 +7,18 @@ ghost use Rattle.dir_trait.specs.Bundles.{IsListing};
 ghost use Rattle.host_files.specs.Refusals.{bundle_error};
 ghost use Rattle.host_files.specs.Readings.{GoesOn, StaysOpened};
 
+use crate::links::{check_way, look};
 use dir_trait::{BundleError, BundleItems, BundleKind, FileName, NoMemory, listing_of};
 use std::alloc::{AllocError, Global};
 use std::collections::BTreeMap;
 use std::fs::{DirEntry, File, FileType, Metadata};
 use std::io::ErrorKind;
-use std::os::unix::fs::FileExt;
+use std::os::unix::fs::{FileExt, MetadataExt};
 use std::rt::Files;
 use std::{fs, io};
 
 /// What a failure of the system means.
-fn refusal(error: io::Error) -> BundleError
+pub(crate) fn refusal(error: io::Error) -> BundleError
     ensures { result ≡ bundle_error (error_kind error) }
 {
     match error.kind() {
@@ -47,14 +48,25 @@ fn check_regular(metadata: &Metadata) -> Result<(), BundleError>
     }
 }
 
+/// Whether the file that was opened is the one that was looked at.
+fn check_same(found: &Metadata, opened: &Metadata) -> Result<(), BundleError>
+    ensures { IfErr result (λ e. e ≡ BundleError.Missing) }
+{
+    if found.dev() == opened.dev() && found.ino() == opened.ino() {
+        Ok(())
+    } else {
+        Err(BundleError::Missing)
+    }
+}
+
 /// Opens a regular file. Looks first, since to open a pipe would wait for its other end, and looks at
-/// what was opened, since another thing may stand there by then.
-fn open_file<R: Files<File = File>>(rt: &R, path: &str) -> Result<File, BundleError> {
-    let found = fs::metadata(rt, path).map_err(refusal)?;
+/// what was opened, since another thing, as a link, may stand there by then.
+fn open_file<R: Files<File = File>>(rt: &R, path: &str, named: &str) -> Result<File, BundleError> {
+    let found = look(rt, path, named)?;
     check_regular(&found)?;
     let file = File::open(rt, path).map_err(refusal)?;
     let opened = file.metadata().map_err(refusal)?;
-    check_regular(&opened)?;
+    check_same(&found, &opened)?;
     Ok(file)
 }
 
@@ -65,6 +77,7 @@ fn file_of_reading<R: Files<File = File>>(
     alloc: Global,
     opened: Option<OpenedFile>,
     path: &str,
+    named: &str,
     at: u64,
 ) -> Result<OpenedFile, BundleError>
     ensures kept { GoesOn opened path.now at result }
@@ -75,7 +88,7 @@ fn file_of_reading<R: Files<File = File>>(
             return Ok(opened);
         }
     }
-    let file = open_file(rt, path)?;
+    let file = open_file(rt, path, named)?;
     match String::from_str(alloc, path) {
         Ok(path) => Ok(OpenedFile { path, file }),
         Err(_) => Err(BundleError::NoMemory),
@@ -117,12 +130,14 @@ pub fn read_from(file: &File, at: u64, room: &mut [u8]) -> io::Result<usize>
 }
 
 /// Fills the room with the bytes of the file at a path from a place on, and answers how many it filled.
-/// The file stays opened for the next piece.
+/// The file stays opened for the next piece. `Missing` where the path leads through a link behind the path
+/// that was named.
 pub fn read_file<R: Files<File = File>>(
     rt: &R,
     alloc: Global,
     opened: &mut Option<OpenedFile>,
     path: &str,
+    named: &str,
     at: u64,
     room: &mut [u8],
 ) -> Result<usize, BundleError>
@@ -130,7 +145,7 @@ pub fn read_file<R: Files<File = File>>(
     ensures stays { StaysOpened opened.old path.now at opened.new }
     ensures opened { OnOk result (IsSomeAnd opened.new (λ file. string_bytes file.path ≡ path.now)) }
 {
-    match file_of_reading(rt, alloc, opened.take(), path, at) {
+    match file_of_reading(rt, alloc, opened.take(), path, named, at) {
         Ok(file) => {
             let count = read_from(&file.file, at, room);
             *opened = Some(file);
@@ -150,14 +165,17 @@ pub fn fill(room: &mut [u8], bytes: &[u8]) -> usize
     count
 }
 
-/// Fills the room with the target of a symbolic link, and answers how many bytes it filled.
+/// Fills the room with the target of a symbolic link, and answers how many bytes it filled. `Missing`
+/// where no link stands there, or the path leads through one behind the path that was named.
 pub fn read_target<R: Files + AllocGlobal>(
     rt: &R,
     path: &str,
+    named: &str,
     room: &mut [u8],
 ) -> Result<usize, BundleError>
     ensures { IfOk result (λ n. n ≤ length room.old) }
 {
+    check_way(rt, path, named)?;
     match fs::symlink_metadata(rt, path) {
         Ok(metadata) if metadata.is_symlink() => match fs::read_link(rt, path) {
             Ok(target) => Ok(fill(room, target.as_str().as_bytes())),

@@ -5,6 +5,7 @@ mod asks;
 mod files;
 mod folders;
 mod inside;
+mod links;
 mod listings;
 mod looks;
 mod place;
@@ -17,6 +18,7 @@ pub use inside::{
     append, for_reading, make_dir, make_file, open_dir, open_regular, read, remove_dir,
     remove_file, sync,
 };
+pub use links::list_bundle;
 pub use listings::{list_area, list_inside};
 pub use place::{AREAS, join, path_of_area};
 pub use refusals::fault;

@@ -8,9 +8,11 @@ use dir_trait::{
     PodId, PodPrefix, Sink, SinkError, Spot, Which, write_whole,
 };
 use std::alloc::Global;
+use std::fs::File;
 use std::io::{ErrorKind, Write};
 use std::os::unix::fs::symlink;
 use std::os::unix::io::AsRawFd;
+use std::rt::Files;
 use std::test::Fail;
 use std::time::{SystemTime, UNIX_EPOCH};
 use std::{env, fs, io};
@@ -305,7 +307,7 @@ fn files_of_the_host_are_read_and_listed(rt: HostRuntime) -> Result<(), Fail> {
     let link = format!(in alloc; "{root}/a_link")?;
     fs::write(&rt, file.as_str(), "sha512")?;
     symlink(&rt, "a_bundle/id", link.as_str())?;
-    let mut bundle = HostBundle::new(&rt);
+    let mut bundle = HostBundle::new(&rt, root);
     let mut room = [0; 4];
     assert_eq!(rt; bundle.read(alloc, file.as_str(), 4, &mut room), Ok(2));
     assert!(rt; room.as_slice() == b"12\0\0".as_slice());
@@ -338,6 +340,86 @@ fn files_of_the_host_are_read_and_listed(rt: HostRuntime) -> Result<(), Fail> {
     Ok(())
 }
 
+/// A path that the user named, one that is read, and whether a file is found there.
+struct Way {
+    named: &'static str,
+    path: &'static str,
+    found: bool,
+}
+
+const WAYS: [Way; 7] = [
+    Way {
+        named: "linked",
+        path: "linked/real/id",
+        found: true,
+    },
+    Way {
+        named: "linked",
+        path: "linked/name",
+        found: false,
+    },
+    Way {
+        named: "linked",
+        path: "linked/alias/id",
+        found: false,
+    },
+    Way {
+        named: "linked/alias",
+        path: "linked/alias/id",
+        found: true,
+    },
+    Way {
+        named: "linked/alias/",
+        path: "linked/alias//id",
+        found: true,
+    },
+    Way {
+        named: "linked/name",
+        path: "linked/name",
+        found: true,
+    },
+    Way {
+        named: "linked/real",
+        path: "linked/alias/id",
+        found: false,
+    },
+];
+
+/// Whether the bundle finds a file there, or answers that none is there.
+fn is_found<R: Files<File = File> + AllocGlobal + Clone + Drop>(
+    rt: R,
+    alloc: Global,
+    way: &Way,
+) -> Option<bool> {
+    let mut bundle = HostBundle::new(rt, way.named);
+    let mut room = [0; 4];
+    match bundle.read(alloc, way.path, 0, &mut room) {
+        Ok(_) => Some(true),
+        Err(BundleError::Missing) => Some(false),
+        Err(_) => None,
+    }
+}
+
+#[test]
+fn links_are_followed_in_the_named_path_alone(rt: HostRuntime) -> Result<(), Fail> {
+    let alloc = rt.alloc();
+    fs::create_dir_all(&rt, "linked/real")?;
+    fs::write(&rt, "linked/real/id", "sha512")?;
+    symlink(&rt, "real", "linked/alias")?;
+    symlink(&rt, "real/id", "linked/name")?;
+    for way in &WAYS {
+        assert!(rt; is_found(&rt, alloc, way) == Some(way.found));
+    }
+    let mut bundle = HostBundle::new(&rt, "linked");
+    assert!(rt; bundle.list(alloc, "linked/alias").is_err());
+    assert!(rt; bundle.list(alloc, "linked/real").is_ok());
+    let mut named = HostBundle::new(&rt, "linked/alias");
+    assert!(rt; named.list(alloc, "linked/alias").is_ok());
+    assert!(rt; bundle.faults() == 0 && named.faults() == 0);
+    fs::remove_dir_all(&rt, "linked")?;
+    Ok(())
+}
+
 #[test]
 fn a_file_that_is_replaced_is_read_to_its_end(rt: HostRuntime) -> Result<(), Fail> {
     let alloc = rt.alloc();
@@ -347,7 +429,7 @@ fn a_file_that_is_replaced_is_read_to_its_end(rt: HostRuntime) -> Result<(), Fai
     let other = format!(in alloc; "{root}/other")?;
     fs::write(&rt, file.as_str(), "the old")?;
     fs::write(&rt, other.as_str(), "NEW TEXT")?;
-    let mut bundle = HostBundle::new(&rt);
+    let mut bundle = HostBundle::new(&rt, root);
     let mut room = [0; 4];
     assert_eq!(rt; bundle.read(alloc, file.as_str(), 0, &mut room), Ok(4));
     fs::rename(&rt, other.as_str(), file.as_str())?;
@@ -367,7 +449,7 @@ fn a_pipe_is_no_file(rt: HostRuntime) -> Result<(), Fail> {
     let (reader, _writer) = io::pipe(&rt)?;
     let number = reader.as_raw_fd();
     let path = format!(in rt.alloc(); "/proc/self/fd/{number}")?;
-    let mut bundle = HostBundle::new(&rt);
+    let mut bundle = HostBundle::new(&rt, path.as_str());
     let mut room = [0; 4];
     assert!(rt; fs::metadata(&rt, path.as_str()).is_ok());
     assert_eq!(rt;

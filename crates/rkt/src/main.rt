@@ -51,7 +51,8 @@ fn run<O: Sink, E: Sink>(
 ) -> Result<u8, SetupError> {
     let Outside { now, draw, mut dir } = assemble(rt, process::id(rt.process()))?;
     let words = words?;
-    let mut bundle = HostBundle::new(rt);
+    let named = words.last().map_or("", |word| word.as_str());
+    let mut bundle = HostBundle::new(rt, named);
     Ok(rkt(
         rt.alloc(),
         words.as_slice(),
