@@ -120,7 +120,7 @@ fn import<D: Dir>(
     if !is_plan(plan.as_slice()) {
         return Err(anyhow!("no plan"));
     }
-    let mut bundle = HostBundle::new(rt, root);
+    let mut bundle = HostBundle::new(rt, String::from_str(rt.alloc(), root)?);
     make(rt, dir, spot).map_err(no_folder)?;
     let start = Instant::now(rt)?;
     fill(rt, dir, &mut bundle, root, spot, plan.as_slice())?;

@@ -14,17 +14,17 @@ use std::rt::Files;
 /// read from a file's start opens it, and the next reads at that path go on in it, whatever stands there by
 /// then. Each failure of the system is counted once.
 #[derive(Drop)]
-pub struct HostBundle<'a, R: Files<File = File> + AllocGlobal + Clone + Drop> {
+pub struct HostBundle<R: Files<File = File> + AllocGlobal + Clone + Drop> {
     rt: R,
-    named: &'a str,
+    named: String,
     opened: Option<OpenedFile>,
     faults: u64,
 }
 
-impl<'a, R: Files<File = File> + AllocGlobal + Clone + Drop> HostBundle<'a, R> {
+impl<R: Files<File = File> + AllocGlobal + Clone + Drop> HostBundle<R> {
     /// All files that the system has, of which the user named this path. The bundle hasn't failed.
-    pub fn new(rt: R, named: &'a str) -> HostBundle<'a, R>
-        ensures { (⟦<HostBundle<'a, R> as Bundle>⟧.shown result).faults ≡ 0 }
+    pub fn new(rt: R, named: String) -> HostBundle<R>
+        ensures { (⟦<HostBundle<R> as Bundle>⟧.shown result).faults ≡ 0 }
     {
         HostBundle {
             rt,
@@ -56,7 +56,7 @@ fn path_or_here(path: &str) -> &str
     if path.is_empty() { "." } else { path }
 }
 
-impl<'a, R: Files<File = File> + AllocGlobal + Clone + Drop> Bundle for HostBundle<'a, R> {
+impl<R: Files<File = File> + AllocGlobal + Clone + Drop> Bundle for HostBundle<R> {
     ghost use Rattle.std.specs.Prelude.{◌≡◌, ◌≤◌, length, false, IfOk, IsErrOf};
     ghost use Rattle.dir_model.specs.Causes.{Rose};
     ghost use Rattle.dir_trait.specs.Bundles.{bytes_given, IsListing, BundleCall, request_at};
@@ -88,7 +88,7 @@ impl<'a, R: Files<File = File> + AllocGlobal + Clone + Drop> Bundle for HostBund
             alloc,
             &mut self.opened,
             path,
-            self.named,
+            self.named.as_str(),
             at,
             room,
         ) {
@@ -108,7 +108,7 @@ impl<'a, R: Files<File = File> + AllocGlobal + Clone + Drop> Bundle for HostBund
         ensures most { IfOk result (λ n. n ≤ length room.old) }
         ensures called { BundleCall false (bundle_shown self.old) (request_at BundleAction.ReadLink path.now) (bytes_given result) (bundle_shown self.new) }
     {
-        match read_target(&self.rt, path, self.named, room) {
+        match read_target(&self.rt, path, self.named.as_str(), room) {
             Ok(count) => Ok(count),
             Err(error) => Err(counted(&mut self.faults, error)),
         }
@@ -124,7 +124,7 @@ impl<'a, R: Files<File = File> + AllocGlobal + Clone + Drop> Bundle for HostBund
             &self.rt,
             alloc,
             path_or_here(path),
-            path_or_here(self.named),
+            path_or_here(self.named.as_str()),
         ) {
             Ok(items) => Ok(items),
             Err(error) => Err(counted(&mut self.faults, error)),

@@ -307,7 +307,7 @@ fn files_of_the_host_are_read_and_listed(rt: HostRuntime) -> Result<(), Fail> {
     let link = format!(in alloc; "{root}/a_link")?;
     fs::write(&rt, file.as_str(), "sha512")?;
     symlink(&rt, "a_bundle/id", link.as_str())?;
-    let mut bundle = HostBundle::new(&rt, root);
+    let mut bundle = HostBundle::new(&rt, String::from_str(alloc, root)?);
     let mut room = [0; 4];
     assert_eq!(rt; bundle.read(alloc, file.as_str(), 4, &mut room), Ok(2));
     assert!(rt; room.as_slice() == b"12\0\0".as_slice());
@@ -391,7 +391,8 @@ fn is_found<R: Files<File = File> + AllocGlobal + Clone + Drop>(
     alloc: Global,
     way: &Way,
 ) -> Option<bool> {
-    let mut bundle = HostBundle::new(rt, way.named);
+    let named = String::from_str(alloc, way.named).ok()?;
+    let mut bundle = HostBundle::new(rt, named);
     let mut room = [0; 4];
     match bundle.read(alloc, way.path, 0, &mut room) {
         Ok(_) => Some(true),
@@ -410,10 +411,10 @@ fn links_are_followed_in_the_named_path_alone(rt: HostRuntime) -> Result<(), Fai
     for way in &WAYS {
         assert!(rt; is_found(&rt, alloc, way) == Some(way.found));
     }
-    let mut bundle = HostBundle::new(&rt, "linked");
+    let mut bundle = HostBundle::new(&rt, String::from_str(alloc, "linked")?);
     assert!(rt; bundle.list(alloc, "linked/alias").is_err());
     assert!(rt; bundle.list(alloc, "linked/real").is_ok());
-    let mut named = HostBundle::new(&rt, "linked/alias");
+    let mut named = HostBundle::new(&rt, String::from_str(alloc, "linked/alias")?);
     assert!(rt; named.list(alloc, "linked/alias").is_ok());
     assert!(rt; bundle.faults() == 0 && named.faults() == 0);
     fs::remove_dir_all(&rt, "linked")?;
@@ -429,7 +430,7 @@ fn a_file_that_is_replaced_is_read_to_its_end(rt: HostRuntime) -> Result<(), Fai
     let other = format!(in alloc; "{root}/other")?;
     fs::write(&rt, file.as_str(), "the old")?;
     fs::write(&rt, other.as_str(), "NEW TEXT")?;
-    let mut bundle = HostBundle::new(&rt, root);
+    let mut bundle = HostBundle::new(&rt, String::from_str(alloc, root)?);
     let mut room = [0; 4];
     assert_eq!(rt; bundle.read(alloc, file.as_str(), 0, &mut room), Ok(4));
     fs::rename(&rt, other.as_str(), file.as_str())?;
@@ -446,14 +447,15 @@ fn a_file_that_is_replaced_is_read_to_its_end(rt: HostRuntime) -> Result<(), Fai
 
 #[test]
 fn a_pipe_is_no_file(rt: HostRuntime) -> Result<(), Fail> {
+    let alloc = rt.alloc();
     let (reader, _writer) = io::pipe(&rt)?;
     let number = reader.as_raw_fd();
     let path = format!(in rt.alloc(); "/proc/self/fd/{number}")?;
-    let mut bundle = HostBundle::new(&rt, path.as_str());
+    let mut bundle = HostBundle::new(&rt, String::from_str(alloc, path.as_str())?);
     let mut room = [0; 4];
     assert!(rt; fs::metadata(&rt, path.as_str()).is_ok());
     assert_eq!(rt;
-        bundle.read(rt.alloc(), path.as_str(), 0, &mut room),
+        bundle.read(alloc, path.as_str(), 0, &mut room),
         Err(BundleError::Missing)
     );
     assert_eq!(rt; bundle.faults(), 0);

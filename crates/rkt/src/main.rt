@@ -11,7 +11,7 @@ use crate::help::text_alone;
 use dir_host::{HostBundle, HostSink, Outside, SetupError, assemble, read_words};
 use dir_trait::{Sink, SinkError, write_whole};
 use rkt_cli::{Refusal, refuse, rkt};
-use std::alloc::Global;
+use std::alloc::{AllocError, Global};
 use std::process;
 use std::process::ExitCode;
 
@@ -42,6 +42,14 @@ fn refuse_setup<E: Sink>(alloc: Global, error: SetupError, err: &mut E) -> u8
     }
 }
 
+/// The last of the words: of the commands that read a bundle or a file, the path that was named.
+fn last_word(alloc: Global, words: &[String]) -> Result<String, AllocError> {
+    match words.last() {
+        Some(word) => word.clone(),
+        None => Ok(String::new(alloc)),
+    }
+}
+
 /// Runs the command. The data folder is made even where a word can't be read.
 fn run<O: Sink, E: Sink>(
     rt: &HostRuntime,
@@ -51,8 +59,7 @@ fn run<O: Sink, E: Sink>(
 ) -> Result<u8, SetupError> {
     let Outside { now, draw, mut dir } = assemble(rt, process::id(rt.process()))?;
     let words = words?;
-    let named = words.last().map_or("", |word| word.as_str());
-    let mut bundle = HostBundle::new(rt, named);
+    let mut bundle = HostBundle::new(rt, last_word(rt.alloc(), words.as_slice())?);
     Ok(rkt(
         rt.alloc(),
         words.as_slice(),
