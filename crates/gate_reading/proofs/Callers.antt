@@ -27,7 +27,7 @@ use Rattle.gate_reading.specs.Areas.{NamesImages}
 use Rattle.gate_reading.specs.Gate.{HasGate, GoesOn}
 use Rattle.gate_reading.specs.Files.{is_plain, FindsFrom}
 use Rattle.gate_reading.proofs.StoredFiles.{finds, files_stay, none_comes}
-use Rattle.gate_reading.proofs.GoingOn.{lived_first, each_goes_on, lived_at_first, has_gate, whole_trace}
+use Rattle.gate_reading.proofs.GoingOn.{lived_first, begins_never, lived_at_first, has_gate, whole_trace}
 
 module _ {asks : Request → Bool} {s : Seen} {old new : DirAt} (g : GoesOn asks s old new) where
   -- a file that stands there stays
@@ -63,7 +63,7 @@ module _ {asks : Request → Bool} {s : Seen} {old new : DirAt} (g : GoesOn asks
       let more : List Event = g.extends.more in
       let last : lives (state_after (old.trace ++ more)).namespace old.process ≡ true =
       subst (λ (h : List Event). lives (state_after h).namespace old.process ≡ true) g.extends.grown living in
-      let first = lived_first old.process (state_after old.trace) more (each_goes_on g)
+      let first = lived_first old.process (state_after old.trace) more (begins_never g)
       (subst (λ (z : DirState). lives z.namespace old.process ≡ true) (states_next-append empty_state old.trace more) last) in
       let gate = has_gate g first in
       let knows = gate_is_kept new.trace g.conforms old.process old.trace more [] (whole_trace g) gate.shares last gate.keeps in

@@ -80,7 +80,7 @@ ended_before me p n h =
     and_both (has_begun n me) (not (has_ended n me)) begun (not_before me p n.ended on)
 
 lived_step : (me : ℕ) (n : Namespace) (p : ℕ) (request : Request) (reply : Reply) →
-    ((not (p == me) || is_kill request) || goes_on request) ≡ true → lives (namespace_replied n p request reply) me ≡ true →
+    ((not (p == me) || is_kill request) || not (is_begin request)) ≡ true → lives (namespace_replied n p request reply) me ≡ true →
     lives n me ≡ true
 lived_step me n p (Begin intent) Done f a = lived n p me (Begin intent) Done (not_me (p == me) f) a
 lived_step me n p Finish Done f a = ended_before me p n a
@@ -91,7 +91,7 @@ lived_step me n p (OpenArea area) (Opened handle) f a = a
 lived_step me n p request (Opened handle) f a = a
 lived_step me n p request reply f a = a
 
-pub lived_first : (me : ℕ) (s : DirState) (es : List Event) → AllByRecursion (λ e. (is_foreign me e || goes_on e.request) ≡ true) es →
+pub lived_first : (me : ℕ) (s : DirState) (es : List Event) → AllByRecursion (λ e. (is_foreign me e || not (is_begin e.request)) ≡ true) es →
     lives (states_next s es).namespace me ≡ true → lives s.namespace me ≡ true
 lived_first me s [] a living = living
 lived_first me s (e ∷ es) a living =
@@ -101,8 +101,14 @@ module _ {asks : Request → Bool} {s : Seen} {old new : DirAt} (g : GoesOn asks
   abbrev pub Each : List Event → Type 0
   Each es = AllByRecursion (λ e. (is_foreign old.process e || goes_on e.request) ≡ true) es
 
-  pub each_goes_on : Each g.extends.more
+  each_goes_on : Each g.extends.more
   each_goes_on = asked_wider asks goes_on g.each g.extends
+
+  abbrev pub BeginsNever : List Event → Type 0
+  BeginsNever es = AllByRecursion (λ e. (is_foreign old.process e || not (is_begin e.request)) ≡ true) es
+
+  pub begins_never : BeginsNever g.extends.more
+  begins_never = asked_wider asks (λ request. not (is_begin request)) (λ request a. and_left (not (is_begin request)) (keeps_handles request) (g.each request a)) g.extends
 
   -- who has an own step later lived at the first moment
   pub lived_at_first : (x rest : List Event) (step : Event) → new.trace ≡ ((old.trace ++ x) ++ step ∷ []) ++ rest →
@@ -121,7 +127,7 @@ module _ {asks : Request → Bool} {s : Seen} {old new : DirAt} (g : GoesOn asks
       subst (λ (q : ℕ). lives (state_after (old.trace ++ x)).namespace q ≡ true) (own_is old.process step own).0
       (alive_at (old.trace ++ x) step now begins) in
       lived_first old.process (state_after old.trace) x
-      (all_left (λ e. (is_foreign old.process e || goes_on e.request) ≡ true) x (step ∷ rest) each)
+      (all_left (λ e. (is_foreign old.process e || not (is_begin e.request)) ≡ true) x (step ∷ rest) (subst BeginsNever parts begins_never))
       (subst (λ (z : DirState). lives z.namespace old.process ≡ true) (states_next-append empty_state old.trace x) then)
 
   -- who lives at the first moment has the gate all along

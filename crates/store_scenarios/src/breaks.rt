@@ -2,14 +2,14 @@
 ghost use Rattle.std.specs.Prelude.{◌≡◌, ◌≤◌, IfOk};
 ghost use Rattle.dir_trait.specs.Local.{nothing_local};
 
-use crate::bundles::{BASE, LIB, OTHER, Put};
 use crate::imports::{BASE_STANDS, base_spot};
-use crate::stage::{Wanted, are_kept, building, image, imports, intent};
-use crate::stands::{count, holds};
 use dir_memory::MemoryDir;
 use dir_trait::{Area, Dir, Handle, Kind, Mode, NoMemory, Request};
 use std::alloc::Global;
 use std::test::Fail;
+use store_stage::{
+    BASE, LIB, OTHER, Put, Wanted, are_kept, building, count, holds, image, imports, intent,
+};
 
 // The number of the call that moves the folder of the first image to images, the last one. Before it come
 // the begin, two calls for each of the two locks, the look at the image and the make of the folder; three

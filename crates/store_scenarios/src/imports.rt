@@ -2,18 +2,16 @@
 ghost use Rattle.std.specs.Prelude.{◌≡◌, IfOk};
 ghost use Rattle.dir_trait.specs.Local.{nothing_local};
 
-use crate::bundles::{
-    BASE, BASE_ID, BASE_LISTING, BASE_MANIFEST, ID, LIB, LIB_LISTING, MANIFEST, OTHER, Put, WORKER,
-    bundle_of,
-};
 use crate::changing::ChangingBundle;
-use crate::stage::{Step, Wanted, are_kept, image, import_by, imports, intent, is};
-use crate::stands::{Stands, count, holds};
 use dir_memory::MemoryDir;
 use dir_trait::{Area, Dir, Kind, NoMemory, Spot};
 use image_store::{StoreError, open_store};
 use std::alloc::Global;
 use std::test::Fail;
+use store_stage::{
+    BASE, BASE_ID, BASE_LISTING, BASE_MANIFEST, ID, LIB, LIB_LISTING, MANIFEST, OTHER, Put, Stands,
+    Step, WORKER, Wanted, are_kept, bundle_of, count, holds, image, import_by, imports, intent, is,
+};
 
 /// An import, the moment at which it is made and what it comes to.
 struct Row {

@@ -5,12 +5,6 @@
 #[cfg(test)]
 mod breaks;
 #[cfg(test)]
-mod bundles;
-#[cfg(test)]
 mod changing;
 #[cfg(test)]
 mod imports;
-#[cfg(test)]
-mod stage;
-#[cfg(test)]
-mod stands;

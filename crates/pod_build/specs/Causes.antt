@@ -1,0 +1,64 @@
+-- Why a pod isn't prepared.
+use Rattle.std.specs.Prelude.{◌≡◌, ◌⊎◌, ℕ, Bool, true, List, ◌++◌}
+use Rattle.ac_types.specs.declared.image_ref.ImageRef.{ImageRef}
+use Rattle.dir_model.specs.declared.area.Area.{Area}
+use Rattle.dir_model.specs.declared.area.Area.TheVariants.{Images}
+use Rattle.dir_model.specs.declared.event.Event.{Event}
+use Rattle.dir_model.specs.declared.intent.Draw.{Draw}
+use Rattle.dir_model.specs.declared.pod.PodId.{PodId}
+use Rattle.dir_model.specs.declared.spot.Mode.TheVariants.{Shared}
+use Rattle.dir_trait.specs.DirCalls.{DirAt, HeldBetween}
+use Rattle.area_locks.specs.declared.error.LockError.{LockError}
+use Rattle.area_locks.specs.declared.error.LockError.TheVariants as lock
+use Rattle.area_locks.specs.AreaLocks.{IsBusy, IsBusyElsewhere}
+use Rattle.folder_building.specs.declared.plan.PlanEntry.{PlanEntry}
+use Rattle.pod_manifest.specs.Wishes.{Wishes}
+use Rattle.pod_reading.specs.declared.error.PlanError.{PlanError}
+use Rattle.pod_reading.specs.Refusals.{IsNoPlan}
+use Rattle.pod_reading.specs.FaithfulPods.{PlansFaithfully}
+use Rattle.pod_making.specs.declared.error.MakeError.{MakeError}
+use Rattle.pod_making.specs.Causes.{MakeCause}
+use Rattle.pod_build.specs.declared.error.BuildError.{BuildError}
+use Rattle.pod_build.specs.declared.error.BuildError.TheVariants.{Busy}
+use Rattle.pod_build.specs.Refusals.{gate_refusal, plan_refusal, IsMakeRefusal}
+
+-- the one stretch of time lies within the other
+pub record IsPartOf (start end old new : DirAt) : Type 0 where
+  pub same : start.process ≡ old.process
+  pub before : List Event
+  pub begins : start.trace ≡ old.trace ++ before
+  pub after : List Event
+  pub ends : new.trace ≡ end.trace ++ after
+
+-- it was so in a part of the time
+abbrev pub During : Bool → (DirAt → DirAt → Type 0) → DirAt → DirAt → Type 0
+During observed P old new = (start : DirAt) × (end : DirAt) × (observed ≡ true → IsPartOf start end old new) × P start end
+
+-- the lock of images wasn't had: it was held against it; or the directory failed, or memory ran out
+abbrev pub FailsGate : Bool → BuildError → DirAt → DirAt → Type 0
+FailsGate observed error old new = (reason : LockError) × (error ≡ gate_refusal reason) × (reason ≡ lock.Busy → observed ≡ true → HeldBetween old new (IsBusy Images Shared))
+
+-- the store gave no plan
+abbrev pub FailsPlan : Bool → List ImageRef → Wishes → BuildError → DirAt → DirAt → Type 0
+FailsPlan observed refs options error old new = (reason : PlanError) × (error ≡ plan_refusal reason) × IsNoPlan observed refs options old new reason
+
+-- the pod wasn't made by its plan
+abbrev pub FailsMaking : Bool → PodId → List PlanEntry → BuildError → DirAt → DirAt → Type 0
+FailsMaking observed draw plan error old new = (reason : MakeError) × IsMakeRefusal plan draw reason error × MakeCause observed draw plan reason old new
+
+-- the store gave a plan of the pod, by which it then wasn't made
+abbrev pub FailsAfterPlan : Bool → List ImageRef → Wishes → Draw → ℕ → BuildError → DirAt → DirAt → Type 0
+FailsAfterPlan observed refs options draw now error old new = (plan : List PlanEntry)
+    × During observed (λ a b. observed ≡ true → PlansFaithfully refs options now draw.token plan a b) old new
+    × During observed (λ a b. FailsMaking observed draw.uuid plan error a b) old new
+
+abbrev pub IsRefusedUnderLock : Bool → List ImageRef → Wishes → Draw → ℕ → BuildError → DirAt → DirAt → Type 0
+IsRefusedUnderLock observed refs options draw now error old new =
+    During observed (λ a b. FailsPlan observed refs options error a b) old new ⊎ FailsAfterPlan observed refs options draw now error old new
+
+abbrev pub IsRefused : Bool → List ImageRef → Wishes → Draw → ℕ → BuildError → DirAt → DirAt → Type 0
+IsRefused observed refs options draw now error old new = FailsGate observed error old new ⊎ IsRefusedUnderLock observed refs options draw now error old new
+
+-- the lock of the area that is told was another process's, held so that it conflicts
+abbrev pub IsHeldElsewhere : BuildError → DirAt → DirAt → Type 0
+IsHeldElsewhere error old new = (area : Area) → error ≡ Busy area → HeldBetween old new (IsBusyElsewhere old.process area Shared)
