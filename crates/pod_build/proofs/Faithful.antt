@@ -1,27 +1,27 @@
 -- A pod that was prepared was made faithfully, in a conforming execution.
-use Rattle.std.proofs.Common.{◌≡◌, ℕ, Bool, true, not, ◌||◌, Some, List, [], ◌∷◌, ◌++◌, unwrap_or, refl, sym, ap, subst, ◌∙◌, append_assoc, arith}
+use Rattle.std.proofs.Common.{◌≡◌, ℕ, Bool, true, not, ◌||◌, Some, List, ◌∷◌, ◌++◌, unwrap_or, refl, sym, ap, subst, ◌∙◌, append_assoc, arith}
 use Rattle.std.specs.List.{AllByRecursion}
 use Rattle.ac_types.specs.declared.image_ref.ImageRef.{ImageRef}
 use Rattle.dir_model.specs.declared.area.Area.{Area}
-use Rattle.dir_model.specs.declared.area.Area.TheVariants.{Prepare, Images}
+use Rattle.dir_model.specs.declared.area.Area.TheVariants.{Prepare}
 use Rattle.dir_model.specs.declared.event.Event.{Event}
 use Rattle.dir_model.specs.declared.intent.Draw.{Draw}
 use Rattle.dir_model.specs.declared.intent.Intent.{Intent}
 use Rattle.dir_model.specs.declared.pod.PodId.{PodId}
 use Rattle.dir_model.specs.declared.request.Request.{Request}
-use Rattle.dir_model.specs.declared.request.Request.TheVariants.{Begin, MoveFolder}
+use Rattle.dir_model.specs.declared.request.Request.TheVariants.{Begin, Close, Finish, MoveFolder}
 use Rattle.dir_model.specs.declared.request.Reply.TheVariants.{Done}
 use Rattle.dir_model.specs.declared.spot.Spot.{Spot}
 use Rattle.dir_model.specs.Calls.{Extends, event, is_begin, is_foreign}
 use Rattle.dir_model.specs.State.{DirState, empty_state, lives, folder_at}
-use Rattle.dir_model.specs.Trace.{state_after, states_next}
+use Rattle.dir_model.specs.Trace.{state_after}
 use Rattle.dir_model.proofs.Chains.{states_next-append, and_more, extends_wider}
 use Rattle.dir_model.proofs.Lists.{all_left, all_weaker, or_map, same_rest}
 use Rattle.dir_rules.specs.declared.standing.Held.{Held}
 use Rattle.dir_rules.specs.declared.seen.Entry.{Entry}
 use Rattle.dir_rules.specs.declared.standing.Standing.{Standing}
-use Rattle.dir_rules.specs.Conforms.{seen_of}
-use Rattle.dir_trait.specs.DirCalls.{DirAt, ExtendsBy}
+use Rattle.dir_rules.specs.Conforms.{IsTied}
+use Rattle.dir_trait.specs.DirCalls.{DirAt}
 use Rattle.dir_trait.specs.Knowledge.{Knows}
 use Rattle.lifecycle.specs.Executions.{IsConforming}
 use Rattle.folder_contents.specs.Entries.{entries_in}
@@ -33,15 +33,15 @@ use Rattle.folder_contents.proofs.Handed.{moves_hand_over, processes_hand_over}
 use Rattle.folder_contents.proofs.Known.{alive_at}
 use Rattle.gate_reading.proofs.GoingOn.{keeps_each, knows_standing, knows_gate, lived_first}
 use Rattle.image_reading.specs.Looks.{reads_images}
-use Rattle.manifests.specs.PodData.{PodData, pod_data}
+use Rattle.manifests.specs.PodData.{pod_data}
 use Rattle.pod_manifest.specs.Wishes.{Wishes}
-use Rattle.pod_reading.specs.FaithfulPods.{StoreRead, IsPodOf, read_between}
+use Rattle.pod_reading.specs.FaithfulPods.{IsPodOf, read_between}
 use Rattle.pod_making.specs.Requests.{pod_at, makes_pod}
-use Rattle.pod_making.specs.Work.{at_work, holding, nothing_made}
+use Rattle.pod_making.specs.Progress.{at_work, holding, nothing_made}
 use Rattle.pod_making.specs.Makings.{HasMoved}
-use Rattle.pod_making.proofs.Times.{Follows, moved_within}
+use Rattle.pod_making.proofs.Times.{Follows}
 use Rattle.pod_build.specs.Preparations.{Began, HasPrepared, IsPrepared}
-use Rattle.pod_build.specs.FaithfulBuild.{HasImagesBetween, HasMadePod, IsFaithfulBuild}
+use Rattle.pod_build.specs.FaithfulBuild.{HasImagesBetween}
 
 -- none of these requests begins a process, and those that read give up no handle
 reads_begin_none : (request : Request) → reads_images request ≡ true → not (is_begin request) ≡ true
@@ -49,7 +49,9 @@ reads_begin_none (Begin intent) a = cc
 reads_begin_none request a = refl
 
 reads_keep : (request : Request) → reads_images request ≡ true → keeps_handles request ≡ true
-reads_keep request a = grind
+reads_keep (Close handle) a = cc
+reads_keep Finish a = cc
+reads_keep request a = refl
 
 making_begins_none : (draw : PodId) (to : Area) (request : Request) → makes_pod draw to request ≡ true → not (is_begin request) ≡ true
 making_begins_none draw to (Begin intent) a = cc
@@ -62,8 +64,8 @@ begins_none {asks} {me} f e =
     (λ x. or_map (is_foreign me x) (asks x.request) (not (is_begin x.request)) (f x.request)) e.more e.asked
 
 -- who lives after such requests lived before them
-lived_before : {me : ℕ} (before more : List Event) → AllByRecursion (λ x. (is_foreign me x || not (is_begin x.request)) ≡ true) more → lives (state_after (before ++ more)).namespace me ≡ true → lives (state_after before).namespace me ≡ true
-lived_before {me} before more each living = lived_first me (state_after before) more each (subst (λ (s : DirState). lives s.namespace me ≡ true) (states_next-append empty_state before more) living)
+lived_before : (me : ℕ) (before more : List Event) → AllByRecursion (λ x. (is_foreign me x || not (is_begin x.request)) ≡ true) more → lives (state_after (before ++ more)).namespace me ≡ true → lives (state_after before).namespace me ≡ true
+lived_before me before more each living = lived_first me (state_after before) more each (subst (λ (s : DirState). lives s.namespace me ≡ true) (states_next-append empty_state before more) living)
 
 some_same : (m n : ℕ) → Some m ≡ Some n → m ≡ n
 some_same m n is = ap (λ o. unwrap_or o m) is
@@ -80,43 +82,50 @@ follows_then {observed} {a} {b} {c} ab bc = record {
 module _ {observed : Bool} {refs : List ImageRef} {options : Wishes} {draw : Draw} {now : ℕ} {to : Area} {intent : Intent} {hs under : List Held} {a b d e : DirAt}
     (t : observed ≡ true) (conforms : IsConforming e.trace) (hands : hands_over Prepare to ≡ true) (began : Began to draw now intent) (ab : Follows observed a b) (de : Follows observed d e)
     (gate : shares_images (at_work intent under nothing_made) ≡ true) (knows : Knows b (at_work intent under nothing_made)) (x : HasPrepared refs options draw now to intent hs b d) where
-  me : ℕ
+  abbrev me : ℕ
   me = a.process
 
-  c : DirAt
+  abbrev c : DirAt
   c = x.mid
 
-  from : Spot
+  abbrev from : Spot
   from = pod_at Prepare draw.uuid
 
-  there : Spot
+  abbrev there : Spot
   there = pod_at to draw.uuid
 
-  entries : List Entry
+  abbrev entries : List Entry
   entries = x.made.entries
 
   read : Extends reads_images b.process b.trace c.trace
   read = x.reads.extends refl
 
   bc : Follows observed b c
-  bc = record { same = x.reads.same; faults = x.reads.faults; asks = reads_images; extends = λ u. read }
+  bc = record { same = x.reads.same; faults = x.reads.faults; asks = reads_images; extends = λ u. x.reads.extends refl }
 
   -- the move
-  m : HasMoved c.process from there entries intent c.trace d.trace
+  abbrev m : HasMoved c.process from there entries intent c.trace d.trace
   m = x.made.moved
 
-  moved : HasMoved me from there entries intent a.trace e.trace
-  moved = moved_within from there entries intent a c d e t (follows_then ab bc) de m
-
-  step : Event
+  abbrev step : Event
   step = event me (MoveFolder from there) Done
 
   same_c : c.process ≡ me
   same_c = x.reads.same ∙ ab.same
 
+  abbrev later : List Event
+  later = m.later ++ (de.extends t).more
+
+  moved : e.trace ≡ m.before ++ step ∷ later
+  moved = (de.extends t).grown ∙ (ap (λ h. h ++ (de.extends t).more) (subst (λ (p : ℕ). d.trace ≡ m.before ++ event p (MoveFolder from there) Done ∷ m.later) same_c m.moved)
+      ∙ append_assoc m.before (step ∷ m.later) (de.extends t).more)
+
+  knew : IsTied me m.before m.seen
+  knew = subst (λ (p : ℕ). IsTied p m.before m.seen) same_c m.knew
+
   -- the process lived then
   lives_then : lives (state_after m.before).namespace me ≡ true
-  lives_then = alive_at m.before step (happens m.before step (conforming_to e.trace m.before step moved.later conforms moved.moved)) refl
+  lives_then = alive_at m.before step (happens m.before step (conforming_to e.trace m.before step later conforms moved)) refl
 
   meanwhile_begins_none : AllByRecursion (λ y. (is_foreign c.process y || not (is_begin y.request)) ≡ true) m.meanwhile
   meanwhile_begins_none =
@@ -128,7 +137,7 @@ module _ {observed : Bool} {refs : List ImageRef} {options : Wishes} {draw : Dra
       (subst (λ (h : List Event). AllByRecursion (λ y. (is_foreign c.process y || not (is_begin y.request)) ≡ true) h) parts all)
 
   lives_c : lives (state_after c.trace).namespace c.process ≡ true
-  lives_c = lived_before c.trace m.meanwhile meanwhile_begins_none
+  lives_c = lived_before c.process c.trace m.meanwhile meanwhile_begins_none
       (subst (λ (h : List Event). lives (state_after h).namespace c.process ≡ true) m.begins (subst (λ (p : ℕ). lives (state_after m.before).namespace p ≡ true) (sym same_c) lives_then))
 
   lives_read : lives (state_after (b.trace ++ read.more)).namespace b.process ≡ true
@@ -136,11 +145,11 @@ module _ {observed : Bool} {refs : List ImageRef} {options : Wishes} {draw : Dra
       (subst (λ (p : ℕ). lives (state_after c.trace).namespace p ≡ true) x.reads.same lives_c)
 
   lives_b : lives (state_after b.trace).namespace b.process ≡ true
-  lives_b = lived_before b.trace read.more (begins_none reads_begin_none read) lives_read
+  lives_b = lived_before b.process b.trace read.more (begins_none reads_begin_none read) lives_read
 
   -- it had the lock of images while it read
-  whole : e.trace ≡ (b.trace ++ read.more) ++ (m.meanwhile ++ step ∷ moved.later)
-  whole = moved.moved ∙ (ap (λ h. h ++ step ∷ moved.later) m.begins ∙ (append_assoc c.trace m.meanwhile (step ∷ moved.later) ∙ ap (λ h. h ++ (m.meanwhile ++ step ∷ moved.later)) read.grown))
+  whole : e.trace ≡ (b.trace ++ read.more) ++ (m.meanwhile ++ step ∷ later)
+  whole = moved ∙ (ap (λ h. h ++ step ∷ later) m.begins ∙ (append_assoc c.trace m.meanwhile (step ∷ later) ∙ ap (λ h. h ++ (m.meanwhile ++ step ∷ later)) read.grown))
 
   under_lock : HasImagesBetween me m.before b c
   under_lock = record {
@@ -151,46 +160,51 @@ module _ {observed : Bool} {refs : List ImageRef} {options : Wishes} {draw : Dra
     goes_on = read.grown;
     ends = m.begins;
     held = subst (λ (p : ℕ). KnowsAlong shares_images p b.trace read.more) ab.same
-        (gate_is_kept e.trace conforms b.process b.trace read.more (m.meanwhile ++ step ∷ moved.later) whole (knows_gate knows.tied lives_b gate) lives_read (keeps_each reads_keep read));
+        (gate_is_kept e.trace conforms b.process b.trace read.more (m.meanwhile ++ step ∷ later) whole (knows_gate knows.tied lives_b gate) lives_read (keeps_each reads_keep read));
   }
 
   -- what it handed over
-  left : (folder : ℕ) × HandsOver m.before me from there folder
-  left = moves_hand_over e.trace conforms m.before me from there moved.later moved.moved hands
+  abbrev After : List Event
+  After = then_moved m.before me from there
 
-  stands : (folder : ℕ) × ((folder_at (state_after (then_moved m.before me from there)).namespace there ≡ Some folder) × (entries_in folder (state_after (then_moved m.before me from there)).entries ≡ entries))
-  stands = processes_hand_over e.trace conforms m.before me from there moved.later moved.seen (holding from entries) moved.moved hands moved.knew moved.making refl
+  left : (folder : ℕ) × HandsOver m.before me from there folder
+  left = moves_hand_over e.trace conforms m.before me from there later moved hands
+
+  stands : (folder : ℕ) × ((folder_at (state_after After).namespace there ≡ Some folder) × (entries_in folder (state_after After).entries ≡ entries))
+  stands = processes_hand_over e.trace conforms m.before me from there later m.seen (holding from entries) moved hands knew m.making refl
 
   same_entries : entries ≡ left.1.making.entries
-  same_entries = sym stands.1.1 ∙ (ap (λ k. entries_in k (state_after (then_moved m.before me from there)).entries) (some_same stands.0 left.0 (sym stands.1.0 ∙ left.1.stands)) ∙ left.1.same)
+  same_entries = sym stands.1.1 ∙ (ap (λ k. entries_in k (state_after After).entries) (some_same stands.0 left.0 (sym stands.1.0 ∙ left.1.stands)) ∙ left.1.same)
 
-  faithful : IsFaithfulBuild me m.before
-  faithful = record {
-    old = b;
-    new = c;
-    under_lock = under_lock;
-    images = x.planned.images;
-    listed = x.planned.listed;
-    manifest = pod_data x.planned.choice.manifest;
-    built = record {
-      intent = intent;
-      began = ap (λ (s : Standing). s.intent) (sym (knows_standing moved.knew lives_then)) ∙ moved.began;
-      making = left.1.making;
-      made = left.1.knew;
-      pod = subst (λ (es : List Entry). IsPodOf (read_between x.planned.images b c) (pod_data x.planned.choice.manifest) intent.now intent.token es) same_entries
-          (subst (λ (n : ℕ). IsPodOf (read_between x.planned.images b c) (pod_data x.planned.choice.manifest) n intent.token entries) (sym began.moment)
-          (subst (λ (token : List ℕ). IsPodOf (read_between x.planned.images b c) (pod_data x.planned.choice.manifest) now token entries) (sym began.token) (x.planned.makes entries x.made.made)));
-    };
-  }
+  abbrev Pod : ℕ → List ℕ → List Entry → Type 0
+  Pod n token es = IsPodOf (read_between x.planned.images b c) (pod_data x.planned.choice.manifest) n token es
 
-  pub is_prepared : IsPrepared refs options me draw.uuid to a.trace e.trace
+  pod : Pod intent.now intent.token left.1.making.entries
+  pod = subst (λ (es : List Entry). Pod intent.now intent.token es) same_entries
+      (subst (λ (n : ℕ). Pod n intent.token entries) (sym began.moment) (subst (λ (token : List ℕ). Pod now token entries) (sym began.token) (x.planned.makes entries x.made.made)))
+
+  pub is_prepared : IsPrepared refs options a.process draw.uuid to a.trace e.trace
   is_prepared = record {
     before = m.before;
-    later = moved.later;
-    meanwhile = moved.meanwhile;
-    begins = moved.begins;
-    moved = moved.moved;
-    faithful = faithful;
+    later = later;
+    meanwhile = ((follows_then ab bc).extends t).more ++ m.meanwhile;
+    begins = m.begins ∙ (ap (λ h. h ++ m.meanwhile) ((follows_then ab bc).extends t).grown ∙ append_assoc a.trace ((follows_then ab bc).extends t).more m.meanwhile);
+    moved = moved;
+    faithful = record {
+      old = b;
+      new = c;
+      under_lock = under_lock;
+      images = x.planned.images;
+      listed = x.planned.listed;
+      manifest = pod_data x.planned.choice.manifest;
+      built = record {
+        intent = intent;
+        began = ap (λ (s : Standing). s.intent) (sym (knows_standing knew lives_then)) ∙ m.began;
+        making = left.1.making;
+        made = left.1.knew;
+        pod = pod;
+      };
+    };
     maps = x.planned.maps;
     trees = x.planned.trees;
     choice = x.planned.choice;

@@ -1,3 +1,3 @@
 mod Parts
-mod Keeping
+mod Working
 mod Faithful

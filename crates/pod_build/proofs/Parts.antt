@@ -1,5 +1,5 @@
 -- What came about in a part of a call came about in the call.
-use Rattle.std.proofs.Common.{◌≡◌, ◌⊎◌, inl, inr, ℕ, Bool, true, List, [], ◌++◌, refl, sym, ap, ◌∙◌, append-nil, append_assoc}
+use Rattle.std.proofs.Common.{◌≡◌, inl, inr, ℕ, Bool, true, List, [], ◌++◌, refl, sym, ap, ◌∙◌, append-nil, append_assoc}
 use Rattle.ac_types.specs.declared.image_ref.ImageRef.{ImageRef}
 use Rattle.dir_model.specs.declared.intent.Draw.{Draw}
 use Rattle.dir_trait.specs.DirCalls.{DirAt}
@@ -35,10 +35,10 @@ pub during_last : {observed : Bool} (P : DirAt → DirAt → Type 0) {a b c : Di
 during_last P {a} {b} {c} ab p = (b, c, λ t. last_part t ab, p)
 
 pub during_within : {observed : Bool} (P : DirAt → DirAt → Type 0) {a b c d : DirAt} → Follows observed a b → Follows observed c d → During observed P b c → During observed P a d
-during_within P ab cd x = (x.0, x.1.0, λ t. part_within t ab cd (x.1.1.0 t), x.1.1.1)
+during_within P ab cd x = (x.0, x.1, λ t. part_within t ab cd (x.2 t), x.3)
 
 -- a refusal under the lock
-pub refused_within : {observed : Bool} {refs : List ImageRef} {options : Wishes} {draw : Draw} {now : ℕ} {e : BuildError} {a b c d : DirAt} → Follows observed a b → Follows observed c d
+pub refused_within : {observed : Bool} {refs : List ImageRef} {options : Wishes} (draw : Draw) {now : ℕ} {e : BuildError} {a b c d : DirAt} → Follows observed a b → Follows observed c d
     → IsRefusedUnderLock observed refs options draw now e b c → IsRefusedUnderLock observed refs options draw now e a d
-refused_within ab cd (inl x) = inl (x.0, x.1.0, λ t. part_within t ab cd (x.1.1.0 t), x.1.1.1)
-refused_within ab cd (inr x) = inr (x.0, (x.1.0.0, x.1.0.1.0, λ t. part_within t ab cd (x.1.0.1.1.0 t), x.1.0.1.1.1), (x.1.1.0, x.1.1.1.0, λ t. part_within t ab cd (x.1.1.1.1.0 t), x.1.1.1.1.1))
+refused_within draw ab cd (inl x) = inl (x.0, x.1, λ t. part_within t ab cd (x.2 t), x.3)
+refused_within draw ab cd (inr x) = inr (x.0, (x.1.0, x.1.1, λ t. part_within t ab cd (x.1.2 t), x.1.3), (x.2.0, x.2.1, λ t. part_within t ab cd (x.2.2 t), x.2.3))

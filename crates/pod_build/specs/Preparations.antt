@@ -32,7 +32,8 @@ use Rattle.pod_manifest.specs.Wishes.{Wishes}
 use Rattle.pod_reading.specs.Readings.{HaveTrees}
 use Rattle.pod_reading.specs.FaithfulPods.{PlansFaithfully}
 use Rattle.pod_making.specs.Requests.{pod_at, makes_pod}
-use Rattle.pod_making.specs.Work.{at_work, handed, nothing_made, leads_to}
+use Rattle.pod_making.specs.Progress.{at_work, handed}
+use Rattle.pod_making.specs.Work.{leads_to}
 use Rattle.pod_making.specs.Makings.{HasMade}
 use Rattle.pod_build.specs.FaithfulBuild.{IsFaithfulBuild}
 

@@ -1,11 +1,11 @@
 // A pod is prepared, under the lock of images.
-ghost use Rattle.std.specs.Prelude.{◌≡◌, true, IfOk, IfErr, IsErrOf};
+ghost use Rattle.std.specs.Prelude.{◌≡◌, [], true, IfOk, IfErr, IsErrOf};
 ghost use Rattle.dir_model.specs.Causes.{Rose};
 ghost use Rattle.dir_trait.specs.Local.{IsActive};
 ghost use Rattle.image_reading.specs.Looks.{HoldsImages};
 ghost use Rattle.lifecycle.specs.Executions.{IsConforming};
-ghost use Rattle.pod_making.specs.Work.{nothing_made, From, HasOwnFolder};
-ghost use Rattle.pod_making.specs.Causes.{Went};
+ghost use Rattle.pod_making.specs.Progress.{nothing_made};
+ghost use Rattle.pod_making.specs.Work.{From, HasOwnFolder, Went};
 ghost use Rattle.pod_build.specs.Requests.{prepares, prepares_under_lock};
 ghost use Rattle.pod_build.specs.Answers.{target, with_built, held_with, IsAnswer};
 ghost use Rattle.pod_build.specs.Causes.{IsRefused, IsRefusedUnderLock, IsHeldElsewhere};

@@ -1,0 +1,96 @@
+use Rattle.std.proofs.Common.{◌≡◌, true, inl, inr, List, sym, subst}
+use Rattle.folder_building.specs.declared.plan.PlanEntry.{PlanEntry}
+use Rattle.folder_building.proofs.Copying.{ok_more, err_more}
+use Rattle.pod_reading.specs.FaithfulPods.{PlansFaithfully}
+use Rattle.pod_making.specs.Progress.{nothing_made}
+use Rattle.pod_making.specs.Work.{MayMake, UnderImages, From, HasOwnFolder}
+use Rattle.pod_making.specs.Makings.{HasMade}
+use Rattle.pod_making.proofs.Knowing.{has_nothing}
+use Rattle.pod_making.proofs.Times.{nothing_follows, follows_went}
+use Rattle.pod_build.specs.Answers.{target, held_with}
+use Rattle.pod_build.specs.Causes.{FailsPlan, FailsMaking, IsRefusedUnderLock, IsHeldElsewhere}
+use Rattle.pod_build.specs.Preparations.{Began, HasGateAlone, HasPrepared}
+use Rattle.pod_build.proofs.Parts.{during_first, during_last}
+use Rattle.pod_build.proofs.Working.{follows_reads, went_reads, went_under, worked_reads, may_make, under_images, knows_read, elsewhere_within}
+use Rattle.pod_build.proofs.preparing.prepare_under_lock.Goals as goal
+
+pub returns-in-Ok-clause-went : goal.returns-in-Ok-clause-went
+returns-in-Ok-clause-went g c = went_under c.args.draw.now.uuid (target c.args.keep_owner) c.make.result c.plan_pod.ensures.only c.make.ensures.went
+
+pub returns-in-Ok-clause-refused : goal.returns-in-Ok-clause-refused
+returns-in-Ok-clause-refused g c =
+    let D = g.D.Dir in
+    let old = D.shown c.args.dir.now in
+    let mid = D.shown c.plan_pod.new.dir in
+    let new = D.shown c.make.new.dir in
+    let draw = c.args.draw.now in
+    let plan = c.in-Ok.plan.items in
+    err_more (λ e. FailsMaking D.observed draw.uuid c.deref.result.now e mid new) (λ e. IsRefusedUnderLock D.observed c.args.refs.now c.args.options.now draw c.args.now e old new) c.make.result
+    (λ e x. inr (
+      plan,
+      during_first (λ a b. D.observed ≡ true → PlansFaithfully c.args.refs.now c.args.options.now c.args.now draw.token plan a b) (follows_went c.make.ensures.went) (λ t. c.in-Ok.ensures.faithful t),
+      during_last (λ a b. FailsMaking D.observed draw.uuid plan e a b) (follows_reads c.plan_pod.ensures.only)
+          (subst (λ (entries : List PlanEntry). FailsMaking D.observed draw.uuid entries e mid new) c.deref.ensures.value x),
+    )) c.make.ensures.refused
+
+pub returns-in-Ok-clause-another : goal.returns-in-Ok-clause-another
+returns-in-Ok-clause-another g c =
+    let D = g.D.Dir in
+    let old = D.shown c.args.dir.now in
+    let mid = D.shown c.plan_pod.new.dir in
+    let new = D.shown c.make.new.dir in
+    let draw = c.args.draw.now in
+    let to = target c.args.keep_owner in
+    let entries = c.deref.result.now in
+    err_more (λ e. D.observed ≡ true → From (MayMake to entries draw.uuid) (UnderImages draw.uuid) nothing_made mid (λ intent hs. IsHeldElsewhere e mid new))
+    (λ e. D.observed ≡ true → From (Began to draw c.args.now) (HasGateAlone c.args.gate) nothing_made old (λ intent hs. IsHeldElsewhere e old new)) c.make.result
+    (λ e x t intent hs began alone k. elsewhere_within old mid new new t (follows_reads c.plan_pod.ensures.only) c.make.ensures.went.same nothing_follows
+    (x t intent hs (subst (λ (plan : List PlanEntry). MayMake to plan draw.uuid intent) (sym c.deref.ensures.value) (may_make began c.in-Ok.ensures.turn c.in-Ok.ensures.whole)) (under_images draw.uuid c.args.gate alone) (knows_read c.args.gate alone (c.plan_pod.ensures.known t) k)))
+    c.make.ensures.another
+
+pub returns-in-Ok-clause-prepared : goal.returns-in-Ok-clause-prepared
+returns-in-Ok-clause-prepared g c =
+    let D = g.D.Dir in
+    let old = D.shown c.args.dir.now in
+    let mid = D.shown c.plan_pod.new.dir in
+    let new = D.shown c.make.new.dir in
+    let draw = c.args.draw.now in
+    let to = target c.args.keep_owner in
+    let entries = c.deref.result.now in
+    ok_more (λ built. D.observed ≡ true → From (MayMake to entries draw.uuid) (UnderImages draw.uuid) nothing_made mid (λ intent hs. HasMade draw.uuid to entries intent (held_with draw.uuid built hs) mid new))
+    (λ built. D.observed ≡ true → From (Began to draw c.args.now) (HasGateAlone c.args.gate) nothing_made old (λ intent hs. HasPrepared c.args.refs.now c.args.options.now draw c.args.now to intent (held_with draw.uuid built hs) old new)) c.make.result
+    (λ built x t intent hs began alone k. record {
+      mid = mid;
+      reads = worked_reads t c.plan_pod.ensures.only;
+      plan = c.in-Ok.plan.items;
+      planned = c.in-Ok.ensures.faithful t;
+      works = c.make.ensures.went.extends t;
+      made = subst (λ (plan : List PlanEntry). HasMade draw.uuid to plan intent (held_with draw.uuid built hs) mid new) c.deref.ensures.value
+          (x t intent hs (subst (λ (plan : List PlanEntry). MayMake to plan draw.uuid intent) (sym c.deref.ensures.value) (may_make began c.in-Ok.ensures.turn c.in-Ok.ensures.whole)) (under_images draw.uuid c.args.gate alone) (knows_read c.args.gate alone (c.plan_pod.ensures.known t) k));
+    }) c.make.ensures.made
+
+pub returns-in-Ok-clause-left : goal.returns-in-Ok-clause-left
+returns-in-Ok-clause-left g c =
+    let D = g.D.Dir in
+    let old = D.shown c.args.dir.now in
+    let mid = D.shown c.plan_pod.new.dir in
+    let new = D.shown c.make.new.dir in
+    let draw = c.args.draw.now in
+    let to = target c.args.keep_owner in
+    let entries = c.deref.result.now in
+    err_more (λ e. D.observed ≡ true → From (MayMake to entries draw.uuid) (UnderImages draw.uuid) nothing_made mid (λ intent hs. HasOwnFolder draw.uuid intent hs new))
+    (λ e. D.observed ≡ true → From (Began to draw c.args.now) (HasGateAlone c.args.gate) nothing_made old (λ intent hs. HasOwnFolder draw.uuid intent hs new)) c.make.result
+    (λ e x t intent hs began alone k. x t intent hs (subst (λ (plan : List PlanEntry). MayMake to plan draw.uuid intent) (sym c.deref.ensures.value) (may_make began c.in-Ok.ensures.turn c.in-Ok.ensures.whole)) (under_images draw.uuid c.args.gate alone) (knows_read c.args.gate alone (c.plan_pod.ensures.known t) k))
+    c.make.ensures.left
+
+pub returns-in-Err-clause-went : goal.returns-in-Err-clause-went
+returns-in-Err-clause-went g c = went_reads c.args.draw.now.uuid (target c.args.keep_owner) c.plan_pod.ensures.only
+
+pub returns-in-Err-clause-refused : goal.returns-in-Err-clause-refused
+returns-in-Err-clause-refused g c =
+    let D = g.D.Dir in
+    let error = c.plan_refusal.result in
+    inl (during_first (λ a b. FailsPlan D.observed c.args.refs.now c.args.options.now error a b) nothing_follows (c.in-Err.error, c.plan_refusal.ensures, c.in-Err.ensures.refused))
+
+pub returns-in-Err-clause-left : goal.returns-in-Err-clause-left
+returns-in-Err-clause-left g c t intent hs began alone k = has_nothing (knows_read c.args.gate alone (c.plan_pod.ensures.known t) k)

@@ -1,0 +1,252 @@
+-- Single calls of the making: what they leave, and what their refusals rest on.
+use Rattle.std.proofs.Common.{◌≡◌, ◌⊎◌, inl, inr, ℕ, Bool, true, false, Some, None, Result, Ok, Err, List, [], cond, refl, sym, ap, subst, ◌∙◌, append-nil, arith}
+use Rattle.dir_model.specs.declared.area.Area.{Area}
+use Rattle.dir_model.specs.declared.area.Area.TheVariants.{Embryo, Prepare}
+use Rattle.dir_model.specs.declared.event.Event.{Event}
+use Rattle.dir_model.specs.declared.intent.Intent.{Intent}
+use Rattle.dir_model.specs.declared.pod.PodId.{PodId}
+use Rattle.dir_model.specs.declared.spot.Handle.{Handle}
+use Rattle.dir_model.specs.declared.spot.Mode.TheVariants.{Exclusive}
+use Rattle.dir_model.specs.declared.spot.Spot.{Spot}
+use Rattle.dir_model.specs.declared.spot.Which.TheVariants as which
+use Rattle.dir_model.specs.declared.request.DirError.{DirError}
+use Rattle.dir_model.specs.declared.request.DirError.TheVariants.{Missing, Exists, NotEmpty, Locked, Failed}
+use Rattle.dir_model.specs.declared.request.DirError.TheVariants as dir
+use Rattle.dir_model.specs.declared.request.Reply.{Reply}
+use Rattle.dir_model.specs.declared.request.Reply.TheVariants.{Done, Refused}
+use Rattle.dir_model.specs.declared.request.Request.{Request}
+use Rattle.dir_model.specs.declared.request.Request.TheVariants.{MakeFolder, MoveFolder, Open, TryLock}
+use Rattle.dir_model.specs.Calls.{CallStep, Interference, TookPlace, LeftNothing}
+use Rattle.dir_model.specs.Causes.{Rose}
+use Rattle.dir_model.specs.Replies.{may_refuse, is_error, done_reply}
+use Rattle.dir_model.specs.State.{stands}
+use Rattle.dir_model.proofs.Allowed.{allowed_reply}
+use Rattle.dir_model.proofs.Lists.{and_both}
+use Rattle.dir_model.proofs.Moments.{step_at}
+use Rattle.dir_rules.specs.declared.seen.Entry.{Entry}
+use Rattle.dir_rules.specs.declared.seen.Seen.{Seen}
+use Rattle.dir_rules.specs.Conforms.{Agrees, IsTied}
+use Rattle.dir_rules.proofs.Tied.{meanwhile_unseen, lived_meanwhile}
+use Rattle.dir_trait.specs.DirCalls.{DirAt, DirCall, HeldBetween}
+use Rattle.folder_building.specs.declared.error.BuildError.{BuildError}
+use Rattle.folder_building.specs.declared.error.BuildError.TheVariants as build
+use Rattle.folder_building.specs.declared.plan.PlanEntry.{PlanEntry}
+use Rattle.folder_building.specs.declared.plan.Content.{Content}
+use Rattle.folder_building.specs.declared.plan.Content.TheVariants.{Directory, Given, Copied}
+use Rattle.folder_building.specs.Sources.{SourceAt, UnlikeContent, UnlikeAt}
+use Rattle.folder_building.specs.Work.{Worked, EndsStray, is_stray}
+use Rattle.folder_building.proofs.Working.{worked_call, at_spot}
+use Rattle.pod_making.specs.declared.error.MakeError.TheVariants.{Busy, Taken, Unlike, DirFault, Stray}
+use Rattle.pod_making.specs.Refusals.{change_refusal, make_refusal, build_refusal}
+use Rattle.pod_making.specs.Requests.{pod_at, begins_pod, hands_pod, is_stray_making}
+use Rattle.pod_making.specs.Progress.{holding}
+use Rattle.pod_making.specs.Causes.{WasStrayBetween, IsTaken, is_copied, IsCopiedAt, WorkCause}
+use Rattle.pod_making.specs.Makings.{HasMoved}
+use Rattle.dir_model.proofs.Chains.{nothing_yet, and_call}
+use Rattle.pod_making.proofs.Times.{Follows, stray_self}
+
+-- the same call, by what its spots are
+pub with_spot : {observed : Bool} {old new : DirAt} {a b : Spot} {reply : Reply} (request : Spot → Request) → a ≡ b → DirCall observed old (request a) reply new → DirCall observed old (request b) reply new
+with_spot {observed} {old} {new} {a} {b} {reply} request is c = subst (λ (s : Spot). DirCall observed old (request s) reply new) is c
+
+pub with_spots : {observed : Bool} {old new : DirAt} {from from' to to' : Spot} {reply : Reply} → from ≡ from' → to ≡ to' → DirCall observed old (MoveFolder from to) reply new → DirCall observed old (MoveFolder from' to') reply new
+with_spots {observed} {old} {new} {from} {from'} {to} {to'} {reply} a b c =
+    subst (λ (t : Spot). DirCall observed old (MoveFolder from' t) reply new) b (subst (λ (f : Spot). DirCall observed old (MoveFolder f to) reply new) a c)
+
+-- one call follows
+pub follows_call : {observed : Bool} {request : Request} {reply : Reply} {a b : DirAt} → DirCall observed a request reply b → Follows observed a b
+follows_call c = record { same = c.same; faults = c.faults; asks = λ r. true; extends = λ t. and_call nothing_yet refl refl (c.step t) }
+
+-- the calls are among those of the making
+pub worked_make : {observed : Bool} {old new : DirAt} (draw : PodId) (answer : Result (Unit {0}) DirError) → DirCall observed old (MakeFolder (pod_at Embryo draw)) (done_reply answer) new → Worked observed (begins_pod draw) old new
+worked_make draw (Ok done) c = worked_call (at_spot (pod_at Embryo draw)) refl c
+worked_make draw (Err error) c = worked_call (at_spot (pod_at Embryo draw)) refl c
+
+asks_leave : (draw : PodId) → begins_pod draw (MoveFolder (pod_at Embryo draw) (pod_at Prepare draw)) ≡ true
+asks_leave draw = and_both _ _ (at_spot (pod_at Embryo draw)) (at_spot (pod_at Prepare draw))
+
+pub worked_leave : {observed : Bool} {old new : DirAt} (draw : PodId) (answer : Result (Unit {0}) DirError) → DirCall observed old (MoveFolder (pod_at Embryo draw) (pod_at Prepare draw)) (done_reply answer) new → Worked observed (begins_pod draw) old new
+worked_leave draw (Ok done) c = worked_call (asks_leave draw) refl c
+worked_leave draw (Err error) c = worked_call (asks_leave draw) refl c
+
+asks_hand : (draw : PodId) (to : Area) → hands_pod draw to (MoveFolder (pod_at Prepare draw) (pod_at to draw)) ≡ true
+asks_hand draw to = and_both _ _ (at_spot (pod_at Prepare draw)) (at_spot (pod_at to draw))
+
+pub worked_hand : {observed : Bool} {old new : DirAt} (draw : PodId) (to : Area) (answer : Result (Unit {0}) DirError) → DirCall observed old (MoveFolder (pod_at Prepare draw) (pod_at to draw)) (done_reply answer) new → Worked observed (hands_pod draw to) old new
+worked_hand draw to (Ok done) c = worked_call (asks_hand draw to) refl c
+worked_hand draw to (Err error) c = worked_call (asks_hand draw to) refl c
+
+-- what a refusal means
+change_calm : (e : DirError) → change_refusal e ≡ Busy → ⊥
+change_calm Failed is = cc
+change_calm dir.NoMemory is = cc
+change_calm e is = cc
+
+change_untaken : (e : DirError) → change_refusal e ≡ Taken → ⊥
+change_untaken Failed is = cc
+change_untaken dir.NoMemory is = cc
+change_untaken e is = cc
+
+change_like : (e : DirError) (place : ℕ) → change_refusal e ≡ Unlike place → ⊥
+change_like Failed place is = cc
+change_like dir.NoMemory place is = cc
+change_like e place is = cc
+
+change_fault : (e : DirError) → change_refusal e ≡ DirFault → e ≡ Failed
+change_fault Failed is = refl
+change_fault dir.NoMemory is = cc
+change_fault e is = cc
+
+-- a call on what this process has made was refused
+pub change_cause : {observed : Bool} {draw : PodId} {old new : DirAt} (request : Request) (e : DirError) → (change_refusal e ≡ Stray → is_stray_making request (Refused e 0) ≡ true) → (e ≡ Failed → Rose old.faults new.faults)
+    → DirCall observed old request (Refused e 0) new → WorkCause observed draw [] (change_refusal e) old new
+change_cause {observed} {draw} {old} {new} request e stray fault c = record {
+  calm = change_calm e;
+  fault = λ is. fault (change_fault e is);
+  taken = λ is. absurd (change_untaken e is);
+  unlike = λ place is. absurd (change_like e place is);
+  stray = λ is t. stray_self (stray is) (c.step t);
+}
+
+pub stray_move : (from to : Spot) (e : DirError) → may_refuse (MoveFolder from to) e ≡ true → change_refusal e ≡ Stray → is_stray_making (MoveFolder from to) (Refused e 0) ≡ true
+stray_move from to Missing may is = refl
+stray_move from to Exists may is = refl
+stray_move from to Failed may is = cc
+stray_move from to dir.NoMemory may is = cc
+stray_move from to e may is = cc
+
+pub stray_open : (spot : Spot) (e : DirError) → may_refuse (Open spot which.Own) e ≡ true → change_refusal e ≡ Stray → is_stray_making (Open spot which.Own) (Refused e 0) ≡ true
+stray_open spot Missing may is = refl
+stray_open spot Failed may is = cc
+stray_open spot dir.NoMemory may is = cc
+stray_open spot e may is = cc
+
+pub stray_lock : (h : Handle) (e : DirError) → may_refuse (TryLock h Exclusive) e ≡ true → change_refusal e ≡ Stray → is_stray_making (TryLock h Exclusive) (Refused e 0) ≡ true
+stray_lock h Locked may is = refl
+stray_lock h Failed may is = cc
+stray_lock h dir.NoMemory may is = cc
+stray_lock h e may is = cc
+
+-- a folder stood there when the make was refused so
+there_by : (b : Bool) → is_error Exists (cond b (Some Exists) None) ≡ true → b ≡ true
+there_by true is = refl
+there_by false is = cc
+
+pub was_taken : (spot : Spot) (old new : DirAt) → CallStep old.process old.trace (MakeFolder spot) (Refused Exists 0) new.trace → HeldBetween old new (IsTaken spot)
+was_taken spot old new c = step_at old.process old.trace (MakeFolder spot) (Refused Exists 0) new.trace (IsTaken spot) refl refl
+    (λ s allowed. there_by (stands s.namespace spot) (allowed_reply s old.process (MakeFolder spot) (Refused Exists 0) allowed)) c
+
+none_stray : (spot : Spot) (e : DirError) → may_refuse (MakeFolder spot) e ≡ true → (e ≡ Exists → ⊥) → change_refusal e ≡ Stray → is_stray_making (MakeFolder spot) (Refused e 0) ≡ true
+none_stray spot Exists may other is = absurd (other refl)
+none_stray spot Failed may other is = cc
+none_stray spot dir.NoMemory may other is = cc
+none_stray spot e may other is = cc
+
+module _ (observed : Bool) (draw : PodId) (old new : DirAt) where
+  abbrev Refusal : DirError → Type 0
+  Refusal e = DirCall observed old (MakeFolder (pod_at Embryo draw)) (Refused e 0) new
+
+  pub make_cause : (e : DirError) → may_refuse (MakeFolder (pod_at Embryo draw)) e ≡ true → (e ≡ Failed → Rose old.faults new.faults) → Refusal e → WorkCause observed draw [] (make_refusal e) old new
+  make_cause Exists may fault c = record { calm = λ is. cc; fault = λ is. cc; taken = λ is t. was_taken (pod_at Embryo draw) old new (c.step t); unlike = λ place is. cc; stray = λ is. cc }
+  make_cause Missing may fault c = change_cause (MakeFolder (pod_at Embryo draw)) Missing (none_stray (pod_at Embryo draw) Missing may (λ is. cc)) fault c
+  make_cause NotEmpty may fault c = change_cause (MakeFolder (pod_at Embryo draw)) NotEmpty (none_stray (pod_at Embryo draw) NotEmpty may (λ is. cc)) fault c
+  make_cause Locked may fault c = change_cause (MakeFolder (pod_at Embryo draw)) Locked (none_stray (pod_at Embryo draw) Locked may (λ is. cc)) fault c
+  make_cause Failed may fault c = change_cause (MakeFolder (pod_at Embryo draw)) Failed (none_stray (pod_at Embryo draw) Failed may (λ is. cc)) fault c
+  make_cause dir.NoMemory may fault c = change_cause (MakeFolder (pod_at Embryo draw)) dir.NoMemory (none_stray (pod_at Embryo draw) dir.NoMemory may (λ is. cc)) fault c
+
+-- the folder wasn't filled
+stray_more : (request : Request) (reply : Reply) → is_stray request reply ≡ true → is_stray_making request reply ≡ true
+stray_more (Open spot which.Own) reply is = cc
+stray_more (TryLock handle Exclusive) reply is = cc
+stray_more (MoveFolder from to) reply is = cc
+stray_more request reply is = is
+
+was_stray : {asks : Request → Bool} (old new : DirAt) → EndsStray asks old new → WasStrayBetween old new
+was_stray {asks} old new w = record {
+  before = w.before;
+  after = new.trace;
+  earlier = w.first.more;
+  later = [];
+  request = w.request;
+  reply = w.reply;
+  stray = stray_more w.request w.reply w.stray;
+  begins = w.first.grown;
+  step = w.last;
+  ends = sym (append-nil new.trace);
+}
+
+copied_as : (source : SourceAt) (content : Content) → UnlikeContent source content → is_copied content ≡ true
+copied_as source Directory u = absurd u
+copied_as source (Given bytes) u = absurd u
+copied_as source (Copied origin size sha) u = refl
+
+copied_at : {source : SourceAt} {plan : List PlanEntry} {place : ℕ} → UnlikeAt source plan place → IsCopiedAt plan place
+copied_at {source} u = record { before = u.before; entry = u.entry; rest = u.rest; is = u.is; counted = u.place; copied = copied_as source u.entry.content u.unlike }
+
+build_calm : (e : BuildError) → build_refusal e ≡ Busy → ⊥
+build_calm (build.Unlike place) is = cc
+build_calm build.SourceFault is = cc
+build_calm build.DirFault is = cc
+build_calm build.Stray is = cc
+build_calm build.NoMemory is = cc
+
+build_untaken : (e : BuildError) → build_refusal e ≡ Taken → ⊥
+build_untaken (build.Unlike place) is = cc
+build_untaken build.SourceFault is = cc
+build_untaken build.DirFault is = cc
+build_untaken build.Stray is = cc
+build_untaken build.NoMemory is = cc
+
+build_fault : (e : BuildError) → build_refusal e ≡ DirFault → (e ≡ build.SourceFault) ⊎ (e ≡ build.DirFault)
+build_fault (build.Unlike place) is = cc
+build_fault build.SourceFault is = inl refl
+build_fault build.DirFault is = inr refl
+build_fault build.Stray is = cc
+build_fault build.NoMemory is = cc
+
+build_like : (e : BuildError) (place : ℕ) → build_refusal e ≡ Unlike place → e ≡ build.Unlike place
+build_like (build.Unlike at) place is = let same : at ≡ place = cc in ap build.Unlike same
+build_like build.SourceFault place is = cc
+build_like build.DirFault place is = cc
+build_like build.Stray place is = cc
+build_like build.NoMemory place is = cc
+
+build_stray : (e : BuildError) → build_refusal e ≡ Stray → e ≡ build.Stray
+build_stray (build.Unlike place) is = cc
+build_stray build.SourceFault is = cc
+build_stray build.DirFault is = cc
+build_stray build.Stray is = refl
+build_stray build.NoMemory is = cc
+
+-- what never fails didn't
+never_rose : Rose 0 0 → ⊥
+never_rose r = omega (arith, r)
+
+pub fill_cause : {observed : Bool} {draw : PodId} {old new : DirAt} {asks : Request → Bool} (plan : List PlanEntry) (source : SourceAt) (e : BuildError) → (e ≡ build.DirFault → Rose old.faults new.faults) → (e ≡ build.SourceFault → Rose 0 0)
+    → ((place : ℕ) → e ≡ build.Unlike place → UnlikeAt source plan place) → (e ≡ build.Stray → observed ≡ true → EndsStray asks old new) → WorkCause observed draw plan (build_refusal e) old new
+fill_cause {observed} {draw} {old} {new} plan source e fault failed unlike stray = record {
+  calm = build_calm e;
+  fault = λ is. by (build_fault e is);
+  taken = λ is. absurd (build_untaken e is);
+  unlike = λ place is. copied_at (unlike place (build_like e place is));
+  stray = λ is t. was_stray old new (stray (build_stray e is) t);
+}
+  where
+    by : (e ≡ build.SourceFault) ⊎ (e ≡ build.DirFault) → Rose old.faults new.faults
+    by (inl is) = absurd (never_rose (failed is))
+    by (inr is) = fault is
+
+-- what a process knew before a call, it knew at the call's step
+tied_meanwhile : {me : ℕ} {old new : List Event} {s : Seen} → IsTied me old s → Interference me old new → IsTied me new s
+tied_meanwhile {me} {old} {new} {s} tied m = record {
+  living = λ now. subst (Agrees s) (sym (meanwhile_unseen m)) (tied.living (lived_meanwhile m now));
+  conforms = λ kept. ap (λ (x : Seen). x.kept) (meanwhile_unseen m) ∙ tied.conforms kept;
+}
+
+-- the move that was answered Ok
+pub moved_by : {me : ℕ} {from to : Spot} {old new : List Event} {s : Seen} (entries : List Entry) (intent : Intent) → s.standing.intent ≡ Some intent → s.making ≡ Some (holding from entries) → IsTied me old s → CallStep me old (MoveFolder from to) Done new → HasMoved me from to entries intent old new
+moved_by {me} {from} {to} {old} {new} {s} entries intent began making tied c = by c.own
+  where
+    by : TookPlace c.before me (MoveFolder from to) Done new ⊎ LeftNothing c.before me (MoveFolder from to) Done new → HasMoved me from to entries intent old new
+    by (inl t) = record { before = c.before; later = []; meanwhile = c.meanwhile.others; begins = c.meanwhile.grown; moved = t.grown; seen = s; began = began; making = making; knew = tied_meanwhile tied c.meanwhile }
+    by (inr l) = let late = l.late in cc

@@ -1,0 +1,7 @@
+pub mod Steps
+pub mod Locals
+pub mod Times
+pub mod Calls
+pub mod Knowing
+pub mod Outcomes
+pub mod Begun

@@ -1,0 +1,150 @@
+-- What came about in a part of a time came about in the whole.
+use Rattle.std.proofs.Common.{◌≡◌, ◌≤◌, ℕ, Bool, true, List, [], ◌∷◌, ◌++◌, refl, sym, ap, subst, ◌∙◌, append-nil, append_assoc, arith}
+use Rattle.dir_model.specs.declared.event.Event.{Event}
+use Rattle.dir_model.specs.declared.intent.Intent.{Intent}
+use Rattle.dir_model.specs.declared.pod.PodId.{PodId}
+use Rattle.dir_model.specs.declared.spot.Spot.{Spot}
+use Rattle.dir_model.specs.declared.request.Request.{Request}
+use Rattle.dir_model.specs.declared.request.Request.TheVariants.{MoveFolder}
+use Rattle.dir_model.specs.declared.request.Reply.{Reply}
+use Rattle.dir_model.specs.declared.request.Reply.TheVariants.{Done}
+use Rattle.dir_model.specs.Calls.{CallStep, Extends, event}
+use Rattle.dir_model.specs.Causes.{Rose}
+use Rattle.dir_model.specs.Local.{Local}
+use Rattle.dir_model.proofs.Chains.{nothing_yet, and_more, extends_wider}
+use Rattle.dir_model.proofs.Moments.{at_after, at_before}
+use Rattle.dir_rules.specs.declared.seen.Entry.{Entry}
+use Rattle.dir_trait.specs.DirCalls.{DirAt, ExtendsBy}
+use Rattle.folder_building.specs.declared.plan.PlanEntry.{PlanEntry}
+use Rattle.folder_building.specs.Work.{Worked}
+use Rattle.pod_making.specs.declared.error.MakeError.{MakeError}
+use Rattle.pod_making.specs.Requests.{is_stray_making}
+use Rattle.pod_making.specs.Work.{Went}
+use Rattle.pod_making.specs.Causes.{WasStray, IsCopiedAt, WorkCause, MakeCause}
+use Rattle.pod_making.specs.Makings.{HasMoved}
+
+-- calls, whatever they leave open
+pub record Follows (observed : Bool) (old new : DirAt) : Type 0 where
+  pub same : new.process ≡ old.process
+  pub faults : old.faults ≤ new.faults
+  pub asks : Request → Bool
+  pub extends : observed ≡ true → ExtendsBy asks old new
+
+pub follows_work : {observed : Bool} {asks : Request → Bool} {a b : DirAt} → Worked observed asks a b → Follows observed a b
+follows_work {observed} {asks} w = record { same = w.same; faults = w.faults; asks = asks; extends = w.extends }
+
+pub follows_went : {observed : Bool} {asks : Request → Bool} {l : Local} {a b : DirAt} → Went observed asks l a b → Follows observed a b
+follows_went {observed} {asks} w = record { same = w.same; faults = w.faults; asks = asks; extends = w.extends }
+
+pub nothing_follows : {observed : Bool} {a : DirAt} → Follows observed a a
+nothing_follows {observed} {a} = record { same = refl; faults = omega arith; asks = λ r. true; extends = λ t. nothing_yet }
+
+rose_later : (a b c : ℕ) → a ≤ b → Rose b c → Rose a c
+rose_later a b c before rose = omega arith
+
+rose_still : (a b c : ℕ) → Rose a b → b ≤ c → Rose a c
+rose_still a b c rose after = omega arith
+
+-- a stray answer
+pub stray_self : {request : Request} {reply : Reply} {me : ℕ} {old new : List Event} → is_stray_making request reply ≡ true → CallStep me old request reply new → WasStray me old new
+stray_self {request} {reply} {me} {old} {new} is s = record { before = old; after = new; earlier = []; later = []; request = request; reply = reply; stray = is; begins = sym (append-nil old); step = s; ends = sym (append-nil new) }
+
+pub stray_after : {asks : Request → Bool} {me other : ℕ} {a b c : List Event} → Extends asks me a b → other ≡ me → WasStray other b c → WasStray me a c
+stray_after {asks} {me} {other} {a} {b} {c} ab same w =
+    let v = subst (λ (p : ℕ). WasStray p b c) same w in
+    record {
+      before = v.before;
+      after = v.after;
+      earlier = ab.more ++ v.earlier;
+      later = v.later;
+      request = v.request;
+      reply = v.reply;
+      stray = v.stray;
+      begins = v.begins ∙ (ap (λ h. h ++ v.earlier) ab.grown ∙ append_assoc a ab.more v.earlier);
+      step = v.step;
+      ends = v.ends;
+    }
+
+pub stray_before : {asks : Request → Bool} {me other : ℕ} {a b c : List Event} → WasStray me a b → Extends asks other b c → WasStray me a c
+stray_before {asks} {me} {other} {a} {b} {c} w bc = record {
+  before = w.before;
+  after = w.after;
+  earlier = w.earlier;
+  later = w.later ++ bc.more;
+  request = w.request;
+  reply = w.reply;
+  stray = w.stray;
+  begins = w.begins;
+  step = w.step;
+  ends = bc.grown ∙ (ap (λ h. h ++ bc.more) w.ends ∙ append_assoc w.after w.later bc.more);
+}
+
+-- the cause of a refusal
+pub cause_after : {observed : Bool} {draw : PodId} {plan : List PlanEntry} {e : MakeError} {a b c : DirAt} → Follows observed a b → WorkCause observed draw plan e b c → WorkCause observed draw plan e a c
+cause_after {observed} {draw} {plan} {e} {a} {b} {c} ab w = record {
+  calm = w.calm;
+  fault = λ is. rose_later a.faults b.faults c.faults ab.faults (w.fault is);
+  taken = λ is t. at_after (ab.extends t) ab.same (w.taken is t);
+  unlike = w.unlike;
+  stray = λ is t. stray_after (ab.extends t) ab.same (w.stray is t);
+}
+
+pub cause_before : {observed : Bool} {draw : PodId} {plan : List PlanEntry} {e : MakeError} {a b c : DirAt} → b.process ≡ a.process → WorkCause observed draw plan e a b → Follows observed b c → WorkCause observed draw plan e a c
+cause_before {observed} {draw} {plan} {e} {a} {b} {c} same w bc = record {
+  calm = w.calm;
+  fault = λ is. rose_still a.faults b.faults c.faults (w.fault is) bc.faults;
+  taken = λ is t. at_before (w.taken is t) same (bc.extends t);
+  unlike = w.unlike;
+  stray = λ is t. stray_before (w.stray is t) (bc.extends t);
+}
+
+-- a plan of nothing copies nothing
+none_copied : (place : ℕ) → IsCopiedAt [] place → ⊥
+none_copied place u = by u.before u.is
+  where
+    by : (before : List PlanEntry) → [] ≡ before ++ u.entry ∷ u.rest → ⊥
+    by [] is = cc
+    by (x ∷ xs) is = cc
+
+pub cause_planned : {observed : Bool} {draw : PodId} {e : MakeError} {a b : DirAt} (plan : List PlanEntry) → WorkCause observed draw [] e a b → WorkCause observed draw plan e a b
+cause_planned plan w = record { calm = w.calm; fault = w.fault; taken = w.taken; unlike = λ place is. absurd (none_copied place (w.unlike place is)); stray = w.stray }
+
+pub make_planned : {observed : Bool} {draw : PodId} {e : MakeError} {a b : DirAt} (plan : List PlanEntry) → MakeCause observed draw [] e a b → MakeCause observed draw plan e a b
+make_planned plan w = record { busy = w.busy; fault = w.fault; taken = w.taken; unlike = λ place is. absurd (none_copied place (w.unlike place is)); stray = w.stray }
+
+pub calm_cause : {observed : Bool} {draw : PodId} {plan : List PlanEntry} {e : MakeError} {a b : DirAt} → WorkCause observed draw plan e a b → MakeCause observed draw plan e a b
+calm_cause w = record { busy = λ is. absurd (w.calm is); fault = w.fault; taken = w.taken; unlike = w.unlike; stray = w.stray }
+
+-- work after work, and what is open then
+pub went_after : {observed : Bool} {asks : Request → Bool} {a b c : DirAt} (after : Local → Local) → Worked observed asks a b → Went observed asks (after b.local) b c → Went observed asks (after a.local) a c
+went_after {observed} {asks} {a} {b} {c} after ab bc = record {
+  same = bc.same ∙ ab.same;
+  faults = omega (arith, ab.faults, bc.faults);
+  local_is = bc.local_is ∙ ap after ab.local;
+  extends = λ t. and_more (ab.extends t) ab.same (bc.extends t);
+}
+
+pub went_wider : {observed : Bool} {asks more : Request → Bool} {l : Local} {a b : DirAt} → ((r : Request) → asks r ≡ true → more r ≡ true) → Went observed asks l a b → Went observed more l a b
+went_wider wider w = record { same = w.same; faults = w.faults; local_is = w.local_is; extends = λ t. extends_wider wider (w.extends t) }
+
+pub worked_went : {observed : Bool} {asks : Request → Bool} {a b : DirAt} → Went observed asks a.local a b → Worked observed asks a b
+worked_went w = record { same = w.same; faults = w.faults; local = w.local_is; extends = w.extends }
+
+-- a move in a part of the time
+pub moved_within : {observed : Bool} (from to : Spot) (entries : List Entry) (intent : Intent) (a b c d : DirAt) → observed ≡ true → Follows observed a b → Follows observed c d
+    → HasMoved b.process from to entries intent b.trace c.trace → HasMoved a.process from to entries intent a.trace d.trace
+moved_within {observed} from to entries intent a b c d t ab cd x =
+    let e = ab.extends t in
+    let l = cd.extends t in
+    let y = subst (λ (me : ℕ). HasMoved me from to entries intent b.trace c.trace) ab.same x in
+    record {
+      before = y.before;
+      later = y.later ++ l.more;
+      meanwhile = e.more ++ y.meanwhile;
+      begins = y.begins ∙ (ap (λ h. h ++ y.meanwhile) e.grown ∙ append_assoc a.trace e.more y.meanwhile);
+      moved = l.grown ∙ (ap (λ h. h ++ l.more) y.moved ∙ append_assoc y.before (event a.process (MoveFolder from to) Done ∷ y.later) l.more);
+      seen = y.seen;
+      began = y.began;
+      making = y.making;
+      knew = y.knew;
+    }

@@ -1,0 +1,26 @@
+use Rattle.std.proofs.Common.{Ok, Err, ap, sym, subst}
+use Rattle.dir_model.specs.declared.request.Request.TheVariants.{MoveFolder}
+use Rattle.pod_making.specs.declared.error.MakeError.{MakeError}
+use Rattle.pod_making.specs.Causes.{WorkCause}
+use Rattle.pod_making.proofs.Calls.{with_spots, worked_leave, change_cause, stray_move}
+use Rattle.pod_making.proofs.Knowing.{knows_left, knows_unleft}
+use Rattle.pod_making.proofs.embryo.leave_embryo.Goals as goal
+
+pub returns-in-Ok-clause-worked : goal.returns-in-Ok-clause-worked
+returns-in-Ok-clause-worked g c = worked_leave c.args.draw (Ok tt) (with_spots c.pod_at-from.ensures c.pod_at-to.ensures c.in-Ok.ensures.called)
+
+pub returns-in-Ok-clause-moved : goal.returns-in-Ok-clause-moved
+returns-in-Ok-clause-moved g c t = knows_left {draw = c.args.draw} t (with_spots c.pod_at-from.ensures c.pod_at-to.ensures c.in-Ok.ensures.called)
+
+pub returns-in-Err-clause-worked : goal.returns-in-Err-clause-worked
+returns-in-Err-clause-worked g c = worked_leave c.args.draw (Err c.in-Err.error) (with_spots c.pod_at-from.ensures c.pod_at-to.ensures c.in-Err.ensures.called)
+
+pub returns-in-Err-clause-cause : goal.returns-in-Err-clause-cause
+returns-in-Err-clause-cause g c =
+    let D = g.D.Dir in
+    let e = c.in-Err.error in
+    subst (λ (x : MakeError). WorkCause D.observed c.args.draw _ x (D.shown c.args.dir.now) (D.shown c.move_folder.new.self)) (sym c.change_refusal.ensures)
+    (change_cause {draw = c.args.draw} (MoveFolder c.pod_at-from.result c.pod_at-to.result) e (stray_move c.pod_at-from.result c.pod_at-to.result e c.in-Err.ensures.refusals) (λ is. c.in-Err.ensures.cause (ap Err is)) c.in-Err.ensures.called)
+
+pub returns-in-Err-clause-left : goal.returns-in-Err-clause-left
+returns-in-Err-clause-left g c t = knows_unleft {draw = c.args.draw} t c.in-Err.error (with_spots c.pod_at-from.ensures c.pod_at-to.ensures c.in-Err.ensures.called)

@@ -1,0 +1,59 @@
+use Rattle.std.proofs.Common.{Err, ap, sym, subst, ◌∙◌}
+use Rattle.dir_model.specs.declared.opening.Target.TheVariants.{Own}
+use Rattle.dir_model.specs.declared.request.Request.TheVariants.{Open, TryLock}
+use Rattle.dir_model.specs.declared.spot.Which.TheVariants as which
+use Rattle.dir_model.specs.Local.{Local, IsUnlocked}
+use Rattle.dir_model.proofs.Holdings.{unlocked_new}
+use Rattle.pod_making.specs.declared.error.MakeError.{MakeError}
+use Rattle.pod_making.specs.Causes.{WorkCause}
+use Rattle.pod_making.proofs.Calls.{with_spot, change_cause, stray_open, stray_lock, follows_call}
+use Rattle.pod_making.proofs.Knowing.{knows_locked, knows_unlocked, knows_unopened}
+use Rattle.pod_making.proofs.Outcomes.{follows_close, went_locked, went_unlocked, went_unopened}
+use Rattle.pod_making.proofs.Times.{cause_after, cause_before}
+use Rattle.pod_making.proofs.embryo.lock_own.Goals as goal
+
+pub try_lock-requires-clause-unlocked : goal.try_lock-requires-clause-unlocked
+try_lock-requires-clause-unlocked g c =
+    let before = (g.D.Dir.shown c.args.dir.now).local in
+    let unlocked = unlocked_new before c.in-Ok.own (Own c.pod_at-spot.result) c.in-Ok.ensures.unopened in
+    subst (λ (m : Local). IsUnlocked m c.in-Ok.own) (sym c.in-Ok.ensures.called.local) unlocked
+
+pub returns-in-Ok-try_lock-clause-went : goal.returns-in-Ok-try_lock-clause-went
+returns-in-Ok-try_lock-clause-went g c =
+    went_locked c.args.draw c.in-Ok.own c.in-Ok.ensures.unopened (with_spot (λ s. Open s which.Own) c.pod_at-spot.ensures c.in-Ok.ensures.called) c.in-Ok-try_lock.ensures.called
+
+pub returns-in-Ok-try_lock-clause-held : goal.returns-in-Ok-try_lock-clause-held
+returns-in-Ok-try_lock-clause-held g c t =
+    knows_locked {draw = c.args.draw} t c.in-Ok.ensures.unopened (with_spot (λ s. Open s which.Own) c.pod_at-spot.ensures c.in-Ok.ensures.called) c.in-Ok-try_lock.ensures.called
+
+pub returns-in-Err-try_lock-clause-went : goal.returns-in-Err-try_lock-clause-went
+returns-in-Err-try_lock-clause-went g c =
+    went_unlocked c.args.draw c.in-Ok.own c.in-Err-try_lock.error c.in-Ok.ensures.unopened (with_spot (λ s. Open s which.Own) c.pod_at-spot.ensures c.in-Ok.ensures.called) c.in-Err-try_lock.ensures.called c.close.ensures.called
+
+pub returns-in-Err-try_lock-clause-cause : goal.returns-in-Err-try_lock-clause-cause
+returns-in-Err-try_lock-clause-cause g c =
+    let D = g.D.Dir in
+    let e = c.in-Err-try_lock.error in
+    let asks = c.in-Err-try_lock.ensures in
+    subst (λ (x : MakeError). WorkCause D.observed c.args.draw _ x (D.shown c.args.dir.now) (D.shown c.close.new.self)) (sym c.change_refusal.ensures)
+    (cause_before (asks.called.same ∙ c.in-Ok.ensures.called.same)
+    (cause_after (follows_call c.in-Ok.ensures.called)
+    (change_cause {draw = c.args.draw} (TryLock c.in-Ok.own _) e (stray_lock c.in-Ok.own e asks.refusals) (λ is. asks.cause (ap Err is)) asks.called))
+    (follows_close c.close.ensures.faultless c.close.ensures.called))
+
+pub returns-in-Err-try_lock-clause-left : goal.returns-in-Err-try_lock-clause-left
+returns-in-Err-try_lock-clause-left g c t =
+    knows_unlocked {draw = c.args.draw} c.in-Err-try_lock.error t c.in-Ok.ensures.unopened (with_spot (λ s. Open s which.Own) c.pod_at-spot.ensures c.in-Ok.ensures.called) c.in-Err-try_lock.ensures.called c.close.ensures.called
+
+pub returns-in-Err-clause-went : goal.returns-in-Err-clause-went
+returns-in-Err-clause-went g c = went_unopened c.args.draw c.in-Err.error (with_spot (λ s. Open s which.Own) c.pod_at-spot.ensures c.in-Err.ensures.called)
+
+pub returns-in-Err-clause-cause : goal.returns-in-Err-clause-cause
+returns-in-Err-clause-cause g c =
+    let D = g.D.Dir in
+    let e = c.in-Err.error in
+    subst (λ (x : MakeError). WorkCause D.observed c.args.draw _ x (D.shown c.args.dir.now) (D.shown c.«open».new.self)) (sym c.change_refusal-in-Err.ensures)
+    (change_cause {draw = c.args.draw} (Open c.pod_at-spot.result which.Own) e (stray_open c.pod_at-spot.result e c.in-Err.ensures.refusals) (λ is. c.in-Err.ensures.cause (ap Err is)) c.in-Err.ensures.called)
+
+pub returns-in-Err-clause-left : goal.returns-in-Err-clause-left
+returns-in-Err-clause-left g c t = knows_unopened {draw = c.args.draw} c.in-Err.error t (with_spot (λ s. Open s which.Own) c.pod_at-spot.ensures c.in-Err.ensures.called)

@@ -1,0 +1,67 @@
+use Rattle.std.proofs.Common.{◌≡◌, Some, Ok, [], ◌∷◌, refl, rules, ◌∙◌}
+use Rattle.dir_model.specs.declared.area.Area.TheVariants.{Run}
+use Rattle.dir_model.specs.declared.spot.Mode.TheVariants.{Exclusive}
+use Rattle.area_locks.proofs.Locking.{number_is_new}
+use Rattle.folder_building.proofs.Copying.{err_more}
+use Rattle.folder_building.proofs.Working.{worked_wider}
+use Rattle.pod_making.specs.Progress.{own_held}
+use Rattle.pod_making.specs.Causes.{MakeCause}
+use Rattle.pod_making.proofs.Steps.{is_maker_of}
+use Rattle.pod_making.proofs.Knowing.{owns_images, own_back, made_kept, runs_pod}
+use Rattle.pod_making.proofs.Outcomes.{err_same, held_is, follows_close, went_worked, went_closed, went_as, went_residual, begins_makes, finishes_makes, worked_residual}
+use Rattle.pod_making.proofs.Times.{follows_went, nothing_follows, calm_cause, cause_after, cause_before, make_planned, went_wider}
+use Rattle.pod_making.proofs.making.make_running.Goals as goal
+
+pub returns-in_err-own-clause-went : goal.returns-in_err-own-clause-went
+returns-in_err-own-clause-went g c =
+    let before = (g.D.Dir.shown c.args.dir.now).local in
+    went_residual before c.args.draw c.from_residual.result c.from_residual.ensures.0 (went_wider (begins_makes c.args.draw Run) (worked_residual c.args.draw c.begin_pod.result c.in_err-own.field-0.0 c.in_err-own.was c.begin_pod.ensures.went))
+
+pub returns-in_err-own-clause-cause : goal.returns-in_err-own-clause-cause
+returns-in_err-own-clause-cause g c =
+    let D = g.D.Dir in
+    let old = D.shown c.args.dir.now in
+    let new = D.shown c.begin_pod.new.dir in
+    err_same (λ e. MakeCause D.observed c.args.draw c.args.plan.now e old new) c.begin_pod.result c.from_residual.result (λ e h. search (rules, h, c.from_residual.ensures, c.in_err-own.is))
+    (err_more (λ e. MakeCause D.observed c.args.draw [] e old new) (λ e. MakeCause D.observed c.args.draw c.args.plan.now e old new) c.begin_pod.result (λ e x. make_planned c.args.plan.now x) c.begin_pod.ensures.cause)
+
+pub returns-in-Ok-clause-owned : goal.returns-in-Ok-clause-owned
+returns-in-Ok-clause-owned g c = record { pod = refl; area = refl; unopened = c.in_ok-own.ensures.unopened }
+
+pub returns-in-Ok-clause-went : goal.returns-in-Ok-clause-went
+returns-in-Ok-clause-went g c =
+    let ok : c.begin_pod.result ≡ Ok c.in_ok-own.own = search (rules, c.branch-own.ensures, c.in_ok-own.is) in
+    went_as (g.D.Dir.shown c.args.dir.now).local c.args.draw c.begin_pod.result (Ok c.in_ok-own.own) ok (went_worked (went_wider (begins_makes c.args.draw Run) c.begin_pod.ensures.went) (worked_wider (finishes_makes c.args.draw Run) c.finish_pod.ensures.worked))
+
+pub returns-in-Ok-clause-runs : goal.returns-in-Ok-clause-runs
+returns-in-Ok-clause-runs g c t intent hs may under k =
+    let draw = c.args.draw in
+    let own = c.in_ok-own.own in
+    runs_pod (c.in-Ok.ensures.made t intent (own_held draw own (Some Exclusive) ∷ hs) may (owns_images own under) (c.in_ok-own.ensures.held t intent hs (is_maker_of may) under k))
+
+pub returns-in-Ok-clause-made : goal.returns-in-Ok-clause-made
+returns-in-Ok-clause-made g c t intent hs may under k =
+    let D = g.D.Dir in
+    let draw = c.args.draw in
+    let own = c.in_ok-own.own in
+    made_kept draw Run c.args.plan.now intent (D.shown c.args.dir.now) (D.shown c.begin_pod.new.dir) (D.shown c.finish_pod.new.dir) (D.shown c.finish_pod.new.dir) t (own_held draw own (Some Exclusive) ∷ hs) (follows_went c.begin_pod.ensures.went) nothing_follows
+    (c.in-Ok.ensures.made t intent (own_held draw own (Some Exclusive) ∷ hs) may (owns_images own under) (c.in_ok-own.ensures.held t intent hs (is_maker_of may) under k))
+
+pub returns-in-Err-clause-went : goal.returns-in-Err-clause-went
+returns-in-Err-clause-went g c =
+    let ok : c.begin_pod.result ≡ Ok c.in_ok-own.own = search (rules, c.branch-own.ensures, c.in_ok-own.is) in
+    let before = (g.D.Dir.shown c.args.dir.now).local in
+    went_closed c.args.draw refl c.in_ok-own.ensures.unopened
+    (went_worked (went_wider (begins_makes c.args.draw Run) c.begin_pod.ensures.went) (worked_wider (finishes_makes c.args.draw Run) c.finish_pod.ensures.worked))
+    (held_is before c.args.draw c.begin_pod.result c.in_ok-own.own ok (c.finish_pod.ensures.worked.local ∙ c.begin_pod.ensures.went.local_is)) c.close.ensures.called
+
+pub returns-in-Err-clause-cause : goal.returns-in-Err-clause-cause
+returns-in-Err-clause-cause g c =
+    calm_cause (cause_before (c.finish_pod.ensures.worked.same ∙ c.begin_pod.ensures.went.same) (cause_after (follows_went c.begin_pod.ensures.went) c.in-Err.ensures.cause) (follows_close c.close.ensures.faultless c.close.ensures.called))
+
+pub returns-in-Err-clause-left : goal.returns-in-Err-clause-left
+returns-in-Err-clause-left g c t intent hs may under k =
+    let draw = c.args.draw in
+    let own = c.in_ok-own.own in
+    own_back t (number_is_new own k c.in_ok-own.ensures.unopened) c.close.ensures.called
+    (c.in-Err.ensures.left t intent (own_held draw own (Some Exclusive) ∷ hs) may (owns_images own under) (c.in_ok-own.ensures.held t intent hs (is_maker_of may) under k))

@@ -1,0 +1,6 @@
+pub mod Requests
+pub mod Refusals
+pub mod Progress
+pub mod Work
+pub mod Causes
+pub mod Makings

@@ -1,0 +1,57 @@
+-- What the maker of a pod asks the directory for, and which answers its own making doesn't explain.
+use Rattle.std.specs.Prelude.{Bool, true, false, ◌&&◌}
+use Rattle.dir_model.specs.declared.area.Area.{Area}
+use Rattle.dir_model.specs.declared.area.Area.TheVariants.{Embryo, Prepare}
+use Rattle.dir_model.specs.declared.pod.PodId.{PodId}
+use Rattle.dir_model.specs.declared.spot.Mode.TheVariants.{Exclusive}
+use Rattle.dir_model.specs.declared.spot.Spot.{Spot}
+use Rattle.dir_model.specs.declared.spot.Which.TheVariants as which
+use Rattle.dir_model.specs.declared.request.DirError.TheVariants.{Missing, Exists, Locked}
+use Rattle.dir_model.specs.declared.request.Reply.{Reply}
+use Rattle.dir_model.specs.declared.request.Reply.TheVariants.{Refused}
+use Rattle.dir_model.specs.declared.request.Request.{Request}
+use Rattle.dir_model.specs.declared.request.Request.TheVariants.{OpenArea, Open, TryLock, Close, MakeFolder, MoveFolder}
+use Rattle.dir_model.specs.Pods.{pod_text}
+use Rattle.dir_model.specs.State.{spot_eq}
+use Rattle.dir_rules.specs.Standing.{is_in}
+use Rattle.folder_building.specs.Sources.{reads_images}
+use Rattle.folder_building.specs.Work.{either, builds_at, is_stray}
+
+-- where the pod with this draw stands in an area
+abbrev pub pod_at : Area → PodId → Spot
+pod_at area draw = record { area = area; name = pod_text draw.bytes }
+
+-- the lock of embryo, the folder there, its own lock, and its move to prepare
+abbrev pub begins_pod : PodId → Request → Bool
+begins_pod draw (OpenArea area) = is_in Embryo area
+begins_pod draw (TryLock handle mode) = true
+begins_pod draw (Close handle) = true
+begins_pod draw (MakeFolder spot) = spot_eq spot (pod_at Embryo draw)
+begins_pod draw (Open spot which.Own) = spot_eq spot (pod_at Embryo draw)
+begins_pod draw (MoveFolder from to) = spot_eq from (pod_at Embryo draw) && spot_eq to (pod_at Prepare draw)
+begins_pod draw request = false
+
+-- the changes in the folder in prepare, and reads of images
+abbrev pub fills_pod : PodId → Request → Bool
+fills_pod draw = either (builds_at (pod_at Prepare draw)) reads_images
+
+-- its last move
+abbrev pub hands_pod : PodId → Area → Request → Bool
+hands_pod draw to (MoveFolder from there) = spot_eq from (pod_at Prepare draw) && spot_eq there (pod_at to draw)
+hands_pod draw to request = false
+
+abbrev pub finishes_pod : PodId → Area → Request → Bool
+finishes_pod draw to = either (hands_pod draw to) (fills_pod draw)
+
+-- what it asks for in all
+abbrev pub makes_pod : PodId → Area → Request → Bool
+makes_pod draw to = either (begins_pod draw) (finishes_pod draw to)
+
+-- an answer that the process's own making doesn't explain: under the lock of embryo nobody else moves the folder there or
+-- locks it, and a folder that a process makes nobody else moves
+abbrev pub is_stray_making : Request → Reply → Bool
+is_stray_making (Open spot which.Own) (Refused Missing left) = true
+is_stray_making (TryLock handle Exclusive) (Refused Locked left) = true
+is_stray_making (MoveFolder from to) (Refused Missing left) = true
+is_stray_making (MoveFolder from to) (Refused Exists left) = true
+is_stray_making request reply = is_stray request reply

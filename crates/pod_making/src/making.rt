@@ -1,0 +1,98 @@
+// A pod is made, for prepared or for run.
+ghost use Rattle.std.specs.Prelude.{◌≡◌, Some, ◌∷◌, IfOk, IfErr, true};
+ghost use Rattle.dir_trait.specs.Local.{IsActive, IsUnopened};
+ghost use Rattle.folder_building.specs.Plans.{is_plan};
+ghost use Rattle.folder_building.specs.Work.{Worked};
+ghost use Rattle.pod_making.specs.Requests.{makes_pod};
+ghost use Rattle.pod_making.specs.Progress.{nothing_made, own_held};
+ghost use Rattle.pod_making.specs.Work.{MayMake, UnderImages, From, HasOwnFolder, Went};
+ghost use Rattle.pod_making.specs.Causes.{MakeCause, BusyElsewhere};
+ghost use Rattle.pod_making.specs.Makings.{HasMade, RunsPod, with_owned, IsOwned};
+
+use crate::embryo::begin_pod;
+use crate::error::MakeError;
+use crate::filling::finish_pod;
+use dir_trait::{Area, Dir, Handle, Mode, PodId};
+use folder_building::PlanEntry;
+use std::alloc::Global;
+
+/// A pod whose own lock this process holds exclusively by this handle, and the area where it stands.
+#[derive(Clone, Copy, Debug, PartialEq, Eq)]
+pub struct Owned {
+    pub pod: PodId,
+    pub area: Area,
+    pub own: Handle,
+}
+
+/// Makes the pod with this draw by the plan and leaves it in prepared, free for whoever runs it. Its
+/// folder is made in embryo under that area's lock, its own lock is taken there and held until it is
+/// in prepared; in prepare the plan is carried out, and the folder moves on only once every change
+/// and every sync was answered Ok. The caller holds the lock of images.
+///
+/// Refused in this order. `Busy` where another process holds the lock of embryo exclusively. `Taken`
+/// where a folder with the pod's name stands in embryo. `Unlike` with the number of an entry of the
+/// plan whose file in images is missing or isn't what the plan asks for. `DirFault` and `NoMemory`
+/// where the directory failed or memory ran out, and `Stray` where the directory's answers contradict
+/// what this process made. A refused call holds no lock, and leaves nothing, or its folder in embryo
+/// or in prepare.
+pub fn make_prepared<D: Dir>(
+    alloc: Global,
+    dir: &mut D,
+    draw: PodId,
+    plan: &[PlanEntry],
+) -> Result<(), MakeError>
+    requires active { IsActive (D.shown dir.old).local }
+    requires plan { is_plan plan.now ≡ true }
+    ensures worked { Worked D.observed (makes_pod draw Area.Prepared) (D.shown dir.old) (D.shown dir.new) }
+    ensures cause { IfErr result (λ e. MakeCause D.observed draw plan.now e (D.shown dir.old) (D.shown dir.new)) }
+    ensures another { IfErr result (λ e. D.observed ≡ true → From (MayMake Area.Prepared plan.now draw) (UnderImages draw) nothing_made (D.shown dir.old)
+        (λ intent hs. BusyElsewhere e (D.shown dir.old) (D.shown dir.new))) }
+    ensures made { IfOk result (λ done. D.observed ≡ true → From (MayMake Area.Prepared plan.now draw) (UnderImages draw) nothing_made (D.shown dir.old)
+        (λ intent hs. HasMade draw Area.Prepared plan.now intent hs (D.shown dir.old) (D.shown dir.new))) }
+    ensures left { IfErr result (λ e. D.observed ≡ true → From (MayMake Area.Prepared plan.now draw) (UnderImages draw) nothing_made (D.shown dir.old)
+        (λ intent hs. HasOwnFolder draw intent hs (D.shown dir.new))) }
+{
+    let own = begin_pod(alloc, dir, draw)?;
+    let result = finish_pod(alloc, dir, draw, plan, Area::Prepared);
+    dir.close(own);
+    result
+}
+
+/// Makes the pod as `make_prepared` does, but moves it on to run and keeps its own lock. Refused for
+/// the same causes, and leaves the same then.
+pub fn make_running<D: Dir>(
+    alloc: Global,
+    dir: &mut D,
+    draw: PodId,
+    plan: &[PlanEntry],
+) -> Result<Owned, MakeError>
+    requires active { IsActive (D.shown dir.old).local }
+    requires plan { is_plan plan.now ≡ true }
+    ensures owned { IfOk result (λ owned. IsOwned draw (D.shown dir.old).local owned) }
+    ensures went { Went D.observed (makes_pod draw Area.Run) (with_owned (D.shown dir.old).local draw result) (D.shown dir.old) (D.shown dir.new) }
+    ensures cause { IfErr result (λ e. MakeCause D.observed draw plan.now e (D.shown dir.old) (D.shown dir.new)) }
+    ensures another { IfErr result (λ e. D.observed ≡ true → From (MayMake Area.Run plan.now draw) (UnderImages draw) nothing_made (D.shown dir.old)
+        (λ intent hs. BusyElsewhere e (D.shown dir.old) (D.shown dir.new))) }
+    ensures runs { IfOk result (λ owned. D.observed ≡ true → From (MayMake Area.Run plan.now draw) (UnderImages draw) nothing_made (D.shown dir.old)
+        (λ intent hs. RunsPod draw (D.shown dir.new))) }
+    ensures made { IfOk result (λ owned. D.observed ≡ true → From (MayMake Area.Run plan.now draw) (UnderImages draw) nothing_made (D.shown dir.old)
+        (λ intent hs. HasMade draw Area.Run plan.now intent (own_held draw owned.own (Some Mode.Exclusive) ∷ hs) (D.shown dir.old) (D.shown dir.new))) }
+    ensures left { IfErr result (λ e. D.observed ≡ true → From (MayMake Area.Run plan.now draw) (UnderImages draw) nothing_made (D.shown dir.old)
+        (λ intent hs. HasOwnFolder draw intent hs (D.shown dir.new))) }
+{
+    let own = begin_pod(alloc, dir, draw)?;
+    match finish_pod(alloc, dir, draw, plan, Area::Run) {
+        Ok(()) => {
+            let area = Area::Run;
+            Ok(Owned {
+                pod: draw,
+                area,
+                own,
+            })
+        }
+        Err(error) => {
+            dir.close(own);
+            Err(error)
+        }
+    }
+}

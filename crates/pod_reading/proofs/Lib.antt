@@ -1,0 +1,9 @@
+pub mod Zips
+pub mod Results
+pub mod Keys
+pub mod Lacks
+pub mod Again
+pub mod Ready
+pub mod Picked
+pub mod Faithful
+pub mod Plans

@@ -1,0 +1,4 @@
+pub mod Readings
+pub mod Refusals
+pub mod Plans
+pub mod FaithfulPods

@@ -1,0 +1,11 @@
+//! What a pod is made from, as the images of the store are read under their area's lock: nothing is changed.
+#![tactic(auto)]
+
+mod apps;
+mod error;
+mod images;
+mod plan;
+mod pod;
+
+pub use error::PlanError;
+pub use pod::plan_pod;

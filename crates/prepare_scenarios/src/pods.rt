@@ -1,0 +1,96 @@
+// The pod of the worker, and what stands in its folder.
+ghost use Rattle.std.specs.Prelude.{◌≡◌};
+ghost use Rattle.dir_trait.specs.Local.{nothing_local};
+
+use crate::stage::{WORKER_REF, next, prepare_by, stored};
+use dir_trait::{Area, Dir, Kind, NoMemory, Spot};
+use pod_build::Built;
+use std::alloc::Global;
+use std::test::Fail;
+use store_stage::{Stands, are_kept, count, draw, holds, intent};
+
+const POD: &str =
+    "{\"acKind\":\"PodManifest\",\"acVersion\":\"0.8.0\",\"apps\":[{\"app\":{\"exec\":[\"/bin/run\",\"-q\"],\"group\":\"0\",\"user\":\"0\"},\"image\":{\"id\":\"sha512-cccccccccccccccccccccccccccccccccccccccccccccccccccccccccccccccccccccccccccccccccccccccccccccccccccccccccccccccccccccccccccccccc\",\"labels\":[{\"name\":\"version\",\"value\":\"1.0.0\"}],\"name\":\"example.com/reduce-worker\"},\"name\":\"reduce-worker\"}]}";
+
+const WORKER_MANIFEST: &str =
+    "{\"acKind\":\"ImageManifest\",\"acVersion\":\"0.8.0\",\"name\":\"example.com/reduce-worker\",\"labels\":[{\"name\":\"version\",\"value\":\"1.0.0\"}],\"app\":{\"exec\":[\"/bin/run\",\"-q\"],\"user\":\"0\",\"group\":\"0\"},\"dependencies\":[{\"imageName\":\"example.com/base\",\"labels\":[{\"name\":\"version\",\"value\":\"1.0.0\"}]},{\"imageName\":\"example.com/lib\"}]}";
+
+const ROOT: &str =
+    "d 0755 0 0 /bin\nf 0755 0 0 3 ddaf35a193617abacc417349ae20413112e6fa4e89a97ea20a9eeee64b55d39a2192992a274fc1a836ba3c23a3feebbd454d4423643ce80e2a9ac94fa54ca49f /bin/abc\nf 0755 0 0 3 ddaf35a193617abacc417349ae20413112e6fa4e89a97ea20a9eeee64b55d39a2192992a274fc1a836ba3c23a3feebbd454d4423643ce80e2a9ac94fa54ca49f /bin/run\nd 0755 0 0 /etc\nl 0777 0 0 motd /etc/issue\nf 0644 0 0 3 ddaf35a193617abacc417349ae20413112e6fa4e89a97ea20a9eeee64b55d39a2192992a274fc1a836ba3c23a3feebbd454d4423643ce80e2a9ac94fa54ca49f /etc/motd\n";
+
+/// What the folder of the worker's pod holds. A link stands in the listing alone.
+pub const WORKER_POD: &[Stands] = &[
+    Stands::Directory("", 5),
+    Stands::File("created-00000000000000000200", ""),
+    Stands::File("token", "04040404040404040404040404040404"),
+    Stands::File("pod", POD),
+    Stands::Directory("appsinfo", 1),
+    Stands::Directory("appsinfo/reduce-worker", 1),
+    Stands::File("appsinfo/reduce-worker/manifest", WORKER_MANIFEST),
+    Stands::Directory("stage1", 1),
+    Stands::Directory("stage1/rootfs", 2),
+    Stands::Directory("stage1/rootfs/rkt", 1),
+    Stands::Directory("stage1/rootfs/rkt/status", 0),
+    Stands::Directory("stage1/rootfs/opt", 1),
+    Stands::Directory("stage1/rootfs/opt/stage2", 1),
+    Stands::Directory("stage1/rootfs/opt/stage2/reduce-worker", 2),
+    Stands::File("stage1/rootfs/opt/stage2/reduce-worker/tree", ROOT),
+    Stands::Directory("stage1/rootfs/opt/stage2/reduce-worker/rootfs", 2),
+    Stands::Directory("stage1/rootfs/opt/stage2/reduce-worker/rootfs/bin", 2),
+    Stands::File(
+        "stage1/rootfs/opt/stage2/reduce-worker/rootfs/bin/abc",
+        "abc",
+    ),
+    Stands::File(
+        "stage1/rootfs/opt/stage2/reduce-worker/rootfs/bin/run",
+        "abc",
+    ),
+    Stands::Directory("stage1/rootfs/opt/stage2/reduce-worker/rootfs/etc", 1),
+    Stands::File(
+        "stage1/rootfs/opt/stage2/reduce-worker/rootfs/etc/motd",
+        "abc",
+    ),
+];
+
+/// Whether the worker's pod stands whole in an area, as a process finds it.
+pub fn stands<D: Dir>(alloc: Global, dir: &mut D, area: Area, number: u8) -> Result<bool, NoMemory>
+    requires { (D.shown dir.old).local ≡ nothing_local }
+{
+    if dir.begin(alloc, intent(Kind::Status, number, 300)).is_err() {
+        return Ok(false);
+    }
+    let name = draw(4).name();
+    let whole = holds(alloc, dir, Spot { area, name }, WORKER_POD)?;
+    Ok(whole && count(alloc, dir, area) == Some(1))
+}
+
+#[test]
+fn a_worker_is_prepared(rt: HostRuntime) -> Result<(), Fail> {
+    let step = stored(rt.alloc())?;
+    assert!(&rt; step.so);
+    let mut dir = step.dir;
+    let built = prepare_by(rt.alloc(), &mut dir, WORKER_REF, 4, false);
+    assert!(&rt; matches!(built, Ok(Built::Prepared(pod)) if pod == draw(4)));
+    let kept = are_kept(rt.alloc(), &dir, 5)?;
+    assert!(&rt; kept);
+    let mut dir = next(dir, 5)?;
+    let whole = stands(rt.alloc(), &mut dir, Area::Prepared, 5)?;
+    assert!(&rt; whole);
+    Ok(())
+}
+
+#[test]
+fn a_worker_is_kept_in_run(rt: HostRuntime) -> Result<(), Fail> {
+    let step = stored(rt.alloc())?;
+    let mut dir = step.dir;
+    let built = prepare_by(rt.alloc(), &mut dir, WORKER_REF, 4, true);
+    assert!(&rt;
+        matches!(built, Ok(Built::Running(owned)) if owned.pod == draw(4) && owned.area == Area::Run)
+    );
+    let kept = are_kept(rt.alloc(), &dir, 5)?;
+    assert!(&rt; kept);
+    let mut dir = next(dir, 5)?;
+    let whole = stands(rt.alloc(), &mut dir, Area::Run, 5)?;
+    assert!(&rt; whole);
+    Ok(())
+}
