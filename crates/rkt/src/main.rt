@@ -5,12 +5,13 @@ mod help;
 
 ghost use Rattle.std.specs.Prelude.{◌≡◌, ◌⊎◌, ◌++◌, true};
 ghost use Rattle.dir_trait.specs.Causes.{Rose};
-ghost use Rattle.rkt_cli.specs.Texts.{status_of};
+ghost use Rattle.command_outcomes.specs.Texts.{status_of};
 
 use crate::help::text_alone;
+use command_outcomes::Refusal;
 use dir_host::{HostBundle, HostSink, Outside, SetupError, assemble, read_words};
 use dir_trait::{Sink, SinkError, write_whole};
-use rkt_cli::{Refusal, refuse, rkt};
+use rkt_cli::{refuse, rkt};
 use std::alloc::{AllocError, Global};
 use std::process;
 use std::process::ExitCode;

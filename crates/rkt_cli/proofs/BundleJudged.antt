@@ -7,16 +7,16 @@ use Rattle.bundle_image.specs.Refusals.{IsOutside}
 use Rattle.image_store.specs.Imports.{IsRefused}
 use Rattle.image_store.specs.Refusals.{bundle_refusal}
 use Rattle.rkt_cli.specs.declared.line.Line.TheVariants.{ImageImport}
-use Rattle.rkt_cli.specs.declared.refusal.Refusal.{Refusal}
-use Rattle.rkt_cli.specs.declared.refusal.Refusal.TheVariants.{NoMemory}
-use Rattle.rkt_cli.specs.Texts.{status_of}
-use Rattle.rkt_cli.specs.Moments.{Moment, Outcome}
-use Rattle.rkt_cli.specs.Conforming.{shown_at}
-use Rattle.rkt_cli.specs.ImageImport.{import_refusal, source_of, RefusesImage}
+use Rattle.command_outcomes.specs.declared.refusal.Refusal.{Refusal}
+use Rattle.command_outcomes.specs.declared.refusal.Refusal.TheVariants.{NoMemory}
+use Rattle.command_outcomes.specs.Texts.{status_of}
+use Rattle.command_outcomes.specs.Moments.{Moment, Outcome}
+use Rattle.command_outcomes.specs.Conforming.{shown_at}
+use Rattle.store_commands.specs.ImageImport.{import_refusal, source_of, RefusesImage}
 use Rattle.rkt_cli.specs.Commands.{intent_of}
 use Rattle.rkt_cli.specs.Runs.{Performs, End, Printed, Reported, end_status}
 use Rattle.rkt_cli.specs.Statuses.{IsAnswer, IsBundleJudgement}
-use Rattle.rkt_cli.proofs.ImageImports.{is_memory}
+use Rattle.store_commands.proofs.ImageImports.{is_memory}
 use Rattle.rkt_cli.proofs.Imports.{import_printed, import_refused}
 
 memory_is : (r : Refusal) → is_memory r ≡ true → r ≡ NoMemory

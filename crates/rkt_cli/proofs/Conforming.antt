@@ -14,13 +14,11 @@ use Rattle.dir_rules.proofs.Unborn.{tied_begun, refused_unseen}
 use Rattle.dir_trait.specs.DirCalls.{DirAt}
 use Rattle.dir_trait.specs.Knowledge.{Knows, SameHandles, OnlyLooks}
 use Rattle.rkt_cli.specs.declared.line.Line.{Line}
-use Rattle.rkt_cli.specs.Moments.{DirSeen, Outside, Moment, Outcome}
-use Rattle.rkt_cli.specs.Conforming.{shown_at, begun, KeepsRules, StaysConforming, KeepsConforming}
+use Rattle.command_outcomes.specs.Moments.{DirSeen, Outside, Moment, Outcome}
+use Rattle.command_outcomes.proofs.Seen.{seen_at}
+use Rattle.command_outcomes.specs.Conforming.{shown_at, begun, KeepsRules, StaysConforming, KeepsConforming}
 use Rattle.rkt_cli.specs.Commands.{intent_of}
 use Rattle.rkt_cli.specs.Runs.{Performs, InProcess, NeverBegan, RunOf, RunIs}
-
-abbrev pub seen_at : Bool → DirAt → DirSeen
-seen_at observed d = record { observed = observed; process = d.process; faults = d.faults; local = d.local; trace = d.trace }
 
 -- looks keep them
 pub looks_conforming : (intent : Intent) (observed : Bool) (old new : DirAt) → OnlyLooks old new → StaysConforming intent (seen_at observed old) (seen_at observed new)

@@ -3,10 +3,10 @@ use Rattle.std.proofs.Common.{arith, ◌≡◌, ◌⊎◌, inl, inr, ℕ, Bool, 
 use Rattle.std.proofs.lemmas.Bool.Decides.{nat_tests}
 use Rattle.dir_model.specs.declared.area.Area.{Area}
 use Rattle.rkt_cli.specs.declared.line.Line.{Line}
-use Rattle.rkt_cli.specs.declared.refusal.Refusal.{Refusal}
-use Rattle.rkt_cli.specs.declared.refusal.Refusal.TheVariants.{Usage, NoPod, Busy, BadManifest, NoImage, Limit, DirFault, BundleFault, OutFault, NoMemory, NoFile, Conflict, Damaged, BadKind, Stray}
-use Rattle.rkt_cli.specs.Texts.{status_of}
-use Rattle.rkt_cli.specs.Moments.{SinkSeen, Outcome}
+use Rattle.command_outcomes.specs.declared.refusal.Refusal.{Refusal}
+use Rattle.command_outcomes.specs.declared.refusal.Refusal.TheVariants.{Usage, NoPod, Busy, BadManifest, NoImage, Limit, DirFault, BundleFault, OutFault, NoMemory, NoFile, Conflict, Damaged, BadKind, Stray}
+use Rattle.command_outcomes.specs.Texts.{status_of}
+use Rattle.command_outcomes.specs.Moments.{SinkSeen, Outcome}
 use Rattle.rkt_cli.specs.Commands.{may}
 use Rattle.rkt_cli.specs.Runs.{End, Unwritten, Printed, end_status}
 use Rattle.rkt_cli.specs.Statuses.{IsStatus}

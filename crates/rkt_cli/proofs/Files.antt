@@ -10,10 +10,11 @@ use Rattle.dir_trait.specs.declared.bundle.BundleError.TheVariants as bundle_err
 use Rattle.manifests.specs.DocumentData.{any_manifest}
 use Rattle.rkt_cli.specs.declared.line.Line.{Line}
 use Rattle.rkt_cli.specs.declared.line.Line.TheVariants.{Validate}
-use Rattle.rkt_cli.specs.declared.refusal.Refusal.{Refusal}
-use Rattle.rkt_cli.specs.declared.refusal.Refusal.TheVariants.{DirFault, BundleFault, NoMemory}
-use Rattle.rkt_cli.specs.Moments.{DirSeen, BundleSeen, Outside, Outcome}
-use Rattle.rkt_cli.specs.Ends.{is_own_end}
+use Rattle.command_outcomes.specs.declared.refusal.Refusal.{Refusal}
+use Rattle.command_outcomes.specs.declared.refusal.Refusal.TheVariants.{DirFault, BundleFault, NoMemory}
+use Rattle.command_outcomes.specs.Moments.{DirSeen, BundleSeen, Outcome}
+use Rattle.command_outcomes.proofs.Seen.{beside}
+use Rattle.command_outcomes.specs.Ends.{is_own_end}
 use Rattle.rkt_cli.specs.Validate.{ValidateSays, ReadsFile, IsRefusalOf, validate_refusal, manifest_outcome, most_read}
 use Rattle.rkt_cli.specs.Commands.{may}
 use Rattle.rkt_cli.specs.Runs.{CommandRan}
@@ -46,9 +47,6 @@ may_refuse path r known = known
 may_end : (path : List ℕ) (o : Outcome) → IfErr o (λ r. validate_refusal r ≡ true) → IfErr o (λ r. may (Validate path) r ≡ true)
 may_end path (Ok text) known = known
 may_end path (Err r) known = may_refuse path r known
-
-abbrev pub beside : DirSeen → BundleSeen → Outside
-beside dir bundle = record { dir = dir; bundle = bundle }
 
 pub validate_ran : (line : Line) (now : ℕ) (draw : Draw) (path : List ℕ) (dir : DirSeen) (old new : BundleSeen) (o : Outcome) → line ≡ Validate path → old.faults ≤ new.faults → (IsErrOf o BundleFault → Rose old.faults new.faults) → IfErr o (λ r. validate_refusal r ≡ true) → ReadsFile path old new → (is_own_end o ≡ true → ValidateSays path old o) → CommandRan line now draw (beside dir old) (beside dir new) o
 validate_ran line now draw path dir old new o is faults cause known reads says = subst (λ (l : Line). CommandRan l now draw (beside dir old) (beside dir new) o) (sym is) ran

@@ -12,10 +12,10 @@ use Rattle.phase_read.specs.Exact.{WasSo, AtOwnEvent, IsNowhere}
 use Rattle.phase_read.proofs.Exact.{was_within}
 use Rattle.rkt_cli.specs.declared.line.Line.{Line}
 use Rattle.rkt_cli.specs.declared.line.Line.TheVariants.{Status, Validate, ImageList, ImageImport, ImageRm, ImageGc}
-use Rattle.rkt_cli.specs.declared.refusal.Refusal.TheVariants.{NoPod}
+use Rattle.command_outcomes.specs.declared.refusal.Refusal.TheVariants.{NoPod}
 use Rattle.rkt_cli.specs.Texts.{state_text}
-use Rattle.rkt_cli.specs.Moments.{Outside, Moment, Outcome}
-use Rattle.rkt_cli.specs.Ends.{is_own_end}
+use Rattle.command_outcomes.specs.Moments.{Outside, Moment, Outcome}
+use Rattle.command_outcomes.specs.Ends.{is_own_end}
 use Rattle.rkt_cli.specs.Status.{read_outcome}
 use Rattle.rkt_cli.specs.Commands.{intent_of}
 use Rattle.rkt_cli.specs.Runs.{Performs, RunOfLine, RunOf, RunIs}

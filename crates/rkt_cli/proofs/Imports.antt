@@ -24,20 +24,21 @@ use Rattle.image_store.specs.Causes.{ImportCause, StrayCause}
 use Rattle.image_store.specs.Imports.{key_of, digest_of, OfBundle, IsRefused}
 use Rattle.image_store.specs.Refusals.{bundle_refusal, is_import_refusal}
 use Rattle.rkt_cli.specs.declared.line.Line.TheVariants.{ImageImport}
-use Rattle.rkt_cli.specs.declared.refusal.Refusal.{Refusal}
-use Rattle.rkt_cli.specs.declared.refusal.Refusal.TheVariants.{Busy, BadManifest, Limit, NoMemory, NoFile, Conflict, Damaged, BadKind, Stray}
-use Rattle.rkt_cli.specs.Moments.{BundleSeen, SinkSeen, Outside, Outcome}
-use Rattle.rkt_cli.specs.Conforming.{shown_at}
+use Rattle.command_outcomes.specs.declared.refusal.Refusal.{Refusal}
+use Rattle.command_outcomes.specs.declared.refusal.Refusal.TheVariants.{Busy, BadManifest, Limit, NoMemory, NoFile, Conflict, Damaged, BadKind, Stray}
+use Rattle.command_outcomes.specs.Moments.{BundleSeen, SinkSeen, Outside, Outcome}
+use Rattle.command_outcomes.specs.Conforming.{shown_at}
 use Rattle.rkt_cli.specs.Commands.{intent_for, intent_of}
-use Rattle.rkt_cli.specs.ImageImport.{import_refusal, listing_refusal, source_of, IsStored, PrintsKey, StoresImage, IsAreaHeld, IsHeldFrom, RefusesImage, ImageImportSays}
+use Rattle.store_commands.specs.ImageImport.{import_refusal, listing_refusal, source_of, IsStored, PrintsKey, StoresImage, IsAreaHeld, IsHeldFrom, RefusesImage, ImageImportSays}
 use Rattle.rkt_cli.specs.Runs.{InProcess, Performs, Complained}
 use Rattle.rkt_cli.specs.Statuses.{IsBadBundle, IsImportDamage, IsConflict}
-use Rattle.rkt_cli.proofs.Parts.{within_wider, held_wider}
-use Rattle.rkt_cli.proofs.ImportParts.{Span, refused_wider, imported_wider}
+use Rattle.store_commands.proofs.Parts.{within_wider, held_wider}
+use Rattle.store_commands.proofs.ImportParts.{Span, refused_wider, imported_wider}
 use Rattle.rkt_cli.proofs.Listed.{process_part}
 use Rattle.rkt_cli.proofs.Sessions.{any_call, finish_part}
 use Rattle.rkt_cli.proofs.Conforming.{begun_knows}
-use Rattle.rkt_cli.proofs.ImageImports.{imports, is_memory}
+use Rattle.rkt_cli.proofs.StoreRan.{imports}
+use Rattle.store_commands.proofs.ImageImports.{is_memory}
 
 still : (a b : ℕ) → b ≡ a → a ≤ b
 still a b same = omega arith

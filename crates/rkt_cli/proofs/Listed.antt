@@ -9,12 +9,12 @@ use Rattle.area_locks.specs.AreaLocks.{IsBusyElsewhere}
 use Rattle.dir_trait.specs.DirCalls.{HeldBetween}
 use Rattle.rkt_cli.specs.declared.line.Line.{Line}
 use Rattle.rkt_cli.specs.declared.line.Line.TheVariants.{ImageList}
-use Rattle.rkt_cli.specs.declared.refusal.Refusal.TheVariants.{Busy, Damaged}
-use Rattle.rkt_cli.specs.Moments.{Outside, Outcome}
-use Rattle.rkt_cli.specs.Conforming.{shown_at, begun}
-use Rattle.rkt_cli.specs.ImageList.{ListsStore, LacksPart, IsHeldElsewhere}
+use Rattle.command_outcomes.specs.declared.refusal.Refusal.TheVariants.{Busy, Damaged}
+use Rattle.command_outcomes.specs.Moments.{Outside, Outcome}
+use Rattle.command_outcomes.specs.Conforming.{shown_at, begun}
+use Rattle.store_commands.specs.ImageList.{ListsStore, LacksPart, IsHeldElsewhere}
 use Rattle.rkt_cli.specs.Runs.{InProcess, Performs}
-use Rattle.rkt_cli.proofs.Parts.{Part, held_wider, store_wider, image_lack_wider}
+use Rattle.store_commands.proofs.Parts.{Part, held_wider, store_wider, image_lack_wider}
 use Rattle.rkt_cli.proofs.Sessions.{any_call, begin_part, finish_part}
 use Rattle.rkt_cli.proofs.Conforming.{begun_knows}
 

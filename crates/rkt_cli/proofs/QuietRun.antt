@@ -28,32 +28,33 @@ use Rattle.phase_read.specs.Read.{is_pod_spot}
 use Rattle.phase_read.proofs.Quiet.{read_quiet}
 use Rattle.rkt_cli.specs.declared.line.Line.{Line}
 use Rattle.rkt_cli.specs.declared.line.Line.TheVariants.{Status, Validate, ImageList, ImageImport, ImageRm, ImageGc}
-use Rattle.rkt_cli.specs.declared.refusal.Refusal.TheVariants.{Usage, Busy, NoImage, DirFault, BundleFault, NoMemory, Damaged, Stray}
-use Rattle.rkt_cli.specs.Moments.{BundleSeen, Outside, Moment, SinkSeen, Outcome}
-use Rattle.rkt_cli.specs.Ends.{is_own_end, IsUnchanged, StaysBeside}
+use Rattle.command_outcomes.specs.declared.refusal.Refusal.TheVariants.{Usage, Busy, NoImage, DirFault, BundleFault, NoMemory, Damaged, Stray}
+use Rattle.command_outcomes.specs.Moments.{BundleSeen, Outside, Moment, SinkSeen, Outcome}
+use Rattle.command_outcomes.specs.Ends.{is_own_end, IsUnchanged, StaysBeside}
 use Rattle.rkt_cli.specs.Status.{read_outcome, sequential_status}
-use Rattle.rkt_cli.specs.ImageList.{image_list_refusal, ListsQuietly}
-use Rattle.rkt_cli.specs.ImageImport.{IsAreaHeld, LeavesImages, ImportsQuietly, LeavesOthers}
-use Rattle.rkt_cli.specs.ImageRm.{image_rm_refusal, is_removal_place, FindsBusy, RemovesQuietly}
-use Rattle.rkt_cli.specs.ImageGc.{is_swept_place, SweepsQuietly}
-use Rattle.rkt_cli.specs.Conforming.{begun}
+use Rattle.store_commands.specs.ImageList.{image_list_refusal, ListsQuietly}
+use Rattle.store_commands.specs.ImageImport.{IsAreaHeld, LeavesImages, ImportsQuietly, LeavesOthers}
+use Rattle.store_commands.specs.ImageRm.{image_rm_refusal, is_removal_place, FindsBusy, RemovesQuietly}
+use Rattle.store_commands.specs.ImageGc.{is_swept_place, SweepsQuietly}
+use Rattle.command_outcomes.specs.Conforming.{begun}
 use Rattle.rkt_cli.specs.Commands.{intent_for, intent_of, asks, ComesQuietly, LeavesQuietly}
 use Rattle.rkt_cli.specs.Runs.{CommandRan, Performs, InProcess, Apart, Printed, RunOf, RunIs, end_status}
 use Rattle.rkt_cli.specs.Statuses.{IsAnswer, IsUndisturbed, Works, IsQuietAnswer}
 use Rattle.rkt_cli.proofs.Judged.{judged_whole}
-use Rattle.rkt_cli.proofs.Outcomes.{rose_wider, rose_between, answered, WasAnswered}
+use Rattle.command_outcomes.proofs.Seen.{rose_wider}
+use Rattle.rkt_cli.proofs.Outcomes.{rose_between, answered, WasAnswered}
 use Rattle.rkt_cli.proofs.Conforming.{begun_knows}
 use Rattle.rkt_cli.proofs.Listed.{listed_in_process, lacked_in_process}
-use Rattle.rkt_cli.proofs.StoreQuiet.{is_tame, lists_is_tame, at_tame, end_tame}
-use Rattle.rkt_cli.proofs.ImageImports.{imports}
+use Rattle.store_commands.proofs.StoreQuiet.{is_tame, lists_is_tame, at_tame, end_tame}
+use Rattle.rkt_cli.proofs.StoreRan.{imports}
 use Rattle.rkt_cli.proofs.Imports.{import_printed, stored_in_process, import_refused}
-use Rattle.rkt_cli.proofs.ImagesKept.{images_kept, image_held}
-use Rattle.rkt_cli.proofs.PlacesKept.{places_kept}
+use Rattle.store_commands.proofs.ImagesKept.{images_kept, image_held}
+use Rattle.store_commands.proofs.PlacesKept.{places_kept}
 use Rattle.rkt_cli.proofs.Removals.{removal_done, removal_none, removal_stray, sweep_done, sweep_stray}
-use Rattle.rkt_cli.proofs.RemovalEnds.{removal_ends, none_before}
-use Rattle.rkt_cli.proofs.SweepEnds.{incoming_left, removed_left}
-use Rattle.rkt_cli.proofs.RemovalQuiet.{in_process, asks_in_process, places_beside, removal_changes, sweep_changes, held_before}
-use Rattle.rkt_cli.proofs.ImportQuiet.{is_modest, imports_is_modest, at_modest, end_modest}
+use Rattle.store_commands.proofs.RemovalEnds.{removal_ends, none_before}
+use Rattle.store_commands.proofs.SweepEnds.{incoming_left, removed_left}
+use Rattle.store_commands.proofs.RemovalQuiet.{in_process, asks_in_process, places_beside, removal_changes, sweep_changes, held_before}
+use Rattle.store_commands.proofs.ImportQuiet.{is_modest, imports_is_modest, at_modest, end_modest}
 use Rattle.rkt_cli.proofs.Sessions.{all_parts, quiet_act, state_begun, idle}
 
 -- undisturbed it came to an end of its own, or memory ran out

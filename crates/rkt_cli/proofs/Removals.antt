@@ -13,13 +13,13 @@ use Rattle.image_removal.specs.Causes.{WasStray, FoundNone}
 use Rattle.image_removal.proofs.Begun.{begun_removes, begun_sweeps}
 use Rattle.rkt_cli.specs.declared.line.Line.{Line}
 use Rattle.rkt_cli.specs.declared.line.Line.TheVariants.{ImageRm, ImageGc}
-use Rattle.rkt_cli.specs.declared.refusal.Refusal.TheVariants.{Busy, NoImage, Stray}
-use Rattle.rkt_cli.specs.Moments.{Outside, Outcome}
-use Rattle.rkt_cli.specs.Conforming.{begun}
+use Rattle.command_outcomes.specs.declared.refusal.Refusal.TheVariants.{Busy, NoImage, Stray}
+use Rattle.command_outcomes.specs.Moments.{Outside, Outcome}
+use Rattle.command_outcomes.specs.Conforming.{begun}
 use Rattle.rkt_cli.specs.Commands.{intent_for, intent_of}
-use Rattle.rkt_cli.specs.Meanwhile.{Meanwhile}
-use Rattle.rkt_cli.specs.ImageRm.{removed_text, Removes, FindsBusy, HasRemoved, HasFoundNone, HasMetStray}
-use Rattle.rkt_cli.specs.ImageGc.{sweep_texts, Sweeps, StrayInSweep, HasSwept, HasMetStrayInSweep}
+use Rattle.command_outcomes.specs.Meanwhile.{Meanwhile}
+use Rattle.store_commands.specs.ImageRm.{removed_text, Removes, FindsBusy, HasRemoved, HasFoundNone, HasMetStray}
+use Rattle.store_commands.specs.ImageGc.{sweep_texts, Sweeps, StrayInSweep, HasSwept, HasMetStrayInSweep}
 use Rattle.rkt_cli.specs.Runs.{InProcess, Performs}
 use Rattle.rkt_cli.proofs.Sessions.{begin_part, finish_part}
 use Rattle.rkt_cli.proofs.Conforming.{begun_knows}

@@ -17,7 +17,7 @@ use Rattle.dir_model.proofs.Chains.{step_extends, and_more, nothing_yet, extends
 use Rattle.dir_model.proofs.Begun.{unborn_owns_nothing, silent_before}
 use Rattle.dir_model.proofs.Quiet.{quiet_within}
 use Rattle.rkt_cli.specs.declared.line.Line.{Line}
-use Rattle.rkt_cli.specs.Moments.{Outside, Outcome}
+use Rattle.command_outcomes.specs.Moments.{Outside, Outcome}
 use Rattle.rkt_cli.specs.Commands.{asks}
 use Rattle.rkt_cli.specs.Runs.{InProcess}
 

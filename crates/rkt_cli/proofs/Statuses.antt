@@ -19,11 +19,12 @@ use Rattle.phase_read.specs.Read.{IsReading, LeftOut, stages}
 use Rattle.phase_read.proofs.InTurn.{left_out_after, left_out_before}
 use Rattle.rkt_cli.specs.declared.line.Line.{Line}
 use Rattle.rkt_cli.specs.declared.line.Line.TheVariants.{Status, Validate, ImageList, ImageImport, ImageRm, ImageGc}
-use Rattle.rkt_cli.specs.declared.refusal.Refusal.{Refusal}
-use Rattle.rkt_cli.specs.declared.refusal.Refusal.TheVariants.{Usage, NoPod, Busy, BadManifest, NoImage, Limit, DirFault, BundleFault, OutFault, NoMemory, NoFile, Conflict, Damaged, BadKind, Stray}
-use Rattle.rkt_cli.specs.Texts.{status_of, state_text}
-use Rattle.rkt_cli.specs.Moments.{DirSeen, BundleSeen, Outside, SinkSeen, Moment, Outcome}
-use Rattle.rkt_cli.specs.Ends.{is_own_end}
+use Rattle.command_outcomes.specs.declared.refusal.Refusal.{Refusal}
+use Rattle.command_outcomes.specs.declared.refusal.Refusal.TheVariants.{Usage, NoPod, Busy, BadManifest, NoImage, Limit, DirFault, BundleFault, OutFault, NoMemory, NoFile, Conflict, Damaged, BadKind, Stray}
+use Rattle.command_outcomes.specs.Texts.{status_of}
+use Rattle.rkt_cli.specs.Texts.{state_text}
+use Rattle.command_outcomes.specs.Moments.{DirSeen, BundleSeen, Outside, SinkSeen, Moment, Outcome}
+use Rattle.command_outcomes.specs.Ends.{is_own_end}
 use Rattle.rkt_cli.specs.Status.{read_outcome}
 use Rattle.rkt_cli.specs.Validate.{ReadsFile, most_read}
 use Rattle.rkt_cli.specs.Commands.{intent_of, asks, may, ReadsOnly}

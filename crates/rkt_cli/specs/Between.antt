@@ -5,7 +5,7 @@ use Rattle.dir_trait.specs.declared.dir.Dir.{Ghosts as DirGhosts}
 use Rattle.dir_trait.specs.declared.bundle.Bundle.{Ghosts as BundleGhosts}
 use Rattle.dir_trait.specs.declared.sink.Sink.{Ghosts as SinkGhosts}
 use Rattle.rkt_cli.specs.declared.line.Line.{Line}
-use Rattle.rkt_cli.specs.Moments.{moment_at}
+use Rattle.command_outcomes.specs.Moments.{moment_at}
 use Rattle.rkt_cli.specs.Runs.{RunIs}
 use Rattle.rkt_cli.specs.Statuses.{IsJudgement, IsUndisturbed, Works, IsQuietAnswer}
 

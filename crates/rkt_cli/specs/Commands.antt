@@ -16,15 +16,15 @@ use Rattle.dir_trait.specs.State.{DirState}
 use Rattle.dir_trait.specs.Trace.{state_after}
 use Rattle.rkt_cli.specs.declared.line.Line.{Line}
 use Rattle.rkt_cli.specs.declared.line.Line.TheVariants.{Status, Validate, ImageList, ImageImport, ImageRm, ImageGc}
-use Rattle.rkt_cli.specs.declared.refusal.Refusal.{Refusal}
-use Rattle.rkt_cli.specs.declared.refusal.Refusal.TheVariants.{Usage, DirFault, BundleFault, OutFault, NoMemory}
-use Rattle.rkt_cli.specs.Moments.{BundleSeen, Outside, Outcome}
-use Rattle.rkt_cli.specs.Ends.{is_own_end, IsUnchanged, StaysBeside}
+use Rattle.command_outcomes.specs.declared.refusal.Refusal.{Refusal}
+use Rattle.command_outcomes.specs.declared.refusal.Refusal.TheVariants.{Usage, DirFault, BundleFault, OutFault, NoMemory}
+use Rattle.command_outcomes.specs.Moments.{BundleSeen, Outside, Outcome}
+use Rattle.command_outcomes.specs.Ends.{is_own_end, IsUnchanged, StaysBeside}
 use Rattle.rkt_cli.specs.Status.{status_refusal, StatusSays, sequential_status}
-use Rattle.rkt_cli.specs.ImageList.{image_list_refusal, lists_images, ImageListSays, ListsQuietly}
-use Rattle.rkt_cli.specs.ImageImport.{image_import_refusal, ImageImportSays, ImportsQuietly, LeavesOthers}
-use Rattle.rkt_cli.specs.ImageRm.{image_rm_refusal, ImageRmSays, RemovesQuietly, is_removal_place}
-use Rattle.rkt_cli.specs.ImageGc.{image_gc_refusal, ImageGcSays, SweepsQuietly, is_swept_place}
+use Rattle.store_commands.specs.ImageList.{image_list_refusal, lists_images, ImageListSays, ListsQuietly}
+use Rattle.store_commands.specs.ImageImport.{image_import_refusal, ImageImportSays, ImportsQuietly, LeavesOthers}
+use Rattle.store_commands.specs.ImageRm.{image_rm_refusal, ImageRmSays, RemovesQuietly, is_removal_place}
+use Rattle.store_commands.specs.ImageGc.{image_gc_refusal, ImageGcSays, SweepsQuietly, is_swept_place}
 use Rattle.rkt_cli.specs.Validate.{validate_refusal, ValidateSays, ReadsFile, sequential_validate}
 
 -- whether it works on the directory, and whether it reads the bundle

@@ -9,11 +9,11 @@ use Rattle.phase_read.specs.Exact.{AtOwnEvent, IsInPhase, IsNowhere}
 use Rattle.rkt_cli.specs.declared.line.Line.{Line}
 use Rattle.rkt_cli.specs.declared.line.Line.TheVariants.{Status, ImageList, ImageImport, ImageRm, ImageGc}
 use Rattle.rkt_cli.specs.Texts.{state_text}
-use Rattle.rkt_cli.specs.ImageImport.{StoresImage}
-use Rattle.rkt_cli.specs.ImageList.{ListsStore}
-use Rattle.rkt_cli.specs.ImageRm.{removed_text, HasRemoved}
-use Rattle.rkt_cli.specs.ImageGc.{HasSwept}
-use Rattle.rkt_cli.specs.Moments.{DirSeen, Outside, SinkSeen}
+use Rattle.store_commands.specs.ImageImport.{StoresImage}
+use Rattle.store_commands.specs.ImageList.{ListsStore}
+use Rattle.store_commands.specs.ImageRm.{removed_text, HasRemoved}
+use Rattle.store_commands.specs.ImageGc.{HasSwept}
+use Rattle.command_outcomes.specs.Moments.{DirSeen, Outside, SinkSeen}
 
 -- the text names the phase that the pod had by its history at one own event
 pub record TellsPhase (pod : PodId) (me : ℕ) (old new : List Event) (text : List ℕ) : Type 0 where

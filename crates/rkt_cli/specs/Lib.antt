@@ -1,15 +1,7 @@
 pub mod Texts
 pub mod Lines
-pub mod Moments
-pub mod Conforming
-pub mod Ends
 pub mod Status
 pub mod Validate
-pub mod ImageList
-pub mod ImageImport
-pub mod Meanwhile
-pub mod ImageRm
-pub mod ImageGc
 pub mod Commands
 pub mod Runs
 pub mod Histories

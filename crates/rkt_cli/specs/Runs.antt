@@ -1,5 +1,5 @@
 -- A run of the program, whatever the command is.
-use Rattle.std.specs.Prelude.{◌≡◌, ◌⊎◌, ◌≤◌, ℕ, Bool, true, false, List, [], ◌++◌, Option, Some, None, Result, Ok, Err, IsErrOf, IfErr}
+use Rattle.std.specs.Prelude.{◌≡◌, ◌⊎◌, ◌≤◌, ℕ, true, false, List, [], ◌++◌, Option, Some, None, Result, Ok, Err, IsErrOf, IfErr}
 use Rattle.dir_model.specs.declared.intent.Draw.{Draw}
 use Rattle.dir_model.specs.declared.intent.Intent.{Intent}
 use Rattle.dir_model.specs.declared.request.DirError.TheVariants as dir_error
@@ -10,11 +10,11 @@ use Rattle.dir_trait.specs.Calls.{Extends, CallStep}
 use Rattle.dir_trait.specs.Local.{Local}
 use Rattle.dir_trait.specs.Sinks.{WritesPart}
 use Rattle.rkt_cli.specs.declared.line.Line.{Line}
-use Rattle.rkt_cli.specs.declared.refusal.Refusal.{Refusal}
-use Rattle.rkt_cli.specs.declared.refusal.Refusal.TheVariants.{Usage, BadManifest, NoImage, Limit, DirFault, BundleFault, OutFault, NoMemory, NoFile, Conflict, Damaged, BadKind}
-use Rattle.rkt_cli.specs.Texts.{status_of, message}
-use Rattle.rkt_cli.specs.Conforming.{StaysConforming}
-use Rattle.rkt_cli.specs.Moments.{Outside, Moment, SinkSeen, Outcome}
+use Rattle.command_outcomes.specs.declared.refusal.Refusal.{Refusal}
+use Rattle.command_outcomes.specs.declared.refusal.Refusal.TheVariants.{Usage, DirFault, BundleFault, OutFault, NoMemory}
+use Rattle.command_outcomes.specs.Texts.{status_of, message, is_made}
+use Rattle.command_outcomes.specs.Conforming.{StaysConforming}
+use Rattle.command_outcomes.specs.Moments.{Outside, Moment, SinkSeen, Outcome}
 use Rattle.rkt_cli.specs.Commands.{uses_dir, intent_of, asks, may, CommandSays, ReadsOnly}
 
 -- what a command leaves and answers, whichever it is
@@ -94,17 +94,6 @@ pub record Printed (o : Outcome) (old new : SinkSeen) (end : End) : Type 0 where
   pub refused : IfErr o (λ r. (end ≡ Err r) × (old.observed ≡ true → new.bytes ≡ old.bytes))
   pub part : (text : List ℕ) → o ≡ Ok text → old.observed ≡ true → WritesPart old.bytes text new.bytes
   pub cause : (text : List ℕ) → o ≡ Ok text → IfErr end (λ r. Unwritten r old new)
-
--- the message has a path, a key or a number in it, so that it takes memory
-abbrev pub is_made : Refusal → Bool
-is_made (BadManifest path number) = true
-is_made (NoImage key) = true
-is_made (Limit number) = true
-is_made (NoFile path) = true
-is_made (Conflict key stored new) = true
-is_made (Damaged path) = true
-is_made (BadKind path) = true
-is_made _ = false
 
 -- the sink refused a piece
 abbrev pub HasRefused : SinkSeen → SinkSeen → Type 0

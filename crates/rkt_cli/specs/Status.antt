@@ -8,11 +8,11 @@ use Rattle.lifecycle.specs.Executions.{IsConforming}
 use Rattle.phase_read.specs.Exact.{WasSo}
 use Rattle.phase_read.specs.Read.{IsReading}
 use Rattle.phase_read.specs.Sequential.{sequential_read}
-use Rattle.rkt_cli.specs.declared.refusal.Refusal.{Refusal}
-use Rattle.rkt_cli.specs.declared.refusal.Refusal.TheVariants.{NoPod}
-use Rattle.rkt_cli.specs.Moments.{DirSeen, Outcome}
+use Rattle.command_outcomes.specs.declared.refusal.Refusal.{Refusal}
+use Rattle.command_outcomes.specs.declared.refusal.Refusal.TheVariants.{NoPod}
+use Rattle.command_outcomes.specs.Moments.{DirSeen, Outcome}
 use Rattle.rkt_cli.specs.Texts.{state_text}
-use Rattle.rkt_cli.specs.Ends.{is_common}
+use Rattle.command_outcomes.specs.Ends.{is_common}
 
 -- the refusals that it may have
 abbrev pub status_refusal : Refusal → Bool

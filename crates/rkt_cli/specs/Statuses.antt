@@ -33,18 +33,19 @@ use Rattle.image_removal.specs.declared.pass.SweepLine.{SweepLine}
 use Rattle.phase_read.specs.Read.{LeftOut, stages}
 use Rattle.rkt_cli.specs.declared.line.Line.{Line}
 use Rattle.rkt_cli.specs.declared.line.Line.TheVariants.{Status, Validate, ImageList, ImageImport, ImageRm, ImageGc}
-use Rattle.rkt_cli.specs.declared.refusal.Refusal.{Refusal}
-use Rattle.rkt_cli.specs.declared.refusal.Refusal.TheVariants.{Usage, Busy, BadManifest, NoImage, Limit, NoFile, Conflict, Damaged}
-use Rattle.rkt_cli.specs.Texts.{status_of, state_text, valid_text}
-use Rattle.rkt_cli.specs.Moments.{DirSeen, BundleSeen, SinkSeen, Outside, Moment, Outcome}
+use Rattle.command_outcomes.specs.declared.refusal.Refusal.{Refusal}
+use Rattle.command_outcomes.specs.declared.refusal.Refusal.TheVariants.{Usage, Busy, BadManifest, NoImage, Limit, NoFile, Conflict, Damaged}
+use Rattle.command_outcomes.specs.Texts.{status_of}
+use Rattle.rkt_cli.specs.Texts.{state_text, valid_text}
+use Rattle.command_outcomes.specs.Moments.{DirSeen, BundleSeen, SinkSeen, Outside, Moment, Outcome}
 use Rattle.rkt_cli.specs.Commands.{uses_dir, reads_bundle, intent_of, asks, ReadsOnly, ComesQuietly, LeavesQuietly}
 use Rattle.rkt_cli.specs.Validate.{sequential_validate}
-use Rattle.rkt_cli.specs.ImageList.{images_text, LacksPart, IsHeldElsewhere}
-use Rattle.rkt_cli.specs.ImageImport.{import_refusal, source_of, PrintsKey, IsAreaHeld}
-use Rattle.rkt_cli.specs.Meanwhile.{Meanwhile}
-use Rattle.rkt_cli.specs.ImageRm.{removed_text, FindsBusy, HasFoundNone, HasMetStray}
-use Rattle.rkt_cli.specs.ImageGc.{sweep_texts, HasMetStrayInSweep}
-use Rattle.rkt_cli.specs.Conforming.{shown_at}
+use Rattle.store_commands.specs.ImageList.{images_text, LacksPart, IsHeldElsewhere}
+use Rattle.store_commands.specs.ImageImport.{import_refusal, source_of, PrintsKey, IsAreaHeld}
+use Rattle.command_outcomes.specs.Meanwhile.{Meanwhile}
+use Rattle.store_commands.specs.ImageRm.{removed_text, FindsBusy, HasFoundNone, HasMetStray}
+use Rattle.store_commands.specs.ImageGc.{sweep_texts, HasMetStrayInSweep}
+use Rattle.command_outcomes.specs.Conforming.{shown_at}
 use Rattle.rkt_cli.specs.Runs.{Complained, ended_local}
 
 -- whether the words are a command on the directory, and whether they are one that reads the bundle

@@ -1,66 +1,9 @@
--- The printed texts and the exit statuses.
+-- The lines that `status` and `validate` print.
 use Rattle.std.specs.Prelude.{ℕ, List, ◌++◌, length, codes}
 use Rattle.std.specs.Fmt.{decimal}
-use Rattle.dir_model.specs.declared.area.Area.{Area}
-use Rattle.dir_model.specs.declared.area.Area.TheVariants as area
 use Rattle.dir_model.specs.declared.area.Phase.{Phase}
 use Rattle.dir_trait.specs.Areas.{phase_text}
 use Rattle.manifests.specs.DocumentData.{DocumentData, an_image, a_pod}
-use Rattle.rkt_cli.specs.declared.refusal.Refusal.{Refusal}
-use Rattle.rkt_cli.specs.declared.refusal.Refusal.TheVariants.{Usage, NoPod, Busy, BadManifest, NoImage, Limit, DirFault, BundleFault, OutFault, NoMemory, NoFile, Conflict, Damaged, BadKind, Stray}
-
--- the exit status of a refusal
-abbrev pub status_of : Refusal → ℕ
-status_of Usage = 1
-status_of NoPod = 2
-status_of (Busy area) = 5
-status_of (BadManifest path number) = 6
-status_of (NoImage key) = 7
-status_of (Limit number) = 8
-status_of DirFault = 9
-status_of BundleFault = 10
-status_of OutFault = 12
-status_of NoMemory = 14
-status_of (NoFile path) = 15
-status_of (Conflict key stored new) = 15
-status_of (Damaged path) = 15
-status_of (BadKind path) = 15
-status_of Stray = 20
-
--- the name of an area
-abbrev pub area_text : Area → List ℕ
-area_text area.Embryo = codes "embryo"
-area_text area.Prepare = codes "prepare"
-area_text area.Prepared = codes "prepared"
-area_text area.Run = codes "run"
-area_text area.ExitedGarbage = codes "exited-garbage"
-area_text area.Garbage = codes "garbage"
-area_text area.Incoming = codes "incoming"
-area_text area.Images = codes "images"
-area_text area.Trees = codes "trees"
-area_text area.Removed = codes "removed"
-
--- a line that ends with a name
-abbrev pub named_line : List ℕ → List ℕ → List ℕ
-named_line front name = (front ++ name) ++ codes "\n"
-
--- the line that is printed of it
-abbrev pub message : Refusal → List ℕ
-message Usage = codes "rkt: usage\n"
-message NoPod = codes "rkt: no such pod\n"
-message (Busy area) = named_line (codes "rkt: busy: gate ") (area_text area)
-message (BadManifest path number) = (((codes "rkt: bad manifest at " ++ path) ++ codes ": refusal ") ++ decimal number) ++ codes "\n"
-message (NoImage key) = named_line (codes "rkt: no image: ") key
-message (Limit number) = named_line (codes "rkt: limit: ") (decimal number)
-message DirFault = codes "rkt: directory fault\n"
-message BundleFault = codes "rkt: bundle fault\n"
-message OutFault = codes "rkt: output fault\n"
-message NoMemory = codes "rkt: out of memory\n"
-message (NoFile path) = named_line (codes "rkt: no file: ") path
-message (Conflict key stored new) = (((((codes "rkt: conflict: " ++ key) ++ codes " ") ++ stored) ++ codes " ") ++ new) ++ codes "\n"
-message (Damaged path) = named_line (codes "rkt: damaged: ") path
-message (BadKind path) = named_line (codes "rkt: bad kind: ") path
-message Stray = codes "rkt: stray reply\n"
 
 -- the line that `status` prints
 abbrev pub state_text : Phase → List ℕ

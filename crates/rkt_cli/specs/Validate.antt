@@ -12,9 +12,9 @@ use Rattle.ac_types.specs.FaultNumbers.{number_of}
 use Rattle.ac_types.specs.Outcomes.{reads, fails}
 use Rattle.ac_types.specs.Outcomes as reading
 use Rattle.manifests.specs.DocumentData.{DocumentData, any_manifest}
-use Rattle.rkt_cli.specs.declared.refusal.Refusal.{Refusal}
-use Rattle.rkt_cli.specs.declared.refusal.Refusal.TheVariants.{BadManifest, BundleFault, NoMemory, NoFile}
-use Rattle.rkt_cli.specs.Moments.{BundleSeen, Outcome}
+use Rattle.command_outcomes.specs.declared.refusal.Refusal.{Refusal}
+use Rattle.command_outcomes.specs.declared.refusal.Refusal.TheVariants.{BadManifest, BundleFault, NoMemory, NoFile}
+use Rattle.command_outcomes.specs.Moments.{BundleSeen, Outcome}
 use Rattle.rkt_cli.specs.Texts.{valid_text}
 
 -- the refusals that it may have

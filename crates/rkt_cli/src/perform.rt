@@ -2,22 +2,21 @@
 ghost use Rattle.std.specs.Prelude.{◌≡◌, true, false, Some, IsSome, IsNone};
 ghost use Rattle.dir_model.specs.declared.intent.Intent.{Intent};
 ghost use Rattle.dir_trait.specs.Local.{IsActive, nothing_local};
-ghost use Rattle.rkt_cli.specs.Moments.{dir_at, outside_at};
-ghost use Rattle.rkt_cli.specs.Conforming.{StaysConforming};
+ghost use Rattle.command_outcomes.specs.Moments.{dir_at, outside_at};
+ghost use Rattle.command_outcomes.specs.Conforming.{StaysConforming};
 ghost use Rattle.rkt_cli.specs.Commands.{uses_dir, reads_bundle, intent_for, intent_of, IsReady};
 ghost use Rattle.rkt_cli.specs.Runs.{CommandRan, Performs};
 
-use crate::image_gc::image_gc;
-use crate::image_import::image_import;
-use crate::image_list::image_list;
-use crate::image_rm::image_rm;
 use crate::line::Line;
-use crate::output::Output;
-use crate::refusal::Refusal;
 use crate::status::pod_status;
 use crate::validate::validate;
+use command_outcomes::{Output, Refusal};
 use dir_trait::{Bundle, Dir, Draw, Intent, Kind, PodPrefix};
 use std::alloc::Global;
+use store_commands::image_gc::image_gc;
+use store_commands::image_import::image_import;
+use store_commands::image_list::image_list;
+use store_commands::image_rm::image_rm;
 
 fn intent_for(kind: Kind, word: PodPrefix, now: u64, draw: &Draw) -> Intent
     ensures { result ≡ intent_for kind word now draw.now }

@@ -1,11 +1,10 @@
 // What is written, and the status.
 ghost use Rattle.std.specs.Prelude.{◌≡◌};
-ghost use Rattle.rkt_cli.specs.Texts.{status_of};
-ghost use Rattle.rkt_cli.specs.Moments.{sink_at};
+ghost use Rattle.command_outcomes.specs.Texts.{status_of};
+ghost use Rattle.command_outcomes.specs.Moments.{sink_at};
 ghost use Rattle.rkt_cli.specs.Runs.{Printed, Complained, Reported, end_status};
 
-use crate::output::Output;
-use crate::refusal::Refusal;
+use command_outcomes::{Output, Refusal};
 use dir_trait::{Sink, SinkError, write_whole};
 use std::alloc::Global;
 

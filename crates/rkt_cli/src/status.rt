@@ -8,12 +8,11 @@ ghost use Rattle.dir_trait.specs.Pods.{pod_text};
 ghost use Rattle.dir_trait.specs.Replies.{is_look_at};
 ghost use Rattle.phase_read.specs.Read.{is_pod_spot};
 ghost use Rattle.rkt_cli.specs.Texts.{state_text};
-ghost use Rattle.rkt_cli.specs.Ends.{is_own_end};
-ghost use Rattle.rkt_cli.specs.Moments.{dir_at};
+ghost use Rattle.command_outcomes.specs.Ends.{is_own_end};
+ghost use Rattle.command_outcomes.specs.Moments.{dir_at};
 ghost use Rattle.rkt_cli.specs.Status.{status_refusal, StatusSays, read_outcome};
 
-use crate::output::Output;
-use crate::refusal::Refusal;
+use command_outcomes::{Output, Refusal};
 use dir_trait::{Dir, Phase, PodId};
 use phase_read::{Found, LookError, read_phase};
 use std::alloc::{AllocError, Global};

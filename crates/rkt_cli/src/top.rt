@@ -6,15 +6,15 @@ ghost use Rattle.dir_trait.specs.Local.{nothing_local};
 ghost use Rattle.rkt_cli.specs.Lines.{line_in};
 ghost use Rattle.lifecycle.specs.Executions.{IsConforming};
 ghost use Rattle.rkt_cli.specs.Histories.{TellsHistory, TellsDeed};
-ghost use Rattle.rkt_cli.specs.Conforming.{KeepsConforming};
-ghost use Rattle.rkt_cli.specs.Moments.{dir_at, bundle_at, outside_at, sink_at};
+ghost use Rattle.command_outcomes.specs.Conforming.{KeepsConforming};
+ghost use Rattle.command_outcomes.specs.Moments.{dir_at, bundle_at, outside_at, sink_at};
 ghost use Rattle.rkt_cli.specs.Between.{RunBetween, JudgedBetween, QuietBetween};
 ghost use Rattle.rkt_cli.specs.Statuses.{uses_dir_in, reads_bundle_in, IsMissing, IsBadManifest, IsLimit, IsLacking, IsLockBusy, IsNoImage, IsStray, asks_in, IsStatus, IsOutput, IsComplaint, IsOver, ReadsIn};
 
 use crate::line::{WordsError, read_line};
 use crate::perform::perform;
 use crate::print::{print, refuse, report};
-use crate::refusal::Refusal;
+use command_outcomes::Refusal;
 use dir_trait::{Bundle, Dir, Draw, Sink};
 use std::alloc::Global;
 

@@ -3,14 +3,13 @@ ghost use Rattle.std.specs.Prelude.{◌≡◌, ◌≤◌, ◌⊎◌, true, IfOk,
 ghost use Rattle.dir_trait.specs.Causes.{Rose};
 ghost use Rattle.manifests.specs.DocumentData.{any_manifest, document_data};
 ghost use Rattle.rkt_cli.specs.Texts.{valid_text};
-ghost use Rattle.rkt_cli.specs.Ends.{is_own_end};
-ghost use Rattle.rkt_cli.specs.Moments.{bundle_at};
+ghost use Rattle.command_outcomes.specs.Ends.{is_own_end};
+ghost use Rattle.command_outcomes.specs.Moments.{bundle_at};
 ghost use Rattle.rkt_cli.specs.Validate.{validate_refusal, manifest_outcome, reading_refusal, IsRefusalOf, ValidateSays, ReadsFile};
 
-use crate::output::Output;
-use crate::refusal::Refusal;
 use ac_types::{ReadError, Text};
 use bundle_read::read_file;
+use command_outcomes::{Output, Refusal};
 use dir_trait::{Bundle, BundleError};
 use manifests::{Document, read_document};
 use std::alloc::{AllocError, Global};

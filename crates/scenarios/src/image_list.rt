@@ -1,14 +1,14 @@
 // The command `image list`.
-ghost use Rattle.std.specs.Prelude.{◌≡◌, IfOk};
-ghost use Rattle.dir_trait.specs.Local.{nothing_local};
-
-use crate::stage::{intent, run};
-use dir_memory::MemoryDir;
-use dir_trait::{Area, Bytes, Handle, Inner, Kind, Mode, Name, NoMemory, Request, Spot};
-use std::alloc::Global;
+use crate::stage::{Break, Folder, Meets, Row, Run, Step, all_go};
+use dir_trait::{Area, Kind, Mode};
 use std::test::Fail;
 
-const KEY: &str = "sha512-aaaaaaaaaaaaaaaaaaaaaaaaaaaaaaaaaaaaaaaaaaaaaaaaaaaaaaaaaaaaaaaa";
+const LIST: &[&str] = &["image", "list"];
+
+const IMAGE: Folder = (
+    Area::Images,
+    "sha512-aaaaaaaaaaaaaaaaaaaaaaaaaaaaaaaaaaaaaaaaaaaaaaaaaaaaaaaaaaaaaaaa",
+);
 
 const ID: &str =
     "sha512-aaaaaaaaaaaaaaaaaaaaaaaaaaaaaaaaaaaaaaaaaaaaaaaaaaaaaaaaaaaaaaaaaaaaaaaaaaaaaaaaaaaaaaaaaaaaaaaaaaaaaaaaaaaaaaaaaaaaaaaaaaaaaaaa\n";
@@ -16,150 +16,116 @@ const ID: &str =
 const MANIFEST: &str =
     r#"{"acKind":"ImageManifest","acVersion":"0.8.11","name":"example.com/base"}"#;
 
-/// Whether `image list` ends and writes so.
-fn lists(alloc: Global, dir: MemoryDir, status: u8, out: &str, err: &str) -> Result<bool, NoMemory>
-    requires { dir.local ≡ nothing_local }
-{
-    let mut dir = dir;
-    Ok(run(alloc, &["image", "list"], &mut dir)?.is(status, out, err))
-}
+const LINE: &str =
+    "sha512-aaaaaaaaaaaaaaaaaaaaaaaaaaaaaaaaaaaaaaaaaaaaaaaaaaaaaaaaaaaaaaaa example.com/base 100\n";
 
-/// A step of process 2 before this one has done anything but begin.
-fn with(alloc: Global, dir: MemoryDir, request: Request) -> Result<MemoryDir, NoMemory>
-    requires { dir.local ≡ nothing_local }
-    ensures { IfOk result (λ d. d.local ≡ nothing_local) }
-{
-    dir.schedule(alloc, 2, 2, request)
-}
+const NO_MANIFEST: &str =
+    "rkt: damaged: sha512-aaaaaaaaaaaaaaaaaaaaaaaaaaaaaaaaaaaaaaaaaaaaaaaaaaaaaaaaaaaaaaaa/manifest\n";
 
-fn begun(alloc: Global) -> Result<MemoryDir, NoMemory>
-    ensures { IfOk result (λ d. d.local ≡ nothing_local) }
-{
-    let dir = MemoryDir::new(alloc, 1)?;
-    with(alloc, dir, Request::Begin(intent(Kind::ImageImport)))
-}
+const NO_ID: &str =
+    "rkt: damaged: sha512-aaaaaaaaaaaaaaaaaaaaaaaaaaaaaaaaaaaaaaaaaaaaaaaaaaaaaaaaaaaaaaaa/id\n";
 
-// The call's begin, the lock's open and request, a listing's begin and end, the close and the finish.
-#[test]
-fn an_empty_store_prints_nothing(rt: HostRuntime) -> Result<(), Fail> {
-    let mut dir = MemoryDir::new(rt.alloc(), 1)?;
-    let ran = run(rt.alloc(), &["image", "list"], &mut dir)?;
-    let is = ran.is(0, "", "");
-    assert!(rt; is);
-    assert_eq!(rt; dir.history().len(), 7);
-    Ok(())
-}
+const NO_MOMENT: &str =
+    "rkt: damaged: sha512-aaaaaaaaaaaaaaaaaaaaaaaaaaaaaaaaaaaaaaaaaaaaaaaaaaaaaaaaaaaaaaaa/imported-\n";
 
-/// Process 2 holds the lock of the images.
-fn locked(alloc: Global, mode: Mode) -> Result<MemoryDir, NoMemory>
-    ensures { IfOk result (λ d. d.local ≡ nothing_local) }
-{
-    let dir = begun(alloc)?;
-    let dir = with(alloc, dir, Request::OpenArea(Area::Images))?;
-    let handle = Handle { number: 0 };
-    with(alloc, dir, Request::TryLock { handle, mode })
-}
+// Another process makes the folder of an image, and the program lists it before it has a manifest, an ID, a mark.
+const EMPTY: &[Row] = &[
+    (2, 9, Step::Begin(Kind::ImageImport)),
+    (2, 9, Step::Make(IMAGE)),
+];
 
-#[test]
-fn a_lock_that_another_holds_exclusively_is_busy(rt: HostRuntime) -> Result<(), Fail> {
-    let dir = locked(rt.alloc(), Mode::Exclusive)?;
-    let busy = lists(rt.alloc(), dir, 5, "", "rkt: busy: gate images\n")?;
-    assert!(rt; busy);
-    let dir = locked(rt.alloc(), Mode::Shared)?;
-    let shared = lists(rt.alloc(), dir, 0, "", "")?;
-    assert!(rt; shared);
-    Ok(())
-}
+const WITH_MANIFEST: &[Row] = &[
+    (2, 9, Step::MakeFile(IMAGE, "manifest")),
+    (2, 9, Step::Append(IMAGE, "manifest", MANIFEST)),
+];
 
-fn spot() -> Result<Spot, Fail> {
-    let name = Name::of(KEY).ok_or("a name")?;
-    Ok(Spot {
-        area: Area::Images,
-        name,
-    })
-}
+const WITH_ID: &[Row] = &[
+    (2, 9, Step::MakeFile(IMAGE, "id")),
+    (2, 9, Step::Append(IMAGE, "id", ID)),
+];
 
-fn inner(alloc: Global, path: &str) -> Result<Inner, Fail> {
-    let path = Bytes::of(alloc, path.as_bytes())?;
-    Ok(Inner {
-        spot: spot()?,
-        path,
-    })
-}
+const WITH_MARK: &[Row] = &[(2, 9, Step::MakeFile(IMAGE, "imported-00000000000000000100"))];
 
-/// The folder of the one image of the tests, with nothing in it.
-fn empty(alloc: Global) -> Result<MemoryDir, Fail>
-    ensures { IfOk result (λ d. d.local ≡ nothing_local) }
-{
-    let dir = begun(alloc)?;
-    Ok(with(alloc, dir, Request::MakeFolder(spot()?))?)
-}
+const HELD_EXCLUSIVELY: &[Row] = &[
+    (2, 9, Step::Begin(Kind::ImageGc)),
+    (2, 9, Step::OpenArea(Area::Images)),
+    (2, 9, Step::Lock(Mode::Exclusive)),
+];
 
-/// A file in it.
-fn with_file(alloc: Global, dir: MemoryDir, path: &str, text: &str) -> Result<MemoryDir, Fail>
-    requires { dir.local ≡ nothing_local }
-    ensures { IfOk result (λ d. d.local ≡ nothing_local) }
-{
-    let dir = with(alloc, dir, Request::MakeFileIn(inner(alloc, path)?))?;
-    let piece = Bytes::of(alloc, text.as_bytes())?;
-    let inner = inner(alloc, path)?;
-    Ok(with(alloc, dir, Request::AppendIn { inner, piece })?)
-}
+const HELD_SHARED: &[Row] = &[
+    (2, 9, Step::Begin(Kind::ImageList)),
+    (2, 9, Step::OpenArea(Area::Images)),
+    (2, 9, Step::Lock(Mode::Shared)),
+];
 
-fn with_manifest(alloc: Global) -> Result<MemoryDir, Fail>
-    ensures { IfOk result (λ d. d.local ≡ nothing_local) }
-{
-    with_file(alloc, empty(alloc)?, "manifest", MANIFEST)
-}
+const ALONE: Meets = Meets {
+    now: 100,
+    puts: &[],
+    others: &[],
+};
 
-fn with_id(alloc: Global) -> Result<MemoryDir, Fail>
-    ensures { IfOk result (λ d. d.local ≡ nothing_local) }
-{
-    with_file(alloc, with_manifest(alloc)?, "id", ID)
-}
+const THE_LOCK: Meets = Meets {
+    now: 100,
+    puts: &[],
+    others: HELD_EXCLUSIVELY,
+};
 
-fn with_mark(alloc: Global) -> Result<MemoryDir, Fail>
-    ensures { IfOk result (λ d. d.local ≡ nothing_local) }
-{
-    let dir = with_id(alloc)?;
-    let mark = inner(alloc, "imported-00000000000000000100")?;
-    Ok(with(alloc, dir, Request::MakeFileIn(mark))?)
+const A_READER: Meets = Meets {
+    now: 100,
+    puts: &[],
+    others: HELD_SHARED,
+};
+
+const A_FOLDER: Meets = Meets {
+    now: 100,
+    puts: &[],
+    others: EMPTY,
+};
+
+const A_MANIFEST: Meets = Meets {
+    now: 100,
+    puts: &[],
+    others: WITH_MANIFEST,
+};
+
+const AN_ID: Meets = Meets {
+    now: 100,
+    puts: &[],
+    others: WITH_ID,
+};
+
+const A_MARK: Meets = Meets {
+    now: 100,
+    puts: &[],
+    others: WITH_MARK,
+};
+
+const STORIES: &[&[Run]] = &[
+    &[(LIST, ALONE, Break::Nothing, (0, "", ""))],
+    &[(
+        LIST,
+        THE_LOCK,
+        Break::Nothing,
+        (5, "", "rkt: busy: gate images\n"),
+    )],
+    &[(LIST, A_READER, Break::Nothing, (0, "", ""))],
+    &[
+        (LIST, A_FOLDER, Break::Nothing, (15, "", NO_MANIFEST)),
+        (LIST, A_MANIFEST, Break::Nothing, (15, "", NO_ID)),
+        (LIST, AN_ID, Break::Nothing, (15, "", NO_MOMENT)),
+        (LIST, A_MARK, Break::Nothing, (0, LINE, "")),
+        (LIST, ALONE, Break::Nothing, (0, LINE, "")),
+    ],
+];
+
+// A call, so that who goes through the table needn't look into it.
+fn stories() -> &'static [&'static [Run]] {
+    STORIES
 }
 
 #[test]
-fn an_image_without_one_of_its_parts_is_damaged(rt: HostRuntime) -> Result<(), Fail> {
-    let is = lists(
-        rt.alloc(),
-        empty(rt.alloc())?,
-        15,
-        "",
-        "rkt: damaged: sha512-aaaaaaaaaaaaaaaaaaaaaaaaaaaaaaaaaaaaaaaaaaaaaaaaaaaaaaaaaaaaaaaa/manifest\n",
-    )?;
-    assert!(rt; is);
-    let is = lists(
-        rt.alloc(),
-        with_manifest(rt.alloc())?,
-        15,
-        "",
-        "rkt: damaged: sha512-aaaaaaaaaaaaaaaaaaaaaaaaaaaaaaaaaaaaaaaaaaaaaaaaaaaaaaaaaaaaaaaa/id\n",
-    )?;
-    assert!(rt; is);
-    let is = lists(
-        rt.alloc(),
-        with_id(rt.alloc())?,
-        15,
-        "",
-        "rkt: damaged: sha512-aaaaaaaaaaaaaaaaaaaaaaaaaaaaaaaaaaaaaaaaaaaaaaaaaaaaaaaaaaaaaaaa/imported-\n",
-    )?;
-    assert!(rt; is);
-    Ok(())
-}
-
-#[test]
-fn an_image_has_its_line(rt: HostRuntime) -> Result<(), Fail> {
-    let line =
-        "sha512-aaaaaaaaaaaaaaaaaaaaaaaaaaaaaaaaaaaaaaaaaaaaaaaaaaaaaaaaaaaaaaaa example.com/base 100\n";
-    let is = lists(rt.alloc(), with_mark(rt.alloc())?, 0, line, "")?;
-    assert!(rt; is);
+fn each_whole_image_has_its_line(rt: HostRuntime) -> Result<(), Fail> {
+    let so = all_go(rt.alloc(), stories())?;
+    assert!(rt; so);
     Ok(())
 }

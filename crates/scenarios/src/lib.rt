@@ -2,13 +2,15 @@
 #![tactic(auto)]
 
 #[cfg(test)]
+mod bundles;
+#[cfg(test)]
 mod byte_sink;
 #[cfg(test)]
 mod image_import;
 #[cfg(test)]
 mod image_list;
 #[cfg(test)]
-mod memory;
+mod outputs;
 #[cfg(test)]
 mod removals;
 #[cfg(test)]

@@ -1,10 +1,9 @@
 use Rattle.std.proofs.Common.{◌≡◌, Some, subst}
 use Rattle.rkt_cli.specs.declared.line.Line.{Line}
 use Rattle.rkt_cli.specs.Commands.{intent_of}
-use Rattle.rkt_cli.specs.Moments.{dir_at}
+use Rattle.command_outcomes.specs.Moments.{dir_at}
 use Rattle.rkt_cli.proofs.Conforming.{looks_conforming, apart_conforming, list_conforming}
-use Rattle.rkt_cli.proofs.ImageImports.{imports, import_ran}
-use Rattle.rkt_cli.proofs.ImageRemovals.{removal_conforming, sweep_conforming, removal_ran, sweep_ran}
+use Rattle.rkt_cli.proofs.StoreRan.{imports, import_ran, removal_conforming, sweep_conforming, removal_ran, sweep_ran}
 use Rattle.rkt_cli.proofs.Files.{validate_ran}
 use Rattle.rkt_cli.proofs.perform.act.Goals as goal
 

@@ -1,0 +1,14 @@
+-- What a command has seen of the directory and the bundle, and when its count of faults rose.
+use Rattle.std.proofs.Common.{arith, ◌≡◌, ◌≤◌, ℕ, Bool}
+use Rattle.dir_model.specs.Causes.{Rose}
+use Rattle.dir_trait.specs.DirCalls.{DirAt}
+use Rattle.command_outcomes.specs.Moments.{DirSeen, BundleSeen, Outside}
+
+abbrev pub seen_at : Bool → DirAt → DirSeen
+seen_at observed d = record { observed = observed; process = d.process; faults = d.faults; local = d.local; trace = d.trace }
+
+abbrev pub beside : DirSeen → BundleSeen → Outside
+beside dir bundle = record { dir = dir; bundle = bundle }
+
+pub rose_wider : (a b c d : ℕ) → a ≤ b → Rose b c → d ≡ c → Rose a d
+rose_wider a b c d ab rose dc = omega arith

@@ -1,0 +1,32 @@
+-- Whether a process has asked for nothing but what the local rules allow.
+use Rattle.std.specs.Prelude.{◌≡◌, true}
+use Rattle.dir_model.specs.declared.intent.Intent.{Intent}
+use Rattle.dir_model.specs.declared.request.Request.TheVariants.{Begin}
+use Rattle.dir_model.specs.declared.request.Reply.TheVariants.{Done}
+use Rattle.dir_rules.specs.declared.seen.Seen.{Seen}
+use Rattle.dir_rules.specs.Conforms.{Conforms, nothing_seen, seen_replied}
+use Rattle.dir_trait.specs.DirCalls.{DirAt}
+use Rattle.dir_trait.specs.Knowledge.{Knows}
+use Rattle.command_outcomes.specs.Moments.{DirSeen}
+
+-- what the directory shows, but for the calls
+abbrev pub shown_at : DirSeen → DirAt
+shown_at d = record { process = d.process; faults = d.faults; calls = 0; local = d.local; trace = d.trace }
+
+-- by what the process knows, each of its requests so far was allowed
+pub record KeepsRules (d : DirSeen) : Type 0 where
+  pub known : Seen
+  pub knows : Knows (shown_at d) known
+  pub kept : known.kept ≡ true
+
+-- what a process knows that has just begun
+abbrev pub begun : Intent → Seen
+begun intent = seen_replied nothing_seen (Begin intent) Done
+
+-- a process that had just begun has kept the rules since
+abbrev pub StaysConforming : Intent → DirSeen → DirSeen → Type 0
+StaysConforming intent old new = Knows (shown_at old) (begun intent) → KeepsRules new
+
+-- where the process kept the local rules before, it keeps them afterwards
+abbrev pub KeepsConforming : DirSeen → DirSeen → Type 0
+KeepsConforming old new = Conforms old.process old.trace → Conforms old.process new.trace

@@ -1,0 +1,63 @@
+-- What the outside shows at a moment.
+use Rattle.std.specs.Prelude.{ℕ, Bool, List, Result}
+use Rattle.dir_model.specs.declared.event.Event.{Event}
+use Rattle.dir_trait.specs.declared.dir.Dir.{Ghosts as DirGhosts}
+use Rattle.dir_trait.specs.declared.bundle.Bundle.{Ghosts as BundleGhosts}
+use Rattle.dir_trait.specs.declared.bundle.BundleRequest.{BundleRequest}
+use Rattle.dir_trait.specs.declared.sink.Sink.{Ghosts as SinkGhosts}
+use Rattle.dir_trait.specs.Bundles.{Tree}
+use Rattle.dir_trait.specs.Local.{Local}
+use Rattle.command_outcomes.specs.declared.refusal.Refusal.{Refusal}
+
+-- a directory
+pub record DirSeen : Type 0 where
+  pub observed : Bool
+  pub process : ℕ
+  pub faults : ℕ
+  pub local : Local
+  pub trace : List Event
+
+abbrev pub dir_at : {D : Type 0} → DirGhosts D → D → DirSeen
+dir_at g dir = record { observed = g.observed; process = (g.shown dir).process; faults = (g.shown dir).faults; local = (g.shown dir).local; trace = (g.shown dir).trace }
+
+-- a bundle
+pub record BundleSeen : Type 0 where
+  pub observed : Bool
+  pub tree : Tree
+  pub faults : ℕ
+  pub given : ℕ
+  pub asked : List BundleRequest
+
+abbrev pub bundle_at : {B : Type 0} → BundleGhosts B → B → BundleSeen
+bundle_at g bundle = record { observed = g.observed; tree = (g.shown bundle).tree; faults = (g.shown bundle).faults; given = (g.shown bundle).given; asked = (g.shown bundle).asked }
+
+-- a sink
+pub record SinkSeen : Type 0 where
+  pub observed : Bool
+  pub bytes : List ℕ
+  pub faults : ℕ
+  pub shortages : ℕ
+
+abbrev pub sink_at : {S : Type 0} → SinkGhosts S → S → SinkSeen
+sink_at g sink = record { observed = g.observed; bytes = (g.shown sink).bytes; faults = (g.shown sink).faults; shortages = (g.shown sink).shortages }
+
+-- what a command works on
+pub record Outside : Type 0 where
+  pub dir : DirSeen
+  pub bundle : BundleSeen
+
+abbrev pub outside_at : {D B : Type 0} → DirGhosts D → BundleGhosts B → D → B → Outside
+outside_at d b dir bundle = record { dir = dir_at d dir; bundle = bundle_at b bundle }
+
+-- what a run works on: that, the output and the error output
+pub record Moment : Type 0 where
+  pub outside : Outside
+  pub out : SinkSeen
+  pub err : SinkSeen
+
+abbrev pub moment_at : {D B O E : Type 0} → DirGhosts D → BundleGhosts B → SinkGhosts O → SinkGhosts E → D × B × O × E → Moment
+moment_at d b o e all = record { outside = outside_at d b all.0 all.1; out = sink_at o all.2; err = sink_at e all.3 }
+
+-- the text that a command prints, or why it prints none
+abbrev pub Outcome : Type 0
+Outcome = Result (List ℕ) Refusal

@@ -1,0 +1,170 @@
+// Why a command wasn't done.
+ghost use Rattle.std.specs.Prelude.{◌≡◌, true, IfOk, IfSome, IsNone};
+ghost use Rattle.command_outcomes.specs.Texts.{status_of, message, named_line, is_made};
+
+use crate::output::Output;
+use ac_types::Text;
+use dir_trait::Area;
+use std::alloc::{AllocError, Global};
+
+/// Why a command wasn't done.
+#[derive(Drop)]
+pub enum Refusal {
+    /// The words are no command.
+    Usage,
+    /// There is no such pod.
+    NoPod,
+    /// Another process holds the lock of that area.
+    Busy(Area),
+    /// A manifest has a fault of that number at that path in it.
+    BadManifest { path: Text, number: u8 },
+    /// No image of the store has that key.
+    NoImage(Text),
+    /// That limit was passed.
+    Limit(u64),
+    /// The directory failed.
+    DirFault,
+    /// The bundle failed.
+    BundleFault,
+    /// The output failed.
+    OutFault,
+    /// Memory ran out.
+    NoMemory,
+    /// No file stands at that path.
+    NoFile(Text),
+    /// Another image with that key is stored: the key, the stored image's digest and the new one's, in
+    /// hexadecimal digits.
+    Conflict(Text, Text, Text),
+    /// What stands at that path is missing, has no reading or isn't what it is to be.
+    Damaged(Text),
+    /// What stands at that path is of no kind that an image carries.
+    BadKind(Text),
+    /// The directory answered as if what is this process's own weren't.
+    Stray,
+}
+
+impl Refusal {
+    /// The exit status.
+    pub fn status(&self) -> u8
+        ensures { result ≡ status_of self.now }
+    {
+        match self {
+            Refusal::Usage => 1,
+            Refusal::NoPod => 2,
+            Refusal::Busy(_) => 5,
+            Refusal::BadManifest { .. } => 6,
+            Refusal::NoImage(_) => 7,
+            Refusal::Limit(_) => 8,
+            Refusal::DirFault => 9,
+            Refusal::BundleFault => 10,
+            Refusal::OutFault => 12,
+            Refusal::NoMemory => 14,
+            Refusal::NoFile(_) => 15,
+            Refusal::Conflict(_, _, _) => 15,
+            Refusal::Damaged(_) => 15,
+            Refusal::BadKind(_) => 15,
+            Refusal::Stray => 20,
+        }
+    }
+
+    /// The line that is printed of it, where it has no path, key or number in it.
+    pub fn constant_message(&self) -> Option<&'static str>
+        ensures some { IfSome result (λ text. text.now ≡ message self.now) }
+        ensures none { IsNone result → is_made self.now ≡ true }
+    {
+        match self {
+            Refusal::Usage => Some("rkt: usage\n"),
+            Refusal::NoPod => Some("rkt: no such pod\n"),
+            Refusal::Busy(area) => Some(busy_message(*area)),
+            Refusal::DirFault => Some("rkt: directory fault\n"),
+            Refusal::BundleFault => Some("rkt: bundle fault\n"),
+            Refusal::OutFault => Some("rkt: output fault\n"),
+            Refusal::NoMemory => Some("rkt: out of memory\n"),
+            Refusal::Stray => Some("rkt: stray reply\n"),
+            Refusal::BadManifest { path: _, number: _ }
+            | Refusal::NoImage(_)
+            | Refusal::Limit(_)
+            | Refusal::NoFile(_)
+            | Refusal::Conflict(_, _, _)
+            | Refusal::Damaged(_)
+            | Refusal::BadKind(_) => None,
+        }
+    }
+
+    /// The line that is printed of it, where it has a path, a key or a number in it. Refused only where memory ran out.
+    pub fn made_message(&self, alloc: Global) -> Result<Output, AllocError>
+        requires { is_made self.now ≡ true }
+        ensures { IfOk result (λ line. line ≡ message self.now) }
+    {
+        match self {
+            Refusal::BadManifest { path, number } => bad_manifest(alloc, path, *number),
+            Refusal::NoImage(key) => named(alloc, "rkt: no image: ", key),
+            Refusal::Limit(number) => limit(alloc, *number),
+            Refusal::NoFile(path) => named(alloc, "rkt: no file: ", path),
+            Refusal::Conflict(key, stored, new) => conflict(alloc, key, stored, new),
+            Refusal::Damaged(path) => named(alloc, "rkt: damaged: ", path),
+            Refusal::BadKind(path) => named(alloc, "rkt: bad kind: ", path),
+            _ => unreachable!(),
+        }
+    }
+}
+
+fn bad_manifest(alloc: Global, path: &Text, number: u8) -> Result<Output, AllocError>
+    ensures { IfOk result (λ line. line ≡ message (Refusal.BadManifest path.now number)) }
+{
+    let mut line = Output::of(alloc, "rkt: bad manifest at ")?;
+    line.push(path.as_str())?;
+    line.push(": refusal ")?;
+    line.push_number(alloc, u64::from(number))?;
+    line.push("\n")?;
+    Ok(line)
+}
+
+fn busy_message(area: Area) -> &'static str
+    ensures { result.now ≡ message (Refusal.Busy area) }
+{
+    match area {
+        Area::Embryo => "rkt: busy: gate embryo\n",
+        Area::Prepare => "rkt: busy: gate prepare\n",
+        Area::Prepared => "rkt: busy: gate prepared\n",
+        Area::Run => "rkt: busy: gate run\n",
+        Area::ExitedGarbage => "rkt: busy: gate exited-garbage\n",
+        Area::Garbage => "rkt: busy: gate garbage\n",
+        Area::Incoming => "rkt: busy: gate incoming\n",
+        Area::Images => "rkt: busy: gate images\n",
+        Area::Trees => "rkt: busy: gate trees\n",
+        Area::Removed => "rkt: busy: gate removed\n",
+    }
+}
+
+fn limit(alloc: Global, number: u64) -> Result<Output, AllocError>
+    ensures { IfOk result (λ line. line ≡ message (Refusal.Limit number)) }
+{
+    let mut line = Output::of(alloc, "rkt: limit: ")?;
+    line.push_number(alloc, number)?;
+    line.push("\n")?;
+    Ok(line)
+}
+
+fn conflict(alloc: Global, key: &Text, stored: &Text, new: &Text) -> Result<Output, AllocError>
+    ensures { IfOk result (λ line. line ≡ message (Refusal.Conflict key.now stored.now new.now)) }
+{
+    let mut line = Output::of(alloc, "rkt: conflict: ")?;
+    line.push(key.as_str())?;
+    line.push(" ")?;
+    line.push(stored.as_str())?;
+    line.push(" ")?;
+    line.push(new.as_str())?;
+    line.push("\n")?;
+    Ok(line)
+}
+
+/// A line that ends with a name. Refused only where memory ran out.
+pub fn named(alloc: Global, front: &str, name: &Text) -> Result<Output, AllocError>
+    ensures { IfOk result (λ line. line ≡ named_line front.now name.now) }
+{
+    let mut line = Output::of(alloc, front)?;
+    line.push(name.as_str())?;
+    line.push("\n")?;
+    Ok(line)
+}

@@ -1,0 +1,148 @@
+-- What the commands on the store owe, each between its begin and its finish.
+use Rattle.std.proofs.Common.{arith, ◌≡◌, ◌≤◌, ℕ, Bool, true, false, List, [], Some, Ok, Err, IfErr, IsErrOf, refl, sym, ap, subst, ◌∙◌}
+use Rattle.ac_types.specs.declared.store_key.StoreKey.{StoreKey}
+use Rattle.dir_model.specs.declared.intent.Draw.{Draw}
+use Rattle.dir_model.specs.declared.intent.Intent.{Intent}
+use Rattle.dir_model.specs.declared.intent.Kind.TheVariants as kind
+use Rattle.dir_model.specs.Causes.{Rose}
+use Rattle.dir_rules.specs.Standing.{is_image_rm, is_image_remover}
+use Rattle.dir_trait.specs.DirCalls.{DirAt}
+use Rattle.folder_building.specs.Work.{Worked}
+use Rattle.image_store.specs.Requests.{building_spot, imports_at}
+use Rattle.image_store.specs.Work.{IsImport}
+use Rattle.image_removal.specs.Requests.{removes_at, sweeps}
+use Rattle.image_removal.specs.Work.{MayRemove, MaySweep, Stays}
+use Rattle.image_removal.specs.Work as work
+use Rattle.image_removal.proofs.Begun.{begun_removes, begun_sweeps}
+use Rattle.command_outcomes.specs.declared.refusal.Refusal.{Refusal}
+use Rattle.command_outcomes.specs.declared.refusal.Refusal.TheVariants.{DirFault, BundleFault, NoMemory}
+use Rattle.command_outcomes.specs.Moments.{BundleSeen, Outcome}
+use Rattle.command_outcomes.specs.Conforming.{begun, StaysConforming}
+use Rattle.command_outcomes.proofs.Seen.{seen_at, beside}
+use Rattle.store_commands.specs.ImageImport.{image_import_refusal, ImageImportSays}
+use Rattle.store_commands.specs.ImageRm.{image_rm_refusal, ImageRmSays}
+use Rattle.store_commands.specs.ImageGc.{image_gc_refusal, ImageGcSays}
+use Rattle.rkt_cli.specs.declared.line.Line.{Line}
+use Rattle.rkt_cli.specs.declared.line.Line.TheVariants.{ImageImport, ImageRm, ImageGc}
+use Rattle.rkt_cli.specs.Commands.{intent_for, intent_of, may}
+use Rattle.rkt_cli.specs.Runs.{CommandRan}
+
+-- a process that imports began so
+pub imports : (path : List ℕ) (now : ℕ) (draw : Draw) (intent : Intent) → intent_of (ImageImport path) now draw ≡ Some intent → IsImport draw.uuid intent
+imports path now draw intent is = subst (λ (i : Intent). IsImport draw.uuid i) (let e : intent_for kind.ImageImport [] now draw ≡ intent = cc in e) (record { kind = refl; drawn = refl })
+
+-- what `image import` owes
+import_may : (path : List ℕ) (r : Refusal) → image_import_refusal r ≡ true → may (ImageImport path) r ≡ true
+import_may path NoMemory known = known
+import_may path DirFault known = known
+import_may path BundleFault known = known
+import_may path r known = known
+
+import_end : (path : List ℕ) (o : Outcome) → IfErr o (λ r. image_import_refusal r ≡ true) → IfErr o (λ r. may (ImageImport path) r ≡ true)
+import_end path (Ok text) known = known
+import_end path (Err r) known = import_may path r known
+
+pub import_ran : (line : Line) (now : ℕ) (draw : Draw) (path : List ℕ) (observed : Bool) (a b : DirAt) (before after : BundleSeen) (o : Outcome) → line ≡ ImageImport path →
+    Worked observed (imports_at (building_spot draw.uuid)) a b → (IsErrOf o DirFault → Rose a.faults b.faults) → before.faults ≤ after.faults → (IsErrOf o BundleFault → Rose before.faults after.faults) →
+    IfErr o (λ r. image_import_refusal r ≡ true) → ImageImportSays path now draw.uuid (beside (seen_at observed a) before) (beside (seen_at observed b) after) o →
+    CommandRan line now draw (beside (seen_at observed a) before) (beside (seen_at observed b) after) o
+import_ran line now draw path observed a b before after o is worked cause faults bundle_cause known says =
+    subst (λ (l : Line). CommandRan l now draw (beside (seen_at observed a) before) (beside (seen_at observed b) after) o) (sym is) ran
+  where
+    ran : CommandRan (ImageImport path) now draw (beside (seen_at observed a) before) (beside (seen_at observed b) after) o
+    ran = record {
+      same = worked.same;
+      local = worked.local;
+      faults = worked.faults;
+      cause = cause;
+      bundle_faults = faults;
+      bundle_cause = bundle_cause;
+      refusals = import_end path o known;
+      extends = worked.extends;
+      reads = tt;
+      says = says;
+    }
+
+-- a process that removes began so, and keeps the local rules
+removes : (key : StoreKey) (now : ℕ) (draw : Draw) (intent : Intent) → intent_of (ImageRm key) now draw ≡ Some intent → (is_image_rm intent.kind ≡ true) × (intent.draw ≡ draw.uuid)
+removes key now draw intent is = subst (λ (i : Intent). (is_image_rm i.kind ≡ true) × (i.draw ≡ draw.uuid)) (let e : intent_for kind.ImageRm [] now draw ≡ intent = cc in e) (refl, refl)
+
+pub removal_conforming : (key : StoreKey) (now : ℕ) (draw : Draw) (intent : Intent) (observed : Bool) (a b : DirAt) → intent_of (ImageRm key) now draw ≡ Some intent →
+    Stays (MayRemove draw.uuid) work.StaysConforming a b → StaysConforming intent (seen_at observed a) (seen_at observed b)
+removal_conforming key now draw intent observed a b is stays k =
+    let began = removes key now draw intent is in
+    let s = stays (begun intent) (record { tied = k.tied; handles = k.handles }) (begun_removes intent draw.uuid began.0 began.1) in
+    record { known = s.known; knows = record { tied = s.knows.tied; handles = s.knows.handles }; kept = s.kept }
+
+-- and so does one that sweeps
+sweeping : (now : ℕ) (draw : Draw) (intent : Intent) → intent_of ImageGc now draw ≡ Some intent → is_image_remover intent.kind ≡ true
+sweeping now draw intent is = subst (λ (i : Intent). is_image_remover i.kind ≡ true) (let e : intent_for kind.ImageGc [] now draw ≡ intent = cc in e) refl
+
+pub sweep_conforming : (now : ℕ) (draw : Draw) (intent : Intent) (observed : Bool) (a b : DirAt) → intent_of ImageGc now draw ≡ Some intent →
+    Stays MaySweep work.StaysConforming a b → StaysConforming intent (seen_at observed a) (seen_at observed b)
+sweep_conforming now draw intent observed a b is stays k =
+    let s = stays (begun intent) (record { tied = k.tied; handles = k.handles }) (begun_sweeps intent (sweeping now draw intent is)) in
+    record { known = s.known; knows = record { tied = s.knows.tied; handles = s.knows.handles }; kept = s.kept }
+
+-- what each of the two owes
+never_bundle : (known : Refusal → Bool) (o : Outcome) {X : Type 0} → known BundleFault ≡ false → IfErr o (λ r. known r ≡ true) → IsErrOf o BundleFault → X
+never_bundle known (Ok text) never all is = cc
+never_bundle known (Err r) never all is = let e : BundleFault ≡ r = cc in let clash : false ≡ true = sym never ∙ (ap known e ∙ all) in cc
+
+removal_may : (key : StoreKey) (r : Refusal) → image_rm_refusal r ≡ true → may (ImageRm key) r ≡ true
+removal_may key NoMemory known = known
+removal_may key DirFault known = known
+removal_may key r known = known
+
+removal_end : (key : StoreKey) (o : Outcome) → IfErr o (λ r. image_rm_refusal r ≡ true) → IfErr o (λ r. may (ImageRm key) r ≡ true)
+removal_end key (Ok text) known = known
+removal_end key (Err r) known = removal_may key r known
+
+sweep_may : (r : Refusal) → image_gc_refusal r ≡ true → may ImageGc r ≡ true
+sweep_may NoMemory known = known
+sweep_may DirFault known = known
+sweep_may r known = known
+
+sweep_end : (o : Outcome) → IfErr o (λ r. image_gc_refusal r ≡ true) → IfErr o (λ r. may ImageGc r ≡ true)
+sweep_end (Ok text) known = known
+sweep_end (Err r) known = sweep_may r known
+
+pub removal_ran : (line : Line) (now : ℕ) (draw : Draw) (key : StoreKey) (observed : Bool) (a b : DirAt) (bundle : BundleSeen) (o : Outcome) → line ≡ ImageRm key → Worked observed (removes_at key draw.uuid) a b →
+    (IsErrOf o DirFault → Rose a.faults b.faults) → IfErr o (λ r. image_rm_refusal r ≡ true) → ImageRmSays key draw.uuid (seen_at observed a) (seen_at observed b) o →
+    CommandRan line now draw (beside (seen_at observed a) bundle) (beside (seen_at observed b) bundle) o
+removal_ran line now draw key observed a b bundle o is worked cause known says =
+    subst (λ (l : Line). CommandRan l now draw (beside (seen_at observed a) bundle) (beside (seen_at observed b) bundle) o) (sym is) ran
+  where
+    ran : CommandRan (ImageRm key) now draw (beside (seen_at observed a) bundle) (beside (seen_at observed b) bundle) o
+    ran = record {
+      same = worked.same;
+      local = worked.local;
+      faults = worked.faults;
+      cause = cause;
+      bundle_faults = omega arith;
+      bundle_cause = never_bundle image_rm_refusal o refl known;
+      refusals = removal_end key o known;
+      extends = worked.extends;
+      reads = tt;
+      says = says;
+    }
+
+pub sweep_ran : (line : Line) (now : ℕ) (draw : Draw) (observed : Bool) (a b : DirAt) (bundle : BundleSeen) (o : Outcome) → line ≡ ImageGc → Worked observed sweeps a b →
+    (IsErrOf o DirFault → Rose a.faults b.faults) → IfErr o (λ r. image_gc_refusal r ≡ true) → ImageGcSays (seen_at observed a) (seen_at observed b) o →
+    CommandRan line now draw (beside (seen_at observed a) bundle) (beside (seen_at observed b) bundle) o
+sweep_ran line now draw observed a b bundle o is worked cause known says =
+    subst (λ (l : Line). CommandRan l now draw (beside (seen_at observed a) bundle) (beside (seen_at observed b) bundle) o) (sym is) ran
+  where
+    ran : CommandRan ImageGc now draw (beside (seen_at observed a) bundle) (beside (seen_at observed b) bundle) o
+    ran = record {
+      same = worked.same;
+      local = worked.local;
+      faults = worked.faults;
+      cause = cause;
+      bundle_faults = omega arith;
+      bundle_cause = never_bundle image_gc_refusal o refl known;
+      refusals = sweep_end o known;
+      extends = worked.extends;
+      reads = tt;
+      says = says;
+    }

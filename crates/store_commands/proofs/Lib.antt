@@ -1,0 +1,12 @@
+pub mod StoreQuiet
+pub mod Parts
+pub mod ImageLists
+pub mod ImportParts
+pub mod ImageImports
+pub mod ImportQuiet
+pub mod ImagesKept
+pub mod PlacesKept
+pub mod ImageRemovals
+pub mod RemovalQuiet
+pub mod RemovalEnds
+pub mod SweepEnds

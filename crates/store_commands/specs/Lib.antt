@@ -1,0 +1,4 @@
+pub mod ImageList
+pub mod ImageImport
+pub mod ImageRm
+pub mod ImageGc
