@@ -25,20 +25,51 @@ pub const ID: &str =
 pub const LISTING: &str =
     "d 0755 0 0 /etc\nf 0644 0 0 3 ddaf35a193617abacc417349ae20413112e6fa4e89a97ea20a9eeee64b55d39a2192992a274fc1a836ba3c23a3feebbd454d4423643ce80e2a9ac94fa54ca49f /etc/motd\n";
 
-/// An image with a listing.
-pub const LIB: &[Put] = &[
+// An image with a listing.
+const LIB: &[Put] = &[
     Put::File("b/manifest", MANIFEST),
     Put::File("b/id", ID),
     Put::File("b/tree", LISTING),
     Put::File("b/rootfs/etc/motd", "abc"),
 ];
 
-/// Its manifest and ID with another tree.
-pub const OTHER: &[Put] = &[
+// Its manifest and ID with another tree.
+const OTHER: &[Put] = &[
     Put::File("b/manifest", MANIFEST),
     Put::File("b/id", ID),
     Put::File("b/tree", "d 0755 0 0 /etc\n"),
 ];
+
+const POD: &[Put] = &[Put::File("m", POD_MANIFEST)];
+
+// Something of each kind, and a file of two pieces.
+pub const STOCK: &[Put] = &[
+    Put::File("../m.json", POD_MANIFEST),
+    Put::Dir("d"),
+    Put::Link("l", "m.json"),
+    Put::Other("o"),
+    Put::Long("long", 70_000),
+];
+
+/// Which bundle a run meets. A word, since a table that had the bundles' texts in each row would be dear to prove.
+#[derive(Clone, Copy)]
+pub enum Carries {
+    Nothing,
+    Lib,
+    OtherTree,
+    Pod,
+    Stock,
+}
+
+pub fn puts_of(carries: Carries) -> &'static [Put] {
+    match carries {
+        Carries::Nothing => &[],
+        Carries::Lib => LIB,
+        Carries::OtherTree => OTHER,
+        Carries::Pod => POD,
+        Carries::Stock => STOCK,
+    }
+}
 
 fn filled(alloc: Global, length: usize) -> Result<Vec<u8>, NoMemory> {
     let mut bytes = Vec::new(alloc);

@@ -1,5 +1,5 @@
 // The command `image import` on bundles and store folders in memory.
-use crate::bundles::{ID, LIB, LISTING, MANIFEST, OTHER, Put};
+use crate::bundles::{Carries, ID, LISTING, MANIFEST, Put};
 use crate::stage::{Alone, Break, Folder, Meets, Row, Run, Step, all_go, each_is_so};
 use dir_trait::{Area, Kind, Mode};
 use std::test::Fail;
@@ -132,43 +132,43 @@ const TAKEN: &[Row] = &[
 
 const AT_101: Meets = Meets {
     now: 101,
-    puts: LIB,
+    carries: Carries::Lib,
     others: &[],
 };
 
 const AT_102: Meets = Meets {
     now: 102,
-    puts: LIB,
+    carries: Carries::Lib,
     others: &[],
 };
 
 const ANOTHER_TREE: Meets = Meets {
     now: 103,
-    puts: OTHER,
+    carries: Carries::OtherTree,
     others: &[],
 };
 
 const IMAGES_BUSY: Meets = Meets {
     now: 101,
-    puts: LIB,
+    carries: Carries::Lib,
     others: IMAGES_HELD,
 };
 
 const INCOMING_BUSY: Meets = Meets {
     now: 101,
-    puts: LIB,
+    carries: Carries::Lib,
     others: INCOMING_HELD,
 };
 
 const ANOTHER_IMPORT: Meets = Meets {
     now: 101,
-    puts: LIB,
+    carries: Carries::Lib,
     others: INCOMING_SHARED,
 };
 
 const A_THIEF: Meets = Meets {
     now: 101,
-    puts: LIB,
+    carries: Carries::Lib,
     others: TAKEN,
 };
 

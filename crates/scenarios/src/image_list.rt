@@ -1,4 +1,5 @@
 // The command `image list`.
+use crate::bundles::Carries;
 use crate::stage::{Break, Folder, Meets, Row, Run, Step, all_go};
 use dir_trait::{Area, Kind, Mode};
 use std::test::Fail;
@@ -60,43 +61,43 @@ const HELD_SHARED: &[Row] = &[
 
 const ALONE: Meets = Meets {
     now: 100,
-    puts: &[],
+    carries: Carries::Nothing,
     others: &[],
 };
 
 const THE_LOCK: Meets = Meets {
     now: 100,
-    puts: &[],
+    carries: Carries::Nothing,
     others: HELD_EXCLUSIVELY,
 };
 
 const A_READER: Meets = Meets {
     now: 100,
-    puts: &[],
+    carries: Carries::Nothing,
     others: HELD_SHARED,
 };
 
 const A_FOLDER: Meets = Meets {
     now: 100,
-    puts: &[],
+    carries: Carries::Nothing,
     others: EMPTY,
 };
 
 const A_MANIFEST: Meets = Meets {
     now: 100,
-    puts: &[],
+    carries: Carries::Nothing,
     others: WITH_MANIFEST,
 };
 
 const AN_ID: Meets = Meets {
     now: 100,
-    puts: &[],
+    carries: Carries::Nothing,
     others: WITH_ID,
 };
 
 const A_MARK: Meets = Meets {
     now: 100,
-    puts: &[],
+    carries: Carries::Nothing,
     others: WITH_MARK,
 };
 

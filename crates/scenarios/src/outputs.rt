@@ -1,5 +1,5 @@
 // Outputs that fail.
-use crate::bundles::{POD_MANIFEST, Put};
+use crate::bundles::Carries;
 use crate::stage::{Break, Meets, Run, all_go};
 use std::test::Fail;
 
@@ -13,11 +13,9 @@ const REMOVE: &[&str] = &[
     "sha512-bbbbbbbbbbbbbbbbbbbbbbbbbbbbbbbbbbbbbbbbbbbbbbbbbbbbbbbbbbbbbbbb",
 ];
 
-const PUTS: &[Put] = &[Put::File("m", POD_MANIFEST)];
-
 const ALONE: Meets = Meets {
     now: 100,
-    puts: PUTS,
+    carries: Carries::Pod,
     others: &[],
 };
 

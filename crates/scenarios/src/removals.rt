@@ -1,5 +1,5 @@
 // The commands `image rm` and `image gc` on store folders in memory.
-use crate::bundles::LIB;
+use crate::bundles::Carries;
 use crate::stage::{Break, Ends, Folder, Meets, Row, Run, Step, all_go};
 use dir_trait::{Area, Kind, Mode};
 use std::test::Fail;
@@ -106,37 +106,37 @@ const TAKEN_BACK: &[Row] = &[
 
 const ALONE: Meets = Meets {
     now: 101,
-    puts: LIB,
+    carries: Carries::Lib,
     others: &[],
 };
 
 const LATER: Meets = Meets {
     now: 102,
-    puts: LIB,
+    carries: Carries::Lib,
     others: &[],
 };
 
 const A_READER: Meets = Meets {
     now: 101,
-    puts: LIB,
+    carries: Carries::Lib,
     others: IMAGES_READ,
 };
 
 const REMOVED_HELD: Meets = Meets {
     now: 101,
-    puts: LIB,
+    carries: Carries::Lib,
     others: REMOVED_READ,
 };
 
 const INCOMING_HELD: Meets = Meets {
     now: 101,
-    puts: LIB,
+    carries: Carries::Lib,
     others: INCOMING_READ,
 };
 
 const A_THIEF: Meets = Meets {
     now: 101,
-    puts: LIB,
+    carries: Carries::Lib,
     others: TAKEN_BACK,
 };
 

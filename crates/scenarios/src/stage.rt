@@ -2,7 +2,7 @@
 ghost use Rattle.std.specs.Prelude.{◌≡◌, IfOk, IfSome};
 ghost use Rattle.dir_trait.specs.Local.{nothing_local};
 
-use crate::bundles::{Put, bundle_of};
+use crate::bundles::{Carries, Put, bundle_of, puts_of};
 use crate::byte_sink::ByteSink;
 use dir_memory::{MemoryBundle, MemoryDir, MemorySink};
 use dir_trait::{
@@ -55,7 +55,7 @@ pub enum Break {
 #[derive(Clone, Copy)]
 pub struct Meets {
     pub now: u64,
-    pub puts: &'static [Put],
+    pub carries: Carries,
     pub others: &'static [Row],
 }
 
@@ -207,8 +207,8 @@ pub fn ends_so(
     )
 }
 
-fn bundle_for(alloc: Global, puts: &[Put], breaks: Break) -> Result<MemoryBundle, NoMemory> {
-    let bundle = bundle_of(alloc, puts)?;
+fn bundle_for(alloc: Global, carries: Carries, breaks: Break) -> Result<MemoryBundle, NoMemory> {
+    let bundle = bundle_of(alloc, puts_of(carries))?;
     match breaks {
         Break::Read(call) => bundle.fail(alloc, call),
         _ => Ok(bundle),
@@ -231,7 +231,7 @@ fn ran_so(alloc: Global, dir: &mut MemoryDir, run: &Run) -> Result<bool, NoMemor
     requires { dir.old.local ≡ nothing_local }
 {
     let (words, meets, breaks, ends) = run;
-    let mut bundle = bundle_for(alloc, meets.puts, *breaks)?;
+    let mut bundle = bundle_for(alloc, meets.carries, *breaks)?;
     ends_so(alloc, dir, &mut bundle, *words, meets.now, *breaks, *ends)
 }
 

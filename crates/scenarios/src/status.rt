@@ -2,6 +2,7 @@
 ghost use Rattle.std.specs.Prelude.{◌≡◌, IfOk};
 ghost use Rattle.dir_trait.specs.Local.{nothing_local};
 
+use crate::bundles::Carries;
 use crate::stage::{
     Break, Ends, Folder, Meets, Row, Run, Step, all_go, ends_so, with_rows, with_step,
 };
@@ -228,31 +229,31 @@ const LEFT: &[Row] = &[
 
 const ALONE: Meets = Meets {
     now: 100,
-    puts: &[],
+    carries: Carries::Nothing,
     others: &[],
 };
 
 const A_KILL_BEFORE: Meets = Meets {
     now: 100,
-    puts: &[],
+    carries: Carries::Nothing,
     others: KILLED_BEFORE_6,
 };
 
 const A_KILL_AFTER: Meets = Meets {
     now: 100,
-    puts: &[],
+    carries: Carries::Nothing,
     others: KILLED_BEFORE_7,
 };
 
 const A_READER: Meets = Meets {
     now: 100,
-    puts: &[],
+    carries: Carries::Nothing,
     others: READ,
 };
 
 const A_POD_LEFT: Meets = Meets {
     now: 100,
-    puts: &[],
+    carries: Carries::Nothing,
     others: LEFT,
 };
 

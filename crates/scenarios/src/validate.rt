@@ -1,5 +1,5 @@
 // The command `validate` on files of a bundle in memory.
-use crate::bundles::{POD_MANIFEST, Put};
+use crate::bundles::{Carries, POD_MANIFEST, Put, STOCK};
 use crate::stage::{Alone, Break, Ends, Meets, Run, all_go, each_is_so};
 use std::test::Fail;
 
@@ -131,15 +131,6 @@ const LENGTHS: &[Alone] = &[
     (VALIDATE, &[Put::Long("m", 1_200_000)], TOO_LONG),
 ];
 
-// Something of each kind, and a file of two pieces.
-const STOCK: &[Put] = &[
-    Put::File("../m.json", POD_MANIFEST),
-    Put::Dir("d"),
-    Put::Link("l", "m.json"),
-    Put::Other("o"),
-    Put::Long("long", 70_000),
-];
-
 const PATHS: &[Alone] = &[
     (&["validate", "../m.json"], STOCK, POD),
     (&["validate", "x"], STOCK, (15, "", "rkt: no file: x\n")),
@@ -157,7 +148,7 @@ const FAULT: Ends = (10, "", "rkt: bundle fault\n");
 
 const ALONE: Meets = Meets {
     now: 100,
-    puts: STOCK,
+    carries: Carries::Stock,
     others: &[],
 };
 

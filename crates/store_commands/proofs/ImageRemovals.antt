@@ -17,7 +17,7 @@ use Rattle.image_removal.specs.Causes.{RemoveCause, WorkCause, WasBusy, BusyElse
 use Rattle.image_removal.specs.Sweeps.{BusyApart, IsSweptBetween, HasTriedBetween}
 use Rattle.image_removal.specs.Work.{MayRemove, MaySweep}
 use Rattle.command_outcomes.specs.declared.refusal.Refusal.{Refusal}
-use Rattle.command_outcomes.specs.declared.refusal.Refusal.TheVariants.{DirFault, NoMemory}
+use Rattle.command_outcomes.specs.declared.refusal.Refusal.TheVariants.{NoMemory}
 use Rattle.command_outcomes.specs.Moments.{Outcome}
 use Rattle.command_outcomes.specs.Conforming.{shown_at}
 use Rattle.store_commands.specs.ImageRm.{removal_refusal, IsRemovalSaid, FindsBusy, ImageRmSays}
