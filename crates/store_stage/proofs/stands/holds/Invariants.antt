@@ -1,6 +1,6 @@
 use Rattle.std.proofs.Common.{◌≡◌}
 use Rattle.dir_model.specs.Local.{IsActive}
-use Rattle.store_scenarios.proofs.stands.holds.Given as goal
+use Rattle.store_stage.proofs.stands.holds.Given as goal
 
 abbrev pub invariant-rows : goal.invariant-rows
 invariant-rows g l = record {
