@@ -2,12 +2,10 @@
 ghost use Rattle.std.specs.Prelude.{◌≡◌, ◌≤◌};
 ghost use Rattle.dir_trait.specs.Local.{nothing_local};
 
-use crate::pods::stands;
-use crate::stage::{WORKER_REF, next, prepare_by, stored};
+use crate::stage::{Came, WORKER_REF, next, prepare_by, stored};
 use dir_memory::MemoryDir;
 use dir_trait::{Area, Dir, Event, Kind, NoMemory, Phase, Reply, Request};
 use phase_read::{Found, read_phase};
-use pod_build::BuildError;
 use std::alloc::Global;
 use std::test::Fail;
 use store_stage::{draw, intent};
@@ -73,8 +71,8 @@ fn cut_short(alloc: Global, dir: MemoryDir) -> Result<Cut, NoMemory>
     let wanted = phase_in(area);
     let so = wanted.is_some() && read(alloc, &mut dir) == wanted;
     Ok(match came {
-        Err(BuildError::DirFault) if so => Cut::At(area),
-        Ok(_) if so && area == Some(Area::Prepared) => Cut::Never,
+        Came::Refused("directory fault") if so => Cut::At(area),
+        Came::Prepared(_) if so && area == Some(Area::Prepared) => Cut::Never,
         _ => Cut::Wrong,
     })
 }

@@ -2,9 +2,8 @@
 ghost use Rattle.std.specs.Prelude.{◌≡◌};
 ghost use Rattle.dir_trait.specs.Local.{nothing_local};
 
-use crate::stage::{WORKER_REF, next, prepare_by, stored};
+use crate::stage::{Came, WORKER_REF, next, prepare_by, stored};
 use dir_trait::{Area, Dir, Kind, NoMemory, Spot};
-use pod_build::Built;
 use std::alloc::Global;
 use std::test::Fail;
 use store_stage::{Stands, are_kept, count, draw, holds, intent};
@@ -18,8 +17,8 @@ const WORKER_MANIFEST: &str =
 const ROOT: &str =
     "d 0755 0 0 /bin\nf 0755 0 0 3 ddaf35a193617abacc417349ae20413112e6fa4e89a97ea20a9eeee64b55d39a2192992a274fc1a836ba3c23a3feebbd454d4423643ce80e2a9ac94fa54ca49f /bin/abc\nf 0755 0 0 3 ddaf35a193617abacc417349ae20413112e6fa4e89a97ea20a9eeee64b55d39a2192992a274fc1a836ba3c23a3feebbd454d4423643ce80e2a9ac94fa54ca49f /bin/run\nd 0755 0 0 /etc\nl 0777 0 0 motd /etc/issue\nf 0644 0 0 3 ddaf35a193617abacc417349ae20413112e6fa4e89a97ea20a9eeee64b55d39a2192992a274fc1a836ba3c23a3feebbd454d4423643ce80e2a9ac94fa54ca49f /etc/motd\n";
 
-/// What the folder of the worker's pod holds. A link stands in the listing alone.
-pub const WORKER_POD: &[Stands] = &[
+// What the folder of the worker's pod holds. A link stands in the listing alone.
+const WORKER_POD: &[Stands] = &[
     Stands::Directory("", 5),
     Stands::File("created-00000000000000000200", ""),
     Stands::File("token", "04040404040404040404040404040404"),
@@ -52,8 +51,8 @@ pub const WORKER_POD: &[Stands] = &[
     ),
 ];
 
-/// Whether the worker's pod stands whole in an area, as a process finds it.
-pub fn stands<D: Dir>(alloc: Global, dir: &mut D, area: Area, number: u8) -> Result<bool, NoMemory>
+// Whether the worker's pod stands whole in an area, as a process finds it.
+fn stands<D: Dir>(alloc: Global, dir: &mut D, area: Area, number: u8) -> Result<bool, NoMemory>
     requires { (D.shown dir.old).local ≡ nothing_local }
 {
     if dir.begin(alloc, intent(Kind::Status, number, 300)).is_err() {
@@ -64,33 +63,28 @@ pub fn stands<D: Dir>(alloc: Global, dir: &mut D, area: Area, number: u8) -> Res
     Ok(whole && count(alloc, dir, area) == Some(1))
 }
 
+// The pod of the worker, prepared or kept, as process 5 finds it, where all processes kept the rules.
+fn is_made(alloc: Global, keep_owner: bool, wanted: Came, area: Area) -> Result<bool, NoMemory> {
+    let step = stored(alloc)?;
+    let imported = step.so;
+    let mut dir = step.dir;
+    let came = prepare_by(alloc, &mut dir, WORKER_REF, 4, keep_owner);
+    let kept = are_kept(alloc, &dir, 5)?;
+    let mut dir = next(dir, 5)?;
+    let whole = stands(alloc, &mut dir, area, 5)?;
+    Ok(imported && came == wanted && kept && whole)
+}
+
 #[test]
 fn a_worker_is_prepared(rt: HostRuntime) -> Result<(), Fail> {
-    let step = stored(rt.alloc())?;
-    assert!(&rt; step.so);
-    let mut dir = step.dir;
-    let built = prepare_by(rt.alloc(), &mut dir, WORKER_REF, 4, false);
-    assert!(&rt; matches!(built, Ok(Built::Prepared(pod)) if pod == draw(4)));
-    let kept = are_kept(rt.alloc(), &dir, 5)?;
-    assert!(&rt; kept);
-    let mut dir = next(dir, 5)?;
-    let whole = stands(rt.alloc(), &mut dir, Area::Prepared, 5)?;
-    assert!(&rt; whole);
+    let so = is_made(rt.alloc(), false, Came::Prepared(draw(4)), Area::Prepared)?;
+    assert!(&rt; so);
     Ok(())
 }
 
 #[test]
 fn a_worker_is_kept_in_run(rt: HostRuntime) -> Result<(), Fail> {
-    let step = stored(rt.alloc())?;
-    let mut dir = step.dir;
-    let built = prepare_by(rt.alloc(), &mut dir, WORKER_REF, 4, true);
-    assert!(&rt;
-        matches!(built, Ok(Built::Running(owned)) if owned.pod == draw(4) && owned.area == Area::Run)
-    );
-    let kept = are_kept(rt.alloc(), &dir, 5)?;
-    assert!(&rt; kept);
-    let mut dir = next(dir, 5)?;
-    let whole = stands(rt.alloc(), &mut dir, Area::Run, 5)?;
-    assert!(&rt; whole);
+    let so = is_made(rt.alloc(), true, Came::Kept(draw(4), Area::Run), Area::Run)?;
+    assert!(&rt; so);
     Ok(())
 }

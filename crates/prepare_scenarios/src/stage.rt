@@ -4,7 +4,7 @@ ghost use Rattle.dir_trait.specs.Local.{nothing_local};
 
 use ac_types::{ImageRef, Sequence};
 use dir_memory::MemoryDir;
-use dir_trait::{Dir, Draw, Kind, NoMemory};
+use dir_trait::{Area, Dir, Draw, Kind, NoMemory, PodId};
 use pod_build::{BuildError, Built, prepare};
 use pod_manifest::Options;
 use std::alloc::Global;
@@ -66,6 +66,43 @@ fn drawn(number: u8) -> Draw {
     }
 }
 
+/// What a prepare came to.
+#[derive(Clone, Copy, PartialEq, Eq)]
+pub enum Came {
+    /// The pod stands in prepared.
+    Prepared(PodId),
+    /// The pod stands in that area, and its maker keeps it.
+    Kept(PodId, Area),
+    /// There is none, for such a reason.
+    Refused(&'static str),
+}
+
+fn told(error: &BuildError) -> &'static str {
+    match error {
+        BuildError::Busy(Area::Images) => "busy images",
+        BuildError::Busy(Area::Embryo) => "busy embryo",
+        BuildError::Busy(_) => "busy elsewhere",
+        BuildError::Damaged(_) => "damaged",
+        BuildError::NoMatch(_) => "no match",
+        BuildError::DepError(_) => "no dependency",
+        BuildError::GenError(_) => "no manifest",
+        BuildError::RenderError(_) => "too large",
+        BuildError::ListingError(_) => "too long",
+        BuildError::Taken(_) => "taken",
+        BuildError::DirFault => "directory fault",
+        BuildError::Stray => "stray",
+        BuildError::NoMemory => "out of memory",
+    }
+}
+
+fn came_of(built: Result<Built, BuildError>) -> Came {
+    match built {
+        Ok(Built::Prepared(pod)) => Came::Prepared(pod),
+        Ok(Built::Running(owned)) => Came::Kept(owned.pod, owned.area),
+        Err(error) => Came::Refused(told(&error)),
+    }
+}
+
 // What a reference, which reads as one, makes of the store.
 fn prepare_word<D: Dir>(
     alloc: Global,
@@ -105,10 +142,10 @@ pub fn prepare_by<D: Dir>(
     word: &str,
     number: u8,
     keep_owner: bool,
-) -> Result<Built, BuildError>
+) -> Came
     requires { (D.shown dir.old).local ≡ nothing_local }
 {
-    prepare_word(alloc, dir, word, number, keep_owner)
+    came_of(prepare_word(alloc, dir, word, number, keep_owner))
 }
 
 /// The data folder for the next process.
