@@ -1,6 +1,6 @@
 // The pod of the worker, and what stands in its folder.
 ghost use Rattle.std.specs.Prelude.{◌≡◌};
-ghost use Rattle.dir_trait.specs.Local.{nothing_local};
+ghost use Rattle.dir_trait.specs.Local.{IsActive, nothing_local};
 
 use crate::stage::{Came, WORKER_REF, next, prepare_by, stored};
 use dir_trait::{Area, Dir, Kind, NoMemory, Spot};
@@ -51,16 +51,23 @@ const WORKER_POD: &[Stands] = &[
     ),
 ];
 
-// Whether the worker's pod stands whole in an area, as a process finds it.
-fn stands<D: Dir>(alloc: Global, dir: &mut D, area: Area, number: u8) -> Result<bool, NoMemory>
-    requires { (D.shown dir.old).local ≡ nothing_local }
+// Whether the worker's pod stands whole in an area, and nothing beside it.
+fn is_whole<D: Dir>(alloc: Global, dir: &mut D, area: Area) -> Result<bool, NoMemory>
+    requires { IsActive (D.shown dir.old).local }
 {
-    if dir.begin(alloc, intent(Kind::Status, number, 300)).is_err() {
-        return Ok(false);
-    }
     let name = draw(4).name();
     let whole = holds(alloc, dir, Spot { area, name }, WORKER_POD)?;
     Ok(whole && count(alloc, dir, area) == Some(1))
+}
+
+// The same, as process 5 finds it.
+fn stands<D: Dir>(alloc: Global, dir: &mut D, area: Area) -> Result<bool, NoMemory>
+    requires { (D.shown dir.old).local ≡ nothing_local }
+{
+    if dir.begin(alloc, intent(Kind::Status, 5, 300)).is_err() {
+        return Ok(false);
+    }
+    is_whole(alloc, dir, area)
 }
 
 // The pod of the worker, prepared or kept, as process 5 finds it, where all processes kept the rules.
@@ -71,7 +78,7 @@ fn is_made(alloc: Global, keep_owner: bool, wanted: Came, area: Area) -> Result<
     let came = prepare_by(alloc, &mut dir, WORKER_REF, 4, keep_owner);
     let kept = are_kept(alloc, &dir, 5)?;
     let mut dir = next(dir, 5)?;
-    let whole = stands(alloc, &mut dir, area, 5)?;
+    let whole = stands(alloc, &mut dir, area)?;
     Ok(imported && came == wanted && kept && whole)
 }
 

@@ -79,7 +79,8 @@ fn with_embryo(alloc: Global, dir: MemoryDir) -> Result<MemoryDir, NoMemory>
     let dir = dir.schedule(alloc, 2, 9, Request::Begin(intent(Kind::Prepare, 4, 150)))?;
     let area = Area::Embryo;
     let name = draw(4).name();
-    dir.schedule(alloc, 2, 9, Request::MakeFolder(Spot { area, name }))
+    let dir = dir.schedule(alloc, 2, 9, Request::MakeFolder(Spot { area, name }))?;
+    Ok(dir)
 }
 
 // What process 4 comes to, and process 5 after it.

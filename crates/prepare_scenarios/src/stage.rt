@@ -103,6 +103,13 @@ fn came_of(built: Result<Built, BuildError>) -> Came {
     }
 }
 
+fn no_options(alloc: Global) -> Options {
+    Options {
+        volumes: Sequence::new(alloc),
+        mounts: Sequence::new(alloc),
+    }
+}
+
 // What a reference, which reads as one, makes of the store.
 fn prepare_word<D: Dir>(
     alloc: Global,
@@ -116,10 +123,7 @@ fn prepare_word<D: Dir>(
     let Ok(wanted) = ImageRef::parse(alloc, word) else {
         return Err(BuildError::NoMemory);
     };
-    let options = Options {
-        volumes: Sequence::new(alloc),
-        mounts: Sequence::new(alloc),
-    };
+    let options = no_options(alloc);
     let kind = if keep_owner { Kind::Run } else { Kind::Prepare };
     if dir.begin(alloc, intent(kind, number, 200)).is_err() {
         return Err(BuildError::NoMemory);
