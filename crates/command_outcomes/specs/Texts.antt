@@ -3,8 +3,9 @@ use Rattle.std.specs.Prelude.{ℕ, Bool, true, false, List, ◌++◌, codes}
 use Rattle.std.specs.Fmt.{decimal}
 use Rattle.dir_model.specs.declared.area.Area.{Area}
 use Rattle.dir_model.specs.declared.area.Area.TheVariants as area
+use Rattle.dir_model.specs.Pods.{pod_text}
 use Rattle.command_outcomes.specs.declared.refusal.Refusal.{Refusal}
-use Rattle.command_outcomes.specs.declared.refusal.Refusal.TheVariants.{Usage, NoPod, Busy, BadManifest, NoImage, Limit, DirFault, BundleFault, OutFault, NoMemory, NoFile, Conflict, Damaged, BadKind, Stray}
+use Rattle.command_outcomes.specs.declared.refusal.Refusal.TheVariants.{Usage, NoPod, Busy, BadManifest, NoImage, NoDependency, Cycle, Limit, DirFault, BundleFault, OutFault, NoMemory, NoFile, Conflict, Damaged, BadKind, Taken, Stray}
 
 -- the exit status of a refusal
 abbrev pub status_of : Refusal → ℕ
@@ -13,6 +14,8 @@ status_of NoPod = 2
 status_of (Busy area) = 5
 status_of (BadManifest path number) = 6
 status_of (NoImage key) = 7
+status_of (NoDependency name) = 7
+status_of (Cycle key) = 7
 status_of (Limit number) = 8
 status_of DirFault = 9
 status_of BundleFault = 10
@@ -22,6 +25,7 @@ status_of (NoFile path) = 15
 status_of (Conflict key stored new) = 15
 status_of (Damaged path) = 15
 status_of (BadKind path) = 15
+status_of (Taken pod) = 17
 status_of Stray = 20
 
 -- the name of an area
@@ -48,6 +52,8 @@ message NoPod = codes "rkt: no such pod\n"
 message (Busy area) = named_line (codes "rkt: busy: gate ") (area_text area)
 message (BadManifest path number) = (((codes "rkt: bad manifest at " ++ path) ++ codes ": refusal ") ++ decimal number) ++ codes "\n"
 message (NoImage key) = named_line (codes "rkt: no image: ") key
+message (NoDependency name) = named_line (codes "rkt: no dependency: ") name
+message (Cycle key) = named_line (codes "rkt: cycle: ") key
 message (Limit number) = named_line (codes "rkt: limit: ") (decimal number)
 message DirFault = codes "rkt: directory fault\n"
 message BundleFault = codes "rkt: bundle fault\n"
@@ -57,15 +63,19 @@ message (NoFile path) = named_line (codes "rkt: no file: ") path
 message (Conflict key stored new) = (((((codes "rkt: conflict: " ++ key) ++ codes " ") ++ stored) ++ codes " ") ++ new) ++ codes "\n"
 message (Damaged path) = named_line (codes "rkt: damaged: ") path
 message (BadKind path) = named_line (codes "rkt: bad kind: ") path
+message (Taken pod) = named_line (codes "rkt: taken: ") (pod_text pod.bytes)
 message Stray = codes "rkt: stray reply\n"
 
 -- the message has a path, a key or a number in it, so that it takes memory
 abbrev pub is_made : Refusal → Bool
 is_made (BadManifest path number) = true
 is_made (NoImage key) = true
+is_made (NoDependency name) = true
+is_made (Cycle key) = true
 is_made (Limit number) = true
 is_made (NoFile path) = true
 is_made (Conflict key stored new) = true
 is_made (Damaged path) = true
 is_made (BadKind path) = true
+is_made (Taken pod) = true
 is_made _ = false

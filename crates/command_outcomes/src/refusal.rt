@@ -4,7 +4,7 @@ ghost use Rattle.command_outcomes.specs.Texts.{status_of, message, named_line, i
 
 use crate::output::Output;
 use ac_types::Text;
-use dir_trait::Area;
+use dir_trait::{Area, PodId};
 use std::alloc::{AllocError, Global};
 
 /// Why a command wasn't done.
@@ -18,8 +18,12 @@ pub enum Refusal {
     Busy(Area),
     /// A manifest has a fault of that number at that path in it.
     BadManifest { path: Text, number: u8 },
-    /// No image of the store has that key.
+    /// No image of the store has that key, or is what that word refers to.
     NoImage(Text),
+    /// No image of the store is the dependency of that name.
+    NoDependency(Text),
+    /// The image with that key depends on itself.
+    Cycle(Text),
     /// That limit was passed.
     Limit(u64),
     /// The directory failed.
@@ -39,6 +43,8 @@ pub enum Refusal {
     Damaged(Text),
     /// What stands at that path is of no kind that an image carries.
     BadKind(Text),
+    /// A folder with the name of that pod stands in embryo.
+    Taken(PodId),
     /// The directory answered as if what is this process's own weren't.
     Stray,
 }
@@ -54,6 +60,8 @@ impl Refusal {
             Refusal::Busy(_) => 5,
             Refusal::BadManifest { .. } => 6,
             Refusal::NoImage(_) => 7,
+            Refusal::NoDependency(_) => 7,
+            Refusal::Cycle(_) => 7,
             Refusal::Limit(_) => 8,
             Refusal::DirFault => 9,
             Refusal::BundleFault => 10,
@@ -63,6 +71,7 @@ impl Refusal {
             Refusal::Conflict(_, _, _) => 15,
             Refusal::Damaged(_) => 15,
             Refusal::BadKind(_) => 15,
+            Refusal::Taken(_) => 17,
             Refusal::Stray => 20,
         }
     }
@@ -83,11 +92,14 @@ impl Refusal {
             Refusal::Stray => Some("rkt: stray reply\n"),
             Refusal::BadManifest { path: _, number: _ }
             | Refusal::NoImage(_)
+            | Refusal::NoDependency(_)
+            | Refusal::Cycle(_)
             | Refusal::Limit(_)
             | Refusal::NoFile(_)
             | Refusal::Conflict(_, _, _)
             | Refusal::Damaged(_)
-            | Refusal::BadKind(_) => None,
+            | Refusal::BadKind(_)
+            | Refusal::Taken(_) => None,
         }
     }
 
@@ -99,11 +111,14 @@ impl Refusal {
         match self {
             Refusal::BadManifest { path, number } => bad_manifest(alloc, path, *number),
             Refusal::NoImage(key) => named(alloc, "rkt: no image: ", key),
+            Refusal::NoDependency(name) => named(alloc, "rkt: no dependency: ", name),
+            Refusal::Cycle(key) => named(alloc, "rkt: cycle: ", key),
             Refusal::Limit(number) => limit(alloc, *number),
             Refusal::NoFile(path) => named(alloc, "rkt: no file: ", path),
             Refusal::Conflict(key, stored, new) => conflict(alloc, key, stored, new),
             Refusal::Damaged(path) => named(alloc, "rkt: damaged: ", path),
             Refusal::BadKind(path) => named(alloc, "rkt: bad kind: ", path),
+            Refusal::Taken(pod) => taken(alloc, *pod),
             _ => unreachable!(),
         }
     }
@@ -155,6 +170,16 @@ fn conflict(alloc: Global, key: &Text, stored: &Text, new: &Text) -> Result<Outp
     line.push(stored.as_str())?;
     line.push(" ")?;
     line.push(new.as_str())?;
+    line.push("\n")?;
+    Ok(line)
+}
+
+fn taken(alloc: Global, pod: PodId) -> Result<Output, AllocError>
+    ensures { IfOk result (λ line. line ≡ message (Refusal.Taken pod)) }
+{
+    let name = pod.name();
+    let mut line = Output::of(alloc, "rkt: taken: ")?;
+    line.push(name.as_str())?;
     line.push("\n")?;
     Ok(line)
 }

@@ -1,5 +1,5 @@
--- A pod that was prepared was made faithfully, in a conforming execution.
-use Rattle.std.proofs.Common.{◌≡◌, ℕ, Bool, true, not, ◌||◌, Some, List, ◌∷◌, ◌++◌, unwrap_or, refl, sym, ap, subst, ◌∙◌, append_assoc, arith}
+-- A pod that was prepared was made faithfully, whatever others did; and in a conforming execution it stands there as it was made.
+use Rattle.std.proofs.Common.{◌≡◌, ℕ, Bool, true, false, not, ◌&&◌, ◌||◌, cond, Option, Some, None, option_map, List, [], ◌∷◌, ◌++◌, unwrap_or, refl, sym, ap, subst, ◌∙◌, append-nil, append_assoc, arith}
 use Rattle.std.specs.List.{AllByRecursion}
 use Rattle.ac_types.specs.declared.image_ref.ImageRef.{ImageRef}
 use Rattle.dir_model.specs.declared.area.Area.{Area}
@@ -9,29 +9,34 @@ use Rattle.dir_model.specs.declared.intent.Draw.{Draw}
 use Rattle.dir_model.specs.declared.intent.Intent.{Intent}
 use Rattle.dir_model.specs.declared.pod.PodId.{PodId}
 use Rattle.dir_model.specs.declared.request.Request.{Request}
-use Rattle.dir_model.specs.declared.request.Request.TheVariants.{Begin, Close, Finish, MoveFolder}
-use Rattle.dir_model.specs.declared.request.Reply.TheVariants.{Done}
+use Rattle.dir_model.specs.declared.request.Request.TheVariants.{Begin, ListArea, ListIn, ReadIn, MoveFolder}
+use Rattle.dir_model.specs.declared.request.Reply.{Reply}
+use Rattle.dir_model.specs.declared.request.Reply.TheVariants.{Done, Opened, Refused}
 use Rattle.dir_model.specs.declared.spot.Spot.{Spot}
-use Rattle.dir_model.specs.Calls.{Extends, event, is_begin, is_foreign}
-use Rattle.dir_model.specs.State.{DirState, empty_state, lives, folder_at}
+use Rattle.dir_model.specs.Calls.{Extends, IsRun, event, is_allowed, is_begin, is_foreign, may_step}
+use Rattle.dir_model.specs.Paths.{is_well_formed}
+use Rattle.dir_model.specs.State.{DirState, empty_state, has_begun, lives}
+use Rattle.dir_model.specs.declared.area.Area.TheVariants as area
 use Rattle.dir_model.specs.Trace.{state_after}
-use Rattle.dir_model.proofs.Chains.{states_next-append, and_more, extends_wider}
-use Rattle.dir_model.proofs.Lists.{all_left, all_weaker, or_map, same_rest}
+use Rattle.dir_model.proofs.Chains.{run_from-right, states_next-append, and_more, extends_wider}
+use Rattle.dir_model.proofs.Lists.{all_left, all_right, all_weaker, and_left, and_right, or_map, same_rest}
 use Rattle.dir_rules.specs.declared.standing.Held.{Held}
 use Rattle.dir_rules.specs.declared.seen.Entry.{Entry}
 use Rattle.dir_rules.specs.declared.standing.Standing.{Standing}
-use Rattle.dir_rules.specs.Conforms.{IsTied}
+use Rattle.dir_rules.specs.declared.seen.Making.{Making}
+use Rattle.dir_rules.specs.declared.seen.Seen.{Seen}
+use Rattle.dir_rules.specs.Seen.{spoilt}
+use Rattle.dir_rules.specs.Standing.{holds_gate}
+use Rattle.dir_rules.specs.Conforms.{IsTied, lost, seen_of, seen_replied}
 use Rattle.dir_trait.specs.DirCalls.{DirAt}
 use Rattle.dir_trait.specs.Knowledge.{Knows}
 use Rattle.lifecycle.specs.Executions.{IsConforming}
-use Rattle.folder_contents.specs.Entries.{entries_in}
-use Rattle.folder_contents.specs.Handing.{hands_over, then_moved, HandsOver}
-use Rattle.folder_contents.specs.UnderGate.{KnowsAlong, keeps_handles, shares_images}
-use Rattle.folder_contents.proofs.Along.{happens, conforming_to}
-use Rattle.folder_contents.proofs.GateKept.{gate_is_kept}
-use Rattle.folder_contents.proofs.Handed.{moves_hand_over, processes_hand_over}
-use Rattle.folder_contents.proofs.Known.{alive_at}
-use Rattle.gate_reading.proofs.GoingOn.{keeps_each, knows_standing, knows_gate, lived_first}
+use Rattle.folder_contents.specs.Handing.{hands_over}
+use Rattle.folder_contents.specs.UnderGate.{KnowsAlong, shares_images}
+use Rattle.folder_contents.proofs.Along.{each_beginning, foreign_same, one_of, own_next}
+use Rattle.folder_contents.proofs.Handed.{moves_hand_over}
+use Rattle.lifecycle.proofs.Handles.{clash, is_due}
+use Rattle.gate_reading.proofs.GoingOn.{knows_standing, knows_gate, lived_first}
 use Rattle.image_reading.specs.Looks.{reads_images}
 use Rattle.manifests.specs.PodData.{pod_data}
 use Rattle.pod_manifest.specs.Wishes.{Wishes}
@@ -40,18 +45,13 @@ use Rattle.pod_making.specs.Requests.{pod_at, makes_pod}
 use Rattle.pod_making.specs.Progress.{at_work, holding, nothing_made}
 use Rattle.pod_making.specs.Makings.{HasMoved}
 use Rattle.pod_making.proofs.Times.{Follows}
-use Rattle.pod_build.specs.Preparations.{Began, HasPrepared, IsPrepared}
-use Rattle.pod_build.specs.FaithfulBuild.{HasImagesBetween}
+use Rattle.pod_build.specs.Preparations.{Began, HasPrepared, IsHandedOver, IsPrepared}
+use Rattle.pod_build.specs.FaithfulBuild.{HasImagesBetween, IsFaithfulBuild}
 
--- none of these requests begins a process, and those that read give up no handle
+-- none of these requests begins a process
 reads_begin_none : (request : Request) → reads_images request ≡ true → not (is_begin request) ≡ true
 reads_begin_none (Begin intent) a = cc
 reads_begin_none request a = refl
-
-reads_keep : (request : Request) → reads_images request ≡ true → keeps_handles request ≡ true
-reads_keep (Close handle) a = cc
-reads_keep Finish a = cc
-reads_keep request a = refl
 
 making_begins_none : (draw : PodId) (to : Area) (request : Request) → makes_pod draw to request ≡ true → not (is_begin request) ≡ true
 making_begins_none draw to (Begin intent) a = cc
@@ -67,9 +67,6 @@ begins_none {asks} {me} f e =
 lived_before : (me : ℕ) (before more : List Event) → AllByRecursion (λ x. (is_foreign me x || not (is_begin x.request)) ≡ true) more → lives (state_after (before ++ more)).namespace me ≡ true → lives (state_after before).namespace me ≡ true
 lived_before me before more each living = lived_first me (state_after before) more each (subst (λ (s : DirState). lives s.namespace me ≡ true) (states_next-append empty_state before more) living)
 
-some_same : (m n : ℕ) → Some m ≡ Some n → m ≡ n
-some_same m n is = ap (λ o. unwrap_or o m) is
-
 -- work after work
 follows_then : {observed : Bool} {a b c : DirAt} → Follows observed a b → Follows observed b c → Follows observed a c
 follows_then {observed} {a} {b} {c} ab bc = record {
@@ -79,8 +76,70 @@ follows_then {observed} {a} {b} {c} ab bc = record {
   extends = λ t. and_more (extends_wider (λ request is. refl) (ab.extends t)) ab.same (extends_wider (λ request is. refl) (bc.extends t));
 }
 
+-- in a run, who takes a step that begins nothing lives
+alive_in_run : (h : List Event) (e : Event) (later : List Event) → IsRun (h ++ e ∷ later) → is_begin e.request ≡ false → lives (state_after h).namespace e.process ≡ true
+alive_in_run h e later run on =
+    ap (λ c. cond c (not (has_begun (state_after h).namespace e.process)) (lives (state_after h).namespace e.process)) (sym on) ∙ due
+  where
+    steps : may_step (state_after h) e.process e.request ≡ true
+    steps = and_left (may_step (state_after h) e.process e.request) _ (and_left (is_allowed (state_after h) e) _ (run_from-right empty_state h (e ∷ later) run))
+
+    due : is_due (state_after h).namespace e.process e.request ≡ true
+    due = and_right (is_well_formed e.request) (is_due (state_after h).namespace e.process e.request) steps
+
+-- reads of images leave what a process knows of locks as it is
+reads_stand : (s : Seen) (request : Request) (reply : Reply) → reads_images request ≡ true → (seen_replied s request reply).standing ≡ s.standing
+reads_stand s (ReadIn inner at room) Done a = refl
+reads_stand s (ReadIn inner at room) (Opened handle) a = refl
+reads_stand s (ReadIn inner at room) (Refused error left) a = refl
+reads_stand s (ReadIn inner at room) reply a = refl
+reads_stand s (ListIn inner) Done a = refl
+reads_stand s (ListIn inner) (Opened handle) a = refl
+reads_stand s (ListIn inner) (Refused error left) a = refl
+reads_stand s (ListIn inner) reply a = refl
+reads_stand s (ListArea area) Done a = refl
+reads_stand s (ListArea area) (Opened handle) a = refl
+reads_stand s (ListArea area) (Refused error left) a = refl
+reads_stand s (ListArea area) reply a = refl
+reads_stand s request reply a = cc
+
+-- so a process that only reads images has their lock all along
+holds_on : (p : ℕ) (before more : List Event) → AllByRecursion (λ e. (is_foreign p e || reads_images e.request) ≡ true) more →
+    lives (state_after (before ++ more)).namespace p ≡ true → shares_images (seen_of p before) ≡ true → KnowsAlong shares_images p before more
+holds_on p before more asked living held x y is = (
+  lived_before p (before ++ x) y (all_weaker _ _ (λ e. or_map (is_foreign p e) (reads_images e.request) (not (is_begin e.request)) (reads_begin_none e.request)) y (all_right _ x y (subst Asked is asked)))
+      (subst (λ (h : List Event). lives (state_after h).namespace p ≡ true) (ap (λ (l : List Event). before ++ l) is ∙ sym (append_assoc before x y)) living),
+  ap (holds_gate area.Images) (each_beginning Same more step (ap (λ (h : List Event). (seen_of p h).standing) (append-nil before)) x y is) ∙ held,
+)
+  where
+    Asked : List Event → Type 0
+    Asked l = AllByRecursion (λ e. (is_foreign p e || reads_images e.request) ≡ true) l
+
+    Same : List Event → Type 0
+    Same z = (seen_of p (before ++ z)).standing ≡ (seen_of p before).standing
+
+    step : (z : List Event) (e : Event) (w : List Event) → more ≡ z ++ e ∷ w → Same z → Same (z ++ e ∷ [])
+    step z e w split same =
+        subst (λ (h : List Event). (seen_of p h).standing ≡ (seen_of p before).standing) (append_assoc before z (e ∷ []))
+        (by (is_foreign p e) refl (one_of (λ a. (is_foreign p a || reads_images a.request) ≡ true) z e w (subst Asked split asked)) ∙ same)
+      where
+        by : (f : Bool) → is_foreign p e ≡ f → (is_foreign p e || reads_images e.request) ≡ true →
+            (seen_of p ((before ++ z) ++ e ∷ [])).standing ≡ (seen_of p (before ++ z)).standing
+        by true f a = ap (λ (s : Seen). s.standing) (foreign_same p (before ++ z) e f)
+        by false f a =
+            ap (λ (s : Seen). s.standing) (own_next p (before ++ z) e f)
+            ∙ reads_stand (seen_of p (before ++ z)) e.request e.reply (sym (ap (λ b. b || reads_images e.request) f) ∙ a)
+
+-- what a process knows to be clean is what its events say
+clean_known : (spoils : Bool) (o : Option Making) (m : Making) → lost spoils o ≡ Some m → m.clean ≡ true → o ≡ Some m
+clean_known false o m same clean = same
+clean_known true None m same clean = cc
+clean_known true (Some y) m same clean =
+    let is : spoilt y ≡ m = ap (λ (z : Option Making). unwrap_or z m) same in
+    clash m.clean clean (ap (λ (z : Making). z.clean) (sym is))
+
 module _ {observed : Bool} {refs : List ImageRef} {options : Wishes} {draw : Draw} {now : ℕ} {to : Area} {intent : Intent} {hs under : List Held} {a b d e : DirAt}
-    (t : observed ≡ true) (conforms : IsConforming e.trace) (hands : hands_over Prepare to ≡ true) (began : Began to draw now intent) (ab : Follows observed a b) (de : Follows observed d e)
+    (t : observed ≡ true) (run : IsRun e.trace) (began : Began to draw now intent) (ab : Follows observed a b) (de : Follows observed d e)
     (gate : shares_images (at_work intent under nothing_made) ≡ true) (knows : Knows b (at_work intent under nothing_made)) (x : HasPrepared refs options draw now to intent hs b d) where
   abbrev me : ℕ
   me = a.process
@@ -125,7 +184,7 @@ module _ {observed : Bool} {refs : List ImageRef} {options : Wishes} {draw : Dra
 
   -- the process lived then
   lives_then : lives (state_after m.before).namespace me ≡ true
-  lives_then = alive_at m.before step (happens m.before step (conforming_to e.trace m.before step later conforms moved)) refl
+  lives_then = alive_in_run m.before step later (subst IsRun moved run) refl
 
   meanwhile_begins_none : AllByRecursion (λ y. (is_foreign c.process y || not (is_begin y.request)) ≡ true) m.meanwhile
   meanwhile_begins_none =
@@ -148,9 +207,6 @@ module _ {observed : Bool} {refs : List ImageRef} {options : Wishes} {draw : Dra
   lives_b = lived_before b.process b.trace read.more (begins_none reads_begin_none read) lives_read
 
   -- it had the lock of images while it read
-  whole : e.trace ≡ (b.trace ++ read.more) ++ (m.meanwhile ++ step ∷ later)
-  whole = moved ∙ (ap (λ h. h ++ step ∷ later) m.begins ∙ (append_assoc c.trace m.meanwhile (step ∷ later) ∙ ap (λ h. h ++ (m.meanwhile ++ step ∷ later)) read.grown))
-
   under_lock : HasImagesBetween me m.before b c
   under_lock = record {
     before = ab.same;
@@ -160,57 +216,68 @@ module _ {observed : Bool} {refs : List ImageRef} {options : Wishes} {draw : Dra
     goes_on = read.grown;
     ends = m.begins;
     held = subst (λ (p : ℕ). KnowsAlong shares_images p b.trace read.more) ab.same
-        (gate_is_kept e.trace conforms b.process b.trace read.more (m.meanwhile ++ step ∷ later) whole (knows_gate knows.tied lives_b gate) lives_read (keeps_each reads_keep read));
+        (holds_on b.process b.trace read.more read.asked lives_read (knows_gate knows.tied lives_b gate));
   }
 
-  -- what it handed over
-  abbrev After : List Event
-  After = then_moved m.before me from there
+  -- what it knew of its folder is what its events say
+  making_is : (seen_of me m.before).making ≡ Some (holding from entries)
+  making_is =
+      let g = knew.living lives_then in
+      clean_known g.spoils (seen_of me m.before).making (holding from entries) (sym (ap (λ (s : Seen). s.making) g.same) ∙ m.making) refl
 
-  left : (folder : ℕ) × HandsOver m.before me from there folder
-  left = moves_hand_over e.trace conforms m.before me from there later moved hands
+  abbrev Pod : ℕ → List ℕ → Type 0
+  Pod n token = IsPodOf (read_between x.planned.images b c) (pod_data x.planned.choice.manifest) n token entries
 
-  stands : (folder : ℕ) × ((folder_at (state_after After).namespace there ≡ Some folder) × (entries_in folder (state_after After).entries ≡ entries))
-  stands = processes_hand_over e.trace conforms m.before me from there later m.seen (holding from entries) moved hands knew m.making refl
+  pod : Pod intent.now intent.token
+  pod = subst (λ (n : ℕ). Pod n intent.token) (sym began.moment) (subst (λ (token : List ℕ). Pod now token) (sym began.token) (x.planned.makes entries x.made.made))
 
-  same_entries : entries ≡ left.1.making.entries
-  same_entries = sym stands.1.1 ∙ (ap (λ k. entries_in k (state_after After).entries) (some_same stands.0 left.0 (sym stands.1.0 ∙ left.1.stands)) ∙ left.1.same)
+  abbrev earlier : List Event
+  earlier = ((follows_then ab bc).extends t).more ++ m.meanwhile
 
-  abbrev Pod : ℕ → List ℕ → List Entry → Type 0
-  Pod n token es = IsPodOf (read_between x.planned.images b c) (pod_data x.planned.choice.manifest) n token es
+  begins : m.before ≡ a.trace ++ earlier
+  begins = m.begins ∙ (ap (λ h. h ++ m.meanwhile) ((follows_then ab bc).extends t).grown ∙ append_assoc a.trace ((follows_then ab bc).extends t).more m.meanwhile)
 
-  pod : Pod intent.now intent.token left.1.making.entries
-  pod = subst (λ (es : List Entry). Pod intent.now intent.token es) same_entries
-      (subst (λ (n : ℕ). Pod n intent.token entries) (sym began.moment) (subst (λ (token : List ℕ). Pod now token entries) (sym began.token) (x.planned.makes entries x.made.made)))
-
-  pub is_prepared : IsPrepared refs options a.process draw.uuid to a.trace e.trace
-  is_prepared = record {
-    before = m.before;
-    later = later;
-    meanwhile = ((follows_then ab bc).extends t).more ++ m.meanwhile;
-    begins = m.begins ∙ (ap (λ h. h ++ m.meanwhile) ((follows_then ab bc).extends t).grown ∙ append_assoc a.trace ((follows_then ab bc).extends t).more m.meanwhile);
-    moved = moved;
-    faithful = record {
-      old = b;
-      new = c;
-      under_lock = under_lock;
-      images = x.planned.images;
-      listed = x.planned.listed;
-      manifest = pod_data x.planned.choice.manifest;
-      built = record {
-        intent = intent;
-        began = ap (λ (s : Standing). s.intent) (sym (knows_standing knew lives_then)) ∙ m.began;
-        making = left.1.making;
-        made = left.1.knew;
-        pod = pod;
-      };
+  abbrev faithful : IsFaithfulBuild me m.before
+  faithful = record {
+    old = b;
+    new = c;
+    under_lock = under_lock;
+    images = x.planned.images;
+    listed = x.planned.listed;
+    manifest = pod_data x.planned.choice.manifest;
+    built = record {
+      intent = intent;
+      began = ap (λ (s : Standing). s.intent) (sym (knows_standing knew lives_then)) ∙ m.began;
+      making = holding from entries;
+      made = making_is;
+      pod = pod;
     };
-    maps = x.planned.maps;
-    trees = x.planned.trees;
-    choice = x.planned.choice;
-    chosen = x.planned.chosen;
-    manifest = refl;
-    folder = left.0;
-    stands = left.1.stands;
-    holds = left.1.same;
   }
+
+  pub is_handed_over : IsHandedOver me draw.uuid to a.trace e.trace
+  is_handed_over = record { before = m.before; later = later; meanwhile = earlier; begins = begins; moved = moved; faithful = faithful }
+
+  -- and in a conforming execution it stands there so
+  pub is_prepared : IsConforming e.trace → hands_over Prepare to ≡ true → IsPrepared refs options me draw.uuid to a.trace e.trace
+  is_prepared conforms hands =
+      let left = moves_hand_over e.trace conforms m.before me from there later moved hands in
+      let same : left.1.making ≡ holding from entries = one_making (sym left.1.knew ∙ making_is) in
+      record {
+        before = m.before;
+        later = later;
+        meanwhile = earlier;
+        begins = begins;
+        moved = moved;
+        faithful = faithful;
+        maps = x.planned.maps;
+        trees = x.planned.trees;
+        choice = x.planned.choice;
+        chosen = x.planned.chosen;
+        manifest = refl;
+        folder = left.0;
+        stands = left.1.stands;
+        holds = left.1.same ∙ ap (λ (y : Making). y.entries) same;
+      }
+    where
+      one_making : {y z : Making} → Some y ≡ Some z → y ≡ z
+      one_making {y} {z} is = ap (λ o. unwrap_or o y) is

@@ -7,7 +7,7 @@ use Rattle.dir_model.specs.declared.spot.Mode.TheVariants.{Exclusive}
 use Rattle.dir_model.specs.Local.{Local}
 use Rattle.dir_rules.specs.declared.standing.Held.{Held}
 use Rattle.pod_making.specs.Progress.{and_own, own_held}
-use Rattle.pod_making.specs.Makings.{IsOwned}
+use Rattle.pod_ownership.specs.Running.{IsOwned}
 use Rattle.pod_build.specs.declared.error.BuildError.{BuildError}
 use Rattle.pod_build.specs.declared.making.Built.{Built}
 use Rattle.pod_build.specs.declared.making.Built.TheVariants.{Prepared, Running}

@@ -65,6 +65,15 @@ pub record HasPrepared (refs : List ImageRef) (options : Wishes) (draw : Draw) (
 abbrev pub KnowsPrepared : PodId → Area → Intent → List Held → DirAt → Type 0
 KnowsPrepared draw to intent hs new = (entries : List Entry) × Knows new (at_work intent hs (handed draw to entries))
 
+-- the pod came to the area by an own Ok move, and just before that it was made faithfully
+pub record IsHandedOver (me : ℕ) (draw : PodId) (to : Area) (old new : List Event) : Type 0 where
+  pub before : List Event
+  pub later : List Event
+  pub meanwhile : List Event
+  pub begins : before ≡ old ++ meanwhile
+  pub moved : new ≡ before ++ event me (MoveFolder (pod_at Prepare draw) (pod_at to draw)) Done ∷ later
+  pub faithful : IsFaithfulBuild me before
+
 -- the pod came to the area by an own Ok move. Just before that it was made faithfully, of the best images for the references among
 -- those that were listed; and just after it stands there, with what its maker made
 pub record IsPrepared (refs : List ImageRef) (options : Wishes) (me : ℕ) (draw : PodId) (to : Area) (old new : List Event) : Type 0 where

@@ -12,7 +12,8 @@ ghost use Rattle.pod_making.specs.Makings.{HasMade};
 use crate::error::{BuildError, make_refusal};
 use dir_trait::{Dir, PodId};
 use folder_building::PlanEntry;
-use pod_making::{Owned, make_prepared, make_running};
+use pod_making::{make_prepared, make_running};
+use pod_ownership::Owned;
 use std::alloc::Global;
 
 /// A pod that was prepared.

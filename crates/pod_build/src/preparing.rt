@@ -1,6 +1,7 @@
 // A pod is prepared, under the lock of images.
 ghost use Rattle.std.specs.Prelude.{◌≡◌, [], true, IfOk, IfErr, IsErrOf};
 ghost use Rattle.dir_model.specs.Causes.{Rose};
+ghost use Rattle.dir_model.specs.Calls.{IsRun};
 ghost use Rattle.dir_trait.specs.Local.{IsActive};
 ghost use Rattle.image_reading.specs.Looks.{HoldsImages};
 ghost use Rattle.lifecycle.specs.Executions.{IsConforming};
@@ -9,7 +10,7 @@ ghost use Rattle.pod_making.specs.Work.{From, HasOwnFolder, Went};
 ghost use Rattle.pod_build.specs.Requests.{prepares, prepares_under_lock};
 ghost use Rattle.pod_build.specs.Answers.{target, with_built, held_with, IsAnswer};
 ghost use Rattle.pod_build.specs.Causes.{IsRefused, IsRefusedUnderLock, IsHeldElsewhere};
-ghost use Rattle.pod_build.specs.Preparations.{Began, IsAlone, HasGateAlone, HasPrepared, KnowsPrepared, IsPrepared};
+ghost use Rattle.pod_build.specs.Preparations.{Began, IsAlone, HasGateAlone, HasPrepared, KnowsPrepared, IsHandedOver, IsPrepared};
 
 use crate::error::{BuildError, gate_refusal, plan_refusal};
 use crate::making::{Built, make};
@@ -82,6 +83,9 @@ pub fn prepare<D: Dir>(
     ensures prepared { IfOk result (λ built. D.observed ≡ true → IsConforming (D.shown dir.new).trace
         → From (Began (target keep_owner) draw.now now) IsAlone nothing_made (D.shown dir.old)
         (λ intent hs. IsPrepared refs.now options.now (D.shown dir.old).process draw.now.uuid (target keep_owner) (D.shown dir.old).trace (D.shown dir.new).trace)) }
+    ensures faithful { IfOk result (λ built. D.observed ≡ true → IsRun (D.shown dir.new).trace
+        → From (Began (target keep_owner) draw.now now) IsAlone nothing_made (D.shown dir.old)
+        (λ intent hs. IsHandedOver (D.shown dir.old).process draw.now.uuid (target keep_owner) (D.shown dir.old).trace (D.shown dir.new).trace)) }
     ensures knows { IfOk result (λ built. D.observed ≡ true → From (Began (target keep_owner) draw.now now) IsAlone nothing_made (D.shown dir.old)
         (λ intent hs. KnowsPrepared draw.now.uuid (target keep_owner) intent (held_with draw.now.uuid built []) (D.shown dir.new))) }
     ensures left { IfErr result (λ e. D.observed ≡ true → From (Began (target keep_owner) draw.now now) IsAlone nothing_made (D.shown dir.old)

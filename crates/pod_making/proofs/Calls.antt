@@ -6,7 +6,7 @@ use Rattle.dir_model.specs.declared.event.Event.{Event}
 use Rattle.dir_model.specs.declared.intent.Intent.{Intent}
 use Rattle.dir_model.specs.declared.pod.PodId.{PodId}
 use Rattle.dir_model.specs.declared.spot.Handle.{Handle}
-use Rattle.dir_model.specs.declared.spot.Mode.TheVariants.{Exclusive}
+use Rattle.dir_model.specs.declared.spot.Mode.TheVariants.{Shared, Exclusive}
 use Rattle.dir_model.specs.declared.spot.Spot.{Spot}
 use Rattle.dir_model.specs.declared.spot.Which.TheVariants as which
 use Rattle.dir_model.specs.declared.request.DirError.{DirError}
@@ -18,16 +18,16 @@ use Rattle.dir_model.specs.declared.request.Request.{Request}
 use Rattle.dir_model.specs.declared.request.Request.TheVariants.{MakeFolder, MoveFolder, Open, TryLock}
 use Rattle.dir_model.specs.Calls.{CallStep, Interference, TookPlace, LeftNothing}
 use Rattle.dir_model.specs.Causes.{Rose}
-use Rattle.dir_model.specs.Replies.{may_refuse, is_error, done_reply}
-use Rattle.dir_model.specs.State.{stands}
-use Rattle.dir_model.proofs.Allowed.{allowed_reply}
+use Rattle.dir_model.specs.Replies.{may_refuse, done_reply}
 use Rattle.dir_model.proofs.Lists.{and_both}
-use Rattle.dir_model.proofs.Moments.{step_at}
 use Rattle.dir_rules.specs.declared.seen.Entry.{Entry}
 use Rattle.dir_rules.specs.declared.seen.Seen.{Seen}
 use Rattle.dir_rules.specs.Conforms.{Agrees, IsTied}
 use Rattle.dir_rules.proofs.Tied.{meanwhile_unseen, lived_meanwhile}
 use Rattle.dir_trait.specs.DirCalls.{DirAt, DirCall, HeldBetween}
+use Rattle.area_locks.specs.declared.error.LockError.{LockError}
+use Rattle.area_locks.specs.declared.error.LockError.TheVariants as lock
+use Rattle.area_locks.specs.AreaLocks.{IsBusy}
 use Rattle.folder_building.specs.declared.error.BuildError.{BuildError}
 use Rattle.folder_building.specs.declared.error.BuildError.TheVariants as build
 use Rattle.folder_building.specs.declared.plan.PlanEntry.{PlanEntry}
@@ -37,13 +37,13 @@ use Rattle.folder_building.specs.Sources.{SourceAt, UnlikeContent, UnlikeAt}
 use Rattle.folder_building.specs.Work.{Worked, EndsStray, is_stray}
 use Rattle.folder_building.proofs.Working.{worked_call, at_spot}
 use Rattle.pod_making.specs.declared.error.MakeError.TheVariants.{Busy, Taken, Unlike, DirFault, Stray}
-use Rattle.pod_making.specs.Refusals.{change_refusal, make_refusal, build_refusal}
-use Rattle.pod_making.specs.Requests.{pod_at, begins_pod, hands_pod, is_stray_making}
+use Rattle.pod_making.specs.Refusals.{change_refusal, lock_refusal, make_refusal, build_refusal}
+use Rattle.pod_making.specs.Requests.{pod_at, begins_pod, hands_pod, is_stray_making, is_taken}
 use Rattle.pod_making.specs.Progress.{holding}
-use Rattle.pod_making.specs.Causes.{WasStrayBetween, IsTaken, is_copied, IsCopiedAt, WorkCause}
+use Rattle.pod_making.specs.Causes.{WasStrayBetween, is_copied, IsCopiedAt, WorkCause, MakeCause}
 use Rattle.pod_making.specs.Makings.{HasMoved}
 use Rattle.dir_model.proofs.Chains.{nothing_yet, and_call}
-use Rattle.pod_making.proofs.Times.{Follows, stray_self}
+use Rattle.pod_making.proofs.Times.{Follows, answered_self}
 
 -- the same call, by what its spots are
 pub with_spot : {observed : Bool} {old new : DirAt} {a b : Spot} {reply : Reply} (request : Spot → Request) → a ≡ b → DirCall observed old (request a) reply new → DirCall observed old (request b) reply new
@@ -105,7 +105,7 @@ change_cause {observed} {draw} {old} {new} request e stray fault c = record {
   fault = λ is. fault (change_fault e is);
   taken = λ is. absurd (change_untaken e is);
   unlike = λ place is. absurd (change_like e place is);
-  stray = λ is t. stray_self (stray is) (c.step t);
+  stray = λ is t. answered_self is_stray_making (stray is) (c.step t);
 }
 
 pub stray_move : (from to : Spot) (e : DirError) → may_refuse (MoveFolder from to) e ≡ true → change_refusal e ≡ Stray → is_stray_making (MoveFolder from to) (Refused e 0) ≡ true
@@ -127,15 +127,7 @@ stray_lock h Failed may is = cc
 stray_lock h dir.NoMemory may is = cc
 stray_lock h e may is = cc
 
--- a folder stood there when the make was refused so
-there_by : (b : Bool) → is_error Exists (cond b (Some Exists) None) ≡ true → b ≡ true
-there_by true is = refl
-there_by false is = cc
-
-pub was_taken : (spot : Spot) (old new : DirAt) → CallStep old.process old.trace (MakeFolder spot) (Refused Exists 0) new.trace → HeldBetween old new (IsTaken spot)
-was_taken spot old new c = step_at old.process old.trace (MakeFolder spot) (Refused Exists 0) new.trace (IsTaken spot) refl refl
-    (λ s allowed. there_by (stands s.namespace spot) (allowed_reply s old.process (MakeFolder spot) (Refused Exists 0) allowed)) c
-
+-- the making of the folder was refused
 none_stray : (spot : Spot) (e : DirError) → may_refuse (MakeFolder spot) e ≡ true → (e ≡ Exists → ⊥) → change_refusal e ≡ Stray → is_stray_making (MakeFolder spot) (Refused e 0) ≡ true
 none_stray spot Exists may other is = absurd (other refl)
 none_stray spot Failed may other is = cc
@@ -147,12 +139,19 @@ module _ (observed : Bool) (draw : PodId) (old new : DirAt) where
   Refusal e = DirCall observed old (MakeFolder (pod_at Embryo draw)) (Refused e 0) new
 
   pub make_cause : (e : DirError) → may_refuse (MakeFolder (pod_at Embryo draw)) e ≡ true → (e ≡ Failed → Rose old.faults new.faults) → Refusal e → WorkCause observed draw [] (make_refusal e) old new
-  make_cause Exists may fault c = record { calm = λ is. cc; fault = λ is. cc; taken = λ is t. was_taken (pod_at Embryo draw) old new (c.step t); unlike = λ place is. cc; stray = λ is. cc }
+  make_cause Exists may fault c = record { calm = λ is. cc; fault = λ is. cc; taken = λ is t. answered_self (is_taken draw) (at_spot (pod_at Embryo draw)) (c.step t); unlike = λ place is. cc; stray = λ is. cc }
   make_cause Missing may fault c = change_cause (MakeFolder (pod_at Embryo draw)) Missing (none_stray (pod_at Embryo draw) Missing may (λ is. cc)) fault c
   make_cause NotEmpty may fault c = change_cause (MakeFolder (pod_at Embryo draw)) NotEmpty (none_stray (pod_at Embryo draw) NotEmpty may (λ is. cc)) fault c
   make_cause Locked may fault c = change_cause (MakeFolder (pod_at Embryo draw)) Locked (none_stray (pod_at Embryo draw) Locked may (λ is. cc)) fault c
   make_cause Failed may fault c = change_cause (MakeFolder (pod_at Embryo draw)) Failed (none_stray (pod_at Embryo draw) Failed may (λ is. cc)) fault c
   make_cause dir.NoMemory may fault c = change_cause (MakeFolder (pod_at Embryo draw)) dir.NoMemory (none_stray (pod_at Embryo draw) dir.NoMemory may (λ is. cc)) fault c
+
+-- the lock of embryo was refused
+pub lock_cause : {observed : Bool} {draw : PodId} {old new : DirAt} (e : LockError) → (e ≡ lock.Busy → observed ≡ true → HeldBetween old new (IsBusy Embryo Shared)) → (e ≡ lock.DirFault → Rose old.faults new.faults)
+    → MakeCause observed draw [] (lock_refusal e) old new
+lock_cause lock.Busy busy fault = record { busy = λ is. busy refl; fault = λ is. cc; taken = λ is. cc; unlike = λ place is. cc; stray = λ is. cc }
+lock_cause lock.DirFault busy fault = record { busy = λ is. cc; fault = λ is. fault refl; taken = λ is. cc; unlike = λ place is. cc; stray = λ is. cc }
+lock_cause lock.NoMemory busy fault = record { busy = λ is. cc; fault = λ is. cc; taken = λ is. cc; unlike = λ place is. cc; stray = λ is. cc }
 
 -- the folder wasn't filled
 stray_more : (request : Request) (reply : Reply) → is_stray request reply ≡ true → is_stray_making request reply ≡ true
@@ -169,7 +168,7 @@ was_stray {asks} old new w = record {
   later = [];
   request = w.request;
   reply = w.reply;
-  stray = stray_more w.request w.reply w.stray;
+  answered = stray_more w.request w.reply w.stray;
   begins = w.first.grown;
   step = w.last;
   ends = sym (append-nil new.trace);

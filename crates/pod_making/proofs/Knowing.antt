@@ -35,7 +35,8 @@ use Rattle.folder_building.specs.Sources.{SourceAt, may_read_images}
 use Rattle.pod_making.specs.Requests.{pod_at}
 use Rattle.pod_making.specs.Progress.{Progress, at_work, holding, nothing_made, in_embryo, in_prepare, handed, own_held}
 use Rattle.pod_making.specs.Work.{IsMaker, MayMake, UnderImages, UnderBoth, Owns, From, HasOwnFolder}
-use Rattle.pod_making.specs.Makings.{HasFilled, FromFilled, IsHanded, HasMade, RunsPod}
+use Rattle.pod_making.specs.Makings.{HasFilled, FromFilled, IsHanded, HasMade}
+use Rattle.pod_ownership.specs.Running.{RunsPod}
 use Rattle.pod_making.proofs.Steps.{is_maker_of, own_given, made_seen, unmade_seen, locked_seen, unlocked_seen, left_seen, unleft_seen, handed_seen, unhanded_seen, gate_given_back, gate_given_after}
 use Rattle.pod_making.proofs.Times.{Follows, nothing_follows, moved_within}
 use Rattle.pod_making.proofs.Calls.{moved_by}

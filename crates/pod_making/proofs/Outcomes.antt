@@ -24,7 +24,7 @@ use Rattle.pod_making.specs.Requests.{pod_at, begins_pod, fills_pod, hands_pod, 
 use Rattle.pod_making.specs.Progress.{and_own, with_own}
 use Rattle.pod_making.specs.Work.{Went}
 use Rattle.pod_making.specs.Makings.{with_owned}
-use Rattle.pod_making.specs.declared.making.Owned.{Owned}
+use Rattle.pod_ownership.specs.declared.owned.Owned.{Owned}
 use Rattle.pod_making.proofs.Locals.{locked_own, other_number, own_closed, gate_given_local}
 use Rattle.pod_making.proofs.Times.{Follows}
 

@@ -12,15 +12,14 @@ use Rattle.dir_model.specs.Calls.{CallStep, Extends, event}
 use Rattle.dir_model.specs.Causes.{Rose}
 use Rattle.dir_model.specs.Local.{Local}
 use Rattle.dir_model.proofs.Chains.{nothing_yet, and_more, extends_wider}
-use Rattle.dir_model.proofs.Moments.{at_after, at_before}
 use Rattle.dir_rules.specs.declared.seen.Entry.{Entry}
 use Rattle.dir_trait.specs.DirCalls.{DirAt, ExtendsBy}
 use Rattle.folder_building.specs.declared.plan.PlanEntry.{PlanEntry}
 use Rattle.folder_building.specs.Work.{Worked}
 use Rattle.pod_making.specs.declared.error.MakeError.{MakeError}
-use Rattle.pod_making.specs.Requests.{is_stray_making}
+use Rattle.pod_making.specs.Requests.{is_stray_making, is_taken}
 use Rattle.pod_making.specs.Work.{Went}
-use Rattle.pod_making.specs.Causes.{WasStray, IsCopiedAt, WorkCause, MakeCause}
+use Rattle.pod_making.specs.Causes.{WasAnswered, IsCopiedAt, WorkCause, MakeCause}
 use Rattle.pod_making.specs.Makings.{HasMoved}
 
 -- calls, whatever they leave open
@@ -45,13 +44,13 @@ rose_later a b c before rose = omega arith
 rose_still : (a b c : ℕ) → Rose a b → b ≤ c → Rose a c
 rose_still a b c rose after = omega arith
 
--- a stray answer
-pub stray_self : {request : Request} {reply : Reply} {me : ℕ} {old new : List Event} → is_stray_making request reply ≡ true → CallStep me old request reply new → WasStray me old new
-stray_self {request} {reply} {me} {old} {new} is s = record { before = old; after = new; earlier = []; later = []; request = request; reply = reply; stray = is; begins = sym (append-nil old); step = s; ends = sym (append-nil new) }
+-- an own answer
+pub answered_self : (answers : Request → Reply → Bool) {request : Request} {reply : Reply} {me : ℕ} {old new : List Event} → answers request reply ≡ true → CallStep me old request reply new → WasAnswered answers me old new
+answered_self answers {request} {reply} {me} {old} {new} is s = record { before = old; after = new; earlier = []; later = []; request = request; reply = reply; answered = is; begins = sym (append-nil old); step = s; ends = sym (append-nil new) }
 
-pub stray_after : {asks : Request → Bool} {me other : ℕ} {a b c : List Event} → Extends asks me a b → other ≡ me → WasStray other b c → WasStray me a c
-stray_after {asks} {me} {other} {a} {b} {c} ab same w =
-    let v = subst (λ (p : ℕ). WasStray p b c) same w in
+pub answered_after : (answers : Request → Reply → Bool) {asks : Request → Bool} {me other : ℕ} {a b c : List Event} → Extends asks me a b → other ≡ me → WasAnswered answers other b c → WasAnswered answers me a c
+answered_after answers {asks} {me} {other} {a} {b} {c} ab same w =
+    let v = subst (λ (p : ℕ). WasAnswered answers p b c) same w in
     record {
       before = v.before;
       after = v.after;
@@ -59,21 +58,21 @@ stray_after {asks} {me} {other} {a} {b} {c} ab same w =
       later = v.later;
       request = v.request;
       reply = v.reply;
-      stray = v.stray;
+      answered = v.answered;
       begins = v.begins ∙ (ap (λ h. h ++ v.earlier) ab.grown ∙ append_assoc a ab.more v.earlier);
       step = v.step;
       ends = v.ends;
     }
 
-pub stray_before : {asks : Request → Bool} {me other : ℕ} {a b c : List Event} → WasStray me a b → Extends asks other b c → WasStray me a c
-stray_before {asks} {me} {other} {a} {b} {c} w bc = record {
+pub answered_before : (answers : Request → Reply → Bool) {asks : Request → Bool} {me other : ℕ} {a b c : List Event} → WasAnswered answers me a b → Extends asks other b c → WasAnswered answers me a c
+answered_before answers {asks} {me} {other} {a} {b} {c} w bc = record {
   before = w.before;
   after = w.after;
   earlier = w.earlier;
   later = w.later ++ bc.more;
   request = w.request;
   reply = w.reply;
-  stray = w.stray;
+  answered = w.answered;
   begins = w.begins;
   step = w.step;
   ends = bc.grown ∙ (ap (λ h. h ++ bc.more) w.ends ∙ append_assoc w.after w.later bc.more);
@@ -84,18 +83,18 @@ pub cause_after : {observed : Bool} {draw : PodId} {plan : List PlanEntry} {e : 
 cause_after {observed} {draw} {plan} {e} {a} {b} {c} ab w = record {
   calm = w.calm;
   fault = λ is. rose_later a.faults b.faults c.faults ab.faults (w.fault is);
-  taken = λ is t. at_after (ab.extends t) ab.same (w.taken is t);
+  taken = λ is t. answered_after (is_taken draw) (ab.extends t) ab.same (w.taken is t);
   unlike = w.unlike;
-  stray = λ is t. stray_after (ab.extends t) ab.same (w.stray is t);
+  stray = λ is t. answered_after is_stray_making (ab.extends t) ab.same (w.stray is t);
 }
 
 pub cause_before : {observed : Bool} {draw : PodId} {plan : List PlanEntry} {e : MakeError} {a b c : DirAt} → b.process ≡ a.process → WorkCause observed draw plan e a b → Follows observed b c → WorkCause observed draw plan e a c
 cause_before {observed} {draw} {plan} {e} {a} {b} {c} same w bc = record {
   calm = w.calm;
   fault = λ is. rose_still a.faults b.faults c.faults (w.fault is) bc.faults;
-  taken = λ is t. at_before (w.taken is t) same (bc.extends t);
+  taken = λ is t. answered_before (is_taken draw) (w.taken is t) (bc.extends t);
   unlike = w.unlike;
-  stray = λ is t. stray_before (w.stray is t) (bc.extends t);
+  stray = λ is t. answered_before is_stray_making (w.stray is t) (bc.extends t);
 }
 
 -- a plan of nothing copies nothing

@@ -9,19 +9,17 @@ use Rattle.dir_model.specs.declared.spot.Spot.{Spot}
 use Rattle.dir_model.specs.declared.request.Request.TheVariants.{MoveFolder}
 use Rattle.dir_model.specs.declared.request.Reply.TheVariants.{Done}
 use Rattle.dir_model.specs.Calls.{event}
-use Rattle.dir_model.specs.Local.{Local, IsUnopened}
-use Rattle.dir_model.specs.Pods.{pod_text}
+use Rattle.dir_model.specs.Local.{Local}
 use Rattle.dir_rules.specs.declared.standing.Held.{Held}
 use Rattle.dir_rules.specs.declared.seen.Entry.{Entry}
 use Rattle.dir_rules.specs.declared.seen.Seen.{Seen}
-use Rattle.dir_rules.specs.Rules.{runs}
 use Rattle.dir_rules.specs.Conforms.{IsTied}
 use Rattle.dir_trait.specs.DirCalls.{DirAt}
 use Rattle.dir_trait.specs.Knowledge.{Knows}
 use Rattle.folder_building.specs.declared.plan.PlanEntry.{PlanEntry}
 use Rattle.folder_building.specs.Plans.{AreMade}
 use Rattle.pod_making.specs.declared.error.MakeError.{MakeError}
-use Rattle.pod_making.specs.declared.making.Owned.{Owned}
+use Rattle.pod_ownership.specs.declared.owned.Owned.{Owned}
 use Rattle.pod_making.specs.Requests.{pod_at}
 use Rattle.pod_making.specs.Progress.{at_work, holding, in_prepare, handed, and_own}
 use Rattle.pod_making.specs.Work.{Owns, MayMake}
@@ -61,19 +59,7 @@ pub record HasMade (draw : PodId) (to : Area) (plan : List PlanEntry) (intent : 
   pub knows : Knows new (at_work intent hs (handed draw to entries))
   pub moved : HasMoved old.process (pod_at Prepare draw) (pod_at to draw) entries intent old.trace new.trace
 
--- it is this pod in run, by a handle that wasn't open before
-pub record IsOwned (draw : PodId) (m : Local) (owned : Owned) : Type 0 where
-  pub pod : owned.pod ≡ draw
-  pub area : owned.area ≡ Run
-  pub unopened : IsUnopened m owned.own
-
 -- what is open after the making of a pod that its maker keeps
 abbrev pub with_owned : Local → PodId → Result Owned MakeError → Local
 with_owned m draw (Ok owned) = and_own m draw owned.own
 with_owned m draw (Err error) = m
-
--- it holds the pod's own lock, and has moved the pod to run last
-pub record RunsPod (draw : PodId) (new : DirAt) : Type 0 where
-  pub seen : Seen
-  pub knows : Knows new seen
-  pub runs : runs seen (pod_text draw.bytes) ≡ true

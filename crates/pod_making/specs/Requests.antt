@@ -55,3 +55,8 @@ is_stray_making (TryLock handle Exclusive) (Refused Locked left) = true
 is_stray_making (MoveFolder from to) (Refused Missing left) = true
 is_stray_making (MoveFolder from to) (Refused Exists left) = true
 is_stray_making request reply = is_stray request reply
+
+-- the making of the folder in embryo, refused since a folder stands there
+abbrev pub is_taken : PodId → Request → Reply → Bool
+is_taken draw (MakeFolder spot) (Refused Exists left) = spot_eq spot (pod_at Embryo draw)
+is_taken draw request reply = false

@@ -9,4 +9,4 @@ mod making;
 mod place;
 
 pub use error::MakeError;
-pub use making::{Owned, make_prepared, make_running};
+pub use making::{make_prepared, make_running};

@@ -7,22 +7,16 @@ ghost use Rattle.pod_making.specs.Requests.{makes_pod};
 ghost use Rattle.pod_making.specs.Progress.{nothing_made, own_held};
 ghost use Rattle.pod_making.specs.Work.{MayMake, UnderImages, From, HasOwnFolder, Went};
 ghost use Rattle.pod_making.specs.Causes.{MakeCause, BusyElsewhere};
-ghost use Rattle.pod_making.specs.Makings.{HasMade, RunsPod, with_owned, IsOwned};
+ghost use Rattle.pod_making.specs.Makings.{HasMade, with_owned};
+ghost use Rattle.pod_ownership.specs.Running.{IsOwned, RunsPod};
 
 use crate::embryo::begin_pod;
 use crate::error::MakeError;
 use crate::filling::finish_pod;
-use dir_trait::{Area, Dir, Handle, Mode, PodId};
+use dir_trait::{Area, Dir, Mode, PodId};
 use folder_building::PlanEntry;
+use pod_ownership::Owned;
 use std::alloc::Global;
-
-/// A pod whose own lock this process holds exclusively by this handle, and the area where it stands.
-#[derive(Clone, Copy, Debug, PartialEq, Eq)]
-pub struct Owned {
-    pub pod: PodId,
-    pub area: Area,
-    pub own: Handle,
-}
 
 /// Makes the pod with this draw by the plan and leaves it in prepared, free for whoever runs it. Its
 /// folder is made in embryo under that area's lock, its own lock is taken there and held until it is

@@ -9,6 +9,7 @@ usage: rkt status UUID
        rkt validate FILE
        rkt image import PATH
        rkt image list
+       rkt prepare IMAGE...
        rkt --help
        rkt --version
 
@@ -31,6 +32,11 @@ rkt image list prints a line KEY NAME MOMENT for each image of the store, in the
 order of the keys: NAME is that of its manifest, MOMENT the time of its import in
 seconds since 1970. It changes nothing.
 
+rkt prepare IMAGE... makes a pod of an app of each IMAGE, in the area prepared, and
+prints its uuid. IMAGE is NAME, NAME:VERSION, either with ,LABEL=VALUE behind it as
+often as needed, or the beginning of an image ID, sha512- and at least two digits; of
+several images that match the one that was imported last counts.
+
 RKT_DIR names the data folder. Where it is unset or empty, the data folder is
 rkt in the current folder. Whatever is missing of it is made.
 
@@ -38,9 +44,13 @@ exit status
   0   done
   1   usage: the words are none of the above
   2   no such pod
-  5   busy: another process holds the lock of images or of incoming
-  6   bad manifest, or in a bundle bad image ID or listing
-  8   limit: a bundle has too many entries, or too long a file or listing
+  5   busy: another process holds the lock of images, of incoming or of embryo
+  6   bad manifest, or in a bundle bad image ID or listing; or an image has no app, an
+      app runs no program, or two apps have one name
+  7   no image: no image of the store is what IMAGE refers to
+      no dependency, cycle: an image lacks a dependency, or depends on itself
+  8   limit: a bundle has too many entries, or too long a file or listing; or a pod
+      has too many apps, dependencies or entries
   9   directory fault: the data folder can't be made, read or locked
   10  bundle fault: the file or the bundle can't be read
   12  output fault: standard output can't be written
@@ -50,6 +60,7 @@ exit status
       of a bundle isn't what its listing says
       bad kind: what stands at the path is of no kind that an image carries
       conflict: another image with this key is stored
+  17  taken: a folder with the uuid that was drawn stands in embryo
   20  stray reply: another process changed what is this process's own
 ";
 

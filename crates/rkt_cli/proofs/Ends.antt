@@ -2,9 +2,10 @@
 use Rattle.std.proofs.Common.{arith, ◌≡◌, ◌⊎◌, inl, inr, ℕ, Bool, true, false, ◌||◌, ◌==◌, cond, List, Ok, Err, IfErr, refl, sym, ap, subst, ◌∙◌}
 use Rattle.std.proofs.lemmas.Bool.Decides.{nat_tests}
 use Rattle.dir_model.specs.declared.area.Area.{Area}
+use Rattle.dir_model.specs.declared.pod.PodId.{PodId}
 use Rattle.rkt_cli.specs.declared.line.Line.{Line}
 use Rattle.command_outcomes.specs.declared.refusal.Refusal.{Refusal}
-use Rattle.command_outcomes.specs.declared.refusal.Refusal.TheVariants.{Usage, NoPod, Busy, BadManifest, NoImage, Limit, DirFault, BundleFault, OutFault, NoMemory, NoFile, Conflict, Damaged, BadKind, Stray}
+use Rattle.command_outcomes.specs.declared.refusal.Refusal.TheVariants.{Usage, NoPod, Busy, BadManifest, NoImage, NoDependency, Cycle, Limit, DirFault, BundleFault, OutFault, NoMemory, NoFile, Conflict, Damaged, BadKind, Taken, Stray}
 use Rattle.command_outcomes.specs.Texts.{status_of}
 use Rattle.command_outcomes.specs.Moments.{SinkSeen, Outcome}
 use Rattle.rkt_cli.specs.Commands.{may}
@@ -19,7 +20,7 @@ abbrev pub end_of : ℕ → End
 end_of n = cond (n == 0) (Ok tt) (cond (n == 1) (Err Usage) (cond (n == 2) (Err NoPod) (cond (n == 9) (Err DirFault) (cond (n == 10) (Err BundleFault) (cond (n == 12) (Err OutFault) (cond (n == 20) (Err Stray) (Err NoMemory)))))))
 
 abbrev pub names : ℕ → Bool
-names n = (n == 5) || ((n == 6) || ((n == 7) || ((n == 8) || (n == 15))))
+names n = (n == 5) || ((n == 6) || ((n == 7) || ((n == 8) || ((n == 15) || (n == 17)))))
 
 end_again : (end : End) → names (end_status end) ≡ false → end ≡ end_of (end_status end)
 end_again (Ok done) plain = refl
@@ -48,9 +49,9 @@ pub is_limit : (r : Refusal) → status_of r ≡ 8 → (number : ℕ) × (r ≡ 
 is_limit (Limit number) is = (number, refl)
 is_limit r is = absurd_number (status_of r) 8 is refl
 
-pub is_no_image : (r : Refusal) → status_of r ≡ 7 → (key : List ℕ) × (r ≡ NoImage key)
-is_no_image (NoImage key) is = (key, refl)
-is_no_image r is = absurd_number (status_of r) 7 is refl
+pub is_taken : (r : Refusal) → status_of r ≡ 17 → (pod : PodId) × (r ≡ Taken pod)
+is_taken (Taken pod) is = (pod, refl)
+is_taken r is = absurd_number (status_of r) 17 is refl
 
 pub is_busy : (r : Refusal) → status_of r ≡ 5 → (area : Area) × (r ≡ Busy area)
 is_busy (Busy area) is = (area, refl)
@@ -67,6 +68,12 @@ pub lacks_no_output : (r : Refusal) → status_of r ≡ 15 → is_of_output r �
 lacks_no_output OutFault is = absurd_number 12 15 is refl
 lacks_no_output NoMemory is = absurd_number 14 15 is refl
 lacks_no_output r is = refl
+
+-- nor has one status 7
+pub unmatched_no_output : (r : Refusal) → status_of r ≡ 7 → is_of_output r ≡ false
+unmatched_no_output OutFault is = absurd_number 12 7 is refl
+unmatched_no_output NoMemory is = absurd_number 14 7 is refl
+unmatched_no_output r is = refl
 
 pub refusal_status : (r : Refusal) → (status_of r == 0) ≡ false
 refusal_status NoPod = refl
@@ -93,6 +100,8 @@ refusal_known line NoPod allowed = refl
 refusal_known line (Busy area) allowed = refl
 refusal_known line (BadManifest path number) allowed = refl
 refusal_known line (NoImage key) allowed = refl
+refusal_known line (NoDependency name) allowed = refl
+refusal_known line (Cycle key) allowed = refl
 refusal_known line DirFault allowed = refl
 refusal_known line BundleFault allowed = refl
 refusal_known line OutFault allowed = refl
@@ -101,6 +110,7 @@ refusal_known line (NoFile path) allowed = refl
 refusal_known line (Conflict key stored new) allowed = refl
 refusal_known line (Damaged path) allowed = refl
 refusal_known line (BadKind path) allowed = refl
+refusal_known line (Taken pod) allowed = refl
 refusal_known line (Limit number) allowed = refl
 refusal_known line Stray allowed = refl
 

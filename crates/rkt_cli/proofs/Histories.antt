@@ -11,7 +11,7 @@ use Rattle.phase_read.specs.declared.found.Found.TheVariants.{At, Gone}
 use Rattle.phase_read.specs.Exact.{WasSo, AtOwnEvent, IsNowhere}
 use Rattle.phase_read.proofs.Exact.{was_within}
 use Rattle.rkt_cli.specs.declared.line.Line.{Line}
-use Rattle.rkt_cli.specs.declared.line.Line.TheVariants.{Status, Validate, ImageList, ImageImport, ImageRm, ImageGc}
+use Rattle.rkt_cli.specs.declared.line.Line.TheVariants.{Status, Validate, ImageList, ImageImport, ImageRm, ImageGc, Prepare}
 use Rattle.command_outcomes.specs.declared.refusal.Refusal.TheVariants.{NoPod}
 use Rattle.rkt_cli.specs.Texts.{state_text}
 use Rattle.command_outcomes.specs.Moments.{Outside, Moment, Outcome}
@@ -23,6 +23,7 @@ use Rattle.rkt_cli.specs.Histories.{TellsPhase, WritesOf, TellsHistory, TellsDee
 use Rattle.rkt_cli.proofs.Ends.{absurd_number, end_at, from_command}
 use Rattle.rkt_cli.proofs.Imports.{import_stored}
 use Rattle.rkt_cli.proofs.Listed.{list_printed}
+use Rattle.rkt_cli.proofs.PodRan.{prepare_printed, prepare_faithful, prepare_synced}
 use Rattle.rkt_cli.proofs.Removals.{removal_printed, removal_done, sweep_done}
 use Rattle.rkt_cli.proofs.Sessions.{any_call, begin_part, finish_part}
 
@@ -83,12 +84,20 @@ module _ (now : ℕ) (draw : Draw) (old new : Moment) (status : ℕ) (t : old.ou
       let p = subst (λ (o : Outcome). Performs (ImageImport path) now draw (intent_of (ImageImport path) now draw) old.outside new.outside o) done.1 r.performs in
       (done.0, import_stored path now draw old.outside new.outside done.0 p t conforming, done.2)
 
+  pod_tells : (words : List (List ℕ)) → RunOfLine (Prepare words) now draw (intent_of (Prepare words) now draw) old new status → TellsHistory (Some (Prepare words)) now draw status old.outside new.outside old.out new.out
+  pod_tells words r zero =
+      let done = r.printed.done (end_at r.end status 0 r.is zero refl) in
+      let p = subst (λ (o : Outcome). Performs (Prepare words) now draw (intent_of (Prepare words) now draw) old.outside new.outside o) done.1 r.performs in
+      (done.0, (prepare_printed words now draw (intent_of (Prepare words) now draw) old.outside new.outside done.0 p, prepare_faithful words now draw old.outside new.outside done.0 p t conforming), done.2)
+
   tells_of : (l : Option Line) → RunOf l now draw old new status → TellsHistory l now draw status old.outside new.outside old.out new.out
   tells_of None r = tt
   tells_of (Some (Validate path)) r = tt
   tells_of (Some ImageList) r = tt
   tells_of (Some (ImageRm key)) r = tt
   tells_of (Some ImageGc) r = tt
+  tells_of (Some (Prepare words)) (inr n) = λ zero. absurd_number 0 14 (sym zero ∙ n.is) refl
+  tells_of (Some (Prepare words)) (inl r) = pod_tells words r
   tells_of (Some (ImageImport path)) (inr n) = λ zero. absurd_number 0 14 (sym zero ∙ n.is) refl
   tells_of (Some (ImageImport path)) (inl r) = image_tells path r
   tells_of (Some (Status pod)) (inr n) = ((λ zero. absurd_number 0 14 (sym zero ∙ n.is) refl), (λ two. absurd_number 2 14 (sym two ∙ n.is) refl))
@@ -114,6 +123,8 @@ module _ (now : ℕ) (draw : Draw) (old new : Moment) (status : ℕ) (t : old.ou
   deed_of (Some (ImageImport path)) r = tt
   deed_of (Some ImageList) r = wrote ImageList _ (λ text p. list_printed now draw (intent_of ImageList now draw) old.outside new.outside text p) r
   deed_of (Some (ImageRm key)) r = wrote (ImageRm key) _ (λ text p. (removal_printed key now draw (intent_of (ImageRm key) now draw) old.outside new.outside text p, removal_done key now draw old.outside new.outside text p t)) r
+  deed_of (Some (Prepare words)) r = wrote (Prepare words) _
+      (λ text p. (prepare_printed words now draw (intent_of (Prepare words) now draw) old.outside new.outside text p, prepare_synced words now draw old.outside new.outside text p t)) r
   deed_of (Some ImageGc) r = wrote ImageGc _ (λ text p. sweep_done now draw old.outside new.outside text p t) r
 
 pub run_deed : {l : Option Line} {now : ℕ} {draw : Draw} {old new : Moment} {status : ℕ} → RunIs l now draw old new status → old.outside.dir.observed ≡ true → TellsDeed l draw status old.outside.dir new.outside.dir old.out new.out

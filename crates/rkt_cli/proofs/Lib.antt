@@ -9,6 +9,9 @@ pub mod Statuses
 pub mod QuietRun
 pub mod Conforming
 pub mod StoreRan
+pub mod PodRan
+pub mod PodKept
+pub mod PodLeft
 pub mod Imports
 pub mod BundleJudged
 pub mod Histories

@@ -1,5 +1,5 @@
 -- Where nobody else steps and nothing fails, a run gives what the state and the bundle before it say.
-use Rattle.std.proofs.Common.{◌≡◌, ◌⊎◌, inl, inr, ℕ, true, false, List, [], Option, Some, None, Ok, Err, refl, sym, ap, subst, ◌∙◌}
+use Rattle.std.proofs.Common.{◌≡◌, ◌⊎◌, inl, inr, ℕ, Bool, true, false, List, [], Option, Some, None, Ok, Err, refl, sym, ap, subst, ◌∙◌}
 use Rattle.area_locks.specs.AreaLocks.{is_against, IsBusyElsewhere}
 use Rattle.dir_model.specs.declared.area.Area.{Area}
 use Rattle.ac_types.specs.declared.store_key.StoreKey.{StoreKey}
@@ -27,7 +27,7 @@ use Rattle.image_removal.proofs.Begun.{begun_removes}
 use Rattle.phase_read.specs.Read.{is_pod_spot}
 use Rattle.phase_read.proofs.Quiet.{read_quiet}
 use Rattle.rkt_cli.specs.declared.line.Line.{Line}
-use Rattle.rkt_cli.specs.declared.line.Line.TheVariants.{Status, Validate, ImageList, ImageImport, ImageRm, ImageGc}
+use Rattle.rkt_cli.specs.declared.line.Line.TheVariants.{Status, Validate, ImageList, ImageImport, ImageRm, ImageGc, Prepare}
 use Rattle.command_outcomes.specs.declared.refusal.Refusal.TheVariants.{Usage, Busy, NoImage, DirFault, BundleFault, NoMemory, Damaged, Stray}
 use Rattle.command_outcomes.specs.Moments.{BundleSeen, Outside, Moment, SinkSeen, Outcome}
 use Rattle.command_outcomes.specs.Ends.{is_own_end, IsUnchanged, StaysBeside}
@@ -50,6 +50,10 @@ use Rattle.rkt_cli.proofs.StoreRan.{imports}
 use Rattle.rkt_cli.proofs.Imports.{import_printed, stored_in_process, import_refused}
 use Rattle.store_commands.proofs.ImagesKept.{images_kept, image_held}
 use Rattle.store_commands.proofs.PlacesKept.{places_kept}
+use Rattle.pod_commands.specs.Prepare.{prepares_pod, IsAreaHeld as IsPodAreaHeld}
+use Rattle.pod_commands.specs.Quiet.{PreparesQuietly, is_pod_place}
+use Rattle.rkt_cli.proofs.PodKept.{pod_stands}
+use Rattle.rkt_cli.proofs.PodRan.{prepare_intent, began, prepare_faithful, prepare_refused, prepare_changes}
 use Rattle.rkt_cli.proofs.Removals.{removal_done, removal_none, removal_stray, sweep_done, sweep_stray}
 use Rattle.store_commands.proofs.RemovalEnds.{removal_ends, none_before}
 use Rattle.store_commands.proofs.SweepEnds.{incoming_left, removed_left}
@@ -252,6 +256,46 @@ sweep_leaves : (now : ℕ) (draw : Draw) (intent : Intent) (old new : Outside) (
     StaysBeside is_swept_place (state_after old.dir.trace) (state_after new.dir.trace)
 sweep_leaves now draw intent old new o s u = places_beside is_swept_place sweeps sweep_changes (all_parts s (u.observed refl) (in_process sweeps) refl (asks_in_process sweeps) refl) (u.alone refl)
 
+-- and `prepare`
+abbrev prepare_asks : Draw → Request → Bool
+prepare_asks draw = prepares_pod draw.uuid
+
+prepare_held : (words : List (List ℕ)) (now : ℕ) (draw : Draw) (old new : Outside) (area : Area) (s : InProcess (Prepare words) now draw (prepare_intent now draw) old new (Err (Busy area))) → IsUndisturbed (Some (Prepare words)) old new →
+    IsBusyElsewhere old.dir.process area Shared (state_after old.dir.trace)
+prepare_held words now draw old new area s u =
+    let t = u.observed refl in
+    let me = s.begun.dir.process in
+    let o : Outcome = Err (Busy area) in
+    let intent = prepare_intent now draw in
+    let held : IsPodAreaHeld area s.begun.dir s.ended.dir = s.ran.says.2 area refl (s.told ∙ t) intent (began now draw) (begun_knows s t) in
+    let first : IsBusyElsewhere me area Shared (state_after s.begun.dir.trace) = held_before (is_against area Shared) held (quiet_between (Prepare words) now draw intent old new o s u) in
+    subst (λ (p : ℕ). IsBusyElsewhere p area Shared (state_after old.dir.trace)) s.me
+    (subst (λ (x : DirState). IsBusyElsewhere me area Shared x) (state (Prepare words) now draw intent old new o s u) first)
+
+-- its own requests
+prepare_extends : (words : List (List ℕ)) (now : ℕ) (draw : Draw) (intent : Intent) (old new : Outside) (o : Outcome) → InProcess (Prepare words) now draw intent old new o → IsUndisturbed (Some (Prepare words)) old new →
+    Extends (in_process (prepare_asks draw)) old.dir.process old.dir.trace new.dir.trace
+prepare_extends words now draw intent old new o s u = all_parts s (u.observed refl) (in_process (prepare_asks draw)) refl (asks_in_process (prepare_asks draw)) refl
+
+prepare_quiet : (words : List (List ℕ)) (now : ℕ) (draw : Draw) (old new : Outside) (o : Outcome) → InProcess (Prepare words) now draw (prepare_intent now draw) old new o → IsUndisturbed (Some (Prepare words)) old new → is_own_end o ≡ true →
+    PreparesQuietly words now draw old.dir new.dir o
+prepare_quiet words now draw old new (Ok text) s u own = (
+  s.ran.says.0,
+  λ conforming.
+      let x = prepare_faithful words now draw old new text (inl s) (u.observed refl) conforming in
+      (x.0, x.1, (x.2, pod_stands draw.uuid (prepare_extends words now draw (prepare_intent now draw) old new (Ok text) s u) (u.alone refl) conforming x.2)),
+)
+prepare_quiet words now draw old new (Err (Busy area)) s u own = (prepare_refused words now draw (Some (prepare_intent now draw)) old new (Busy area) refl (inl s), prepare_held words now draw old new area s u)
+prepare_quiet words now draw old new (Err NoMemory) s u own = let clash : false ≡ true = own in cc
+prepare_quiet words now draw old new (Err DirFault) s u own = let clash : false ≡ true = own in cc
+prepare_quiet words now draw old new (Err BundleFault) s u own = let clash : false ≡ true = own in cc
+prepare_quiet words now draw old new (Err r) s u own = prepare_refused words now draw (Some (prepare_intent now draw)) old new r refl (inl s)
+
+prepare_leaves : (words : List (List ℕ)) (now : ℕ) (draw : Draw) (intent : Intent) (old new : Outside) (o : Outcome) → InProcess (Prepare words) now draw intent old new o → IsUndisturbed (Some (Prepare words)) old new →
+    StaysBeside (is_pod_place draw.uuid) (state_after old.dir.trace) (state_after new.dir.trace)
+prepare_leaves words now draw intent old new o s u =
+    places_beside (is_pod_place draw.uuid) (prepare_asks draw) (prepare_changes draw.uuid) (prepare_extends words now draw intent old new o s u) (u.alone refl)
+
 -- each command
 comes_of : (line : Line) (now : ℕ) (draw : Draw) (intent : Intent) (old new : Outside) (o : Outcome) → intent_of line now draw ≡ Some intent → InProcess line now draw intent old new o → IsUndisturbed (Some line) old new → is_own_end o ≡ true → ComesQuietly line now draw old new o
 comes_of (Status pod) now draw intent old new o said s u own = status_quiet pod now draw intent old new o s u own
@@ -262,6 +306,8 @@ comes_of (ImageRm key) now draw intent old new o said s u own =
     removal_quiet key now draw old new o (subst (λ (i : Intent). InProcess (ImageRm key) now draw i old new o) (let e : intent ≡ removal_intent now draw = cc in e) s) u own
 comes_of ImageGc now draw intent old new o said s u own =
     sweep_quiet now draw old new o (subst (λ (i : Intent). InProcess ImageGc now draw i old new o) (let e : intent ≡ intent_for kind.ImageGc [] now draw = cc in e) s) u own
+comes_of (Prepare words) now draw intent old new o said s u own =
+    prepare_quiet words now draw old new o (subst (λ (i : Intent). InProcess (Prepare words) now draw i old new o) (let e : intent ≡ prepare_intent now draw = cc in e) s) u own
 
 comes_apart : (line : Line) (now : ℕ) (draw : Draw) (old new : Outside) (o : Outcome) → Apart line now draw old new o → IsUndisturbed (Some line) old new → is_own_end o ≡ true → ComesQuietly line now draw old new o
 comes_apart (Status pod) now draw old new o p u own = let clash : true ≡ false = p.apart in cc
@@ -270,6 +316,7 @@ comes_apart ImageList now draw old new o p u own = let clash : true ≡ false = 
 comes_apart (ImageImport path) now draw old new o p u own = let clash : true ≡ false = p.apart in cc
 comes_apart (ImageRm key) now draw old new o p u own = let clash : true ≡ false = p.apart in cc
 comes_apart ImageGc now draw old new o p u own = let clash : true ≡ false = p.apart in cc
+comes_apart (Prepare words) now draw old new o p u own = let clash : true ≡ false = p.apart in cc
 
 -- what each command leaves
 leaves_quietly : (line : Line) (now : ℕ) (draw : Draw) (intent : Intent) (old new : Outside) (o : Outcome) → InProcess line now draw intent old new o → IsUndisturbed (Some line) old new → LeavesQuietly line now draw old.bundle.tree (state_after old.dir.trace) (state_after new.dir.trace)
@@ -279,6 +326,7 @@ leaves_quietly ImageList now draw intent old new o s u = tame_unchanged ImageLis
 leaves_quietly (ImageImport path) now draw intent old new o s u = import_leaves path now draw intent old new o s u
 leaves_quietly (ImageRm key) now draw intent old new o s u = removal_leaves key now draw intent old new o s u
 leaves_quietly ImageGc now draw intent old new o s u = sweep_leaves now draw intent old new o s u
+leaves_quietly (Prepare words) now draw intent old new o s u = prepare_leaves words now draw intent old new o s u
 
 leaves_apart : (line : Line) (now : ℕ) (draw : Draw) (old new : Outside) (o : Outcome) → Apart line now draw old new o → LeavesQuietly line now draw old.bundle.tree (state_after old.dir.trace) (state_after new.dir.trace)
 leaves_apart (Status pod) now draw old new o p = let clash : true ≡ false = p.apart in cc
@@ -287,6 +335,7 @@ leaves_apart ImageList now draw old new o p = let clash : true ≡ false = p.apa
 leaves_apart (ImageImport path) now draw old new o p = let clash : true ≡ false = p.apart in cc
 leaves_apart (ImageRm key) now draw old new o p = let clash : true ≡ false = p.apart in cc
 leaves_apart ImageGc now draw old new o p = let clash : true ≡ false = p.apart in cc
+leaves_apart (Prepare words) now draw old new o p = let clash : true ≡ false = p.apart in cc
 
 abbrev IsQuiet : Line → ℕ → Draw → Outside → Outside → Outcome → Type 0
 IsQuiet line now draw old new o =

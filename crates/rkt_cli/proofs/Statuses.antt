@@ -18,9 +18,9 @@ use Rattle.phase_read.specs.declared.found.Found.TheVariants.{At, Gone}
 use Rattle.phase_read.specs.Read.{IsReading, LeftOut, stages}
 use Rattle.phase_read.proofs.InTurn.{left_out_after, left_out_before}
 use Rattle.rkt_cli.specs.declared.line.Line.{Line}
-use Rattle.rkt_cli.specs.declared.line.Line.TheVariants.{Status, Validate, ImageList, ImageImport, ImageRm, ImageGc}
+use Rattle.rkt_cli.specs.declared.line.Line.TheVariants.{Status, Validate, ImageList, ImageImport, ImageRm, ImageGc, Prepare}
 use Rattle.command_outcomes.specs.declared.refusal.Refusal.{Refusal}
-use Rattle.command_outcomes.specs.declared.refusal.Refusal.TheVariants.{Usage, NoPod, Busy, BadManifest, NoImage, Limit, DirFault, BundleFault, OutFault, NoMemory, NoFile, Conflict, Damaged, BadKind, Stray}
+use Rattle.command_outcomes.specs.declared.refusal.Refusal.TheVariants.{Usage, NoPod, Busy, BadManifest, NoImage, Limit, DirFault, BundleFault, OutFault, NoMemory, NoFile, Conflict, Damaged, BadKind, Stray, NoDependency, Cycle, Taken}
 use Rattle.command_outcomes.specs.Texts.{status_of}
 use Rattle.rkt_cli.specs.Texts.{state_text}
 use Rattle.command_outcomes.specs.Moments.{DirSeen, BundleSeen, Outside, SinkSeen, Moment, Outcome}
@@ -29,10 +29,12 @@ use Rattle.rkt_cli.specs.Status.{read_outcome}
 use Rattle.rkt_cli.specs.Validate.{ReadsFile, most_read}
 use Rattle.rkt_cli.specs.Commands.{intent_of, asks, may, ReadsOnly}
 use Rattle.rkt_cli.specs.Runs.{Performs, End, Unwritten, Printed, Reported, Complained, end_status, RunOf, RunIs}
-use Rattle.rkt_cli.specs.Statuses.{IsStatus, IsMissing, IsBadManifest, IsLimit, IsLacking, IsLockBusy, IsNoImage, IsStray, IsJudgement, asks_in, Prints, IsOutput, IsComplaint, IsAnswer, IsOver, EndsAs, ReadsIn}
-use Rattle.rkt_cli.proofs.Ends.{absurd_number, end_at, refusal_end, is_bad_manifest, is_limit, is_no_image, is_busy, lacks_no_output, is_of_output, output_known, refusal_known, refusal_status, from_end, from_command}
+use Rattle.rkt_cli.specs.Statuses.{IsStatus, IsMissing, IsBadManifest, IsNoPod, IsLimit, IsLacking, IsTaken, IsLockBusy, IsNoImage, IsStray, IsJudgement, asks_in, Prints, IsOutput, IsComplaint, IsAnswer, IsOver, EndsAs, ReadsIn}
+use Rattle.rkt_cli.proofs.Ends.{absurd_number, end_at, refusal_end, is_bad_manifest, is_limit, unmatched_no_output, is_taken, is_busy, lacks_no_output, is_of_output, output_known, refusal_known, refusal_status, from_end, from_command}
 use Rattle.rkt_cli.proofs.Outcomes.{fault_cause, bundle_cause, refusals_of, answered, does_validate, validate_told, file_prints, unreadable, no_such_file}
 use Rattle.rkt_cli.proofs.Listed.{list_printed, list_lacked, list_busy}
+use Rattle.pod_commands.proofs.Sayings.{taken_own}
+use Rattle.rkt_cli.proofs.PodRan.{prepare_printed, prepare_refused, prepare_busy}
 use Rattle.rkt_cli.proofs.Imports.{import_printed, import_refused, import_busy, bad_bundle, damage_said, conflict_said, stray_said}
 use Rattle.rkt_cli.proofs.BundleJudged.{import_judged}
 use Rattle.rkt_cli.proofs.Removals.{removal_printed, removal_busy, removal_unnamed, removal_none, removal_stray, sweep_printed, sweep_stray}
@@ -63,8 +65,9 @@ missing_of ImageList now draw intent old new t p = let clash : false ≡ true = 
 missing_of (ImageImport path) now draw intent old new t p = let clash : false ≡ true = refusals_of (ImageImport path) now draw intent old new (Err NoPod) NoPod p refl in cc
 missing_of (ImageRm key) now draw intent old new t p = let clash : false ≡ true = refusals_of (ImageRm key) now draw intent old new (Err NoPod) NoPod p refl in cc
 missing_of ImageGc now draw intent old new t p = let clash : false ≡ true = refusals_of ImageGc now draw intent old new (Err NoPod) NoPod p refl in cc
+missing_of (Prepare words) now draw intent old new t p = let clash : false ≡ true = refusals_of (Prepare words) now draw intent old new (Err NoPod) NoPod p refl in cc
 
-bad_manifest_of : (line : Line) (now : ℕ) (draw : Draw) (intent : Option Intent) (old new : Outside) (err err' : SinkSeen) (at : List ℕ) (number : ℕ) → Performs line now draw intent old new (Err (BadManifest at number)) → Complained (BadManifest at number) err err' → IsBadManifest (Some line) old.bundle err err'
+bad_manifest_of : (line : Line) (now : ℕ) (draw : Draw) (intent : Option Intent) (old new : Outside) (err err' : SinkSeen) (at : List ℕ) (number : ℕ) → Performs line now draw intent old new (Err (BadManifest at number)) → Complained (BadManifest at number) err err' → IsBadManifest (Some line) now draw old new err err'
 bad_manifest_of (Status pod) now draw intent old new err err' at number p said = let clash : false ≡ true = refusals_of (Status pod) now draw intent old new (Err (BadManifest at number)) (BadManifest at number) p refl in cc
 bad_manifest_of ImageList now draw intent old new err err' at number p said = let clash : false ≡ true = refusals_of ImageList now draw intent old new (Err (BadManifest at number)) (BadManifest at number) p refl in cc
 bad_manifest_of (ImageRm key) now draw intent old new err err' at number p said = let clash : false ≡ true = refusals_of (ImageRm key) now draw intent old new (Err (BadManifest at number)) (BadManifest at number) p refl in cc
@@ -72,9 +75,10 @@ bad_manifest_of ImageGc now draw intent old new err err' at number p said = let 
 bad_manifest_of (Validate path) now draw intent old new err err' at number p said = unreadable path at number old.bundle err err' (does_validate path now draw intent old new (Err (BadManifest at number)) refl p) said
 bad_manifest_of (ImageImport path) now draw intent old new err err' at number p said =
     (at, number, bad_bundle path old new (BadManifest at number) err err' refl (import_refused path now draw intent old new (BadManifest at number) refl p) said)
+bad_manifest_of (Prepare words) now draw intent old new err err' at number p said = (at, number, record { refuses = prepare_refused words now draw intent old new (BadManifest at number) refl p; said = said })
 
 -- a limit that was passed
-limit_of : (line : Line) (now : ℕ) (draw : Draw) (intent : Option Intent) (old new : Outside) (err err' : SinkSeen) (limit : ℕ) → Performs line now draw intent old new (Err (Limit limit)) → Complained (Limit limit) err err' → IsLimit (Some line) old.bundle err err'
+limit_of : (line : Line) (now : ℕ) (draw : Draw) (intent : Option Intent) (old new : Outside) (err err' : SinkSeen) (limit : ℕ) → Performs line now draw intent old new (Err (Limit limit)) → Complained (Limit limit) err err' → IsLimit (Some line) now draw old new err err'
 limit_of (Status pod) now draw intent old new err err' limit p said = let clash : false ≡ true = refusals_of (Status pod) now draw intent old new (Err (Limit limit)) (Limit limit) p refl in cc
 limit_of (Validate path) now draw intent old new err err' limit p said = let clash : false ≡ true = refusals_of (Validate path) now draw intent old new (Err (Limit limit)) (Limit limit) p refl in cc
 limit_of ImageList now draw intent old new err err' limit p said = let clash : false ≡ true = refusals_of ImageList now draw intent old new (Err (Limit limit)) (Limit limit) p refl in cc
@@ -82,32 +86,60 @@ limit_of (ImageRm key) now draw intent old new err err' limit p said = let clash
 limit_of ImageGc now draw intent old new err err' limit p said = let clash : false ≡ true = refusals_of ImageGc now draw intent old new (Err (Limit limit)) (Limit limit) p refl in cc
 limit_of (ImageImport path) now draw intent old new err err' limit p said =
     (limit, bad_bundle path old new (Limit limit) err err' refl (import_refused path now draw intent old new (Limit limit) refl p) said)
+limit_of (Prepare words) now draw intent old new err err' limit p said = (limit, record { refuses = prepare_refused words now draw intent old new (Limit limit) refl p; said = said })
 
 -- a stray reply
-stray_of : (line : Line) (now : ℕ) (draw : Draw) (intent : Option Intent) (old new : Outside) → Performs line now draw intent old new (Err Stray) → IsStray (Some line) old new
+stray_of : (line : Line) (now : ℕ) (draw : Draw) (intent : Option Intent) (old new : Outside) → Performs line now draw intent old new (Err Stray) → IsStray (Some line) now draw old new
 stray_of (Status pod) now draw intent old new p = let clash : false ≡ true = refusals_of (Status pod) now draw intent old new (Err Stray) Stray p refl in cc
 stray_of (Validate path) now draw intent old new p = let clash : false ≡ true = refusals_of (Validate path) now draw intent old new (Err Stray) Stray p refl in cc
 stray_of ImageList now draw intent old new p = let clash : false ≡ true = refusals_of ImageList now draw intent old new (Err Stray) Stray p refl in cc
 stray_of (ImageImport path) now draw intent old new p = stray_said path old new (import_refused path now draw intent old new Stray refl p)
 stray_of (ImageRm key) now draw intent old new p = λ t. removal_stray key now draw intent old new p t
 stray_of ImageGc now draw intent old new p = λ t. sweep_stray now draw intent old new p t
-
--- no image with the key
-no_image_of : (line : Line) (now : ℕ) (draw : Draw) (intent : Option Intent) (old new : Outside) (err err' : SinkSeen) (named : List ℕ) → Performs line now draw intent old new (Err (NoImage named)) → Complained (NoImage named) err err' → IsNoImage (Some line) draw old.dir new.dir err err'
-no_image_of (ImageRm key) now draw intent old new err err' named p said = record {
-  found = λ t. removal_none key now draw intent old new named p t;
-  said = subst (λ (name : List ℕ). Complained (NoImage name) err err') (removal_unnamed key now draw intent old new named p) said;
-}
-no_image_of (Status pod) now draw intent old new err err' named p said = let clash : false ≡ true = refusals_of (Status pod) now draw intent old new (Err (NoImage named)) (NoImage named) p refl in cc
-no_image_of (Validate path) now draw intent old new err err' named p said = let clash : false ≡ true = refusals_of (Validate path) now draw intent old new (Err (NoImage named)) (NoImage named) p refl in cc
-no_image_of ImageList now draw intent old new err err' named p said = let clash : false ≡ true = refusals_of ImageList now draw intent old new (Err (NoImage named)) (NoImage named) p refl in cc
-no_image_of (ImageImport path) now draw intent old new err err' named p said = let clash : false ≡ true = refusals_of (ImageImport path) now draw intent old new (Err (NoImage named)) (NoImage named) p refl in cc
-no_image_of ImageGc now draw intent old new err err' named p said = let clash : false ≡ true = refusals_of ImageGc now draw intent old new (Err (NoImage named)) (NoImage named) p refl in cc
+stray_of (Prepare words) now draw intent old new p = prepare_refused words now draw intent old new Stray refl p
 
 never_both : (a b : Bool) {X : Type 0} → (a && b) ≡ false → a ≡ true → b ≡ true → X
 never_both true true apart h k = cc
 never_both true false apart h k = cc
 never_both false b apart h k = cc
+
+-- these have no refusal with status 7
+none_unmatched_status : (pod : PodId) (r : Refusal) → ((status_of r == 7) && may (Status pod) r) ≡ false
+none_unmatched_status pod NoPod = refl
+none_unmatched_status pod r = refl
+
+none_unmatched_validate : (path : List ℕ) (r : Refusal) → ((status_of r == 7) && may (Validate path) r) ≡ false
+none_unmatched_validate path (Busy area) = refl
+none_unmatched_validate path r = refl
+
+none_unmatched_list : (r : Refusal) → ((status_of r == 7) && may ImageList r) ≡ false
+none_unmatched_list (Busy area) = refl
+none_unmatched_list r = refl
+
+none_unmatched_import : (path : List ℕ) (r : Refusal) → ((status_of r == 7) && may (ImageImport path) r) ≡ false
+none_unmatched_import path (Busy area) = refl
+none_unmatched_import path r = refl
+
+none_unmatched_sweep : (r : Refusal) → ((status_of r == 7) && may ImageGc r) ≡ false
+none_unmatched_sweep (Busy area) = refl
+none_unmatched_sweep r = refl
+
+-- no image with the key; or none for a word or for a dependency, or one that depends on itself
+no_image_of : (line : Line) (now : ℕ) (draw : Draw) (intent : Option Intent) (old new : Outside) (err err' : SinkSeen) (r : Refusal) → status_of r ≡ 7 → Performs line now draw intent old new (Err r) → Complained r err err' → IsNoImage (Some line) now draw old new err err'
+no_image_of (ImageRm key) now draw intent old new err err' (NoImage named) is p said = record {
+  found = λ t. removal_none key now draw intent old new named p t;
+  said = subst (λ (name : List ℕ). Complained (NoImage name) err err') (removal_unnamed key now draw intent old new named p) said;
+}
+no_image_of (ImageRm key) now draw intent old new err err' r is p said = never_both (status_of r == 7) (may (ImageRm key) r) refl (ap (λ n. n == 7) is) (refusals_of (ImageRm key) now draw intent old new (Err r) r p refl)
+no_image_of (Prepare words) now draw intent old new err err' (NoImage word) is p said = (NoImage word, refl, record { refuses = prepare_refused words now draw intent old new (NoImage word) refl p; said = said })
+no_image_of (Prepare words) now draw intent old new err err' (NoDependency name) is p said = (NoDependency name, refl, record { refuses = prepare_refused words now draw intent old new (NoDependency name) refl p; said = said })
+no_image_of (Prepare words) now draw intent old new err err' (Cycle key) is p said = (Cycle key, refl, record { refuses = prepare_refused words now draw intent old new (Cycle key) refl p; said = said })
+no_image_of (Prepare words) now draw intent old new err err' r is p said = absurd_number (status_of r) 7 is refl
+no_image_of (Status pod) now draw intent old new err err' r is p said = never_both (status_of r == 7) (may (Status pod) r) (none_unmatched_status pod r) (ap (λ n. n == 7) is) (refusals_of (Status pod) now draw intent old new (Err r) r p refl)
+no_image_of (Validate path) now draw intent old new err err' r is p said = never_both (status_of r == 7) (may (Validate path) r) (none_unmatched_validate path r) (ap (λ n. n == 7) is) (refusals_of (Validate path) now draw intent old new (Err r) r p refl)
+no_image_of ImageList now draw intent old new err err' r is p said = never_both (status_of r == 7) (may ImageList r) (none_unmatched_list r) (ap (λ n. n == 7) is) (refusals_of ImageList now draw intent old new (Err r) r p refl)
+no_image_of (ImageImport path) now draw intent old new err err' r is p said = never_both (status_of r == 7) (may (ImageImport path) r) (none_unmatched_import path r) (ap (λ n. n == 7) is) (refusals_of (ImageImport path) now draw intent old new (Err r) r p refl)
+no_image_of ImageGc now draw intent old new err err' r is p said = never_both (status_of r == 7) (may ImageGc r) (none_unmatched_sweep r) (ap (λ n. n == 7) is) (refusals_of ImageGc now draw intent old new (Err r) r p refl)
 
 -- `status` has no refusal with status 15
 none_lacks : (pod : PodId) (r : Refusal) → ((status_of r == 15) && may (Status pod) r) ≡ false
@@ -126,7 +158,7 @@ sweep_lacks_none Stray = refl
 sweep_lacks_none r = refl
 
 -- a refusal with status 15
-lacking_of : (line : Line) (now : ℕ) (draw : Draw) (intent : Option Intent) (old new : Outside) (err err' : SinkSeen) (r : Refusal) → status_of r ≡ 15 → Performs line now draw intent old new (Err r) → Complained r err err' → IsLacking (Some line) old new err err'
+lacking_of : (line : Line) (now : ℕ) (draw : Draw) (intent : Option Intent) (old new : Outside) (err err' : SinkSeen) (r : Refusal) → status_of r ≡ 15 → Performs line now draw intent old new (Err r) → Complained r err err' → IsLacking (Some line) now draw old new err err'
 lacking_of (Status pod) now draw intent old new err err' r is p said = never_both (status_of r == 15) (may (Status pod) r) (none_lacks pod r) (ap (λ n. n == 15) is) (refusals_of (Status pod) now draw intent old new (Err r) r p refl)
 lacking_of (Validate path) now draw intent old new err err' (NoFile named) is p said = let x = no_such_file path named old.bundle err err' (does_validate path now draw intent old new (Err (NoFile named)) refl p) said in record { none = x.0; said = x.1 }
 lacking_of (Validate path) now draw intent old new err err' r is p said = never_both (status_of r == 15) (may (Validate path) r) refl (ap (λ n. n == 15) is) (refusals_of (Validate path) now draw intent old new (Err r) r p refl)
@@ -140,6 +172,21 @@ lacking_of (ImageImport path) now draw intent old new err err' (Conflict key sto
 lacking_of (ImageImport path) now draw intent old new err err' r is p said = never_both (status_of r == 15) (may (ImageImport path) r) refl (ap (λ n. n == 15) is) (refusals_of (ImageImport path) now draw intent old new (Err r) r p refl)
 lacking_of (ImageRm key) now draw intent old new err err' r is p said = never_both (status_of r == 15) (may (ImageRm key) r) (removal_lacks_none key r) (ap (λ n. n == 15) is) (refusals_of (ImageRm key) now draw intent old new (Err r) r p refl)
 lacking_of ImageGc now draw intent old new err err' r is p said = never_both (status_of r == 15) (may ImageGc r) (sweep_lacks_none r) (ap (λ n. n == 15) is) (refusals_of ImageGc now draw intent old new (Err r) r p refl)
+lacking_of (Prepare words) now draw intent old new err err' (Damaged path) is p said = (path, record { refuses = prepare_refused words now draw intent old new (Damaged path) refl p; said = said })
+lacking_of (Prepare words) now draw intent old new err err' (Busy area) is p said = absurd_number 5 15 is refl
+lacking_of (Prepare words) now draw intent old new err err' r is p said = never_both (status_of r == 15) (may (Prepare words) r) refl (ap (λ n. n == 15) is) (refusals_of (Prepare words) now draw intent old new (Err r) r p refl)
+
+-- the drawn name is taken
+taken_of : (line : Line) (now : ℕ) (draw : Draw) (intent : Option Intent) (old new : Outside) (err err' : SinkSeen) (pod : PodId) → Performs line now draw intent old new (Err (Taken pod)) → Complained (Taken pod) err err' → IsTaken (Some line) now draw old new err err'
+taken_of (Prepare words) now draw intent old new err err' pod p said =
+    let x = prepare_refused words now draw intent old new (Taken pod) refl p in
+    subst (λ (q : PodId). IsNoPod words now draw (Taken q) old.dir new.dir err err') (taken_own x) (record { refuses = x; said = said })
+taken_of (Status other) now draw intent old new err err' pod p said = let clash : false ≡ true = refusals_of (Status other) now draw intent old new (Err (Taken pod)) (Taken pod) p refl in cc
+taken_of (Validate path) now draw intent old new err err' pod p said = let clash : false ≡ true = refusals_of (Validate path) now draw intent old new (Err (Taken pod)) (Taken pod) p refl in cc
+taken_of ImageList now draw intent old new err err' pod p said = let clash : false ≡ true = refusals_of ImageList now draw intent old new (Err (Taken pod)) (Taken pod) p refl in cc
+taken_of (ImageImport path) now draw intent old new err err' pod p said = let clash : false ≡ true = refusals_of (ImageImport path) now draw intent old new (Err (Taken pod)) (Taken pod) p refl in cc
+taken_of (ImageRm key) now draw intent old new err err' pod p said = let clash : false ≡ true = refusals_of (ImageRm key) now draw intent old new (Err (Taken pod)) (Taken pod) p refl in cc
+taken_of ImageGc now draw intent old new err err' pod p said = let clash : false ≡ true = refusals_of ImageGc now draw intent old new (Err (Taken pod)) (Taken pod) p refl in cc
 
 -- a lock that another process holds
 locks_of : (line : Line) (now : ℕ) (draw : Draw) (old new : Outside) (err err' : SinkSeen) (area : Area) → Performs line now draw (intent_of line now draw) old new (Err (Busy area)) → Complained (Busy area) err err' → IsLockBusy (Some line) old.dir new.dir err err'
@@ -151,23 +198,25 @@ locks_of (ImageImport path) now draw old new err err' area p said = record { are
 locks_of (ImageRm key) now draw old new err err' Images p said = record { held = removal_busy key now draw old new Images p; said = said }
 locks_of (ImageRm key) now draw old new err err' area p said = let clash : false ≡ true = refusals_of (ImageRm key) now draw (intent_of (ImageRm key) now draw) old new (Err (Busy area)) (Busy area) p refl in cc
 locks_of ImageGc now draw old new err err' area p said = let clash : false ≡ true = refusals_of ImageGc now draw (intent_of ImageGc now draw) old new (Err (Busy area)) (Busy area) p refl in cc
+locks_of (Prepare words) now draw old new err err' area p said = record { area = area; held = λ t. prepare_busy words now draw old new area p t; said = said }
 
-read_prints : (found : Found) (text : List ℕ) (pod : PodId) (bundle : BundleSeen) → Ok text ≡ read_outcome found → Prints (Some (Status pod)) bundle text
-read_prints (At phase area) text pod bundle is = (phase, let e : text ≡ state_text phase = cc in e)
-read_prints Gone text pod bundle is = cc
+read_prints : (found : Found) (text : List ℕ) (pod : PodId) (draw : Draw) (bundle : BundleSeen) → Ok text ≡ read_outcome found → Prints (Some (Status pod)) draw bundle text
+read_prints (At phase area) text pod draw bundle is = (phase, let e : text ≡ state_text phase = cc in e)
+read_prints Gone text pod draw bundle is = cc
 
 -- the text that was printed is one that the command prints
-prints_of : (line : Line) (now : ℕ) (draw : Draw) (intent : Option Intent) (old new : Outside) (text : List ℕ) → Performs line now draw intent old new (Ok text) → Prints (Some line) old.bundle text
-prints_of (Status pod) now draw (Some intent) old new text (inl s) = let d = s.ran.says refl in read_prints d.found text pod old.bundle d.is
+prints_of : (line : Line) (now : ℕ) (draw : Draw) (intent : Option Intent) (old new : Outside) (text : List ℕ) → Performs line now draw intent old new (Ok text) → Prints (Some line) draw old.bundle text
+prints_of (Status pod) now draw (Some intent) old new text (inl s) = let d = s.ran.says refl in read_prints d.found text pod draw old.bundle d.is
 prints_of (Status pod) now draw (Some intent) old new text (inr n) = let e = n.is in cc
-prints_of (Status pod) now draw None old new text p = let d = p.ran.says refl in read_prints d.found text pod old.bundle d.is
+prints_of (Status pod) now draw None old new text p = let d = p.ran.says refl in read_prints d.found text pod draw old.bundle d.is
 prints_of ImageList now draw intent old new text p = let d = list_printed now draw intent old new text p in (d.images, d.is)
 prints_of (Validate path) now draw intent old new text p = let d = does_validate path now draw intent old new (Ok text) refl p in file_prints path d.found text d.is
 prints_of (ImageImport path) now draw intent old new text p = import_printed path now draw intent old new text p
 prints_of (ImageRm key) now draw intent old new text p = removal_printed key now draw intent old new text p
 prints_of ImageGc now draw intent old new text p = sweep_printed now draw intent old new text p
+prints_of (Prepare words) now draw intent old new text p = prepare_printed words now draw intent old new text p
 
-output_of : (line : Line) (now : ℕ) (draw : Draw) (intent : Option Intent) (before after : Outside) (o : Outcome) (old new : SinkSeen) (end : End) (status : ℕ) → Performs line now draw intent before after o → Printed o old new end → status ≡ end_status end → old.observed ≡ true → IsOutput (Some line) before.bundle status old.bytes new.bytes
+output_of : (line : Line) (now : ℕ) (draw : Draw) (intent : Option Intent) (before after : Outside) (o : Outcome) (old new : SinkSeen) (end : End) (status : ℕ) → Performs line now draw intent before after o → Printed o old new end → status ≡ end_status end → old.observed ≡ true → IsOutput (Some line) draw before.bundle status old.bytes new.bytes
 output_of line now draw intent before after (Err r) old new end status d p is t = inr (inr (ap (λ (n : ℕ). n == 0) (is ∙ ap end_status (p.refused.0)) ∙ refusal_status r, p.refused.1 t))
 output_of line now draw intent before after (Ok text) old new (Ok done) status d p is t =
     let q = p.done refl in
@@ -175,7 +224,7 @@ output_of line now draw intent before after (Ok text) old new (Ok done) status d
     inl (is, text, prints_of line now draw intent before after text d, q.2 t ∙ ap (λ (x : List ℕ). old.bytes ++ x) (sym same))
 output_of line now draw intent before after (Ok text) old new (Err r) status d p is t = by (p.cause text refl)
   where
-    by : Unwritten r old new → IsOutput (Some line) before.bundle status old.bytes new.bytes
+    by : Unwritten r old new → IsOutput (Some line) draw before.bundle status old.bytes new.bytes
     by (inl x) = inr (inl (inl (is ∙ ap status_of x.0), text, prints_of line now draw intent before after text d, p.part text refl t))
     by (inr x) = inr (inl (inr (is ∙ ap status_of x.0), text, prints_of line now draw intent before after text d, p.part text refl t))
 
@@ -219,6 +268,7 @@ reads_nothing ImageList old new same = tt
 reads_nothing (ImageImport path) old new same = tt
 reads_nothing (ImageRm key) old new same = tt
 reads_nothing ImageGc old new same = tt
+reads_nothing (Prepare words) old new same = tt
 reads_nothing (Validate path) old new same = subst (λ (x : BundleSeen). ReadsFile path old x) (sym same) (record { given = nothing_given old.given; asked = λ t. asks_nothing })
 
 reads_of : (line : Line) (now : ℕ) (draw : Draw) (old new : Outside) (o : Outcome) → Performs line now draw (intent_of line now draw) old new o → ReadsOnly line old.bundle new.bundle
@@ -227,6 +277,7 @@ reads_of ImageList now draw old new o p = tt
 reads_of (ImageImport path) now draw old new o p = tt
 reads_of (ImageRm key) now draw old new o p = tt
 reads_of ImageGc now draw old new o p = tt
+reads_of (Prepare words) now draw old new o p = tt
 reads_of (Validate path) now draw old new o p = p.ran.reads
 
 module _ (now : ℕ) (draw : Draw) (old new : Moment) (status : ℕ) where
@@ -253,7 +304,7 @@ module _ (now : ℕ) (draw : Draw) (old new : Moment) (status : ℕ) where
       let e : r.outcome ≡ Err NoPod = from_command r.outcome old.out new.out r.end NoPod r.printed (end_at r.end status 2 r.is is refl) refl in
       missing_of line now draw (intent_of line now draw) old.outside new.outside t (subst (λ (o : Outcome). Performs line now draw (intent_of line now draw) old.outside new.outside o) e r.performs)
 
-  bad_manifest_in : (l : Option Line) → Is l → status ≡ 6 → IsBadManifest l old.outside.bundle old.err new.err
+  bad_manifest_in : (l : Option Line) → Is l → status ≡ 6 → IsBadManifest l now draw old.outside new.outside old.err new.err
   bad_manifest_in None r is = absurd_number 6 1 (sym is ∙ r.is) refl
   bad_manifest_in (Some line) (inr n) is = absurd_number 6 14 (sym is ∙ n.is) refl
   bad_manifest_in (Some line) (inl r) is =
@@ -263,7 +314,7 @@ module _ (now : ℕ) (draw : Draw) (old new : Moment) (status : ℕ) where
       let e : r.outcome ≡ Err (BadManifest f.0 f.1) = from_command r.outcome old.out new.out r.end (BadManifest f.0 f.1) r.printed ends refl in
       bad_manifest_of line now draw (intent_of line now draw) old.outside new.outside old.err new.err f.0 f.1 (subst (λ (o : Outcome). Performs line now draw (intent_of line now draw) old.outside new.outside o) e r.performs) (subst (λ (end : End). Reported end old.err new.err) ends r.reported)
 
-  limit_in : (l : Option Line) → Is l → status ≡ 8 → IsLimit l old.outside.bundle old.err new.err
+  limit_in : (l : Option Line) → Is l → status ≡ 8 → IsLimit l now draw old.outside new.outside old.err new.err
   limit_in None r is = absurd_number 8 1 (sym is ∙ r.is) refl
   limit_in (Some line) (inr n) is = absurd_number 8 14 (sym is ∙ n.is) refl
   limit_in (Some line) (inl r) is =
@@ -273,24 +324,32 @@ module _ (now : ℕ) (draw : Draw) (old new : Moment) (status : ℕ) where
       let e : r.outcome ≡ Err (Limit f.0) = from_command r.outcome old.out new.out r.end (Limit f.0) r.printed ends refl in
       limit_of line now draw (intent_of line now draw) old.outside new.outside old.err new.err f.0 (subst (λ (o : Outcome). Performs line now draw (intent_of line now draw) old.outside new.outside o) e r.performs) (subst (λ (end : End). Reported end old.err new.err) ends r.reported)
 
-  no_image_in : (l : Option Line) → Is l → status ≡ 7 → IsNoImage l draw old.outside.dir new.outside.dir old.err new.err
+  no_image_in : (l : Option Line) → Is l → status ≡ 7 → IsNoImage l now draw old.outside new.outside old.err new.err
   no_image_in None r is = absurd_number 7 1 (sym is ∙ r.is) refl
   no_image_in (Some line) (inr n) is = absurd_number 7 14 (sym is ∙ n.is) refl
   no_image_in (Some line) (inl r) is =
       let x = refusal_end r.end 7 (sym r.is ∙ is) refl in
-      let f = is_no_image x.0 x.2 in
-      let ends : r.end ≡ Err (NoImage f.0) = x.1 ∙ ap (λ (q : Refusal). Err q) f.1 in
-      let e : r.outcome ≡ Err (NoImage f.0) = from_command r.outcome old.out new.out r.end (NoImage f.0) r.printed ends refl in
-      no_image_of line now draw (intent_of line now draw) old.outside new.outside old.err new.err f.0 (subst (λ (o : Outcome). Performs line now draw (intent_of line now draw) old.outside new.outside o) e r.performs) (subst (λ (end : End). Reported end old.err new.err) ends r.reported)
+      let e : r.outcome ≡ Err x.0 = from_command r.outcome old.out new.out r.end x.0 r.printed x.1 (unmatched_no_output x.0 x.2) in
+      no_image_of line now draw (intent_of line now draw) old.outside new.outside old.err new.err x.0 x.2 (subst (λ (o : Outcome). Performs line now draw (intent_of line now draw) old.outside new.outside o) e r.performs) (subst (λ (end : End). Reported end old.err new.err) x.1 r.reported)
 
-  stray_in : (l : Option Line) → Is l → status ≡ 20 → IsStray l old.outside new.outside
+  taken_in : (l : Option Line) → Is l → status ≡ 17 → IsTaken l now draw old.outside new.outside old.err new.err
+  taken_in None r is = absurd_number 17 1 (sym is ∙ r.is) refl
+  taken_in (Some line) (inr n) is = absurd_number 17 14 (sym is ∙ n.is) refl
+  taken_in (Some line) (inl r) is =
+      let x = refusal_end r.end 17 (sym r.is ∙ is) refl in
+      let f = is_taken x.0 x.2 in
+      let ends : r.end ≡ Err (Taken f.0) = x.1 ∙ ap (λ (q : Refusal). Err q) f.1 in
+      let e : r.outcome ≡ Err (Taken f.0) = from_command r.outcome old.out new.out r.end (Taken f.0) r.printed ends refl in
+      taken_of line now draw (intent_of line now draw) old.outside new.outside old.err new.err f.0 (subst (λ (o : Outcome). Performs line now draw (intent_of line now draw) old.outside new.outside o) e r.performs) (subst (λ (end : End). Reported end old.err new.err) ends r.reported)
+
+  stray_in : (l : Option Line) → Is l → status ≡ 20 → IsStray l now draw old.outside new.outside
   stray_in None r is = absurd_number 20 1 (sym is ∙ r.is) refl
   stray_in (Some line) (inr n) is = absurd_number 20 14 (sym is ∙ n.is) refl
   stray_in (Some line) (inl r) is =
       let e : r.outcome ≡ Err Stray = from_command r.outcome old.out new.out r.end Stray r.printed (end_at r.end status 20 r.is is refl) refl in
       stray_of line now draw (intent_of line now draw) old.outside new.outside (subst (λ (o : Outcome). Performs line now draw (intent_of line now draw) old.outside new.outside o) e r.performs)
 
-  lacking_in : (l : Option Line) → Is l → status ≡ 15 → IsLacking l old.outside new.outside old.err new.err
+  lacking_in : (l : Option Line) → Is l → status ≡ 15 → IsLacking l now draw old.outside new.outside old.err new.err
   lacking_in None r is = absurd_number 15 1 (sym is ∙ r.is) refl
   lacking_in (Some line) (inr n) is = absurd_number 15 14 (sym is ∙ n.is) refl
   lacking_in (Some line) (inl r) is =
@@ -342,7 +401,7 @@ module _ (now : ℕ) (draw : Draw) (old new : Moment) (status : ℕ) where
       by (Some intent) (inr n) = step_extends (asks_in (Some line) draw) old.outside.dir.process old.outside.dir.trace _ _ new.outside.dir.trace refl (n.step t)
       by None p = subst (λ (d : DirSeen). Extends (asks_in (Some line) draw) old.outside.dir.process old.outside.dir.trace d.trace) (sym p.dir) nothing_yet
 
-  out_of : (l : Option Line) → Is l → old.out.observed ≡ true → IsOutput l old.outside.bundle status old.out.bytes new.out.bytes
+  out_of : (l : Option Line) → Is l → old.out.observed ≡ true → IsOutput l draw old.outside.bundle status old.out.bytes new.out.bytes
   out_of None r t = inr (inr (ap (λ (n : ℕ). n == 0) r.is, ap (λ (s : SinkSeen). s.bytes) r.out))
   out_of (Some line) (inr n) t = inr (inr (ap (λ (n : ℕ). n == 0) n.is, ap (λ (s : SinkSeen). s.bytes) n.out))
   out_of (Some line) (inl r) t = output_of line now draw _ old.outside new.outside r.outcome old.out new.out r.end status r.performs r.printed r.is t
@@ -362,6 +421,7 @@ module _ (now : ℕ) (draw : Draw) (old new : Moment) (status : ℕ) where
   judged_of (Some ImageList) r t = tt
   judged_of (Some (ImageRm key)) r t = tt
   judged_of (Some ImageGc) r t = tt
+  judged_of (Some (Prepare words)) r t = tt
   judged_of (Some (ImageImport path)) (inr n) t = inr (inl n.is)
   judged_of (Some (ImageImport path)) (inl r) t = import_judged path now draw r.outcome old new r.end status t r.performs r.printed r.reported r.is
   judged_of (Some (Validate path)) (inr n) t = inr (inl n.is)
@@ -392,22 +452,25 @@ module _ {l : Option Line} {now : ℕ} {draw : Draw} {old new : Moment} {status 
   pub no_pod : status ≡ 2 → old.outside.dir.observed ≡ true → IsMissing l old.outside.dir new.outside.dir
   no_pod = no_pod_of now draw old new status l run.ran
 
-  pub bad_manifest : status ≡ 6 → IsBadManifest l old.outside.bundle old.err new.err
+  pub bad_manifest : status ≡ 6 → IsBadManifest l now draw old.outside new.outside old.err new.err
   bad_manifest = bad_manifest_in now draw old new status l run.ran
 
-  pub limit : status ≡ 8 → IsLimit l old.outside.bundle old.err new.err
+  pub limit : status ≡ 8 → IsLimit l now draw old.outside new.outside old.err new.err
   limit = limit_in now draw old new status l run.ran
 
-  pub no_image : status ≡ 7 → IsNoImage l draw old.outside.dir new.outside.dir old.err new.err
+  pub no_image : status ≡ 7 → IsNoImage l now draw old.outside new.outside old.err new.err
   no_image = no_image_in now draw old new status l run.ran
 
-  pub stray : status ≡ 20 → IsStray l old.outside new.outside
+  pub taken : status ≡ 17 → IsTaken l now draw old.outside new.outside old.err new.err
+  taken = taken_in now draw old new status l run.ran
+
+  pub stray : status ≡ 20 → IsStray l now draw old.outside new.outside
   stray = stray_in now draw old new status l run.ran
 
   pub busy : status ≡ 5 → IsLockBusy l old.outside.dir new.outside.dir old.err new.err
   busy = busy_in now draw old new status l run.ran
 
-  pub lacking : status ≡ 15 → IsLacking l old.outside new.outside old.err new.err
+  pub lacking : status ≡ 15 → IsLacking l now draw old.outside new.outside old.err new.err
   lacking = lacking_in now draw old new status l run.ran
 
   pub dir_fault : status ≡ 9 → Rose old.outside.dir.faults new.outside.dir.faults
@@ -422,7 +485,7 @@ module _ {l : Option Line} {now : ℕ} {draw : Draw} {old new : Moment} {status 
   pub extends : old.outside.dir.observed ≡ true → Extends (asks_in l draw) old.outside.dir.process old.outside.dir.trace new.outside.dir.trace
   extends = extends_of now draw old new status l run.ran
 
-  pub output : old.out.observed ≡ true → IsOutput l old.outside.bundle status old.out.bytes new.out.bytes
+  pub output : old.out.observed ≡ true → IsOutput l draw old.outside.bundle status old.out.bytes new.out.bytes
   output = out_of now draw old new status l run.ran
 
   pub complaint : IsComplaint status old.err new.err

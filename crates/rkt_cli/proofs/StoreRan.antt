@@ -85,7 +85,7 @@ sweep_conforming now draw intent observed a b is stays k =
     record { known = s.known; knows = record { tied = s.knows.tied; handles = s.knows.handles }; kept = s.kept }
 
 -- what each of the two owes
-never_bundle : (known : Refusal → Bool) (o : Outcome) {X : Type 0} → known BundleFault ≡ false → IfErr o (λ r. known r ≡ true) → IsErrOf o BundleFault → X
+pub never_bundle : (known : Refusal → Bool) (o : Outcome) {X : Type 0} → known BundleFault ≡ false → IfErr o (λ r. known r ≡ true) → IsErrOf o BundleFault → X
 never_bundle known (Ok text) never all is = cc
 never_bundle known (Err r) never all is = let e : BundleFault ≡ r = cc in let clash : false ≡ true = sym never ∙ (ap known e ∙ all) in cc
 

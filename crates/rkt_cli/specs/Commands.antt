@@ -15,7 +15,7 @@ use Rattle.phase_read.specs.Read.{is_pod_spot}
 use Rattle.dir_trait.specs.State.{DirState}
 use Rattle.dir_trait.specs.Trace.{state_after}
 use Rattle.rkt_cli.specs.declared.line.Line.{Line}
-use Rattle.rkt_cli.specs.declared.line.Line.TheVariants.{Status, Validate, ImageList, ImageImport, ImageRm, ImageGc}
+use Rattle.rkt_cli.specs.declared.line.Line.TheVariants.{Status, Validate, ImageList, ImageImport, ImageRm, ImageGc, Prepare}
 use Rattle.command_outcomes.specs.declared.refusal.Refusal.{Refusal}
 use Rattle.command_outcomes.specs.declared.refusal.Refusal.TheVariants.{Usage, DirFault, BundleFault, OutFault, NoMemory}
 use Rattle.command_outcomes.specs.Moments.{BundleSeen, Outside, Outcome}
@@ -25,6 +25,9 @@ use Rattle.store_commands.specs.ImageList.{image_list_refusal, lists_images, Ima
 use Rattle.store_commands.specs.ImageImport.{image_import_refusal, ImageImportSays, ImportsQuietly, LeavesOthers}
 use Rattle.store_commands.specs.ImageRm.{image_rm_refusal, ImageRmSays, RemovesQuietly, is_removal_place}
 use Rattle.store_commands.specs.ImageGc.{image_gc_refusal, ImageGcSays, SweepsQuietly, is_swept_place}
+use Rattle.pod_commands.specs.Refusals.{prepare_refusal}
+use Rattle.pod_commands.specs.Prepare.{prepares_pod, PrepareSays}
+use Rattle.pod_commands.specs.Quiet.{PreparesQuietly, is_pod_place}
 use Rattle.rkt_cli.specs.Validate.{validate_refusal, ValidateSays, ReadsFile, sequential_validate}
 
 -- whether it works on the directory, and whether it reads the bundle
@@ -35,6 +38,7 @@ uses_dir ImageList = true
 uses_dir (ImageImport path) = true
 uses_dir (ImageRm key) = true
 uses_dir ImageGc = true
+uses_dir (Prepare words) = true
 
 abbrev pub reads_bundle : Line → Bool
 reads_bundle (Status pod) = false
@@ -43,6 +47,7 @@ reads_bundle ImageList = false
 reads_bundle (ImageImport path) = true
 reads_bundle (ImageRm key) = false
 reads_bundle ImageGc = false
+reads_bundle (Prepare words) = false
 
 -- what a process says when it begins that has no times of its own
 abbrev pub intent_for : Kind → List ℕ → ℕ → Draw → Intent
@@ -56,11 +61,13 @@ intent_of ImageList now draw = Some (intent_for kind.ImageList [] now draw)
 intent_of (ImageImport path) now draw = Some (intent_for kind.ImageImport [] now draw)
 intent_of (ImageRm key) now draw = Some (intent_for kind.ImageRm [] now draw)
 intent_of ImageGc now draw = Some (intent_for kind.ImageGc [] now draw)
+intent_of (Prepare words) now draw = Some (intent_for kind.Prepare [] now draw)
 
 -- what it asks of the directory, which may be of what was drawn for it: `status` looks at the pod's six locations, `image list` asks
 -- for images and their lock, `image import` also for the lock of incoming and for its own folder; `image rm` for the locks of images
 -- and removed, for its image's move and for the deletion of what was moved; `image gc` for the locks and listings of incoming and
--- removed, for moves from the first to the second and for deletions there
+-- removed, for moves from the first to the second and for deletions there; `prepare` for the locks of images and embryo, for reads of
+-- images, for its own folder, its lock and its moves, and for the sync of prepared
 abbrev pub asks : Line → Draw → Request → Bool
 asks (Status pod) draw request = is_look_at (is_pod_spot pod) request
 asks (Validate path) draw request = false
@@ -68,6 +75,7 @@ asks ImageList draw request = lists_images request
 asks (ImageImport path) draw request = imports_at (building_spot draw.uuid) request
 asks (ImageRm key) draw request = removes_at key draw.uuid request
 asks ImageGc draw request = sweeps request
+asks (Prepare words) draw request = prepares_pod draw.uuid request
 
 -- the refusals of its own
 abbrev pub own_refusal : Line → Refusal → Bool
@@ -77,6 +85,7 @@ own_refusal ImageList refusal = image_list_refusal refusal
 own_refusal (ImageImport path) refusal = image_import_refusal refusal
 own_refusal (ImageRm key) refusal = image_rm_refusal refusal
 own_refusal ImageGc refusal = image_gc_refusal refusal
+own_refusal (Prepare words) refusal = prepare_refusal refusal
 
 -- the refusals that it may have
 abbrev pub may : Line → Refusal → Bool
@@ -95,6 +104,7 @@ IsReady ImageList m = Unit {0}
 IsReady (ImageImport path) m = Unit {0}
 IsReady (ImageRm key) m = Unit {0}
 IsReady ImageGc m = Unit {0}
+IsReady (Prepare words) m = Unit {0}
 
 -- what it did, where it came to an end of its own
 abbrev pub CommandSays : Line → ℕ → Draw → Outside → Outside → Outcome → Type 0
@@ -104,6 +114,7 @@ CommandSays ImageList now draw old new o = ImageListSays old.dir new.dir o
 CommandSays (ImageImport path) now draw old new o = ImageImportSays path now draw.uuid old new o
 CommandSays (ImageRm key) now draw old new o = ImageRmSays key draw.uuid old.dir new.dir o
 CommandSays ImageGc now draw old new o = ImageGcSays old.dir new.dir o
+CommandSays (Prepare words) now draw old new o = PrepareSays words now draw old.dir new.dir o
 
 -- what it reads of the bundle
 abbrev pub ReadsOnly : Line → BundleSeen → BundleSeen → Type 0
@@ -113,6 +124,7 @@ ReadsOnly ImageList old new = Unit {0}
 ReadsOnly (ImageImport path) old new = Unit {0}
 ReadsOnly (ImageRm key) old new = Unit {0}
 ReadsOnly ImageGc old new = Unit {0}
+ReadsOnly (Prepare words) old new = Unit {0}
 
 -- what it comes to where nobody else steps: for `status` and `validate` by the state and the bundle before
 abbrev pub ComesQuietly : Line → ℕ → Draw → Outside → Outside → Outcome → Type 0
@@ -122,6 +134,7 @@ ComesQuietly ImageList now draw old new o = ListsQuietly old.dir new.dir o
 ComesQuietly (ImageImport path) now draw old new o = ImportsQuietly path now draw.uuid old new o
 ComesQuietly (ImageRm key) now draw old new o = RemovesQuietly key draw.uuid old.dir new.dir o
 ComesQuietly ImageGc now draw old new o = SweepsQuietly old.dir new.dir o
+ComesQuietly (Prepare words) now draw old new o = PreparesQuietly words now draw old.dir new.dir o
 
 -- and what it leaves in the directory then, from one state to the other: by its moment, its draw and the bundle's tree
 abbrev pub LeavesQuietly : Line → ℕ → Draw → Tree → DirState → DirState → Type 0
@@ -131,3 +144,4 @@ LeavesQuietly ImageList now draw tree old new = IsUnchanged old new
 LeavesQuietly (ImageImport path) now draw tree old new = LeavesOthers draw.uuid old new
 LeavesQuietly (ImageRm key) now draw tree old new = StaysBeside (is_removal_place key draw.uuid) old new
 LeavesQuietly ImageGc now draw tree old new = StaysBeside is_swept_place old new
+LeavesQuietly (Prepare words) now draw tree old new = StaysBeside (is_pod_place draw.uuid) old new

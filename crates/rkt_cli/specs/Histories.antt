@@ -1,18 +1,21 @@
--- What a run tells of pods and images, in an execution in which every process keeps the local rules.
-use Rattle.std.specs.Prelude.{◌≡◌, ℕ, true, Option, Some, List, ◌++◌}
+-- What a run tells of pods and images, by its own answers or in an execution in which every process keeps the local rules.
+use Rattle.std.specs.Prelude.{◌≡◌, ◌⊎◌, ℕ, true, false, ◌||◌, ◌==◌, Option, Some, List, ◌++◌}
 use Rattle.dir_model.specs.declared.area.Area.{Area}
 use Rattle.dir_model.specs.declared.area.Phase.{Phase}
 use Rattle.dir_model.specs.declared.event.Event.{Event}
 use Rattle.dir_model.specs.declared.intent.Draw.{Draw}
 use Rattle.dir_model.specs.declared.pod.PodId.{PodId}
+use Rattle.dir_model.specs.declared.request.DirError.TheVariants.{Failed, NoMemory}
+use Rattle.dir_model.specs.declared.request.Reply.TheVariants.{Refused}
 use Rattle.phase_read.specs.Exact.{AtOwnEvent, IsInPhase, IsNowhere}
 use Rattle.rkt_cli.specs.declared.line.Line.{Line}
-use Rattle.rkt_cli.specs.declared.line.Line.TheVariants.{Status, ImageList, ImageImport, ImageRm, ImageGc}
+use Rattle.rkt_cli.specs.declared.line.Line.TheVariants.{Status, ImageList, ImageImport, ImageRm, ImageGc, Prepare}
 use Rattle.rkt_cli.specs.Texts.{state_text}
 use Rattle.store_commands.specs.ImageImport.{StoresImage}
 use Rattle.store_commands.specs.ImageList.{ListsStore}
 use Rattle.store_commands.specs.ImageRm.{removed_text, HasRemoved}
 use Rattle.store_commands.specs.ImageGc.{HasSwept}
+use Rattle.pod_commands.specs.Prepare.{pod_line, IsFaithful, HasBrought, HasSynced, HasKeptFolder}
 use Rattle.command_outcomes.specs.Moments.{DirSeen, Outside, SinkSeen}
 
 -- the text names the phase that the pod had by its history at one own event
@@ -27,18 +30,38 @@ abbrev pub WritesOf : (List ℕ → Type 0) → SinkSeen → SinkSeen → Type 0
 WritesOf P out written = (text : List ℕ) × P text × (out.observed ≡ true → written.bytes ≡ out.bytes ++ text)
 
 -- of `status`: with status 0 that text was written; with 2 the pod didn't exist at one own event. Of `image import`: with status 0
--- the line of the image was written that the bundle says, and it is stored
+-- the line of the image was written that the bundle says, and it is stored. Of `prepare`: with status 0 the drawn name was written, and
+-- the pod of the words was prepared faithfully
 abbrev pub TellsHistory : Option Line → ℕ → Draw → ℕ → Outside → Outside → SinkSeen → SinkSeen → Type 0
 TellsHistory (Some (Status pod)) now draw status old new out written =
     (status ≡ 0 → WritesOf (TellsPhase pod old.dir.process old.dir.trace new.dir.trace) out written)
     × (status ≡ 2 → AtOwnEvent old.dir.process old.dir.trace new.dir.trace (IsNowhere pod))
 TellsHistory (Some (ImageImport path)) now draw status old new out written = status ≡ 0 → WritesOf (StoresImage path now draw.uuid old new) out written
+TellsHistory (Some (Prepare words)) now draw status old new out written =
+    status ≡ 0 → WritesOf (λ text. (text ≡ pod_line draw.uuid) × IsFaithful words draw.uuid old.dir new.dir) out written
 TellsHistory _ now draw status old new out written = Unit {0}
 
 -- with status 0, by its own answers: `image list` wrote the lines of the images that it read; `image rm` wrote that the image is
--- removed, and removed it; `image gc` wrote the lines of what it did
+-- removed, and removed it; `image gc` wrote the lines of what it did; `prepare` wrote the drawn name, and before that it brought the pod
+-- to prepared, and then synced that area
 abbrev pub TellsDeed : Option Line → Draw → ℕ → DirSeen → DirSeen → SinkSeen → SinkSeen → Type 0
 TellsDeed (Some ImageList) draw status old new out written = status ≡ 0 → WritesOf (ListsStore old new) out written
 TellsDeed (Some (ImageRm key)) draw status old new out written = status ≡ 0 → WritesOf (λ text. (text ≡ removed_text key) × HasRemoved key draw.uuid old new) out written
 TellsDeed (Some ImageGc) draw status old new out written = status ≡ 0 → WritesOf (HasSwept old new) out written
+TellsDeed (Some (Prepare words)) draw status old new out written = status ≡ 0 → WritesOf (λ text. (text ≡ pod_line draw.uuid) × HasSynced draw.uuid old new) out written
 TellsDeed _ draw status old new out written = Unit {0}
+
+-- with status 0 and 12 it brought the pod to prepared and synced that area; with 9 it may have, and the sync was refused; with 14 it may
+-- have, and memory ran out at the sync or later. Else, and only with another status than 0 and 12, it left at most its own folder in
+-- embryo or in prepare; in each case it held no lock
+abbrev pub LeavesPod : PodId → ℕ → DirSeen → DirSeen → Type 0
+LeavesPod draw status old new =
+    (((status ≡ 0) ⊎ (status ≡ 12)) × HasSynced draw old new)
+    ⊎ ((status ≡ 9) × HasBrought draw (Refused Failed 0) old new)
+    ⊎ ((status ≡ 14) × (HasSynced draw old new ⊎ HasBrought draw (Refused NoMemory 0) old new))
+    ⊎ ((((status == 0) || (status == 12)) ≡ false) × HasKeptFolder draw old new)
+
+-- what `prepare` left, by its own answers
+abbrev pub TellsLeft : Option Line → Draw → ℕ → DirSeen → DirSeen → Type 0
+TellsLeft (Some (Prepare words)) draw status old new = LeavesPod draw.uuid status old new
+TellsLeft _ draw status old new = Unit {0}

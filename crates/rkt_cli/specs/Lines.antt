@@ -4,7 +4,8 @@ use Rattle.std.specs.Global.{Global}
 use Rattle.ac_types.specs.Ids.{key_read}
 use Rattle.dir_trait.specs.Pods.{pod_of}
 use Rattle.rkt_cli.specs.declared.line.Line.{Line}
-use Rattle.rkt_cli.specs.declared.line.Line.TheVariants.{Status, Validate, ImageList, ImageImport, ImageRm, ImageGc}
+use Rattle.pod_commands.specs.References.{are_references}
+use Rattle.rkt_cli.specs.declared.line.Line.TheVariants.{Status, Validate, ImageList, ImageImport, ImageRm, ImageGc, Prepare}
 use Rattle.rkt_cli.specs.declared.line.WordsError.{WordsError}
 use Rattle.rkt_cli.specs.declared.line.WordsError.TheVariants.{Usage, NoMemory}
 
@@ -31,12 +32,27 @@ long_command_of command word last =
     cond (bytes_eq command (codes "image") && (bytes_eq word (codes "import") && is_file_word last)) (Some (ImageImport last))
     (cond (bytes_eq command (codes "image") && bytes_eq word (codes "rm")) (removal_of last) None)
 
+-- the images of a pod: at least one, each of them a reference
+abbrev pub prepare_of : List (List ℕ) → Option Line
+prepare_of [] = None
+prepare_of words = cond (are_references words) (Some (Prepare words)) None
+
 -- `status` and the text of a pod, `validate` and the path of a file, `image` and `list` or `gc`, `image`, `import` and the path of a
--- bundle, or `image`, `rm` and the text of a key; any other words are no command
+-- bundle, or `image`, `rm` and the text of a key
+abbrev pub short_line_of : List (List ℕ) → Option Line
+short_line_of (command ∷ word ∷ []) = command_of command word
+short_line_of (command ∷ word ∷ path ∷ []) = long_command_of command word path
+short_line_of _ = None
+
+-- the first word is `prepare`
+abbrev pub is_prepare : List (List ℕ) → Bool
+is_prepare [] = false
+is_prepare (command ∷ words) = bytes_eq command (codes "prepare")
+
+-- `prepare` and the images of a pod, or one of these; any other words are no command
 abbrev pub line_of : List (List ℕ) → Option Line
-line_of (command ∷ word ∷ []) = command_of command word
-line_of (command ∷ word ∷ path ∷ []) = long_command_of command word path
-line_of _ = None
+line_of [] = None
+line_of (command ∷ words) = cond (is_prepare (command ∷ words)) (prepare_of words) (short_line_of (command ∷ words))
 
 -- of the words as the program has them
 abbrev pub line_in : List (String Global) → Option Line

@@ -32,9 +32,9 @@ use Rattle.image_store.specs.Refusals.{bundle_refusal}
 use Rattle.image_removal.specs.declared.pass.SweepLine.{SweepLine}
 use Rattle.phase_read.specs.Read.{LeftOut, stages}
 use Rattle.rkt_cli.specs.declared.line.Line.{Line}
-use Rattle.rkt_cli.specs.declared.line.Line.TheVariants.{Status, Validate, ImageList, ImageImport, ImageRm, ImageGc}
+use Rattle.rkt_cli.specs.declared.line.Line.TheVariants.{Status, Validate, ImageList, ImageImport, ImageRm, ImageGc, Prepare}
 use Rattle.command_outcomes.specs.declared.refusal.Refusal.{Refusal}
-use Rattle.command_outcomes.specs.declared.refusal.Refusal.TheVariants.{Usage, Busy, BadManifest, NoImage, Limit, NoFile, Conflict, Damaged}
+use Rattle.command_outcomes.specs.declared.refusal.Refusal.TheVariants.{Usage, Busy, BadManifest, NoImage, Limit, NoFile, Conflict, Damaged, Taken, Stray}
 use Rattle.command_outcomes.specs.Texts.{status_of}
 use Rattle.rkt_cli.specs.Texts.{state_text, valid_text}
 use Rattle.command_outcomes.specs.Moments.{DirSeen, BundleSeen, SinkSeen, Outside, Moment, Outcome}
@@ -45,6 +45,7 @@ use Rattle.store_commands.specs.ImageImport.{import_refusal, source_of, PrintsKe
 use Rattle.command_outcomes.specs.Meanwhile.{Meanwhile}
 use Rattle.store_commands.specs.ImageRm.{removed_text, FindsBusy, HasFoundNone, HasMetStray}
 use Rattle.store_commands.specs.ImageGc.{sweep_texts, HasMetStrayInSweep}
+use Rattle.pod_commands.specs.Prepare.{pod_line, RefusesPod}
 use Rattle.command_outcomes.specs.Conforming.{shown_at}
 use Rattle.rkt_cli.specs.Runs.{Complained, ended_local}
 
@@ -59,7 +60,7 @@ reads_bundle_in (Some line) = reads_bundle line
 
 -- the exit statuses
 abbrev pub IsStatus : ℕ → Type 0
-IsStatus status = list_any (λ n. n == status) (0 ∷ 1 ∷ 2 ∷ 5 ∷ 6 ∷ 7 ∷ 8 ∷ 9 ∷ 10 ∷ 12 ∷ 14 ∷ 15 ∷ 20 ∷ []) ≡ true
+IsStatus status = list_any (λ n. n == status) (0 ∷ 1 ∷ 2 ∷ 5 ∷ 6 ∷ 7 ∷ 8 ∷ 9 ∷ 10 ∷ 12 ∷ 14 ∷ 15 ∷ 17 ∷ 20 ∷ []) ≡ true
 
 -- each of the six areas was without the pod at an own step, one after the other
 abbrev pub IsMissing : Option Line → DirSeen → DirSeen → Type 0
@@ -80,16 +81,23 @@ pub record IsBadBundle (path : List ℕ) (refusal : Refusal) (bundle : BundleSee
   pub first : bundle.observed ≡ true → FailsBundle bundle.tree path fault
   pub said : Complained refusal old new
 
--- a file has no reading as what it is to be: a manifest, or in a bundle an ID or a listing
-abbrev pub IsBadManifest : Option Line → BundleSeen → SinkSeen → SinkSeen → Type 0
-IsBadManifest (Some (Validate path)) bundle old new = IsUnreadable path bundle old new
-IsBadManifest (Some (ImageImport path)) bundle old new = (at : List ℕ) × (number : ℕ) × IsBadBundle path (BadManifest at number) bundle old new
-IsBadManifest _ bundle old new = ⊥
+-- the pod of these words wasn't prepared, by its own reads and answers, of which this was said
+pub record IsNoPod (words : List (List ℕ)) (now : ℕ) (draw : Draw) (refusal : Refusal) (before after : DirSeen) (old new : SinkSeen) : Type 0 where
+  pub refuses : RefusesPod words now draw before after refusal
+  pub said : Complained refusal old new
 
--- the listing of a bundle passes a limit
-abbrev pub IsLimit : Option Line → BundleSeen → SinkSeen → SinkSeen → Type 0
-IsLimit (Some (ImageImport path)) bundle old new = (limit : ℕ) × IsBadBundle path (Limit limit) bundle old new
-IsLimit _ bundle old new = ⊥
+-- a file has no reading as what it is to be: a manifest, or in a bundle an ID or a listing; or images make no pod manifest
+abbrev pub IsBadManifest : Option Line → ℕ → Draw → Outside → Outside → SinkSeen → SinkSeen → Type 0
+IsBadManifest (Some (Validate path)) now draw before after old new = IsUnreadable path before.bundle old new
+IsBadManifest (Some (ImageImport path)) now draw before after old new = (at : List ℕ) × (number : ℕ) × IsBadBundle path (BadManifest at number) before.bundle old new
+IsBadManifest (Some (Prepare words)) now draw before after old new = (name : List ℕ) × (number : ℕ) × IsNoPod words now draw (BadManifest name number) before.dir after.dir old new
+IsBadManifest _ now draw before after old new = ⊥
+
+-- the listing of a bundle passes a limit, or a pod does, or the dependencies of its images
+abbrev pub IsLimit : Option Line → ℕ → Draw → Outside → Outside → SinkSeen → SinkSeen → Type 0
+IsLimit (Some (ImageImport path)) now draw before after old new = (limit : ℕ) × IsBadBundle path (Limit limit) before.bundle old new
+IsLimit (Some (Prepare words)) now draw before after old new = (limit : ℕ) × IsNoPod words now draw (Limit limit) before.dir after.dir old new
+IsLimit _ now draw before after old new = ⊥
 
 -- no file stands in the bundle at the path, which was said
 pub record IsNoFile (path : List ℕ) (bundle : BundleSeen) (old new : SinkSeen) : Type 0 where
@@ -122,11 +130,17 @@ IsUnlike path before after old new =
     ⊎ OfBundle (source_of path before.bundle) (λ image. IsImportDamage path image before after old new ⊎ IsConflict image before.dir after.dir old new)
 
 -- what a command asked for isn't there, or isn't whole
-abbrev pub IsLacking : Option Line → Outside → Outside → SinkSeen → SinkSeen → Type 0
-IsLacking (Some (Validate path)) before after old new = IsNoFile path before.bundle old new
-IsLacking (Some ImageList) before after old new = IsDamage before.dir after.dir old new
-IsLacking (Some (ImageImport path)) before after old new = IsUnlike path before after old new
-IsLacking _ before after old new = ⊥
+abbrev pub IsLacking : Option Line → ℕ → Draw → Outside → Outside → SinkSeen → SinkSeen → Type 0
+IsLacking (Some (Validate path)) now draw before after old new = IsNoFile path before.bundle old new
+IsLacking (Some ImageList) now draw before after old new = IsDamage before.dir after.dir old new
+IsLacking (Some (ImageImport path)) now draw before after old new = IsUnlike path before after old new
+IsLacking (Some (Prepare words)) now draw before after old new = (path : List ℕ) × IsNoPod words now draw (Damaged path) before.dir after.dir old new
+IsLacking _ now draw before after old new = ⊥
+
+-- a folder with the drawn name stood in embryo at an own step, and the name was said
+abbrev pub IsTaken : Option Line → ℕ → Draw → Outside → Outside → SinkSeen → SinkSeen → Type 0
+IsTaken (Some (Prepare words)) now draw before after old new = IsNoPod words now draw (Taken draw.uuid) before.dir after.dir old new
+IsTaken _ now draw before after old new = ⊥
 
 -- another process held the lock of the images exclusively at an own step, which was said
 pub record IsImagesBusy (before after : DirSeen) (old new : SinkSeen) : Type 0 where
@@ -149,6 +163,7 @@ abbrev pub IsLockBusy : Option Line → DirSeen → DirSeen → SinkSeen → Sin
 IsLockBusy (Some ImageList) before after old new = IsImagesBusy before after old new
 IsLockBusy (Some (ImageImport path)) before after old new = IsAreaBusy before after old new
 IsLockBusy (Some (ImageRm key)) before after old new = IsRemovalBusy before after old new
+IsLockBusy (Some (Prepare words)) before after old new = IsAreaBusy before after old new
 IsLockBusy _ before after old new = ⊥
 
 -- no image had the key when its own move was answered so, before which nothing but the lock of images was asked for; and the key was said
@@ -156,19 +171,22 @@ pub record IsKeyUnknown (key : StoreKey) (draw : Draw) (before after : DirSeen) 
   pub found : before.observed ≡ true → HasFoundNone key draw.uuid before after
   pub said : Complained (NoImage (id_text key.bytes)) old new
 
--- no image has the key that was given
-abbrev pub IsNoImage : Option Line → Draw → DirSeen → DirSeen → SinkSeen → SinkSeen → Type 0
-IsNoImage (Some (ImageRm key)) draw before after old new = IsKeyUnknown key draw before after old new
-IsNoImage _ draw before after old new = ⊥
+-- no image has the key that was given; or no image is what a word refers to, or what an image depends on, or one depends on itself
+abbrev pub IsNoImage : Option Line → ℕ → Draw → Outside → Outside → SinkSeen → SinkSeen → Type 0
+IsNoImage (Some (ImageRm key)) now draw before after old new = IsKeyUnknown key draw before.dir after.dir old new
+IsNoImage (Some (Prepare words)) now draw before after old new = (refusal : Refusal) × (status_of refusal ≡ 7) × IsNoPod words now draw refusal before.dir after.dir old new
+IsNoImage _ now draw before after old new = ⊥
 
 -- of `image import`: an answer came that the folder which the process builds doesn't explain, or the image that stood at its key
--- vanished; of `image rm` and `image gc`: one came that what the locks keep doesn't explain
-abbrev pub IsStray : Option Line → Outside → Outside → Type 0
-IsStray (Some (ImageImport path)) before after =
+-- vanished; of `image rm` and `image gc`: one came that what the locks keep doesn't explain; of `prepare`: one came that what it made
+-- itself doesn't explain
+abbrev pub IsStray : Option Line → ℕ → Draw → Outside → Outside → Type 0
+IsStray (Some (ImageImport path)) now draw before after =
     OfBundle (source_of path before.bundle) (λ image. before.dir.observed ≡ true → StrayCause (key_of image) (shown_at before.dir) (shown_at after.dir))
-IsStray (Some (ImageRm key)) before after = before.dir.observed ≡ true → HasMetStray before.dir after.dir
-IsStray (Some ImageGc) before after = before.dir.observed ≡ true → HasMetStrayInSweep before.dir after.dir
-IsStray _ before after = ⊥
+IsStray (Some (ImageRm key)) now draw before after = before.dir.observed ≡ true → HasMetStray before.dir after.dir
+IsStray (Some ImageGc) now draw before after = before.dir.observed ≡ true → HasMetStrayInSweep before.dir after.dir
+IsStray (Some (Prepare words)) now draw before after = RefusesPod words now draw before.dir after.dir Stray
+IsStray _ now draw before after = ⊥
 
 -- the process's own requests: its begin, those of the command, its finish
 abbrev pub asks_in : Option Line → Draw → Request → Bool
@@ -176,20 +194,21 @@ asks_in None draw request = false
 asks_in (Some line) draw request = is_begin request || (asks line draw request || is_finish request)
 
 -- a text that the command prints
-abbrev pub Prints : Option Line → BundleSeen → List ℕ → Type 0
-Prints (Some (Status pod)) bundle text = (phase : Phase) × (text ≡ state_text phase)
-Prints (Some (Validate path)) bundle text = (manifest : DocumentData) × (text ≡ valid_text manifest)
-Prints (Some ImageList) bundle text = (images : List Stored) × (text ≡ images_text images)
-Prints (Some (ImageImport path)) bundle text = PrintsKey path bundle text
-Prints (Some (ImageRm key)) bundle text = text ≡ removed_text key
-Prints (Some ImageGc) bundle text = (lines : List SweepLine) × (text ≡ sweep_texts lines)
-Prints None bundle text = ⊥
+abbrev pub Prints : Option Line → Draw → BundleSeen → List ℕ → Type 0
+Prints (Some (Status pod)) draw bundle text = (phase : Phase) × (text ≡ state_text phase)
+Prints (Some (Validate path)) draw bundle text = (manifest : DocumentData) × (text ≡ valid_text manifest)
+Prints (Some ImageList) draw bundle text = (images : List Stored) × (text ≡ images_text images)
+Prints (Some (ImageImport path)) draw bundle text = PrintsKey path bundle text
+Prints (Some (ImageRm key)) draw bundle text = text ≡ removed_text key
+Prints (Some ImageGc) draw bundle text = (lines : List SweepLine) × (text ≡ sweep_texts lines)
+Prints (Some (Prepare words)) draw bundle text = text ≡ pod_line draw.uuid
+Prints None draw bundle text = ⊥
 
 -- with status 0 the command's text was written, with 12 and 14 a part of it from its start or nothing, and else nothing
-abbrev pub IsOutput : Option Line → BundleSeen → ℕ → List ℕ → List ℕ → Type 0
-IsOutput line bundle status old new =
-    ((status ≡ 0) × (text : List ℕ) × Prints line bundle text × (new ≡ old ++ text))
-    ⊎ (((status ≡ 12) ⊎ (status ≡ 14)) × (text : List ℕ) × Prints line bundle text × WritesPart old text new)
+abbrev pub IsOutput : Option Line → Draw → BundleSeen → ℕ → List ℕ → List ℕ → Type 0
+IsOutput line draw bundle status old new =
+    ((status ≡ 0) × (text : List ℕ) × Prints line draw bundle text × (new ≡ old ++ text))
+    ⊎ (((status ≡ 12) ⊎ (status ≡ 14)) × (text : List ℕ) × Prints line draw bundle text × WritesPart old text new)
     ⊎ (((status == 0) ≡ false) × (new ≡ old))
 
 -- with status 0 nothing was said, and else the message of a refusal with that status

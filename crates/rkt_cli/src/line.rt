@@ -1,9 +1,10 @@
 // The words of a command line.
-ghost use Rattle.std.specs.Prelude.{◌≡◌, Some};
-ghost use Rattle.rkt_cli.specs.Lines.{is_file_word, command_of, removal_of, long_command_of, line_in, IsReading};
+ghost use Rattle.std.specs.Prelude.{◌≡◌, Some, map, string_bytes};
+ghost use Rattle.rkt_cli.specs.Lines.{is_file_word, command_of, removal_of, long_command_of, prepare_of, short_line_of, is_prepare, line_in, IsReading};
 
 use ac_types::{StoreKey, Text};
 use dir_trait::PodId;
+use pod_commands::{Wanted, are_references};
 use std::alloc::Global;
 
 /// A command with its words.
@@ -21,6 +22,8 @@ pub enum Line {
     ImageRm(StoreKey),
     /// `image gc`: sweep what dead processes left in the store.
     ImageGc,
+    /// `prepare IMAGE...`: prepare a pod of these images.
+    Prepare(Wanted),
 }
 
 /// Why words weren't read.
@@ -106,12 +109,23 @@ fn read_long_command(
     Err(WordsError::Usage)
 }
 
-/// The command that the words are. `Usage` where they are none: an unknown word, too few or too many
-/// words, a uuid that isn't whole, hyphenated and in lower case, a path that is empty or an option, or
-/// a key that isn't `sha512-` and 64 or 128 hex digits in lower case.
-/// `NoMemory` only where they are one.
-pub fn read_line(alloc: Global, words: &[String]) -> Result<Line, WordsError>
-    ensures { IsReading (line_in words.now) result }
+fn prepare_line(alloc: Global, words: &[String]) -> Result<Line, WordsError>
+    ensures { IsReading (prepare_of (map string_bytes words.now)) result }
+{
+    if words.is_empty() {
+        return Err(WordsError::Usage);
+    }
+    if !are_references(alloc, words) {
+        return Err(WordsError::Usage);
+    }
+    match Wanted::read(alloc, words) {
+        Ok(wanted) => Ok(Line::Prepare(wanted)),
+        Err(_) => Err(WordsError::NoMemory),
+    }
+}
+
+fn read_short_line(alloc: Global, words: &[String]) -> Result<Line, WordsError>
+    ensures { IsReading (short_line_of (map string_bytes words.now)) result }
 {
     match words {
         [command, word] => read_command(alloc, command.as_str(), word.as_str()),
@@ -119,5 +133,28 @@ pub fn read_line(alloc: Global, words: &[String]) -> Result<Line, WordsError>
             read_long_command(alloc, command.as_str(), word.as_str(), last.as_str())
         }
         _ => Err(WordsError::Usage),
+    }
+}
+
+fn is_prepare(words: &[String]) -> bool
+    ensures { result ≡ is_prepare (map string_bytes words.now) }
+{
+    match words {
+        [] => false,
+        [command, ..] => command.as_str() == "prepare",
+    }
+}
+
+/// The command that the words are. `Usage` where they are none: an unknown word, too few or too many
+/// words, a uuid that isn't whole, hyphenated and in lower case, a path that is empty or an option,
+/// a key that isn't `sha512-` and 64 or 128 hex digits in lower case, or an image that is no reference.
+/// `NoMemory` only where they are one.
+pub fn read_line(alloc: Global, words: &[String]) -> Result<Line, WordsError>
+    ensures { IsReading (line_in words.now) result }
+{
+    if is_prepare(words) {
+        prepare_line(alloc, &words[1..])
+    } else {
+        read_short_line(alloc, words)
     }
 }

@@ -12,6 +12,7 @@ use crate::status::pod_status;
 use crate::validate::validate;
 use command_outcomes::{Output, Refusal};
 use dir_trait::{Bundle, Dir, Draw, Intent, Kind, PodPrefix};
+use pod_commands::prepare::prepare_pod;
 use std::alloc::Global;
 use store_commands::image_gc::image_gc;
 use store_commands::image_import::image_import;
@@ -45,6 +46,7 @@ fn line_intent(line: &Line, now: u64, draw: &Draw) -> Option<Intent>
         Line::ImageImport(_) => Some(intent_for(Kind::ImageImport, PodPrefix::empty(), now, draw)),
         Line::ImageRm(_) => Some(intent_for(Kind::ImageRm, PodPrefix::empty(), now, draw)),
         Line::ImageGc => Some(intent_for(Kind::ImageGc, PodPrefix::empty(), now, draw)),
+        Line::Prepare(_) => Some(intent_for(Kind::Prepare, PodPrefix::empty(), now, draw)),
     }
 }
 
@@ -73,6 +75,7 @@ fn act<D: Dir, B: Bundle>(
         Line::ImageImport(path) => image_import(alloc, path, now, draw.uuid, dir, bundle),
         Line::ImageRm(key) => image_rm(alloc, *key, draw.uuid, dir),
         Line::ImageGc => image_gc(alloc, dir),
+        Line::Prepare(wanted) => prepare_pod(alloc, wanted, now, draw, dir),
     }
 }
 

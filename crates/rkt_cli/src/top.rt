@@ -5,11 +5,12 @@ ghost use Rattle.dir_trait.specs.DirCalls.{ExtendsBy};
 ghost use Rattle.dir_trait.specs.Local.{nothing_local};
 ghost use Rattle.rkt_cli.specs.Lines.{line_in};
 ghost use Rattle.lifecycle.specs.Executions.{IsConforming};
-ghost use Rattle.rkt_cli.specs.Histories.{TellsHistory, TellsDeed};
+ghost use Rattle.rkt_cli.specs.Histories.{TellsHistory, TellsDeed, TellsLeft};
 ghost use Rattle.command_outcomes.specs.Conforming.{KeepsConforming};
 ghost use Rattle.command_outcomes.specs.Moments.{dir_at, bundle_at, outside_at, sink_at};
 ghost use Rattle.rkt_cli.specs.Between.{RunBetween, JudgedBetween, QuietBetween};
-ghost use Rattle.rkt_cli.specs.Statuses.{uses_dir_in, reads_bundle_in, IsMissing, IsBadManifest, IsLimit, IsLacking, IsLockBusy, IsNoImage, IsStray, asks_in, IsStatus, IsOutput, IsComplaint, IsOver, ReadsIn};
+ghost use Rattle.rkt_cli.specs.Statuses.{uses_dir_in, reads_bundle_in, IsMissing, IsBadManifest, IsLimit, IsLacking, IsTaken, IsLockBusy};
+ghost use Rattle.rkt_cli.specs.Statuses.{IsNoImage, IsStray, asks_in, IsStatus, IsOutput, IsComplaint, IsOver, ReadsIn};
 
 use crate::line::{WordsError, read_line};
 use crate::perform::perform;
@@ -68,17 +69,21 @@ pub fn rkt<D: Dir, B: Bundle, O: Sink, E: Sink>(
     ensures unread { reads_bundle_in (line_in words.now) ≡ false → bundle.new ≡ bundle.old }
     ensures no_pod { result ≡ 2 → D.observed ≡ true → IsMissing (line_in words.now) (dir_at D.Dir dir.old) (dir_at D.Dir dir.new) }
     ensures bad_manifest { result ≡ 6
-        → IsBadManifest (line_in words.now) (bundle_at B.Bundle bundle.old) (sink_at E.Sink err.old) (sink_at E.Sink err.new) }
-    ensures limit { result ≡ 8 → IsLimit (line_in words.now) (bundle_at B.Bundle bundle.old) (sink_at E.Sink err.old) (sink_at E.Sink err.new) }
-    ensures no_image { result ≡ 7 → IsNoImage (line_in words.now) draw.now (dir_at D.Dir dir.old) (dir_at D.Dir dir.new)
+        → IsBadManifest (line_in words.now) now draw.now (outside_at D.Dir B.Bundle dir.old bundle.old) (outside_at D.Dir B.Bundle dir.new bundle.new)
         (sink_at E.Sink err.old) (sink_at E.Sink err.new) }
-    ensures stray { result ≡ 20 → IsStray (line_in words.now) (outside_at D.Dir B.Bundle dir.old bundle.old) (outside_at D.Dir B.Bundle dir.new bundle.new) }
+    ensures limit { result ≡ 8 → IsLimit (line_in words.now) now draw.now (outside_at D.Dir B.Bundle dir.old bundle.old) (outside_at D.Dir B.Bundle dir.new bundle.new)
+        (sink_at E.Sink err.old) (sink_at E.Sink err.new) }
+    ensures no_image { result ≡ 7 → IsNoImage (line_in words.now) now draw.now (outside_at D.Dir B.Bundle dir.old bundle.old) (outside_at D.Dir B.Bundle dir.new bundle.new)
+        (sink_at E.Sink err.old) (sink_at E.Sink err.new) }
+    ensures taken { result ≡ 17 → IsTaken (line_in words.now) now draw.now (outside_at D.Dir B.Bundle dir.old bundle.old) (outside_at D.Dir B.Bundle dir.new bundle.new)
+        (sink_at E.Sink err.old) (sink_at E.Sink err.new) }
+    ensures stray { result ≡ 20 → IsStray (line_in words.now) now draw.now (outside_at D.Dir B.Bundle dir.old bundle.old) (outside_at D.Dir B.Bundle dir.new bundle.new) }
     ensures dir_fault { result ≡ 9 → Rose (D.shown dir.old).faults (D.shown dir.new).faults }
     ensures bundle_fault { result ≡ 10 → Rose (B.shown bundle.old).faults (B.shown bundle.new).faults }
     ensures out_fault { result ≡ 12 → Rose (O.shown out.old).faults (O.shown out.new).faults }
     ensures busy { result ≡ 5 → IsLockBusy (line_in words.now) (dir_at D.Dir dir.old) (dir_at D.Dir dir.new)
         (sink_at E.Sink err.old) (sink_at E.Sink err.new) }
-    ensures lacking { result ≡ 15 → IsLacking (line_in words.now) (outside_at D.Dir B.Bundle dir.old bundle.old)
+    ensures lacking { result ≡ 15 → IsLacking (line_in words.now) now draw.now (outside_at D.Dir B.Bundle dir.old bundle.old)
         (outside_at D.Dir B.Bundle dir.new bundle.new) (sink_at E.Sink err.old) (sink_at E.Sink err.new) }
     ensures judged { B.observed ≡ true → JudgedBetween D.Dir B.Bundle O.Sink E.Sink (line_in words.now) result
         (dir.old, bundle.old, out.old, err.old) (dir.new, bundle.new, out.new, err.new) }
@@ -88,9 +93,10 @@ pub fn rkt<D: Dir, B: Bundle, O: Sink, E: Sink>(
     ensures conforms { D.observed ≡ true → KeepsConforming (dir_at D.Dir dir.old) (dir_at D.Dir dir.new) }
     ensures deed { D.observed ≡ true → TellsDeed (line_in words.now) draw.now result (dir_at D.Dir dir.old) (dir_at D.Dir dir.new)
         (sink_at O.Sink out.old) (sink_at O.Sink out.new) }
+    ensures left { D.observed ≡ true → TellsLeft (line_in words.now) draw.now result (dir_at D.Dir dir.old) (dir_at D.Dir dir.new) }
     ensures history { D.observed ≡ true → IsConforming (D.shown dir.new).trace → TellsHistory (line_in words.now) now draw.now result
         (outside_at D.Dir B.Bundle dir.old bundle.old) (outside_at D.Dir B.Bundle dir.new bundle.new) (sink_at O.Sink out.old) (sink_at O.Sink out.new) }
-    ensures out { O.observed ≡ true → IsOutput (line_in words.now) (bundle_at B.Bundle bundle.old) result (O.shown out.old).bytes (O.shown out.new).bytes }
+    ensures out { O.observed ≡ true → IsOutput (line_in words.now) draw.now (bundle_at B.Bundle bundle.old) result (O.shown out.old).bytes (O.shown out.new).bytes }
     ensures err { IsComplaint result (sink_at E.Sink err.old) (sink_at E.Sink err.new) }
     ensures quiet { QuietBetween D.Dir B.Bundle O.Sink E.Sink (line_in words.now) now draw.now result
         (dir.old, bundle.old, out.old, err.old) (dir.new, bundle.new, out.new, err.new) }

@@ -40,6 +40,33 @@ const OTHER: &[Put] = &[
     Put::File("b/tree", "d 0755 0 0 /etc\n"),
 ];
 
+const BASE_MANIFEST: &str =
+    r#"{"acKind":"ImageManifest","acVersion":"0.8.0","name":"example.com/base","labels":[{"name":"version","value":"1.0.0"}]}"#;
+
+const BASE_ID: &str =
+    "sha512-aaaaaaaaaaaaaaaaaaaaaaaaaaaaaaaaaaaaaaaaaaaaaaaaaaaaaaaaaaaaaaaaaaaaaaaaaaaaaaaaaaaaaaaaaaaaaaaaaaaaaaaaaaaaaaaaaaaaaaaaaaaaaaaa\n";
+
+const WORKER_MANIFEST: &str =
+    r#"{"acKind":"ImageManifest","acVersion":"0.8.0","name":"example.com/reduce-worker","labels":[{"name":"version","value":"1.0.0"}],"app":{"exec":["/bin/run","-q"],"user":"0","group":"0"},"dependencies":[{"imageName":"example.com/base","labels":[{"name":"version","value":"1.0.0"}]},{"imageName":"example.com/lib"}]}"#;
+
+const WORKER_ID: &str =
+    "sha512-cccccccccccccccccccccccccccccccccccccccccccccccccccccccccccccccccccccccccccccccccccccccccccccccccccccccccccccccccccccccccccccccc\n";
+
+// An image of three entries without an app, and one with an app that stands on it and on the image with a listing.
+const BASE: &[Put] = &[
+    Put::File("b/manifest", BASE_MANIFEST),
+    Put::File("b/id", BASE_ID),
+    Put::File("b/rootfs/bin/abc", "abc"),
+    Put::File("b/rootfs/etc/motd", ""),
+    Put::Link("b/rootfs/etc/issue", "motd"),
+];
+
+const WORKER: &[Put] = &[
+    Put::File("b/manifest", WORKER_MANIFEST),
+    Put::File("b/id", WORKER_ID),
+    Put::File("b/rootfs/bin/run", "abc"),
+];
+
 const POD: &[Put] = &[Put::File("m", POD_MANIFEST)];
 
 // Something of each kind, and a file of two pieces.
@@ -57,6 +84,8 @@ pub enum Carries {
     Nothing,
     Lib,
     OtherTree,
+    Base,
+    Worker,
     Pod,
     Stock,
 }
@@ -66,6 +95,8 @@ pub fn puts_of(carries: Carries) -> &'static [Put] {
         Carries::Nothing => &[],
         Carries::Lib => LIB,
         Carries::OtherTree => OTHER,
+        Carries::Base => BASE,
+        Carries::Worker => WORKER,
         Carries::Pod => POD,
         Carries::Stock => STOCK,
     }

@@ -12,6 +12,8 @@ mod image_list;
 #[cfg(test)]
 mod outputs;
 #[cfg(test)]
+mod prepare;
+#[cfg(test)]
 mod removals;
 #[cfg(test)]
 mod stage;

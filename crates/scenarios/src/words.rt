@@ -56,6 +56,11 @@ const LINES: &[Alone] = &[
     (&["image", "rm", OTHER_KEY], &[], USAGE),
     (&["image", "rm", KEY, KEY], &[], USAGE),
     (&["rm", KEY], &[], USAGE),
+    (&["prepare"], &[], USAGE),
+    (&["prepare", ""], &[], USAGE),
+    (&["prepare", "example.com/a:"], &[], USAGE),
+    (&["prepare", "example.com/a", "-x"], &[], USAGE),
+    (&["prepare", "sha512-a"], &[], USAGE),
 ];
 
 // A call, so that who goes through the table needn't look into it.

@@ -17,10 +17,11 @@ use Rattle.pod_making.proofs.Times.{Follows}
 use Rattle.pod_build.specs.declared.error.BuildError.{BuildError}
 use Rattle.pod_build.specs.Answers.{target, held_with, IsAnswer}
 use Rattle.pod_build.specs.Causes.{IsRefused, IsRefusedUnderLock, IsHeldElsewhere}
-use Rattle.pod_build.specs.Preparations.{Began, IsAlone, HasGateAlone, HasPrepared, KnowsPrepared, IsPrepared}
+use Rattle.pod_build.specs.Preparations.{Began, IsAlone, HasGateAlone, HasPrepared, KnowsPrepared, IsHandedOver, IsPrepared}
+use Rattle.dir_model.specs.Calls.{IsRun}
 use Rattle.pod_build.proofs.Parts.{refused_within}
 use Rattle.pod_build.proofs.Working.{ok_with, went_back, went_refused, hands_to, knows_back, left_back, may_lock, gate_elsewhere, elsewhere_within}
-use Rattle.pod_build.proofs.Faithful.{is_prepared}
+use Rattle.pod_build.proofs.Faithful.{is_handed_over, is_prepared}
 use Rattle.pod_build.proofs.preparing.prepare.Goals as goal
 
 pub returns-in-Ok-clause-went : goal.returns-in-Ok-clause-went
@@ -82,7 +83,29 @@ returns-in-Ok-clause-prepared g c =
     (λ built x t conforms intent hs began alone k.
     let under : List Held = on_gate gate Images (Some Shared) ∷ hs in
     let known = c.in-Ok.ensures.taken t (at_work intent hs nothing_made) k (may_lock alone) in
-    is_prepared {hs = held_with draw.uuid built under} {under = under} t conforms (hands_to c.args.keep_owner) began ab cd refl known (x t intent under began (ap (λ (l : List Held). on_gate gate Images (Some Shared) ∷ l) alone) known))
+    is_prepared {hs = held_with draw.uuid built under} {under = under} t conforms.run began ab cd refl known (x t intent under began (ap (λ (l : List Held). on_gate gate Images (Some Shared) ∷ l) alone) known) conforms (hands_to c.args.keep_owner))
+    c.prepare_under_lock-result.ensures.prepared
+
+pub returns-in-Ok-clause-faithful : goal.returns-in-Ok-clause-faithful
+returns-in-Ok-clause-faithful g c =
+    let D = g.D.Dir in
+    let a = D.shown c.args.dir.now in
+    let b = D.shown c.lock_area.new.dir in
+    let late = D.shown c.prepare_under_lock-result.new.dir in
+    let d = D.shown c.unlock_area.new.dir in
+    let gate = c.in-Ok.gate in
+    let draw = c.args.draw.now in
+    let refs = c.args.refs.now in
+    let options = c.args.options.now in
+    let to = target c.args.keep_owner in
+    let ab : Follows D.observed a b = record { same = c.lock_area.ensures.same; faults = c.lock_area.ensures.faults; asks = takes Images Shared; extends = c.lock_area.ensures.extends } in
+    let cd : Follows D.observed late d = record { same = c.unlock_area.ensures.same; faults = omega (arith, c.unlock_area.ensures.faultless); asks = closes gate; extends = c.unlock_area.ensures.extends } in
+    ok_more (λ built. D.observed ≡ true → From (Began to draw c.args.now) (HasGateAlone gate) nothing_made b (λ intent hs. HasPrepared refs options draw c.args.now to intent (held_with draw.uuid built hs) b late))
+    (λ built. D.observed ≡ true → IsRun d.trace → From (Began to draw c.args.now) IsAlone nothing_made a (λ intent hs. IsHandedOver a.process draw.uuid to a.trace d.trace)) c.prepare_under_lock-result.result
+    (λ built x t run intent hs began alone k.
+    let under : List Held = on_gate gate Images (Some Shared) ∷ hs in
+    let known = c.in-Ok.ensures.taken t (at_work intent hs nothing_made) k (may_lock alone) in
+    is_handed_over {hs = held_with draw.uuid built under} {under = under} t run began ab cd refl known (x t intent under began (ap (λ (l : List Held). on_gate gate Images (Some Shared) ∷ l) alone) known))
     c.prepare_under_lock-result.ensures.prepared
 
 pub returns-in-Ok-clause-knows : goal.returns-in-Ok-clause-knows

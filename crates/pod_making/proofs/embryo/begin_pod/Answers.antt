@@ -1,4 +1,4 @@
-use Rattle.std.proofs.Common.{◌≡◌, true, Some, [], ◌∷◌}
+use Rattle.std.proofs.Common.{◌≡◌, true, Some, Err, [], ◌∷◌, sym, ap, subst}
 use Rattle.dir_model.specs.declared.area.Area.TheVariants.{Embryo}
 use Rattle.dir_model.specs.declared.spot.Handle.{Handle}
 use Rattle.dir_model.specs.declared.spot.Mode.TheVariants.{Shared, Exclusive}
@@ -9,6 +9,9 @@ use Rattle.area_locks.proofs.Locking.{number_is_new}
 use Rattle.folder_building.proofs.Copying.{err_more}
 use Rattle.pod_making.specs.Progress.{at_work, nothing_made, in_prepare, own_held}
 use Rattle.pod_making.specs.Work.{IsMaker, UnderImages, UnderBoth, From, HasOwnFolder}
+use Rattle.pod_making.specs.declared.error.MakeError.{MakeError}
+use Rattle.pod_making.specs.Causes.{MakeCause}
+use Rattle.pod_making.proofs.Calls.{lock_cause}
 use Rattle.pod_making.proofs.Knowing.{has_nothing, under_both, may_lock, gate_back, gate_back_after}
 use Rattle.pod_making.proofs.Outcomes.{Shares, GivesBack, went_refused, went_under, ok_both, apart_from}
 use Rattle.pod_making.proofs.embryo.begin_pod.Goals as goal
@@ -54,3 +57,9 @@ returns-in-Err-clause-went g c = went_refused c.args.draw c.lock_area.ensures.sa
 
 pub returns-in-Err-clause-left : goal.returns-in-Err-clause-left
 returns-in-Err-clause-left g c t intent hs maker under k = has_nothing (c.in-Err.ensures.left t (at_work intent hs nothing_made) k (may_lock under))
+
+pub returns-in-Err-clause-cause : goal.returns-in-Err-clause-cause
+returns-in-Err-clause-cause g c =
+    let D = g.D.Dir in
+    subst (λ (x : MakeError). MakeCause D.observed c.args.draw [] x (D.shown c.args.dir.now) (D.shown c.lock_area.new.dir)) (sym c.lock_refusal.ensures)
+    (lock_cause c.in-Err.error (λ is. c.in-Err.ensures.busy (ap Err is)) (λ is. c.in-Err.ensures.cause (ap Err is)))

@@ -26,7 +26,7 @@ returns-in_err-own-clause-cause g c =
     (err_more (λ e. MakeCause D.observed c.args.draw [] e old new) (λ e. MakeCause D.observed c.args.draw c.args.plan.now e old new) c.begin_pod.result (λ e x. make_planned c.args.plan.now x) c.begin_pod.ensures.cause)
 
 pub returns-in-Ok-clause-owned : goal.returns-in-Ok-clause-owned
-returns-in-Ok-clause-owned g c = record { pod = refl; area = refl; unopened = c.in_ok-own.ensures.unopened }
+returns-in-Ok-clause-owned g c = record { is = refl; area = refl; unopened = c.in_ok-own.ensures.unopened }
 
 pub returns-in-Ok-clause-went : goal.returns-in-Ok-clause-went
 returns-in-Ok-clause-went g c =

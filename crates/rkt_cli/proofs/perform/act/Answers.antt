@@ -5,6 +5,7 @@ use Rattle.command_outcomes.specs.Moments.{dir_at}
 use Rattle.rkt_cli.proofs.Conforming.{looks_conforming, apart_conforming, list_conforming}
 use Rattle.rkt_cli.proofs.StoreRan.{imports, import_ran, removal_conforming, sweep_conforming, removal_ran, sweep_ran}
 use Rattle.rkt_cli.proofs.Files.{validate_ran}
+use Rattle.rkt_cli.proofs.PodRan.{prepares, prepare_ran}
 use Rattle.rkt_cli.proofs.perform.act.Goals as goal
 
 pub returns-in-Validate-clause-ran : goal.returns-in-Validate-clause-ran
@@ -45,3 +46,12 @@ pub returns-in-ImageGc-clause-ran : goal.returns-in-ImageGc-clause-ran
 returns-in-ImageGc-clause-ran g c =
     let D = g.D.Dir in
     sweep_ran _ _ _ D.observed (D.shown c.args.dir.now) (D.shown c.image_gc.new.dir) _ _ c.in-ImageGc.is c.image_gc.ensures.worked c.image_gc.ensures.cause c.image_gc.ensures.refusals c.image_gc.ensures.says
+
+pub returns-in-Prepare-clause-keeps : goal.returns-in-Prepare-clause-keeps
+returns-in-Prepare-clause-keeps g c t intent said =
+    c.prepare_pod.ensures.known t intent (prepares c.in-Prepare.wanted c.args.now c.args.draw.now intent (subst (λ (line : Line). intent_of line c.args.now c.args.draw.now ≡ Some intent) c.in-Prepare.is said))
+
+pub returns-in-Prepare-clause-ran : goal.returns-in-Prepare-clause-ran
+returns-in-Prepare-clause-ran g c =
+    let D = g.D.Dir in
+    prepare_ran _ _ _ c.in-Prepare.wanted D.observed (D.shown c.args.dir.now) (D.shown c.prepare_pod.new.dir) _ _ c.in-Prepare.is c.prepare_pod.ensures.worked c.prepare_pod.ensures.cause c.prepare_pod.ensures.refusals c.prepare_pod.ensures.says

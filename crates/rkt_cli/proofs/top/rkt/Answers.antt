@@ -1,7 +1,8 @@
-use Rattle.rkt_cli.proofs.Statuses.{statuses, usage, no_pod, bad_manifest, limit, no_image, stray, busy, lacking, dir_fault, bundle_fault, out_fault, extends, output, complaint, judged, over, reads}
+use Rattle.rkt_cli.proofs.Statuses.{statuses, usage, no_pod, bad_manifest, limit, no_image, taken, stray, busy, lacking, dir_fault, bundle_fault, out_fault, extends, output, complaint, judged, over, reads}
 use Rattle.rkt_cli.proofs.QuietRun.{quiet}
 use Rattle.rkt_cli.proofs.Conforming.{run_conforms}
 use Rattle.rkt_cli.proofs.Histories.{run_tells, run_deed}
+use Rattle.rkt_cli.proofs.PodLeft.{run_left}
 use Rattle.rkt_cli.proofs.top.rkt.Goals as goal
 
 pub returns-clause-statuses : goal.returns-clause-statuses
@@ -21,6 +22,9 @@ returns-clause-limit g c = limit c.run.ensures.ran
 
 pub returns-clause-no_image : goal.returns-clause-no_image
 returns-clause-no_image g c = no_image c.run.ensures.ran
+
+pub returns-clause-taken : goal.returns-clause-taken
+returns-clause-taken g c = taken c.run.ensures.ran
 
 pub returns-clause-stray : goal.returns-clause-stray
 returns-clause-stray g c = stray c.run.ensures.ran
@@ -57,6 +61,9 @@ returns-clause-conforms g c t = run_conforms c.run.ensures.ran t
 
 pub returns-clause-deed : goal.returns-clause-deed
 returns-clause-deed g c t = run_deed c.run.ensures.ran t
+
+pub returns-clause-left : goal.returns-clause-left
+returns-clause-left g c t = run_left c.run.ensures.ran t
 
 pub returns-clause-history : goal.returns-clause-history
 returns-clause-history g c t conforming = run_tells c.run.ensures.ran t conforming

@@ -1,0 +1,4 @@
+pub mod References
+pub mod Refusals
+pub mod Prepare
+pub mod Quiet

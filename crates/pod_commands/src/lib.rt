@@ -1,0 +1,8 @@
+//! The commands on pods: what each asks of the directory, and what it comes to.
+#![tactic(auto)]
+
+pub mod prepare;
+mod refusals;
+mod wanted;
+
+pub use wanted::{Wanted, are_references};

@@ -1,0 +1,85 @@
+-- What `prepare` left, by its own answers and its status.
+use Rattle.std.proofs.Common.{◌≡◌, ◌⊎◌, inl, inr, ℕ, true, false, ◌||◌, ◌==◌, List, Option, Some, None, Ok, Err, refl, sym, ap, subst, ◌∙◌}
+use Rattle.dir_model.specs.declared.intent.Draw.{Draw}
+use Rattle.dir_model.specs.declared.request.DirError.TheVariants as dir
+use Rattle.dir_model.specs.declared.request.Reply.TheVariants.{Refused}
+use Rattle.dir_model.specs.Calls.{Extends, is_begin}
+use Rattle.dir_model.proofs.Chains.{nothing_yet, step_extends}
+use Rattle.rkt_cli.specs.declared.line.Line.{Line}
+use Rattle.rkt_cli.specs.declared.line.Line.TheVariants.{Status, Validate, ImageList, ImageImport, ImageRm, ImageGc, Prepare}
+use Rattle.command_outcomes.specs.declared.refusal.Refusal.{Refusal}
+use Rattle.command_outcomes.specs.declared.refusal.Refusal.TheVariants.{NoPod, DirFault, OutFault, NoMemory}
+use Rattle.command_outcomes.specs.Texts.{status_of}
+use Rattle.command_outcomes.specs.Moments.{Outside, Moment, SinkSeen, Outcome}
+use Rattle.pod_commands.specs.Prepare.{HasBrought, HasKeptFolder}
+use Rattle.rkt_cli.specs.Commands.{intent_of, may}
+use Rattle.rkt_cli.specs.Runs.{Performs, End, Unwritten, Printed, end_status, RunOf, RunIs}
+use Rattle.rkt_cli.specs.Histories.{LeavesPod, TellsLeft}
+use Rattle.rkt_cli.proofs.Outcomes.{refusals_of}
+use Rattle.rkt_cli.proofs.PodRan.{began, prepare_synced, brought_in_process, kept_in_process}
+
+-- a prepare that was refused so left its own folder at most, or its sync was refused
+abbrev LeftBy : Draw → Refusal → Outside → Outside → Type 0
+LeftBy draw DirFault old new = HasKeptFolder draw.uuid old.dir new.dir ⊎ HasBrought draw.uuid (Refused dir.Failed 0) old.dir new.dir
+LeftBy draw NoMemory old new = HasKeptFolder draw.uuid old.dir new.dir ⊎ HasBrought draw.uuid (Refused dir.NoMemory 0) old.dir new.dir
+LeftBy draw r old new = HasKeptFolder draw.uuid old.dir new.dir
+
+left_by : (words : List (List ℕ)) (now : ℕ) (draw : Draw) (old new : Outside) (r : Refusal) → Performs (Prepare words) now draw (intent_of (Prepare words) now draw) old new (Err r) → old.dir.observed ≡ true → LeftBy draw r old new
+left_by words now draw old new DirFault (inl s) t = elim s.ran.says [ inl left ↦ inl (kept_in_process s (began now draw) t left) | inr brings ↦ inr (brought_in_process s (began now draw) t brings) ]
+left_by words now draw old new NoMemory (inl s) t = elim s.ran.says [ inl left ↦ inl (kept_in_process s (began now draw) t left) | inr brings ↦ inr (brought_in_process s (began now draw) t brings) ]
+left_by words now draw old new NoMemory (inr n) t = inl (inl (step_extends is_begin old.dir.process old.dir.trace _ _ new.dir.trace refl (n.step t)))
+left_by words now draw old new r (inl s) t = kept_in_process s (began now draw) t s.ran.says.0
+left_by words now draw old new r (inr n) t = let e = n.is in cc
+
+-- another status than that of a whole answer, or of one that wasn't written
+neither : (words : List (List ℕ)) (r : Refusal) → may (Prepare words) r ≡ true → ((status_of r == 0) || (status_of r == 12)) ≡ false
+neither words OutFault allowed = let clash : false ≡ true = allowed in cc
+neither words NoPod allowed = refl
+neither words r allowed = refl
+
+module _ (words : List (List ℕ)) (now : ℕ) (draw : Draw) (before after : Outside) (t : before.dir.observed ≡ true) where
+  abbrev Leaves : ℕ → Type 0
+  Leaves status = LeavesPod draw.uuid status before.dir after.dir
+
+  refused : (r : Refusal) (status : ℕ) → status ≡ status_of r → may (Prepare words) r ≡ true → LeftBy draw r before after → Leaves status
+  refused r status is allowed left = subst Leaves (sym is) (by r allowed left)
+    where
+      by : (r : Refusal) → may (Prepare words) r ≡ true → LeftBy draw r before after → Leaves (status_of r)
+      by DirFault allowed (inl kept) = inr (inr (inr (refl, kept)))
+      by DirFault allowed (inr brought) = inr (inl (refl, brought))
+      by NoMemory allowed (inl kept) = inr (inr (inr (refl, kept)))
+      by NoMemory allowed (inr brought) = inr (inr (inl (refl, inr brought)))
+      by r allowed kept = inr (inr (inr (neither words r allowed, kept)))
+
+  -- the pod was told, or its name wasn't written
+  brought : (text : List ℕ) (old new : SinkSeen) (end : End) (status : ℕ) → Performs (Prepare words) now draw (intent_of (Prepare words) now draw) before after (Ok text) → Printed (Ok text) old new end → status ≡ end_status end → Leaves status
+  brought text old new (Ok done) status p printed is = inl (inl is, prepare_synced words now draw before after text p t)
+  brought text old new (Err r) status p printed is = by (printed.cause text refl)
+    where
+      by : Unwritten r old new → Leaves status
+      by (inl x) = inl (inr (is ∙ ap status_of x.0), prepare_synced words now draw before after text p t)
+      by (inr x) = inr (inr (inl (is ∙ ap status_of x.0, inl (prepare_synced words now draw before after text p t))))
+
+  ended : (o : Outcome) (old new : SinkSeen) (end : End) (status : ℕ) → Performs (Prepare words) now draw (intent_of (Prepare words) now draw) before after o → Printed o old new end → status ≡ end_status end → Leaves status
+  ended (Ok text) old new end status p printed is = brought text old new end status p printed is
+  ended (Err r) old new end status p printed is =
+      refused r status (is ∙ ap end_status printed.refused.0) (refusals_of (Prepare words) now draw (intent_of (Prepare words) now draw) before after (Err r) r p refl) (left_by words now draw before after r p t)
+
+module _ (now : ℕ) (draw : Draw) (old new : Moment) (status : ℕ) (t : old.outside.dir.observed ≡ true) where
+  pod_left : (words : List (List ℕ)) → RunOf (Some (Prepare words)) now draw old new status → LeavesPod draw.uuid status old.outside.dir new.outside.dir
+  pod_left words (inl r) = ended words now draw old.outside new.outside t r.outcome old.out new.out r.end status r.performs r.printed r.is
+  pod_left words (inr n) =
+      inr (inr (inr (ap (λ (x : ℕ). (x == 0) || (x == 12)) n.is, inl (subst (λ (x : Outside). Extends is_begin old.outside.dir.process old.outside.dir.trace x.dir.trace) (sym n.outside) nothing_yet))))
+
+  left_of : (l : Option Line) → RunOf l now draw old new status → TellsLeft l draw status old.outside.dir new.outside.dir
+  left_of None r = tt
+  left_of (Some (Status pod)) r = tt
+  left_of (Some (Validate path)) r = tt
+  left_of (Some ImageList) r = tt
+  left_of (Some (ImageImport path)) r = tt
+  left_of (Some (ImageRm key)) r = tt
+  left_of (Some ImageGc) r = tt
+  left_of (Some (Prepare words)) r = pod_left words r
+
+pub run_left : {l : Option Line} {now : ℕ} {draw : Draw} {old new : Moment} {status : ℕ} → RunIs l now draw old new status → old.outside.dir.observed ≡ true → TellsLeft l draw status old.outside.dir new.outside.dir
+run_left {l} {now} {draw} {old} {new} {status} run t = left_of now draw old new status t l run.ran

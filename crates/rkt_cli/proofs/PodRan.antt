@@ -1,0 +1,183 @@
+-- What `prepare` owes between its begin and its finish, and what it tells of the whole run.
+use Rattle.std.proofs.Common.{arith, ◌≡◌, inl, inr, ◌≤◌, ℕ, Bool, true, false, ◌&&◌, ◌||◌, List, [], append-nil, Option, Some, None, Ok, Err, IfErr, IsErrOf, refl, sym, ap, subst, ◌∙◌}
+use Rattle.dir_model.specs.declared.area.Area.{Area}
+use Rattle.dir_model.specs.declared.area.Area.TheVariants.{Embryo, Prepared}
+use Rattle.dir_model.specs.declared.area.Area.TheVariants as area
+use Rattle.dir_model.specs.declared.intent.Draw.{Draw}
+use Rattle.dir_model.specs.declared.intent.Intent.{Intent}
+use Rattle.dir_model.specs.declared.intent.Kind.TheVariants as kind
+use Rattle.dir_model.specs.declared.request.Reply.{Reply}
+use Rattle.dir_model.specs.declared.request.Reply.TheVariants.{Done}
+use Rattle.dir_model.specs.declared.pod.PodId.{PodId}
+use Rattle.dir_model.specs.declared.request.Request.TheVariants.{MoveFolder, SyncArea, Finish}
+use Rattle.dir_model.specs.declared.spot.Spot.{Spot}
+use Rattle.dir_model.specs.State.{spot_eq}
+use Rattle.dir_model.specs.declared.spot.Mode.TheVariants.{Shared}
+use Rattle.dir_model.specs.Calls.{Extends}
+use Rattle.dir_model.specs.Causes.{Rose}
+use Rattle.dir_model.proofs.Chains.{step_extends}
+use Rattle.dir_rules.specs.Conforms.{IsTied}
+use Rattle.dir_trait.specs.DirCalls.{DirAt, HeldBetween}
+use Rattle.area_locks.specs.AreaLocks.{IsBusyElsewhere}
+use Rattle.folder_building.specs.Work.{Worked}
+use Rattle.lifecycle.specs.Executions.{IsConforming}
+use Rattle.lifecycle.proofs.Draws.{conforming_left}
+use Rattle.pod_build.specs.Preparations.{Began}
+use Rattle.pod_making.specs.Progress.{at_work, handed}
+use Rattle.pod_making.specs.Requests.{pod_at}
+use Rattle.pod_commands.specs.Quiet.{is_pod_place}
+use Rattle.store_commands.proofs.RemovalQuiet.{ChangesAt}
+use Rattle.rkt_cli.specs.declared.line.Line.{Line}
+use Rattle.rkt_cli.specs.declared.line.Line.TheVariants.{Prepare}
+use Rattle.command_outcomes.specs.declared.refusal.Refusal.{Refusal}
+use Rattle.command_outcomes.specs.declared.refusal.Refusal.TheVariants.{Busy, DirFault, NoMemory}
+use Rattle.command_outcomes.specs.Conforming.{shown_at}
+use Rattle.command_outcomes.specs.Moments.{BundleSeen, Outside, Outcome}
+use Rattle.command_outcomes.proofs.Seen.{seen_at, beside}
+use Rattle.pod_commands.specs.Refusals.{prepare_refusal}
+use Rattle.pod_commands.specs.Prepare.{pod_line, prepares_pod, IsFaithful, BringsPod, LeavesFolder, RefusesPod, IsAreaHeld, IsHeldFrom, Syncs, HasBrought, HasSynced, KeepsFolder, HasKeptFolder, PrepareSays}
+use Rattle.pod_commands.proofs.Whole.{refuses_whole, faithful_wider}
+use Rattle.store_commands.proofs.Parts.{held_wider}
+use Rattle.rkt_cli.specs.Commands.{intent_for, intent_of, may}
+use Rattle.rkt_cli.specs.Runs.{CommandRan, InProcess, Performs}
+use Rattle.rkt_cli.proofs.Listed.{process_part}
+use Rattle.rkt_cli.proofs.Sessions.{any_call, begin_part, finish_part}
+use Rattle.rkt_cli.proofs.Conforming.{begun_knows}
+use Rattle.rkt_cli.proofs.Removals.{meanwhile}
+use Rattle.rkt_cli.proofs.StoreRan.{never_bundle}
+
+abbrev pub prepare_intent : ℕ → Draw → Intent
+prepare_intent now draw = intent_for kind.Prepare [] now draw
+
+-- a process that prepares began so
+pub began : (now : ℕ) (draw : Draw) → Began Prepared draw now (prepare_intent now draw)
+began now draw = record { leads = refl; drawn = refl; token = refl; moment = refl }
+
+pub prepares : (words : List (List ℕ)) (now : ℕ) (draw : Draw) (intent : Intent) → intent_of (Prepare words) now draw ≡ Some intent → Began Prepared draw now intent
+prepares words now draw intent is = subst (λ (i : Intent). Began Prepared draw now i) (let e : prepare_intent now draw ≡ intent = cc in e) (began now draw)
+
+-- what it owes
+prepare_may : (words : List (List ℕ)) (r : Refusal) → prepare_refusal r ≡ true → may (Prepare words) r ≡ true
+prepare_may words NoMemory known = known
+prepare_may words DirFault known = known
+prepare_may words r known = known
+
+prepare_end : (words : List (List ℕ)) (o : Outcome) → IfErr o (λ r. prepare_refusal r ≡ true) → IfErr o (λ r. may (Prepare words) r ≡ true)
+prepare_end words (Ok text) known = known
+prepare_end words (Err r) known = prepare_may words r known
+
+pub prepare_ran : (line : Line) (now : ℕ) (draw : Draw) (words : List (List ℕ)) (observed : Bool) (a b : DirAt) (bundle : BundleSeen) (o : Outcome) → line ≡ Prepare words → Worked observed (prepares_pod draw.uuid) a b →
+    (IsErrOf o DirFault → Rose a.faults b.faults) → IfErr o (λ r. prepare_refusal r ≡ true) → PrepareSays words now draw (seen_at observed a) (seen_at observed b) o →
+    CommandRan line now draw (beside (seen_at observed a) bundle) (beside (seen_at observed b) bundle) o
+prepare_ran line now draw words observed a b bundle o is worked cause known says =
+    subst (λ (l : Line). CommandRan l now draw (beside (seen_at observed a) bundle) (beside (seen_at observed b) bundle) o) (sym is) ran
+  where
+    ran : CommandRan (Prepare words) now draw (beside (seen_at observed a) bundle) (beside (seen_at observed b) bundle) o
+    ran = record {
+      same = worked.same;
+      local = worked.local;
+      faults = worked.faults;
+      cause = cause;
+      bundle_faults = omega arith;
+      bundle_cause = never_bundle prepare_refusal o refl known;
+      refusals = prepare_end words o known;
+      extends = worked.extends;
+      reads = tt;
+      says = says;
+    }
+
+still : (a b : ℕ) → b ≡ a → a ≤ b
+still a b same = omega arith
+
+-- the refusals that may come with the pod in prepared
+abbrev pub is_fault : Refusal → Bool
+is_fault NoMemory = true
+is_fault DirFault = true
+is_fault r = false
+
+says_why : (words : List (List ℕ)) (now : ℕ) (draw : Draw) (old new : Outside) (r : Refusal) → is_fault r ≡ false → PrepareSays words now draw old.dir new.dir (Err r) → RefusesPod words now draw old.dir new.dir r × IsHeldFrom now draw r old.dir new.dir
+says_why words now draw old new NoMemory other says = let clash : true ≡ false = other in cc
+says_why words now draw old new DirFault other says = let clash : true ≡ false = other in cc
+says_why words now draw old new r other says = (says.1, says.2)
+
+module _ {words : List (List ℕ)} {now : ℕ} {draw : Draw} {intent : Intent} {old new : Outside} {o : Outcome} (s : InProcess (Prepare words) now draw intent old new o) where
+  refused_in_process : (r : Refusal) → RefusesPod words now draw s.begun.dir s.ended.dir r → RefusesPod words now draw old.dir new.dir r
+  refused_in_process r x = refuses_whole any_call s.told s.me s.ran.same s.same s.risen (still s.ended.dir.faults new.dir.faults s.faults) (λ t. begin_part s t any_call refl)
+      (λ t. step_extends any_call s.ended.dir.process s.ended.dir.trace Finish Done new.dir.trace refl (s.finishes t)) x
+
+  -- the pod was brought to prepared, and then the sync was answered so
+  module _ (said : Began Prepared draw now intent) (t : old.dir.observed ≡ true) {reply : Reply} (x : BringsPod words now draw reply s.begun.dir s.ended.dir) where
+    sync_part : Extends any_call s.begun.dir.process x.brought.trace s.ended.dir.trace
+    sync_part = step_extends any_call s.begun.dir.process x.brought.trace (SyncArea Prepared) reply s.ended.dir.trace refl (x.synced (s.told ∙ t))
+
+    pub faithful_in_process : IsConforming new.dir.trace → IsFaithful words draw.uuid old.dir new.dir
+    faithful_in_process conforming =
+        let first = begin_part s t any_call refl in
+        let last = finish_part s t any_call refl in
+        let ended = conforming_left s.ended.dir.trace last.more (subst IsConforming last.grown conforming) in
+        let brought = conforming_left x.brought.trace sync_part.more (subst IsConforming sync_part.grown ended) in
+        let within = x.faithful (s.told ∙ t) brought intent said (begun_knows s t) in
+        faithful_wider words draw.uuid old.dir s.begun.dir s.ended.dir new.dir first.more last.more s.me first.grown last.grown
+        (faithful_wider words draw.uuid s.begun.dir s.begun.dir x.brought s.ended.dir [] sync_part.more refl (sym (append-nil s.begun.dir.trace)) sync_part.grown within)
+
+    pub brought_in_process : HasBrought draw.uuid reply old.dir new.dir
+    brought_in_process =
+        let k = x.knows (s.told ∙ t) intent said (begun_knows s t) in
+        meanwhile (Syncs draw.uuid reply) s t (record {
+          intent = intent;
+          entries = k.0;
+          mid = x.brought.trace;
+          prepares = x.extends (s.told ∙ t);
+          knew = subst (λ (me : ℕ). IsTied me x.brought.trace (at_work intent [] (handed draw.uuid Prepared k.0))) x.same k.1.tied;
+          synced = x.synced (s.told ∙ t);
+        })
+
+  -- or at most its own folder was left
+  pub kept_in_process : Began Prepared draw now intent → old.dir.observed ≡ true → LeavesFolder now draw s.begun.dir s.ended.dir → HasKeptFolder draw.uuid old.dir new.dir
+  kept_in_process said t left =
+      let x = left (s.told ∙ t) intent said (begun_knows s t) in
+      inr (meanwhile (KeepsFolder draw.uuid) s t (record {
+        intent = intent;
+        progress = x.progress;
+        own = x.own;
+        knew = subst (λ (me : ℕ). IsTied me s.ended.dir.trace (at_work intent [] x.progress)) s.ran.same x.knows.tied;
+      }))
+
+-- what was printed
+pub prepare_printed : (words : List (List ℕ)) (now : ℕ) (draw : Draw) (intent : Option Intent) (old new : Outside) (text : List ℕ) → Performs (Prepare words) now draw intent old new (Ok text) → text ≡ pod_line draw.uuid
+prepare_printed words now draw (Some intent) old new text (inl s) = s.ran.says.0
+prepare_printed words now draw (Some intent) old new text (inr n) = let e = n.is in cc
+prepare_printed words now draw None old new text p = let clash : true ≡ false = p.apart in cc
+
+pub prepare_faithful : (words : List (List ℕ)) (now : ℕ) (draw : Draw) (old new : Outside) (text : List ℕ) → Performs (Prepare words) now draw (intent_of (Prepare words) now draw) old new (Ok text) → old.dir.observed ≡ true → IsConforming new.dir.trace → IsFaithful words draw.uuid old.dir new.dir
+prepare_faithful words now draw old new text (inl s) t conforming = faithful_in_process s (began now draw) t s.ran.says.1 conforming
+prepare_faithful words now draw old new text (inr n) t conforming = let e = n.is in cc
+
+pub prepare_synced : (words : List (List ℕ)) (now : ℕ) (draw : Draw) (old new : Outside) (text : List ℕ) → Performs (Prepare words) now draw (intent_of (Prepare words) now draw) old new (Ok text) → old.dir.observed ≡ true → HasSynced draw.uuid old.dir new.dir
+prepare_synced words now draw old new text (inl s) t = brought_in_process s (began now draw) t s.ran.says.1
+prepare_synced words now draw old new text (inr n) t = let e = n.is in cc
+
+-- why it was refused
+pub prepare_refused : (words : List (List ℕ)) (now : ℕ) (draw : Draw) (intent : Option Intent) (old new : Outside) (r : Refusal) → is_fault r ≡ false → Performs (Prepare words) now draw intent old new (Err r) → RefusesPod words now draw old.dir new.dir r
+prepare_refused words now draw (Some intent) old new r other (inl s) = refused_in_process s r ((says_why words now draw s.begun s.ended r other s.ran.says).0)
+prepare_refused words now draw (Some intent) old new r other (inr n) = let same : Err r ≡ Err NoMemory = n.is in let m : r ≡ NoMemory = cc in let clash : false ≡ true = sym other ∙ ap is_fault m in cc
+prepare_refused words now draw None old new r other p = let clash : true ≡ false = p.apart in cc
+
+pub prepare_busy : (words : List (List ℕ)) (now : ℕ) (draw : Draw) (old new : Outside) (area : Area) → Performs (Prepare words) now draw (intent_of (Prepare words) now draw) old new (Err (Busy area)) → old.dir.observed ≡ true → IsAreaHeld area old.dir new.dir
+prepare_busy words now draw old new area (inl s) t =
+    held_wider (process_part s t) (IsBusyElsewhere old.dir.process area Shared)
+    (subst (λ (me : ℕ). HeldBetween (shown_at s.begun.dir) (shown_at s.ended.dir) (IsBusyElsewhere me area Shared)) s.me
+    (s.ran.says.2 area refl (s.told ∙ t) (prepare_intent now draw) (began now draw) (begun_knows s t)))
+prepare_busy words now draw old new area (inr n) t = let e = n.is in cc
+
+-- it moves its own folder alone, and removes none
+pub prepare_changes : (draw : PodId) → ChangesAt (is_pod_place draw) (prepares_pod draw)
+prepare_changes draw = record { moves = λ from to h. moved from to h; removes = λ spot h. let clash : false ≡ true = h in cc }
+  where
+    moved : (from to : Spot) → prepares_pod draw (MoveFolder from to) ≡ true → is_pod_place draw from ≡ true
+    moved from to h = by (spot_eq from (pod_at Embryo draw)) (spot_eq to (pod_at area.Prepare draw)) (spot_eq from (pod_at area.Prepare draw)) (spot_eq to (pod_at Prepared draw)) (spot_eq from (pod_at Prepared draw)) h
+      where
+        by : (a b c d e : Bool) → (((a && b) || ((c && d) || false)) || false) ≡ true → (a || (c || e)) ≡ true
+        by true b c d e h = refl
+        by false b true d e h = refl
+        by false b false d e h = cc
