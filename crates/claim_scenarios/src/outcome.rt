@@ -1,0 +1,110 @@
+// What came of a claim by process 1.
+ghost use Rattle.std.specs.Prelude.{◌≡◌};
+ghost use Rattle.dir_trait.specs.Local.{nothing_local};
+
+use crate::stage::{POD, intent};
+use conformance::keeps_rules;
+use dir_memory::MemoryDir;
+use dir_trait::{Area, Dir, Event, Kind, NoMemory, Phase, Reply, Request};
+use lifecycle::replay;
+use pod_claim::{ClaimError, claim};
+use std::alloc::Global;
+
+/// How the claim ended.
+#[derive(Clone, Copy, PartialEq, Eq)]
+pub enum Came {
+    Owned(Area),
+    Refused(ClaimError),
+    NotBegun,
+}
+
+/// What is told afterwards.
+#[derive(Clone, Copy, PartialEq, Eq)]
+pub struct Told {
+    pub came: Came,
+    pub phase: Option<Phase>,
+    pub owner: Option<u32>,
+    /// How many handles process 1 has open.
+    pub handles: usize,
+    /// Each process kept the rules.
+    pub kept: bool,
+}
+
+fn claimed<D: Dir>(alloc: Global, dir: &mut D) -> Came
+    requires { (D.shown dir.old).local ≡ nothing_local }
+{
+    match dir.begin(alloc, intent(Kind::RunPrepared, 1)) {
+        Ok(()) => match claim(alloc, dir, POD) {
+            Ok(owned) => Came::Owned(owned.area),
+            Err(error) => Came::Refused(error),
+        },
+        Err(_) => Came::NotBegun,
+    }
+}
+
+fn are_kept(alloc: Global, dir: &MemoryDir) -> Result<bool, NoMemory> {
+    let mut kept = true;
+    'processes: for process in 1..4 {
+        let keeps = keeps_rules(alloc, dir.history(), process)?;
+        kept = kept && keeps;
+    }
+    Ok(kept)
+}
+
+fn is_opening(event: &Event) -> bool {
+    match &event.reply {
+        Reply::Opened(_) => event.process == 1,
+        _ => false,
+    }
+}
+
+fn is_closing(event: &Event) -> bool {
+    match &event.request {
+        Request::Close(_) => event.process == 1,
+        _ => false,
+    }
+}
+
+fn handles(events: &[Event]) -> usize {
+    let opened = events.iter().filter(|event| is_opening(event)).count();
+    let closed = events.iter().filter(|event| is_closing(event)).count();
+    opened.saturating_sub(closed)
+}
+
+/// What is told after a claim among the steps that are scheduled.
+pub fn told_of(alloc: Global, dir: MemoryDir) -> Result<Told, NoMemory>
+    requires { dir.local ≡ nothing_local }
+{
+    let mut dir = dir;
+    let came = claimed(alloc, &mut dir);
+    let machine = replay(alloc, dir.history())?;
+    let kept = are_kept(alloc, &dir)?;
+    let handles = handles(dir.history().as_slice());
+    Ok(Told {
+        came,
+        phase: machine.phase(POD),
+        owner: machine.owner(POD),
+        handles,
+        kept,
+    })
+}
+
+/// The pod was claimed, and process 1 owns it by its one handle.
+pub const CLAIMED: Told = Told {
+    came: Came::Owned(Area::Run),
+    phase: Some(Phase::Running),
+    owner: Some(1),
+    handles: 1,
+    kept: true,
+};
+
+/// The claim was refused, and holds nothing.
+pub fn refused(error: ClaimError, phase: Option<Phase>, owner: Option<u32>) -> Told {
+    Told {
+        came: Came::Refused(error),
+        phase,
+        owner,
+        handles: 0,
+        kept: true,
+    }
+}

@@ -1,0 +1,9 @@
+pub mod Traces
+pub mod Seen
+pub mod Calls
+pub mod Times
+pub mod Opposed
+pub mod Knowing
+pub mod Parts
+pub mod Reading
+pub mod Outcomes
