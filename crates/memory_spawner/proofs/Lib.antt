@@ -1,0 +1,3 @@
+pub mod StartPlaces
+pub mod Numbers
+pub mod Replies
