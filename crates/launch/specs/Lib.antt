@@ -1,0 +1,4 @@
+pub mod Environment
+pub mod LastValues
+pub mod Programs
+pub mod Launches
