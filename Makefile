@@ -2,7 +2,7 @@
 #
 #   make                            proves and builds build/rkt
 #   make run WORDS="status UUID"    runs it on these words, on the data folder RKT_DIR (build/data where that is unset)
-#   make test                       proves, tests and runs everything
+#   make test                       the whole gate: proves, tests and runs everything, with the scripts of tests/host
 #   make install PREFIX=/usr/local  copies it to PREFIX/bin
 
 PREFIX ?= /usr/local
@@ -24,7 +24,7 @@ run: build/rkt
 	@RKT_DIR="$(RKT_DIR)" build/rkt $(WORDS); status=$$?; echo "status $$status"; exit $$status
 
 test:
-	rt ci
+	bash .ci/run
 
 install: build/rkt
 	install -d "$(DESTDIR)$(PREFIX)/bin"
