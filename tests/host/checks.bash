@@ -17,8 +17,9 @@ chmod 755 "$tmp"
 cp "$built" "$tmp/rkt-program"
 rkt=$tmp/rkt-program
 
+# What is skipped is also kept in the file that RKT_SKIPPED names, which is told at the end of the gate.
 skip() {
-    echo "$script: skipped: $1"
+    echo "$script: skipped: $1" | tee -a "${RKT_SKIPPED:-/dev/null}"
 }
 
 fail() {

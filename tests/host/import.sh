@@ -8,7 +8,7 @@ cd "$(dirname "$0")/../.." || exit 1
 
 for tool in sha512sum python3 mkfifo; do
     if ! command -v $tool >/dev/null; then
-        echo "import.sh: skipped: there is no $tool"
+        skip "all: there is no $tool"
         exit 0
     fi
 done

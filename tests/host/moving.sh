@@ -16,7 +16,7 @@ if [ ! -x "$rkt" ]; then
 fi
 for tool in flock mktemp; do
     if ! command -v $tool >/dev/null; then
-        echo "moving.sh: skipped: there is no $tool"
+        echo "moving.sh: skipped: all: there is no $tool" | tee -a "${RKT_SKIPPED:-/dev/null}"
         exit 0
     fi
 done

@@ -9,7 +9,7 @@ cd "$(dirname "$0")/../.." || exit 1
 
 for tool in python3 flock sha512sum; do
     if ! command -v $tool >/dev/null; then
-        echo "prepare.sh: skipped: there is no $tool"
+        skip "all: there is no $tool"
         exit 0
     fi
 done

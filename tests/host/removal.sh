@@ -7,7 +7,7 @@ cd "$(dirname "$0")/../.." || exit 1
 . tests/host/checks.bash
 
 if ! command -v flock >/dev/null; then
-    echo "removal.sh: skipped: there is no flock"
+    skip "all: there is no flock"
     exit 0
 fi
 
