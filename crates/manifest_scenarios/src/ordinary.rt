@@ -3,16 +3,25 @@ use manifests::{ImageManifest, RuntimeApp, read_image, read_pod};
 use std::alloc::Global;
 
 pub const BASE: &str =
-    "{\"acKind\":\"ImageManifest\",\"acVersion\":\"0.8.0\",\"labels\":[{\"name\":\"version\",\"value\":\"1.0.0\"},{\"name\":\"os\",\"value\":\"linux\"},{\"name\":\"arch\",\"value\":\"amd64\"}],\"name\":\"example.com/base\"}";
+    "{\"acKind\":\"ImageManifest\",\"acVersion\":\"0.8.0\",\"labels\":[{\"name\":\"version\",\
+    \"value\":\"1.0.0\"},{\"name\":\"os\",\"value\":\"linux\"},{\"name\":\"arch\",\
+    \"value\":\"amd64\"}],\"name\":\"example.com/base\"}";
 
 pub const LIB: &str =
     "{\"acKind\":\"ImageManifest\",\"acVersion\":\"0.8.0\",\"name\":\"example.com/lib\"}";
 
 pub const WORKER: &str =
-    "{\"acKind\":\"ImageManifest\",\"acVersion\":\"0.8.0\",\"app\":{\"exec\":[\"/bin/run\",\"-q\"],\"group\":\"0\",\"user\":\"0\"},\"dependencies\":[{\"imageName\":\"example.com/base\",\"labels\":[{\"name\":\"version\",\"value\":\"1.0.0\"}]},{\"imageName\":\"example.com/lib\"}],\"labels\":[{\"name\":\"version\",\"value\":\"1.0.0\"}],\"name\":\"example.com/reduce-worker\"}";
+    "{\"acKind\":\"ImageManifest\",\"acVersion\":\"0.8.0\",\"app\":{\"exec\":[\"/bin/run\",\
+    \"-q\"],\"group\":\"0\",\"user\":\"0\"},\"dependencies\":[{\"imageName\":\"example.com/base\",\
+    \"labels\":[{\"name\":\"version\",\"value\":\"1.0.0\"}]},{\"imageName\":\"example.com/lib\"}],\
+    \"labels\":[{\"name\":\"version\",\"value\":\"1.0.0\"}],\"name\":\"example.com/reduce-worker\"}";
 
 pub const POD: &str =
-    "{\"acKind\":\"PodManifest\",\"acVersion\":\"0.8.0\",\"apps\":[{\"app\":{\"exec\":[\"/bin/run\",\"-q\"],\"group\":\"0\",\"user\":\"0\"},\"image\":{\"id\":\"sha512-cccccccccccccccccccccccccccccccccccccccccccccccccccccccccccccccccccccccccccccccccccccccccccccccccccccccccccccccccccccccccccccccc\",\"labels\":[{\"name\":\"version\",\"value\":\"1.0.0\"}],\"name\":\"example.com/reduce-worker\"},\"name\":\"reduce-worker\"}]}";
+    "{\"acKind\":\"PodManifest\",\"acVersion\":\"0.8.0\",\"apps\":[{\"app\":{\"exec\":[\"/bin/run\",\
+    \"-q\"],\"group\":\"0\",\"user\":\"0\"},\"image\":{\"id\":\"sha512-ccccccccccccccccccccccccccccccccccccccccccccccccccccccccccccc\
+    ccccccccccccccccccccccccccccccccccccccccccccccccccccccccccccccccccc\",\
+    \"labels\":[{\"name\":\"version\",\"value\":\"1.0.0\"}],\"name\":\"example.com/reduce-worker\"},\
+    \"name\":\"reduce-worker\"}]}";
 
 /// Whether the manifest is the worker's.
 fn is_worker(manifest: &ImageManifest) -> bool {

@@ -37,8 +37,24 @@ const AS_READ: &[&str] = &[
     WORKER,
     POD,
     "{\"acKind\":\"PodManifest\",\"acVersion\":\"0.8.0\",\"apps\":[]}",
-    "{\"acKind\":\"PodManifest\",\"acVersion\":\"0.8.0\",\"apps\":[{\"app\":{\"exec\":[\"/w\"],\"group\":\"0\",\"mountPoints\":[{\"name\":\"data\",\"path\":\"/data\"},{\"name\":\"tmp\",\"path\":\"/tmp\"}],\"user\":\"0\"},\"image\":{\"id\":\"sha512-dddddddddddddddddddddddddddddddddddddddddddddddddddddddddddddddddddddddddddddddddddddddddddddddddddddddddddddddddddddddddddddddd\",\"name\":\"example.com/w\"},\"mounts\":[{\"path\":\"/extra\",\"volume\":\"data\"},{\"path\":\"/data\",\"volume\":\"data\"},{\"path\":\"/tmp\",\"volume\":\"w-tmp\"}],\"name\":\"w\"}],\"volumes\":[{\"kind\":\"host\",\"name\":\"data\",\"source\":\"/srv\"},{\"gid\":0,\"kind\":\"empty\",\"mode\":\"0755\",\"name\":\"w-tmp\",\"uid\":0}]}",
-    "{\"acKind\":\"PodManifest\",\"acVersion\":\"0.8.0\",\"annotations\":[{\"name\":\"made-by\",\"value\":\"\"}],\"apps\":[{\"annotations\":[{\"name\":\"a\",\"value\":\"b\"}],\"image\":{\"id\":\"sha512-dddddddddddddddddddddddddddddddddddddddddddddddddddddddddddddddddddddddddddddddddddddddddddddddddddddddddddddddddddddddddddddddd\",\"labels\":[{\"name\":\"os\",\"value\":\"linux\"}]},\"mounts\":[{\"path\":\"/m\",\"volume\":\"v\"}],\"name\":\"w\",\"readOnlyRootFS\":true}],\"isolators\":[{\"name\":\"os/limits\",\"value\":[1]}],\"ports\":[{\"hostPort\":65535,\"name\":\"http\"}],\"volumes\":[{\"kind\":\"host\",\"name\":\"v\",\"readOnly\":true,\"source\":\"/srv\"},{\"gid\":0,\"kind\":\"empty\",\"mode\":\"7\",\"name\":\"w-tmp\",\"uid\":4294967295}]}",
+    "{\"acKind\":\"PodManifest\",\"acVersion\":\"0.8.0\",\"apps\":[{\"app\":{\"exec\":[\"/w\"],\
+    \"group\":\"0\",\"mountPoints\":[{\"name\":\"data\",\"path\":\"/data\"},\
+    {\"name\":\"tmp\",\"path\":\"/tmp\"}],\"user\":\"0\"},\"image\":{\"id\":\"sha512-ddddddddddddddddddddddddddddddddddddddddddddddd\
+    ddddddddddddddddddddddddddddddddddddddddddddddddddddddddddddddddddddddddddddddddd\",\
+    \"name\":\"example.com/w\"},\"mounts\":[{\"path\":\"/extra\",\"volume\":\"data\"},\
+    {\"path\":\"/data\",\"volume\":\"data\"},{\"path\":\"/tmp\",\"volume\":\"w-tmp\"}],\
+    \"name\":\"w\"}],\"volumes\":[{\"kind\":\"host\",\"name\":\"data\",\
+    \"source\":\"/srv\"},{\"gid\":0,\"kind\":\"empty\",\"mode\":\"0755\",\
+    \"name\":\"w-tmp\",\"uid\":0}]}",
+    "{\"acKind\":\"PodManifest\",\"acVersion\":\"0.8.0\",\"annotations\":[{\"name\":\"made-by\",\
+    \"value\":\"\"}],\"apps\":[{\"annotations\":[{\"name\":\"a\",\"value\":\"b\"}],\
+    \"image\":{\"id\":\"sha512-ddddddddddddddddddddddddddddddddddddddddddddddddddddddddddddddddddddddddddddddddddddddddddddddddddddd\
+    ddddddddddddddddddddddddddd\",\"labels\":[{\"name\":\"os\",\"value\":\"linux\"}]},\
+    \"mounts\":[{\"path\":\"/m\",\"volume\":\"v\"}],\"name\":\"w\",\"readOnlyRootFS\":true}],\
+    \"isolators\":[{\"name\":\"os/limits\",\"value\":[1]}],\"ports\":[{\"hostPort\":65535,\
+    \"name\":\"http\"}],\"volumes\":[{\"kind\":\"host\",\"name\":\"v\",\
+    \"readOnly\":true,\"source\":\"/srv\"},{\"gid\":0,\"kind\":\"empty\",\
+    \"mode\":\"7\",\"name\":\"w-tmp\",\"uid\":4294967295}]}",
 ];
 
 /// Manifests, and what is written for them: what is absent or empty is left out, and what a volume
@@ -49,16 +65,33 @@ const OTHERWISE: &[(&str, &str)] = &[
         "{\"acKind\":\"ImageManifest\",\"acVersion\":\"0.8.0\",\"name\":\"a\"}",
     ),
     (
-        "{\"acKind\":\"ImageManifest\",\"acVersion\":\"0.8.0\",\"name\":\"a\",\"pathWhitelist\":[\"/etc/\",\"/\",\"/bin/run\"],\"dependencies\":[{\"size\":18446744073709551615,\"imageName\":\"b\"},{\"imageName\":\"c\",\"labels\":[],\"size\":0}],\"annotations\":[{\"value\":\"\",\"name\":\"x\"}]}",
-        "{\"acKind\":\"ImageManifest\",\"acVersion\":\"0.8.0\",\"annotations\":[{\"name\":\"x\",\"value\":\"\"}],\"dependencies\":[{\"imageName\":\"b\",\"size\":18446744073709551615},{\"imageName\":\"c\",\"size\":0}],\"name\":\"a\",\"pathWhitelist\":[\"/etc/\",\"/bin/run\"]}",
+        "{\"acKind\":\"ImageManifest\",\"acVersion\":\"0.8.0\",\"name\":\"a\",\
+        \"pathWhitelist\":[\"/etc/\",\"/\",\"/bin/run\"],\"dependencies\":[{\"size\":18446744073709551615,\
+        \"imageName\":\"b\"},{\"imageName\":\"c\",\"labels\":[],\"size\":0}],\
+        \"annotations\":[{\"value\":\"\",\"name\":\"x\"}]}",
+        "{\"acKind\":\"ImageManifest\",\"acVersion\":\"0.8.0\",\"annotations\":[{\"name\":\"x\",\
+        \"value\":\"\"}],\"dependencies\":[{\"imageName\":\"b\",\"size\":18446744073709551615},\
+        {\"imageName\":\"c\",\"size\":0}],\"name\":\"a\",\"pathWhitelist\":[\"/etc/\",\
+        \"/bin/run\"]}",
     ),
     (
-        "{\"acKind\":\"ImageManifest\",\"acVersion\":\"0.8.0\",\"name\":\"a\",\"app\":{\"user\":\"0\",\"group\":\"0\",\"exec\":[\"//bin/./run\"],\"ports\":[{\"name\":\"p\",\"protocol\":\"tcp\",\"port\":80,\"socketActivated\":false}],\"isolators\":[{\"name\":\"x\",\"value\":{\"b\":[1,-2,false],\"a\":{}}}]}}",
-        "{\"acKind\":\"ImageManifest\",\"acVersion\":\"0.8.0\",\"app\":{\"exec\":[\"/bin/run\"],\"group\":\"0\",\"isolators\":[{\"name\":\"x\",\"value\":{\"a\":{},\"b\":[1,-2,false]}}],\"ports\":[{\"count\":1,\"name\":\"p\",\"port\":80,\"protocol\":\"tcp\"}],\"user\":\"0\"},\"name\":\"a\"}",
+        "{\"acKind\":\"ImageManifest\",\"acVersion\":\"0.8.0\",\"name\":\"a\",\
+        \"app\":{\"user\":\"0\",\"group\":\"0\",\"exec\":[\"//bin/./run\"],\
+        \"ports\":[{\"name\":\"p\",\"protocol\":\"tcp\",\"port\":80,\"socketActivated\":false}],\
+        \"isolators\":[{\"name\":\"x\",\"value\":{\"b\":[1,-2,false],\"a\":{}}}]}}",
+        "{\"acKind\":\"ImageManifest\",\"acVersion\":\"0.8.0\",\"app\":{\"exec\":[\"/bin/run\"],\
+        \"group\":\"0\",\"isolators\":[{\"name\":\"x\",\"value\":{\"a\":{},\
+        \"b\":[1,-2,false]}}],\"ports\":[{\"count\":1,\"name\":\"p\",\"port\":80,\
+        \"protocol\":\"tcp\"}],\"user\":\"0\"},\"name\":\"a\"}",
     ),
     (
-        "{\"acKind\":\"PodManifest\",\"acVersion\":\"0.8.0\",\"apps\":[],\"volumes\":[{\"name\":\"data\",\"kind\":\"host\",\"readOnly\":false,\"source\":\"/srv/\"},{\"name\":\"w-tmp\",\"kind\":\"empty\",\"uid\":4294967295}]}",
-        "{\"acKind\":\"PodManifest\",\"acVersion\":\"0.8.0\",\"apps\":[],\"volumes\":[{\"kind\":\"host\",\"name\":\"data\",\"source\":\"/srv\"},{\"gid\":0,\"kind\":\"empty\",\"mode\":\"0755\",\"name\":\"w-tmp\",\"uid\":4294967295}]}",
+        "{\"acKind\":\"PodManifest\",\"acVersion\":\"0.8.0\",\"apps\":[],\
+        \"volumes\":[{\"name\":\"data\",\"kind\":\"host\",\"readOnly\":false,\
+        \"source\":\"/srv/\"},{\"name\":\"w-tmp\",\"kind\":\"empty\",\"uid\":4294967295}]}",
+        "{\"acKind\":\"PodManifest\",\"acVersion\":\"0.8.0\",\"apps\":[],\
+        \"volumes\":[{\"kind\":\"host\",\"name\":\"data\",\"source\":\"/srv\"},\
+        {\"gid\":0,\"kind\":\"empty\",\"mode\":\"0755\",\"name\":\"w-tmp\",\
+        \"uid\":4294967295}]}",
     ),
 ];
 

@@ -16,22 +16,33 @@ type PodRow = (
 
 const W: ImageRow = (
     0xdd,
-    "{\"acKind\":\"ImageManifest\",\"acVersion\":\"0.8.11\",\"name\":\"example.com/w\",\"app\":{\"exec\":[\"/w\"],\"user\":\"0\",\"group\":\"0\",\"mountPoints\":[{\"name\":\"data\",\"path\":\"/data\"},{\"name\":\"tmp\",\"path\":\"/tmp\"}]}}",
+    "{\"acKind\":\"ImageManifest\",\"acVersion\":\"0.8.11\",\"name\":\"example.com/w\",\
+    \"app\":{\"exec\":[\"/w\"],\"user\":\"0\",\"group\":\"0\",\"mountPoints\":[{\"name\":\"data\",\
+    \"path\":\"/data\"},{\"name\":\"tmp\",\"path\":\"/tmp\"}]}}",
 );
 
 const WORKER: ImageRow = (
     0xcc,
-    "{\"acKind\":\"ImageManifest\",\"acVersion\":\"0.8.11\",\"name\":\"example.com/reduce-worker\",\"labels\":[{\"name\":\"version\",\"value\":\"1.0.0\"}],\"app\":{\"exec\":[\"/bin/run\",\"-q\"],\"user\":\"0\",\"group\":\"0\"},\"dependencies\":[{\"imageName\":\"example.com/base\",\"labels\":[{\"name\":\"version\",\"value\":\"1.0.0\"}]},{\"imageName\":\"example.com/lib\"}],\"annotations\":[{\"name\":\"made-by\",\"value\":\"hand\"}]}",
+    "{\"acKind\":\"ImageManifest\",\"acVersion\":\"0.8.11\",\"name\":\"example.com/reduce-worker\",\
+    \"labels\":[{\"name\":\"version\",\"value\":\"1.0.0\"}],\"app\":{\"exec\":[\"/bin/run\",\
+    \"-q\"],\"user\":\"0\",\"group\":\"0\"},\"dependencies\":[{\"imageName\":\"example.com/base\",\
+    \"labels\":[{\"name\":\"version\",\"value\":\"1.0.0\"}]},{\"imageName\":\"example.com/lib\"}],\
+    \"annotations\":[{\"name\":\"made-by\",\"value\":\"hand\"}]}",
 );
 
 const READER: ImageRow = (
     0xaa,
-    "{\"acKind\":\"ImageManifest\",\"acVersion\":\"0.8.0\",\"name\":\"r/a.b_c~d\",\"app\":{\"exec\":[\"/r\"],\"user\":\"0\",\"group\":\"0\",\"mountPoints\":[{\"name\":\"data\",\"path\":\"/in\",\"readOnly\":true}]}}",
+    "{\"acKind\":\"ImageManifest\",\"acVersion\":\"0.8.0\",\"name\":\"r/a.b_c~d\",\
+    \"app\":{\"exec\":[\"/r\"],\"user\":\"0\",\"group\":\"0\",\"mountPoints\":[{\"name\":\"data\",\
+    \"path\":\"/in\",\"readOnly\":true}]}}",
 );
 
 const TWO_AT_ONE_PATH: ImageRow = (
     0x11,
-    "{\"acKind\":\"ImageManifest\",\"acVersion\":\"0.8.0\",\"name\":\"t\",\"app\":{\"exec\":[\"/t\"],\"user\":\"0\",\"group\":\"0\",\"mountPoints\":[{\"name\":\"one\",\"path\":\"/m\"},{\"name\":\"two\",\"path\":\"/m\"},{\"name\":\"three\",\"path\":\"/n\"}]}}",
+    "{\"acKind\":\"ImageManifest\",\"acVersion\":\"0.8.0\",\"name\":\"t\",\
+    \"app\":{\"exec\":[\"/t\"],\"user\":\"0\",\"group\":\"0\",\"mountPoints\":[{\"name\":\"one\",\
+    \"path\":\"/m\"},{\"name\":\"two\",\"path\":\"/m\"},{\"name\":\"three\",\
+    \"path\":\"/n\"}]}}",
 );
 
 const SHORT: ImageRow = (
@@ -51,8 +62,14 @@ const DATA: PodRow = (
     &[("data", "/srv")],
     &[("data", "/extra")],
     &[
-        "{\"acKind\":\"PodManifest\",\"acVersion\":\"0.8.0\",\"apps\":[{\"app\":{\"exec\":[\"/w\"],\"group\":\"0\",\"mountPoints\":[{\"name\":\"data\",\"path\":\"/data\"},{\"name\":\"tmp\",\"path\":\"/tmp\"}],\"user\":\"0\"},\"image\":{\"id\":\"sha512-",
-        "\",\"name\":\"example.com/w\"},\"mounts\":[{\"path\":\"/extra\",\"volume\":\"data\"},{\"path\":\"/data\",\"volume\":\"data\"},{\"path\":\"/tmp\",\"volume\":\"w-tmp\"}],\"name\":\"w\"}],\"volumes\":[{\"kind\":\"host\",\"name\":\"data\",\"source\":\"/srv\"},{\"gid\":0,\"kind\":\"empty\",\"mode\":\"0755\",\"name\":\"w-tmp\",\"uid\":0}]}",
+        "{\"acKind\":\"PodManifest\",\"acVersion\":\"0.8.0\",\"apps\":[{\"app\":{\"exec\":[\"/w\"],\
+        \"group\":\"0\",\"mountPoints\":[{\"name\":\"data\",\"path\":\"/data\"},\
+        {\"name\":\"tmp\",\"path\":\"/tmp\"}],\"user\":\"0\"},\"image\":{\"id\":\"sha512-",
+        "\",\"name\":\"example.com/w\"},\"mounts\":[{\"path\":\"/extra\",\
+        \"volume\":\"data\"},{\"path\":\"/data\",\"volume\":\"data\"},{\"path\":\"/tmp\",\
+        \"volume\":\"w-tmp\"}],\"name\":\"w\"}],\"volumes\":[{\"kind\":\"host\",\
+        \"name\":\"data\",\"source\":\"/srv\"},{\"gid\":0,\"kind\":\"empty\",\
+        \"mode\":\"0755\",\"name\":\"w-tmp\",\"uid\":0}]}",
     ],
 );
 
@@ -73,9 +90,19 @@ const SHARED: PodRow = (
     &[("data", "/srv"), ("spare", "")],
     &[("spare", "/spare")],
     &[
-        "{\"acKind\":\"PodManifest\",\"acVersion\":\"0.8.0\",\"apps\":[{\"app\":{\"exec\":[\"/r\"],\"group\":\"0\",\"mountPoints\":[{\"name\":\"data\",\"path\":\"/in\",\"readOnly\":true}],\"user\":\"0\"},\"image\":{\"id\":\"sha512-",
-        "\",\"name\":\"r/a.b_c~d\"},\"mounts\":[{\"path\":\"/spare\",\"volume\":\"spare\"},{\"path\":\"/in\",\"volume\":\"data\"}],\"name\":\"a-b-c-d\"},{\"app\":{\"exec\":[\"/w\"],\"group\":\"0\",\"mountPoints\":[{\"name\":\"data\",\"path\":\"/data\"},{\"name\":\"tmp\",\"path\":\"/tmp\"}],\"user\":\"0\"},\"image\":{\"id\":\"sha512-",
-        "\",\"name\":\"example.com/w\"},\"mounts\":[{\"path\":\"/spare\",\"volume\":\"spare\"},{\"path\":\"/data\",\"volume\":\"data\"},{\"path\":\"/tmp\",\"volume\":\"w-tmp\"}],\"name\":\"w\"}],\"volumes\":[{\"kind\":\"host\",\"name\":\"data\",\"source\":\"/srv\"},{\"gid\":0,\"kind\":\"empty\",\"mode\":\"0755\",\"name\":\"spare\",\"uid\":0},{\"gid\":0,\"kind\":\"empty\",\"mode\":\"0755\",\"name\":\"w-tmp\",\"uid\":0}]}",
+        "{\"acKind\":\"PodManifest\",\"acVersion\":\"0.8.0\",\"apps\":[{\"app\":{\"exec\":[\"/r\"],\
+        \"group\":\"0\",\"mountPoints\":[{\"name\":\"data\",\"path\":\"/in\",\
+        \"readOnly\":true}],\"user\":\"0\"},\"image\":{\"id\":\"sha512-",
+        "\",\"name\":\"r/a.b_c~d\"},\"mounts\":[{\"path\":\"/spare\",\"volume\":\"spare\"},\
+        {\"path\":\"/in\",\"volume\":\"data\"}],\"name\":\"a-b-c-d\"},{\"app\":{\"exec\":[\"/w\"],\
+        \"group\":\"0\",\"mountPoints\":[{\"name\":\"data\",\"path\":\"/data\"},\
+        {\"name\":\"tmp\",\"path\":\"/tmp\"}],\"user\":\"0\"},\"image\":{\"id\":\"sha512-",
+        "\",\"name\":\"example.com/w\"},\"mounts\":[{\"path\":\"/spare\",\
+        \"volume\":\"spare\"},{\"path\":\"/data\",\"volume\":\"data\"},{\"path\":\"/tmp\",\
+        \"volume\":\"w-tmp\"}],\"name\":\"w\"}],\"volumes\":[{\"kind\":\"host\",\
+        \"name\":\"data\",\"source\":\"/srv\"},{\"gid\":0,\"kind\":\"empty\",\
+        \"mode\":\"0755\",\"name\":\"spare\",\"uid\":0},{\"gid\":0,\"kind\":\"empty\",\
+        \"mode\":\"0755\",\"name\":\"w-tmp\",\"uid\":0}]}",
     ],
 );
 
@@ -85,8 +112,15 @@ const REPEATED: PodRow = (
     &[("two", "/srv")],
     &[],
     &[
-        "{\"acKind\":\"PodManifest\",\"acVersion\":\"0.8.0\",\"apps\":[{\"app\":{\"exec\":[\"/t\"],\"group\":\"0\",\"mountPoints\":[{\"name\":\"one\",\"path\":\"/m\"},{\"name\":\"two\",\"path\":\"/m\"},{\"name\":\"three\",\"path\":\"/n\"}],\"user\":\"0\"},\"image\":{\"id\":\"sha512-",
-        "\",\"name\":\"t\"},\"mounts\":[{\"path\":\"/m\",\"volume\":\"t-one\"},{\"path\":\"/n\",\"volume\":\"t-three\"}],\"name\":\"t\"}],\"volumes\":[{\"kind\":\"host\",\"name\":\"two\",\"source\":\"/srv\"},{\"gid\":0,\"kind\":\"empty\",\"mode\":\"0755\",\"name\":\"t-one\",\"uid\":0},{\"gid\":0,\"kind\":\"empty\",\"mode\":\"0755\",\"name\":\"t-three\",\"uid\":0}]}",
+        "{\"acKind\":\"PodManifest\",\"acVersion\":\"0.8.0\",\"apps\":[{\"app\":{\"exec\":[\"/t\"],\
+        \"group\":\"0\",\"mountPoints\":[{\"name\":\"one\",\"path\":\"/m\"},\
+        {\"name\":\"two\",\"path\":\"/m\"},{\"name\":\"three\",\"path\":\"/n\"}],\
+        \"user\":\"0\"},\"image\":{\"id\":\"sha512-",
+        "\",\"name\":\"t\"},\"mounts\":[{\"path\":\"/m\",\"volume\":\"t-one\"},\
+        {\"path\":\"/n\",\"volume\":\"t-three\"}],\"name\":\"t\"}],\"volumes\":[{\"kind\":\"host\",\
+        \"name\":\"two\",\"source\":\"/srv\"},{\"gid\":0,\"kind\":\"empty\",\
+        \"mode\":\"0755\",\"name\":\"t-one\",\"uid\":0},{\"gid\":0,\"kind\":\"empty\",\
+        \"mode\":\"0755\",\"name\":\"t-three\",\"uid\":0}]}",
     ],
 );
 
@@ -96,8 +130,14 @@ const TAKEN_PATH: PodRow = (
     &[("other", "/o")],
     &[("other", "/tmp"), ("other", "/tmp")],
     &[
-        "{\"acKind\":\"PodManifest\",\"acVersion\":\"0.8.0\",\"apps\":[{\"app\":{\"exec\":[\"/w\"],\"group\":\"0\",\"mountPoints\":[{\"name\":\"data\",\"path\":\"/data\"},{\"name\":\"tmp\",\"path\":\"/tmp\"}],\"user\":\"0\"},\"image\":{\"id\":\"sha512-",
-        "\",\"name\":\"example.com/w\"},\"mounts\":[{\"path\":\"/tmp\",\"volume\":\"other\"},{\"path\":\"/tmp\",\"volume\":\"other\"},{\"path\":\"/data\",\"volume\":\"w-data\"}],\"name\":\"w\"}],\"volumes\":[{\"kind\":\"host\",\"name\":\"other\",\"source\":\"/o\"},{\"gid\":0,\"kind\":\"empty\",\"mode\":\"0755\",\"name\":\"w-data\",\"uid\":0}]}",
+        "{\"acKind\":\"PodManifest\",\"acVersion\":\"0.8.0\",\"apps\":[{\"app\":{\"exec\":[\"/w\"],\
+        \"group\":\"0\",\"mountPoints\":[{\"name\":\"data\",\"path\":\"/data\"},\
+        {\"name\":\"tmp\",\"path\":\"/tmp\"}],\"user\":\"0\"},\"image\":{\"id\":\"sha512-",
+        "\",\"name\":\"example.com/w\"},\"mounts\":[{\"path\":\"/tmp\",\"volume\":\"other\"},\
+        {\"path\":\"/tmp\",\"volume\":\"other\"},{\"path\":\"/data\",\"volume\":\"w-data\"}],\
+        \"name\":\"w\"}],\"volumes\":[{\"kind\":\"host\",\"name\":\"other\",\
+        \"source\":\"/o\"},{\"gid\":0,\"kind\":\"empty\",\"mode\":\"0755\",\
+        \"name\":\"w-data\",\"uid\":0}]}",
     ],
 );
 
@@ -107,8 +147,12 @@ const ONE_NAME: PodRow = (
     &[],
     &[],
     &[
-        "{\"acKind\":\"PodManifest\",\"acVersion\":\"0.8.0\",\"apps\":[{\"app\":{\"exec\":[\"/a\"],\"group\":\"0\",\"mountPoints\":[{\"name\":\"b-c\",\"path\":\"/m\"}],\"user\":\"0\"},\"image\":{\"id\":\"sha512-",
-        "\",\"name\":\"x/a\"},\"mounts\":[{\"path\":\"/m\",\"volume\":\"a-b-c\"}],\"name\":\"a\"},{\"app\":{\"exec\":[\"/ab\"],\"group\":\"0\",\"mountPoints\":[{\"name\":\"c\",\"path\":\"/m\"}],\"user\":\"0\"},\"image\":{\"id\":\"sha512-",
+        "{\"acKind\":\"PodManifest\",\"acVersion\":\"0.8.0\",\"apps\":[{\"app\":{\"exec\":[\"/a\"],\
+        \"group\":\"0\",\"mountPoints\":[{\"name\":\"b-c\",\"path\":\"/m\"}],\
+        \"user\":\"0\"},\"image\":{\"id\":\"sha512-",
+        "\",\"name\":\"x/a\"},\"mounts\":[{\"path\":\"/m\",\"volume\":\"a-b-c\"}],\
+        \"name\":\"a\"},{\"app\":{\"exec\":[\"/ab\"],\"group\":\"0\",\"mountPoints\":[{\"name\":\"c\",\
+        \"path\":\"/m\"}],\"user\":\"0\"},\"image\":{\"id\":\"sha512-",
         "\",\"name\":\"x/a-b\"},\"mounts\":[{\"path\":\"/m\",\"volume\":\"a-b-c\"}],\"name\":\"a-b\"}],\"volumes\":[{\"gid\":0,\"kind\":\"empty\",\"mode\":\"0755\",\"name\":\"a-b-c\",\"uid\":0}]}",
     ],
 );
@@ -119,7 +163,9 @@ const ASKED_FOR: PodRow = (
     &[("a-b-c", "/srv")],
     &[],
     &[
-        "{\"acKind\":\"PodManifest\",\"acVersion\":\"0.8.0\",\"apps\":[{\"app\":{\"exec\":[\"/a\"],\"group\":\"0\",\"mountPoints\":[{\"name\":\"b-c\",\"path\":\"/m\"}],\"user\":\"0\"},\"image\":{\"id\":\"sha512-",
+        "{\"acKind\":\"PodManifest\",\"acVersion\":\"0.8.0\",\"apps\":[{\"app\":{\"exec\":[\"/a\"],\
+        \"group\":\"0\",\"mountPoints\":[{\"name\":\"b-c\",\"path\":\"/m\"}],\
+        \"user\":\"0\"},\"image\":{\"id\":\"sha512-",
         "\",\"name\":\"x/a\"},\"mounts\":[{\"path\":\"/m\",\"volume\":\"a-b-c\"}],\"name\":\"a\"}],\"volumes\":[{\"kind\":\"host\",\"name\":\"a-b-c\",\"source\":\"/srv\"}]}",
     ],
 );

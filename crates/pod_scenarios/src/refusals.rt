@@ -8,7 +8,9 @@ use std::test::Fail;
 
 const W: ImageRow = (
     1,
-    "{\"acKind\":\"ImageManifest\",\"acVersion\":\"0.8.0\",\"name\":\"example.com/w\",\"app\":{\"exec\":[\"/w\"],\"user\":\"0\",\"group\":\"0\",\"mountPoints\":[{\"name\":\"tmp\",\"path\":\"/tmp\"}]}}",
+    "{\"acKind\":\"ImageManifest\",\"acVersion\":\"0.8.0\",\"name\":\"example.com/w\",\
+    \"app\":{\"exec\":[\"/w\"],\"user\":\"0\",\"group\":\"0\",\"mountPoints\":[{\"name\":\"tmp\",\
+    \"path\":\"/tmp\"}]}}",
 );
 
 const ALSO_W: ImageRow = (

@@ -19,8 +19,9 @@ pub(crate) type ImageRow = (u8, &'static str);
 pub(crate) type NamedPlace = (&'static str, &'static str);
 
 /// What stands before the mounts of a pod's one app.
-const POD: &str =
-    "{\"acKind\":\"PodManifest\",\"acVersion\":\"0.8.0\",\"apps\":[{\"name\":\"x\",\"image\":{\"id\":\"sha512-00000000000000000000000000000000000000000000000000000000000000000000000000000000000000000000000000000000000000000000000000000000\"},\"mounts\":[";
+const POD: &str = "{\"acKind\":\"PodManifest\",\"acVersion\":\"0.8.0\",\"apps\":[{\"name\":\"x\",\
+    \"image\":{\"id\":\"sha512-00000000000000000000000000000000000000000000000000000000000000000000000000000000000000000000000000000\
+    000000000000000000000000000\"},\"mounts\":[";
 
 /// The images of some rows.
 pub(crate) fn images(alloc: Global, rows: &[ImageRow]) -> Result<Vec<Stored>, Fail> {

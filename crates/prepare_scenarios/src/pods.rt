@@ -9,13 +9,25 @@ use std::test::Fail;
 use store_stage::{Stands, are_kept, count, draw, holds, intent};
 
 const POD: &str =
-    "{\"acKind\":\"PodManifest\",\"acVersion\":\"0.8.0\",\"apps\":[{\"app\":{\"exec\":[\"/bin/run\",\"-q\"],\"group\":\"0\",\"user\":\"0\"},\"image\":{\"id\":\"sha512-cccccccccccccccccccccccccccccccccccccccccccccccccccccccccccccccccccccccccccccccccccccccccccccccccccccccccccccccccccccccccccccccc\",\"labels\":[{\"name\":\"version\",\"value\":\"1.0.0\"}],\"name\":\"example.com/reduce-worker\"},\"name\":\"reduce-worker\"}]}";
+    "{\"acKind\":\"PodManifest\",\"acVersion\":\"0.8.0\",\"apps\":[{\"app\":{\"exec\":[\"/bin/run\",\
+    \"-q\"],\"group\":\"0\",\"user\":\"0\"},\"image\":{\"id\":\"sha512-ccccccccccccccccccccccccccccccccccccccccccccccccccccccccccccc\
+    ccccccccccccccccccccccccccccccccccccccccccccccccccccccccccccccccccc\",\
+    \"labels\":[{\"name\":\"version\",\"value\":\"1.0.0\"}],\"name\":\"example.com/reduce-worker\"},\
+    \"name\":\"reduce-worker\"}]}";
 
 const WORKER_MANIFEST: &str =
-    "{\"acKind\":\"ImageManifest\",\"acVersion\":\"0.8.0\",\"name\":\"example.com/reduce-worker\",\"labels\":[{\"name\":\"version\",\"value\":\"1.0.0\"}],\"app\":{\"exec\":[\"/bin/run\",\"-q\"],\"user\":\"0\",\"group\":\"0\"},\"dependencies\":[{\"imageName\":\"example.com/base\",\"labels\":[{\"name\":\"version\",\"value\":\"1.0.0\"}]},{\"imageName\":\"example.com/lib\"}]}";
+    "{\"acKind\":\"ImageManifest\",\"acVersion\":\"0.8.0\",\"name\":\"example.com/reduce-worker\",\
+    \"labels\":[{\"name\":\"version\",\"value\":\"1.0.0\"}],\"app\":{\"exec\":[\"/bin/run\",\
+    \"-q\"],\"user\":\"0\",\"group\":\"0\"},\"dependencies\":[{\"imageName\":\"example.com/base\",\
+    \"labels\":[{\"name\":\"version\",\"value\":\"1.0.0\"}]},{\"imageName\":\"example.com/lib\"}]}";
 
 const ROOT: &str =
-    "d 0755 0 0 /bin\nf 0755 0 0 3 ddaf35a193617abacc417349ae20413112e6fa4e89a97ea20a9eeee64b55d39a2192992a274fc1a836ba3c23a3feebbd454d4423643ce80e2a9ac94fa54ca49f /bin/abc\nf 0755 0 0 3 ddaf35a193617abacc417349ae20413112e6fa4e89a97ea20a9eeee64b55d39a2192992a274fc1a836ba3c23a3feebbd454d4423643ce80e2a9ac94fa54ca49f /bin/run\nd 0755 0 0 /etc\nl 0777 0 0 motd /etc/issue\nf 0644 0 0 3 ddaf35a193617abacc417349ae20413112e6fa4e89a97ea20a9eeee64b55d39a2192992a274fc1a836ba3c23a3feebbd454d4423643ce80e2a9ac94fa54ca49f /etc/motd\n";
+    "d 0755 0 0 /bin\nf 0755 0 0 3 ddaf35a193617abacc417349ae20413112e6fa4e89a97ea20a9eeee64b55d39a2192992a274fc1a836ba3c23a3feebbd45\
+    4d4423643ce80e2a9ac94fa54ca49f /bin/abc\n\
+    f 0755 0 0 3 ddaf35a193617abacc417349ae20413112e6fa4e89a97ea20a9eeee64b55d39a2192992a274fc1a836ba3c23a3feebbd454d4423643ce80e2a9\
+    ac94fa54ca49f /bin/run\nd 0755 0 0 /etc\n\
+    l 0777 0 0 motd /etc/issue\nf 0644 0 0 3 ddaf35a193617abacc417349ae20413112e6fa4e89a97ea20a9eeee64b55d39a2192992a274fc1a836ba3c2\
+    3a3feebbd454d4423643ce80e2a9ac94fa54ca49f /etc/motd\n";
 
 // What the folder of the worker's pod holds. A link stands in the listing alone.
 const WORKER_POD: &[Stands] = &[

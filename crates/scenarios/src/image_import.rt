@@ -13,7 +13,9 @@ const STORED_LINE: &str =
 
 // The digests of the image with the listing and of that without a file, as sha512sum answers them.
 const CONFLICT: &str =
-    "rkt: conflict: sha512-bbbbbbbbbbbbbbbbbbbbbbbbbbbbbbbbbbbbbbbbbbbbbbbbbbbbbbbbbbbbbbbb 923667fe96766185d7f7c1ab6364406aaabed0e3900cc2b8ae4c9e43e06be01b1d2dcbf882210e34e06936abfceeafc4c00ba38e862568c095ba20302d142371 d48e672267514b18ca994a192c514399fbeb7503449601c8a8d78f618011b49fb8c5c2a2adf0a6f6ae0f6a76503caf06a40c8f5b657026e5011b7e1d5f916f3a\n";
+    "rkt: conflict: sha512-bbbbbbbbbbbbbbbbbbbbbbbbbbbbbbbbbbbbbbbbbbbbbbbbbbbbbbbbbbbbbbbb 923667fe96766185d7f7c1ab6364406aaabed0e39\
+    00cc2b8ae4c9e43e06be01b1d2dcbf882210e34e06936abfceeafc4c00ba38e862568c095ba20302d142371 d48e672267514b18ca994a192c514399fbeb7503\
+    449601c8a8d78f618011b49fb8c5c2a2adf0a6f6ae0f6a76503caf06a40c8f5b657026e5011b7e1d5f916f3a\n";
 
 // Bundles that are refused.
 const REFUSED: &[Alone] = &[

@@ -20,7 +20,10 @@ const CAPITAL_NIL: &str =
 
 /// `/bin`, `/bin/abc` with `abc`, the empty `/e`, and `/l` that links to `bin/abc`.
 const SMALL: &[u8] =
-    b"d 0755 0 0 /bin\nf 0755 0 0 3 ddaf35a193617abacc417349ae20413112e6fa4e89a97ea20a9eeee64b55d39a2192992a274fc1a836ba3c23a3feebbd454d4423643ce80e2a9ac94fa54ca49f /bin/abc\nf 0644 0 0 0 cf83e1357eefb8bdf1542850d66d8007d620e4050b5715dc83f4a921d36ce9ce47d0d13c5d85f2b0ff8318d2877eec2f63b931bd47417a81a538327af927da3e /e\nl 0777 0 0 bin/abc /l\n";
+    b"d 0755 0 0 /bin\nf 0755 0 0 3 ddaf35a193617abacc417349ae20413112e6fa4e89a97ea20a9eeee64b55d39a2192992a274fc1a836ba3c23a3feebbd45\
+    4d4423643ce80e2a9ac94fa54ca49f /bin/abc\n\
+    f 0644 0 0 0 cf83e1357eefb8bdf1542850d66d8007d620e4050b5715dc83f4a921d36ce9ce47d0d13c5d85f2b0ff8318d2877eec2f63b931bd47417a81a53\
+    8327af927da3e /e\nl 0777 0 0 bin/abc /l\n";
 
 /// The hex digits of the SHA-512 of that listing, as sha512sum answers it.
 const DIGEST: &str =
