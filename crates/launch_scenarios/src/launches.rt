@@ -12,8 +12,14 @@ const ADDRESS: &str = "127.0.0.1:18112";
 const TOKEN: &str = "11111111111111111111111111111111";
 
 // The root of each: files /bin/run, /opt/tool and /usr/bin/serve, the directory /usr/bin/dir, the link /bin/link.
-const ROOT: &str =
-    "d 0755 0 0 /bin\nl 0777 0 0 run /bin/link\nf 0755 0 0 0 cf83e1357eefb8bdf1542850d66d8007d620e4050b5715dc83f4a921d36ce9ce47d0d13c5d85f2b0ff8318d2877eec2f63b931bd47417a81a538327af927da3e /bin/run\nd 0755 0 0 /opt\nf 0755 0 0 0 cf83e1357eefb8bdf1542850d66d8007d620e4050b5715dc83f4a921d36ce9ce47d0d13c5d85f2b0ff8318d2877eec2f63b931bd47417a81a538327af927da3e /opt/tool\nd 0755 0 0 /usr\nd 0755 0 0 /usr/bin\nd 0755 0 0 /usr/bin/dir\nf 0755 0 0 0 cf83e1357eefb8bdf1542850d66d8007d620e4050b5715dc83f4a921d36ce9ce47d0d13c5d85f2b0ff8318d2877eec2f63b931bd47417a81a538327af927da3e /usr/bin/serve\n";
+const ROOT: &str = "d 0755 0 0 /bin\nl 0777 0 0 run /bin/link\n\
+    f 0755 0 0 0 cf83e1357eefb8bdf1542850d66d8007d620e4050b5715dc83f4a921d36ce9ce47d0d13c5d85f2b0ff8318d2877eec2f63b931bd47417a81a53\
+    8327af927da3e /bin/run\nd 0755 0 0 /opt\n\
+    f 0755 0 0 0 cf83e1357eefb8bdf1542850d66d8007d620e4050b5715dc83f4a921d36ce9ce47d0d13c5d85f2b0ff8318d2877eec2f63b931bd47417a81a53\
+    8327af927da3e /opt/tool\nd 0755 0 0 /usr\n\
+    d 0755 0 0 /usr/bin\nd 0755 0 0 /usr/bin/dir\n\
+    f 0755 0 0 0 cf83e1357eefb8bdf1542850d66d8007d620e4050b5715dc83f4a921d36ce9ce47d0d13c5d85f2b0ff8318d2877eec2f63b931bd47417a81a53\
+    8327af927da3e /usr/bin/serve\n";
 
 // An app's section; and what its programs start with, word by word, or the word that names no program.
 struct Row {
@@ -99,7 +105,9 @@ const VARIABLES: &[Variables] = &[
         ],
     },
     Variables {
-        given: "{\"name\":\"A\",\"value\":\"1\"},{\"name\":\"PATH\",\"value\":\"/opt\"},{\"name\":\"B\",\"value\":\"\"},{\"name\":\"A\",\"value\":\"2\"},{\"name\":\"AC_APP_NAME\",\"value\":\"x\"},{\"name\":\"PATH\",\"value\":\"/bin\"}",
+        given: "{\"name\":\"A\",\"value\":\"1\"},{\"name\":\"PATH\",\"value\":\"/opt\"},\
+        {\"name\":\"B\",\"value\":\"\"},{\"name\":\"A\",\"value\":\"2\"},\
+        {\"name\":\"AC_APP_NAME\",\"value\":\"x\"},{\"name\":\"PATH\",\"value\":\"/bin\"}",
         all: &[
             "A=2",
             "PATH=/bin",
@@ -111,7 +119,9 @@ const VARIABLES: &[Variables] = &[
 ];
 
 const FRONT: &str =
-    "{\"acKind\":\"PodManifest\",\"acVersion\":\"0.8.0\",\"apps\":[{\"name\":\"reduce-worker\",\"image\":{\"id\":\"sha512-cccccccccccccccccccccccccccccccccccccccccccccccccccccccccccccccccccccccccccccccccccccccccccccccccccccccccccccccccccccccccccccccc\"},\"app\":{";
+    "{\"acKind\":\"PodManifest\",\"acVersion\":\"0.8.0\",\"apps\":[{\"name\":\"reduce-worker\",\
+    \"image\":{\"id\":\"sha512-ccccccccccccccccccccccccccccccccccccccccccccccccccccccccccccccccccccccccccccccccccccccccccccccccccccc\
+    ccccccccccccccccccccccccccc\"},\"app\":{";
 
 const BACK: &str = ",\"user\":\"0\",\"group\":\"0\"}}]}";
 
@@ -138,36 +148,49 @@ fn launch_in(alloc: Global, app: &str, tree: &PathMap) -> Option<Result<AppLaunc
     Some(app_launch(alloc, first, tree, ADDRESS, TOKEN))
 }
 
-// Whether these words stand at a place of the wanted ones, and where they end then.
-fn stand_at(words: &Words, wanted: &[&str], at: usize) -> Option<usize> {
+// What is left of the wanted words behind these, where they begin with them.
+fn behind<'a>(words: &Words, wanted: &'a [&'static str]) -> Option<&'a [&'static str]> {
+    let mut left = wanted;
     for place in 0..words.len() {
-        if words.get(place) != wanted.get(at + place).copied() {
+        let (first, others) = left.split_first()?;
+        if words.get(place) != Some(*first) {
             return None;
         }
+        left = others;
     }
-    Some(at + words.len())
+    Some(left)
 }
 
-fn handler_at(words: &Option<Words>, title: &str, wanted: &[&str], at: usize) -> Option<usize> {
+fn behind_handler<'a>(
+    words: &Option<Words>,
+    title: &str,
+    wanted: &'a [&'static str],
+) -> Option<&'a [&'static str]> {
     match words {
-        Some(words) if wanted.get(at).copied() == Some(title) => stand_at(words, wanted, at + 1),
-        Some(_) => None,
-        None => Some(at),
+        Some(words) => {
+            let (first, others) = wanted.split_first()?;
+            if *first == title {
+                behind(words, others)
+            } else {
+                None
+            }
+        }
+        None => Some(wanted),
     }
 }
 
-fn is_in(directory: &str, wanted: Option<&&str>) -> bool {
-    match wanted {
-        Some(last) => last.strip_prefix("in ") == Some(directory),
+fn is_in(directory: &str, wanted: &[&'static str]) -> bool {
+    match wanted.split_first() {
+        Some((last, others)) => { others.is_empty() && last.strip_prefix("in ") == Some(directory) }
         None => false,
     }
 }
 
-fn starts_so(launch: &AppLaunch, wanted: &[&str]) -> Option<bool> {
-    let at = handler_at(&launch.pre_start, "before", wanted, 0)?;
-    let at = stand_at(&launch.main, wanted, at)?;
-    let at = handler_at(&launch.post_stop, "after", wanted, at)?;
-    Some(at + 1 == wanted.len() && is_in(launch.directory.as_str(), wanted.get(at)))
+fn starts_so(launch: &AppLaunch, wanted: &[&'static str]) -> Option<bool> {
+    let left = behind_handler(&launch.pre_start, "before", wanted)?;
+    let left = behind(&launch.main, left)?;
+    let left = behind_handler(&launch.post_stop, "after", left)?;
+    Some(is_in(launch.directory.as_str(), left))
 }
 
 fn is_as_wanted(answer: &Result<AppLaunch, LaunchError>, row: &Row) -> bool {
@@ -209,7 +232,10 @@ fn environment_holds(alloc: Global, row: &Variables, tree: &PathMap) -> bool {
         return false;
     };
     match launch_in(alloc, app.as_str(), tree) {
-        Some(Ok(launch)) => stand_at(&launch.environment, row.all, 0) == Some(row.all.len()),
+        Some(Ok(launch)) => match behind(&launch.environment, row.all) {
+            Some(left) => left.is_empty(),
+            None => false,
+        },
         _ => false,
     }
 }
