@@ -6,4 +6,5 @@ pub mod Opposed
 pub mod Knowing
 pub mod Parts
 pub mod Reading
+pub mod Elsewhere
 pub mod Outcomes

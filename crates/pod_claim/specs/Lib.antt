@@ -4,3 +4,4 @@ pub mod Setbacks
 pub mod Work
 pub mod Causes
 pub mod Claims
+pub mod Elsewhere

@@ -13,6 +13,7 @@ ghost use Rattle.pod_claim.specs.Holding.{MayClaim, and_locked};
 ghost use Rattle.pod_claim.specs.Work.{Went, MovedNothing, TookBoth, Leaves};
 ghost use Rattle.pod_claim.specs.Causes.{is_prepared, ClaimCause, SetBack, BusyElsewhere};
 ghost use Rattle.pod_claim.specs.Claims.{HasPod};
+ghost use Rattle.pod_claim.specs.Elsewhere.{MetOwner, MetOwnerThen};
 
 use crate::error::ClaimError;
 use crate::locks::take_and_run;
@@ -40,6 +41,8 @@ fn find_prepared<D: Dir>(alloc: Global, dir: &mut D, pod: PodId) -> Result<(), C
     ensures found { IfOk result (λ done. D.observed ≡ true
         → IsRead (D.shown dir.old) (D.shown dir.new) pod (found.At phase.Prepared area.Prepared)) }
     ensures cause { IfErr result (λ e. ClaimCause D.observed pod e (D.shown dir.old) (D.shown dir.new)) }
+    ensures owned_elsewhere { IfErr result (λ e. Leaves D.observed MayClaim (D.shown dir.old)
+        (λ s. MetOwner pod e (D.shown dir.old) (D.shown dir.new))) }
     ensures calm { IfErr result (λ e. (which : Which) → e ≡ ClaimError.Busy pod which → ⊥) }
     ensures known { D.observed ≡ true → OnlyLooks (D.shown dir.old) (D.shown dir.new) }
 {
@@ -68,6 +71,8 @@ pub(crate) fn attempt<D: Dir>(alloc: Global, dir: &mut D, pod: PodId) -> Result<
     ensures set_back { IfErr result (λ e. SetBack D.observed pod e (D.shown dir.old) (D.shown dir.new)) }
     ensures another { IfErr result (λ e. Leaves D.observed MayClaim (D.shown dir.old)
         (λ s. BusyElsewhere pod e (D.shown dir.old) (D.shown dir.new))) }
+    ensures owned_elsewhere { IfErr result (λ e. Leaves D.observed MayClaim (D.shown dir.old)
+        (λ s. MetOwnerThen pod e (D.shown dir.old) (D.shown dir.new))) }
     ensures held { IfOk result (λ own. Leaves D.observed MayClaim (D.shown dir.old) (λ s. HasPod pod own s (D.shown dir.new))) }
     ensures left { IfErr result (λ e. Leaves D.observed MayClaim (D.shown dir.old) (λ s. LookedInto s (D.shown dir.new))) }
 {

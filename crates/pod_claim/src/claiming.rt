@@ -8,6 +8,7 @@ ghost use Rattle.pod_claim.specs.Holding.{MayClaim};
 ghost use Rattle.pod_claim.specs.Work.{Went, MovedNothing, TookBoth, Leaves};
 ghost use Rattle.pod_claim.specs.Causes.{ClaimCause};
 ghost use Rattle.pod_claim.specs.Claims.{and_owned, HasPod, RefusedByAnother, IsFreeThroughout, IsFailure};
+ghost use Rattle.pod_claim.specs.Elsewhere.{MetOwner};
 ghost use Rattle.pod_ownership.specs.Running.{IsOwned, RunsPod};
 
 use crate::attempt::attempt;
@@ -30,7 +31,8 @@ fn owned(pod: PodId, own: Handle) -> Owned
 /// all. No handle of this process is open on the pod's own lock before; afterwards one is, which holds it
 /// exclusively, or the call is refused and everything is open that was open before.
 ///
-/// Refused in this order. `NoPod` and `WrongPhase` where the pod isn't prepared. `NoManifest` where its
+/// Refused in this order. `NoPod` and `WrongPhase` where the pod isn't prepared; one that is preparing,
+/// running or deleting is another process's. `NoManifest` where its
 /// folder stands in prepared without the file `pod`. `Busy` where another process holds the activation
 /// lock, or its own lock. `Stray` where the pod was found in prepared twice, and both times its folder was
 /// missing there after that, or where another folder has its place in run. `DirFault` and `NoMemory`
@@ -43,6 +45,8 @@ pub fn claim<D: Dir>(alloc: Global, dir: &mut D, pod: PodId) -> Result<Owned, Cl
     ensures cause { IfErr result (λ e. ClaimCause D.observed pod e (D.shown dir.old) (D.shown dir.new)) }
     ensures another { IfErr result (λ e. Leaves D.observed MayClaim (D.shown dir.old)
         (λ s. RefusedByAnother pod e (D.shown dir.old) (D.shown dir.new))) }
+    ensures owned_elsewhere { IfErr result (λ e. Leaves D.observed MayClaim (D.shown dir.old)
+        (λ s. MetOwner pod e (D.shown dir.old) (D.shown dir.new))) }
     ensures moved { IfOk result (λ owned. D.observed ≡ true
         → TookBoth pod owned.own (D.shown dir.old).process (D.shown dir.old).trace (D.shown dir.new).trace) }
     ensures still { IfErr result (λ e. D.observed ≡ true → MovedNothing (D.shown dir.old).process (D.shown dir.old).trace (D.shown dir.new).trace) }

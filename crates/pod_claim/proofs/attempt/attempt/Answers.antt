@@ -10,6 +10,8 @@ use Rattle.pod_claim.specs.Causes.{Stopped, IsAbsent, SetBack, BusyElsewhere}
 use Rattle.pod_claim.specs.Claims.{HasPod}
 use Rattle.pod_claim.proofs.Parts.{went_as, went_wider, went_more}
 use Rattle.pod_claim.proofs.Reading.{set_back_after, took_after, another_after, held_after, left_after, ok_more, err_more, refused_first}
+use Rattle.pod_claim.specs.Elsewhere.{MetOwnerThen}
+use Rattle.pod_claim.proofs.Elsewhere.{met_never, met_first}
 use Rattle.pod_claim.proofs.attempt.attempt.Goals as goal
 
 pub returns-in-Ok-clause-went : goal.returns-in-Ok-clause-went
@@ -79,3 +81,15 @@ returns-in-Err-clause-another g c t s may k which is = absurd (c.in-Err.ensures.
 
 pub returns-in-Err-clause-left : goal.returns-in-Err-clause-left
 returns-in-Err-clause-left g c t s may k = c.find_prepared.ensures.known t s k
+
+pub returns-in-Ok-clause-owned_elsewhere : goal.returns-in-Ok-clause-owned_elsewhere
+returns-in-Ok-clause-owned_elsewhere g c =
+    let D = g.D.Dir in
+    let a = D.shown c.args.dir.now in
+    let b = D.shown c.find_prepared.new.dir in
+    let d = D.shown c.take_and_run.new.dir in
+    err_more (λ (e : Setback). Stopped D.observed c.args.pod (IsAbsent c.args.pod) e b d) (λ (e : Setback). Leaves D.observed MayClaim a (λ s. MetOwnerThen c.args.pod e a d)) c.take_and_run.result
+    (λ e f. met_never a e f) c.take_and_run.ensures.stopped
+
+pub returns-in-Err-clause-owned_elsewhere : goal.returns-in-Err-clause-owned_elsewhere
+returns-in-Err-clause-owned_elsewhere g c = met_first c.args.pod (g.D.Dir.shown c.args.dir.now) (g.D.Dir.shown c.find_prepared.new.dir) c.in-Err.error c.in-Err.ensures.owned_elsewhere

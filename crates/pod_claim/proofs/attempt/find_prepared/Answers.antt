@@ -3,6 +3,7 @@ use Rattle.pod_claim.specs.declared.error.ClaimError.{ClaimError}
 use Rattle.pod_claim.specs.Causes.{ClaimCause}
 use Rattle.pod_claim.proofs.Reading.{went_looked, found_prepared, cause_wrong, cause_gone, cause_failed, look_calm}
 use Rattle.pod_claim.proofs.Traces.{still_looks}
+use Rattle.pod_claim.proofs.Elsewhere.{met_by_reading, look_isnt_wrong}
 use Rattle.pod_claim.proofs.attempt.find_prepared.Goals as goal
 
 pub returns-in-Ok-Gone-clause-went : goal.returns-in-Ok-Gone-clause-went
@@ -52,3 +53,14 @@ returns-in-Err-clause-cause g c =
 
 pub returns-in-Err-clause-calm : goal.returns-in-Err-clause-calm
 returns-in-Err-clause-calm g c which is = look_calm c.args.pod c.in-Err.error which (sym c.look_refusal.ensures ∙ is)
+
+pub returns-else-is_prepared-clause-owned_elsewhere : goal.returns-else-is_prepared-clause-owned_elsewhere
+returns-else-is_prepared-clause-owned_elsewhere g c =
+    let e = rw c.in-Ok-At.field-0-is at c.in-Ok-At.ensures in
+    met_by_reading c.args.pod (g.D.Dir.shown c.args.dir.now) (g.D.Dir.shown c.read_phase.new.dir) c.in-Ok-At.phase c.in-Ok-At.field-0-1 (λ t. c.read_phase.ensures.extends t) (λ t. e.exact t)
+
+pub returns-in-Ok-Gone-clause-owned_elsewhere : goal.returns-in-Ok-Gone-clause-owned_elsewhere
+returns-in-Ok-Gone-clause-owned_elsewhere g c t s may knows conforming q is owned = cc
+
+pub returns-in-Err-clause-owned_elsewhere : goal.returns-in-Err-clause-owned_elsewhere
+returns-in-Err-clause-owned_elsewhere g c t s may knows conforming q is owned = absurd (look_isnt_wrong c.in-Err.error q (sym c.look_refusal.ensures ∙ is))

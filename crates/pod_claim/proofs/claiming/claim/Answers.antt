@@ -9,6 +9,8 @@ use Rattle.pod_claim.specs.Causes.{ClaimCause}
 use Rattle.pod_claim.specs.Claims.{HasPod, RefusedByAnother}
 use Rattle.pod_claim.proofs.Parts.{went_as, went_wider}
 use Rattle.pod_claim.proofs.Outcomes.{took_part, last_cause, last_still, left_twice, held_twice, another_twice, another_once, runs_it, went_twice, owned_twice, only_failures}
+use Rattle.pod_claim.specs.Elsewhere.{MetOwner}
+use Rattle.pod_claim.proofs.Elsewhere.{met_once, met_twice}
 use Rattle.pod_claim.proofs.claiming.claim.Goals as goal
 
 -- the first attempt
@@ -125,3 +127,18 @@ returns-in-Err-clause-left g c =
 pub returns-in-Err-clause-complete : goal.returns-in-Err-clause-complete
 returns-in-Err-clause-complete g c t s may k conforming free =
     only_failures c.last_refusal.result t (returns-in-Err-clause-cause g c) (returns-in-Err-clause-another g c t s may k) conforming free
+
+-- the pod was another process's
+
+pub returns-in-Err-Refused-clause-owned_elsewhere : goal.returns-in-Err-Refused-clause-owned_elsewhere
+returns-in-Err-Refused-clause-owned_elsewhere g c =
+    let e = rw c.in-Err-Refused.field-0-is at c.in-Err-Refused.ensures in
+    met_once c.args.pod (g.D.Dir.shown c.args.dir.now) (g.D.Dir.shown c.attempt.new.dir) c.in-Err-Refused.error e.owned_elsewhere
+
+pub returns-in-Err-clause-owned_elsewhere : goal.returns-in-Err-clause-owned_elsewhere
+returns-in-Err-clause-owned_elsewhere g c =
+    let D = g.D.Dir in
+    let a = D.shown c.args.dir.now in
+    let d = D.shown c.attempt-in-Err-Missing.new.dir in
+    let e = rw c.in-Err-Missing.field-0-is at c.in-Err-Missing.ensures in
+    subst (λ (x : ClaimError). Leaves D.observed MayClaim a (λ s. MetOwner c.args.pod x a d)) (sym c.last_refusal.ensures) (met_twice e.went e.left d c.in-Err.stop c.in-Err.ensures.owned_elsewhere)
