@@ -148,49 +148,42 @@ fn launch_in(alloc: Global, app: &str, tree: &PathMap) -> Option<Result<AppLaunc
     Some(app_launch(alloc, first, tree, ADDRESS, TOKEN))
 }
 
-// What is left of the wanted words behind these, where they begin with them.
-fn behind<'a>(words: &Words, wanted: &'a [&'static str]) -> Option<&'a [&'static str]> {
-    let mut left = wanted;
+// Where these words end, if they stand at a place of the wanted ones.
+fn end_at(words: &Words, wanted: &[&str], at: usize) -> Option<usize> {
     for place in 0..words.len() {
-        let (first, others) = left.split_first()?;
-        if words.get(place) != Some(*first) {
+        if words.get(place) != wanted.get(at.checked_add(place)?).copied() {
             return None;
         }
-        left = others;
     }
-    Some(left)
+    at.checked_add(words.len())
 }
 
-fn behind_handler<'a>(
-    words: &Option<Words>,
-    title: &str,
-    wanted: &'a [&'static str],
-) -> Option<&'a [&'static str]> {
+fn handler_end(words: &Option<Words>, title: &str, wanted: &[&str], at: usize) -> Option<usize> {
     match words {
         Some(words) => {
-            let (first, others) = wanted.split_first()?;
-            if *first == title {
-                behind(words, others)
+            if wanted.get(at).copied() == Some(title) {
+                end_at(words, wanted, at.checked_add(1)?)
             } else {
                 None
             }
         }
-        None => Some(wanted),
+        None => Some(at),
     }
 }
 
-fn is_in(directory: &str, wanted: &[&'static str]) -> bool {
-    match wanted.split_first() {
-        Some((last, others)) => { others.is_empty() && last.strip_prefix("in ") == Some(directory) }
+fn is_in(directory: &str, wanted: Option<&&str>) -> bool {
+    match wanted {
+        Some(last) => last.strip_prefix("in ") == Some(directory),
         None => false,
     }
 }
 
-fn starts_so(launch: &AppLaunch, wanted: &[&'static str]) -> Option<bool> {
-    let left = behind_handler(&launch.pre_start, "before", wanted)?;
-    let left = behind(&launch.main, left)?;
-    let left = behind_handler(&launch.post_stop, "after", left)?;
-    Some(is_in(launch.directory.as_str(), left))
+fn starts_so(launch: &AppLaunch, wanted: &[&str]) -> Option<bool> {
+    let at = handler_end(&launch.pre_start, "before", wanted, 0)?;
+    let at = end_at(&launch.main, wanted, at)?;
+    let at = handler_end(&launch.post_stop, "after", wanted, at)?;
+    let is_last = at.checked_add(1) == Some(wanted.len());
+    Some(is_last && is_in(launch.directory.as_str(), wanted.get(at)))
 }
 
 fn is_as_wanted(answer: &Result<AppLaunch, LaunchError>, row: &Row) -> bool {
@@ -232,10 +225,7 @@ fn environment_holds(alloc: Global, row: &Variables, tree: &PathMap) -> bool {
         return false;
     };
     match launch_in(alloc, app.as_str(), tree) {
-        Some(Ok(launch)) => match behind(&launch.environment, row.all) {
-            Some(left) => left.is_empty(),
-            None => false,
-        },
+        Some(Ok(launch)) => end_at(&launch.environment, row.all, 0) == Some(row.all.len()),
         _ => false,
     }
 }
