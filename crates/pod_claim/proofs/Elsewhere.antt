@@ -165,7 +165,7 @@ owned_state (state.Embryo maker) phase.Embryo is h = cc
 owned_state (state.Embryo maker) _ is h = cc
 owned_state s p is h = cc
 
-module _ (pod : PodId) (a b : DirAt) (extends : ExtendsBy (is_look_at (is_pod_spot pod)) a b) (conforming : IsConforming b.trace) (s : Seen) (knows : Knows a s) (may : MayClaim s) where
+module _ (pod : PodId) (a b : DirAt) (extends : ExtendsBy (is_look_at (is_pod_spot pod)) a b) (conforming : IsConforming b.trace) (s : Seen) (knows : Knows a s) (apart : list_any is_on_folder s.standing.holdings ≡ false) where
   -- it isn't the owner after any of its looks
   not_owner : (es rest : List Event) → b.trace ≡ (a.trace ++ es) ++ rest → is_owner a.process (pod_state (pod_text pod.bytes) (a.trace ++ es)) ≡ true → ⊥
   not_owner es rest whole own =
@@ -178,7 +178,7 @@ module _ (pod : PodId) (a b : DirAt) (extends : ExtendsBy (is_look_at (is_pod_sp
       let alive = lives_first a.process (is_pod_spot pod) (state_after a.trace) es asked
       (ap (λ (x : DirState). lives x.namespace a.process) (sym (states_next-append empty_state a.trace es)) ∙ now.0) in
       let agreed = knows.tied.living alive in
-      held_nothing (pod_text pod.bytes) s.standing may.apart
+      held_nothing (pod_text pod.bytes) s.standing apart
       (ap (λ (x : Seen). holds_own (pod_text pod.bytes) x.standing) agreed.same ∙ (ap (holds_own (pod_text pod.bytes)) (standing_is a.process a.trace) ∙ held))
 
   pub met_elsewhere : (phase : Phase) (area : Area) → is_owned_phase phase ≡ true → AtOwnEvent a.process a.trace b.trace (IsInPhase pod phase area)
@@ -201,14 +201,14 @@ module _ (pod : PodId) (a b : DirAt) (extends : ExtendsBy (is_look_at (is_pod_sp
           was = at.holds;
           owner = o.0;
           is = o.1;
-          other = apart (o.0 == a.process) refl (λ same. not_owner es at.rest whole
+          other = unless (o.0 == a.process) refl (λ same. not_owner es at.rest whole
               (subst (λ (h : List Event). is_owner a.process (pod_state (pod_text pod.bytes) h) ≡ true) so (subst (λ (p : ℕ). is_owner p (pod_state (pod_text pod.bytes) trace) ≡ true) (nat_same o.0 a.process same) o.2)));
         };
       }
     where
-      apart : (t : Bool) {n : Bool} → n ≡ t → (n ≡ true → ⊥) → n ≡ false
-      apart true is never = absurd (never is)
-      apart false is never = is
+      unless : (t : Bool) {n : Bool} → n ≡ t → (n ≡ true → ⊥) → n ≡ false
+      unless true is never = absurd (never is)
+      unless false is never = is
 
 -- a read that finds the pod in such a phase
 pub met_by_reading : {observed : Bool} (pod : PodId) (a b : DirAt) (phase : Phase) (area : Area) → (observed ≡ true → ExtendsBy (is_look_at (is_pod_spot pod)) a b)
@@ -218,7 +218,7 @@ met_by_reading pod a b phase area extends exact t s may knows conforming q is ow
     let same : phase ≡ q = cc in (
       area,
       subst (λ (x : Phase). AtOwnEvent a.process a.trace b.trace (IsOwnedElsewhere a.process pod x area)) same
-          (met_elsewhere pod a b (extends t) conforming s knows may phase area (ap is_owned_phase same ∙ owned) (exact t conforming)),
+          (met_elsewhere pod a b (extends t) conforming s knows may.apart phase area (ap is_owned_phase same ∙ owned) (exact t conforming)),
     )
 
 pub look_isnt_wrong : (e : LookError) (q : Phase) → look_refusal e ≡ WrongPhase q → ⊥
