@@ -1,0 +1,9 @@
+pub mod CallKinds
+pub mod Stages
+pub mod Closing
+pub mod Discarding
+pub mod Looking
+pub mod MarkNames
+pub mod Marking
+pub mod Deleting
+pub mod Rounds

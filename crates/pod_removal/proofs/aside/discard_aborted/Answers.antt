@@ -1,0 +1,92 @@
+use Rattle.std.proofs.Common.{◌≡◌, rules, true, arith}
+use Rattle.dir_model.specs.declared.area.Area.TheVariants.{Prepare, Garbage}
+use Rattle.dir_model.specs.declared.spot.Mode.TheVariants.{Shared}
+use Rattle.dir_model.specs.declared.spot.Which.{Which}
+use Rattle.dir_model.specs.declared.request.Request.TheVariants.{MoveFolder}
+use Rattle.dir_model.specs.declared.request.Reply.TheVariants.{Done}
+use Rattle.dir_trait.specs.DirCalls.{LockToldBetween}
+use Rattle.folder_building.proofs.Copying.{ok_more, err_more}
+use Rattle.folder_building.proofs.Working.{worked_more, worked_wider}
+use Rattle.phase_read.specs.Read.{pod_spot}
+use Rattle.pod_claim.proofs.Times.{deeds_part}
+use Rattle.pod_claim.proofs.Traces.{grown_none}
+use Rattle.pod_steps.specs.declared.setback.Setback.TheVariants as stop
+use Rattle.pod_steps.specs.Holding.{MayLook, Stays}
+use Rattle.pod_steps.specs.Causes.{Stopped, IsAbsentAt, BusyElsewhere, Did}
+use Rattle.pod_steps.proofs.Calls.{follows_none, follows_work, stops_part}
+use Rattle.pod_removal.specs.Holding.{MayRemove}
+use Rattle.pod_removal.proofs.CallKinds.{looks_remove, first_remove}
+use Rattle.pod_removal.proofs.Stages.{err_same, looks_aborted, same_ready, ready_aborted}
+use Rattle.pod_removal.proofs.aside.discard_aborted.Goals as goal
+
+pub returns-in_err-probe-clause-worked : goal.returns-in_err-probe-clause-worked
+returns-in_err-probe-clause-worked g c = worked_wider (looks_remove c.args.pod c.args.now Prepare (omega arith)) c.probe.ensures.worked
+
+pub returns-in_err-probe-clause-stopped : goal.returns-in_err-probe-clause-stopped
+returns-in_err-probe-clause-stopped g c =
+    let D = g.D.Dir in
+    err_same (λ e. Stopped D.observed c.args.pod (IsAbsentAt c.args.pod Prepare) e (D.shown c.args.dir.now) (D.shown c.probe.new.dir)) c.probe.result c.from_residual.result
+    (λ e h. search (rules, h, c.from_residual.ensures, c.in_err-probe.is)) c.probe.ensures.stopped
+
+pub returns-in_err-probe-clause-another : goal.returns-in_err-probe-clause-another
+returns-in_err-probe-clause-another g c =
+    let D = g.D.Dir in
+    let old = D.shown c.args.dir.now in
+    let new = D.shown c.probe.new.dir in
+    err_same (λ e. D.observed ≡ true → Stays (MayRemove c.args.now) old (λ s. BusyElsewhere c.args.pod Prepare Shared e old new)) c.probe.result c.from_residual.result
+    (λ e h. search (rules, h, c.from_residual.ensures, c.in_err-probe.is))
+    (err_more (λ e. D.observed ≡ true → Stays (MayLook c.args.pod Prepare) old (λ s. BusyElsewhere c.args.pod Prepare Shared e old new))
+    (λ e. D.observed ≡ true → Stays (MayRemove c.args.now) old (λ s. BusyElsewhere c.args.pod Prepare Shared e old new))
+    c.probe.result (λ e busy t s k may. busy t s k (looks_aborted c.args.pod may)) c.probe.ensures.another)
+
+pub returns-in_err-probe-clause-ready : goal.returns-in_err-probe-clause-ready
+returns-in_err-probe-clause-ready g c t s k may = same_ready may (c.in_err-probe.ensures.left t s k (looks_aborted c.args.pod may))
+
+pub returns-clause-worked : goal.returns-clause-worked
+returns-clause-worked g c = worked_more (worked_wider (looks_remove c.args.pod c.args.now Prepare (omega arith)) c.probe.ensures.worked) (worked_wider (first_remove c.args.pod c.args.now) c.put_aside.ensures.worked)
+
+pub returns-clause-stopped : goal.returns-clause-stopped
+returns-clause-stopped g c =
+    let D = g.D.Dir in
+    let old = D.shown c.args.dir.now in
+    let mid = D.shown c.probe.new.dir in
+    let new = D.shown c.put_aside.new.dir in
+    err_more (λ e. Stopped D.observed c.args.pod (IsAbsentAt c.args.pod Prepare) e mid new) (λ e. Stopped D.observed c.args.pod (IsAbsentAt c.args.pod Prepare) e old new) c.put_aside.result
+    (λ e x. stops_part (follows_work c.probe.ensures.worked) follows_none x) c.put_aside.ensures.stopped
+
+pub returns-clause-another : goal.returns-clause-another
+returns-clause-another g c =
+    let D = g.D.Dir in
+    let old = D.shown c.args.dir.now in
+    let new = D.shown c.put_aside.new.dir in
+    err_more (λ e. (which : Which) → e ≡ stop.Busy which → ⊥) (λ e. D.observed ≡ true → Stays (MayRemove c.args.now) old (λ s. BusyElsewhere c.args.pod Prepare Shared e old new)) c.put_aside.result
+    (λ e calm t s k may which is. absurd (calm which is)) c.put_aside.ensures.calm
+
+pub returns-clause-ready : goal.returns-clause-ready
+returns-clause-ready g c t = ready_aborted c.args.pod (c.in_ok-probe.ensures.free t) (c.put_aside.ensures.ready t)
+
+pub returns-clause-done : goal.returns-clause-done
+returns-clause-done g c =
+    let D = g.D.Dir in
+    let old = D.shown c.args.dir.now in
+    let mid = D.shown c.probe.new.dir in
+    let new = D.shown c.put_aside.new.dir in
+    ok_more (λ done. D.observed ≡ true → Did (MoveFolder (pod_spot c.args.pod Prepare) (pod_spot c.args.pod Garbage)) Done mid.process mid.trace new.trace)
+    (λ done. D.observed ≡ true → Did (MoveFolder (pod_spot c.args.pod Prepare) (pod_spot c.args.pod Garbage)) Done old.process old.trace new.trace) c.put_aside.result
+    (λ done did t. deeds_part ((follows_work c.probe.ensures.worked).grown t) c.probe.ensures.worked.same grown_none (did t)) c.put_aside.ensures.done
+
+pub returns-in_err-probe-clause-owned : goal.returns-in_err-probe-clause-owned
+returns-in_err-probe-clause-owned g c =
+    let D = g.D.Dir in
+    let old = D.shown c.args.dir.now in
+    let new = D.shown c.probe.new.dir in
+    err_same (λ e. (which : Which) → e ≡ stop.Busy which → D.observed ≡ true → LockToldBetween old new (pod_spot c.args.pod Prepare) true) c.probe.result c.from_residual.result
+    (λ e h. search (rules, h, c.from_residual.ensures, c.in_err-probe.is)) c.probe.ensures.owned
+
+pub returns-clause-owned : goal.returns-clause-owned
+returns-clause-owned g c =
+    let D = g.D.Dir in
+    let old = D.shown c.args.dir.now in
+    let new = D.shown c.put_aside.new.dir in
+    err_more (λ e. (which : Which) → e ≡ stop.Busy which → ⊥) (λ e. (which : Which) → e ≡ stop.Busy which → D.observed ≡ true → LockToldBetween old new (pod_spot c.args.pod Prepare) true) c.put_aside.result
+    (λ e calm which is t. absurd (calm which is)) c.put_aside.ensures.calm

@@ -1,0 +1,69 @@
+use Rattle.std.proofs.Common.{◌≡◌, rules, true, sym, subst}
+use Rattle.dir_model.specs.declared.area.Area.{Area}
+use Rattle.dir_model.specs.declared.spot.Mode.TheVariants.{Exclusive}
+use Rattle.dir_model.specs.declared.request.Request.TheVariants.{RemoveFolder}
+use Rattle.dir_model.specs.declared.request.Reply.TheVariants.{Done}
+use Rattle.folder_building.proofs.Copying.{ok_more, err_more}
+use Rattle.folder_building.proofs.Working.{worked_more}
+use Rattle.phase_read.specs.Read.{pod_spot}
+use Rattle.pod_claim.proofs.Traces.{grown_none}
+use Rattle.pod_steps.specs.Holding.{Stays}
+use Rattle.pod_steps.specs.Causes.{Stopped, IsAbsentAt, BusyElsewhere, Did}
+use Rattle.pod_steps.proofs.Calls.{follows_none, follows_work}
+use Rattle.pod_removal.specs.Requests.{is_garbage_place}
+use Rattle.pod_removal.specs.Holding.{MayRemove, MayRemovePod}
+use Rattle.pod_removal.specs.Causes.{IsDeleted, StoppedFound, BusyAny}
+use Rattle.pod_removal.proofs.Stages.{err_same}
+use Rattle.pod_removal.proofs.Rounds.{aside_place, found_aside, found_part, busy_at, another_ready, deleted_at, deleted_part, ready_any, ready_more}
+use Rattle.pod_removal.proofs.attempt.remove_found.Goals as goal
+
+pub delete_at-requires-clause-garbage : goal.delete_at-requires-clause-garbage
+delete_at-requires-clause-garbage g c = subst (λ (a : Area). is_garbage_place a ≡ true) (sym c.aside.ensures) (aside_place c.args.phase)
+
+pub returns-in_err-put_away-clause-stopped : goal.returns-in_err-put_away-clause-stopped
+returns-in_err-put_away-clause-stopped g c =
+    let D = g.D.Dir in
+    err_same (λ e. StoppedFound D.observed c.args.pod c.args.phase e (D.shown c.args.dir.now) (D.shown c.put_away.new.dir)) c.put_away.result c.from_residual.result
+    (λ e h. search (rules, h, c.from_residual.ensures, c.in_err-put_away.is)) c.put_away.ensures.stopped
+
+pub returns-in_err-put_away-clause-another : goal.returns-in_err-put_away-clause-another
+returns-in_err-put_away-clause-another g c =
+    let D = g.D.Dir in
+    let old = D.shown c.args.dir.now in
+    let new = D.shown c.put_away.new.dir in
+    err_same (λ e. D.observed ≡ true → Stays (MayRemovePod c.args.pod c.args.now) old (λ s. BusyAny c.args.pod e old new)) c.put_away.result c.from_residual.result
+    (λ e h. search (rules, h, c.from_residual.ensures, c.in_err-put_away.is)) c.put_away.ensures.another
+
+pub returns-clause-worked : goal.returns-clause-worked
+returns-clause-worked g c = worked_more c.put_away.ensures.worked c.delete_at.ensures.worked
+
+pub returns-clause-stopped : goal.returns-clause-stopped
+returns-clause-stopped g c =
+    let D = g.D.Dir in
+    let old = D.shown c.args.dir.now in
+    let mid = D.shown c.put_away.new.dir in
+    let new = D.shown c.delete_at.new.dir in
+    err_more (λ e. Stopped D.observed c.args.pod (IsAbsentAt c.args.pod c.aside.result) e mid new) (λ e. StoppedFound D.observed c.args.pod c.args.phase e old new) c.delete_at.result
+    (λ e x. found_part (follows_work c.put_away.ensures.worked) follows_none (found_aside c.args.phase c.aside.result c.aside.ensures x)) c.delete_at.ensures.stopped
+
+pub returns-clause-another : goal.returns-clause-another
+returns-clause-another g c =
+    let D = g.D.Dir in
+    let old = D.shown c.args.dir.now in
+    let mid = D.shown c.put_away.new.dir in
+    let new = D.shown c.delete_at.new.dir in
+    err_more (λ e. D.observed ≡ true → Stays (MayRemove c.args.now) mid (λ s. BusyElsewhere c.args.pod c.aside.result Exclusive e mid new)) (λ e. D.observed ≡ true → Stays (MayRemovePod c.args.pod c.args.now) old (λ s. BusyAny c.args.pod e old new)) c.delete_at.result
+    (λ e busy t. another_ready e new t (follows_work c.put_away.ensures.worked) follows_none (c.put_away.ensures.ready t) (λ s k m. busy_at e c.aside.result Exclusive mid new (busy t s k m.may))) c.delete_at.ensures.another
+
+pub returns-clause-removed : goal.returns-clause-removed
+returns-clause-removed g c =
+    let D = g.D.Dir in
+    let old = D.shown c.args.dir.now in
+    let mid = D.shown c.put_away.new.dir in
+    let new = D.shown c.delete_at.new.dir in
+    ok_more (λ done. D.observed ≡ true → Did (RemoveFolder (pod_spot c.args.pod c.aside.result)) Done mid.process mid.trace new.trace) (λ done. D.observed ≡ true → IsDeleted c.args.pod old.process old.trace new.trace) c.delete_at.result
+    (λ done did t. deleted_part c.args.pod ((follows_work c.put_away.ensures.worked).grown t) c.put_away.ensures.worked.same grown_none
+    (deleted_at c.args.pod c.aside.result (subst (λ (a : Area). is_garbage_place a ≡ true) (sym c.aside.ensures) (aside_place c.args.phase)) (did t))) c.delete_at.ensures.done
+
+pub returns-clause-ready : goal.returns-clause-ready
+returns-clause-ready g c t = ready_more (c.put_away.ensures.ready t) (ready_any c.args.pod (c.delete_at.ensures.ready t))

@@ -1,0 +1,90 @@
+use Rattle.std.proofs.Common.{◌≡◌, rules, true, ap, subst}
+use Rattle.dir_model.specs.declared.spot.Mode.TheVariants.{Exclusive}
+use Rattle.dir_model.specs.declared.spot.Which.{Which}
+use Rattle.dir_model.specs.declared.spot.Which.TheVariants.{Own}
+use Rattle.dir_model.specs.declared.request.Request.TheVariants.{RemoveFolder}
+use Rattle.dir_model.specs.declared.request.Reply.TheVariants.{Done}
+use Rattle.dir_model.specs.Local.{Local}
+use Rattle.folder_building.proofs.Copying.{ok_more, err_more}
+use Rattle.phase_read.specs.Read.{pod_spot}
+use Rattle.pod_claim.proofs.Times.{deeds_part}
+use Rattle.pod_steps.specs.declared.setback.Setback.TheVariants as stop
+use Rattle.pod_steps.specs.Requests.{looks_at}
+use Rattle.pod_steps.specs.Holding.{Went, and_taken, MayTake, Stays}
+use Rattle.pod_steps.specs.Causes.{Stopped, IsAbsentAt, CannotOpenAt, BusyElsewhere, Did}
+use Rattle.pod_steps.proofs.Calls.{follows_went, follows_call, stops_part}
+use Rattle.pod_removal.specs.Holding.{MayRemove}
+use Rattle.pod_removal.proofs.Stages.{err_same}
+use Rattle.pod_removal.proofs.Deleting.{own_stopped, takes_own, ready_owned, ready_unowned, worked_owned, worked_unowned}
+use Rattle.pod_removal.proofs.deletion.delete_at.Goals as goal
+
+pub returns-in_err-own-clause-worked : goal.returns-in_err-own-clause-worked
+returns-in_err-own-clause-worked g c =
+    let D = g.D.Dir in
+    let a = D.shown c.args.dir.now in
+    let w = subst (λ (l : Local). Went D.observed (looks_at c.args.pod c.args.area) l a (D.shown c.take.new.dir)) (ap (and_taken a.local c.args.pod c.args.area Own) c.in_err-own.was) c.take.ensures.went in
+    worked_unowned c.args.pod c.args.now c.args.area c.requires.garbage w
+
+pub returns-in_err-own-clause-stopped : goal.returns-in_err-own-clause-stopped
+returns-in_err-own-clause-stopped g c =
+    let D = g.D.Dir in
+    let old = D.shown c.args.dir.now in
+    let new = D.shown c.take.new.dir in
+    err_same (λ e. Stopped D.observed c.args.pod (IsAbsentAt c.args.pod c.args.area) e old new) c.take.result c.from_residual.result
+    (λ e h. search (rules, h, c.from_residual.ensures, c.in_err-own.is))
+    (err_more (λ e. Stopped D.observed c.args.pod (CannotOpenAt c.args.pod c.args.area Own) e old new) (λ e. Stopped D.observed c.args.pod (IsAbsentAt c.args.pod c.args.area) e old new) c.take.result
+    (λ e x. own_stopped c.args.pod c.args.area x) c.take.ensures.stopped)
+
+pub returns-in_err-own-clause-another : goal.returns-in_err-own-clause-another
+returns-in_err-own-clause-another g c =
+    let D = g.D.Dir in
+    let old = D.shown c.args.dir.now in
+    let new = D.shown c.take.new.dir in
+    err_same (λ e. D.observed ≡ true → Stays (MayRemove c.args.now) old (λ s. BusyElsewhere c.args.pod c.args.area Exclusive e old new)) c.take.result c.from_residual.result
+    (λ e h. search (rules, h, c.from_residual.ensures, c.in_err-own.is))
+    (err_more (λ e. D.observed ≡ true → Stays (MayTake c.args.pod c.args.area Own) old (λ s. BusyElsewhere c.args.pod c.args.area Exclusive e old new))
+    (λ e. D.observed ≡ true → Stays (MayRemove c.args.now) old (λ s. BusyElsewhere c.args.pod c.args.area Exclusive e old new)) c.take.result
+    (λ e busy t s k may. busy t s k (takes_own c.args.pod c.args.area c.requires.garbage may)) c.take.ensures.another)
+
+pub returns-in_err-own-clause-ready : goal.returns-in_err-own-clause-ready
+returns-in_err-own-clause-ready g c t = ready_unowned c.args.pod c.args.area c.requires.garbage (c.in_err-own.ensures.left t)
+
+pub returns-clause-worked : goal.returns-clause-worked
+returns-clause-worked g c =
+    let D = g.D.Dir in
+    let a = D.shown c.args.dir.now in
+    let w = subst (λ (l : Local). Went D.observed (looks_at c.args.pod c.args.area) l a (D.shown c.take.new.dir)) (ap (and_taken a.local c.args.pod c.args.area Own) c.in_ok-own.was) c.take.ensures.went in
+    worked_owned c.args.pod c.args.now c.args.area c.requires.garbage c.in_ok-own.ensures.unopened w c.delete_if_there-result.ensures.worked c.close.ensures.called
+
+pub returns-clause-stopped : goal.returns-clause-stopped
+returns-clause-stopped g c =
+    let D = g.D.Dir in
+    let old = D.shown c.args.dir.now in
+    let mid = D.shown c.take.new.dir in
+    let late = D.shown c.delete_if_there-result.new.dir in
+    let new = D.shown c.close.new.self in
+    err_more (λ e. Stopped D.observed c.args.pod (IsAbsentAt c.args.pod c.args.area) e mid late) (λ e. Stopped D.observed c.args.pod (IsAbsentAt c.args.pod c.args.area) e old new) c.delete_if_there-result.result
+    (λ e x. stops_part (follows_went c.take.ensures.went) (follows_call c.close.ensures.called) x) c.delete_if_there-result.ensures.stopped
+
+pub returns-clause-another : goal.returns-clause-another
+returns-clause-another g c =
+    let D = g.D.Dir in
+    let old = D.shown c.args.dir.now in
+    let new = D.shown c.close.new.self in
+    err_more (λ e. (which : Which) → e ≡ stop.Busy which → ⊥) (λ e. D.observed ≡ true → Stays (MayRemove c.args.now) old (λ s. BusyElsewhere c.args.pod c.args.area Exclusive e old new)) c.delete_if_there-result.result
+    (λ e calm t s k may which is. absurd (calm which is)) c.delete_if_there-result.ensures.calm
+
+pub returns-clause-done : goal.returns-clause-done
+returns-clause-done g c =
+    let D = g.D.Dir in
+    let old = D.shown c.args.dir.now in
+    let mid = D.shown c.take.new.dir in
+    let late = D.shown c.delete_if_there-result.new.dir in
+    let new = D.shown c.close.new.self in
+    ok_more (λ done. D.observed ≡ true → Did (RemoveFolder (pod_spot c.args.pod c.args.area)) Done mid.process mid.trace late.trace)
+    (λ done. D.observed ≡ true → Did (RemoveFolder (pod_spot c.args.pod c.args.area)) Done old.process old.trace new.trace) c.delete_if_there-result.result
+    (λ done did t. deeds_part ((follows_went c.take.ensures.went).grown t) c.take.ensures.went.same ((follows_call c.close.ensures.called).grown t) (did t)) c.delete_if_there-result.ensures.done
+
+pub returns-clause-ready : goal.returns-clause-ready
+returns-clause-ready g c t =
+    ready_owned c.args.pod c.args.area c.requires.garbage t c.in_ok-own.ensures.unopened (c.in_ok-own.ensures.held t) (c.delete_if_there-result.ensures.known t) c.close.ensures.called

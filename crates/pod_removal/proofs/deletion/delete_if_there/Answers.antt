@@ -1,0 +1,74 @@
+use Rattle.std.proofs.Common.{◌≡◌, true, Err, sym, ap, subst, ◌∙◌}
+use Rattle.dir_model.specs.declared.request.Request.TheVariants.{RemoveFolder}
+use Rattle.dir_model.specs.declared.request.Reply.TheVariants.{Done}
+use Rattle.folder_building.proofs.Copying.{ok_more, err_more}
+use Rattle.folder_building.proofs.Working.{worked_more, worked_wider}
+use Rattle.phase_read.specs.Read.{pod_spot}
+use Rattle.pod_claim.proofs.Times.{deeds_part}
+use Rattle.pod_claim.proofs.Traces.{grown_none}
+use Rattle.pod_steps.specs.declared.setback.Setback.{Setback}
+use Rattle.pod_steps.specs.Causes.{Stopped, IsAbsentAt, Did}
+use Rattle.pod_steps.proofs.Calls.{follows_none, follows_work, stops_part}
+use Rattle.pod_removal.proofs.Looking.{worked_look, missing_stops, failed_stops, look_calm}
+use Rattle.pod_removal.proofs.Deleting.{look_kinds, known_later, known_looked}
+use Rattle.pod_removal.proofs.deletion.delete_if_there.Goals as goal
+
+pub returns-in-Ok-true-clause-worked : goal.returns-in-Ok-true-clause-worked
+returns-in-Ok-true-clause-worked g c =
+    let l = c.look.ensures in
+    worked_more (worked_wider (look_kinds c.args.pod c.args.area) (worked_look c.args.pod c.args.area (g.D.Dir.shown c.args.dir.now) (g.D.Dir.shown c.look.new.dir) c.pod_spot.ensures l.same l.faults l.local l.extends)) c.delete_standing.ensures.worked
+
+pub returns-in-Ok-true-clause-stopped : goal.returns-in-Ok-true-clause-stopped
+returns-in-Ok-true-clause-stopped g c =
+    let D = g.D.Dir in
+    let l = c.look.ensures in
+    let old = D.shown c.args.dir.now in
+    let mid = D.shown c.look.new.dir in
+    let new = D.shown c.delete_standing.new.dir in
+    err_more (λ e. Stopped D.observed c.args.pod (IsAbsentAt c.args.pod c.args.area) e mid new) (λ e. Stopped D.observed c.args.pod (IsAbsentAt c.args.pod c.args.area) e old new) c.delete_standing.result
+    (λ e x. stops_part (follows_work (worked_look c.args.pod c.args.area old mid c.pod_spot.ensures l.same l.faults l.local l.extends)) follows_none x) c.delete_standing.ensures.stopped
+
+pub returns-in-Ok-true-clause-done : goal.returns-in-Ok-true-clause-done
+returns-in-Ok-true-clause-done g c =
+    let D = g.D.Dir in
+    let l = c.look.ensures in
+    let old = D.shown c.args.dir.now in
+    let mid = D.shown c.look.new.dir in
+    let new = D.shown c.delete_standing.new.dir in
+    let w = worked_look c.args.pod c.args.area old mid c.pod_spot.ensures l.same l.faults l.local l.extends in
+    ok_more (λ done. D.observed ≡ true → Did (RemoveFolder (pod_spot c.args.pod c.args.area)) Done mid.process mid.trace new.trace)
+    (λ done. D.observed ≡ true → Did (RemoveFolder (pod_spot c.args.pod c.args.area)) Done old.process old.trace new.trace) c.delete_standing.result
+    (λ done did t. deeds_part ((follows_work w).grown t) w.same grown_none (did t)) c.delete_standing.ensures.done
+
+pub returns-in-Ok-true-clause-known : goal.returns-in-Ok-true-clause-known
+returns-in-Ok-true-clause-known g c t = known_later (c.look.ensures.known t) (c.delete_standing.ensures.known t)
+
+pub returns-in-Ok-false-clause-worked : goal.returns-in-Ok-false-clause-worked
+returns-in-Ok-false-clause-worked g c =
+    let l = c.look.ensures in
+    worked_wider (look_kinds c.args.pod c.args.area) (worked_look c.args.pod c.args.area (g.D.Dir.shown c.args.dir.now) (g.D.Dir.shown c.look.new.dir) c.pod_spot.ensures l.same l.faults l.local l.extends)
+
+pub returns-in-Ok-false-clause-stopped : goal.returns-in-Ok-false-clause-stopped
+returns-in-Ok-false-clause-stopped g c =
+    let e = rw c.in-Ok-false.field-0-test at c.in-Ok-false.ensures in
+    missing_stops c.args.pod c.args.area (g.D.Dir.shown c.args.dir.now) (g.D.Dir.shown c.look.new.dir) c.pod_spot.ensures e.there
+
+pub returns-in-Ok-false-clause-known : goal.returns-in-Ok-false-clause-known
+returns-in-Ok-false-clause-known g c t = known_looked (c.look.ensures.known t)
+
+pub returns-in-Err-clause-worked : goal.returns-in-Err-clause-worked
+returns-in-Err-clause-worked g c =
+    let l = c.look.ensures in
+    worked_wider (look_kinds c.args.pod c.args.area) (worked_look c.args.pod c.args.area (g.D.Dir.shown c.args.dir.now) (g.D.Dir.shown c.look.new.dir) c.pod_spot.ensures l.same l.faults l.local l.extends)
+
+pub returns-in-Err-clause-stopped : goal.returns-in-Err-clause-stopped
+returns-in-Err-clause-stopped g c =
+    let D = g.D.Dir in
+    subst (λ (x : Setback). Stopped D.observed c.args.pod (IsAbsentAt c.args.pod c.args.area) x (D.shown c.args.dir.now) (D.shown c.look.new.dir)) (sym c.look_setback.ensures)
+    (failed_stops c.in-Err.error (λ is. c.look.ensures.cause (c.in-Err.is ∙ ap Err is)))
+
+pub returns-in-Err-clause-calm : goal.returns-in-Err-clause-calm
+returns-in-Err-clause-calm g c which is = look_calm c.in-Err.error which (sym c.look_setback.ensures ∙ is)
+
+pub returns-in-Err-clause-known : goal.returns-in-Err-clause-known
+returns-in-Err-clause-known g c t = known_looked (c.look.ensures.known t)

@@ -1,0 +1,94 @@
+use Rattle.std.proofs.Common.{◌≡◌, rules, true, ap, subst}
+use Rattle.dir_model.specs.declared.area.Area.TheVariants.{Prepared, Garbage}
+use Rattle.dir_model.specs.declared.spot.Which.TheVariants.{Claim}
+use Rattle.dir_model.specs.declared.request.Request.TheVariants.{MoveFolder}
+use Rattle.dir_model.specs.declared.request.Reply.TheVariants.{Done}
+use Rattle.dir_model.specs.Local.{Local}
+use Rattle.folder_building.proofs.Copying.{ok_more, err_more}
+use Rattle.phase_read.specs.Read.{pod_spot}
+use Rattle.pod_claim.proofs.Times.{deeds_part}
+use Rattle.pod_steps.specs.Requests.{looks_at}
+use Rattle.pod_steps.specs.Holding.{Went, and_taken, Stays}
+use Rattle.pod_steps.specs.Causes.{Stopped, IsAbsentAt, Did}
+use Rattle.pod_steps.proofs.Calls.{follows_went, follows_call, stops_part}
+use Rattle.pod_removal.specs.Holding.{MayDiscard, UnderClaim}
+use Rattle.pod_removal.specs.Causes.{StoppedAlone, BusyInPrepared}
+use Rattle.pod_removal.proofs.Discarding.{takes_claim, discards_under, busy_within, worked_claimed, worked_alone, alone_stops, alone_busy, ready_claimed, ready_looked, ready_left, busy_claim, worked_untaken, stops_else, stops_alone}
+use Rattle.pod_removal.proofs.prepared.discard_prepared.Goals as goal
+
+pub returns-in-Ok-clause-worked : goal.returns-in-Ok-clause-worked
+returns-in-Ok-clause-worked g c =
+    let D = g.D.Dir in
+    let a = D.shown c.args.dir.now in
+    let w = subst (λ (l : Local). Went D.observed (looks_at c.args.pod Prepared) l a (D.shown c.take.new.dir)) (ap (and_taken a.local c.args.pod Prepared Claim) c.in-Ok.is) c.take.ensures.went in
+    worked_claimed c.args.pod c.args.now c.in-Ok.ensures.unopened w c.discard_under_claim-result.ensures.worked c.close.ensures.called
+
+pub returns-in-Ok-clause-stopped : goal.returns-in-Ok-clause-stopped
+returns-in-Ok-clause-stopped g c =
+    let D = g.D.Dir in
+    err_more (λ e. Stopped D.observed c.args.pod (IsAbsentAt c.args.pod Prepared) e (D.shown c.take.new.dir) (D.shown c.discard_under_claim-result.new.dir))
+    (λ e. StoppedAlone D.observed c.args.pod e (D.shown c.args.dir.now) (D.shown c.close.new.self)) c.discard_under_claim-result.result
+    (λ e x. stops_alone (stops_part (follows_went c.take.ensures.went) (follows_call c.close.ensures.called) x)) c.discard_under_claim-result.ensures.stopped
+
+pub returns-in-Ok-clause-another : goal.returns-in-Ok-clause-another
+returns-in-Ok-clause-another g c =
+    let D = g.D.Dir in
+    let a = D.shown c.args.dir.now in
+    let b = D.shown c.take.new.dir in
+    let m = D.shown c.discard_under_claim-result.new.dir in
+    let d = D.shown c.close.new.self in
+    err_more (λ e. D.observed ≡ true → Stays (UnderClaim c.args.pod c.args.now) b (λ s. BusyInPrepared c.args.pod e b m)) (λ e. D.observed ≡ true → Stays (MayDiscard c.args.pod c.args.now) a (λ s. BusyInPrepared c.args.pod e a d))
+    c.discard_under_claim-result.result
+    (λ e busy t s k may. busy_within t (follows_went c.take.ensures.went) (follows_call c.close.ensures.called) (busy t _ (c.in-Ok.ensures.held t s k (takes_claim c.args.pod may)) (discards_under c.args.pod k c.in-Ok.ensures.unopened may)))
+    c.discard_under_claim-result.ensures.another
+
+pub returns-in-Ok-clause-done : goal.returns-in-Ok-clause-done
+returns-in-Ok-clause-done g c =
+    let D = g.D.Dir in
+    let a = D.shown c.args.dir.now in
+    let b = D.shown c.take.new.dir in
+    let m = D.shown c.discard_under_claim-result.new.dir in
+    let d = D.shown c.close.new.self in
+    ok_more (λ done. D.observed ≡ true → Did (MoveFolder (pod_spot c.args.pod Prepared) (pod_spot c.args.pod Garbage)) Done b.process b.trace m.trace)
+    (λ done. D.observed ≡ true → Did (MoveFolder (pod_spot c.args.pod Prepared) (pod_spot c.args.pod Garbage)) Done a.process a.trace d.trace) c.discard_under_claim-result.result
+    (λ done did t. deeds_part ((follows_went c.take.ensures.went).grown t) c.take.ensures.went.same ((follows_call c.close.ensures.called).grown t) (did t)) c.discard_under_claim-result.ensures.done
+
+pub returns-in-Ok-clause-ready : goal.returns-in-Ok-clause-ready
+returns-in-Ok-clause-ready g c t = ready_claimed c.args.pod t c.in-Ok.ensures.unopened (c.in-Ok.ensures.held t) (c.discard_under_claim-result.ensures.ready t) c.close.ensures.called
+
+pub returns-in-Err-Missing-clause-worked : goal.returns-in-Err-Missing-clause-worked
+returns-in-Err-Missing-clause-worked g c =
+    let D = g.D.Dir in
+    let a = D.shown c.args.dir.now in
+    let w = subst (λ (l : Local). Went D.observed (looks_at c.args.pod Prepared) l a (D.shown c.take.new.dir)) (ap (and_taken a.local c.args.pod Prepared Claim) c.in-Err-Missing.is) c.take.ensures.went in
+    worked_alone c.args.pod c.args.now w c.without_claim.ensures.worked
+
+pub returns-in-Err-Missing-clause-stopped : goal.returns-in-Err-Missing-clause-stopped
+returns-in-Err-Missing-clause-stopped g c =
+    let e = rw c.in-Err-Missing.field-0-is at c.in-Err-Missing.ensures in
+    alone_stops c.args.pod (follows_went c.take.ensures.went) e.stopped c.without_claim.ensures.stopped
+
+pub returns-in-Err-Missing-clause-another : goal.returns-in-Err-Missing-clause-another
+returns-in-Err-Missing-clause-another g c t s k may = alone_busy (g.D.Dir.shown c.args.dir.now) c.without_claim.ensures.stopped
+
+pub returns-in-Err-Missing-clause-ready : goal.returns-in-Err-Missing-clause-ready
+returns-in-Err-Missing-clause-ready g c t =
+    let e = rw c.in-Err-Missing.field-0-is at c.in-Err-Missing.ensures in
+    ready_looked (e.left t) (c.without_claim.ensures.known t)
+
+pub returns-in-Err-clause-worked : goal.returns-in-Err-clause-worked
+returns-in-Err-clause-worked g c =
+    let D = g.D.Dir in
+    let a = D.shown c.args.dir.now in
+    let w = subst (λ (l : Local). Went D.observed (looks_at c.args.pod Prepared) l a (D.shown c.take.new.dir)) (ap (and_taken a.local c.args.pod Prepared Claim) c.in-Err.is) c.take.ensures.went in
+    worked_untaken c.args.pod c.args.now w
+
+pub returns-in-Err-clause-stopped : goal.returns-in-Err-clause-stopped
+returns-in-Err-clause-stopped g c = stops_else c.args.pod (λ is. search (rules, is, c.in-Err.stop-is)) c.in-Err.ensures.stopped
+
+pub returns-in-Err-clause-another : goal.returns-in-Err-clause-another
+returns-in-Err-clause-another g c t s k may =
+    busy_claim (g.D.Dir.shown c.args.dir.now) (g.D.Dir.shown c.take.new.dir) c.args.pod c.in-Err.stop c.in-Err.ensures.named (c.in-Err.ensures.another t s k (takes_claim c.args.pod may))
+
+pub returns-in-Err-clause-ready : goal.returns-in-Err-clause-ready
+returns-in-Err-clause-ready g c t = ready_left (c.in-Err.ensures.left t)

@@ -1,0 +1,64 @@
+use Rattle.std.proofs.Common.{◌≡◌, rules, true, arith}
+use Rattle.dir_model.specs.declared.area.Area.TheVariants.{Prepared}
+use Rattle.dir_model.specs.declared.spot.Mode.TheVariants.{Shared}
+use Rattle.dir_model.specs.declared.spot.Which.{Which}
+use Rattle.dir_model.specs.declared.spot.Which.TheVariants.{Own}
+use Rattle.folder_building.proofs.Copying.{err_more}
+use Rattle.folder_building.proofs.Working.{worked_more, worked_wider}
+use Rattle.pod_steps.specs.declared.setback.Setback.TheVariants as stop
+use Rattle.pod_steps.specs.Holding.{MayLook, Stays}
+use Rattle.pod_steps.specs.Causes.{Stopped, IsAbsentAt, BusyElsewhere}
+use Rattle.pod_steps.proofs.Calls.{follows_none, follows_work, stops_part}
+use Rattle.pod_removal.specs.Holding.{UnderClaim}
+use Rattle.pod_removal.specs.Causes.{BusyInPrepared}
+use Rattle.pod_removal.proofs.CallKinds.{looks_remove, second_remove}
+use Rattle.pod_removal.proofs.Stages.{err_same, err_both}
+use Rattle.pod_removal.proofs.Discarding.{looks_under, bare_under, ready_under, busy_own}
+use Rattle.pod_removal.proofs.prepared.discard_under_claim.Goals as goal
+
+pub returns-in_err-probe-clause-worked : goal.returns-in_err-probe-clause-worked
+returns-in_err-probe-clause-worked g c = worked_wider (looks_remove c.args.pod c.args.now Prepared (omega arith)) c.probe.ensures.worked
+
+pub returns-in_err-probe-clause-stopped : goal.returns-in_err-probe-clause-stopped
+returns-in_err-probe-clause-stopped g c =
+    let D = g.D.Dir in
+    err_same (λ e. Stopped D.observed c.args.pod (IsAbsentAt c.args.pod Prepared) e (D.shown c.args.dir.now) (D.shown c.probe.new.dir)) c.probe.result c.from_residual.result
+    (λ e h. search (rules, h, c.from_residual.ensures, c.in_err-probe.is)) c.probe.ensures.stopped
+
+pub returns-in_err-probe-clause-another : goal.returns-in_err-probe-clause-another
+returns-in_err-probe-clause-another g c =
+    let D = g.D.Dir in
+    let old = D.shown c.args.dir.now in
+    let new = D.shown c.probe.new.dir in
+    err_same (λ e. D.observed ≡ true → Stays (UnderClaim c.args.pod c.args.now) old (λ s. BusyInPrepared c.args.pod e old new)) c.probe.result c.from_residual.result
+    (λ e h. search (rules, h, c.from_residual.ensures, c.in_err-probe.is))
+    (err_both (λ e. (which : Which) → e ≡ stop.Busy which → which ≡ Own)
+    (λ e. D.observed ≡ true → Stays (MayLook c.args.pod Prepared) old (λ s. BusyElsewhere c.args.pod Prepared Shared e old new))
+    (λ e. D.observed ≡ true → Stays (UnderClaim c.args.pod c.args.now) old (λ s. BusyInPrepared c.args.pod e old new))
+    c.probe.result (λ e named busy t s k u. busy_own old new c.args.pod e named (busy t s k (looks_under c.args.pod u))) c.probe.ensures.named c.probe.ensures.another)
+
+pub returns-in_err-probe-clause-ready : goal.returns-in_err-probe-clause-ready
+returns-in_err-probe-clause-ready g c t s k u = bare_under u (c.in_err-probe.ensures.left t s k (looks_under c.args.pod u))
+
+pub returns-clause-worked : goal.returns-clause-worked
+returns-clause-worked g c = worked_more (worked_wider (looks_remove c.args.pod c.args.now Prepared (omega arith)) c.probe.ensures.worked) (worked_wider (second_remove c.args.pod c.args.now) c.put_aside.ensures.worked)
+
+pub returns-clause-stopped : goal.returns-clause-stopped
+returns-clause-stopped g c =
+    let D = g.D.Dir in
+    let old = D.shown c.args.dir.now in
+    let mid = D.shown c.probe.new.dir in
+    let new = D.shown c.put_aside.new.dir in
+    err_more (λ e. Stopped D.observed c.args.pod (IsAbsentAt c.args.pod Prepared) e mid new) (λ e. Stopped D.observed c.args.pod (IsAbsentAt c.args.pod Prepared) e old new) c.put_aside.result
+    (λ e x. stops_part (follows_work c.probe.ensures.worked) follows_none x) c.put_aside.ensures.stopped
+
+pub returns-clause-another : goal.returns-clause-another
+returns-clause-another g c =
+    let D = g.D.Dir in
+    let old = D.shown c.args.dir.now in
+    let new = D.shown c.put_aside.new.dir in
+    err_more (λ e. (which : Which) → e ≡ stop.Busy which → ⊥) (λ e. D.observed ≡ true → Stays (UnderClaim c.args.pod c.args.now) old (λ s. BusyInPrepared c.args.pod e old new)) c.put_aside.result
+    (λ e calm t s k may which is. absurd (calm which is)) c.put_aside.ensures.calm
+
+pub returns-clause-ready : goal.returns-clause-ready
+returns-clause-ready g c t = ready_under c.args.pod (c.in_ok-probe.ensures.free t) (c.put_aside.ensures.ready t)

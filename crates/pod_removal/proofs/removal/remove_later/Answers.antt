@@ -1,0 +1,101 @@
+use Rattle.std.proofs.Common.{◌≡◌, rules, false, true, ℕ, sym, subst, ◌∙◌, arith}
+use Rattle.dir_model.specs.Local.{Local, IsActive, has_own_open}
+use Rattle.dir_model.specs.Pods.{pod_text}
+use Rattle.folder_building.proofs.Copying.{err_more}
+use Rattle.folder_building.proofs.Working.{worked_none, worked_more}
+use Rattle.pod_steps.specs.Holding.{Stays}
+use Rattle.pod_steps.proofs.Calls.{follows_work}
+use Rattle.pod_claim.proofs.Traces.{grown_none}
+use Rattle.pod_removal.specs.declared.attempt.Round.{Round}
+use Rattle.pod_removal.specs.declared.attempt.Round.TheVariants as round
+use Rattle.pod_removal.specs.Holding.{MayRemovePod}
+use Rattle.pod_removal.specs.Removals.{MissedTimes, WentRound, RoundCause, LaterCause, RefusedByAnother}
+use Rattle.pod_removal.proofs.Stages.{err_same}
+use Rattle.pod_removal.proofs.Rounds.{missed_next, ended_at, cause_later, cause_last, refused_later, ready_here, ready_more}
+use Rattle.pod_removal.proofs.removal.remove_later.Goals as goal
+
+pub rounds-init : goal.rounds-init
+rounds-init g c = record { worked = worked_none; missed = λ t. grown_none; ready = λ t. ready_here }
+
+pub attempt-requires-clause-active : goal.attempt-requires-clause-active
+attempt-requires-clause-active g c = subst IsActive (sym c.rounds.invariant.worked.local) c.requires.active
+
+pub attempt-requires-clause-alone : goal.attempt-requires-clause-alone
+attempt-requires-clause-alone g c = subst (λ (m : Local). has_own_open m (pod_text c.args.pod.bytes) ≡ false) (sym c.rounds.invariant.worked.local) c.requires.alone
+
+pub returns-in_err-attempt-clause-worked : goal.returns-in_err-attempt-clause-worked
+returns-in_err-attempt-clause-worked g c = worked_more c.rounds.invariant.worked c.attempt.ensures.worked
+
+pub returns-in_err-attempt-clause-cause : goal.returns-in_err-attempt-clause-cause
+returns-in_err-attempt-clause-cause g c =
+    let D = g.D.Dir in
+    let old = D.shown c.args.dir.now in
+    let mid = D.shown c.rounds.dir in
+    let new = D.shown c.attempt.new.dir in
+    err_same (λ e. LaterCause D.observed c.args.pod e old new) c.attempt.result c.from_residual.result
+    (λ e h. search (rules, h, c.from_residual.ensures, c.in_err-attempt.is))
+    (err_more (λ e. RoundCause D.observed c.args.pod e mid new) (λ e. LaterCause D.observed c.args.pod e old new) c.attempt.result (λ e x. cause_later (follows_work c.rounds.invariant.worked) x) c.attempt.ensures.cause)
+
+pub returns-in_err-attempt-clause-another : goal.returns-in_err-attempt-clause-another
+returns-in_err-attempt-clause-another g c =
+    let D = g.D.Dir in
+    let old = D.shown c.args.dir.now in
+    let mid = D.shown c.rounds.dir in
+    let new = D.shown c.attempt.new.dir in
+    err_same (λ e. D.observed ≡ true → Stays (MayRemovePod c.args.pod c.args.now) old (λ s. RefusedByAnother c.args.pod e old new)) c.attempt.result c.from_residual.result
+    (λ e h. search (rules, h, c.from_residual.ensures, c.in_err-attempt.is))
+    (err_more (λ e. D.observed ≡ true → Stays (MayRemovePod c.args.pod c.args.now) mid (λ s. RefusedByAnother c.args.pod e mid new)) (λ e. D.observed ≡ true → Stays (MayRemovePod c.args.pod c.args.now) old (λ s. RefusedByAnother c.args.pod e old new)) c.attempt.result
+    (λ e busy t. refused_later e new t (follows_work c.rounds.invariant.worked) (c.rounds.invariant.ready t) (busy t)) c.attempt.ensures.another)
+
+pub returns-in_err-attempt-clause-ready : goal.returns-in_err-attempt-clause-ready
+returns-in_err-attempt-clause-ready g c t = ready_more (c.rounds.invariant.ready t) (c.attempt.ensures.ready t)
+
+pub returns-in-Gone-clause-worked : goal.returns-in-Gone-clause-worked
+returns-in-Gone-clause-worked g c = worked_more c.rounds.invariant.worked c.attempt.ensures.worked
+
+pub returns-in-Gone-clause-removed : goal.returns-in-Gone-clause-removed
+returns-in-Gone-clause-removed g c t =
+    ended_at c.args.pod (g.D.Dir.shown c.attempt.new.dir) c.in_ok-attempt.field-0 t (follows_work c.rounds.invariant.worked)
+    (λ m. let e : round.Gone ≡ round.Missed = sym c.in-Gone.is ∙ m in cc) (c.in_ok-attempt.ensures.went t)
+
+pub returns-in-Gone-clause-ready : goal.returns-in-Gone-clause-ready
+returns-in-Gone-clause-ready g c t = ready_more (c.rounds.invariant.ready t) (c.attempt.ensures.ready t)
+
+pub returns-in-Removed-clause-worked : goal.returns-in-Removed-clause-worked
+returns-in-Removed-clause-worked g c = worked_more c.rounds.invariant.worked c.attempt.ensures.worked
+
+pub returns-in-Removed-clause-removed : goal.returns-in-Removed-clause-removed
+returns-in-Removed-clause-removed g c t =
+    ended_at c.args.pod (g.D.Dir.shown c.attempt.new.dir) c.in_ok-attempt.field-0 t (follows_work c.rounds.invariant.worked)
+    (λ m. let e : round.Removed ≡ round.Missed = sym c.in-Removed.is ∙ m in cc) (c.in_ok-attempt.ensures.went t)
+
+pub returns-in-Removed-clause-ready : goal.returns-in-Removed-clause-ready
+returns-in-Removed-clause-ready g c t = ready_more (c.rounds.invariant.ready t) (c.attempt.ensures.ready t)
+
+pub rounds-preserved : goal.rounds-preserved
+rounds-preserved g c =
+    let D = g.D.Dir in
+    let old = D.shown c.args.dir.now in
+    let mid = D.shown c.rounds.dir in
+    let new = D.shown c.attempt.new.dir in
+    let so_far = c.rounds.invariant in
+    record {
+      worked = worked_more so_far.worked c.attempt.ensures.worked;
+      missed = λ t. missed_next c.args.pod old.trace mid.trace new.trace c.rounds._round (so_far.missed t) so_far.worked.same
+          (subst (λ (x : Round). WentRound c.args.pod x mid new) c.in-Missed.is (c.in_ok-attempt.ensures.went t));
+      ready = λ t. ready_more (so_far.ready t) (c.attempt.ensures.ready t);
+    }
+
+pub returns-clause-worked : goal.returns-clause-worked
+returns-clause-worked g c = c.rounds.invariant.worked
+
+pub returns-clause-cause : goal.returns-clause-cause
+returns-clause-cause g c =
+    let D = g.D.Dir in
+    let old = D.shown c.args.dir.now in
+    let new = D.shown c.rounds.dir in
+    let five : c.rounds._round ≡ 5 = omega (arith, c.rounds-test.false, c.rounds.auto._round-end) in
+    cause_last (λ t. subst (λ (n : ℕ). MissedTimes n c.args.pod old.process old.trace new.trace) five (c.rounds.invariant.missed t))
+
+pub returns-clause-ready : goal.returns-clause-ready
+returns-clause-ready g c t = c.rounds.invariant.ready t

@@ -1,0 +1,61 @@
+use Rattle.std.proofs.Common.{◌≡◌, rules, true, subst}
+use Rattle.folder_building.proofs.Copying.{ok_more, err_more}
+use Rattle.folder_building.proofs.Working.{worked_more}
+use Rattle.pod_steps.specs.Holding.{Stays}
+use Rattle.pod_steps.proofs.Calls.{follows_work}
+use Rattle.pod_removal.specs.declared.attempt.Round.{Round}
+use Rattle.pod_removal.specs.Holding.{MayRemovePod}
+use Rattle.pod_removal.specs.Removals.{RoundCause, LaterCause, RemoveCause, WentRound, RemovedLater, RemovedBetween, RefusedByAnother}
+use Rattle.pod_removal.proofs.Stages.{err_same}
+use Rattle.pod_removal.proofs.Rounds.{cause_first, cause_then, removed_then, refused_later, ready_more}
+use Rattle.pod_removal.proofs.removal.remove_pod.Goals as goal
+
+pub returns-in_err-attempt-clause-cause : goal.returns-in_err-attempt-clause-cause
+returns-in_err-attempt-clause-cause g c =
+    let D = g.D.Dir in
+    let old = D.shown c.args.dir.now in
+    let new = D.shown c.attempt.new.dir in
+    err_same (λ e. RemoveCause D.observed c.args.pod e old new) c.attempt.result c.from_residual.result
+    (λ e h. search (rules, h, c.from_residual.ensures, c.in_err-attempt.is))
+    (err_more (λ e. RoundCause D.observed c.args.pod e old new) (λ e. RemoveCause D.observed c.args.pod e old new) c.attempt.result (λ e x. cause_first x) c.attempt.ensures.cause)
+
+pub returns-in_err-attempt-clause-another : goal.returns-in_err-attempt-clause-another
+returns-in_err-attempt-clause-another g c =
+    let D = g.D.Dir in
+    let old = D.shown c.args.dir.now in
+    let new = D.shown c.attempt.new.dir in
+    err_same (λ e. D.observed ≡ true → Stays (MayRemovePod c.args.pod c.args.now) old (λ s. RefusedByAnother c.args.pod e old new)) c.attempt.result c.from_residual.result
+    (λ e h. search (rules, h, c.from_residual.ensures, c.in_err-attempt.is)) c.attempt.ensures.another
+
+pub returns-in-Missed-clause-worked : goal.returns-in-Missed-clause-worked
+returns-in-Missed-clause-worked g c = worked_more c.attempt.ensures.worked c.remove_later.ensures.worked
+
+pub returns-in-Missed-clause-cause : goal.returns-in-Missed-clause-cause
+returns-in-Missed-clause-cause g c =
+    let D = g.D.Dir in
+    let old = D.shown c.args.dir.now in
+    let mid = D.shown c.attempt.new.dir in
+    let new = D.shown c.remove_later.new.dir in
+    err_more (λ e. LaterCause D.observed c.args.pod e mid new) (λ e. RemoveCause D.observed c.args.pod e old new) c.remove_later.result
+    (λ e x. cause_then (follows_work c.attempt.ensures.worked) (λ t. subst (λ (y : Round). WentRound c.args.pod y old mid) c.in-Missed.is (c.in_ok-attempt.ensures.went t)) x) c.remove_later.ensures.cause
+
+pub returns-in-Missed-clause-removed : goal.returns-in-Missed-clause-removed
+returns-in-Missed-clause-removed g c =
+    let D = g.D.Dir in
+    let old = D.shown c.args.dir.now in
+    let mid = D.shown c.attempt.new.dir in
+    let new = D.shown c.remove_later.new.dir in
+    ok_more (λ done. D.observed ≡ true → RemovedLater c.args.pod mid new) (λ done. D.observed ≡ true → RemovedBetween c.args.pod old new) c.remove_later.result
+    (λ done x t. removed_then (follows_work c.attempt.ensures.worked) (λ u. subst (λ (y : Round). WentRound c.args.pod y old mid) c.in-Missed.is (c.in_ok-attempt.ensures.went u)) new t (x t)) c.remove_later.ensures.removed
+
+pub returns-in-Missed-clause-another : goal.returns-in-Missed-clause-another
+returns-in-Missed-clause-another g c =
+    let D = g.D.Dir in
+    let old = D.shown c.args.dir.now in
+    let mid = D.shown c.attempt.new.dir in
+    let new = D.shown c.remove_later.new.dir in
+    err_more (λ e. D.observed ≡ true → Stays (MayRemovePod c.args.pod c.args.now) mid (λ s. RefusedByAnother c.args.pod e mid new)) (λ e. D.observed ≡ true → Stays (MayRemovePod c.args.pod c.args.now) old (λ s. RefusedByAnother c.args.pod e old new)) c.remove_later.result
+    (λ e busy t. refused_later e new t (follows_work c.attempt.ensures.worked) (c.attempt.ensures.ready t) (busy t)) c.remove_later.ensures.another
+
+pub returns-in-Missed-clause-ready : goal.returns-in-Missed-clause-ready
+returns-in-Missed-clause-ready g c t = ready_more (c.attempt.ensures.ready t) (c.remove_later.ensures.ready t)

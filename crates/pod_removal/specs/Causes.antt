@@ -1,0 +1,78 @@
+-- Why a pod wasn't put aside or deleted.
+use Rattle.std.specs.Prelude.{◌≡◌, ◌⊎◌, ℕ, Bool, true, false, List}
+use Rattle.dir_model.specs.declared.area.Area.{Area}
+use Rattle.dir_model.specs.declared.area.Area.TheVariants.{Prepared, ExitedGarbage, Garbage}
+use Rattle.dir_model.specs.declared.area.Phase.{Phase}
+use Rattle.dir_model.specs.declared.area.Phase.TheVariants as kind
+use Rattle.dir_model.specs.declared.event.Event.{Event}
+use Rattle.dir_model.specs.declared.pod.PodId.{PodId}
+use Rattle.dir_model.specs.declared.spot.Mode.{Mode}
+use Rattle.dir_model.specs.declared.spot.Mode.TheVariants.{Shared, Exclusive}
+use Rattle.dir_model.specs.declared.spot.Which.{Which}
+use Rattle.dir_model.specs.declared.spot.Which.TheVariants.{Own, Claim}
+use Rattle.dir_model.specs.declared.request.Reply.TheVariants.{Done}
+use Rattle.dir_model.specs.declared.request.Request.TheVariants.{RemoveFolder}
+use Rattle.dir_model.specs.Causes.{Rose}
+use Rattle.dir_model.specs.State.{DirState, stands}
+use Rattle.dir_trait.specs.DirCalls.{DirAt, HeldBetween}
+use Rattle.phase_read.specs.Read.{pod_spot}
+use Rattle.pod_steps.specs.declared.setback.Setback.{Setback}
+use Rattle.pod_steps.specs.declared.setback.Setback.TheVariants.{Missing, NoManifest, Busy, DirFault, Stray, NoMemory}
+use Rattle.pod_claim.specs.Causes.{OpensOwnAlone}
+use Rattle.pod_steps.specs.Causes.{IsAbsentAt, Did, WasStray, HeldByAnother}
+use Rattle.pod_removal.specs.Requests.{aside, place_of}
+
+-- it doesn't stand where one with this phase does, or not where such a pod is put aside
+abbrev pub MissedOnTheWay : PodId → Phase → DirState → Type 0
+MissedOnTheWay pod phase s = IsAbsentAt pod (place_of phase) s ⊎ IsAbsentAt pod (aside phase) s
+
+-- it deleted the pod, in a garbage place
+abbrev pub IsDeleted : PodId → ℕ → List Event → List Event → Type 0
+IsDeleted pod me old new = Did (RemoveFolder (pod_spot pod ExitedGarbage)) Done me old new ⊎ Did (RemoveFolder (pod_spot pod Garbage)) Done me old new
+
+-- nothing but that the pod is missing or has no manifest, or that the look failed
+abbrev pub is_look_setback : Setback → Bool
+is_look_setback Missing = true
+is_look_setback NoManifest = true
+is_look_setback DirFault = true
+is_look_setback NoMemory = true
+is_look_setback _ = false
+
+-- the folder stands in prepared, or it doesn't: where Claim couldn't be opened
+pub record StopsAlone (observed : Bool) (pod : PodId) (stop : Setback) (old new : DirAt) : Type 0 where
+  pub calm : is_look_setback stop ≡ true
+  pub fault : stop ≡ DirFault → Rose old.faults new.faults
+  pub missing : stop ≡ Missing → observed ≡ true → HeldBetween old new (IsAbsentAt pod Prepared)
+  pub there : stop ≡ NoManifest → observed ≡ true → HeldBetween old new (λ s. stands s.namespace (pod_spot pod Prepared) ≡ true)
+
+-- why a prepared pod wasn't put aside
+pub record StoppedAlone (observed : Bool) (pod : PodId) (stop : Setback) (old new : DirAt) : Type 0 where
+  pub fault : stop ≡ DirFault → Rose old.faults new.faults
+  pub missing : stop ≡ Missing → observed ≡ true → HeldBetween old new (IsAbsentAt pod Prepared)
+  pub manifest : stop ≡ NoManifest → observed ≡ true → OpensOwnAlone pod old.process old.trace new.trace
+  pub stray : stop ≡ Stray → observed ≡ true → WasStray old.process old.trace new.trace
+
+-- why a pod that was found with this phase wasn't taken away
+pub record StoppedFound (observed : Bool) (pod : PodId) (phase : Phase) (stop : Setback) (old new : DirAt) : Type 0 where
+  pub fault : stop ≡ DirFault → Rose old.faults new.faults
+  pub missing : stop ≡ Missing → observed ≡ true → HeldBetween old new (MissedOnTheWay pod phase)
+  pub prepared : stop ≡ NoManifest → phase ≡ kind.Prepared
+  pub manifest : stop ≡ NoManifest → observed ≡ true → OpensOwnAlone pod old.process old.trace new.trace
+  pub stray : stop ≡ Stray → observed ≡ true → WasStray old.process old.trace new.trace
+
+-- Claim is asked for exclusively, and Own under it shared
+abbrev pub asked_mode : Which → Mode
+asked_mode Claim = Exclusive
+asked_mode Own = Shared
+
+abbrev pub BusyInPrepared : PodId → Setback → DirAt → DirAt → Type 0
+BusyInPrepared pod stop old new = (which : Which) → stop ≡ Busy which → HeldByAnother pod Prepared which (asked_mode which) old.process old.trace new.trace
+
+-- at some place and in some mode
+pub record IsBusyAt (pod : PodId) (which : Which) (me : ℕ) (old new : List Event) : Type 0 where
+  pub area : Area
+  pub mode : Mode
+  pub held : HeldByAnother pod area which mode me old new
+
+abbrev pub BusyAny : PodId → Setback → DirAt → DirAt → Type 0
+BusyAny pod stop old new = (which : Which) → stop ≡ Busy which → IsBusyAt pod which old.process old.trace new.trace

@@ -1,0 +1,5 @@
+pub mod Setbacks
+pub mod Requests
+pub mod Holding
+pub mod Causes
+pub mod Removals

@@ -1,0 +1,117 @@
+-- What the removal of a pod comes to, from round to round.
+use Rattle.std.specs.Prelude.{◌≡◌, ◌⊎◌, ℕ, zero, suc, Bool, true, false, List, Result, Ok, Err}
+use Rattle.dir_model.specs.declared.area.Area.{Area}
+use Rattle.dir_model.specs.declared.area.Phase.{Phase}
+use Rattle.dir_model.specs.declared.event.Event.{Event}
+use Rattle.dir_model.specs.declared.pod.PodId.{PodId}
+use Rattle.dir_model.specs.declared.spot.Which.{Which}
+use Rattle.dir_model.specs.Calls.{AtOwnStep}
+use Rattle.dir_model.specs.Causes.{Rose}
+use Rattle.dir_trait.specs.DirCalls.{DirAt, HeldBetween}
+use Rattle.lifecycle.specs.Executions.{IsConforming}
+use Rattle.phase_read.specs.declared.found.Found.TheVariants.{At, Gone}
+use Rattle.phase_read.specs.Read.{IsReading}
+use Rattle.phase_read.specs.Exact.{AtOwnEvent, IsInPhase, IsNowhere}
+use Rattle.pod_claim.specs.Causes.{LacksManifest}
+use Rattle.pod_claim.specs.Work.{Grew}
+use Rattle.pod_claim.specs.Elsewhere.{is_owned_phase, IsOwnedElsewhere}
+use Rattle.pod_removal.specs.declared.attempt.Round.{Round}
+use Rattle.pod_removal.specs.declared.attempt.Round.TheVariants as round
+use Rattle.pod_removal.specs.declared.error.RemoveError.{RemoveError}
+use Rattle.pod_removal.specs.declared.error.RemoveError.TheVariants.{NoPod, WrongPhase, NoManifest, Busy, DirFault, Stray}
+use Rattle.pod_steps.specs.declared.setback.Setback.{Setback}
+use Rattle.pod_steps.specs.declared.setback.Setback.TheVariants as setback
+use Rattle.pod_removal.specs.Requests.{is_removable}
+use Rattle.pod_removal.specs.Setbacks.{refusal}
+use Rattle.pod_steps.specs.Causes.{WasStray}
+use Rattle.pod_removal.specs.Causes.{MissedOnTheWay, IsDeleted, IsBusyAt}
+
+-- a place that is empty ends the round, and everything else that sets it back the removal
+abbrev pub round_of : PodId → Result (Unit {0}) Setback → Result Round RemoveError
+round_of pod (Ok done) = Ok round.Removed
+round_of pod (Err setback.Missing) = Ok round.Missed
+round_of pod (Err stop) = Err (refusal pod stop)
+
+-- a read found the pod in a phase that allows its removal, and later it was missing where it stood or was put aside
+pub record FoundThenMissed (pod : PodId) (me : ℕ) (old new : List Event) : Type 0 where
+  pub between : List Event
+  pub phase : Phase
+  pub area : Area
+  pub removable : is_removable phase ≡ true
+  pub read : IsReading me old between pod (At phase area)
+  pub missed : AtOwnStep me between new (MissedOnTheWay pod phase)
+
+-- that so often, one after the other
+abbrev pub MissedTimes : ℕ → PodId → ℕ → List Event → List Event → Type 0
+MissedTimes zero pod me old new = Grew old new
+MissedTimes (suc n) pod me old new = (between : List Event) × MissedTimes n pod me old between × FoundThenMissed pod me between new
+
+-- a read found none, and where the execution conforms up to its end the pod didn't exist at an own event
+pub record FoundNone (pod : PodId) (me : ℕ) (old new : List Event) : Type 0 where
+  pub read : IsReading me old new pod Gone
+  pub nowhere : IsConforming new → AtOwnEvent me old new (IsNowhere pod)
+
+-- how a round ended that wasn't refused
+abbrev pub WentRound : PodId → Round → DirAt → DirAt → Type 0
+WentRound pod round.Gone old new = FoundNone pod old.process old.trace new.trace
+WentRound pod round.Removed old new = IsDeleted pod old.process old.trace new.trace
+WentRound pod round.Missed old new = FoundThenMissed pod old.process old.trace new.trace
+
+-- it was found and missed, at most so often, and then deleted or not found
+pub record IsEnded (pod : PodId) (me : ℕ) (old new : List Event) : Type 0 where
+  pub between : List Event
+  pub first : Grew old between
+  pub ended : IsDeleted pod me between new ⊎ FoundNone pod me between new
+
+abbrev pub RemovedLater : PodId → DirAt → DirAt → Type 0
+RemovedLater pod old new = IsEnded pod old.process old.trace new.trace
+
+-- it was found and missed first
+pub record FoundThenEnded (pod : PodId) (me : ℕ) (old new : List Event) : Type 0 where
+  pub between : List Event
+  pub missed : FoundThenMissed pod me old between
+  pub ended : IsEnded pod me between new
+
+-- its own removal of the pod was answered Ok, or the pod was there at the first read and gone at a later one
+abbrev pub RemovedBetween : PodId → DirAt → DirAt → Type 0
+RemovedBetween pod old new = IsDeleted pod old.process old.trace new.trace ⊎ FoundThenEnded pod old.process old.trace new.trace
+
+-- the pod had this phase, which doesn't allow its removal
+pub record WasWrong (pod : PodId) (phase : Phase) (me : ℕ) (old new : List Event) : Type 0 where
+  pub wrong : is_removable phase ≡ false
+  pub area : Area
+  pub was : AtOwnEvent me old new (IsInPhase pod phase area)
+
+-- why a round was refused
+pub record RoundCause (observed : Bool) (pod : PodId) (error : RemoveError) (old new : DirAt) : Type 0 where
+  pub fault : error ≡ DirFault → Rose old.faults new.faults
+  pub there : error ≡ NoPod → ⊥
+  pub phase : (phase : Phase) → error ≡ WrongPhase phase → observed ≡ true → IsConforming new.trace → WasWrong pod phase old.process old.trace new.trace
+  pub manifest : error ≡ NoManifest → observed ≡ true → IsConforming new.trace → HeldBetween old new (LacksManifest pod)
+  pub named : (other : PodId) (which : Which) → error ≡ Busy other which → other ≡ pod
+  pub stray : error ≡ Stray → observed ≡ true → WasStray old.process old.trace new.trace
+
+-- and why so were the later ones: a stray answer, or a place that was empty after the last read
+pub record LaterCause (observed : Bool) (pod : PodId) (error : RemoveError) (old new : DirAt) : Type 0 where
+  pub fault : error ≡ DirFault → Rose old.faults new.faults
+  pub there : error ≡ NoPod → ⊥
+  pub phase : (phase : Phase) → error ≡ WrongPhase phase → observed ≡ true → IsConforming new.trace → WasWrong pod phase old.process old.trace new.trace
+  pub manifest : error ≡ NoManifest → observed ≡ true → IsConforming new.trace → HeldBetween old new (LacksManifest pod)
+  pub named : (other : PodId) (which : Which) → error ≡ Busy other which → other ≡ pod
+  pub stray : error ≡ Stray → observed ≡ true → WasStray old.process old.trace new.trace ⊎ MissedTimes 5 pod old.process old.trace new.trace
+
+-- a pod isn't removed for one of these causes
+pub record RemoveCause (observed : Bool) (pod : PodId) (error : RemoveError) (old new : DirAt) : Type 0 where
+  pub fault : error ≡ DirFault → Rose old.faults new.faults
+  pub nowhere : error ≡ NoPod → observed ≡ true → FoundNone pod old.process old.trace new.trace
+  pub phase : (phase : Phase) → error ≡ WrongPhase phase → observed ≡ true → IsConforming new.trace → WasWrong pod phase old.process old.trace new.trace
+  pub manifest : error ≡ NoManifest → observed ≡ true → IsConforming new.trace → HeldBetween old new (LacksManifest pod)
+  pub named : (other : PodId) (which : Which) → error ≡ Busy other which → other ≡ pod
+  pub stray : error ≡ Stray → observed ≡ true → WasStray old.process old.trace new.trace ⊎ MissedTimes 6 pod old.process old.trace new.trace
+
+-- where the removal is refused for another process's sake, there was one: it held the lock that was refused, or it owned the pod
+-- that was being made, run or deleted
+pub record RefusedByAnother (pod : PodId) (error : RemoveError) (old new : DirAt) : Type 0 where
+  pub busy : (which : Which) → error ≡ Busy pod which → IsBusyAt pod which old.process old.trace new.trace
+  pub owner : IsConforming new.trace → (phase : Phase) → error ≡ WrongPhase phase → is_owned_phase phase ≡ true
+      → (area : Area) × AtOwnEvent old.process old.trace new.trace (IsOwnedElsewhere old.process pod phase area)

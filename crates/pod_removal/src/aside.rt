@@ -1,0 +1,88 @@
+// A dead pod is put aside: from prepare to garbage, and from run, with a mark, to exited-garbage.
+ghost use Rattle.std.specs.Prelude.{◌≡◌, true, IfOk, IfErr};
+ghost use Rattle.dir_model.specs.declared.area.Area.TheVariants as area;
+ghost use Rattle.dir_model.specs.declared.spot.Mode.TheVariants as mode;
+ghost use Rattle.dir_model.specs.declared.spot.Which.{Which};
+ghost use Rattle.dir_model.specs.declared.request.Request.TheVariants.{MoveFolder};
+ghost use Rattle.dir_model.specs.declared.request.Reply.TheVariants.{Done};
+ghost use Rattle.dir_trait.specs.DirCalls.{LockToldBetween};
+ghost use Rattle.dir_trait.specs.Local.{IsActive};
+ghost use Rattle.folder_building.specs.Work.{Worked};
+ghost use Rattle.phase_read.specs.Read.{pod_spot};
+ghost use Rattle.pod_removal.specs.Requests.{removes, marks_at};
+ghost use Rattle.pod_steps.specs.Holding.{KeepsReady, Stays};
+ghost use Rattle.pod_removal.specs.Holding.{MayRemove, MayMark, Marked};
+ghost use Rattle.pod_steps.specs.Causes.{Stopped, IsAbsentAt, BusyElsewhere, Did};
+
+use dir_trait::{Area, Dir, DirError, PodId};
+use folder_plans::mark_text;
+use pod_steps::{Setback, pod_spot, probe, put_aside, set_back};
+use std::alloc::Global;
+
+/// Moves an aborted prepare to garbage, once its own lock was had shared in prepare. `Missing` where it
+/// doesn't stand in prepare; `Busy` where another process holds its own lock exclusively; `Stray` where
+/// another folder has its place in garbage.
+pub fn discard_aborted<D: Dir>(
+    alloc: Global,
+    dir: &mut D,
+    pod: PodId,
+    now: u64,
+) -> Result<(), Setback>
+    requires active { IsActive (D.shown dir.old).local }
+    ensures worked { Worked D.observed (removes pod now) (D.shown dir.old) (D.shown dir.new) }
+    ensures stopped { IfErr result (λ e. Stopped D.observed pod (IsAbsentAt pod area.Prepare) e (D.shown dir.old) (D.shown dir.new)) }
+    ensures another { IfErr result (λ e. D.observed ≡ true → Stays (MayRemove now) (D.shown dir.old)
+        (λ s. BusyElsewhere pod area.Prepare mode.Shared e (D.shown dir.old) (D.shown dir.new))) }
+    ensures owned { IfErr result (λ e. (which : Which) → e ≡ Setback.Busy which → D.observed ≡ true → LockToldBetween (D.shown dir.old) (D.shown dir.new) (pod_spot pod area.Prepare) true) }
+    ensures done { IfOk result (λ done. D.observed ≡ true → Did (MoveFolder (pod_spot pod area.Prepare) (pod_spot pod area.Garbage)) Done
+        (D.shown dir.old).process (D.shown dir.old).trace (D.shown dir.new).trace) }
+    ensures ready { D.observed ≡ true → Stays (MayRemove now) (D.shown dir.old) (λ s. KeepsReady s (D.shown dir.new)) }
+{
+    probe(alloc, dir, pod, Area::Prepare)?;
+    put_aside(alloc, dir, pod, Area::Prepare, Area::Garbage)
+}
+
+// Marks a pod in run with the moment, whence its time in exited-garbage counts: that the mark is there
+// already is as good. `Missing` where the pod doesn't stand in run.
+fn mark<D: Dir>(alloc: Global, dir: &mut D, pod: PodId, now: u64) -> Result<(), Setback>
+    requires active { IsActive (D.shown dir.old).local }
+    ensures worked { Worked D.observed (marks_at pod now) (D.shown dir.old) (D.shown dir.new) }
+    ensures stopped { IfErr result (λ e. Stopped D.observed pod (IsAbsentAt pod area.Run) e (D.shown dir.old) (D.shown dir.new)) }
+    ensures calm { IfErr result (λ e. (which : Which) → e ≡ Setback.Busy which → ⊥) }
+    ensures marked { IfOk result (λ done. D.observed ≡ true → Stays (MayMark pod now) (D.shown dir.old) (λ s. Marked pod s (D.shown dir.new))) }
+    ensures left { D.observed ≡ true → Stays (MayMark pod now) (D.shown dir.old) (λ s. KeepsReady s (D.shown dir.new)) }
+{
+    let name = match mark_text(alloc, "marked-", now) {
+        Ok(name) => name,
+        Err(_) => return Err(Setback::NoMemory),
+    };
+    match dir.make_file_in(alloc, pod_spot(pod, Area::Run), name.as_str()) {
+        Ok(()) => Ok(()),
+        Err(DirError::Exists) => Ok(()),
+        Err(error) => Err(set_back(error)),
+    }
+}
+
+/// Marks an exited pod with the moment and moves it to exited-garbage, once its own lock was had shared
+/// in run. `Missing` where it doesn't stand in run; `Busy` where another process holds its own lock
+/// exclusively; `Stray` where another folder has its place in exited-garbage.
+pub fn retire_exited<D: Dir>(
+    alloc: Global,
+    dir: &mut D,
+    pod: PodId,
+    now: u64,
+) -> Result<(), Setback>
+    requires active { IsActive (D.shown dir.old).local }
+    ensures worked { Worked D.observed (removes pod now) (D.shown dir.old) (D.shown dir.new) }
+    ensures stopped { IfErr result (λ e. Stopped D.observed pod (IsAbsentAt pod area.Run) e (D.shown dir.old) (D.shown dir.new)) }
+    ensures another { IfErr result (λ e. D.observed ≡ true → Stays (MayRemove now) (D.shown dir.old)
+        (λ s. BusyElsewhere pod area.Run mode.Shared e (D.shown dir.old) (D.shown dir.new))) }
+    ensures owned { IfErr result (λ e. (which : Which) → e ≡ Setback.Busy which → D.observed ≡ true → LockToldBetween (D.shown dir.old) (D.shown dir.new) (pod_spot pod area.Run) true) }
+    ensures done { IfOk result (λ done. D.observed ≡ true → Did (MoveFolder (pod_spot pod area.Run) (pod_spot pod area.ExitedGarbage)) Done
+        (D.shown dir.old).process (D.shown dir.old).trace (D.shown dir.new).trace) }
+    ensures ready { D.observed ≡ true → Stays (MayRemove now) (D.shown dir.old) (λ s. KeepsReady s (D.shown dir.new)) }
+{
+    probe(alloc, dir, pod, Area::Run)?;
+    mark(alloc, dir, pod, now)?;
+    put_aside(alloc, dir, pod, Area::Run, Area::ExitedGarbage)
+}

@@ -1,0 +1,138 @@
+// One round of a removal: the pod is looked for, and taken away where it is found.
+ghost use Rattle.std.specs.Prelude.{◌≡◌, true, false, IfOk, IfErr};
+ghost use Rattle.dir_trait.specs.Local.{IsActive, has_own_open};
+ghost use Rattle.dir_trait.specs.Pods.{pod_text};
+ghost use Rattle.folder_building.specs.Work.{Worked};
+ghost use Rattle.pod_removal.specs.Requests.{is_removable, aside, removes};
+ghost use Rattle.pod_steps.specs.Holding.{KeepsReady, Stays};
+ghost use Rattle.pod_removal.specs.Holding.{MayRemovePod};
+ghost use Rattle.pod_removal.specs.Causes.{StoppedFound, BusyAny, IsDeleted};
+ghost use Rattle.pod_removal.specs.Removals.{round_of, WentRound, RoundCause, RefusedByAnother};
+
+use crate::aside::{discard_aborted, retire_exited};
+use crate::deletion::delete_at;
+use crate::error::{RemoveError, refusal};
+use crate::prepared::discard_prepared;
+use dir_trait::{Area, Dir, Phase, PodId};
+use phase_read::{Found, read_phase};
+use pod_steps::{Setback, look_setback};
+use std::alloc::Global;
+
+/// How a round ended that wasn't refused.
+#[derive(Clone, Copy, Debug, PartialEq, Eq)]
+pub(crate) enum Round {
+    /// No pod was found.
+    Gone,
+    /// The pod was found, and removed.
+    Removed,
+    /// It was found, and missing after that where it had been found or put aside.
+    Missed,
+}
+
+// A pod in this phase may be removed: nobody makes, runs or deletes it.
+fn is_removable(phase: Phase) -> bool
+    ensures { result ≡ is_removable phase }
+{
+    match phase {
+        Phase::AbortedPrepare
+        | Phase::Prepared
+        | Phase::Exited
+        | Phase::ExitedGarbage
+        | Phase::Garbage => true,
+        _ => false,
+    }
+}
+
+// The garbage place where a pod with this phase is deleted.
+fn aside(phase: Phase) -> Area
+    ensures { result ≡ aside phase }
+{
+    match phase {
+        Phase::Exited => Area::ExitedGarbage,
+        Phase::ExitedGarbage => Area::ExitedGarbage,
+        _ => Area::Garbage,
+    }
+}
+
+// Brings a pod that was found with this phase to the garbage place where it is deleted.
+fn put_away<D: Dir>(
+    alloc: Global,
+    dir: &mut D,
+    pod: PodId,
+    phase: Phase,
+    now: u64,
+) -> Result<(), Setback>
+    requires active { IsActive (D.shown dir.old).local }
+    ensures worked { Worked D.observed (removes pod now) (D.shown dir.old) (D.shown dir.new) }
+    ensures stopped { IfErr result (λ e. StoppedFound D.observed pod phase e (D.shown dir.old) (D.shown dir.new)) }
+    ensures another { IfErr result (λ e. D.observed ≡ true → Stays (MayRemovePod pod now) (D.shown dir.old)
+        (λ s. BusyAny pod e (D.shown dir.old) (D.shown dir.new))) }
+    ensures ready { D.observed ≡ true → Stays (MayRemovePod pod now) (D.shown dir.old) (λ s. KeepsReady s (D.shown dir.new)) }
+{
+    match phase {
+        Phase::AbortedPrepare => discard_aborted(alloc, dir, pod, now),
+        Phase::Prepared => discard_prepared(alloc, dir, pod, now),
+        Phase::Exited => retire_exited(alloc, dir, pod, now),
+        _ => Ok(()),
+    }
+}
+
+// Takes a pod away that was found with this phase.
+fn remove_found<D: Dir>(
+    alloc: Global,
+    dir: &mut D,
+    pod: PodId,
+    phase: Phase,
+    now: u64,
+) -> Result<(), Setback>
+    requires active { IsActive (D.shown dir.old).local }
+    ensures worked { Worked D.observed (removes pod now) (D.shown dir.old) (D.shown dir.new) }
+    ensures stopped { IfErr result (λ e. StoppedFound D.observed pod phase e (D.shown dir.old) (D.shown dir.new)) }
+    ensures another { IfErr result (λ e. D.observed ≡ true → Stays (MayRemovePod pod now) (D.shown dir.old)
+        (λ s. BusyAny pod e (D.shown dir.old) (D.shown dir.new))) }
+    ensures removed { IfOk result (λ done. D.observed ≡ true
+        → IsDeleted pod (D.shown dir.old).process (D.shown dir.old).trace (D.shown dir.new).trace) }
+    ensures ready { D.observed ≡ true → Stays (MayRemovePod pod now) (D.shown dir.old) (λ s. KeepsReady s (D.shown dir.new)) }
+{
+    put_away(alloc, dir, pod, phase, now)?;
+    delete_at(alloc, dir, pod, aside(phase), now)
+}
+
+// A place that is empty ends the round, and everything else that sets it back the removal.
+fn round_of(pod: PodId, answer: Result<(), Setback>) -> Result<Round, RemoveError>
+    ensures { result ≡ round_of pod answer }
+{
+    match answer {
+        Ok(()) => Ok(Round::Removed),
+        Err(Setback::Missing) => Ok(Round::Missed),
+        Err(stop) => Err(refusal(pod, stop)),
+    }
+}
+
+/// Looks for the pod, and takes it away where it is found in a phase that allows it.
+pub(crate) fn attempt<D: Dir>(
+    alloc: Global,
+    dir: &mut D,
+    pod: PodId,
+    now: u64,
+) -> Result<Round, RemoveError>
+    requires active { IsActive (D.shown dir.old).local }
+    requires alone { has_own_open (D.shown dir.old).local (pod_text pod.bytes) ≡ false }
+    ensures worked { Worked D.observed (removes pod now) (D.shown dir.old) (D.shown dir.new) }
+    ensures went { IfOk result (λ round. D.observed ≡ true → WentRound pod round (D.shown dir.old) (D.shown dir.new)) }
+    ensures cause { IfErr result (λ e. RoundCause D.observed pod e (D.shown dir.old) (D.shown dir.new)) }
+    ensures another { IfErr result (λ e. D.observed ≡ true → Stays (MayRemovePod pod now) (D.shown dir.old) (λ s. RefusedByAnother pod e (D.shown dir.old) (D.shown dir.new))) }
+    ensures ready { D.observed ≡ true → Stays (MayRemovePod pod now) (D.shown dir.old) (λ s. KeepsReady s (D.shown dir.new)) }
+{
+    match read_phase(alloc, dir, pod) {
+        Ok(Found::At(phase, _)) => {
+            if is_removable(phase) {
+                round_of(pod, remove_found(alloc, dir, pod, phase, now))
+            } else {
+                Err(RemoveError::WrongPhase(phase))
+            }
+        }
+        Ok(Found::Gone) => Ok(Round::Gone),
+        Err(error) => Err(refusal(pod, look_setback(error))),
+    }
+}

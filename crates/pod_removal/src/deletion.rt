@@ -1,0 +1,92 @@
+// A pod in a garbage place is deleted under its own lock.
+ghost use Rattle.std.specs.Prelude.{◌≡◌, true, IfOk, IfErr};
+ghost use Rattle.dir_model.specs.declared.spot.Mode.TheVariants as mode;
+ghost use Rattle.dir_model.specs.declared.spot.Which.{Which};
+ghost use Rattle.dir_model.specs.declared.request.Request.TheVariants.{RemoveFolder};
+ghost use Rattle.dir_model.specs.declared.request.Reply.TheVariants.{Done};
+ghost use Rattle.dir_trait.specs.Local.{IsActive};
+ghost use Rattle.folder_building.specs.Work.{Worked};
+ghost use Rattle.phase_read.specs.Read.{pod_spot};
+ghost use Rattle.pod_removal.specs.Requests.{is_garbage_place, deletes_in, removes};
+ghost use Rattle.pod_steps.specs.Holding.{KeepsReady, Stays};
+ghost use Rattle.pod_removal.specs.Holding.{MayRemove, HasOwn, KeepsBut};
+ghost use Rattle.pod_steps.specs.Causes.{Stopped, IsAbsentAt, BusyElsewhere, Did};
+
+use dir_trait::{Area, Dir, PodId, Which};
+use folder_removal::delete_folder;
+use phase_read::look;
+use pod_steps::{Setback, delete_setback, look_setback, pod_spot, take};
+use std::alloc::Global;
+
+// Deletes the pod's folder under its own lock.
+fn delete_standing<D: Dir>(
+    alloc: Global,
+    dir: &mut D,
+    pod: PodId,
+    area: Area,
+) -> Result<(), Setback>
+    requires active { IsActive (D.shown dir.old).local }
+    requires garbage { is_garbage_place area ≡ true }
+    ensures worked { Worked D.observed (deletes_in pod area) (D.shown dir.old) (D.shown dir.new) }
+    ensures stopped { IfErr result (λ e. Stopped D.observed pod (IsAbsentAt pod area) e (D.shown dir.old) (D.shown dir.new)) }
+    ensures calm { IfErr result (λ e. (which : Which) → e ≡ Setback.Busy which → ⊥) }
+    ensures done { IfOk result (λ done. D.observed ≡ true
+        → Did (RemoveFolder (pod_spot pod area)) Done (D.shown dir.old).process (D.shown dir.old).trace (D.shown dir.new).trace) }
+    ensures known { D.observed ≡ true → Stays (HasOwn pod area) (D.shown dir.old) (λ s. KeepsBut pod area s (D.shown dir.new)) }
+{
+    match delete_folder(alloc, dir, pod_spot(pod, area)) {
+        Ok(()) => Ok(()),
+        Err(error) => Err(delete_setback(error)),
+    }
+}
+
+// The same where another process may have deleted it before this one had the lock: then nothing stands
+// there.
+fn delete_if_there<D: Dir>(
+    alloc: Global,
+    dir: &mut D,
+    pod: PodId,
+    area: Area,
+) -> Result<(), Setback>
+    requires active { IsActive (D.shown dir.old).local }
+    requires garbage { is_garbage_place area ≡ true }
+    ensures worked { Worked D.observed (deletes_in pod area) (D.shown dir.old) (D.shown dir.new) }
+    ensures stopped { IfErr result (λ e. Stopped D.observed pod (IsAbsentAt pod area) e (D.shown dir.old) (D.shown dir.new)) }
+    ensures calm { IfErr result (λ e. (which : Which) → e ≡ Setback.Busy which → ⊥) }
+    ensures done { IfOk result (λ done. D.observed ≡ true
+        → Did (RemoveFolder (pod_spot pod area)) Done (D.shown dir.old).process (D.shown dir.old).trace (D.shown dir.new).trace) }
+    ensures known { D.observed ≡ true → Stays (HasOwn pod area) (D.shown dir.old) (λ s. KeepsBut pod area s (D.shown dir.new)) }
+{
+    match look(alloc, dir, pod_spot(pod, area)) {
+        Ok(true) => delete_standing(alloc, dir, pod, area),
+        Ok(false) => Err(Setback::Missing),
+        Err(error) => Err(look_setback(error)),
+    }
+}
+
+/// Deletes a pod that stands in a garbage place, while this process holds its own lock exclusively, by a
+/// handle that it opened there. `Missing` where the pod doesn't stand there, or doesn't any more once the
+/// lock is had; `Busy` where another process holds its own lock; `Stray` where the directory's answers
+/// contradict what the lock keeps, as where a program that outlived its pod writes on.
+pub fn delete_at<D: Dir>(
+    alloc: Global,
+    dir: &mut D,
+    pod: PodId,
+    area: Area,
+    now: u64,
+) -> Result<(), Setback>
+    requires active { IsActive (D.shown dir.old).local }
+    requires garbage { is_garbage_place area ≡ true }
+    ensures worked { Worked D.observed (removes pod now) (D.shown dir.old) (D.shown dir.new) }
+    ensures stopped { IfErr result (λ e. Stopped D.observed pod (IsAbsentAt pod area) e (D.shown dir.old) (D.shown dir.new)) }
+    ensures another { IfErr result (λ e. D.observed ≡ true → Stays (MayRemove now) (D.shown dir.old)
+        (λ s. BusyElsewhere pod area mode.Exclusive e (D.shown dir.old) (D.shown dir.new))) }
+    ensures done { IfOk result (λ done. D.observed ≡ true
+        → Did (RemoveFolder (pod_spot pod area)) Done (D.shown dir.old).process (D.shown dir.old).trace (D.shown dir.new).trace) }
+    ensures ready { D.observed ≡ true → Stays (MayRemove now) (D.shown dir.old) (λ s. KeepsReady s (D.shown dir.new)) }
+{
+    let own = take(alloc, dir, pod, area, Which::Own)?;
+    let result = delete_if_there(alloc, dir, pod, area);
+    dir.close(own);
+    result
+}

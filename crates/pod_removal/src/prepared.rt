@@ -1,0 +1,86 @@
+// A prepared pod is put aside under its activation lock.
+ghost use Rattle.std.specs.Prelude.{◌≡◌, true, IfOk, IfErr};
+ghost use Rattle.dir_model.specs.declared.area.Area.TheVariants as area;
+ghost use Rattle.dir_model.specs.declared.request.Request.TheVariants.{MoveFolder};
+ghost use Rattle.dir_model.specs.declared.request.Reply.TheVariants.{Done};
+ghost use Rattle.dir_trait.specs.Local.{IsActive};
+ghost use Rattle.dir_trait.specs.Knowledge.{OnlyLooks};
+ghost use Rattle.folder_building.specs.Work.{Worked};
+ghost use Rattle.phase_read.specs.Read.{pod_spot};
+ghost use Rattle.pod_steps.specs.Requests.{looks_at};
+ghost use Rattle.pod_removal.specs.Requests.{removes};
+ghost use Rattle.pod_steps.specs.Holding.{KeepsReady, Stays};
+ghost use Rattle.pod_removal.specs.Holding.{MayDiscard, UnderClaim};
+ghost use Rattle.pod_steps.specs.Causes.{Stopped, IsAbsentAt, Did};
+ghost use Rattle.pod_removal.specs.Causes.{StopsAlone, StoppedAlone, BusyInPrepared};
+
+use dir_trait::{Area, Dir, PodId, Which};
+use phase_read::look;
+use pod_steps::{Setback, look_setback, pod_spot, probe, put_aside, take};
+use std::alloc::Global;
+
+// Moves the pod to garbage, once its own lock was had shared: its maker has given it up, and who would run
+// the pod asks for the activation lock first.
+fn discard_under_claim<D: Dir>(
+    alloc: Global,
+    dir: &mut D,
+    pod: PodId,
+    now: u64,
+) -> Result<(), Setback>
+    requires active { IsActive (D.shown dir.old).local }
+    ensures worked { Worked D.observed (removes pod now) (D.shown dir.old) (D.shown dir.new) }
+    ensures stopped { IfErr result (λ e. Stopped D.observed pod (IsAbsentAt pod area.Prepared) e (D.shown dir.old) (D.shown dir.new)) }
+    ensures another { IfErr result (λ e. D.observed ≡ true → Stays (UnderClaim pod now) (D.shown dir.old)
+        (λ s. BusyInPrepared pod e (D.shown dir.old) (D.shown dir.new))) }
+    ensures done { IfOk result (λ done. D.observed ≡ true → Did (MoveFolder (pod_spot pod area.Prepared) (pod_spot pod area.Garbage)) Done
+        (D.shown dir.old).process (D.shown dir.old).trace (D.shown dir.new).trace) }
+    ensures ready { D.observed ≡ true → Stays (UnderClaim pod now) (D.shown dir.old) (λ s. KeepsReady s (D.shown dir.new)) }
+{
+    probe(alloc, dir, pod, Area::Prepared)?;
+    put_aside(alloc, dir, pod, Area::Prepared, Area::Garbage)
+}
+
+// The activation lock couldn't be opened: the pod's folder is gone from prepared, or it has no manifest.
+fn without_claim<D: Dir>(alloc: Global, dir: &mut D, pod: PodId) -> Setback
+    requires active { IsActive (D.shown dir.old).local }
+    ensures worked { Worked D.observed (looks_at pod area.Prepared) (D.shown dir.old) (D.shown dir.new) }
+    ensures stopped { StopsAlone D.observed pod result (D.shown dir.old) (D.shown dir.new) }
+    ensures known { D.observed ≡ true → OnlyLooks (D.shown dir.old) (D.shown dir.new) }
+{
+    match look(alloc, dir, pod_spot(pod, Area::Prepared)) {
+        Ok(true) => Setback::NoManifest,
+        Ok(false) => Setback::Missing,
+        Err(error) => look_setback(error),
+    }
+}
+
+/// Moves a prepared pod to garbage. Its activation lock is taken first and kept until the move, so that
+/// nobody runs the pod meanwhile; under it its own lock was had shared. The removal is one that is asked
+/// for. `Missing` where the pod doesn't stand in prepared; `NoManifest` where it stands there without the
+/// file `pod`; `Busy` where another process holds the activation lock, or its own exclusively; `Stray`
+/// where another folder has its place in garbage.
+pub fn discard_prepared<D: Dir>(
+    alloc: Global,
+    dir: &mut D,
+    pod: PodId,
+    now: u64,
+) -> Result<(), Setback>
+    requires active { IsActive (D.shown dir.old).local }
+    ensures worked { Worked D.observed (removes pod now) (D.shown dir.old) (D.shown dir.new) }
+    ensures stopped { IfErr result (λ e. StoppedAlone D.observed pod e (D.shown dir.old) (D.shown dir.new)) }
+    ensures another { IfErr result (λ e. D.observed ≡ true → Stays (MayDiscard pod now) (D.shown dir.old)
+        (λ s. BusyInPrepared pod e (D.shown dir.old) (D.shown dir.new))) }
+    ensures done { IfOk result (λ done. D.observed ≡ true → Did (MoveFolder (pod_spot pod area.Prepared) (pod_spot pod area.Garbage)) Done
+        (D.shown dir.old).process (D.shown dir.old).trace (D.shown dir.new).trace) }
+    ensures ready { D.observed ≡ true → Stays (MayDiscard pod now) (D.shown dir.old) (λ s. KeepsReady s (D.shown dir.new)) }
+{
+    match take(alloc, dir, pod, Area::Prepared, Which::Claim) {
+        Ok(claim) => {
+            let result = discard_under_claim(alloc, dir, pod, now);
+            dir.close(claim);
+            result
+        }
+        Err(Setback::Missing) => Err(without_claim(alloc, dir, pod)),
+        Err(stop) => Err(stop),
+    }
+}

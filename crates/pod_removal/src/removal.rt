@@ -1,0 +1,66 @@
+// A pod is removed.
+ghost use Rattle.std.specs.Prelude.{◌≡◌, true, false, IfOk, IfErr};
+ghost use Rattle.dir_trait.specs.Local.{IsActive, has_own_open};
+ghost use Rattle.dir_trait.specs.Pods.{pod_text};
+ghost use Rattle.folder_building.specs.Work.{Worked};
+ghost use Rattle.pod_removal.specs.Requests.{removes};
+ghost use Rattle.pod_steps.specs.Holding.{KeepsReady, Stays};
+ghost use Rattle.pod_removal.specs.Holding.{MayRemovePod};
+ghost use Rattle.pod_removal.specs.Removals.{RemovedBetween, RemovedLater, RemoveCause, LaterCause, RefusedByAnother};
+
+use crate::attempt::{Round, attempt};
+use crate::error::RemoveError;
+use dir_trait::{Dir, PodId};
+use std::alloc::Global;
+
+// The rounds after the first, in which the pod was found: gone is as good as removed. A pod moves only
+// forward through six places, so it can't be missed six times.
+fn remove_later<D: Dir>(alloc: Global, dir: &mut D, pod: PodId, now: u64) -> Result<(), RemoveError>
+    requires active { IsActive (D.shown dir.old).local }
+    requires alone { has_own_open (D.shown dir.old).local (pod_text pod.bytes) ≡ false }
+    ensures worked { Worked D.observed (removes pod now) (D.shown dir.old) (D.shown dir.new) }
+    ensures removed { IfOk result (λ done. D.observed ≡ true → RemovedLater pod (D.shown dir.old) (D.shown dir.new)) }
+    ensures cause { IfErr result (λ e. LaterCause D.observed pod e (D.shown dir.old) (D.shown dir.new)) }
+    ensures another { IfErr result (λ e. D.observed ≡ true → Stays (MayRemovePod pod now) (D.shown dir.old) (λ s. RefusedByAnother pod e (D.shown dir.old) (D.shown dir.new))) }
+    ensures ready { D.observed ≡ true → Stays (MayRemovePod pod now) (D.shown dir.old) (λ s. KeepsReady s (D.shown dir.new)) }
+{
+    'rounds: for _round in 0..5u8 {
+        match attempt(alloc, dir, pod, now)? {
+            Round::Missed => {}
+            Round::Gone => return Ok(()),
+            Round::Removed => return Ok(()),
+        }
+    }
+    Err(RemoveError::Stray)
+}
+
+/// Removes a pod. One that nobody makes or runs is moved to a garbage place, an exited one with a mark of
+/// the moment, and deleted there under its own lock. Where another process moved it meanwhile, its phase is
+/// read again, six times at most; a pod that was there at the first read and is gone at a later one is
+/// removed.
+///
+/// Refused in this order, and then the pod is whole or in a garbage place. `NoPod` where there is none.
+/// `WrongPhase` where it is an embryo, or another process makes, runs or deletes it. `NoManifest` where it stands in
+/// prepared without the file `pod`. `Busy` where another process holds its activation lock or its own.
+/// `Stray` where the directory's answers contradict each other or what a lock keeps. `DirFault` and
+/// `NoMemory` where the directory failed or memory ran out. No lock is held afterwards.
+pub fn remove_pod<D: Dir>(
+    alloc: Global,
+    dir: &mut D,
+    pod: PodId,
+    now: u64,
+) -> Result<(), RemoveError>
+    requires active { IsActive (D.shown dir.old).local }
+    requires alone { has_own_open (D.shown dir.old).local (pod_text pod.bytes) ≡ false }
+    ensures worked { Worked D.observed (removes pod now) (D.shown dir.old) (D.shown dir.new) }
+    ensures removed { IfOk result (λ done. D.observed ≡ true → RemovedBetween pod (D.shown dir.old) (D.shown dir.new)) }
+    ensures cause { IfErr result (λ e. RemoveCause D.observed pod e (D.shown dir.old) (D.shown dir.new)) }
+    ensures another { IfErr result (λ e. D.observed ≡ true → Stays (MayRemovePod pod now) (D.shown dir.old) (λ s. RefusedByAnother pod e (D.shown dir.old) (D.shown dir.new))) }
+    ensures ready { D.observed ≡ true → Stays (MayRemovePod pod now) (D.shown dir.old) (λ s. KeepsReady s (D.shown dir.new)) }
+{
+    match attempt(alloc, dir, pod, now)? {
+        Round::Gone => Err(RemoveError::NoPod),
+        Round::Removed => Ok(()),
+        Round::Missed => remove_later(alloc, dir, pod, now),
+    }
+}

@@ -1,0 +1,4 @@
+pub mod Seen
+pub mod Opposed
+pub mod Calls
+pub mod Knowing

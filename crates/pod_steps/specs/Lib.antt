@@ -1,0 +1,4 @@
+pub mod Setbacks
+pub mod Requests
+pub mod Holding
+pub mod Causes
