@@ -1,0 +1,6 @@
+pub mod Names
+pub mod Reading
+mod Rooted
+mod Found
+mod Lacking
+mod Tokens

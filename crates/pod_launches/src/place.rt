@@ -1,0 +1,41 @@
+// Where a pod in run stands, and the paths of its files.
+ghost use Rattle.std.specs.Prelude.{◌≡◌, IfOk, string_bytes};
+ghost use Rattle.pod_launches.specs.Places.{run_spot, tree_path, root_of};
+
+use ac_types::{AcName, NoMemory};
+use dir_trait::{Area, FileName, PodId, Spot};
+use spawner::RootPlace;
+use std::alloc::Global;
+
+/// Where the pod stands in run.
+pub(crate) fn run_spot(pod: PodId) -> Spot
+    ensures { result ≡ run_spot pod }
+{
+    Spot {
+        area: Area::Run,
+        name: pod.name(),
+    }
+}
+
+/// The path of the listing of an app's root.
+pub(crate) fn tree_path(alloc: Global, app: &str) -> Result<String, NoMemory>
+    ensures { IfOk result (λ path. string_bytes path ≡ tree_path app.now) }
+{
+    let mut path = String::from_str(alloc, "stage1/rootfs/opt/stage2/")?;
+    path.push_str(app)?;
+    path.push_str("/tree")?;
+    Ok(path)
+}
+
+/// The root of an app. An app's name is a file name.
+pub(crate) fn root_of(pod: PodId, app: &AcName) -> RootPlace
+    ensures { result ≡ root_of pod app.now }
+{
+    match FileName::of(app.as_str()) {
+        Some(name) => RootPlace {
+            spot: run_spot(pod),
+            app: name,
+        },
+        None => unreachable!(),
+    }
+}
