@@ -3,15 +3,20 @@ use Rattle.std.specs.Prelude.{ℕ, Bool, true, false, List, ◌++◌, codes}
 use Rattle.std.specs.Fmt.{decimal}
 use Rattle.dir_model.specs.declared.area.Area.{Area}
 use Rattle.dir_model.specs.declared.area.Area.TheVariants as area
+use Rattle.dir_model.specs.declared.spot.Which.{Which}
+use Rattle.dir_model.specs.declared.spot.Which.TheVariants.{Own, Claim}
 use Rattle.dir_model.specs.Pods.{pod_text}
+use Rattle.dir_model.specs.Areas.{phase_text}
 use Rattle.command_outcomes.specs.declared.refusal.Refusal.{Refusal}
-use Rattle.command_outcomes.specs.declared.refusal.Refusal.TheVariants.{Usage, NoPod, Busy, BadManifest, NoImage, NoDependency, Cycle, Limit, DirFault, BundleFault, OutFault, NoMemory, NoFile, Conflict, Damaged, BadKind, Taken, Stray}
+use Rattle.command_outcomes.specs.declared.refusal.Refusal.TheVariants.{Usage, NoPod, Busy, BadManifest, NoImage, NoDependency, Cycle, Limit, DirFault, BundleFault, OutFault, NoMemory, NoFile, Conflict, Damaged, BadKind, Taken, WrongPhase, PodBusy, NoManifest, NoProgram, SpawnFault, Stray}
 
 -- the exit status of a refusal
 abbrev pub status_of : Refusal → ℕ
 status_of Usage = 1
 status_of NoPod = 2
+status_of (WrongPhase phase) = 4
 status_of (Busy area) = 5
+status_of (PodBusy pod which) = 5
 status_of (BadManifest path number) = 6
 status_of (NoImage key) = 7
 status_of (NoDependency name) = 7
@@ -19,6 +24,7 @@ status_of (Cycle key) = 7
 status_of (Limit number) = 8
 status_of DirFault = 9
 status_of BundleFault = 10
+status_of SpawnFault = 11
 status_of OutFault = 12
 status_of NoMemory = 14
 status_of (NoFile path) = 15
@@ -26,6 +32,8 @@ status_of (Conflict key stored new) = 15
 status_of (Damaged path) = 15
 status_of (BadKind path) = 15
 status_of (Taken pod) = 17
+status_of (NoManifest pod) = 18
+status_of (NoProgram app word) = 19
 status_of Stray = 20
 
 -- the name of an area
@@ -40,6 +48,11 @@ area_text area.Incoming = codes "incoming"
 area_text area.Images = codes "images"
 area_text area.Trees = codes "trees"
 area_text area.Removed = codes "removed"
+
+-- the name of a pod's lock
+abbrev pub lock_text : Which → List ℕ
+lock_text Own = codes "own"
+lock_text Claim = codes "claim"
 
 -- a line that ends with a name
 abbrev pub named_line : List ℕ → List ℕ → List ℕ
@@ -57,6 +70,7 @@ message (Cycle key) = named_line (codes "rkt: cycle: ") key
 message (Limit number) = named_line (codes "rkt: limit: ") (decimal number)
 message DirFault = codes "rkt: directory fault\n"
 message BundleFault = codes "rkt: bundle fault\n"
+message SpawnFault = codes "rkt: spawner fault\n"
 message OutFault = codes "rkt: output fault\n"
 message NoMemory = codes "rkt: out of memory\n"
 message (NoFile path) = named_line (codes "rkt: no file: ") path
@@ -64,6 +78,10 @@ message (Conflict key stored new) = (((((codes "rkt: conflict: " ++ key) ++ code
 message (Damaged path) = named_line (codes "rkt: damaged: ") path
 message (BadKind path) = named_line (codes "rkt: bad kind: ") path
 message (Taken pod) = named_line (codes "rkt: taken: ") (pod_text pod.bytes)
+message (WrongPhase phase) = named_line (codes "rkt: wrong phase: ") (phase_text phase)
+message (PodBusy pod which) = (((codes "rkt: busy: " ++ pod_text pod.bytes) ++ codes " ") ++ lock_text which) ++ codes "\n"
+message (NoManifest pod) = named_line (codes "rkt: no manifest: ") (pod_text pod.bytes)
+message (NoProgram app word) = (((codes "rkt: no program: " ++ app) ++ codes " ") ++ word) ++ codes "\n"
 message Stray = codes "rkt: stray reply\n"
 
 -- the message has a path, a key or a number in it, so that it takes memory
@@ -78,4 +96,8 @@ is_made (Conflict key stored new) = true
 is_made (Damaged path) = true
 is_made (BadKind path) = true
 is_made (Taken pod) = true
+is_made (WrongPhase phase) = true
+is_made (PodBusy pod which) = true
+is_made (NoManifest pod) = true
+is_made (NoProgram app word) = true
 is_made _ = false

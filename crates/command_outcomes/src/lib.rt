@@ -3,6 +3,8 @@
 
 mod output;
 mod refusal;
+mod told;
 
 pub use output::Output;
-pub use refusal::{Refusal, named};
+pub use refusal::{Refusal, lock_name, named};
+pub use told::Told;

@@ -1,10 +1,11 @@
 // Why a command wasn't done.
 ghost use Rattle.std.specs.Prelude.{◌≡◌, true, IfOk, IfSome, IsNone};
-ghost use Rattle.command_outcomes.specs.Texts.{status_of, message, named_line, is_made};
+ghost use Rattle.dir_model.specs.Pods.{pod_text};
+ghost use Rattle.command_outcomes.specs.Texts.{status_of, message, named_line, lock_text, is_made};
 
 use crate::output::Output;
 use ac_types::Text;
-use dir_trait::{Area, PodId};
+use dir_trait::{Area, Phase, PodId, Which};
 use std::alloc::{AllocError, Global};
 
 /// Why a command wasn't done.
@@ -45,6 +46,16 @@ pub enum Refusal {
     BadKind(Text),
     /// A folder with the name of that pod stands in embryo.
     Taken(PodId),
+    /// The pod has this phase, which the command doesn't take.
+    WrongPhase(Phase),
+    /// Another process holds that lock of that pod.
+    PodBusy(PodId, Which),
+    /// That pod stands without its manifest, or with one that has no reading.
+    NoManifest(PodId),
+    /// The root of that app has no program for that word.
+    NoProgram(Text, Text),
+    /// The spawner failed.
+    SpawnFault,
     /// The directory answered as if what is this process's own weren't.
     Stray,
 }
@@ -57,7 +68,9 @@ impl Refusal {
         match self {
             Refusal::Usage => 1,
             Refusal::NoPod => 2,
+            Refusal::WrongPhase(_) => 4,
             Refusal::Busy(_) => 5,
+            Refusal::PodBusy(_, _) => 5,
             Refusal::BadManifest { .. } => 6,
             Refusal::NoImage(_) => 7,
             Refusal::NoDependency(_) => 7,
@@ -65,6 +78,7 @@ impl Refusal {
             Refusal::Limit(_) => 8,
             Refusal::DirFault => 9,
             Refusal::BundleFault => 10,
+            Refusal::SpawnFault => 11,
             Refusal::OutFault => 12,
             Refusal::NoMemory => 14,
             Refusal::NoFile(_) => 15,
@@ -72,6 +86,8 @@ impl Refusal {
             Refusal::Damaged(_) => 15,
             Refusal::BadKind(_) => 15,
             Refusal::Taken(_) => 17,
+            Refusal::NoManifest(_) => 18,
+            Refusal::NoProgram(_, _) => 19,
             Refusal::Stray => 20,
         }
     }
@@ -87,6 +103,7 @@ impl Refusal {
             Refusal::Busy(area) => Some(busy_message(*area)),
             Refusal::DirFault => Some("rkt: directory fault\n"),
             Refusal::BundleFault => Some("rkt: bundle fault\n"),
+            Refusal::SpawnFault => Some("rkt: spawner fault\n"),
             Refusal::OutFault => Some("rkt: output fault\n"),
             Refusal::NoMemory => Some("rkt: out of memory\n"),
             Refusal::Stray => Some("rkt: stray reply\n"),
@@ -99,7 +116,11 @@ impl Refusal {
             | Refusal::Conflict(_, _, _)
             | Refusal::Damaged(_)
             | Refusal::BadKind(_)
-            | Refusal::Taken(_) => None,
+            | Refusal::Taken(_)
+            | Refusal::WrongPhase(_)
+            | Refusal::PodBusy(_, _)
+            | Refusal::NoManifest(_)
+            | Refusal::NoProgram(_, _) => None,
         }
     }
 
@@ -118,7 +139,11 @@ impl Refusal {
             Refusal::Conflict(key, stored, new) => conflict(alloc, key, stored, new),
             Refusal::Damaged(path) => named(alloc, "rkt: damaged: ", path),
             Refusal::BadKind(path) => named(alloc, "rkt: bad kind: ", path),
-            Refusal::Taken(pod) => taken(alloc, *pod),
+            Refusal::Taken(pod) => pod_named(alloc, "rkt: taken: ", *pod),
+            Refusal::WrongPhase(phase) => wrong_phase(alloc, *phase),
+            Refusal::PodBusy(pod, which) => pod_busy(alloc, *pod, *which),
+            Refusal::NoManifest(pod) => pod_named(alloc, "rkt: no manifest: ", *pod),
+            Refusal::NoProgram(app, word) => no_program(alloc, app, word),
             _ => unreachable!(),
         }
     }
@@ -174,12 +199,55 @@ fn conflict(alloc: Global, key: &Text, stored: &Text, new: &Text) -> Result<Outp
     Ok(line)
 }
 
-fn taken(alloc: Global, pod: PodId) -> Result<Output, AllocError>
-    ensures { IfOk result (λ line. line ≡ message (Refusal.Taken pod)) }
+// A line that ends with a pod's name.
+fn pod_named(alloc: Global, front: &str, pod: PodId) -> Result<Output, AllocError>
+    ensures { IfOk result (λ line. line ≡ named_line front.now (pod_text pod.bytes)) }
 {
     let name = pod.name();
-    let mut line = Output::of(alloc, "rkt: taken: ")?;
+    let mut line = Output::of(alloc, front)?;
     line.push(name.as_str())?;
+    line.push("\n")?;
+    Ok(line)
+}
+
+fn wrong_phase(alloc: Global, phase: Phase) -> Result<Output, AllocError>
+    ensures { IfOk result (λ line. line ≡ message (Refusal.WrongPhase phase)) }
+{
+    let mut line = Output::of(alloc, "rkt: wrong phase: ")?;
+    line.push(phase.name())?;
+    line.push("\n")?;
+    Ok(line)
+}
+
+/// The name of a pod's lock.
+pub fn lock_name(which: Which) -> &'static str
+    ensures { result.now ≡ lock_text which }
+{
+    match which {
+        Which::Own => "own",
+        Which::Claim => "claim",
+    }
+}
+
+fn pod_busy(alloc: Global, pod: PodId, which: Which) -> Result<Output, AllocError>
+    ensures { IfOk result (λ line. line ≡ message (Refusal.PodBusy pod which)) }
+{
+    let name = pod.name();
+    let mut line = Output::of(alloc, "rkt: busy: ")?;
+    line.push(name.as_str())?;
+    line.push(" ")?;
+    line.push(lock_name(which))?;
+    line.push("\n")?;
+    Ok(line)
+}
+
+fn no_program(alloc: Global, app: &Text, word: &Text) -> Result<Output, AllocError>
+    ensures { IfOk result (λ line. line ≡ message (Refusal.NoProgram app.now word.now)) }
+{
+    let mut line = Output::of(alloc, "rkt: no program: ")?;
+    line.push(app.as_str())?;
+    line.push(" ")?;
+    line.push(word.as_str())?;
     line.push("\n")?;
     Ok(line)
 }

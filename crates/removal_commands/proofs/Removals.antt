@@ -1,0 +1,51 @@
+-- The command `rm`: from the removal to what is told of it.
+use Rattle.std.proofs.Common.{◌≡◌, Bool, true, false, Ok, Err, IfErr, ℕ, List, Result, refl, sym, ap, subst, ◌∙◌}
+use Rattle.dir_model.specs.declared.area.Phase.{Phase}
+use Rattle.dir_model.specs.declared.pod.PodId.{PodId}
+use Rattle.dir_model.specs.declared.spot.Which.{Which}
+use Rattle.dir_rules.specs.declared.seen.Seen.{Seen}
+use Rattle.dir_trait.specs.DirCalls.{DirAt}
+use Rattle.dir_trait.specs.Knowledge.{Knows}
+use Rattle.pod_steps.specs.Holding.{Stays}
+use Rattle.pod_removal.specs.declared.error.RemoveError.{RemoveError}
+use Rattle.pod_removal.specs.declared.error.RemoveError.TheVariants as error
+use Rattle.pod_removal.specs.Holding.{MayRemovePod}
+use Rattle.pod_removal.specs.Removals.{RemoveCause, RefusedByAnother}
+use Rattle.command_outcomes.specs.declared.refusal.Refusal.{Refusal}
+use Rattle.command_outcomes.specs.declared.refusal.Refusal.TheVariants.{DirFault}
+use Rattle.command_outcomes.specs.Moments.{Outcome}
+use Rattle.command_outcomes.proofs.Seen.{seen_at}
+use Rattle.removal_commands.specs.Rm.{remove_refusal, rm_refusal, RmSays}
+
+pub said_fault : (pod : PodId) (e : RemoveError) → remove_refusal pod e ≡ DirFault → e ≡ error.DirFault
+said_fault pod error.DirFault is = refl
+said_fault pod e is = cc
+
+pub allowed : (pod : PodId) (e : RemoveError) → rm_refusal (remove_refusal pod e) ≡ true
+allowed pod error.NoPod = refl
+allowed pod e = refl
+
+-- why the pod wasn't removed, and what is said of it
+module _ (observed : Bool) (a b : DirAt) (pod : PodId) (now : ℕ) where
+  abbrev Says : Outcome → Type 0
+  Says o = RmSays pod now (seen_at observed a) (seen_at observed b) o
+
+  abbrev Another : RemoveError → Type 0
+  Another e = observed ≡ true → Stays (MayRemovePod pod now) a (λ s. RefusedByAnother pod e a b)
+
+  said : (e : RemoveError) → RemoveCause observed pod e a b → Another e → Says (Err (remove_refusal pod e))
+  said error.NoPod cause another = λ t. cause.nowhere refl t
+  said (error.WrongPhase phase) cause another = record {
+    was = λ t conforming. cause.phase phase refl t conforming;
+    owner = λ t s k may conforming. (another t s (record { tied = k.tied; handles = k.handles }) may).owner conforming phase refl;
+  }
+  said error.NoManifest cause another = (refl, λ t conforming. cause.manifest refl t conforming)
+  said (error.Busy other which) cause another =
+      let same : other ≡ pod = cause.named other which refl in
+      (same, λ t s k may. (another t s (record { tied = k.tied; handles = k.handles }) may).busy which (ap (λ (p : PodId). error.Busy p which) same))
+  said error.DirFault cause another = tt
+  said error.Stray cause another = λ t. cause.stray refl t
+  said error.NoMemory cause another = tt
+
+  pub refused_says : (e : RemoveError) (r : Refusal) → r ≡ remove_refusal pod e → RemoveCause observed pod e a b → Another e → Says (Err r)
+  refused_says e r is cause another = subst (λ (x : Refusal). Says (Err x)) (sym is) (said e cause another)

@@ -1,0 +1,87 @@
+-- The command `rm`.
+use Rattle.std.specs.Prelude.{◌≡◌, ◌⊎◌, ℕ, Bool, true, List, codes, Ok, Err}
+use Rattle.dir_model.specs.declared.area.Area.{Area}
+use Rattle.dir_model.specs.declared.area.Phase.{Phase}
+use Rattle.dir_model.specs.declared.event.Event.{Event}
+use Rattle.dir_model.specs.declared.pod.PodId.{PodId}
+use Rattle.dir_model.specs.declared.spot.Which.{Which}
+use Rattle.dir_model.specs.Calls.{AtOwnStep}
+use Rattle.dir_model.specs.Pods.{pod_text}
+use Rattle.dir_rules.specs.declared.seen.Seen.{Seen}
+use Rattle.dir_trait.specs.Knowledge.{Knows}
+use Rattle.lifecycle.specs.Executions.{IsConforming}
+use Rattle.phase_read.specs.Exact.{AtOwnEvent}
+use Rattle.pod_claim.specs.Causes.{LacksManifest}
+use Rattle.pod_claim.specs.Elsewhere.{is_owned_phase, IsOwnedElsewhere}
+use Rattle.pod_steps.specs.Causes.{WasStray}
+use Rattle.pod_removal.specs.declared.error.RemoveError.{RemoveError}
+use Rattle.pod_removal.specs.declared.error.RemoveError.TheVariants as error
+use Rattle.pod_removal.specs.Causes.{IsBusyAt, IsDeleted}
+use Rattle.pod_removal.specs.Holding.{MayRemovePod}
+use Rattle.pod_removal.specs.Removals.{FoundNone, FoundThenEnded, MissedTimes, WasWrong}
+use Rattle.command_outcomes.specs.declared.refusal.Refusal.{Refusal}
+use Rattle.command_outcomes.specs.declared.refusal.Refusal.TheVariants.{NoPod, WrongPhase, NoManifest, PodBusy, DirFault, Stray, NoMemory}
+use Rattle.command_outcomes.specs.Texts.{named_line}
+use Rattle.command_outcomes.specs.Moments.{DirSeen, Outcome}
+use Rattle.command_outcomes.specs.Conforming.{shown_at}
+use Rattle.command_outcomes.specs.Ends.{is_common}
+use Rattle.command_outcomes.specs.Meanwhile.{Meanwhile}
+
+-- the line that it prints
+abbrev pub removed_text : PodId → List ℕ
+removed_text pod = named_line (codes "removed ") (pod_text pod.bytes)
+
+-- the refusals that it may have
+abbrev pub rm_refusal : Refusal → Bool
+rm_refusal NoPod = true
+rm_refusal (WrongPhase phase) = true
+rm_refusal (NoManifest pod) = true
+rm_refusal (PodBusy pod which) = true
+rm_refusal Stray = true
+rm_refusal refusal = is_common refusal
+
+-- what is said of a removal that was refused
+abbrev pub remove_refusal : PodId → RemoveError → Refusal
+remove_refusal pod error.NoPod = NoPod
+remove_refusal pod (error.WrongPhase phase) = WrongPhase phase
+remove_refusal pod error.NoManifest = NoManifest pod
+remove_refusal pod (error.Busy other which) = PodBusy other which
+remove_refusal pod error.DirFault = DirFault
+remove_refusal pod error.Stray = Stray
+remove_refusal pod error.NoMemory = NoMemory
+
+-- its own removal of the pod was answered Ok, or the pod was there at its first read and gone at a later one
+abbrev pub Removes : PodId → ℕ → List Event → List Event → Type 0
+Removes pod me old new = IsDeleted pod me old new ⊎ FoundThenEnded pod me old new
+
+-- it is so where the process has begun to remove this pod at this moment
+abbrev pub WhereRemoving : PodId → ℕ → DirSeen → Type 0 → Type 0
+WhereRemoving pod now old P = old.observed ≡ true → (s : Seen) → Knows (shown_at old) s → MayRemovePod pod now s → P
+
+-- in a conforming execution the pod had a phase at an own event in which another process owned it
+abbrev pub IsOwnedIn : PodId → Phase → ℕ → List Event → List Event → Type 0
+IsOwnedIn pod phase me old new = is_owned_phase phase ≡ true → (area : Area) × AtOwnEvent me old new (IsOwnedElsewhere me pod phase area)
+
+-- the pod had this phase at an own event, which doesn't allow its removal; and where that is of a pod with an owner, another process
+-- was that
+pub record FindsWrong (pod : PodId) (now : ℕ) (phase : Phase) (old new : DirSeen) : Type 0 where
+  pub was : old.observed ≡ true → IsConforming new.trace → WasWrong pod phase old.process old.trace new.trace
+  pub owner : WhereRemoving pod now old (IsConforming new.trace → IsOwnedIn pod phase old.process old.trace new.trace)
+
+-- in a conforming execution the pod stood in prepared without its manifest, at an own step
+abbrev pub HadNoManifest : PodId → DirSeen → DirSeen → Type 0
+HadNoManifest pod old new = old.observed ≡ true → IsConforming new.trace → AtOwnStep old.process old.trace new.trace (LacksManifest pod)
+
+-- an answer that what the locks keep doesn't explain; or six times, one after the other, it was found and then missed
+abbrev pub MeetsStray : PodId → ℕ → List Event → List Event → Type 0
+MeetsStray pod me old new = WasStray me old new ⊎ MissedTimes 6 pod me old new
+
+-- what was told of the pod
+abbrev pub RmSays : PodId → ℕ → DirSeen → DirSeen → Outcome → Type 0
+RmSays pod now old new (Ok text) = (text ≡ removed_text pod) × (old.observed ≡ true → Removes pod old.process old.trace new.trace)
+RmSays pod now old new (Err NoPod) = old.observed ≡ true → FoundNone pod old.process old.trace new.trace
+RmSays pod now old new (Err (WrongPhase phase)) = FindsWrong pod now phase old new
+RmSays pod now old new (Err (NoManifest other)) = (other ≡ pod) × HadNoManifest pod old new
+RmSays pod now old new (Err (PodBusy other which)) = (other ≡ pod) × WhereRemoving pod now old (IsBusyAt pod which old.process old.trace new.trace)
+RmSays pod now old new (Err Stray) = old.observed ≡ true → MeetsStray pod old.process old.trace new.trace
+RmSays pod now old new (Err refusal) = Unit {0}

@@ -1,0 +1,4 @@
+//! The commands that remove pods: what each asks of the directory, and what it comes to.
+#![tactic(auto)]
+
+pub mod rm;
