@@ -8,6 +8,7 @@ use Rattle.dir_trait.specs.declared.sink.Sink.{Ghosts as SinkGhosts}
 use Rattle.dir_trait.specs.Bundles.{Tree}
 use Rattle.spawner.specs.declared.spawning.Spawner.{Ghosts as SpawnerGhosts}
 use Rattle.spawner.specs.Calls.{SpawnerAt}
+use Rattle.dir_trait.specs.DirCalls.{DirAt}
 use Rattle.dir_trait.specs.Local.{Local}
 use Rattle.command_outcomes.specs.declared.refusal.Refusal.{Refusal}
 use Rattle.command_outcomes.specs.declared.told.Told.{Told}
@@ -22,6 +23,10 @@ pub record DirSeen : Type 0 where
 
 abbrev pub dir_at : {D : Type 0} → DirGhosts D → D → DirSeen
 dir_at g dir = record { observed = g.observed; process = (g.shown dir).process; faults = (g.shown dir).faults; local = (g.shown dir).local; trace = (g.shown dir).trace }
+
+-- the same of what it shows, whatever the count of its calls
+abbrev pub dir_seen : Bool → DirAt → DirSeen
+dir_seen observed d = record { observed = observed; process = d.process; faults = d.faults; local = d.local; trace = d.trace }
 
 -- a bundle
 pub record BundleSeen : Type 0 where

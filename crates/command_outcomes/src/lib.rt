@@ -6,5 +6,5 @@ mod refusal;
 mod told;
 
 pub use output::Output;
-pub use refusal::{Refusal, lock_name, named};
+pub use refusal::{Refusal, area_name, lock_name, named};
 pub use told::Told;

@@ -1,7 +1,7 @@
 // Why a command wasn't done.
 ghost use Rattle.std.specs.Prelude.{◌≡◌, true, IfOk, IfSome, IsNone};
 ghost use Rattle.dir_model.specs.Pods.{pod_text};
-ghost use Rattle.command_outcomes.specs.Texts.{status_of, message, named_line, lock_text, is_made};
+ghost use Rattle.command_outcomes.specs.Texts.{status_of, message, area_text, named_line, lock_text, is_made};
 
 use crate::output::Output;
 use ac_types::Text;
@@ -217,6 +217,24 @@ fn wrong_phase(alloc: Global, phase: Phase) -> Result<Output, AllocError>
     line.push(phase.name())?;
     line.push("\n")?;
     Ok(line)
+}
+
+/// The name of an area.
+pub fn area_name(area: Area) -> &'static str
+    ensures { result.now ≡ area_text area }
+{
+    match area {
+        Area::Embryo => "embryo",
+        Area::Prepare => "prepare",
+        Area::Prepared => "prepared",
+        Area::Run => "run",
+        Area::ExitedGarbage => "exited-garbage",
+        Area::Garbage => "garbage",
+        Area::Incoming => "incoming",
+        Area::Images => "images",
+        Area::Trees => "trees",
+        Area::Removed => "removed",
+    }
 }
 
 /// The name of a pod's lock.

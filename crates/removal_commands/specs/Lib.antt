@@ -1,1 +1,2 @@
 pub mod Rm
+pub mod Gc

@@ -1,0 +1,85 @@
+-- The command `gc`.
+use Rattle.std.specs.Prelude.{◌≡◌, ℕ, Bool, true, Option, Some, None, List, ◌++◌, codes, Ok, Err}
+use Rattle.std.specs.List.{flat_map}
+use Rattle.dir_model.specs.declared.area.Area.{Area}
+use Rattle.dir_model.specs.declared.event.Event.{Event}
+use Rattle.dir_model.specs.declared.pod.PodId.{PodId}
+use Rattle.dir_model.specs.Areas.{phase_text}
+use Rattle.dir_model.specs.Pods.{pod_text}
+use Rattle.dir_rules.specs.declared.seen.Seen.{Seen}
+use Rattle.dir_trait.specs.DirCalls.{DirAt}
+use Rattle.dir_trait.specs.Knowledge.{Knows}
+use Rattle.pod_steps.specs.Causes.{WasStray}
+use Rattle.pod_gc.specs.declared.ages.Times.{Times}
+use Rattle.pod_gc.specs.declared.error.GcError.{GcError}
+use Rattle.pod_gc.specs.declared.error.GcError.TheVariants as error
+use Rattle.pod_gc.specs.declared.line.Deed.{Deed}
+use Rattle.pod_gc.specs.declared.line.Deed.TheVariants.{Moved, Deleted, Kept, Busy, BusyGate, Left}
+use Rattle.pod_gc.specs.declared.line.GcLine.{GcLine}
+use Rattle.pod_gc.specs.Sweeping.{MaySweepAll}
+use Rattle.pod_gc.specs.Told.{Knew, ArePassed, places}
+use Rattle.command_outcomes.specs.declared.refusal.Refusal.{Refusal}
+use Rattle.command_outcomes.specs.declared.refusal.Refusal.TheVariants.{DirFault, Stray, NoMemory}
+use Rattle.command_outcomes.specs.Texts.{area_text, lock_text}
+use Rattle.command_outcomes.specs.Moments.{DirSeen, Outcome}
+use Rattle.command_outcomes.specs.Conforming.{shown_at}
+use Rattle.command_outcomes.specs.Ends.{is_common}
+use Rattle.command_outcomes.specs.Meanwhile.{Meanwhile}
+
+-- the moment of a sweep, and the times over which pods rest
+abbrev pub times_of : ℕ → ℕ → ℕ → Times
+times_of now grace expire = record { now = now; grace = grace; expire = expire }
+
+-- of what a line is: a pod, or an area whose lock another process holds
+abbrev pub subject_text : Option PodId → Area → List ℕ
+subject_text (Some pod) place = pod_text pod.bytes
+subject_text None place = area_text place
+
+-- what was done in the pass over this place
+abbrev pub deed_text : Area → Deed → List ℕ
+deed_text place (Moved to) = codes " moved " ++ area_text to
+deed_text place Deleted = codes " deleted"
+deed_text place (Kept phase) = codes " kept " ++ phase_text phase
+deed_text place (Busy which) = codes " busy " ++ lock_text which
+deed_text place BusyGate = codes " busy gate"
+deed_text place Left = codes " left " ++ area_text place
+
+abbrev pub line_text : GcLine → List ℕ
+line_text line = (subject_text line.pod line.place ++ deed_text line.place line.deed) ++ codes "\n"
+
+abbrev pub lines_text : List GcLine → List ℕ
+lines_text lines = flat_map line_text lines
+
+-- the refusals that it may have, and what is said of a sweep that ended early
+abbrev pub gc_refusal : Refusal → Bool
+gc_refusal Stray = true
+gc_refusal refusal = is_common refusal
+
+abbrev pub sweep_refusal : GcError → Refusal
+sweep_refusal error.DirFault = DirFault
+sweep_refusal error.Stray = Stray
+sweep_refusal error.NoMemory = NoMemory
+
+-- the six passes, each with its lines, of a process that may sweep
+pub record Sweeps (times : Times) (lines : List GcLine) (me : ℕ) (old new : List Event) : Type 0 where
+  pub from : DirAt
+  pub can : Knew (MaySweepAll times.now times.expire) from
+  pub swept : ArePassed (Knew (MaySweepAll times.now times.expire) from) times places lines me old new
+
+-- it printed the lines of what it did, where the process has begun to sweep at this moment
+pub record SweepsPods (times : Times) (old new : DirSeen) (text : List ℕ) : Type 0 where
+  pub lines : List GcLine
+  pub is : text ≡ lines_text lines
+  pub swept : old.observed ≡ true → (s : Seen) → Knows (shown_at old) s → MaySweepAll times.now times.expire s → Sweeps times lines old.process old.trace new.trace
+
+-- what was told of the pods
+abbrev pub GcSays : Times → DirSeen → DirSeen → Outcome → Type 0
+GcSays times old new (Ok text) = SweepsPods times old new text
+GcSays times old new (Err Stray) = old.observed ≡ true → WasStray old.process old.trace new.trace
+GcSays times old new (Err refusal) = Unit {0}
+
+-- of a whole process: it printed the lines of what it did
+pub record HasSweptPods (times : Times) (old new : DirSeen) (text : List ℕ) : Type 0 where
+  pub lines : List GcLine
+  pub is : text ≡ lines_text lines
+  pub swept : Meanwhile (Sweeps times lines) old.process old.trace new.trace

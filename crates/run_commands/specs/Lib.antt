@@ -1,0 +1,5 @@
+pub mod Ends
+pub mod Refusals
+pub mod Runs
+pub mod RunPrepared
+pub mod Run
