@@ -15,17 +15,17 @@ use Rattle.pod_launches.specs.declared.root.Root.{Root}
 use Rattle.pod_launches.specs.Files.{AreRoots}
 use Rattle.pod_launches.specs.Refusals.{LacksStarts, LoadCause}
 
-module _ {asks : Request → Bool} {b c : DirAt} (more : Extends asks b.process b.trace c.trace) where
+module _ {asks : Request → Bool} (b c : DirAt) (more : Extends asks b.process b.trace c.trace) where
   file_later : {inner : Inner} {most : ℕ} {P : List ℕ → Type 0} {a : DirAt} → ReadsFile inner most P a b → ReadsFile inner most P a c
   file_later r = record { bytes = r.bytes; few = r.few; read = within_before r.read more; holds = r.holds }
 
-  roots_later : (pod : PodId) (apps : List (List ℕ)) (roots : List Root) {a : DirAt} → AreRoots pod apps roots a b → AreRoots pod apps roots a c
-  roots_later pod [] [] are = tt
-  roots_later pod [] (root ∷ roots) are = absurd are
-  roots_later pod (app ∷ apps) [] are = absurd are
-  roots_later pod (app ∷ apps) (root ∷ roots) are = (file_later are.0, roots_later pod apps roots are.1)
+  roots_later : (pod : PodId) (a : DirAt) (apps : List (List ℕ)) (roots : List Root) → AreRoots pod apps roots a b → AreRoots pod apps roots a c
+  roots_later pod a [] [] are = tt
+  roots_later pod a [] (root ∷ roots) are = absurd are
+  roots_later pod a (app ∷ apps) [] are = absurd are
+  roots_later pod a (app ∷ apps) (root ∷ roots) are = (file_later are.0, roots_later pod a apps roots are.1)
 
-  module _ {a : DirAt} (same : b.process ≡ a.process) where
+  module _ (a : DirAt) (same : b.process ≡ a.process) where
     lack_later : {inner : Inner} {most : ℕ} {P : List ℕ → Type 0} → LacksFile inner most P a b → LacksFile inner most P a c
     lack_later (inl missing) = inl (at_before missing same more)
     lack_later (inr read) = inr (file_later read)
@@ -33,7 +33,7 @@ module _ {asks : Request → Bool} {b c : DirAt} (more : Extends asks b.process 
     starts_later : (pod : PodId) (apps : List RuntimeApp) (e : LoadError) → LacksStarts pod apps e a b → LacksStarts pod apps e a c
     starts_later pod apps NoManifest is = is
     starts_later pod apps (Damaged path) is = record { app = is.app; among = is.among; stands = is.stands; lacks = lack_later is.lacks }
-    starts_later pod apps (NoProgram name word) is = record { roots = is.roots; read = roots_later pod (map (λ x. x.name) apps) is.roots is.read; lacks = is.lacks }
+    starts_later pod apps (NoProgram name word) is = record { roots = is.roots; read = roots_later pod a (map (λ x. x.name) apps) is.roots is.read; lacks = is.lacks }
     starts_later pod apps DirFault is = tt
     starts_later pod apps NoMemory is = tt
 

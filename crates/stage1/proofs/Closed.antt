@@ -11,11 +11,11 @@ use Rattle.stage1.specs.declared.error.RunError.TheVariants.{NoManifest, Damaged
 use Rattle.stage1.specs.Runs.{RefusedFor, IsRefusedRun}
 use Rattle.stage1.proofs.Causes.{rose_before, stray_before}
 
-module _ {seen : Bool} {asks : Request → Bool} {a b c : DirAt} (pod : PodId) (same : b.process ≡ a.process) (faults : b.faults ≤ c.faults) (more : seen ≡ true → ExtendsBy asks b c) where
+module _ {seen : Bool} {asks : Request → Bool} (a b c : DirAt) (pod : PodId) (same : b.process ≡ a.process) (faults : b.faults ≤ c.faults) (more : seen ≡ true → ExtendsBy asks b c) where
   cause_later : (e : RunError) (s s' : SpawnerAt) → RefusedFor seen pod e a b s s' → RefusedFor seen pod e a c s s'
-  cause_later NoManifest s s' is = λ t. load_later (more t) same pod load.NoManifest (is t)
-  cause_later (Damaged path) s s' is = λ t. load_later (more t) same pod (load.Damaged path) (is t)
-  cause_later (NoProgram app word) s s' is = λ t. load_later (more t) same pod (load.NoProgram app word) (is t)
+  cause_later NoManifest s s' is = λ t. load_later b c (more t) a same pod load.NoManifest (is t)
+  cause_later (Damaged path) s s' is = λ t. load_later b c (more t) a same pod (load.Damaged path) (is t)
+  cause_later (NoProgram app word) s s' is = λ t. load_later b c (more t) a same pod (load.NoProgram app word) (is t)
   cause_later SpawnFault s s' is = is
   cause_later DirFault s s' is = rose_before a.faults b.faults c.faults is faults
   cause_later Stray s s' is = λ t. stray_before a.process a.trace b.trace c.trace (more t).more (more t).grown (is t)

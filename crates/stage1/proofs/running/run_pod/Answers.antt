@@ -54,5 +54,5 @@ returns-clause-refused g c =
     let s' = S.shown c.run_held-result.new.spawner in
     let k = c.close.ensures.called in
     if_err (λ e. IsRefusedRun D.observed S.observed pod c.args.address.now e old mid s s') (λ e. IsRefusedRun D.observed S.observed pod c.args.address.now e old new s s') c.run_held-result.result
-    (λ e r. refused_closed pod c.run_held-result.ensures.worked.same k.faults (λ t. step_extends (closes own) mid.process mid.trace (Close own) Done new.trace refl (k.step t)) e s s' r)
+    (λ e r. refused_closed old mid new pod c.run_held-result.ensures.worked.same k.faults (λ t. step_extends (closes own) mid.process mid.trace (Close own) Done new.trace refl (k.step t)) e s s' r)
     c.run_held-result.ensures.refused
