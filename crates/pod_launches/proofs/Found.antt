@@ -2,10 +2,13 @@
 use Rattle.std.proofs.Common.{◌≡◌, ◌<◌, ◌+◌, inl, inr, ℕ, List, [], ◌∷◌, ◌++◌, length, take, drop, get_or, sym, ap, subst, ◌∙◌}
 use Rattle.std.proofs.lemmas.List.{take_more, drop_more, take-append-drop}
 use Rattle.manifests.specs.declared.runtime_app.RuntimeApp.{RuntimeApp}
+use Rattle.std.specs.List.{AllByRecursion}
+use Rattle.ac_types.specs.Names.{IsAcName}
 use Rattle.dir_model.specs.declared.pod.PodId.{PodId}
 use Rattle.pod_launches.specs.declared.root.Root.{Root}
 use Rattle.pod_launches.specs.declared.start.AppStart.{AppStart}
-use Rattle.pod_launches.specs.Starts.{IsStart, AddsStart, AreStarts}
+use Rattle.pod_launches.specs.Places.{root_of}
+use Rattle.pod_launches.specs.Starts.{IsStart, IsPlacedIn, AddsStart, AreStarts}
 use Rattle.pod_launches.specs.declared.error.LoadError.{LoadError}
 use Rattle.pod_launches.specs.declared.error.LoadError.TheVariants.{NoProgram, NoMemory}
 use Rattle.pod_launches.specs.Refusals.{AreMissing, SomeLacks, IsMissingAmong}
@@ -56,3 +59,10 @@ module _ (pod : PodId) (address token : List ℕ) (apps : List RuntimeApp) (root
 
 pub starts_none : (pod : PodId) (address token : List ℕ) (starts : List AppStart) → starts ≡ [] → AreStarts pod address token [] [] starts
 starts_none pod address token starts none = rw none tt
+
+-- each start is placed by its name
+pub all_placed : (pod : PodId) (address token : List ℕ) (apps : List RuntimeApp) (roots : List Root) (starts : List AppStart) → AreStarts pod address token apps roots starts → AllByRecursion (IsPlacedIn pod) starts
+all_placed pod address token [] [] [] are = tt
+all_placed pod address token (app ∷ apps) (root ∷ roots) (start ∷ starts) are =
+    (record { place = are.0.place ∙ ap (λ (n : List ℕ). root_of pod n) (sym are.0.name); named = subst IsAcName (sym are.0.name) are.0.named }, all_placed pod address token apps roots starts are.1)
+all_placed pod address token _ _ _ are = absurd are

@@ -4,3 +4,4 @@ mod Rooted
 mod Found
 mod Lacking
 mod Tokens
+pub mod Later

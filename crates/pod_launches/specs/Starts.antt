@@ -1,5 +1,6 @@
 -- What the starts of a pod's apps need.
 use Rattle.std.specs.Prelude.{◌≡◌, ℕ, None, IfSome, option_map, List, [], ◌∷◌, ◌++◌, map}
+use Rattle.ac_types.specs.Names.{IsAcName}
 use Rattle.app_section.specs.AppData.{app_data}
 use Rattle.path_map.specs.Entries.{entry_at}
 use Rattle.manifests.specs.declared.pod_manifest.PodManifest.{PodManifest}
@@ -17,10 +18,16 @@ use Rattle.pod_launches.specs.Files.{ReadsManifest, ReadsToken, AreRoots}
 -- it is what the start of the app needs, whose root this is
 pub record IsStart (pod : PodId) (address token : List ℕ) (app : RuntimeApp) (root : Root) (start : AppStart) : Type 0 where
   pub name : start.name ≡ app.name
+  pub named : IsAcName app.name
   pub place : start.root ≡ root_of pod app.name
   pub listing : start.listing ≡ root.listing
   pub launch : IfSome app.app (λ section. IsLaunch (app_data section) app.name address token (entry_at root.tree) start.launch)
   pub startable : missing_word (option_map app_data app.app) (entry_at root.tree) ≡ None
+
+-- its root is that of its name in this pod
+pub record IsPlacedIn (pod : PodId) (start : AppStart) : Type 0 where
+  pub place : start.root ≡ root_of pod start.name
+  pub named : IsAcName start.name
 
 -- the start of one app more
 pub record AddsStart (pod : PodId) (address token : List ℕ) (app : RuntimeApp) (root : Root) (before after : List AppStart) : Type 0 where

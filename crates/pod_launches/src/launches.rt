@@ -1,9 +1,10 @@
 // What the apps of a pod start with.
 ghost use Rattle.std.specs.Prelude.{◌≡◌, true, IfOk, IfErr, IsErrOf};
+ghost use Rattle.std.specs.List.{AllByRecursion};
 ghost use Rattle.dir_model.specs.Causes.{Rose};
 ghost use Rattle.dir_model.specs.Local.{IsActive};
 ghost use Rattle.pod_launches.specs.Looks.{OnlyReadsPod};
-ghost use Rattle.pod_launches.specs.Starts.{FindsStarts, ReadsStarts};
+ghost use Rattle.pod_launches.specs.Starts.{IsPlacedIn, FindsStarts, ReadsStarts};
 ghost use Rattle.pod_launches.specs.Refusals.{LacksStarts, LoadCause};
 
 use crate::error::LoadError;
@@ -28,6 +29,7 @@ fn starts_with<D: Dir>(
     requires active { IsActive (D.shown dir.old).local }
     ensures cause { IsErrOf result LoadError.DirFault → Rose (D.shown dir.old).faults (D.shown dir.new).faults }
     ensures only { OnlyReadsPod D.observed pod (D.shown dir.old) (D.shown dir.new) }
+    ensures placed { IfOk result (λ starts. AllByRecursion (IsPlacedIn pod) starts.items) }
     ensures found { IfOk result (λ starts. D.observed ≡ true → FindsStarts pod address.now token.now apps.now starts.items (D.shown dir.old) (D.shown dir.new)) }
     ensures lacks { IfErr result (λ e. D.observed ≡ true → LacksStarts pod apps.now e (D.shown dir.old) (D.shown dir.new)) }
 {
@@ -53,6 +55,7 @@ pub fn pod_launches<D: Dir>(
     requires active { IsActive (D.shown dir.old).local }
     ensures cause { IsErrOf result LoadError.DirFault → Rose (D.shown dir.old).faults (D.shown dir.new).faults }
     ensures only { OnlyReadsPod D.observed pod (D.shown dir.old) (D.shown dir.new) }
+    ensures placed { IfOk result (λ starts. AllByRecursion (IsPlacedIn pod) starts.items) }
     ensures read { IfOk result (λ starts. D.observed ≡ true → ReadsStarts pod address.now starts.items (D.shown dir.old) (D.shown dir.new)) }
     ensures lacks { IfErr result (λ e. D.observed ≡ true → LoadCause pod e (D.shown dir.old) (D.shown dir.new)) }
 {

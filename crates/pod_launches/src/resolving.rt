@@ -37,6 +37,7 @@ fn app_start(
 {
     match app_launch(alloc, app, &root.tree, address, token) {
         Ok(launch) => {
+            let _named = app.name.as_str();
             let name = app.name.copy().map_err(no_memory)?;
             Ok(AppStart {
                 root: root_of(pod, &app.name),

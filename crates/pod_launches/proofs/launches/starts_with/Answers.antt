@@ -1,9 +1,11 @@
 use Rattle.std.proofs.Common.{◌≡◌, true}
 use Rattle.image_reading.proofs.Results.{if_ok, if_err, never}
 use Rattle.pod_launches.specs.declared.error.LoadError.TheVariants.{DirFault}
-use Rattle.pod_launches.specs.Starts.{AreStarts, FindsStarts}
+use Rattle.pod_launches.specs.Starts.{IsPlacedIn, AreStarts, FindsStarts}
 use Rattle.pod_launches.specs.Refusals.{IsMissingAmong, LacksStarts}
 use Rattle.pod_launches.proofs.Lacking.{roots_cause, programs_cause}
+use Rattle.std.specs.List.{AllByRecursion}
+use Rattle.pod_launches.proofs.Found.{all_placed}
 use Rattle.pod_launches.proofs.launches.starts_with.Goals as goal
 
 pub returns-in-Ok-clause-cause : goal.returns-in-Ok-clause-cause
@@ -29,3 +31,8 @@ pub returns-in-Err-clause-lacks : goal.returns-in-Err-clause-lacks
 returns-in-Err-clause-lacks g c t =
     let D = g.D.Dir in
     roots_cause c.args.pod c.args.apps.now (D.shown c.args.dir.now) (D.shown c.read_roots.new.dir) c.in-Err.error (c.in-Err.ensures.lacks t)
+
+pub returns-in-Ok-clause-placed : goal.returns-in-Ok-clause-placed
+returns-in-Ok-clause-placed g c =
+    if_ok (λ starts. AreStarts c.args.pod c.args.address.now c.args.token.now c.args.apps.now c.in-Ok.roots.items starts.items) (λ starts. AllByRecursion (IsPlacedIn c.args.pod) starts.items) c.app_starts.result
+    (λ starts are. all_placed c.args.pod c.args.address.now c.args.token.now c.args.apps.now c.in-Ok.roots.items starts.items are) c.app_starts.ensures.starts

@@ -1,0 +1,25 @@
+-- A run, and then the close of the pod's own lock.
+use Rattle.std.proofs.Common.{◌≡◌, ◌≤◌, ℕ, Bool, true, List}
+use Rattle.dir_model.specs.declared.pod.PodId.{PodId}
+use Rattle.dir_model.specs.declared.request.Request.{Request}
+use Rattle.dir_trait.specs.DirCalls.{DirAt, ExtendsBy}
+use Rattle.spawner.specs.Calls.{SpawnerAt}
+use Rattle.pod_launches.specs.declared.error.LoadError.TheVariants as load
+use Rattle.pod_launches.proofs.Later.{load_later}
+use Rattle.stage1.specs.declared.error.RunError.{RunError}
+use Rattle.stage1.specs.declared.error.RunError.TheVariants.{NoManifest, Damaged, NoProgram, SpawnFault, DirFault, Stray, NoMemory}
+use Rattle.stage1.specs.Runs.{RefusedFor, IsRefusedRun}
+use Rattle.stage1.proofs.Causes.{rose_before, stray_before}
+
+module _ {seen : Bool} {asks : Request → Bool} (a b c : DirAt) (pod : PodId) (same : b.process ≡ a.process) (faults : b.faults ≤ c.faults) (more : seen ≡ true → ExtendsBy asks b c) where
+  cause_later : (e : RunError) (s s' : SpawnerAt) → RefusedFor seen pod e a b s s' → RefusedFor seen pod e a c s s'
+  cause_later NoManifest s s' is = λ t. load_later b c (more t) a same pod load.NoManifest (is t)
+  cause_later (Damaged path) s s' is = λ t. load_later b c (more t) a same pod (load.Damaged path) (is t)
+  cause_later (NoProgram app word) s s' is = λ t. load_later b c (more t) a same pod (load.NoProgram app word) (is t)
+  cause_later SpawnFault s s' is = is
+  cause_later DirFault s s' is = rose_before a.faults b.faults c.faults is faults
+  cause_later Stray s s' is = λ t. stray_before a.process a.trace b.trace c.trace (more t).more (more t).grown (is t)
+  cause_later NoMemory s s' is = tt
+
+  pub refused_closed : {observed : Bool} {address : List ℕ} (e : RunError) (s s' : SpawnerAt) → IsRefusedRun seen observed pod address e a b s s' → IsRefusedRun seen observed pod address e a c s s'
+  refused_closed e s s' r = record { cause = cause_later e s s' r.cause; early = r.early; starts = r.starts; read = r.read; cut = r.cut }

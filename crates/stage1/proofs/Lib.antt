@@ -1,0 +1,16 @@
+mod Counting
+mod Asked
+mod Cuts
+mod Noted
+mod Causes
+mod Results
+mod Forms
+mod OneApp
+mod Pairs
+mod OneEnd
+mod Ends
+mod Whole
+mod Rests
+mod Stops
+mod Held
+mod Closed

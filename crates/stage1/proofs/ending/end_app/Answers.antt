@@ -1,0 +1,46 @@
+use Rattle.std.proofs.Common.{◌≡◌, true, refl, sym, subst}
+use Rattle.folder_building.proofs.Working.{worked_none}
+use Rattle.stage1.specs.declared.stand.Stand.{Stand}
+use Rattle.stage1.specs.Beginnings.{IsStartedIn, IsWritten}
+use Rattle.stage1.specs.Endings.{HasEnded, IsEndCut, EndsSo, EndsCut}
+use Rattle.stage1.specs.Notes.{WroteStatus}
+use Rattle.stage1.proofs.Results.{if_ok, if_err}
+use Rattle.stage1.proofs.Asked.{asks_none}
+use Rattle.stage1.proofs.Noted.{stays_none}
+use Rattle.stage1.proofs.ending.end_app.Goals as goal
+
+pub end_running-requires-clause-started : goal.end_running-requires-clause-started
+end_running-requires-clause-started g c t = subst (λ (x : Stand). IsStartedIn (g.S.Spawner.shown c.args.spawner.now).calls c.args.app.now x) c.in-Running.is (c.requires.started t)
+
+pub returns-in-Running-clause-ended : goal.returns-in-Running-clause-ended
+returns-in-Running-clause-ended g c =
+    let S = g.S.Spawner in
+    let app = c.args.app.now in
+    let old = S.shown c.args.spawner.now in
+    let new = S.shown c.end_running.new.spawner in
+    if_ok (λ status. HasEnded S.observed app c.in-Running.child status old new) (λ status. EndsSo S.observed app c.args.stand status old new) c.end_running.result
+    (λ status e. subst (λ (x : Stand). EndsSo S.observed app x status old new) (sym c.in-Running.is) e) c.end_running.ensures.ended
+
+pub returns-in-Running-clause-cut : goal.returns-in-Running-clause-cut
+returns-in-Running-clause-cut g c =
+    let S = g.S.Spawner in
+    let app = c.args.app.now in
+    let old = S.shown c.args.spawner.now in
+    let new = S.shown c.end_running.new.spawner in
+    if_err (λ f. IsEndCut S.observed app c.in-Running.child old new) (λ f. EndsCut S.observed app c.args.stand old new) c.end_running.result
+    (λ f e. subst (λ (x : Stand). EndsCut S.observed app x old new) (sym c.in-Running.is) e) c.end_running.ensures.cut
+
+pub returns-in-Ended-clause-worked : goal.returns-in-Ended-clause-worked
+returns-in-Ended-clause-worked g c = worked_none
+
+pub returns-in-Ended-clause-stays : goal.returns-in-Ended-clause-stays
+returns-in-Ended-clause-stays g c t = stays_none
+
+pub returns-in-Ended-clause-ended : goal.returns-in-Ended-clause-ended
+returns-in-Ended-clause-ended g c =
+    let S = g.S.Spawner in
+    let s = S.shown c.args.spawner.now in
+    subst (λ (x : Stand). EndsSo S.observed c.args.app.now x c.in-Ended.status s s) (sym c.in-Ended.is) (refl, asks_none)
+
+pub returns-in-Ended-clause-wrote : goal.returns-in-Ended-clause-wrote
+returns-in-Ended-clause-wrote g c t = subst (λ (x : Stand). IsWritten (g.D.Dir.shown c.args.dir.now) c.args.app.now x) c.in-Ended.is (c.requires.wrote t)

@@ -1,0 +1,32 @@
+use Rattle.std.proofs.Common.{Err, refl, ap, sym, subst}
+use Rattle.dir_model.specs.declared.request.Request.TheVariants.{SyncIn}
+use Rattle.dir_model.specs.declared.request.Reply.TheVariants.{Refused}
+use Rattle.folder_building.specs.Making.{inner_at}
+use Rattle.folder_building.proofs.Working.{worked_call, at_spot}
+use Rattle.folder_building.proofs.Strays.{stray_sync}
+use Rattle.stage1.specs.declared.error.Fault.{Fault}
+use Rattle.stage1.specs.Refusals.{NoteCause}
+use Rattle.stage1.proofs.Noted.{stays_call}
+use Rattle.stage1.proofs.Causes.{note_cause}
+use Rattle.stage1.proofs.notes.sync.Goals as goal
+
+pub returns-in-Ok-clause-worked : goal.returns-in-Ok-clause-worked
+returns-in-Ok-clause-worked g c = worked_call (at_spot c.args.spot.now) refl c.in-Ok.ensures.called
+
+pub returns-in-Err-clause-worked : goal.returns-in-Err-clause-worked
+returns-in-Err-clause-worked g c = worked_call (at_spot c.args.spot.now) refl c.in-Err.ensures.called
+
+pub returns-in-Ok-clause-stays : goal.returns-in-Ok-clause-stays
+returns-in-Ok-clause-stays g c t = stays_call t refl refl (λ s. refl) refl c.in-Ok.ensures.called
+
+pub returns-in-Err-clause-stays : goal.returns-in-Err-clause-stays
+returns-in-Err-clause-stays g c t = stays_call t refl refl (λ s. refl) refl c.in-Err.ensures.called
+
+pub returns-in-Err-clause-cause : goal.returns-in-Err-clause-cause
+returns-in-Err-clause-cause g c =
+    let D = g.D.Dir in
+    let old = D.shown c.args.dir.now in
+    let new = D.shown c.sync_in.new.self in
+    let inner = inner_at c.args.spot.now c.args.path.now in
+    subst (λ (f : Fault). NoteCause D.observed f old new) (sym c.change_fault.ensures)
+    (note_cause old new (SyncIn inner) (Refused c.in-Err.error 0) c.in-Err.error (stray_sync inner c.in-Err.error c.in-Err.ensures.refusals) (λ is. c.in-Err.ensures.cause (ap Err is)) (λ t. c.in-Err.ensures.called.step t))

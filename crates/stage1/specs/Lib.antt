@@ -1,0 +1,9 @@
+pub mod Refusals
+pub mod Sequences
+pub mod Asking
+pub mod Cutting
+pub mod Programs
+pub mod Notes
+pub mod Beginnings
+pub mod Endings
+pub mod Runs
