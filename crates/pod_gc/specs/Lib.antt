@@ -1,0 +1,5 @@
+pub mod Requests
+pub mod Marks
+pub mod Causes
+pub mod Deeds
+pub mod Sweeping
