@@ -6,4 +6,6 @@ pub mod Waiting
 pub mod Dealing
 pub mod InTurn
 pub mod Listing
+pub mod Telling
 pub mod Gates
+pub mod Sweeps

@@ -3,3 +3,4 @@ pub mod Marks
 pub mod Causes
 pub mod Deeds
 pub mod Sweeping
+pub mod Told

@@ -7,6 +7,7 @@ ghost use Rattle.pod_steps.specs.Holding.{KeepsReady, Stays};
 ghost use Rattle.pod_gc.specs.Requests.{anything};
 ghost use Rattle.pod_gc.specs.Causes.{GcCause};
 ghost use Rattle.pod_gc.specs.Sweeping.{MayPass, MaySweepAll};
+ghost use Rattle.pod_gc.specs.Told.{deals_with_some, AddsTold, AddsShown, AddsPassed};
 
 use crate::ages::Times;
 use crate::deals::deal;
@@ -38,8 +39,9 @@ fn deal_next<D: Dir>(
 ) -> Result<(), GcError>
     requires active { IsActive (D.shown dir.old).local }
     requires stage { is_stage place ≡ true }
-    ensures worked { Worked D.observed anything (D.shown dir.old) (D.shown dir.new) }
+    ensures worked { Worked D.observed (deals_with_some times.now place (name.now ∷ [])) (D.shown dir.old) (D.shown dir.new) }
     ensures cause { IfErr result (λ e. GcCause D.observed e (D.shown dir.old) (D.shown dir.new)) }
+    ensures told { IfOk result (λ done. D.observed ≡ true → AddsTold times place (name.now ∷ []) (D.shown dir.old) (D.shown dir.new) lines.old.items lines.new.items) }
     ensures ready { D.observed ≡ true → Stays (MayPass place times.now times.expire) (D.shown dir.old) (λ s. KeepsReady s (D.shown dir.new)) }
 {
     match PodId::parse(name.as_str()) {
@@ -62,8 +64,9 @@ fn deal_each<D: Dir>(
 ) -> Result<(), GcError>
     requires active { IsActive (D.shown dir.old).local }
     requires stage { is_stage place ≡ true }
-    ensures worked { Worked D.observed anything (D.shown dir.old) (D.shown dir.new) }
+    ensures worked { Worked D.observed (deals_with_some times.now place names.now) (D.shown dir.old) (D.shown dir.new) }
     ensures cause { IfErr result (λ e. GcCause D.observed e (D.shown dir.old) (D.shown dir.new)) }
+    ensures told { IfOk result (λ done. D.observed ≡ true → AddsTold times place names.now (D.shown dir.old) (D.shown dir.new) lines.old.items lines.new.items) }
     ensures ready { D.observed ≡ true → Stays (MayPass place times.now times.expire) (D.shown dir.old) (λ s. KeepsReady s (D.shown dir.new)) }
 {
     'names: for name in names {
@@ -84,6 +87,7 @@ fn pass_listed<D: Dir>(
     requires stage { is_stage place ≡ true }
     ensures worked { Worked D.observed anything (D.shown dir.old) (D.shown dir.new) }
     ensures cause { IfErr result (λ e. GcCause D.observed e (D.shown dir.old) (D.shown dir.new)) }
+    ensures told { IfOk result (λ done. D.observed ≡ true → AddsShown times place (D.shown dir.old) (D.shown dir.new) lines.old.items lines.new.items) }
     ensures ready { D.observed ≡ true → Stays (MayPass place times.now times.expire) (D.shown dir.old) (λ s. KeepsReady s (D.shown dir.new)) }
 {
     match names_of(alloc, dir, place) {
@@ -102,6 +106,7 @@ fn pass_embryo<D: Dir>(
     requires active { IsActive (D.shown dir.old).local }
     ensures worked { Worked D.observed anything (D.shown dir.old) (D.shown dir.new) }
     ensures cause { IfErr result (λ e. GcCause D.observed e (D.shown dir.old) (D.shown dir.new)) }
+    ensures told { IfOk result (λ done. D.observed ≡ true → AddsPassed times Area.Embryo (D.shown dir.old) (D.shown dir.new) lines.old.items lines.new.items) }
     ensures ready { D.observed ≡ true → Stays (MaySweepAll times.now times.expire) (D.shown dir.old) (λ s. KeepsReady s (D.shown dir.new)) }
 {
     match lock_area(alloc, dir, Area::Embryo, Mode::Exclusive) {
@@ -135,6 +140,7 @@ pub(crate) fn pass<D: Dir>(
     requires stage { is_stage place ≡ true }
     ensures worked { Worked D.observed anything (D.shown dir.old) (D.shown dir.new) }
     ensures cause { IfErr result (λ e. GcCause D.observed e (D.shown dir.old) (D.shown dir.new)) }
+    ensures told { IfOk result (λ done. D.observed ≡ true → AddsPassed times place (D.shown dir.old) (D.shown dir.new) lines.old.items lines.new.items) }
     ensures ready { D.observed ≡ true → Stays (MaySweepAll times.now times.expire) (D.shown dir.old) (λ s. KeepsReady s (D.shown dir.new)) }
 {
     match place {

@@ -1,6 +1,12 @@
 // The sweep of dead pods.
-ghost use Rattle.std.specs.Prelude.{◌≡◌};
+ghost use Rattle.std.specs.Prelude.{◌≡◌, true, IfOk, IfErr};
 ghost use Rattle.dir_trait.specs.Local.{IsActive};
+ghost use Rattle.folder_building.specs.Work.{Worked};
+ghost use Rattle.pod_steps.specs.Holding.{KeepsReady, Stays};
+ghost use Rattle.pod_gc.specs.Requests.{anything};
+ghost use Rattle.pod_gc.specs.Causes.{GcCause};
+ghost use Rattle.pod_gc.specs.Sweeping.{MaySweepAll};
+ghost use Rattle.pod_gc.specs.Told.{places, AddsSwept, IsSweptBetween};
 
 use crate::ages::Times;
 use crate::error::GcError;
@@ -26,7 +32,10 @@ fn pass_each<D: Dir>(
     lines: &mut Vec<GcLine>,
 ) -> Result<(), GcError>
     requires active { IsActive (D.shown dir.old).local }
-    ensures local { (D.shown dir.new).local ≡ (D.shown dir.old).local }
+    ensures worked { Worked D.observed anything (D.shown dir.old) (D.shown dir.new) }
+    ensures cause { IfErr result (λ e. GcCause D.observed e (D.shown dir.old) (D.shown dir.new)) }
+    ensures swept { IfOk result (λ done. D.observed ≡ true → AddsSwept times places (D.shown dir.old) (D.shown dir.new) lines.old.items lines.new.items) }
+    ensures ready { D.observed ≡ true → Stays (MaySweepAll times.now times.expire) (D.shown dir.old) (λ s. KeepsReady s (D.shown dir.new)) }
 {
     'places: for place in PLACES {
         pass(alloc, dir, place, times, lines)?;
@@ -52,7 +61,11 @@ pub fn gc<D: Dir>(
     expire: u64,
 ) -> Result<Vec<GcLine>, GcError>
     requires active { IsActive (D.shown dir.old).local }
-    ensures local { (D.shown dir.new).local ≡ (D.shown dir.old).local }
+    ensures worked { Worked D.observed anything (D.shown dir.old) (D.shown dir.new) }
+    ensures cause { IfErr result (λ e. GcCause D.observed e (D.shown dir.old) (D.shown dir.new)) }
+    ensures swept { IfOk result (λ lines. D.observed ≡ true
+        → IsSweptBetween (record { now = now; grace = grace; expire = expire }) (D.shown dir.old) (D.shown dir.new) lines.items) }
+    ensures ready { D.observed ≡ true → Stays (MaySweepAll now expire) (D.shown dir.old) (λ s. KeepsReady s (D.shown dir.new)) }
 {
     let times = Times { now, grace, expire };
     let mut lines = Vec::new(alloc);
