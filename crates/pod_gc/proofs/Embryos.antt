@@ -1,0 +1,24 @@
+-- An embryo is moved under the lock of its area.
+use Rattle.std.proofs.Common.{◌≡◌, ℕ, true, refl}
+use Rattle.dir_model.specs.declared.area.Area.TheVariants.{Embryo, Garbage}
+use Rattle.dir_model.specs.declared.pod.PodId.{PodId}
+use Rattle.dir_model.specs.declared.spot.Which.TheVariants.{Own}
+use Rattle.dir_model.specs.Pods.{pod_text}
+use Rattle.dir_rules.specs.declared.seen.Seen.{Seen}
+use Rattle.dir_rules.proofs.Looks.{same_bytes}
+use Rattle.dir_trait.specs.DirCalls.{DirAt}
+use Rattle.phase_read.specs.Read.{pod_spot}
+use Rattle.pod_claim.proofs.Seen.{off}
+use Rattle.pod_steps.specs.Holding.{MayMove, KeepsReady, Stays}
+use Rattle.pod_removal.proofs.Stages.{spares}
+use Rattle.pod_gc.specs.Sweeping.{HoldsEmbryo}
+
+moves_embryo : {now : ℕ} {s : Seen} (pod : PodId) → HoldsEmbryo now s → MayMove pod Embryo Garbage s
+moves_embryo {now} {s} pod m = record {
+  allowed = rw (same_bytes (pod_text pod.bytes), m.sweeps, m.gate, spares pod s.standing.holdings m.may.apart) refl;
+  alone = off Own (pod_spot pod Embryo) s.standing.holdings m.may.apart;
+  bare = m.may.bare;
+}
+
+pub ready_embryo : {now : ℕ} {a b : DirAt} (pod : PodId) → Stays (MayMove pod Embryo Garbage) a (λ s. KeepsReady s b) → Stays (HoldsEmbryo now) a (λ s. KeepsReady s b)
+ready_embryo pod moves s k m = moves s k (moves_embryo pod m)

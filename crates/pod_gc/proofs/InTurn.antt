@@ -1,0 +1,40 @@
+-- The pods of a pass, one after the other.
+use Rattle.std.proofs.Common.{◌≡◌, ◌==◌, ◌&&◌, ℕ, Bool, true, Option, List, refl, sym, ap, ◌∙◌}
+use Rattle.std.specs.List.{list_any}
+use Rattle.dir_model.specs.declared.area.Area.{Area}
+use Rattle.dir_model.specs.declared.area.Area.TheVariants.{Embryo}
+use Rattle.dir_model.specs.declared.intent.Intent.{Intent}
+use Rattle.dir_model.specs.declared.request.Request.{Request}
+use Rattle.dir_rules.specs.declared.standing.Held.{Held}
+use Rattle.dir_rules.specs.declared.seen.Seen.{Seen}
+use Rattle.dir_rules.specs.Standing.{intends, is_gc, is_gate_exclusive}
+use Rattle.dir_trait.specs.DirCalls.{DirAt}
+use Rattle.folder_building.specs.Work.{Worked}
+use Rattle.folder_building.proofs.Working.{worked_wider}
+use Rattle.pod_steps.specs.Holding.{Keeps, KeepsReady, Stays}
+use Rattle.pod_removal.proofs.Rounds.{may_kept}
+use Rattle.pod_gc.specs.declared.error.GcError.TheVariants as fault
+use Rattle.pod_gc.specs.Requests.{anything}
+use Rattle.pod_gc.specs.Causes.{GcCause}
+use Rattle.pod_gc.specs.Sweeping.{MaySweep, MayPass}
+
+pub worked_any : {observed : Bool} {asks : Request → Bool} {old new : DirAt} → Worked observed asks old new → Worked observed anything old new
+worked_any w = worked_wider (λ r is. refl) w
+
+pub no_memory : (observed : Bool) (old new : DirAt) → GcCause observed fault.NoMemory old new
+no_memory observed old new = record { fault = λ is. cc; stray = λ is. cc }
+
+pub sweep_kept : {now expire : ℕ} {s z : Seen} → Keeps s z → MaySweep now expire s → MaySweep now expire z
+sweep_kept {now} {expire} k m = record { may = may_kept k m.may; sweeps = ap (λ (o : Option Intent). intends (λ i. is_gc i.kind && (i.expire == expire)) o) k.intent ∙ m.sweeps }
+
+pub pass_kept : {place : Area} {now expire : ℕ} {s z : Seen} → Keeps s z → MayPass place now expire s → MayPass place now expire z
+pass_kept k m = record { sweeps = sweep_kept k m.sweeps; gate = λ is. ap (λ (hs : List Held). list_any (is_gate_exclusive Embryo) hs) k.holdings ∙ m.gate is }
+
+pub pass_none : {place : Area} {now expire : ℕ} {d : DirAt} → Stays (MayPass place now expire) d (λ s. KeepsReady s d)
+pass_none s k m = record { known = s; keeps = record { intent = refl; holdings = refl; kept = refl; bare = m.sweeps.may.bare }; knows = k }
+
+pub pass_more : {place : Area} {now expire : ℕ} {a b c : DirAt} → Stays (MayPass place now expire) a (λ s. KeepsReady s b) → Stays (MayPass place now expire) b (λ s. KeepsReady s c) → Stays (MayPass place now expire) a (λ s. KeepsReady s c)
+pass_more ab bc s k m =
+    let x = ab s k m in
+    let y = bc x.known x.knows (pass_kept x.keeps m) in
+    record { known = y.known; keeps = record { intent = y.keeps.intent ∙ x.keeps.intent; holdings = y.keeps.holdings ∙ x.keeps.holdings; kept = y.keeps.kept ∙ x.keeps.kept; bare = y.keeps.bare }; knows = y.knows }

@@ -1,0 +1,11 @@
+pub mod Steps
+pub mod Embryos
+pub mod Marking
+pub mod Moments
+pub mod Waiting
+pub mod Dealing
+pub mod InTurn
+pub mod Listing
+pub mod Telling
+pub mod Gates
+pub mod Sweeps

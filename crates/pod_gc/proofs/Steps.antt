@@ -1,0 +1,277 @@
+-- What a step at a listed pod comes to as a deed.
+use Rattle.std.proofs.Common.{◌≡◌, ◌≤◌, ◌||◌, ◌⊎◌, inl, inr, ℕ, Bool, true, false, Option, Some, codes, Result, Ok, Err, IfOk, IfErr, List, [], ◌∷◌, ◌++◌, refl, sym, ap, subst, ◌∙◌, arith}
+use Rattle.dir_model.specs.declared.area.Area.{Area}
+use Rattle.dir_model.specs.declared.area.Area.TheVariants as area
+use Rattle.dir_model.specs.declared.area.Phase.{Phase}
+use Rattle.dir_model.specs.declared.event.Event.{Event}
+use Rattle.dir_model.specs.declared.pod.PodId.{PodId}
+use Rattle.dir_model.specs.declared.spot.Spot.{Spot}
+use Rattle.dir_model.specs.declared.spot.Which.{Which}
+use Rattle.dir_model.specs.declared.spot.Which.TheVariants.{Own}
+use Rattle.dir_model.specs.declared.request.Request.{Request}
+use Rattle.dir_model.specs.declared.request.Request.TheVariants.{MoveFolder, RemoveFolder}
+use Rattle.dir_model.specs.declared.request.Reply.TheVariants.{Done}
+use Rattle.dir_model.specs.Areas.{rank, phase_in}
+use Rattle.dir_model.specs.Between.{LockTold}
+use Rattle.dir_model.specs.Calls.{AtOwnStep}
+use Rattle.dir_model.specs.Causes.{Rose}
+use Rattle.dir_model.specs.State.{DirState, stands}
+use Rattle.dir_model.proofs.Lists.{or_last}
+use Rattle.dir_model.proofs.Moments.{at_weaker, settle}
+use Rattle.dir_rules.specs.declared.seen.Seen.{Seen}
+use Rattle.dir_trait.specs.DirCalls.{DirAt, HeldBetween, LockToldBetween}
+use Rattle.dir_trait.specs.Knowledge.{Knows, OnlyLooks}
+use Rattle.folder_building.specs.Work.{Worked}
+use Rattle.lifecycle.specs.Executions.{IsConforming}
+use Rattle.lifecycle.proofs.Stays.{stays_between}
+use Rattle.phase_read.specs.declared.found.LookError.{LookError}
+use Rattle.phase_read.specs.declared.found.LookError.TheVariants as look
+use Rattle.phase_read.specs.Read.{pod_spot, HasPhase}
+use Rattle.phase_read.specs.Exact.{AtOwnEvent, IsInPhase}
+use Rattle.phase_read.proofs.Exact.{found_exactly}
+use Rattle.pod_claim.specs.Work.{Grew}
+use Rattle.pod_claim.proofs.Seen.{off}
+use Rattle.pod_claim.proofs.Times.{at_part, deeds_part}
+use Rattle.pod_claim.proofs.Traces.{grown_none, grown_more}
+use Rattle.pod_steps.specs.declared.setback.Setback.{Setback}
+use Rattle.pod_steps.specs.declared.setback.Setback.TheVariants as stop
+use Rattle.pod_steps.specs.Requests.{looks_at, moves}
+use Rattle.pod_steps.specs.Holding.{MayLook, LooksFree, with_look, KeepsReady, Stays}
+use Rattle.pod_steps.specs.Causes.{Stopped, IsAbsentAt, Did, WasStray}
+use Rattle.pod_steps.proofs.Calls.{Follows, stray_part, rose_later}
+use Rattle.pod_removal.specs.Requests.{is_garbage_place, removes}
+use Rattle.pod_removal.specs.Causes.{BusyAny}
+use Rattle.pod_removal.specs.Holding.{MayRemove}
+use Rattle.pod_removal.proofs.CallKinds.{looks_remove}
+use Rattle.pod_removal.proofs.Stages.{none_kind, same_ready}
+use Rattle.pod_removal.proofs.Rounds.{may_kept, looked_keeps, busy_within, event_after}
+use Rattle.pod_gc.specs.declared.error.GcError.{GcError}
+use Rattle.pod_gc.specs.declared.error.GcError.TheVariants as fault
+use Rattle.pod_gc.specs.declared.line.Deed.{Deed}
+use Rattle.pod_gc.specs.declared.line.Deed.TheVariants.{Moved, Deleted, Kept, Busy, Left}
+use Rattle.pod_gc.specs.Requests.{deals_with, lists_marks, goes_to, moves_pods}
+use Rattle.pod_gc.specs.Causes.{deed_of, look_fault, GcCause}
+use Rattle.pod_gc.specs.declared.ages.Times.{Times}
+use Rattle.pod_gc.specs.Marks.{Showed, is_young}
+use Rattle.pod_gc.specs.Deeds.{IsGoneFrom, SaysThere, DoesNothing, DeedCause, BusyBecause, RestsBy, RestedSo}
+
+-- the calls are of their kind
+
+pub removes_deal : (pod : PodId) (now : ℕ) (place : Area) (r : Request) → removes pod now r ≡ true → deals_with pod now place r ≡ true
+removes_deal pod now place r is = or_last (lists_marks pod place r) _ (or_last _ (removes pod now r) is)
+
+pub looks_deal : (pod : PodId) (now : ℕ) (place : Area) → rank place ≤ 5 → (r : Request) → looks_at pod place r ≡ true → deals_with pod now place r ≡ true
+looks_deal pod now place stage r is = removes_deal pod now place r (looks_remove pod now place stage r is)
+
+-- why a step was set back, told of the place of the pass
+pub record SetBackAt (observed : Bool) (pod : PodId) (place : Area) (e : Setback) (old new : DirAt) : Type 0 where
+  pub fault : e ≡ stop.DirFault → Rose old.faults new.faults
+  pub gone : e ≡ stop.Missing → observed ≡ true → HeldBetween old new (IsGoneFrom pod place)
+  pub lacking : e ≡ stop.NoManifest → observed ≡ true → HeldBetween old new (IsGoneFrom pod place)
+  pub stray : e ≡ stop.Stray → observed ≡ true → WasStray old.process old.trace new.trace
+
+pub set_stopped : {observed : Bool} {e : Setback} {old new : DirAt} (pod : PodId) (place : Area) → ((s : DirState) → IsAbsentAt pod place s → IsGoneFrom pod place s) → Stopped observed pod (IsAbsentAt pod place) e old new → SetBackAt observed pod place e old new
+set_stopped pod place only x = record { fault = x.fault; gone = λ is t. at_weaker (IsGoneFrom pod place) only (x.missing is t); lacking = λ is t. absurd (x.manifest is); stray = x.stray }
+
+pub gone_garbage : (pod : PodId) (a : Area) → is_garbage_place a ≡ true → (s : DirState) → IsAbsentAt pod a s → IsGoneFrom pod a s
+gone_garbage pod area.ExitedGarbage place s h = h
+gone_garbage pod area.Garbage place s h = h
+gone_garbage pod _ place s h = cc
+
+-- the deeds
+
+pub cause_left : {pod : PodId} {place : Area} {me : ℕ} {old new : List Event} → AtOwnStep me old new (IsGoneFrom pod place) → DeedCause pod place Left me old new
+cause_left at = record { moved = λ to is. cc; deleted = λ is. cc; kept = λ p is. cc; left = λ is. at }
+
+pub cause_busy : {pod : PodId} {place : Area} {me : ℕ} {old new : List Event} (which : Which) → DeedCause pod place (Busy which) me old new
+cause_busy which = record { moved = λ to is. cc; deleted = λ is. cc; kept = λ p is. cc; left = λ is. cc }
+
+pub cause_moved : {me : ℕ} {old new : List Event} (pod : PodId) (place to : Area) → moves_pods place ≡ true → to ≡ goes_to place → Did (MoveFolder (pod_spot pod place) (pod_spot pod to)) Done me old new → DeedCause pod place (Moved to) me old new
+cause_moved {me} {old} {new} pod place to moves goes did = record {
+  moved = λ other is. let same : to ≡ other = cc in (moves, sym same ∙ goes, subst (λ (a : Area). Did (MoveFolder (pod_spot pod place) (pod_spot pod a)) Done me old new) same did);
+  deleted = λ is. cc;
+  kept = λ p is. cc;
+  left = λ is. cc;
+}
+
+pub cause_deleted : {pod : PodId} {place : Area} {me : ℕ} {old new : List Event} → is_garbage_place place ≡ true → Did (RemoveFolder (pod_spot pod place)) Done me old new → DeedCause pod place Deleted me old new
+cause_deleted garbage did = record { moved = λ to is. cc; deleted = λ is. (garbage, did); kept = λ p is. cc; left = λ is. cc }
+
+pub cause_kept : {me : ℕ} {old new : List Event} (pod : PodId) (place : Area) (p : Phase) → (IsConforming new → AtOwnEvent me old new (IsInPhase pod p place)) → DeedCause pod place (Kept p) me old new
+cause_kept {me} {old} {new} pod place p so = record {
+  moved = λ to is. cc;
+  deleted = λ is. cc;
+  kept = λ q is conforming. let same : p ≡ q = cc in subst (λ (x : Phase). AtOwnEvent me old new (IsInPhase pod x place)) same (so conforming);
+  left = λ is. cc;
+}
+
+module _ (observed : Bool) (pod : PodId) (place : Area) (done : Deed) (old new : DirAt) where
+  pub step_deed : (r : Result (Unit {0}) Setback) → IfOk r (λ d. observed ≡ true → DeedCause pod place done old.process old.trace new.trace) → IfErr r (λ e. SetBackAt observed pod place e old new)
+      → IfOk (deed_of r done) (λ deed. observed ≡ true → DeedCause pod place deed old.process old.trace new.trace)
+  step_deed (Ok d) ok err = ok
+  step_deed (Err stop.Missing) ok err = λ t. cause_left (err.gone refl t)
+  step_deed (Err stop.NoManifest) ok err = λ t. cause_left (err.lacking refl t)
+  step_deed (Err (stop.Busy which)) ok err = λ t. cause_busy which
+  step_deed (Err _) ok err = tt
+
+  pub step_cause : (r : Result (Unit {0}) Setback) → IfErr r (λ e. SetBackAt observed pod place e old new) → IfErr (deed_of r done) (λ e. GcCause observed e old new)
+  step_cause (Ok d) err = tt
+  step_cause (Err stop.Missing) err = tt
+  step_cause (Err stop.NoManifest) err = tt
+  step_cause (Err (stop.Busy which)) err = tt
+  step_cause (Err stop.DirFault) err = record { fault = λ is. err.fault refl; stray = λ is. cc }
+  step_cause (Err stop.Stray) err = record { fault = λ is. cc; stray = λ is t. err.stray refl t }
+  step_cause (Err stop.NoMemory) err = record { fault = λ is. cc; stray = λ is. cc }
+
+  module _ (May : Seen → Type 0) (calm : (which : Which) → done ≡ Busy which → ⊥) where
+    pub step_another : (r : Result (Unit {0}) Setback) → IfErr r (λ e. observed ≡ true → Stays May old (λ s. BusyAny pod e old new)) → IfOk (deed_of r done) (λ deed. observed ≡ true → Stays May old (λ s. BusyBecause pod deed old new))
+    step_another (Ok d) busy = λ t s k m which is. absurd (calm which is)
+    step_another (Err stop.Missing) busy = λ t s k m which is. cc
+    step_another (Err stop.NoManifest) busy = λ t s k m which is. cc
+    step_another (Err (stop.Busy w)) busy = λ t s k m which is. let named : stop.Busy w ≡ stop.Busy which = cc in busy t s k m which named
+    step_another (Err stop.DirFault) busy = tt
+    step_another (Err stop.Stray) busy = tt
+    step_another (Err stop.NoMemory) busy = tt
+
+-- a pod that is let be by what its own lock told
+
+pub kept_phase : {me other : ℕ} {old mid new : List Event} (pod : PodId) (place : Area) (p : Phase) (owned : Bool) → rank place ≤ 5 → phase_in place owned ≡ Some p → LockTold me old mid (pod_spot pod place) owned → other ≡ me
+    → AtOwnStep other mid new (λ s. stands s.namespace (pod_spot pod place) ≡ true) → IsConforming new → AtOwnEvent me old new (IsInPhase pod p place)
+kept_phase {me} {other} {old} {mid} {new} pod place p owned stage is told same there conforming =
+    found_exactly pod p place stage conforming
+    (at_weaker (HasPhase (pod_spot pod place) p) (λ s h. record { owned = owned; here = h; is = is })
+    (settle stage told (subst (λ (n : ℕ). AtOwnStep n mid new (λ s. stands s.namespace (pod_spot pod place) ≡ true)) same there) (stays_between new conforming)))
+
+module _ (observed : Bool) (pod : PodId) (place : Area) (p : Phase) (owned : Bool) (stage : rank place ≤ 5) (is : phase_in place owned ≡ Some p) (only : (s : DirState) → IsAbsentAt pod place s → IsGoneFrom pod place s)
+    (old mid new : DirAt) (ab : Follows observed old mid) (told : observed ≡ true → LockToldBetween old mid (pod_spot pod place) owned) where
+  pub said_deed : (r : Result Deed GcError) → IfOk r (λ deed. SaysThere observed pod place p deed mid new) → IfOk r (λ deed. observed ≡ true → DeedCause pod place deed old.process old.trace new.trace)
+  said_deed (Err e) x = tt
+  said_deed (Ok deed) x = λ t. by deed x.is x t
+    where
+      by : (d : Deed) → (d ≡ Kept p) ⊎ (d ≡ Left) → SaysThere observed pod place p d mid new → observed ≡ true → DeedCause pod place d old.process old.trace new.trace
+      by d (inl kept) y t = subst (λ (z : Deed). DeedCause pod place z old.process old.trace new.trace) (sym kept) (cause_kept pod place p (λ conforming. kept_phase pod place p owned stage is (told t) ab.same (y.there kept t) conforming))
+      by d (inr left) y t = subst (λ (z : Deed). DeedCause pod place z old.process old.trace new.trace) (sym left) (cause_left (at_part (ab.grown t) ab.same grown_none (at_weaker (IsGoneFrom pod place) only (y.gone left t))))
+
+never_busy : (d : Deed) (p : Phase) → (d ≡ Kept p) ⊎ (d ≡ Left) → (which : Which) → d ≡ Busy which → ⊥
+never_busy d p (inl kept) which is = let e : Kept p ≡ Busy which = sym kept ∙ is in cc
+never_busy d p (inr left) which is = let e : Left ≡ Busy which = sym left ∙ is in cc
+
+pub said_calm : (observed : Bool) (May : Seen → Type 0) (pod : PodId) (place : Area) (p : Phase) (a old mid new : DirAt) (r : Result Deed GcError) → IfOk r (λ deed. SaysThere observed pod place p deed mid new)
+    → IfOk r (λ deed. observed ≡ true → Stays May a (λ s. BusyBecause pod deed old new))
+said_calm observed May pod place p a old mid new (Err e) x = tt
+said_calm observed May pod place p a old mid new (Ok deed) x = λ t s k m which is. absurd (never_busy deed p x.is which is)
+
+pub cause_after : {observed : Bool} {e : GcError} {a b c : DirAt} → Follows observed a b → GcCause observed e b c → GcCause observed e a c
+cause_after {observed} {e} {a} {b} {c} ab x = record { fault = λ is. rose_later a.faults b.faults c.faults ab.faults (x.fault is); stray = λ is t. stray_part (ab.grown t) ab.same grown_none (x.stray is t) }
+
+-- a look after a step
+
+pub ready_looked : {now : ℕ} {a b c : DirAt} → Stays (MayRemove now) a (λ s. KeepsReady s b) → OnlyLooks b c → Stays (MayRemove now) a (λ s. KeepsReady s c)
+ready_looked ready looks s k m =
+    let x = ready s k m in
+    let y = looks x.known x.knows in
+    let z = looked_keeps (may_kept x.keeps m) y.looked in
+    record { known = y.known; keeps = record { intent = z.intent ∙ x.keeps.intent; holdings = z.holdings ∙ x.keeps.holdings; kept = z.kept ∙ x.keeps.kept; bare = z.bare }; knows = y.knows }
+
+-- a look alone
+
+pub says_there : {observed : Bool} {spot : Spot} (pod : PodId) (place : Area) (p : Phase) (old new : DirAt) → spot ≡ pod_spot pod place → (observed ≡ true → HeldBetween old new (λ s. stands s.namespace spot ≡ true)) → SaysThere observed pod place p (Kept p) old new
+says_there pod place p old new is there = record { is = inl refl; there = λ e t. subst (λ (x : Spot). HeldBetween old new (λ s. stands s.namespace x ≡ true)) is (there t); gone = λ e. cc }
+
+pub says_gone : {observed : Bool} {spot : Spot} (pod : PodId) (place : Area) (p : Phase) (old new : DirAt) → spot ≡ pod_spot pod place → (observed ≡ true → HeldBetween old new (λ s. stands s.namespace spot ≡ false)) → SaysThere observed pod place p Left old new
+says_gone pod place p old new is absent = record { is = inr refl; there = λ e. cc; gone = λ e t. subst (λ (x : Spot). HeldBetween old new (λ s. stands s.namespace x ≡ false)) is (absent t) }
+
+pub look_cause : {observed : Bool} {old new : DirAt} (e : LookError) → (e ≡ look.DirFault → Rose old.faults new.faults) → GcCause observed (look_fault e) old new
+look_cause look.DirFault rose = record { fault = λ is. rose refl; stray = λ is. cc }
+look_cause look.NoMemory rose = record { fault = λ is. cc; stray = λ is. cc }
+
+-- a pod whose time isn't over
+
+pub step_rests : (done : Deed) (e : Setback) → IfOk (deed_of (Err e) done) (λ deed. DoesNothing deed)
+step_rests done stop.Missing = tt
+step_rests done stop.NoManifest = tt
+step_rests done (stop.Busy which) = tt
+step_rests done _ = tt
+
+pub said_rests : (p : Phase) (deed : Deed) → (deed ≡ Kept p) ⊎ (deed ≡ Left) → DoesNothing deed
+said_rests p deed (inl kept) = subst (λ (d : Deed). DoesNothing d) (sym kept) tt
+said_rests p deed (inr left) = subst (λ (d : Deed). DoesNothing d) (sym left) tt
+
+pub looks_resting : {now : ℕ} {s : Seen} (pod : PodId) → MayRemove now s → MayLook pod area.ExitedGarbage s
+looks_resting {now} {s} pod m = record { alone = off Own (pod_spot pod area.ExitedGarbage) s.standing.holdings m.apart; single = none_kind Own s.standing.holdings m.apart; may = refl }
+
+pub ready_probed : {now : ℕ} {a b : DirAt} (pod : PodId) → Stays (MayLook pod area.ExitedGarbage) a (λ s. LooksFree pod area.ExitedGarbage s b) → Stays (MayRemove now) a (λ s. KeepsReady s b)
+ready_probed pod free s k m = record { known = with_look pod area.ExitedGarbage s; keeps = record { intent = refl; holdings = refl; kept = refl; bare = m.bare }; knows = free s k (looks_resting pod m) }
+
+pub ready_unprobed : {now : ℕ} {a b : DirAt} (pod : PodId) → Stays (MayLook pod area.ExitedGarbage) a (λ s. Knows b s) → Stays (MayRemove now) a (λ s. KeepsReady s b)
+ready_unprobed pod left s k m = same_ready m (left s k (looks_resting pod m))
+
+-- a step that no lock stops
+pub step_calm : (done : Deed) → ((which : Which) → done ≡ Busy which → ⊥) → (r : Result (Unit {0}) Setback) → IfErr r (λ e. (which : Which) → e ≡ stop.Busy which → ⊥) → IfOk (deed_of r done) (λ deed. (which : Which) → deed ≡ Busy which → ⊥)
+step_calm done calm (Ok d) never = calm
+step_calm done calm (Err stop.Missing) never = λ which is. cc
+step_calm done calm (Err stop.NoManifest) never = λ which is. cc
+step_calm done calm (Err (stop.Busy w)) never = absurd (never w refl)
+step_calm done calm (Err stop.DirFault) never = tt
+step_calm done calm (Err stop.Stray) never = tt
+step_calm done calm (Err stop.NoMemory) never = tt
+
+-- a step never lets a pod be for its phase
+pub step_ends : (done : Deed) → ((p : Phase) → done ≡ Kept p → ⊥) → (r : Result (Unit {0}) Setback) → IfOk (deed_of r done) (λ deed. (p : Phase) → deed ≡ Kept p → ⊥)
+step_ends done calm (Ok d) = calm
+step_ends done calm (Err stop.Missing) = λ p is. cc
+step_ends done calm (Err stop.NoManifest) = λ p is. cc
+step_ends done calm (Err (stop.Busy w)) = λ p is. cc
+step_ends done calm (Err stop.DirFault) = tt
+step_ends done calm (Err stop.Stray) = tt
+step_ends done calm (Err stop.NoMemory) = tt
+
+pub said_unbusy : (p : Phase) (d : Deed) → (d ≡ Kept p) ⊎ (d ≡ Left) → (which : Which) → d ≡ Busy which → ⊥
+said_unbusy p d is which busy = never_busy d p is which busy
+
+-- by its age
+
+pub rests_young : {young : Bool} (deed : Deed) → young ≡ true → DoesNothing deed → RestsBy young deed
+rests_young (Kept p) is nothing = record { rests = λ q e. is; over = λ e. cc }
+rests_young (Busy which) is nothing = record { rests = λ q e. is; over = λ e. cc }
+rests_young Left is nothing = record { rests = λ q e. is; over = λ e. cc }
+rests_young _ is nothing = absurd nothing
+
+pub rests_over : {young : Bool} (deed : Deed) → young ≡ false → ((p : Phase) → deed ≡ Kept p → ⊥) → RestsBy young deed
+rests_over deed is ends = record { rests = λ p e. absurd (ends p e); over = λ e. is }
+
+-- after the marks were listed
+
+pub showed_longer : {pod : PodId} {place : Area} {text : List ℕ} {m : Option ℕ} {me : ℕ} {a b c : List Event} → Showed pod place text m me a b → Grew b c → Showed pod place text m me a c
+showed_longer x more = record { items = x.items; before = x.before; after = x.after; first = x.first; shows = x.shows; last = grown_more x.last more; greatest = x.greatest }
+
+pub rested_so : {observed : Bool} {b c : DirAt} (times : Times) (pod : PodId) (a : DirAt) (m : Option ℕ) (deed : Deed) → observed ≡ true → Follows observed b c → Showed pod area.ExitedGarbage (codes "marked-") m a.process a.trace b.trace → RestsBy (is_young times.now times.grace m) deed
+    → RestedSo times pod deed a.process a.trace c.trace
+rested_so times pod a m deed t bc shows by = record { rests = λ p is. (m, showed_longer shows (bc.grown t), by.rests p is); over = λ is. (m, showed_longer shows (bc.grown t), by.over is) }
+
+deed_after : {pod : PodId} {place : Area} {deed : Deed} {me other : ℕ} {a b c : List Event} → Grew a b → other ≡ me → DeedCause pod place deed other b c → DeedCause pod place deed me a c
+deed_after ab same x = record {
+  moved = λ to is. let y = x.moved to is in (y.0, y.1, deeds_part ab same grown_none y.2);
+  deleted = λ is. let y = x.deleted is in (y.0, deeds_part ab same grown_none y.1);
+  kept = λ p is conforming. event_after ab same (x.kept p is conforming);
+  left = λ is. at_part ab same grown_none (x.left is);
+}
+
+pub deed_later : {observed : Bool} {pod : PodId} {place : Area} {deed : Deed} {a b : DirAt} (c : DirAt) → observed ≡ true → Follows observed a b → DeedCause pod place deed b.process b.trace c.trace → DeedCause pod place deed a.process a.trace c.trace
+deed_later c t ab x = deed_after (ab.grown t) ab.same x
+
+pub busy_later : {observed : Bool} {now : ℕ} {pod : PodId} {deed : Deed} {a b : DirAt} (c : DirAt) → observed ≡ true → Follows observed a b → Stays (MayRemove now) a (λ s. KeepsReady s b) → Stays (MayRemove now) b (λ s. BusyBecause pod deed b c) → Stays (MayRemove now) a (λ s. BusyBecause pod deed a c)
+busy_later c t ab ready busy s k m which is = let x = ready s k m in busy_within (ab.grown t) ab.same grown_none (busy x.known x.knows (may_kept x.keeps m) which is)
+
+pub ready_later : {now : ℕ} {a b c : DirAt} → Stays (MayRemove now) a (λ s. KeepsReady s b) → Stays (MayRemove now) b (λ s. KeepsReady s c) → Stays (MayRemove now) a (λ s. KeepsReady s c)
+ready_later ab bc s k m =
+    let x = ab s k m in
+    let y = bc x.known x.knows (may_kept x.keeps m) in
+    record { known = y.known; keeps = record { intent = y.keeps.intent ∙ x.keeps.intent; holdings = y.keeps.holdings ∙ x.keeps.holdings; kept = y.keeps.kept ∙ x.keeps.kept; bare = y.keeps.bare }; knows = y.knows }
+
+-- or nothing was there
+pub gone_deed : {observed : Bool} {pod : PodId} (old new : DirAt) (place : Area) → ((s : DirState) → IsAbsentAt pod place s → IsGoneFrom pod place s) → (observed ≡ true → HeldBetween old new (IsAbsentAt pod place)) → observed ≡ true → DeedCause pod place Left old.process old.trace new.trace
+gone_deed {observed} {pod} old new place only absent t = cause_left (at_weaker (IsGoneFrom pod place) only (absent t))
+
+pub lists_deal : (pod : PodId) (now : ℕ) (place : Area) (r : Request) → lists_marks pod place r ≡ true → deals_with pod now place r ≡ true
+lists_deal pod now place r is = ap (λ b. b || (moves pod area.Embryo area.Garbage r || removes pod now r)) is

@@ -1,0 +1,160 @@
+use Rattle.std.proofs.Common.{◌≡◌, rules, true, false, Option, refl, sym, ap, subst, ◌∙◌}
+use Rattle.dir_model.specs.declared.area.Area.{Area}
+use Rattle.dir_model.specs.declared.area.Area.TheVariants as area
+use Rattle.dir_model.specs.declared.spot.Which.{Which}
+use Rattle.dir_model.specs.Areas.{is_stage}
+use Rattle.folder_building.specs.Work.{Worked}
+use Rattle.folder_building.proofs.Copying.{ok_more}
+use Rattle.folder_building.proofs.Working.{worked_wider}
+use Rattle.pod_steps.specs.Holding.{Stays}
+use Rattle.pod_removal.specs.Holding.{MayRemove}
+use Rattle.pod_gc.specs.declared.line.Deed.TheVariants.{Busy}
+use Rattle.pod_gc.specs.Requests.{deals_with}
+use Rattle.pod_gc.specs.Deeds.{DeedCause, BusyBecause, WaitedSo, RestedSo, Dealt}
+use Rattle.pod_gc.specs.Sweeping.{MaySweep, MayPass}
+use Rattle.pod_gc.proofs.Dealing.{embryo_deal, dealt_at, both_ok, may_embryo}
+use Rattle.pod_gc.proofs.deals.deal.Goals as goal
+
+pub returns-in-Embryo-clause-worked : goal.returns-in-Embryo-clause-worked
+returns-in-Embryo-clause-worked g c =
+    let D = g.D.Dir in
+    subst (λ (a : Area). Worked D.observed (deals_with c.args.pod c.args.times.now a) (D.shown c.args.dir.now) (D.shown c.deal_embryo.new.dir)) (sym c.in-Embryo.is) (worked_wider (embryo_deal c.args.pod c.args.times.now area.Embryo) c.deal_embryo.ensures.worked)
+
+pub returns-in-Embryo-clause-dealt : goal.returns-in-Embryo-clause-dealt
+returns-in-Embryo-clause-dealt g c =
+    let D = g.D.Dir in
+    let old = D.shown c.args.dir.now in
+    let new = D.shown c.deal_embryo.new.dir in
+    ok_more (λ deed. D.observed ≡ true → DeedCause c.args.pod area.Embryo deed old.process old.trace new.trace) (λ deed. D.observed ≡ true → Dealt c.args.times c.args.pod c.args.area deed old.process old.trace new.trace) c.deal_embryo.result
+    (λ deed x t. dealt_at c.args.times c.args.pod area.Embryo c.args.area (sym c.in-Embryo.is) deed (x t) (λ is. let e : area.Embryo ≡ area.Prepared = is in cc) (λ is. let e : area.Embryo ≡ area.ExitedGarbage = is in cc)) c.deal_embryo.ensures.deed
+
+pub returns-in-Embryo-clause-another : goal.returns-in-Embryo-clause-another
+returns-in-Embryo-clause-another g c =
+    let D = g.D.Dir in
+    let old = D.shown c.args.dir.now in
+    let new = D.shown c.deal_embryo.new.dir in
+    ok_more (λ deed. (which : Which) → deed ≡ Busy which → ⊥) (λ deed. D.observed ≡ true → Stays (MayPass c.args.area c.args.times.now c.args.times.expire) old (λ s. BusyBecause c.args.pod deed old new)) c.deal_embryo.result
+    (λ deed calm t s k m which is. absurd (calm which is)) c.deal_embryo.ensures.calm
+
+pub returns-in-Embryo-clause-ready : goal.returns-in-Embryo-clause-ready
+returns-in-Embryo-clause-ready g c t s k m = c.deal_embryo.ensures.ready t c.args.times.now s k (may_embryo c.in-Embryo.is m)
+
+pub returns-in-Prepare-clause-worked : goal.returns-in-Prepare-clause-worked
+returns-in-Prepare-clause-worked g c =
+    let D = g.D.Dir in
+    subst (λ (a : Area). Worked D.observed (deals_with c.args.pod c.args.times.now a) (D.shown c.args.dir.now) (D.shown c.deal_prepare.new.dir)) (sym c.in-Prepare.is) c.deal_prepare.ensures.worked
+
+pub returns-in-Prepare-clause-dealt : goal.returns-in-Prepare-clause-dealt
+returns-in-Prepare-clause-dealt g c =
+    let D = g.D.Dir in
+    let old = D.shown c.args.dir.now in
+    let new = D.shown c.deal_prepare.new.dir in
+    ok_more (λ deed. D.observed ≡ true → DeedCause c.args.pod area.Prepare deed old.process old.trace new.trace) (λ deed. D.observed ≡ true → Dealt c.args.times c.args.pod c.args.area deed old.process old.trace new.trace) c.deal_prepare.result
+    (λ deed x t. dealt_at c.args.times c.args.pod area.Prepare c.args.area (sym c.in-Prepare.is) deed (x t) (λ is. let e : area.Prepare ≡ area.Prepared = is in cc) (λ is. let e : area.Prepare ≡ area.ExitedGarbage = is in cc)) c.deal_prepare.ensures.deed
+
+pub returns-in-Prepare-clause-another : goal.returns-in-Prepare-clause-another
+returns-in-Prepare-clause-another g c =
+    let D = g.D.Dir in
+    let old = D.shown c.args.dir.now in
+    let new = D.shown c.deal_prepare.new.dir in
+    ok_more (λ deed. D.observed ≡ true → Stays (MayRemove c.args.times.now) old (λ s. BusyBecause c.args.pod deed old new)) (λ deed. D.observed ≡ true → Stays (MayPass c.args.area c.args.times.now c.args.times.expire) old (λ s. BusyBecause c.args.pod deed old new)) c.deal_prepare.result
+    (λ deed x t s k m. x t s k m.sweeps.may) c.deal_prepare.ensures.another
+
+pub returns-in-Prepare-clause-ready : goal.returns-in-Prepare-clause-ready
+returns-in-Prepare-clause-ready g c t s k m = c.deal_prepare.ensures.ready t s k m.sweeps.may
+
+pub returns-in-Prepared-clause-worked : goal.returns-in-Prepared-clause-worked
+returns-in-Prepared-clause-worked g c =
+    let D = g.D.Dir in
+    subst (λ (a : Area). Worked D.observed (deals_with c.args.pod c.args.times.now a) (D.shown c.args.dir.now) (D.shown c.deal_prepared.new.dir)) (sym c.in-Prepared.is) c.deal_prepared.ensures.worked
+
+pub returns-in-Prepared-clause-dealt : goal.returns-in-Prepared-clause-dealt
+returns-in-Prepared-clause-dealt g c =
+    let D = g.D.Dir in
+    let old = D.shown c.args.dir.now in
+    let new = D.shown c.deal_prepared.new.dir in
+    both_ok (λ deed. D.observed ≡ true → DeedCause c.args.pod area.Prepared deed old.process old.trace new.trace) (λ deed. D.observed ≡ true → WaitedSo c.args.times c.args.pod deed old.process old.trace new.trace) (λ deed. D.observed ≡ true → Dealt c.args.times c.args.pod c.args.area deed old.process old.trace new.trace) c.deal_prepared.result
+    (λ deed x y t. let w = y t in dealt_at c.args.times c.args.pod area.Prepared c.args.area (sym c.in-Prepared.is) deed (x t) (λ is. w) (λ is. let e : area.Prepared ≡ area.ExitedGarbage = is in cc)) c.deal_prepared.ensures.deed c.deal_prepared.ensures.aged
+
+pub returns-in-Prepared-clause-another : goal.returns-in-Prepared-clause-another
+returns-in-Prepared-clause-another g c =
+    let D = g.D.Dir in
+    let old = D.shown c.args.dir.now in
+    let new = D.shown c.deal_prepared.new.dir in
+    ok_more (λ deed. D.observed ≡ true → Stays (MaySweep c.args.times.now c.args.times.expire) old (λ s. BusyBecause c.args.pod deed old new)) (λ deed. D.observed ≡ true → Stays (MayPass c.args.area c.args.times.now c.args.times.expire) old (λ s. BusyBecause c.args.pod deed old new)) c.deal_prepared.result
+    (λ deed x t s k m. x t s k m.sweeps) c.deal_prepared.ensures.another
+
+pub returns-in-Prepared-clause-ready : goal.returns-in-Prepared-clause-ready
+returns-in-Prepared-clause-ready g c t s k m = c.deal_prepared.ensures.ready t s k m.sweeps
+
+pub returns-in-Run-clause-worked : goal.returns-in-Run-clause-worked
+returns-in-Run-clause-worked g c =
+    let D = g.D.Dir in
+    subst (λ (a : Area). Worked D.observed (deals_with c.args.pod c.args.times.now a) (D.shown c.args.dir.now) (D.shown c.deal_run.new.dir)) (sym c.in-Run.is) c.deal_run.ensures.worked
+
+pub returns-in-Run-clause-dealt : goal.returns-in-Run-clause-dealt
+returns-in-Run-clause-dealt g c =
+    let D = g.D.Dir in
+    let old = D.shown c.args.dir.now in
+    let new = D.shown c.deal_run.new.dir in
+    ok_more (λ deed. D.observed ≡ true → DeedCause c.args.pod area.Run deed old.process old.trace new.trace) (λ deed. D.observed ≡ true → Dealt c.args.times c.args.pod c.args.area deed old.process old.trace new.trace) c.deal_run.result
+    (λ deed x t. dealt_at c.args.times c.args.pod area.Run c.args.area (sym c.in-Run.is) deed (x t) (λ is. let e : area.Run ≡ area.Prepared = is in cc) (λ is. let e : area.Run ≡ area.ExitedGarbage = is in cc)) c.deal_run.ensures.deed
+
+pub returns-in-Run-clause-another : goal.returns-in-Run-clause-another
+returns-in-Run-clause-another g c =
+    let D = g.D.Dir in
+    let old = D.shown c.args.dir.now in
+    let new = D.shown c.deal_run.new.dir in
+    ok_more (λ deed. D.observed ≡ true → Stays (MayRemove c.args.times.now) old (λ s. BusyBecause c.args.pod deed old new)) (λ deed. D.observed ≡ true → Stays (MayPass c.args.area c.args.times.now c.args.times.expire) old (λ s. BusyBecause c.args.pod deed old new)) c.deal_run.result
+    (λ deed x t s k m. x t s k m.sweeps.may) c.deal_run.ensures.another
+
+pub returns-in-Run-clause-ready : goal.returns-in-Run-clause-ready
+returns-in-Run-clause-ready g c t s k m = c.deal_run.ensures.ready t s k m.sweeps.may
+
+pub returns-in-ExitedGarbage-clause-worked : goal.returns-in-ExitedGarbage-clause-worked
+returns-in-ExitedGarbage-clause-worked g c =
+    let D = g.D.Dir in
+    subst (λ (a : Area). Worked D.observed (deals_with c.args.pod c.args.times.now a) (D.shown c.args.dir.now) (D.shown c.deal_exited_garbage.new.dir)) (sym c.in-ExitedGarbage.is) c.deal_exited_garbage.ensures.worked
+
+pub returns-in-ExitedGarbage-clause-dealt : goal.returns-in-ExitedGarbage-clause-dealt
+returns-in-ExitedGarbage-clause-dealt g c =
+    let D = g.D.Dir in
+    let old = D.shown c.args.dir.now in
+    let new = D.shown c.deal_exited_garbage.new.dir in
+    both_ok (λ deed. D.observed ≡ true → DeedCause c.args.pod area.ExitedGarbage deed old.process old.trace new.trace) (λ deed. D.observed ≡ true → RestedSo c.args.times c.args.pod deed old.process old.trace new.trace) (λ deed. D.observed ≡ true → Dealt c.args.times c.args.pod c.args.area deed old.process old.trace new.trace) c.deal_exited_garbage.result
+    (λ deed x y t. let w = y t in dealt_at c.args.times c.args.pod area.ExitedGarbage c.args.area (sym c.in-ExitedGarbage.is) deed (x t) (λ is. let e : area.ExitedGarbage ≡ area.Prepared = is in cc) (λ is. w)) c.deal_exited_garbage.ensures.deed c.deal_exited_garbage.ensures.aged
+
+pub returns-in-ExitedGarbage-clause-another : goal.returns-in-ExitedGarbage-clause-another
+returns-in-ExitedGarbage-clause-another g c =
+    let D = g.D.Dir in
+    let old = D.shown c.args.dir.now in
+    let new = D.shown c.deal_exited_garbage.new.dir in
+    ok_more (λ deed. D.observed ≡ true → Stays (MayRemove c.args.times.now) old (λ s. BusyBecause c.args.pod deed old new)) (λ deed. D.observed ≡ true → Stays (MayPass c.args.area c.args.times.now c.args.times.expire) old (λ s. BusyBecause c.args.pod deed old new)) c.deal_exited_garbage.result
+    (λ deed x t s k m. x t s k m.sweeps.may) c.deal_exited_garbage.ensures.another
+
+pub returns-in-ExitedGarbage-clause-ready : goal.returns-in-ExitedGarbage-clause-ready
+returns-in-ExitedGarbage-clause-ready g c t s k m = c.deal_exited_garbage.ensures.ready t s k m.sweeps.may
+
+pub returns-in-Garbage-clause-worked : goal.returns-in-Garbage-clause-worked
+returns-in-Garbage-clause-worked g c =
+    let D = g.D.Dir in
+    subst (λ (a : Area). Worked D.observed (deals_with c.args.pod c.args.times.now a) (D.shown c.args.dir.now) (D.shown c.deal_garbage.new.dir)) (sym c.in-Garbage.is) c.deal_garbage.ensures.worked
+
+pub returns-in-Garbage-clause-dealt : goal.returns-in-Garbage-clause-dealt
+returns-in-Garbage-clause-dealt g c =
+    let D = g.D.Dir in
+    let old = D.shown c.args.dir.now in
+    let new = D.shown c.deal_garbage.new.dir in
+    ok_more (λ deed. D.observed ≡ true → DeedCause c.args.pod area.Garbage deed old.process old.trace new.trace) (λ deed. D.observed ≡ true → Dealt c.args.times c.args.pod c.args.area deed old.process old.trace new.trace) c.deal_garbage.result
+    (λ deed x t. dealt_at c.args.times c.args.pod area.Garbage c.args.area (sym c.in-Garbage.is) deed (x t) (λ is. let e : area.Garbage ≡ area.Prepared = is in cc) (λ is. let e : area.Garbage ≡ area.ExitedGarbage = is in cc)) c.deal_garbage.ensures.deed
+
+pub returns-in-Garbage-clause-another : goal.returns-in-Garbage-clause-another
+returns-in-Garbage-clause-another g c =
+    let D = g.D.Dir in
+    let old = D.shown c.args.dir.now in
+    let new = D.shown c.deal_garbage.new.dir in
+    ok_more (λ deed. D.observed ≡ true → Stays (MayRemove c.args.times.now) old (λ s. BusyBecause c.args.pod deed old new)) (λ deed. D.observed ≡ true → Stays (MayPass c.args.area c.args.times.now c.args.times.expire) old (λ s. BusyBecause c.args.pod deed old new)) c.deal_garbage.result
+    (λ deed x t s k m. x t s k m.sweeps.may) c.deal_garbage.ensures.another
+
+pub returns-in-Garbage-clause-ready : goal.returns-in-Garbage-clause-ready
+returns-in-Garbage-clause-ready g c t s k m = c.deal_garbage.ensures.ready t s k m.sweeps.may

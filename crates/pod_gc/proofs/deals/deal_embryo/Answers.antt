@@ -1,0 +1,47 @@
+use Rattle.std.proofs.Common.{◌≡◌, true, Result, IfOk, IfErr, refl, sym, ap, subst}
+use Rattle.dir_model.specs.declared.area.Area.TheVariants as area
+use Rattle.dir_model.specs.declared.spot.Which.{Which}
+use Rattle.dir_model.specs.declared.request.Request.TheVariants.{MoveFolder}
+use Rattle.dir_model.specs.declared.request.Reply.TheVariants.{Done}
+use Rattle.folder_building.proofs.Copying.{ok_more, err_more}
+use Rattle.phase_read.specs.Read.{pod_spot}
+use Rattle.pod_steps.specs.declared.setback.Setback.TheVariants as stop
+use Rattle.pod_steps.specs.Causes.{Stopped, IsAbsentAt, Did}
+use Rattle.pod_gc.specs.declared.error.GcError.{GcError}
+use Rattle.pod_gc.specs.declared.line.Deed.{Deed}
+use Rattle.pod_gc.specs.declared.line.Deed.TheVariants.{Moved, Busy}
+use Rattle.pod_gc.specs.Causes.{GcCause}
+use Rattle.pod_gc.specs.Deeds.{DeedCause}
+use Rattle.pod_gc.proofs.Steps.{SetBackAt, set_stopped, cause_moved, step_deed, step_cause, step_calm}
+use Rattle.pod_gc.proofs.Embryos.{ready_embryo}
+use Rattle.pod_gc.proofs.deals.deal_embryo.Goals as goal
+
+pub returns-clause-cause : goal.returns-clause-cause
+returns-clause-cause g c =
+    let D = g.D.Dir in
+    let old = D.shown c.args.dir.now in
+    let new = D.shown c.put_aside-answer.new.dir in
+    subst (λ (x : Result Deed GcError). IfErr x (λ e. GcCause D.observed e old new)) (sym c.deed_of.ensures)
+    (step_cause D.observed c.args.pod area.Embryo (Moved area.Garbage) old new c.put_aside-answer.result
+    (err_more (λ e. Stopped D.observed c.args.pod (IsAbsentAt c.args.pod area.Embryo) e old new) (λ e. SetBackAt D.observed c.args.pod area.Embryo e old new) c.put_aside-answer.result
+    (λ e x. set_stopped c.args.pod area.Embryo (λ s h. h) x) c.put_aside-answer.ensures.stopped))
+
+pub returns-clause-deed : goal.returns-clause-deed
+returns-clause-deed g c =
+    let D = g.D.Dir in
+    let old = D.shown c.args.dir.now in
+    let new = D.shown c.put_aside-answer.new.dir in
+    subst (λ (x : Result Deed GcError). IfOk x (λ deed. D.observed ≡ true → DeedCause c.args.pod area.Embryo deed old.process old.trace new.trace)) (sym c.deed_of.ensures)
+    (step_deed D.observed c.args.pod area.Embryo (Moved area.Garbage) old new c.put_aside-answer.result
+    (ok_more (λ done. D.observed ≡ true → Did (MoveFolder (pod_spot c.args.pod area.Embryo) (pod_spot c.args.pod area.Garbage)) Done old.process old.trace new.trace) (λ done. D.observed ≡ true → DeedCause c.args.pod area.Embryo (Moved area.Garbage) old.process old.trace new.trace) c.put_aside-answer.result
+    (λ done did t. cause_moved c.args.pod area.Embryo area.Garbage refl refl (did t)) c.put_aside-answer.ensures.done)
+    (err_more (λ e. Stopped D.observed c.args.pod (IsAbsentAt c.args.pod area.Embryo) e old new) (λ e. SetBackAt D.observed c.args.pod area.Embryo e old new) c.put_aside-answer.result
+    (λ e x. set_stopped c.args.pod area.Embryo (λ s h. h) x) c.put_aside-answer.ensures.stopped))
+
+pub returns-clause-calm : goal.returns-clause-calm
+returns-clause-calm g c =
+    subst (λ (x : Result Deed GcError). IfOk x (λ deed. (which : Which) → deed ≡ Busy which → ⊥)) (sym c.deed_of.ensures)
+    (step_calm (Moved area.Garbage) (λ which is. cc) c.put_aside-answer.result c.put_aside-answer.ensures.calm)
+
+pub returns-clause-ready : goal.returns-clause-ready
+returns-clause-ready g c t now = ready_embryo c.args.pod (c.put_aside-answer.ensures.ready t)

@@ -1,0 +1,82 @@
+use Rattle.std.proofs.Common.{◌≡◌, rules, ℕ, true, codes, Option, Some, None, Ok, IfSome, refl, sym, ap, subst, ◌∙◌}
+use Rattle.dir_model.specs.declared.area.Area.TheVariants as area
+use Rattle.folder_building.proofs.Copying.{ok_more, err_more}
+use Rattle.folder_building.proofs.Working.{worked_more, worked_wider}
+use Rattle.pod_steps.specs.Holding.{Stays}
+use Rattle.pod_steps.proofs.Calls.{follows_work}
+use Rattle.pod_removal.specs.Holding.{MayRemove}
+use Rattle.pod_removal.proofs.Stages.{err_same}
+use Rattle.pod_gc.specs.Causes.{GcCause}
+use Rattle.pod_gc.specs.Marks.{Showed, is_young}
+use Rattle.pod_gc.specs.Deeds.{DeedCause, BusyBecause, RestsBy, RestedSo}
+use Rattle.pod_gc.proofs.Steps.{lists_deal, cause_after, rested_so, deed_later, busy_later, ready_later, gone_deed}
+use Rattle.pod_gc.proofs.deals.deal_exited_garbage.Goals as goal
+
+pub returns-in_err-marked-clause-worked : goal.returns-in_err-marked-clause-worked
+returns-in_err-marked-clause-worked g c = worked_wider (lists_deal c.args.pod c.args.times.now area.ExitedGarbage) c.marked_at.ensures.worked
+
+pub returns-in_err-marked-clause-cause : goal.returns-in_err-marked-clause-cause
+returns-in_err-marked-clause-cause g c =
+    let D = g.D.Dir in
+    err_same (λ e. GcCause D.observed e (D.shown c.args.dir.now) (D.shown c.marked_at.new.dir)) c.marked_at.result c.from_residual.result
+    (λ e h. search (rules, h, c.from_residual.ensures, c.in_err-marked.is)) c.marked_at.ensures.cause
+
+pub returns-in_err-marked-clause-ready : goal.returns-in_err-marked-clause-ready
+returns-in_err-marked-clause-ready g c t = c.marked_at.ensures.ready t c.args.times.now
+
+pub returns-in-Some-clause-worked : goal.returns-in-Some-clause-worked
+returns-in-Some-clause-worked g c = worked_more (worked_wider (lists_deal c.args.pod c.args.times.now area.ExitedGarbage) c.marked_at.ensures.worked) c.deal_rested.ensures.worked
+
+pub returns-in-Some-clause-cause : goal.returns-in-Some-clause-cause
+returns-in-Some-clause-cause g c =
+    let D = g.D.Dir in
+    let old = D.shown c.args.dir.now in
+    let mid = D.shown c.marked_at.new.dir in
+    let new = D.shown c.deal_rested.new.dir in
+    err_more (λ e. GcCause D.observed e mid new) (λ e. GcCause D.observed e old new) c.deal_rested.result (λ e x. cause_after (follows_work c.marked_at.ensures.worked) x) c.deal_rested.ensures.cause
+
+pub returns-in-Some-clause-deed : goal.returns-in-Some-clause-deed
+returns-in-Some-clause-deed g c =
+    let D = g.D.Dir in
+    let old = D.shown c.args.dir.now in
+    let mid = D.shown c.marked_at.new.dir in
+    let new = D.shown c.deal_rested.new.dir in
+    ok_more (λ deed. D.observed ≡ true → DeedCause c.args.pod area.ExitedGarbage deed mid.process mid.trace new.trace) (λ deed. D.observed ≡ true → DeedCause c.args.pod area.ExitedGarbage deed old.process old.trace new.trace) c.deal_rested.result
+    (λ deed x t. deed_later new t (follows_work c.marked_at.ensures.worked) (x t)) c.deal_rested.ensures.deed
+
+pub returns-in-Some-clause-aged : goal.returns-in-Some-clause-aged
+returns-in-Some-clause-aged g c =
+    let D = g.D.Dir in
+    let old = D.shown c.args.dir.now in
+    let mid = D.shown c.marked_at.new.dir in
+    let new = D.shown c.deal_rested.new.dir in
+    let shows = subst (λ (o : Option (Option ℕ)). IfSome o (λ moment. D.observed ≡ true → Showed c.args.pod area.ExitedGarbage (codes "marked-") moment old.process old.trace mid.trace)) c.in-Some.is c.in_ok-marked.ensures.shown in
+    ok_more (λ deed. RestsBy (is_young c.args.times.now c.args.times.grace c.in-Some.marked) deed) (λ deed. D.observed ≡ true → RestedSo c.args.times c.args.pod deed old.process old.trace new.trace) c.deal_rested.result
+    (λ deed x t. rested_so c.args.times c.args.pod old c.in-Some.marked deed t (follows_work c.deal_rested.ensures.worked) (shows t) x) c.deal_rested.ensures.aged
+
+pub returns-in-Some-clause-another : goal.returns-in-Some-clause-another
+returns-in-Some-clause-another g c =
+    let D = g.D.Dir in
+    let old = D.shown c.args.dir.now in
+    let mid = D.shown c.marked_at.new.dir in
+    let new = D.shown c.deal_rested.new.dir in
+    ok_more (λ deed. D.observed ≡ true → Stays (MayRemove c.args.times.now) mid (λ s. BusyBecause c.args.pod deed mid new)) (λ deed. D.observed ≡ true → Stays (MayRemove c.args.times.now) old (λ s. BusyBecause c.args.pod deed old new)) c.deal_rested.result
+    (λ deed x t. busy_later new t (follows_work c.marked_at.ensures.worked) (c.marked_at.ensures.ready t c.args.times.now) (x t)) c.deal_rested.ensures.another
+
+pub returns-in-Some-clause-ready : goal.returns-in-Some-clause-ready
+returns-in-Some-clause-ready g c t = ready_later (c.marked_at.ensures.ready t c.args.times.now) (c.deal_rested.ensures.ready t)
+
+pub returns-in-None-clause-worked : goal.returns-in-None-clause-worked
+returns-in-None-clause-worked g c = worked_wider (lists_deal c.args.pod c.args.times.now area.ExitedGarbage) c.marked_at.ensures.worked
+
+pub returns-in-None-clause-deed : goal.returns-in-None-clause-deed
+returns-in-None-clause-deed g c = gone_deed (g.D.Dir.shown c.args.dir.now) (g.D.Dir.shown c.marked_at.new.dir) area.ExitedGarbage (λ s h. h) (λ t. c.marked_at.ensures.absent (c.in_ok-marked.was ∙ ap Ok c.in-None.is) t)
+
+pub returns-in-None-clause-aged : goal.returns-in-None-clause-aged
+returns-in-None-clause-aged g c t = record { rests = λ p is. cc; over = λ is. cc }
+
+pub returns-in-None-clause-another : goal.returns-in-None-clause-another
+returns-in-None-clause-another g c t s k m which is = cc
+
+pub returns-in-None-clause-ready : goal.returns-in-None-clause-ready
+returns-in-None-clause-ready g c t = c.marked_at.ensures.ready t c.args.times.now

@@ -1,0 +1,59 @@
+use Rattle.std.proofs.Common.{◌≡◌, true, Result, IfOk, IfErr, sym, ap, subst}
+use Rattle.dir_model.specs.declared.area.Phase.{Phase}
+use Rattle.dir_model.specs.declared.spot.Mode.TheVariants.{Exclusive}
+use Rattle.dir_model.specs.declared.spot.Which.{Which}
+use Rattle.dir_model.specs.declared.request.Request.TheVariants.{RemoveFolder}
+use Rattle.dir_model.specs.declared.request.Reply.TheVariants.{Done}
+use Rattle.folder_building.proofs.Copying.{ok_more, err_more}
+use Rattle.folder_building.proofs.Working.{worked_wider}
+use Rattle.phase_read.specs.Read.{pod_spot}
+use Rattle.pod_steps.specs.Holding.{Stays}
+use Rattle.pod_steps.specs.Causes.{Stopped, IsAbsentAt, BusyElsewhere, Did}
+use Rattle.pod_removal.specs.Causes.{BusyAny}
+use Rattle.pod_removal.specs.Holding.{MayRemove}
+use Rattle.pod_removal.proofs.Rounds.{busy_at}
+use Rattle.pod_gc.specs.declared.error.GcError.{GcError}
+use Rattle.pod_gc.specs.declared.line.Deed.{Deed}
+use Rattle.pod_gc.specs.declared.line.Deed.TheVariants.{Deleted, Kept}
+use Rattle.pod_gc.specs.Causes.{GcCause}
+use Rattle.pod_gc.specs.Deeds.{DeedCause, BusyBecause}
+use Rattle.pod_gc.proofs.Steps.{removes_deal, SetBackAt, set_stopped, gone_garbage, cause_deleted, step_deed, step_cause, step_another, step_ends}
+use Rattle.pod_gc.proofs.deals.deal_garbage.Goals as goal
+
+pub returns-clause-worked : goal.returns-clause-worked
+returns-clause-worked g c = worked_wider (removes_deal c.args.pod c.args.now c.args.area) c.delete_at-answer.ensures.worked
+
+pub returns-clause-cause : goal.returns-clause-cause
+returns-clause-cause g c =
+    let D = g.D.Dir in
+    let old = D.shown c.args.dir.now in
+    let new = D.shown c.delete_at-answer.new.dir in
+    subst (λ (x : Result Deed GcError). IfErr x (λ e. GcCause D.observed e old new)) (sym c.deed_of.ensures)
+    (step_cause D.observed c.args.pod c.args.area Deleted old new c.delete_at-answer.result
+    (err_more (λ e. Stopped D.observed c.args.pod (IsAbsentAt c.args.pod c.args.area) e old new) (λ e. SetBackAt D.observed c.args.pod c.args.area e old new) c.delete_at-answer.result
+    (λ e x. set_stopped c.args.pod c.args.area (gone_garbage c.args.pod c.args.area c.requires.garbage) x) c.delete_at-answer.ensures.stopped))
+
+pub returns-clause-deed : goal.returns-clause-deed
+returns-clause-deed g c =
+    let D = g.D.Dir in
+    let old = D.shown c.args.dir.now in
+    let new = D.shown c.delete_at-answer.new.dir in
+    subst (λ (x : Result Deed GcError). IfOk x (λ deed. D.observed ≡ true → DeedCause c.args.pod c.args.area deed old.process old.trace new.trace)) (sym c.deed_of.ensures)
+    (step_deed D.observed c.args.pod c.args.area Deleted old new c.delete_at-answer.result
+    (ok_more (λ done. D.observed ≡ true → Did (RemoveFolder (pod_spot c.args.pod c.args.area)) Done old.process old.trace new.trace) (λ done. D.observed ≡ true → DeedCause c.args.pod c.args.area Deleted old.process old.trace new.trace) c.delete_at-answer.result
+    (λ done did t. cause_deleted c.requires.garbage (did t)) c.delete_at-answer.ensures.done)
+    (err_more (λ e. Stopped D.observed c.args.pod (IsAbsentAt c.args.pod c.args.area) e old new) (λ e. SetBackAt D.observed c.args.pod c.args.area e old new) c.delete_at-answer.result
+    (λ e x. set_stopped c.args.pod c.args.area (gone_garbage c.args.pod c.args.area c.requires.garbage) x) c.delete_at-answer.ensures.stopped))
+
+pub returns-clause-another : goal.returns-clause-another
+returns-clause-another g c =
+    let D = g.D.Dir in
+    let old = D.shown c.args.dir.now in
+    let new = D.shown c.delete_at-answer.new.dir in
+    subst (λ (x : Result Deed GcError). IfOk x (λ deed. D.observed ≡ true → Stays (MayRemove c.args.now) old (λ s. BusyBecause c.args.pod deed old new))) (sym c.deed_of.ensures)
+    (step_another D.observed c.args.pod c.args.area Deleted old new (MayRemove c.args.now) (λ which is. cc) c.delete_at-answer.result
+    (err_more (λ e. D.observed ≡ true → Stays (MayRemove c.args.now) old (λ s. BusyElsewhere c.args.pod c.args.area Exclusive e old new)) (λ e. D.observed ≡ true → Stays (MayRemove c.args.now) old (λ s. BusyAny c.args.pod e old new)) c.delete_at-answer.result
+    (λ e busy t s k m. busy_at e c.args.area Exclusive old new (busy t s k m)) c.delete_at-answer.ensures.another))
+
+pub returns-clause-ends : goal.returns-clause-ends
+returns-clause-ends g c = subst (λ (x : Result Deed GcError). IfOk x (λ deed. (p : Phase) → deed ≡ Kept p → ⊥)) (sym c.deed_of.ensures) (step_ends Deleted (λ p is. cc) c.delete_at-answer.result)

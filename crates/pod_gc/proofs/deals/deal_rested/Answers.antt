@@ -1,0 +1,37 @@
+use Rattle.std.proofs.Common.{◌≡◌, true, false, sym, ◌∙◌, arith}
+use Rattle.dir_model.specs.declared.area.Area.TheVariants as area
+use Rattle.dir_model.specs.declared.area.Phase.{Phase}
+use Rattle.dir_model.specs.declared.spot.Which.{Which}
+use Rattle.folder_building.proofs.Copying.{ok_more}
+use Rattle.folder_building.proofs.Working.{worked_wider}
+use Rattle.pod_steps.specs.Holding.{Stays}
+use Rattle.pod_removal.specs.Holding.{MayRemove}
+use Rattle.pod_gc.specs.declared.line.Deed.TheVariants.{Kept, Busy}
+use Rattle.pod_gc.specs.Marks.{is_young}
+use Rattle.pod_gc.specs.Deeds.{DoesNothing, BusyBecause, RestsBy}
+use Rattle.pod_gc.proofs.Steps.{looks_deal, rests_young, rests_over}
+use Rattle.pod_gc.proofs.deals.deal_rested.Goals as goal
+
+pub returns-then-is_young-clause-worked : goal.returns-then-is_young-clause-worked
+returns-then-is_young-clause-worked g c = worked_wider (looks_deal c.args.pod c.args.times.now area.ExitedGarbage (omega arith)) c.kept_exited.ensures.worked
+
+pub returns-then-is_young-clause-aged : goal.returns-then-is_young-clause-aged
+returns-then-is_young-clause-aged g c =
+    ok_more (λ deed. DoesNothing deed) (λ deed. RestsBy (is_young c.args.times.now c.args.times.grace c.args.marked) deed) c.kept_exited.result
+    (λ deed nothing. rests_young deed (sym c.is_young.ensures ∙ c.if-is_young.true) nothing) c.kept_exited.ensures.rests
+
+pub returns-then-is_young-clause-another : goal.returns-then-is_young-clause-another
+returns-then-is_young-clause-another g c =
+    let D = g.D.Dir in
+    let old = D.shown c.args.dir.now in
+    let new = D.shown c.kept_exited.new.dir in
+    ok_more (λ deed. (which : Which) → deed ≡ Busy which → ⊥) (λ deed. D.observed ≡ true → Stays (MayRemove c.args.times.now) old (λ s. BusyBecause c.args.pod deed old new)) c.kept_exited.result
+    (λ deed calm t s k m which is. absurd (calm which is)) c.kept_exited.ensures.calm
+
+pub returns-then-is_young-clause-ready : goal.returns-then-is_young-clause-ready
+returns-then-is_young-clause-ready g c t = c.kept_exited.ensures.ready t c.args.times.now
+
+pub returns-else-is_young-clause-aged : goal.returns-else-is_young-clause-aged
+returns-else-is_young-clause-aged g c =
+    ok_more (λ deed. (p : Phase) → deed ≡ Kept p → ⊥) (λ deed. RestsBy (is_young c.args.times.now c.args.times.grace c.args.marked) deed) c.deal_garbage.result
+    (λ deed ends. rests_over deed (sym c.is_young.ensures ∙ c.if-is_young.false) ends) c.deal_garbage.ensures.ends

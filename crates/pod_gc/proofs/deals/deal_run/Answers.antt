@@ -1,0 +1,77 @@
+use Rattle.std.proofs.Common.{◌≡◌, rules, true, Ok, Err, Result, IfOk, IfErr, refl, sym, ap, subst, arith}
+use Rattle.dir_model.specs.declared.area.Area.TheVariants as area
+use Rattle.dir_model.specs.declared.area.Phase.TheVariants as phase
+use Rattle.dir_model.specs.declared.spot.Mode.TheVariants.{Shared}
+use Rattle.dir_model.specs.declared.spot.Which.{Which}
+use Rattle.folder_building.proofs.Copying.{err_more}
+use Rattle.folder_building.proofs.Working.{worked_more, worked_wider}
+use Rattle.pod_steps.specs.Holding.{Stays}
+use Rattle.pod_steps.proofs.Calls.{follows_work}
+use Rattle.pod_removal.specs.Holding.{MayRemove}
+use Rattle.pod_removal.proofs.Rounds.{busy_at}
+use Rattle.pod_gc.specs.declared.error.GcError.{GcError}
+use Rattle.pod_gc.specs.declared.line.Deed.{Deed}
+use Rattle.pod_gc.specs.declared.line.Deed.TheVariants.{Moved, Busy}
+use Rattle.pod_gc.specs.Causes.{GcCause}
+use Rattle.pod_gc.specs.Deeds.{DeedCause, BusyBecause}
+use Rattle.pod_gc.proofs.Steps.{removes_deal, looks_deal, set_stopped, cause_moved, step_deed, step_cause, step_another, said_deed, said_calm, cause_after, ready_looked}
+use Rattle.pod_gc.proofs.deals.deal_run.Goals as goal
+
+pub returns-in-Ok-clause-worked : goal.returns-in-Ok-clause-worked
+returns-in-Ok-clause-worked g c = worked_wider (removes_deal c.args.pod c.args.now area.Run) c.retire_exited.ensures.worked
+
+pub returns-in-Ok-clause-deed : goal.returns-in-Ok-clause-deed
+returns-in-Ok-clause-deed g c t = cause_moved c.args.pod area.Run area.ExitedGarbage refl refl (c.in-Ok.ensures.done t)
+
+pub returns-in-Err-Busy-clause-worked : goal.returns-in-Err-Busy-clause-worked
+returns-in-Err-Busy-clause-worked g c = worked_more (worked_wider (removes_deal c.args.pod c.args.now area.Run) c.retire_exited.ensures.worked) (worked_wider (looks_deal c.args.pod c.args.now area.Run (omega arith)) c.kept.ensures.worked)
+
+pub returns-in-Err-Busy-clause-cause : goal.returns-in-Err-Busy-clause-cause
+returns-in-Err-Busy-clause-cause g c =
+    let D = g.D.Dir in
+    let old = D.shown c.args.dir.now in
+    let mid = D.shown c.retire_exited.new.dir in
+    let new = D.shown c.kept.new.dir in
+    err_more (λ e. GcCause D.observed e mid new) (λ e. GcCause D.observed e old new) c.kept.result (λ e x. cause_after (follows_work c.retire_exited.ensures.worked) x) c.kept.ensures.cause
+
+pub returns-in-Err-Busy-clause-deed : goal.returns-in-Err-Busy-clause-deed
+returns-in-Err-Busy-clause-deed g c =
+    let D = g.D.Dir in
+    let e = rw c.in-Err-Busy.field-0-is at c.in-Err-Busy.ensures in
+    said_deed D.observed c.args.pod area.Run phase.Running true (omega arith) refl (λ s h. h) (D.shown c.args.dir.now) (D.shown c.retire_exited.new.dir) (D.shown c.kept.new.dir) (follows_work c.retire_exited.ensures.worked) (λ t. e.owned _ refl t)
+    c.kept.result c.kept.ensures.said
+
+pub returns-in-Err-Busy-clause-another : goal.returns-in-Err-Busy-clause-another
+returns-in-Err-Busy-clause-another g c =
+    let D = g.D.Dir in
+    said_calm D.observed (MayRemove c.args.now) c.args.pod area.Run phase.Running (D.shown c.args.dir.now) (D.shown c.args.dir.now) (D.shown c.retire_exited.new.dir) (D.shown c.kept.new.dir) c.kept.result c.kept.ensures.said
+
+pub returns-in-Err-Busy-clause-ready : goal.returns-in-Err-Busy-clause-ready
+returns-in-Err-Busy-clause-ready g c t = ready_looked (c.retire_exited.ensures.ready t) (c.kept.ensures.known t)
+
+pub returns-in-Err-clause-worked : goal.returns-in-Err-clause-worked
+returns-in-Err-clause-worked g c = worked_wider (removes_deal c.args.pod c.args.now area.Run) c.retire_exited.ensures.worked
+
+pub returns-in-Err-clause-cause : goal.returns-in-Err-clause-cause
+returns-in-Err-clause-cause g c =
+    let D = g.D.Dir in
+    let old = D.shown c.args.dir.now in
+    let new = D.shown c.retire_exited.new.dir in
+    subst (λ (x : Result Deed GcError). IfErr x (λ e. GcCause D.observed e old new)) (sym c.deed_of.ensures)
+    (step_cause D.observed c.args.pod area.Run (Moved area.ExitedGarbage) old new (Err c.in-Err.stop) (set_stopped c.args.pod area.Run (λ s h. h) c.in-Err.ensures.stopped))
+
+pub returns-in-Err-clause-deed : goal.returns-in-Err-clause-deed
+returns-in-Err-clause-deed g c =
+    let D = g.D.Dir in
+    let old = D.shown c.args.dir.now in
+    let new = D.shown c.retire_exited.new.dir in
+    subst (λ (x : Result Deed GcError). IfOk x (λ deed. D.observed ≡ true → DeedCause c.args.pod area.Run deed old.process old.trace new.trace)) (sym c.deed_of.ensures)
+    (step_deed D.observed c.args.pod area.Run (Moved area.ExitedGarbage) old new (Err c.in-Err.stop) tt (set_stopped c.args.pod area.Run (λ s h. h) c.in-Err.ensures.stopped))
+
+pub returns-in-Err-clause-another : goal.returns-in-Err-clause-another
+returns-in-Err-clause-another g c =
+    let D = g.D.Dir in
+    let old = D.shown c.args.dir.now in
+    let new = D.shown c.retire_exited.new.dir in
+    subst (λ (x : Result Deed GcError). IfOk x (λ deed. D.observed ≡ true → Stays (MayRemove c.args.now) old (λ s. BusyBecause c.args.pod deed old new))) (sym c.deed_of.ensures)
+    (step_another D.observed c.args.pod area.Run (Moved area.ExitedGarbage) old new (MayRemove c.args.now) (λ which is. cc) (Err c.in-Err.stop) (λ t s k m. busy_at c.in-Err.stop area.Run Shared old new (c.in-Err.ensures.another t s k m)))

@@ -1,0 +1,79 @@
+use Rattle.std.proofs.Common.{◌≡◌, ◌⊎◌, inl, inr, true, false, Result, IfOk, IfErr, refl, sym, ap, subst, ◌∙◌}
+use Rattle.dir_model.specs.declared.area.Area.TheVariants as area
+use Rattle.dir_model.specs.declared.area.Phase.{Phase}
+use Rattle.dir_model.specs.declared.area.Phase.TheVariants as phase
+use Rattle.dir_model.specs.declared.request.Request.TheVariants.{MoveFolder}
+use Rattle.dir_model.specs.declared.request.Reply.TheVariants.{Done}
+use Rattle.folder_building.proofs.Copying.{ok_more, err_more}
+use Rattle.folder_building.proofs.Working.{worked_none}
+use Rattle.phase_read.specs.Read.{pod_spot}
+use Rattle.pod_steps.specs.Holding.{Stays}
+use Rattle.pod_steps.specs.Causes.{Did}
+use Rattle.pod_removal.specs.Causes.{StoppedAlone, BusyInPrepared, BusyAny}
+use Rattle.pod_removal.specs.Holding.{MayDiscard}
+use Rattle.pod_removal.proofs.Rounds.{busy_waiting}
+use Rattle.pod_gc.specs.declared.error.GcError.{GcError}
+use Rattle.pod_gc.specs.declared.line.Deed.{Deed}
+use Rattle.pod_gc.specs.declared.line.Deed.TheVariants.{Moved, Kept}
+use Rattle.pod_gc.specs.Causes.{deed_of, GcCause}
+use Rattle.pod_gc.specs.Marks.{is_ripe}
+use Rattle.pod_gc.specs.Deeds.{DeedCause, BusyBecause, WaitsBy}
+use Rattle.pod_gc.specs.Sweeping.{Ripens}
+use Rattle.pod_gc.proofs.Steps.{SetBackAt, cause_moved, step_deed, step_cause, step_another, step_ends}
+use Rattle.pod_gc.proofs.Waiting.{may_ripen, set_alone, waits_kept, waits_over}
+use Rattle.pod_gc.proofs.deals.deal_waiting.Goals as goal
+
+pub returns-then-is_ripe-clause-cause : goal.returns-then-is_ripe-clause-cause
+returns-then-is_ripe-clause-cause g c =
+    let D = g.D.Dir in
+    let old = D.shown c.args.dir.now in
+    let new = D.shown c.discard_prepared-answer.new.dir in
+    subst (λ (x : Result Deed GcError). IfErr x (λ e. GcCause D.observed e old new)) (sym c.deed_of.ensures)
+    (step_cause D.observed c.args.pod area.Prepared (Moved area.Garbage) old new c.discard_prepared-answer.result
+    (err_more (λ e. StoppedAlone D.observed c.args.pod e old new) (λ e. SetBackAt D.observed c.args.pod area.Prepared e old new) c.discard_prepared-answer.result (λ e x. set_alone c.args.pod x) c.discard_prepared-answer.ensures.stopped))
+
+pub returns-then-is_ripe-clause-deed : goal.returns-then-is_ripe-clause-deed
+returns-then-is_ripe-clause-deed g c =
+    let D = g.D.Dir in
+    let old = D.shown c.args.dir.now in
+    let new = D.shown c.discard_prepared-answer.new.dir in
+    ok_more (λ deed. D.observed ≡ true → DeedCause c.args.pod area.Prepared deed old.process old.trace new.trace) (λ deed. (deed ≡ Kept phase.Prepared) ⊎ (D.observed ≡ true → DeedCause c.args.pod area.Prepared deed old.process old.trace new.trace)) c.deed_of.result (λ deed x. inr x)
+    (subst (λ (x : Result Deed GcError). IfOk x (λ deed. D.observed ≡ true → DeedCause c.args.pod area.Prepared deed old.process old.trace new.trace)) (sym c.deed_of.ensures)
+    (step_deed D.observed c.args.pod area.Prepared (Moved area.Garbage) old new c.discard_prepared-answer.result
+    (ok_more (λ done. D.observed ≡ true → Did (MoveFolder (pod_spot c.args.pod area.Prepared) (pod_spot c.args.pod area.Garbage)) Done old.process old.trace new.trace) (λ done. D.observed ≡ true → DeedCause c.args.pod area.Prepared (Moved area.Garbage) old.process old.trace new.trace) c.discard_prepared-answer.result
+    (λ done did t. cause_moved c.args.pod area.Prepared area.Garbage refl refl (did t)) c.discard_prepared-answer.ensures.done)
+    (err_more (λ e. StoppedAlone D.observed c.args.pod e old new) (λ e. SetBackAt D.observed c.args.pod area.Prepared e old new) c.discard_prepared-answer.result (λ e x. set_alone c.args.pod x) c.discard_prepared-answer.ensures.stopped)))
+
+pub returns-then-is_ripe-clause-aged : goal.returns-then-is_ripe-clause-aged
+returns-then-is_ripe-clause-aged g c =
+    ok_more (λ deed. (p : Phase) → deed ≡ Kept p → ⊥) (λ deed. WaitsBy (is_ripe c.args.times.now c.args.times.expire c.args.created) deed) c.deed_of.result (λ deed ends. waits_over deed (sym c.is_ripe.ensures ∙ c.if-is_ripe.true) ends)
+    (subst (λ (x : Result Deed GcError). IfOk x (λ deed. (p : Phase) → deed ≡ Kept p → ⊥)) (sym c.deed_of.ensures) (step_ends (Moved area.Garbage) (λ p is. cc) c.discard_prepared-answer.result))
+
+pub returns-then-is_ripe-clause-another : goal.returns-then-is_ripe-clause-another
+returns-then-is_ripe-clause-another g c =
+    let D = g.D.Dir in
+    let old = D.shown c.args.dir.now in
+    let new = D.shown c.discard_prepared-answer.new.dir in
+    let May = Ripens c.args.pod c.args.created c.args.times.now c.args.times.expire in
+    subst (λ (x : Result Deed GcError). IfOk x (λ deed. D.observed ≡ true → Stays May old (λ s. BusyBecause c.args.pod deed old new))) (sym c.deed_of.ensures)
+    (step_another D.observed c.args.pod area.Prepared (Moved area.Garbage) old new May (λ which is. cc) c.discard_prepared-answer.result
+    (err_more (λ e. D.observed ≡ true → Stays (MayDiscard c.args.pod c.args.times.now) old (λ s. BusyInPrepared c.args.pod e old new)) (λ e. D.observed ≡ true → Stays May old (λ s. BusyAny c.args.pod e old new)) c.discard_prepared-answer.result
+    (λ e busy t s k m. busy_waiting e old new (busy t s k (may_ripen c.args.pod c.args.created c.args.times.now c.args.times.expire (sym c.is_ripe.ensures ∙ c.if-is_ripe.true) m))) c.discard_prepared-answer.ensures.another))
+
+pub returns-then-is_ripe-clause-ready : goal.returns-then-is_ripe-clause-ready
+returns-then-is_ripe-clause-ready g c t s k m = c.discard_prepared-answer.ensures.ready t s k (may_ripen c.args.pod c.args.created c.args.times.now c.args.times.expire (sym c.is_ripe.ensures ∙ c.if-is_ripe.true) m)
+
+pub returns-else-is_ripe-clause-worked : goal.returns-else-is_ripe-clause-worked
+returns-else-is_ripe-clause-worked g c = worked_none
+
+pub returns-else-is_ripe-clause-deed : goal.returns-else-is_ripe-clause-deed
+returns-else-is_ripe-clause-deed g c = inl refl
+
+pub returns-else-is_ripe-clause-aged : goal.returns-else-is_ripe-clause-aged
+returns-else-is_ripe-clause-aged g c = waits_kept (sym c.is_ripe.ensures ∙ c.if-is_ripe.false)
+
+pub returns-else-is_ripe-clause-another : goal.returns-else-is_ripe-clause-another
+returns-else-is_ripe-clause-another g c t s k m which is = cc
+
+pub returns-else-is_ripe-clause-ready : goal.returns-else-is_ripe-clause-ready
+returns-else-is_ripe-clause-ready g c t s k m = record { known = s; keeps = record { intent = refl; holdings = refl; kept = refl; bare = m.sweeps.may.bare }; knows = k }

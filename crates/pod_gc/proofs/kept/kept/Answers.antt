@@ -1,0 +1,31 @@
+use Rattle.std.proofs.Common.{◌≡◌, true, false, Err, sym, ap, subst, ◌∙◌}
+use Rattle.pod_removal.proofs.Looking.{worked_look}
+use Rattle.pod_gc.specs.declared.error.GcError.{GcError}
+use Rattle.pod_gc.specs.Causes.{GcCause}
+use Rattle.pod_gc.proofs.Steps.{says_there, says_gone, look_cause}
+use Rattle.pod_gc.proofs.kept.kept.Goals as goal
+
+pub returns-in-Ok-true-clause-worked : goal.returns-in-Ok-true-clause-worked
+returns-in-Ok-true-clause-worked g c = let l = c.look.ensures in worked_look c.args.pod c.args.area (g.D.Dir.shown c.args.dir.now) (g.D.Dir.shown c.look.new.dir) c.pod_spot.ensures l.same l.faults l.local l.extends
+
+pub returns-in-Ok-false-clause-worked : goal.returns-in-Ok-false-clause-worked
+returns-in-Ok-false-clause-worked g c = let l = c.look.ensures in worked_look c.args.pod c.args.area (g.D.Dir.shown c.args.dir.now) (g.D.Dir.shown c.look.new.dir) c.pod_spot.ensures l.same l.faults l.local l.extends
+
+pub returns-in-Err-clause-worked : goal.returns-in-Err-clause-worked
+returns-in-Err-clause-worked g c = let l = c.look.ensures in worked_look c.args.pod c.args.area (g.D.Dir.shown c.args.dir.now) (g.D.Dir.shown c.look.new.dir) c.pod_spot.ensures l.same l.faults l.local l.extends
+
+pub returns-in-Ok-true-clause-said : goal.returns-in-Ok-true-clause-said
+returns-in-Ok-true-clause-said g c =
+    let e = rw c.in-Ok-true.field-0-test at c.in-Ok-true.ensures in
+    says_there c.args.pod c.args.area c.args.phase (g.D.Dir.shown c.args.dir.now) (g.D.Dir.shown c.look.new.dir) c.pod_spot.ensures e.there
+
+pub returns-in-Ok-false-clause-said : goal.returns-in-Ok-false-clause-said
+returns-in-Ok-false-clause-said g c =
+    let e = rw c.in-Ok-false.field-0-test at c.in-Ok-false.ensures in
+    says_gone c.args.pod c.args.area c.args.phase (g.D.Dir.shown c.args.dir.now) (g.D.Dir.shown c.look.new.dir) c.pod_spot.ensures e.there
+
+pub returns-in-Err-clause-cause : goal.returns-in-Err-clause-cause
+returns-in-Err-clause-cause g c =
+    let D = g.D.Dir in
+    subst (λ (x : GcError). GcCause D.observed x (D.shown c.args.dir.now) (D.shown c.look.new.dir)) (sym c.look_fault.ensures)
+    (look_cause c.in-Err.error (λ is. c.look.ensures.cause (c.in-Err.is ∙ ap Err is)))

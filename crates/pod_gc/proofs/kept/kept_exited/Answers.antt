@@ -1,0 +1,98 @@
+use Rattle.std.proofs.Common.{◌≡◌, rules, ℕ, true, false, Err, Result, IfOk, IfErr, refl, sym, ap, subst, arith}
+use Rattle.dir_model.specs.declared.area.Area.TheVariants as area
+use Rattle.dir_model.specs.declared.area.Phase.TheVariants as phase
+use Rattle.dir_model.specs.declared.spot.Which.{Which}
+use Rattle.folder_building.proofs.Copying.{ok_more, err_more}
+use Rattle.folder_building.proofs.Working.{worked_more}
+use Rattle.pod_steps.proofs.Calls.{follows_work}
+use Rattle.pod_gc.specs.declared.error.GcError.{GcError}
+use Rattle.pod_gc.specs.declared.line.Deed.{Deed}
+use Rattle.pod_gc.specs.declared.line.Deed.TheVariants.{Left, Busy}
+use Rattle.pod_gc.specs.Causes.{GcCause}
+use Rattle.pod_gc.specs.Deeds.{DeedCause, SaysThere, DoesNothing}
+use Rattle.pod_gc.proofs.Steps.{set_stopped, cause_left, step_deed, step_cause, step_rests, step_calm, said_deed, said_rests, said_unbusy, cause_after, looks_resting, ready_probed, ready_unprobed, ready_looked}
+use Rattle.pod_gc.proofs.kept.kept_exited.Goals as goal
+
+pub returns-in-Ok-clause-worked : goal.returns-in-Ok-clause-worked
+returns-in-Ok-clause-worked g c = worked_more c.probe.ensures.worked c.kept.ensures.worked
+
+pub returns-in-Ok-clause-cause : goal.returns-in-Ok-clause-cause
+returns-in-Ok-clause-cause g c =
+    let D = g.D.Dir in
+    err_more (λ e. GcCause D.observed e (D.shown c.probe.new.dir) (D.shown c.kept.new.dir)) (λ e. GcCause D.observed e (D.shown c.args.dir.now) (D.shown c.kept.new.dir)) c.kept.result (λ e x. cause_after (follows_work c.probe.ensures.worked) x) c.kept.ensures.cause
+
+pub returns-in-Ok-clause-deed : goal.returns-in-Ok-clause-deed
+returns-in-Ok-clause-deed g c =
+    let D = g.D.Dir in
+    said_deed D.observed c.args.pod area.ExitedGarbage phase.ExitedGarbage false (omega arith) refl (λ s h. h) (D.shown c.args.dir.now) (D.shown c.probe.new.dir) (D.shown c.kept.new.dir) (follows_work c.probe.ensures.worked) (λ t. c.in-Ok.ensures.told t)
+    c.kept.result c.kept.ensures.said
+
+pub returns-in-Ok-clause-rests : goal.returns-in-Ok-clause-rests
+returns-in-Ok-clause-rests g c =
+    let D = g.D.Dir in
+    ok_more (λ deed. SaysThere D.observed c.args.pod area.ExitedGarbage phase.ExitedGarbage deed (D.shown c.probe.new.dir) (D.shown c.kept.new.dir)) (λ deed. DoesNothing deed) c.kept.result (λ deed x. said_rests phase.ExitedGarbage deed x.is) c.kept.ensures.said
+
+pub returns-in-Ok-clause-ready : goal.returns-in-Ok-clause-ready
+returns-in-Ok-clause-ready g c t now = ready_looked (ready_probed c.args.pod (c.in-Ok.ensures.free t)) (c.kept.ensures.known t)
+
+pub returns-in-Err-Busy-clause-worked : goal.returns-in-Err-Busy-clause-worked
+returns-in-Err-Busy-clause-worked g c = worked_more c.probe.ensures.worked c.kept-in-Err-Busy.ensures.worked
+
+pub returns-in-Err-Busy-clause-cause : goal.returns-in-Err-Busy-clause-cause
+returns-in-Err-Busy-clause-cause g c =
+    let D = g.D.Dir in
+    err_more (λ e. GcCause D.observed e (D.shown c.probe.new.dir) (D.shown c.kept-in-Err-Busy.new.dir)) (λ e. GcCause D.observed e (D.shown c.args.dir.now) (D.shown c.kept-in-Err-Busy.new.dir)) c.kept-in-Err-Busy.result (λ e x. cause_after (follows_work c.probe.ensures.worked) x) c.kept-in-Err-Busy.ensures.cause
+
+pub returns-in-Err-Busy-clause-deed : goal.returns-in-Err-Busy-clause-deed
+returns-in-Err-Busy-clause-deed g c =
+    let D = g.D.Dir in
+    let e = rw c.in-Err-Busy.field-0-is at c.in-Err-Busy.ensures in
+    said_deed D.observed c.args.pod area.ExitedGarbage phase.Deleting true (omega arith) refl (λ s h. h) (D.shown c.args.dir.now) (D.shown c.probe.new.dir) (D.shown c.kept-in-Err-Busy.new.dir) (follows_work c.probe.ensures.worked) (λ t. e.owned _ refl t)
+    c.kept-in-Err-Busy.result c.kept-in-Err-Busy.ensures.said
+
+pub returns-in-Err-Busy-clause-rests : goal.returns-in-Err-Busy-clause-rests
+returns-in-Err-Busy-clause-rests g c =
+    let D = g.D.Dir in
+    ok_more (λ deed. SaysThere D.observed c.args.pod area.ExitedGarbage phase.Deleting deed (D.shown c.probe.new.dir) (D.shown c.kept-in-Err-Busy.new.dir)) (λ deed. DoesNothing deed) c.kept-in-Err-Busy.result (λ deed x. said_rests phase.Deleting deed x.is) c.kept-in-Err-Busy.ensures.said
+
+pub returns-in-Err-Busy-clause-ready : goal.returns-in-Err-Busy-clause-ready
+returns-in-Err-Busy-clause-ready g c t now =
+    let e = rw c.in-Err-Busy.field-0-is at c.in-Err-Busy.ensures in
+    ready_looked (ready_unprobed c.args.pod (e.left t)) (c.kept-in-Err-Busy.ensures.known t)
+
+pub returns-in-Err-clause-cause : goal.returns-in-Err-clause-cause
+returns-in-Err-clause-cause g c =
+    let D = g.D.Dir in
+    let old = D.shown c.args.dir.now in
+    let new = D.shown c.probe.new.dir in
+    subst (λ (x : Result Deed GcError). IfErr x (λ e. GcCause D.observed e old new)) (sym c.deed_of.ensures)
+    (step_cause D.observed c.args.pod area.ExitedGarbage Left old new (Err c.in-Err.stop) (set_stopped c.args.pod area.ExitedGarbage (λ s h. h) c.in-Err.ensures.stopped))
+
+pub returns-in-Err-clause-deed : goal.returns-in-Err-clause-deed
+returns-in-Err-clause-deed g c =
+    let D = g.D.Dir in
+    let old = D.shown c.args.dir.now in
+    let new = D.shown c.probe.new.dir in
+    subst (λ (x : Result Deed GcError). IfOk x (λ deed. D.observed ≡ true → DeedCause c.args.pod area.ExitedGarbage deed old.process old.trace new.trace)) (sym c.deed_of.ensures)
+    (step_deed D.observed c.args.pod area.ExitedGarbage Left old new (Err c.in-Err.stop) tt (set_stopped c.args.pod area.ExitedGarbage (λ s h. h) c.in-Err.ensures.stopped))
+
+pub returns-in-Err-clause-rests : goal.returns-in-Err-clause-rests
+returns-in-Err-clause-rests g c = subst (λ (x : Result Deed GcError). IfOk x (λ deed. DoesNothing deed)) (sym c.deed_of.ensures) (step_rests Left c.in-Err.stop)
+
+pub returns-in-Err-clause-ready : goal.returns-in-Err-clause-ready
+returns-in-Err-clause-ready g c t now = ready_unprobed c.args.pod (c.in-Err.ensures.left t)
+
+pub returns-in-Ok-clause-calm : goal.returns-in-Ok-clause-calm
+returns-in-Ok-clause-calm g c =
+    let D = g.D.Dir in
+    ok_more (λ deed. SaysThere D.observed c.args.pod area.ExitedGarbage phase.ExitedGarbage deed (D.shown c.probe.new.dir) (D.shown c.kept.new.dir)) (λ deed. (which : Which) → deed ≡ Busy which → ⊥) c.kept.result (λ deed x. said_unbusy phase.ExitedGarbage deed x.is) c.kept.ensures.said
+
+pub returns-in-Err-Busy-clause-calm : goal.returns-in-Err-Busy-clause-calm
+returns-in-Err-Busy-clause-calm g c =
+    let D = g.D.Dir in
+    ok_more (λ deed. SaysThere D.observed c.args.pod area.ExitedGarbage phase.Deleting deed (D.shown c.probe.new.dir) (D.shown c.kept-in-Err-Busy.new.dir)) (λ deed. (which : Which) → deed ≡ Busy which → ⊥) c.kept-in-Err-Busy.result (λ deed x. said_unbusy phase.Deleting deed x.is) c.kept-in-Err-Busy.ensures.said
+
+pub returns-in-Err-clause-calm : goal.returns-in-Err-clause-calm
+returns-in-Err-clause-calm g c =
+    subst (λ (x : Result Deed GcError). IfOk x (λ deed. (which : Which) → deed ≡ Busy which → ⊥)) (sym c.deed_of.ensures)
+    (step_calm Left (λ which is. cc) (Err c.in-Err.stop) (λ which is. search (rules, is, c.in-Err.stop-is)))

@@ -1,0 +1,26 @@
+use Rattle.std.proofs.Common.{◌≡◌, true, sym, subst}
+use Rattle.dir_model.specs.declared.area.Area.{Area}
+use Rattle.std.proofs.Common.{IfOk}
+use Rattle.folder_building.proofs.Copying.{ok_more}
+use Rattle.pod_gc.specs.Told.{AddsShown, AddsPassed}
+use Rattle.pod_gc.proofs.Gates.{adds_plain}
+use Rattle.pod_gc.proofs.passes.pass.Goals as goal
+
+pub returns-in-Embryo-clause-told : goal.returns-in-Embryo-clause-told
+returns-in-Embryo-clause-told g c =
+    let D = g.D.Dir in
+    subst (λ (a : Area). IfOk c.pass_embryo.result (λ done. D.observed ≡ true → AddsPassed c.args.times a (D.shown c.args.dir.now) (D.shown c.pass_embryo.new.dir) c.args.lines.now.items c.pass_embryo.new.lines.items)) (sym c.in-Embryo.is) c.pass_embryo.ensures.told
+
+pub returns-in_default-clause-told : goal.returns-in_default-clause-told
+returns-in_default-clause-told g c =
+    let D = g.D.Dir in
+    let place = c.args.place in
+    let old = D.shown c.args.dir.now in
+    let new = D.shown c.pass_listed.new.dir in
+    let before = c.args.lines.now.items in
+    let after = c.pass_listed.new.lines.items in
+    ok_more (λ done. D.observed ≡ true → AddsShown c.args.times place old new before after) (λ done. D.observed ≡ true → AddsPassed c.args.times place old new before after) c.pass_listed.result
+    (λ done told t. adds_plain old new c.args.times place before after (λ is. c.in_default.not-Embryo is) (told t)) c.pass_listed.ensures.told
+
+pub returns-in_default-clause-ready : goal.returns-in_default-clause-ready
+returns-in_default-clause-ready g c t s k m = c.pass_listed.ensures.ready t s k (record { sweeps = m.sweeps; gate = λ is. absurd (c.in_default.not-Embryo is) })

@@ -1,0 +1,65 @@
+use Rattle.std.proofs.Common.{◌≡◌, ◌∷◌, [], ◌++◌, rules, true, None, Ok, Err, sym, ap, subst, ◌∙◌}
+use Rattle.dir_model.specs.declared.area.Area.TheVariants.{Embryo}
+use Rattle.area_locks.specs.declared.error.LockError.TheVariants as lock
+use Rattle.folder_building.proofs.Copying.{ok_more}
+use Rattle.pod_gc.specs.declared.error.GcError.{GcError}
+use Rattle.pod_gc.specs.declared.line.Deed.TheVariants.{BusyGate}
+use Rattle.pod_gc.specs.Causes.{GcCause}
+use Rattle.pod_gc.specs.Told.{AddsShown, AddsPassed}
+use Rattle.pod_gc.proofs.Gates.{ready_under, ready_same, worked_gate, worked_locked, lock_cause, adds_gate, adds_gated}
+use Rattle.pod_gc.proofs.passes.pass_embryo.Goals as goal
+
+pub returns-in-Ok-clause-worked : goal.returns-in-Ok-clause-worked
+returns-in-Ok-clause-worked g c =
+    let l = c.lock_area.ensures in
+    let u = c.unlock_area.ensures in
+    worked_gate c.in-Ok.gate c.in-Ok.ensures.unopened l.same l.faults c.in-Ok.ensures.held l.extends c.pass_listed-result.ensures.worked u.same u.faultless u.local u.extends
+
+pub returns-in-Ok-clause-ready : goal.returns-in-Ok-clause-ready
+returns-in-Ok-clause-ready g c t =
+    ready_under c.in-Ok.ensures.unopened (c.in-Ok.ensures.taken t) (c.pass_listed-result.ensures.ready t) (λ s f k. c.unlock_area.ensures.given_exclusive t s Embryo f k)
+
+pub returns-in-Err-Busy-clause-worked : goal.returns-in-Err-Busy-clause-worked
+returns-in-Err-Busy-clause-worked g c =
+    let l = c.lock_area.ensures in
+    worked_locked (g.D.Dir.shown c.args.dir.now) (g.D.Dir.shown c.lock_area.new.dir) l.same l.faults c.in-Err-Busy.ensures.refused l.extends
+
+pub returns-in-Err-clause-worked : goal.returns-in-Err-clause-worked
+returns-in-Err-clause-worked g c =
+    let l = c.lock_area.ensures in
+    worked_locked (g.D.Dir.shown c.args.dir.now) (g.D.Dir.shown c.lock_area.new.dir) l.same l.faults c.in-Err.ensures.refused l.extends
+
+pub returns-in-Err-clause-cause : goal.returns-in-Err-clause-cause
+returns-in-Err-clause-cause g c =
+    let D = g.D.Dir in
+    subst (λ (x : GcError). GcCause D.observed x (D.shown c.args.dir.now) (D.shown c.lock_area.new.dir)) (sym c.lock_fault.ensures)
+    (lock_cause c.in-Err.error (λ is. search (rules, is, c.in-Err.error-is)) (λ is. c.lock_area.ensures.cause (c.in-Err.is ∙ ap Err is)))
+
+pub returns-in-Err-clause-ready : goal.returns-in-Err-clause-ready
+returns-in-Err-clause-ready g c t = ready_same (c.in-Err.ensures.left t)
+
+pub returns-in-Ok-clause-told : goal.returns-in-Ok-clause-told
+returns-in-Ok-clause-told g c =
+    let D = g.D.Dir in
+    let times = c.args.times in
+    let old = D.shown c.args.dir.now in
+    let mid = D.shown c.lock_area.new.dir in
+    let late = D.shown c.pass_listed-result.new.dir in
+    let new = D.shown c.unlock_area.new.dir in
+    let before = c.args.lines.now.items in
+    let after = c.pass_listed-result.new.lines.items in
+    ok_more (λ done. D.observed ≡ true → AddsShown times Embryo mid late before after) (λ done. D.observed ≡ true → AddsPassed times Embryo old new before after) c.pass_listed-result.result
+    (λ done told t. adds_gate old mid late new times c.in-Ok.gate before after c.lock_area.ensures.same c.pass_listed-result.ensures.worked.same (λ s k m. c.in-Ok.ensures.taken t s k m) (c.lock_area.ensures.extends t) (told t) (c.unlock_area.ensures.extends t))
+    c.pass_listed-result.ensures.told
+
+pub returns-in-Err-Busy-clause-told : goal.returns-in-Err-Busy-clause-told
+returns-in-Err-Busy-clause-told g c =
+    let D = g.D.Dir in
+    let times = c.args.times in
+    let old = D.shown c.args.dir.now in
+    let new = D.shown c.lock_area.new.dir in
+    let before = c.args.lines.now.items in
+    let after = c.push.new.lines.items in
+    let busy : c.lock_area.result ≡ Err lock.Busy = search (rules, c.in-Err-Busy.is, c.in-Err-Busy.field-0-is) in
+    ok_more (λ done. after ≡ before ++ record { place = Embryo; pod = None; deed = BusyGate } ∷ []) (λ done. D.observed ≡ true → AddsPassed times Embryo old new before after) c.push.result
+    (λ done adds t. adds_gated times old new before after adds (c.lock_area.ensures.busy busy t) (λ s k free. c.lock_area.ensures.another busy t s k free) (c.lock_area.ensures.extends t)) c.push.ensures.items

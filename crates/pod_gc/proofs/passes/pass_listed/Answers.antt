@@ -1,0 +1,56 @@
+use Rattle.std.proofs.Common.{◌≡◌, ℕ, List, true, Ok, Err, sym, ap, subst}
+use Rattle.folder_building.specs.Work.{Worked}
+use Rattle.folder_building.proofs.Copying.{ok_more, err_more}
+use Rattle.folder_building.proofs.Working.{worked_more}
+use Rattle.pod_steps.proofs.Calls.{follows_work}
+use Rattle.pod_gc.specs.declared.error.GcError.{GcError}
+use Rattle.pod_gc.specs.Causes.{GcCause}
+use Rattle.pod_gc.proofs.Steps.{cause_after}
+use Rattle.pod_gc.specs.Told.{deals_with_some, AddsTold, AddsShown}
+use Rattle.pod_gc.proofs.InTurn.{worked_any, pass_more}
+use Rattle.pod_gc.proofs.Listing.{ready_area, worked_area, area_cause}
+use Rattle.pod_gc.proofs.Telling.{adds_shown}
+use Rattle.pod_gc.proofs.passes.pass_listed.Goals as goal
+
+pub returns-in-Ok-clause-worked : goal.returns-in-Ok-clause-worked
+returns-in-Ok-clause-worked g c = worked_more (worked_area c.args.place (Ok c.in-Ok.names) c.in-Ok.ensures.called) (worked_any c.deal_each.ensures.worked)
+
+pub returns-in-Ok-clause-cause : goal.returns-in-Ok-clause-cause
+returns-in-Ok-clause-cause g c =
+    let D = g.D.Dir in
+    let old = D.shown c.args.dir.now in
+    let mid = D.shown c.names_of.new.dir in
+    let new = D.shown c.deal_each.new.dir in
+    err_more (λ e. GcCause D.observed e mid new) (λ e. GcCause D.observed e old new) c.deal_each.result (λ e x. cause_after (follows_work (worked_area c.args.place (Ok c.in-Ok.names) c.in-Ok.ensures.called)) x) c.deal_each.ensures.cause
+
+pub returns-in-Ok-clause-told : goal.returns-in-Ok-clause-told
+returns-in-Ok-clause-told g c =
+    let D = g.D.Dir in
+    let times = c.args.times in
+    let place = c.args.place in
+    let names = c.in-Ok.names in
+    let old = D.shown c.args.dir.now in
+    let mid = D.shown c.names_of.new.dir in
+    let new = D.shown c.deal_each.new.dir in
+    let before = c.args.lines.now.items in
+    let after = c.deal_each.new.lines.items in
+    let shown = c.as_slice.result.now in
+    let works = subst (λ (ns : List (List ℕ)). Worked D.observed (deals_with_some times.now place ns) mid new) c.as_slice.ensures c.deal_each.ensures.worked in
+    ok_more (λ done. D.observed ≡ true → AddsTold times place shown mid new before after) (λ done. D.observed ≡ true → AddsShown times place old new before after) c.deal_each.result
+    (λ done told t. adds_shown times place names before after t c.in-Ok.ensures.called (c.in-Ok.ensures.shows t) works (ready_area place (Ok names) c.requires.stage c.in-Ok.ensures.called t)
+    (subst (λ (ns : List (List ℕ)). AddsTold times place ns mid new before after) c.as_slice.ensures (told t))) c.deal_each.ensures.told
+
+pub returns-in-Ok-clause-ready : goal.returns-in-Ok-clause-ready
+returns-in-Ok-clause-ready g c t = pass_more (ready_area c.args.place (Ok c.in-Ok.names) c.requires.stage c.in-Ok.ensures.called t) (c.deal_each.ensures.ready t)
+
+pub returns-in-Err-clause-worked : goal.returns-in-Err-clause-worked
+returns-in-Err-clause-worked g c = worked_area c.args.place (Err c.in-Err.error) c.in-Err.ensures.called
+
+pub returns-in-Err-clause-cause : goal.returns-in-Err-clause-cause
+returns-in-Err-clause-cause g c =
+    let D = g.D.Dir in
+    subst (λ (x : GcError). GcCause D.observed x (D.shown c.args.dir.now) (D.shown c.names_of.new.dir)) (sym c.listing_fault.ensures)
+    (area_cause c.args.place c.in-Err.error c.in-Err.ensures.refusals (λ is. c.in-Err.ensures.cause (ap Err is)))
+
+pub returns-in-Err-clause-ready : goal.returns-in-Err-clause-ready
+returns-in-Err-clause-ready g c t = ready_area c.args.place (Err c.in-Err.error) c.requires.stage c.in-Err.ensures.called t

@@ -1,0 +1,14 @@
+use Rattle.std.proofs.Common.{rules, ◌≡◌, true, IfErr, refl, sym, subst}
+use Rattle.pod_removal.proofs.Stages.{err_same}
+use Rattle.pod_gc.specs.Causes.{GcCause}
+use Rattle.pod_gc.proofs.Sweeps.{swept_all}
+use Rattle.pod_gc.proofs.sweeping.gc.Goals as goal
+
+pub returns-in_ok-pass_each-clause-swept : goal.returns-in_ok-pass_each-clause-swept
+returns-in_ok-pass_each-clause-swept g c t = ?
+
+pub returns-in_err-pass_each-clause-cause : goal.returns-in_err-pass_each-clause-cause
+returns-in_err-pass_each-clause-cause g c =
+    let D = g.D.Dir in
+    err_same (λ e. GcCause D.observed e (D.shown c.args.dir.now) (D.shown c.pass_each.new.dir)) c.pass_each.result c.from_residual.result
+    (λ e h. search (rules, h, c.from_residual.ensures, c.in_err-pass_each.is)) c.pass_each.ensures.cause

@@ -1,0 +1,81 @@
+-- What was done with a pod that a pass listed.
+use Rattle.std.specs.Prelude.{◌≡◌, ◌⊎◌, ℕ, Bool, true, false, Option, Some, None, List, codes}
+use Rattle.dir_model.specs.declared.area.Area.{Area}
+use Rattle.dir_model.specs.declared.area.Area.TheVariants as area
+use Rattle.dir_model.specs.declared.area.Phase.{Phase}
+use Rattle.dir_model.specs.declared.event.Event.{Event}
+use Rattle.dir_model.specs.declared.pod.PodId.{PodId}
+use Rattle.dir_model.specs.declared.spot.Which.{Which}
+use Rattle.dir_model.specs.declared.spot.Which.TheVariants.{Claim}
+use Rattle.dir_model.specs.declared.request.Request.TheVariants.{MoveFolder, RemoveFolder}
+use Rattle.dir_model.specs.declared.request.Reply.TheVariants.{Done}
+use Rattle.dir_model.specs.Calls.{AtOwnStep}
+use Rattle.dir_model.specs.State.{DirState, stands}
+use Rattle.dir_rules.specs.declared.seen.Seen.{Seen}
+use Rattle.dir_trait.specs.DirCalls.{DirAt, HeldBetween}
+use Rattle.lifecycle.specs.Executions.{IsConforming}
+use Rattle.phase_read.specs.Read.{pod_spot}
+use Rattle.phase_read.specs.Exact.{AtOwnEvent, IsInPhase}
+use Rattle.pod_steps.specs.Causes.{IsAbsentAt, CannotOpenAt, Did}
+use Rattle.pod_steps.specs.Holding.{Stays}
+use Rattle.pod_removal.specs.Requests.{is_garbage_place}
+use Rattle.pod_removal.specs.Causes.{IsBusyAt}
+use Rattle.pod_gc.specs.declared.ages.Times.{Times}
+use Rattle.pod_gc.specs.declared.line.Deed.{Deed}
+use Rattle.pod_gc.specs.declared.line.Deed.TheVariants.{Moved, Deleted, Kept, Busy, Left}
+use Rattle.pod_gc.specs.Requests.{goes_to, moves_pods}
+use Rattle.pod_gc.specs.Marks.{Showed, is_young, is_ripe}
+
+-- the pod, or in prepared its file `pod`, isn't at this place
+abbrev pub IsGoneFrom : PodId → Area → DirState → Type 0
+IsGoneFrom pod area.Prepared s = CannotOpenAt pod area.Prepared Claim s
+IsGoneFrom pod place s = IsAbsentAt pod place s
+
+-- a look after the pod's own lock was asked for: it still stands there, or not any more
+pub record SaysThere (observed : Bool) (pod : PodId) (place : Area) (phase : Phase) (deed : Deed) (old new : DirAt) : Type 0 where
+  pub is : (deed ≡ Kept phase) ⊎ (deed ≡ Left)
+  pub there : deed ≡ Kept phase → observed ≡ true → HeldBetween old new (λ s. stands s.namespace (pod_spot pod place) ≡ true)
+  pub gone : deed ≡ Left → observed ≡ true → HeldBetween old new (IsAbsentAt pod place)
+
+-- the pod is let be
+abbrev pub DoesNothing : Deed → Type 0
+DoesNothing (Kept phase) = Unit {0}
+DoesNothing (Busy which) = Unit {0}
+DoesNothing Left = Unit {0}
+DoesNothing _ = ⊥
+
+-- a deed and what it rests on, one field for each
+pub record DeedCause (pod : PodId) (place : Area) (deed : Deed) (me : ℕ) (old new : List Event) : Type 0 where
+  pub moved : (to : Area) → deed ≡ Moved to → (moves_pods place ≡ true) × (to ≡ goes_to place) × Did (MoveFolder (pod_spot pod place) (pod_spot pod to)) Done me old new
+  pub deleted : deed ≡ Deleted → (is_garbage_place place ≡ true) × Did (RemoveFolder (pod_spot pod place)) Done me old new
+  pub kept : (phase : Phase) → deed ≡ Kept phase → IsConforming new → AtOwnEvent me old new (IsInPhase pod phase place)
+  pub left : deed ≡ Left → AtOwnStep me old new (IsGoneFrom pod place)
+
+-- what the ages say: a prepared pod waits where it has no created mark or its time isn't over, and is moved only where it is
+pub record WaitedSo (times : Times) (pod : PodId) (deed : Deed) (me : ℕ) (old new : List Event) : Type 0 where
+  pub waits : (phase : Phase) → deed ≡ Kept phase → (m : Option ℕ) × Showed pod area.Prepared (codes "created-") m me old new × (is_ripe times.now times.expire m ≡ false)
+  pub ripe : (to : Area) → deed ≡ Moved to → (m : Option ℕ) × Showed pod area.Prepared (codes "created-") m me old new × (is_ripe times.now times.expire m ≡ true)
+
+-- an exited one rests in exited-garbage only where its time isn't over, and is deleted only where it is or where it has no mark
+pub record RestedSo (times : Times) (pod : PodId) (deed : Deed) (me : ℕ) (old new : List Event) : Type 0 where
+  pub rests : (phase : Phase) → deed ≡ Kept phase → (m : Option ℕ) × Showed pod area.ExitedGarbage (codes "marked-") m me old new × (is_young times.now times.grace m ≡ true)
+  pub over : deed ≡ Deleted → (m : Option ℕ) × Showed pod area.ExitedGarbage (codes "marked-") m me old new × (is_young times.now times.grace m ≡ false)
+
+-- a deed, what it rests on, and what the ages say of it
+pub record Dealt (times : Times) (pod : PodId) (place : Area) (deed : Deed) (me : ℕ) (old new : List Event) : Type 0 where
+  pub cause : DeedCause pod place deed me old new
+  pub waited : place ≡ area.Prepared → WaitedSo times pod deed me old new
+  pub rested : place ≡ area.ExitedGarbage → RestedSo times pod deed me old new
+
+-- by that age
+pub record RestsBy (young : Bool) (deed : Deed) : Type 0 where
+  pub rests : (phase : Phase) → deed ≡ Kept phase → young ≡ true
+  pub over : deed ≡ Deleted → young ≡ false
+
+pub record WaitsBy (ripe : Bool) (deed : Deed) : Type 0 where
+  pub waits : (phase : Phase) → deed ≡ Kept phase → ripe ≡ false
+  pub goes : (to : Area) → deed ≡ Moved to → ripe ≡ true
+
+-- where a lock was refused, another process held it
+abbrev pub BusyBecause : PodId → Deed → DirAt → DirAt → Type 0
+BusyBecause pod deed old new = (which : Which) → deed ≡ Busy which → IsBusyAt pod which old.process old.trace new.trace

@@ -1,0 +1,51 @@
+-- What a sweep asks the directory for.
+use Rattle.std.specs.Prelude.{ℕ, Bool, true, false, ◌||◌, List}
+use Rattle.std.specs.List.{list_any}
+use Rattle.dir_model.specs.declared.area.Area.{Area}
+use Rattle.dir_model.specs.declared.area.Area.TheVariants.{Embryo, Prepare, Prepared, Run, ExitedGarbage, Garbage}
+use Rattle.dir_model.specs.declared.item.Inner.{Inner}
+use Rattle.dir_model.specs.declared.pod.PodId.{PodId}
+use Rattle.dir_model.specs.declared.request.Request.{Request}
+use Rattle.dir_model.specs.declared.request.Request.TheVariants.{ListArea, ListIn}
+use Rattle.dir_rules.specs.Standing.{is_in}
+use Rattle.dir_rules.specs.Seen.{inner_eq}
+use Rattle.dir_rules.specs.Rules.{root_of}
+use Rattle.phase_read.specs.Read.{pod_spot}
+use Rattle.pod_steps.specs.Requests.{moves}
+use Rattle.pod_removal.specs.Requests.{removes}
+
+-- where a pod's age counts
+abbrev pub counts_time : Area → Bool
+counts_time Prepared = true
+counts_time ExitedGarbage = true
+counts_time _ = false
+
+-- the marks of the pod's folder at this place are listed
+abbrev pub lists_marks : PodId → Area → Request → Bool
+lists_marks pod area (ListIn inner) = inner_eq (root_of (pod_spot pod area)) inner
+lists_marks pod area _ = false
+
+-- the area is listed
+abbrev pub lists : Area → Request → Bool
+lists area (ListArea here) = is_in area here
+lists area _ = false
+
+-- a pod is dealt with: looked at, its marks listed, and brought to a garbage place or deleted there
+abbrev pub deals_with : PodId → ℕ → Area → Request → Bool
+deals_with pod now place request = lists_marks pod place request || (moves pod Embryo Garbage request || removes pod now request)
+
+-- whence to where a pass moves a pod
+abbrev pub goes_to : Area → Area
+goes_to Run = ExitedGarbage
+goes_to _ = Garbage
+
+abbrev pub moves_pods : Area → Bool
+moves_pods Embryo = true
+moves_pods Prepare = true
+moves_pods Prepared = true
+moves_pods Run = true
+moves_pods _ = false
+
+-- calls of any kind
+abbrev pub anything : Request → Bool
+anything request = true

@@ -1,0 +1,209 @@
+// What is done with one listed pod, by the area of the pass.
+ghost use Rattle.std.specs.Prelude.{◌≡◌, ◌⊎◌, ℕ, true, IfOk, IfErr};
+ghost use Rattle.dir_model.specs.declared.spot.Which.{Which};
+ghost use Rattle.dir_model.specs.declared.area.Phase.{Phase};
+ghost use Rattle.pod_steps.specs.Requests.{moves};
+ghost use Rattle.pod_gc.specs.Sweeping.{HoldsEmbryo, MaySweep, MayPass, Ripens};
+ghost use Rattle.dir_model.specs.declared.area.Area.TheVariants as area;
+ghost use Rattle.dir_model.specs.Areas.{is_stage};
+ghost use Rattle.dir_trait.specs.Local.{IsActive};
+ghost use Rattle.folder_building.specs.Work.{Worked};
+ghost use Rattle.pod_steps.specs.Holding.{KeepsReady, Stays};
+ghost use Rattle.pod_removal.specs.Requests.{is_garbage_place, removes};
+ghost use Rattle.pod_removal.specs.Holding.{MayRemove};
+ghost use Rattle.pod_gc.specs.Requests.{deals_with};
+ghost use Rattle.pod_gc.specs.Causes.{GcCause};
+ghost use Rattle.pod_gc.specs.Marks.{is_young, is_ripe};
+ghost use Rattle.pod_gc.specs.Deeds.{DeedCause, BusyBecause, RestsBy, WaitsBy, RestedSo, WaitedSo, Dealt};
+
+use crate::ages::{Times, is_ripe, is_young, marked_at};
+use crate::error::GcError;
+use crate::kept::{kept, kept_exited};
+use crate::line::{Deed, deed_of};
+use dir_trait::{Area, Dir, Phase, PodId};
+use pod_removal::{delete_at, discard_aborted, discard_prepared, retire_exited};
+use pod_steps::{Setback, put_aside};
+use std::alloc::Global;
+
+// An embryo goes to garbage: the lock of embryo is held, so nobody makes it.
+fn deal_embryo<D: Dir>(alloc: Global, dir: &mut D, pod: PodId) -> Result<Deed, GcError>
+    requires active { IsActive (D.shown dir.old).local }
+    ensures worked { Worked D.observed (moves pod area.Embryo area.Garbage) (D.shown dir.old) (D.shown dir.new) }
+    ensures cause { IfErr result (λ e. GcCause D.observed e (D.shown dir.old) (D.shown dir.new)) }
+    ensures deed { IfOk result (λ deed. D.observed ≡ true → DeedCause pod area.Embryo deed (D.shown dir.old).process (D.shown dir.old).trace (D.shown dir.new).trace) }
+    ensures calm { IfOk result (λ deed. (which : Which) → deed ≡ Deed.Busy which → ⊥) }
+    ensures ready { D.observed ≡ true → (now : ℕ) → Stays (HoldsEmbryo now) (D.shown dir.old) (λ s. KeepsReady s (D.shown dir.new)) }
+{
+    let answer = put_aside(alloc, dir, pod, Area::Embryo, Area::Garbage);
+    deed_of(answer, Deed::Moved(Area::Garbage))
+}
+
+// An aborted prepare goes to garbage. Whose own lock is held is still being prepared.
+fn deal_prepare<D: Dir>(alloc: Global, dir: &mut D, pod: PodId, now: u64) -> Result<Deed, GcError>
+    requires active { IsActive (D.shown dir.old).local }
+    ensures worked { Worked D.observed (deals_with pod now area.Prepare) (D.shown dir.old) (D.shown dir.new) }
+    ensures cause { IfErr result (λ e. GcCause D.observed e (D.shown dir.old) (D.shown dir.new)) }
+    ensures deed { IfOk result (λ deed. D.observed ≡ true → DeedCause pod area.Prepare deed (D.shown dir.old).process (D.shown dir.old).trace (D.shown dir.new).trace) }
+    ensures another { IfOk result (λ deed. D.observed ≡ true → Stays (MayRemove now) (D.shown dir.old) (λ s. BusyBecause pod deed (D.shown dir.old) (D.shown dir.new))) }
+    ensures ready { D.observed ≡ true → Stays (MayRemove now) (D.shown dir.old) (λ s. KeepsReady s (D.shown dir.new)) }
+{
+    match discard_aborted(alloc, dir, pod, now) {
+        Ok(()) => Ok(Deed::Moved(Area::Garbage)),
+        Err(Setback::Busy(_)) => kept(alloc, dir, pod, Area::Prepare, Phase::Preparing),
+        Err(stop) => deed_of(Err(stop), Deed::Moved(Area::Garbage)),
+    }
+}
+
+// A prepared pod goes to garbage where its time is over.
+fn deal_waiting<D: Dir>(
+    alloc: Global,
+    dir: &mut D,
+    pod: PodId,
+    created: Option<u64>,
+    times: Times,
+) -> Result<Deed, GcError>
+    requires active { IsActive (D.shown dir.old).local }
+    ensures worked { Worked D.observed (removes pod times.now) (D.shown dir.old) (D.shown dir.new) }
+    ensures cause { IfErr result (λ e. GcCause D.observed e (D.shown dir.old) (D.shown dir.new)) }
+    ensures deed { IfOk result (λ deed. (deed ≡ Deed.Kept Phase.Prepared) ⊎ (D.observed ≡ true → DeedCause pod area.Prepared deed (D.shown dir.old).process (D.shown dir.old).trace (D.shown dir.new).trace)) }
+    ensures aged { IfOk result (λ deed. WaitsBy (is_ripe times.now times.expire created) deed) }
+    ensures another { IfOk result (λ deed. D.observed ≡ true → Stays (Ripens pod created times.now times.expire) (D.shown dir.old) (λ s. BusyBecause pod deed (D.shown dir.old) (D.shown dir.new))) }
+    ensures ready { D.observed ≡ true → Stays (Ripens pod created times.now times.expire) (D.shown dir.old) (λ s. KeepsReady s (D.shown dir.new)) }
+{
+    if is_ripe(times.now, times.expire, created) {
+        let answer = discard_prepared(alloc, dir, pod, times.now);
+        deed_of(answer, Deed::Moved(Area::Garbage))
+    } else {
+        Ok(Deed::Kept(Phase::Prepared))
+    }
+}
+
+// A prepared pod goes to garbage once it has waited so long since it was created.
+fn deal_prepared<D: Dir>(
+    alloc: Global,
+    dir: &mut D,
+    pod: PodId,
+    times: Times,
+) -> Result<Deed, GcError>
+    requires active { IsActive (D.shown dir.old).local }
+    ensures worked { Worked D.observed (deals_with pod times.now area.Prepared) (D.shown dir.old) (D.shown dir.new) }
+    ensures cause { IfErr result (λ e. GcCause D.observed e (D.shown dir.old) (D.shown dir.new)) }
+    ensures deed { IfOk result (λ deed. D.observed ≡ true → DeedCause pod area.Prepared deed (D.shown dir.old).process (D.shown dir.old).trace (D.shown dir.new).trace) }
+    ensures aged { IfOk result (λ deed. D.observed ≡ true → WaitedSo times pod deed (D.shown dir.old).process (D.shown dir.old).trace (D.shown dir.new).trace) }
+    ensures another { IfOk result (λ deed. D.observed ≡ true → Stays (MaySweep times.now times.expire) (D.shown dir.old) (λ s. BusyBecause pod deed (D.shown dir.old) (D.shown dir.new))) }
+    ensures ready { D.observed ≡ true → Stays (MaySweep times.now times.expire) (D.shown dir.old) (λ s. KeepsReady s (D.shown dir.new)) }
+{
+    match marked_at(alloc, dir, pod, Area::Prepared, b"created-")? {
+        Some(created) => deal_waiting(alloc, dir, pod, created, times),
+        None => Ok(Deed::Left),
+    }
+}
+
+// An exited pod is marked and goes to exited-garbage. Whose own lock is held still runs.
+fn deal_run<D: Dir>(alloc: Global, dir: &mut D, pod: PodId, now: u64) -> Result<Deed, GcError>
+    requires active { IsActive (D.shown dir.old).local }
+    ensures worked { Worked D.observed (deals_with pod now area.Run) (D.shown dir.old) (D.shown dir.new) }
+    ensures cause { IfErr result (λ e. GcCause D.observed e (D.shown dir.old) (D.shown dir.new)) }
+    ensures deed { IfOk result (λ deed. D.observed ≡ true → DeedCause pod area.Run deed (D.shown dir.old).process (D.shown dir.old).trace (D.shown dir.new).trace) }
+    ensures another { IfOk result (λ deed. D.observed ≡ true → Stays (MayRemove now) (D.shown dir.old) (λ s. BusyBecause pod deed (D.shown dir.old) (D.shown dir.new))) }
+    ensures ready { D.observed ≡ true → Stays (MayRemove now) (D.shown dir.old) (λ s. KeepsReady s (D.shown dir.new)) }
+{
+    match retire_exited(alloc, dir, pod, now) {
+        Ok(()) => Ok(Deed::Moved(Area::ExitedGarbage)),
+        Err(Setback::Busy(_)) => kept(alloc, dir, pod, Area::Run, Phase::Running),
+        Err(stop) => deed_of(Err(stop), Deed::Moved(Area::ExitedGarbage)),
+    }
+}
+
+// An exited pod in exited-garbage is let be while it is young, and deleted after that.
+fn deal_rested<D: Dir>(
+    alloc: Global,
+    dir: &mut D,
+    pod: PodId,
+    marked: Option<u64>,
+    times: Times,
+) -> Result<Deed, GcError>
+    requires active { IsActive (D.shown dir.old).local }
+    ensures worked { Worked D.observed (deals_with pod times.now area.ExitedGarbage) (D.shown dir.old) (D.shown dir.new) }
+    ensures cause { IfErr result (λ e. GcCause D.observed e (D.shown dir.old) (D.shown dir.new)) }
+    ensures deed { IfOk result (λ deed. D.observed ≡ true → DeedCause pod area.ExitedGarbage deed (D.shown dir.old).process (D.shown dir.old).trace (D.shown dir.new).trace) }
+    ensures aged { IfOk result (λ deed. RestsBy (is_young times.now times.grace marked) deed) }
+    ensures another { IfOk result (λ deed. D.observed ≡ true → Stays (MayRemove times.now) (D.shown dir.old) (λ s. BusyBecause pod deed (D.shown dir.old) (D.shown dir.new))) }
+    ensures ready { D.observed ≡ true → Stays (MayRemove times.now) (D.shown dir.old) (λ s. KeepsReady s (D.shown dir.new)) }
+{
+    if is_young(times.now, times.grace, marked) {
+        kept_exited(alloc, dir, pod)
+    } else {
+        deal_garbage(alloc, dir, pod, Area::ExitedGarbage, times.now)
+    }
+}
+
+// An exited pod is deleted once its grace is over since its latest mark, or where it has none. The marks
+// are listed before its lock is asked for.
+fn deal_exited_garbage<D: Dir>(
+    alloc: Global,
+    dir: &mut D,
+    pod: PodId,
+    times: Times,
+) -> Result<Deed, GcError>
+    requires active { IsActive (D.shown dir.old).local }
+    ensures worked { Worked D.observed (deals_with pod times.now area.ExitedGarbage) (D.shown dir.old) (D.shown dir.new) }
+    ensures cause { IfErr result (λ e. GcCause D.observed e (D.shown dir.old) (D.shown dir.new)) }
+    ensures deed { IfOk result (λ deed. D.observed ≡ true → DeedCause pod area.ExitedGarbage deed (D.shown dir.old).process (D.shown dir.old).trace (D.shown dir.new).trace) }
+    ensures aged { IfOk result (λ deed. D.observed ≡ true → RestedSo times pod deed (D.shown dir.old).process (D.shown dir.old).trace (D.shown dir.new).trace) }
+    ensures another { IfOk result (λ deed. D.observed ≡ true → Stays (MayRemove times.now) (D.shown dir.old) (λ s. BusyBecause pod deed (D.shown dir.old) (D.shown dir.new))) }
+    ensures ready { D.observed ≡ true → Stays (MayRemove times.now) (D.shown dir.old) (λ s. KeepsReady s (D.shown dir.new)) }
+{
+    match marked_at(alloc, dir, pod, Area::ExitedGarbage, b"marked-")? {
+        Some(marked) => deal_rested(alloc, dir, pod, marked, times),
+        None => Ok(Deed::Left),
+    }
+}
+
+// A pod in a garbage place is deleted.
+fn deal_garbage<D: Dir>(
+    alloc: Global,
+    dir: &mut D,
+    pod: PodId,
+    area: Area,
+    now: u64,
+) -> Result<Deed, GcError>
+    requires active { IsActive (D.shown dir.old).local }
+    requires garbage { is_garbage_place area ≡ true }
+    ensures worked { Worked D.observed (deals_with pod now area) (D.shown dir.old) (D.shown dir.new) }
+    ensures cause { IfErr result (λ e. GcCause D.observed e (D.shown dir.old) (D.shown dir.new)) }
+    ensures deed { IfOk result (λ deed. D.observed ≡ true → DeedCause pod area deed (D.shown dir.old).process (D.shown dir.old).trace (D.shown dir.new).trace) }
+    ensures ends { IfOk result (λ deed. (phase : Phase) → deed ≡ Deed.Kept phase → ⊥) }
+    ensures another { IfOk result (λ deed. D.observed ≡ true → Stays (MayRemove now) (D.shown dir.old) (λ s. BusyBecause pod deed (D.shown dir.old) (D.shown dir.new))) }
+    ensures ready { D.observed ≡ true → Stays (MayRemove now) (D.shown dir.old) (λ s. KeepsReady s (D.shown dir.new)) }
+{
+    let answer = delete_at(alloc, dir, pod, area, now);
+    deed_of(answer, Deed::Deleted)
+}
+
+/// Deals with a pod that the pass's listing of the area showed.
+pub(crate) fn deal<D: Dir>(
+    alloc: Global,
+    dir: &mut D,
+    area: Area,
+    pod: PodId,
+    times: Times,
+) -> Result<Deed, GcError>
+    requires active { IsActive (D.shown dir.old).local }
+    requires stage { is_stage area ≡ true }
+    ensures worked { Worked D.observed (deals_with pod times.now area) (D.shown dir.old) (D.shown dir.new) }
+    ensures cause { IfErr result (λ e. GcCause D.observed e (D.shown dir.old) (D.shown dir.new)) }
+    ensures dealt { IfOk result (λ deed. D.observed ≡ true → Dealt times pod area deed (D.shown dir.old).process (D.shown dir.old).trace (D.shown dir.new).trace) }
+    ensures another { IfOk result (λ deed. D.observed ≡ true → Stays (MayPass area times.now times.expire) (D.shown dir.old) (λ s. BusyBecause pod deed (D.shown dir.old) (D.shown dir.new))) }
+    ensures ready { D.observed ≡ true → Stays (MayPass area times.now times.expire) (D.shown dir.old) (λ s. KeepsReady s (D.shown dir.new)) }
+{
+    match area {
+        Area::Embryo => deal_embryo(alloc, dir, pod),
+        Area::Prepare => deal_prepare(alloc, dir, pod, times.now),
+        Area::Prepared => deal_prepared(alloc, dir, pod, times),
+        Area::Run => deal_run(alloc, dir, pod, times.now),
+        Area::ExitedGarbage => deal_exited_garbage(alloc, dir, pod, times),
+        Area::Garbage => deal_garbage(alloc, dir, pod, Area::Garbage, times.now),
+        _ => unreachable!(),
+    }
+}

@@ -1,0 +1,150 @@
+// One pass: the pods that a listing of its area shows, in byte order.
+ghost use Rattle.std.specs.Prelude.{◌≡◌, ◌++◌, ◌∷◌, [], true, IfOk, IfErr};
+ghost use Rattle.dir_model.specs.Areas.{is_stage};
+ghost use Rattle.dir_trait.specs.Local.{IsActive};
+ghost use Rattle.folder_building.specs.Work.{Worked};
+ghost use Rattle.pod_steps.specs.Holding.{KeepsReady, Stays};
+ghost use Rattle.pod_gc.specs.Requests.{anything};
+ghost use Rattle.pod_gc.specs.Causes.{GcCause};
+ghost use Rattle.pod_gc.specs.Sweeping.{MayPass, MaySweepAll};
+ghost use Rattle.pod_gc.specs.Told.{deals_with_some, AddsTold, AddsShown, AddsPassed};
+
+use crate::ages::Times;
+use crate::deals::deal;
+use crate::error::{GcError, listing_fault, lock_fault};
+use crate::line::{Deed, GcLine};
+use area_locks::{LockError, lock_area, unlock_area};
+use dir_files::names_of;
+use dir_trait::{Area, Dir, Mode, Name, PodId};
+use std::alloc::Global;
+
+fn push(lines: &mut Vec<GcLine>, line: GcLine) -> Result<(), GcError>
+    ensures items { IfOk result (λ done. lines.new.items ≡ lines.old.items ++ line ∷ []) }
+    ensures memory { IfErr result (λ e. e ≡ GcError.NoMemory) }
+{
+    match lines.push(line) {
+        Ok(()) => Ok(()),
+        Err(_) => Err(GcError::NoMemory),
+    }
+}
+
+// Deals with a folder that was listed, and says so. A folder whose name isn't a uuid is passed over.
+fn deal_next<D: Dir>(
+    alloc: Global,
+    dir: &mut D,
+    place: Area,
+    name: &Name,
+    times: Times,
+    lines: &mut Vec<GcLine>,
+) -> Result<(), GcError>
+    requires active { IsActive (D.shown dir.old).local }
+    requires stage { is_stage place ≡ true }
+    ensures worked { Worked D.observed (deals_with_some times.now place (name.now ∷ [])) (D.shown dir.old) (D.shown dir.new) }
+    ensures cause { IfErr result (λ e. GcCause D.observed e (D.shown dir.old) (D.shown dir.new)) }
+    ensures told { IfOk result (λ done. D.observed ≡ true → AddsTold times place (name.now ∷ []) (D.shown dir.old) (D.shown dir.new) lines.old.items lines.new.items) }
+    ensures ready { D.observed ≡ true → Stays (MayPass place times.now times.expire) (D.shown dir.old) (λ s. KeepsReady s (D.shown dir.new)) }
+{
+    match PodId::parse(name.as_str()) {
+        Some(id) => {
+            let deed = deal(alloc, dir, place, id, times)?;
+            let pod = Some(id);
+            push(lines, GcLine { place, pod, deed })
+        }
+        None => Ok(()),
+    }
+}
+
+fn deal_each<D: Dir>(
+    alloc: Global,
+    dir: &mut D,
+    place: Area,
+    names: &[Name],
+    times: Times,
+    lines: &mut Vec<GcLine>,
+) -> Result<(), GcError>
+    requires active { IsActive (D.shown dir.old).local }
+    requires stage { is_stage place ≡ true }
+    ensures worked { Worked D.observed (deals_with_some times.now place names.now) (D.shown dir.old) (D.shown dir.new) }
+    ensures cause { IfErr result (λ e. GcCause D.observed e (D.shown dir.old) (D.shown dir.new)) }
+    ensures told { IfOk result (λ done. D.observed ≡ true → AddsTold times place names.now (D.shown dir.old) (D.shown dir.new) lines.old.items lines.new.items) }
+    ensures ready { D.observed ≡ true → Stays (MayPass place times.now times.expire) (D.shown dir.old) (λ s. KeepsReady s (D.shown dir.new)) }
+{
+    'names: for name in names {
+        deal_next(alloc, dir, place, name, times, lines)?;
+    }
+    Ok(())
+}
+
+// Lists the area, and deals with each pod.
+fn pass_listed<D: Dir>(
+    alloc: Global,
+    dir: &mut D,
+    place: Area,
+    times: Times,
+    lines: &mut Vec<GcLine>,
+) -> Result<(), GcError>
+    requires active { IsActive (D.shown dir.old).local }
+    requires stage { is_stage place ≡ true }
+    ensures worked { Worked D.observed anything (D.shown dir.old) (D.shown dir.new) }
+    ensures cause { IfErr result (λ e. GcCause D.observed e (D.shown dir.old) (D.shown dir.new)) }
+    ensures told { IfOk result (λ done. D.observed ≡ true → AddsShown times place (D.shown dir.old) (D.shown dir.new) lines.old.items lines.new.items) }
+    ensures ready { D.observed ≡ true → Stays (MayPass place times.now times.expire) (D.shown dir.old) (λ s. KeepsReady s (D.shown dir.new)) }
+{
+    match names_of(alloc, dir, place) {
+        Ok(names) => deal_each(alloc, dir, place, names.as_slice(), times, lines),
+        Err(error) => Err(listing_fault(error)),
+    }
+}
+
+// The pass over embryo, under that area's lock: who makes a pod holds it shared.
+fn pass_embryo<D: Dir>(
+    alloc: Global,
+    dir: &mut D,
+    times: Times,
+    lines: &mut Vec<GcLine>,
+) -> Result<(), GcError>
+    requires active { IsActive (D.shown dir.old).local }
+    ensures worked { Worked D.observed anything (D.shown dir.old) (D.shown dir.new) }
+    ensures cause { IfErr result (λ e. GcCause D.observed e (D.shown dir.old) (D.shown dir.new)) }
+    ensures told { IfOk result (λ done. D.observed ≡ true → AddsPassed times Area.Embryo (D.shown dir.old) (D.shown dir.new) lines.old.items lines.new.items) }
+    ensures ready { D.observed ≡ true → Stays (MaySweepAll times.now times.expire) (D.shown dir.old) (λ s. KeepsReady s (D.shown dir.new)) }
+{
+    match lock_area(alloc, dir, Area::Embryo, Mode::Exclusive) {
+        Ok(gate) => {
+            let result = pass_listed(alloc, dir, Area::Embryo, times, lines);
+            unlock_area(dir, gate);
+            result
+        }
+        Err(LockError::Busy) => {
+            let deed = Deed::BusyGate;
+            let line = GcLine {
+                place: Area::Embryo,
+                pod: None,
+                deed,
+            };
+            push(lines, line)
+        }
+        Err(error) => Err(lock_fault(error)),
+    }
+}
+
+/// One pass, over one area.
+pub(crate) fn pass<D: Dir>(
+    alloc: Global,
+    dir: &mut D,
+    place: Area,
+    times: Times,
+    lines: &mut Vec<GcLine>,
+) -> Result<(), GcError>
+    requires active { IsActive (D.shown dir.old).local }
+    requires stage { is_stage place ≡ true }
+    ensures worked { Worked D.observed anything (D.shown dir.old) (D.shown dir.new) }
+    ensures cause { IfErr result (λ e. GcCause D.observed e (D.shown dir.old) (D.shown dir.new)) }
+    ensures told { IfOk result (λ done. D.observed ≡ true → AddsPassed times place (D.shown dir.old) (D.shown dir.new) lines.old.items lines.new.items) }
+    ensures ready { D.observed ≡ true → Stays (MaySweepAll times.now times.expire) (D.shown dir.old) (λ s. KeepsReady s (D.shown dir.new)) }
+{
+    match place {
+        Area::Embryo => pass_embryo(alloc, dir, times, lines),
+        _ => pass_listed(alloc, dir, place, times, lines),
+    }
+}
