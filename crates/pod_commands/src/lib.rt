@@ -5,4 +5,5 @@ pub mod prepare;
 mod refusals;
 mod wanted;
 
+pub use refusals::build_refusal;
 pub use wanted::{Wanted, are_references};

@@ -20,7 +20,8 @@ use pod_build::prepare;
 use pod_manifest::Options;
 use std::alloc::Global;
 
-fn pod_line(alloc: Global, pod: PodId) -> Result<Output, NoMemory>
+/// The line that names the pod. Refused only where memory ran out.
+pub fn pod_line(alloc: Global, pod: PodId) -> Result<Output, NoMemory>
     ensures { IfOk result (λ line. line ≡ pod_line pod) }
 {
     let name = pod.name();
@@ -29,7 +30,8 @@ fn pod_line(alloc: Global, pod: PodId) -> Result<Output, NoMemory>
     Ok(line)
 }
 
-fn no_options(alloc: Global) -> Options
+/// No volume and no mount.
+pub fn no_options(alloc: Global) -> Options
     ensures { result ≡ no_wishes }
 {
     let volumes = Sequence::new(alloc);

@@ -94,7 +94,7 @@ fn said(alloc: Global, words: &[Text], error: BuildError) -> Result<Refusal, NoM
 }
 
 /// What is said of a pod for these words that isn't prepared; or that memory ran out.
-pub(crate) fn build_refusal(alloc: Global, words: &[Text], error: BuildError) -> Refusal
+pub fn build_refusal(alloc: Global, words: &[Text], error: BuildError) -> Refusal
     requires { (place : ℕ) → error ≡ BuildError.NoMatch place → place < length words.now }
     ensures { IsSaid words.now error result }
 {

@@ -83,3 +83,6 @@ pub record HasSweptPods (times : Times) (old new : DirSeen) (text : List ℕ) : 
   pub lines : List GcLine
   pub is : text ≡ lines_text lines
   pub swept : Meanwhile (Sweeps times lines) old.process old.trace new.trace
+
+abbrev pub HasMetStrayInPods : DirSeen → DirSeen → Type 0
+HasMetStrayInPods old new = Meanwhile WasStray old.process old.trace new.trace

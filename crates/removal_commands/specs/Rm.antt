@@ -62,15 +62,21 @@ WhereRemoving pod now old P = old.observed ≡ true → (s : Seen) → Knows (sh
 abbrev pub IsOwnedIn : PodId → Phase → ℕ → List Event → List Event → Type 0
 IsOwnedIn pod phase me old new = is_owned_phase phase ≡ true → (area : Area) × AtOwnEvent me old new (IsOwnedElsewhere me pod phase area)
 
--- the pod had this phase at an own event, which doesn't allow its removal; and where that is of a pod with an owner, another process
--- was that
+-- in a conforming execution the pod had this phase at an own event, which doesn't allow its removal
+abbrev pub WasSo : PodId → Phase → ℕ → List Event → List Event → Type 0
+WasSo pod phase me old new = IsConforming new → WasWrong pod phase me old new
+
+-- and where that is of a pod with an owner, another process was that
+abbrev pub WasOwned : PodId → Phase → ℕ → List Event → List Event → Type 0
+WasOwned pod phase me old new = IsConforming new → IsOwnedIn pod phase me old new
+
 pub record FindsWrong (pod : PodId) (now : ℕ) (phase : Phase) (old new : DirSeen) : Type 0 where
-  pub was : old.observed ≡ true → IsConforming new.trace → WasWrong pod phase old.process old.trace new.trace
-  pub owner : WhereRemoving pod now old (IsConforming new.trace → IsOwnedIn pod phase old.process old.trace new.trace)
+  pub was : old.observed ≡ true → WasSo pod phase old.process old.trace new.trace
+  pub owner : WhereRemoving pod now old (WasOwned pod phase old.process old.trace new.trace)
 
 -- in a conforming execution the pod stood in prepared without its manifest, at an own step
-abbrev pub HadNoManifest : PodId → DirSeen → DirSeen → Type 0
-HadNoManifest pod old new = old.observed ≡ true → IsConforming new.trace → AtOwnStep old.process old.trace new.trace (LacksManifest pod)
+abbrev pub HadNoManifest : PodId → ℕ → List Event → List Event → Type 0
+HadNoManifest pod me old new = IsConforming new → AtOwnStep me old new (LacksManifest pod)
 
 -- an answer that what the locks keep doesn't explain; or six times, one after the other, it was found and then missed
 abbrev pub MeetsStray : PodId → ℕ → List Event → List Event → Type 0
@@ -81,7 +87,28 @@ abbrev pub RmSays : PodId → ℕ → DirSeen → DirSeen → Outcome → Type 0
 RmSays pod now old new (Ok text) = (text ≡ removed_text pod) × (old.observed ≡ true → Removes pod old.process old.trace new.trace)
 RmSays pod now old new (Err NoPod) = old.observed ≡ true → FoundNone pod old.process old.trace new.trace
 RmSays pod now old new (Err (WrongPhase phase)) = FindsWrong pod now phase old new
-RmSays pod now old new (Err (NoManifest other)) = (other ≡ pod) × HadNoManifest pod old new
+RmSays pod now old new (Err (NoManifest other)) = (other ≡ pod) × (old.observed ≡ true → HadNoManifest pod old.process old.trace new.trace)
 RmSays pod now old new (Err (PodBusy other which)) = (other ≡ pod) × WhereRemoving pod now old (IsBusyAt pod which old.process old.trace new.trace)
 RmSays pod now old new (Err Stray) = old.observed ≡ true → MeetsStray pod old.process old.trace new.trace
 RmSays pod now old new (Err refusal) = Unit {0}
+
+-- of a whole process: that it removed the pod, that it found none, that it found it in such a phase or without its manifest, that
+-- another process held its lock, that it met an answer which the locks don't explain
+abbrev pub HasRemovedPod : PodId → DirSeen → DirSeen → Type 0
+HasRemovedPod pod old new = Meanwhile (Removes pod) old.process old.trace new.trace
+
+abbrev pub HasFoundNoPod : PodId → DirSeen → DirSeen → Type 0
+HasFoundNoPod pod old new = Meanwhile (FoundNone pod) old.process old.trace new.trace
+
+pub record HasFoundWrong (pod : PodId) (phase : Phase) (old new : DirSeen) : Type 0 where
+  pub was : Meanwhile (WasSo pod phase) old.process old.trace new.trace
+  pub owner : Meanwhile (WasOwned pod phase) old.process old.trace new.trace
+
+abbrev pub HasFoundNoManifest : PodId → DirSeen → DirSeen → Type 0
+HasFoundNoManifest pod old new = Meanwhile (HadNoManifest pod) old.process old.trace new.trace
+
+abbrev pub HasFoundBusy : PodId → Which → DirSeen → DirSeen → Type 0
+HasFoundBusy pod which old new = Meanwhile (IsBusyAt pod which) old.process old.trace new.trace
+
+abbrev pub HasMetStrayAtPod : PodId → DirSeen → DirSeen → Type 0
+HasMetStrayAtPod pod old new = Meanwhile (MeetsStray pod) old.process old.trace new.trace

@@ -2,10 +2,12 @@
 use Rattle.std.proofs.Common.{arith, ◌≡◌, ◌⊎◌, inl, inr, ℕ, Bool, true, false, ◌||◌, ◌==◌, cond, List, Ok, Err, IfErr, refl, sym, ap, subst, ◌∙◌}
 use Rattle.std.proofs.lemmas.Bool.Decides.{nat_tests}
 use Rattle.dir_model.specs.declared.area.Area.{Area}
+use Rattle.dir_model.specs.declared.area.Phase.{Phase}
+use Rattle.dir_model.specs.declared.spot.Which.{Which}
 use Rattle.dir_model.specs.declared.pod.PodId.{PodId}
 use Rattle.rkt_cli.specs.declared.line.Line.{Line}
 use Rattle.command_outcomes.specs.declared.refusal.Refusal.{Refusal}
-use Rattle.command_outcomes.specs.declared.refusal.Refusal.TheVariants.{Usage, NoPod, Busy, BadManifest, NoImage, NoDependency, Cycle, Limit, DirFault, BundleFault, OutFault, NoMemory, NoFile, Conflict, Damaged, BadKind, Taken, Stray}
+use Rattle.command_outcomes.specs.declared.refusal.Refusal.TheVariants.{Usage, NoPod, Busy, BadManifest, NoImage, NoDependency, Cycle, Limit, DirFault, BundleFault, OutFault, NoMemory, NoFile, Conflict, Damaged, BadKind, Taken, WrongPhase, PodBusy, NoManifest, NoProgram, SpawnFault, Stray}
 use Rattle.command_outcomes.specs.Texts.{status_of}
 use Rattle.command_outcomes.specs.Moments.{SinkSeen, Outcome}
 use Rattle.rkt_cli.specs.Commands.{may}
@@ -17,10 +19,10 @@ absurd_number m n h apart = absurd (grind (arith, nat_tests))
 
 -- the end that a status stands for, but for those that name something
 abbrev pub end_of : ℕ → End
-end_of n = cond (n == 0) (Ok tt) (cond (n == 1) (Err Usage) (cond (n == 2) (Err NoPod) (cond (n == 9) (Err DirFault) (cond (n == 10) (Err BundleFault) (cond (n == 12) (Err OutFault) (cond (n == 20) (Err Stray) (Err NoMemory)))))))
+end_of n = cond (n == 0) (Ok tt) (cond (n == 1) (Err Usage) (cond (n == 2) (Err NoPod) (cond (n == 9) (Err DirFault) (cond (n == 10) (Err BundleFault) (cond (n == 11) (Err SpawnFault) (cond (n == 12) (Err OutFault) (cond (n == 20) (Err Stray) (Err NoMemory))))))))
 
 abbrev pub names : ℕ → Bool
-names n = (n == 5) || ((n == 6) || ((n == 7) || ((n == 8) || ((n == 15) || (n == 17)))))
+names n = (n == 4) || ((n == 5) || ((n == 6) || ((n == 7) || ((n == 8) || ((n == 15) || ((n == 17) || ((n == 18) || (n == 19))))))))
 
 end_again : (end : End) → names (end_status end) ≡ false → end ≡ end_of (end_status end)
 end_again (Ok done) plain = refl
@@ -28,6 +30,7 @@ end_again (Err Usage) plain = refl
 end_again (Err NoPod) plain = refl
 end_again (Err DirFault) plain = refl
 end_again (Err BundleFault) plain = refl
+end_again (Err SpawnFault) plain = refl
 end_again (Err OutFault) plain = refl
 end_again (Err NoMemory) plain = refl
 end_again (Err Stray) plain = refl
@@ -53,9 +56,22 @@ pub is_taken : (r : Refusal) → status_of r ≡ 17 → (pod : PodId) × (r ≡ 
 is_taken (Taken pod) is = (pod, refl)
 is_taken r is = absurd_number (status_of r) 17 is refl
 
-pub is_busy : (r : Refusal) → status_of r ≡ 5 → (area : Area) × (r ≡ Busy area)
-is_busy (Busy area) is = (area, refl)
+pub is_busy : (r : Refusal) → status_of r ≡ 5 → ((area : Area) × (r ≡ Busy area)) ⊎ ((pod : PodId) × (which : Which) × (r ≡ PodBusy pod which))
+is_busy (Busy area) is = inl (area, refl)
+is_busy (PodBusy pod which) is = inr (pod, which, refl)
 is_busy r is = absurd_number (status_of r) 5 is refl
+
+pub is_wrong_phase : (r : Refusal) → status_of r ≡ 4 → (phase : Phase) × (r ≡ WrongPhase phase)
+is_wrong_phase (WrongPhase phase) is = (phase, refl)
+is_wrong_phase r is = absurd_number (status_of r) 4 is refl
+
+pub is_no_manifest : (r : Refusal) → status_of r ≡ 18 → (pod : PodId) × (r ≡ NoManifest pod)
+is_no_manifest (NoManifest pod) is = (pod, refl)
+is_no_manifest r is = absurd_number (status_of r) 18 is refl
+
+pub is_no_program : (r : Refusal) → status_of r ≡ 19 → (app : List ℕ) × (word : List ℕ) × (r ≡ NoProgram app word)
+is_no_program (NoProgram app word) is = (app, word, refl)
+is_no_program r is = absurd_number (status_of r) 19 is refl
 
 -- the refusals of an output
 abbrev pub is_of_output : Refusal → Bool
@@ -78,6 +94,10 @@ unmatched_no_output r is = refl
 pub refusal_status : (r : Refusal) → (status_of r == 0) ≡ false
 refusal_status NoPod = refl
 refusal_status r = refl
+
+pub refusal_plain : (r : Refusal) → ((status_of r == 0) || (status_of r == 16)) ≡ false
+refusal_plain NoPod = refl
+refusal_plain r = refl
 
 abbrev refusal_in : End → Refusal → Refusal
 refusal_in (Ok done) other = other
@@ -113,6 +133,11 @@ refusal_known line (BadKind path) allowed = refl
 refusal_known line (Taken pod) allowed = refl
 refusal_known line (Limit number) allowed = refl
 refusal_known line Stray allowed = refl
+refusal_known line (WrongPhase phase) allowed = refl
+refusal_known line (PodBusy pod which) allowed = refl
+refusal_known line (NoManifest pod) allowed = refl
+refusal_known line (NoProgram app word) allowed = refl
+refusal_known line SpawnFault allowed = refl
 
 -- the others are the command's
 pub from_command : (o : Outcome) (old new : SinkSeen) (end : End) (r : Refusal) → Printed o old new end → end ≡ Err r → is_of_output r ≡ false → o ≡ Err r

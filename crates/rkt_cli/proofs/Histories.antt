@@ -1,5 +1,5 @@
 -- What a run tells of a pod was so, in an execution in which every process keeps the local rules.
-use Rattle.std.proofs.Common.{◌≡◌, inl, inr, ℕ, true, false, List, Option, Some, None, Ok, Err, refl, sym, ap, subst, ◌∙◌}
+use Rattle.std.proofs.Common.{◌≡◌, inl, inr, ℕ, ◌==◌, true, false, List, Option, Some, None, Ok, Err, refl, sym, ap, subst, ◌∙◌}
 use Rattle.dir_model.specs.declared.event.Event.{Event}
 use Rattle.dir_model.specs.declared.intent.Draw.{Draw}
 use Rattle.dir_model.specs.declared.intent.Intent.{Intent}
@@ -11,7 +11,7 @@ use Rattle.phase_read.specs.declared.found.Found.TheVariants.{At, Gone}
 use Rattle.phase_read.specs.Exact.{WasSo, AtOwnEvent, IsNowhere}
 use Rattle.phase_read.proofs.Exact.{was_within}
 use Rattle.rkt_cli.specs.declared.line.Line.{Line}
-use Rattle.rkt_cli.specs.declared.line.Line.TheVariants.{Status, Validate, ImageList, ImageImport, ImageRm, ImageGc, Prepare}
+use Rattle.rkt_cli.specs.declared.line.Line.TheVariants.{Status, Validate, ImageList, ImageImport, ImageRm, ImageGc, Prepare, RunPrepared, Run, Rm, Gc}
 use Rattle.command_outcomes.specs.declared.refusal.Refusal.TheVariants.{NoPod}
 use Rattle.rkt_cli.specs.Texts.{state_text}
 use Rattle.command_outcomes.specs.Moments.{Outside, Moment, Outcome}
@@ -21,6 +21,8 @@ use Rattle.rkt_cli.specs.Commands.{intent_of}
 use Rattle.rkt_cli.specs.Runs.{Performs, RunOfLine, RunOf, RunIs}
 use Rattle.rkt_cli.specs.Histories.{TellsPhase, WritesOf, TellsHistory, TellsDeed}
 use Rattle.rkt_cli.proofs.Ends.{absurd_number, end_at, from_command}
+use Rattle.rkt_cli.proofs.Grades.{plain_at}
+use Rattle.rkt_cli.proofs.PodRemovals.{rm_printed, rm_done, gc_done}
 use Rattle.rkt_cli.proofs.Imports.{import_stored}
 use Rattle.rkt_cli.proofs.Listed.{list_printed}
 use Rattle.rkt_cli.proofs.PodRan.{prepare_printed, prepare_faithful, prepare_synced}
@@ -96,6 +98,10 @@ module _ (now : ℕ) (draw : Draw) (old new : Moment) (status : ℕ) (t : old.ou
   tells_of (Some ImageList) r = tt
   tells_of (Some (ImageRm key)) r = tt
   tells_of (Some ImageGc) r = tt
+  tells_of (Some Gc) r = tt
+  tells_of (Some (Rm pod)) r = tt
+  tells_of (Some (Run words)) r = tt
+  tells_of (Some (RunPrepared pod)) r = tt
   tells_of (Some (Prepare words)) (inr n) = λ zero. absurd_number 0 14 (sym zero ∙ n.is) refl
   tells_of (Some (Prepare words)) (inl r) = pod_tells words r
   tells_of (Some (ImageImport path)) (inr n) = λ zero. absurd_number 0 14 (sym zero ∙ n.is) refl
@@ -104,7 +110,14 @@ module _ (now : ℕ) (draw : Draw) (old new : Moment) (status : ℕ) (t : old.ou
   tells_of (Some (Status pod)) (inl r) = line_tells pod r
 
 pub run_tells : {l : Option Line} {now : ℕ} {draw : Draw} {old new : Moment} {status : ℕ} → RunIs l now draw old new status → old.outside.dir.observed ≡ true → IsConforming new.outside.dir.trace → TellsHistory l now draw status old.outside new.outside old.out new.out
-run_tells {l} {now} {draw} {old} {new} {status} run t conforming = tells_of now draw old new status t conforming l run.ran
+run_tells {l} {now} {draw} {old} {new} {status} run t conforming = by l (tells_of now draw old new run.plain t conforming l run.ran) (λ n is apart. plain_at _ run.plain status n run.is is apart)
+  where
+    by : (k : Option Line) → TellsHistory k now draw run.plain old.outside new.outside old.out new.out → ((n : ℕ) → status ≡ n → (n == 16) ≡ false → run.plain ≡ n) → TellsHistory k now draw status old.outside new.outside old.out new.out
+    by (Some (Status pod)) x at = (λ zero. x.0 (at 0 zero refl), λ two. x.1 (at 2 two refl))
+    by (Some (ImageImport path)) x at = λ zero. x (at 0 zero refl)
+    by (Some (Prepare words)) x at = λ zero. x (at 0 zero refl)
+    by None x at = tt
+    by (Some line) x at = tt
 
 -- what it did, by its own answers
 module _ (now : ℕ) (draw : Draw) (old new : Moment) (status : ℕ) (t : old.outside.dir.observed ≡ true) where
@@ -116,7 +129,7 @@ module _ (now : ℕ) (draw : Draw) (old new : Moment) (status : ℕ) (t : old.ou
       let done = r.printed.done (end_at r.end status 0 r.is zero refl) in
       (done.0, so done.0 (subst (λ (o : Outcome). Performs line now draw (intent_of line now draw) old.outside new.outside o) done.1 r.performs), done.2)
 
-  deed_of : (l : Option Line) → RunOf l now draw old new status → TellsDeed l draw status old.outside.dir new.outside.dir old.out new.out
+  deed_of : (l : Option Line) → RunOf l now draw old new status → TellsDeed l now draw status old.outside.dir new.outside.dir old.out new.out
   deed_of None r = tt
   deed_of (Some (Status pod)) r = tt
   deed_of (Some (Validate path)) r = tt
@@ -125,7 +138,22 @@ module _ (now : ℕ) (draw : Draw) (old new : Moment) (status : ℕ) (t : old.ou
   deed_of (Some (ImageRm key)) r = wrote (ImageRm key) _ (λ text p. (removal_printed key now draw (intent_of (ImageRm key) now draw) old.outside new.outside text p, removal_done key now draw old.outside new.outside text p t)) r
   deed_of (Some (Prepare words)) r = wrote (Prepare words) _
       (λ text p. (prepare_printed words now draw (intent_of (Prepare words) now draw) old.outside new.outside text p, prepare_synced words now draw old.outside new.outside text p t)) r
+  deed_of (Some (RunPrepared pod)) r = tt
+  deed_of (Some (Run words)) r = tt
+  deed_of (Some (Rm pod)) r = wrote (Rm pod) _
+      (λ text p. (rm_printed pod now draw (intent_of (Rm pod) now draw) old.outside new.outside text p, rm_done pod now draw (intent_of (Rm pod) now draw) old.outside new.outside text p t)) r
+  deed_of (Some Gc) r = wrote Gc _ (λ text p. gc_done now draw old.outside new.outside text p t) r
   deed_of (Some ImageGc) r = wrote ImageGc _ (λ text p. sweep_done now draw old.outside new.outside text p t) r
 
-pub run_deed : {l : Option Line} {now : ℕ} {draw : Draw} {old new : Moment} {status : ℕ} → RunIs l now draw old new status → old.outside.dir.observed ≡ true → TellsDeed l draw status old.outside.dir new.outside.dir old.out new.out
-run_deed {l} {now} {draw} {old} {new} {status} run t = deed_of now draw old new status t l run.ran
+pub run_deed : {l : Option Line} {now : ℕ} {draw : Draw} {old new : Moment} {status : ℕ} → RunIs l now draw old new status → old.outside.dir.observed ≡ true → TellsDeed l now draw status old.outside.dir new.outside.dir old.out new.out
+run_deed {l} {now} {draw} {old} {new} {status} run t = by l (deed_of now draw old new run.plain t l run.ran) (λ is. plain_at _ run.plain status 0 run.is is refl)
+  where
+    by : (k : Option Line) → TellsDeed k now draw run.plain old.outside.dir new.outside.dir old.out new.out → (status ≡ 0 → run.plain ≡ 0) → TellsDeed k now draw status old.outside.dir new.outside.dir old.out new.out
+    by (Some ImageList) x at = λ zero. x (at zero)
+    by (Some (ImageRm key)) x at = λ zero. x (at zero)
+    by (Some ImageGc) x at = λ zero. x (at zero)
+    by (Some (Prepare words)) x at = λ zero. x (at zero)
+    by (Some (Rm pod)) x at = λ zero. x (at zero)
+    by (Some Gc) x at = λ zero. x (at zero)
+    by None x at = tt
+    by (Some line) x at = tt

@@ -5,6 +5,9 @@ pub mod Ends
 pub mod Sessions
 pub mod Outcomes
 pub mod Listed
+pub mod Grades
+pub mod PodRemovals
+pub mod AppsRan
 pub mod Statuses
 pub mod QuietRun
 pub mod Conforming

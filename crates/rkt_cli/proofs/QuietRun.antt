@@ -26,8 +26,9 @@ use Rattle.image_removal.specs.Requests.{removes_at, sweeps}
 use Rattle.image_removal.proofs.Begun.{begun_removes}
 use Rattle.phase_read.specs.Read.{is_pod_spot}
 use Rattle.phase_read.proofs.Quiet.{read_quiet}
+use Rattle.rkt_cli.proofs.Grades.{graded_or}
 use Rattle.rkt_cli.specs.declared.line.Line.{Line}
-use Rattle.rkt_cli.specs.declared.line.Line.TheVariants.{Status, Validate, ImageList, ImageImport, ImageRm, ImageGc, Prepare}
+use Rattle.rkt_cli.specs.declared.line.Line.TheVariants.{Status, Validate, ImageList, ImageImport, ImageRm, ImageGc, Prepare, RunPrepared, Run, Rm, Gc}
 use Rattle.command_outcomes.specs.declared.refusal.Refusal.TheVariants.{Usage, Busy, NoImage, DirFault, BundleFault, NoMemory, Damaged, Stray}
 use Rattle.command_outcomes.specs.Moments.{BundleSeen, Outside, Moment, SinkSeen, Outcome}
 use Rattle.command_outcomes.specs.Ends.{is_own_end, IsUnchanged, StaysBeside}
@@ -38,7 +39,7 @@ use Rattle.store_commands.specs.ImageRm.{image_rm_refusal, is_removal_place, Fin
 use Rattle.store_commands.specs.ImageGc.{is_swept_place, SweepsQuietly}
 use Rattle.command_outcomes.specs.Conforming.{begun}
 use Rattle.rkt_cli.specs.Commands.{intent_for, intent_of, asks, ComesQuietly, LeavesQuietly}
-use Rattle.rkt_cli.specs.Runs.{CommandRan, Performs, InProcess, Apart, Printed, RunOf, RunIs, end_status}
+use Rattle.rkt_cli.specs.Runs.{CommandRan, Performs, InProcess, Apart, Printed, well_in, RunOf, RunIs, end_status}
 use Rattle.rkt_cli.specs.Statuses.{IsAnswer, IsUndisturbed, Works, IsQuietAnswer}
 use Rattle.rkt_cli.proofs.Judged.{judged_whole}
 use Rattle.command_outcomes.proofs.Seen.{rose_wider}
@@ -98,13 +99,13 @@ module _ (line : Line) (now : ℕ) (draw : Draw) (intent : Intent) (old new : Ou
   ends_own : (o ≡ Err NoMemory) ⊎ (is_own_end o ≡ true)
   ends_own = own_end line now draw s.begun s.ended o s.ran undisturbed_act
 
-  unchanged : ((r : Request) → asks line draw r ≡ true → is_harmless r ≡ true) → IsUnchanged (state_after old.dir.trace) (state_after new.dir.trace)
+  unchanged : ((r : Request) → asks line now draw r ≡ true → is_harmless r ≡ true) → IsUnchanged (state_after old.dir.trace) (state_after new.dir.trace)
   unchanged harmless =
       let q = u.alone s.uses in
       let same = end_quiet (all_parts s t is_harmless refl harmless refl) q (idle s t q) in
       record { folders = same.folders; owned = same.owned }
 
-  tame_unchanged : ((r : Request) → asks line draw r ≡ true → is_tame r ≡ true) → IsUnchanged (state_after old.dir.trace) (state_after new.dir.trace)
+  tame_unchanged : ((r : Request) → asks line now draw r ≡ true → is_tame r ≡ true) → IsUnchanged (state_after old.dir.trace) (state_after new.dir.trace)
   tame_unchanged tame =
       let q = u.alone s.uses in
       let end = end_tame (all_parts s t is_tame refl tame refl) q (idle s t q) in
@@ -308,6 +309,10 @@ comes_of ImageGc now draw intent old new o said s u own =
     sweep_quiet now draw old new o (subst (λ (i : Intent). InProcess ImageGc now draw i old new o) (let e : intent ≡ intent_for kind.ImageGc [] now draw = cc in e) s) u own
 comes_of (Prepare words) now draw intent old new o said s u own =
     prepare_quiet words now draw old new o (subst (λ (i : Intent). InProcess (Prepare words) now draw i old new o) (let e : intent ≡ prepare_intent now draw = cc in e) s) u own
+comes_of (RunPrepared pod) now draw intent old new o said s u own = tt
+comes_of (Run words) now draw intent old new o said s u own = tt
+comes_of (Rm pod) now draw intent old new o said s u own = tt
+comes_of Gc now draw intent old new o said s u own = tt
 
 comes_apart : (line : Line) (now : ℕ) (draw : Draw) (old new : Outside) (o : Outcome) → Apart line now draw old new o → IsUndisturbed (Some line) old new → is_own_end o ≡ true → ComesQuietly line now draw old new o
 comes_apart (Status pod) now draw old new o p u own = let clash : true ≡ false = p.apart in cc
@@ -317,6 +322,10 @@ comes_apart (ImageImport path) now draw old new o p u own = let clash : true ≡
 comes_apart (ImageRm key) now draw old new o p u own = let clash : true ≡ false = p.apart in cc
 comes_apart ImageGc now draw old new o p u own = let clash : true ≡ false = p.apart in cc
 comes_apart (Prepare words) now draw old new o p u own = let clash : true ≡ false = p.apart in cc
+comes_apart (RunPrepared pod) now draw old new o p u own = let clash : true ≡ false = p.apart in cc
+comes_apart (Run words) now draw old new o p u own = let clash : true ≡ false = p.apart in cc
+comes_apart (Rm pod) now draw old new o p u own = let clash : true ≡ false = p.apart in cc
+comes_apart Gc now draw old new o p u own = let clash : true ≡ false = p.apart in cc
 
 -- what each command leaves
 leaves_quietly : (line : Line) (now : ℕ) (draw : Draw) (intent : Intent) (old new : Outside) (o : Outcome) → InProcess line now draw intent old new o → IsUndisturbed (Some line) old new → LeavesQuietly line now draw old.bundle.tree (state_after old.dir.trace) (state_after new.dir.trace)
@@ -327,6 +336,10 @@ leaves_quietly (ImageImport path) now draw intent old new o s u = import_leaves 
 leaves_quietly (ImageRm key) now draw intent old new o s u = removal_leaves key now draw intent old new o s u
 leaves_quietly ImageGc now draw intent old new o s u = sweep_leaves now draw intent old new o s u
 leaves_quietly (Prepare words) now draw intent old new o s u = prepare_leaves words now draw intent old new o s u
+leaves_quietly (RunPrepared pod) now draw intent old new o s u = tt
+leaves_quietly (Run words) now draw intent old new o s u = tt
+leaves_quietly (Rm pod) now draw intent old new o s u = tt
+leaves_quietly Gc now draw intent old new o s u = tt
 
 leaves_apart : (line : Line) (now : ℕ) (draw : Draw) (old new : Outside) (o : Outcome) → Apart line now draw old new o → LeavesQuietly line now draw old.bundle.tree (state_after old.dir.trace) (state_after new.dir.trace)
 leaves_apart (Status pod) now draw old new o p = let clash : true ≡ false = p.apart in cc
@@ -336,6 +349,10 @@ leaves_apart (ImageImport path) now draw old new o p = let clash : true ≡ fals
 leaves_apart (ImageRm key) now draw old new o p = let clash : true ≡ false = p.apart in cc
 leaves_apart ImageGc now draw old new o p = let clash : true ≡ false = p.apart in cc
 leaves_apart (Prepare words) now draw old new o p = let clash : true ≡ false = p.apart in cc
+leaves_apart (RunPrepared pod) now draw old new o p = let clash : true ≡ false = p.apart in cc
+leaves_apart (Run words) now draw old new o p = let clash : true ≡ false = p.apart in cc
+leaves_apart (Rm pod) now draw old new o p = let clash : true ≡ false = p.apart in cc
+leaves_apart Gc now draw old new o p = let clash : true ≡ false = p.apart in cc
 
 abbrev IsQuiet : Line → ℕ → Draw → Outside → Outside → Outcome → Type 0
 IsQuiet line now draw old new o =
@@ -355,13 +372,17 @@ said_quiet o old new status (inr (inr x)) works = inr x
 
 module _ (now : ℕ) (draw : Draw) (old new : Moment) (status : ℕ) where
   quiet_of : (l : Option Line) → RunOf l now draw old new status → IsUndisturbed l old.outside new.outside → Works old.out new.out → IsQuietAnswer l now draw status old new
-  quiet_of None r u works = inr (Err Usage, refl, (r.is, λ t. ap (λ (s : SinkSeen). s.bytes) r.out, r.reported), tt)
+  quiet_of None r u works = inr (inr (Err Usage, refl, (r.is, λ t. ap (λ (s : SinkSeen). s.bytes) r.out, r.reported), tt))
   quiet_of (Some line) (inr n) u works = inl n.is
   quiet_of (Some line) (inl r) u works = by (performs_quiet line now draw (intent_of line now draw) old.outside new.outside r.outcome refl r.performs u)
     where
       by : IsQuiet line now draw old.outside new.outside r.outcome → IsQuietAnswer (Some line) now draw status old new
       by (inl e) = inl (r.is ∙ ap end_status ((subst (λ (o : Outcome). Printed o old.out new.out r.end) e r.printed).refused.0))
-      by (inr (comes, left)) = elim (said_quiet r.outcome old new status (answered r.outcome old new r.end status r.printed r.reported r.is) works) [ inl x ↦ inl x | inr x ↦ inr (r.outcome, comes, x, left) ]
+      by (inr (comes, left)) = elim (said_quiet r.outcome old new status (answered r.outcome old new r.end status r.printed r.reported r.is) works) [ inl x ↦ inl x | inr x ↦ inr (inr (r.outcome, comes, x, left)) ]
 
 pub quiet : {l : Option Line} {now : ℕ} {draw : Draw} {old new : Moment} {status : ℕ} → RunIs l now draw old new status → IsUndisturbed l old.outside new.outside → Works old.out new.out → IsQuietAnswer l now draw status old new
-quiet {l} {now} {draw} {old} {new} {status} run u works = quiet_of now draw old new status l run.ran u works
+quiet {l} {now} {draw} {old} {new} {status} run u works =
+    elim (graded_or (well_in l now draw old new run.plain run.ran) run.plain) [
+      inl same ↦ subst (λ (n : ℕ). IsQuietAnswer l now draw n old new) (sym (run.is ∙ same)) (quiet_of now draw old new run.plain l run.ran u works)
+    | inr sixteen ↦ inr (inl (run.is ∙ sixteen))
+    ]

@@ -71,21 +71,21 @@ module _ {line : Line} {now : ℕ} {draw : Draw} {intent : Intent} {old new : Ou
   pub begin_part : (asked : Request → Bool) → asked (Begin intent) ≡ true → Extends asked old.dir.process old.dir.trace s.begun.dir.trace
   begin_part asked is = step_extends asked old.dir.process old.dir.trace (Begin intent) Done s.begun.dir.trace is (s.begins t)
 
-  pub act_part : Extends (asks line draw) old.dir.process s.begun.dir.trace s.ended.dir.trace
-  act_part = subst (λ (p : ℕ). Extends (asks line draw) p s.begun.dir.trace s.ended.dir.trace) s.me (s.ran.extends (s.told ∙ t))
+  pub act_part : Extends (asks line now draw) old.dir.process s.begun.dir.trace s.ended.dir.trace
+  act_part = subst (λ (p : ℕ). Extends (asks line now draw) p s.begun.dir.trace s.ended.dir.trace) s.me (s.ran.extends (s.told ∙ t))
 
   pub finish_part : (asked : Request → Bool) → asked Finish ≡ true → Extends asked old.dir.process s.ended.dir.trace new.dir.trace
   finish_part asked is = step_extends asked old.dir.process s.ended.dir.trace Finish Done new.dir.trace is (subst (λ (p : ℕ). CallStep p s.ended.dir.trace Finish Done new.dir.trace) (s.ran.same ∙ s.me) (s.finishes t))
 
   -- the three together
-  pub all_parts : (asked : Request → Bool) → asked (Begin intent) ≡ true → ((r : Request) → asks line draw r ≡ true → asked r ≡ true) → asked Finish ≡ true → Extends asked old.dir.process old.dir.trace new.dir.trace
+  pub all_parts : (asked : Request → Bool) → asked (Begin intent) ≡ true → ((r : Request) → asks line now draw r ≡ true → asked r ≡ true) → asked Finish ≡ true → Extends asked old.dir.process old.dir.trace new.dir.trace
   all_parts asked begins wider finishes = and_more (and_more (begin_part asked begins) refl (extends_wider wider act_part)) refl (finish_part asked finishes)
 
   -- nobody else stepped at the begin, nor meanwhile
   pub quiet_begin : Quiet old.dir.process old.dir.trace new.dir.trace → Quiet old.dir.process old.dir.trace s.begun.dir.trace
   quiet_begin q =
       let first = begin_part any_call refl in
-      quiet_within q (nothing_yet {asks = any_call}) (and_more (extends_wider {asks = asks line draw} {asks' = any_call} (λ r h. refl) act_part) refl (finish_part any_call refl)) first.more first.grown
+      quiet_within q (nothing_yet {asks = any_call}) (and_more (extends_wider {asks = asks line now draw} {asks' = any_call} (λ r h. refl) act_part) refl (finish_part any_call refl)) first.more first.grown
 
   pub quiet_act : Quiet old.dir.process old.dir.trace new.dir.trace → Quiet old.dir.process s.begun.dir.trace s.ended.dir.trace
   quiet_act q = quiet_within q (begin_part any_call refl) (finish_part any_call refl) act_part.more act_part.grown

@@ -15,7 +15,7 @@ use Rattle.phase_read.specs.Read.{is_pod_spot}
 use Rattle.dir_trait.specs.State.{DirState}
 use Rattle.dir_trait.specs.Trace.{state_after}
 use Rattle.rkt_cli.specs.declared.line.Line.{Line}
-use Rattle.rkt_cli.specs.declared.line.Line.TheVariants.{Status, Validate, ImageList, ImageImport, ImageRm, ImageGc, Prepare}
+use Rattle.rkt_cli.specs.declared.line.Line.TheVariants.{Status, Validate, ImageList, ImageImport, ImageRm, ImageGc, Prepare, RunPrepared, Run, Rm, Gc}
 use Rattle.command_outcomes.specs.declared.refusal.Refusal.{Refusal}
 use Rattle.command_outcomes.specs.declared.refusal.Refusal.TheVariants.{Usage, DirFault, BundleFault, OutFault, NoMemory}
 use Rattle.command_outcomes.specs.Moments.{BundleSeen, Outside, Outcome}
@@ -28,6 +28,13 @@ use Rattle.store_commands.specs.ImageGc.{image_gc_refusal, ImageGcSays, SweepsQu
 use Rattle.pod_commands.specs.Refusals.{prepare_refusal}
 use Rattle.pod_commands.specs.Prepare.{prepares_pod, PrepareSays}
 use Rattle.pod_commands.specs.Quiet.{PreparesQuietly, is_pod_place}
+use Rattle.run_commands.specs.Refusals.{run_prepared_refusal, new_run_refusal}
+use Rattle.run_commands.specs.RunPrepared.{runs_prepared}
+use Rattle.run_commands.specs.Run.{makes_and_runs}
+use Rattle.removal_commands.specs.Rm.{rm_refusal, RmSays}
+use Rattle.removal_commands.specs.Gc.{times_of, gc_refusal, GcSays}
+use Rattle.pod_removal.specs.Requests.{removes}
+use Rattle.pod_gc.specs.Requests.{anything}
 use Rattle.rkt_cli.specs.Validate.{validate_refusal, ValidateSays, ReadsFile, sequential_validate}
 
 -- whether it works on the directory, and whether it reads the bundle
@@ -39,6 +46,10 @@ uses_dir (ImageImport path) = true
 uses_dir (ImageRm key) = true
 uses_dir ImageGc = true
 uses_dir (Prepare words) = true
+uses_dir (RunPrepared pod) = true
+uses_dir (Run words) = true
+uses_dir (Rm pod) = true
+uses_dir Gc = true
 
 abbrev pub reads_bundle : Line → Bool
 reads_bundle (Status pod) = false
@@ -48,10 +59,31 @@ reads_bundle (ImageImport path) = true
 reads_bundle (ImageRm key) = false
 reads_bundle ImageGc = false
 reads_bundle (Prepare words) = false
+reads_bundle (RunPrepared pod) = false
+reads_bundle (Run words) = false
+reads_bundle (Rm pod) = false
+reads_bundle Gc = false
+
+-- and whether it starts apps
+abbrev pub runs_apps : Line → Bool
+runs_apps (RunPrepared pod) = true
+runs_apps (Run words) = true
+runs_apps line = false
 
 -- what a process says when it begins that has no times of its own
 abbrev pub intent_for : Kind → List ℕ → ℕ → Draw → Intent
 intent_for kind word now draw = record { kind = kind; word = word; now = now; grace = 0; expire = 0; draw = draw.uuid; token = draw.token }
+
+-- how long an exited pod rests since it was marked, and a prepared one since it was made, in seconds: half an hour, and a day
+abbrev pub grace_time : ℕ
+grace_time = 1800
+
+abbrev pub expire_time : ℕ
+expire_time = 86400
+
+-- what a sweep says of them
+abbrev pub gc_intent : ℕ → Draw → Intent
+gc_intent now draw = record { kind = kind.Gc; word = []; now = now; grace = grace_time; expire = expire_time; draw = draw.uuid; token = draw.token }
 
 -- what its process says when it begins. A command that doesn't work on the directory begins none
 abbrev pub intent_of : Line → ℕ → Draw → Option Intent
@@ -62,20 +94,30 @@ intent_of (ImageImport path) now draw = Some (intent_for kind.ImageImport [] now
 intent_of (ImageRm key) now draw = Some (intent_for kind.ImageRm [] now draw)
 intent_of ImageGc now draw = Some (intent_for kind.ImageGc [] now draw)
 intent_of (Prepare words) now draw = Some (intent_for kind.Prepare [] now draw)
+intent_of (RunPrepared pod) now draw = Some (intent_for kind.RunPrepared (pod_text pod.bytes) now draw)
+intent_of (Run words) now draw = Some (intent_for kind.Run [] now draw)
+intent_of (Rm pod) now draw = Some (intent_for kind.Rm (pod_text pod.bytes) now draw)
+intent_of Gc now draw = Some (gc_intent now draw)
 
 -- what it asks of the directory, which may be of what was drawn for it: `status` looks at the pod's six locations, `image list` asks
 -- for images and their lock, `image import` also for the lock of incoming and for its own folder; `image rm` for the locks of images
 -- and removed, for its image's move and for the deletion of what was moved; `image gc` for the locks and listings of incoming and
 -- removed, for moves from the first to the second and for deletions there; `prepare` for the locks of images and embryo, for reads of
--- images, for its own folder, its lock and its moves, and for the sync of prepared
-abbrev pub asks : Line → Draw → Request → Bool
-asks (Status pod) draw request = is_look_at (is_pod_spot pod) request
-asks (Validate path) draw request = false
-asks ImageList draw request = lists_images request
-asks (ImageImport path) draw request = imports_at (building_spot draw.uuid) request
-asks (ImageRm key) draw request = removes_at key draw.uuid request
-asks ImageGc draw request = sweeps request
-asks (Prepare words) draw request = prepares_pod draw.uuid request
+-- images, for its own folder, its lock and its moves, and for the sync of prepared; `run-prepared` looks for the pod, asks for its locks and
+-- for its move to run, reads it there and makes its notes; `run` asks for what a prepare asks for that leads to run, and then so; `rm` looks
+-- for the pod, asks for its locks, its mark and its moves to a garbage place, and for its deletion there; of `gc` its lines tell that
+abbrev pub asks : Line → ℕ → Draw → Request → Bool
+asks (Status pod) now draw request = is_look_at (is_pod_spot pod) request
+asks (Validate path) now draw request = false
+asks ImageList now draw request = lists_images request
+asks (ImageImport path) now draw request = imports_at (building_spot draw.uuid) request
+asks (ImageRm key) now draw request = removes_at key draw.uuid request
+asks ImageGc now draw request = sweeps request
+asks (Prepare words) now draw request = prepares_pod draw.uuid request
+asks (RunPrepared pod) now draw request = runs_prepared pod request
+asks (Run words) now draw request = makes_and_runs draw.uuid request
+asks (Rm pod) now draw request = removes pod now request
+asks Gc now draw request = anything request
 
 -- the refusals of its own
 abbrev pub own_refusal : Line → Refusal → Bool
@@ -86,6 +128,10 @@ own_refusal (ImageImport path) refusal = image_import_refusal refusal
 own_refusal (ImageRm key) refusal = image_rm_refusal refusal
 own_refusal ImageGc refusal = image_gc_refusal refusal
 own_refusal (Prepare words) refusal = prepare_refusal refusal
+own_refusal (RunPrepared pod) refusal = run_prepared_refusal refusal
+own_refusal (Run words) refusal = new_run_refusal refusal
+own_refusal (Rm pod) refusal = rm_refusal refusal
+own_refusal Gc refusal = gc_refusal refusal
 
 -- the refusals that it may have
 abbrev pub may : Line → Refusal → Bool
@@ -96,7 +142,7 @@ may line Usage = false
 may line OutFault = false
 may line refusal = own_refusal line refusal
 
--- what a process of it has open before: for `status` no handle on the lock of that pod
+-- what a process of it has open before: for `status` and `rm` no handle on the lock of that pod, to run apps nothing
 abbrev pub IsReady : Line → Local → Type 0
 IsReady (Status pod) m = has_own_open m (pod_text pod.bytes) ≡ false
 IsReady (Validate path) m = Unit {0}
@@ -105,8 +151,12 @@ IsReady (ImageImport path) m = Unit {0}
 IsReady (ImageRm key) m = Unit {0}
 IsReady ImageGc m = Unit {0}
 IsReady (Prepare words) m = Unit {0}
+IsReady (RunPrepared pod) m = m.holdings ≡ []
+IsReady (Run words) m = m.holdings ≡ []
+IsReady (Rm pod) m = has_own_open m (pod_text pod.bytes) ≡ false
+IsReady Gc m = Unit {0}
 
--- what it did, where it came to an end of its own
+-- what it did, where it came to an end of its own. What a command did that runs apps is told with the spawner
 abbrev pub CommandSays : Line → ℕ → Draw → Outside → Outside → Outcome → Type 0
 CommandSays (Status pod) now draw old new o = is_own_end o ≡ true → StatusSays pod old.dir new.dir o
 CommandSays (Validate path) now draw old new o = is_own_end o ≡ true → ValidateSays path old.bundle o
@@ -115,6 +165,10 @@ CommandSays (ImageImport path) now draw old new o = ImageImportSays path now dra
 CommandSays (ImageRm key) now draw old new o = ImageRmSays key draw.uuid old.dir new.dir o
 CommandSays ImageGc now draw old new o = ImageGcSays old.dir new.dir o
 CommandSays (Prepare words) now draw old new o = PrepareSays words now draw old.dir new.dir o
+CommandSays (RunPrepared pod) now draw old new o = Unit {0}
+CommandSays (Run words) now draw old new o = Unit {0}
+CommandSays (Rm pod) now draw old new o = RmSays pod now old.dir new.dir o
+CommandSays Gc now draw old new o = GcSays (times_of now grace_time expire_time) old.dir new.dir o
 
 -- what it reads of the bundle
 abbrev pub ReadsOnly : Line → BundleSeen → BundleSeen → Type 0
@@ -125,8 +179,13 @@ ReadsOnly (ImageImport path) old new = Unit {0}
 ReadsOnly (ImageRm key) old new = Unit {0}
 ReadsOnly ImageGc old new = Unit {0}
 ReadsOnly (Prepare words) old new = Unit {0}
+ReadsOnly (RunPrepared pod) old new = Unit {0}
+ReadsOnly (Run words) old new = Unit {0}
+ReadsOnly (Rm pod) old new = Unit {0}
+ReadsOnly Gc old new = Unit {0}
 
--- what it comes to where nobody else steps: for `status` and `validate` by the state and the bundle before
+-- what it comes to where nobody else steps: for `status` and `validate` by the state and the bundle before. Of the commands that run or
+-- remove pods nothing more is said than always
 abbrev pub ComesQuietly : Line → ℕ → Draw → Outside → Outside → Outcome → Type 0
 ComesQuietly (Status pod) now draw old new o = o ≡ sequential_status pod (state_after old.dir.trace)
 ComesQuietly (Validate path) now draw old new o = o ≡ sequential_validate path old.bundle.tree
@@ -135,6 +194,10 @@ ComesQuietly (ImageImport path) now draw old new o = ImportsQuietly path now dra
 ComesQuietly (ImageRm key) now draw old new o = RemovesQuietly key draw.uuid old.dir new.dir o
 ComesQuietly ImageGc now draw old new o = SweepsQuietly old.dir new.dir o
 ComesQuietly (Prepare words) now draw old new o = PreparesQuietly words now draw old.dir new.dir o
+ComesQuietly (RunPrepared pod) now draw old new o = Unit {0}
+ComesQuietly (Run words) now draw old new o = Unit {0}
+ComesQuietly (Rm pod) now draw old new o = Unit {0}
+ComesQuietly Gc now draw old new o = Unit {0}
 
 -- and what it leaves in the directory then, from one state to the other: by its moment, its draw and the bundle's tree
 abbrev pub LeavesQuietly : Line → ℕ → Draw → Tree → DirState → DirState → Type 0
@@ -145,3 +208,7 @@ LeavesQuietly (ImageImport path) now draw tree old new = LeavesOthers draw.uuid 
 LeavesQuietly (ImageRm key) now draw tree old new = StaysBeside (is_removal_place key draw.uuid) old new
 LeavesQuietly ImageGc now draw tree old new = StaysBeside is_swept_place old new
 LeavesQuietly (Prepare words) now draw tree old new = StaysBeside (is_pod_place draw.uuid) old new
+LeavesQuietly (RunPrepared pod) now draw tree old new = Unit {0}
+LeavesQuietly (Run words) now draw tree old new = Unit {0}
+LeavesQuietly (Rm pod) now draw tree old new = Unit {0}
+LeavesQuietly Gc now draw tree old new = Unit {0}

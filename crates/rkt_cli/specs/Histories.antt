@@ -9,12 +9,15 @@ use Rattle.dir_model.specs.declared.request.DirError.TheVariants.{Failed, NoMemo
 use Rattle.dir_model.specs.declared.request.Reply.TheVariants.{Refused}
 use Rattle.phase_read.specs.Exact.{AtOwnEvent, IsInPhase, IsNowhere}
 use Rattle.rkt_cli.specs.declared.line.Line.{Line}
-use Rattle.rkt_cli.specs.declared.line.Line.TheVariants.{Status, ImageList, ImageImport, ImageRm, ImageGc, Prepare}
+use Rattle.rkt_cli.specs.declared.line.Line.TheVariants.{Status, ImageList, ImageImport, ImageRm, ImageGc, Prepare, Rm, Gc}
 use Rattle.rkt_cli.specs.Texts.{state_text}
 use Rattle.store_commands.specs.ImageImport.{StoresImage}
 use Rattle.store_commands.specs.ImageList.{ListsStore}
 use Rattle.store_commands.specs.ImageRm.{removed_text, HasRemoved}
 use Rattle.store_commands.specs.ImageGc.{HasSwept}
+use Rattle.removal_commands.specs.Rm as rm
+use Rattle.removal_commands.specs.Gc as gc
+use Rattle.rkt_cli.specs.Commands.{grace_time, expire_time}
 use Rattle.pod_commands.specs.Prepare.{pod_line, IsFaithful, HasBrought, HasSynced, HasKeptFolder}
 use Rattle.command_outcomes.specs.Moments.{DirSeen, Outside, SinkSeen}
 
@@ -43,13 +46,16 @@ TellsHistory _ now draw status old new out written = Unit {0}
 
 -- with status 0, by its own answers: `image list` wrote the lines of the images that it read; `image rm` wrote that the image is
 -- removed, and removed it; `image gc` wrote the lines of what it did; `prepare` wrote the drawn name, and before that it brought the pod
--- to prepared, and then synced that area
-abbrev pub TellsDeed : Option Line → Draw → ℕ → DirSeen → DirSeen → SinkSeen → SinkSeen → Type 0
-TellsDeed (Some ImageList) draw status old new out written = status ≡ 0 → WritesOf (ListsStore old new) out written
-TellsDeed (Some (ImageRm key)) draw status old new out written = status ≡ 0 → WritesOf (λ text. (text ≡ removed_text key) × HasRemoved key draw.uuid old new) out written
-TellsDeed (Some ImageGc) draw status old new out written = status ≡ 0 → WritesOf (HasSwept old new) out written
-TellsDeed (Some (Prepare words)) draw status old new out written = status ≡ 0 → WritesOf (λ text. (text ≡ pod_line draw.uuid) × HasSynced draw.uuid old new) out written
-TellsDeed _ draw status old new out written = Unit {0}
+-- to prepared, and then synced that area; `rm` wrote that the pod is removed, and removed it, or found it gone after it had been there; `gc`
+-- wrote the lines of its six passes
+abbrev pub TellsDeed : Option Line → ℕ → Draw → ℕ → DirSeen → DirSeen → SinkSeen → SinkSeen → Type 0
+TellsDeed (Some ImageList) now draw status old new out written = status ≡ 0 → WritesOf (ListsStore old new) out written
+TellsDeed (Some (ImageRm key)) now draw status old new out written = status ≡ 0 → WritesOf (λ text. (text ≡ removed_text key) × HasRemoved key draw.uuid old new) out written
+TellsDeed (Some ImageGc) now draw status old new out written = status ≡ 0 → WritesOf (HasSwept old new) out written
+TellsDeed (Some (Prepare words)) now draw status old new out written = status ≡ 0 → WritesOf (λ text. (text ≡ pod_line draw.uuid) × HasSynced draw.uuid old new) out written
+TellsDeed (Some (Rm pod)) now draw status old new out written = status ≡ 0 → WritesOf (λ text. (text ≡ rm.removed_text pod) × rm.HasRemovedPod pod old new) out written
+TellsDeed (Some Gc) now draw status old new out written = status ≡ 0 → WritesOf (gc.HasSweptPods (gc.times_of now grace_time expire_time) old new) out written
+TellsDeed _ now draw status old new out written = Unit {0}
 
 -- with status 0 and 12 it brought the pod to prepared and synced that area; with 9 it may have, and the sync was refused; with 14 it may
 -- have, and memory ran out at the sync or later. Else, and only with another status than 0 and 12, it left at most its own folder in

@@ -3,6 +3,7 @@ pub mod Lines
 pub mod Status
 pub mod Validate
 pub mod Commands
+pub mod Spawns
 pub mod Runs
 pub mod Histories
 pub mod Statuses

@@ -1,5 +1,5 @@
 -- A run of the program, whatever the command is.
-use Rattle.std.specs.Prelude.{◌≡◌, ◌⊎◌, ◌≤◌, ℕ, true, false, List, [], ◌++◌, Option, Some, None, Result, Ok, Err, IsErrOf, IfErr}
+use Rattle.std.specs.Prelude.{◌≡◌, ◌⊎◌, inl, inr, ◌≤◌, ℕ, ◌==◌, Bool, true, false, cond, List, [], ◌++◌, Option, Some, None, Result, Ok, Err, IsErrOf, IfErr}
 use Rattle.dir_model.specs.declared.intent.Draw.{Draw}
 use Rattle.dir_model.specs.declared.intent.Intent.{Intent}
 use Rattle.dir_model.specs.declared.request.DirError.TheVariants as dir_error
@@ -11,10 +11,11 @@ use Rattle.dir_trait.specs.Local.{Local}
 use Rattle.dir_trait.specs.Sinks.{WritesPart}
 use Rattle.rkt_cli.specs.declared.line.Line.{Line}
 use Rattle.command_outcomes.specs.declared.refusal.Refusal.{Refusal}
-use Rattle.command_outcomes.specs.declared.refusal.Refusal.TheVariants.{Usage, DirFault, BundleFault, OutFault, NoMemory}
+use Rattle.command_outcomes.specs.declared.refusal.Refusal.TheVariants.{Usage, DirFault, BundleFault, SpawnFault, OutFault, NoMemory}
 use Rattle.command_outcomes.specs.Texts.{status_of, message, is_made}
 use Rattle.command_outcomes.specs.Conforming.{StaysConforming}
-use Rattle.command_outcomes.specs.Moments.{Outside, Moment, SinkSeen, Outcome}
+use Rattle.command_outcomes.specs.Moments.{Outside, Inside, Moment, SinkSeen, Outcome, Answer, outcome_of, is_well}
+use Rattle.rkt_cli.specs.Spawns.{CameBetween}
 use Rattle.rkt_cli.specs.Commands.{uses_dir, intent_of, asks, may, CommandSays, ReadsOnly}
 
 -- what a command leaves and answers, whichever it is
@@ -26,7 +27,7 @@ pub record CommandRan (line : Line) (now : ℕ) (draw : Draw) (old new : Outside
   pub bundle_faults : old.bundle.faults ≤ new.bundle.faults
   pub bundle_cause : IsErrOf o BundleFault → Rose old.bundle.faults new.bundle.faults
   pub refusals : IfErr o (λ r. may line r ≡ true)
-  pub extends : old.dir.observed ≡ true → Extends (asks line draw) old.dir.process old.dir.trace new.dir.trace
+  pub extends : old.dir.observed ≡ true → Extends (asks line now draw) old.dir.process old.dir.trace new.dir.trace
   pub reads : ReadsOnly line old.bundle new.bundle
   pub says : CommandSays line now draw old new o
 
@@ -83,6 +84,16 @@ abbrev pub end_status : End → ℕ
 end_status (Ok done) = 0
 end_status (Err refusal) = status_of refusal
 
+-- the same, with whether all went well where the text was written; and then the status
+abbrev pub end_of_writing : Result Bool Refusal → End
+end_of_writing (Ok well) = Ok tt
+end_of_writing (Err refusal) = Err refusal
+
+abbrev pub status_at : Result Bool Refusal → ℕ
+status_at (Ok true) = 0
+status_at (Ok false) = 16
+status_at (Err refusal) = status_of refusal
+
 -- why a text wasn't written whole
 abbrev pub Unwritten : Refusal → SinkSeen → SinkSeen → Type 0
 Unwritten refusal old new = ((refusal ≡ OutFault) × Rose old.faults new.faults) ⊎ ((refusal ≡ NoMemory) × Rose old.shortages new.shortages)
@@ -110,9 +121,17 @@ abbrev pub Reported : End → SinkSeen → SinkSeen → Type 0
 Reported (Ok done) old new = new ≡ old
 Reported (Err refusal) old new = Complained refusal old new
 
+-- the directory and the spawner at a moment
+abbrev pub inside_in : Moment → Inside
+inside_in m = record { dir = m.outside.dir; spawner = m.spawner }
+
 -- the words are a command, and it ran
 pub record RunOfLine (line : Line) (now : ℕ) (draw : Draw) (intent : Option Intent) (old new : Moment) (status : ℕ) : Type 0 where
+  pub answer : Answer
   pub outcome : Outcome
+  pub outcome_is : outcome ≡ outcome_of answer
+  pub came : CameBetween line now draw intent (inside_in old) (inside_in new) answer
+  pub spawn_cause : outcome ≡ Err SpawnFault → Rose old.spawner.shown.faults new.spawner.shown.faults
   pub end : End
   pub performs : Performs line now draw intent old.outside new.outside outcome
   pub printed : Printed outcome old.out new.out end
@@ -123,6 +142,7 @@ pub record RunOfLine (line : Line) (now : ℕ) (draw : Draw) (intent : Option In
 pub record RunOfNothing (reason : Refusal) (old new : Moment) (status : ℕ) : Type 0 where
   pub is : status ≡ status_of reason
   pub outside : new.outside ≡ old.outside
+  pub spawner : new.spawner ≡ old.spawner
   pub out : new.out ≡ old.out
   pub reported : Complained reason old.err new.err
 
@@ -131,6 +151,19 @@ abbrev pub RunOf : Option Line → ℕ → Draw → Moment → Moment → ℕ �
 RunOf None now draw old new status = RunOfNothing Usage old new status
 RunOf (Some line) now draw old new status = RunOfLine line now draw (intent_of line now draw) old new status ⊎ RunOfNothing NoMemory old new status
 
+-- whether all went well: false only where apps ran and one ended with another status than 0
+abbrev pub well_in : (line : Option Line) (now : ℕ) (draw : Draw) (old new : Moment) (plain : ℕ) → RunOf line now draw old new plain → Bool
+well_in None now draw old new plain r = true
+well_in (Some line) now draw old new plain (inl r) = is_well r.answer
+well_in (Some line) now draw old new plain (inr n) = true
+
+-- then what would be 0 is 16
+abbrev pub graded : Bool → ℕ → ℕ
+graded true plain = plain
+graded false plain = cond (plain == 0) 16 plain
+
 -- a run of these words, whatever they are
 pub record RunIs (line : Option Line) (now : ℕ) (draw : Draw) (old new : Moment) (status : ℕ) : Type 0 where
-  pub ran : RunOf line now draw old new status
+  pub plain : ℕ
+  pub ran : RunOf line now draw old new plain
+  pub is : status ≡ graded (well_in line now draw old new plain ran) plain

@@ -32,13 +32,13 @@ use Rattle.image_store.specs.Refusals.{bundle_refusal}
 use Rattle.image_removal.specs.declared.pass.SweepLine.{SweepLine}
 use Rattle.phase_read.specs.Read.{LeftOut, stages}
 use Rattle.rkt_cli.specs.declared.line.Line.{Line}
-use Rattle.rkt_cli.specs.declared.line.Line.TheVariants.{Status, Validate, ImageList, ImageImport, ImageRm, ImageGc, Prepare}
+use Rattle.rkt_cli.specs.declared.line.Line.TheVariants.{Status, Validate, ImageList, ImageImport, ImageRm, ImageGc, Prepare, RunPrepared, Run, Rm, Gc}
 use Rattle.command_outcomes.specs.declared.refusal.Refusal.{Refusal}
-use Rattle.command_outcomes.specs.declared.refusal.Refusal.TheVariants.{Usage, Busy, BadManifest, NoImage, Limit, NoFile, Conflict, Damaged, Taken, Stray}
+use Rattle.command_outcomes.specs.declared.refusal.Refusal.TheVariants.{Usage, NoPod, WrongPhase, PodBusy, NoManifest, Busy, BadManifest, NoImage, Limit, NoFile, Conflict, Damaged, Taken, Stray}
 use Rattle.command_outcomes.specs.Texts.{status_of}
 use Rattle.rkt_cli.specs.Texts.{state_text, valid_text}
-use Rattle.command_outcomes.specs.Moments.{DirSeen, BundleSeen, SinkSeen, Outside, Moment, Outcome}
-use Rattle.rkt_cli.specs.Commands.{uses_dir, reads_bundle, intent_of, asks, ReadsOnly, ComesQuietly, LeavesQuietly}
+use Rattle.command_outcomes.specs.Moments.{DirSeen, BundleSeen, SinkSeen, Outside, Inside, Moment, Outcome}
+use Rattle.rkt_cli.specs.Commands.{uses_dir, reads_bundle, runs_apps, intent_of, asks, ReadsOnly, ComesQuietly, LeavesQuietly}
 use Rattle.rkt_cli.specs.Validate.{sequential_validate}
 use Rattle.store_commands.specs.ImageList.{images_text, LacksPart, IsHeldElsewhere}
 use Rattle.store_commands.specs.ImageImport.{import_refusal, source_of, PrintsKey, IsAreaHeld}
@@ -46,8 +46,17 @@ use Rattle.command_outcomes.specs.Meanwhile.{Meanwhile}
 use Rattle.store_commands.specs.ImageRm.{removed_text, FindsBusy, HasFoundNone, HasMetStray}
 use Rattle.store_commands.specs.ImageGc.{sweep_texts, HasMetStrayInSweep}
 use Rattle.pod_commands.specs.Prepare.{pod_line, RefusesPod}
+use Rattle.removal_commands.specs.Rm as rm
+use Rattle.removal_commands.specs.Gc as gc
+use Rattle.run_commands.specs.Ends.{app_lines}
+use Rattle.stage1.specs.declared.end.AppEnd.{AppEnd}
+use Rattle.pod_gc.specs.declared.line.GcLine.{GcLine}
+use Rattle.dir_model.specs.declared.pod.PodId.{PodId}
+use Rattle.dir_model.specs.declared.spot.Which.{Which}
 use Rattle.command_outcomes.specs.Conforming.{shown_at}
-use Rattle.rkt_cli.specs.Runs.{Complained, ended_local}
+use Rattle.command_outcomes.specs.declared.told.Told.{Told}
+use Rattle.rkt_cli.specs.Spawns.{CameBetween}
+use Rattle.rkt_cli.specs.Runs.{Complained, ended_local, graded}
 
 -- whether the words are a command on the directory, and whether they are one that reads the bundle
 abbrev pub uses_dir_in : Option Line → Bool
@@ -58,14 +67,45 @@ abbrev pub reads_bundle_in : Option Line → Bool
 reads_bundle_in None = false
 reads_bundle_in (Some line) = reads_bundle line
 
+-- and whether they are one that starts apps
+abbrev pub runs_apps_in : Option Line → Bool
+runs_apps_in None = false
+runs_apps_in (Some line) = runs_apps line
+
 -- the exit statuses
 abbrev pub IsStatus : ℕ → Type 0
-IsStatus status = list_any (λ n. n == status) (0 ∷ 1 ∷ 2 ∷ 5 ∷ 6 ∷ 7 ∷ 8 ∷ 9 ∷ 10 ∷ 12 ∷ 14 ∷ 15 ∷ 17 ∷ 20 ∷ []) ≡ true
+IsStatus status = list_any (λ n. n == status) (0 ∷ 1 ∷ 2 ∷ 4 ∷ 5 ∷ 6 ∷ 7 ∷ 8 ∷ 9 ∷ 10 ∷ 11 ∷ 12 ∷ 14 ∷ 15 ∷ 16 ∷ 17 ∷ 18 ∷ 19 ∷ 20 ∷ []) ≡ true
+
+-- In the clauses of single statuses, what the commands that start apps come to is left out: the clause on them tells that of each.
 
 -- each of the six areas was without the pod at an own step, one after the other
 abbrev pub IsMissing : Option Line → DirSeen → DirSeen → Type 0
 IsMissing (Some (Status pod)) old new = LeftOut old.process old.trace new.trace pod stages
+IsMissing (Some (Rm pod)) old new = rm.HasFoundNoPod pod old new
+IsMissing (Some (RunPrepared pod)) old new = Unit {0}
 IsMissing _ old new = ⊥
+
+-- of `rm`: the pod had a phase at an own event that doesn't allow its removal, by another process's doing where that phase has an owner
+pub record IsWrong (pod : PodId) (before after : DirSeen) (old new : SinkSeen) : Type 0 where
+  pub phase : Phase
+  pub found : before.observed ≡ true → rm.HasFoundWrong pod phase before after
+  pub said : Complained (WrongPhase phase) old new
+
+abbrev pub IsWrongPhase : Option Line → DirSeen → DirSeen → SinkSeen → SinkSeen → Type 0
+IsWrongPhase (Some (Rm pod)) before after old new = IsWrong pod before after old new
+IsWrongPhase (Some (RunPrepared pod)) before after old new = Unit {0}
+IsWrongPhase _ before after old new = ⊥
+
+-- of `rm`: the pod stood in prepared without its manifest
+pub record IsBare (pod : PodId) (before after : DirSeen) (old new : SinkSeen) : Type 0 where
+  pub found : before.observed ≡ true → rm.HasFoundNoManifest pod before after
+  pub said : Complained (NoManifest pod) old new
+
+abbrev pub IsWithoutManifest : Option Line → DirSeen → DirSeen → SinkSeen → SinkSeen → Type 0
+IsWithoutManifest (Some (Rm pod)) before after old new = IsBare pod before after old new
+IsWithoutManifest (Some (RunPrepared pod)) before after old new = Unit {0}
+IsWithoutManifest (Some (Run words)) before after old new = Unit {0}
+IsWithoutManifest _ before after old new = ⊥
 
 -- the file stands in the bundle and its bytes have no reading, and the first fault's path and number were said
 pub record IsUnreadable (path : List ℕ) (bundle : BundleSeen) (old new : SinkSeen) : Type 0 where
@@ -91,12 +131,14 @@ abbrev pub IsBadManifest : Option Line → ℕ → Draw → Outside → Outside 
 IsBadManifest (Some (Validate path)) now draw before after old new = IsUnreadable path before.bundle old new
 IsBadManifest (Some (ImageImport path)) now draw before after old new = (at : List ℕ) × (number : ℕ) × IsBadBundle path (BadManifest at number) before.bundle old new
 IsBadManifest (Some (Prepare words)) now draw before after old new = (name : List ℕ) × (number : ℕ) × IsNoPod words now draw (BadManifest name number) before.dir after.dir old new
+IsBadManifest (Some (Run words)) now draw before after old new = Unit {0}
 IsBadManifest _ now draw before after old new = ⊥
 
 -- the listing of a bundle passes a limit, or a pod does, or the dependencies of its images
 abbrev pub IsLimit : Option Line → ℕ → Draw → Outside → Outside → SinkSeen → SinkSeen → Type 0
 IsLimit (Some (ImageImport path)) now draw before after old new = (limit : ℕ) × IsBadBundle path (Limit limit) before.bundle old new
 IsLimit (Some (Prepare words)) now draw before after old new = (limit : ℕ) × IsNoPod words now draw (Limit limit) before.dir after.dir old new
+IsLimit (Some (Run words)) now draw before after old new = Unit {0}
 IsLimit _ now draw before after old new = ⊥
 
 -- no file stands in the bundle at the path, which was said
@@ -135,11 +177,14 @@ IsLacking (Some (Validate path)) now draw before after old new = IsNoFile path b
 IsLacking (Some ImageList) now draw before after old new = IsDamage before.dir after.dir old new
 IsLacking (Some (ImageImport path)) now draw before after old new = IsUnlike path before after old new
 IsLacking (Some (Prepare words)) now draw before after old new = (path : List ℕ) × IsNoPod words now draw (Damaged path) before.dir after.dir old new
+IsLacking (Some (Run words)) now draw before after old new = Unit {0}
+IsLacking (Some (RunPrepared pod)) now draw before after old new = Unit {0}
 IsLacking _ now draw before after old new = ⊥
 
 -- a folder with the drawn name stood in embryo at an own step, and the name was said
 abbrev pub IsTaken : Option Line → ℕ → Draw → Outside → Outside → SinkSeen → SinkSeen → Type 0
 IsTaken (Some (Prepare words)) now draw before after old new = IsNoPod words now draw (Taken draw.uuid) before.dir after.dir old new
+IsTaken (Some (Run words)) now draw before after old new = Unit {0}
 IsTaken _ now draw before after old new = ⊥
 
 -- another process held the lock of the images exclusively at an own step, which was said
@@ -158,12 +203,21 @@ pub record IsRemovalBusy (before after : DirSeen) (old new : SinkSeen) : Type 0 
   pub held : before.observed ≡ true → Meanwhile FindsBusy before.process before.trace after.trace
   pub said : Complained (Busy Images) old new
 
+-- another process held this lock of the pod, and both were said
+pub record IsPodBusy (pod : PodId) (before after : DirSeen) (old new : SinkSeen) : Type 0 where
+  pub which : Which
+  pub held : before.observed ≡ true → rm.HasFoundBusy pod which before after
+  pub said : Complained (PodBusy pod which) old new
+
 -- another process held a lock that the command asked for
 abbrev pub IsLockBusy : Option Line → DirSeen → DirSeen → SinkSeen → SinkSeen → Type 0
 IsLockBusy (Some ImageList) before after old new = IsImagesBusy before after old new
 IsLockBusy (Some (ImageImport path)) before after old new = IsAreaBusy before after old new
 IsLockBusy (Some (ImageRm key)) before after old new = IsRemovalBusy before after old new
 IsLockBusy (Some (Prepare words)) before after old new = IsAreaBusy before after old new
+IsLockBusy (Some (Rm pod)) before after old new = IsPodBusy pod before after old new
+IsLockBusy (Some (RunPrepared pod)) before after old new = Unit {0}
+IsLockBusy (Some (Run words)) before after old new = Unit {0}
 IsLockBusy _ before after old new = ⊥
 
 -- no image had the key when its own move was answered so, before which nothing but the lock of images was asked for; and the key was said
@@ -175,23 +229,28 @@ pub record IsKeyUnknown (key : StoreKey) (draw : Draw) (before after : DirSeen) 
 abbrev pub IsNoImage : Option Line → ℕ → Draw → Outside → Outside → SinkSeen → SinkSeen → Type 0
 IsNoImage (Some (ImageRm key)) now draw before after old new = IsKeyUnknown key draw before.dir after.dir old new
 IsNoImage (Some (Prepare words)) now draw before after old new = (refusal : Refusal) × (status_of refusal ≡ 7) × IsNoPod words now draw refusal before.dir after.dir old new
+IsNoImage (Some (Run words)) now draw before after old new = Unit {0}
 IsNoImage _ now draw before after old new = ⊥
 
 -- of `image import`: an answer came that the folder which the process builds doesn't explain, or the image that stood at its key
 -- vanished; of `image rm` and `image gc`: one came that what the locks keep doesn't explain; of `prepare`: one came that what it made
--- itself doesn't explain
+-- itself doesn't explain; of `rm` and `gc`: one came that what the locks keep doesn't explain, or a pod was found and missed six times
 abbrev pub IsStray : Option Line → ℕ → Draw → Outside → Outside → Type 0
 IsStray (Some (ImageImport path)) now draw before after =
     OfBundle (source_of path before.bundle) (λ image. before.dir.observed ≡ true → StrayCause (key_of image) (shown_at before.dir) (shown_at after.dir))
 IsStray (Some (ImageRm key)) now draw before after = before.dir.observed ≡ true → HasMetStray before.dir after.dir
 IsStray (Some ImageGc) now draw before after = before.dir.observed ≡ true → HasMetStrayInSweep before.dir after.dir
 IsStray (Some (Prepare words)) now draw before after = RefusesPod words now draw before.dir after.dir Stray
+IsStray (Some (Rm pod)) now draw before after = before.dir.observed ≡ true → rm.HasMetStrayAtPod pod before.dir after.dir
+IsStray (Some Gc) now draw before after = before.dir.observed ≡ true → gc.HasMetStrayInPods before.dir after.dir
+IsStray (Some (RunPrepared pod)) now draw before after = Unit {0}
+IsStray (Some (Run words)) now draw before after = Unit {0}
 IsStray _ now draw before after = ⊥
 
 -- the process's own requests: its begin, those of the command, its finish
-abbrev pub asks_in : Option Line → Draw → Request → Bool
-asks_in None draw request = false
-asks_in (Some line) draw request = is_begin request || (asks line draw request || is_finish request)
+abbrev pub asks_in : Option Line → ℕ → Draw → Request → Bool
+asks_in None now draw request = false
+asks_in (Some line) now draw request = is_begin request || (asks line now draw request || is_finish request)
 
 -- a text that the command prints
 abbrev pub Prints : Option Line → Draw → BundleSeen → List ℕ → Type 0
@@ -202,18 +261,22 @@ Prints (Some (ImageImport path)) draw bundle text = PrintsKey path bundle text
 Prints (Some (ImageRm key)) draw bundle text = text ≡ removed_text key
 Prints (Some ImageGc) draw bundle text = (lines : List SweepLine) × (text ≡ sweep_texts lines)
 Prints (Some (Prepare words)) draw bundle text = text ≡ pod_line draw.uuid
+Prints (Some (RunPrepared pod)) draw bundle text = (ends : List AppEnd) × (text ≡ app_lines ends)
+Prints (Some (Run words)) draw bundle text = (ends : List AppEnd) × (text ≡ pod_line draw.uuid ++ app_lines ends)
+Prints (Some (Rm pod)) draw bundle text = text ≡ rm.removed_text pod
+Prints (Some Gc) draw bundle text = (lines : List GcLine) × (text ≡ gc.lines_text lines)
 Prints None draw bundle text = ⊥
 
--- with status 0 the command's text was written, with 12 and 14 a part of it from its start or nothing, and else nothing
+-- with status 0 and 16 the command's text was written, with 12 and 14 a part of it from its start or nothing, and else nothing
 abbrev pub IsOutput : Option Line → Draw → BundleSeen → ℕ → List ℕ → List ℕ → Type 0
 IsOutput line draw bundle status old new =
-    ((status ≡ 0) × (text : List ℕ) × Prints line draw bundle text × (new ≡ old ++ text))
+    (((status ≡ 0) ⊎ (status ≡ 16)) × (text : List ℕ) × Prints line draw bundle text × (new ≡ old ++ text))
     ⊎ (((status ≡ 12) ⊎ (status ≡ 14)) × (text : List ℕ) × Prints line draw bundle text × WritesPart old text new)
-    ⊎ (((status == 0) ≡ false) × (new ≡ old))
+    ⊎ ((((status == 0) || (status == 16)) ≡ false) × (new ≡ old))
 
--- with status 0 nothing was said, and else the message of a refusal with that status
+-- with status 0 and 16 nothing was said, and else the message of a refusal with that status
 abbrev pub IsComplaint : ℕ → SinkSeen → SinkSeen → Type 0
-IsComplaint status old new = ((status ≡ 0) × (new ≡ old)) ⊎ ((refusal : Refusal) × (status ≡ status_of refusal) × Complained refusal old new)
+IsComplaint status old new = (((status ≡ 0) ⊎ (status ≡ 16)) × (new ≡ old)) ⊎ ((refusal : Refusal) × (status ≡ status_of refusal) × Complained refusal old new)
 
 -- a command on the directory leaves a process that has begun so and finished, with nothing open. Where memory ran out
 -- before it began, and for all other words, nothing has changed
@@ -257,10 +320,11 @@ abbrev pub LeavesIn : Option Line → ℕ → Draw → Tree → DirState → Dir
 LeavesIn None now draw tree old new = Unit {0}
 LeavesIn (Some line) now draw tree old new = LeavesQuietly line now draw tree old new
 
--- memory ran out, or so it was answered, and so the directory was left
+-- memory ran out, or an app ended with another status than 0, or so it was answered, and so the directory was left
 abbrev pub IsQuietAnswer : Option Line → ℕ → Draw → ℕ → Moment → Moment → Type 0
 IsQuietAnswer line now draw status old new =
     (status ≡ 14)
+    ⊎ (status ≡ 16)
     ⊎ ((o : Outcome)
     × ComesIn line now draw old.outside new.outside o
     × IsAnswer o status old new
@@ -283,3 +347,17 @@ IsJudgement (Some (Validate path)) status old new =
     ⊎ IsAnswer (sequential_validate path old.outside.bundle.tree) status old new
 IsJudgement (Some (ImageImport path)) status old new = IsBundleJudgement path status old new
 IsJudgement _ status old new = Unit {0}
+
+-- of a command that starts apps: what was told of the pod and its apps was written, and with status 0 each app ended with 0, with 16
+-- some didn't; with 12 and 14 it may not have been written; else this refusal was said. Each with what it rests on
+abbrev pub TellsRun : Line → ℕ → Draw → ℕ → Inside → Inside → SinkSeen → SinkSeen → SinkSeen → SinkSeen → Type 0
+TellsRun line now draw status old new out out' err err' =
+    ((told : Told) × (status ≡ graded told.well 0) × CameBetween line now draw (intent_of line now draw) old new (Ok told) × (out.observed ≡ true → out'.bytes ≡ out.bytes ++ told.text))
+    ⊎ ((told : Told) × ((status ≡ 12) ⊎ (status ≡ 14)) × CameBetween line now draw (intent_of line now draw) old new (Ok told))
+    ⊎ ((refusal : Refusal) × (status ≡ status_of refusal) × CameBetween line now draw (intent_of line now draw) old new (Err refusal) × Complained refusal err err')
+    ⊎ ((status ≡ 14) × (new ≡ old))
+
+abbrev pub TellsApps : Option Line → ℕ → Draw → ℕ → Inside → Inside → SinkSeen → SinkSeen → SinkSeen → SinkSeen → Type 0
+TellsApps (Some (RunPrepared pod)) now draw status old new out out' err err' = TellsRun (RunPrepared pod) now draw status old new out out' err err'
+TellsApps (Some (Run words)) now draw status old new out out' err err' = TellsRun (Run words) now draw status old new out out' err err'
+TellsApps _ now draw status old new out out' err err' = status ≢ 16

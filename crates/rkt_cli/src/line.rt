@@ -1,6 +1,6 @@
 // The words of a command line.
 ghost use Rattle.std.specs.Prelude.{◌≡◌, Some, map, string_bytes};
-ghost use Rattle.rkt_cli.specs.Lines.{is_file_word, command_of, removal_of, long_command_of, prepare_of, short_line_of, is_prepare, line_in, IsReading};
+ghost use Rattle.rkt_cli.specs.Lines.{is_file_word, single_of, is_pod_command, pod_command_of, other_command_of, command_of, removal_of, long_command_of, images_of, prepare_of, run_of, short_line_of, begins_with, line_in, IsReading, IsImages};
 
 use ac_types::{StoreKey, Text};
 use dir_trait::PodId;
@@ -24,6 +24,14 @@ pub enum Line {
     ImageGc,
     /// `prepare IMAGE...`: prepare a pod of these images.
     Prepare(Wanted),
+    /// `run-prepared UUID`: run a prepared pod.
+    RunPrepared(PodId),
+    /// `run IMAGE...`: make a pod of these images and run it.
+    Run(Wanted),
+    /// `rm UUID`: remove a pod.
+    Rm(PodId),
+    /// `gc`: sweep pods.
+    Gc,
 }
 
 /// Why words weren't read.
@@ -53,15 +61,25 @@ fn file_line(alloc: Global, word: &str) -> Result<Line, WordsError>
     }
 }
 
-fn read_command(alloc: Global, command: &str, word: &str) -> Result<Line, WordsError>
-    ensures { IsReading (command_of command.now word.now) result }
+// A command on the pod of this name.
+fn read_pod_command(command: &str, pod: PodId) -> Result<Line, WordsError>
+    ensures { IsReading (pod_command_of command.now pod) result }
 {
     if command == "status" {
-        return match PodId::parse(word) {
-            Some(pod) => Ok(Line::Status(pod)),
-            None => Err(WordsError::Usage),
-        };
+        return Ok(Line::Status(pod));
     }
+    if command == "run-prepared" {
+        return Ok(Line::RunPrepared(pod));
+    }
+    if command == "rm" {
+        return Ok(Line::Rm(pod));
+    }
+    Err(WordsError::Usage)
+}
+
+fn read_other_command(alloc: Global, command: &str, word: &str) -> Result<Line, WordsError>
+    ensures { IsReading (other_command_of command.now word.now) result }
+{
     if command == "validate" && is_file(word) {
         return file_line(alloc, word);
     }
@@ -70,6 +88,33 @@ fn read_command(alloc: Global, command: &str, word: &str) -> Result<Line, WordsE
     }
     if command == "image" && word == "gc" {
         return Ok(Line::ImageGc);
+    }
+    Err(WordsError::Usage)
+}
+
+fn is_pod_command(command: &str) -> bool
+    ensures { result ≡ is_pod_command command.now }
+{
+    command == "status" || command == "run-prepared" || command == "rm"
+}
+
+fn read_command(alloc: Global, command: &str, word: &str) -> Result<Line, WordsError>
+    ensures { IsReading (command_of command.now word.now) result }
+{
+    if !is_pod_command(command) {
+        return read_other_command(alloc, command, word);
+    }
+    match PodId::parse(word) {
+        Some(pod) => read_pod_command(command, pod),
+        None => Err(WordsError::Usage),
+    }
+}
+
+fn read_single(command: &str) -> Result<Line, WordsError>
+    ensures { IsReading (single_of command.now) result }
+{
+    if command == "gc" {
+        return Ok(Line::Gc);
     }
     Err(WordsError::Usage)
 }
@@ -109,8 +154,8 @@ fn read_long_command(
     Err(WordsError::Usage)
 }
 
-fn prepare_line(alloc: Global, words: &[String]) -> Result<Line, WordsError>
-    ensures { IsReading (prepare_of (map string_bytes words.now)) result }
+fn images(alloc: Global, words: &[String]) -> Result<Wanted, WordsError>
+    ensures { IsImages (images_of (map string_bytes words.now)) result }
 {
     if words.is_empty() {
         return Err(WordsError::Usage);
@@ -119,8 +164,26 @@ fn prepare_line(alloc: Global, words: &[String]) -> Result<Line, WordsError>
         return Err(WordsError::Usage);
     }
     match Wanted::read(alloc, words) {
-        Ok(wanted) => Ok(Line::Prepare(wanted)),
+        Ok(wanted) => Ok(wanted),
         Err(_) => Err(WordsError::NoMemory),
+    }
+}
+
+fn prepare_line(alloc: Global, words: &[String]) -> Result<Line, WordsError>
+    ensures { IsReading (prepare_of (map string_bytes words.now)) result }
+{
+    match images(alloc, words) {
+        Ok(wanted) => Ok(Line::Prepare(wanted)),
+        Err(error) => Err(error),
+    }
+}
+
+fn run_line(alloc: Global, words: &[String]) -> Result<Line, WordsError>
+    ensures { IsReading (run_of (map string_bytes words.now)) result }
+{
+    match images(alloc, words) {
+        Ok(wanted) => Ok(Line::Run(wanted)),
+        Err(error) => Err(error),
     }
 }
 
@@ -128,6 +191,7 @@ fn read_short_line(alloc: Global, words: &[String]) -> Result<Line, WordsError>
     ensures { IsReading (short_line_of (map string_bytes words.now)) result }
 {
     match words {
+        [command] => read_single(command.as_str()),
         [command, word] => read_command(alloc, command.as_str(), word.as_str()),
         [command, word, last] => {
             read_long_command(alloc, command.as_str(), word.as_str(), last.as_str())
@@ -136,12 +200,12 @@ fn read_short_line(alloc: Global, words: &[String]) -> Result<Line, WordsError>
     }
 }
 
-fn is_prepare(words: &[String]) -> bool
-    ensures { result ≡ is_prepare (map string_bytes words.now) }
+fn begins_with(words: &[String], name: &str) -> bool
+    ensures { result ≡ begins_with name.now (map string_bytes words.now) }
 {
     match words {
         [] => false,
-        [command, ..] => command.as_str() == "prepare",
+        [command, ..] => command.as_str() == name,
     }
 }
 
@@ -152,9 +216,11 @@ fn is_prepare(words: &[String]) -> bool
 pub fn read_line(alloc: Global, words: &[String]) -> Result<Line, WordsError>
     ensures { IsReading (line_in words.now) result }
 {
-    if is_prepare(words) {
-        prepare_line(alloc, &words[1..])
-    } else {
-        read_short_line(alloc, words)
+    if begins_with(words, "prepare") {
+        return prepare_line(alloc, &words[1..]);
     }
+    if begins_with(words, "run") {
+        return run_line(alloc, &words[1..]);
+    }
+    read_short_line(alloc, words)
 }

@@ -1,25 +1,26 @@
 // What is written, and the status.
-ghost use Rattle.std.specs.Prelude.{◌≡◌};
+ghost use Rattle.std.specs.Prelude.{◌≡◌, IfOk};
 ghost use Rattle.command_outcomes.specs.Texts.{status_of};
-ghost use Rattle.command_outcomes.specs.Moments.{sink_at};
-ghost use Rattle.rkt_cli.specs.Runs.{Printed, Complained, Reported, end_status};
+ghost use Rattle.command_outcomes.specs.Moments.{sink_at, outcome_of, is_well};
+ghost use Rattle.rkt_cli.specs.Runs.{Printed, Complained, Reported, end_of_writing, status_at};
 
-use command_outcomes::{Output, Refusal};
+use command_outcomes::{Refusal, Told};
 use dir_trait::{Sink, SinkError, write_whole};
 use std::alloc::Global;
 
-/// Writes the outcome's text.
+/// Writes the text that is told, and answers whether all went well.
 pub fn print<O: Sink>(
     alloc: Global,
     out: &mut O,
-    outcome: Result<Output, Refusal>,
-) -> Result<(), Refusal>
-    ensures { Printed outcome (sink_at O.Sink out.old) (sink_at O.Sink out.new) result }
+    answer: Result<Told, Refusal>,
+) -> Result<bool, Refusal>
+    ensures printed { Printed (outcome_of answer) (sink_at O.Sink out.old) (sink_at O.Sink out.new) (end_of_writing result) }
+    ensures well { IfOk result (λ well. well ≡ is_well answer) }
 {
-    match outcome {
+    match answer {
         Err(refusal) => Err(refusal),
-        Ok(text) => match write_whole(alloc, out, text.as_slice()) {
-            Ok(()) => Ok(()),
+        Ok(told) => match write_whole(alloc, out, told.text.as_slice()) {
+            Ok(()) => Ok(told.well),
             Err(SinkError::Failed) => Err(Refusal::OutFault),
             Err(SinkError::NoMemory) => Err(Refusal::NoMemory),
         },
@@ -50,13 +51,15 @@ pub fn refuse<E: Sink>(alloc: Global, err: &mut E, refusal: &Refusal) -> u8
     refusal.status()
 }
 
-/// Says how it ended, and gives the status.
-pub fn report<E: Sink>(alloc: Global, err: &mut E, end: &Result<(), Refusal>) -> u8
-    ensures status { result ≡ end_status end.now }
-    ensures said { Reported end.now (sink_at E.Sink err.old) (sink_at E.Sink err.new) }
+/// Says how it ended, and gives the status: 16 where a text was written of apps of which one ended with another status
+/// than 0.
+pub fn report<E: Sink>(alloc: Global, err: &mut E, end: &Result<bool, Refusal>) -> u8
+    ensures status { result ≡ status_at end.now }
+    ensures said { Reported (end_of_writing end.now) (sink_at E.Sink err.old) (sink_at E.Sink err.new) }
 {
     match end {
-        Ok(()) => 0,
+        Ok(true) => 0,
+        Ok(false) => 16,
         Err(refusal) => refuse(alloc, err, refusal),
     }
 }

@@ -7,9 +7,9 @@ ghost use Rattle.rkt_cli.specs.Lines.{line_in};
 ghost use Rattle.lifecycle.specs.Executions.{IsConforming};
 ghost use Rattle.rkt_cli.specs.Histories.{TellsHistory, TellsDeed, TellsLeft};
 ghost use Rattle.command_outcomes.specs.Conforming.{KeepsConforming};
-ghost use Rattle.command_outcomes.specs.Moments.{dir_at, bundle_at, outside_at, sink_at};
+ghost use Rattle.command_outcomes.specs.Moments.{dir_at, bundle_at, outside_at, inside_at, sink_at};
 ghost use Rattle.rkt_cli.specs.Between.{RunBetween, JudgedBetween, QuietBetween};
-ghost use Rattle.rkt_cli.specs.Statuses.{uses_dir_in, reads_bundle_in, IsMissing, IsBadManifest, IsLimit, IsLacking, IsTaken, IsLockBusy};
+ghost use Rattle.rkt_cli.specs.Statuses.{uses_dir_in, reads_bundle_in, runs_apps_in, IsMissing, IsWrongPhase, IsWithoutManifest, TellsApps, IsBadManifest, IsLimit, IsLacking, IsTaken, IsLockBusy};
 ghost use Rattle.rkt_cli.specs.Statuses.{IsNoImage, IsStray, asks_in, IsStatus, IsOutput, IsComplaint, IsOver, ReadsIn};
 
 use crate::line::{WordsError, read_line};
@@ -17,31 +17,34 @@ use crate::perform::perform;
 use crate::print::{print, refuse, report};
 use command_outcomes::Refusal;
 use dir_trait::{Bundle, Dir, Draw, Sink};
+use spawner::Spawner;
 use std::alloc::Global;
 
 // The run itself, told by one clause from which the others follow.
-fn run<D: Dir, B: Bundle, O: Sink, E: Sink>(
+fn run<D: Dir, B: Bundle, S: Spawner, O: Sink, E: Sink>(
     alloc: Global,
     words: &[String],
     now: u64,
     draw: &Draw,
     dir: &mut D,
     bundle: &mut B,
+    spawner: &mut S,
     out: &mut O,
     err: &mut E,
 ) -> u8
     requires fresh { (D.shown dir.old).local ≡ nothing_local }
-    ensures ran { RunBetween D.Dir B.Bundle O.Sink E.Sink (line_in words.now) now draw.now result
-        (dir.old, bundle.old, out.old, err.old) (dir.new, bundle.new, out.new, err.new) }
+    ensures ran { RunBetween D.Dir B.Bundle S.Spawner O.Sink E.Sink (line_in words.now) now draw.now result
+        (dir.old, bundle.old, spawner.old, out.old, err.old) (dir.new, bundle.new, spawner.new, out.new, err.new) }
     ensures apart { uses_dir_in (line_in words.now) ≡ false → dir.new ≡ dir.old }
     ensures unread { reads_bundle_in (line_in words.now) ≡ false → bundle.new ≡ bundle.old }
+    ensures unasked { runs_apps_in (line_in words.now) ≡ false → spawner.new ≡ spawner.old }
 {
     match read_line(alloc, words) {
         Err(WordsError::Usage) => refuse(alloc, err, &Refusal::Usage),
         Err(WordsError::NoMemory) => refuse(alloc, err, &Refusal::NoMemory),
         Ok(line) => {
-            let outcome = perform(alloc, &line, now, draw, dir, bundle);
-            let end = print(alloc, out, outcome);
+            let answer = perform(alloc, &line, now, draw, dir, bundle, spawner);
+            let end = print(alloc, out, answer);
             report(alloc, err, &end)
         }
     }
@@ -52,13 +55,14 @@ fn run<D: Dir, B: Bundle, O: Sink, E: Sink>(
 /// command, finishes the process, writes the command's text to `out` or the refusal to `err`, and
 /// answers the exit status. The clauses hold for every directory, bundle and sink, whatever other
 /// processes do between the calls.
-pub fn rkt<D: Dir, B: Bundle, O: Sink, E: Sink>(
+pub fn rkt<D: Dir, B: Bundle, S: Spawner, O: Sink, E: Sink>(
     alloc: Global,
     words: &[String],
     now: u64,
     draw: &Draw,
     dir: &mut D,
     bundle: &mut B,
+    spawner: &mut S,
     out: &mut O,
     err: &mut E,
 ) -> u8
@@ -67,7 +71,13 @@ pub fn rkt<D: Dir, B: Bundle, O: Sink, E: Sink>(
     ensures usage { (result ≡ 1) ↔ (line_in words.now ≡ None) }
     ensures apart { uses_dir_in (line_in words.now) ≡ false → dir.new ≡ dir.old }
     ensures unread { reads_bundle_in (line_in words.now) ≡ false → bundle.new ≡ bundle.old }
+    ensures unasked { runs_apps_in (line_in words.now) ≡ false → spawner.new ≡ spawner.old }
     ensures no_pod { result ≡ 2 → D.observed ≡ true → IsMissing (line_in words.now) (dir_at D.Dir dir.old) (dir_at D.Dir dir.new) }
+    ensures wrong_phase { result ≡ 4 → IsWrongPhase (line_in words.now) (dir_at D.Dir dir.old) (dir_at D.Dir dir.new)
+        (sink_at E.Sink err.old) (sink_at E.Sink err.new) }
+    ensures no_manifest { result ≡ 18 → IsWithoutManifest (line_in words.now) (dir_at D.Dir dir.old) (dir_at D.Dir dir.new)
+        (sink_at E.Sink err.old) (sink_at E.Sink err.new) }
+    ensures no_program { result ≡ 19 → runs_apps_in (line_in words.now) ≡ true }
     ensures bad_manifest { result ≡ 6
         → IsBadManifest (line_in words.now) now draw.now (outside_at D.Dir B.Bundle dir.old bundle.old) (outside_at D.Dir B.Bundle dir.new bundle.new)
         (sink_at E.Sink err.old) (sink_at E.Sink err.new) }
@@ -80,28 +90,31 @@ pub fn rkt<D: Dir, B: Bundle, O: Sink, E: Sink>(
     ensures stray { result ≡ 20 → IsStray (line_in words.now) now draw.now (outside_at D.Dir B.Bundle dir.old bundle.old) (outside_at D.Dir B.Bundle dir.new bundle.new) }
     ensures dir_fault { result ≡ 9 → Rose (D.shown dir.old).faults (D.shown dir.new).faults }
     ensures bundle_fault { result ≡ 10 → Rose (B.shown bundle.old).faults (B.shown bundle.new).faults }
+    ensures spawn_fault { result ≡ 11 → Rose (S.shown spawner.old).faults (S.shown spawner.new).faults }
     ensures out_fault { result ≡ 12 → Rose (O.shown out.old).faults (O.shown out.new).faults }
     ensures busy { result ≡ 5 → IsLockBusy (line_in words.now) (dir_at D.Dir dir.old) (dir_at D.Dir dir.new)
         (sink_at E.Sink err.old) (sink_at E.Sink err.new) }
     ensures lacking { result ≡ 15 → IsLacking (line_in words.now) now draw.now (outside_at D.Dir B.Bundle dir.old bundle.old)
         (outside_at D.Dir B.Bundle dir.new bundle.new) (sink_at E.Sink err.old) (sink_at E.Sink err.new) }
-    ensures judged { B.observed ≡ true → JudgedBetween D.Dir B.Bundle O.Sink E.Sink (line_in words.now) result
-        (dir.old, bundle.old, out.old, err.old) (dir.new, bundle.new, out.new, err.new) }
+    ensures judged { B.observed ≡ true → JudgedBetween D.Dir B.Bundle S.Spawner O.Sink E.Sink (line_in words.now) result
+        (dir.old, bundle.old, spawner.old, out.old, err.old) (dir.new, bundle.new, spawner.new, out.new, err.new) }
     ensures over { IsOver (line_in words.now) now draw.now result (D.shown dir.old).local (D.shown dir.new).local }
     ensures reads { ReadsIn (line_in words.now) (bundle_at B.Bundle bundle.old) (bundle_at B.Bundle bundle.new) }
-    ensures extends { D.observed ≡ true → ExtendsBy (asks_in (line_in words.now) draw.now) (D.shown dir.old) (D.shown dir.new) }
+    ensures extends { D.observed ≡ true → ExtendsBy (asks_in (line_in words.now) now draw.now) (D.shown dir.old) (D.shown dir.new) }
     ensures conforms { D.observed ≡ true → KeepsConforming (dir_at D.Dir dir.old) (dir_at D.Dir dir.new) }
-    ensures deed { D.observed ≡ true → TellsDeed (line_in words.now) draw.now result (dir_at D.Dir dir.old) (dir_at D.Dir dir.new)
+    ensures deed { D.observed ≡ true → TellsDeed (line_in words.now) now draw.now result (dir_at D.Dir dir.old) (dir_at D.Dir dir.new)
         (sink_at O.Sink out.old) (sink_at O.Sink out.new) }
     ensures left { D.observed ≡ true → TellsLeft (line_in words.now) draw.now result (dir_at D.Dir dir.old) (dir_at D.Dir dir.new) }
     ensures history { D.observed ≡ true → IsConforming (D.shown dir.new).trace → TellsHistory (line_in words.now) now draw.now result
         (outside_at D.Dir B.Bundle dir.old bundle.old) (outside_at D.Dir B.Bundle dir.new bundle.new) (sink_at O.Sink out.old) (sink_at O.Sink out.new) }
+    ensures apps { TellsApps (line_in words.now) now draw.now result (inside_at D.Dir S.Spawner dir.old spawner.old) (inside_at D.Dir S.Spawner dir.new spawner.new)
+        (sink_at O.Sink out.old) (sink_at O.Sink out.new) (sink_at E.Sink err.old) (sink_at E.Sink err.new) }
     ensures out { O.observed ≡ true → IsOutput (line_in words.now) draw.now (bundle_at B.Bundle bundle.old) result (O.shown out.old).bytes (O.shown out.new).bytes }
     ensures err { IsComplaint result (sink_at E.Sink err.old) (sink_at E.Sink err.new) }
-    ensures quiet { QuietBetween D.Dir B.Bundle O.Sink E.Sink (line_in words.now) now draw.now result
-        (dir.old, bundle.old, out.old, err.old) (dir.new, bundle.new, out.new, err.new) }
-    ensures ran { RunBetween D.Dir B.Bundle O.Sink E.Sink (line_in words.now) now draw.now result
-        (dir.old, bundle.old, out.old, err.old) (dir.new, bundle.new, out.new, err.new) }
+    ensures quiet { QuietBetween D.Dir B.Bundle S.Spawner O.Sink E.Sink (line_in words.now) now draw.now result
+        (dir.old, bundle.old, spawner.old, out.old, err.old) (dir.new, bundle.new, spawner.new, out.new, err.new) }
+    ensures ran { RunBetween D.Dir B.Bundle S.Spawner O.Sink E.Sink (line_in words.now) now draw.now result
+        (dir.old, bundle.old, spawner.old, out.old, err.old) (dir.new, bundle.new, spawner.new, out.new, err.new) }
 {
     run(alloc, words, now, draw, dir, bundle, out, err)
 }

@@ -4,7 +4,7 @@ ghost use Rattle.dir_model.specs.Causes.{Rose};
 ghost use Rattle.dir_trait.specs.Local.{IsActive, IsOpen, without};
 ghost use Rattle.pod_ownership.specs.Running.{RunsPod};
 ghost use Rattle.stage1.specs.Runs.{Went, runs_and_closes};
-ghost use Rattle.stage1.specs.Known.{StaysKnown};
+ghost use Rattle.stage1.specs.Keeping.{KeepsToEnd};
 ghost use Rattle.run_commands.specs.Refusals.{apps_refusal};
 ghost use Rattle.run_commands.specs.Runs.{RunSays};
 
@@ -36,6 +36,7 @@ pub(crate) fn run_owned<D: Dir, S: Spawner>(
     ensures cause { IsErrOf result Refusal.DirFault → Rose (D.shown dir.old).faults (D.shown dir.new).faults }
     ensures spawn_cause { IsErrOf result Refusal.SpawnFault → Rose (S.shown spawner.old).faults (S.shown spawner.new).faults }
     ensures refusals { IfErr result (λ r. apps_refusal r ≡ true) }
+    ensures keeps { D.observed ≡ true → KeepsToEnd owned.pod owned.own (D.shown dir.old) (D.shown dir.new) }
     ensures says { RunSays D.observed S.observed owned text (D.shown dir.old) (D.shown dir.new) (S.shown spawner.old) (S.shown spawner.new) result }
 {
     let pod = owned.pod;

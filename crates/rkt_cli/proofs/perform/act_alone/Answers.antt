@@ -6,7 +6,8 @@ use Rattle.rkt_cli.proofs.Conforming.{looks_conforming, apart_conforming, list_c
 use Rattle.rkt_cli.proofs.StoreRan.{imports, import_ran, removal_conforming, sweep_conforming, removal_ran, sweep_ran}
 use Rattle.rkt_cli.proofs.Files.{validate_ran}
 use Rattle.rkt_cli.proofs.PodRan.{prepares, prepare_ran}
-use Rattle.rkt_cli.proofs.perform.act.Goals as goal
+use Rattle.rkt_cli.proofs.PodRemovals.{rm_conforming, gc_conforming, rm_ran, gc_ran}
+use Rattle.rkt_cli.proofs.perform.act_alone.Goals as goal
 
 pub returns-in-Validate-clause-ran : goal.returns-in-Validate-clause-ran
 returns-in-Validate-clause-ran g c = validate_ran _ _ _ c.in-Validate.path _ _ _ _ c.in-Validate.is c.validate.ensures.faults c.validate.ensures.cause c.validate.ensures.refusals c.validate.ensures.reads c.validate.ensures.says
@@ -55,3 +56,21 @@ pub returns-in-Prepare-clause-ran : goal.returns-in-Prepare-clause-ran
 returns-in-Prepare-clause-ran g c =
     let D = g.D.Dir in
     prepare_ran _ _ _ c.in-Prepare.wanted D.observed (D.shown c.args.dir.now) (D.shown c.prepare_pod.new.dir) _ _ c.in-Prepare.is c.prepare_pod.ensures.worked c.prepare_pod.ensures.cause c.prepare_pod.ensures.refusals c.prepare_pod.ensures.says
+
+pub returns-in-Rm-clause-keeps : goal.returns-in-Rm-clause-keeps
+returns-in-Rm-clause-keeps g c t intent said =
+    rm_conforming c.in-Rm.pod c.args.now c.args.draw.now intent g.D.Dir.observed _ _ (subst (λ (line : Line). intent_of line c.args.now c.args.draw.now ≡ Some intent) c.in-Rm.is said) (c.rm.ensures.ready t)
+
+pub returns-in-Rm-clause-ran : goal.returns-in-Rm-clause-ran
+returns-in-Rm-clause-ran g c =
+    let D = g.D.Dir in
+    rm_ran _ _ _ c.in-Rm.pod D.observed (D.shown c.args.dir.now) (D.shown c.rm.new.dir) _ _ c.in-Rm.is c.rm.ensures.worked c.rm.ensures.cause c.rm.ensures.refusals c.rm.ensures.says
+
+pub returns-in-Gc-clause-keeps : goal.returns-in-Gc-clause-keeps
+returns-in-Gc-clause-keeps g c t intent said =
+    gc_conforming c.args.now c.args.draw.now intent g.D.Dir.observed _ _ (subst (λ (line : Line). intent_of line c.args.now c.args.draw.now ≡ Some intent) c.in-Gc.is said) (c.gc_pods.ensures.ready t)
+
+pub returns-in-Gc-clause-ran : goal.returns-in-Gc-clause-ran
+returns-in-Gc-clause-ran g c =
+    let D = g.D.Dir in
+    gc_ran _ _ _ D.observed (D.shown c.args.dir.now) (D.shown c.gc_pods.new.dir) _ _ c.in-Gc.is c.gc_pods.ensures.worked c.gc_pods.ensures.cause c.gc_pods.ensures.refusals c.gc_pods.ensures.says

@@ -1,0 +1,178 @@
+-- What `rm` and `gc` tell of the whole run.
+use Rattle.std.proofs.Common.{arith, ◌≡◌, inl, inr, ◌≤◌, ℕ, Bool, true, false, List, [], ◌∷◌, Option, Some, None, Ok, Err, IsErrOf, IfErr, refl, sym, subst, ◌∙◌}
+use Rattle.dir_model.specs.declared.area.Phase.{Phase}
+use Rattle.dir_model.specs.declared.intent.Draw.{Draw}
+use Rattle.dir_model.specs.declared.intent.Intent.{Intent}
+use Rattle.dir_model.specs.declared.intent.Kind.TheVariants as kind
+use Rattle.dir_model.specs.declared.pod.PodId.{PodId}
+use Rattle.dir_model.specs.declared.spot.Which.{Which}
+use Rattle.dir_model.specs.Pods.{pod_text}
+use Rattle.dir_model.specs.Causes.{Rose}
+use Rattle.dir_model.proofs.Lists.{same_self}
+use Rattle.dir_trait.specs.DirCalls.{DirAt}
+use Rattle.folder_building.specs.Work.{Worked}
+use Rattle.pod_steps.specs.Holding.{KeepsReady, Stays}
+use Rattle.pod_removal.specs.Requests.{removes}
+use Rattle.pod_gc.specs.Requests.{anything}
+use Rattle.command_outcomes.specs.declared.refusal.Refusal.{Refusal}
+use Rattle.command_outcomes.proofs.Seen.{beside}
+use Rattle.rkt_cli.specs.declared.line.Line.{Line}
+use Rattle.rkt_cli.proofs.StoreRan.{never_bundle}
+use Rattle.dir_rules.specs.Marks.{begins}
+use Rattle.pod_steps.specs.Causes.{WasStray}
+use Rattle.pod_removal.specs.Causes.{IsBusyAt}
+use Rattle.pod_removal.specs.Holding.{MayRemove, MayRemovePod}
+use Rattle.pod_removal.specs.Removals.{FoundNone}
+use Rattle.pod_gc.specs.declared.line.GcLine.{GcLine}
+use Rattle.pod_gc.specs.Sweeping.{MaySweepAll}
+use Rattle.command_outcomes.specs.declared.refusal.Refusal.TheVariants.{NoPod, WrongPhase, PodBusy, NoManifest, DirFault, Stray, NoMemory}
+use Rattle.command_outcomes.specs.Moments.{Outside, BundleSeen, Outcome, dir_seen}
+use Rattle.command_outcomes.specs.Conforming.{begun, StaysConforming}
+use Rattle.removal_commands.specs.Rm.{rm_refusal, RmSays, removed_text, Removes, WasSo, WasOwned, HadNoManifest, MeetsStray, HasRemovedPod, HasFoundNoPod, HasFoundWrong, HasFoundNoManifest, HasFoundBusy, HasMetStrayAtPod}
+use Rattle.removal_commands.specs.Gc.{gc_refusal, GcSays, times_of, lines_text, Sweeps, HasSweptPods, HasMetStrayInPods}
+use Rattle.rkt_cli.specs.declared.line.Line.TheVariants.{Rm, Gc}
+use Rattle.rkt_cli.specs.Commands.{intent_for, gc_intent, intent_of, may, grace_time, expire_time}
+use Rattle.rkt_cli.specs.Runs.{CommandRan, InProcess, Performs}
+use Rattle.rkt_cli.proofs.Removals.{meanwhile}
+use Rattle.rkt_cli.proofs.Conforming.{begun_knows}
+
+abbrev pub rm_intent : PodId → ℕ → Draw → Intent
+rm_intent pod now draw = intent_for kind.Rm (pod_text pod.bytes) now draw
+
+begins_itself : (bs : List ℕ) → begins bs bs ≡ true
+begins_itself [] = refl
+begins_itself (x ∷ xs) = rw (same_self x) (begins_itself xs)
+
+-- a process that has just begun so may remove the pod, or sweep
+pub begun_removes : (pod : PodId) (now : ℕ) (draw : Draw) → MayRemovePod pod now (begun (rm_intent pod now draw))
+begun_removes pod now draw = record { may = record { began = refl; moment = same_self now; apart = refl; bare = refl }; asks = begins_itself (pod_text pod.bytes) }
+
+pub begun_sweeps : (now : ℕ) (draw : Draw) → MaySweepAll now expire_time (begun (gc_intent now draw))
+begun_sweeps now draw = record { sweeps = record { may = record { began = refl; moment = same_self now; apart = refl; bare = refl }; sweeps = refl }; free = refl }
+
+-- `rm`: what was printed, and done
+pub rm_printed : (pod : PodId) (now : ℕ) (draw : Draw) (intent : Option Intent) (old new : Outside) (text : List ℕ) → Performs (Rm pod) now draw intent old new (Ok text) → text ≡ removed_text pod
+rm_printed pod now draw (Some intent) old new text (inl s) = s.ran.says.0
+rm_printed pod now draw (Some intent) old new text (inr n) = let e = n.is in cc
+rm_printed pod now draw None old new text p = let clash : true ≡ false = p.apart in cc
+
+pub rm_done : (pod : PodId) (now : ℕ) (draw : Draw) (intent : Option Intent) (old new : Outside) (text : List ℕ) → Performs (Rm pod) now draw intent old new (Ok text) → old.dir.observed ≡ true → HasRemovedPod pod old.dir new.dir
+rm_done pod now draw (Some intent) old new text (inl s) t = meanwhile (Removes pod) s t (s.ran.says.1 (s.told ∙ t))
+rm_done pod now draw (Some intent) old new text (inr n) t = let e = n.is in cc
+rm_done pod now draw None old new text p t = let clash : true ≡ false = p.apart in cc
+
+-- or why not
+pub rm_none : (pod : PodId) (now : ℕ) (draw : Draw) (intent : Option Intent) (old new : Outside) → old.dir.observed ≡ true → Performs (Rm pod) now draw intent old new (Err NoPod) → HasFoundNoPod pod old.dir new.dir
+rm_none pod now draw (Some intent) old new t (inl s) = meanwhile (FoundNone pod) s t (s.ran.says (s.told ∙ t))
+rm_none pod now draw (Some intent) old new t (inr n) = let e = n.is in cc
+rm_none pod now draw None old new t p = let clash : true ≡ false = p.apart in cc
+
+pub rm_stray : (pod : PodId) (now : ℕ) (draw : Draw) (intent : Option Intent) (old new : Outside) → Performs (Rm pod) now draw intent old new (Err Stray) → old.dir.observed ≡ true → HasMetStrayAtPod pod old.dir new.dir
+rm_stray pod now draw (Some intent) old new (inl s) t = meanwhile (MeetsStray pod) s t (s.ran.says (s.told ∙ t))
+rm_stray pod now draw (Some intent) old new (inr n) t = let e = n.is in cc
+rm_stray pod now draw None old new p t = let clash : true ≡ false = p.apart in cc
+
+pub rm_bare : (pod : PodId) (now : ℕ) (draw : Draw) (intent : Option Intent) (old new : Outside) (bare : PodId) → Performs (Rm pod) now draw intent old new (Err (NoManifest bare)) → (bare ≡ pod) × (old.dir.observed ≡ true → HasFoundNoManifest pod old.dir new.dir)
+rm_bare pod now draw (Some intent) old new bare (inl s) = (s.ran.says.0, λ t. meanwhile (HadNoManifest pod) s t (s.ran.says.1 (s.told ∙ t)))
+rm_bare pod now draw (Some intent) old new bare (inr n) = let e = n.is in cc
+rm_bare pod now draw None old new bare p = let clash : true ≡ false = p.apart in cc
+
+pub rm_busy : (pod : PodId) (now : ℕ) (draw : Draw) (old new : Outside) (busy : PodId) (which : Which) → Performs (Rm pod) now draw (intent_of (Rm pod) now draw) old new (Err (PodBusy busy which)) →
+    (busy ≡ pod) × (old.dir.observed ≡ true → HasFoundBusy pod which old.dir new.dir)
+rm_busy pod now draw old new busy which (inl s) = (s.ran.says.0, λ t. meanwhile (IsBusyAt pod which) s t (s.ran.says.1 (s.told ∙ t) (begun (rm_intent pod now draw)) (begun_knows s t) (begun_removes pod now draw)))
+rm_busy pod now draw old new busy which (inr n) = let e = n.is in cc
+
+pub rm_wrong : (pod : PodId) (now : ℕ) (draw : Draw) (old new : Outside) (phase : Phase) → Performs (Rm pod) now draw (intent_of (Rm pod) now draw) old new (Err (WrongPhase phase)) → old.dir.observed ≡ true → HasFoundWrong pod phase old.dir new.dir
+rm_wrong pod now draw old new phase (inl s) t = record {
+  was = meanwhile (WasSo pod phase) s t (s.ran.says.was (s.told ∙ t));
+  owner = meanwhile (WasOwned pod phase) s t (s.ran.says.owner (s.told ∙ t) (begun (rm_intent pod now draw)) (begun_knows s t) (begun_removes pod now draw));
+}
+rm_wrong pod now draw old new phase (inr n) t = let e = n.is in cc
+
+-- `gc`: what was printed, and done
+pub gc_printed : (now : ℕ) (draw : Draw) (intent : Option Intent) (old new : Outside) (text : List ℕ) → Performs Gc now draw intent old new (Ok text) → (lines : List GcLine) × (text ≡ lines_text lines)
+gc_printed now draw (Some intent) old new text (inl s) = (s.ran.says.lines, s.ran.says.is)
+gc_printed now draw (Some intent) old new text (inr n) = let e = n.is in cc
+gc_printed now draw None old new text p = let clash : true ≡ false = p.apart in cc
+
+pub gc_done : (now : ℕ) (draw : Draw) (old new : Outside) (text : List ℕ) → Performs Gc now draw (intent_of Gc now draw) old new (Ok text) → old.dir.observed ≡ true → HasSweptPods (times_of now grace_time expire_time) old.dir new.dir text
+gc_done now draw old new text (inl s) t = record {
+  lines = s.ran.says.lines;
+  is = s.ran.says.is;
+  swept = meanwhile (Sweeps (times_of now grace_time expire_time) s.ran.says.lines) s t (s.ran.says.swept (s.told ∙ t) (begun (gc_intent now draw)) (begun_knows s t) (begun_sweeps now draw));
+}
+gc_done now draw old new text (inr n) t = let e = n.is in cc
+
+pub gc_stray : (now : ℕ) (draw : Draw) (intent : Option Intent) (old new : Outside) → Performs Gc now draw intent old new (Err Stray) → old.dir.observed ≡ true → HasMetStrayInPods old.dir new.dir
+gc_stray now draw (Some intent) old new (inl s) t = meanwhile WasStray s t (s.ran.says (s.told ∙ t))
+gc_stray now draw (Some intent) old new (inr n) t = let e = n.is in cc
+gc_stray now draw None old new p t = let clash : true ≡ false = p.apart in cc
+
+-- what each owes between its begin and its finish
+pub rm_conforming : (pod : PodId) (now : ℕ) (draw : Draw) (intent : Intent) (observed : Bool) (a b : DirAt) → intent_of (Rm pod) now draw ≡ Some intent → Stays (MayRemovePod pod now) a (λ s. KeepsReady s b) → StaysConforming intent (dir_seen observed a) (dir_seen observed b)
+rm_conforming pod now draw intent observed a b is stays =
+    subst (λ (i : Intent). StaysConforming i (dir_seen observed a) (dir_seen observed b)) (let e : rm_intent pod now draw ≡ intent = cc in e)
+    (λ k. let s = stays (begun (rm_intent pod now draw)) (record { tied = k.tied; handles = k.handles }) (begun_removes pod now draw) in
+      record { known = s.known; knows = record { tied = s.knows.tied; handles = s.knows.handles }; kept = s.keeps.kept })
+
+pub gc_conforming : (now : ℕ) (draw : Draw) (intent : Intent) (observed : Bool) (a b : DirAt) → intent_of Gc now draw ≡ Some intent → Stays (MaySweepAll now expire_time) a (λ s. KeepsReady s b) → StaysConforming intent (dir_seen observed a) (dir_seen observed b)
+gc_conforming now draw intent observed a b is stays =
+    subst (λ (i : Intent). StaysConforming i (dir_seen observed a) (dir_seen observed b)) (let e : gc_intent now draw ≡ intent = cc in e)
+    (λ k. let s = stays (begun (gc_intent now draw)) (record { tied = k.tied; handles = k.handles }) (begun_sweeps now draw) in
+      record { known = s.known; knows = record { tied = s.knows.tied; handles = s.knows.handles }; kept = s.keeps.kept })
+
+rm_may : (pod : PodId) (r : Refusal) → rm_refusal r ≡ true → may (Rm pod) r ≡ true
+rm_may pod NoMemory known = known
+rm_may pod DirFault known = known
+rm_may pod r known = known
+
+rm_end : (pod : PodId) (o : Outcome) → IfErr o (λ r. rm_refusal r ≡ true) → IfErr o (λ r. may (Rm pod) r ≡ true)
+rm_end pod (Ok text) known = known
+rm_end pod (Err r) known = rm_may pod r known
+
+gc_may : (r : Refusal) → gc_refusal r ≡ true → may Gc r ≡ true
+gc_may NoMemory known = known
+gc_may DirFault known = known
+gc_may r known = known
+
+gc_end : (o : Outcome) → IfErr o (λ r. gc_refusal r ≡ true) → IfErr o (λ r. may Gc r ≡ true)
+gc_end (Ok text) known = known
+gc_end (Err r) known = gc_may r known
+
+pub rm_ran : (line : Line) (now : ℕ) (draw : Draw) (pod : PodId) (observed : Bool) (a b : DirAt) (bundle : BundleSeen) (o : Outcome) → line ≡ Rm pod → Worked observed (removes pod now) a b → (IsErrOf o DirFault → Rose a.faults b.faults) →
+    IfErr o (λ r. rm_refusal r ≡ true) → RmSays pod now (dir_seen observed a) (dir_seen observed b) o → CommandRan line now draw (beside (dir_seen observed a) bundle) (beside (dir_seen observed b) bundle) o
+rm_ran line now draw pod observed a b bundle o is worked cause known says =
+    subst (λ (l : Line). CommandRan l now draw (beside (dir_seen observed a) bundle) (beside (dir_seen observed b) bundle) o) (sym is) ran
+  where
+    ran : CommandRan (Rm pod) now draw (beside (dir_seen observed a) bundle) (beside (dir_seen observed b) bundle) o
+    ran = record {
+      same = worked.same;
+      local = worked.local;
+      faults = worked.faults;
+      cause = cause;
+      bundle_faults = omega arith;
+      bundle_cause = never_bundle rm_refusal o refl known;
+      refusals = rm_end pod o known;
+      extends = worked.extends;
+      reads = tt;
+      says = says;
+    }
+
+pub gc_ran : (line : Line) (now : ℕ) (draw : Draw) (observed : Bool) (a b : DirAt) (bundle : BundleSeen) (o : Outcome) → line ≡ Gc → Worked observed anything a b → (IsErrOf o DirFault → Rose a.faults b.faults) →
+    IfErr o (λ r. gc_refusal r ≡ true) → GcSays (times_of now grace_time expire_time) (dir_seen observed a) (dir_seen observed b) o → CommandRan line now draw (beside (dir_seen observed a) bundle) (beside (dir_seen observed b) bundle) o
+gc_ran line now draw observed a b bundle o is worked cause known says =
+    subst (λ (l : Line). CommandRan l now draw (beside (dir_seen observed a) bundle) (beside (dir_seen observed b) bundle) o) (sym is) ran
+  where
+    ran : CommandRan Gc now draw (beside (dir_seen observed a) bundle) (beside (dir_seen observed b) bundle) o
+    ran = record {
+      same = worked.same;
+      local = worked.local;
+      faults = worked.faults;
+      cause = cause;
+      bundle_faults = omega arith;
+      bundle_cause = never_bundle gc_refusal o refl known;
+      refusals = gc_end o known;
+      extends = worked.extends;
+      reads = tt;
+      says = says;
+    }

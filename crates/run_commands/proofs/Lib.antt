@@ -1,0 +1,4 @@
+pub mod Told
+pub mod Claimed
+pub mod ClaimRefusals
+pub mod NewRuns
