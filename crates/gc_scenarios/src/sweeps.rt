@@ -71,6 +71,26 @@ type Sweep = (Situation, Times, &'static [Said]);
 
 const SWEEPS: &[Sweep] = &[
     (
+        Situation::Embryo,
+        (87_400, 1800, 86_400),
+        &[(Area::Embryo, None, Deed::BusyGate)],
+    ),
+    (
+        Situation::Preparing,
+        (87_400, 1800, 86_400),
+        &[(Area::Prepare, Some(POD), Deed::Kept(Phase::Preparing))],
+    ),
+    (
+        Situation::Running,
+        (87_400, 1800, 86_400),
+        &[(Area::Run, Some(POD), Deed::Kept(Phase::Running))],
+    ),
+    (
+        Situation::Garbage,
+        (1001, 1800, 86_400),
+        &[(Area::Garbage, Some(POD), Deed::Deleted)],
+    ),
+    (
         Situation::Exited,
         (1000, 1800, 86_400),
         &[

@@ -3,6 +3,8 @@ use Rattle.std.specs.Prelude.{ℕ, Bool, true, false, ◌||◌, List}
 use Rattle.std.specs.List.{list_any}
 use Rattle.dir_model.specs.declared.area.Area.{Area}
 use Rattle.dir_model.specs.declared.area.Area.TheVariants.{Embryo, Prepare, Prepared, Run, ExitedGarbage, Garbage}
+use Rattle.dir_model.specs.declared.area.Phase.{Phase}
+use Rattle.dir_model.specs.declared.area.Phase.TheVariants as phase
 use Rattle.dir_model.specs.declared.item.Inner.{Inner}
 use Rattle.dir_model.specs.declared.pod.PodId.{PodId}
 use Rattle.dir_model.specs.declared.request.Request.{Request}
@@ -45,6 +47,15 @@ moves_pods Prepare = true
 moves_pods Prepared = true
 moves_pods Run = true
 moves_pods _ = false
+
+-- the phases for which a pass lets a pod be
+abbrev pub lets_be : Area → Phase → Bool
+lets_be Prepare phase.Preparing = true
+lets_be Prepared phase.Prepared = true
+lets_be Run phase.Running = true
+lets_be ExitedGarbage phase.ExitedGarbage = true
+lets_be ExitedGarbage phase.Deleting = true
+lets_be _ _ = false
 
 -- calls of any kind
 abbrev pub anything : Request → Bool
