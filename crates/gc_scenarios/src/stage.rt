@@ -89,7 +89,16 @@ pub const STARTED: &[Row] = &[
 /// Process 3 ends, or is killed.
 pub const EXITED: &[Row] = &[(3, Step::Finish)];
 
-/// Process 4 removes pods too: it moves the prepared pod to garbage.
+/// Process 4 removes pods too: it moves the dead pod from prepare to garbage.
+pub const SWEPT: &[Row] = &[
+    (4, Step::Begin(Kind::Rm)),
+    (4, Step::Open(Area::Prepare, Which::Own)),
+    (4, Step::Lock(0, Mode::Shared)),
+    (4, Step::Close(0)),
+    (4, Step::Move(Area::Prepare, Area::Garbage)),
+];
+
+/// It moves the prepared pod to garbage.
 pub const DISCARDED: &[Row] = &[
     (4, Step::Begin(Kind::Rm)),
     (4, Step::Open(Area::Prepared, Which::Claim)),
@@ -114,6 +123,12 @@ pub const RETIRED: &[Row] = &[
 /// It holds the pod in garbage.
 pub const HELD: &[Row] = &[
     (4, Step::Open(Area::Garbage, Which::Own)),
+    (4, Step::Lock(0, Mode::Exclusive)),
+];
+
+/// It holds the pod in exited-garbage.
+pub const KEPT: &[Row] = &[
+    (4, Step::Open(Area::ExitedGarbage, Which::Own)),
     (4, Step::Lock(0, Mode::Exclusive)),
 ];
 
