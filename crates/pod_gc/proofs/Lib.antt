@@ -10,3 +10,4 @@ pub mod Asking
 pub mod Telling
 pub mod Gates
 pub mod Sweeps
+pub mod Begun

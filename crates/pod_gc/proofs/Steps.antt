@@ -81,10 +81,10 @@ gone_garbage pod _ place s h = cc
 -- the deeds
 
 pub cause_left : {pod : PodId} {place : Area} {me : ℕ} {old new : List Event} → AtOwnStep me old new (IsGoneFrom pod place) → DeedCause pod place Left me old new
-cause_left at = record { moved = λ to is. cc; deleted = λ is. cc; kept = λ p is. cc; left = λ is. at }
+cause_left at = record { moved = λ to is. cc; deleted = λ is. cc; kept = λ p is. cc; left = λ is. at; gate = λ is. cc }
 
 pub cause_busy : {pod : PodId} {place : Area} {me : ℕ} {old new : List Event} (which : Which) → DeedCause pod place (Busy which) me old new
-cause_busy which = record { moved = λ to is. cc; deleted = λ is. cc; kept = λ p is. cc; left = λ is. cc }
+cause_busy which = record { moved = λ to is. cc; deleted = λ is. cc; kept = λ p is. cc; left = λ is. cc; gate = λ is. cc }
 
 pub cause_moved : {me : ℕ} {old new : List Event} (pod : PodId) (place to : Area) → moves_pods place ≡ true → to ≡ goes_to place → Did (MoveFolder (pod_spot pod place) (pod_spot pod to)) Done me old new → DeedCause pod place (Moved to) me old new
 cause_moved {me} {old} {new} pod place to moves goes did = record {
@@ -92,10 +92,11 @@ cause_moved {me} {old} {new} pod place to moves goes did = record {
   deleted = λ is. cc;
   kept = λ p is. cc;
   left = λ is. cc;
+  gate = λ is. cc;
 }
 
 pub cause_deleted : {pod : PodId} {place : Area} {me : ℕ} {old new : List Event} → is_garbage_place place ≡ true → Did (RemoveFolder (pod_spot pod place)) Done me old new → DeedCause pod place Deleted me old new
-cause_deleted garbage did = record { moved = λ to is. cc; deleted = λ is. (garbage, did); kept = λ p is. cc; left = λ is. cc }
+cause_deleted garbage did = record { moved = λ to is. cc; deleted = λ is. (garbage, did); kept = λ p is. cc; left = λ is. cc; gate = λ is. cc }
 
 pub cause_kept : {me : ℕ} {old new : List Event} (pod : PodId) (place : Area) (p : Phase) → lets_be place p ≡ true → (IsConforming new → AtOwnEvent me old new (IsInPhase pod p place)) → DeedCause pod place (Kept p) me old new
 cause_kept {me} {old} {new} pod place p fits so = record {
@@ -103,6 +104,7 @@ cause_kept {me} {old} {new} pod place p fits so = record {
   deleted = λ is. cc;
   kept = λ q is. let same : p ≡ q = cc in (subst (λ (x : Phase). lets_be place x ≡ true) same fits, λ conforming. subst (λ (x : Phase). AtOwnEvent me old new (IsInPhase pod x place)) same (so conforming));
   left = λ is. cc;
+  gate = λ is. cc;
 }
 
 module _ (observed : Bool) (pod : PodId) (place : Area) (done : Deed) (old new : DirAt) where
@@ -255,6 +257,7 @@ deed_after ab same x = record {
   deleted = λ is. let y = x.deleted is in (y.0, deeds_part ab same grown_none y.1);
   kept = λ p is. let y = x.kept p is in (y.0, λ conforming. event_after ab same (y.1 conforming));
   left = λ is. at_part ab same grown_none (x.left is);
+  gate = x.gate;
 }
 
 pub deed_later : {observed : Bool} {pod : PodId} {place : Area} {deed : Deed} {a b : DirAt} (c : DirAt) → observed ≡ true → Follows observed a b → DeedCause pod place deed b.process b.trace c.trace → DeedCause pod place deed a.process a.trace c.trace

@@ -67,6 +67,7 @@ module _ {me other : ℕ} {a b c d : List Event} (ab : Grew a b) (same : other �
     deleted = λ is. let y = x.deleted is in (y.0, deeds_part ab same cd y.1);
     kept = λ p is. let y = x.kept p is in (y.0, λ conforming. event_before (event_after ab same (y.1 (conforming_before cd conforming))) cd);
     left = λ is. at_part ab same cd (x.left is);
+    gate = x.gate;
   }
 
   dealt_within : {times : Times} {pod : PodId} {place : Area} {deed : Deed} → Dealt times pod place deed other b c → Dealt times pod place deed me a d
