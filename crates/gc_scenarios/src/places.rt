@@ -3,7 +3,7 @@ ghost use Rattle.std.specs.Prelude.{◌≡◌, IfOk};
 ghost use Rattle.dir_trait.specs.Local.{nothing_local};
 
 use crate::stage::{
-    ASKED, DISCARDED, ENDED, EXITED, FILLED, HANDED, HELD, MADE, MANIFEST, RETIRED, STARTED, before,
+    ASKED, DISCARDED, ENDED, EXITED, FILLED, HANDED, HELD, KEPT, MADE, MANIFEST, RETIRED, STARTED, before,
 };
 use dir_memory::MemoryDir;
 use dir_trait::NoMemory;
@@ -24,6 +24,7 @@ pub enum Situation {
     ExitedGarbage,
     Garbage,
     Deleting,
+    DeletingExited,
 }
 
 fn embryo(alloc: Global, dir: MemoryDir) -> Result<MemoryDir, NoMemory>
@@ -135,6 +136,15 @@ fn deleting(alloc: Global, dir: MemoryDir) -> Result<MemoryDir, NoMemory>
     Ok(dir)
 }
 
+fn deleting_exited(alloc: Global, dir: MemoryDir) -> Result<MemoryDir, NoMemory>
+    requires { dir.local ≡ nothing_local }
+    ensures { IfOk result (λ dir. dir.local ≡ nothing_local) }
+{
+    let aside = exited_garbage(alloc, dir)?;
+    let dir = before(alloc, aside, 2, KEPT)?;
+    Ok(dir)
+}
+
 /// The same folder, with the pod in this situation.
 pub fn with_pod(alloc: Global, dir: MemoryDir, situation: Situation) -> Result<MemoryDir, NoMemory>
     requires { dir.local ≡ nothing_local }
@@ -153,5 +163,6 @@ pub fn with_pod(alloc: Global, dir: MemoryDir, situation: Situation) -> Result<M
         Situation::ExitedGarbage => exited_garbage(alloc, dir),
         Situation::Garbage => garbage(alloc, dir),
         Situation::Deleting => deleting(alloc, dir),
+        Situation::DeletingExited => deleting_exited(alloc, dir),
     }
 }

@@ -26,10 +26,6 @@ pub enum Step {
     MakeDir(Area, &'static str),
     MakeFile(Area, &'static str),
     Sync(Area, &'static str),
-    List(Area, &'static str),
-    RemoveFile(Area, &'static str),
-    RemoveDir(Area, &'static str),
-    Remove(Area),
 }
 
 /// A step of a process: the maker is 2, who runs the pod 3, and another that removes pods 4. For the pod of
@@ -130,30 +126,11 @@ pub const HELD: &[Row] = &[
     (4, Step::Lock(0, Mode::Exclusive)),
 ];
 
-/// It deletes the pod there.
-pub const DELETED: &[Row] = &[
-    (4, Step::List(Area::Garbage, "")),
-    (
-        4,
-        Step::RemoveFile(Area::Garbage, "created-00000000000000001000"),
-    ),
-    (4, Step::RemoveFile(Area::Garbage, "pod")),
-    (4, Step::List(Area::Garbage, "stage1")),
-    (4, Step::List(Area::Garbage, "stage1/rootfs")),
-    (4, Step::List(Area::Garbage, "stage1/rootfs/rkt")),
-    (4, Step::List(Area::Garbage, "stage1/rootfs/rkt/status")),
-    (
-        4,
-        Step::RemoveDir(Area::Garbage, "stage1/rootfs/rkt/status"),
-    ),
-    (4, Step::RemoveDir(Area::Garbage, "stage1/rootfs/rkt")),
-    (4, Step::RemoveDir(Area::Garbage, "stage1/rootfs")),
-    (4, Step::RemoveDir(Area::Garbage, "stage1")),
-    (4, Step::Remove(Area::Garbage)),
+/// It holds the pod in exited-garbage.
+pub const KEPT: &[Row] = &[
+    (4, Step::Open(Area::ExitedGarbage, Which::Own)),
+    (4, Step::Lock(0, Mode::Exclusive)),
 ];
-
-/// It ends.
-pub const LEFT: &[Row] = &[(4, Step::Finish)];
 
 /// The pod of a group: what its maker draws.
 pub fn pod_of(group: u32) -> PodId {
@@ -194,9 +171,6 @@ fn inside(alloc: Global, pod: PodId, step: Step) -> Result<Request, NoMemory> {
         Step::MakeDir(area, path) => Request::MakeDirIn(inner(alloc, pod, area, path)?),
         Step::MakeFile(area, path) => Request::MakeFileIn(inner(alloc, pod, area, path)?),
         Step::Sync(area, path) => Request::SyncIn(inner(alloc, pod, area, path)?),
-        Step::List(area, path) => Request::ListIn(inner(alloc, pod, area, path)?),
-        Step::RemoveFile(area, path) => Request::RemoveFileIn(inner(alloc, pod, area, path)?),
-        Step::RemoveDir(area, path) => Request::RemoveDirIn(inner(alloc, pod, area, path)?),
         _ => Request::Finish,
     })
 }
@@ -219,7 +193,6 @@ fn request(alloc: Global, process: u32, pod: PodId, step: Step) -> Result<Reques
             mode,
         }),
         Step::Close(number) => Ok(Request::Close(Handle { number })),
-        Step::Remove(area) => Ok(Request::RemoveFolder(spot(pod, area))),
         _ => inside(alloc, pod, step),
     }
 }

@@ -4,7 +4,7 @@ ghost use Rattle.dir_trait.specs.Local.{nothing_local};
 
 use crate::crowd::{U1, U2, U3, U4, U5, U6, U7, U8, with_pods};
 use crate::places::{Situation, with_pod};
-use crate::stage::{POD, Row, Step, before, intent};
+use crate::stage::{POD, Row, SWEPT, Step, before, intent};
 use conformance::keeps_rules;
 use dir_memory::MemoryDir;
 use dir_trait::{Area, Dir, Kind, Mode, NoMemory, Phase, PodId, Which};
@@ -71,6 +71,26 @@ type Sweep = (Situation, Times, &'static [Said]);
 
 const SWEEPS: &[Sweep] = &[
     (
+        Situation::Embryo,
+        (87_400, 1800, 86_400),
+        &[(Area::Embryo, None, Deed::BusyGate)],
+    ),
+    (
+        Situation::Preparing,
+        (87_400, 1800, 86_400),
+        &[(Area::Prepare, Some(POD), Deed::Kept(Phase::Preparing))],
+    ),
+    (
+        Situation::Running,
+        (87_400, 1800, 86_400),
+        &[(Area::Run, Some(POD), Deed::Kept(Phase::Running))],
+    ),
+    (
+        Situation::Garbage,
+        (1001, 1800, 86_400),
+        &[(Area::Garbage, Some(POD), Deed::Deleted)],
+    ),
+    (
         Situation::Exited,
         (1000, 1800, 86_400),
         &[
@@ -95,6 +115,16 @@ const SWEEPS: &[Sweep] = &[
         Situation::ExitedGarbage,
         (2800, 1800, 86_400),
         &[(Area::ExitedGarbage, Some(POD), Deed::Deleted)],
+    ),
+    (
+        Situation::DeletingExited,
+        (2799, 1800, 86_400),
+        &[(Area::ExitedGarbage, Some(POD), Deed::Kept(Phase::Deleting))],
+    ),
+    (
+        Situation::DeletingExited,
+        (2800, 1800, 86_400),
+        &[(Area::ExitedGarbage, Some(POD), Deed::Busy(Which::Own))],
     ),
     (
         Situation::Prepared,
@@ -221,6 +251,32 @@ fn embryos_are_let_be_while_one_is_made(rt: HostRuntime) -> Result<(), Fail> {
     let dir = before(rt.alloc(), pods, 2, GATE)?;
     let so = gives(rt.alloc(), dir, CROWD, BUSY_LINES)?;
     assert!(rt; so);
+    Ok(())
+}
+
+const LEFT: &[Said] = &[
+    (Area::Prepare, Some(POD), Deed::Left),
+    (Area::Garbage, Some(POD), Deed::Deleted),
+];
+
+/// The pod has left prepare where another process moves it before this call.
+fn has_left(alloc: Global, call: u64) -> Result<bool, NoMemory> {
+    let dead = with_pod(
+        alloc,
+        MemoryDir::new(alloc, 1)?,
+        Situation::AbortedPrepare,
+    )?;
+    gives(alloc, before(alloc, dead, call, SWEPT)?, CROWD, LEFT)
+}
+
+#[test]
+fn a_pod_that_another_moves_meanwhile_has_left(rt: HostRuntime) -> Result<(), Fail> {
+    let mut found = false;
+    'calls: for call in 5..=12u64 {
+        let left = has_left(rt.alloc(), call)?;
+        found = found || left;
+    }
+    assert!(rt; found);
     Ok(())
 }
 

@@ -27,11 +27,12 @@ use Rattle.pod_claim.proofs.Traces.{grown_none, grown_by}
 use Rattle.pod_gc.specs.declared.ages.Times.{Times}
 use Rattle.pod_gc.specs.declared.line.Deed.TheVariants.{BusyGate}
 use Rattle.pod_gc.specs.declared.line.GcLine.{GcLine}
-use Rattle.pod_gc.specs.Requests.{anything}
+use Rattle.pod_gc.specs.Requests.{sweeps}
 use Rattle.pod_gc.specs.Causes.{lock_fault, GcCause}
 use Rattle.pod_gc.specs.Sweeping.{MaySweep, MayPass, MaySweepAll}
 use Rattle.pod_gc.specs.Told.{Knew, TellsShown, UnderGate, WasGated, Passed, AddsShown, AddsPassed}
 use Rattle.pod_gc.proofs.Dealing.{gc_by}
+use Rattle.pod_gc.proofs.Asking.{takes_sweep, closes_sweep}
 use Rattle.pod_gc.proofs.Telling.{tells_within}
 
 pub may_lock : {now expire : ℕ} {s : Seen} → MaySweepAll now expire s → MayLock s Embryo Exclusive
@@ -70,17 +71,17 @@ ready_same left s k m = record { known = s; keeps = record { intent = refl; hold
 pub follows_lock : {observed : Bool} {a b : DirAt} → b.process ≡ a.process → a.faults ≤ b.faults → (observed ≡ true → ExtendsBy (takes Embryo Exclusive) a b) → Follows observed a b
 follows_lock same faults extends = record { same = same; faults = faults; grown = λ t. grown_by (extends t) }
 
-pub worked_gate : {observed : Bool} {a b c d : DirAt} (h : Handle) → IsUnopened a.local h → b.process ≡ a.process → a.faults ≤ b.faults → b.local ≡ and_lock a.local h Embryo Exclusive → (observed ≡ true → ExtendsBy (takes Embryo Exclusive) a b) → Worked observed anything b c
-    → d.process ≡ c.process → d.faults ≡ c.faults → d.local ≡ without c.local h → (observed ≡ true → ExtendsBy (closes h) c d) → Worked observed anything a d
-worked_gate {observed} {a} {b} {c} {d} h unopened ab af held ax w cd cf given cx = record {
+pub worked_gate : {observed : Bool} {a b c d : DirAt} (now : ℕ) (h : Handle) → IsUnopened a.local h → b.process ≡ a.process → a.faults ≤ b.faults → b.local ≡ and_lock a.local h Embryo Exclusive → (observed ≡ true → ExtendsBy (takes Embryo Exclusive) a b) → Worked observed (sweeps now) b c
+    → d.process ≡ c.process → d.faults ≡ c.faults → d.local ≡ without c.local h → (observed ≡ true → ExtendsBy (closes h) c d) → Worked observed (sweeps now) a d
+worked_gate {observed} {a} {b} {c} {d} now h unopened ab af held ax w cd cf given cx = record {
   same = cd ∙ (w.same ∙ ab);
   faults = omega (arith, af, w.faults, cf);
   local = unlocked_same a.local h Embryo Exclusive unopened (w.local ∙ held) given;
-  extends = λ t. and_more (and_more (extends_wider (λ r is. refl) (ax t)) ab (w.extends t)) (w.same ∙ ab) (extends_wider (λ r is. refl) (cx t));
+  extends = λ t. and_more (and_more (extends_wider (takes_sweep now) (ax t)) ab (w.extends t)) (w.same ∙ ab) (extends_wider (closes_sweep now h) (cx t));
 }
 
-pub worked_locked : {observed : Bool} (a b : DirAt) → b.process ≡ a.process → a.faults ≤ b.faults → b.local ≡ a.local → (observed ≡ true → ExtendsBy (takes Embryo Exclusive) a b) → Worked observed anything a b
-worked_locked a b same faults local extends = record { same = same; faults = faults; local = local; extends = λ t. extends_wider (λ r is. refl) (extends t) }
+pub worked_locked : {observed : Bool} (now : ℕ) (a b : DirAt) → b.process ≡ a.process → a.faults ≤ b.faults → b.local ≡ a.local → (observed ≡ true → ExtendsBy (takes Embryo Exclusive) a b) → Worked observed (sweeps now) a b
+worked_locked now a b same faults local extends = record { same = same; faults = faults; local = local; extends = λ t. extends_wider (takes_sweep now) (extends t) }
 
 pub lock_cause : {observed : Bool} {a b : DirAt} (e : LockError) → (e ≡ lock.Busy → ⊥) → (e ≡ lock.DirFault → Rose a.faults b.faults) → GcCause observed (lock_fault e) a b
 lock_cause lock.Busy other rose = absurd (other refl)

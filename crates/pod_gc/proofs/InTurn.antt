@@ -4,22 +4,15 @@ use Rattle.std.specs.List.{list_any}
 use Rattle.dir_model.specs.declared.area.Area.{Area}
 use Rattle.dir_model.specs.declared.area.Area.TheVariants.{Embryo}
 use Rattle.dir_model.specs.declared.intent.Intent.{Intent}
-use Rattle.dir_model.specs.declared.request.Request.{Request}
 use Rattle.dir_rules.specs.declared.standing.Held.{Held}
 use Rattle.dir_rules.specs.declared.seen.Seen.{Seen}
 use Rattle.dir_rules.specs.Standing.{intends, is_gc, is_gate_exclusive}
 use Rattle.dir_trait.specs.DirCalls.{DirAt}
-use Rattle.folder_building.specs.Work.{Worked}
-use Rattle.folder_building.proofs.Working.{worked_wider}
 use Rattle.pod_steps.specs.Holding.{Keeps, KeepsReady, Stays}
 use Rattle.pod_removal.proofs.Rounds.{may_kept}
 use Rattle.pod_gc.specs.declared.error.GcError.TheVariants as fault
-use Rattle.pod_gc.specs.Requests.{anything}
 use Rattle.pod_gc.specs.Causes.{GcCause}
 use Rattle.pod_gc.specs.Sweeping.{MaySweep, MayPass}
-
-pub worked_any : {observed : Bool} {asks : Request → Bool} {old new : DirAt} → Worked observed asks old new → Worked observed anything old new
-worked_any w = worked_wider (λ r is. refl) w
 
 pub no_memory : (observed : Bool) (old new : DirAt) → GcCause observed fault.NoMemory old new
 no_memory observed old new = record { fault = λ is. cc; stray = λ is. cc }

@@ -6,6 +6,8 @@ pub mod Waiting
 pub mod Dealing
 pub mod InTurn
 pub mod Listing
+pub mod Asking
 pub mod Telling
 pub mod Gates
 pub mod Sweeps
+pub mod Begun

@@ -10,7 +10,8 @@ use Rattle.dir_model.specs.declared.request.Request.{Request}
 use Rattle.dir_model.specs.declared.request.Request.TheVariants.{ListArea}
 use Rattle.dir_model.specs.declared.request.Reply.{Reply}
 use Rattle.dir_model.specs.declared.request.Reply.TheVariants.{Begun}
-use Rattle.dir_model.specs.Areas.{is_stage}
+use Rattle.dir_model.specs.Areas.{rank, is_stage}
+use Rattle.dir_model.proofs.Lists.{same_self}
 use Rattle.dir_model.specs.Calls.{CallStep, ListStep, Unlisted}
 use Rattle.dir_model.specs.Causes.{Rose}
 use Rattle.dir_model.specs.Local.{Local, local_replied}
@@ -25,7 +26,7 @@ use Rattle.dir_trait.specs.Knowledge.{SameHandles, Knows}
 use Rattle.folder_building.specs.Work.{Worked}
 use Rattle.folder_removal.proofs.Calls.{list_extends}
 use Rattle.pod_steps.specs.Holding.{Keeps, KeepsReady, Stays}
-use Rattle.pod_gc.specs.Requests.{anything}
+use Rattle.pod_gc.specs.Requests.{lists}
 use Rattle.pod_gc.specs.Causes.{listing_fault, GcCause}
 use Rattle.pod_gc.specs.Sweeping.{MayPass}
 
@@ -59,8 +60,8 @@ listing_keeps {place} s (Err e) stage m = record { intent = refl; holdings = ref
 pub ready_area : {observed : Bool} {now expire : ℕ} {old new : DirAt} (place : Area) (r : Result (List (List ℕ)) DirError) → is_stage place ≡ true → ListCall observed old (ListArea place) (names_reply r) new → observed ≡ true → Stays (MayPass place now expire) old (λ s. KeepsReady s new)
 ready_area place r stage x t s k m = record { known = _; keeps = listing_keeps s r stage m; knows = knows_list place r t k x }
 
-pub worked_area : {observed : Bool} {old new : DirAt} (place : Area) (r : Result (List (List ℕ)) DirError) → ListCall observed old (ListArea place) (names_reply r) new → Worked observed anything old new
-worked_area {observed} {old} {new} place r x = record { same = x.same; faults = x.faults; local = by r x; extends = λ t. list_extends refl (x.step t) }
+pub worked_area : {observed : Bool} {old new : DirAt} (place : Area) (r : Result (List (List ℕ)) DirError) → ListCall observed old (ListArea place) (names_reply r) new → Worked observed (lists place) old new
+worked_area {observed} {old} {new} place r x = record { same = x.same; faults = x.faults; local = by r x; extends = λ t. list_extends (same_self (rank place)) (x.step t) }
   where
     by : (r : Result (List (List ℕ)) DirError) → ListCall observed old (ListArea place) (names_reply r) new → new.local ≡ old.local
     by (Ok names) x = x.local

@@ -49,7 +49,7 @@ use Rattle.pod_gc.specs.declared.error.GcError.{GcError}
 use Rattle.pod_gc.specs.declared.error.GcError.TheVariants as fault
 use Rattle.pod_gc.specs.declared.line.Deed.{Deed}
 use Rattle.pod_gc.specs.declared.line.Deed.TheVariants.{Moved, Deleted, Kept, Busy, Left}
-use Rattle.pod_gc.specs.Requests.{deals_with, lists_marks, goes_to, moves_pods}
+use Rattle.pod_gc.specs.Requests.{deals_with, lists_marks, goes_to, moves_pods, lets_be}
 use Rattle.pod_gc.specs.Causes.{deed_of, look_fault, GcCause}
 use Rattle.pod_gc.specs.declared.ages.Times.{Times}
 use Rattle.pod_gc.specs.Marks.{Showed, is_young}
@@ -81,10 +81,10 @@ gone_garbage pod _ place s h = cc
 -- the deeds
 
 pub cause_left : {pod : PodId} {place : Area} {me : ℕ} {old new : List Event} → AtOwnStep me old new (IsGoneFrom pod place) → DeedCause pod place Left me old new
-cause_left at = record { moved = λ to is. cc; deleted = λ is. cc; kept = λ p is. cc; left = λ is. at }
+cause_left at = record { moved = λ to is. cc; deleted = λ is. cc; kept = λ p is. cc; left = λ is. at; gate = λ is. cc }
 
 pub cause_busy : {pod : PodId} {place : Area} {me : ℕ} {old new : List Event} (which : Which) → DeedCause pod place (Busy which) me old new
-cause_busy which = record { moved = λ to is. cc; deleted = λ is. cc; kept = λ p is. cc; left = λ is. cc }
+cause_busy which = record { moved = λ to is. cc; deleted = λ is. cc; kept = λ p is. cc; left = λ is. cc; gate = λ is. cc }
 
 pub cause_moved : {me : ℕ} {old new : List Event} (pod : PodId) (place to : Area) → moves_pods place ≡ true → to ≡ goes_to place → Did (MoveFolder (pod_spot pod place) (pod_spot pod to)) Done me old new → DeedCause pod place (Moved to) me old new
 cause_moved {me} {old} {new} pod place to moves goes did = record {
@@ -92,17 +92,19 @@ cause_moved {me} {old} {new} pod place to moves goes did = record {
   deleted = λ is. cc;
   kept = λ p is. cc;
   left = λ is. cc;
+  gate = λ is. cc;
 }
 
 pub cause_deleted : {pod : PodId} {place : Area} {me : ℕ} {old new : List Event} → is_garbage_place place ≡ true → Did (RemoveFolder (pod_spot pod place)) Done me old new → DeedCause pod place Deleted me old new
-cause_deleted garbage did = record { moved = λ to is. cc; deleted = λ is. (garbage, did); kept = λ p is. cc; left = λ is. cc }
+cause_deleted garbage did = record { moved = λ to is. cc; deleted = λ is. (garbage, did); kept = λ p is. cc; left = λ is. cc; gate = λ is. cc }
 
-pub cause_kept : {me : ℕ} {old new : List Event} (pod : PodId) (place : Area) (p : Phase) → (IsConforming new → AtOwnEvent me old new (IsInPhase pod p place)) → DeedCause pod place (Kept p) me old new
-cause_kept {me} {old} {new} pod place p so = record {
+pub cause_kept : {me : ℕ} {old new : List Event} (pod : PodId) (place : Area) (p : Phase) → lets_be place p ≡ true → (IsConforming new → AtOwnEvent me old new (IsInPhase pod p place)) → DeedCause pod place (Kept p) me old new
+cause_kept {me} {old} {new} pod place p fits so = record {
   moved = λ to is. cc;
   deleted = λ is. cc;
-  kept = λ q is conforming. let same : p ≡ q = cc in subst (λ (x : Phase). AtOwnEvent me old new (IsInPhase pod x place)) same (so conforming);
+  kept = λ q is. let same : p ≡ q = cc in (subst (λ (x : Phase). lets_be place x ≡ true) same fits, λ conforming. subst (λ (x : Phase). AtOwnEvent me old new (IsInPhase pod x place)) same (so conforming));
   left = λ is. cc;
+  gate = λ is. cc;
 }
 
 module _ (observed : Bool) (pod : PodId) (place : Area) (done : Deed) (old new : DirAt) where
@@ -142,14 +144,14 @@ kept_phase {me} {other} {old} {mid} {new} pod place p owned stage is told same t
     (at_weaker (HasPhase (pod_spot pod place) p) (λ s h. record { owned = owned; here = h; is = is })
     (settle stage told (subst (λ (n : ℕ). AtOwnStep n mid new (λ s. stands s.namespace (pod_spot pod place) ≡ true)) same there) (stays_between new conforming)))
 
-module _ (observed : Bool) (pod : PodId) (place : Area) (p : Phase) (owned : Bool) (stage : rank place ≤ 5) (is : phase_in place owned ≡ Some p) (only : (s : DirState) → IsAbsentAt pod place s → IsGoneFrom pod place s)
+module _ (observed : Bool) (pod : PodId) (place : Area) (p : Phase) (owned : Bool) (stage : rank place ≤ 5) (is : phase_in place owned ≡ Some p) (fits : lets_be place p ≡ true) (only : (s : DirState) → IsAbsentAt pod place s → IsGoneFrom pod place s)
     (old mid new : DirAt) (ab : Follows observed old mid) (told : observed ≡ true → LockToldBetween old mid (pod_spot pod place) owned) where
   pub said_deed : (r : Result Deed GcError) → IfOk r (λ deed. SaysThere observed pod place p deed mid new) → IfOk r (λ deed. observed ≡ true → DeedCause pod place deed old.process old.trace new.trace)
   said_deed (Err e) x = tt
   said_deed (Ok deed) x = λ t. by deed x.is x t
     where
       by : (d : Deed) → (d ≡ Kept p) ⊎ (d ≡ Left) → SaysThere observed pod place p d mid new → observed ≡ true → DeedCause pod place d old.process old.trace new.trace
-      by d (inl kept) y t = subst (λ (z : Deed). DeedCause pod place z old.process old.trace new.trace) (sym kept) (cause_kept pod place p (λ conforming. kept_phase pod place p owned stage is (told t) ab.same (y.there kept t) conforming))
+      by d (inl kept) y t = subst (λ (z : Deed). DeedCause pod place z old.process old.trace new.trace) (sym kept) (cause_kept pod place p fits (λ conforming. kept_phase pod place p owned stage is (told t) ab.same (y.there kept t) conforming))
       by d (inr left) y t = subst (λ (z : Deed). DeedCause pod place z old.process old.trace new.trace) (sym left) (cause_left (at_part (ab.grown t) ab.same grown_none (at_weaker (IsGoneFrom pod place) only (y.gone left t))))
 
 never_busy : (d : Deed) (p : Phase) → (d ≡ Kept p) ⊎ (d ≡ Left) → (which : Which) → d ≡ Busy which → ⊥
@@ -253,8 +255,9 @@ deed_after : {pod : PodId} {place : Area} {deed : Deed} {me other : ℕ} {a b c 
 deed_after ab same x = record {
   moved = λ to is. let y = x.moved to is in (y.0, y.1, deeds_part ab same grown_none y.2);
   deleted = λ is. let y = x.deleted is in (y.0, deeds_part ab same grown_none y.1);
-  kept = λ p is conforming. event_after ab same (x.kept p is conforming);
+  kept = λ p is. let y = x.kept p is in (y.0, λ conforming. event_after ab same (y.1 conforming));
   left = λ is. at_part ab same grown_none (x.left is);
+  gate = x.gate;
 }
 
 pub deed_later : {observed : Bool} {pod : PodId} {place : Area} {deed : Deed} {a b : DirAt} (c : DirAt) → observed ≡ true → Follows observed a b → DeedCause pod place deed b.process b.trace c.trace → DeedCause pod place deed a.process a.trace c.trace

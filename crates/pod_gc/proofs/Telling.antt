@@ -65,8 +65,9 @@ module _ {me other : ℕ} {a b c d : List Event} (ab : Grew a b) (same : other �
   deed_within x = record {
     moved = λ to is. let y = x.moved to is in (y.0, y.1, deeds_part ab same cd y.2);
     deleted = λ is. let y = x.deleted is in (y.0, deeds_part ab same cd y.1);
-    kept = λ p is conforming. event_before (event_after ab same (x.kept p is (conforming_before cd conforming))) cd;
+    kept = λ p is. let y = x.kept p is in (y.0, λ conforming. event_before (event_after ab same (y.1 (conforming_before cd conforming))) cd);
     left = λ is. at_part ab same cd (x.left is);
+    gate = x.gate;
   }
 
   dealt_within : {times : Times} {pod : PodId} {place : Area} {deed : Deed} → Dealt times pod place deed other b c → Dealt times pod place deed me a d

@@ -107,7 +107,7 @@ waits_there pod a c t bc there conforming =
 
 pub waited_deed : {observed : Bool} {b : DirAt} (pod : PodId) (a c : DirAt) (deed : Deed) → observed ≡ true → Follows observed a b → Follows observed b c → HeldBetween a b (λ s. stands s.namespace (pod_spot pod Prepared) ≡ true)
     → (deed ≡ Kept phase.Prepared) ⊎ (observed ≡ true → DeedCause pod Prepared deed b.process b.trace c.trace) → DeedCause pod Prepared deed a.process a.trace c.trace
-waited_deed pod a c deed t ab bc there (inl kept) = subst (λ (d : Deed). DeedCause pod Prepared d a.process a.trace c.trace) (sym kept) (cause_kept pod Prepared phase.Prepared (waits_there pod a c t bc there))
+waited_deed pod a c deed t ab bc there (inl kept) = subst (λ (d : Deed). DeedCause pod Prepared d a.process a.trace c.trace) (sym kept) (cause_kept pod Prepared phase.Prepared refl (waits_there pod a c t bc there))
 waited_deed pod a c deed t ab bc there (inr x) = deed_later c t ab (x t)
 
 -- what is known after both

@@ -22,8 +22,8 @@ use Rattle.pod_removal.specs.Requests.{is_garbage_place}
 use Rattle.pod_removal.specs.Causes.{IsBusyAt}
 use Rattle.pod_gc.specs.declared.ages.Times.{Times}
 use Rattle.pod_gc.specs.declared.line.Deed.{Deed}
-use Rattle.pod_gc.specs.declared.line.Deed.TheVariants.{Moved, Deleted, Kept, Busy, Left}
-use Rattle.pod_gc.specs.Requests.{goes_to, moves_pods}
+use Rattle.pod_gc.specs.declared.line.Deed.TheVariants.{Moved, Deleted, Kept, Busy, BusyGate, Left}
+use Rattle.pod_gc.specs.Requests.{goes_to, moves_pods, lets_be}
 use Rattle.pod_gc.specs.Marks.{Showed, is_young, is_ripe}
 
 -- the pod, or in prepared its file `pod`, isn't at this place
@@ -44,12 +44,13 @@ DoesNothing (Busy which) = Unit {0}
 DoesNothing Left = Unit {0}
 DoesNothing _ = ⊥
 
--- a deed and what it rests on, one field for each
+-- a deed and what it rests on, one field for each: of a pod it is never said that the lock of embryo is busy
 pub record DeedCause (pod : PodId) (place : Area) (deed : Deed) (me : ℕ) (old new : List Event) : Type 0 where
   pub moved : (to : Area) → deed ≡ Moved to → (moves_pods place ≡ true) × (to ≡ goes_to place) × Did (MoveFolder (pod_spot pod place) (pod_spot pod to)) Done me old new
   pub deleted : deed ≡ Deleted → (is_garbage_place place ≡ true) × Did (RemoveFolder (pod_spot pod place)) Done me old new
-  pub kept : (phase : Phase) → deed ≡ Kept phase → IsConforming new → AtOwnEvent me old new (IsInPhase pod phase place)
+  pub kept : (phase : Phase) → deed ≡ Kept phase → (lets_be place phase ≡ true) × (IsConforming new → AtOwnEvent me old new (IsInPhase pod phase place))
   pub left : deed ≡ Left → AtOwnStep me old new (IsGoneFrom pod place)
+  pub gate : deed ≡ BusyGate → ⊥
 
 -- what the ages say: a prepared pod waits where it has no created mark or its time isn't over, and is moved only where it is
 pub record WaitedSo (times : Times) (pod : PodId) (deed : Deed) (me : ℕ) (old new : List Event) : Type 0 where

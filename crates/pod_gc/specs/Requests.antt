@@ -1,12 +1,16 @@
 -- What a sweep asks the directory for.
-use Rattle.std.specs.Prelude.{ℕ, Bool, true, false, ◌||◌, List}
+use Rattle.std.specs.Prelude.{ℕ, Bool, true, false, ◌&&◌, ◌||◌, bytes_eq, List}
 use Rattle.std.specs.List.{list_any}
 use Rattle.dir_model.specs.declared.area.Area.{Area}
 use Rattle.dir_model.specs.declared.area.Area.TheVariants.{Embryo, Prepare, Prepared, Run, ExitedGarbage, Garbage}
+use Rattle.dir_model.specs.declared.area.Phase.{Phase}
+use Rattle.dir_model.specs.declared.area.Phase.TheVariants as phase
 use Rattle.dir_model.specs.declared.item.Inner.{Inner}
 use Rattle.dir_model.specs.declared.pod.PodId.{PodId}
 use Rattle.dir_model.specs.declared.request.Request.{Request}
-use Rattle.dir_model.specs.declared.request.Request.TheVariants.{ListArea, ListIn}
+use Rattle.dir_model.specs.declared.request.Request.TheVariants.{ListArea, OpenArea, Open, TryLock, Close, MoveFolder, MakeFileIn, ListIn, RemoveFileIn, RemoveDirIn, RemoveFolder}
+use Rattle.dir_model.specs.Areas.{is_stage}
+use Rattle.dir_rules.specs.Marks.{marked_mark}
 use Rattle.dir_rules.specs.Standing.{is_in}
 use Rattle.dir_rules.specs.Seen.{inner_eq}
 use Rattle.dir_rules.specs.Rules.{root_of}
@@ -46,6 +50,27 @@ moves_pods Prepared = true
 moves_pods Run = true
 moves_pods _ = false
 
--- calls of any kind
-abbrev pub anything : Request → Bool
-anything request = true
+-- the phases for which a pass lets a pod be
+abbrev pub lets_be : Area → Phase → Bool
+lets_be Prepare phase.Preparing = true
+lets_be Prepared phase.Prepared = true
+lets_be Run phase.Running = true
+lets_be ExitedGarbage phase.ExitedGarbage = true
+lets_be ExitedGarbage phase.Deleting = true
+lets_be _ _ = false
+
+-- listings of the areas of pods, the lock of embryo, looks and locks at pods, listings of their marks, their moves to a garbage
+-- place, the mark of this moment, and deletions in such a place
+abbrev pub sweeps : ℕ → Request → Bool
+sweeps now (ListArea area) = is_stage area
+sweeps now (OpenArea area) = is_in Embryo area
+sweeps now (Open spot which) = is_stage spot.area
+sweeps now (TryLock handle mode) = true
+sweeps now (Close handle) = true
+sweeps now (MoveFolder from to) = (is_in Run from.area && is_in ExitedGarbage to.area) || is_in Garbage to.area
+sweeps now (MakeFileIn inner) = is_in Run inner.spot.area && bytes_eq inner.path (marked_mark now)
+sweeps now (ListIn inner) = is_stage inner.spot.area
+sweeps now (RemoveFileIn inner) = is_in inner.spot.area ExitedGarbage || is_in inner.spot.area Garbage
+sweeps now (RemoveDirIn inner) = is_in inner.spot.area ExitedGarbage || is_in inner.spot.area Garbage
+sweeps now (RemoveFolder spot) = is_in spot.area ExitedGarbage || is_in spot.area Garbage
+sweeps now _ = false

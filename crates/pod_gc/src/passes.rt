@@ -4,7 +4,7 @@ ghost use Rattle.dir_model.specs.Areas.{is_stage};
 ghost use Rattle.dir_trait.specs.Local.{IsActive};
 ghost use Rattle.folder_building.specs.Work.{Worked};
 ghost use Rattle.pod_steps.specs.Holding.{KeepsReady, Stays};
-ghost use Rattle.pod_gc.specs.Requests.{anything};
+ghost use Rattle.pod_gc.specs.Requests.{sweeps};
 ghost use Rattle.pod_gc.specs.Causes.{GcCause};
 ghost use Rattle.pod_gc.specs.Sweeping.{MayPass, MaySweepAll};
 ghost use Rattle.pod_gc.specs.Told.{deals_with_some, AddsTold, AddsShown, AddsPassed};
@@ -85,7 +85,7 @@ fn pass_listed<D: Dir>(
 ) -> Result<(), GcError>
     requires active { IsActive (D.shown dir.old).local }
     requires stage { is_stage place ≡ true }
-    ensures worked { Worked D.observed anything (D.shown dir.old) (D.shown dir.new) }
+    ensures worked { Worked D.observed (sweeps times.now) (D.shown dir.old) (D.shown dir.new) }
     ensures cause { IfErr result (λ e. GcCause D.observed e (D.shown dir.old) (D.shown dir.new)) }
     ensures told { IfOk result (λ done. D.observed ≡ true → AddsShown times place (D.shown dir.old) (D.shown dir.new) lines.old.items lines.new.items) }
     ensures ready { D.observed ≡ true → Stays (MayPass place times.now times.expire) (D.shown dir.old) (λ s. KeepsReady s (D.shown dir.new)) }
@@ -104,7 +104,7 @@ fn pass_embryo<D: Dir>(
     lines: &mut Vec<GcLine>,
 ) -> Result<(), GcError>
     requires active { IsActive (D.shown dir.old).local }
-    ensures worked { Worked D.observed anything (D.shown dir.old) (D.shown dir.new) }
+    ensures worked { Worked D.observed (sweeps times.now) (D.shown dir.old) (D.shown dir.new) }
     ensures cause { IfErr result (λ e. GcCause D.observed e (D.shown dir.old) (D.shown dir.new)) }
     ensures told { IfOk result (λ done. D.observed ≡ true → AddsPassed times Area.Embryo (D.shown dir.old) (D.shown dir.new) lines.old.items lines.new.items) }
     ensures ready { D.observed ≡ true → Stays (MaySweepAll times.now times.expire) (D.shown dir.old) (λ s. KeepsReady s (D.shown dir.new)) }
@@ -138,7 +138,7 @@ pub(crate) fn pass<D: Dir>(
 ) -> Result<(), GcError>
     requires active { IsActive (D.shown dir.old).local }
     requires stage { is_stage place ≡ true }
-    ensures worked { Worked D.observed anything (D.shown dir.old) (D.shown dir.new) }
+    ensures worked { Worked D.observed (sweeps times.now) (D.shown dir.old) (D.shown dir.new) }
     ensures cause { IfErr result (λ e. GcCause D.observed e (D.shown dir.old) (D.shown dir.new)) }
     ensures told { IfOk result (λ done. D.observed ≡ true → AddsPassed times place (D.shown dir.old) (D.shown dir.new) lines.old.items lines.new.items) }
     ensures ready { D.observed ≡ true → Stays (MaySweepAll times.now times.expire) (D.shown dir.old) (λ s. KeepsReady s (D.shown dir.new)) }

@@ -3,7 +3,7 @@ ghost use Rattle.std.specs.Prelude.{◌≡◌, true, IfOk, IfErr};
 ghost use Rattle.dir_trait.specs.Local.{IsActive};
 ghost use Rattle.folder_building.specs.Work.{Worked};
 ghost use Rattle.pod_steps.specs.Holding.{KeepsReady, Stays};
-ghost use Rattle.pod_gc.specs.Requests.{anything};
+ghost use Rattle.pod_gc.specs.Requests.{sweeps};
 ghost use Rattle.pod_gc.specs.Causes.{GcCause};
 ghost use Rattle.pod_gc.specs.Sweeping.{MaySweepAll};
 ghost use Rattle.pod_gc.specs.Told.{places, AddsSwept, IsSweptBetween};
@@ -32,7 +32,7 @@ fn pass_each<D: Dir>(
     lines: &mut Vec<GcLine>,
 ) -> Result<(), GcError>
     requires active { IsActive (D.shown dir.old).local }
-    ensures worked { Worked D.observed anything (D.shown dir.old) (D.shown dir.new) }
+    ensures worked { Worked D.observed (sweeps times.now) (D.shown dir.old) (D.shown dir.new) }
     ensures cause { IfErr result (λ e. GcCause D.observed e (D.shown dir.old) (D.shown dir.new)) }
     ensures swept { IfOk result (λ done. D.observed ≡ true → AddsSwept times places (D.shown dir.old) (D.shown dir.new) lines.old.items lines.new.items) }
     ensures ready { D.observed ≡ true → Stays (MaySweepAll times.now times.expire) (D.shown dir.old) (λ s. KeepsReady s (D.shown dir.new)) }
@@ -61,7 +61,7 @@ pub fn gc<D: Dir>(
     expire: u64,
 ) -> Result<Vec<GcLine>, GcError>
     requires active { IsActive (D.shown dir.old).local }
-    ensures worked { Worked D.observed anything (D.shown dir.old) (D.shown dir.new) }
+    ensures worked { Worked D.observed (sweeps now) (D.shown dir.old) (D.shown dir.new) }
     ensures cause { IfErr result (λ e. GcCause D.observed e (D.shown dir.old) (D.shown dir.new)) }
     ensures swept { IfOk result (λ lines. D.observed ≡ true
         → IsSweptBetween (record { now = now; grace = grace; expire = expire }) (D.shown dir.old) (D.shown dir.new) lines.items) }

@@ -38,7 +38,7 @@ pub returns-in-Err-Busy-clause-deed : goal.returns-in-Err-Busy-clause-deed
 returns-in-Err-Busy-clause-deed g c =
     let D = g.D.Dir in
     let e = rw c.in-Err-Busy.field-0-is at c.in-Err-Busy.ensures in
-    said_deed D.observed c.args.pod area.Run phase.Running true (omega arith) refl (λ s h. h) (D.shown c.args.dir.now) (D.shown c.retire_exited.new.dir) (D.shown c.kept.new.dir) (follows_work c.retire_exited.ensures.worked) (λ t. e.owned _ refl t)
+    said_deed D.observed c.args.pod area.Run phase.Running true (omega arith) refl refl (λ s h. h) (D.shown c.args.dir.now) (D.shown c.retire_exited.new.dir) (D.shown c.kept.new.dir) (follows_work c.retire_exited.ensures.worked) (λ t. e.owned _ refl t)
     c.kept.result c.kept.ensures.said
 
 pub returns-in-Err-Busy-clause-another : goal.returns-in-Err-Busy-clause-another

@@ -24,7 +24,7 @@ returns-in-Ok-clause-cause g c =
 pub returns-in-Ok-clause-deed : goal.returns-in-Ok-clause-deed
 returns-in-Ok-clause-deed g c =
     let D = g.D.Dir in
-    said_deed D.observed c.args.pod area.ExitedGarbage phase.ExitedGarbage false (omega arith) refl (λ s h. h) (D.shown c.args.dir.now) (D.shown c.probe.new.dir) (D.shown c.kept.new.dir) (follows_work c.probe.ensures.worked) (λ t. c.in-Ok.ensures.told t)
+    said_deed D.observed c.args.pod area.ExitedGarbage phase.ExitedGarbage false (omega arith) refl refl (λ s h. h) (D.shown c.args.dir.now) (D.shown c.probe.new.dir) (D.shown c.kept.new.dir) (follows_work c.probe.ensures.worked) (λ t. c.in-Ok.ensures.told t)
     c.kept.result c.kept.ensures.said
 
 pub returns-in-Ok-clause-rests : goal.returns-in-Ok-clause-rests
@@ -47,7 +47,7 @@ pub returns-in-Err-Busy-clause-deed : goal.returns-in-Err-Busy-clause-deed
 returns-in-Err-Busy-clause-deed g c =
     let D = g.D.Dir in
     let e = rw c.in-Err-Busy.field-0-is at c.in-Err-Busy.ensures in
-    said_deed D.observed c.args.pod area.ExitedGarbage phase.Deleting true (omega arith) refl (λ s h. h) (D.shown c.args.dir.now) (D.shown c.probe.new.dir) (D.shown c.kept-in-Err-Busy.new.dir) (follows_work c.probe.ensures.worked) (λ t. e.owned _ refl t)
+    said_deed D.observed c.args.pod area.ExitedGarbage phase.Deleting true (omega arith) refl refl (λ s h. h) (D.shown c.args.dir.now) (D.shown c.probe.new.dir) (D.shown c.kept-in-Err-Busy.new.dir) (follows_work c.probe.ensures.worked) (λ t. e.owned _ refl t)
     c.kept-in-Err-Busy.result c.kept-in-Err-Busy.ensures.said
 
 pub returns-in-Err-Busy-clause-rests : goal.returns-in-Err-Busy-clause-rests

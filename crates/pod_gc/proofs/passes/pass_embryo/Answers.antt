@@ -13,7 +13,7 @@ pub returns-in-Ok-clause-worked : goal.returns-in-Ok-clause-worked
 returns-in-Ok-clause-worked g c =
     let l = c.lock_area.ensures in
     let u = c.unlock_area.ensures in
-    worked_gate c.in-Ok.gate c.in-Ok.ensures.unopened l.same l.faults c.in-Ok.ensures.held l.extends c.pass_listed-result.ensures.worked u.same u.faultless u.local u.extends
+    worked_gate c.args.times.now c.in-Ok.gate c.in-Ok.ensures.unopened l.same l.faults c.in-Ok.ensures.held l.extends c.pass_listed-result.ensures.worked u.same u.faultless u.local u.extends
 
 pub returns-in-Ok-clause-ready : goal.returns-in-Ok-clause-ready
 returns-in-Ok-clause-ready g c t =
@@ -22,12 +22,12 @@ returns-in-Ok-clause-ready g c t =
 pub returns-in-Err-Busy-clause-worked : goal.returns-in-Err-Busy-clause-worked
 returns-in-Err-Busy-clause-worked g c =
     let l = c.lock_area.ensures in
-    worked_locked (g.D.Dir.shown c.args.dir.now) (g.D.Dir.shown c.lock_area.new.dir) l.same l.faults c.in-Err-Busy.ensures.refused l.extends
+    worked_locked c.args.times.now (g.D.Dir.shown c.args.dir.now) (g.D.Dir.shown c.lock_area.new.dir) l.same l.faults c.in-Err-Busy.ensures.refused l.extends
 
 pub returns-in-Err-clause-worked : goal.returns-in-Err-clause-worked
 returns-in-Err-clause-worked g c =
     let l = c.lock_area.ensures in
-    worked_locked (g.D.Dir.shown c.args.dir.now) (g.D.Dir.shown c.lock_area.new.dir) l.same l.faults c.in-Err.ensures.refused l.extends
+    worked_locked c.args.times.now (g.D.Dir.shown c.args.dir.now) (g.D.Dir.shown c.lock_area.new.dir) l.same l.faults c.in-Err.ensures.refused l.extends
 
 pub returns-in-Err-clause-cause : goal.returns-in-Err-clause-cause
 returns-in-Err-clause-cause g c =

@@ -1,19 +1,23 @@
 use Rattle.std.proofs.Common.{◌≡◌, ℕ, List, true, Ok, Err, sym, ap, subst}
 use Rattle.folder_building.specs.Work.{Worked}
 use Rattle.folder_building.proofs.Copying.{ok_more, err_more}
-use Rattle.folder_building.proofs.Working.{worked_more}
+use Rattle.folder_building.proofs.Working.{worked_more, worked_wider}
 use Rattle.pod_steps.proofs.Calls.{follows_work}
 use Rattle.pod_gc.specs.declared.error.GcError.{GcError}
 use Rattle.pod_gc.specs.Causes.{GcCause}
 use Rattle.pod_gc.proofs.Steps.{cause_after}
 use Rattle.pod_gc.specs.Told.{deals_with_some, AddsTold, AddsShown}
-use Rattle.pod_gc.proofs.InTurn.{worked_any, pass_more}
+use Rattle.pod_gc.proofs.InTurn.{pass_more}
+use Rattle.pod_gc.proofs.Asking.{lists_sweep, some_sweep}
 use Rattle.pod_gc.proofs.Listing.{ready_area, worked_area, area_cause}
 use Rattle.pod_gc.proofs.Telling.{adds_shown}
 use Rattle.pod_gc.proofs.passes.pass_listed.Goals as goal
 
 pub returns-in-Ok-clause-worked : goal.returns-in-Ok-clause-worked
-returns-in-Ok-clause-worked g c = worked_more (worked_area c.args.place (Ok c.in-Ok.names) c.in-Ok.ensures.called) (worked_any c.deal_each.ensures.worked)
+returns-in-Ok-clause-worked g c =
+    let now = c.args.times.now in
+    let place = c.args.place in
+    worked_more (worked_wider (lists_sweep now place c.requires.stage) (worked_area place (Ok c.in-Ok.names) c.in-Ok.ensures.called)) (worked_wider (some_sweep now place c.as_slice.result.now c.requires.stage) c.deal_each.ensures.worked)
 
 pub returns-in-Ok-clause-cause : goal.returns-in-Ok-clause-cause
 returns-in-Ok-clause-cause g c =
@@ -44,7 +48,7 @@ pub returns-in-Ok-clause-ready : goal.returns-in-Ok-clause-ready
 returns-in-Ok-clause-ready g c t = pass_more (ready_area c.args.place (Ok c.in-Ok.names) c.requires.stage c.in-Ok.ensures.called t) (c.deal_each.ensures.ready t)
 
 pub returns-in-Err-clause-worked : goal.returns-in-Err-clause-worked
-returns-in-Err-clause-worked g c = worked_area c.args.place (Err c.in-Err.error) c.in-Err.ensures.called
+returns-in-Err-clause-worked g c = worked_wider (lists_sweep c.args.times.now c.args.place c.requires.stage) (worked_area c.args.place (Err c.in-Err.error) c.in-Err.ensures.called)
 
 pub returns-in-Err-clause-cause : goal.returns-in-Err-clause-cause
 returns-in-Err-clause-cause g c =

@@ -1,11 +1,13 @@
-use Rattle.std.proofs.Common.{rules, ◌≡◌, true, IfErr, refl, sym, subst}
+use Rattle.std.proofs.Common.{rules, ◌≡◌, true}
 use Rattle.pod_removal.proofs.Stages.{err_same}
 use Rattle.pod_gc.specs.Causes.{GcCause}
 use Rattle.pod_gc.proofs.Sweeps.{swept_all}
 use Rattle.pod_gc.proofs.sweeping.gc.Goals as goal
 
-pub returns-in_ok-pass_each-clause-swept : goal.returns-in_ok-pass_each-clause-swept
-returns-in_ok-pass_each-clause-swept g c t = ?
+pub returns-clause-swept : goal.returns-clause-swept
+returns-clause-swept g c t =
+    let D = g.D.Dir in
+    swept_all (D.shown c.args.dir.now) (D.shown c.pass_each.new.dir) (record { now = c.args.now; grace = c.args.grace; expire = c.args.expire }) c.new-lines.result.items c.pass_each.new.lines.items c.new-lines.ensures.items (c.in_ok-pass_each.ensures.swept t)
 
 pub returns-in_err-pass_each-clause-cause : goal.returns-in_err-pass_each-clause-cause
 returns-in_err-pass_each-clause-cause g c =
