@@ -1,9 +1,8 @@
 -- A process that has made no note in the pod may make each of them once.
-use Rattle.std.proofs.Common.{arith, ◌≡◌, ◌≤◌, ◌<◌, ⊥, ℕ, ◌+◌, ◌==◌, Bool, true, false, ◌&&◌, ◌||◌, bytes_eq, List, [], ◌∷◌, ◌++◌, map, drop, get_or, refl, sym, ap, subst, ◌∙◌}
+use Rattle.std.proofs.Common.{arith, ◌≡◌, ◌≤◌, ◌<◌, ℕ, zero, suc, ◌+◌, ◌==◌, Bool, true, false, ◌&&◌, ◌||◌, bytes_eq, List, [], ◌∷◌, ◌++◌, map, drop, get_or, refl, sym, ap, subst, ◌∙◌}
 use Rattle.std.specs.List.{AllByRecursion, IsDistinct, list_any}
+use Rattle.std.proofs.lemmas.Map.Keys.{IsDistinct-head, IsDistinct-tail}
 use Rattle.std.proofs.lemmas.Slice.Eq.{bytes_eq-Decides}
-use Rattle.manifests.specs.declared.runtime_app.RuntimeApp.{RuntimeApp}
-use Rattle.manifests.specs.PodData.{RuntimeAppData, runtime_app_data}
 use Rattle.dir_model.specs.declared.item.Inner.{Inner}
 use Rattle.dir_model.specs.declared.pod.PodId.{PodId}
 use Rattle.dir_model.specs.Areas.{rank}
@@ -17,9 +16,9 @@ use Rattle.dir_trait.specs.DirCalls.{DirAt}
 use Rattle.spawner.specs.declared.call.RootPlace.{RootPlace}
 use Rattle.spawner.specs.Conditions.{start_mark}
 use Rattle.pod_launches.specs.declared.start.AppStart.{AppStart}
-use Rattle.pod_launches.specs.declared.root.Root.{Root}
 use Rattle.pod_launches.specs.Places.{run_spot}
-use Rattle.pod_launches.specs.Starts.{IsPlacedIn, IsStart, AreStarts, ReadsStarts}
+use Rattle.pod_launches.specs.Starts.{IsPlacedIn, ReadsStarts}
+use Rattle.pod_launches.proofs.Apart.{distinct_starts}
 use Rattle.stage1.specs.Notes.{mark_inner, status_inner, status_path}
 use Rattle.pod_launches.specs.Looks.{OnlyReadsPod}
 use Rattle.stage1.specs.Keeping.{once, noted, MayNote, mark_times, status_times, app_times, all_times, Keeps, IsFresh, KeepsOn, KeepsRules}
@@ -48,7 +47,7 @@ mark_or_status root i = by (inner_eq i (mark_inner root)) (inner_eq i (status_in
     by : (m s : Bool) → (m ≡ true → s ≡ true → ⊥) → once m + once s ≤ 1
     by true true f = absurd (f refl refl)
     by true false f = omega arith
-    by false s f = few s
+    by false s f = omega (arith, few s)
 
 one_of : {P : Type 0} (root : RootPlace) (i : Inner) → 1 ≤ mark_times root i + status_times root i → (inner_eq i (mark_inner root) ≡ true → P) → (inner_eq i (status_inner root) ≡ true → P) → P
 one_of {P} root i h f g = by (inner_eq i (mark_inner root)) (inner_eq i (status_inner root)) h f g
@@ -73,10 +72,10 @@ of_app root i h = one_of {P = i.spot.name ≡ root.spot.name} root i h (λ m. sa
 
 -- files of several
 or_none_at : (n : ℕ) → n ≤ 1 → (1 ≤ n → ⊥) → n ≡ 0
-or_none_at n few none = by n few none
+or_none_at n small none = by n small none
   where
     by : (k : ℕ) → k ≤ 1 → (1 ≤ k → ⊥) → k ≡ 0
-    by 0 h f = refl
+    by zero h f = refl
     by (suc k) h f = absurd (f (omega arith))
 
 module _ (pod : PodId) where
@@ -94,19 +93,19 @@ module _ (pod : PodId) where
 
   all_once : (apps : List AppStart) (i : Inner) → AllByRecursion (IsPlacedIn pod) apps → IsDistinct bytes_eq (map (λ a. a.name) apps) → all_times apps i ≤ 1
   all_once [] i ps d = omega arith
-  all_once (app ∷ apps) i ps d = by (app_times app i) refl
+  all_once (app ∷ apps) i ps d = by (app_times app i) refl (all_once apps i ps.1 (IsDistinct-tail bytes_eq app.name (map (λ a. a.name) apps) d))
     where
-      by : (k : ℕ) → app_times app i ≡ k → all_times (app ∷ apps) i ≤ 1
-      by 0 is = omega (arith, is, all_once apps i ps.1 d.1)
-      by (suc k) is = omega (arith, mark_or_status app.root i, no_others app apps i ps.0 ps.1 d.0 (omega (arith, is)))
+      by : (k : ℕ) → app_times app i ≡ k → all_times apps i ≤ 1 → all_times (app ∷ apps) i ≤ 1
+      by zero is rest = omega (arith, is, rest)
+      by (suc k) is rest = omega (arith, mark_or_status app.root i, no_others app apps i ps.0 ps.1 (IsDistinct-head bytes_eq app.name (map (λ a. a.name) apps) d) (omega (arith, is)))
 
   all_here : (apps : List AppStart) (i : Inner) → AllByRecursion (IsPlacedIn pod) apps → 1 ≤ all_times apps i → i.spot.name ≡ pod_text pod.bytes
   all_here [] i ps h = absurd (omega (arith, h))
-  all_here (app ∷ apps) i ps h = by (app_times app i) refl
+  all_here (app ∷ apps) i ps h = by (app_times app i) refl (λ more. all_here apps i ps.1 more)
     where
-      by : (k : ℕ) → app_times app i ≡ k → i.spot.name ≡ pod_text pod.bytes
-      by 0 is = all_here apps i ps.1 (omega (arith, h, is))
-      by (suc k) is = of_app app.root i (omega (arith, is)) ∙ ap (λ (r : RootPlace). r.spot.name) ps.0.place
+      by : (k : ℕ) → app_times app i ≡ k → (1 ≤ all_times apps i → i.spot.name ≡ pod_text pod.bytes) → i.spot.name ≡ pod_text pod.bytes
+      by zero is rest = rest (omega (arith, h, is))
+      by (suc k) is rest = of_app app.root i (omega (arith, is)) ∙ ap (λ (r : RootPlace). r.spot.name) ps.0.place
 
 -- nothing of it was noted
 not_noted : (text : List ℕ) (i : Inner) → i.spot.name ≡ text → (notes : List Inner) → list_any (λ n. bytes_eq n.spot.name text) notes ≡ false → list_any (inner_eq i) notes ≡ false
@@ -128,20 +127,10 @@ may_all pod apps s ps d fresh = record {
 }
   where
     by : (i : Inner) (k : ℕ) → all_times apps i ≡ k → all_times apps i + noted s i ≤ 1
-    by i 0 is = omega (arith, is, few (has_note s i))
+    by i zero is = omega (arith, is, few (has_note s i))
     by i (suc k) is =
         let none : noted s i ≡ 0 = ap once (not_noted (pod_text pod.bytes) i (all_here pod apps i ps (omega (arith, is))) s.notes fresh.none) in
         omega (arith, none, all_once pod apps i ps d)
-
--- the names in a manifest are distinct, and the apps have these names
-names_of : (pod : PodId) (address token : List ℕ) (apps : List RuntimeApp) (roots : List Root) (starts : List AppStart) → AreStarts pod address token apps roots starts → map (λ (a : RuntimeAppData). a.name) (map runtime_app_data apps) ≡ map (λ (a : AppStart). a.name) starts
-names_of pod address token [] [] [] are = refl
-names_of pod address token (app ∷ apps) (root ∷ roots) (start ∷ starts) are =
-    ap (λ (n : List ℕ). n ∷ map (λ (a : RuntimeAppData). a.name) (map runtime_app_data apps)) (sym are.0.name) ∙ ap (λ (l : List (List ℕ)). start.name ∷ l) (names_of pod address token apps roots starts are.1)
-names_of pod address token _ _ _ are = absurd are
-
-pub distinct_starts : {d d' : DirAt} (pod : PodId) (address : List ℕ) (starts : List AppStart) → ReadsStarts pod address starts d d' → IsDistinct bytes_eq (map (λ a. a.name) starts)
-distinct_starts pod address starts r = subst (λ (l : List (List ℕ)). IsDistinct bytes_eq l) (names_of pod address r.token r.manifest.apps r.found.roots starts r.found.are) r.kind.app_names
 
 -- the pod is only read, and then its apps are run
 pub keeps_reads : {observed : Bool} {a b : DirAt} (pod : PodId) → observed ≡ true → OnlyReadsPod observed pod a b → KeepsRules pod a b
