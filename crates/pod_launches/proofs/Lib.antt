@@ -5,3 +5,4 @@ mod Found
 mod Lacking
 mod Tokens
 pub mod Later
+pub mod Apart

@@ -1,8 +1,18 @@
 -- A run, and then the close of the pod's own lock.
-use Rattle.std.proofs.Common.{◌≡◌, ◌≤◌, ℕ, Bool, true, List}
+use Rattle.std.proofs.Common.{◌≡◌, ◌≤◌, ℕ, Bool, true, ◌&&◌, List, refl, ap, ◌∙◌}
 use Rattle.dir_model.specs.declared.pod.PodId.{PodId}
 use Rattle.dir_model.specs.declared.request.Request.{Request}
-use Rattle.dir_trait.specs.DirCalls.{DirAt, ExtendsBy}
+use Rattle.dir_model.specs.declared.request.Request.TheVariants.{Close}
+use Rattle.dir_model.specs.declared.request.Reply.TheVariants.{Done}
+use Rattle.dir_model.specs.declared.spot.Handle.{Handle}
+use Rattle.dir_model.proofs.Lists.{and_both}
+use Rattle.dir_rules.specs.declared.standing.Standing.{Standing}
+use Rattle.dir_rules.specs.Conforms.{seen_replied}
+use Rattle.dir_rules.specs.LockRules.{may_close}
+use Rattle.dir_rules.specs.Rules.{allows}
+use Rattle.dir_rules.specs.Standing.{standing_replied}
+use Rattle.dir_trait.proofs.Knowing.{knows_call}
+use Rattle.dir_trait.specs.DirCalls.{DirAt, DirCall, ExtendsBy}
 use Rattle.spawner.specs.Calls.{SpawnerAt}
 use Rattle.pod_launches.specs.declared.error.LoadError.TheVariants as load
 use Rattle.pod_launches.proofs.Later.{load_later}
@@ -10,6 +20,7 @@ use Rattle.stage1.specs.declared.error.RunError.{RunError}
 use Rattle.stage1.specs.declared.error.RunError.TheVariants.{NoManifest, Damaged, NoProgram, SpawnFault, DirFault, Stray, NoMemory}
 use Rattle.stage1.specs.Runs.{RefusedFor, IsRefusedRun}
 use Rattle.stage1.proofs.Causes.{rose_before, stray_before}
+use Rattle.stage1.specs.Keeping.{KeepsRules, KeepsToEnd}
 
 module _ {seen : Bool} {asks : Request → Bool} (a b c : DirAt) (pod : PodId) (same : b.process ≡ a.process) (faults : b.faults ≤ c.faults) (more : seen ≡ true → ExtendsBy asks b c) where
   cause_later : (e : RunError) (s s' : SpawnerAt) → RefusedFor seen pod e a b s s' → RefusedFor seen pod e a c s s'
@@ -23,3 +34,15 @@ module _ {seen : Bool} {asks : Request → Bool} (a b c : DirAt) (pod : PodId) (
 
   pub refused_closed : {observed : Bool} {address : List ℕ} (e : RunError) (s s' : SpawnerAt) → IsRefusedRun seen observed pod address e a b s s' → IsRefusedRun seen observed pod address e a c s s'
   refused_closed e s s' r = record { cause = cause_later e s s' r.cause; early = r.early; starts = r.starts; read = r.read; cut = r.cut }
+
+-- the close keeps the rules too
+pub keeps_closed : {observed : Bool} {a b c : DirAt} (pod : PodId) (own : Handle) → observed ≡ true → KeepsRules pod a b → DirCall observed b (Close own) Done c → KeepsToEnd pod own a c
+keeps_closed pod own t keeps call s k fresh closes =
+    let one = keeps s k fresh in
+    let may : allows one.known (Close own) ≡ true = and_both (may_close one.known.standing own) true (ap (λ (x : Standing). may_close x own) one.stands ∙ closes) refl in
+    record {
+      known = seen_replied one.known (Close own) Done;
+      stands = ap (λ (x : Standing). standing_replied x (Close own) Done) one.stands;
+      kept = ap (λ (b : Bool). b && one.known.kept) may ∙ one.kept;
+      knows = knows_call t one.knows refl refl call;
+    }

@@ -2,6 +2,7 @@ mod Counting
 mod Asked
 mod Cuts
 mod Noted
+mod Keeping
 mod Causes
 mod Results
 mod Forms
@@ -11,6 +12,8 @@ mod OneEnd
 mod Ends
 mod Whole
 mod Rests
+mod Times
+mod Fresh
 mod Stops
 mod Held
 mod Closed

@@ -61,7 +61,7 @@ did_call {observed} {a} {b} t asks ask request timely alive asked c d =
     (subst (λ (h : List Event). DidInTurn a.process (asks ++ ask ∷ []) h) (sym grown) (did_more a.process asks ask a.trace s.meanwhile.others e (did_it a.process ask request alive asked) d))
 
 -- the three steps of a status
-inner_self : (inner : Inner) → inner_eq inner inner ≡ true
+pub inner_self : (inner : Inner) → inner_eq inner inner ≡ true
 inner_self inner = and_both (spot_eq inner.spot inner.spot) (bytes_eq inner.path inner.path) (spot_self inner.spot) (same_bytes inner.path)
 
 pub wrote_status : {observed : Bool} {a b c d : DirAt} (root : RootPlace) (status : ℕ) → observed ≡ true → MadeFile observed root.spot (status_path root.app) a b → Appended observed root.spot (status_path root.app) (status_text status) b c → Synced observed root.spot (status_path root.app) c d → WroteStatus root status d

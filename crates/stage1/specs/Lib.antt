@@ -7,3 +7,4 @@ pub mod Notes
 pub mod Beginnings
 pub mod Endings
 pub mod Runs
+pub mod Keeping

@@ -9,6 +9,7 @@ ghost use Rattle.stage1.specs.Notes.{anything, notes_at, StaysAble};
 ghost use Rattle.stage1.specs.Beginnings.{IsInRun, AreAt, RunsEach, MayStartEach, IsStartedIn, AreStartedIn, IsWritten, AreWritten};
 ghost use Rattle.stage1.specs.Beginnings.{RanPrelude, PreludeCut, WentOn, GoingCut, HasBegun, IsBrokenOff, HaveBegun, AreBrokenOff};
 ghost use Rattle.stage1.specs.Refusals.{SpawnCause, RunCause};
+ghost use Rattle.stage1.specs.Keeping.{Keeps, going_times, beginning_times, all_begun_times};
 
 use crate::error::{Fault, out_of_memory};
 use crate::notes::{mark_started, note_status};
@@ -37,6 +38,7 @@ fn go_on<D: Dir, S: Spawner>(
     ensures cut { IfErr result (λ f. GoingCut S.observed app.now status (S.shown spawner.old) (S.shown spawner.new)) }
     ensures started { IfOk result (λ stand. S.observed ≡ true → IsStartedIn (S.shown spawner.new).calls app.now stand) }
     ensures wrote { IfOk result (λ stand. D.observed ≡ true → IsWritten (D.shown dir.new) app.now stand) }
+    ensures keeps { D.observed ≡ true → Keeps (going_times app.now result) (D.shown dir.old) (D.shown dir.new) }
 {
     if status == 0 {
         match start_program(alloc, dir, spawner, app, &app.launch.main) {
@@ -86,6 +88,7 @@ fn begin_app<D: Dir, S: Spawner>(
     ensures may { IfOk result (λ stand. D.observed ≡ true → MayStart (D.shown dir.new) app.now.root) }
     ensures started { IfOk result (λ stand. S.observed ≡ true → IsStartedIn (S.shown spawner.new).calls app.now stand) }
     ensures wrote { IfOk result (λ stand. D.observed ≡ true → IsWritten (D.shown dir.new) app.now stand) }
+    ensures keeps { D.observed ≡ true → Keeps (beginning_times app.now result) (D.shown dir.old) (D.shown dir.new) }
 {
     mark_started(alloc, dir, &app.root)?;
     let status = prelude(alloc, dir, spawner, app)?;
@@ -128,6 +131,7 @@ pub(crate) fn begin_apps<D: Dir, S: Spawner>(
     ensures may { D.observed ≡ true → MayStartEach (D.shown dir.new) (take (length stands.new.items) apps.now) }
     ensures started { S.observed ≡ true → AreStartedIn (S.shown spawner.new).calls (take (length stands.new.items) apps.now) stands.new.items }
     ensures wrote { D.observed ≡ true → AreWritten (D.shown dir.new) (take (length stands.new.items) apps.now) stands.new.items }
+    ensures keeps { D.observed ≡ true → Keeps (all_begun_times apps.now stands.new.items) (D.shown dir.old) (D.shown dir.new) }
 {
     'apps: for app in apps {
         let stand = begin_app(alloc, dir, spawner, app)?;

@@ -10,6 +10,7 @@ ghost use Rattle.stage1.specs.Beginnings.{IsInRun, AreAt, RunsEach, MayStartEach
 ghost use Rattle.stage1.specs.Cutting.{IsCutShort};
 ghost use Rattle.stage1.specs.Endings.{HaveEnded, AreEndsBroken};
 ghost use Rattle.stage1.specs.Refusals.{RunCause};
+ghost use Rattle.stage1.specs.Keeping.{Keeps, all_end_times, all_times, KeepsRules, KeepsToEnd};
 ghost use Rattle.stage1.specs.Runs.{Went, StopCause, end_of, runs_pod, runs_and_closes, HaveRun, AreWrittenAll, AreEnds, HasRunStarts, HasRunHeld, HasRun, IsRefusedRun};
 
 use crate::beginning::{begin_apps, room_for};
@@ -44,6 +45,7 @@ fn end_all<D: Dir, S: Spawner>(
     ensures ended { IfOk result (λ statuses. HaveEnded S.observed apps.now stands.now statuses.items (S.shown spawner.old) (S.shown spawner.new)) }
     ensures broken { IfErr result (λ f. AreEndsBroken S.observed apps.now stands.now (S.shown spawner.old) (S.shown spawner.new)) }
     ensures wrote { IfOk result (λ statuses. D.observed ≡ true → AreWrittenAll (D.shown dir.new) apps.now statuses.items) }
+    ensures keeps { D.observed ≡ true → Keeps (all_end_times apps.now stands.now) (D.shown dir.old) (D.shown dir.new) }
 {
     match end_apps(alloc, dir, spawner, apps, stands) {
         Ok(statuses) => Ok(statuses),
@@ -77,6 +79,7 @@ fn run_apps<D: Dir, S: Spawner>(
     ensures ran { IfOk result (λ statuses. HaveRun S.observed apps.now statuses.items (S.shown spawner.old) (S.shown spawner.new)) }
     ensures cut { IfErr result (λ f. IsCutShort S.observed apps.now (S.shown spawner.old) (S.shown spawner.new)) }
     ensures wrote { IfOk result (λ statuses. D.observed ≡ true → AreWrittenAll (D.shown dir.new) apps.now statuses.items) }
+    ensures keeps { D.observed ≡ true → Keeps (all_times apps.now) (D.shown dir.old) (D.shown dir.new) }
 {
     let mut stands = room_for(alloc, apps.len())?;
     match begin_apps(alloc, dir, spawner, apps, &mut stands) {
@@ -129,6 +132,7 @@ fn run_starts<D: Dir, S: Spawner>(
     ensures ran { IfOk result (λ ends. HasRunStarts D.observed S.observed apps.now ends.items (D.shown dir.new) (S.shown spawner.old) (S.shown spawner.new)) }
     ensures cut { IfErr result (λ e. IsCutShort S.observed apps.now (S.shown spawner.old) (S.shown spawner.new)) }
     ensures cause { IfErr result (λ e. StopCause D.observed e (D.shown dir.old) (D.shown dir.new) (S.shown spawner.old) (S.shown spawner.new)) }
+    ensures keeps { D.observed ≡ true → Keeps (all_times apps.now) (D.shown dir.old) (D.shown dir.new) }
 {
     match run_apps(alloc, dir, spawner, apps) {
         Ok(statuses) => ends_of(alloc, apps, &statuses),
@@ -149,6 +153,7 @@ fn run_held<D: Dir, S: Spawner>(
     ensures worked { Worked D.observed (runs_pod pod) (D.shown dir.old) (D.shown dir.new) }
     ensures ran { IfOk result (λ ends. HasRunHeld D.observed S.observed pod address.now ends.items (D.shown dir.old) (D.shown dir.new) (S.shown spawner.old) (S.shown spawner.new)) }
     ensures refused { IfErr result (λ e. IsRefusedRun D.observed S.observed pod address.now e (D.shown dir.old) (D.shown dir.new) (S.shown spawner.old) (S.shown spawner.new)) }
+    ensures keeps { D.observed ≡ true → KeepsRules pod (D.shown dir.old) (D.shown dir.new) }
 {
     match pod_launches(alloc, dir, pod, address) {
         Ok(apps) => run_starts(alloc, dir, spawner, &apps),
@@ -179,6 +184,7 @@ pub fn run_pod<D: Dir, S: Spawner>(
     ensures went { Went D.observed (runs_and_closes owned.pod owned.own) (without (D.shown dir.old).local owned.own) (D.shown dir.old) (D.shown dir.new) }
     ensures ran { IfOk result (λ ends. HasRun D.observed S.observed owned.pod owned.own address.now ends.items (D.shown dir.old) (D.shown dir.new) (S.shown spawner.old) (S.shown spawner.new)) }
     ensures refused { IfErr result (λ e. IsRefusedRun D.observed S.observed owned.pod address.now e (D.shown dir.old) (D.shown dir.new) (S.shown spawner.old) (S.shown spawner.new)) }
+    ensures keeps { D.observed ≡ true → KeepsToEnd owned.pod owned.own (D.shown dir.old) (D.shown dir.new) }
 {
     let result = run_held(alloc, dir, spawner, owned.pod, address);
     dir.close(owned.own);

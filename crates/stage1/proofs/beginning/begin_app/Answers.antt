@@ -8,6 +8,7 @@ use Rattle.stage1.proofs.Results.{if_ok, if_err, err_same, any_ok, any_err}
 use Rattle.stage1.proofs.Noted.{stays_more}
 use Rattle.stage1.proofs.Causes.{by_note, by_spawn, run_after}
 use Rattle.stage1.proofs.OneApp.{broken_none, broken_early, broken_late, has_begun}
+use Rattle.stage1.proofs.Times.{keeps_marked_only, keeps_begun}
 use Rattle.stage1.proofs.beginning.begin_app.Goals as goal
 
 pub returns-in_err-mark_started-clause-cause : goal.returns-in_err-mark_started-clause-cause
@@ -88,3 +89,12 @@ returns-clause-may g c =
     let D = g.D.Dir in
     let root = c.args.app.now.root in
     any_ok (D.observed ≡ true → MayStart (D.shown c.go_on.new.dir) root) c.go_on.result (λ t. (c.go_on.ensures.stays t).may root (c.in_ok-mark_started.ensures.may t))
+
+pub returns-in_err-mark_started-clause-keeps : goal.returns-in_err-mark_started-clause-keeps
+returns-in_err-mark_started-clause-keeps g c t = keeps_marked_only c.args.app.now c.from_residual.result (c.mark_started.ensures.keeps t)
+
+pub returns-in_err-status-clause-keeps : goal.returns-in_err-status-clause-keeps
+returns-in_err-status-clause-keeps g c t = keeps_marked_only c.args.app.now c.from_residual-in_err-status.result (c.mark_started.ensures.keeps t)
+
+pub returns-clause-keeps : goal.returns-clause-keeps
+returns-clause-keeps g c t = keeps_begun c.args.app.now c.go_on.result (c.mark_started.ensures.keeps t) (c.go_on.ensures.keeps t)

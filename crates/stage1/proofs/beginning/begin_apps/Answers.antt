@@ -1,4 +1,4 @@
-use Rattle.std.proofs.Common.{rules, arith, ◌≡◌, ◌≤◌, ◌+◌, true, ℕ, List, [], ◌∷◌, ◌++◌, length, length-append, take, drop, refl, sym, ap, subst, ◌∙◌}
+use Rattle.std.proofs.Common.{rules, arith, ◌≡◌, ◌≤◌, ◌+◌, true, ℕ, List, [], ◌∷◌, ◌++◌, length, length-append, length-take, take, drop, refl, sym, ap, subst, ◌∙◌}
 use Rattle.std.proofs.lemmas.List.{take_all}
 use Rattle.dir_model.proofs.Lists.{all_push}
 use Rattle.dir_model.specs.declared.spot.Spot.{Spot}
@@ -15,6 +15,9 @@ use Rattle.stage1.proofs.Results.{if_err, err_same, any_err}
 use Rattle.stage1.proofs.Noted.{stays_none, stays_more, worked_any}
 use Rattle.stage1.proofs.Causes.{run_after}
 use Rattle.stage1.proofs.Pairs.{at_place, take_next, parted_at, are_started_still, started_push, are_written_still, written_push, may_still, begun_none, begun_more, started_none, written_none}
+use Rattle.stage1.specs.Keeping.{Keeps, all_begun_times, begun_times, beginning_times}
+use Rattle.stage1.proofs.Keeping.{keeps_none}
+use Rattle.stage1.proofs.Times.{keeps_push, keeps_broken}
 use Rattle.stage1.proofs.beginning.begin_apps.Goals as goal
 
 pub apps-init : goal.apps-init
@@ -29,6 +32,7 @@ apps-init g c = record {
   may = λ t. tt;
   started = λ t. started_none (g.S.Spawner.shown c.args.spawner.now).calls [] c.args.stands.now.items refl c.requires.none;
   wrote = λ t. written_none (g.D.Dir.shown c.args.dir.now) [] c.args.stands.now.items refl c.requires.none;
+  keeps = λ t. keeps_none;
 }
 
 pub begin_app-requires-clause-active : goal.begin_app-requires-clause-active
@@ -80,6 +84,11 @@ apps-preserved g c =
           subst (λ (l : List AppStart). AreWritten new l c.push_within.new.stands.items) (sym next)
           (subst (λ (l : List Stand). AreWritten new (take i apps ++ app ∷ []) l) (sym pushed)
           (written_push new (take i apps) stands app stand (are_written_still (c.begin_app.ensures.stays t) (take i apps) stands (inv.wrote t)) (one.wrote t)));
+      keeps = λ t.
+          let many : length (take i apps) ≡ length stands = omega (arith, length-take i apps, c.apps-test.true, inv.each) in
+          subst (λ (l : List AppStart). Keeps (all_begun_times l c.push_within.new.stands.items) (D.shown c.args.dir.now) new) (sym next)
+          (subst (λ (l : List Stand). Keeps (all_begun_times (take i apps ++ app ∷ []) l) (D.shown c.args.dir.now) new) (sym pushed)
+          (keeps_push (take i apps) stands app stand many (inv.keeps t) (one.keeps t)));
     }
 
 pub returns-in_err-stand-clause-went : goal.returns-in_err-stand-clause-went
@@ -153,3 +162,19 @@ returns-clause-started g c t = subst (λ (n : ℕ). AreStartedIn (g.S.Spawner.sh
 
 pub returns-clause-wrote : goal.returns-clause-wrote
 returns-clause-wrote g c t = subst (λ (n : ℕ). AreWritten (g.D.Dir.shown c.apps.dir) (take n c.args.apps.now) c.apps.stands.items) (sym c.apps.invariant.each) (c.apps.invariant.wrote t)
+
+pub returns-in_err-stand-clause-keeps : goal.returns-in_err-stand-clause-keeps
+returns-in_err-stand-clause-keeps g c t =
+    let D = g.D.Dir in
+    let i = c.apps.app-index in
+    let apps = c.args.apps.now in
+    let app = c.app-item.result in
+    let stands = c.apps.stands.items in
+    let many : length (take i apps) ≡ length stands = omega (arith, length-take i apps, c.apps-test.true, c.apps.invariant.each) in
+    subst (λ (l : List AppStart). Keeps (all_begun_times l stands) (D.shown c.args.dir.now) (D.shown c.begin_app.new.dir)) (sym (parted_at apps i app c.apps-test.true c.app-item.is))
+    (keeps_broken (take i apps) stands app (drop (i + 1) apps) c.begin_app.result many (c.apps.invariant.keeps t) (c.begin_app.ensures.keeps t))
+
+pub returns-clause-keeps : goal.returns-clause-keeps
+returns-clause-keeps g c t =
+    let D = g.D.Dir in
+    subst (λ (l : List AppStart). Keeps (all_begun_times l c.apps.stands.items) (D.shown c.args.dir.now) (D.shown c.apps.dir)) (take_all c.apps.app-index c.args.apps.now c.apps-test.false) (c.apps.invariant.keeps t)

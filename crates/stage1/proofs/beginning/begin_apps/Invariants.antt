@@ -3,6 +3,7 @@ use Rattle.dir_model.specs.declared.spot.Spot.{Spot}
 use Rattle.folder_building.specs.Work.{Worked}
 use Rattle.stage1.specs.Notes.{anything, notes_at, StaysAble}
 use Rattle.stage1.specs.Beginnings.{AreAt, MayStartEach, AreStartedIn, AreWritten, HaveBegun}
+use Rattle.stage1.specs.Keeping.{Keeps, all_begun_times}
 use Rattle.stage1.proofs.beginning.begin_apps.Given as goal
 
 abbrev pub invariant-apps : goal.invariant-apps
@@ -20,4 +21,5 @@ invariant-apps g l =
       may : D.observed ≡ true → MayStartEach (D.shown l.dir) (take l.app-index l.apps);
       started : S.observed ≡ true → AreStartedIn (S.shown l.spawner).calls (take l.app-index l.apps) l.stands.items;
       wrote : D.observed ≡ true → AreWritten (D.shown l.dir) (take l.app-index l.apps) l.stands.items;
+      keeps : D.observed ≡ true → Keeps (all_begun_times (take l.app-index l.apps) l.stands.items) (D.shown l.fn.dir) (D.shown l.dir);
     }

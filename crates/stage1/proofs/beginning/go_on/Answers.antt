@@ -4,6 +4,7 @@ use Rattle.folder_building.proofs.Working.{worked_none}
 use Rattle.stage1.proofs.Noted.{stays_none}
 use Rattle.stage1.proofs.Causes.{by_note, by_spawn}
 use Rattle.stage1.proofs.OneApp.{went_running, went_ended, going_cut, going_none}
+use Rattle.stage1.proofs.Keeping.{keeps_none}
 use Rattle.stage1.proofs.beginning.go_on.Goals as goal
 
 pub returns-in-Ok-clause-worked : goal.returns-in-Ok-clause-worked
@@ -45,3 +46,15 @@ returns-in-Err-note_status-clause-cause g c =
     let S = g.S.Spawner in
     let s = S.shown c.args.spawner.now in
     by_note D.observed c.in-Err-note_status.fault (D.shown c.args.dir.now) (D.shown c.note_status.new.dir) s s c.in-Err-note_status.ensures.cause
+
+pub returns-in-Ok-clause-keeps : goal.returns-in-Ok-clause-keeps
+returns-in-Ok-clause-keeps g c t = keeps_none
+
+pub returns-in-Err-clause-keeps : goal.returns-in-Err-clause-keeps
+returns-in-Err-clause-keeps g c t = keeps_none
+
+pub returns-in-Ok-note_status-clause-keeps : goal.returns-in-Ok-note_status-clause-keeps
+returns-in-Ok-note_status-clause-keeps g c t = c.note_status.ensures.keeps t
+
+pub returns-in-Err-note_status-clause-keeps : goal.returns-in-Err-note_status-clause-keeps
+returns-in-Err-note_status-clause-keeps g c t = c.note_status.ensures.keeps t

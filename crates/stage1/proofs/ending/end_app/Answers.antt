@@ -7,6 +7,8 @@ use Rattle.stage1.specs.Notes.{WroteStatus}
 use Rattle.stage1.proofs.Results.{if_ok, if_err}
 use Rattle.stage1.proofs.Asked.{asks_none}
 use Rattle.stage1.proofs.Noted.{stays_none}
+use Rattle.stage1.specs.Keeping.{Keeps, end_times}
+use Rattle.stage1.proofs.Keeping.{keeps_none}
 use Rattle.stage1.proofs.ending.end_app.Goals as goal
 
 pub end_running-requires-clause-started : goal.end_running-requires-clause-started
@@ -44,3 +46,11 @@ returns-in-Ended-clause-ended g c =
 
 pub returns-in-Ended-clause-wrote : goal.returns-in-Ended-clause-wrote
 returns-in-Ended-clause-wrote g c t = subst (λ (x : Stand). IsWritten (g.D.Dir.shown c.args.dir.now) c.args.app.now x) c.in-Ended.is (c.requires.wrote t)
+
+pub returns-in-Running-clause-keeps : goal.returns-in-Running-clause-keeps
+returns-in-Running-clause-keeps g c t =
+    let D = g.D.Dir in
+    subst (λ (x : Stand). Keeps (end_times c.args.app.now x) (D.shown c.args.dir.now) (D.shown c.end_running.new.dir)) (sym c.in-Running.is) (c.end_running.ensures.keeps t)
+
+pub returns-in-Ended-clause-keeps : goal.returns-in-Ended-clause-keeps
+returns-in-Ended-clause-keeps g c t = keeps_none

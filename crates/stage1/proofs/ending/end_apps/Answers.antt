@@ -17,6 +17,9 @@ use Rattle.stage1.proofs.Causes.{run_after}
 use Rattle.stage1.proofs.OneApp.{no_child}
 use Rattle.stage1.proofs.Pairs.{at_place, take_next, parted_at, started_at, started_still, written_at, written_still}
 use Rattle.stage1.proofs.Ends.{ended_last, ended_more, ended_none, all_written_still, all_written_push, all_written_none, stand_at}
+use Rattle.stage1.specs.Keeping.{Keeps, all_end_times}
+use Rattle.stage1.proofs.Keeping.{keeps_none}
+use Rattle.stage1.proofs.Times.{keeps_end_push, keeps_front}
 use Rattle.stage1.proofs.ending.end_apps.Goals as goal
 
 pub apps-init : goal.apps-init
@@ -26,6 +29,7 @@ apps-init g c = record {
   stays = λ t. stays_none;
   ended = ended_none g.S.Spawner.observed (g.S.Spawner.shown c.args.spawner.now) c.new-statuses.result.items c.new-statuses.ensures.items;
   wrote = λ t. all_written_none (g.D.Dir.shown c.args.dir.now) c.new-statuses.result.items c.new-statuses.ensures.items;
+  keeps = λ t. keeps_none;
 }
 
 pub add_end-requires : goal.add_end-requires
@@ -85,6 +89,11 @@ apps-preserved g c =
           subst (λ (l : List AppStart). AreWrittenAll new l after) (sym next)
           (subst (λ (l : List ℕ). AreWrittenAll new (take i apps ++ app ∷ []) l) (sym w.added)
           (all_written_push new (take i apps) statuses app w.status (all_written_still (c.add_end.ensures.stays t) (take i apps) statuses (inv.wrote t)) w.wrote));
+      keeps = λ t.
+          let many : length (take i apps) ≡ length (take i stands) = omega (arith, length-take i apps, length-take i stands, c.apps-test.true, within) in
+          subst (λ (l : List AppStart). Keeps (all_end_times l (take (i + 1) stands)) (D.shown c.args.dir.now) new) (sym next)
+          (subst (λ (l : List Stand). Keeps (all_end_times (take i apps ++ app ∷ []) l) (D.shown c.args.dir.now) new) (sym next_stand)
+          (keeps_end_push (take i apps) (take i stands) app stand many (inv.keeps t) (c.add_end.ensures.keeps t)));
     }
 
 pub returns-in-Err-clause-went : goal.returns-in-Err-clause-went
@@ -155,3 +164,22 @@ returns-clause-ended g c =
 pub returns-clause-wrote : goal.returns-clause-wrote
 returns-clause-wrote g c t =
     subst (λ (l : List AppStart). AreWrittenAll (g.D.Dir.shown c.apps.dir) l c.apps.statuses.items) (take_all c.apps.place c.args.apps.now c.apps-test.false) (c.apps.invariant.wrote t)
+
+pub returns-in-Err-clause-keeps_cut : goal.returns-in-Err-clause-keeps_cut
+returns-in-Err-clause-keeps_cut g c t =
+    let D = g.D.Dir in
+    let i = c.apps.place in
+    let apps = c.args.apps.now in
+    let stands = c.args.stands.now in
+    let app = c.index-apps-place.result in
+    let old = D.shown c.args.dir.now in
+    let new = D.shown c.add_end.new.dir in
+    let stand = get_or stands i (Running no_child) in
+    let within : i < length stands = omega (arith, c.apps-test.true, c.requires.each) in
+    let many : length (take i apps) ≡ length (take i stands) = omega (arith, length-take i apps, length-take i stands, c.apps-test.true, within) in
+    subst (λ (l : List AppStart). Keeps (all_end_times l (take (i + 1) stands)) old new) (sym (take_next apps i app c.apps-test.true c.index-apps-place.is))
+    (subst (λ (l : List Stand). Keeps (all_end_times (take i apps ++ app ∷ []) l) old new) (sym (take_next stands i stand within (stand_at stands i within)))
+    (keeps_end_push (take i apps) (take i stands) app stand many (c.apps.invariant.keeps t) (c.add_end.ensures.keeps t)))
+
+pub returns-clause-keeps : goal.returns-clause-keeps
+returns-clause-keeps g c t = keeps_front c.apps.place c.args.apps.now c.args.stands.now (c.apps.invariant.keeps t)

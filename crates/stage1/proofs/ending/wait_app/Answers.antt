@@ -2,6 +2,7 @@ use Rattle.stage1.proofs.Causes.{by_note, by_spawn, run_after}
 use Rattle.folder_building.proofs.Working.{worked_none}
 use Rattle.stage1.proofs.Noted.{stays_none}
 use Rattle.stage1.proofs.OneEnd.{waited_done, waited_refused}
+use Rattle.stage1.proofs.Keeping.{keeps_none}
 use Rattle.stage1.proofs.ending.wait_app.Goals as goal
 
 pub wait_for-requires : goal.wait_for-requires
@@ -25,3 +26,6 @@ returns-in-Err-clause-cause g c =
 
 pub returns-in-Err-clause-waited : goal.returns-in-Err-clause-waited
 returns-in-Err-clause-waited g c = waited_refused c.args.child c.in-Err.ensures.refused
+
+pub returns-in-Err-clause-keeps : goal.returns-in-Err-clause-keeps
+returns-in-Err-clause-keeps g c t = keeps_none

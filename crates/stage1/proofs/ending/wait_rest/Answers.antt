@@ -1,4 +1,4 @@
-use Rattle.std.proofs.Common.{arith, ◌≡◌, ◌≤◌, ◌<◌, ◌+◌, true, ℕ, List, [], ◌∷◌, ◌++◌, length, take, get_or, sym, subst, ◌∙◌}
+use Rattle.std.proofs.Common.{arith, ◌≡◌, ◌≤◌, ◌<◌, ◌+◌, true, ℕ, List, [], ◌∷◌, ◌++◌, length, length-take, take, get_or, sym, subst, ◌∙◌}
 use Rattle.std.proofs.lemmas.List.{take_all}
 use Rattle.dir_model.specs.declared.spot.Spot.{Spot}
 use Rattle.dir_model.specs.Local.{IsActive, Local}
@@ -15,10 +15,13 @@ use Rattle.stage1.proofs.Noted.{stays_none, stays_more, worked_any}
 use Rattle.stage1.proofs.OneApp.{no_child}
 use Rattle.stage1.proofs.Pairs.{at_place, take_next, started_still}
 use Rattle.stage1.proofs.Ends.{were_none, were_more, stand_at, front_at, started_front}
+use Rattle.stage1.specs.Keeping.{Keeps, all_end_times}
+use Rattle.stage1.proofs.Keeping.{keeps_none}
+use Rattle.stage1.proofs.Times.{keeps_end_push, keeps_front}
 use Rattle.stage1.proofs.ending.wait_rest.Goals as goal
 
 pub stands-init : goal.stands-init
-stands-init g c = record { went = worked_none; worked = λ spot at. worked_none; stays = λ t. stays_none; waited = were_none }
+stands-init g c = record { went = worked_none; worked = λ spot at. worked_none; stays = λ t. stays_none; waited = were_none; keeps = λ t. keeps_none }
 
 pub wait_still-requires : goal.wait_still-requires
 wait_still-requires g c =
@@ -61,6 +64,12 @@ stands-preserved g c =
       worked = λ spot at. worked_more (inv.worked spot at) (subst (λ (x : Spot). Worked D.observed (notes_at x) mid new) (at_place (λ (a : AppStart). a.root.spot ≡ spot) apps i app within c.index-apps-place.is at) c.wait_still.ensures.worked);
       stays = λ t. stays_more (inv.stays t) (c.wait_still.ensures.stays t);
       waited = subst (λ (l : List Stand). WereWaitedFor S.observed (running l) s s'') (sym (take_next stands i stand c.stands-test.true (stand_at stands i c.stands-test.true))) (were_more (take i stands) (stand ∷ []) inv.waited c.wait_still.ensures.waited);
+      keeps = λ t.
+          let old = D.shown c.args.dir.now in
+          let many : length (take i apps) ≡ length (take i stands) = omega (arith, length-take i apps, length-take i stands, within, c.stands-test.true) in
+          subst (λ (l : List AppStart). Keeps (all_end_times l (take (i + 1) stands)) old new) (sym (take_next apps i app within c.index-apps-place.is))
+          (subst (λ (l : List Stand). Keeps (all_end_times (take i apps ++ app ∷ []) l) old new) (sym (take_next stands i stand c.stands-test.true (stand_at stands i c.stands-test.true)))
+          (keeps_end_push (take i apps) (take i stands) app stand many (inv.keeps t) (c.wait_still.ensures.keeps t)));
     }
 
 pub returns-clause-went : goal.returns-clause-went
@@ -70,3 +79,6 @@ pub returns-clause-waited : goal.returns-clause-waited
 returns-clause-waited g c =
     let S = g.S.Spawner in
     subst (λ (l : List Stand). WereWaitedFor S.observed (running l) (S.shown c.args.spawner.now) (S.shown c.stands.spawner)) (take_all c.stands.place c.args.stands.now c.stands-test.false) c.stands.invariant.waited
+
+pub returns-clause-keeps : goal.returns-clause-keeps
+returns-clause-keeps g c t = keeps_front c.stands.place c.args.apps.now c.args.stands.now (c.stands.invariant.keeps t)

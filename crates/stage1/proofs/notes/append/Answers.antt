@@ -1,6 +1,7 @@
 use Rattle.std.proofs.Common.{Ok, Err, refl, ap, sym, subst}
 use Rattle.dir_model.specs.declared.request.Request.TheVariants.{AppendIn}
 use Rattle.dir_model.specs.declared.request.Reply.TheVariants.{Refused}
+use Rattle.dir_model.specs.Replies.{append_reply}
 use Rattle.folder_building.specs.Making.{inner_at}
 use Rattle.folder_building.proofs.Working.{append_call, worked_append, at_spot}
 use Rattle.folder_building.proofs.Strays.{stray_append}
@@ -31,3 +32,13 @@ returns-in-Err-clause-cause g c =
     let e = c.in-Err.error in
     subst (λ (f : Fault). NoteCause D.observed f old new) (sym c.change_fault.ensures)
     (note_cause_at old new (AppendIn inner c.args.piece.now) e (λ left. stray_append inner c.args.piece.now e left c.in-Err.ensures.refusals) (λ is. c.in-Err.ensures.cause (ap Err is)) (λ t. c.in-Err.ensures.called.step t))
+
+pub returns-in-Ok-clause-called : goal.returns-in-Ok-clause-called
+returns-in-Ok-clause-called g c t =
+    let left = append_call (inner_at c.args.spot.now c.args.path.now) c.args.piece.now (Ok tt) t c.in-Ok.ensures.called in
+    record { reply = append_reply (Ok tt) left.0; called = left.1 }
+
+pub returns-in-Err-clause-called : goal.returns-in-Err-clause-called
+returns-in-Err-clause-called g c t =
+    let left = append_call (inner_at c.args.spot.now c.args.path.now) c.args.piece.now (Err c.in-Err.error) t c.in-Err.ensures.called in
+    record { reply = append_reply (Err c.in-Err.error) left.0; called = left.1 }

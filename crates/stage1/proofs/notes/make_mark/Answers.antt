@@ -1,4 +1,4 @@
-use Rattle.std.proofs.Common.{rules, ◌≡◌, true, sym, subst, ℕ, List, []}
+use Rattle.std.proofs.Common.{rules, ◌≡◌, true, refl, sym, subst, ℕ, List, []}
 use Rattle.dir_model.specs.Local.{IsActive, Local}
 use Rattle.folder_building.proofs.Working.{worked_more}
 use Rattle.spawner.specs.Conditions.{start_mark, MayStart}
@@ -7,6 +7,10 @@ use Rattle.stage1.specs.Refusals.{NoteCause}
 use Rattle.stage1.proofs.Results.{if_ok, if_err, err_same}
 use Rattle.stage1.proofs.Noted.{stays_more, marked}
 use Rattle.stage1.proofs.Causes.{note_after}
+use Rattle.dir_model.specs.declared.request.Request.TheVariants.{MakeFileIn}
+use Rattle.folder_building.specs.Making.{inner_at}
+use Rattle.stage1.specs.Keeping.{Called, Keeps, mark_times}
+use Rattle.stage1.proofs.Keeping.{keeps_mark, keeps_marked}
 use Rattle.stage1.proofs.notes.make_mark.Goals as goal
 
 pub returns-in_err-make_file-clause-cause : goal.returns-in_err-make_file-clause-cause
@@ -44,3 +48,17 @@ returns-clause-may g c =
       runs = (stays_more (c.make_file.ensures.stays t) (c.sync.ensures.stays t)).runs root.spot.name (c.requires.runs t);
     })
     c.sync.ensures.done
+
+pub returns-in_err-make_file-clause-keeps : goal.returns-in_err-make_file-clause-keeps
+returns-in_err-make_file-clause-keeps g c t =
+    let D = g.D.Dir in
+    let root = c.args.root.now in
+    keeps_mark root c.requires.place t (subst (λ (p : List ℕ). Called D.observed (MakeFileIn (inner_at root.spot p)) (D.shown c.args.dir.now) (D.shown c.make_file.new.dir)) c.requires.path (c.make_file.ensures.called t))
+
+pub returns-clause-keeps : goal.returns-clause-keeps
+returns-clause-keeps g c t =
+    let D = g.D.Dir in
+    let root = c.args.root.now in
+    let old = D.shown c.args.dir.now in
+    let mid = D.shown c.make_file.new.dir in
+    keeps_marked root c.requires.place (inner_at root.spot []) refl refl t (subst (λ (p : List ℕ). MadeFile D.observed root.spot p old mid) c.requires.path c.in_ok-make_file.ensures.done) (c.sync.ensures.called t)

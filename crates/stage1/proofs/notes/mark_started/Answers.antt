@@ -6,6 +6,7 @@ use Rattle.stage1.specs.declared.error.Fault.{Fault}
 use Rattle.stage1.specs.Refusals.{NoteCause}
 use Rattle.stage1.proofs.Forms.{mark_form}
 use Rattle.stage1.proofs.Noted.{stays_none}
+use Rattle.stage1.proofs.Keeping.{keeps_none}
 use Rattle.stage1.proofs.notes.mark_started.Goals as goal
 
 pub make_mark-requires-clause-form : goal.make_mark-requires-clause-form
@@ -24,3 +25,6 @@ pub returns-in-Err-clause-cause : goal.returns-in-Err-clause-cause
 returns-in-Err-clause-cause g c =
     let d = g.D.Dir.shown c.args.dir.now in
     subst (λ (f : Fault). NoteCause g.D.Dir.observed f d d) (sym c.out_of_memory.ensures) tt
+
+pub returns-in-Err-clause-keeps : goal.returns-in-Err-clause-keeps
+returns-in-Err-clause-keeps g c t = keeps_none

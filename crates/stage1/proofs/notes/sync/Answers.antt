@@ -1,6 +1,6 @@
 use Rattle.std.proofs.Common.{Err, refl, ap, sym, subst}
 use Rattle.dir_model.specs.declared.request.Request.TheVariants.{SyncIn}
-use Rattle.dir_model.specs.declared.request.Reply.TheVariants.{Refused}
+use Rattle.dir_model.specs.declared.request.Reply.TheVariants.{Done, Refused}
 use Rattle.folder_building.specs.Making.{inner_at}
 use Rattle.folder_building.proofs.Working.{worked_call, at_spot}
 use Rattle.folder_building.proofs.Strays.{stray_sync}
@@ -30,3 +30,9 @@ returns-in-Err-clause-cause g c =
     let inner = inner_at c.args.spot.now c.args.path.now in
     subst (λ (f : Fault). NoteCause D.observed f old new) (sym c.change_fault.ensures)
     (note_cause old new (SyncIn inner) (Refused c.in-Err.error 0) c.in-Err.error (stray_sync inner c.in-Err.error c.in-Err.ensures.refusals) (λ is. c.in-Err.ensures.cause (ap Err is)) (λ t. c.in-Err.ensures.called.step t))
+
+pub returns-in-Ok-clause-called : goal.returns-in-Ok-clause-called
+returns-in-Ok-clause-called g c t = record { reply = Done; called = c.in-Ok.ensures.called }
+
+pub returns-in-Err-clause-called : goal.returns-in-Err-clause-called
+returns-in-Err-clause-called g c t = record { reply = Refused c.in-Err.error 0; called = c.in-Err.ensures.called }

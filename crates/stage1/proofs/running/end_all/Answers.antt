@@ -12,6 +12,7 @@ use Rattle.stage1.proofs.Causes.{run_before}
 use Rattle.stage1.proofs.Pairs.{may_still, are_started_still}
 use Rattle.stage1.proofs.Ends.{ends_cut_last}
 use Rattle.stage1.proofs.Rests.{rest_of, all_take, all_rest, started_rest, rests_each, others_are}
+use Rattle.stage1.proofs.Times.{keeps_parts}
 use Rattle.stage1.proofs.running.end_all.Goals as goal
 
 pub wait_rest-requires : goal.wait_rest-requires
@@ -54,3 +55,9 @@ returns-in-Err-clause-broken g c =
     let s'' = S.shown c.wait_rest.new.spawner in
     let cut = c.in-Err.ensures.cut in
     record { turns = c.in-Err.cut.turns; between = s'; cut = cut; waits = subst (λ (l : List Stand). WereWaitedFor S.observed (running l) s' s'') (others_are c.args.apps.now c.args.stands.now c.in-Err.cut.turns cut) c.wait_rest.ensures.waited }
+
+pub returns-in-Ok-clause-keeps : goal.returns-in-Ok-clause-keeps
+returns-in-Ok-clause-keeps g c t = c.in-Ok.ensures.keeps t
+
+pub returns-in-Err-clause-keeps : goal.returns-in-Err-clause-keeps
+returns-in-Err-clause-keeps g c t = keeps_parts c.in-Err.cut.turns c.args.apps.now c.args.stands.now (c.in-Err.ensures.keeps_cut t) (c.wait_rest.ensures.keeps t)

@@ -15,6 +15,9 @@ use Rattle.stage1.proofs.Noted.{stays_none, stays_more}
 use Rattle.stage1.proofs.Causes.{run_after, run_before}
 use Rattle.stage1.proofs.Whole.{have_run, cut_nothing, cut_begun, cut_ended}
 use Rattle.stage1.proofs.Rests.{begun_each, broken_each}
+use Rattle.stage1.specs.Keeping.{Keeps, all_end_times}
+use Rattle.stage1.proofs.Keeping.{keeps_none}
+use Rattle.stage1.proofs.Times.{keeps_both}
 use Rattle.stage1.proofs.running.run_apps.Goals as goal
 
 pub returns-in_err-stands-clause-went : goal.returns-in_err-stands-clause-went
@@ -135,3 +138,20 @@ returns-clause-cut g c =
     let s'' = S.shown c.wait_rest.new.spawner in
     let stands = c.begin_apps.new.stands.items in
     cut_begun c.args.apps.now stands c.in-Err.ensures.broken (subst (λ (x : List Stand). WereWaitedFor S.observed (running x) s' s'') c.deref-in-Err.ensures.value c.wait_rest.ensures.waited)
+
+pub returns-in_err-stands-clause-keeps : goal.returns-in_err-stands-clause-keeps
+returns-in_err-stands-clause-keeps g c t = keeps_none
+
+pub returns-in-Ok-clause-keeps : goal.returns-in-Ok-clause-keeps
+returns-in-Ok-clause-keeps g c t =
+    let D = g.D.Dir in
+    let apps = c.args.apps.now in
+    keeps_both apps c.begin_apps.new.stands.items (c.begin_apps.ensures.keeps t)
+    (subst (λ (x : List Stand). Keeps (all_end_times apps x) (D.shown c.begin_apps.new.dir) (D.shown c.end_all.new.dir)) c.deref.ensures.value (c.end_all.ensures.keeps t))
+
+pub returns-clause-keeps : goal.returns-clause-keeps
+returns-clause-keeps g c t =
+    let D = g.D.Dir in
+    let apps = c.args.apps.now in
+    keeps_both apps c.begin_apps.new.stands.items (c.begin_apps.ensures.keeps t)
+    (subst (λ (x : List Stand). Keeps (all_end_times apps x) (D.shown c.begin_apps.new.dir) (D.shown c.wait_rest.new.dir)) c.deref-in-Err.ensures.value (c.wait_rest.ensures.keeps t))

@@ -9,6 +9,8 @@ use Rattle.stage1.specs.Cutting.{IsCutShort}
 use Rattle.stage1.specs.Runs.{HasRunStarts, HasRunHeld, StopCause, IsRefusedRun}
 use Rattle.stage1.proofs.Results.{if_ok, if_err, if_errs}
 use Rattle.stage1.proofs.Held.{in_run, at_run, runs_each, still_runs, worked_reads, worked_runs, refused_run, refused_load}
+use Rattle.stage1.specs.Keeping.{Keeps, all_times}
+use Rattle.stage1.proofs.Fresh.{keeps_reads, keeps_run}
 use Rattle.stage1.proofs.running.run_held.Goals as goal
 
 pub run_starts-requires : goal.run_starts-requires
@@ -63,3 +65,14 @@ returns-in-Err-clause-refused g c =
     let new = D.shown c.pod_launches.new.dir in
     let s = S.shown c.args.spawner.now in
     subst (λ (e : RunError). IsRefusedRun D.observed S.observed c.args.pod c.args.address.now e old new s s) (sym c.load_refusal.ensures) (refused_load c.args.pod c.args.address.now c.in-Err.error old new s (λ is. c.in-Err.ensures.cause (ap Err is)) c.in-Err.ensures.lacks)
+
+pub returns-in-Ok-clause-keeps : goal.returns-in-Ok-clause-keeps
+returns-in-Ok-clause-keeps g c t =
+    let D = g.D.Dir in
+    let mid = D.shown c.pod_launches.new.dir in
+    let new = D.shown c.run_starts.new.dir in
+    keeps_run c.args.pod c.args.address.now c.in-Ok.apps.items t c.in-Ok.ensures.placed c.pod_launches.ensures.only (c.in-Ok.ensures.read t)
+    (subst (λ (l : List AppStart). Keeps (all_times l) mid new) c.deref.ensures.value (c.run_starts.ensures.keeps t))
+
+pub returns-in-Err-clause-keeps : goal.returns-in-Err-clause-keeps
+returns-in-Err-clause-keeps g c t = keeps_reads c.args.pod t c.pod_launches.ensures.only

@@ -7,6 +7,7 @@ use Rattle.folder_building.proofs.Working.{in_second}
 use Rattle.stage1.specs.Runs.{closes, runs_pod, HasRunHeld, HasRun, IsRefusedRun}
 use Rattle.stage1.proofs.Closed.{refused_closed}
 use Rattle.stage1.proofs.Results.{if_ok, if_err}
+use Rattle.stage1.proofs.Closed.{keeps_closed}
 use Rattle.stage1.proofs.running.run_pod.Goals as goal
 
 pub close-requires-clause-active : goal.close-requires-clause-active
@@ -56,3 +57,6 @@ returns-clause-refused g c =
     if_err (λ e. IsRefusedRun D.observed S.observed pod c.args.address.now e old mid s s') (λ e. IsRefusedRun D.observed S.observed pod c.args.address.now e old new s s') c.run_held-result.result
     (λ e r. refused_closed old mid new pod c.run_held-result.ensures.worked.same k.faults (λ t. step_extends (closes own) mid.process mid.trace (Close own) Done new.trace refl (k.step t)) e s s' r)
     c.run_held-result.ensures.refused
+
+pub returns-clause-keeps : goal.returns-clause-keeps
+returns-clause-keeps g c t = keeps_closed c.args.owned.pod c.args.owned.own t (c.run_held-result.ensures.keeps t) c.close.ensures.called
