@@ -13,5 +13,5 @@ mod sink;
 pub use bundle::HostBundle;
 pub use dir::HostDir;
 pub use outside::{Outside, assemble};
-pub use setup::{SetupError, read_words};
+pub use setup::{SetupError, find_root, read_words};
 pub use sink::HostSink;

@@ -9,7 +9,13 @@ usage: rkt status UUID
        rkt validate FILE
        rkt image import PATH
        rkt image list
+       rkt image rm KEY
+       rkt image gc
        rkt prepare IMAGE...
+       rkt run IMAGE...
+       rkt run-prepared UUID
+       rkt rm UUID
+       rkt gc
        rkt --help
        rkt --version
 
@@ -32,10 +38,24 @@ rkt image list prints a line KEY NAME MOMENT for each image of the store, in the
 order of the keys: NAME is that of its manifest, MOMENT the time of its import in
 seconds since 1970. It changes nothing.
 
+rkt image rm KEY removes an image from the store, and prints a line removed KEY. rkt image
+gc sweeps what imports and removals left that were killed, and prints a line for each
+folder.
+
 rkt prepare IMAGE... makes a pod of an app of each IMAGE, in the area prepared, and
 prints its uuid. IMAGE is NAME, NAME:VERSION, either with ,LABEL=VALUE behind it as
 often as needed, or the beginning of an image ID, sha512- and at least two digits; of
 several images that match the one that was imported last counts.
+
+rkt run-prepared UUID runs a prepared pod: it starts the program of each app in the app's
+root, waits until all have ended, and prints a line app-NAME=STATUS for each, in the
+order of the pod's manifest. A program that was killed counts as 255. rkt run IMAGE...
+makes such a pod and runs it at once; it prints the uuid first.
+
+rkt rm UUID removes a pod that nobody makes, runs or deletes, and prints a line removed
+UUID. rkt gc sweeps pods, and prints a line UUID DEED for each: pods whose making was
+killed are moved to garbage, and so are prepared ones after a day; exited ones are marked,
+and deleted half an hour later. What another process holds is let be.
 
 RKT_DIR names the data folder. Where it is unset or empty, the data folder is
 rkt in the current folder. Whatever is missing of it is made.
@@ -44,7 +64,9 @@ exit status
   0   done
   1   usage: the words are none of the above
   2   no such pod
-  5   busy: another process holds the lock of images, of incoming or of embryo
+  4   wrong phase: the pod isn't in a phase that the command takes
+  5   busy: another process holds a lock of the pod, or that of images, of incoming or
+      of embryo
   6   bad manifest, or in a bundle bad image ID or listing; or an image has no app, an
       app runs no program, or two apps have one name
   7   no image: no image of the store is what IMAGE refers to
@@ -53,14 +75,18 @@ exit status
       has too many apps, dependencies or entries
   9   directory fault: the data folder can't be made, read or locked
   10  bundle fault: the file or the bundle can't be read
+  11  spawner fault: a root can't be made ready, or a program can't be started
   12  output fault: standard output can't be written
   14  out of memory
   15  no file: no regular file stands at the path
-      damaged: a part of a stored image is missing or has no reading, or a file
-      of a bundle isn't what its listing says
+      damaged: a part of a stored image or of a pod is missing or has no reading, or a
+      file of a bundle isn't what its listing says
       bad kind: what stands at the path is of no kind that an image carries
       conflict: another image with this key is stored
+  16  an app ended with another status than 0
   17  taken: a folder with the uuid that was drawn stands in embryo
+  18  no manifest: the pod has no manifest
+  19  no program: an app's root has no program of that name
   20  stray reply: another process changed what is this process's own
 ";
 

@@ -9,8 +9,9 @@ ghost use Rattle.command_outcomes.specs.Texts.{status_of};
 
 use crate::help::text_alone;
 use command_outcomes::Refusal;
-use dir_host::{HostBundle, HostSink, Outside, SetupError, assemble, read_words};
+use dir_host::{HostBundle, HostSink, Outside, SetupError, assemble, find_root, read_words};
 use dir_trait::{Sink, SinkError, write_whole};
+use host_spawner::HostSpawner;
 use rkt_cli::{refuse, rkt};
 use std::alloc::{AllocError, Global};
 use std::process;
@@ -61,6 +62,7 @@ fn run<O: Sink, E: Sink>(
     let Outside { now, draw, mut dir } = assemble(rt, process::id(rt.process()))?;
     let words = words?;
     let mut bundle = HostBundle::new(rt, last_word(rt.alloc(), words.as_slice())?);
+    let mut spawner = HostSpawner::new(rt.alloc(), rt, find_root(rt)?);
     Ok(rkt(
         rt.alloc(),
         words.as_slice(),
@@ -68,6 +70,7 @@ fn run<O: Sink, E: Sink>(
         &draw,
         &mut dir,
         &mut bundle,
+        &mut spawner,
         out,
         err,
     ))
