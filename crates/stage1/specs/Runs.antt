@@ -1,5 +1,5 @@
 -- What comes of a pod that is run.
-use Rattle.std.specs.Prelude.{◌≡◌, ◌≤◌, ◌⊎◌, ℕ, Bool, true, false, List, [], ◌∷◌, ◌++◌, map}
+use Rattle.std.specs.Prelude.{◌≡◌, ◌≤◌, ◌⊎◌, ℕ, ◌==◌, Bool, true, false, List, [], ◌∷◌, ◌++◌, map}
 use Rattle.dir_model.specs.declared.pod.PodId.{PodId}
 use Rattle.dir_model.specs.declared.request.Request.{Request}
 use Rattle.dir_model.specs.declared.request.Request.TheVariants.{Close}
@@ -28,7 +28,7 @@ use Rattle.stage1.specs.Notes.{notes_at, WroteStatus}
 
 -- reads, notes, and the close of the handle
 abbrev pub closes : Handle → Request → Bool
-closes own (Close handle) = true
+closes own (Close handle) = handle.number == own.number
 closes own _ = false
 
 abbrev pub runs_pod : PodId → Request → Bool

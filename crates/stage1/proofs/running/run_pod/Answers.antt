@@ -2,8 +2,9 @@ use Rattle.std.proofs.Common.{arith, ◌≡◌, true, refl, sym, ap, subst, ◌�
 use Rattle.dir_model.specs.Local.{IsActive, IsOpen, Local, without}
 use Rattle.dir_model.specs.declared.request.Request.TheVariants.{Close}
 use Rattle.dir_model.specs.declared.request.Reply.TheVariants.{Done}
+use Rattle.dir_model.proofs.Lists.{same_self}
 use Rattle.dir_model.proofs.Chains.{and_call, extends_wider, step_extends}
-use Rattle.folder_building.proofs.Working.{in_second}
+use Rattle.folder_building.proofs.Working.{in_first, in_second}
 use Rattle.stage1.specs.Runs.{closes, runs_pod, HasRunHeld, HasRun, IsRefusedRun}
 use Rattle.stage1.proofs.Closed.{refused_closed}
 use Rattle.stage1.proofs.Results.{if_ok, if_err}
@@ -26,7 +27,7 @@ returns-clause-went g c =
       same = k.same ∙ w.same;
       faults = omega (arith, w.faults, k.faults);
       local_is = k.local ∙ ap (λ (m : Local). without m own) w.local;
-      extends = λ t. and_call (extends_wider (in_second (closes own) (runs_pod pod)) (w.extends t)) w.same refl (k.step t);
+      extends = λ t. and_call (extends_wider (in_second (closes own) (runs_pod pod)) (w.extends t)) w.same (in_first (closes own) (runs_pod pod) (Close own) (same_self own.number)) (k.step t);
     }
 
 pub returns-clause-ran : goal.returns-clause-ran
@@ -55,7 +56,7 @@ returns-clause-refused g c =
     let s' = S.shown c.run_held-result.new.spawner in
     let k = c.close.ensures.called in
     if_err (λ e. IsRefusedRun D.observed S.observed pod c.args.address.now e old mid s s') (λ e. IsRefusedRun D.observed S.observed pod c.args.address.now e old new s s') c.run_held-result.result
-    (λ e r. refused_closed old mid new pod c.run_held-result.ensures.worked.same k.faults (λ t. step_extends (closes own) mid.process mid.trace (Close own) Done new.trace refl (k.step t)) e s s' r)
+    (λ e r. refused_closed old mid new pod c.run_held-result.ensures.worked.same k.faults (λ t. step_extends (closes own) mid.process mid.trace (Close own) Done new.trace (same_self own.number) (k.step t)) e s s' r)
     c.run_held-result.ensures.refused
 
 pub returns-clause-keeps : goal.returns-clause-keeps
