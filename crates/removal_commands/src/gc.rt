@@ -4,7 +4,7 @@ ghost use Rattle.dir_model.specs.Causes.{Rose};
 ghost use Rattle.dir_trait.specs.Local.{IsActive};
 ghost use Rattle.folder_building.specs.Work.{Worked};
 ghost use Rattle.pod_steps.specs.Holding.{KeepsReady, Stays};
-ghost use Rattle.pod_gc.specs.Requests.{anything};
+ghost use Rattle.pod_gc.specs.Requests.{sweeps};
 ghost use Rattle.pod_gc.specs.Sweeping.{MaySweepAll};
 ghost use Rattle.command_outcomes.specs.Moments.{dir_at};
 ghost use Rattle.removal_commands.specs.Gc.{times_of, subject_text, deed_text, line_text, lines_text, sweep_refusal, gc_refusal, GcSays};
@@ -109,7 +109,7 @@ pub fn gc_pods<D: Dir>(
     dir: &mut D,
 ) -> Result<Output, Refusal>
     requires active { IsActive (D.shown dir.old).local }
-    ensures worked { Worked D.observed anything (D.shown dir.old) (D.shown dir.new) }
+    ensures worked { Worked D.observed (sweeps now) (D.shown dir.old) (D.shown dir.new) }
     ensures cause { IsErrOf result Refusal.DirFault → Rose (D.shown dir.old).faults (D.shown dir.new).faults }
     ensures refusals { IfErr result (λ r. gc_refusal r ≡ true) }
     ensures ready { D.observed ≡ true → Stays (MaySweepAll now expire) (D.shown dir.old) (λ s. KeepsReady s (D.shown dir.new)) }

@@ -13,7 +13,7 @@ use Rattle.dir_trait.specs.DirCalls.{DirAt}
 use Rattle.folder_building.specs.Work.{Worked}
 use Rattle.pod_steps.specs.Holding.{KeepsReady, Stays}
 use Rattle.pod_removal.specs.Requests.{removes}
-use Rattle.pod_gc.specs.Requests.{anything}
+use Rattle.pod_gc.specs.Requests.{sweeps}
 use Rattle.command_outcomes.specs.declared.refusal.Refusal.{Refusal}
 use Rattle.command_outcomes.proofs.Seen.{beside}
 use Rattle.rkt_cli.specs.declared.line.Line.{Line}
@@ -158,7 +158,7 @@ rm_ran line now draw pod observed a b bundle o is worked cause known says =
       says = says;
     }
 
-pub gc_ran : (line : Line) (now : ℕ) (draw : Draw) (observed : Bool) (a b : DirAt) (bundle : BundleSeen) (o : Outcome) → line ≡ Gc → Worked observed anything a b → (IsErrOf o DirFault → Rose a.faults b.faults) →
+pub gc_ran : (line : Line) (now : ℕ) (draw : Draw) (observed : Bool) (a b : DirAt) (bundle : BundleSeen) (o : Outcome) → line ≡ Gc → Worked observed (sweeps now) a b → (IsErrOf o DirFault → Rose a.faults b.faults) →
     IfErr o (λ r. gc_refusal r ≡ true) → GcSays (times_of now grace_time expire_time) (dir_seen observed a) (dir_seen observed b) o → CommandRan line now draw (beside (dir_seen observed a) bundle) (beside (dir_seen observed b) bundle) o
 gc_ran line now draw observed a b bundle o is worked cause known says =
     subst (λ (l : Line). CommandRan l now draw (beside (dir_seen observed a) bundle) (beside (dir_seen observed b) bundle) o) (sym is) ran

@@ -34,7 +34,7 @@ use Rattle.run_commands.specs.Run.{makes_and_runs}
 use Rattle.removal_commands.specs.Rm.{rm_refusal, RmSays}
 use Rattle.removal_commands.specs.Gc.{times_of, gc_refusal, GcSays}
 use Rattle.pod_removal.specs.Requests.{removes}
-use Rattle.pod_gc.specs.Requests.{anything}
+use Rattle.pod_gc.specs.Requests.{sweeps as sweeps_pods}
 use Rattle.rkt_cli.specs.Validate.{validate_refusal, ValidateSays, ReadsFile, sequential_validate}
 
 -- whether it works on the directory, and whether it reads the bundle
@@ -105,7 +105,8 @@ intent_of Gc now draw = Some (gc_intent now draw)
 -- removed, for moves from the first to the second and for deletions there; `prepare` for the locks of images and embryo, for reads of
 -- images, for its own folder, its lock and its moves, and for the sync of prepared; `run-prepared` looks for the pod, asks for its locks and
 -- for its move to run, reads it there and makes its notes; `run` asks for what a prepare asks for that leads to run, and then so; `rm` looks
--- for the pod, asks for its locks, its mark and its moves to a garbage place, and for its deletion there; of `gc` its lines tell that
+-- for the pod, asks for its locks, its mark and its moves to a garbage place, and for its deletion there; `gc` lists the areas of pods, asks for the lock of embryo, looks at pods, lists and makes their marks, moves them to
+-- a garbage place and deletes there
 abbrev pub asks : Line → ℕ → Draw → Request → Bool
 asks (Status pod) now draw request = is_look_at (is_pod_spot pod) request
 asks (Validate path) now draw request = false
@@ -117,7 +118,7 @@ asks (Prepare words) now draw request = prepares_pod draw.uuid request
 asks (RunPrepared pod) now draw request = runs_prepared pod request
 asks (Run words) now draw request = makes_and_runs draw.uuid request
 asks (Rm pod) now draw request = removes pod now request
-asks Gc now draw request = anything request
+asks Gc now draw request = sweeps_pods now request
 
 -- the refusals of its own
 abbrev pub own_refusal : Line → Refusal → Bool
