@@ -116,5 +116,5 @@ pub fn rkt<D: Dir, B: Bundle, S: Spawner, O: Sink, E: Sink>(
     ensures ran { RunBetween D.Dir B.Bundle S.Spawner O.Sink E.Sink (line_in words.now) now draw.now result
         (dir.old, bundle.old, spawner.old, out.old, err.old) (dir.new, bundle.new, spawner.new, out.new, err.new) }
 {
-    run(alloc, words, now, draw, dir, bundle, out, err)
+    run(alloc, words, now, draw, dir, bundle, spawner, out, err)
 }

@@ -67,6 +67,19 @@ const WORKER: &[Put] = &[
     Put::File("b/rootfs/bin/run", "abc"),
 ];
 
+// An image whose program isn't in its root.
+const SERVE: &[Put] = &[
+    Put::File("b/manifest", SERVE_MANIFEST),
+    Put::File("b/id", SERVE_ID),
+    Put::Dir("b/rootfs/usr"),
+];
+
+const SERVE_MANIFEST: &str =
+    r#"{"acKind":"ImageManifest","acVersion":"0.8.0","name":"example.com/w","app":{"exec":["serve"],"user":"0","group":"0"}}"#;
+
+const SERVE_ID: &str =
+    "sha512-dddddddddddddddddddddddddddddddddddddddddddddddddddddddddddddddddddddddddddddddddddddddddddddddddddddddddddddddddddddddddddddddd\n";
+
 const POD: &[Put] = &[Put::File("m", POD_MANIFEST)];
 
 // Something of each kind, and a file of two pieces.
@@ -86,6 +99,7 @@ pub enum Carries {
     OtherTree,
     Base,
     Worker,
+    Serve,
     Pod,
     Stock,
 }
@@ -97,6 +111,7 @@ pub fn puts_of(carries: Carries) -> &'static [Put] {
         Carries::OtherTree => OTHER,
         Carries::Base => BASE,
         Carries::Worker => WORKER,
+        Carries::Serve => SERVE,
         Carries::Pod => POD,
         Carries::Stock => STOCK,
     }

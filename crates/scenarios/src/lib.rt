@@ -12,6 +12,10 @@ mod image_list;
 #[cfg(test)]
 mod outputs;
 #[cfg(test)]
+mod pod_removals;
+#[cfg(test)]
+mod pod_runs;
+#[cfg(test)]
 mod prepare;
 #[cfg(test)]
 mod removals;

@@ -4,16 +4,16 @@ use crate::stage::{Break, Folder, Meets, Row, Run, Step, all_go};
 use dir_trait::{Area, Kind, Mode};
 use std::test::Fail;
 
-const IMPORT: &[&str] = &["image", "import", "b"];
+pub const IMPORT: &[&str] = &["image", "import", "b"];
 
-const PREPARE: &[&str] = &["prepare", "example.com/reduce-worker:1.0.0"];
+pub const PREPARE: &[&str] = &["prepare", "example.com/reduce-worker:1.0.0"];
 
 // What every process draws, as a name, and the line with it.
-const DRAWN: &str = "07070707-0707-0707-0707-070707070707";
+pub const DRAWN: &str = "07070707-0707-0707-0707-070707070707";
 
-const DRAWN_LINE: &str = "07070707-0707-0707-0707-070707070707\n";
+pub const DRAWN_LINE: &str = "07070707-0707-0707-0707-070707070707\n";
 
-const STATUS: &[&str] = &["status", DRAWN];
+pub const STATUS: &[&str] = &["status", DRAWN];
 
 const BASE_LINE: &str = "sha512-aaaaaaaaaaaaaaaaaaaaaaaaaaaaaaaaaaaaaaaaaaaaaaaaaaaaaaaaaaaaaaaa\n";
 
@@ -65,7 +65,7 @@ const WORKER: Meets = Meets {
     others: &[],
 };
 
-const ALONE: Meets = Meets {
+pub const ALONE: Meets = Meets {
     now: 200,
     carries: Carries::Nothing,
     others: &[],
@@ -90,13 +90,13 @@ const NAME_TAKEN: Meets = Meets {
 };
 
 // The three images are stored.
-const IMPORT_BASE: Run = (IMPORT, BASE, Break::Nothing, (0, BASE_LINE, ""));
+pub const IMPORT_BASE: Run = (IMPORT, BASE, Break::Nothing, (0, BASE_LINE, ""));
 
-const IMPORT_LIB: Run = (IMPORT, LIB, Break::Nothing, (0, LIB_LINE, ""));
+pub const IMPORT_LIB: Run = (IMPORT, LIB, Break::Nothing, (0, LIB_LINE, ""));
 
-const IMPORT_WORKER: Run = (IMPORT, WORKER, Break::Nothing, (0, WORKER_LINE, ""));
+pub const IMPORT_WORKER: Run = (IMPORT, WORKER, Break::Nothing, (0, WORKER_LINE, ""));
 
-const PREPARED: Run = (STATUS, ALONE, Break::Nothing, (0, "state=prepared\n", ""));
+pub const PREPARED: Run = (STATUS, ALONE, Break::Nothing, (0, "state=prepared\n", ""));
 
 const STORIES: &[&[Run]] = &[
     &[

@@ -9,6 +9,7 @@ use dir_trait::{
     Area, Bytes, Draw, Handle, Inner, Intent, Kind, Mode, Name, NoMemory, PodId, PodPrefix,
     Request, Spot, Which,
 };
+use memory_spawner::MemorySpawner;
 use rkt_cli::rkt;
 use std::alloc::Global;
 
@@ -22,6 +23,7 @@ pub enum Step {
     Kill,
     OpenArea(Area),
     Open(Folder),
+    OpenClaim(Folder),
     Lock(Mode),
     Make(Folder),
     Move(Folder, Folder),
@@ -49,6 +51,10 @@ pub enum Break {
     Write(u64),
     /// That write to the error output fails.
     Complaint(u64),
+    /// That call on the spawner fails.
+    Spawn(u64),
+    /// The program of that start ends with this status.
+    Ended(u64, u8),
 }
 
 /// What a run meets: the moment, the bundle and the steps of others.
@@ -117,6 +123,10 @@ fn request(alloc: Global, step: Step) -> Result<Request, NoMemory> {
             spot: spot(folder),
             which: Which::Own,
         }),
+        Step::OpenClaim(folder) => Ok(Request::Open {
+            spot: spot(folder),
+            which: Which::Claim,
+        }),
         Step::Lock(mode) => Ok(Request::TryLock {
             handle: Handle { number: 0 },
             mode,
@@ -184,6 +194,15 @@ fn errors(alloc: Global, breaks: Break) -> Result<MemorySink, NoMemory> {
     }
 }
 
+fn spawner_for(alloc: Global, breaks: Break) -> Result<MemorySpawner, NoMemory> {
+    let spawner = MemorySpawner::new(alloc);
+    match breaks {
+        Break::Spawn(call) => spawner.fail(alloc, call),
+        Break::Ended(start, status) => spawner.ends(alloc, start, status),
+        _ => Ok(spawner),
+    }
+}
+
 /// Whether the program on these words at a moment ends and writes so.
 pub fn ends_so(
     alloc: Global,
@@ -199,7 +218,18 @@ pub fn ends_so(
     let words = texts(alloc, words)?;
     let mut err = errors(alloc, breaks)?;
     let mut out = ByteSink::new(alloc, failing_write(breaks));
-    let status = rkt(alloc, &words, now, &draw(), dir, bundle, &mut out, &mut err);
+    let mut spawner = spawner_for(alloc, breaks)?;
+    let status = rkt(
+        alloc,
+        &words,
+        now,
+        &draw(),
+        dir,
+        bundle,
+        &mut spawner,
+        &mut out,
+        &mut err,
+    );
     Ok(
         status == ends.0
             && out.bytes.as_slice() == ends.1.as_bytes()
