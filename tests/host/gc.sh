@@ -1,0 +1,155 @@
+#!/usr/bin/env bash
+# The built program on pods of this host that are removed: one by one and by sweeps, with links, deep paths and
+# read-only directories in their roots; and a life of pods by eight processes with kills, in which no running pod
+# loses a file and after which one sweep leaves nothing.
+set -u
+unset RKT_DIR
+cd "$(dirname "$0")/../.." || exit 1
+. tests/host/checks.bash
+
+for tool in flock timeout; do
+    if ! command -v $tool >/dev/null; then
+        skip "all: there is no $tool"
+        exit 0
+    fi
+done
+
+tmp=$(cd "$tmp" && pwd -P)
+rkt=$tmp/rkt-program
+export RKT_DIR=$tmp/data
+number=0
+
+# image NAME SCRIPT: stores an image of that name with the program /bin/run.
+image() {
+    number=$((number + 1))
+    mkdir -p "$tmp/$1/rootfs/bin"
+    echo "{\"acKind\":\"ImageManifest\",\"acVersion\":\"0.8.0\",\"name\":\"example.com/$1\",\"app\":{\"exec\":[\"/bin/run\"],\"user\":\"0\",\"group\":\"0\"}}" >"$tmp/$1/manifest"
+    printf 'sha512-%064x%064d\n' $number 0 >"$tmp/$1/id"
+    printf '%s\n' "$2" >"$tmp/$1/rootfs/bin/run"
+    chmod 755 "$tmp/$1/rootfs/bin/run"
+    expect "the image $1" 0 "$(printf 'sha512-%064x' $number)" '' "$rkt" image import "$tmp/$1"
+}
+
+area() {
+    echo "$RKT_DIR/pods/$1"
+}
+
+root() {
+    echo "$(area "$1")/$2/stage1/rootfs/opt/stage2/$3/rootfs"
+}
+
+# aged POD SECONDS: the pod's mark in exited-garbage, or the mark of its making, is so much older.
+aged() {
+    local old now
+    for old in "$(area exited-garbage)/$1"/marked-* "$(area prepared)/$1"/created-*; do
+        [ -e "$old" ] || continue
+        now=${old##*-}
+        mv "$old" "${old%-*}-$((now - $2))"
+    done
+}
+
+standing() {
+    local a
+    for a in embryo prepare prepared run exited-garbage garbage; do
+        ls "$(area $a)"
+    done | wc -l
+}
+
+image app '#!/bin/sh
+echo text >made'
+
+# A prepared pod, an exited one, and one that was never there.
+pod=$("$rkt" prepare example.com/app)
+expect 'a prepared pod' 0 "removed $pod" '' "$rkt" rm "$pod"
+expect 'it is gone' 2 '' 'rkt: no such pod' "$rkt" rm "$pod"
+pod=$("$rkt" run example.com/app | head -n 1)
+expect 'an exited pod' 0 "removed $pod" '' "$rkt" rm "$pod"
+same 'nothing stands' 0 "$(standing)"
+expect 'a uuid that was never drawn' 2 '' 'rkt: no such pod' "$rkt" rm 00000000-0000-4000-8000-000000000001
+expect 'nothing to sweep' 0 '' '' "$rkt" gc
+
+# An exited pod rests for half an hour, a prepared one for a day.
+pod=$("$rkt" run example.com/app | head -n 1)
+expect 'it is put aside' 0 "$pod moved exited-garbage
+$pod kept exited garbage" '' "$rkt" gc
+expect 'it rests' 0 "$pod kept exited garbage" '' "$rkt" gc
+aged "$pod" 1790
+expect 'still' 0 "$pod kept exited garbage" '' "$rkt" gc
+aged "$pod" 20
+expect 'its time is over' 0 "$pod deleted" '' "$rkt" gc
+pod=$("$rkt" prepare example.com/app)
+aged "$pod" 86390
+expect 'it waits' 0 "$pod kept prepared" '' "$rkt" gc
+aged "$pod" 20
+expect 'it expires' 0 "$pod moved garbage
+$pod deleted" '' "$rkt" gc
+same 'nothing stands' 0 "$(standing)"
+
+# What makings left that were killed, beside who holds the lock of embryo.
+dead=00000000-0000-4000-8000-000000000002
+mkdir "$(area embryo)/$dead"
+exec 9<"$(area embryo)"
+flock -s 9
+expect 'beside a maker' 0 'embryo busy gate' '' "$rkt" gc
+exec 9<&-
+expect 'alone' 0 "$dead moved garbage
+$dead deleted" '' "$rkt" gc
+
+# Links out of the root, deep paths, and directories that can't be written: nothing outside is touched.
+mkdir "$tmp/outside"
+echo kept >"$tmp/outside/file"
+pod=$("$rkt" run example.com/app | head -n 1)
+inside=$(root run "$pod" app)
+ln -s "$tmp/outside" "$inside/link"
+ln -s "$tmp/outside/file" "$inside/other"
+mkdir -p "$inside/$(printf 'd/%.0s' $(seq 300))"
+mkdir -p "$inside/closed/below"
+echo text >"$inside/closed/below/file"
+chmod 555 "$inside/closed/below" "$inside/closed"
+if [ "$(id -u)" = 0 ]; then
+    expect 'a hard root' 0 "removed $pod" '' "$rkt" rm "$pod"
+    same 'nothing stands' 0 "$(standing)"
+else
+    skip 'read-only directories: they are removed as root alone'
+    chmod -R u+w "$inside/closed"
+    expect 'a hard root' 0 "removed $pod" '' "$rkt" rm "$pod"
+fi
+same 'what is outside stands' kept "$(cat "$tmp/outside/file")"
+
+# A life of pods: eight processes prepare, run, remove and sweep, some are killed. Each app writes a file, waits, and
+# looks for it: it says if a running pod lost a file.
+image lives "#!/bin/sh
+echo here >sentinel
+sleep 0.1
+[ \"\$(cat sentinel 2>/dev/null)\" = here ] || echo lost >>$tmp/lost"
+: >"$tmp/lost"
+live() {
+    local pod
+    for turn in $(seq 25); do
+        case $(((RANDOM + $1) % 5)) in
+            0) "$rkt" prepare example.com/lives ;;
+            1) timeout -s KILL 0.0$((RANDOM % 9 + 1)) "$rkt" run example.com/lives ;;
+            2) "$rkt" run example.com/lives ;;
+            3) pod=$(ls "$(area prepared)" "$(area run)" | grep -v : | sort -R | head -n 1)
+                [ -z "$pod" ] || "$rkt" rm "$pod" ;;
+            4) "$rkt" gc ;;
+        esac >/dev/null 2>>"$tmp/said"
+    done
+}
+for i in $(seq 8); do
+    live "$i" &
+done
+wait
+sleep 0.5
+same 'no running pod lost a file' '' "$(cat "$tmp/lost")"
+same 'nothing but what may be was said' '' "$(sort -u "$tmp/said" | grep -v '^rkt: no such pod$\|^rkt: wrong phase: \|^rkt: busy: \|^rkt: no manifest: \|[Kk]illed')"
+"$rkt" gc >/dev/null
+for area_of in prepared exited-garbage; do
+    for left in "$(area $area_of)"/*; do
+        [ -e "$left" ] && aged "${left##*/}" 100000
+    done
+done
+"$rkt" gc >/dev/null
+same 'one sweep leaves nothing' 0 "$(standing)"
+
+finish
