@@ -3,7 +3,8 @@ ghost use Rattle.std.specs.Prelude.{◌≡◌, IfOk};
 ghost use Rattle.dir_trait.specs.Local.{nothing_local};
 
 use crate::stage::{
-    ASKED, DISCARDED, ENDED, EXITED, FILLED, HANDED, HELD, KEPT, MADE, MANIFEST, RETIRED, STARTED, before,
+    ASKED, DISCARDED, ENDED, EXITED, FILLED, HANDED, HELD, KEPT, MADE, MANIFEST, RETIRED, STARTED,
+    before,
 };
 use dir_memory::MemoryDir;
 use dir_trait::NoMemory;

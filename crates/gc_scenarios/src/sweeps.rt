@@ -261,11 +261,7 @@ const LEFT: &[Said] = &[
 
 /// The pod has left prepare where another process moves it before this call.
 fn has_left(alloc: Global, call: u64) -> Result<bool, NoMemory> {
-    let dead = with_pod(
-        alloc,
-        MemoryDir::new(alloc, 1)?,
-        Situation::AbortedPrepare,
-    )?;
+    let dead = with_pod(alloc, MemoryDir::new(alloc, 1)?, Situation::AbortedPrepare)?;
     gives(alloc, before(alloc, dead, call, SWEPT)?, CROWD, LEFT)
 }
 

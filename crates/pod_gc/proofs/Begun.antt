@@ -1,5 +1,5 @@
 -- A process that has just begun as a sweep may sweep.
-use Rattle.std.proofs.Common.{◌≡◌, ◌==◌, ◌&&◌, true, refl}
+use Rattle.std.proofs.Common.{◌≡◌, ◌==◌, true, refl}
 use Rattle.dir_model.specs.declared.intent.Intent.{Intent}
 use Rattle.dir_model.specs.declared.intent.Kind.{Kind}
 use Rattle.dir_model.specs.declared.intent.Kind.TheVariants as kind

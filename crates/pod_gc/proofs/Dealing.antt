@@ -1,5 +1,5 @@
 -- Each pass deals with its pods by its own step.
-use Rattle.std.proofs.Common.{◌≡◌, ◌||◌, ℕ, true, Result, Ok, Err, IfOk, List, refl, sym, ap, subst}
+use Rattle.std.proofs.Common.{◌≡◌, ◌||◌, ℕ, true, Result, Ok, Err, IfOk, List, ap, subst}
 use Rattle.dir_model.specs.declared.area.Area.{Area}
 use Rattle.dir_model.specs.declared.area.Area.TheVariants as area
 use Rattle.dir_model.specs.declared.event.Event.{Event}

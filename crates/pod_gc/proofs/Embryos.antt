@@ -1,5 +1,5 @@
 -- An embryo is moved under the lock of its area.
-use Rattle.std.proofs.Common.{◌≡◌, ℕ, true, refl}
+use Rattle.std.proofs.Common.{ℕ, refl}
 use Rattle.dir_model.specs.declared.area.Area.TheVariants.{Embryo, Garbage}
 use Rattle.dir_model.specs.declared.pod.PodId.{PodId}
 use Rattle.dir_model.specs.declared.spot.Which.TheVariants.{Own}

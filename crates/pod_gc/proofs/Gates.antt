@@ -1,5 +1,5 @@
 -- The pass over embryo, under that area's lock.
-use Rattle.std.proofs.Common.{◌≡◌, ◌≤◌, inl, inr, ℕ, Bool, true, false, Some, None, List, [], ◌∷◌, ◌++◌, refl, sym, ap, subst, ◌∙◌, arith}
+use Rattle.std.proofs.Common.{◌≡◌, ◌≤◌, inl, inr, ℕ, Bool, true, false, Some, None, List, [], ◌∷◌, ◌++◌, refl, ap, subst, ◌∙◌, arith}
 use Rattle.dir_model.specs.declared.area.Area.{Area}
 use Rattle.dir_model.specs.declared.area.Area.TheVariants.{Embryo}
 use Rattle.dir_model.specs.declared.event.Event.{Event}
@@ -29,7 +29,7 @@ use Rattle.pod_gc.specs.declared.line.Deed.TheVariants.{BusyGate}
 use Rattle.pod_gc.specs.declared.line.GcLine.{GcLine}
 use Rattle.pod_gc.specs.Requests.{sweeps}
 use Rattle.pod_gc.specs.Causes.{lock_fault, GcCause}
-use Rattle.pod_gc.specs.Sweeping.{MaySweep, MayPass, MaySweepAll}
+use Rattle.pod_gc.specs.Sweeping.{MayPass, MaySweepAll}
 use Rattle.pod_gc.specs.Told.{Knew, TellsShown, UnderGate, WasGated, Passed, AddsShown, AddsPassed}
 use Rattle.pod_gc.proofs.Dealing.{gc_by}
 use Rattle.pod_gc.proofs.Asking.{takes_sweep, closes_sweep}
@@ -122,8 +122,7 @@ adds_plain a b times here before after not x =
 pub adds_gate : (a b c d : DirAt) (times : Times) (h : Handle) (before after : List GcLine) → b.process ≡ a.process → c.process ≡ b.process → ((s : Seen) → Knows a s → MayLock s Embryo Exclusive → Knows b (with_gate s h Embryo (Some Exclusive)))
     → ExtendsBy (takes Embryo Exclusive) a b → AddsShown times Embryo b c before after → ExtendsBy (closes h) c d → AddsPassed times Embryo a d before after
 adds_gate a b c d times h before after ab bc taken first x last =
-    let f : Knew (MaySweepAll times.now times.expire) a → Knew (MayPass Embryo times.now times.expire) b = λ can. (with_gate can.0 h Embryo (Some Exclusive), taken can.0 can.1 (may_lock can.2), passes_under h can.2) in
-    (
+    let f : Knew (MaySweepAll times.now times.expire) a → Knew (MayPass Embryo times.now times.expire) b = λ can. (with_gate can.0 h Embryo (Some Exclusive), taken can.0 can.1 (may_lock can.2), passes_under h can.2) in (
       x.0,
       x.1,
       inl (record {

@@ -1,9 +1,8 @@
 -- What a process knows that listed the marks of a pod, and what the listing tells.
-use Rattle.std.proofs.Common.{◌≡◌, ◌==◌, ◌&&◌, ◌||◌, ℕ, Bool, true, false, not, cond, codes, bytes_eq, find, Option, Some, None, is_some, Result, Ok, Err, List, [], ◌∷◌, refl, sym, ap, subst, ◌∙◌}
+use Rattle.std.proofs.Common.{◌≡◌, ◌&&◌, ℕ, Bool, true, false, not, cond, codes, bytes_eq, find, Option, Some, None, is_some, Result, Ok, Err, List, [], ◌∷◌, refl, sym, ap, subst, ◌∙◌}
 use Rattle.std.specs.List.{list_any}
 use Rattle.dir_model.specs.declared.area.Area.{Area}
 use Rattle.dir_model.specs.declared.area.Area.TheVariants.{Prepared, ExitedGarbage}
-use Rattle.dir_model.specs.declared.event.Event.{Event}
 use Rattle.dir_model.specs.declared.item.Item.{Item}
 use Rattle.dir_model.specs.declared.opening.Target.{Target}
 use Rattle.dir_model.specs.declared.opening.Target.TheVariants as target
@@ -20,7 +19,7 @@ use Rattle.dir_model.specs.Causes.{Rose}
 use Rattle.dir_model.specs.Locks.{is_exclusive}
 use Rattle.dir_model.specs.Pods.{pod_text}
 use Rattle.dir_model.specs.Replies.{items_reply, may_refuse}
-use Rattle.dir_model.specs.State.{DirState, stands, folder_at}
+use Rattle.dir_model.specs.State.{stands}
 use Rattle.dir_model.proofs.Lists.{and_both, and_false, any_fewer}
 use Rattle.dir_model.proofs.Moments.{at_weaker}
 use Rattle.dir_model.proofs.Spots.{spot_self}
@@ -33,7 +32,6 @@ use Rattle.dir_rules.specs.Seen.{later, created_among, note_created, with_items}
 use Rattle.dir_rules.specs.Conforms.{seen_listed}
 use Rattle.dir_rules.proofs.Looks.{same_bytes}
 use Rattle.dir_trait.specs.DirCalls.{DirAt, ListCall, HeldBetween}
-use Rattle.dir_trait.specs.Knowledge.{Knows}
 use Rattle.dir_files.specs.Listed.{ShowsDirectoryBetween}
 use Rattle.dir_files.proofs.Folders.{tells_absent, tells_present}
 use Rattle.folder_building.specs.Work.{Worked}
@@ -46,7 +44,7 @@ use Rattle.pod_steps.specs.Causes.{IsAbsentAt}
 use Rattle.pod_removal.specs.Holding.{MayRemove}
 use Rattle.pod_gc.specs.Requests.{counts_time, lists_marks}
 use Rattle.pod_gc.specs.Causes.{listing_fault, GcCause}
-use Rattle.pod_gc.specs.Marks.{mark_moment, moment_among, Showed}
+use Rattle.pod_gc.specs.Marks.{moment_among, Showed}
 use Rattle.pod_gc.specs.Sweeping.{IsNoted, NotesMark}
 
 pub with_root : {observed : Bool} {old new : DirAt} {spot : Spot} {reply : Reply} (pod : PodId) (area : Area) → spot ≡ pod_spot pod area → ListCall observed old (ListIn (record { spot = spot; path = [] })) reply new → ListCall observed old (ListIn (root_of (pod_spot pod area))) reply new

@@ -1,5 +1,5 @@
 -- What a step at a listed pod comes to as a deed.
-use Rattle.std.proofs.Common.{◌≡◌, ◌≤◌, ◌||◌, ◌⊎◌, inl, inr, ℕ, Bool, true, false, Option, Some, codes, Result, Ok, Err, IfOk, IfErr, List, [], ◌∷◌, ◌++◌, refl, sym, ap, subst, ◌∙◌, arith}
+use Rattle.std.proofs.Common.{◌≡◌, ◌≤◌, ◌||◌, ◌⊎◌, inl, inr, ℕ, Bool, true, false, Option, Some, codes, Result, Ok, Err, IfOk, IfErr, List, refl, sym, ap, subst, ◌∙◌}
 use Rattle.dir_model.specs.declared.area.Area.{Area}
 use Rattle.dir_model.specs.declared.area.Area.TheVariants as area
 use Rattle.dir_model.specs.declared.area.Phase.{Phase}
@@ -21,7 +21,6 @@ use Rattle.dir_model.proofs.Moments.{at_weaker, settle}
 use Rattle.dir_rules.specs.declared.seen.Seen.{Seen}
 use Rattle.dir_trait.specs.DirCalls.{DirAt, HeldBetween, LockToldBetween}
 use Rattle.dir_trait.specs.Knowledge.{Knows, OnlyLooks}
-use Rattle.folder_building.specs.Work.{Worked}
 use Rattle.lifecycle.specs.Executions.{IsConforming}
 use Rattle.lifecycle.proofs.Stays.{stays_between}
 use Rattle.phase_read.specs.declared.found.LookError.{LookError}
@@ -46,7 +45,6 @@ use Rattle.pod_removal.proofs.CallKinds.{looks_remove}
 use Rattle.pod_removal.proofs.Stages.{none_kind, same_ready}
 use Rattle.pod_removal.proofs.Rounds.{may_kept, looked_keeps, busy_within, event_after}
 use Rattle.pod_gc.specs.declared.error.GcError.{GcError}
-use Rattle.pod_gc.specs.declared.error.GcError.TheVariants as fault
 use Rattle.pod_gc.specs.declared.line.Deed.{Deed}
 use Rattle.pod_gc.specs.declared.line.Deed.TheVariants.{Moved, Deleted, Kept, Busy, Left}
 use Rattle.pod_gc.specs.Requests.{deals_with, lists_marks, goes_to, moves_pods, lets_be}

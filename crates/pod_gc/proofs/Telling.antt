@@ -1,20 +1,18 @@
 -- The lines of pods, one after the other.
-use Rattle.std.proofs.Common.{◌≡◌, ◌||◌, inl, inr, ℕ, Bool, true, false, Option, Some, None, Ok, List, [], ◌∷◌, ◌++◌, map, refl, sym, ap, subst, ◌∙◌, append_assoc, append-nil}
-use Rattle.std.specs.List.{list_any, AllByRecursion}
+use Rattle.std.proofs.Common.{◌≡◌, ◌||◌, ℕ, Bool, true, false, Option, Some, None, List, [], ◌∷◌, ◌++◌, map, refl, sym, ap, subst, ◌∙◌, append_assoc, append-nil}
+use Rattle.std.specs.List.{list_any}
 use Rattle.dir_model.specs.declared.area.Area.{Area}
 use Rattle.dir_model.specs.declared.event.Event.{Event}
 use Rattle.dir_model.specs.declared.pod.PodId.{PodId}
 use Rattle.dir_model.specs.declared.request.Request.{Request}
 use Rattle.dir_model.specs.declared.request.Request.TheVariants.{ListArea}
 use Rattle.dir_model.specs.declared.request.Reply.TheVariants.{Names}
-use Rattle.dir_model.specs.declared.spot.Which.{Which}
 use Rattle.dir_model.specs.Areas.{rank}
 use Rattle.dir_model.specs.Calls.{Extends}
 use Rattle.dir_model.specs.Pods.{pod_of}
 use Rattle.dir_model.proofs.Lists.{all_both, all_weaker, or_map, or_last, same_self}
 use Rattle.dir_rules.specs.declared.seen.Seen.{Seen}
 use Rattle.dir_trait.specs.DirCalls.{DirAt, ListCall}
-use Rattle.dir_trait.specs.Knowledge.{Knows}
 use Rattle.dir_files.specs.Listed.{ShowsAreaBetween}
 use Rattle.folder_building.specs.Work.{Worked}
 use Rattle.folder_removal.proofs.Calls.{list_extends}
@@ -29,13 +27,12 @@ use Rattle.pod_steps.proofs.Calls.{Follows}
 use Rattle.pod_removal.proofs.Rounds.{event_after, busy_within}
 use Rattle.pod_gc.specs.declared.ages.Times.{Times}
 use Rattle.pod_gc.specs.declared.line.Deed.{Deed}
-use Rattle.pod_gc.specs.declared.line.Deed.TheVariants.{Busy}
 use Rattle.pod_gc.specs.declared.line.GcLine.{GcLine}
-use Rattle.pod_gc.specs.Requests.{lists, deals_with}
+use Rattle.pod_gc.specs.Requests.{deals_with}
 use Rattle.pod_gc.specs.Marks.{Showed}
-use Rattle.pod_gc.specs.Deeds.{DeedCause, BusyBecause, WaitedSo, RestedSo, Dealt}
+use Rattle.pod_gc.specs.Deeds.{DeedCause, BusyBecause, Dealt}
 use Rattle.pod_gc.specs.Sweeping.{MayPass}
-use Rattle.pod_gc.specs.Told.{and_pod, pods_of, deals_with_some, Knew, IsTold, TellsEach, TellsShown, Adds, AddsTold, AddsShown}
+use Rattle.pod_gc.specs.Told.{and_pod, pods_of, deals_with_some, Knew, IsTold, TellsEach, AddsTold, AddsShown}
 use Rattle.pod_gc.proofs.InTurn.{pass_kept}
 
 -- what came about in a part of the time came about in the whole

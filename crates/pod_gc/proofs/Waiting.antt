@@ -1,16 +1,13 @@
 -- A prepared pod whose time is over.
-use Rattle.std.proofs.Common.{◌≡◌, ◌==◌, ◌&&◌, ◌-◌, ◌⊎◌, inl, inr, ℕ, Bool, true, false, bytes_eq, find, nat_le, codes, Option, Some, None, is_some, Result, Ok, Err, IfOk, List, refl, sym, ap, subst, ◌∙◌, arith}
+use Rattle.std.proofs.Common.{◌≡◌, ◌==◌, ◌&&◌, ◌-◌, ◌⊎◌, inl, inr, ℕ, Bool, true, false, bytes_eq, find, nat_le, codes, Option, Some, None, is_some, List, refl, sym, ap, subst, ◌∙◌, arith}
 use Rattle.std.proofs.lemmas.Bool.{eqb-true}
-use Rattle.dir_model.specs.declared.area.Area.{Area}
-use Rattle.dir_model.specs.declared.area.Area.TheVariants.{Prepared, Garbage}
+use Rattle.dir_model.specs.declared.area.Area.TheVariants.{Prepared}
 use Rattle.dir_model.specs.declared.area.Phase.{Phase}
 use Rattle.dir_model.specs.declared.area.Phase.TheVariants as phase
-use Rattle.dir_model.specs.declared.event.Event.{Event}
 use Rattle.dir_model.specs.declared.intent.Intent.{Intent}
 use Rattle.dir_model.specs.declared.intent.Kind.{Kind}
 use Rattle.dir_model.specs.declared.intent.Kind.TheVariants as kind
 use Rattle.dir_model.specs.declared.pod.PodId.{PodId}
-use Rattle.dir_model.specs.declared.spot.Which.{Which}
 use Rattle.dir_model.specs.declared.spot.Which.TheVariants.{Claim}
 use Rattle.dir_model.specs.declared.tree.TreeEntry.{TreeEntry}
 use Rattle.dir_model.specs.declared.request.DirError.TheVariants.{Missing}
@@ -29,11 +26,10 @@ use Rattle.phase_read.specs.Read.{pod_spot, HasPhase}
 use Rattle.phase_read.specs.Exact.{AtOwnEvent, IsInPhase}
 use Rattle.phase_read.proofs.Exact.{found_exactly}
 use Rattle.phase_read.proofs.Stages.{has_phase}
-use Rattle.pod_claim.specs.Work.{Grew}
 use Rattle.pod_claim.proofs.Times.{at_part}
 use Rattle.pod_claim.proofs.Traces.{grown_none}
 use Rattle.pod_steps.specs.declared.setback.Setback.{Setback}
-use Rattle.pod_steps.specs.Holding.{Keeps, KeepsReady, Stays}
+use Rattle.pod_steps.specs.Holding.{KeepsReady, Stays}
 use Rattle.pod_steps.specs.Causes.{IsAbsentAt}
 use Rattle.pod_steps.proofs.Calls.{Follows}
 use Rattle.pod_removal.specs.Causes.{StoppedAlone}
@@ -41,7 +37,7 @@ use Rattle.pod_removal.specs.Holding.{MayRemove, MayDiscard}
 use Rattle.pod_removal.proofs.Rounds.{may_kept, busy_within}
 use Rattle.pod_gc.specs.declared.ages.Times.{Times}
 use Rattle.pod_gc.specs.declared.line.Deed.{Deed}
-use Rattle.pod_gc.specs.declared.line.Deed.TheVariants.{Moved, Kept}
+use Rattle.pod_gc.specs.declared.line.Deed.TheVariants.{Kept}
 use Rattle.pod_gc.specs.Marks.{Showed, is_ripe}
 use Rattle.pod_gc.specs.Deeds.{IsGoneFrom, DeedCause, BusyBecause, WaitsBy, WaitedSo}
 use Rattle.pod_gc.specs.Sweeping.{MaySweep, NotesMark, Ripens}

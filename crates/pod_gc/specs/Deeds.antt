@@ -1,5 +1,5 @@
 -- What was done with a pod that a pass listed.
-use Rattle.std.specs.Prelude.{◌≡◌, ◌⊎◌, ℕ, Bool, true, false, Option, Some, None, List, codes}
+use Rattle.std.specs.Prelude.{◌≡◌, ◌⊎◌, ℕ, Bool, true, false, Option, List, codes}
 use Rattle.dir_model.specs.declared.area.Area.{Area}
 use Rattle.dir_model.specs.declared.area.Area.TheVariants as area
 use Rattle.dir_model.specs.declared.area.Phase.{Phase}
@@ -11,13 +11,11 @@ use Rattle.dir_model.specs.declared.request.Request.TheVariants.{MoveFolder, Rem
 use Rattle.dir_model.specs.declared.request.Reply.TheVariants.{Done}
 use Rattle.dir_model.specs.Calls.{AtOwnStep}
 use Rattle.dir_model.specs.State.{DirState, stands}
-use Rattle.dir_rules.specs.declared.seen.Seen.{Seen}
 use Rattle.dir_trait.specs.DirCalls.{DirAt, HeldBetween}
 use Rattle.lifecycle.specs.Executions.{IsConforming}
 use Rattle.phase_read.specs.Read.{pod_spot}
 use Rattle.phase_read.specs.Exact.{AtOwnEvent, IsInPhase}
 use Rattle.pod_steps.specs.Causes.{IsAbsentAt, CannotOpenAt, Did}
-use Rattle.pod_steps.specs.Holding.{Stays}
 use Rattle.pod_removal.specs.Requests.{is_garbage_place}
 use Rattle.pod_removal.specs.Causes.{IsBusyAt}
 use Rattle.pod_gc.specs.declared.ages.Times.{Times}

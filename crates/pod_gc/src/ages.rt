@@ -22,9 +22,9 @@ use pod_steps::pod_spot;
 use rule_marks::is_mark;
 use std::alloc::Global;
 
-/// The times of a sweep, in seconds.
+/// The times of a sweep, in seconds, by which its contract tells the ages of pods.
 #[derive(Clone, Copy, Debug, PartialEq, Eq)]
-pub(crate) struct Times {
+pub struct Times {
     pub now: u64,
     /// How long an exited pod is kept in exited-garbage.
     pub grace: u64,

@@ -10,6 +10,7 @@ mod line;
 mod passes;
 mod sweeping;
 
+pub use ages::Times;
 pub use error::GcError;
 pub use line::{Deed, GcLine};
 pub use sweeping::gc;

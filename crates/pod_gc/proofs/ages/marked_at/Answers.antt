@@ -1,4 +1,4 @@
-use Rattle.std.proofs.Common.{◌≡◌, rules, true, Ok, Err, [], refl, sym, ap, subst, ◌∙◌}
+use Rattle.std.proofs.Common.{rules, Ok, Err, [], sym, ap, subst, ◌∙◌}
 use Rattle.dir_model.specs.declared.request.DirError.TheVariants.{Missing}
 use Rattle.pod_gc.specs.declared.error.GcError.{GcError}
 use Rattle.pod_gc.specs.Causes.{GcCause}

@@ -1,5 +1,5 @@
-use Rattle.std.proofs.Common.{◌≡◌, ◌+◌, length, sym, ◌∙◌}
-use Rattle.pod_gc.proofs.Moments.{marked, unmarked, no_moment}
+use Rattle.std.proofs.Common.{◌∙◌}
+use Rattle.pod_gc.proofs.Moments.{marked, unmarked}
 use Rattle.pod_gc.proofs.ages.moment_of.Goals as goal
 
 pub returns-then-is_mark : goal.returns-then-is_mark

@@ -1,8 +1,7 @@
-use Rattle.std.proofs.Common.{◌≡◌, rules, true, false, Option, refl, sym, ap, subst, ◌∙◌}
+use Rattle.std.proofs.Common.{◌≡◌, true, sym, subst}
 use Rattle.dir_model.specs.declared.area.Area.{Area}
 use Rattle.dir_model.specs.declared.area.Area.TheVariants as area
 use Rattle.dir_model.specs.declared.spot.Which.{Which}
-use Rattle.dir_model.specs.Areas.{is_stage}
 use Rattle.folder_building.specs.Work.{Worked}
 use Rattle.folder_building.proofs.Copying.{ok_more}
 use Rattle.folder_building.proofs.Working.{worked_wider}

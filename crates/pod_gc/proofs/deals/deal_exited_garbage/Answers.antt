@@ -1,4 +1,4 @@
-use Rattle.std.proofs.Common.{◌≡◌, rules, ℕ, true, codes, Option, Some, None, Ok, IfSome, refl, sym, ap, subst, ◌∙◌}
+use Rattle.std.proofs.Common.{◌≡◌, rules, ℕ, true, codes, Option, Ok, IfSome, ap, subst, ◌∙◌}
 use Rattle.dir_model.specs.declared.area.Area.TheVariants as area
 use Rattle.folder_building.proofs.Copying.{ok_more, err_more}
 use Rattle.folder_building.proofs.Working.{worked_more, worked_wider}

@@ -1,7 +1,6 @@
-use Rattle.std.proofs.Common.{◌≡◌, true, Result, IfOk, IfErr, sym, ap, subst}
+use Rattle.std.proofs.Common.{◌≡◌, true, Result, IfOk, IfErr, sym, subst}
 use Rattle.dir_model.specs.declared.area.Phase.{Phase}
 use Rattle.dir_model.specs.declared.spot.Mode.TheVariants.{Exclusive}
-use Rattle.dir_model.specs.declared.spot.Which.{Which}
 use Rattle.dir_model.specs.declared.request.Request.TheVariants.{RemoveFolder}
 use Rattle.dir_model.specs.declared.request.Reply.TheVariants.{Done}
 use Rattle.folder_building.proofs.Copying.{ok_more, err_more}

@@ -1,8 +1,7 @@
-use Rattle.std.proofs.Common.{◌≡◌, rules, true, Ok, Err, Result, IfOk, IfErr, refl, sym, ap, subst, arith}
+use Rattle.std.proofs.Common.{◌≡◌, true, Err, Result, IfOk, IfErr, refl, sym, subst, arith}
 use Rattle.dir_model.specs.declared.area.Area.TheVariants as area
 use Rattle.dir_model.specs.declared.area.Phase.TheVariants as phase
 use Rattle.dir_model.specs.declared.spot.Mode.TheVariants.{Shared}
-use Rattle.dir_model.specs.declared.spot.Which.{Which}
 use Rattle.folder_building.proofs.Copying.{err_more}
 use Rattle.folder_building.proofs.Working.{worked_more, worked_wider}
 use Rattle.pod_steps.specs.Holding.{Stays}
@@ -11,7 +10,7 @@ use Rattle.pod_removal.specs.Holding.{MayRemove}
 use Rattle.pod_removal.proofs.Rounds.{busy_at}
 use Rattle.pod_gc.specs.declared.error.GcError.{GcError}
 use Rattle.pod_gc.specs.declared.line.Deed.{Deed}
-use Rattle.pod_gc.specs.declared.line.Deed.TheVariants.{Moved, Busy}
+use Rattle.pod_gc.specs.declared.line.Deed.TheVariants.{Moved}
 use Rattle.pod_gc.specs.Causes.{GcCause}
 use Rattle.pod_gc.specs.Deeds.{DeedCause, BusyBecause}
 use Rattle.pod_gc.proofs.Steps.{removes_deal, looks_deal, set_stopped, cause_moved, step_deed, step_cause, step_another, said_deed, said_calm, cause_after, ready_looked}

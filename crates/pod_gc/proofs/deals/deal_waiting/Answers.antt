@@ -1,4 +1,4 @@
-use Rattle.std.proofs.Common.{◌≡◌, ◌⊎◌, inl, inr, true, false, Result, IfOk, IfErr, refl, sym, ap, subst, ◌∙◌}
+use Rattle.std.proofs.Common.{◌≡◌, ◌⊎◌, inl, inr, true, Result, IfOk, IfErr, refl, sym, subst, ◌∙◌}
 use Rattle.dir_model.specs.declared.area.Area.TheVariants as area
 use Rattle.dir_model.specs.declared.area.Phase.{Phase}
 use Rattle.dir_model.specs.declared.area.Phase.TheVariants as phase
@@ -15,7 +15,7 @@ use Rattle.pod_removal.proofs.Rounds.{busy_waiting}
 use Rattle.pod_gc.specs.declared.error.GcError.{GcError}
 use Rattle.pod_gc.specs.declared.line.Deed.{Deed}
 use Rattle.pod_gc.specs.declared.line.Deed.TheVariants.{Moved, Kept}
-use Rattle.pod_gc.specs.Causes.{deed_of, GcCause}
+use Rattle.pod_gc.specs.Causes.{GcCause}
 use Rattle.pod_gc.specs.Marks.{is_ripe}
 use Rattle.pod_gc.specs.Deeds.{DeedCause, BusyBecause, WaitsBy}
 use Rattle.pod_gc.specs.Sweeping.{Ripens}

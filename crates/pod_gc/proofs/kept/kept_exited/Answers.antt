@@ -1,4 +1,4 @@
-use Rattle.std.proofs.Common.{◌≡◌, rules, ℕ, true, false, Err, Result, IfOk, IfErr, refl, sym, ap, subst, arith}
+use Rattle.std.proofs.Common.{◌≡◌, rules, true, false, Err, Result, IfOk, IfErr, refl, sym, subst, arith}
 use Rattle.dir_model.specs.declared.area.Area.TheVariants as area
 use Rattle.dir_model.specs.declared.area.Phase.TheVariants as phase
 use Rattle.dir_model.specs.declared.spot.Which.{Which}
@@ -10,7 +10,7 @@ use Rattle.pod_gc.specs.declared.line.Deed.{Deed}
 use Rattle.pod_gc.specs.declared.line.Deed.TheVariants.{Left, Busy}
 use Rattle.pod_gc.specs.Causes.{GcCause}
 use Rattle.pod_gc.specs.Deeds.{DeedCause, SaysThere, DoesNothing}
-use Rattle.pod_gc.proofs.Steps.{set_stopped, cause_left, step_deed, step_cause, step_rests, step_calm, said_deed, said_rests, said_unbusy, cause_after, looks_resting, ready_probed, ready_unprobed, ready_looked}
+use Rattle.pod_gc.proofs.Steps.{set_stopped, step_deed, step_cause, step_rests, step_calm, said_deed, said_rests, said_unbusy, cause_after, ready_probed, ready_unprobed, ready_looked}
 use Rattle.pod_gc.proofs.kept.kept_exited.Goals as goal
 
 pub returns-in-Ok-clause-worked : goal.returns-in-Ok-clause-worked

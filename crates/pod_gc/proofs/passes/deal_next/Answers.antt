@@ -1,4 +1,4 @@
-use Rattle.std.proofs.Common.{◌≡◌, ◌∷◌, [], ◌++◌, rules, true, Some, None, sym, subst, ◌∙◌}
+use Rattle.std.proofs.Common.{◌≡◌, ◌∷◌, [], ◌++◌, rules, true, Some, None, sym, subst}
 use Rattle.dir_model.specs.Pods.{pod_of}
 use Rattle.folder_building.proofs.Copying.{ok_more, err_more}
 use Rattle.folder_building.proofs.Working.{worked_none, worked_wider}

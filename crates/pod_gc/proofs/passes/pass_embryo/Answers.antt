@@ -1,4 +1,4 @@
-use Rattle.std.proofs.Common.{◌≡◌, ◌∷◌, [], ◌++◌, rules, true, None, Ok, Err, sym, ap, subst, ◌∙◌}
+use Rattle.std.proofs.Common.{◌≡◌, ◌∷◌, [], ◌++◌, rules, true, None, Err, sym, ap, subst, ◌∙◌}
 use Rattle.dir_model.specs.declared.area.Area.TheVariants.{Embryo}
 use Rattle.area_locks.specs.declared.error.LockError.TheVariants as lock
 use Rattle.folder_building.proofs.Copying.{ok_more}
