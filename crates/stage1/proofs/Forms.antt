@@ -1,5 +1,5 @@
 -- The paths of notes are paths.
-use Rattle.std.proofs.Common.{arith, ◌≡◌, ◌≤◌, ℕ, true, nat_le, codes, List, ◌++◌, ◌∷◌, length, length-append, refl}
+use Rattle.std.proofs.Common.{arith, ◌≡◌, ◌≤◌, ℕ, true, nat_le, codes, List, ◌++◌, length, length-append, refl}
 use Rattle.std.proofs.lemmas.Bool.Decides.{nat_tests}
 use Rattle.dir_model.specs.Paths.{is_path}
 use Rattle.dir_model.specs.Trees.{mark_prefix}

@@ -1,5 +1,5 @@
 -- A process that has made no note in the pod may make each of them once.
-use Rattle.std.proofs.Common.{arith, ◌≡◌, ◌≤◌, ◌<◌, ℕ, zero, suc, ◌+◌, ◌==◌, Bool, true, false, ◌&&◌, ◌||◌, bytes_eq, List, [], ◌∷◌, ◌++◌, map, drop, get_or, refl, sym, ap, subst, ◌∙◌}
+use Rattle.std.proofs.Common.{arith, ◌≡◌, ◌≤◌, ℕ, zero, suc, ◌+◌, ◌==◌, Bool, true, false, bytes_eq, List, [], ◌∷◌, map, drop, get_or, refl, sym, ap, ◌∙◌}
 use Rattle.std.specs.List.{AllByRecursion, IsDistinct, list_any}
 use Rattle.std.proofs.lemmas.Map.Keys.{IsDistinct-head, IsDistinct-tail}
 use Rattle.std.proofs.lemmas.Slice.Eq.{bytes_eq-Decides}
@@ -16,12 +16,11 @@ use Rattle.dir_trait.specs.DirCalls.{DirAt}
 use Rattle.spawner.specs.declared.call.RootPlace.{RootPlace}
 use Rattle.spawner.specs.Conditions.{start_mark}
 use Rattle.pod_launches.specs.declared.start.AppStart.{AppStart}
-use Rattle.pod_launches.specs.Places.{run_spot}
 use Rattle.pod_launches.specs.Starts.{IsPlacedIn, ReadsStarts}
 use Rattle.pod_launches.proofs.Apart.{distinct_starts}
 use Rattle.stage1.specs.Notes.{mark_inner, status_inner, status_path}
 use Rattle.pod_launches.specs.Looks.{OnlyReadsPod}
-use Rattle.stage1.specs.Keeping.{once, noted, MayNote, mark_times, status_times, app_times, all_times, Keeps, IsFresh, KeepsOn, KeepsRules}
+use Rattle.stage1.specs.Keeping.{once, noted, MayNote, mark_times, status_times, app_times, all_times, Keeps, IsFresh, KeepsRules}
 
 -- a file of an app
 is_once : (b : Bool) → 1 ≤ once b → b ≡ true
@@ -61,11 +60,11 @@ same_app : (a b : RootPlace) (i : Inner) → 1 ≤ mark_times a i + status_times
 same_app a b i ha hb =
     one_of {P = a.app ≡ b.app} a i ha
     (λ ma. one_of {P = a.app ≡ b.app} b i hb
-      (λ mb. ap (λ (l : List ℕ). drop 8 l) (sym (same_path i (mark_inner a) ma) ∙ same_path i (mark_inner b) mb))
-      (λ sb. absurd (apart a.app b.app (sym (same_path i (mark_inner a) ma) ∙ same_path i (status_inner b) sb))))
+    (λ mb. ap (λ (l : List ℕ). drop 8 l) (sym (same_path i (mark_inner a) ma) ∙ same_path i (mark_inner b) mb))
+    (λ sb. absurd (apart a.app b.app (sym (same_path i (mark_inner a) ma) ∙ same_path i (status_inner b) sb))))
     (λ sa. one_of {P = a.app ≡ b.app} b i hb
-      (λ mb. absurd (apart b.app a.app (sym (same_path i (mark_inner b) mb) ∙ same_path i (status_inner a) sa)))
-      (λ sb. ap (λ (l : List ℕ). drop 25 l) (sym (same_path i (status_inner a) sa) ∙ same_path i (status_inner b) sb)))
+    (λ mb. absurd (apart b.app a.app (sym (same_path i (mark_inner b) mb) ∙ same_path i (status_inner a) sa)))
+    (λ sb. ap (λ (l : List ℕ). drop 25 l) (sym (same_path i (status_inner a) sa) ∙ same_path i (status_inner b) sb)))
 
 of_app : (root : RootPlace) (i : Inner) → 1 ≤ mark_times root i + status_times root i → i.spot.name ≡ root.spot.name
 of_app root i h = one_of {P = i.spot.name ≡ root.spot.name} root i h (λ m. same_name i (mark_inner root) m) (λ s. same_name i (status_inner root) s)
@@ -86,9 +85,9 @@ module _ (pod : PodId) where
   no_others app [] i p ps apart h = refl
   no_others app (other ∷ apps) i p ps apart h =
       let none : app_times other i ≡ 0 = or_none_at (app_times other i) (mark_or_status other.root i) (λ more.
-        let is : app.name ≡ other.name = sym (name_of app p) ∙ (same_app app.root other.root i h more ∙ name_of other ps.0) in
-        let e : false ≡ true = sym apart.0 ∙ (bytes_eq-Decides app.name other.name).1 is in
-        cc) in
+      let is : app.name ≡ other.name = sym (name_of app p) ∙ (same_app app.root other.root i h more ∙ name_of other ps.0) in
+      let e : false ≡ true = sym apart.0 ∙ (bytes_eq-Decides app.name other.name).1 is in
+      cc) in
       omega (arith, none, no_others app apps i p ps.1 apart.1 h)
 
   all_once : (apps : List AppStart) (i : Inner) → AllByRecursion (IsPlacedIn pod) apps → IsDistinct bytes_eq (map (λ a. a.name) apps) → all_times apps i ≤ 1

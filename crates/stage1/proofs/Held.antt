@@ -1,5 +1,5 @@
 -- A pod that was read and then run.
-use Rattle.std.proofs.Common.{◌≡◌, inl, inr, ℕ, Bool, true, List, [], refl, sym, ap, subst, ◌∙◌}
+use Rattle.std.proofs.Common.{◌≡◌, inl, inr, ℕ, Bool, true, List, [], refl, sym, ap, subst}
 use Rattle.std.specs.List.{AllByRecursion}
 use Rattle.ac_types.specs.Names.{IsAcName}
 use Rattle.dir_model.specs.declared.pod.PodId.{PodId}

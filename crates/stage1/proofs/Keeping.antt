@@ -22,13 +22,12 @@ use Rattle.dir_rules.specs.Rules.{allows, runs, deletes, has_note, spares, may_n
 use Rattle.dir_rules.specs.Seen.{inner_eq, learned}
 use Rattle.dir_rules.specs.Standing.{is_in, standing_replied}
 use Rattle.dir_trait.specs.DirCalls.{DirAt, DirCall}
-use Rattle.dir_trait.specs.Knowledge.{Knows}
 use Rattle.dir_trait.proofs.Knowing.{knows_call}
 use Rattle.pod_launches.proofs.Names.{app_name, no_slashes}
 use Rattle.spawner.specs.declared.call.RootPlace.{RootPlace}
 use Rattle.spawner.specs.Conditions.{start_mark}
 use Rattle.stage1.specs.Notes.{IsPlaced, mark_inner, status_inner, status_path}
-use Rattle.stage1.specs.Keeping.{Called, once, noted, MayNote, Noted, KnowsNoted, Keeps, mark_times, status_times}
+use Rattle.stage1.specs.Keeping.{Called, once, noted, MayNote, Noted, Keeps, mark_times, status_times}
 use Rattle.stage1.proofs.Noted.{inner_self}
 
 -- nothing was asked; one after the other; a bound more
@@ -53,19 +52,23 @@ noted_more : (t u : Inner → ℕ) (a b c : Seen) → Noted t a b → Noted u b 
 noted_more t u a b c ab bc = record { stands = bc.stands ∙ ab.stands; kept = bc.kept ∙ ab.kept; made = λ i. omega (arith, ab.made i, bc.made i) }
 
 pub keeps_more : {t u : Inner → ℕ} {a b c : DirAt} → Keeps t a b → Keeps u b c → Keeps (λ i. t i + u i) a c
-keeps_more {t} {u} ab bc = record { keep = λ s k may.
-    let one = ab.keep s k (may_first t u s may) in
-    let two = bc.keep one.known one.knows (may_second t u s one.known may one.noted) in
-    record { known = two.known; noted = noted_more t u s one.known two.known one.noted two.noted; knows = two.knows } }
+keeps_more {t} {u} ab bc = record {
+  keep = λ s k may.
+      let one = ab.keep s k (may_first t u s may) in
+      let two = bc.keep one.known one.knows (may_second t u s one.known may one.noted) in
+      record { known = two.known; noted = noted_more t u s one.known two.known one.noted two.noted; knows = two.knows };
+}
 
 pub keeps_wider : {t u : Inner → ℕ} {a b : DirAt} → ((i : Inner) → t i ≤ u i) → Keeps t a b → Keeps u a b
-keeps_wider {t} {u} wider ab = record { keep = λ s k may.
-    let one = ab.keep s k (record {
-      once_all = λ i. omega (arith, may.once_all i, wider i);
-      runs_it = λ i h. may.runs_it i (omega (arith, h, wider i));
-      spares_it = λ i h. may.spares_it i (omega (arith, h, wider i));
-    }) in
-    record { known = one.known; noted = record { stands = one.noted.stands; kept = one.noted.kept; made = λ i. omega (arith, one.noted.made i, wider i) }; knows = one.knows } }
+keeps_wider {t} {u} wider ab = record {
+  keep = λ s k may.
+      let one = ab.keep s k (record {
+        once_all = λ i. omega (arith, may.once_all i, wider i);
+        runs_it = λ i h. may.runs_it i (omega (arith, h, wider i));
+        spares_it = λ i h. may.spares_it i (omega (arith, h, wider i));
+      }) in
+      record { known = one.known; noted = record { stands = one.noted.stands; kept = one.noted.kept; made = λ i. omega (arith, one.noted.made i, wider i) }; knows = one.knows };
+}
 
 -- requests in a folder change nothing of what is held
 stands_file : (s : Standing) (inner : Inner) (p : Reply) → standing_replied s (MakeFileIn inner) p ≡ s
@@ -165,22 +168,24 @@ module _ (inner : Inner) (area : inner.spot.area ≡ Run) (form : (is_started_ma
   -- and then the folder is synced
   module _ (folder : Inner) (at : folder.spot ≡ inner.spot) (root : folder.path ≡ []) where
     pub keeps_synced : {observed : Bool} {a b c : DirAt} → observed ≡ true → DirCall observed a (MakeFileIn inner) Done b → Called observed (SyncIn folder) b c → Keeps (file_times inner) a c
-    keeps_synced t made c = record { keep = λ s k may.
-        let s' = seen_replied s (MakeFileIn inner) Done in
-        let n = file_noted s Done may in
-        let mine : runs s' folder.spot.name ≡ true = subst (λ x. runs s' x.name ≡ true) (sym at) (ap (λ (x : Standing). runs (record s' { standing = x }) inner.spot.name) n.stands ∙ may.runs_it inner (one_file inner)) in
-        let spared : deletes s' folder.spot.name ≡ false = subst (λ x. deletes s' x.name ≡ false) (sym at) (ap (λ (x : Standing). deletes (record s' { standing = x }) inner.spot.name) n.stands ∙ may.spares_it inner (one_file inner)) in
-        let here : folder.spot.area ≡ Run = ap (λ x. x.area) at ∙ area in
-        let empty : (is_empty folder.path || has_note s' folder) ≡ true = ap (λ (p : List ℕ). is_empty p || has_note s' folder) root in
-        record {
-          known = seen_replied s' (SyncIn folder) c.reply;
-          noted = record {
-            stands = stands_sync s'.standing folder c.reply ∙ n.stands;
-            kept = allowed s' (SyncIn folder) (may_sync s' folder here mine spared empty) ∙ n.kept;
-            made = λ i. subst (λ (l : List Inner). once (list_any (inner_eq i) l) ≤ noted s i + file_times inner i) (sym (notes_sync s' folder c.reply)) (n.made i);
+    keeps_synced t made c = record {
+      keep = λ s k may.
+          let s' = seen_replied s (MakeFileIn inner) Done in
+          let n = file_noted s Done may in
+          let mine : runs s' folder.spot.name ≡ true = subst (λ x. runs s' x.name ≡ true) (sym at) (ap (λ (x : Standing). runs (record s' { standing = x }) inner.spot.name) n.stands ∙ may.runs_it inner (one_file inner)) in
+          let spared : deletes s' folder.spot.name ≡ false = subst (λ x. deletes s' x.name ≡ false) (sym at) (ap (λ (x : Standing). deletes (record s' { standing = x }) inner.spot.name) n.stands ∙ may.spares_it inner (one_file inner)) in
+          let here : folder.spot.area ≡ Run = ap (λ x. x.area) at ∙ area in
+          let empty : (is_empty folder.path || has_note s' folder) ≡ true = ap (λ (p : List ℕ). is_empty p || has_note s' folder) root in
+          record {
+            known = seen_replied s' (SyncIn folder) c.reply;
+            noted = record {
+              stands = stands_sync s'.standing folder c.reply ∙ n.stands;
+              kept = allowed s' (SyncIn folder) (may_sync s' folder here mine spared empty) ∙ n.kept;
+              made = λ i. subst (λ (l : List Inner). once (list_any (inner_eq i) l) ≤ noted s i + file_times inner i) (sym (notes_sync s' folder c.reply)) (n.made i);
+            };
+            knows = knows_call t (knows_call t k refl refl made) refl refl c.called;
           };
-          knows = knows_call t (knows_call t k refl refl made) refl refl c.called;
-        } }
+    }
 
 -- a status: its file is made, then written, then synced
 module _ (inner : Inner) (area : inner.spot.area ≡ Run) (form : is_status_file inner.path ≡ true) (piece : List ℕ) where
@@ -200,29 +205,33 @@ module _ (inner : Inner) (area : inner.spot.area ≡ Run) (form : is_status_file
       }
 
   pub keeps_appended : {observed : Bool} {a b c : DirAt} → observed ≡ true → DirCall observed a (MakeFileIn inner) Done b → Called observed (AppendIn inner piece) b c → Keeps (file_times inner) a c
-  keeps_appended t made c = record { keep = λ s k may. record {
+  keeps_appended t made c = record {
+    keep = λ s k may. record {
       known = seen_replied (seen_replied s (MakeFileIn inner) Done) (AppendIn inner piece) c.reply;
       noted = appended s c.reply may;
       knows = knows_call t (knows_call t k refl refl made) refl refl c.called;
-    } }
+    };
+  }
 
   pub keeps_written : {observed : Bool} {a b c d : DirAt} → observed ≡ true → DirCall observed a (MakeFileIn inner) Done b → Called observed (AppendIn inner piece) b c → Called observed (SyncIn inner) c d → Keeps (file_times inner) a d
-  keeps_written t made ap_call sy_call = record { keep = λ s k may.
-      let s' = seen_replied s (MakeFileIn inner) Done in
-      let s'' = seen_replied s' (AppendIn inner piece) ap_call.reply in
-      let n = appended s ap_call.reply may in
-      let mine : runs s'' inner.spot.name ≡ true = ap (λ (x : Standing). runs (record s'' { standing = x }) inner.spot.name) n.stands ∙ may.runs_it inner (one_file inner) in
-      let spared : deletes s'' inner.spot.name ≡ false = ap (λ (x : Standing). deletes (record s'' { standing = x }) inner.spot.name) n.stands ∙ may.spares_it inner (one_file inner) in
-      let has : has_note s'' inner ≡ true = ap (list_any (inner_eq inner)) (notes_append s' inner piece ap_call.reply) ∙ has_file s inner area in
-      record {
-        known = seen_replied s'' (SyncIn inner) sy_call.reply;
-        noted = record {
-          stands = stands_sync s''.standing inner sy_call.reply ∙ n.stands;
-          kept = allowed s'' (SyncIn inner) (may_sync s'' inner area mine spared (or_last (is_empty inner.path) (has_note s'' inner) has)) ∙ n.kept;
-          made = λ i. subst (λ (l : List Inner). once (list_any (inner_eq i) l) ≤ noted s i + file_times inner i) (sym (notes_sync s'' inner sy_call.reply)) (n.made i);
+  keeps_written t made ap_call sy_call = record {
+    keep = λ s k may.
+        let s' = seen_replied s (MakeFileIn inner) Done in
+        let s'' = seen_replied s' (AppendIn inner piece) ap_call.reply in
+        let n = appended s ap_call.reply may in
+        let mine : runs s'' inner.spot.name ≡ true = ap (λ (x : Standing). runs (record s'' { standing = x }) inner.spot.name) n.stands ∙ may.runs_it inner (one_file inner) in
+        let spared : deletes s'' inner.spot.name ≡ false = ap (λ (x : Standing). deletes (record s'' { standing = x }) inner.spot.name) n.stands ∙ may.spares_it inner (one_file inner) in
+        let has : has_note s'' inner ≡ true = ap (list_any (inner_eq inner)) (notes_append s' inner piece ap_call.reply) ∙ has_file s inner area in
+        record {
+          known = seen_replied s'' (SyncIn inner) sy_call.reply;
+          noted = record {
+            stands = stands_sync s''.standing inner sy_call.reply ∙ n.stands;
+            kept = allowed s'' (SyncIn inner) (may_sync s'' inner area mine spared (or_last (is_empty inner.path) (has_note s'' inner) has)) ∙ n.kept;
+            made = λ i. subst (λ (l : List Inner). once (list_any (inner_eq i) l) ≤ noted s i + file_times inner i) (sym (notes_sync s'' inner sy_call.reply)) (n.made i);
+          };
+          knows = knows_call t (knows_call t (knows_call t k refl refl made) refl refl ap_call.called) refl refl sy_call.called;
         };
-        knows = knows_call t (knows_call t (knows_call t k refl refl made) refl refl ap_call.called) refl refl sy_call.called;
-      } }
+  }
 
 -- the paths
 over_8 : (n : ℕ) → 9 ≤ n → nat_lt 8 n ≡ true

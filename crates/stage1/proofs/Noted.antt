@@ -1,6 +1,5 @@
 -- What notes in a pod's folder leave: whatever runs still runs, and what was done was done.
 use Rattle.std.proofs.Common.{◌≡◌, ◌⊎◌, inl, inr, ℕ, Bool, true, false, ◌&&◌, bytes_eq, List, [], ◌∷◌, ◌++◌, Ok, refl, sym, ap, subst, ◌∙◌, append_assoc}
-use Rattle.dir_model.specs.declared.area.Area.{Area}
 use Rattle.dir_model.specs.declared.area.Area.TheVariants.{Run}
 use Rattle.dir_model.specs.declared.event.Event.{Event}
 use Rattle.dir_model.specs.declared.item.Inner.{Inner}
@@ -8,9 +7,8 @@ use Rattle.dir_model.specs.declared.request.Request.{Request}
 use Rattle.dir_model.specs.declared.request.Request.TheVariants.{MakeFileIn, AppendIn, SyncIn}
 use Rattle.dir_model.specs.declared.request.Reply.{Reply}
 use Rattle.dir_model.specs.declared.request.Reply.TheVariants.{Done}
-use Rattle.dir_model.specs.declared.spot.Spot.{Spot}
 use Rattle.dir_model.specs.Areas.{is_stage}
-use Rattle.dir_model.specs.Calls.{CallStep, TookPlace, LeftNothing, is_begin, is_kill, event}
+use Rattle.dir_model.specs.Calls.{TookPlace, LeftNothing, is_begin, is_kill, event}
 use Rattle.dir_model.specs.Local.{IsActive, local_replied}
 use Rattle.dir_model.specs.Replies.{is_late_reply}
 use Rattle.dir_model.specs.State.{spot_eq}
@@ -29,7 +27,7 @@ use Rattle.dir_trait.proofs.Knowing.{knows_call}
 use Rattle.folder_building.specs.Work.{Worked}
 use Rattle.folder_building.proofs.Working.{append_call, worked_wider}
 use Rattle.spawner.specs.declared.call.RootPlace.{RootPlace}
-use Rattle.spawner.specs.Conditions.{start_mark, makes_mark, syncs_folder, did, MarkSynced, StillRuns, MayStart}
+use Rattle.spawner.specs.Conditions.{start_mark, did, MarkSynced, StillRuns}
 use Rattle.spawner.proofs.Marking.{mark_kept, mark_synced}
 use Rattle.stage1.specs.Notes.{IsPlaced, status_path, status_text, status_inner, makes_status, writes_status, syncs_status, DidInTurn, WroteStatus, anything, StaysAble, MadeFile, Appended, Synced}
 

@@ -2,19 +2,19 @@
 use Rattle.std.proofs.Common.{◌≡◌, ℕ, ◌==◌, Bool, true, false, cond, Option, Some, None, List, [], ◌∷◌, ◌++◌, length, refl, sym, ap, subst, ◌∙◌}
 use Rattle.spawner.specs.declared.call.Child.{Child}
 use Rattle.spawner.specs.declared.call.SpawnCall.{SpawnCall}
-use Rattle.spawner.specs.declared.call.SpawnRequest.TheVariants.{Ready, Start, Wait}
+use Rattle.spawner.specs.declared.call.SpawnRequest.TheVariants.{Wait}
 use Rattle.spawner.specs.declared.call.SpawnReply.{SpawnReply}
-use Rattle.spawner.specs.declared.call.SpawnReply.TheVariants.{Started, Ended, Refused}
+use Rattle.spawner.specs.declared.call.SpawnReply.TheVariants.{Ended, Refused}
 use Rattle.spawner.specs.Calls.{SpawnerAt, call, answers}
 use Rattle.pod_launches.specs.declared.start.AppStart.{AppStart}
 use Rattle.stage1.specs.declared.stand.Stand.{Stand}
 use Rattle.stage1.specs.declared.stand.Stand.TheVariants.{Running}
 use Rattle.stage1.specs.declared.stand.Stand.TheVariants as stand
-use Rattle.stage1.specs.Sequences.{Ran, Beginning, ready_call, start_call, wait_call, program_calls, handler_calls, handler_status, main_calls, first_calls}
+use Rattle.stage1.specs.Sequences.{Ran, Beginning, ready_call, start_call, wait_call, handler_calls, handler_status, main_calls, first_calls}
 use Rattle.stage1.specs.Asking.{Asks}
 use Rattle.stage1.specs.Cutting.{IsCutOff, AreWaitedFor}
-use Rattle.stage1.specs.Programs.{ready_request, start_request, wait_request, WasRefused, RanProgram, ProgramCut, RanHandler, HandlerCut}
-use Rattle.stage1.specs.Beginnings.{prelude_calls, going_calls, stand_of, RanPrelude, PreludeCut, WentOn, GoingCut, HasBegun, IsBrokenOff}
+use Rattle.stage1.specs.Programs.{ready_request, start_request, wait_request, WasRefused, ProgramCut, RanHandler, HandlerCut}
+use Rattle.stage1.specs.Beginnings.{prelude_calls, going_calls, RanPrelude, PreludeCut, WentOn, GoingCut, HasBegun, IsBrokenOff}
 use Rattle.stage1.proofs.Asked.{asks_none, asks_more}
 use Rattle.stage1.proofs.Counting.{waited_none, waited_more}
 use Rattle.stage1.proofs.Cuts.{cut_none, cut_behind, cut_before, cut_refused}

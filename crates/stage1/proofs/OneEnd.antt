@@ -1,5 +1,5 @@
 -- How one app ends, and how it is only waited for.
-use Rattle.std.proofs.Common.{arith, ◌≡◌, ℕ, suc, ◌+◌, ◌==◌, Bool, true, false, cond, List, [], ◌∷◌, ◌++◌, filter, length, Result, Ok, Err, refl, sym, ap, subst, ◌∙◌}
+use Rattle.std.proofs.Common.{arith, ◌≡◌, ℕ, suc, ◌==◌, Bool, true, false, cond, List, [], ◌∷◌, ◌++◌, filter, length, Result, Ok, Err, refl, ap}
 use Rattle.std.specs.Prelude.{IfOk, IfErr}
 use Rattle.spawner.specs.declared.call.Child.{Child}
 use Rattle.spawner.specs.declared.call.SpawnCall.{SpawnCall}
@@ -10,13 +10,13 @@ use Rattle.spawner.specs.Calls.{SpawnerAt, call}
 use Rattle.pod_launches.specs.declared.start.AppStart.{AppStart}
 use Rattle.stage1.specs.declared.stand.Stand.{Stand}
 use Rattle.stage1.specs.declared.stand.Stand.TheVariants.{Running, Ended}
-use Rattle.stage1.specs.Sequences.{Ran, wait_call, handler_calls}
+use Rattle.stage1.specs.Sequences.{wait_call, handler_calls}
 use Rattle.stage1.specs.Asking.{Asks}
-use Rattle.stage1.specs.Cutting.{AreWaitedFor, starts_of, waits_for, waits_on}
-use Rattle.stage1.specs.Beginnings.{IsWaitFor, WaitFor, running}
+use Rattle.stage1.specs.Cutting.{AreWaitedFor, waits_for, waits_on}
+use Rattle.stage1.specs.Beginnings.{WaitFor}
 use Rattle.stage1.specs.Programs.{wait_request, WasRefused, RanHandler, HandlerCut}
 use Rattle.stage1.specs.Endings.{times, AreWaitedBeside, StartsNone, WasWaitedFor, end_calls, HasEnded, IsEndCut, EndsSo, EndsCut, WereWaitedFor}
-use Rattle.stage1.proofs.Asked.{asks_none, asks_more}
+use Rattle.stage1.proofs.Asked.{asks_more}
 use Rattle.stage1.proofs.Counting.{starts_more, waits_more}
 use Rattle.stage1.proofs.Cuts.{cut_whole, cut_before, cut_behind, cut_refused}
 use Rattle.stage1.proofs.OneApp.{no_run, handler_waited}

@@ -1,9 +1,9 @@
 -- Apps and their stands, one more and one after the other.
-use Rattle.std.proofs.Common.{arith, ◌≡◌, ◌<◌, ◌+◌, ℕ, zero, suc, Bool, true, List, [], ◌∷◌, ◌++◌, length, take, drop, map, get_or, refl, sym, ap, subst, ◌∙◌, append-nil}
+use Rattle.std.proofs.Common.{arith, ◌≡◌, ◌<◌, ◌+◌, ℕ, zero, suc, Bool, List, [], ◌∷◌, ◌++◌, length, take, drop, map, get_or, sym, ap, subst, ◌∙◌, append-nil}
 use Rattle.std.specs.List.{AllByRecursion, flat_map}
 use Rattle.std.proofs.lemmas.Grind.{flat_map-append}
 use Rattle.std.proofs.lemmas.List.{take_more, drop_more, take-append-drop}
-use Rattle.dir_model.proofs.Lists.{all_push, all_weaker, map_push}
+use Rattle.dir_model.proofs.Lists.{all_weaker, map_push}
 use Rattle.dir_trait.specs.DirCalls.{DirAt}
 use Rattle.spawner.specs.declared.call.Child.{Child}
 use Rattle.spawner.specs.declared.call.RootPlace.{RootPlace}
@@ -15,8 +15,8 @@ use Rattle.stage1.specs.declared.stand.Stand.{Stand}
 use Rattle.stage1.specs.declared.stand.Stand.TheVariants.{Running, Ended}
 use Rattle.stage1.specs.Sequences.{Beginning, first_calls}
 use Rattle.stage1.specs.Asking.{Asks, StartedIn}
-use Rattle.stage1.specs.Notes.{WroteStatus, StaysAble}
-use Rattle.stage1.specs.Beginnings.{stand_of, MayStartEach, IsStartedIn, AreStartedIn, IsWritten, AreWritten, HasBegun, IsBrokenOff, HaveBegun, AreBrokenOff}
+use Rattle.stage1.specs.Notes.{StaysAble}
+use Rattle.stage1.specs.Beginnings.{stand_of, MayStartEach, IsStartedIn, AreStartedIn, IsWritten, AreWritten, HasBegun, HaveBegun}
 use Rattle.stage1.proofs.Asked.{asks_none, asks_more}
 
 -- an element of a list

@@ -1,5 +1,5 @@
 -- How often the notes of apps are made: each once.
-use Rattle.std.proofs.Common.{arith, ◌≡◌, ◌≤◌, ℕ, zero, suc, ◌+◌, Result, Ok, Err, Bool, true, false, List, [], ◌∷◌, ◌++◌, length, take, drop, refl, sym, ap, subst, ◌∙◌}
+use Rattle.std.proofs.Common.{arith, ◌≡◌, ◌≤◌, ℕ, zero, suc, ◌+◌, Result, Ok, Err, List, [], ◌∷◌, ◌++◌, length, take, drop, refl, subst}
 use Rattle.dir_model.specs.declared.item.Inner.{Inner}
 use Rattle.dir_trait.specs.DirCalls.{DirAt}
 use Rattle.pod_launches.specs.declared.start.AppStart.{AppStart}

@@ -1,17 +1,16 @@
 -- A run as a whole: each app begins and ends, and each child is waited for as often as it was started.
-use Rattle.std.proofs.Common.{arith, ◌≡◌, ◌+◌, ℕ, suc, ◌==◌, Bool, true, false, cond, List, [], ◌∷◌, ◌++◌, map, filter, length, length-append, refl, sym, ap, subst, ◌∙◌, append-nil, append_assoc}
-use Rattle.std.specs.List.{AllByRecursion, flat_map}
+use Rattle.std.proofs.Common.{arith, ◌≡◌, ◌+◌, ℕ, ◌==◌, Bool, true, false, cond, List, [], ◌∷◌, ◌++◌, map, filter, length, length-append, refl, sym, ap, subst, ◌∙◌, append-nil}
+use Rattle.std.specs.List.{flat_map}
 use Rattle.std.proofs.lemmas.Grind.{flat_map-append}
 use Rattle.std.proofs.lemmas.List.{map-append}
 use Rattle.std.proofs.lemmas.List.Elements.{filter-append}
 use Rattle.spawner.specs.declared.call.Child.{Child}
 use Rattle.spawner.specs.declared.call.SpawnCall.{SpawnCall}
-use Rattle.spawner.specs.declared.call.SpawnRequest.{SpawnRequest}
 use Rattle.spawner.specs.Calls.{SpawnerAt}
 use Rattle.pod_launches.specs.declared.start.AppStart.{AppStart}
 use Rattle.stage1.specs.declared.stand.Stand.{Stand}
 use Rattle.stage1.specs.declared.stand.Stand.TheVariants.{Running, Ended}
-use Rattle.stage1.specs.Sequences.{Ran, Beginning, Ending, ready_call, start_call, wait_call, handler_calls, first_status, starts_main, main_calls, first_calls, later_calls, status_of, launch_sequence}
+use Rattle.stage1.specs.Sequences.{Ran, Beginning, Ending, start_call, wait_call, handler_calls, first_status, starts_main, main_calls, first_calls, later_calls, status_of, launch_sequence}
 use Rattle.stage1.specs.Asking.{Asks}
 use Rattle.stage1.specs.Cutting.{IsCutOff, starts_of, waits_for, AreWaitedFor, is_wait, AreWaits, IsCutShort}
 use Rattle.stage1.specs.Beginnings.{running, stand_of, WaitFor, HaveBegun, AreBrokenOff}

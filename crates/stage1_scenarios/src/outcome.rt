@@ -1,6 +1,8 @@
 // What came of a pod that process 1 claims and runs.
-ghost use Rattle.std.specs.Prelude.{◌≡◌};
+ghost use Rattle.std.specs.Prelude.{◌≡◌, true, []};
+ghost use Rattle.dir_model.specs.Local.{IsActive};
 ghost use Rattle.dir_trait.specs.Local.{nothing_local};
+ghost use Rattle.stage1_scenarios.specs.Ready.{IsReady};
 
 use crate::stage::{POD, intent};
 use conformance::keeps_rules;
@@ -77,18 +79,23 @@ fn came_of(answer: &Result<Vec<AppEnd>, RunError>) -> Came {
     }
 }
 
+// Process 1 has begun, and has nothing open.
+fn claim_and_run<D: Dir, S: Spawner>(alloc: Global, dir: &mut D, spawner: &mut S) -> Came
+    requires active { IsActive (D.shown dir.old).local }
+    requires alone { (D.shown dir.old).local.holdings ≡ [] }
+    requires ready { D.observed ≡ true → IsReady (D.shown dir.old) }
+{
+    match claim(alloc, dir, POD) {
+        Ok(owned) => came_of(&run_pod(alloc, dir, spawner, owned, ADDRESS)),
+        Err(_) => Came::NotClaimed,
+    }
+}
+
 fn run<D: Dir, S: Spawner>(alloc: Global, dir: &mut D, spawner: &mut S) -> Came
     requires { (D.shown dir.old).local ≡ nothing_local }
 {
-    if dir.begin(alloc, intent(Kind::RunPrepared, 1)).is_err() {
-        return Came::NotClaimed;
-    }
-    claim_and_run(alloc, dir, spawner)
-}
-
-fn claim_and_run<D: Dir, S: Spawner>(alloc: Global, dir: &mut D, spawner: &mut S) -> Came {
-    match claim(alloc, dir, POD) {
-        Ok(owned) => came_of(&run_pod(alloc, dir, spawner, owned, ADDRESS)),
+    match dir.begin(alloc, intent(Kind::RunPrepared, 1)) {
+        Ok(()) => claim_and_run(alloc, dir, spawner),
         Err(_) => Came::NotClaimed,
     }
 }

@@ -37,7 +37,9 @@ fn spot(area: Area) -> Spot {
 }
 
 /// What a process begins with. Each draws an identity and a token of its own.
-pub fn intent(kind: Kind, process: u32) -> Intent {
+pub fn intent(kind: Kind, process: u32) -> Intent
+    ensures { result.kind ≡ kind }
+{
     let [drawn, _, _, _] = process.to_le_bytes();
     Intent {
         kind,

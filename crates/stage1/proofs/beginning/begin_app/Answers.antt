@@ -1,6 +1,6 @@
-use Rattle.std.proofs.Common.{rules, ◌≡◌, ◌≤◌, true, arith, sym, subst, refl, ◌∙◌}
+use Rattle.std.proofs.Common.{rules, ◌≡◌, ◌≤◌, true, arith, sym, subst}
 use Rattle.dir_model.specs.Local.{IsActive, Local}
-use Rattle.folder_building.proofs.Working.{worked_more, worked_none}
+use Rattle.folder_building.proofs.Working.{worked_more}
 use Rattle.spawner.specs.Conditions.{MayStart}
 use Rattle.stage1.specs.Beginnings.{WentOn, GoingCut, HasBegun, IsBrokenOff}
 use Rattle.stage1.specs.Refusals.{SpawnCause, NoteCause, RunCause}

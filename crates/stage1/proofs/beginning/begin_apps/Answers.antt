@@ -1,4 +1,4 @@
-use Rattle.std.proofs.Common.{rules, arith, ◌≡◌, ◌≤◌, ◌+◌, true, ℕ, List, [], ◌∷◌, ◌++◌, length, length-append, length-take, take, drop, refl, sym, ap, subst, ◌∙◌}
+use Rattle.std.proofs.Common.{rules, arith, ◌≡◌, ◌+◌, ℕ, List, [], ◌∷◌, ◌++◌, length, length-append, length-take, take, drop, refl, sym, ap, subst, ◌∙◌}
 use Rattle.std.proofs.lemmas.List.{take_all}
 use Rattle.dir_model.proofs.Lists.{all_push}
 use Rattle.dir_model.specs.declared.spot.Spot.{Spot}
@@ -15,7 +15,7 @@ use Rattle.stage1.proofs.Results.{if_err, err_same, any_err}
 use Rattle.stage1.proofs.Noted.{stays_none, stays_more, worked_any}
 use Rattle.stage1.proofs.Causes.{run_after}
 use Rattle.stage1.proofs.Pairs.{at_place, take_next, parted_at, are_started_still, started_push, are_written_still, written_push, may_still, begun_none, begun_more, started_none, written_none}
-use Rattle.stage1.specs.Keeping.{Keeps, all_begun_times, begun_times, beginning_times}
+use Rattle.stage1.specs.Keeping.{Keeps, all_begun_times}
 use Rattle.stage1.proofs.Keeping.{keeps_none}
 use Rattle.stage1.proofs.Times.{keeps_push, keeps_broken}
 use Rattle.stage1.proofs.beginning.begin_apps.Goals as goal

@@ -1,4 +1,4 @@
-use Rattle.std.proofs.Common.{rules, ◌≡◌, ◌==◌, false, sym, subst}
+use Rattle.std.proofs.Common.{rules, ◌≡◌, ◌==◌, false}
 use Rattle.std.proofs.lemmas.Bool.Decides.{nat_tests}
 use Rattle.folder_building.proofs.Working.{worked_none}
 use Rattle.stage1.proofs.Noted.{stays_none}

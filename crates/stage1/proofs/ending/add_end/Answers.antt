@@ -1,4 +1,4 @@
-use Rattle.std.proofs.Common.{rules, ◌≡◌, true}
+use Rattle.std.proofs.Common.{rules}
 use Rattle.stage1.specs.Endings.{EndsCut}
 use Rattle.stage1.specs.Refusals.{RunCause}
 use Rattle.stage1.proofs.Results.{err_same, any_err}

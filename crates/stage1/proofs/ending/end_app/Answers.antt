@@ -1,9 +1,8 @@
-use Rattle.std.proofs.Common.{◌≡◌, true, refl, sym, subst}
+use Rattle.std.proofs.Common.{refl, sym, subst}
 use Rattle.folder_building.proofs.Working.{worked_none}
 use Rattle.stage1.specs.declared.stand.Stand.{Stand}
 use Rattle.stage1.specs.Beginnings.{IsStartedIn, IsWritten}
 use Rattle.stage1.specs.Endings.{HasEnded, IsEndCut, EndsSo, EndsCut}
-use Rattle.stage1.specs.Notes.{WroteStatus}
 use Rattle.stage1.proofs.Results.{if_ok, if_err}
 use Rattle.stage1.proofs.Asked.{asks_none}
 use Rattle.stage1.proofs.Noted.{stays_none}

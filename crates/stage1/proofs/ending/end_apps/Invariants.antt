@@ -1,4 +1,4 @@
-use Rattle.std.proofs.Common.{◌≡◌, true, take, length}
+use Rattle.std.proofs.Common.{◌≡◌, true, take}
 use Rattle.dir_model.specs.declared.spot.Spot.{Spot}
 use Rattle.folder_building.specs.Work.{Worked}
 use Rattle.stage1.specs.Notes.{anything, notes_at, StaysAble}

@@ -1,5 +1,4 @@
-use Rattle.std.proofs.Common.{rules, ◌≡◌, true, refl}
-use Rattle.dir_model.specs.Local.{IsActive, Local}
+use Rattle.std.proofs.Common.{rules}
 use Rattle.stage1.specs.Endings.{IsEndCut}
 use Rattle.stage1.specs.Refusals.{RunCause}
 use Rattle.stage1.proofs.Results.{err_same, any_err}

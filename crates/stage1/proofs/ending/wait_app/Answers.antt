@@ -1,4 +1,4 @@
-use Rattle.stage1.proofs.Causes.{by_note, by_spawn, run_after}
+use Rattle.stage1.proofs.Causes.{by_spawn}
 use Rattle.folder_building.proofs.Working.{worked_none}
 use Rattle.stage1.proofs.Noted.{stays_none}
 use Rattle.stage1.proofs.OneEnd.{waited_done, waited_refused}

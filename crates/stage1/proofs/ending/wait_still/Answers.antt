@@ -1,10 +1,8 @@
-use Rattle.std.proofs.Common.{◌≡◌, true, [], ◌∷◌, refl, sym, subst}
-use Rattle.folder_building.proofs.Working.{worked_none}
+use Rattle.std.proofs.Common.{[], ◌∷◌, refl, sym, subst}
 use Rattle.stage1.specs.declared.stand.Stand.{Stand}
 use Rattle.stage1.specs.Beginnings.{IsStartedIn, running}
 use Rattle.stage1.specs.Endings.{WereWaitedFor}
 use Rattle.stage1.proofs.Asked.{asks_none}
-use Rattle.stage1.proofs.Noted.{stays_none}
 use Rattle.stage1.proofs.OneEnd.{waited_either}
 use Rattle.stage1.specs.Keeping.{Keeps, end_times}
 use Rattle.stage1.proofs.Keeping.{keeps_none}

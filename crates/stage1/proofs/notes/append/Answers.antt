@@ -1,6 +1,5 @@
 use Rattle.std.proofs.Common.{Ok, Err, refl, ap, sym, subst}
 use Rattle.dir_model.specs.declared.request.Request.TheVariants.{AppendIn}
-use Rattle.dir_model.specs.declared.request.Reply.TheVariants.{Refused}
 use Rattle.dir_model.specs.Replies.{append_reply}
 use Rattle.folder_building.specs.Making.{inner_at}
 use Rattle.folder_building.proofs.Working.{append_call, worked_append, at_spot}

@@ -1,7 +1,7 @@
 use Rattle.std.proofs.Common.{rules, ◌≡◌, true, refl, sym, subst, ℕ, List, []}
 use Rattle.dir_model.specs.Local.{IsActive, Local}
 use Rattle.folder_building.proofs.Working.{worked_more}
-use Rattle.spawner.specs.Conditions.{start_mark, MayStart}
+use Rattle.spawner.specs.Conditions.{MayStart}
 use Rattle.stage1.specs.Notes.{MadeFile, Synced}
 use Rattle.stage1.specs.Refusals.{NoteCause}
 use Rattle.stage1.proofs.Results.{if_ok, if_err, err_same}
@@ -9,7 +9,7 @@ use Rattle.stage1.proofs.Noted.{stays_more, marked}
 use Rattle.stage1.proofs.Causes.{note_after}
 use Rattle.dir_model.specs.declared.request.Request.TheVariants.{MakeFileIn}
 use Rattle.folder_building.specs.Making.{inner_at}
-use Rattle.stage1.specs.Keeping.{Called, Keeps, mark_times}
+use Rattle.stage1.specs.Keeping.{Called}
 use Rattle.stage1.proofs.Keeping.{keeps_mark, keeps_marked}
 use Rattle.stage1.proofs.notes.make_mark.Goals as goal
 

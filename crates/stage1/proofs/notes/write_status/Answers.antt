@@ -1,4 +1,4 @@
-use Rattle.std.proofs.Common.{rules, ◌≡◌, true, ℕ, List, sym, ap, subst, ◌∙◌}
+use Rattle.std.proofs.Common.{rules, ◌≡◌, true, ℕ, List, sym, subst, ◌∙◌}
 use Rattle.dir_model.specs.Local.{IsActive, Local}
 use Rattle.folder_building.proofs.Working.{worked_more}
 use Rattle.stage1.specs.Notes.{status_path, status_text, MadeFile, Appended, Synced, WroteStatus}
@@ -8,7 +8,7 @@ use Rattle.stage1.proofs.Noted.{stays_more, wrote_status}
 use Rattle.stage1.proofs.Causes.{note_after}
 use Rattle.dir_model.specs.declared.request.Request.TheVariants.{MakeFileIn, AppendIn, SyncIn}
 use Rattle.folder_building.specs.Making.{inner_at}
-use Rattle.stage1.specs.Keeping.{Called, Keeps, status_times}
+use Rattle.stage1.specs.Keeping.{Called}
 use Rattle.stage1.proofs.Keeping.{keeps_status, keeps_part, keeps_whole}
 use Rattle.stage1.proofs.notes.write_status.Goals as goal
 

@@ -1,4 +1,4 @@
-use Rattle.std.proofs.Common.{Option, None, Some, ℕ, List, refl, sym, subst}
+use Rattle.std.proofs.Common.{Option, ℕ, List, refl, sym, subst}
 use Rattle.stage1.specs.Programs.{RanProgram, ProgramCut, RanHandler, HandlerCut}
 use Rattle.stage1.proofs.Results.{if_ok, if_err}
 use Rattle.stage1.proofs.Asked.{asks_none}

@@ -1,7 +1,7 @@
 use Rattle.std.proofs.Common.{[], ◌∷◌}
 use Rattle.stage1.specs.Asking.{Asks}
 use Rattle.stage1.specs.Sequences.{start_call, wait_call}
-use Rattle.stage1.specs.Programs.{wait_request, start_request, WasRefused, RanProgram, ProgramCut}
+use Rattle.stage1.specs.Programs.{wait_request, WasRefused, RanProgram, ProgramCut}
 use Rattle.stage1.specs.Refusals.{SpawnCause}
 use Rattle.stage1.proofs.Results.{if_ok, if_err}
 use Rattle.stage1.proofs.Asked.{asks_more}

@@ -1,6 +1,5 @@
-use Rattle.std.proofs.Common.{◌≡◌, true, List, sym, subst, ◌∙◌}
+use Rattle.std.proofs.Common.{◌≡◌, List, sym, subst}
 use Rattle.dir_model.specs.Local.{IsActive, Local}
-use Rattle.dir_model.specs.declared.spot.Spot.{Spot}
 use Rattle.folder_building.proofs.Working.{worked_more}
 use Rattle.spawner.specs.Conditions.{MayStart}
 use Rattle.pod_launches.specs.declared.start.AppStart.{AppStart}

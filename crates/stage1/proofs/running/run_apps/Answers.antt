@@ -1,16 +1,15 @@
-use Rattle.std.proofs.Common.{rules, arith, ◌≡◌, ◌≤◌, true, refl, sym, ap, subst, ◌∙◌, List, ℕ, length, take}
+use Rattle.std.proofs.Common.{arith, ◌≡◌, sym, ap, subst, ◌∙◌, List, length, take}
 use Rattle.dir_model.specs.Local.{IsActive, Local}
 use Rattle.folder_building.proofs.Working.{worked_none, worked_more}
 use Rattle.pod_launches.specs.declared.start.AppStart.{AppStart}
 use Rattle.stage1.specs.declared.stand.Stand.{Stand}
-use Rattle.stage1.specs.declared.error.Fault.TheVariants.{NoMemory}
 use Rattle.std.proofs.lemmas.List.{take_all}
 use Rattle.stage1.specs.Beginnings.{MayStartEach, AreStartedIn, AreWritten, running}
 use Rattle.stage1.specs.Cutting.{IsCutShort}
 use Rattle.stage1.specs.Endings.{HaveEnded, AreEndsBroken, WereWaitedFor}
 use Rattle.stage1.specs.Refusals.{RunCause}
 use Rattle.stage1.specs.Runs.{HaveRun}
-use Rattle.stage1.proofs.Results.{if_ok, if_err, err_same, any_err}
+use Rattle.stage1.proofs.Results.{if_ok, if_err, any_err}
 use Rattle.stage1.proofs.Noted.{stays_none, stays_more}
 use Rattle.stage1.proofs.Causes.{run_after, run_before}
 use Rattle.stage1.proofs.Whole.{have_run, cut_nothing, cut_begun, cut_ended}

@@ -1,4 +1,4 @@
-use Rattle.std.proofs.Common.{◌≡◌, true, ap, Err, sym, subst, List}
+use Rattle.std.proofs.Common.{ap, Err, sym, subst, List}
 use Rattle.std.specs.List.{AllByRecursion}
 use Rattle.dir_model.specs.Local.{IsActive, Local}
 use Rattle.pod_launches.specs.declared.start.AppStart.{AppStart}
@@ -7,7 +7,7 @@ use Rattle.pod_launches.specs.Starts.{IsPlacedIn}
 use Rattle.stage1.specs.declared.error.RunError.{RunError}
 use Rattle.stage1.specs.Cutting.{IsCutShort}
 use Rattle.stage1.specs.Runs.{HasRunStarts, HasRunHeld, StopCause, IsRefusedRun}
-use Rattle.stage1.proofs.Results.{if_ok, if_err, if_errs}
+use Rattle.stage1.proofs.Results.{if_ok, if_errs}
 use Rattle.stage1.proofs.Held.{in_run, at_run, runs_each, still_runs, worked_reads, worked_runs, refused_run, refused_load}
 use Rattle.stage1.specs.Keeping.{Keeps, all_times}
 use Rattle.stage1.proofs.Fresh.{keeps_reads, keeps_run}

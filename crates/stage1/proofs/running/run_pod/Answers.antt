@@ -1,4 +1,4 @@
-use Rattle.std.proofs.Common.{arith, ◌≡◌, true, refl, sym, ap, subst, ◌∙◌}
+use Rattle.std.proofs.Common.{arith, sym, ap, subst, ◌∙◌}
 use Rattle.dir_model.specs.Local.{IsActive, IsOpen, Local, without}
 use Rattle.dir_model.specs.declared.request.Request.TheVariants.{Close}
 use Rattle.dir_model.specs.declared.request.Reply.TheVariants.{Done}
