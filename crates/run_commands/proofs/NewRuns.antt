@@ -1,5 +1,5 @@
 -- The command `run`: from the making and the run to what is told, and what the process knows and has open.
-use Rattle.std.proofs.Common.{◌≡◌, ◌⊎◌, inl, inr, ◌≤◌, ℕ, Bool, true, false, not, ◌&&◌, ◌||◌, List, [], ◌∷◌, Some, Ok, Err, IsErrOf, IfErr, refl, sym, ap, subst, ◌∙◌, arith}
+use Rattle.std.proofs.Common.{◌≡◌, ◌⊎◌, inl, inr, ◌≤◌, ℕ, Bool, true, false, not, ◌&&◌, ◌||◌, List, [], ◌∷◌, Some, Result, Ok, Err, IsErrOf, IfErr, refl, sym, ap, subst, ◌∙◌, arith}
 use Rattle.ac_types.specs.declared.image_ref.ImageRef.{ImageRef}
 use Rattle.dir_model.specs.declared.area.Area.TheVariants as area
 use Rattle.dir_model.specs.declared.intent.Draw.{Draw}
@@ -25,7 +25,7 @@ use Rattle.folder_building.specs.Work.{Worked}
 use Rattle.lifecycle.specs.Executions.{IsConforming}
 use Rattle.pod_ownership.specs.declared.owned.Owned.{Owned}
 use Rattle.pod_ownership.specs.Running.{IsOwned, RunsPod}
-use Rattle.pod_making.specs.Progress.{at_work, nothing_made, handed, own_held}
+use Rattle.pod_making.specs.Progress.{at_work, nothing_made, handed, own_held, and_own}
 use Rattle.pod_making.specs.Work.{From, HasOwnFolder}
 use Rattle.pod_making.specs.Work as making
 use Rattle.pod_build.specs.declared.error.BuildError.{BuildError}
@@ -57,6 +57,11 @@ kept_pod draw m (built.Prepared pod) answer = absurd answer
 
 pub kept_owned : (draw : PodId) (m : Local) (made : Built) (owned : Owned) → made ≡ built.Running owned → IsAnswer true draw m made → IsOwned draw m owned
 kept_owned draw m made owned is answer = subst (λ (b : Built). IsAnswer true draw m b) is answer
+
+-- what is open then
+pub made_went : {observed : Bool} {asks : Request → Bool} {a b : DirAt} (m : Local) (draw : PodId) (r : Result Built BuildError) (made : Built) (owned : Owned) → r ≡ Ok made → made ≡ built.Running owned → making.Went observed asks (with_built m draw r) a b → making.Went observed asks (and_own m draw owned.own) a b
+made_went {observed} {asks} {a} {b} m draw r made owned is kept w =
+    subst (λ (x : Built). making.Went observed asks (with_built m draw (Ok x)) a b) kept (subst (λ (x : Result Built BuildError). making.Went observed asks (with_built m draw x) a b) is w)
 
 -- its requests
 prepares_in : (draw : PodId) (r : Request) → prepares draw area.Run r ≡ true → makes_and_runs draw r ≡ true
