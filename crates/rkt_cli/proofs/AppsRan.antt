@@ -1,26 +1,26 @@
 -- What the commands tell that start apps.
-use Rattle.std.proofs.Common.{◌≡◌, ◌≢◌, ◌⊎◌, inl, inr, ℕ, ◌==◌, Bool, true, false, List, [], ◌++◌, Option, Some, None, Ok, Err, refl, sym, ap, subst, ◌∙◌}
+use Rattle.std.proofs.Common.{◌≡◌, ◌≢◌, ◌⊎◌, inl, inr, ℕ, ◌==◌, Bool, true, false, List, [], ◌++◌, Option, Some, None, Result, Ok, Err, IfOk, IsErrOf, refl, sym, ap, subst, ◌∙◌}
 use Rattle.dir_model.specs.declared.intent.Draw.{Draw}
 use Rattle.dir_model.specs.declared.intent.Intent.{Intent}
 use Rattle.dir_model.specs.declared.pod.PodId.{PodId}
 use Rattle.stage1.specs.declared.end.AppEnd.{AppEnd}
 use Rattle.command_outcomes.specs.declared.refusal.Refusal.{Refusal}
-use Rattle.command_outcomes.specs.declared.refusal.Refusal.TheVariants.{NoMemory}
+use Rattle.command_outcomes.specs.declared.refusal.Refusal.TheVariants.{Usage, SpawnFault, NoMemory}
 use Rattle.command_outcomes.specs.declared.told.Told.{Told}
 use Rattle.command_outcomes.specs.Moments.{Inside, Outside, SinkSeen, SpawnerSeen, Moment, Answer, Outcome, outcome_of, is_well}
 use Rattle.command_outcomes.specs.Texts.{status_of}
 use Rattle.pod_commands.specs.Prepare.{pod_line}
 use Rattle.run_commands.specs.Ends.{app_lines}
 use Rattle.run_commands.specs.RunPrepared.{RunPreparedSays}
-use Rattle.run_commands.specs.Run.{RunIsTold}
+use Rattle.run_commands.specs.Refusals.{claim_refusal}
+use Rattle.run_commands.specs.Run.{NewRunSays, RunIsTold}
 use Rattle.rkt_cli.specs.declared.line.Line.{Line}
 use Rattle.rkt_cli.specs.declared.line.Line.TheVariants.{RunPrepared, Run}
 use Rattle.rkt_cli.specs.Commands.{runs_apps, intent_of}
 use Rattle.rkt_cli.specs.Spawns.{CameBetween}
-use Rattle.rkt_cli.specs.Runs.{End, Unwritten, Printed, Reported, Complained, end_status, RunOfLine, RunOfNothing, RunOf, RunIs, inside_in, well_in, graded}
-use Rattle.rkt_cli.specs.Statuses.{TellsRun, TellsApps, runs_apps_in}
+use Rattle.rkt_cli.specs.Runs.{End, Unwritten, Printed, Reported, Complained, end_status, end_of_writing, status_at, well_status, TellsRun, TellsApps, RunOfLine, RunOfNothing, RunOf, RunIs, inside_in}
 use Rattle.rkt_cli.proofs.Ends.{absurd_number, refusal_status, refusal_plain}
-use Rattle.rkt_cli.proofs.Grades.{graded_same, unhurt}
+use Rattle.rkt_cli.proofs.Grades.{unhurt_line}
 
 abbrev telling : Told → Answer
 telling t = Ok t
@@ -32,15 +32,16 @@ told_text told text front ends is told_is = let e : text ≡ told.text = cc in e
 prepared_text : (pod : PodId) (a b : Inside) (answer : Answer) (text : List ℕ) → Ok text ≡ outcome_of answer → RunPreparedSays pod a b answer → (ends : List AppEnd) × (text ≡ app_lines ends)
 prepared_text pod a b (Err r) text is says = cc
 prepared_text pod a b (Ok told) text is says =
-    elim says.so [ inl x ↦ (x.says.ends, told_text told text [] x.says.ends is (ap (λ (t : Told). t.text) x.says.is)) | inr x ↦ let clash : telling told ≡ Err _ = x.is in cc ]
+    elim says.so [ inl x ↦ (x.says.ends, told_text told text [] x.says.ends is (ap (λ (t : Told). t.text) x.says.is)) | inr x ↦ let clash : telling told ≡ Err (claim_refusal pod x.error) = x.is in cc ]
 
 made_text : (words : List (List ℕ)) (now : ℕ) (draw : Draw) (a b : Inside) (answer : Answer) (text : List ℕ) → Ok text ≡ outcome_of answer → RunIsTold words now draw a b answer → (ends : List AppEnd) × (text ≡ pod_line draw.uuid ++ app_lines ends)
 made_text words now draw a b (Err r) text is says = cc
-made_text words now draw a b (Ok told) text is says = elim says.so [
-  inl x ↦ (x.says.ends, told_text told text (pod_line draw.uuid) x.says.ends is (ap (λ (t : Told). t.text) x.says.is))
-| inr (inl x) ↦ let clash : telling told ≡ Err x.is.0 = x.is.1 in cc
-| inr (inr x) ↦ let clash : telling told ≡ Err NoMemory = x.is in cc
-]
+made_text words now draw a b (Ok told) text is says = by says.so
+  where
+    by : NewRunSays a.dir.observed a.spawner.observed words now draw says.from says.to a.spawner.shown b.spawner.shown (telling told) → (ends : List AppEnd) × (text ≡ pod_line draw.uuid ++ app_lines ends)
+    by (inl x) = (x.says.ends, told_text told text (pod_line draw.uuid) x.says.ends is (ap (λ (t : Told). t.text) x.says.is))
+    by (inr (inl x)) = let clash : telling told ≡ Err x.is.0 = x.is.1 in cc
+    by (inr (inr x)) = let clash : telling told ≡ Err NoMemory = x.is in cc
 
 pub run_prepared_printed : (pod : PodId) (now : ℕ) (draw : Draw) (intent : Intent) (a b : Inside) (answer : Answer) (text : List ℕ) → Ok text ≡ outcome_of answer → CameBetween (RunPrepared pod) now draw (Some intent) a b answer → (ends : List AppEnd) × (text ≡ app_lines ends)
 run_prepared_printed pod now draw intent a b answer text is (inl x) = prepared_text pod _ _ answer text is x.came
@@ -73,43 +74,88 @@ module _ (line : Line) (now : ℕ) (draw : Draw) (old new : Moment) where
   abbrev Comes : Answer → Type 0
   Comes answer = CameBetween line now draw (intent_of line now draw) (inside_in old) (inside_in new) answer
 
-  told_so : (told : Told) (end : End) (plain : ℕ) → Comes (Ok told) → Printed (Ok told.text) old.out new.out end → plain ≡ end_status end → Tells (graded told.well plain)
-  told_so told (Ok done) plain came printed is =
-      let d = printed.done refl in
-      let same : d.0 ≡ told.text = let e : Ok told.text ≡ Ok d.0 = d.1 in cc in
-      inl (told, ap (graded told.well) is, came, λ t. d.2 t ∙ ap (λ (x : List ℕ). old.out.bytes ++ x) same)
-  told_so told (Err q) plain came printed is = by (printed.cause told.text refl)
-    where
-      by : Unwritten q old.out new.out → Tells (graded told.well plain)
-      by (inl x) = inr (inl (told, inl (ap (graded told.well) (is ∙ ap status_of x.0) ∙ graded_same told.well 12 refl), came))
-      by (inr x) = inr (inl (told, inr (ap (graded told.well) (is ∙ ap status_of x.0) ∙ graded_same told.well 14 refl), came))
+  -- the writing ended so: where it is Ok, it says whether all is well
+  abbrev Writing : Type 0
+  Writing = Result Bool Refusal
 
-  refused_so : (q : Refusal) (end : End) (plain : ℕ) → Comes (Err q) → Printed (Err q) old.out new.out end → Reported end old.err new.err → plain ≡ end_status end → Tells plain
-  refused_so q end plain came printed reported is =
-      inr (inr (inl (q, is ∙ ap end_status printed.refused.0, came, subst (λ (e : End). Reported e old.err new.err) printed.refused.0 reported)))
-
-  line_so : (plain : ℕ) (r : RunOfLine line now draw (intent_of line now draw) old new plain) → Tells (graded (is_well r.answer) plain)
-  line_so plain r = by r.answer r.came (subst (λ (o : Outcome). Printed o old.out new.out r.end) r.outcome_is r.printed)
+  told_so : (told : Told) (end : Writing) → IfOk end (λ well. well ≡ told.well) → Comes (Ok told) → Printed (Ok told.text) old.out new.out (end_of_writing end) → Tells (status_at end)
+  told_so told (Ok true) well came printed = inl (told, ap well_status well, came, written told printed)
     where
-      by : (answer : Answer) → Comes answer → Printed (outcome_of answer) old.out new.out r.end → Tells (graded (is_well answer) plain)
-      by (Ok told) came printed = told_so told r.end plain came printed r.is
-      by (Err q) came printed = refused_so q r.end plain came printed r.reported r.is
+      written : (told : Told) → Printed (Ok told.text) old.out new.out (Ok tt) → old.out.observed ≡ true → new.out.bytes ≡ old.out.bytes ++ told.text
+      written told printed t = let d = printed.done refl in let e : Ok told.text ≡ Ok d.0 = d.1 in let same : d.0 ≡ told.text = cc in d.2 t ∙ ap (λ (x : List ℕ). old.out.bytes ++ x) same
+  told_so told (Ok false) well came printed = inl (told, ap well_status well, came, written told printed)
+    where
+      written : (told : Told) → Printed (Ok told.text) old.out new.out (Ok tt) → old.out.observed ≡ true → new.out.bytes ≡ old.out.bytes ++ told.text
+      written told printed t = let d = printed.done refl in let e : Ok told.text ≡ Ok d.0 = d.1 in let same : d.0 ≡ told.text = cc in d.2 t ∙ ap (λ (x : List ℕ). old.out.bytes ++ x) same
+  told_so told (Err q) well came printed = by (printed.cause told.text refl)
+    where
+      by : Unwritten q old.out new.out → Tells (status_of q)
+      by (inl x) = inr (inl (told, inl (ap status_of x.0), came))
+      by (inr x) = inr (inl (told, inr (ap status_of x.0), came))
+
+  refused_so : (q : Refusal) (end : Writing) → Comes (Err q) → Printed (Err q) old.out new.out (end_of_writing end) → Reported (end_of_writing end) old.err new.err → Tells (status_at end)
+  refused_so q (Ok true) came printed reported = let e : ◌≡◌ {A = End} (Ok tt) (Err q) = printed.refused.0 in cc
+  refused_so q (Ok false) came printed reported = let e : ◌≡◌ {A = End} (Ok tt) (Err q) = printed.refused.0 in cc
+  refused_so q (Err other) came printed reported =
+      let e : ◌≡◌ {A = End} (Err other) (Err q) = printed.refused.0 in
+      let same : other ≡ q = cc in
+      inr (inr (inl (q, ap status_of same, came, subst (λ (x : Refusal). Complained x old.err new.err) same reported)))
+
+  line_so : (answer : Answer) (end : Writing) → IfOk end (λ well. well ≡ is_well answer) → Comes answer → Printed (outcome_of answer) old.out new.out (end_of_writing end) → Reported (end_of_writing end) old.err new.err → Tells (status_at end)
+  line_so (Ok told) end well came printed reported = told_so told end well came printed
+  line_so (Err q) end well came printed reported = refused_so q end came printed reported
 
   nothing_so : (plain : ℕ) → RunOfNothing NoMemory old new plain → Tells plain
   nothing_so plain n = inr (inr (inr (n.is, ap (λ (x : Outside). record { dir = x.dir; spawner = new.spawner }) n.outside ∙ ap (λ (x : SpawnerSeen). record { dir = old.outside.dir; spawner = x }) n.spawner)))
 
-  tells_run : (plain status : ℕ) (ran : RunOf (Some line) now draw old new plain) → status ≡ graded (well_in (Some line) now draw old new plain ran) plain → Tells status
-  tells_run plain status (inl r) is = subst Tells (sym is) (line_so plain r)
-  tells_run plain status (inr n) is = subst Tells (sym is) (nothing_so plain n)
+-- why the spawner's count rose
+pub spawns : (answer : Answer) → outcome_of answer ≡ Err SpawnFault → IsErrOf answer SpawnFault
+spawns (Ok told) is = cc
+spawns (Err r) is = let same : r ≡ SpawnFault = cc in subst (λ (x : Refusal). IsErrOf {T = Told} (Err x) SpawnFault) (sym same) refl
 
-pub run_apps : {l : Option Line} {now : ℕ} {draw : Draw} {old new : Moment} {status : ℕ} → RunIs l now draw old new status → TellsApps l now draw status (inside_in old) (inside_in new) old.out new.out old.err new.err
-run_apps {l} {now} {draw} {old} {new} {status} run = by l run.plain run.ran run.is
+abbrev Apps : Option Line → ℕ → Draw → Moment → Moment → ℕ → Type 0
+Apps l now draw old new status = TellsApps l now draw status (inside_in old) (inside_in new) old.out new.out old.err new.err
+
+-- the status that a writing ends with, which is 16 only where apps ran
+graded_end : (runs : Bool) (answer : Answer) (end : Result Bool Refusal) → (runs ≡ false → is_well answer ≡ true) → IfOk end (λ well. well ≡ is_well answer) → (status_at end ≡ end_status (end_of_writing end)) ⊎ ((status_at end ≡ 16) × (end_status (end_of_writing end) ≡ 0) × (runs ≡ true))
+graded_end runs answer (Ok true) only well = inl refl
+graded_end true answer (Ok false) only well = inr (refl, refl, refl)
+graded_end false answer (Ok false) only well = let clash : false ≡ true = well ∙ only refl in cc
+graded_end runs answer (Err q) only well = inl refl
+
+-- a run of a line
+pub line_is : (line : Line) (now : ℕ) (draw : Draw) (old new : Moment) (answer : Answer) (end : Result Bool Refusal) (status : ℕ) → status ≡ status_at end → IfOk end (λ well. well ≡ is_well answer)
+    → RunOfLine line now draw (intent_of line now draw) old new (end_status (end_of_writing end)) → CameBetween line now draw (intent_of line now draw) (inside_in old) (inside_in new) answer
+    → Printed (outcome_of answer) old.out new.out (end_of_writing end) → Reported (end_of_writing end) old.err new.err → RunIs (Some line) now draw old new status
+line_is line now draw old new answer end status is well r came printed reported = record {
+  plain = end_status (end_of_writing end);
+  ran = inl r;
+  is = elim graded [ inl e ↦ inl (is ∙ e) | inr x ↦ inr (is ∙ x.0, x.1, x.2) ];
+  apps = subst (λ (n : ℕ). Apps (Some line) now draw old new n) (sym is) (by line r came);
+}
   where
-    never : (k : Option Line) (plain : ℕ) (ran : RunOf k now draw old new plain) → status ≡ graded (well_in k now draw old new plain ran) plain → runs_apps_in k ≡ false → status ≢ 16
-    never k plain ran is none sixteen = never_sixteen k now draw old new plain ran (ap (λ (b : Bool). graded b plain) (sym (unhurt k now draw old new plain ran none)) ∙ (sym is ∙ sixteen))
+    graded : (status_at end ≡ end_status (end_of_writing end)) ⊎ ((status_at end ≡ 16) × (end_status (end_of_writing end) ≡ 0) × (runs_apps line ≡ true))
+    graded = graded_end (runs_apps line) answer end (λ none. unhurt_line line now draw (intent_of line now draw) (inside_in old) (inside_in new) answer none came) well
 
-    by : (k : Option Line) (plain : ℕ) (ran : RunOf k now draw old new plain) → status ≡ graded (well_in k now draw old new plain ran) plain → TellsApps k now draw status (inside_in old) (inside_in new) old.out new.out old.err new.err
-    by (Some (RunPrepared pod)) plain ran is = tells_run (RunPrepared pod) now draw old new plain status ran is
-    by (Some (Run words)) plain ran is = tells_run (Run words) now draw old new plain status ran is
-    by None plain ran is = never None plain ran is refl
-    by (Some line) plain ran is = never (Some line) plain ran is refl
+    never : (k : Line) → runs_apps k ≡ false → RunOfLine k now draw (intent_of k now draw) old new (end_status (end_of_writing end)) → CameBetween k now draw (intent_of k now draw) (inside_in old) (inside_in new) answer → status_at end ≢ 16
+    never k none r came sixteen =
+        let plain = elim (graded_end (runs_apps k) answer end (λ none. unhurt_line k now draw (intent_of k now draw) (inside_in old) (inside_in new) answer none came) well) [ inl e ↦ sym e ∙ sixteen | inr x ↦ let clash : false ≡ true = sym none ∙ x.2 in cc ] in
+        never_sixteen (Some k) now draw old new (end_status (end_of_writing end)) (inl r) plain
+
+    by : (k : Line) → RunOfLine k now draw (intent_of k now draw) old new (end_status (end_of_writing end)) → CameBetween k now draw (intent_of k now draw) (inside_in old) (inside_in new) answer → Apps (Some k) now draw old new (status_at end)
+    by (RunPrepared pod) r came = line_so (RunPrepared pod) now draw old new answer end well came printed reported
+    by (Run words) r came = line_so (Run words) now draw old new answer end well came printed reported
+    by k r came = never k refl r came
+
+-- a run of nothing, for want of memory
+pub nothing_is : (line : Line) (now : ℕ) (draw : Draw) (old new : Moment) (status : ℕ) → RunOfNothing NoMemory old new status → RunIs (Some line) now draw old new status
+nothing_is line now draw old new status n = record { plain = status; ran = inr n; is = inl refl; apps = by line }
+  where
+    by : (k : Line) → Apps (Some k) now draw old new status
+    by (RunPrepared pod) = nothing_so (RunPrepared pod) now draw old new status n
+    by (Run words) = nothing_so (Run words) now draw old new status n
+    by k = λ sixteen. absurd_number 14 16 (sym n.is ∙ sixteen) refl
+
+-- words that are no command
+pub usage_is : (now : ℕ) (draw : Draw) (old new : Moment) (status : ℕ) → RunOfNothing Usage old new status → RunIs None now draw old new status
+usage_is now draw old new status n = record { plain = status; ran = n; is = inl refl; apps = λ sixteen. absurd_number 1 16 (sym n.is ∙ sixteen) refl }

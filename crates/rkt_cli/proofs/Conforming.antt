@@ -62,7 +62,7 @@ module _ (line : Line) (now : ℕ) (draw : Draw) (old new : Outside) (o : Outcom
 pub run_conforms : {l : Option Line} {now : ℕ} {draw : Draw} {old new : Moment} {status : ℕ} → RunIs l now draw old new status → old.outside.dir.observed ≡ true → KeepsConforming old.outside.dir new.outside.dir
 run_conforms {l} {now} {draw} {old} {new} {status} run t = by l run.ran
   where
-    by : (l : Option Line) → RunOf l now draw old new status → KeepsConforming old.outside.dir new.outside.dir
+    by : (l : Option Line) → RunOf l now draw old new run.plain → KeepsConforming old.outside.dir new.outside.dir
     by None r before = subst (λ (x : Outside). Conforms old.outside.dir.process x.dir.trace) (sym r.outside) before
     by (Some line) (inr n) before = subst (λ (x : Outside). Conforms old.outside.dir.process x.dir.trace) (sym n.outside) before
     by (Some line) (inl r) before = performed_keeps line now draw old.outside new.outside r.outcome t (intent_of line now draw) r.performs before

@@ -110,7 +110,7 @@ module _ (now : ℕ) (draw : Draw) (old new : Moment) (status : ℕ) (t : old.ou
   tells_of (Some (Status pod)) (inl r) = line_tells pod r
 
 pub run_tells : {l : Option Line} {now : ℕ} {draw : Draw} {old new : Moment} {status : ℕ} → RunIs l now draw old new status → old.outside.dir.observed ≡ true → IsConforming new.outside.dir.trace → TellsHistory l now draw status old.outside new.outside old.out new.out
-run_tells {l} {now} {draw} {old} {new} {status} run t conforming = by l (tells_of now draw old new run.plain t conforming l run.ran) (λ n is apart. plain_at _ run.plain status n run.is is apart)
+run_tells {l} {now} {draw} {old} {new} {status} run t conforming = by l (tells_of now draw old new run.plain t conforming l run.ran) (λ n is apart. plain_at l run.plain status n run.is is apart)
   where
     by : (k : Option Line) → TellsHistory k now draw run.plain old.outside new.outside old.out new.out → ((n : ℕ) → status ≡ n → (n == 16) ≡ false → run.plain ≡ n) → TellsHistory k now draw status old.outside new.outside old.out new.out
     by (Some (Status pod)) x at = (λ zero. x.0 (at 0 zero refl), λ two. x.1 (at 2 two refl))
@@ -146,7 +146,7 @@ module _ (now : ℕ) (draw : Draw) (old new : Moment) (status : ℕ) (t : old.ou
   deed_of (Some ImageGc) r = wrote ImageGc _ (λ text p. sweep_done now draw old.outside new.outside text p t) r
 
 pub run_deed : {l : Option Line} {now : ℕ} {draw : Draw} {old new : Moment} {status : ℕ} → RunIs l now draw old new status → old.outside.dir.observed ≡ true → TellsDeed l now draw status old.outside.dir new.outside.dir old.out new.out
-run_deed {l} {now} {draw} {old} {new} {status} run t = by l (deed_of now draw old new run.plain t l run.ran) (λ is. plain_at _ run.plain status 0 run.is is refl)
+run_deed {l} {now} {draw} {old} {new} {status} run t = by l (deed_of now draw old new run.plain t l run.ran) (λ is. plain_at l run.plain status 0 run.is is refl)
   where
     by : (k : Option Line) → TellsDeed k now draw run.plain old.outside.dir new.outside.dir old.out new.out → (status ≡ 0 → run.plain ≡ 0) → TellsDeed k now draw status old.outside.dir new.outside.dir old.out new.out
     by (Some ImageList) x at = λ zero. x (at zero)

@@ -6,7 +6,6 @@ use Rattle.dir_model.specs.declared.request.Reply.TheVariants.{Refused}
 use Rattle.dir_model.specs.Calls.{Extends, is_begin}
 use Rattle.dir_model.proofs.Chains.{nothing_yet, step_extends}
 use Rattle.rkt_cli.proofs.Grades.{unhurt}
-use Rattle.rkt_cli.specs.Statuses.{runs_apps_in}
 use Rattle.rkt_cli.specs.declared.line.Line.{Line}
 use Rattle.rkt_cli.specs.declared.line.Line.TheVariants.{Status, Validate, ImageList, ImageImport, ImageRm, ImageGc, Prepare, RunPrepared, Run, Rm, Gc}
 use Rattle.command_outcomes.specs.declared.refusal.Refusal.{Refusal}
@@ -14,8 +13,8 @@ use Rattle.command_outcomes.specs.declared.refusal.Refusal.TheVariants.{NoPod, D
 use Rattle.command_outcomes.specs.Texts.{status_of}
 use Rattle.command_outcomes.specs.Moments.{Outside, Moment, SinkSeen, Outcome}
 use Rattle.pod_commands.specs.Prepare.{HasBrought, HasKeptFolder}
-use Rattle.rkt_cli.specs.Commands.{intent_of, may}
-use Rattle.rkt_cli.specs.Runs.{Performs, End, Unwritten, Printed, end_status, well_in, graded, RunOf, RunIs}
+use Rattle.rkt_cli.specs.Commands.{intent_of, may, runs_apps_in}
+use Rattle.rkt_cli.specs.Runs.{Performs, End, Unwritten, Printed, end_status, RunOf, RunIs}
 use Rattle.rkt_cli.specs.Histories.{LeavesPod, TellsLeft}
 use Rattle.rkt_cli.proofs.Outcomes.{refusals_of}
 use Rattle.rkt_cli.proofs.PodRan.{began, prepare_synced, brought_in_process, kept_in_process}
@@ -88,7 +87,7 @@ module _ (now : ℕ) (draw : Draw) (old new : Moment) (status : ℕ) (t : old.ou
   left_of (Some (Prepare words)) r = pod_left words r
 
 pub run_left : {l : Option Line} {now : ℕ} {draw : Draw} {old new : Moment} {status : ℕ} → RunIs l now draw old new status → old.outside.dir.observed ≡ true → TellsLeft l draw status old.outside.dir new.outside.dir
-run_left {l} {now} {draw} {old} {new} {status} run t = by l (left_of now draw old new run.plain t l run.ran) (λ none. run.is ∙ ap (λ (b : Bool). graded b run.plain) (unhurt l now draw old new run.plain run.ran none))
+run_left {l} {now} {draw} {old} {new} {status} run t = by l (left_of now draw old new run.plain t l run.ran) (unhurt l run.plain status run.is)
   where
     by : (k : Option Line) → TellsLeft k draw run.plain old.outside.dir new.outside.dir → (runs_apps_in k ≡ false → status ≡ run.plain) → TellsLeft k draw status old.outside.dir new.outside.dir
     by (Some (Prepare words)) x same = subst (λ (n : ℕ). LeavesPod draw.uuid n old.outside.dir new.outside.dir) (sym (same refl)) x

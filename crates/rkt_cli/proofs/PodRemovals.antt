@@ -1,5 +1,5 @@
 -- What `rm` and `gc` tell of the whole run.
-use Rattle.std.proofs.Common.{arith, ◌≡◌, inl, inr, ◌≤◌, ℕ, Bool, true, false, List, [], ◌∷◌, Option, Some, None, Ok, Err, IsErrOf, IfErr, refl, sym, subst, ◌∙◌}
+use Rattle.std.proofs.Common.{arith, ◌≡◌, inl, inr, ◌≤◌, ℕ, Bool, true, false, List, [], ◌∷◌, Option, Some, None, Ok, Err, IsErrOf, IfErr, refl, sym, ap, subst, ◌∙◌}
 use Rattle.dir_model.specs.declared.area.Phase.{Phase}
 use Rattle.dir_model.specs.declared.intent.Draw.{Draw}
 use Rattle.dir_model.specs.declared.intent.Intent.{Intent}
@@ -39,6 +39,10 @@ use Rattle.rkt_cli.proofs.Conforming.{begun_knows}
 abbrev pub rm_intent : PodId → ℕ → Draw → Intent
 rm_intent pod now draw = intent_for kind.Rm (pod_text pod.bytes) now draw
 
+abbrev is_memory : Refusal → Bool
+is_memory NoMemory = true
+is_memory r = false
+
 begins_itself : (bs : List ℕ) → begins bs bs ≡ true
 begins_itself [] = refl
 begins_itself (x ∷ xs) = rw (same_self x) (begins_itself xs)
@@ -50,50 +54,60 @@ begun_removes pod now draw = record { may = record { began = refl; moment = same
 pub begun_sweeps : (now : ℕ) (draw : Draw) → MaySweepAll now expire_time (begun (gc_intent now draw))
 begun_sweeps now draw = record { sweeps = record { may = record { began = refl; moment = same_self now; apart = refl; bare = refl }; sweeps = refl }; free = refl }
 
+-- a process that couldn't begin tells only that, and one there is
+unbegun : (r : Refusal) {X : Type 0} → is_memory r ≡ false → ◌≡◌ {A = Outcome} (Err r) (Err NoMemory) → X
+unbegun r apart is = let same : r ≡ NoMemory = cc in let clash : true ≡ false = sym (ap is_memory same) ∙ apart in cc
+
+untold : (text : List ℕ) {X : Type 0} → ◌≡◌ {A = Outcome} (Ok text) (Err NoMemory) → X
+untold text is = cc
+
+unused : {X : Type 0} → true ≡ false → X
+unused clash = cc
+
 -- `rm`: what was printed, and done
 pub rm_printed : (pod : PodId) (now : ℕ) (draw : Draw) (intent : Option Intent) (old new : Outside) (text : List ℕ) → Performs (Rm pod) now draw intent old new (Ok text) → text ≡ removed_text pod
 rm_printed pod now draw (Some intent) old new text (inl s) = s.ran.says.0
-rm_printed pod now draw (Some intent) old new text (inr n) = let e = n.is in cc
-rm_printed pod now draw None old new text p = let clash : true ≡ false = p.apart in cc
+rm_printed pod now draw (Some intent) old new text (inr n) = untold text n.is
+rm_printed pod now draw None old new text p = unused p.apart
 
 pub rm_done : (pod : PodId) (now : ℕ) (draw : Draw) (intent : Option Intent) (old new : Outside) (text : List ℕ) → Performs (Rm pod) now draw intent old new (Ok text) → old.dir.observed ≡ true → HasRemovedPod pod old.dir new.dir
 rm_done pod now draw (Some intent) old new text (inl s) t = meanwhile (Removes pod) s t (s.ran.says.1 (s.told ∙ t))
-rm_done pod now draw (Some intent) old new text (inr n) t = let e = n.is in cc
-rm_done pod now draw None old new text p t = let clash : true ≡ false = p.apart in cc
+rm_done pod now draw (Some intent) old new text (inr n) t = untold text n.is
+rm_done pod now draw None old new text p t = unused p.apart
 
 -- or why not
 pub rm_none : (pod : PodId) (now : ℕ) (draw : Draw) (intent : Option Intent) (old new : Outside) → old.dir.observed ≡ true → Performs (Rm pod) now draw intent old new (Err NoPod) → HasFoundNoPod pod old.dir new.dir
 rm_none pod now draw (Some intent) old new t (inl s) = meanwhile (FoundNone pod) s t (s.ran.says (s.told ∙ t))
-rm_none pod now draw (Some intent) old new t (inr n) = let e = n.is in cc
-rm_none pod now draw None old new t p = let clash : true ≡ false = p.apart in cc
+rm_none pod now draw (Some intent) old new t (inr n) = unbegun NoPod refl n.is
+rm_none pod now draw None old new t p = unused p.apart
 
 pub rm_stray : (pod : PodId) (now : ℕ) (draw : Draw) (intent : Option Intent) (old new : Outside) → Performs (Rm pod) now draw intent old new (Err Stray) → old.dir.observed ≡ true → HasMetStrayAtPod pod old.dir new.dir
 rm_stray pod now draw (Some intent) old new (inl s) t = meanwhile (MeetsStray pod) s t (s.ran.says (s.told ∙ t))
-rm_stray pod now draw (Some intent) old new (inr n) t = let e = n.is in cc
-rm_stray pod now draw None old new p t = let clash : true ≡ false = p.apart in cc
+rm_stray pod now draw (Some intent) old new (inr n) t = unbegun Stray refl n.is
+rm_stray pod now draw None old new p t = unused p.apart
 
 pub rm_bare : (pod : PodId) (now : ℕ) (draw : Draw) (intent : Option Intent) (old new : Outside) (bare : PodId) → Performs (Rm pod) now draw intent old new (Err (NoManifest bare)) → (bare ≡ pod) × (old.dir.observed ≡ true → HasFoundNoManifest pod old.dir new.dir)
 rm_bare pod now draw (Some intent) old new bare (inl s) = (s.ran.says.0, λ t. meanwhile (HadNoManifest pod) s t (s.ran.says.1 (s.told ∙ t)))
-rm_bare pod now draw (Some intent) old new bare (inr n) = let e = n.is in cc
-rm_bare pod now draw None old new bare p = let clash : true ≡ false = p.apart in cc
+rm_bare pod now draw (Some intent) old new bare (inr n) = unbegun (NoManifest bare) refl n.is
+rm_bare pod now draw None old new bare p = unused p.apart
 
 pub rm_busy : (pod : PodId) (now : ℕ) (draw : Draw) (old new : Outside) (busy : PodId) (which : Which) → Performs (Rm pod) now draw (intent_of (Rm pod) now draw) old new (Err (PodBusy busy which)) →
     (busy ≡ pod) × (old.dir.observed ≡ true → HasFoundBusy pod which old.dir new.dir)
 rm_busy pod now draw old new busy which (inl s) = (s.ran.says.0, λ t. meanwhile (IsBusyAt pod which) s t (s.ran.says.1 (s.told ∙ t) (begun (rm_intent pod now draw)) (begun_knows s t) (begun_removes pod now draw)))
-rm_busy pod now draw old new busy which (inr n) = let e = n.is in cc
+rm_busy pod now draw old new busy which (inr n) = unbegun (PodBusy busy which) refl n.is
 
 pub rm_wrong : (pod : PodId) (now : ℕ) (draw : Draw) (old new : Outside) (phase : Phase) → Performs (Rm pod) now draw (intent_of (Rm pod) now draw) old new (Err (WrongPhase phase)) → old.dir.observed ≡ true → HasFoundWrong pod phase old.dir new.dir
 rm_wrong pod now draw old new phase (inl s) t = record {
   was = meanwhile (WasSo pod phase) s t (s.ran.says.was (s.told ∙ t));
   owner = meanwhile (WasOwned pod phase) s t (s.ran.says.owner (s.told ∙ t) (begun (rm_intent pod now draw)) (begun_knows s t) (begun_removes pod now draw));
 }
-rm_wrong pod now draw old new phase (inr n) t = let e = n.is in cc
+rm_wrong pod now draw old new phase (inr n) t = unbegun (WrongPhase phase) refl n.is
 
 -- `gc`: what was printed, and done
 pub gc_printed : (now : ℕ) (draw : Draw) (intent : Option Intent) (old new : Outside) (text : List ℕ) → Performs Gc now draw intent old new (Ok text) → (lines : List GcLine) × (text ≡ lines_text lines)
 gc_printed now draw (Some intent) old new text (inl s) = (s.ran.says.lines, s.ran.says.is)
-gc_printed now draw (Some intent) old new text (inr n) = let e = n.is in cc
-gc_printed now draw None old new text p = let clash : true ≡ false = p.apart in cc
+gc_printed now draw (Some intent) old new text (inr n) = untold text n.is
+gc_printed now draw None old new text p = unused p.apart
 
 pub gc_done : (now : ℕ) (draw : Draw) (old new : Outside) (text : List ℕ) → Performs Gc now draw (intent_of Gc now draw) old new (Ok text) → old.dir.observed ≡ true → HasSweptPods (times_of now grace_time expire_time) old.dir new.dir text
 gc_done now draw old new text (inl s) t = record {
@@ -101,12 +115,12 @@ gc_done now draw old new text (inl s) t = record {
   is = s.ran.says.is;
   swept = meanwhile (Sweeps (times_of now grace_time expire_time) s.ran.says.lines) s t (s.ran.says.swept (s.told ∙ t) (begun (gc_intent now draw)) (begun_knows s t) (begun_sweeps now draw));
 }
-gc_done now draw old new text (inr n) t = let e = n.is in cc
+gc_done now draw old new text (inr n) t = untold text n.is
 
 pub gc_stray : (now : ℕ) (draw : Draw) (intent : Option Intent) (old new : Outside) → Performs Gc now draw intent old new (Err Stray) → old.dir.observed ≡ true → HasMetStrayInPods old.dir new.dir
 gc_stray now draw (Some intent) old new (inl s) t = meanwhile WasStray s t (s.ran.says (s.told ∙ t))
-gc_stray now draw (Some intent) old new (inr n) t = let e = n.is in cc
-gc_stray now draw None old new p t = let clash : true ≡ false = p.apart in cc
+gc_stray now draw (Some intent) old new (inr n) t = unbegun Stray refl n.is
+gc_stray now draw None old new p t = unused p.apart
 
 -- what each owes between its begin and its finish
 pub rm_conforming : (pod : PodId) (now : ℕ) (draw : Draw) (intent : Intent) (observed : Bool) (a b : DirAt) → intent_of (Rm pod) now draw ≡ Some intent → Stays (MayRemovePod pod now) a (λ s. KeepsReady s b) → StaysConforming intent (dir_seen observed a) (dir_seen observed b)

@@ -26,7 +26,6 @@ use Rattle.image_removal.specs.Requests.{removes_at, sweeps}
 use Rattle.image_removal.proofs.Begun.{begun_removes}
 use Rattle.phase_read.specs.Read.{is_pod_spot}
 use Rattle.phase_read.proofs.Quiet.{read_quiet}
-use Rattle.rkt_cli.proofs.Grades.{graded_or}
 use Rattle.rkt_cli.specs.declared.line.Line.{Line}
 use Rattle.rkt_cli.specs.declared.line.Line.TheVariants.{Status, Validate, ImageList, ImageImport, ImageRm, ImageGc, Prepare, RunPrepared, Run, Rm, Gc}
 use Rattle.command_outcomes.specs.declared.refusal.Refusal.TheVariants.{Usage, Busy, NoImage, DirFault, BundleFault, NoMemory, Damaged, Stray}
@@ -39,7 +38,7 @@ use Rattle.store_commands.specs.ImageRm.{image_rm_refusal, is_removal_place, Fin
 use Rattle.store_commands.specs.ImageGc.{is_swept_place, SweepsQuietly}
 use Rattle.command_outcomes.specs.Conforming.{begun}
 use Rattle.rkt_cli.specs.Commands.{intent_for, intent_of, asks, ComesQuietly, LeavesQuietly}
-use Rattle.rkt_cli.specs.Runs.{CommandRan, Performs, InProcess, Apart, Printed, well_in, RunOf, RunIs, end_status}
+use Rattle.rkt_cli.specs.Runs.{CommandRan, Performs, InProcess, Apart, Printed, RunOf, RunIs, end_status}
 use Rattle.rkt_cli.specs.Statuses.{IsAnswer, IsUndisturbed, Works, IsQuietAnswer}
 use Rattle.rkt_cli.proofs.Judged.{judged_whole}
 use Rattle.command_outcomes.proofs.Seen.{rose_wider}
@@ -381,8 +380,5 @@ module _ (now : ℕ) (draw : Draw) (old new : Moment) (status : ℕ) where
       by (inr (comes, left)) = elim (said_quiet r.outcome old new status (answered r.outcome old new r.end status r.printed r.reported r.is) works) [ inl x ↦ inl x | inr x ↦ inr (inr (r.outcome, comes, x, left)) ]
 
 pub quiet : {l : Option Line} {now : ℕ} {draw : Draw} {old new : Moment} {status : ℕ} → RunIs l now draw old new status → IsUndisturbed l old.outside new.outside → Works old.out new.out → IsQuietAnswer l now draw status old new
-quiet {l} {now} {draw} {old} {new} {status} run u works =
-    elim (graded_or (well_in l now draw old new run.plain run.ran) run.plain) [
-      inl same ↦ subst (λ (n : ℕ). IsQuietAnswer l now draw n old new) (sym (run.is ∙ same)) (quiet_of now draw old new run.plain l run.ran u works)
-    | inr sixteen ↦ inr (inl (run.is ∙ sixteen))
-    ]
+quiet {l} {now} {draw} {old} {new} {status} run u works = 
+    elim run.is [ inl same ↦ subst (λ (n : ℕ). IsQuietAnswer l now draw n old new) (sym same) (quiet_of now draw old new run.plain l run.ran u works) | inr x ↦ inr (inl x.0) ]

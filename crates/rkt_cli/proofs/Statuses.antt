@@ -30,12 +30,12 @@ use Rattle.command_outcomes.specs.Moments.{DirSeen, BundleSeen, Outside, Inside,
 use Rattle.command_outcomes.specs.Ends.{is_own_end}
 use Rattle.rkt_cli.specs.Status.{read_outcome}
 use Rattle.rkt_cli.specs.Validate.{ReadsFile, most_read}
-use Rattle.rkt_cli.specs.Commands.{intent_of, runs_apps, asks, may, ReadsOnly}
+use Rattle.rkt_cli.specs.Commands.{intent_of, runs_apps, runs_apps_in, asks, may, ReadsOnly}
 use Rattle.rkt_cli.specs.Spawns.{CameBetween}
-use Rattle.rkt_cli.specs.Runs.{Performs, End, Unwritten, Printed, Reported, Complained, end_status, inside_in, well_in, graded, RunOf, RunIs}
-use Rattle.rkt_cli.specs.Statuses.{IsStatus, IsMissing, IsBadManifest, IsNoPod, IsLimit, IsLacking, IsTaken, IsLockBusy, IsNoImage, IsStray, IsJudgement, IsWrongPhase, IsWithoutManifest, runs_apps_in, asks_in, Prints, IsOutput, IsComplaint, IsAnswer, IsOver, EndsAs, ReadsIn}
+use Rattle.rkt_cli.specs.Runs.{Performs, End, Unwritten, Printed, Reported, Complained, end_status, inside_in, RunOf, RunIs}
+use Rattle.rkt_cli.specs.Statuses.{IsStatus, IsMissing, IsBadManifest, IsNoPod, IsLimit, IsLacking, IsTaken, IsLockBusy, IsNoImage, IsStray, IsJudgement, IsWrongPhase, IsWithoutManifest, asks_in, Prints, IsOutput, IsComplaint, IsAnswer, IsOver, EndsAs, ReadsIn}
 use Rattle.rkt_cli.proofs.Ends.{absurd_number, end_at, refusal_end, is_bad_manifest, is_limit, unmatched_no_output, is_taken, is_busy, is_wrong_phase, is_no_manifest, is_no_program, lacks_no_output, is_of_output, output_known, refusal_known, refusal_status, refusal_plain, from_end, from_command}
-use Rattle.rkt_cli.proofs.Grades.{plain_at, graded_known, graded_one, graded_none, graded_same, either_false, unhurt}
+use Rattle.rkt_cli.proofs.Grades.{plain_at, graded_known, graded_none, graded_same, either_false, unhurt}
 use Rattle.rkt_cli.proofs.PodRemovals.{rm_none, rm_stray, rm_busy, rm_wrong, rm_bare, rm_printed, gc_stray, gc_printed}
 use Rattle.rkt_cli.proofs.AppsRan.{run_prepared_printed, run_printed}
 use Rattle.rkt_cli.proofs.Outcomes.{fault_cause, bundle_cause, refusals_of, answered, does_validate, validate_told, file_prints, unreadable, no_such_file}
@@ -634,17 +634,17 @@ module _ (now : ℕ) (draw : Draw) (old new : Moment) (status : ℕ) where
 
 -- each of the clauses
 module _ {l : Option Line} {now : ℕ} {draw : Draw} {old new : Moment} {status : ℕ} (run : RunIs l now draw old new status) where
-  well : Bool
-  well = well_in l now draw old new run.plain run.ran
-
   at : (n : ℕ) → status ≡ n → (n == 16) ≡ false → run.plain ≡ n
-  at n is apart = plain_at well run.plain status n run.is is apart
+  at n is apart = plain_at l run.plain status n run.is is apart
+
+  same_at : (n : ℕ) → run.plain ≡ n → (n == 0) ≡ false → status ≡ n
+  same_at n is apart = graded_same l run.plain status n run.is is apart
 
   pub statuses : IsStatus status
-  statuses = subst IsStatus (sym run.is) (graded_known well run.plain (statuses_of now draw old new run.plain l run.ran))
+  statuses = graded_known l run.plain status run.is (statuses_of now draw old new run.plain l run.ran)
 
   pub usage : (status ≡ 1) ↔ (l ≡ None)
-  usage = let x = usage_of now draw old new run.plain l run.ran in (λ is. x.0 (at 1 is refl), λ none. run.is ∙ (ap (graded well) (x.1 none) ∙ graded_one well))
+  usage = let x = usage_of now draw old new run.plain l run.ran in (λ is. x.0 (at 1 is refl), λ none. same_at 1 (x.1 none) refl)
 
   pub no_pod : status ≡ 2 → old.outside.dir.observed ≡ true → IsMissing l old.outside.dir new.outside.dir
   no_pod is = no_pod_of now draw old new run.plain l run.ran (at 2 is refl)
@@ -698,20 +698,20 @@ module _ {l : Option Line} {now : ℕ} {draw : Draw} {old new : Moment} {status 
   output t = by (out_of now draw old new run.plain l run.ran t)
     where
       by : IsPlainOutput l draw old.outside.bundle run.plain old.out.bytes new.out.bytes → IsOutput l draw old.outside.bundle status old.out.bytes new.out.bytes
-      by (inl x) = inl (elim (graded_none well run.plain x.0) [ inl e ↦ inl (run.is ∙ e) | inr e ↦ inr (run.is ∙ e) ], x.1, x.2, x.3)
-      by (inr (inl x)) = inr (inl (elim x.0 [ inl e ↦ inl (run.is ∙ (ap (graded well) e ∙ graded_same well 12 refl)) | inr e ↦ inr (run.is ∙ (ap (graded well) e ∙ graded_same well 14 refl)) ], x.1, x.2, x.3))
-      by (inr (inr x)) = inr (inr (ap (λ (n : ℕ). (n == 0) || (n == 16)) (run.is ∙ graded_same well run.plain (either_false (run.plain == 0) (run.plain == 16) x.0)) ∙ x.0, x.1))
+      by (inl x) = inl (graded_none l run.plain status run.is x.0, x.1, x.2, x.3)
+      by (inr (inl x)) = inr (inl (elim x.0 [ inl e ↦ inl (same_at 12 e refl) | inr e ↦ inr (same_at 14 e refl) ], x.1, x.2, x.3))
+      by (inr (inr x)) = inr (inr (ap (λ (n : ℕ). (n == 0) || (n == 16)) (same_at run.plain refl (either_false (run.plain == 0) (run.plain == 16) x.0)) ∙ x.0, x.1))
 
   pub complaint : IsComplaint status old.err new.err
   complaint = by (err_of now draw old new run.plain l run.ran)
     where
       by : IsPlainComplaint run.plain old.err new.err → IsComplaint status old.err new.err
-      by (inl x) = inl (elim (graded_none well run.plain x.0) [ inl e ↦ inl (run.is ∙ e) | inr e ↦ inr (run.is ∙ e) ], x.1)
-      by (inr x) = inr (x.0, run.is ∙ (ap (graded well) x.1 ∙ graded_same well (status_of x.0) (refusal_status x.0)), x.2)
+      by (inl x) = inl (graded_none l run.plain status run.is x.0, x.1)
+      by (inr x) = inr (x.0, same_at (status_of x.0) x.1 (refusal_status x.0), x.2)
 
   -- a command that starts no apps has its plain status
   pub same_plain : runs_apps_in l ≡ false → status ≡ run.plain
-  same_plain none = run.is ∙ ap (λ (b : Bool). graded b run.plain) (unhurt l now draw old new run.plain run.ran none)
+  same_plain none = unhurt l run.plain status run.is none
 
   pub judged : old.outside.bundle.observed ≡ true → IsJudgement l status old new
   judged t = by l (judged_of now draw old new run.plain l run.ran t) same_plain
@@ -728,7 +728,7 @@ module _ {l : Option Line} {now : ℕ} {draw : Draw} {old new : Moment} {status 
       ends : (intent : Option Intent) → EndsAs intent run.plain old.outside.dir.local new.outside.dir.local → EndsAs intent status old.outside.dir.local new.outside.dir.local
       ends None x = x
       ends (Some intent) (inl x) = inl x
-      ends (Some intent) (inr x) = inr (run.is ∙ (ap (graded well) x.0 ∙ graded_same well 14 refl), x.1)
+      ends (Some intent) (inr x) = inr (same_at 14 x.0 refl, x.1)
 
       by : (k : Option Line) → IsOver k now draw run.plain old.outside.dir.local new.outside.dir.local → IsOver k now draw status old.outside.dir.local new.outside.dir.local
       by None x = x

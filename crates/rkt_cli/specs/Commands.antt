@@ -70,6 +70,10 @@ runs_apps (RunPrepared pod) = true
 runs_apps (Run words) = true
 runs_apps line = false
 
+abbrev pub runs_apps_in : Option Line → Bool
+runs_apps_in None = false
+runs_apps_in (Some line) = runs_apps line
+
 -- what a process says when it begins that has no times of its own
 abbrev pub intent_for : Kind → List ℕ → ℕ → Draw → Intent
 intent_for kind word now draw = record { kind = kind; word = word; now = now; grace = 0; expire = 0; draw = draw.uuid; token = draw.token }

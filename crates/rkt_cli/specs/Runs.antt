@@ -1,5 +1,5 @@
 -- A run of the program, whatever the command is.
-use Rattle.std.specs.Prelude.{◌≡◌, ◌⊎◌, inl, inr, ◌≤◌, ℕ, ◌==◌, Bool, true, false, cond, List, [], ◌++◌, Option, Some, None, Result, Ok, Err, IsErrOf, IfErr}
+use Rattle.std.specs.Prelude.{◌≡◌, ◌≢◌, ◌⊎◌, ◌≤◌, ℕ, Bool, true, false, List, [], ◌++◌, Option, Some, None, Result, Ok, Err, IsErrOf, IfErr}
 use Rattle.dir_model.specs.declared.intent.Draw.{Draw}
 use Rattle.dir_model.specs.declared.intent.Intent.{Intent}
 use Rattle.dir_model.specs.declared.request.DirError.TheVariants as dir_error
@@ -10,13 +10,15 @@ use Rattle.dir_trait.specs.Calls.{Extends, CallStep}
 use Rattle.dir_trait.specs.Local.{Local}
 use Rattle.dir_trait.specs.Sinks.{WritesPart}
 use Rattle.rkt_cli.specs.declared.line.Line.{Line}
+use Rattle.rkt_cli.specs.declared.line.Line.TheVariants.{RunPrepared, Run}
+use Rattle.command_outcomes.specs.declared.told.Told.{Told}
 use Rattle.command_outcomes.specs.declared.refusal.Refusal.{Refusal}
 use Rattle.command_outcomes.specs.declared.refusal.Refusal.TheVariants.{Usage, DirFault, BundleFault, SpawnFault, OutFault, NoMemory}
 use Rattle.command_outcomes.specs.Texts.{status_of, message, is_made}
 use Rattle.command_outcomes.specs.Conforming.{StaysConforming}
-use Rattle.command_outcomes.specs.Moments.{Outside, Inside, Moment, SinkSeen, Outcome, Answer, outcome_of, is_well}
+use Rattle.command_outcomes.specs.Moments.{Outside, Inside, Moment, SinkSeen, Outcome, Answer, outcome_of}
 use Rattle.rkt_cli.specs.Spawns.{CameBetween}
-use Rattle.rkt_cli.specs.Commands.{uses_dir, intent_of, asks, may, CommandSays, ReadsOnly}
+use Rattle.rkt_cli.specs.Commands.{uses_dir, runs_apps_in, intent_of, asks, may, CommandSays, ReadsOnly}
 
 -- what a command leaves and answers, whichever it is
 pub record CommandRan (line : Line) (now : ℕ) (draw : Draw) (old new : Outside) (o : Outcome) : Type 0 where
@@ -151,19 +153,33 @@ abbrev pub RunOf : Option Line → ℕ → Draw → Moment → Moment → ℕ �
 RunOf None now draw old new status = RunOfNothing Usage old new status
 RunOf (Some line) now draw old new status = RunOfLine line now draw (intent_of line now draw) old new status ⊎ RunOfNothing NoMemory old new status
 
--- whether all went well: false only where apps ran and one ended with another status than 0
-abbrev pub well_in : (line : Option Line) (now : ℕ) (draw : Draw) (old new : Moment) (plain : ℕ) → RunOf line now draw old new plain → Bool
-well_in None now draw old new plain r = true
-well_in (Some line) now draw old new plain (inl r) = is_well r.answer
-well_in (Some line) now draw old new plain (inr n) = true
+-- 0 where all apps ended with 0, and else 16
+abbrev pub well_status : Bool → ℕ
+well_status true = 0
+well_status false = 16
 
--- then what would be 0 is 16
-abbrev pub graded : Bool → ℕ → ℕ
-graded true plain = plain
-graded false plain = cond (plain == 0) 16 plain
+-- of a command that starts apps: what was told of the pod and its apps was written, and with status 0 each app ended with 0, with 16
+-- some didn't; with 12 and 14 it may not have been written; or this refusal was said. Each with what it rests on. Or nothing was called
+abbrev pub TellsRun : Line → ℕ → Draw → ℕ → Inside → Inside → SinkSeen → SinkSeen → SinkSeen → SinkSeen → Type 0
+TellsRun line now draw status old new out out' err err' =
+    ((told : Told) × (status ≡ well_status told.well) × CameBetween line now draw (intent_of line now draw) old new (Ok told) × (out.observed ≡ true → out'.bytes ≡ out.bytes ++ told.text))
+    ⊎ ((told : Told) × ((status ≡ 12) ⊎ (status ≡ 14)) × CameBetween line now draw (intent_of line now draw) old new (Ok told))
+    ⊎ ((refusal : Refusal) × (status ≡ status_of refusal) × CameBetween line now draw (intent_of line now draw) old new (Err refusal) × Complained refusal err err')
+    ⊎ ((status ≡ 14) × (new ≡ old))
+
+-- no other command has status 16
+abbrev pub TellsApps : Option Line → ℕ → Draw → ℕ → Inside → Inside → SinkSeen → SinkSeen → SinkSeen → SinkSeen → Type 0
+TellsApps (Some (RunPrepared pod)) now draw status old new out out' err err' = TellsRun (RunPrepared pod) now draw status old new out out' err err'
+TellsApps (Some (Run words)) now draw status old new out out' err err' = TellsRun (Run words) now draw status old new out out' err err'
+TellsApps _ now draw status old new out out' err err' = status ≢ 16
+
+-- the status of the run as if all apps had ended with 0, and then its own
+abbrev pub Graded : Option Line → ℕ → ℕ → Type 0
+Graded line plain status = (status ≡ plain) ⊎ ((status ≡ 16) × (plain ≡ 0) × (runs_apps_in line ≡ true))
 
 -- a run of these words, whatever they are
 pub record RunIs (line : Option Line) (now : ℕ) (draw : Draw) (old new : Moment) (status : ℕ) : Type 0 where
   pub plain : ℕ
   pub ran : RunOf line now draw old new plain
-  pub is : status ≡ graded (well_in line now draw old new plain ran) plain
+  pub is : Graded line plain status
+  pub apps : TellsApps line now draw status (inside_in old) (inside_in new) old.out new.out old.err new.err

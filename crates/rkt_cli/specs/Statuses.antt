@@ -37,8 +37,8 @@ use Rattle.command_outcomes.specs.declared.refusal.Refusal.{Refusal}
 use Rattle.command_outcomes.specs.declared.refusal.Refusal.TheVariants.{Usage, NoPod, WrongPhase, PodBusy, NoManifest, Busy, BadManifest, NoImage, Limit, NoFile, Conflict, Damaged, Taken, Stray}
 use Rattle.command_outcomes.specs.Texts.{status_of}
 use Rattle.rkt_cli.specs.Texts.{state_text, valid_text}
-use Rattle.command_outcomes.specs.Moments.{DirSeen, BundleSeen, SinkSeen, Outside, Inside, Moment, Outcome}
-use Rattle.rkt_cli.specs.Commands.{uses_dir, reads_bundle, runs_apps, intent_of, asks, ReadsOnly, ComesQuietly, LeavesQuietly}
+use Rattle.command_outcomes.specs.Moments.{DirSeen, BundleSeen, SinkSeen, Outside, Moment, Outcome}
+use Rattle.rkt_cli.specs.Commands.{uses_dir, reads_bundle, intent_of, asks, ReadsOnly, ComesQuietly, LeavesQuietly}
 use Rattle.rkt_cli.specs.Validate.{sequential_validate}
 use Rattle.store_commands.specs.ImageList.{images_text, LacksPart, IsHeldElsewhere}
 use Rattle.store_commands.specs.ImageImport.{import_refusal, source_of, PrintsKey, IsAreaHeld}
@@ -54,9 +54,7 @@ use Rattle.pod_gc.specs.declared.line.GcLine.{GcLine}
 use Rattle.dir_model.specs.declared.pod.PodId.{PodId}
 use Rattle.dir_model.specs.declared.spot.Which.{Which}
 use Rattle.command_outcomes.specs.Conforming.{shown_at}
-use Rattle.command_outcomes.specs.declared.told.Told.{Told}
-use Rattle.rkt_cli.specs.Spawns.{CameBetween}
-use Rattle.rkt_cli.specs.Runs.{Complained, ended_local, graded}
+use Rattle.rkt_cli.specs.Runs.{Complained, ended_local}
 
 -- whether the words are a command on the directory, and whether they are one that reads the bundle
 abbrev pub uses_dir_in : Option Line → Bool
@@ -66,11 +64,6 @@ uses_dir_in (Some line) = uses_dir line
 abbrev pub reads_bundle_in : Option Line → Bool
 reads_bundle_in None = false
 reads_bundle_in (Some line) = reads_bundle line
-
--- and whether they are one that starts apps
-abbrev pub runs_apps_in : Option Line → Bool
-runs_apps_in None = false
-runs_apps_in (Some line) = runs_apps line
 
 -- the exit statuses
 abbrev pub IsStatus : ℕ → Type 0
@@ -347,17 +340,3 @@ IsJudgement (Some (Validate path)) status old new =
     ⊎ IsAnswer (sequential_validate path old.outside.bundle.tree) status old new
 IsJudgement (Some (ImageImport path)) status old new = IsBundleJudgement path status old new
 IsJudgement _ status old new = Unit {0}
-
--- of a command that starts apps: what was told of the pod and its apps was written, and with status 0 each app ended with 0, with 16
--- some didn't; with 12 and 14 it may not have been written; else this refusal was said. Each with what it rests on
-abbrev pub TellsRun : Line → ℕ → Draw → ℕ → Inside → Inside → SinkSeen → SinkSeen → SinkSeen → SinkSeen → Type 0
-TellsRun line now draw status old new out out' err err' =
-    ((told : Told) × (status ≡ graded told.well 0) × CameBetween line now draw (intent_of line now draw) old new (Ok told) × (out.observed ≡ true → out'.bytes ≡ out.bytes ++ told.text))
-    ⊎ ((told : Told) × ((status ≡ 12) ⊎ (status ≡ 14)) × CameBetween line now draw (intent_of line now draw) old new (Ok told))
-    ⊎ ((refusal : Refusal) × (status ≡ status_of refusal) × CameBetween line now draw (intent_of line now draw) old new (Err refusal) × Complained refusal err err')
-    ⊎ ((status ≡ 14) × (new ≡ old))
-
-abbrev pub TellsApps : Option Line → ℕ → Draw → ℕ → Inside → Inside → SinkSeen → SinkSeen → SinkSeen → SinkSeen → Type 0
-TellsApps (Some (RunPrepared pod)) now draw status old new out out' err err' = TellsRun (RunPrepared pod) now draw status old new out out' err err'
-TellsApps (Some (Run words)) now draw status old new out out' err err' = TellsRun (Run words) now draw status old new out out' err err'
-TellsApps _ now draw status old new out out' err err' = status ≢ 16

@@ -9,7 +9,9 @@ ghost use Rattle.rkt_cli.specs.Histories.{TellsHistory, TellsDeed, TellsLeft};
 ghost use Rattle.command_outcomes.specs.Conforming.{KeepsConforming};
 ghost use Rattle.command_outcomes.specs.Moments.{dir_at, bundle_at, outside_at, inside_at, sink_at};
 ghost use Rattle.rkt_cli.specs.Between.{RunBetween, JudgedBetween, QuietBetween};
-ghost use Rattle.rkt_cli.specs.Statuses.{uses_dir_in, reads_bundle_in, runs_apps_in, IsMissing, IsWrongPhase, IsWithoutManifest, TellsApps, IsBadManifest, IsLimit, IsLacking, IsTaken, IsLockBusy};
+ghost use Rattle.rkt_cli.specs.Commands.{runs_apps_in};
+ghost use Rattle.rkt_cli.specs.Runs.{TellsApps};
+ghost use Rattle.rkt_cli.specs.Statuses.{uses_dir_in, reads_bundle_in, IsMissing, IsWrongPhase, IsWithoutManifest, IsBadManifest, IsLimit, IsLacking, IsTaken, IsLockBusy};
 ghost use Rattle.rkt_cli.specs.Statuses.{IsNoImage, IsStray, asks_in, IsStatus, IsOutput, IsComplaint, IsOver, ReadsIn};
 
 use crate::line::{WordsError, read_line};

@@ -13,7 +13,7 @@ use Rattle.pod_claim.specs.Elsewhere.{MetOwner}
 use Rattle.pod_claim.specs.Holding.{MayClaim}
 use Rattle.pod_claim.specs.Work.{Leaves, MovedNothing, TookBoth}
 use Rattle.command_outcomes.specs.declared.refusal.Refusal.{Refusal}
-use Rattle.command_outcomes.specs.declared.refusal.Refusal.TheVariants.{NoPod, DirFault, SpawnFault}
+use Rattle.command_outcomes.specs.declared.refusal.Refusal.TheVariants.{NoPod, WrongPhase, PodBusy, DirFault, SpawnFault}
 use Rattle.command_outcomes.specs.Moments.{Answer, Inside, dir_seen, SpawnerSeen}
 use Rattle.run_commands.specs.Refusals.{claim_refusal, apps_refusal, run_prepared_refusal}
 use Rattle.run_commands.specs.Runs.{RunSays}
@@ -34,6 +34,8 @@ claim_allowed pod e = refl
 -- a refusal of a run is one of the command
 apps_in : (r : Refusal) → apps_refusal r ≡ true → run_prepared_refusal r ≡ true
 apps_in NoPod is = refl
+apps_in (WrongPhase phase) is = refl
+apps_in (PodBusy pod which) is = refl
 apps_in r is = is
 
 pub run_in : (a : Answer) → IfErr a (λ r. apps_refusal r ≡ true) → IfErr a (λ r. run_prepared_refusal r ≡ true)

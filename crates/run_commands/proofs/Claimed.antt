@@ -1,6 +1,7 @@
 -- A pod that was claimed and then run: what the process knows and has open, from call to call.
 use Rattle.std.proofs.Common.{◌≡◌, inl, inr, ◌≤◌, ℕ, ◌==◌, Bool, true, false, not, ◌&&◌, ◌||◌, cond, Some, List, [], ◌∷◌, ◌++◌, filter, Ok, Err, Result, IsErrOf, IfErr, refl, sym, ap, subst, ◌∙◌, arith}
 use Rattle.std.specs.List.{list_any}
+use Rattle.dir_model.specs.declared.area.Area.TheVariants.{Embryo}
 use Rattle.dir_model.specs.declared.intent.Intent.{Intent}
 use Rattle.dir_model.specs.declared.opening.Holding.{Holding}
 use Rattle.dir_model.specs.declared.pod.PodId.{PodId}
@@ -16,7 +17,7 @@ use Rattle.dir_model.proofs.Lists.{same_self}
 use Rattle.dir_rules.specs.declared.seen.Seen.{Seen}
 use Rattle.dir_rules.specs.Conforms.{Looked}
 use Rattle.dir_rules.specs.LockRules.{may_close}
-use Rattle.dir_rules.specs.Standing.{is_run_prepared}
+use Rattle.dir_rules.specs.Standing.{is_run_prepared, is_gate_shared, gives_up, holds_own, intends}
 use Rattle.dir_rules.proofs.Looks.{same_bytes}
 use Rattle.dir_trait.specs.DirCalls.{DirAt, ExtendsBy}
 use Rattle.dir_trait.specs.Knowledge.{Knows, LookedInto}
@@ -25,7 +26,8 @@ use Rattle.pod_ownership.specs.declared.owned.Owned.{Owned}
 use Rattle.pod_ownership.specs.Running.{IsOwned, RunsPod}
 use Rattle.pod_claim.specs.Requests.{claims}
 use Rattle.pod_claim.specs.Holding.{MayClaim, and_lock, with_pod}
-use Rattle.pod_claim.specs.Claims.{HasPod}
+use Rattle.pod_claim.specs.declared.error.ClaimError.{ClaimError}
+use Rattle.pod_claim.specs.Claims.{HasPod, and_owned}
 use Rattle.pod_claim.specs.Work.{Leaves}
 use Rattle.pod_claim.specs.Work as claiming
 use Rattle.pod_claim.proofs.Seen.{runs_pod}
@@ -56,6 +58,13 @@ still_active m h active = record { begun = active.begun; unfinished = active.unf
 
 pub none_open : (m : Local) (name : List ℕ) → m.holdings ≡ [] → has_own_open m name ≡ false
 none_open m name none = subst (λ (hs : List Holding). has_own_open (record m { holdings = hs }) name ≡ false) (sym none) refl
+
+-- what is open after a claim
+pub claimed_went : {observed : Bool} {a b : DirAt} (m : Local) (pod : PodId) (r : Result Owned ClaimError) (owned : Owned) → r ≡ Ok owned → claiming.Went observed 66 pod (and_owned m pod r) a b → claiming.Went observed 66 pod (and_lock m pod Own owned.own) a b
+claimed_went {observed} {a} {b} m pod r owned is w = subst (λ (x : Result Owned ClaimError). claiming.Went observed 66 pod (and_owned m pod x) a b) is w
+
+pub unclaimed_went : {observed : Bool} {a b : DirAt} (m : Local) (pod : PodId) (r : Result Owned ClaimError) (e : ClaimError) → r ≡ Err e → claiming.Went observed 66 pod (and_owned m pod r) a b → claiming.Went observed 66 pod m a b
+unclaimed_went {observed} {a} {b} m pod r e is w = subst (λ (x : Result Owned ClaimError). claiming.Went observed 66 pod (and_owned m pod x) a b) is w
 
 -- its requests
 claims_in : (pod : PodId) (r : Request) → claims pod r ≡ true → runs_prepared pod r ≡ true
@@ -103,18 +112,18 @@ fresh_at pod own intent free = record { runs_it = runs_pod pod own (looked_at in
 may_begin : (intent : Intent) → is_run_prepared intent.kind ≡ true → MayClaim (begun intent)
 may_begin intent is = record { began = is; apart = refl; cleared = refl }
 
-module _ {observed : Bool} (pod : PodId) (own : Handle) (intent : Intent) (a b c : DirAt) (known : Seen) (looked : Looked (begun intent) known) where
+module _ (pod : PodId) (own : Handle) (intent : Intent) (known : Seen) (looked : Looked (begun intent) known) where
   fresh_claimed : IsFresh pod (with_pod pod own known)
   fresh_claimed = subst (λ (s : Seen). IsFresh pod (with_pod pod own s)) (sym looked.same) (fresh_at pod own intent looked.free)
 
   may_give : may_close (with_pod pod own known).standing own ≡ true
-  may_give = subst (λ (s : Seen). may_close (with_pod pod own s).standing own ≡ true) (sym looked.same) (never_both _ _)
+  may_give = subst (λ (s : Seen). may_close (with_pod pod own s).standing own ≡ true) (sym looked.same) (never_both (gives_up (is_gate_shared Embryo) own (with_pod pod own (looked_at intent looked.free)).standing.holdings) (intends (λ i. holds_own (pod_text i.draw.bytes) (with_pod pod own (looked_at intent looked.free)).standing) (with_pod pod own (looked_at intent looked.free)).standing.intent))
 
   was_kept : (with_pod pod own known).kept ≡ true
   was_kept = ap (λ (s : Seen). s.kept) looked.same
 
-  ends_so : Knows b (with_pod pod own known) → KeepsToEnd pod own b c → StaysConforming intent (dir_seen observed a) (dir_seen observed c)
-  ends_so knows keeps k =
+  ends_so : (observed : Bool) (a b c : DirAt) → Knows b (with_pod pod own known) → KeepsToEnd pod own b c → StaysConforming intent (dir_seen observed a) (dir_seen observed c)
+  ends_so observed a b c knows keeps k =
       let x = keeps (with_pod pod own known) knows fresh_claimed may_give in
       record { known = x.known; knows = record { tied = x.knows.tied; handles = x.knows.handles }; kept = x.kept ∙ was_kept }
 
@@ -122,7 +131,7 @@ pub claimed_keeps : {observed : Bool} {m : Local} (pod : PodId) (owned : Owned) 
     KeepsToEnd owned.pod owned.own b c → StaysConforming intent (dir_seen observed a) (dir_seen observed c)
 claimed_keeps {observed} pod owned intent a b c own t is held keeps k =
     let h = held t (begun intent) (may_begin intent is) (record { tied = k.tied; handles = k.handles }) in
-    ends_so {observed} pod owned.own intent a b c h.known h.looked h.knows (subst (λ (p : PodId). KeepsToEnd p owned.own b c) own.is keeps) k
+    ends_so pod owned.own intent h.known h.looked observed a b c h.knows (subst (λ (p : PodId). KeepsToEnd p owned.own b c) own.is keeps) k
 
 pub unclaimed_keeps : {observed : Bool} (intent : Intent) (a b : DirAt) → observed ≡ true → is_run_prepared intent.kind ≡ true → Leaves observed MayClaim a (λ s. LookedInto s b) → StaysConforming intent (dir_seen observed a) (dir_seen observed b)
 unclaimed_keeps {observed} intent a b t is left k =

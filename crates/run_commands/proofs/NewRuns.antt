@@ -17,6 +17,7 @@ use Rattle.dir_rules.specs.declared.seen.Entry.{Entry}
 use Rattle.dir_rules.specs.declared.seen.Seen.{Seen}
 use Rattle.dir_rules.specs.LockRules.{may_close}
 use Rattle.dir_rules.specs.Rules.{runs}
+use Rattle.dir_rules.specs.Standing.{is_gate_shared, gives_up, holds_own, intends}
 use Rattle.dir_rules.proofs.Looks.{same_bytes}
 use Rattle.dir_trait.specs.DirCalls.{DirAt, ExtendsBy}
 use Rattle.dir_trait.specs.Knowledge.{Knows}
@@ -38,7 +39,7 @@ use Rattle.pod_build.specs.Requests.{prepares}
 use Rattle.stage1.specs.Keeping.{IsFresh, KeepsToEnd}
 use Rattle.stage1.specs.Runs.{Went, closes, runs_pod, runs_and_closes}
 use Rattle.command_outcomes.specs.declared.refusal.Refusal.{Refusal}
-use Rattle.command_outcomes.specs.declared.refusal.Refusal.TheVariants.{DirFault, SpawnFault, NoManifest, NoProgram, NoMemory}
+use Rattle.command_outcomes.specs.declared.refusal.Refusal.TheVariants.{DirFault, SpawnFault, NoManifest, NoProgram, Damaged, Stray, NoMemory}
 use Rattle.command_outcomes.specs.Conforming.{begun, StaysConforming}
 use Rattle.command_outcomes.specs.Moments.{Answer, dir_seen}
 use Rattle.pod_commands.specs.References.{OfReferences, AreReferences}
@@ -62,6 +63,9 @@ kept_owned draw m made owned is answer = subst (λ (b : Built). IsAnswer true dr
 pub made_went : {observed : Bool} {asks : Request → Bool} {a b : DirAt} (m : Local) (draw : PodId) (r : Result Built BuildError) (made : Built) (owned : Owned) → r ≡ Ok made → made ≡ built.Running owned → making.Went observed asks (with_built m draw r) a b → making.Went observed asks (and_own m draw owned.own) a b
 made_went {observed} {asks} {a} {b} m draw r made owned is kept w =
     subst (λ (x : Built). making.Went observed asks (with_built m draw (Ok x)) a b) kept (subst (λ (x : Result Built BuildError). making.Went observed asks (with_built m draw x) a b) is w)
+
+pub unmade_went : {observed : Bool} {asks : Request → Bool} {a b : DirAt} (m : Local) (draw : PodId) (r : Result Built BuildError) (e : BuildError) → r ≡ Err e → making.Went observed asks (with_built m draw r) a b → making.Went observed asks m a b
+unmade_went {observed} {asks} {a} {b} m draw r e is w = subst (λ (x : Result Built BuildError). making.Went observed asks (with_built m draw x) a b) is w
 
 -- its requests
 prepares_in : (draw : PodId) (r : Request) → prepares draw area.Run r ≡ true → makes_and_runs draw r ≡ true
@@ -128,7 +132,7 @@ pub made_keeps : {observed : Bool} {m : Local} (draw : Draw) (now : ℕ) (owned 
 made_keeps {observed} draw now owned intent a b c own t began knows keeps k =
     let x = knows t intent [] began refl (record { tied = k.tied; handles = k.handles }) in
     let s = made_seen draw.uuid owned.own intent x.0 in
-    let e = keeps s x.1 (subst (λ (p : PodId). IsFresh p s) (sym own.is) (fresh_made draw.uuid owned.own intent x.0)) (never_both _ _) in
+    let e = keeps s x.1 (subst (λ (p : PodId). IsFresh p s) (sym own.is) (fresh_made draw.uuid owned.own intent x.0)) (never_both (gives_up (is_gate_shared area.Embryo) owned.own s.standing.holdings) (intends (λ i. holds_own (pod_text i.draw.bytes) s.standing) s.standing.intent)) in
     record { known = e.known; knows = record { tied = e.knows.tied; handles = e.knows.handles }; kept = e.kept }
 
 pub unmade_keeps : {observed : Bool} (draw : Draw) (now : ℕ) (intent : Intent) (a b : DirAt) → observed ≡ true → Began area.Run draw now intent → (observed ≡ true → From (Began area.Run draw now) IsAlone nothing_made a (λ intent hs. HasOwnFolder draw.uuid intent hs b)) →
@@ -143,7 +147,13 @@ unbegun_keeps {observed} intent a k = record { known = begun intent; knows = k; 
 -- refusals
 apps_in : (r : Refusal) → apps_refusal r ≡ true → new_run_refusal r ≡ true
 apps_in (NoManifest pod) is = refl
-apps_in r is = is
+apps_in (NoProgram app word) is = refl
+apps_in (Damaged path) is = refl
+apps_in SpawnFault is = refl
+apps_in Stray is = refl
+apps_in DirFault is = refl
+apps_in NoMemory is = refl
+apps_in r is = let clash : false ≡ true = is in cc
 
 pub run_in : (a : Answer) → IfErr a (λ r. apps_refusal r ≡ true) → IfErr a (λ r. new_run_refusal r ≡ true)
 run_in (Ok told) h = tt
@@ -151,6 +161,8 @@ run_in (Err r) h = apps_in r h
 
 pub prepare_in : (r : Refusal) → prepare_refusal r ≡ true → new_run_refusal r ≡ true
 prepare_in (NoManifest pod) is = refl
+prepare_in (NoProgram app word) is = refl
+prepare_in SpawnFault is = refl
 prepare_in r is = is
 
 pub never_spawns : (r : Refusal) {X : Type 0} → prepare_refusal r ≡ true → r ≡ SpawnFault → X

@@ -41,7 +41,7 @@ pub(crate) fn run_owned<D: Dir, S: Spawner>(
 {
     let pod = owned.pod;
     match run_pod(alloc, dir, spawner, owned, METADATA) {
-        Ok(ends) => tell(alloc, text, &ends),
+        Ok(ends) => tell(alloc, text, ends.as_slice()),
         Err(error) => Err(run_refusal(alloc, pod, error)),
     }
 }

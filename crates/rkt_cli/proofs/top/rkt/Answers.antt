@@ -1,4 +1,4 @@
-use Rattle.rkt_cli.proofs.Statuses.{statuses, usage, no_pod, bad_manifest, limit, no_image, taken, stray, busy, lacking, dir_fault, bundle_fault, out_fault, extends, output, complaint, judged, over, reads}
+use Rattle.rkt_cli.proofs.Statuses.{statuses, usage, no_pod, wrong_phase, no_manifest, no_program, spawn_fault, bad_manifest, limit, no_image, taken, stray, busy, lacking, dir_fault, bundle_fault, out_fault, extends, output, complaint, judged, over, reads}
 use Rattle.rkt_cli.proofs.QuietRun.{quiet}
 use Rattle.rkt_cli.proofs.Conforming.{run_conforms}
 use Rattle.rkt_cli.proofs.Histories.{run_tells, run_deed}
@@ -76,3 +76,18 @@ returns-clause-err g c = complaint c.run.ensures.ran
 
 pub returns-clause-quiet : goal.returns-clause-quiet
 returns-clause-quiet g c = quiet c.run.ensures.ran
+
+pub returns-clause-wrong_phase : goal.returns-clause-wrong_phase
+returns-clause-wrong_phase g c = wrong_phase c.run.ensures.ran
+
+pub returns-clause-no_manifest : goal.returns-clause-no_manifest
+returns-clause-no_manifest g c = no_manifest c.run.ensures.ran
+
+pub returns-clause-no_program : goal.returns-clause-no_program
+returns-clause-no_program g c = no_program c.run.ensures.ran
+
+pub returns-clause-spawn_fault : goal.returns-clause-spawn_fault
+returns-clause-spawn_fault g c = spawn_fault c.run.ensures.ran
+
+pub returns-clause-apps : goal.returns-clause-apps
+returns-clause-apps g c = c.run.ensures.ran.apps

@@ -9,7 +9,7 @@ returns-in-Ok-clause-says g c =
     told_between D.observed S.observed c.args.wanted.now c.args.now c.args.draw.now (D.shown c.args.dir.now) (D.shown c.run_saying.new.dir) (S.shown c.args.spawner.now) (S.shown c.run_saying.new.spawner) c.run_saying.result c.run_saying.ensures.says
 
 pub returns-in-Err-clause-known : goal.returns-in-Err-clause-known
-returns-in-Err-clause-known g c t intent began = unbegun_keeps {g.D.Dir.observed} intent (g.D.Dir.shown c.args.dir.now)
+returns-in-Err-clause-known g c t intent began = unbegun_keeps {observed = g.D.Dir.observed} intent (g.D.Dir.shown c.args.dir.now)
 
 pub returns-in-Err-clause-says : goal.returns-in-Err-clause-says
 returns-in-Err-clause-says g c =

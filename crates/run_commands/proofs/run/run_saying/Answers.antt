@@ -5,7 +5,7 @@ use Rattle.command_outcomes.specs.declared.refusal.Refusal.{Refusal}
 use Rattle.command_outcomes.specs.declared.refusal.Refusal.TheVariants.{SpawnFault}
 use Rattle.command_outcomes.proofs.Seen.{rose_wider}
 use Rattle.run_commands.proofs.Claimed.{is_open, still_active}
-use Rattle.run_commands.proofs.NewRuns.{kept_pod, kept_owned, made_went, made_worked, unmade_worked, made_knows, made_runs, made_keeps, unmade_keeps, run_in, prepare_in, never_spawns, made_says, unmade_says}
+use Rattle.run_commands.proofs.NewRuns.{kept_pod, kept_owned, made_went, unmade_went, made_worked, unmade_worked, made_knows, made_runs, made_keeps, unmade_keeps, run_in, prepare_in, never_spawns, made_says, unmade_says}
 use Rattle.run_commands.proofs.run.run_saying.Goals as goal
 
 pub kept-requires : goal.kept-requires
@@ -28,7 +28,7 @@ run_owned-requires-clause-runs g c t =
     let D = g.D.Dir in
     let a = D.shown c.args.dir.now in
     let own = kept_owned c.args.draw.now.uuid a.local c.in-Ok.built c.kept.result c.kept.ensures c.in-Ok.ensures.answer in
-    made_runs {D.observed} c.args.draw.now c.args.now c.kept.result a (D.shown c.prepare.new.dir) own c.requires.can
+    made_runs {observed = D.observed} c.args.draw.now c.args.now c.kept.result a (D.shown c.prepare.new.dir) own c.requires.can
     (λ t. made_knows c.args.draw.now c.args.now c.in-Ok.built c.kept.result a (D.shown c.prepare.new.dir) c.kept.ensures (c.in-Ok.ensures.knows t)) t
 
 pub build_refusal-requires : goal.build_refusal-requires
@@ -51,7 +51,7 @@ returns-in-Ok-clause-known g c t intent began =
     let D = g.D.Dir in
     let a = D.shown c.args.dir.now in
     let b = D.shown c.prepare.new.dir in
-    made_keeps {D.observed} c.args.draw.now c.args.now c.kept.result intent a b (D.shown c.run_owned.new.dir)
+    made_keeps {observed = D.observed} c.args.draw.now c.args.now c.kept.result intent a b (D.shown c.run_owned.new.dir)
     (kept_owned c.args.draw.now.uuid a.local c.in-Ok.built c.kept.result c.kept.ensures c.in-Ok.ensures.answer) t began
     (λ t. made_knows c.args.draw.now c.args.now c.in-Ok.built c.kept.result a b c.kept.ensures (c.in-Ok.ensures.knows t)) (c.run_owned.ensures.keeps t)
 
@@ -67,7 +67,7 @@ returns-in-Ok-clause-says g c =
     (rw c.no_options-options.ensures at c.in-Ok.ensures.prepared) (rw c.requires.line at c.run_owned.ensures.says)
 
 pub returns-in-Err-clause-worked : goal.returns-in-Err-clause-worked
-returns-in-Err-clause-worked g c = unmade_worked c.args.draw.now.uuid c.prepare.ensures.went
+returns-in-Err-clause-worked g c = unmade_worked c.args.draw.now.uuid (unmade_went (g.D.Dir.shown c.args.dir.now).local c.args.draw.now.uuid c.prepare.result c.in-Err.error c.in-Err.is c.prepare.ensures.went)
 
 pub returns-in-Err-clause-cause : goal.returns-in-Err-clause-cause
 returns-in-Err-clause-cause g c is = c.prepare.ensures.fault (c.in-Err.is ∙ ap Err (said_fault c.words.result.now c.in-Err.error c.build_refusal.result c.build_refusal.ensures cc))
@@ -83,7 +83,7 @@ returns-in-Err-clause-refusals g c = prepare_in c.build_refusal.result (refusal_
 pub returns-in-Err-clause-known : goal.returns-in-Err-clause-known
 returns-in-Err-clause-known g c t intent began =
     let D = g.D.Dir in
-    unmade_keeps {D.observed} c.args.draw.now c.args.now intent (D.shown c.args.dir.now) (D.shown c.prepare.new.dir) t began c.in-Err.ensures.left
+    unmade_keeps {observed = D.observed} c.args.draw.now c.args.now intent (D.shown c.args.dir.now) (D.shown c.prepare.new.dir) t began c.in-Err.ensures.left
 
 pub returns-in-Err-clause-says : goal.returns-in-Err-clause-says
 returns-in-Err-clause-says g c =

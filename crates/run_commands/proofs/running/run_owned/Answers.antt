@@ -17,7 +17,7 @@ pub returns-in-Ok-clause-says : goal.returns-in-Ok-clause-says
 returns-in-Ok-clause-says g c =
     let D = g.D.Dir in
     let S = g.S.Spawner in
-    ran_says D.observed S.observed c.args.owned (D.shown c.args.dir.now) (D.shown c.run_pod.new.dir) (S.shown c.args.spawner.now) (S.shown c.run_pod.new.spawner) c.args.text c.in-Ok.ends.items c.tell.result c.tell.ensures c.in-Ok.ensures.ran
+    ran_says D.observed S.observed c.args.owned (D.shown c.args.dir.now) (D.shown c.run_pod.new.dir) (S.shown c.args.spawner.now) (S.shown c.run_pod.new.spawner) c.args.text c.in-Ok.ends.items c.tell.result (rw c.as_slice.ensures.value at c.tell.ensures) c.in-Ok.ensures.ran
 
 pub returns-in-Err-clause-cause : goal.returns-in-Err-clause-cause
 returns-in-Err-clause-cause g c is =
