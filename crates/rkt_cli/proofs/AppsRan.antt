@@ -1,5 +1,5 @@
 -- What the commands tell that start apps.
-use Rattle.std.proofs.Common.{◌≡◌, ◌≢◌, ◌⊎◌, inl, inr, ℕ, ◌==◌, Bool, true, false, List, [], ◌++◌, Option, Some, None, Result, Ok, Err, IfOk, IsErrOf, refl, sym, ap, subst, ◌∙◌}
+use Rattle.std.proofs.Common.{◌≡◌, ◌≢◌, ◌⊎◌, inl, inr, ℕ, ◌==◌, Bool, true, false, ◌||◌, List, [], ◌++◌, Option, Some, None, Result, Ok, Err, IfOk, IsErrOf, refl, sym, ap, subst, ◌∙◌}
 use Rattle.dir_model.specs.declared.intent.Draw.{Draw}
 use Rattle.dir_model.specs.declared.intent.Intent.{Intent}
 use Rattle.dir_model.specs.declared.pod.PodId.{PodId}
@@ -139,7 +139,7 @@ line_is line now draw old new answer end status is well r came printed reported 
 
     never : (k : Line) → runs_apps k ≡ false → RunOfLine k now draw (intent_of k now draw) old new (end_status (end_of_writing end)) → CameBetween k now draw (intent_of k now draw) (inside_in old) (inside_in new) answer → status_at end ≢ 16
     never k none r came sixteen =
-        let plain = elim (graded_end (runs_apps k) answer end (λ none. unhurt_line k now draw (intent_of k now draw) (inside_in old) (inside_in new) answer none came) well) [ inl e ↦ sym e ∙ sixteen | inr x ↦ let clash : false ≡ true = sym none ∙ x.2 in cc ] in
+        let plain : end_status (end_of_writing end) ≡ 16 = elim (graded_end (runs_apps k) answer end (λ none. unhurt_line k now draw (intent_of k now draw) (inside_in old) (inside_in new) answer none came) well) [ inl e ↦ sym e ∙ sixteen | inr x ↦ let clash : false ≡ true = sym none ∙ x.2 in cc ] in
         never_sixteen (Some k) now draw old new (end_status (end_of_writing end)) (inl r) plain
 
     by : (k : Line) → RunOfLine k now draw (intent_of k now draw) old new (end_status (end_of_writing end)) → CameBetween k now draw (intent_of k now draw) (inside_in old) (inside_in new) answer → Apps (Some k) now draw old new (status_at end)

@@ -6,6 +6,7 @@ pub mod Sessions
 pub mod Outcomes
 pub mod Listed
 pub mod Grades
+pub mod RunsRan
 pub mod PodRemovals
 pub mod AppsRan
 pub mod Statuses

@@ -73,7 +73,7 @@ missing_of (ImageImport path) now draw intent old new t p = let clash : false �
 missing_of (ImageRm key) now draw intent old new t p = let clash : false ≡ true = refusals_of (ImageRm key) now draw intent old new (Err NoPod) NoPod p refl in cc
 missing_of ImageGc now draw intent old new t p = let clash : false ≡ true = refusals_of ImageGc now draw intent old new (Err NoPod) NoPod p refl in cc
 missing_of (Prepare words) now draw intent old new t p = let clash : false ≡ true = refusals_of (Prepare words) now draw intent old new (Err NoPod) NoPod p refl in cc
-missing_of (Rm pod) now draw intent old new t p = rm_none pod now draw intent old new p t
+missing_of (Rm pod) now draw intent old new t p = rm_none pod now draw intent old new t p
 missing_of (RunPrepared pod) now draw intent old new t p = tt
 missing_of Gc now draw intent old new t p = let clash : false ≡ true = refusals_of Gc now draw intent old new (Err NoPod) NoPod p refl in cc
 missing_of (Run words) now draw intent old new t p = let clash : false ≡ true = refusals_of (Run words) now draw intent old new (Err NoPod) NoPod p refl in cc

@@ -109,7 +109,7 @@ never_deletes false = refl
 fresh_at : (pod : PodId) (own : Handle) (intent : Intent) (free : List Spot) → IsFresh pod (with_pod pod own (looked_at intent free))
 fresh_at pod own intent free = record { runs_it = runs_pod pod own (looked_at intent free); spares_it = never_deletes _; none = refl }
 
-may_begin : (intent : Intent) → is_run_prepared intent.kind ≡ true → MayClaim (begun intent)
+pub may_begin : (intent : Intent) → is_run_prepared intent.kind ≡ true → MayClaim (begun intent)
 may_begin intent is = record { began = is; apart = refl; cleared = refl }
 
 module _ (pod : PodId) (own : Handle) (intent : Intent) (known : Seen) (looked : Looked (begun intent) known) where

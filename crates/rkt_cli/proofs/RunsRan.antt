@@ -1,0 +1,116 @@
+-- What the commands owe that start apps, each between its begin and its finish, and what a process knows that has just begun.
+use Rattle.std.proofs.Common.{arith, ◌≡◌, ◌≤◌, ℕ, Bool, true, false, List, [], Some, Option, Ok, Err, IsErrOf, IfErr, refl, sym, ap, subst, ◌∙◌}
+use Rattle.dir_model.specs.declared.area.Area.TheVariants as area
+use Rattle.dir_model.specs.declared.intent.Draw.{Draw}
+use Rattle.dir_model.specs.declared.intent.Intent.{Intent}
+use Rattle.dir_model.specs.declared.intent.Kind.TheVariants as kind
+use Rattle.dir_model.specs.declared.pod.PodId.{PodId}
+use Rattle.dir_model.specs.declared.request.Request.TheVariants.{Begin}
+use Rattle.dir_model.specs.declared.request.Reply.TheVariants.{Done}
+use Rattle.dir_model.specs.Causes.{Rose}
+use Rattle.dir_model.specs.Local.{Local, local_replied}
+use Rattle.dir_model.specs.Pods.{pod_text}
+use Rattle.dir_rules.specs.Conforms.{IsTied}
+use Rattle.dir_rules.proofs.Unborn.{tied_begun}
+use Rattle.dir_trait.specs.DirCalls.{DirAt, DirCall}
+use Rattle.dir_trait.specs.Knowledge.{Knows, SameHandles}
+use Rattle.dir_trait.specs.Local.{nothing_local}
+use Rattle.folder_building.specs.Work.{Worked}
+use Rattle.pod_build.specs.Preparations.{Began}
+use Rattle.command_outcomes.specs.declared.refusal.Refusal.{Refusal}
+use Rattle.command_outcomes.specs.declared.refusal.Refusal.TheVariants.{DirFault, BundleFault, NoMemory}
+use Rattle.command_outcomes.specs.declared.told.Told.{Told}
+use Rattle.command_outcomes.specs.Conforming.{begun}
+use Rattle.command_outcomes.specs.Moments.{BundleSeen, Outcome, Answer, outcome_of, dir_seen}
+use Rattle.command_outcomes.proofs.Seen.{beside}
+use Rattle.run_commands.specs.Refusals.{run_prepared_refusal, new_run_refusal}
+use Rattle.run_commands.specs.RunPrepared.{runs_prepared, CanClaim}
+use Rattle.run_commands.specs.Run.{makes_and_runs, CanRun}
+use Rattle.run_commands.proofs.Claimed.{may_begin}
+use Rattle.rkt_cli.specs.declared.line.Line.{Line}
+use Rattle.rkt_cli.specs.declared.line.Line.TheVariants.{RunPrepared, Run}
+use Rattle.rkt_cli.specs.Commands.{intent_for, intent_of, may}
+use Rattle.rkt_cli.specs.Runs.{CommandRan}
+use Rattle.rkt_cli.proofs.StoreRan.{never_bundle}
+
+-- what it knows
+pub begun_at : {observed : Bool} {a b : DirAt} (intent : Intent) → a.local ≡ nothing_local → DirCall observed a (Begin intent) Done b → observed ≡ true → Knows b (begun intent)
+begun_at {observed} {a} {b} intent fresh call t = record {
+  tied = subst (λ (me : ℕ). IsTied me b.trace (begun intent)) (sym call.same) (tied_begun (call.step t));
+  handles = subst (λ (m : Local). SameHandles [] m.holdings) (sym (call.local ∙ ap (λ (m : Local). local_replied m (Begin intent) Done) fresh)) (λ test. refl);
+}
+
+pub begun_as : {d : DirAt} (line : Line) (now : ℕ) (draw : Draw) (intent other : Intent) → intent_of line now draw ≡ Some intent → intent_of line now draw ≡ Some other → Knows d (begun intent) → Knows d (begun other)
+begun_as {d} line now draw intent other is said k = subst (λ (i : Intent). Knows d (begun i)) (let e : ◌≡◌ {A = Option Intent} (Some intent) (Some other) = sym is ∙ said in let same : intent ≡ other = cc in same) k
+
+-- so it may claim, or make a pod
+pub can_claim : (d : DirAt) (line : Line) (now : ℕ) (draw : Draw) (pod : PodId) → line ≡ RunPrepared pod → ((intent : Intent) → intent_of line now draw ≡ Some intent → Knows d (begun intent)) → CanClaim d
+can_claim d line now draw pod is known =
+    let intent = intent_for kind.RunPrepared (pod_text pod.bytes) now draw in
+    (begun intent, known intent (ap (λ (l : Line). intent_of l now draw) is), may_begin intent refl)
+
+pub can_run : (d : DirAt) (line : Line) (now : ℕ) (draw : Draw) (words : List (List ℕ)) → line ≡ Run words → ((intent : Intent) → intent_of line now draw ≡ Some intent → Knows d (begun intent)) → CanRun draw now d
+can_run d line now draw words is known =
+    let intent = intent_for kind.Run [] now draw in
+    let began : Began area.Run draw now intent = record { leads = refl; drawn = refl; token = refl; moment = refl } in
+    let k = known intent (ap (λ (l : Line). intent_of l now draw) is) in
+    (intent, began, record { tied = k.tied; handles = k.handles })
+
+-- what each owes
+prepared_may : (pod : PodId) (r : Refusal) → run_prepared_refusal r ≡ true → may (RunPrepared pod) r ≡ true
+prepared_may pod NoMemory known = known
+prepared_may pod DirFault known = known
+prepared_may pod r known = known
+
+prepared_end : (pod : PodId) (answer : Answer) → IfErr answer (λ r. run_prepared_refusal r ≡ true) → IfErr (outcome_of answer) (λ r. may (RunPrepared pod) r ≡ true)
+prepared_end pod (Ok told) known = tt
+prepared_end pod (Err r) known = prepared_may pod r known
+
+made_may : (words : List (List ℕ)) (r : Refusal) → new_run_refusal r ≡ true → may (Run words) r ≡ true
+made_may words NoMemory known = known
+made_may words DirFault known = known
+made_may words r known = known
+
+made_end : (words : List (List ℕ)) (answer : Answer) → IfErr answer (λ r. new_run_refusal r ≡ true) → IfErr (outcome_of answer) (λ r. may (Run words) r ≡ true)
+made_end words (Ok told) known = tt
+made_end words (Err r) known = made_may words r known
+
+as_outcome : (known : Refusal → Bool) (answer : Answer) → IfErr answer (λ r. known r ≡ true) → IfErr (outcome_of answer) (λ r. known r ≡ true)
+as_outcome known (Ok told) all = tt
+as_outcome known (Err r) all = all
+
+fault_of : (answer : Answer) → IsErrOf (outcome_of answer) DirFault → IsErrOf answer DirFault
+fault_of (Ok told) is = cc
+fault_of (Err r) is = let same : r ≡ DirFault = cc in subst (λ (x : Refusal). IsErrOf {T = Told} (Err x) DirFault) (sym same) refl
+
+module _ (line : Line) (now : ℕ) (draw : Draw) (observed : Bool) (a b : DirAt) (bundle : BundleSeen) (answer : Answer) where
+  abbrev Ran : Line → Type 0
+  Ran l = CommandRan l now draw (beside (dir_seen observed a) bundle) (beside (dir_seen observed b) bundle) (outcome_of answer)
+
+  pub prepared_ran : (pod : PodId) → line ≡ RunPrepared pod → Worked observed (runs_prepared pod) a b → (IsErrOf answer DirFault → Rose a.faults b.faults) → IfErr answer (λ r. run_prepared_refusal r ≡ true) → Ran line
+  prepared_ran pod is worked cause known = subst Ran (sym is) (record {
+    same = worked.same;
+    local = worked.local;
+    faults = worked.faults;
+    cause = λ fault. cause (fault_of answer fault);
+    bundle_faults = omega arith;
+    bundle_cause = never_bundle run_prepared_refusal (outcome_of answer) refl (as_outcome run_prepared_refusal answer known);
+    refusals = prepared_end pod answer known;
+    extends = worked.extends;
+    reads = tt;
+    says = tt;
+  })
+
+  pub made_ran : (words : List (List ℕ)) → line ≡ Run words → Worked observed (makes_and_runs draw.uuid) a b → (IsErrOf answer DirFault → Rose a.faults b.faults) → IfErr answer (λ r. new_run_refusal r ≡ true) → Ran line
+  made_ran words is worked cause known = subst Ran (sym is) (record {
+    same = worked.same;
+    local = worked.local;
+    faults = worked.faults;
+    cause = λ fault. cause (fault_of answer fault);
+    bundle_faults = omega arith;
+    bundle_cause = never_bundle new_run_refusal (outcome_of answer) refl (as_outcome new_run_refusal answer known);
+    refusals = made_end words answer known;
+    extends = worked.extends;
+    reads = tt;
+    says = tt;
+  })
