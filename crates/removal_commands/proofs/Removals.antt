@@ -1,11 +1,7 @@
 -- The command `rm`: from the removal to what is told of it.
-use Rattle.std.proofs.Common.{◌≡◌, Bool, true, false, Ok, Err, IfErr, ℕ, List, Result, refl, sym, ap, subst, ◌∙◌}
-use Rattle.dir_model.specs.declared.area.Phase.{Phase}
+use Rattle.std.proofs.Common.{◌≡◌, Bool, true, Err, ℕ, refl, sym, ap, subst}
 use Rattle.dir_model.specs.declared.pod.PodId.{PodId}
-use Rattle.dir_model.specs.declared.spot.Which.{Which}
-use Rattle.dir_rules.specs.declared.seen.Seen.{Seen}
 use Rattle.dir_trait.specs.DirCalls.{DirAt}
-use Rattle.dir_trait.specs.Knowledge.{Knows}
 use Rattle.pod_steps.specs.Holding.{Stays}
 use Rattle.pod_removal.specs.declared.error.RemoveError.{RemoveError}
 use Rattle.pod_removal.specs.declared.error.RemoveError.TheVariants as error

@@ -1,6 +1,5 @@
 -- The command `gc`: from the sweep to what is told of it.
-use Rattle.std.proofs.Common.{◌≡◌, ◌⊎◌, inl, inr, Bool, true, Ok, Err, ℕ, List, refl, sym, subst}
-use Rattle.dir_rules.specs.declared.seen.Seen.{Seen}
+use Rattle.std.proofs.Common.{◌≡◌, ◌⊎◌, inl, inr, Bool, true, Ok, Err, List, refl, sym, subst}
 use Rattle.dir_trait.specs.DirCalls.{DirAt}
 use Rattle.pod_gc.specs.declared.ages.Times.{Times}
 use Rattle.pod_gc.specs.declared.error.GcError.{GcError}

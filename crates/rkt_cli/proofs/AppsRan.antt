@@ -7,7 +7,7 @@ use Rattle.stage1.specs.declared.end.AppEnd.{AppEnd}
 use Rattle.command_outcomes.specs.declared.refusal.Refusal.{Refusal}
 use Rattle.command_outcomes.specs.declared.refusal.Refusal.TheVariants.{Usage, SpawnFault, NoMemory}
 use Rattle.command_outcomes.specs.declared.told.Told.{Told}
-use Rattle.command_outcomes.specs.Moments.{Inside, Outside, SinkSeen, SpawnerSeen, Moment, Answer, Outcome, outcome_of, is_well}
+use Rattle.command_outcomes.specs.Moments.{Inside, Outside, SpawnerSeen, Moment, Answer, outcome_of, is_well}
 use Rattle.command_outcomes.specs.Texts.{status_of}
 use Rattle.pod_commands.specs.Prepare.{pod_line}
 use Rattle.run_commands.specs.Ends.{app_lines}
@@ -19,7 +19,7 @@ use Rattle.rkt_cli.specs.declared.line.Line.TheVariants.{RunPrepared, Run}
 use Rattle.rkt_cli.specs.Commands.{runs_apps, intent_of}
 use Rattle.rkt_cli.specs.Spawns.{CameBetween}
 use Rattle.rkt_cli.specs.Runs.{End, Unwritten, Printed, Reported, Complained, end_status, end_of_writing, status_at, well_status, TellsRun, TellsApps, RunOfLine, RunOfNothing, RunOf, RunIs, inside_in}
-use Rattle.rkt_cli.proofs.Ends.{absurd_number, refusal_status, refusal_plain}
+use Rattle.rkt_cli.proofs.Ends.{absurd_number, refusal_plain}
 use Rattle.rkt_cli.proofs.Grades.{unhurt_line}
 
 abbrev telling : Told → Answer

@@ -1,5 +1,5 @@
 -- What `rm` and `gc` tell of the whole run.
-use Rattle.std.proofs.Common.{arith, ◌≡◌, inl, inr, ◌≤◌, ℕ, Bool, true, false, List, [], ◌∷◌, Option, Some, None, Ok, Err, IsErrOf, IfErr, refl, sym, ap, subst, ◌∙◌}
+use Rattle.std.proofs.Common.{arith, ◌≡◌, inl, inr, ℕ, Bool, true, false, List, [], ◌∷◌, Option, Some, None, Ok, Err, IsErrOf, IfErr, refl, sym, ap, subst, ◌∙◌}
 use Rattle.dir_model.specs.declared.area.Phase.{Phase}
 use Rattle.dir_model.specs.declared.intent.Draw.{Draw}
 use Rattle.dir_model.specs.declared.intent.Intent.{Intent}
@@ -21,7 +21,7 @@ use Rattle.rkt_cli.proofs.StoreRan.{never_bundle}
 use Rattle.dir_rules.specs.Marks.{begins}
 use Rattle.pod_steps.specs.Causes.{WasStray}
 use Rattle.pod_removal.specs.Causes.{IsBusyAt}
-use Rattle.pod_removal.specs.Holding.{MayRemove, MayRemovePod}
+use Rattle.pod_removal.specs.Holding.{MayRemovePod}
 use Rattle.pod_removal.specs.Removals.{FoundNone}
 use Rattle.pod_gc.specs.declared.line.GcLine.{GcLine}
 use Rattle.pod_gc.specs.Sweeping.{MaySweepAll}
@@ -32,7 +32,7 @@ use Rattle.removal_commands.specs.Rm.{rm_refusal, RmSays, removed_text, Removes,
 use Rattle.removal_commands.specs.Gc.{gc_refusal, GcSays, times_of, lines_text, Sweeps, HasSweptPods, HasMetStrayInPods}
 use Rattle.rkt_cli.specs.declared.line.Line.TheVariants.{Rm, Gc}
 use Rattle.rkt_cli.specs.Commands.{intent_for, gc_intent, intent_of, may, grace_time, expire_time}
-use Rattle.rkt_cli.specs.Runs.{CommandRan, InProcess, Performs}
+use Rattle.rkt_cli.specs.Runs.{CommandRan, Performs}
 use Rattle.rkt_cli.proofs.Removals.{meanwhile}
 use Rattle.rkt_cli.proofs.Conforming.{begun_knows}
 
@@ -127,13 +127,13 @@ pub rm_conforming : (pod : PodId) (now : ℕ) (draw : Draw) (intent : Intent) (o
 rm_conforming pod now draw intent observed a b is stays =
     subst (λ (i : Intent). StaysConforming i (dir_seen observed a) (dir_seen observed b)) (let e : rm_intent pod now draw ≡ intent = cc in e)
     (λ k. let s = stays (begun (rm_intent pod now draw)) (record { tied = k.tied; handles = k.handles }) (begun_removes pod now draw) in
-      record { known = s.known; knows = record { tied = s.knows.tied; handles = s.knows.handles }; kept = s.keeps.kept })
+    record { known = s.known; knows = record { tied = s.knows.tied; handles = s.knows.handles }; kept = s.keeps.kept })
 
 pub gc_conforming : (now : ℕ) (draw : Draw) (intent : Intent) (observed : Bool) (a b : DirAt) → intent_of Gc now draw ≡ Some intent → Stays (MaySweepAll now expire_time) a (λ s. KeepsReady s b) → StaysConforming intent (dir_seen observed a) (dir_seen observed b)
 gc_conforming now draw intent observed a b is stays =
     subst (λ (i : Intent). StaysConforming i (dir_seen observed a) (dir_seen observed b)) (let e : gc_intent now draw ≡ intent = cc in e)
     (λ k. let s = stays (begun (gc_intent now draw)) (record { tied = k.tied; handles = k.handles }) (begun_sweeps now draw) in
-      record { known = s.known; knows = record { tied = s.knows.tied; handles = s.knows.handles }; kept = s.keeps.kept })
+    record { known = s.known; knows = record { tied = s.knows.tied; handles = s.knows.handles }; kept = s.keeps.kept })
 
 rm_may : (pod : PodId) (r : Refusal) → rm_refusal r ≡ true → may (Rm pod) r ≡ true
 rm_may pod NoMemory known = known

@@ -380,5 +380,5 @@ module _ (now : ℕ) (draw : Draw) (old new : Moment) (status : ℕ) where
       by (inr (comes, left)) = elim (said_quiet r.outcome old new status (answered r.outcome old new r.end status r.printed r.reported r.is) works) [ inl x ↦ inl x | inr x ↦ inr (inr (r.outcome, comes, x, left)) ]
 
 pub quiet : {l : Option Line} {now : ℕ} {draw : Draw} {old new : Moment} {status : ℕ} → RunIs l now draw old new status → IsUndisturbed l old.outside new.outside → Works old.out new.out → IsQuietAnswer l now draw status old new
-quiet {l} {now} {draw} {old} {new} {status} run u works = 
+quiet {l} {now} {draw} {old} {new} {status} run u works =
     elim run.is [ inl same ↦ subst (λ (n : ℕ). IsQuietAnswer l now draw n old new) (sym same) (quiet_of now draw old new run.plain l run.ran u works) | inr x ↦ inr (inl x.0) ]

@@ -1,5 +1,5 @@
 -- What the commands owe that start apps, each between its begin and its finish, and what a process knows that has just begun.
-use Rattle.std.proofs.Common.{arith, ◌≡◌, ◌≤◌, ℕ, Bool, true, false, List, [], Some, Option, Ok, Err, IsErrOf, IfErr, refl, sym, ap, subst, ◌∙◌}
+use Rattle.std.proofs.Common.{arith, ◌≡◌, ℕ, Bool, true, List, [], Some, Option, Ok, Err, IsErrOf, IfErr, refl, sym, ap, subst, ◌∙◌}
 use Rattle.dir_model.specs.declared.area.Area.TheVariants as area
 use Rattle.dir_model.specs.declared.intent.Draw.{Draw}
 use Rattle.dir_model.specs.declared.intent.Intent.{Intent}
@@ -18,10 +18,10 @@ use Rattle.dir_trait.specs.Local.{nothing_local}
 use Rattle.folder_building.specs.Work.{Worked}
 use Rattle.pod_build.specs.Preparations.{Began}
 use Rattle.command_outcomes.specs.declared.refusal.Refusal.{Refusal}
-use Rattle.command_outcomes.specs.declared.refusal.Refusal.TheVariants.{DirFault, BundleFault, NoMemory}
+use Rattle.command_outcomes.specs.declared.refusal.Refusal.TheVariants.{DirFault, NoMemory}
 use Rattle.command_outcomes.specs.declared.told.Told.{Told}
 use Rattle.command_outcomes.specs.Conforming.{begun}
-use Rattle.command_outcomes.specs.Moments.{BundleSeen, Outcome, Answer, outcome_of, dir_seen}
+use Rattle.command_outcomes.specs.Moments.{BundleSeen, Answer, outcome_of, dir_seen}
 use Rattle.command_outcomes.proofs.Seen.{beside}
 use Rattle.run_commands.specs.Refusals.{run_prepared_refusal, new_run_refusal}
 use Rattle.run_commands.specs.RunPrepared.{runs_prepared, CanClaim}

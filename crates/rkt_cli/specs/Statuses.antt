@@ -34,7 +34,7 @@ use Rattle.phase_read.specs.Read.{LeftOut, stages}
 use Rattle.rkt_cli.specs.declared.line.Line.{Line}
 use Rattle.rkt_cli.specs.declared.line.Line.TheVariants.{Status, Validate, ImageList, ImageImport, ImageRm, ImageGc, Prepare, RunPrepared, Run, Rm, Gc}
 use Rattle.command_outcomes.specs.declared.refusal.Refusal.{Refusal}
-use Rattle.command_outcomes.specs.declared.refusal.Refusal.TheVariants.{Usage, NoPod, WrongPhase, PodBusy, NoManifest, Busy, BadManifest, NoImage, Limit, NoFile, Conflict, Damaged, Taken, Stray}
+use Rattle.command_outcomes.specs.declared.refusal.Refusal.TheVariants.{Usage, WrongPhase, PodBusy, NoManifest, Busy, BadManifest, NoImage, Limit, NoFile, Conflict, Damaged, Taken, Stray}
 use Rattle.command_outcomes.specs.Texts.{status_of}
 use Rattle.rkt_cli.specs.Texts.{state_text, valid_text}
 use Rattle.command_outcomes.specs.Moments.{DirSeen, BundleSeen, SinkSeen, Outside, Moment, Outcome}

@@ -29,6 +29,7 @@ use store_commands::image_rm::image_rm;
 
 // How long an exited pod rests since it was marked, and a prepared one since it was made, in seconds: half an hour, a day.
 const GRACE: u64 = 1_800;
+
 const EXPIRE: u64 = 86_400;
 
 fn intent_for(kind: Kind, word: PodPrefix, now: u64, draw: &Draw) -> Intent
@@ -73,7 +74,12 @@ fn line_intent(line: &Line, now: u64, draw: &Draw) -> Option<Intent>
         Line::ImageRm(_) => Some(intent_for(Kind::ImageRm, PodPrefix::empty(), now, draw)),
         Line::ImageGc => Some(intent_for(Kind::ImageGc, PodPrefix::empty(), now, draw)),
         Line::Prepare(_) => Some(intent_for(Kind::Prepare, PodPrefix::empty(), now, draw)),
-        Line::RunPrepared(pod) => Some(intent_for(Kind::RunPrepared, PodPrefix::of(*pod), now, draw)),
+        Line::RunPrepared(pod) => Some(intent_for(
+            Kind::RunPrepared,
+            PodPrefix::of(*pod),
+            now,
+            draw,
+        )),
         Line::Run(_) => Some(intent_for(Kind::Run, PodPrefix::empty(), now, draw)),
         Line::Rm(pod) => Some(intent_for(Kind::Rm, PodPrefix::of(*pod), now, draw)),
         Line::Gc => Some(gc_intent(now, draw)),

@@ -1,5 +1,5 @@
 -- The command `run-prepared`: from the claim and the run to what is told.
-use Rattle.std.proofs.Common.{◌≡◌, ◌⊎◌, inl, inr, ◌≤◌, ℕ, Bool, true, [], Ok, Err, IsErrOf, IfErr, refl, sym, subst, ◌∙◌}
+use Rattle.std.proofs.Common.{◌≡◌, inl, inr, Bool, true, [], Ok, Err, IfErr, refl}
 use Rattle.dir_model.specs.declared.pod.PodId.{PodId}
 use Rattle.dir_trait.specs.DirCalls.{DirAt}
 use Rattle.spawner.specs.Calls.{SpawnerAt}

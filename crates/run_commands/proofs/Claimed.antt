@@ -1,5 +1,5 @@
 -- A pod that was claimed and then run: what the process knows and has open, from call to call.
-use Rattle.std.proofs.Common.{◌≡◌, inl, inr, ◌≤◌, ℕ, ◌==◌, Bool, true, false, not, ◌&&◌, ◌||◌, cond, Some, List, [], ◌∷◌, ◌++◌, filter, Ok, Err, Result, IsErrOf, IfErr, refl, sym, ap, subst, ◌∙◌, arith}
+use Rattle.std.proofs.Common.{◌≡◌, ℕ, ◌==◌, Bool, true, false, not, ◌&&◌, ◌||◌, cond, List, [], ◌∷◌, ◌++◌, filter, Ok, Err, Result, refl, sym, ap, subst, ◌∙◌, arith}
 use Rattle.std.specs.List.{list_any}
 use Rattle.dir_model.specs.declared.area.Area.TheVariants.{Embryo}
 use Rattle.dir_model.specs.declared.intent.Intent.{Intent}
@@ -18,7 +18,6 @@ use Rattle.dir_rules.specs.declared.seen.Seen.{Seen}
 use Rattle.dir_rules.specs.Conforms.{Looked}
 use Rattle.dir_rules.specs.LockRules.{may_close}
 use Rattle.dir_rules.specs.Standing.{is_run_prepared, is_gate_shared, gives_up, holds_own, intends}
-use Rattle.dir_rules.proofs.Looks.{same_bytes}
 use Rattle.dir_trait.specs.DirCalls.{DirAt, ExtendsBy}
 use Rattle.dir_trait.specs.Knowledge.{Knows, LookedInto}
 use Rattle.folder_building.specs.Work.{Worked}
@@ -34,7 +33,7 @@ use Rattle.pod_claim.proofs.Seen.{runs_pod}
 use Rattle.stage1.specs.Keeping.{IsFresh, KeepsToEnd}
 use Rattle.stage1.specs.Runs.{Went, closes, runs_and_closes}
 use Rattle.stage1.specs.Runs as stage1
-use Rattle.command_outcomes.specs.Conforming.{begun, shown_at, StaysConforming}
+use Rattle.command_outcomes.specs.Conforming.{begun, StaysConforming}
 use Rattle.command_outcomes.specs.Moments.{dir_seen}
 use Rattle.run_commands.specs.RunPrepared.{runs_prepared, CanClaim}
 

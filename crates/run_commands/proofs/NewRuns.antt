@@ -1,5 +1,5 @@
 -- The command `run`: from the making and the run to what is told, and what the process knows and has open.
-use Rattle.std.proofs.Common.{◌≡◌, ◌⊎◌, inl, inr, ◌≤◌, ℕ, Bool, true, false, not, ◌&&◌, ◌||◌, List, [], ◌∷◌, Some, Result, Ok, Err, IsErrOf, IfErr, refl, sym, ap, subst, ◌∙◌, arith}
+use Rattle.std.proofs.Common.{◌≡◌, inl, inr, ℕ, Bool, true, false, not, ◌&&◌, ◌||◌, List, [], ◌∷◌, Some, Result, Ok, Err, IfErr, refl, sym, ap, subst, ◌∙◌, arith}
 use Rattle.ac_types.specs.declared.image_ref.ImageRef.{ImageRef}
 use Rattle.dir_model.specs.declared.area.Area.TheVariants as area
 use Rattle.dir_model.specs.declared.intent.Draw.{Draw}
@@ -15,12 +15,10 @@ use Rattle.dir_model.specs.Pods.{pod_text}
 use Rattle.dir_model.proofs.Chains.{and_more, extends_wider}
 use Rattle.dir_rules.specs.declared.seen.Entry.{Entry}
 use Rattle.dir_rules.specs.declared.seen.Seen.{Seen}
-use Rattle.dir_rules.specs.LockRules.{may_close}
 use Rattle.dir_rules.specs.Rules.{runs}
 use Rattle.dir_rules.specs.Standing.{is_gate_shared, gives_up, holds_own, intends}
 use Rattle.dir_rules.proofs.Looks.{same_bytes}
 use Rattle.dir_trait.specs.DirCalls.{DirAt, ExtendsBy}
-use Rattle.dir_trait.specs.Knowledge.{Knows}
 use Rattle.spawner.specs.Calls.{SpawnerAt}
 use Rattle.folder_building.specs.Work.{Worked}
 use Rattle.lifecycle.specs.Executions.{IsConforming}
@@ -42,11 +40,11 @@ use Rattle.command_outcomes.specs.declared.refusal.Refusal.{Refusal}
 use Rattle.command_outcomes.specs.declared.refusal.Refusal.TheVariants.{DirFault, SpawnFault, NoManifest, NoProgram, Damaged, Stray, NoMemory}
 use Rattle.command_outcomes.specs.Conforming.{begun, StaysConforming}
 use Rattle.command_outcomes.specs.Moments.{Answer, dir_seen}
-use Rattle.pod_commands.specs.References.{OfReferences, AreReferences}
+use Rattle.pod_commands.specs.References.{AreReferences}
 use Rattle.pod_commands.specs.Refusals.{IsSaid, prepare_refusal}
 use Rattle.pod_commands.specs.Prepare.{pod_line, no_wishes}
 use Rattle.run_commands.specs.Refusals.{apps_refusal, new_run_refusal}
-use Rattle.run_commands.specs.Run.{makes_and_runs, CanRun, WhereMaking, NewRunSays, RunIsTold}
+use Rattle.run_commands.specs.Run.{makes_and_runs, CanRun, NewRunSays, RunIsTold}
 use Rattle.run_commands.specs.Runs.{RunSays}
 use Rattle.run_commands.proofs.Claimed.{and_holding, given_back}
 use Rattle.run_commands.proofs.ClaimRefusals.{inside_of}

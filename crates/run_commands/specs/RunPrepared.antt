@@ -1,6 +1,5 @@
 -- The command `run-prepared`.
-use Rattle.std.specs.Prelude.{◌≡◌, ◌⊎◌, ℕ, Bool, true, [], Ok, Err}
-use Rattle.dir_model.specs.declared.intent.Intent.{Intent}
+use Rattle.std.specs.Prelude.{◌≡◌, ◌⊎◌, Bool, true, [], Err}
 use Rattle.dir_model.specs.declared.pod.PodId.{PodId}
 use Rattle.dir_model.specs.declared.request.Request.{Request}
 use Rattle.dir_rules.specs.declared.seen.Seen.{Seen}

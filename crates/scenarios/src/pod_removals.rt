@@ -127,7 +127,11 @@ const STORIES: &[&[Run]] = &[
             GC,
             AT_LAST_SECOND,
             Break::Nothing,
-            (0, "07070707-0707-0707-0707-070707070707 kept prepared\n", ""),
+            (
+                0,
+                "07070707-0707-0707-0707-070707070707 kept prepared\n",
+                "",
+            ),
         ),
         (
             GC,

@@ -9,7 +9,7 @@ use Rattle.rkt_cli.proofs.top.run.Goals as goal
 pub returns-in-Ok-clause-ran : goal.returns-in-Ok-clause-ran
 returns-in-Ok-clause-ran g c =
     subst (λ (l : Option Line). RunBetween g.D.Dir g.B.Bundle g.S.Spawner g.O.Sink g.E.Sink l c.args.now c.args.draw.now c.report.result
-      (c.args.dir.now, c.args.bundle.now, c.args.spawner.now, c.args.out.now, c.args.err.now) (c.perform-answer.new.dir, c.perform-answer.new.bundle, c.perform-answer.new.spawner, c.print-end.new.out, c.report.new.err)) (sym c.in-Ok.ensures)
+    (c.args.dir.now, c.args.bundle.now, c.args.spawner.now, c.args.out.now, c.args.err.now) (c.perform-answer.new.dir, c.perform-answer.new.bundle, c.perform-answer.new.spawner, c.print-end.new.out, c.report.new.err)) (sym c.in-Ok.ensures)
     (line_is c.in-Ok.line c.args.now c.args.draw.now _ _ c.perform-answer.result c.print-end.result c.report.result c.report.ensures.status c.print-end.ensures.well (record {
       answer = c.perform-answer.result;
       outcome = outcome_of c.perform-answer.result;

@@ -1,4 +1,4 @@
-use Rattle.std.proofs.Common.{inr, Err, refl}
+use Rattle.std.proofs.Common.{inr, refl}
 use Rattle.run_commands.proofs.NewRuns.{unbegun_keeps, told_between}
 use Rattle.run_commands.proofs.run.run.Goals as goal
 

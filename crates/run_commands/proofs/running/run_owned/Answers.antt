@@ -1,6 +1,5 @@
-use Rattle.std.proofs.Common.{◌≡◌, Err, ap, ◌∙◌}
+use Rattle.std.proofs.Common.{◌≡◌}
 use Rattle.command_outcomes.specs.declared.refusal.Refusal.TheVariants.{DirFault, SpawnFault}
-use Rattle.run_commands.specs.Ends.{told_of}
 use Rattle.run_commands.proofs.Told.{said_allowed, telling_allowed, telling_no_fault, telling_no_spawn, run_cause, spawn_cause, ran_says, stopped_says}
 use Rattle.run_commands.proofs.running.run_owned.Goals as goal
 
