@@ -43,8 +43,8 @@ aged() {
     local old now
     for old in "$(area exited-garbage)/$1"/marked-* "$(area prepared)/$1"/created-*; do
         [ -e "$old" ] || continue
-        now=${old##*-}
-        mv "$old" "${old%-*}-$((now - $2))"
+        now=$((10#${old##*-}))
+        mv "$old" "$(printf '%s-%020d' "${old%-*}" $((now - $2)))"
     done
 }
 

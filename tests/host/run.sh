@@ -6,10 +6,12 @@ unset RKT_DIR
 cd "$(dirname "$0")/../.." || exit 1
 . tests/host/checks.bash
 
-if ! command -v flock >/dev/null; then
-    skip "all: there is no flock"
-    exit 0
-fi
+for tool in flock sha512sum; do
+    if ! command -v $tool >/dev/null; then
+        skip "all: there is no $tool"
+        exit 0
+    fi
+done
 
 tmp=$(cd "$tmp" && pwd -P)
 rkt=$tmp/rkt-program
@@ -95,7 +97,7 @@ echo text >made'
 ran writes 0 app-writes=0 ''
 same 'what it wrote stands in its root' text "$(cat "$(root "$pod" writes)/made")"
 image bare "$plain" '#!/bin/sh'
-chmod 644 "$tmp/bare/rootfs/bin/run"
+printf 'd 0755 0 0 /bin\nf 0644 0 0 %d %s /bin/run\n' "$(wc -c <"$tmp/bare/rootfs/bin/run")" "$(sha512sum <"$tmp/bare/rootfs/bin/run" | cut -d' ' -f1)" >"$tmp/bare/tree"
 expect 'it goes' 0 "removed $(printf 'sha512-%064x' $number)" '' "$rkt" image rm "$(printf 'sha512-%064x' $number)"
 expect 'it comes without its mode' 0 "$(printf 'sha512-%064x' $number)" '' "$rkt" image import "$tmp/bare"
 ran bare 11 '' 'rkt: spawner fault'
