@@ -120,7 +120,7 @@ for word in --help --version; do
     same "$word makes nothing" '' "$(ls -A "$tmp/alone")"
 done
 same '--version: the text' 'rkt 0.1.0' "$(cat "$tmp/out--version")"
-same '--help: each form of words' $'rkt status UUID\nrkt validate FILE\nrkt image import PATH\nrkt image list\nrkt prepare IMAGE...\nrkt --help\nrkt --version' \
+same '--help: each form of words' $'rkt status UUID\nrkt validate FILE\nrkt image import PATH\nrkt image list\nrkt image rm KEY\nrkt image gc\nrkt prepare IMAGE...\nrkt run IMAGE...\nrkt run-prepared UUID\nrkt rm UUID\nrkt gc\nrkt --help\nrkt --version' \
     "$(sed '/^$/,$d; s/^usage://; s/^ *//' "$tmp/out--help")"
 
 # Where the data folder is.
