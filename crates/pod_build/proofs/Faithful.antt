@@ -44,9 +44,11 @@ use Rattle.pod_reading.specs.FaithfulPods.{IsPodOf, read_between}
 use Rattle.pod_making.specs.Requests.{pod_at, makes_pod}
 use Rattle.pod_making.specs.Progress.{at_work, holding, nothing_made}
 use Rattle.pod_making.specs.Makings.{HasMoved}
+use Rattle.pod_making.specs.Handovers.{KnewMade}
+use Rattle.pod_making.proofs.Handing.{until_step}
 use Rattle.pod_making.proofs.Times.{Follows}
-use Rattle.pod_build.specs.Preparations.{Began, HasPrepared, IsHandedOver, IsPrepared}
-use Rattle.pod_build.specs.FaithfulBuild.{HasImagesBetween, IsFaithfulBuild}
+use Rattle.pod_build.specs.Preparations.{Began, HasPrepared, ReadsThenMakes, HandsOverPlanned, IsHandedOver, IsPrepared}
+use Rattle.pod_build.specs.FaithfulBuild.{HasImagesBetween, IsFaithfulBuild, HandsOverFaithfully}
 
 -- none of these requests begins a process
 reads_begin_none : (request : Request) → reads_images request ≡ true → not (is_begin request) ≡ true
@@ -138,66 +140,19 @@ clean_known true (Some y) m same clean =
     let is : spoilt y ≡ m = ap (λ (z : Option Making). unwrap_or z m) same in
     clash m.clean clean (ap (λ (z : Making). z.clean) (sym is))
 
-module _ {observed : Bool} {refs : List ImageRef} {options : Wishes} {draw : Draw} {now : ℕ} {to : Area} {intent : Intent} {hs under : List Held} {a b d e : DirAt}
-    (t : observed ≡ true) (run : IsRun e.trace) (began : Began to draw now intent) (ab : Follows observed a b) (de : Follows observed d e)
-    (gate : shares_images (at_work intent under nothing_made) ≡ true) (knows : Knows b (at_work intent under nothing_made)) (x : HasPrepared refs options draw now to intent hs b d) where
-  abbrev me : ℕ
-  me = a.process
-
+-- whoever lives when it has read and made all, has made it faithfully
+module _ {refs : List ImageRef} {options : Wishes} {draw : Draw} {now : ℕ} {to : Area} {intent : Intent} {under : List Held} {b : DirAt} {before : List Event} (me : ℕ) (is_me : b.process ≡ me) (began : Began to draw now intent)
+    (gate : shares_images (at_work intent under nothing_made) ≡ true) (knows : Knows b (at_work intent under nothing_made)) (x : ReadsThenMakes refs options draw now to intent b before)
+    (living : lives (state_after before).namespace me ≡ true) where
   abbrev c : DirAt
   c = x.mid
-
-  abbrev from : Spot
-  from = pod_at Prepare draw.uuid
-
-  abbrev there : Spot
-  there = pod_at to draw.uuid
-
-  abbrev entries : List Entry
-  entries = x.made.entries
 
   read : Extends reads_images b.process b.trace c.trace
   read = x.reads.extends refl
 
-  bc : Follows observed b c
-  bc = record { same = x.reads.same; faults = x.reads.faults; asks = reads_images; extends = λ u. x.reads.extends refl }
-
-  -- the move
-  abbrev m : HasMoved c.process from there entries intent c.trace d.trace
-  m = x.made.moved
-
-  abbrev step : Event
-  step = event me (MoveFolder from there) Done
-
-  same_c : c.process ≡ me
-  same_c = x.reads.same ∙ ab.same
-
-  abbrev later : List Event
-  later = m.later ++ (de.extends t).more
-
-  moved : e.trace ≡ m.before ++ step ∷ later
-  moved = (de.extends t).grown ∙ (ap (λ h. h ++ (de.extends t).more) (subst (λ (p : ℕ). d.trace ≡ m.before ++ event p (MoveFolder from there) Done ∷ m.later) same_c m.moved)
-      ∙ append_assoc m.before (step ∷ m.later) (de.extends t).more)
-
-  knew : IsTied me m.before m.seen
-  knew = subst (λ (p : ℕ). IsTied p m.before m.seen) same_c m.knew
-
-  -- the process lived then
-  lives_then : lives (state_after m.before).namespace me ≡ true
-  lives_then = alive_in_run m.before step later (subst IsRun moved run) refl
-
-  meanwhile_begins_none : AllByRecursion (λ y. (is_foreign c.process y || not (is_begin y.request)) ≡ true) m.meanwhile
-  meanwhile_begins_none =
-      let last : Event = event c.process (MoveFolder from there) Done in
-      let all = begins_none (making_begins_none draw.uuid to) x.works in
-      let parts : x.works.more ≡ m.meanwhile ++ last ∷ m.later = same_rest c.trace x.works.more (m.meanwhile ++ last ∷ m.later)
-      (sym x.works.grown ∙ (m.moved ∙ (ap (λ h. h ++ last ∷ m.later) m.begins ∙ append_assoc c.trace m.meanwhile (last ∷ m.later)))) in
-      all_left (λ y. (is_foreign c.process y || not (is_begin y.request)) ≡ true) m.meanwhile (last ∷ m.later)
-      (subst (λ (h : List Event). AllByRecursion (λ y. (is_foreign c.process y || not (is_begin y.request)) ≡ true) h) parts all)
-
   lives_c : lives (state_after c.trace).namespace c.process ≡ true
-  lives_c = lived_before c.process c.trace m.meanwhile meanwhile_begins_none
-      (subst (λ (h : List Event). lives (state_after h).namespace c.process ≡ true) m.begins (subst (λ (p : ℕ). lives (state_after m.before).namespace p ≡ true) (sym same_c) lives_then))
+  lives_c = lived_before c.process c.trace x.makes.more (begins_none (making_begins_none draw.uuid to) x.makes)
+      (subst (λ (h : List Event). lives (state_after h).namespace c.process ≡ true) x.makes.grown (subst (λ (p : ℕ). lives (state_after before).namespace p ≡ true) (sym (x.reads.same ∙ is_me)) living))
 
   lives_read : lives (state_after (b.trace ++ read.more)).namespace b.process ≡ true
   lives_read = subst (λ (h : List Event). lives (state_after h).namespace b.process ≡ true) read.grown
@@ -207,38 +162,34 @@ module _ {observed : Bool} {refs : List ImageRef} {options : Wishes} {draw : Dra
   lives_b = lived_before b.process b.trace read.more (begins_none reads_begin_none read) lives_read
 
   -- it had the lock of images while it read
-  under_lock : HasImagesBetween me m.before b c
+  under_lock : HasImagesBetween me before b c
   under_lock = record {
-    before = ab.same;
-    after = same_c;
+    before = is_me;
+    after = x.reads.same ∙ is_me;
     stretch = read.more;
-    later = m.meanwhile;
+    later = x.makes.more;
     goes_on = read.grown;
-    ends = m.begins;
-    held = subst (λ (p : ℕ). KnowsAlong shares_images p b.trace read.more) ab.same
-        (holds_on b.process b.trace read.more read.asked lives_read (knows_gate knows.tied lives_b gate));
+    ends = x.makes.grown;
+    held = subst (λ (p : ℕ). KnowsAlong shares_images p b.trace read.more) is_me (holds_on b.process b.trace read.more read.asked lives_read (knows_gate knows.tied lives_b gate));
   }
 
+  knew : IsTied me before x.knew.seen
+  knew = subst (λ (p : ℕ). IsTied p before x.knew.seen) (x.reads.same ∙ is_me) x.knew.knew
+
   -- what it knew of its folder is what its events say
-  making_is : (seen_of me m.before).making ≡ Some (holding from entries)
+  making_is : (seen_of me before).making ≡ Some (holding (pod_at Prepare draw.uuid) x.knew.entries)
   making_is =
-      let g = knew.living lives_then in
-      clean_known g.spoils (seen_of me m.before).making (holding from entries) (sym (ap (λ (s : Seen). s.making) g.same) ∙ m.making) refl
+      let g = knew.living living in
+      clean_known g.spoils (seen_of me before).making (holding (pod_at Prepare draw.uuid) x.knew.entries) (sym (ap (λ (s : Seen). s.making) g.same) ∙ x.knew.making) refl
 
   abbrev Pod : ℕ → List ℕ → Type 0
-  Pod n token = IsPodOf (read_between x.planned.images b c) (pod_data x.planned.choice.manifest) n token entries
+  Pod n token = IsPodOf (read_between x.planned.images b c) (pod_data x.planned.choice.manifest) n token x.knew.entries
 
   pod : Pod intent.now intent.token
-  pod = subst (λ (n : ℕ). Pod n intent.token) (sym began.moment) (subst (λ (token : List ℕ). Pod now token) (sym began.token) (x.planned.makes entries x.made.made))
+  pod = subst (λ (n : ℕ). Pod n intent.token) (sym began.moment) (subst (λ (token : List ℕ). Pod now token) (sym began.token) (x.planned.makes x.knew.entries x.knew.made))
 
-  abbrev earlier : List Event
-  earlier = ((follows_then ab bc).extends t).more ++ m.meanwhile
-
-  begins : m.before ≡ a.trace ++ earlier
-  begins = m.begins ∙ (ap (λ h. h ++ m.meanwhile) ((follows_then ab bc).extends t).grown ∙ append_assoc a.trace ((follows_then ab bc).extends t).more m.meanwhile)
-
-  abbrev faithful : IsFaithfulBuild me m.before
-  faithful = record {
+  abbrev faithful_build : IsFaithfulBuild me before
+  faithful_build = record {
     old = b;
     new = c;
     under_lock = under_lock;
@@ -247,21 +198,75 @@ module _ {observed : Bool} {refs : List ImageRef} {options : Wishes} {draw : Dra
     manifest = pod_data x.planned.choice.manifest;
     built = record {
       intent = intent;
-      began = ap (λ (s : Standing). s.intent) (sym (knows_standing knew lives_then)) ∙ m.began;
-      making = holding from entries;
+      began = ap (λ (s : Standing). s.intent) (sym (knows_standing knew living)) ∙ x.knew.began;
+      making = holding (pod_at Prepare draw.uuid) x.knew.entries;
       made = making_is;
       pod = pod;
     };
   }
 
-  pub is_handed_over : IsHandedOver me draw.uuid to a.trace e.trace
+-- so each move out of prepare was
+pub hands_faithfully : {observed : Bool} {refs : List ImageRef} {options : Wishes} {draw : Draw} {now : ℕ} {to : Area} {intent : Intent} {under : List Held} {b d : DirAt} → IsRun d.trace → Began to draw now intent →
+    shares_images (at_work intent under nothing_made) ≡ true → Knows b (at_work intent under nothing_made) → HandsOverPlanned refs options draw now to intent b d → HandsOverFaithfully b.process b.trace d.trace
+hands_faithfully {b = b} run began gate knows x before meanwhile later from there begins moved out =
+    faithful_build b.process refl began gate knows (x before meanwhile later from there begins moved out)
+    (alive_in_run before (event b.process (MoveFolder from there) Done) later (subst IsRun moved run) refl)
+
+module _ {observed : Bool} {refs : List ImageRef} {options : Wishes} {draw : Draw} {now : ℕ} {to : Area} {intent : Intent} {hs under : List Held} {a b d e : DirAt}
+    (t : observed ≡ true) (run : IsRun e.trace) (began : Began to draw now intent) (ab : Follows observed a b) (de : Follows observed d e)
+    (gate : shares_images (at_work intent under nothing_made) ≡ true) (knows : Knows b (at_work intent under nothing_made)) (x : HasPrepared refs options draw now to intent hs b d) where
+  abbrev from : Spot
+  from = pod_at Prepare draw.uuid
+
+  abbrev there : Spot
+  there = pod_at to draw.uuid
+
+  -- the move
+  abbrev m : HasMoved x.mid.process from there x.made.entries intent x.mid.trace d.trace
+  m = x.made.moved
+
+  abbrev step : Event
+  step = event a.process (MoveFolder from there) Done
+
+  same : x.mid.process ≡ a.process
+  same = x.reads.same ∙ ab.same
+
+  abbrev later : List Event
+  later = m.later ++ (de.extends t).more
+
+  moved : e.trace ≡ m.before ++ step ∷ later
+  moved = (de.extends t).grown ∙ (ap (λ h. h ++ (de.extends t).more) (subst (λ (p : ℕ). d.trace ≡ m.before ++ event p (MoveFolder from there) Done ∷ m.later) same m.moved)
+      ∙ append_assoc m.before (step ∷ m.later) (de.extends t).more)
+
+  -- until then it had read and made
+  made : ReadsThenMakes refs options draw now to intent b m.before
+  made =
+      let knew : KnewMade x.mid.process draw.uuid x.plan intent m.before = record { entries = x.made.entries; made = x.made.made; seen = m.seen; began = m.began; making = m.making; knew = m.knew } in
+      record { mid = x.mid; reads = x.reads; plan = x.plan; planned = x.planned; makes = until_step x.works m.begins m.moved; knew = knew }
+
+  bc : Follows observed b x.mid
+  bc = record { same = x.reads.same; faults = x.reads.faults; asks = reads_images; extends = λ u. x.reads.extends refl }
+
+  abbrev earlier : List Event
+  earlier = ((follows_then ab bc).extends t).more ++ m.meanwhile
+
+  begins : m.before ≡ a.trace ++ earlier
+  begins = m.begins ∙ (ap (λ h. h ++ m.meanwhile) ((follows_then ab bc).extends t).grown ∙ append_assoc a.trace ((follows_then ab bc).extends t).more m.meanwhile)
+
+  abbrev living : lives (state_after m.before).namespace a.process ≡ true
+  living = alive_in_run m.before step later (subst IsRun moved run) refl
+
+  abbrev faithful : IsFaithfulBuild a.process m.before
+  faithful = faithful_build a.process ab.same began gate knows made living
+
+  pub is_handed_over : IsHandedOver a.process draw.uuid to a.trace e.trace
   is_handed_over = record { before = m.before; later = later; meanwhile = earlier; begins = begins; moved = moved; faithful = faithful }
 
   -- and in a conforming execution it stands there so
-  pub is_prepared : IsConforming e.trace → hands_over Prepare to ≡ true → IsPrepared refs options me draw.uuid to a.trace e.trace
+  pub is_prepared : IsConforming e.trace → hands_over Prepare to ≡ true → IsPrepared refs options a.process draw.uuid to a.trace e.trace
   is_prepared conforms hands =
-      let left = moves_hand_over e.trace conforms m.before me from there later moved hands in
-      let same : left.1.making ≡ holding from entries = one_making (sym left.1.knew ∙ making_is) in
+      let left = moves_hand_over e.trace conforms m.before a.process from there later moved hands in
+      let same : left.1.making ≡ holding from entries = one_making (sym left.1.knew ∙ making_is a.process ab.same began gate knows made living) in
       record {
         before = m.before;
         later = later;

@@ -8,9 +8,10 @@ use Rattle.dir_model.specs.declared.intent.Intent.{Intent}
 use Rattle.dir_model.specs.declared.opening.Target.TheVariants.{Gate}
 use Rattle.dir_model.specs.declared.pod.PodId.{PodId}
 use Rattle.dir_model.specs.declared.request.Request.{Request}
-use Rattle.dir_model.specs.declared.request.Request.TheVariants.{Close}
+use Rattle.dir_model.specs.declared.request.Request.TheVariants.{Close, MoveFolder}
 use Rattle.dir_model.specs.declared.request.Reply.TheVariants.{Done}
 use Rattle.dir_model.specs.declared.spot.Handle.{Handle}
+use Rattle.dir_model.specs.declared.spot.Mode.{Mode}
 use Rattle.dir_model.specs.declared.spot.Mode.TheVariants.{Shared, Exclusive}
 use Rattle.dir_model.specs.Causes.{Rose}
 use Rattle.dir_model.specs.Local.{Local, IsUnopened, without}
@@ -43,6 +44,7 @@ use Rattle.pod_making.specs.Causes.{IsCopiedAt, MakeCause}
 use Rattle.pod_making.proofs.Begun.{begun_under}
 use Rattle.pod_making.proofs.Locals.{other_number, gate_closed}
 use Rattle.pod_making.proofs.Steps.{gate_given_after}
+use Rattle.pod_making.proofs.Handing.{TakesNothingOut}
 use Rattle.pod_making.proofs.Times.{Follows}
 use Rattle.pod_reading.specs.declared.error.PlanError.{PlanError}
 use Rattle.pod_reading.specs.declared.error.PlanError.TheVariants as plan
@@ -89,9 +91,18 @@ lock_in draw to r is = ap (λ b. b || prepares_under_lock draw to r) is
 under_in : (draw : PodId) (to : Area) (r : Request) → prepares_under_lock draw to r ≡ true → prepares draw to r ≡ true
 under_in draw to r is = or_right (takes Images Shared r) (prepares_under_lock draw to r) is
 
-close_takes : (h : Handle) (r : Request) → closes h r ≡ true → takes Images Shared r ≡ true
+pub close_takes : (h : Handle) (r : Request) → closes h r ≡ true → takes Images Shared r ≡ true
 close_takes h (Close handle) is = refl
 close_takes h r is = cc
+
+-- neither the lock nor the reading takes a folder out of prepare
+pub locks_take_none : (area : Area) (mode : Mode) → TakesNothingOut (takes area mode)
+locks_take_none area mode (MoveFolder from to) is = cc
+locks_take_none area mode request is = refl
+
+pub reads_take_none : TakesNothingOut reads_images
+reads_take_none (MoveFolder from to) is = cc
+reads_take_none request is = refl
 
 -- the images are read, and then the pod is made
 pub follows_reads : {observed : Bool} {a b : DirAt} → OnlyReadsImages observed a b → Follows observed a b

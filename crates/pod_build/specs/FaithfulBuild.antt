@@ -9,6 +9,7 @@ use Rattle.dir_rules.specs.Conforms.{seen_of}
 use Rattle.dir_trait.specs.DirCalls.{DirAt}
 use Rattle.folder_contents.specs.UnderGate.{KnowsAlong, shares_images}
 use Rattle.image_reading.specs.Store.{ReadsStore}
+use Rattle.pod_making.specs.Handovers.{BeforeHandingOver}
 use Rattle.pod_reading.specs.FaithfulPods.{StoreRead, IsPodOf, read_between}
 
 -- in a stretch of a trace a process had the lock of images all along
@@ -38,3 +39,7 @@ pub record IsFaithfulBuild (p : ℕ) (trace : List Event) : Type 0 where
   pub listed : ReadsStore images old new
   pub manifest : PodData
   pub built : HasMadePod (read_between images old new) manifest p trace
+
+-- whatever it handed over between these two traces, it made faithfully
+abbrev pub HandsOverFaithfully : ℕ → List Event → List Event → Type 0
+HandsOverFaithfully me old new = BeforeHandingOver (IsFaithfulBuild me) me old new

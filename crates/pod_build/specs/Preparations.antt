@@ -11,7 +11,7 @@ use Rattle.dir_model.specs.declared.request.Request.TheVariants.{MoveFolder}
 use Rattle.dir_model.specs.declared.request.Reply.TheVariants.{Done}
 use Rattle.dir_model.specs.declared.spot.Handle.{Handle}
 use Rattle.dir_model.specs.declared.spot.Mode.TheVariants.{Shared}
-use Rattle.dir_model.specs.Calls.{event}
+use Rattle.dir_model.specs.Calls.{Extends, event}
 use Rattle.dir_model.specs.State.{folder_at}
 use Rattle.dir_model.specs.Trace.{state_after}
 use Rattle.dir_rules.specs.declared.standing.Held.{Held}
@@ -35,6 +35,7 @@ use Rattle.pod_making.specs.Requests.{pod_at, makes_pod}
 use Rattle.pod_making.specs.Progress.{at_work, handed}
 use Rattle.pod_making.specs.Work.{leads_to}
 use Rattle.pod_making.specs.Makings.{HasMade}
+use Rattle.pod_making.specs.Handovers.{BeforeHandingOver, KnewMade}
 use Rattle.pod_build.specs.FaithfulBuild.{IsFaithfulBuild}
 
 -- a process has begun so that it leads to this area, with this draw, at this moment
@@ -60,6 +61,19 @@ pub record HasPrepared (refs : List ImageRef) (options : Wishes) (draw : Draw) (
   pub planned : PlansFaithfully refs options now draw.token plan old mid
   pub works : ExtendsBy (makes_pod draw.uuid to) mid new
   pub made : HasMade draw.uuid to plan intent hs mid new
+
+-- it read the images, and until then made the pod by the plan that they gave, and knew it whole
+pub record ReadsThenMakes (refs : List ImageRef) (options : Wishes) (draw : Draw) (now : ℕ) (to : Area) (intent : Intent) (old : DirAt) (before : List Event) : Type 0 where
+  pub mid : DirAt
+  pub reads : Worked true reads_images old mid
+  pub plan : List PlanEntry
+  pub planned : PlansFaithfully refs options now draw.token plan old mid
+  pub makes : Extends (makes_pod draw.uuid to) mid.process mid.trace before
+  pub knew : KnewMade mid.process draw.uuid plan intent before
+
+-- it handed over nothing else
+abbrev pub HandsOverPlanned : List ImageRef → Wishes → Draw → ℕ → Area → Intent → DirAt → DirAt → Type 0
+HandsOverPlanned refs options draw now to intent old new = BeforeHandingOver (ReadsThenMakes refs options draw now to intent old) old.process old.trace new.trace
 
 -- it knows the pod in the area to which it brought it, and has these handles
 abbrev pub KnowsPrepared : PodId → Area → Intent → List Held → DirAt → Type 0

@@ -8,6 +8,7 @@ ghost use Rattle.pod_making.specs.Work.{MayMake, UnderImages, From, HasOwnFolder
 ghost use Rattle.pod_build.specs.Answers.{target, with_built, held_with, IsAnswer};
 ghost use Rattle.pod_build.specs.Causes.{FailsMaking, IsHeldElsewhere};
 ghost use Rattle.pod_making.specs.Makings.{HasMade};
+ghost use Rattle.pod_making.specs.Handovers.{HandsOverMade};
 
 use crate::error::{BuildError, make_refusal};
 use dir_trait::{Dir, PodId};
@@ -42,6 +43,8 @@ pub(crate) fn make<D: Dir>(
         (λ intent hs. IsHeldElsewhere e (D.shown dir.old) (D.shown dir.new))) }
     ensures made { IfOk result (λ built. D.observed ≡ true → From (MayMake (target keep_owner) plan.now draw) (UnderImages draw) nothing_made (D.shown dir.old)
         (λ intent hs. HasMade draw (target keep_owner) plan.now intent (held_with draw built hs) (D.shown dir.old) (D.shown dir.new))) }
+    ensures whole { D.observed ≡ true → From (MayMake (target keep_owner) plan.now draw) (UnderImages draw) nothing_made (D.shown dir.old)
+        (λ intent hs. HandsOverMade draw plan.now intent (D.shown dir.old) (D.shown dir.new)) }
     ensures left { IfErr result (λ e. D.observed ≡ true → From (MayMake (target keep_owner) plan.now draw) (UnderImages draw) nothing_made (D.shown dir.old)
         (λ intent hs. HasOwnFolder draw intent hs (D.shown dir.new))) }
 {

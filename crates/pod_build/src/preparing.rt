@@ -10,7 +10,8 @@ ghost use Rattle.pod_making.specs.Work.{From, HasOwnFolder, Went};
 ghost use Rattle.pod_build.specs.Requests.{prepares, prepares_under_lock};
 ghost use Rattle.pod_build.specs.Answers.{target, with_built, held_with, IsAnswer};
 ghost use Rattle.pod_build.specs.Causes.{IsRefused, IsRefusedUnderLock, IsHeldElsewhere};
-ghost use Rattle.pod_build.specs.Preparations.{Began, IsAlone, HasGateAlone, HasPrepared, KnowsPrepared, IsHandedOver, IsPrepared};
+ghost use Rattle.pod_build.specs.Preparations.{Began, IsAlone, HasGateAlone, HasPrepared, KnowsPrepared, HandsOverPlanned, IsHandedOver, IsPrepared};
+ghost use Rattle.pod_build.specs.FaithfulBuild.{HandsOverFaithfully};
 
 use crate::error::{BuildError, gate_refusal, plan_refusal};
 use crate::making::{Built, make};
@@ -42,6 +43,8 @@ fn prepare_under_lock<D: Dir>(
         (λ intent hs. IsHeldElsewhere e (D.shown dir.old) (D.shown dir.new))) }
     ensures prepared { IfOk result (λ built. D.observed ≡ true → From (Began (target keep_owner) draw.now now) (HasGateAlone gate) nothing_made (D.shown dir.old)
         (λ intent hs. HasPrepared refs.now options.now draw.now now (target keep_owner) intent (held_with draw.now.uuid built hs) (D.shown dir.old) (D.shown dir.new))) }
+    ensures whole { D.observed ≡ true → From (Began (target keep_owner) draw.now now) (HasGateAlone gate) nothing_made (D.shown dir.old)
+        (λ intent hs. HandsOverPlanned refs.now options.now draw.now now (target keep_owner) intent (D.shown dir.old) (D.shown dir.new)) }
     ensures left { IfErr result (λ e. D.observed ≡ true → From (Began (target keep_owner) draw.now now) (HasGateAlone gate) nothing_made (D.shown dir.old)
         (λ intent hs. HasOwnFolder draw.now.uuid intent hs (D.shown dir.new))) }
 {
@@ -86,6 +89,8 @@ pub fn prepare<D: Dir>(
     ensures faithful { IfOk result (λ built. D.observed ≡ true → IsRun (D.shown dir.new).trace
         → From (Began (target keep_owner) draw.now now) IsAlone nothing_made (D.shown dir.old)
         (λ intent hs. IsHandedOver (D.shown dir.old).process draw.now.uuid (target keep_owner) (D.shown dir.old).trace (D.shown dir.new).trace)) }
+    ensures makers { D.observed ≡ true → IsRun (D.shown dir.new).trace → From (Began (target keep_owner) draw.now now) IsAlone nothing_made (D.shown dir.old)
+        (λ intent hs. HandsOverFaithfully (D.shown dir.old).process (D.shown dir.old).trace (D.shown dir.new).trace) }
     ensures knows { IfOk result (λ built. D.observed ≡ true → From (Began (target keep_owner) draw.now now) IsAlone nothing_made (D.shown dir.old)
         (λ intent hs. KnowsPrepared draw.now.uuid (target keep_owner) intent (held_with draw.now.uuid built []) (D.shown dir.new))) }
     ensures left { IfErr result (λ e. D.observed ≡ true → From (Began (target keep_owner) draw.now now) IsAlone nothing_made (D.shown dir.old)

@@ -236,7 +236,7 @@ fill_cause {observed} {draw} {old} {new} plan source e fault failed unlike stray
     by (inr is) = fault is
 
 -- what a process knew before a call, it knew at the call's step
-tied_meanwhile : {me : ℕ} {old new : List Event} {s : Seen} → IsTied me old s → Interference me old new → IsTied me new s
+pub tied_meanwhile : {me : ℕ} {old new : List Event} {s : Seen} → IsTied me old s → Interference me old new → IsTied me new s
 tied_meanwhile {me} {old} {new} {s} tied m = record {
   living = λ now. subst (Agrees s) (sym (meanwhile_unseen m)) (tied.living (lived_meanwhile m now));
   conforms = λ kept. ap (λ (x : Seen). x.kept) (meanwhile_unseen m) ∙ tied.conforms kept;

@@ -4,3 +4,4 @@ pub mod Progress
 pub mod Work
 pub mod Causes
 pub mod Makings
+pub mod Handovers

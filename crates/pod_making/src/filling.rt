@@ -10,6 +10,7 @@ ghost use Rattle.pod_making.specs.Progress.{at_work, in_prepare};
 ghost use Rattle.pod_making.specs.Work.{MayMake, Owns, From, HasOwnFolder};
 ghost use Rattle.pod_making.specs.Causes.{WorkCause};
 ghost use Rattle.pod_making.specs.Makings.{HasFilled, FromFilled, IsHanded, HasMade};
+ghost use Rattle.pod_making.specs.Handovers.{HandsOverMade};
 
 use crate::error::{MakeError, build_refusal, change_refusal};
 use crate::place::pod_at;
@@ -48,6 +49,8 @@ fn hand_over<D: Dir>(alloc: Global, dir: &mut D, draw: PodId, to: Area) -> Resul
     ensures cause { IfErr result (λ e. WorkCause D.observed draw [] e (D.shown dir.old) (D.shown dir.new)) }
     ensures handed { IfOk result (λ done. D.observed ≡ true → (plan : List PlanEntry) → FromFilled to plan draw (D.shown dir.old)
         (λ intent hs entries. IsHanded draw to intent hs entries (D.shown dir.old) (D.shown dir.new))) }
+    ensures whole { D.observed ≡ true → (plan : List PlanEntry) → FromFilled to plan draw (D.shown dir.old)
+        (λ intent hs entries. HandsOverMade draw plan intent (D.shown dir.old) (D.shown dir.new)) }
     ensures left { IfErr result (λ e. D.observed ≡ true → (plan : List PlanEntry) → FromFilled to plan draw (D.shown dir.old)
         (λ intent hs entries. Knows (D.shown dir.new) (at_work intent hs (in_prepare draw entries)))) }
 {
@@ -73,6 +76,8 @@ pub(crate) fn finish_pod<D: Dir>(
     ensures cause { IfErr result (λ e. WorkCause D.observed draw plan.now e (D.shown dir.old) (D.shown dir.new)) }
     ensures made { IfOk result (λ done. D.observed ≡ true → From (MayMake to plan.now draw) (Owns draw) (in_prepare draw []) (D.shown dir.old)
         (λ intent hs. HasMade draw to plan.now intent hs (D.shown dir.old) (D.shown dir.new))) }
+    ensures whole { D.observed ≡ true → From (MayMake to plan.now draw) (Owns draw) (in_prepare draw []) (D.shown dir.old)
+        (λ intent hs. HandsOverMade draw plan.now intent (D.shown dir.old) (D.shown dir.new)) }
     ensures left { IfErr result (λ e. D.observed ≡ true → From (MayMake to plan.now draw) (Owns draw) (in_prepare draw []) (D.shown dir.old)
         (λ intent hs. HasOwnFolder draw intent hs (D.shown dir.new))) }
 {

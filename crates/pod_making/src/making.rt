@@ -8,6 +8,7 @@ ghost use Rattle.pod_making.specs.Progress.{nothing_made, own_held};
 ghost use Rattle.pod_making.specs.Work.{MayMake, UnderImages, From, HasOwnFolder, Went};
 ghost use Rattle.pod_making.specs.Causes.{MakeCause, BusyElsewhere};
 ghost use Rattle.pod_making.specs.Makings.{HasMade, with_owned};
+ghost use Rattle.pod_making.specs.Handovers.{HandsOverMade};
 ghost use Rattle.pod_ownership.specs.Running.{IsOwned, RunsPod};
 
 use crate::embryo::begin_pod;
@@ -43,6 +44,8 @@ pub fn make_prepared<D: Dir>(
         (λ intent hs. BusyElsewhere e (D.shown dir.old) (D.shown dir.new))) }
     ensures made { IfOk result (λ done. D.observed ≡ true → From (MayMake Area.Prepared plan.now draw) (UnderImages draw) nothing_made (D.shown dir.old)
         (λ intent hs. HasMade draw Area.Prepared plan.now intent hs (D.shown dir.old) (D.shown dir.new))) }
+    ensures whole { D.observed ≡ true → From (MayMake Area.Prepared plan.now draw) (UnderImages draw) nothing_made (D.shown dir.old)
+        (λ intent hs. HandsOverMade draw plan.now intent (D.shown dir.old) (D.shown dir.new)) }
     ensures left { IfErr result (λ e. D.observed ≡ true → From (MayMake Area.Prepared plan.now draw) (UnderImages draw) nothing_made (D.shown dir.old)
         (λ intent hs. HasOwnFolder draw intent hs (D.shown dir.new))) }
 {
@@ -71,6 +74,8 @@ pub fn make_running<D: Dir>(
         (λ intent hs. RunsPod draw (D.shown dir.new))) }
     ensures made { IfOk result (λ owned. D.observed ≡ true → From (MayMake Area.Run plan.now draw) (UnderImages draw) nothing_made (D.shown dir.old)
         (λ intent hs. HasMade draw Area.Run plan.now intent (own_held draw owned.own (Some Mode.Exclusive) ∷ hs) (D.shown dir.old) (D.shown dir.new))) }
+    ensures whole { D.observed ≡ true → From (MayMake Area.Run plan.now draw) (UnderImages draw) nothing_made (D.shown dir.old)
+        (λ intent hs. HandsOverMade draw plan.now intent (D.shown dir.old) (D.shown dir.new)) }
     ensures left { IfErr result (λ e. D.observed ≡ true → From (MayMake Area.Run plan.now draw) (UnderImages draw) nothing_made (D.shown dir.old)
         (λ intent hs. HasOwnFolder draw intent hs (D.shown dir.new))) }
 {

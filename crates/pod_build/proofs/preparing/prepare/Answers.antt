@@ -21,7 +21,11 @@ use Rattle.pod_build.specs.Preparations.{Began, IsAlone, HasGateAlone, HasPrepar
 use Rattle.dir_model.specs.Calls.{IsRun}
 use Rattle.pod_build.proofs.Parts.{refused_within}
 use Rattle.pod_build.proofs.Working.{ok_with, went_back, went_refused, hands_to, knows_back, left_back, may_lock, gate_elsewhere, elsewhere_within}
-use Rattle.pod_build.proofs.Faithful.{is_handed_over, is_prepared}
+use Rattle.pod_build.proofs.Faithful.{is_handed_over, is_prepared, hands_faithfully}
+use Rattle.pod_making.proofs.Handing.{none_handed, handed_after, handed_before, follow_on, run_until}
+use Rattle.pod_build.specs.FaithfulBuild.{IsFaithfulBuild, HandsOverFaithfully}
+use Rattle.pod_build.proofs.Working.{locks_take_none, close_takes}
+use Rattle.dir_model.proofs.Chains.{extends_wider}
 use Rattle.pod_build.proofs.preparing.prepare.Goals as goal
 
 pub returns-in-Ok-clause-went : goal.returns-in-Ok-clause-went
@@ -161,3 +165,23 @@ returns-in-Err-clause-another g c t intent hs began alone k =
 
 pub returns-in-Err-clause-left : goal.returns-in-Err-clause-left
 returns-in-Err-clause-left g c t intent hs began alone k = has_nothing (c.in-Err.ensures.left t (at_work intent hs nothing_made) k (may_lock alone))
+
+pub returns-in-Err-clause-makers : goal.returns-in-Err-clause-makers
+returns-in-Err-clause-makers g c t run intent hs began alone k = none_handed (locks_take_none Images Shared) (c.lock_area.ensures.extends t)
+
+pub returns-in-Ok-clause-makers : goal.returns-in-Ok-clause-makers
+returns-in-Ok-clause-makers g c t run intent hs began alone k =
+    let D = g.D.Dir in
+    let a = D.shown c.args.dir.now in
+    let b = D.shown c.lock_area.new.dir in
+    let late = D.shown c.prepare_under_lock-result.new.dir in
+    let gate = c.in-Ok.gate in
+    let under : List Held = on_gate gate Images (Some Shared) ∷ hs in
+    let known = c.in-Ok.ensures.taken t (at_work intent hs nothing_made) k (may_lock alone) in
+    let ab = c.lock_area.ensures.extends t in
+    let bc = c.prepare_under_lock-result.ensures.went.extends t in
+    let cd = extends_wider (close_takes gate) (c.unlock_area.ensures.extends t) in
+    let planned = c.prepare_under_lock-result.ensures.whole t intent under began (ap (λ (l : List Held). on_gate gate Images (Some Shared) ∷ l) alone) known in
+    let whole : HandsOverFaithfully b.process b.trace late.trace = hands_faithfully {under = under} (run_until cd run) began refl known planned in
+    let first : HandsOverFaithfully a.process a.trace late.trace = handed_after {P = λ me. IsFaithfulBuild me} (locks_take_none Images Shared) ab c.lock_area.ensures.same bc whole in
+    handed_before {P = IsFaithfulBuild a.process} (follow_on ab c.lock_area.ensures.same bc) first (c.prepare_under_lock-result.ensures.went.same ∙ c.lock_area.ensures.same) (locks_take_none Images Shared) cd

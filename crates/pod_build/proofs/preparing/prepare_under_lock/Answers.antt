@@ -1,4 +1,4 @@
-use Rattle.std.proofs.Common.{◌≡◌, true, inl, inr, List, sym, subst}
+use Rattle.std.proofs.Common.{◌≡◌, ℕ, true, inl, inr, List, sym, subst}
 use Rattle.folder_building.specs.declared.plan.PlanEntry.{PlanEntry}
 use Rattle.folder_building.proofs.Copying.{ok_more, err_more}
 use Rattle.pod_reading.specs.FaithfulPods.{PlansFaithfully}
@@ -9,9 +9,12 @@ use Rattle.pod_making.proofs.Knowing.{has_nothing}
 use Rattle.pod_making.proofs.Times.{nothing_follows, follows_went}
 use Rattle.pod_build.specs.Answers.{target, held_with}
 use Rattle.pod_build.specs.Causes.{FailsPlan, FailsMaking, IsRefusedUnderLock, IsHeldElsewhere}
-use Rattle.pod_build.specs.Preparations.{Began, HasGateAlone, HasPrepared}
+use Rattle.pod_build.specs.Preparations.{Began, HasGateAlone, HasPrepared, ReadsThenMakes}
 use Rattle.pod_build.proofs.Parts.{during_first, during_last}
 use Rattle.pod_build.proofs.Working.{follows_reads, went_reads, went_under, worked_reads, may_make, under_images, knows_read, elsewhere_within}
+use Rattle.pod_making.specs.Handovers.{BeforeHandingOver, KnewMade, HandsOverMade}
+use Rattle.pod_making.proofs.Handing.{none_handed, handed_among, handed_then}
+use Rattle.pod_build.proofs.Working.{reads_take_none}
 use Rattle.pod_build.proofs.preparing.prepare_under_lock.Goals as goal
 
 pub returns-in-Ok-clause-went : goal.returns-in-Ok-clause-went
@@ -94,3 +97,25 @@ returns-in-Err-clause-refused g c =
 
 pub returns-in-Err-clause-left : goal.returns-in-Err-clause-left
 returns-in-Err-clause-left g c t intent hs began alone k = has_nothing (knows_read c.args.gate alone (c.plan_pod.ensures.known t) k)
+
+pub returns-in-Err-clause-whole : goal.returns-in-Err-clause-whole
+returns-in-Err-clause-whole g c t intent hs began alone k = none_handed reads_take_none (c.plan_pod.ensures.only.extends t)
+
+pub returns-in-Ok-clause-whole : goal.returns-in-Ok-clause-whole
+returns-in-Ok-clause-whole g c t intent hs began alone k =
+    let D = g.D.Dir in
+    let old = D.shown c.args.dir.now in
+    let mid = D.shown c.plan_pod.new.dir in
+    let new = D.shown c.make.new.dir in
+    let draw = c.args.draw.now in
+    let to = target c.args.keep_owner in
+    let read = c.plan_pod.ensures.only.extends t in
+    let make = c.make.ensures.went.extends t in
+    let same = c.plan_pod.ensures.only.same in
+    let made : HandsOverMade draw.uuid c.in-Ok.plan.items intent mid new = subst (λ (plan : List PlanEntry). HandsOverMade draw.uuid plan intent mid new) c.deref.ensures.value
+        (c.make.ensures.whole t intent hs (subst (λ (plan : List PlanEntry). MayMake to plan draw.uuid intent) (sym c.deref.ensures.value) (may_make began c.in-Ok.ensures.turn c.in-Ok.ensures.whole)) (under_images draw.uuid c.args.gate alone) (knows_read c.args.gate alone (c.plan_pod.ensures.known t) k)) in
+    let Planned = λ (p : ℕ). BeforeHandingOver (ReadsThenMakes c.args.refs.now c.args.options.now draw c.args.now to intent old) p mid.trace new.trace in
+    let second : Planned mid.process = λ before m later from there begins moved out.
+        let x = handed_among make made before m later from there begins moved out in
+        record { mid = mid; reads = worked_reads t c.plan_pod.ensures.only; plan = c.in-Ok.plan.items; planned = c.in-Ok.ensures.faithful t; makes = x.1; knew = x.0 } in
+    handed_then read.more make.more read.grown make.grown (none_handed reads_take_none read) (subst Planned same second)

@@ -2,6 +2,7 @@ use Rattle.std.proofs.Common.{◌≡◌, true, [], List, rules}
 use Rattle.folder_building.specs.declared.plan.PlanEntry.{PlanEntry}
 use Rattle.dir_model.specs.declared.area.Area.{Area}
 use Rattle.dir_trait.specs.Knowledge.{Knows}
+use Rattle.pod_making.specs.Handovers.{KnewMade}
 use Rattle.folder_building.proofs.Copying.{ok_more, err_more}
 use Rattle.folder_building.proofs.Working.{worked_more, worked_wider}
 use Rattle.pod_making.specs.Progress.{at_work, in_prepare}
@@ -11,6 +12,7 @@ use Rattle.pod_making.specs.Makings.{FromFilled, IsHanded, HasMade}
 use Rattle.pod_making.proofs.Knowing.{has_prepare, handed_made}
 use Rattle.pod_making.proofs.Outcomes.{err_same, fills_finishes, hands_finishes}
 use Rattle.pod_making.proofs.Times.{follows_work, nothing_follows, cause_after, cause_planned}
+use Rattle.pod_making.proofs.Handing.{none_handed, handed_after, fills_take_none}
 use Rattle.pod_making.proofs.filling.finish_pod.Goals as goal
 
 pub returns-in_err-fill-clause-worked : goal.returns-in_err-fill-clause-worked
@@ -67,3 +69,13 @@ returns-clause-left g c =
     (λ e. D.observed ≡ true → From (MayMake to whole draw) (Owns draw) (in_prepare draw []) old (λ intent hs. HasOwnFolder draw intent hs new)) c.hand_over.result
     (λ e f t intent hs may owns k. let x = c.in_ok-fill.ensures.filled t to intent hs may owns k in has_prepare x.entries (f t whole intent hs x.entries may owns x.made x.knows))
     c.hand_over.ensures.left
+
+pub returns-in_err-fill-clause-whole : goal.returns-in_err-fill-clause-whole
+returns-in_err-fill-clause-whole g c t intent hs may owns k = none_handed (fills_take_none c.args.draw) (c.fill.ensures.worked.extends t)
+
+pub returns-clause-whole : goal.returns-clause-whole
+returns-clause-whole g c t intent hs may owns k =
+    let draw = c.args.draw in
+    let plan = c.args.plan.now in
+    let x = c.in_ok-fill.ensures.filled t c.args.to intent hs may owns k in
+    handed_after {P = λ me. KnewMade me draw plan intent} (fills_take_none draw) (c.fill.ensures.worked.extends t) c.fill.ensures.worked.same (c.hand_over.ensures.worked.extends t) (c.hand_over.ensures.whole t plan intent hs x.entries may owns x.made x.knows)

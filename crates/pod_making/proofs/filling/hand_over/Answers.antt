@@ -4,6 +4,7 @@ use Rattle.pod_making.specs.declared.error.MakeError.{MakeError}
 use Rattle.pod_making.specs.Causes.{WorkCause}
 use Rattle.pod_making.proofs.Calls.{with_spots, worked_hand, change_cause, stray_move}
 use Rattle.pod_making.proofs.Knowing.{knows_handed, knows_unhanded}
+use Rattle.pod_making.proofs.Handing.{hands_made}
 use Rattle.pod_making.proofs.filling.hand_over.Goals as goal
 
 pub returns-in-Ok-clause-worked : goal.returns-in-Ok-clause-worked
@@ -24,3 +25,9 @@ returns-in-Err-clause-cause g c =
 
 pub returns-in-Err-clause-left : goal.returns-in-Err-clause-left
 returns-in-Err-clause-left g c t plan = knows_unhanded {draw = c.args.draw} t c.args.to plan c.in-Err.error (with_spots c.pod_at-from.ensures c.pod_at-there.ensures c.in-Err.ensures.called)
+
+pub returns-in-Ok-clause-whole : goal.returns-in-Ok-clause-whole
+returns-in-Ok-clause-whole g c t plan = hands_made {draw = c.args.draw} t c.args.to plan c.in-Ok.ensures.called
+
+pub returns-in-Err-clause-whole : goal.returns-in-Err-clause-whole
+returns-in-Err-clause-whole g c t plan = hands_made {draw = c.args.draw} t c.args.to plan c.in-Err.ensures.called
