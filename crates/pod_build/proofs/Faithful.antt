@@ -44,10 +44,10 @@ use Rattle.pod_reading.specs.FaithfulPods.{IsPodOf, read_between}
 use Rattle.pod_making.specs.Requests.{pod_at, makes_pod}
 use Rattle.pod_making.specs.Progress.{at_work, holding, nothing_made}
 use Rattle.pod_making.specs.Makings.{HasMoved}
-use Rattle.pod_making.specs.Handovers.{KnewMade}
+use Rattle.pod_making.specs.Handovers.{BeforeHandingOver, KnewMade}
 use Rattle.pod_making.proofs.Handing.{until_step}
 use Rattle.pod_making.proofs.Times.{Follows}
-use Rattle.pod_build.specs.Preparations.{Began, HasPrepared, ReadsThenMakes, HandsOverPlanned, IsHandedOver, IsPrepared}
+use Rattle.pod_build.specs.Preparations.{Began, HasPrepared, ReadsThenMakes, IsHandedOver, IsPrepared}
 use Rattle.pod_build.specs.FaithfulBuild.{HasImagesBetween, IsFaithfulBuild, HandsOverFaithfully}
 
 -- none of these requests begins a process
@@ -206,11 +206,12 @@ module _ {refs : List ImageRef} {options : Wishes} {draw : Draw} {now : ℕ} {to
   }
 
 -- so each move out of prepare was
-pub hands_faithfully : {observed : Bool} {refs : List ImageRef} {options : Wishes} {draw : Draw} {now : ℕ} {to : Area} {intent : Intent} {under : List Held} {b d : DirAt} → IsRun d.trace → Began to draw now intent →
-    shares_images (at_work intent under nothing_made) ≡ true → Knows b (at_work intent under nothing_made) → HandsOverPlanned refs options draw now to intent b d → HandsOverFaithfully b.process b.trace d.trace
-hands_faithfully {b = b} run began gate knows x before meanwhile later from there begins moved out =
-    faithful_build b.process refl began gate knows (x before meanwhile later from there begins moved out)
-    (alive_in_run before (event b.process (MoveFolder from there) Done) later (subst IsRun moved run) refl)
+pub hands_faithfully : {refs : List ImageRef} {options : Wishes} {draw : Draw} {now : ℕ} {to : Area} {intent : Intent} {under : List Held} {b : DirAt} {trace : List Event} → IsRun trace → Began to draw now intent →
+    shares_images (at_work intent under nothing_made) ≡ true → Knows b (at_work intent under nothing_made) → BeforeHandingOver (ReadsThenMakes refs options draw now to intent b) b.process b.trace trace →
+    HandsOverFaithfully b.process b.trace trace
+hands_faithfully {b = b} run began gate knows x = record { so = λ before meanwhile later from there begins moved out.
+    faithful_build b.process refl began gate knows (x.so before meanwhile later from there begins moved out)
+    (alive_in_run before (event b.process (MoveFolder from there) Done) later (subst IsRun moved run) refl) }
 
 module _ {observed : Bool} {refs : List ImageRef} {options : Wishes} {draw : Draw} {now : ℕ} {to : Area} {intent : Intent} {hs under : List Held} {a b d e : DirAt}
     (t : observed ≡ true) (run : IsRun e.trace) (began : Began to draw now intent) (ab : Follows observed a b) (de : Follows observed d e)
@@ -239,10 +240,10 @@ module _ {observed : Bool} {refs : List ImageRef} {options : Wishes} {draw : Dra
       ∙ append_assoc m.before (step ∷ m.later) (de.extends t).more)
 
   -- until then it had read and made
-  made : ReadsThenMakes refs options draw now to intent b m.before
+  abbrev made : ReadsThenMakes refs options draw now to intent b m.before
   made =
       let knew : KnewMade x.mid.process draw.uuid x.plan intent m.before = record { entries = x.made.entries; made = x.made.made; seen = m.seen; began = m.began; making = m.making; knew = m.knew } in
-      record { mid = x.mid; reads = x.reads; plan = x.plan; planned = x.planned; makes = until_step x.works m.begins m.moved; knew = knew }
+      record { mid = x.mid; reads = x.reads; plan = x.plan; planned = x.planned; makes = until_step m.before m.meanwhile m.later (event x.mid.process (MoveFolder from there) Done) x.works m.begins m.moved; knew = knew }
 
   bc : Follows observed b x.mid
   bc = record { same = x.reads.same; faults = x.reads.faults; asks = reads_images; extends = λ u. x.reads.extends refl }
@@ -266,7 +267,7 @@ module _ {observed : Bool} {refs : List ImageRef} {options : Wishes} {draw : Dra
   pub is_prepared : IsConforming e.trace → hands_over Prepare to ≡ true → IsPrepared refs options a.process draw.uuid to a.trace e.trace
   is_prepared conforms hands =
       let left = moves_hand_over e.trace conforms m.before a.process from there later moved hands in
-      let same : left.1.making ≡ holding from entries = one_making (sym left.1.knew ∙ making_is a.process ab.same began gate knows made living) in
+      let same : left.1.making ≡ holding from x.made.entries = one_making (sym left.1.knew ∙ making_is a.process ab.same began gate knows made living) in
       record {
         before = m.before;
         later = later;

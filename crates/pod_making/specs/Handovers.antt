@@ -19,10 +19,9 @@ use Rattle.pod_making.specs.Requests.{pod_at}
 use Rattle.pod_making.specs.Progress.{holding}
 
 -- this was so of the trace just before each own Ok move of a folder out of prepare, between these two traces
-abbrev pub BeforeHandingOver : (List Event → Type 0) → ℕ → List Event → List Event → Type 0
-BeforeHandingOver P me old new =
-    (before meanwhile later : List Event) (from to : Spot) → before ≡ old ++ meanwhile →
-    new ≡ before ++ event me (MoveFolder from to) Done ∷ later → is_in Prepare from.area ≡ true → P before
+pub record BeforeHandingOver (P : List Event → Type 0) (me : ℕ) (old new : List Event) : Type 0 where
+  pub so : (before meanwhile later : List Event) (from to : Spot) → before ≡ old ++ meanwhile →
+      new ≡ before ++ event me (MoveFolder from to) Done ∷ later → is_in Prepare from.area ≡ true → P before
 
 -- by what it knew, the folder in prepare held exactly what the plan asks for, each change Ok and all of it synced. It had begun so
 pub record KnewMade (me : ℕ) (draw : PodId) (plan : List PlanEntry) (intent : Intent) (before : List Event) : Type 0 where

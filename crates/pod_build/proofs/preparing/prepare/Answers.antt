@@ -1,4 +1,4 @@
-use Rattle.std.proofs.Common.{◌≡◌, true, not, inl, inr, Err, Some, List, [], ◌∷◌, refl, sym, ap, subst, arith}
+use Rattle.std.proofs.Common.{◌≡◌, true, not, inl, inr, Err, Some, List, [], ◌∷◌, refl, sym, ap, subst, arith, ◌∙◌}
 use Rattle.dir_model.specs.declared.area.Area.TheVariants.{Images}
 use Rattle.dir_model.specs.declared.spot.Mode.TheVariants.{Shared}
 use Rattle.dir_model.specs.declared.opening.Target.TheVariants.{Gate}
@@ -183,5 +183,5 @@ returns-in-Ok-clause-makers g c t run intent hs began alone k =
     let cd = extends_wider (close_takes gate) (c.unlock_area.ensures.extends t) in
     let planned = c.prepare_under_lock-result.ensures.whole t intent under began (ap (λ (l : List Held). on_gate gate Images (Some Shared) ∷ l) alone) known in
     let whole : HandsOverFaithfully b.process b.trace late.trace = hands_faithfully {under = under} (run_until cd run) began refl known planned in
-    let first : HandsOverFaithfully a.process a.trace late.trace = handed_after {P = λ me. IsFaithfulBuild me} (locks_take_none Images Shared) ab c.lock_area.ensures.same bc whole in
+    let first : HandsOverFaithfully a.process a.trace late.trace = handed_after (λ me. IsFaithfulBuild me) (locks_take_none Images Shared) ab c.lock_area.ensures.same bc whole in
     handed_before {P = IsFaithfulBuild a.process} (follow_on ab c.lock_area.ensures.same bc) first (c.prepare_under_lock-result.ensures.went.same ∙ c.lock_area.ensures.same) (locks_take_none Images Shared) cd

@@ -12,8 +12,8 @@ use Rattle.pod_build.specs.Causes.{FailsPlan, FailsMaking, IsRefusedUnderLock, I
 use Rattle.pod_build.specs.Preparations.{Began, HasGateAlone, HasPrepared, ReadsThenMakes}
 use Rattle.pod_build.proofs.Parts.{during_first, during_last}
 use Rattle.pod_build.proofs.Working.{follows_reads, went_reads, went_under, worked_reads, may_make, under_images, knows_read, elsewhere_within}
-use Rattle.pod_making.specs.Handovers.{BeforeHandingOver, KnewMade, HandsOverMade}
-use Rattle.pod_making.proofs.Handing.{none_handed, handed_among, handed_then}
+use Rattle.pod_making.specs.Handovers.{BeforeHandingOver, HandsOverMade}
+use Rattle.pod_making.proofs.Handing.{none_handed, handed_among, handed_so, handed_then}
 use Rattle.pod_build.proofs.Working.{reads_take_none}
 use Rattle.pod_build.proofs.preparing.prepare_under_lock.Goals as goal
 
@@ -115,7 +115,6 @@ returns-in-Ok-clause-whole g c t intent hs began alone k =
     let made : HandsOverMade draw.uuid c.in-Ok.plan.items intent mid new = subst (λ (plan : List PlanEntry). HandsOverMade draw.uuid plan intent mid new) c.deref.ensures.value
         (c.make.ensures.whole t intent hs (subst (λ (plan : List PlanEntry). MayMake to plan draw.uuid intent) (sym c.deref.ensures.value) (may_make began c.in-Ok.ensures.turn c.in-Ok.ensures.whole)) (under_images draw.uuid c.args.gate alone) (knows_read c.args.gate alone (c.plan_pod.ensures.known t) k)) in
     let Planned = λ (p : ℕ). BeforeHandingOver (ReadsThenMakes c.args.refs.now c.args.options.now draw c.args.now to intent old) p mid.trace new.trace in
-    let second : Planned mid.process = λ before m later from there begins moved out.
-        let x = handed_among make made before m later from there begins moved out in
-        record { mid = mid; reads = worked_reads t c.plan_pod.ensures.only; plan = c.in-Ok.plan.items; planned = c.in-Ok.ensures.faithful t; makes = x.1; knew = x.0 } in
+    let second : Planned mid.process =
+        handed_so (λ before x. record { mid = mid; reads = worked_reads t c.plan_pod.ensures.only; plan = c.in-Ok.plan.items; planned = c.in-Ok.ensures.faithful t; makes = x.1; knew = x.0 }) (handed_among make made) in
     handed_then read.more make.more read.grown make.grown (none_handed reads_take_none read) (subst Planned same second)

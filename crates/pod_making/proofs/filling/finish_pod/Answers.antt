@@ -78,4 +78,4 @@ returns-clause-whole g c t intent hs may owns k =
     let draw = c.args.draw in
     let plan = c.args.plan.now in
     let x = c.in_ok-fill.ensures.filled t c.args.to intent hs may owns k in
-    handed_after {P = λ me. KnewMade me draw plan intent} (fills_take_none draw) (c.fill.ensures.worked.extends t) c.fill.ensures.worked.same (c.hand_over.ensures.worked.extends t) (c.hand_over.ensures.whole t plan intent hs x.entries may owns x.made x.knows)
+    handed_after (λ me. KnewMade me draw plan intent) (fills_take_none draw) (c.fill.ensures.worked.extends t) c.fill.ensures.worked.same (c.hand_over.ensures.worked.extends t) (c.hand_over.ensures.whole t plan intent hs x.entries may owns x.made x.knows)

@@ -76,7 +76,7 @@ returns-in-Ok-clause-whole g c t intent hs may under k =
     let draw = c.args.draw in
     let plan = c.args.plan.now in
     let own = c.in_ok-own.own in
-    handed_after {P = λ me. KnewMade me draw plan intent} (begins_take_none draw) (c.begin_pod.ensures.went.extends t) c.begin_pod.ensures.went.same (c.finish_pod.ensures.worked.extends t)
+    handed_after (λ me. KnewMade me draw plan intent) (begins_take_none draw) (c.begin_pod.ensures.went.extends t) c.begin_pod.ensures.went.same (c.finish_pod.ensures.worked.extends t)
     (c.finish_pod.ensures.whole t intent (own_held draw own (Some Exclusive) ∷ hs) may (owns_images own under) (c.in_ok-own.ensures.held t intent hs (is_maker_of may) under k))
 
 pub returns-in-Err-clause-whole : goal.returns-in-Err-clause-whole
@@ -84,8 +84,8 @@ returns-in-Err-clause-whole g c t intent hs may under k =
     let draw = c.args.draw in
     let plan = c.args.plan.now in
     let own = c.in_ok-own.own in
-    handed_close {P = KnewMade (g.D.Dir.shown c.args.dir.now).process draw plan intent} t (follow_on (c.begin_pod.ensures.went.extends t) c.begin_pod.ensures.went.same (c.finish_pod.ensures.worked.extends t))
+    handed_close (follow_on (c.begin_pod.ensures.went.extends t) c.begin_pod.ensures.went.same (c.finish_pod.ensures.worked.extends t))
     (c.finish_pod.ensures.worked.same ∙ c.begin_pod.ensures.went.same)
-    (handed_after {P = λ me. KnewMade me draw plan intent} (begins_take_none draw) (c.begin_pod.ensures.went.extends t) c.begin_pod.ensures.went.same (c.finish_pod.ensures.worked.extends t)
+    (handed_after (λ me. KnewMade me draw plan intent) (begins_take_none draw) (c.begin_pod.ensures.went.extends t) c.begin_pod.ensures.went.same (c.finish_pod.ensures.worked.extends t)
     (c.finish_pod.ensures.whole t intent (own_held draw own (Some Exclusive) ∷ hs) may (owns_images own under) (c.in_ok-own.ensures.held t intent hs (is_maker_of may) under k)))
-    c.close.ensures.called
+    (c.close.ensures.called.step t)
