@@ -11,7 +11,7 @@ use Rattle.dir_model.specs.declared.request.Request.TheVariants.{MoveFolder}
 use Rattle.dir_model.specs.declared.request.Reply.TheVariants.{Done}
 use Rattle.dir_model.specs.declared.spot.Handle.{Handle}
 use Rattle.dir_model.specs.declared.spot.Mode.TheVariants.{Shared}
-use Rattle.dir_model.specs.Calls.{Extends, event}
+use Rattle.dir_model.specs.Calls.{Extends, IsRun, event}
 use Rattle.dir_model.specs.State.{folder_at}
 use Rattle.dir_model.specs.Trace.{state_after}
 use Rattle.dir_rules.specs.declared.standing.Held.{Held}
@@ -32,11 +32,11 @@ use Rattle.pod_manifest.specs.Wishes.{Wishes}
 use Rattle.pod_reading.specs.Readings.{HaveTrees}
 use Rattle.pod_reading.specs.FaithfulPods.{PlansFaithfully}
 use Rattle.pod_making.specs.Requests.{pod_at, makes_pod}
-use Rattle.pod_making.specs.Progress.{at_work, handed}
-use Rattle.pod_making.specs.Work.{leads_to}
+use Rattle.pod_making.specs.Progress.{at_work, handed, nothing_made}
+use Rattle.pod_making.specs.Work.{leads_to, From}
 use Rattle.pod_making.specs.Makings.{HasMade}
 use Rattle.pod_making.specs.Handovers.{BeforeHandingOver, KnewMade}
-use Rattle.pod_build.specs.FaithfulBuild.{IsFaithfulBuild}
+use Rattle.pod_build.specs.FaithfulBuild.{IsFaithfulBuild, HandsOverFaithfully}
 
 -- a process has begun so that it leads to this area, with this draw, at this moment
 pub record Began (to : Area) (draw : Draw) (now : ℕ) (intent : Intent) : Type 0 where
@@ -105,3 +105,7 @@ pub record IsPrepared (refs : List ImageRef) (options : Wishes) (me : ℕ) (draw
   pub folder : ℕ
   pub stands : folder_at (state_after (then_moved before me (pod_at Prepare draw) (pod_at to draw))).namespace (pod_at to draw) ≡ Some folder
   pub holds : entries_in folder (state_after (then_moved before me (pod_at Prepare draw) (pod_at to draw))).entries ≡ faithful.built.making.entries
+
+-- in every run: whatever a process hands over that has begun so, and has made nothing, it made faithfully
+abbrev pub MakesFaithfully : Area → Draw → ℕ → DirAt → DirAt → Type 0
+MakesFaithfully to draw now old new = IsRun new.trace → From (Began to draw now) IsAlone nothing_made old (λ intent hs. HandsOverFaithfully old.process old.trace new.trace)

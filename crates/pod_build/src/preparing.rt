@@ -10,8 +10,7 @@ ghost use Rattle.pod_making.specs.Work.{From, HasOwnFolder, Went};
 ghost use Rattle.pod_build.specs.Requests.{prepares, prepares_under_lock};
 ghost use Rattle.pod_build.specs.Answers.{target, with_built, held_with, IsAnswer};
 ghost use Rattle.pod_build.specs.Causes.{IsRefused, IsRefusedUnderLock, IsHeldElsewhere};
-ghost use Rattle.pod_build.specs.Preparations.{Began, IsAlone, HasGateAlone, HasPrepared, KnowsPrepared, HandsOverPlanned, IsHandedOver, IsPrepared};
-ghost use Rattle.pod_build.specs.FaithfulBuild.{HandsOverFaithfully};
+ghost use Rattle.pod_build.specs.Preparations.{Began, IsAlone, HasGateAlone, HasPrepared, KnowsPrepared, HandsOverPlanned, IsHandedOver, IsPrepared, MakesFaithfully};
 
 use crate::error::{BuildError, gate_refusal, plan_refusal};
 use crate::making::{Built, make};
@@ -89,8 +88,7 @@ pub fn prepare<D: Dir>(
     ensures faithful { IfOk result (λ built. D.observed ≡ true → IsRun (D.shown dir.new).trace
         → From (Began (target keep_owner) draw.now now) IsAlone nothing_made (D.shown dir.old)
         (λ intent hs. IsHandedOver (D.shown dir.old).process draw.now.uuid (target keep_owner) (D.shown dir.old).trace (D.shown dir.new).trace)) }
-    ensures makers { D.observed ≡ true → IsRun (D.shown dir.new).trace → From (Began (target keep_owner) draw.now now) IsAlone nothing_made (D.shown dir.old)
-        (λ intent hs. HandsOverFaithfully (D.shown dir.old).process (D.shown dir.old).trace (D.shown dir.new).trace) }
+    ensures makers { D.observed ≡ true → MakesFaithfully (target keep_owner) draw.now now (D.shown dir.old) (D.shown dir.new) }
     ensures knows { IfOk result (λ built. D.observed ≡ true → From (Began (target keep_owner) draw.now now) IsAlone nothing_made (D.shown dir.old)
         (λ intent hs. KnowsPrepared draw.now.uuid (target keep_owner) intent (held_with draw.now.uuid built []) (D.shown dir.new))) }
     ensures left { IfErr result (λ e. D.observed ≡ true → From (Began (target keep_owner) draw.now now) IsAlone nothing_made (D.shown dir.old)

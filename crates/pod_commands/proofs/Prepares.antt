@@ -10,7 +10,7 @@ use Rattle.dir_model.specs.declared.request.DirError.TheVariants as dir
 use Rattle.dir_model.specs.declared.request.Reply.{Reply}
 use Rattle.dir_model.specs.declared.request.Reply.TheVariants.{Done, Refused}
 use Rattle.dir_model.specs.declared.request.Request.{Request}
-use Rattle.dir_model.specs.declared.request.Request.TheVariants.{SyncArea}
+use Rattle.dir_model.specs.declared.request.Request.TheVariants.{MoveFolder, SyncArea}
 use Rattle.dir_model.specs.Calls.{CallStep}
 use Rattle.dir_model.specs.Local.{Local, local_replied}
 use Rattle.dir_model.specs.Replies.{may_refuse}
@@ -25,6 +25,7 @@ use Rattle.lifecycle.specs.Executions.{IsConforming}
 use Rattle.pod_manifest.specs.Wishes.{Wishes}
 use Rattle.pod_making.specs.Progress.{at_work, nothing_made, handed}
 use Rattle.pod_making.specs.Work.{From, HasOwnFolder, Went}
+use Rattle.pod_making.proofs.Handing.{TakesNothingOut}
 use Rattle.pod_build.specs.declared.error.BuildError.{BuildError}
 use Rattle.pod_build.specs.declared.making.Built.{Built}
 use Rattle.pod_build.specs.declared.making.Built.TheVariants as built
@@ -41,6 +42,11 @@ use Rattle.pod_commands.specs.References.{AreReferences}
 use Rattle.pod_commands.specs.Refusals.{prepare_refusal, IsSaid}
 use Rattle.pod_commands.specs.Prepare.{pod_line, no_wishes, syncs, prepares_pod, sync_refusal, SyncSays, BringsPod, LeavesFolder, RefusesPod, IsHeldFrom, PrepareSays}
 use Rattle.pod_commands.proofs.Sayings.{busy_of}
+
+-- a sync of the area takes nothing out of prepare
+pub syncs_take_none : TakesNothingOut (syncs Prepared)
+syncs_take_none (MoveFolder from to) is = cc
+syncs_take_none request is = refl
 
 -- by what is seen of the directory
 pub at_begin : (observed : Bool) {a : DirAt} (intent : Intent) → Knows (shown_at (seen_at observed a)) (begun intent) → Knows a (at_work intent [] nothing_made)

@@ -5,7 +5,7 @@ ghost use Rattle.dir_model.specs.declared.area.Area.{Area};
 ghost use Rattle.dir_model.specs.declared.intent.Intent.{Intent};
 ghost use Rattle.dir_trait.specs.Local.{IsActive};
 ghost use Rattle.folder_building.specs.Work.{Worked};
-ghost use Rattle.pod_build.specs.Preparations.{Began};
+ghost use Rattle.pod_build.specs.Preparations.{Began, MakesFaithfully};
 ghost use Rattle.command_outcomes.specs.Conforming.{StaysConforming};
 ghost use Rattle.command_outcomes.specs.Moments.{dir_at};
 ghost use Rattle.pod_commands.specs.Refusals.{prepare_refusal};
@@ -77,6 +77,7 @@ fn prepare_saying<D: Dir>(
     ensures cause { IsErrOf result Refusal.DirFault → Rose (D.shown dir.old).faults (D.shown dir.new).faults }
     ensures refusals { IfErr result (λ r. prepare_refusal r ≡ true) }
     ensures known { D.observed ≡ true → (intent : Intent) → Began Area.Prepared draw.now now intent → StaysConforming intent (dir_at D.Dir dir.old) (dir_at D.Dir dir.new) }
+    ensures makers { D.observed ≡ true → MakesFaithfully Area.Prepared draw.now now (D.shown dir.old) (D.shown dir.new) }
     ensures says { PrepareSays wanted.now now draw.now (dir_at D.Dir dir.old) (dir_at D.Dir dir.new) result }
 {
     let options = no_options(alloc);
@@ -108,6 +109,7 @@ pub fn prepare_pod<D: Dir>(
     ensures cause { IsErrOf result Refusal.DirFault → Rose (D.shown dir.old).faults (D.shown dir.new).faults }
     ensures refusals { IfErr result (λ r. prepare_refusal r ≡ true) }
     ensures known { D.observed ≡ true → (intent : Intent) → Began Area.Prepared draw.now now intent → StaysConforming intent (dir_at D.Dir dir.old) (dir_at D.Dir dir.new) }
+    ensures makers { D.observed ≡ true → MakesFaithfully Area.Prepared draw.now now (D.shown dir.old) (D.shown dir.new) }
     ensures says { PrepareSays wanted.now now draw.now (dir_at D.Dir dir.old) (dir_at D.Dir dir.new) result }
 {
     // Made first: a pod that is prepared can't be told where there is no memory for its line.

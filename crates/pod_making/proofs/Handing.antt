@@ -87,6 +87,10 @@ none_handed {P} {asks} {me} {old} {new} none e = record { so = λ before m later
         let asked : asks (MoveFolder from to) ≡ true = sym (ap (λ b. b || asks (MoveFolder from to)) (own_move me from to)) ∙ own in
         never (is_in Prepare from.area) out (none (MoveFolder from to) asked)
 
+-- and where nothing is asked for at all
+pub nothing_handed : {P : List Event → Type 0} {me : ℕ} {trace : List Event} → BeforeHandingOver P me trace trace
+nothing_handed {P} {me} {trace} = none_handed {asks = λ r. false} (λ r is. let clash : false ≡ true = is in cc) nothing_yet
+
 -- one part of a time after another
 pub handed_then : {P : List Event → Type 0} {me : ℕ} {a b c : List Event} (x y : List Event) → b ≡ a ++ x → c ≡ b ++ y → BeforeHandingOver P me a b → BeforeHandingOver P me b c → BeforeHandingOver P me a c
 handed_then {P} {me} {a} {b} {c} x y ab bc first second = record { so = so }

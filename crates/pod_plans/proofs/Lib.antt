@@ -4,4 +4,4 @@ mod Names
 mod Plans
 mod Pods
 mod Roots
-mod Under
+pub mod Under

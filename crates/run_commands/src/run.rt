@@ -5,7 +5,7 @@ ghost use Rattle.dir_model.specs.declared.area.Area.{Area};
 ghost use Rattle.dir_model.specs.declared.intent.Intent.{Intent};
 ghost use Rattle.dir_trait.specs.Local.{IsActive};
 ghost use Rattle.folder_building.specs.Work.{Worked};
-ghost use Rattle.pod_build.specs.Preparations.{Began};
+ghost use Rattle.pod_build.specs.Preparations.{Began, MakesFaithfully};
 ghost use Rattle.pod_commands.specs.Prepare.{pod_line};
 ghost use Rattle.command_outcomes.specs.Conforming.{StaysConforming};
 ghost use Rattle.command_outcomes.specs.Moments.{dir_at, inside_at};
@@ -52,6 +52,7 @@ fn run_saying<D: Dir, S: Spawner>(
     ensures spawn_cause { IsErrOf result Refusal.SpawnFault → Rose (S.shown spawner.old).faults (S.shown spawner.new).faults }
     ensures refusals { IfErr result (λ r. new_run_refusal r ≡ true) }
     ensures known { D.observed ≡ true → (intent : Intent) → Began Area.Run draw.now now intent → StaysConforming intent (dir_at D.Dir dir.old) (dir_at D.Dir dir.new) }
+    ensures makers { D.observed ≡ true → MakesFaithfully Area.Run draw.now now (D.shown dir.old) (D.shown dir.new) }
     ensures says { NewRunSays D.observed S.observed wanted.now now draw.now (D.shown dir.old) (D.shown dir.new) (S.shown spawner.old) (S.shown spawner.new) result }
 {
     let options = no_options(alloc);
@@ -82,6 +83,7 @@ pub fn run<D: Dir, S: Spawner>(
     ensures spawn_cause { IsErrOf result Refusal.SpawnFault → Rose (S.shown spawner.old).faults (S.shown spawner.new).faults }
     ensures refusals { IfErr result (λ r. new_run_refusal r ≡ true) }
     ensures known { D.observed ≡ true → (intent : Intent) → Began Area.Run draw.now now intent → StaysConforming intent (dir_at D.Dir dir.old) (dir_at D.Dir dir.new) }
+    ensures makers { D.observed ≡ true → MakesFaithfully Area.Run draw.now now (D.shown dir.old) (D.shown dir.new) }
     ensures says { RunIsTold wanted.now now draw.now (inside_at D.Dir S.Spawner dir.old spawner.old) (inside_at D.Dir S.Spawner dir.new spawner.new) result }
 {
     // Made first: a pod whose apps ran can't be named where there is no memory for its line.

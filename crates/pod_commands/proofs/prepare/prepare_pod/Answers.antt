@@ -1,4 +1,5 @@
 use Rattle.pod_commands.proofs.Prepares.{nothing_keeps, nothing_says}
+use Rattle.pod_making.proofs.Handing.{nothing_handed}
 use Rattle.pod_commands.proofs.prepare.prepare_pod.Goals as goal
 
 pub returns-in-Err-clause-known : goal.returns-in-Err-clause-known
@@ -10,3 +11,6 @@ pub returns-in-Err-clause-says : goal.returns-in-Err-clause-says
 returns-in-Err-clause-says g c =
     let D = g.D.Dir in
     nothing_says D.observed (D.shown c.args.dir.now) c.args.wanted.now c.args.now c.args.draw.now
+
+pub returns-in-Err-clause-makers : goal.returns-in-Err-clause-makers
+returns-in-Err-clause-makers g c t run intent hs began alone k = nothing_handed

@@ -1,5 +1,6 @@
 use Rattle.std.proofs.Common.{inr, refl}
 use Rattle.run_commands.proofs.NewRuns.{unbegun_keeps, told_between}
+use Rattle.pod_making.proofs.Handing.{nothing_handed}
 use Rattle.run_commands.proofs.run.run.Goals as goal
 
 pub returns-in-Ok-clause-says : goal.returns-in-Ok-clause-says
@@ -16,3 +17,6 @@ returns-in-Err-clause-says g c =
     let D = g.D.Dir in
     let S = g.S.Spawner in
     told_between D.observed S.observed c.args.wanted.now c.args.now c.args.draw.now (D.shown c.args.dir.now) (D.shown c.args.dir.now) (S.shown c.args.spawner.now) (S.shown c.args.spawner.now) _ (inr (inr (record { is = refl; same = refl; unasked = refl })))
+
+pub returns-in-Err-clause-makers : goal.returns-in-Err-clause-makers
+returns-in-Err-clause-makers g c t run intent hs began alone k = nothing_handed

@@ -1,0 +1,18 @@
+use Rattle.lifecycle.specs.Executions.{IsConforming}
+use Rattle.std.proofs.Common.{◌≡◌, List, ◌++◌, subst}
+use Rattle.dir_model.specs.declared.event.Event.{Event}
+use Rattle.lifecycle.proofs.Draws.{conforming_left}
+use Rattle.pod_build.specs.LegalExecutions.{IsLegal}
+use Rattle.pod_roots.proofs.Standing.{legal_before, pods_stand, apps_start}
+use Rattle.pod_roots.proofs.laws.roots.Goals as goal
+
+pub returns-clause-begins : goal.returns-clause-begins
+returns-clause-begins c legal before later is =
+    let whole : IsLegal (before ++ later) = subst IsLegal is legal in
+    legal_before before later (conforming_left before later whole.conforms) whole
+
+pub returns-clause-stand : goal.returns-clause-stand
+returns-clause-stand c = λ legal. pods_stand c.args.history.now.items legal
+
+pub returns-clause-start : goal.returns-clause-start
+returns-clause-start c = λ legal. apps_start c.args.history.now.items legal
