@@ -44,7 +44,7 @@ use Rattle.pod_making.specs.Causes.{IsCopiedAt, MakeCause}
 use Rattle.pod_making.proofs.Begun.{begun_under}
 use Rattle.pod_making.proofs.Locals.{other_number, gate_closed}
 use Rattle.pod_making.proofs.Steps.{gate_given_after}
-use Rattle.pod_making.proofs.Handing.{TakesNothingOut}
+use Rattle.pod_making.proofs.Handing.{HandsNothingOver}
 use Rattle.pod_making.proofs.Times.{Follows}
 use Rattle.pod_reading.specs.declared.error.PlanError.{PlanError}
 use Rattle.pod_reading.specs.declared.error.PlanError.TheVariants as plan
@@ -95,14 +95,14 @@ pub close_takes : (h : Handle) (r : Request) → closes h r ≡ true → takes I
 close_takes h (Close handle) is = refl
 close_takes h r is = cc
 
--- neither the lock nor the reading takes a folder out of prepare
-pub locks_take_none : (area : Area) (mode : Mode) → TakesNothingOut (takes area mode)
-locks_take_none area mode (MoveFolder from to) is = cc
-locks_take_none area mode request is = refl
+-- neither the lock nor the reading hands a pod over
+pub locks_hand_none : (area : Area) (mode : Mode) → HandsNothingOver (takes area mode)
+locks_hand_none area mode (MoveFolder from to) is = cc
+locks_hand_none area mode request is = refl
 
-pub reads_take_none : TakesNothingOut reads_images
-reads_take_none (MoveFolder from to) is = cc
-reads_take_none request is = refl
+pub reads_hand_none : HandsNothingOver reads_images
+reads_hand_none (MoveFolder from to) is = cc
+reads_hand_none request is = refl
 
 -- the images are read, and then the pod is made
 pub follows_reads : {observed : Bool} {a b : DirAt} → OnlyReadsImages observed a b → Follows observed a b

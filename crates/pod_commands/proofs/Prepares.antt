@@ -25,7 +25,7 @@ use Rattle.lifecycle.specs.Executions.{IsConforming}
 use Rattle.pod_manifest.specs.Wishes.{Wishes}
 use Rattle.pod_making.specs.Progress.{at_work, nothing_made, handed}
 use Rattle.pod_making.specs.Work.{From, HasOwnFolder, Went}
-use Rattle.pod_making.proofs.Handing.{TakesNothingOut}
+use Rattle.pod_making.proofs.Handing.{HandsNothingOver}
 use Rattle.pod_build.specs.declared.error.BuildError.{BuildError}
 use Rattle.pod_build.specs.declared.making.Built.{Built}
 use Rattle.pod_build.specs.declared.making.Built.TheVariants as built
@@ -43,10 +43,10 @@ use Rattle.pod_commands.specs.Refusals.{prepare_refusal, IsSaid}
 use Rattle.pod_commands.specs.Prepare.{pod_line, no_wishes, syncs, prepares_pod, sync_refusal, SyncSays, BringsPod, LeavesFolder, RefusesPod, IsHeldFrom, PrepareSays}
 use Rattle.pod_commands.proofs.Sayings.{busy_of}
 
--- a sync of the area takes nothing out of prepare
-pub syncs_take_none : TakesNothingOut (syncs Prepared)
-syncs_take_none (MoveFolder from to) is = cc
-syncs_take_none request is = refl
+-- a sync of the area hands nothing over
+pub syncs_hand_none : HandsNothingOver (syncs Prepared)
+syncs_hand_none (MoveFolder from to) is = cc
+syncs_hand_none request is = refl
 
 -- by what is seen of the directory
 pub at_begin : (observed : Bool) {a : DirAt} (intent : Intent) → Knows (shown_at (seen_at observed a)) (begun intent) → Knows a (at_work intent [] nothing_made)

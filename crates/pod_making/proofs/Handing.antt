@@ -1,5 +1,5 @@
--- The moves by which a process brings a pod out of prepare: none among other requests, and the parts of a time together.
-use Rattle.std.proofs.Common.{◌≡◌, ◌⊎◌, inl, inr, ℕ, Bool, true, false, not, ◌||◌, ◌==◌, bytes_eq, List, [], ◌∷◌, ◌++◌, refl, sym, ap, subst, ◌∙◌, append_assoc, append-nil, arith}
+-- The moves by which a process hands a pod over: none among other requests, and the parts of a time together.
+use Rattle.std.proofs.Common.{◌≡◌, ◌⊎◌, inl, inr, ℕ, Bool, true, false, not, ◌&&◌, ◌||◌, ◌==◌, bytes_eq, List, [], ◌∷◌, ◌++◌, refl, sym, ap, subst, ◌∙◌, append_assoc, append-nil, arith}
 use Rattle.std.proofs.lemmas.Bool.Decides.{nat_tests}
 use Rattle.std.specs.List.{AllByRecursion}
 use Rattle.dir_model.specs.declared.area.Area.{Area}
@@ -28,17 +28,12 @@ use Rattle.folder_building.specs.declared.plan.PlanEntry.{PlanEntry}
 use Rattle.pod_making.specs.Requests.{pod_at, begins_pod, fills_pod}
 use Rattle.pod_making.specs.Progress.{at_work, in_prepare}
 use Rattle.pod_making.specs.Makings.{FromFilled}
-use Rattle.pod_making.specs.Handovers.{BeforeHandingOver, KnewMade, HandsOverMade}
+use Rattle.pod_making.specs.Handovers.{is_handed_to, hands_over, BeforeHandingOver, KnewMade, HandsOverMade}
 use Rattle.pod_making.proofs.Calls.{tied_meanwhile}
 
--- the request moves a folder out of prepare
-abbrev pub takes_out : Request → Bool
-takes_out (MoveFolder from to) = is_in Prepare from.area
-takes_out _ = false
-
--- no request of this kind does
-abbrev pub TakesNothingOut : (Request → Bool) → Type 0
-TakesNothingOut asks = (request : Request) → asks request ≡ true → takes_out request ≡ false
+-- no request of this kind hands a pod over
+abbrev pub HandsNothingOver : (Request → Bool) → Type 0
+HandsNothingOver asks = (request : Request) → asks request ≡ true → hands_over request ≡ false
 
 abbrev moves_by : ℕ → Spot → Spot → Event
 moves_by me from to = event me (MoveFolder from to) Done
@@ -74,18 +69,18 @@ rest_is : (e : Event) (old : List Event) {new before : List Event} {more : List 
 rest_is e old {new} {before} {more} m later begins moved grown =
     sym (same_rest old more (m ++ e ∷ later) (sym grown ∙ (moved ∙ (ap (λ h. h ++ e ∷ later) begins ∙ append_assoc old m (e ∷ later)))))
 
--- where nothing is taken out of prepare
-pub none_handed : {P : List Event → Type 0} {asks : Request → Bool} {me : ℕ} {old new : List Event} → TakesNothingOut asks → Extends asks me old new → BeforeHandingOver P me old new
+-- where nothing is handed over
+pub none_handed : {P : List Event → Type 0} {asks : Request → Bool} {me : ℕ} {old new : List Event} → HandsNothingOver asks → Extends asks me old new → BeforeHandingOver P me old new
 none_handed {P} {asks} {me} {old} {new} none e = record { so = λ before m later from to begins moved out. by m later from to (rest_is (moves_by me from to) old m later begins moved e.grown) out }
   where
     Asked : Event → Type 0
     Asked x = (is_foreign me x || asks x.request) ≡ true
 
-    by : {X : Type 0} (m later : List Event) (from to : Spot) → m ++ moves_by me from to ∷ later ≡ e.more → is_in Prepare from.area ≡ true → X
+    by : {X : Type 0} (m later : List Event) (from to : Spot) → m ++ moves_by me from to ∷ later ≡ e.more → hands_over (MoveFolder from to) ≡ true → X
     by m later from to whole out =
         let own : Asked (moves_by me from to) = (all_right Asked m (moves_by me from to ∷ later) (subst (λ (l : List Event). AllByRecursion Asked l) (sym whole) e.asked)).0 in
         let asked : asks (MoveFolder from to) ≡ true = sym (ap (λ b. b || asks (MoveFolder from to)) (own_move me from to)) ∙ own in
-        never (is_in Prepare from.area) out (none (MoveFolder from to) asked)
+        never (hands_over (MoveFolder from to)) out (none (MoveFolder from to) asked)
 
 -- and where nothing is asked for at all
 pub nothing_handed : {P : List Event → Type 0} {me : ℕ} {trace : List Event} → BeforeHandingOver P me trace trace
@@ -95,7 +90,7 @@ nothing_handed {P} {me} {trace} = none_handed {asks = λ r. false} (λ r is. let
 pub handed_then : {P : List Event → Type 0} {me : ℕ} {a b c : List Event} (x y : List Event) → b ≡ a ++ x → c ≡ b ++ y → BeforeHandingOver P me a b → BeforeHandingOver P me b c → BeforeHandingOver P me a c
 handed_then {P} {me} {a} {b} {c} x y ab bc first second = record { so = so }
   where
-    so : (before m later : List Event) (from to : Spot) → before ≡ a ++ m → c ≡ before ++ moves_by me from to ∷ later → is_in Prepare from.area ≡ true → P before
+    so : (before m later : List Event) (from to : Spot) → before ≡ a ++ m → c ≡ before ++ moves_by me from to ∷ later → hands_over (MoveFolder from to) ≡ true → P before
     so before m later from to begins moved out = by (cut (moves_by me from to) later m x y (rest_is (moves_by me from to) a m later begins moved (bc ∙ (ap (λ h. h ++ y) ab ∙ append_assoc a x y))))
       where
         e : Event
@@ -105,13 +100,13 @@ handed_then {P} {me} {a} {b} {c} x y ab bc first second = record { so = so }
         by (inl f) = first.so before m f.0 from to begins (ab ∙ (ap (λ h. a ++ h) f.1 ∙ (sym (append_assoc a m (e ∷ f.0)) ∙ ap (λ h. h ++ e ∷ f.0) (sym begins)))) out
         by (inr f) = second.so before f.0 later from to (begins ∙ (ap (λ h. a ++ h) f.1 ∙ (sym (append_assoc a x f.0) ∙ ap (λ h. h ++ f.0) (sym ab)))) moved out
 
--- the same, where the first of the two parts takes nothing out, or the second
-pub handed_after : (P : ℕ → List Event → Type 0) {asks more : Request → Bool} {me other : ℕ} {a b c : List Event} → TakesNothingOut asks → Extends asks me a b → other ≡ me → Extends more other b c →
+-- the same, where the first of the two parts hands nothing over, or the second
+pub handed_after : (P : ℕ → List Event → Type 0) {asks more : Request → Bool} {me other : ℕ} {a b c : List Event} → HandsNothingOver asks → Extends asks me a b → other ≡ me → Extends more other b c →
     BeforeHandingOver (P other) other b c → BeforeHandingOver (P me) me a c
 handed_after P {asks} {more} {me} {other} {a} {b} {c} none ab same bc x =
     handed_then ab.more bc.more ab.grown bc.grown (none_handed none ab) (subst (λ (p : ℕ). BeforeHandingOver (P p) p b c) same x)
 
-pub handed_before : {P : List Event → Type 0} {asks more : Request → Bool} {me other : ℕ} {a b c : List Event} → Extends more me a b → BeforeHandingOver P me a b → other ≡ me → TakesNothingOut asks → Extends asks other b c →
+pub handed_before : {P : List Event → Type 0} {asks more : Request → Bool} {me other : ℕ} {a b c : List Event} → Extends more me a b → BeforeHandingOver P me a b → other ≡ me → HandsNothingOver asks → Extends asks other b c →
     BeforeHandingOver P me a c
 handed_before {P} {asks} {more} {me} {other} {a} {b} {c} ab x same none bc =
     handed_then ab.more bc.more ab.grown bc.grown x (none_handed none (subst (λ (p : ℕ). Extends asks p b c) same bc))
@@ -123,7 +118,7 @@ call_handed {P} {me} {old} {new} {request} {reply} s holds = record { so = so }
     others : List Event
     others = s.meanwhile.others
 
-    so : (before m later : List Event) (from to : Spot) → before ≡ old ++ m → new ≡ before ++ moves_by me from to ∷ later → is_in Prepare from.area ≡ true → P before
+    so : (before m later : List Event) (from to : Spot) → before ≡ old ++ m → new ≡ before ++ moves_by me from to ∷ later → hands_over (MoveFolder from to) ≡ true → P before
     so before m later from to begins moved out = by s.own
       where
         e : Event
@@ -146,14 +141,15 @@ call_handed {P} {me} {old} {new} {request} {reply} s holds = record { so = so }
 from_embryo : (n : ℕ) → (n == 0) ≡ true → (1 == n) ≡ false
 from_embryo n is = grind (arith, nat_tests)
 
-pub begins_take_none : (draw : PodId) → TakesNothingOut (begins_pod draw)
-begins_take_none draw (MoveFolder from to) asked =
-    from_embryo (rank from.area) (and_left (rank from.area == 0) (bytes_eq from.name (pod_text draw.bytes)) (and_left (spot_eq from (pod_at Embryo draw)) (spot_eq to (pod_at Prepare draw)) asked))
-begins_take_none draw request asked = refl
+pub begins_hand_none : (draw : PodId) → HandsNothingOver (begins_pod draw)
+begins_hand_none draw (MoveFolder from to) asked =
+    ap (λ b. b && is_handed_to to.area)
+    (from_embryo (rank from.area) (and_left (rank from.area == 0) (bytes_eq from.name (pod_text draw.bytes)) (and_left (spot_eq from (pod_at Embryo draw)) (spot_eq to (pod_at Prepare draw)) asked)))
+begins_hand_none draw request asked = refl
 
-pub fills_take_none : (draw : PodId) → TakesNothingOut (fills_pod draw)
-fills_take_none draw (MoveFolder from to) asked = cc
-fills_take_none draw request asked = refl
+pub fills_hand_none : (draw : PodId) → HandsNothingOver (fills_pod draw)
+fills_hand_none draw (MoveFolder from to) asked = cc
+fills_hand_none draw request asked = refl
 
 -- the folder is moved on only by what the plan makes, whether that is answered Ok or not
 pub hands_made : {observed : Bool} {draw : PodId} {from to : Spot} {reply : Reply} {old new : DirAt} → observed ≡ true → (there : Area) (plan : List PlanEntry) → DirCall observed old (MoveFolder from to) reply new →
@@ -165,7 +161,7 @@ hands_made {observed} {draw} {from} {to} {reply} {old} {new} t there plan c inte
 -- and then a handle is given up
 pub handed_close : {P : List Event → Type 0} {asks : Request → Bool} {h : Handle} {me other : ℕ} {a b c : List Event} → Extends asks me a b → other ≡ me → BeforeHandingOver P me a b → CallStep other b (Close h) Done c → BeforeHandingOver P me a c
 handed_close {P} {asks} {h} {me} {other} {a} {b} {c} ab same x closing =
-    handed_before {P = P} {asks = λ r. not (takes_out r)} ab x same (λ r is. not_true (takes_out r) is) (and_call nothing_yet refl refl closing)
+    handed_before {P = P} {asks = λ r. not (hands_over r)} ab x same (λ r is. not_true (hands_over r) is) (and_call nothing_yet refl refl closing)
 
 -- calls after calls, whatever they ask for
 pub follow_on : {asks more : Request → Bool} {me other : ℕ} {a b c : List Event} → Extends asks me a b → other ≡ me → Extends more other b c → Extends (λ r. true) me a c

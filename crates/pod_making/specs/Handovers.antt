@@ -1,10 +1,12 @@
--- What a process knew just before each move by which it brought a pod out of prepare.
-use Rattle.std.specs.Prelude.{◌≡◌, ℕ, true, Some, List, ◌∷◌, ◌++◌}
-use Rattle.dir_model.specs.declared.area.Area.TheVariants.{Prepare}
+-- What a process knew just before each move by which it handed a pod over, from prepare to prepared or to run.
+use Rattle.std.specs.Prelude.{◌≡◌, ℕ, Bool, true, false, ◌&&◌, Some, List, ◌∷◌, ◌++◌}
+use Rattle.dir_model.specs.declared.area.Area.{Area}
+use Rattle.dir_model.specs.declared.area.Area.TheVariants.{Prepare, Prepared, Run}
 use Rattle.dir_model.specs.declared.event.Event.{Event}
 use Rattle.dir_model.specs.declared.intent.Intent.{Intent}
 use Rattle.dir_model.specs.declared.pod.PodId.{PodId}
 use Rattle.dir_model.specs.declared.spot.Spot.{Spot}
+use Rattle.dir_model.specs.declared.request.Request.{Request}
 use Rattle.dir_model.specs.declared.request.Request.TheVariants.{MoveFolder}
 use Rattle.dir_model.specs.declared.request.Reply.TheVariants.{Done}
 use Rattle.dir_model.specs.Calls.{event}
@@ -18,10 +20,20 @@ use Rattle.folder_building.specs.Plans.{AreMade}
 use Rattle.pod_making.specs.Requests.{pod_at}
 use Rattle.pod_making.specs.Progress.{holding}
 
--- this was so of the trace just before each own Ok move of a folder out of prepare, between these two traces
+-- a pod is handed over to prepared, or to run
+abbrev pub is_handed_to : Area → Bool
+is_handed_to Prepared = true
+is_handed_to Run = true
+is_handed_to area = false
+
+abbrev pub hands_over : Request → Bool
+hands_over (MoveFolder from to) = is_in Prepare from.area && is_handed_to to.area
+hands_over request = false
+
+-- this was so of the trace just before each own Ok move by which a pod was handed over, between these two traces
 pub record BeforeHandingOver (P : List Event → Type 0) (me : ℕ) (old new : List Event) : Type 0 where
   pub so : (before meanwhile later : List Event) (from to : Spot) → before ≡ old ++ meanwhile →
-      new ≡ before ++ event me (MoveFolder from to) Done ∷ later → is_in Prepare from.area ≡ true → P before
+      new ≡ before ++ event me (MoveFolder from to) Done ∷ later → hands_over (MoveFolder from to) ≡ true → P before
 
 -- by what it knew, the folder in prepare held exactly what the plan asks for, each change Ok and all of it synced. It had begun so
 pub record KnewMade (me : ℕ) (draw : PodId) (plan : List PlanEntry) (intent : Intent) (before : List Event) : Type 0 where

@@ -7,6 +7,7 @@ pub mod Outcomes
 pub mod Listed
 pub mod Grades
 pub mod RunsRan
+pub mod Makers
 pub mod PodRemovals
 pub mod AppsRan
 pub mod Statuses

@@ -4,9 +4,15 @@ use Rattle.dir_model.specs.declared.area.Area.{Area}
 use Rattle.dir_model.specs.declared.area.Phase.{Phase}
 use Rattle.dir_model.specs.declared.event.Event.{Event}
 use Rattle.dir_model.specs.declared.intent.Draw.{Draw}
+use Rattle.dir_model.specs.declared.intent.Intent.{Intent}
 use Rattle.dir_model.specs.declared.pod.PodId.{PodId}
 use Rattle.dir_model.specs.declared.request.DirError.TheVariants.{Failed, NoMemory}
 use Rattle.dir_model.specs.declared.request.Reply.TheVariants.{Refused}
+use Rattle.dir_model.specs.Calls.{IsRun}
+use Rattle.dir_trait.specs.DirCalls.{DirAt}
+use Rattle.dir_trait.specs.Knowledge.{Knows}
+use Rattle.pod_build.specs.FaithfulBuild.{HandsOverFaithfully}
+use Rattle.command_outcomes.specs.Conforming.{begun}
 use Rattle.phase_read.specs.Exact.{AtOwnEvent, IsInPhase, IsNowhere}
 use Rattle.rkt_cli.specs.declared.line.Line.{Line}
 use Rattle.rkt_cli.specs.declared.line.Line.TheVariants.{Status, ImageList, ImageImport, ImageRm, ImageGc, Prepare, Rm, Gc}
@@ -17,7 +23,7 @@ use Rattle.store_commands.specs.ImageRm.{removed_text, HasRemoved}
 use Rattle.store_commands.specs.ImageGc.{HasSwept}
 use Rattle.removal_commands.specs.Rm as rm
 use Rattle.removal_commands.specs.Gc as gc
-use Rattle.rkt_cli.specs.Commands.{grace_time, expire_time}
+use Rattle.rkt_cli.specs.Commands.{intent_of, grace_time, expire_time}
 use Rattle.pod_commands.specs.Prepare.{pod_line, IsFaithful, HasBrought, HasSynced, HasKeptFolder}
 use Rattle.command_outcomes.specs.Moments.{DirSeen, Outside, SinkSeen}
 
@@ -71,3 +77,11 @@ LeavesPod draw status old new =
 abbrev pub TellsLeft : Option Line → Draw → ℕ → DirSeen → DirSeen → Type 0
 TellsLeft (Some (Prepare words)) draw status old new = LeavesPod draw.uuid status old new
 TellsLeft _ draw status old new = Unit {0}
+
+-- in every run: whatever pod the process handed over meanwhile, to prepared or to run, it had made faithfully
+abbrev pub HandsOver : DirAt → DirAt → Type 0
+HandsOver old new = IsRun new.trace → HandsOverFaithfully old.process old.trace new.trace
+
+-- it is so where the process has just begun with the intent of its line
+abbrev pub WhereKnown : Line → ℕ → Draw → DirAt → Type 0 → Type 0
+WhereKnown line now draw old P = (intent : Intent) → intent_of line now draw ≡ Some intent → Knows old (begun intent) → P

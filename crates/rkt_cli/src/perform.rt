@@ -9,6 +9,7 @@ ghost use Rattle.command_outcomes.specs.Conforming.{begun, StaysConforming};
 ghost use Rattle.rkt_cli.specs.Commands.{uses_dir, reads_bundle, runs_apps, intent_for, gc_intent, intent_of, IsReady};
 ghost use Rattle.rkt_cli.specs.Runs.{CommandRan, Performs};
 ghost use Rattle.rkt_cli.specs.Spawns.{Came, CameBetween};
+ghost use Rattle.rkt_cli.specs.Histories.{HandsOver, WhereKnown};
 
 use crate::line::Line;
 use crate::status::pod_status;
@@ -103,6 +104,7 @@ fn act_alone<D: Dir, B: Bundle>(
     ensures unread { reads_bundle line.now ≡ false → bundle.new ≡ bundle.old }
     ensures keeps { D.observed ≡ true → (intent : Intent) → intent_of line.now now draw.now ≡ Some intent
         → StaysConforming intent (dir_at D.Dir dir.old) (dir_at D.Dir dir.new) }
+    ensures makers { D.observed ≡ true → uses_dir line.now ≡ true → WhereKnown line.now now draw.now (D.shown dir.old) (HandsOver (D.shown dir.old) (D.shown dir.new)) }
     ensures ran { CommandRan line.now now draw.now (outside_at D.Dir B.Bundle dir.old bundle.old) (outside_at D.Dir B.Bundle dir.new bundle.new) result }
 {
     match line {
@@ -150,6 +152,7 @@ fn act<D: Dir, B: Bundle, S: Spawner>(
     ensures spawn_cause { IsErrOf result Refusal.SpawnFault → Rose (S.shown spawner.old).faults (S.shown spawner.new).faults }
     ensures keeps { D.observed ≡ true → (intent : Intent) → intent_of line.now now draw.now ≡ Some intent
         → StaysConforming intent (dir_at D.Dir dir.old) (dir_at D.Dir dir.new) }
+    ensures makers { D.observed ≡ true → uses_dir line.now ≡ true → WhereKnown line.now now draw.now (D.shown dir.old) (HandsOver (D.shown dir.old) (D.shown dir.new)) }
     ensures ran { CommandRan line.now now draw.now (outside_at D.Dir B.Bundle dir.old bundle.old) (outside_at D.Dir B.Bundle dir.new bundle.new) (outcome_of result) }
     ensures came { Came line.now now draw.now (inside_at D.Dir S.Spawner dir.old spawner.old) (inside_at D.Dir S.Spawner dir.new spawner.new) result }
 {
@@ -177,6 +180,7 @@ fn act_in_process<D: Dir, B: Bundle, S: Spawner>(
     ensures unread { reads_bundle line.now ≡ false → bundle.new ≡ bundle.old }
     ensures unasked { runs_apps line.now ≡ false → spawner.new ≡ spawner.old }
     ensures spawn_cause { IsErrOf result Refusal.SpawnFault → Rose (S.shown spawner.old).faults (S.shown spawner.new).faults }
+    ensures makers { D.observed ≡ true → HandsOver (D.shown dir.old) (D.shown dir.new) }
     ensures performs { Performs line.now now draw.now (Some intent) (outside_at D.Dir B.Bundle dir.old bundle.old)
         (outside_at D.Dir B.Bundle dir.new bundle.new) (outcome_of result) }
     ensures came { CameBetween line.now now draw.now (Some intent) (inside_at D.Dir S.Spawner dir.old spawner.old) (inside_at D.Dir S.Spawner dir.new spawner.new) result }
@@ -207,6 +211,7 @@ pub fn perform<D: Dir, B: Bundle, S: Spawner>(
     ensures unread { reads_bundle line.now ≡ false → bundle.new ≡ bundle.old }
     ensures unasked { runs_apps line.now ≡ false → spawner.new ≡ spawner.old }
     ensures spawn_cause { IsErrOf result Refusal.SpawnFault → Rose (S.shown spawner.old).faults (S.shown spawner.new).faults }
+    ensures makers { D.observed ≡ true → HandsOver (D.shown dir.old) (D.shown dir.new) }
     ensures performs { Performs line.now now draw.now (intent_of line.now now draw.now) (outside_at D.Dir B.Bundle dir.old bundle.old)
         (outside_at D.Dir B.Bundle dir.new bundle.new) (outcome_of result) }
     ensures came { CameBetween line.now now draw.now (intent_of line.now now draw.now) (inside_at D.Dir S.Spawner dir.old spawner.old) (inside_at D.Dir S.Spawner dir.new spawner.new) result }

@@ -5,7 +5,9 @@ ghost use Rattle.dir_trait.specs.DirCalls.{ExtendsBy};
 ghost use Rattle.dir_trait.specs.Local.{nothing_local};
 ghost use Rattle.rkt_cli.specs.Lines.{line_in};
 ghost use Rattle.lifecycle.specs.Executions.{IsConforming};
-ghost use Rattle.rkt_cli.specs.Histories.{TellsHistory, TellsDeed, TellsLeft};
+ghost use Rattle.rkt_cli.specs.Histories.{TellsHistory, TellsDeed, TellsLeft, HandsOver};
+ghost use Rattle.pod_build.specs.LegalExecutions.{IsLegal};
+ghost use Rattle.pod_roots.specs.Roots.{AppsStartFaithfully};
 ghost use Rattle.command_outcomes.specs.Conforming.{KeepsConforming};
 ghost use Rattle.command_outcomes.specs.Moments.{dir_at, bundle_at, outside_at, inside_at, sink_at};
 ghost use Rattle.rkt_cli.specs.Between.{RunBetween, JudgedBetween, QuietBetween};
@@ -40,6 +42,7 @@ fn run<D: Dir, B: Bundle, S: Spawner, O: Sink, E: Sink>(
     ensures apart { uses_dir_in (line_in words.now) ≡ false → dir.new ≡ dir.old }
     ensures unread { reads_bundle_in (line_in words.now) ≡ false → bundle.new ≡ bundle.old }
     ensures unasked { runs_apps_in (line_in words.now) ≡ false → spawner.new ≡ spawner.old }
+    ensures makers { D.observed ≡ true → HandsOver (D.shown dir.old) (D.shown dir.new) }
 {
     match read_line(alloc, words) {
         Err(WordsError::Usage) => refuse(alloc, err, &Refusal::Usage),
@@ -104,6 +107,8 @@ pub fn rkt<D: Dir, B: Bundle, S: Spawner, O: Sink, E: Sink>(
     ensures reads { ReadsIn (line_in words.now) (bundle_at B.Bundle bundle.old) (bundle_at B.Bundle bundle.new) }
     ensures extends { D.observed ≡ true → ExtendsBy (asks_in (line_in words.now) now draw.now) (D.shown dir.old) (D.shown dir.new) }
     ensures conforms { D.observed ≡ true → KeepsConforming (dir_at D.Dir dir.old) (dir_at D.Dir dir.new) }
+    ensures makers { D.observed ≡ true → HandsOver (D.shown dir.old) (D.shown dir.new) }
+    ensures starts { D.observed ≡ true → IsLegal (D.shown dir.new).trace → AppsStartFaithfully (D.shown dir.new).trace }
     ensures deed { D.observed ≡ true → TellsDeed (line_in words.now) now draw.now result (dir_at D.Dir dir.old) (dir_at D.Dir dir.new)
         (sink_at O.Sink out.old) (sink_at O.Sink out.new) }
     ensures left { D.observed ≡ true → TellsLeft (line_in words.now) draw.now result (dir_at D.Dir dir.old) (dir_at D.Dir dir.new) }

@@ -27,7 +27,7 @@ use Rattle.pod_ownership.specs.Running.{IsOwned, RunsPod}
 use Rattle.pod_making.specs.Progress.{at_work, nothing_made, handed, own_held, and_own}
 use Rattle.pod_making.specs.Work.{From, HasOwnFolder}
 use Rattle.pod_making.specs.Work as making
-use Rattle.pod_making.proofs.Handing.{TakesNothingOut}
+use Rattle.pod_making.proofs.Handing.{HandsNothingOver}
 use Rattle.pod_build.specs.declared.error.BuildError.{BuildError}
 use Rattle.pod_build.specs.declared.making.Built.{Built}
 use Rattle.pod_build.specs.declared.making.Built.TheVariants as built
@@ -66,10 +66,10 @@ made_went {observed} {asks} {a} {b} m draw r made owned is kept w =
 pub unmade_went : {observed : Bool} {asks : Request → Bool} {a b : DirAt} (m : Local) (draw : PodId) (r : Result Built BuildError) (e : BuildError) → r ≡ Err e → making.Went observed asks (with_built m draw r) a b → making.Went observed asks m a b
 unmade_went {observed} {asks} {a} {b} m draw r e is w = subst (λ (x : Result Built BuildError). making.Went observed asks (with_built m draw x) a b) is w
 
--- a run takes nothing out of prepare
-pub runs_take_none : (pod : PodId) (own : Handle) → TakesNothingOut (runs_and_closes pod own)
-runs_take_none pod own (MoveFolder from to) is = cc
-runs_take_none pod own request is = refl
+-- a run hands nothing over
+pub runs_hand_none : (pod : PodId) (own : Handle) → HandsNothingOver (runs_and_closes pod own)
+runs_hand_none pod own (MoveFolder from to) is = cc
+runs_hand_none pod own request is = refl
 
 -- its requests
 prepares_in : (draw : PodId) (r : Request) → prepares draw area.Run r ≡ true → makes_and_runs draw r ≡ true

@@ -24,7 +24,7 @@ use Rattle.pod_build.proofs.Working.{ok_with, went_back, went_refused, hands_to,
 use Rattle.pod_build.proofs.Faithful.{is_handed_over, is_prepared, hands_faithfully}
 use Rattle.pod_making.proofs.Handing.{none_handed, handed_after, handed_before, follow_on, run_until}
 use Rattle.pod_build.specs.FaithfulBuild.{IsFaithfulBuild, HandsOverFaithfully}
-use Rattle.pod_build.proofs.Working.{locks_take_none, close_takes}
+use Rattle.pod_build.proofs.Working.{locks_hand_none, close_takes}
 use Rattle.dir_model.proofs.Chains.{extends_wider}
 use Rattle.pod_build.proofs.preparing.prepare.Goals as goal
 
@@ -167,7 +167,7 @@ pub returns-in-Err-clause-left : goal.returns-in-Err-clause-left
 returns-in-Err-clause-left g c t intent hs began alone k = has_nothing (c.in-Err.ensures.left t (at_work intent hs nothing_made) k (may_lock alone))
 
 pub returns-in-Err-clause-makers : goal.returns-in-Err-clause-makers
-returns-in-Err-clause-makers g c t run intent hs began alone k = none_handed (locks_take_none Images Shared) (c.lock_area.ensures.extends t)
+returns-in-Err-clause-makers g c t run intent hs began alone k = none_handed (locks_hand_none Images Shared) (c.lock_area.ensures.extends t)
 
 pub returns-in-Ok-clause-makers : goal.returns-in-Ok-clause-makers
 returns-in-Ok-clause-makers g c t run intent hs began alone k =
@@ -183,5 +183,5 @@ returns-in-Ok-clause-makers g c t run intent hs began alone k =
     let cd = extends_wider (close_takes gate) (c.unlock_area.ensures.extends t) in
     let planned = c.prepare_under_lock-result.ensures.whole t intent under began (ap (λ (l : List Held). on_gate gate Images (Some Shared) ∷ l) alone) known in
     let whole : HandsOverFaithfully b.process b.trace late.trace = hands_faithfully {under = under} (run_until cd run) began refl known planned in
-    let first : HandsOverFaithfully a.process a.trace late.trace = handed_after (λ me. IsFaithfulBuild me) (locks_take_none Images Shared) ab c.lock_area.ensures.same bc whole in
-    handed_before {P = IsFaithfulBuild a.process} (follow_on ab c.lock_area.ensures.same bc) first (c.prepare_under_lock-result.ensures.went.same ∙ c.lock_area.ensures.same) (locks_take_none Images Shared) cd
+    let first : HandsOverFaithfully a.process a.trace late.trace = handed_after (λ me. IsFaithfulBuild me) (locks_hand_none Images Shared) ab c.lock_area.ensures.same bc whole in
+    handed_before {P = IsFaithfulBuild a.process} (follow_on ab c.lock_area.ensures.same bc) first (c.prepare_under_lock-result.ensures.went.same ∙ c.lock_area.ensures.same) (locks_hand_none Images Shared) cd

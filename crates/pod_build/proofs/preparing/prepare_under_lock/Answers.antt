@@ -14,7 +14,7 @@ use Rattle.pod_build.proofs.Parts.{during_first, during_last}
 use Rattle.pod_build.proofs.Working.{follows_reads, went_reads, went_under, worked_reads, may_make, under_images, knows_read, elsewhere_within}
 use Rattle.pod_making.specs.Handovers.{BeforeHandingOver, HandsOverMade}
 use Rattle.pod_making.proofs.Handing.{none_handed, handed_among, handed_so, handed_then}
-use Rattle.pod_build.proofs.Working.{reads_take_none}
+use Rattle.pod_build.proofs.Working.{reads_hand_none}
 use Rattle.pod_build.proofs.preparing.prepare_under_lock.Goals as goal
 
 pub returns-in-Ok-clause-went : goal.returns-in-Ok-clause-went
@@ -99,7 +99,7 @@ pub returns-in-Err-clause-left : goal.returns-in-Err-clause-left
 returns-in-Err-clause-left g c t intent hs began alone k = has_nothing (knows_read c.args.gate alone (c.plan_pod.ensures.known t) k)
 
 pub returns-in-Err-clause-whole : goal.returns-in-Err-clause-whole
-returns-in-Err-clause-whole g c t intent hs began alone k = none_handed reads_take_none (c.plan_pod.ensures.only.extends t)
+returns-in-Err-clause-whole g c t intent hs began alone k = none_handed reads_hand_none (c.plan_pod.ensures.only.extends t)
 
 pub returns-in-Ok-clause-whole : goal.returns-in-Ok-clause-whole
 returns-in-Ok-clause-whole g c t intent hs began alone k =
@@ -117,4 +117,4 @@ returns-in-Ok-clause-whole g c t intent hs began alone k =
     let Planned = λ (p : ℕ). BeforeHandingOver (ReadsThenMakes c.args.refs.now c.args.options.now draw c.args.now to intent old) p mid.trace new.trace in
     let second : Planned mid.process =
         handed_so (λ before x. record { mid = mid; reads = worked_reads t c.plan_pod.ensures.only; plan = c.in-Ok.plan.items; planned = c.in-Ok.ensures.faithful t; makes = x.1; knew = x.0 }) (handed_among make made) in
-    handed_then read.more make.more read.grown make.grown (none_handed reads_take_none read) (subst Planned same second)
+    handed_then read.more make.more read.grown make.grown (none_handed reads_hand_none read) (subst Planned same second)

@@ -3,7 +3,7 @@ use Rattle.command_outcomes.proofs.Seen.{rose_wider}
 use Rattle.pod_commands.proofs.Sayings.{said_fault, busy_area, refusal_allowed, no_match_within}
 use Rattle.pod_commands.proofs.Prepares.{prepare_worked, both_worked, sync_allowed, synced_keeps, refused_keeps, synced_says, refused_says}
 use Rattle.pod_making.proofs.Handing.{handed_before, run_until}
-use Rattle.pod_commands.proofs.Prepares.{syncs_take_none}
+use Rattle.pod_commands.proofs.Prepares.{syncs_hand_none}
 use Rattle.pod_commands.proofs.prepare.prepare_saying.Goals as goal
 
 pub build_refusal-requires : goal.build_refusal-requires
@@ -55,4 +55,4 @@ returns-in-Err-clause-says g c =
 pub returns-in-Ok-clause-makers : goal.returns-in-Ok-clause-makers
 returns-in-Ok-clause-makers g c t run intent hs began alone k =
     let synced = c.sync_saying.ensures.worked.extends t in
-    handed_before (c.prepare.ensures.went.extends t) (c.prepare.ensures.makers t (run_until synced run) intent hs began alone k) c.prepare.ensures.went.same syncs_take_none synced
+    handed_before (c.prepare.ensures.went.extends t) (c.prepare.ensures.makers t (run_until synced run) intent hs began alone k) c.prepare.ensures.went.same syncs_hand_none synced

@@ -12,7 +12,7 @@ use Rattle.pod_making.specs.Makings.{FromFilled, IsHanded, HasMade}
 use Rattle.pod_making.proofs.Knowing.{has_prepare, handed_made}
 use Rattle.pod_making.proofs.Outcomes.{err_same, fills_finishes, hands_finishes}
 use Rattle.pod_making.proofs.Times.{follows_work, nothing_follows, cause_after, cause_planned}
-use Rattle.pod_making.proofs.Handing.{none_handed, handed_after, fills_take_none}
+use Rattle.pod_making.proofs.Handing.{none_handed, handed_after, fills_hand_none}
 use Rattle.pod_making.proofs.filling.finish_pod.Goals as goal
 
 pub returns-in_err-fill-clause-worked : goal.returns-in_err-fill-clause-worked
@@ -71,11 +71,11 @@ returns-clause-left g c =
     c.hand_over.ensures.left
 
 pub returns-in_err-fill-clause-whole : goal.returns-in_err-fill-clause-whole
-returns-in_err-fill-clause-whole g c t intent hs may owns k = none_handed (fills_take_none c.args.draw) (c.fill.ensures.worked.extends t)
+returns-in_err-fill-clause-whole g c t intent hs may owns k = none_handed (fills_hand_none c.args.draw) (c.fill.ensures.worked.extends t)
 
 pub returns-clause-whole : goal.returns-clause-whole
 returns-clause-whole g c t intent hs may owns k =
     let draw = c.args.draw in
     let plan = c.args.plan.now in
     let x = c.in_ok-fill.ensures.filled t c.args.to intent hs may owns k in
-    handed_after (λ me. KnewMade me draw plan intent) (fills_take_none draw) (c.fill.ensures.worked.extends t) c.fill.ensures.worked.same (c.hand_over.ensures.worked.extends t) (c.hand_over.ensures.whole t plan intent hs x.entries may owns x.made x.knows)
+    handed_after (λ me. KnewMade me draw plan intent) (fills_hand_none draw) (c.fill.ensures.worked.extends t) c.fill.ensures.worked.same (c.hand_over.ensures.worked.extends t) (c.hand_over.ensures.whole t plan intent hs x.entries may owns x.made x.knows)

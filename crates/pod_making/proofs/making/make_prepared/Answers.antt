@@ -13,7 +13,7 @@ use Rattle.pod_making.proofs.Steps.{is_maker_of}
 use Rattle.pod_making.proofs.Knowing.{owns_images, own_back, made_free}
 use Rattle.pod_making.proofs.Outcomes.{err_same, held_is, follows_close, went_worked, went_closed, begins_makes, finishes_makes, worked_residual}
 use Rattle.pod_making.proofs.Times.{follows_went, calm_cause, cause_after, cause_before, make_planned, went_wider, worked_went}
-use Rattle.pod_making.proofs.Handing.{none_handed, handed_after, handed_close, follow_on, begins_take_none}
+use Rattle.pod_making.proofs.Handing.{none_handed, handed_after, handed_close, follow_on, begins_hand_none}
 use Rattle.pod_making.proofs.making.make_prepared.Goals as goal
 
 pub returns-in_err-own-clause-worked : goal.returns-in_err-own-clause-worked
@@ -78,7 +78,7 @@ returns-clause-left g c =
     c.finish_pod-result.ensures.left
 
 pub returns-in_err-own-clause-whole : goal.returns-in_err-own-clause-whole
-returns-in_err-own-clause-whole g c t intent hs may under k = none_handed (begins_take_none c.args.draw) (c.begin_pod.ensures.went.extends t)
+returns-in_err-own-clause-whole g c t intent hs may under k = none_handed (begins_hand_none c.args.draw) (c.begin_pod.ensures.went.extends t)
 
 pub returns-clause-whole : goal.returns-clause-whole
 returns-clause-whole g c t intent hs may under k =
@@ -87,6 +87,6 @@ returns-clause-whole g c t intent hs may under k =
     let own = c.in_ok-own.own in
     handed_close (follow_on (c.begin_pod.ensures.went.extends t) c.begin_pod.ensures.went.same (c.finish_pod-result.ensures.worked.extends t))
     (c.finish_pod-result.ensures.worked.same ∙ c.begin_pod.ensures.went.same)
-    (handed_after (λ me. KnewMade me draw plan intent) (begins_take_none draw) (c.begin_pod.ensures.went.extends t) c.begin_pod.ensures.went.same (c.finish_pod-result.ensures.worked.extends t)
+    (handed_after (λ me. KnewMade me draw plan intent) (begins_hand_none draw) (c.begin_pod.ensures.went.extends t) c.begin_pod.ensures.went.same (c.finish_pod-result.ensures.worked.extends t)
     (c.finish_pod-result.ensures.whole t intent (own_held draw own (Some Exclusive) ∷ hs) may (owns_images own under) (c.in_ok-own.ensures.held t intent hs (is_maker_of may) under k)))
     (c.close.ensures.called.step t)

@@ -11,7 +11,7 @@ use Rattle.pod_making.proofs.Steps.{is_maker_of}
 use Rattle.pod_making.proofs.Knowing.{owns_images, own_back, made_kept, runs_pod}
 use Rattle.pod_making.proofs.Outcomes.{err_same, held_is, follows_close, went_worked, went_closed, went_as, went_residual, begins_makes, finishes_makes, worked_residual}
 use Rattle.pod_making.proofs.Times.{follows_went, nothing_follows, calm_cause, cause_after, cause_before, make_planned, went_wider}
-use Rattle.pod_making.proofs.Handing.{none_handed, handed_after, handed_close, follow_on, begins_take_none}
+use Rattle.pod_making.proofs.Handing.{none_handed, handed_after, handed_close, follow_on, begins_hand_none}
 use Rattle.pod_making.proofs.making.make_running.Goals as goal
 
 pub returns-in_err-own-clause-went : goal.returns-in_err-own-clause-went
@@ -69,14 +69,14 @@ returns-in-Err-clause-left g c t intent hs may under k =
     (c.in-Err.ensures.left t intent (own_held draw own (Some Exclusive) ∷ hs) may (owns_images own under) (c.in_ok-own.ensures.held t intent hs (is_maker_of may) under k))
 
 pub returns-in_err-own-clause-whole : goal.returns-in_err-own-clause-whole
-returns-in_err-own-clause-whole g c t intent hs may under k = none_handed (begins_take_none c.args.draw) (c.begin_pod.ensures.went.extends t)
+returns-in_err-own-clause-whole g c t intent hs may under k = none_handed (begins_hand_none c.args.draw) (c.begin_pod.ensures.went.extends t)
 
 pub returns-in-Ok-clause-whole : goal.returns-in-Ok-clause-whole
 returns-in-Ok-clause-whole g c t intent hs may under k =
     let draw = c.args.draw in
     let plan = c.args.plan.now in
     let own = c.in_ok-own.own in
-    handed_after (λ me. KnewMade me draw plan intent) (begins_take_none draw) (c.begin_pod.ensures.went.extends t) c.begin_pod.ensures.went.same (c.finish_pod.ensures.worked.extends t)
+    handed_after (λ me. KnewMade me draw plan intent) (begins_hand_none draw) (c.begin_pod.ensures.went.extends t) c.begin_pod.ensures.went.same (c.finish_pod.ensures.worked.extends t)
     (c.finish_pod.ensures.whole t intent (own_held draw own (Some Exclusive) ∷ hs) may (owns_images own under) (c.in_ok-own.ensures.held t intent hs (is_maker_of may) under k))
 
 pub returns-in-Err-clause-whole : goal.returns-in-Err-clause-whole
@@ -86,6 +86,6 @@ returns-in-Err-clause-whole g c t intent hs may under k =
     let own = c.in_ok-own.own in
     handed_close (follow_on (c.begin_pod.ensures.went.extends t) c.begin_pod.ensures.went.same (c.finish_pod.ensures.worked.extends t))
     (c.finish_pod.ensures.worked.same ∙ c.begin_pod.ensures.went.same)
-    (handed_after (λ me. KnewMade me draw plan intent) (begins_take_none draw) (c.begin_pod.ensures.went.extends t) c.begin_pod.ensures.went.same (c.finish_pod.ensures.worked.extends t)
+    (handed_after (λ me. KnewMade me draw plan intent) (begins_hand_none draw) (c.begin_pod.ensures.went.extends t) c.begin_pod.ensures.went.same (c.finish_pod.ensures.worked.extends t)
     (c.finish_pod.ensures.whole t intent (own_held draw own (Some Exclusive) ∷ hs) may (owns_images own under) (c.in_ok-own.ensures.held t intent hs (is_maker_of may) under k)))
     (c.close.ensures.called.step t)

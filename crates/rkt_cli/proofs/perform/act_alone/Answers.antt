@@ -1,12 +1,15 @@
-use Rattle.std.proofs.Common.{◌≡◌, Some, subst}
+use Rattle.std.proofs.Common.{◌≡◌, true, false, Some, sym, ap, subst, ◌∙◌}
 use Rattle.rkt_cli.specs.declared.line.Line.{Line}
-use Rattle.rkt_cli.specs.Commands.{intent_of}
+use Rattle.rkt_cli.specs.Commands.{uses_dir, intent_of}
 use Rattle.command_outcomes.specs.Moments.{dir_at}
 use Rattle.rkt_cli.proofs.Conforming.{looks_conforming, apart_conforming, list_conforming}
 use Rattle.rkt_cli.proofs.StoreRan.{imports, import_ran, removal_conforming, sweep_conforming, removal_ran, sweep_ran}
 use Rattle.rkt_cli.proofs.Files.{validate_ran}
 use Rattle.rkt_cli.proofs.PodRan.{prepares, prepare_ran}
 use Rattle.rkt_cli.proofs.PodRemovals.{rm_conforming, gc_conforming, rm_ran, gc_ran}
+use Rattle.rkt_cli.proofs.Makers.{looks_none, lists_none, imports_none, image_removes_none, image_sweeps_none, removes_none, sweeps_none, prepare_hands}
+use Rattle.pod_making.proofs.Handing.{none_handed}
+use Rattle.image_store.specs.Requests.{building_spot}
 use Rattle.rkt_cli.proofs.perform.act_alone.Goals as goal
 
 pub returns-in-Validate-clause-ran : goal.returns-in-Validate-clause-ran
@@ -74,3 +77,30 @@ pub returns-in-Gc-clause-ran : goal.returns-in-Gc-clause-ran
 returns-in-Gc-clause-ran g c =
     let D = g.D.Dir in
     gc_ran _ _ _ D.observed (D.shown c.args.dir.now) (D.shown c.gc_pods.new.dir) _ _ c.in-Gc.is c.gc_pods.ensures.worked c.gc_pods.ensures.cause c.gc_pods.ensures.refusals c.gc_pods.ensures.says
+
+pub returns-in-Status-clause-makers : goal.returns-in-Status-clause-makers
+returns-in-Status-clause-makers g c t uses intent said known run = none_handed (looks_none c.in-Status.pod) (c.pod_status.ensures.extends t)
+
+pub returns-in-ImageList-clause-makers : goal.returns-in-ImageList-clause-makers
+returns-in-ImageList-clause-makers g c t uses intent said known run = none_handed (lists_none) (c.image_list.ensures.extends t)
+
+pub returns-in-ImageImport-clause-makers : goal.returns-in-ImageImport-clause-makers
+returns-in-ImageImport-clause-makers g c t uses intent said known run = none_handed (imports_none (building_spot c.args.draw.now.uuid)) (c.image_import.ensures.worked.extends t)
+
+pub returns-in-ImageRm-clause-makers : goal.returns-in-ImageRm-clause-makers
+returns-in-ImageRm-clause-makers g c t uses intent said known run = none_handed (image_removes_none c.in-ImageRm.key c.args.draw.now.uuid) (c.image_rm.ensures.worked.extends t)
+
+pub returns-in-ImageGc-clause-makers : goal.returns-in-ImageGc-clause-makers
+returns-in-ImageGc-clause-makers g c t uses intent said known run = none_handed (image_sweeps_none) (c.image_gc.ensures.worked.extends t)
+
+pub returns-in-Rm-clause-makers : goal.returns-in-Rm-clause-makers
+returns-in-Rm-clause-makers g c t uses intent said known run = none_handed (removes_none c.in-Rm.pod c.args.now) (c.rm.ensures.worked.extends t)
+
+pub returns-in-Gc-clause-makers : goal.returns-in-Gc-clause-makers
+returns-in-Gc-clause-makers g c t uses intent said known run = none_handed (sweeps_none c.args.now) (c.gc_pods.ensures.worked.extends t)
+
+pub returns-in-Prepare-clause-makers : goal.returns-in-Prepare-clause-makers
+returns-in-Prepare-clause-makers g c t uses = prepare_hands (g.D.Dir.shown c.args.dir.now) (g.D.Dir.shown c.prepare_pod.new.dir) c.args.now c.args.draw.now c.in-Prepare.is (c.prepare_pod.ensures.makers t)
+
+pub returns-in-Validate-clause-makers : goal.returns-in-Validate-clause-makers
+returns-in-Validate-clause-makers g c t uses = let clash : true ≡ false = sym uses ∙ ap uses_dir c.in-Validate.is in cc

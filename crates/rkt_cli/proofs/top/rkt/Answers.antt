@@ -3,6 +3,7 @@ use Rattle.rkt_cli.proofs.QuietRun.{quiet}
 use Rattle.rkt_cli.proofs.Conforming.{run_conforms}
 use Rattle.rkt_cli.proofs.Histories.{run_tells, run_deed}
 use Rattle.rkt_cli.proofs.PodLeft.{run_left}
+use Rattle.pod_roots.proofs.Standing.{apps_start}
 use Rattle.rkt_cli.proofs.top.rkt.Goals as goal
 
 pub returns-clause-statuses : goal.returns-clause-statuses
@@ -91,3 +92,6 @@ returns-clause-spawn_fault g c = spawn_fault c.run.ensures.ran
 
 pub returns-clause-apps : goal.returns-clause-apps
 returns-clause-apps g c = c.run.ensures.ran.apps
+
+pub returns-clause-starts : goal.returns-clause-starts
+returns-clause-starts g c t legal = apps_start (g.D.Dir.shown c.run.new.dir).trace legal

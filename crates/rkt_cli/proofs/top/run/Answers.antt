@@ -4,6 +4,7 @@ use Rattle.rkt_cli.specs.declared.line.Line.{Line}
 use Rattle.rkt_cli.specs.Between.{RunBetween}
 use Rattle.rkt_cli.specs.Runs.{end_of_writing}
 use Rattle.rkt_cli.proofs.AppsRan.{line_is, spawns}
+use Rattle.pod_making.proofs.Handing.{nothing_handed}
 use Rattle.rkt_cli.proofs.top.run.Goals as goal
 
 pub returns-in-Ok-clause-ran : goal.returns-in-Ok-clause-ran
@@ -22,3 +23,9 @@ returns-in-Ok-clause-ran g c =
       reported = c.report.ensures.said;
       is = refl;
     }) c.perform-answer.ensures.came c.print-end.ensures.printed c.report.ensures.said)
+
+pub returns-in-Err-Usage-clause-makers : goal.returns-in-Err-Usage-clause-makers
+returns-in-Err-Usage-clause-makers g c t run = nothing_handed
+
+pub returns-in-Err-NoMemory-clause-makers : goal.returns-in-Err-NoMemory-clause-makers
+returns-in-Err-NoMemory-clause-makers g c t run = nothing_handed

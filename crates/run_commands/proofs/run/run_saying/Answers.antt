@@ -6,7 +6,7 @@ use Rattle.command_outcomes.proofs.Seen.{rose_wider}
 use Rattle.run_commands.proofs.Claimed.{is_open, still_active}
 use Rattle.run_commands.proofs.NewRuns.{kept_pod, kept_owned, made_went, unmade_went, made_worked, unmade_worked, made_knows, made_runs, made_keeps, unmade_keeps, run_in, prepare_in, never_spawns, made_says, unmade_says}
 use Rattle.pod_making.proofs.Handing.{handed_before, run_until}
-use Rattle.run_commands.proofs.NewRuns.{runs_take_none}
+use Rattle.run_commands.proofs.NewRuns.{runs_hand_none}
 use Rattle.run_commands.proofs.run.run_saying.Goals as goal
 
 pub kept-requires : goal.kept-requires
@@ -96,4 +96,4 @@ returns-in-Err-clause-says g c =
 pub returns-in-Ok-clause-makers : goal.returns-in-Ok-clause-makers
 returns-in-Ok-clause-makers g c t run intent hs began alone k =
     let ran = c.run_owned.ensures.went.extends t in
-    handed_before (c.prepare.ensures.went.extends t) (c.prepare.ensures.makers t (run_until ran run) intent hs began alone k) c.prepare.ensures.went.same (runs_take_none c.kept.result.pod c.kept.result.own) ran
+    handed_before (c.prepare.ensures.went.extends t) (c.prepare.ensures.makers t (run_until ran run) intent hs began alone k) c.prepare.ensures.went.same (runs_hand_none c.kept.result.pod c.kept.result.own) ran

@@ -1,0 +1,130 @@
+-- What the commands hand over: pods that they made faithfully, and but for those that make pods nothing.
+use Rattle.std.proofs.Common.{◌≡◌, ◌⊎◌, inl, inr, ℕ, Bool, true, false, ◌&&◌, ◌||◌, List, [], Some, refl, sym, ap, subst, ◌∙◌}
+use Rattle.ac_types.specs.declared.store_key.StoreKey.{StoreKey}
+use Rattle.dir_model.specs.declared.area.Area.{Area}
+use Rattle.dir_model.specs.declared.area.Area.TheVariants.{Prepare, Prepared, Run, ExitedGarbage, Garbage, Images, Incoming, Removed}
+use Rattle.dir_model.specs.declared.intent.Draw.{Draw}
+use Rattle.dir_model.specs.declared.intent.Intent.{Intent}
+use Rattle.dir_model.specs.declared.intent.Kind.TheVariants as kind
+use Rattle.dir_model.specs.declared.pod.PodId.{PodId}
+use Rattle.dir_model.specs.declared.spot.Spot.{Spot}
+use Rattle.dir_model.specs.declared.request.Request.{Request}
+use Rattle.dir_model.specs.declared.request.Request.TheVariants.{Begin, MoveFolder, Finish}
+use Rattle.dir_model.specs.declared.event.Event.{Event}
+use Rattle.dir_model.specs.declared.request.Reply.{Reply}
+use Rattle.dir_model.specs.declared.request.Reply.TheVariants.{Done}
+use Rattle.dir_model.specs.State.{spot_eq}
+use Rattle.dir_model.specs.Calls.{CallStep, Extends, IsRun, is_begin, is_finish}
+use Rattle.dir_model.specs.Replies.{is_look_at}
+use Rattle.dir_model.proofs.Chains.{and_call, nothing_yet}
+use Rattle.dir_model.proofs.Lists.{and_false, and_left, and_right}
+use Rattle.dir_rules.specs.Standing.{is_in}
+use Rattle.dir_trait.specs.DirCalls.{DirAt, DirCall, ExtendsBy}
+use Rattle.dir_trait.specs.Knowledge.{Knows}
+use Rattle.folder_contents.proofs.Spots.{in_area, one_location}
+use Rattle.image_store.specs.Requests.{imports_at}
+use Rattle.image_removal.specs.Requests.{away_spot, removes_at, sweeps}
+use Rattle.image_reading.specs.Places.{image_spot}
+use Rattle.phase_read.specs.Read.{pod_spot, is_pod_spot}
+use Rattle.pod_claim.specs.Requests.{in_prepared, in_run}
+use Rattle.pod_removal.specs.Requests.{removes}
+use Rattle.pod_gc.specs.Requests.{sweeps as sweeps_pods}
+use Rattle.pod_making.specs.Handovers.{is_handed_to, hands_over, BeforeHandingOver}
+use Rattle.pod_making.proofs.Handing.{HandsNothingOver, none_handed, nothing_handed, handed_after, handed_before, follow_on, run_until}
+use Rattle.pod_build.specs.FaithfulBuild.{IsFaithfulBuild, HandsOverFaithfully}
+use Rattle.pod_build.specs.Preparations.{Began, MakesFaithfully}
+use Rattle.command_outcomes.specs.Conforming.{begun}
+use Rattle.store_commands.specs.ImageList.{lists_images}
+use Rattle.run_commands.specs.RunPrepared.{runs_prepared}
+use Rattle.rkt_cli.specs.declared.line.Line.{Line}
+use Rattle.rkt_cli.specs.declared.line.Line.TheVariants.{Prepare as PrepareLine, Run as RunLine}
+use Rattle.rkt_cli.specs.Commands.{intent_for, intent_of}
+use Rattle.rkt_cli.specs.Histories.{HandsOver, WhereKnown}
+use Rattle.rkt_cli.proofs.PodRan.{prepares}
+
+not_from : (from to : Spot) → is_in Prepare from.area ≡ false → hands_over (MoveFolder from to) ≡ false
+not_from from to off = ap (λ b. b && is_handed_to to.area) off
+
+not_to : (from to : Spot) → is_handed_to to.area ≡ false → hands_over (MoveFolder from to) ≡ false
+not_to from to off = ap (λ b. is_in Prepare from.area && b) off ∙ and_false (is_in Prepare from.area)
+
+-- it is enough to look at the moves
+spares : (asks : Request → Bool) → ((from to : Spot) → asks (MoveFolder from to) ≡ true → hands_over (MoveFolder from to) ≡ false) → HandsNothingOver asks
+spares asks f (MoveFolder from to) is = f from to is
+spares asks f request is = refl
+
+or_false : (b : Bool) → (b || false) ≡ true → b ≡ true
+or_false true is = refl
+or_false false is = cc
+
+either_of : (a b : Bool) → (a || b) ≡ true → (a ≡ true) ⊎ (b ≡ true)
+either_of true b is = inl refl
+either_of false b is = inr is
+
+pub looks_none : (pod : PodId) → HandsNothingOver (is_look_at (is_pod_spot pod))
+looks_none pod = spares (is_look_at (is_pod_spot pod)) (λ from to is. cc)
+
+pub lists_none : HandsNothingOver lists_images
+lists_none = spares lists_images (λ from to is. cc)
+
+pub imports_none : (spot : Spot) → HandsNothingOver (imports_at spot)
+imports_none spot = spares (imports_at spot) (λ from to is. not_to from to (ap is_handed_to (sym (in_area Images to.area (and_right (spot_eq from spot) (is_in Images to.area) (or_false _ is))))))
+
+pub image_removes_none : (key : StoreKey) (draw : PodId) → HandsNothingOver (removes_at key draw)
+image_removes_none key draw = spares (removes_at key draw) (λ from to is. not_from from to (ap (λ (s : Spot). is_in Prepare s.area) (one_location from (image_spot key) (and_left (spot_eq from (image_spot key)) (spot_eq to (away_spot draw)) (or_false _ is)))))
+
+pub image_sweeps_none : HandsNothingOver sweeps
+image_sweeps_none = spares sweeps (λ from to is. not_from from to (ap (is_in Prepare) (in_area from.area Incoming (and_left (is_in from.area Incoming) (is_in to.area Removed) is))))
+
+pub claims_none : (pod : PodId) → HandsNothingOver (runs_prepared pod)
+claims_none pod = spares (runs_prepared pod) (λ from to is. not_from from to (ap (λ (s : Spot). is_in Prepare s.area) (sym (one_location (in_prepared pod) from (and_left (spot_eq (in_prepared pod) from) (spot_eq (in_run pod) to) (or_false _ is))))))
+
+-- a pod that is removed goes to a garbage place
+led_to : (pod : PodId) (here there : Area) (from to : Spot) → is_handed_to there ≡ false → (spot_eq (pod_spot pod here) from && spot_eq (pod_spot pod there) to) ≡ true → hands_over (MoveFolder from to) ≡ false
+led_to pod here there from to off is = not_to from to (ap (λ (s : Spot). is_handed_to s.area) (sym (one_location (pod_spot pod there) to (and_right (spot_eq (pod_spot pod here) from) (spot_eq (pod_spot pod there) to) is))) ∙ off)
+
+pub removes_none : (pod : PodId) (now : ℕ) → HandsNothingOver (removes pod now)
+removes_none pod now = spares (removes pod now) (λ from to is. by from to (either_of _ _ is))
+  where
+    rest : (from to : Spot) → ((spot_eq (pod_spot pod Prepared) from && spot_eq (pod_spot pod Garbage) to) ≡ true) ⊎ ((spot_eq (pod_spot pod Run) from && spot_eq (pod_spot pod ExitedGarbage) to) ≡ true) → hands_over (MoveFolder from to) ≡ false
+    rest from to (inl x) = led_to pod Prepared Garbage from to refl x
+    rest from to (inr x) = led_to pod Run ExitedGarbage from to refl x
+
+    by : (from to : Spot) → ((spot_eq (pod_spot pod Prepare) from && spot_eq (pod_spot pod Garbage) to) ≡ true)
+        ⊎ (((spot_eq (pod_spot pod Prepared) from && spot_eq (pod_spot pod Garbage) to) || (spot_eq (pod_spot pod Run) from && spot_eq (pod_spot pod ExitedGarbage) to)) ≡ true) → hands_over (MoveFolder from to) ≡ false
+    by from to (inl x) = led_to pod Prepare Garbage from to refl x
+    by from to (inr x) = rest from to (either_of _ _ x)
+
+pub sweeps_none : (now : ℕ) → HandsNothingOver (sweeps_pods now)
+sweeps_none now = spares (sweeps_pods now) (λ from to is. by from to (either_of _ _ is))
+  where
+    by : (from to : Spot) → ((is_in Run from.area && is_in ExitedGarbage to.area) ≡ true) ⊎ (is_in Garbage to.area ≡ true) → hands_over (MoveFolder from to) ≡ false
+    by from to (inl x) = not_to from to (ap is_handed_to (sym (in_area ExitedGarbage to.area (and_right (is_in Run from.area) (is_in ExitedGarbage to.area) x))))
+    by from to (inr x) = not_to from to (ap is_handed_to (sym (in_area Garbage to.area x)))
+
+-- `prepare` and `run`, of a process that has just begun
+pub prepare_hands : (a b : DirAt) {line : Line} {words : List (List ℕ)} (now : ℕ) (draw : Draw) → line ≡ PrepareLine words → MakesFaithfully Prepared draw now a b → WhereKnown line now draw a (HandsOver a b)
+prepare_hands a b {line} {words} now draw is makes intent said known run =
+    let began = prepares words now draw intent (subst (λ (l : Line). intent_of l now draw ≡ Some intent) is said) in
+    makes run intent [] began refl (record { tied = known.tied; handles = known.handles })
+
+pub run_hands : (a b : DirAt) {line : Line} {words : List (List ℕ)} (now : ℕ) (draw : Draw) → line ≡ RunLine words → MakesFaithfully Run draw now a b → WhereKnown line now draw a (HandsOver a b)
+run_hands a b {line} {words} now draw is makes intent said known run =
+    let same : intent_for kind.Run [] now draw ≡ intent = (let e : intent_of (RunLine words) now draw ≡ Some intent = subst (λ (l : Line). intent_of l now draw ≡ Some intent) is said in cc) in
+    makes run intent [] (subst (λ (i : Intent). Began Run draw now i) same (record { leads = refl; drawn = refl; token = refl; moment = refl })) refl (record { tied = known.tied; handles = known.handles })
+
+-- a begin that is refused hands nothing over
+pub never_begun_hands : {P : List Event → Type 0} {me : ℕ} {old new : List Event} {intent : Intent} {reply : Reply} → CallStep me old (Begin intent) reply new → BeforeHandingOver P me old new
+never_begun_hands step = none_handed (spares is_begin (λ from to is. cc)) (and_call nothing_yet refl refl step)
+
+-- a command that makes no call on the directory hands nothing over
+pub apart_hands : (a b : DirAt) → b ≡ a → HandsOver a b
+apart_hands a b same run = subst (λ (d : DirAt). HandsOverFaithfully a.process a.trace d.trace) (sym same) nothing_handed
+
+-- a whole process: its begin and its finish hand nothing over
+pub process_hands : {observed : Bool} {asks : Request → Bool} {intent : Intent} (a b c d : DirAt) → observed ≡ true → DirCall observed a (Begin intent) Done b → c.process ≡ b.process → ExtendsBy asks b c → HandsOver b c → DirCall observed c Finish Done d → HandsOver a d
+process_hands {observed} {asks} {intent} a b c d t begins same bc x finishes run =
+    let ab : Extends is_begin a.process a.trace b.trace = and_call nothing_yet refl refl (begins.step t) in
+    let cd : Extends is_finish c.process c.trace d.trace = and_call nothing_yet refl refl (finishes.step t) in
+    let first : HandsOverFaithfully a.process a.trace c.trace = handed_after (λ me. IsFaithfulBuild me) (spares is_begin (λ from to is. cc)) ab begins.same bc (x (run_until cd run)) in
+    handed_before {P = IsFaithfulBuild a.process} (follow_on ab begins.same bc) first (same ∙ begins.same) (spares is_finish (λ from to is. cc)) cd
