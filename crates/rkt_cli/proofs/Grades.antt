@@ -8,7 +8,7 @@ use Rattle.command_outcomes.specs.Moments.{Inside, Answer, is_well}
 use Rattle.rkt_cli.specs.Commands.{runs_apps, runs_apps_in}
 use Rattle.rkt_cli.specs.Spawns.{CameBetween}
 use Rattle.rkt_cli.specs.Runs.{Graded}
-use Rattle.rkt_cli.specs.Statuses.{IsStatus}
+use Rattle.rkt_cli.specs.Statuses.{IsStatus, IsDone}
 use Rattle.rkt_cli.proofs.Ends.{absurd_number}
 
 module _ (l : Option Line) (plain status : ℕ) where
@@ -20,9 +20,9 @@ module _ (l : Option Line) (plain status : ℕ) where
   graded_known (inl same) known = subst IsStatus (sym same) known
   graded_known (inr x) known = subst IsStatus (sym x.0) refl
 
-  pub graded_none : Graded l plain status → plain ≡ 0 → (status ≡ 0) ⊎ (status ≡ 16)
+  pub graded_none : Graded l plain status → plain ≡ 0 → IsDone l status
   graded_none (inl same) is = inl (same ∙ is)
-  graded_none (inr x) is = inr x.0
+  graded_none (inr x) is = inr (x.0, x.2)
 
   pub graded_same : (n : ℕ) → Graded l plain status → plain ≡ n → (n == 0) ≡ false → status ≡ n
   graded_same n (inl same) is apart = same ∙ is

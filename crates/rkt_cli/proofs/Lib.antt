@@ -8,6 +8,7 @@ pub mod Listed
 pub mod Grades
 pub mod RunsRan
 pub mod Makers
+pub mod RunsQuiet
 pub mod PodRemovals
 pub mod AppsRan
 pub mod Statuses

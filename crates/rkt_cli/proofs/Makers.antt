@@ -53,7 +53,7 @@ spares : (asks : Request → Bool) → ((from to : Spot) → asks (MoveFolder fr
 spares asks f (MoveFolder from to) is = f from to is
 spares asks f request is = refl
 
-or_false : (b : Bool) → (b || false) ≡ true → b ≡ true
+pub or_false : (b : Bool) → (b || false) ≡ true → b ≡ true
 or_false true is = refl
 or_false false is = cc
 

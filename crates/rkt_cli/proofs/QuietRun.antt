@@ -39,7 +39,8 @@ use Rattle.store_commands.specs.ImageGc.{is_swept_place, SweepsQuietly}
 use Rattle.command_outcomes.specs.Conforming.{begun}
 use Rattle.rkt_cli.specs.Commands.{intent_for, intent_of, asks, ComesQuietly, LeavesQuietly}
 use Rattle.rkt_cli.specs.Runs.{CommandRan, Performs, InProcess, Apart, Printed, RunOf, RunIs, end_status}
-use Rattle.rkt_cli.specs.Statuses.{IsAnswer, IsUndisturbed, Works, IsQuietAnswer}
+use Rattle.rkt_cli.specs.Statuses.{IsAnswer, IsUndisturbed, Works, IsPlainAnswer, IsQuietAnswer}
+use Rattle.rkt_cli.proofs.Grades.{graded_same}
 use Rattle.rkt_cli.proofs.Judged.{judged_whole}
 use Rattle.command_outcomes.proofs.Seen.{rose_wider}
 use Rattle.rkt_cli.proofs.Outcomes.{rose_between, answered, WasAnswered}
@@ -59,6 +60,9 @@ use Rattle.store_commands.proofs.RemovalEnds.{removal_ends, none_before}
 use Rattle.store_commands.proofs.SweepEnds.{incoming_left, removed_left}
 use Rattle.store_commands.proofs.RemovalQuiet.{in_process, asks_in_process, places_beside, removal_changes, sweep_changes, held_before}
 use Rattle.store_commands.proofs.ImportQuiet.{is_modest, imports_is_modest, at_modest, end_modest}
+use Rattle.run_commands.specs.RunPrepared.{runs_prepared}
+use Rattle.run_commands.specs.Run.{makes_and_runs}
+use Rattle.rkt_cli.proofs.RunsQuiet.{claim_changes, run_changes}
 use Rattle.rkt_cli.proofs.Sessions.{all_parts, quiet_act, state_begun, idle}
 
 -- undisturbed it came to an end of its own, or memory ran out
@@ -335,8 +339,10 @@ leaves_quietly (ImageImport path) now draw intent old new o s u = import_leaves 
 leaves_quietly (ImageRm key) now draw intent old new o s u = removal_leaves key now draw intent old new o s u
 leaves_quietly ImageGc now draw intent old new o s u = sweep_leaves now draw intent old new o s u
 leaves_quietly (Prepare words) now draw intent old new o s u = prepare_leaves words now draw intent old new o s u
-leaves_quietly (RunPrepared pod) now draw intent old new o s u = tt
-leaves_quietly (Run words) now draw intent old new o s u = tt
+leaves_quietly (RunPrepared pod) now draw intent old new o s u =
+    places_beside (is_pod_spot pod) (runs_prepared pod) (claim_changes pod) (all_parts s (u.observed refl) (in_process (runs_prepared pod)) refl (asks_in_process (runs_prepared pod)) refl) (u.alone refl)
+leaves_quietly (Run words) now draw intent old new o s u =
+    places_beside (is_pod_spot draw.uuid) (makes_and_runs draw.uuid) (run_changes draw.uuid) (all_parts s (u.observed refl) (in_process (makes_and_runs draw.uuid)) refl (asks_in_process (makes_and_runs draw.uuid)) refl) (u.alone refl)
 leaves_quietly (Rm pod) now draw intent old new o s u = tt
 leaves_quietly Gc now draw intent old new o s u = tt
 
@@ -370,15 +376,15 @@ said_quiet o old new status (inr (inl x)) works = absurd (works x.2)
 said_quiet o old new status (inr (inr x)) works = inr x
 
 module _ (now : ℕ) (draw : Draw) (old new : Moment) (status : ℕ) where
-  quiet_of : (l : Option Line) → RunOf l now draw old new status → IsUndisturbed l old.outside new.outside → Works old.out new.out → IsQuietAnswer l now draw status old new
-  quiet_of None r u works = inr (inr (Err Usage, refl, (r.is, λ t. ap (λ (s : SinkSeen). s.bytes) r.out, r.reported), tt))
+  quiet_of : (l : Option Line) → RunOf l now draw old new status → IsUndisturbed l old.outside new.outside → Works old.out new.out → (status ≡ 14) ⊎ IsPlainAnswer l now draw status old new
+  quiet_of None r u works = inr (Err Usage, refl, (r.is, λ t. ap (λ (s : SinkSeen). s.bytes) r.out, r.reported), tt)
   quiet_of (Some line) (inr n) u works = inl n.is
   quiet_of (Some line) (inl r) u works = by (performs_quiet line now draw (intent_of line now draw) old.outside new.outside r.outcome refl r.performs u)
     where
-      by : IsQuiet line now draw old.outside new.outside r.outcome → IsQuietAnswer (Some line) now draw status old new
+      by : IsQuiet line now draw old.outside new.outside r.outcome → (status ≡ 14) ⊎ IsPlainAnswer (Some line) now draw status old new
       by (inl e) = inl (r.is ∙ ap end_status ((subst (λ (o : Outcome). Printed o old.out new.out r.end) e r.printed).refused.0))
-      by (inr (comes, left)) = elim (said_quiet r.outcome old new status (answered r.outcome old new r.end status r.printed r.reported r.is) works) [ inl x ↦ inl x | inr x ↦ inr (inr (r.outcome, comes, x, left)) ]
+      by (inr (comes, left)) = elim (said_quiet r.outcome old new status (answered r.outcome old new r.end status r.printed r.reported r.is) works) [ inl x ↦ inl x | inr x ↦ inr (r.outcome, comes, x, left) ]
 
 pub quiet : {l : Option Line} {now : ℕ} {draw : Draw} {old new : Moment} {status : ℕ} → RunIs l now draw old new status → IsUndisturbed l old.outside new.outside → Works old.out new.out → IsQuietAnswer l now draw status old new
 quiet {l} {now} {draw} {old} {new} {status} run u works =
-    elim run.is [ inl same ↦ subst (λ (n : ℕ). IsQuietAnswer l now draw n old new) (sym same) (quiet_of now draw old new run.plain l run.ran u works) | inr x ↦ inr (inl x.0) ]
+    elim (quiet_of now draw old new run.plain l run.ran u works) [ inl e ↦ inl (graded_same l run.plain status 14 run.is e refl) | inr x ↦ inr (run.plain, run.is, x) ]

@@ -702,10 +702,10 @@ module _ {l : Option Line} {now : ℕ} {draw : Draw} {old new : Moment} {status 
       by (inr (inl x)) = inr (inl (elim x.0 [ inl e ↦ inl (same_at 12 e refl) | inr e ↦ inr (same_at 14 e refl) ], x.1, x.2, x.3))
       by (inr (inr x)) = inr (inr (ap (λ (n : ℕ). (n == 0) || (n == 16)) (same_at run.plain refl (either_false (run.plain == 0) (run.plain == 16) x.0)) ∙ x.0, x.1))
 
-  pub complaint : IsComplaint status old.err new.err
+  pub complaint : IsComplaint l status old.err new.err
   complaint = by (err_of now draw old new run.plain l run.ran)
     where
-      by : IsPlainComplaint run.plain old.err new.err → IsComplaint status old.err new.err
+      by : IsPlainComplaint run.plain old.err new.err → IsComplaint l status old.err new.err
       by (inl x) = inl (graded_none l run.plain status run.is x.0, x.1)
       by (inr x) = inr (x.0, same_at (status_of x.0) x.1 (refusal_status x.0), x.2)
 

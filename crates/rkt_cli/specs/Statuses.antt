@@ -38,7 +38,7 @@ use Rattle.command_outcomes.specs.declared.refusal.Refusal.TheVariants.{Usage, W
 use Rattle.command_outcomes.specs.Texts.{status_of}
 use Rattle.rkt_cli.specs.Texts.{state_text, valid_text}
 use Rattle.command_outcomes.specs.Moments.{DirSeen, BundleSeen, SinkSeen, Outside, Moment, Outcome}
-use Rattle.rkt_cli.specs.Commands.{uses_dir, reads_bundle, intent_of, asks, ReadsOnly, ComesQuietly, LeavesQuietly}
+use Rattle.rkt_cli.specs.Commands.{uses_dir, reads_bundle, intent_of, asks, ReadsOnly, ComesQuietly, LeavesQuietly, runs_apps_in}
 use Rattle.rkt_cli.specs.Validate.{sequential_validate}
 use Rattle.store_commands.specs.ImageList.{images_text, LacksPart, IsHeldElsewhere}
 use Rattle.store_commands.specs.ImageImport.{import_refusal, source_of, PrintsKey, IsAreaHeld}
@@ -54,7 +54,7 @@ use Rattle.pod_gc.specs.declared.line.GcLine.{GcLine}
 use Rattle.dir_model.specs.declared.pod.PodId.{PodId}
 use Rattle.dir_model.specs.declared.spot.Which.{Which}
 use Rattle.command_outcomes.specs.Conforming.{shown_at}
-use Rattle.rkt_cli.specs.Runs.{Complained, ended_local}
+use Rattle.rkt_cli.specs.Runs.{Complained, ended_local, Graded}
 
 -- whether the words are a command on the directory, and whether they are one that reads the bundle
 abbrev pub uses_dir_in : Option Line → Bool
@@ -260,16 +260,20 @@ Prints (Some (Rm pod)) draw bundle text = text ≡ rm.removed_text pod
 Prints (Some Gc) draw bundle text = (lines : List GcLine) × (text ≡ gc.lines_text lines)
 Prints None draw bundle text = ⊥
 
--- with status 0 and 16 the command's text was written, with 12 and 14 a part of it from its start or nothing, and else nothing
+-- the status of a command that was done: 16 only of one that starts apps, of which some ended with another status than 0
+abbrev pub IsDone : Option Line → ℕ → Type 0
+IsDone line status = (status ≡ 0) ⊎ ((status ≡ 16) × (runs_apps_in line ≡ true))
+
+-- where it was done the command's text was written, with 12 and 14 a part of it from its start or nothing, and else nothing
 abbrev pub IsOutput : Option Line → Draw → BundleSeen → ℕ → List ℕ → List ℕ → Type 0
 IsOutput line draw bundle status old new =
-    (((status ≡ 0) ⊎ (status ≡ 16)) × (text : List ℕ) × Prints line draw bundle text × (new ≡ old ++ text))
+    (IsDone line status × (text : List ℕ) × Prints line draw bundle text × (new ≡ old ++ text))
     ⊎ (((status ≡ 12) ⊎ (status ≡ 14)) × (text : List ℕ) × Prints line draw bundle text × WritesPart old text new)
     ⊎ ((((status == 0) || (status == 16)) ≡ false) × (new ≡ old))
 
--- with status 0 and 16 nothing was said, and else the message of a refusal with that status
-abbrev pub IsComplaint : ℕ → SinkSeen → SinkSeen → Type 0
-IsComplaint status old new = (((status ≡ 0) ⊎ (status ≡ 16)) × (new ≡ old)) ⊎ ((refusal : Refusal) × (status ≡ status_of refusal) × Complained refusal old new)
+-- where it was done nothing was said, and else the message of a refusal with that status
+abbrev pub IsComplaint : Option Line → ℕ → SinkSeen → SinkSeen → Type 0
+IsComplaint line status old new = (IsDone line status × (new ≡ old)) ⊎ ((refusal : Refusal) × (status ≡ status_of refusal) × Complained refusal old new)
 
 -- a command on the directory leaves a process that has begun so and finished, with nothing open. Where memory ran out
 -- before it began, and for all other words, nothing has changed
@@ -313,15 +317,17 @@ abbrev pub LeavesIn : Option Line → ℕ → Draw → Tree → DirState → Dir
 LeavesIn None now draw tree old new = Unit {0}
 LeavesIn (Some line) now draw tree old new = LeavesQuietly line now draw tree old new
 
--- memory ran out, or an app ended with another status than 0, or so it was answered, and so the directory was left
-abbrev pub IsQuietAnswer : Option Line → ℕ → Draw → ℕ → Moment → Moment → Type 0
-IsQuietAnswer line now draw status old new =
-    (status ≡ 14)
-    ⊎ (status ≡ 16)
-    ⊎ ((o : Outcome)
+-- so it was answered, with this status as if all apps had ended with 0, and so the directory was left
+abbrev pub IsPlainAnswer : Option Line → ℕ → Draw → ℕ → Moment → Moment → Type 0
+IsPlainAnswer line now draw plain old new =
+    (o : Outcome)
     × ComesIn line now draw old.outside new.outside o
-    × IsAnswer o status old new
-    × LeavesIn line now draw old.outside.bundle.tree (state_after old.outside.dir.trace) (state_after new.outside.dir.trace))
+    × IsAnswer o plain old new
+    × LeavesIn line now draw old.outside.bundle.tree (state_after old.outside.dir.trace) (state_after new.outside.dir.trace)
+
+-- memory ran out, or it was answered so, with 16 for 0 where an app ended with another status than 0
+abbrev pub IsQuietAnswer : Option Line → ℕ → Draw → ℕ → Moment → Moment → Type 0
+IsQuietAnswer line now draw status old new = (status ≡ 14) ⊎ ((plain : ℕ) × Graded line plain status × IsPlainAnswer line now draw plain old new)
 
 -- the bundle's first fault was answered, or the bundle has an image; or the bundle failed, or memory ran out
 abbrev pub IsBundleJudgement : List ℕ → ℕ → Moment → Moment → Type 0

@@ -117,7 +117,7 @@ pub fn rkt<D: Dir, B: Bundle, S: Spawner, O: Sink, E: Sink>(
     ensures apps { TellsApps (line_in words.now) now draw.now result (inside_at D.Dir S.Spawner dir.old spawner.old) (inside_at D.Dir S.Spawner dir.new spawner.new)
         (sink_at O.Sink out.old) (sink_at O.Sink out.new) (sink_at E.Sink err.old) (sink_at E.Sink err.new) }
     ensures out { O.observed ≡ true → IsOutput (line_in words.now) draw.now (bundle_at B.Bundle bundle.old) result (O.shown out.old).bytes (O.shown out.new).bytes }
-    ensures err { IsComplaint result (sink_at E.Sink err.old) (sink_at E.Sink err.new) }
+    ensures err { IsComplaint (line_in words.now) result (sink_at E.Sink err.old) (sink_at E.Sink err.new) }
     ensures quiet { QuietBetween D.Dir B.Bundle S.Spawner O.Sink E.Sink (line_in words.now) now draw.now result
         (dir.old, bundle.old, spawner.old, out.old, err.old) (dir.new, bundle.new, spawner.new, out.new, err.new) }
     ensures ran { RunBetween D.Dir B.Bundle S.Spawner O.Sink E.Sink (line_in words.now) now draw.now result
