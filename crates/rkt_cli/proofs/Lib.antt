@@ -14,6 +14,7 @@ pub mod AppsRan
 pub mod Statuses
 pub mod QuietRun
 pub mod Conforming
+pub mod Ran
 pub mod StoreRan
 pub mod PodRan
 pub mod PodKept

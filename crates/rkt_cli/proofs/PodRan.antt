@@ -44,7 +44,7 @@ use Rattle.rkt_cli.proofs.Listed.{process_part}
 use Rattle.rkt_cli.proofs.Sessions.{any_call, begin_part, finish_part}
 use Rattle.rkt_cli.proofs.Conforming.{begun_knows}
 use Rattle.rkt_cli.proofs.Removals.{meanwhile}
-use Rattle.rkt_cli.proofs.StoreRan.{never_bundle}
+use Rattle.rkt_cli.proofs.Ran.{ran}
 
 abbrev pub prepare_intent : ℕ → Draw → Intent
 prepare_intent now draw = intent_for kind.Prepare [] now draw
@@ -62,29 +62,10 @@ prepare_may words NoMemory known = known
 prepare_may words DirFault known = known
 prepare_may words r known = known
 
-prepare_end : (words : List (List ℕ)) (o : Outcome) → IfErr o (λ r. prepare_refusal r ≡ true) → IfErr o (λ r. may (Prepare words) r ≡ true)
-prepare_end words (Ok text) known = known
-prepare_end words (Err r) known = prepare_may words r known
-
 pub prepare_ran : (line : Line) (now : ℕ) (draw : Draw) (words : List (List ℕ)) (observed : Bool) (a b : DirAt) (bundle : BundleSeen) (o : Outcome) → line ≡ Prepare words → Worked observed (prepares_pod draw.uuid) a b →
     (IsErrOf o DirFault → Rose a.faults b.faults) → IfErr o (λ r. prepare_refusal r ≡ true) → PrepareSays words now draw (seen_at observed a) (seen_at observed b) o →
     CommandRan line now draw (beside (seen_at observed a) bundle) (beside (seen_at observed b) bundle) o
-prepare_ran line now draw words observed a b bundle o is worked cause known says =
-    subst (λ (l : Line). CommandRan l now draw (beside (seen_at observed a) bundle) (beside (seen_at observed b) bundle) o) (sym is) ran
-  where
-    ran : CommandRan (Prepare words) now draw (beside (seen_at observed a) bundle) (beside (seen_at observed b) bundle) o
-    ran = record {
-      same = worked.same;
-      local = worked.local;
-      faults = worked.faults;
-      cause = cause;
-      bundle_faults = omega arith;
-      bundle_cause = never_bundle prepare_refusal o refl known;
-      refusals = prepare_end words o known;
-      extends = worked.extends;
-      reads = tt;
-      says = says;
-    }
+prepare_ran line now draw words observed a b bundle o is worked cause known says = ran (Prepare words) prepare_refusal refl (prepare_may words) line now draw observed a b bundle o is tt worked cause known says
 
 still : (a b : ℕ) → b ≡ a → a ≤ b
 still a b same = omega arith

@@ -17,7 +17,7 @@ use Rattle.pod_gc.specs.Requests.{sweeps}
 use Rattle.command_outcomes.specs.declared.refusal.Refusal.{Refusal}
 use Rattle.command_outcomes.proofs.Seen.{beside}
 use Rattle.rkt_cli.specs.declared.line.Line.{Line}
-use Rattle.rkt_cli.proofs.StoreRan.{never_bundle}
+use Rattle.rkt_cli.proofs.Ran.{ran}
 use Rattle.dir_rules.specs.Marks.{begins}
 use Rattle.pod_steps.specs.Causes.{WasStray}
 use Rattle.pod_removal.specs.Causes.{IsBusyAt}
@@ -140,53 +140,15 @@ rm_may pod NoMemory known = known
 rm_may pod DirFault known = known
 rm_may pod r known = known
 
-rm_end : (pod : PodId) (o : Outcome) → IfErr o (λ r. rm_refusal r ≡ true) → IfErr o (λ r. may (Rm pod) r ≡ true)
-rm_end pod (Ok text) known = known
-rm_end pod (Err r) known = rm_may pod r known
-
 gc_may : (r : Refusal) → gc_refusal r ≡ true → may Gc r ≡ true
 gc_may NoMemory known = known
 gc_may DirFault known = known
 gc_may r known = known
 
-gc_end : (o : Outcome) → IfErr o (λ r. gc_refusal r ≡ true) → IfErr o (λ r. may Gc r ≡ true)
-gc_end (Ok text) known = known
-gc_end (Err r) known = gc_may r known
-
 pub rm_ran : (line : Line) (now : ℕ) (draw : Draw) (pod : PodId) (observed : Bool) (a b : DirAt) (bundle : BundleSeen) (o : Outcome) → line ≡ Rm pod → Worked observed (removes pod now) a b → (IsErrOf o DirFault → Rose a.faults b.faults) →
     IfErr o (λ r. rm_refusal r ≡ true) → RmSays pod now (dir_seen observed a) (dir_seen observed b) o → CommandRan line now draw (beside (dir_seen observed a) bundle) (beside (dir_seen observed b) bundle) o
-rm_ran line now draw pod observed a b bundle o is worked cause known says =
-    subst (λ (l : Line). CommandRan l now draw (beside (dir_seen observed a) bundle) (beside (dir_seen observed b) bundle) o) (sym is) ran
-  where
-    ran : CommandRan (Rm pod) now draw (beside (dir_seen observed a) bundle) (beside (dir_seen observed b) bundle) o
-    ran = record {
-      same = worked.same;
-      local = worked.local;
-      faults = worked.faults;
-      cause = cause;
-      bundle_faults = omega arith;
-      bundle_cause = never_bundle rm_refusal o refl known;
-      refusals = rm_end pod o known;
-      extends = worked.extends;
-      reads = tt;
-      says = says;
-    }
+rm_ran line now draw pod observed a b bundle o is worked cause known says = ran (Rm pod) rm_refusal refl (rm_may pod) line now draw observed a b bundle o is tt worked cause known says
 
 pub gc_ran : (line : Line) (now : ℕ) (draw : Draw) (observed : Bool) (a b : DirAt) (bundle : BundleSeen) (o : Outcome) → line ≡ Gc → Worked observed (sweeps now) a b → (IsErrOf o DirFault → Rose a.faults b.faults) →
     IfErr o (λ r. gc_refusal r ≡ true) → GcSays (times_of now grace_time expire_time) (dir_seen observed a) (dir_seen observed b) o → CommandRan line now draw (beside (dir_seen observed a) bundle) (beside (dir_seen observed b) bundle) o
-gc_ran line now draw observed a b bundle o is worked cause known says =
-    subst (λ (l : Line). CommandRan l now draw (beside (dir_seen observed a) bundle) (beside (dir_seen observed b) bundle) o) (sym is) ran
-  where
-    ran : CommandRan Gc now draw (beside (dir_seen observed a) bundle) (beside (dir_seen observed b) bundle) o
-    ran = record {
-      same = worked.same;
-      local = worked.local;
-      faults = worked.faults;
-      cause = cause;
-      bundle_faults = omega arith;
-      bundle_cause = never_bundle gc_refusal o refl known;
-      refusals = gc_end o known;
-      extends = worked.extends;
-      reads = tt;
-      says = says;
-    }
+gc_ran line now draw observed a b bundle o is worked cause known says = ran Gc gc_refusal refl gc_may line now draw observed a b bundle o is tt worked cause known says

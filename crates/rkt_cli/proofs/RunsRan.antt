@@ -31,7 +31,7 @@ use Rattle.rkt_cli.specs.declared.line.Line.{Line}
 use Rattle.rkt_cli.specs.declared.line.Line.TheVariants.{RunPrepared, Run}
 use Rattle.rkt_cli.specs.Commands.{intent_for, intent_of, may}
 use Rattle.rkt_cli.specs.Runs.{CommandRan}
-use Rattle.rkt_cli.proofs.StoreRan.{never_bundle}
+use Rattle.rkt_cli.proofs.Ran.{ran}
 
 -- what it knows
 pub begun_at : {observed : Bool} {a b : DirAt} (intent : Intent) → a.local ≡ nothing_local → DirCall observed a (Begin intent) Done b → observed ≡ true → Knows b (begun intent)
@@ -62,18 +62,10 @@ prepared_may pod NoMemory known = known
 prepared_may pod DirFault known = known
 prepared_may pod r known = known
 
-prepared_end : (pod : PodId) (answer : Answer) → IfErr answer (λ r. run_prepared_refusal r ≡ true) → IfErr (outcome_of answer) (λ r. may (RunPrepared pod) r ≡ true)
-prepared_end pod (Ok told) known = tt
-prepared_end pod (Err r) known = prepared_may pod r known
-
 made_may : (words : List (List ℕ)) (r : Refusal) → new_run_refusal r ≡ true → may (Run words) r ≡ true
 made_may words NoMemory known = known
 made_may words DirFault known = known
 made_may words r known = known
-
-made_end : (words : List (List ℕ)) (answer : Answer) → IfErr answer (λ r. new_run_refusal r ≡ true) → IfErr (outcome_of answer) (λ r. may (Run words) r ≡ true)
-made_end words (Ok told) known = tt
-made_end words (Err r) known = made_may words r known
 
 as_outcome : (known : Refusal → Bool) (answer : Answer) → IfErr answer (λ r. known r ≡ true) → IfErr (outcome_of answer) (λ r. known r ≡ true)
 as_outcome known (Ok told) all = tt
@@ -88,29 +80,9 @@ module _ (line : Line) (now : ℕ) (draw : Draw) (observed : Bool) (a b : DirAt)
   Ran l = CommandRan l now draw (beside (dir_seen observed a) bundle) (beside (dir_seen observed b) bundle) (outcome_of answer)
 
   pub prepared_ran : (pod : PodId) → line ≡ RunPrepared pod → Worked observed (runs_prepared pod) a b → (IsErrOf answer DirFault → Rose a.faults b.faults) → IfErr answer (λ r. run_prepared_refusal r ≡ true) → Ran line
-  prepared_ran pod is worked cause known = subst Ran (sym is) (record {
-    same = worked.same;
-    local = worked.local;
-    faults = worked.faults;
-    cause = λ fault. cause (fault_of answer fault);
-    bundle_faults = omega arith;
-    bundle_cause = never_bundle run_prepared_refusal (outcome_of answer) refl (as_outcome run_prepared_refusal answer known);
-    refusals = prepared_end pod answer known;
-    extends = worked.extends;
-    reads = tt;
-    says = tt;
-  })
+  prepared_ran pod is worked cause known =
+      ran (RunPrepared pod) run_prepared_refusal refl (prepared_may pod) line now draw observed a b bundle (outcome_of answer) is tt worked (λ fault. cause (fault_of answer fault)) (as_outcome run_prepared_refusal answer known) tt
 
   pub made_ran : (words : List (List ℕ)) → line ≡ Run words → Worked observed (makes_and_runs draw.uuid) a b → (IsErrOf answer DirFault → Rose a.faults b.faults) → IfErr answer (λ r. new_run_refusal r ≡ true) → Ran line
-  made_ran words is worked cause known = subst Ran (sym is) (record {
-    same = worked.same;
-    local = worked.local;
-    faults = worked.faults;
-    cause = λ fault. cause (fault_of answer fault);
-    bundle_faults = omega arith;
-    bundle_cause = never_bundle new_run_refusal (outcome_of answer) refl (as_outcome new_run_refusal answer known);
-    refusals = made_end words answer known;
-    extends = worked.extends;
-    reads = tt;
-    says = tt;
-  })
+  made_ran words is worked cause known =
+      ran (Run words) new_run_refusal refl (made_may words) line now draw observed a b bundle (outcome_of answer) is tt worked (λ fault. cause (fault_of answer fault)) (as_outcome new_run_refusal answer known) tt

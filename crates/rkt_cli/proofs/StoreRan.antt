@@ -23,6 +23,7 @@ use Rattle.store_commands.specs.ImageImport.{image_import_refusal, ImageImportSa
 use Rattle.store_commands.specs.ImageRm.{image_rm_refusal, ImageRmSays}
 use Rattle.store_commands.specs.ImageGc.{image_gc_refusal, ImageGcSays}
 use Rattle.rkt_cli.specs.declared.line.Line.{Line}
+use Rattle.rkt_cli.proofs.Ran.{ran}
 use Rattle.rkt_cli.specs.declared.line.Line.TheVariants.{ImageImport, ImageRm, ImageGc}
 use Rattle.rkt_cli.specs.Commands.{intent_for, intent_of, may}
 use Rattle.rkt_cli.specs.Runs.{CommandRan}
@@ -47,10 +48,10 @@ pub import_ran : (line : Line) (now : ℕ) (draw : Draw) (path : List ℕ) (obse
     IfErr o (λ r. image_import_refusal r ≡ true) → ImageImportSays path now draw.uuid (beside (seen_at observed a) before) (beside (seen_at observed b) after) o →
     CommandRan line now draw (beside (seen_at observed a) before) (beside (seen_at observed b) after) o
 import_ran line now draw path observed a b before after o is worked cause faults bundle_cause known says =
-    subst (λ (l : Line). CommandRan l now draw (beside (seen_at observed a) before) (beside (seen_at observed b) after) o) (sym is) ran
+    subst (λ (l : Line). CommandRan l now draw (beside (seen_at observed a) before) (beside (seen_at observed b) after) o) (sym is) whole
   where
-    ran : CommandRan (ImageImport path) now draw (beside (seen_at observed a) before) (beside (seen_at observed b) after) o
-    ran = record {
+    whole : CommandRan (ImageImport path) now draw (beside (seen_at observed a) before) (beside (seen_at observed b) after) o
+    whole = record {
       same = worked.same;
       local = worked.local;
       faults = worked.faults;
@@ -85,64 +86,22 @@ sweep_conforming now draw intent observed a b is stays k =
     record { known = s.known; knows = record { tied = s.knows.tied; handles = s.knows.handles }; kept = s.kept }
 
 -- what each of the two owes
-pub never_bundle : (known : Refusal → Bool) (o : Outcome) {X : Type 0} → known BundleFault ≡ false → IfErr o (λ r. known r ≡ true) → IsErrOf o BundleFault → X
-never_bundle known (Ok text) never all is = cc
-never_bundle known (Err r) never all is = let e : BundleFault ≡ r = cc in let clash : false ≡ true = sym never ∙ (ap known e ∙ all) in cc
-
 removal_may : (key : StoreKey) (r : Refusal) → image_rm_refusal r ≡ true → may (ImageRm key) r ≡ true
 removal_may key NoMemory known = known
 removal_may key DirFault known = known
 removal_may key r known = known
-
-removal_end : (key : StoreKey) (o : Outcome) → IfErr o (λ r. image_rm_refusal r ≡ true) → IfErr o (λ r. may (ImageRm key) r ≡ true)
-removal_end key (Ok text) known = known
-removal_end key (Err r) known = removal_may key r known
 
 sweep_may : (r : Refusal) → image_gc_refusal r ≡ true → may ImageGc r ≡ true
 sweep_may NoMemory known = known
 sweep_may DirFault known = known
 sweep_may r known = known
 
-sweep_end : (o : Outcome) → IfErr o (λ r. image_gc_refusal r ≡ true) → IfErr o (λ r. may ImageGc r ≡ true)
-sweep_end (Ok text) known = known
-sweep_end (Err r) known = sweep_may r known
-
 pub removal_ran : (line : Line) (now : ℕ) (draw : Draw) (key : StoreKey) (observed : Bool) (a b : DirAt) (bundle : BundleSeen) (o : Outcome) → line ≡ ImageRm key → Worked observed (removes_at key draw.uuid) a b →
     (IsErrOf o DirFault → Rose a.faults b.faults) → IfErr o (λ r. image_rm_refusal r ≡ true) → ImageRmSays key draw.uuid (seen_at observed a) (seen_at observed b) o →
     CommandRan line now draw (beside (seen_at observed a) bundle) (beside (seen_at observed b) bundle) o
-removal_ran line now draw key observed a b bundle o is worked cause known says =
-    subst (λ (l : Line). CommandRan l now draw (beside (seen_at observed a) bundle) (beside (seen_at observed b) bundle) o) (sym is) ran
-  where
-    ran : CommandRan (ImageRm key) now draw (beside (seen_at observed a) bundle) (beside (seen_at observed b) bundle) o
-    ran = record {
-      same = worked.same;
-      local = worked.local;
-      faults = worked.faults;
-      cause = cause;
-      bundle_faults = omega arith;
-      bundle_cause = never_bundle image_rm_refusal o refl known;
-      refusals = removal_end key o known;
-      extends = worked.extends;
-      reads = tt;
-      says = says;
-    }
+removal_ran line now draw key observed a b bundle o is worked cause known says = ran (ImageRm key) image_rm_refusal refl (removal_may key) line now draw observed a b bundle o is tt worked cause known says
 
 pub sweep_ran : (line : Line) (now : ℕ) (draw : Draw) (observed : Bool) (a b : DirAt) (bundle : BundleSeen) (o : Outcome) → line ≡ ImageGc → Worked observed sweeps a b →
     (IsErrOf o DirFault → Rose a.faults b.faults) → IfErr o (λ r. image_gc_refusal r ≡ true) → ImageGcSays (seen_at observed a) (seen_at observed b) o →
     CommandRan line now draw (beside (seen_at observed a) bundle) (beside (seen_at observed b) bundle) o
-sweep_ran line now draw observed a b bundle o is worked cause known says =
-    subst (λ (l : Line). CommandRan l now draw (beside (seen_at observed a) bundle) (beside (seen_at observed b) bundle) o) (sym is) ran
-  where
-    ran : CommandRan ImageGc now draw (beside (seen_at observed a) bundle) (beside (seen_at observed b) bundle) o
-    ran = record {
-      same = worked.same;
-      local = worked.local;
-      faults = worked.faults;
-      cause = cause;
-      bundle_faults = omega arith;
-      bundle_cause = never_bundle image_gc_refusal o refl known;
-      refusals = sweep_end o known;
-      extends = worked.extends;
-      reads = tt;
-      says = says;
-    }
+sweep_ran line now draw observed a b bundle o is worked cause known says = ran ImageGc image_gc_refusal refl sweep_may line now draw observed a b bundle o is tt worked cause known says
