@@ -13,7 +13,7 @@ use Rattle.dir_rules.specs.Standing.{is_in}
 use Rattle.dir_rules.specs.Seen.{inner_eq}
 use Rattle.dir_rules.specs.Rules.{root_of}
 use Rattle.phase_read.specs.Read.{pod_spot}
-use Rattle.pod_steps.specs.Requests.{moves}
+use Rattle.pod_steps.specs.Requests.{looks_at, moves}
 use Rattle.pod_removal.specs.Requests.{removes}
 
 -- where a pod's age counts
@@ -35,6 +35,17 @@ lists area _ = false
 -- a pod is dealt with: looked at, its marks listed, and brought to a garbage place or deleted there
 abbrev pub deals_with : PodId → ℕ → Area → Request → Bool
 deals_with pod now place request = lists_marks pod place request || (moves pod Embryo Garbage request || removes pod now request)
+
+-- it is looked at there, its locks are asked for, and its marks are listed: it is neither moved nor removed
+abbrev pub looks_over : PodId → Area → Request → Bool
+looks_over pod place request = lists_marks pod place request || looks_at pod place request
+
+-- the places where a lock of the pod may be busy that tells nothing of its phase
+abbrev pub may_be_busy : Area → Bool
+may_be_busy Prepared = true
+may_be_busy ExitedGarbage = true
+may_be_busy Garbage = true
+may_be_busy _ = false
 
 -- whence to where a pass moves a pod
 abbrev pub goes_to : Area → Area

@@ -1,4 +1,4 @@
-use Rattle.std.proofs.Common.{◌≡◌, true, Result, IfOk, IfErr, sym, subst}
+use Rattle.std.proofs.Common.{◌≡◌, true, refl, Result, IfOk, IfErr, sym, subst}
 use Rattle.dir_model.specs.declared.area.Phase.{Phase}
 use Rattle.dir_model.specs.declared.spot.Mode.TheVariants.{Exclusive}
 use Rattle.dir_model.specs.declared.request.Request.TheVariants.{RemoveFolder}
@@ -17,6 +17,12 @@ use Rattle.pod_gc.specs.declared.line.Deed.TheVariants.{Deleted, Kept}
 use Rattle.pod_gc.specs.Causes.{GcCause}
 use Rattle.pod_gc.specs.Deeds.{DeedCause, BusyBecause}
 use Rattle.pod_gc.proofs.Steps.{removes_deal, SetBackAt, set_stopped, gone_garbage, cause_deleted, step_deed, step_cause, step_another, step_ends}
+use Rattle.pod_removal.proofs.Stages.{err_all}
+use Rattle.pod_steps.specs.declared.setback.Setback.TheVariants as stop
+use Rattle.dir_model.specs.declared.spot.Which.{Which}
+use Rattle.pod_gc.specs.Requests.{may_be_busy}
+use Rattle.pod_gc.specs.Deeds.{LetBe}
+use Rattle.pod_gc.proofs.Untouched.{garbage_busy, step_let_be}
 use Rattle.pod_gc.proofs.deals.deal_garbage.Goals as goal
 
 pub returns-clause-worked : goal.returns-clause-worked
@@ -56,3 +62,12 @@ returns-clause-another g c =
 
 pub returns-clause-ends : goal.returns-clause-ends
 returns-clause-ends g c = subst (λ (x : Result Deed GcError). IfOk x (λ deed. (p : Phase) → deed ≡ Kept p → ⊥)) (sym c.deed_of.ensures) (step_ends Deleted (λ p is. cc) c.delete_at-answer.result)
+
+pub returns-clause-let_be : goal.returns-clause-let_be
+returns-clause-let_be g c =
+    let D = g.D.Dir in
+    let old = D.shown c.args.dir.now in
+    let new = D.shown c.delete_at-answer.new.dir in
+    subst (λ (x : Result Deed GcError). IfOk x (λ deed. LetBe D.observed c.args.pod c.args.area deed old new)) (sym c.deed_of.ensures)
+    (step_let_be D.observed c.args.pod c.args.area Deleted old new refl c.delete_at-answer.result c.delete_at-answer.ensures.looks
+    (err_all (λ e. (which : Which) → e ≡ stop.Busy which → may_be_busy c.args.area ≡ true) c.delete_at-answer.result (λ e which is. garbage_busy c.args.area c.requires.garbage)))
