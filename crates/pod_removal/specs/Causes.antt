@@ -12,6 +12,7 @@ use Rattle.dir_model.specs.declared.spot.Which.{Which}
 use Rattle.dir_model.specs.declared.spot.Which.TheVariants.{Own, Claim}
 use Rattle.dir_model.specs.declared.request.Reply.TheVariants.{Done}
 use Rattle.dir_model.specs.declared.request.Request.TheVariants.{RemoveFolder}
+use Rattle.dir_model.specs.Areas.{is_stage}
 use Rattle.dir_model.specs.Causes.{Rose}
 use Rattle.dir_model.specs.State.{DirState, stands}
 use Rattle.dir_trait.specs.DirCalls.{DirAt, ExtendsBy, HeldBetween}
@@ -69,9 +70,10 @@ asked_mode Own = Shared
 abbrev pub BusyInPrepared : PodId → Setback → DirAt → DirAt → Type 0
 BusyInPrepared pod stop old new = (which : Which) → stop ≡ Busy which → HeldByAnother pod Prepared which (asked_mode which) old.process old.trace new.trace
 
--- at some place and in some mode
+-- at one of its places and in some mode
 pub record IsBusyAt (pod : PodId) (which : Which) (me : ℕ) (old new : List Event) : Type 0 where
   pub area : Area
+  pub stage : is_stage area ≡ true
   pub mode : Mode
   pub held : HeldByAnother pod area which mode me old new
 

@@ -1,2 +1,6 @@
 pub mod Removals
 pub mod Sweeps
+pub mod OwnSteps
+pub mod LateTurns
+pub mod RmQuiet
+pub mod RmBefore

@@ -10,7 +10,7 @@ use Rattle.pod_steps.specs.Holding.{Stays}
 use Rattle.pod_steps.specs.Causes.{Stopped, IsAbsentAt, BusyElsewhere, Did}
 use Rattle.pod_removal.specs.Causes.{BusyAny}
 use Rattle.pod_removal.specs.Holding.{MayRemove}
-use Rattle.pod_removal.proofs.Rounds.{busy_at}
+use Rattle.pod_removal.proofs.Rounds.{busy_at, garbage_stage}
 use Rattle.pod_gc.specs.declared.error.GcError.{GcError}
 use Rattle.pod_gc.specs.declared.line.Deed.{Deed}
 use Rattle.pod_gc.specs.declared.line.Deed.TheVariants.{Deleted, Kept}
@@ -58,7 +58,7 @@ returns-clause-another g c =
     subst (λ (x : Result Deed GcError). IfOk x (λ deed. D.observed ≡ true → Stays (MayRemove c.args.now) old (λ s. BusyBecause c.args.pod deed old new))) (sym c.deed_of.ensures)
     (step_another D.observed c.args.pod c.args.area Deleted old new (MayRemove c.args.now) (λ which is. cc) c.delete_at-answer.result
     (err_more (λ e. D.observed ≡ true → Stays (MayRemove c.args.now) old (λ s. BusyElsewhere c.args.pod c.args.area Exclusive e old new)) (λ e. D.observed ≡ true → Stays (MayRemove c.args.now) old (λ s. BusyAny c.args.pod e old new)) c.delete_at-answer.result
-    (λ e busy t s k m. busy_at e c.args.area Exclusive old new (busy t s k m)) c.delete_at-answer.ensures.another))
+    (λ e busy t s k m. busy_at e c.args.area Exclusive old new (garbage_stage c.args.area c.requires.garbage) (busy t s k m)) c.delete_at-answer.ensures.another))
 
 pub returns-clause-ends : goal.returns-clause-ends
 returns-clause-ends g c = subst (λ (x : Result Deed GcError). IfOk x (λ deed. (p : Phase) → deed ≡ Kept p → ⊥)) (sym c.deed_of.ensures) (step_ends Deleted (λ p is. cc) c.delete_at-answer.result)

@@ -76,7 +76,7 @@ returns-in-Err-clause-another g c =
     let old = D.shown c.args.dir.now in
     let new = D.shown c.retire_exited.new.dir in
     subst (λ (x : Result Deed GcError). IfOk x (λ deed. D.observed ≡ true → Stays (MayRemove c.args.now) old (λ s. BusyBecause c.args.pod deed old new))) (sym c.deed_of.ensures)
-    (step_another D.observed c.args.pod area.Run (Moved area.ExitedGarbage) old new (MayRemove c.args.now) (λ which is. cc) (Err c.in-Err.stop) (λ t s k m. busy_at c.in-Err.stop area.Run Shared old new (c.in-Err.ensures.another t s k m)))
+    (step_another D.observed c.args.pod area.Run (Moved area.ExitedGarbage) old new (MayRemove c.args.now) (λ which is. cc) (Err c.in-Err.stop) (λ t s k m. busy_at c.in-Err.stop area.Run Shared old new refl (c.in-Err.ensures.another t s k m)))
 
 pub returns-in-Ok-clause-let_be : goal.returns-in-Ok-clause-let_be
 returns-in-Ok-clause-let_be g c t = let_moved

@@ -1,0 +1,221 @@
+-- Where nobody else steps, what refused a removal was so before.
+use Rattle.std.proofs.Common.{◌≡◌, ◌⊎◌, inl, inr, ℕ, Bool, true, false, not, ◌&&◌, ◌||◌, ◌==◌, cond, bytes_eq, Option, Some, None, is_some, option_map, slice_get, get_or, List, [], ◌∷◌, ◌++◌, refl, sym, ap, subst, ◌∙◌}
+use Rattle.std.proofs.lemmas.Bool.{eqb-true}
+use Rattle.std.proofs.lemmas.List.Quantifiers.{position-Some}
+use Rattle.std.proofs.lemmas.Option.{slice_get-map, slice_get-get_or}
+use Rattle.dir_model.specs.declared.area.Area.{Area}
+use Rattle.dir_model.specs.declared.area.Area.TheVariants as area
+use Rattle.dir_model.specs.declared.area.Phase.{Phase}
+use Rattle.dir_model.specs.declared.area.Phase.TheVariants as kind
+use Rattle.dir_model.specs.declared.event.Event.{Event}
+use Rattle.dir_model.specs.declared.pod.PodId.{PodId}
+use Rattle.dir_model.specs.declared.spot.Spot.{Spot}
+use Rattle.dir_model.specs.declared.spot.Which.{Which}
+use Rattle.dir_model.specs.declared.request.Request.{Request}
+use Rattle.dir_model.specs.declared.request.Request.TheVariants.{MakeFolder, MoveFolder, RemoveFolder}
+use Rattle.dir_model.specs.declared.request.Reply.{Reply}
+use Rattle.dir_model.specs.declared.request.Reply.TheVariants.{Done}
+use Rattle.dir_model.specs.Areas.{rank, is_stage, phase_in}
+use Rattle.dir_model.specs.Calls.{event, is_kill, Extends, AtOwnStep}
+use Rattle.dir_model.specs.Locks.{is_folder, opposes}
+use Rattle.dir_model.specs.Pods.{pod_text}
+use Rattle.dir_model.specs.Quiet.{Quiet}
+use Rattle.dir_model.specs.State.{Namespace, DirState, is_at, spot_eq, folder_at, stands, is_owned, is_owned_in, is_owned_at}
+use Rattle.dir_model.specs.Trace.{state_after, namespace_replied, moved, removed}
+use Rattle.dir_model.proofs.Lists.{and_left}
+use Rattle.dir_model.proofs.Moments.{at_grown, at_weaker, some_number}
+use Rattle.dir_rules.proofs.Looks.{same_bytes}
+use Rattle.dir_rules.specs.Standing.{is_of}
+use Rattle.lifecycle.specs.declared.machine.PodState.{PodState}
+use Rattle.lifecycle.specs.declared.machine.PodState.TheVariants as state
+use Rattle.lifecycle.specs.PodMachine.{pod_state, pod_phase, phase_of_state, owner_of, exists}
+use Rattle.lifecycle.specs.Executions.{IsConforming}
+use Rattle.lifecycle.proofs.Draws.{conforming_left}
+use Rattle.lifecycle.proofs.Makes.{of_same}
+use Rattle.lifecycle.proofs.Phases.{exists_stands, phase_of_place}
+use Rattle.lifecycle.proofs.Stays.{one_folder}
+use Rattle.phase_read.specs.declared.found.Found.{Found}
+use Rattle.phase_read.specs.declared.found.Found.TheVariants.{At}
+use Rattle.phase_read.specs.Read.{pod_spot, is_pod_spot}
+use Rattle.phase_read.specs.Sequential.{sequential_read, found_in}
+use Rattle.phase_read.specs.Exact.{AtOwnEvent}
+use Rattle.pod_claim.specs.Causes.{is_lock}
+use Rattle.pod_claim.specs.Elsewhere.{IsOwnedElsewhere}
+use Rattle.pod_claim.specs.Work.{Grew}
+use Rattle.pod_claim.proofs.Times.{at_part}
+use Rattle.pod_claim.proofs.Traces.{grown_none}
+use Rattle.pod_removal.specs.Requests.{is_removable, removes}
+use Rattle.pod_removal.specs.Causes.{IsBusyAt}
+use Rattle.command_outcomes.specs.Meanwhile.{Meanwhile}
+use Rattle.removal_commands.specs.Rm.{WasSo, WasOwned}
+use Rattle.removal_commands.specs.Quiet.{HasPhaseNow, IsHeldNow}
+use Rattle.removal_commands.proofs.OwnSteps.{in_process, back_at, at_process, event_process, same_folders, held_before}
+use Rattle.removal_commands.proofs.LateTurns.{is_lasting, lasting_back, removes_late, rm_moves, or_false}
+
+-- the phase that didn't allow the removal
+
+event_weaker : {me : ℕ} {a b : List Event} {P : List Event → Type 0} (Q : List Event → Type 0) → ((h : List Event) → P h → Q h) → AtOwnEvent me a b P → AtOwnEvent me a b Q
+event_weaker Q f at = record { before = at.before; step = at.step; later = at.later; rest = at.rest; begins = at.begins; ends = at.ends; own = at.own; holds = f (at.before ++ at.step ∷ []) at.holds }
+
+embryo_lasts : (me : ℕ) (x : PodState) → phase_of_state x ≡ Some kind.Embryo → is_lasting me x ≡ true
+embryo_lasts me (state.Embryo maker) is = refl
+embryo_lasts me x is = cc
+
+owned_lasts : (me owner : ℕ) (x : PodState) → owner_of x ≡ Some owner → (owner == me) ≡ false → is_lasting me x ≡ true
+owned_lasts me owner (state.Preparing o) is other = refl
+owned_lasts me owner (state.Running o) is other = refl
+owned_lasts me owner (state.Deleting o from) is other = let same : o ≡ owner = cc in ap (λ (q : ℕ). not (q == me)) same ∙ ap not other
+owned_lasts me owner x is other = cc
+
+module _ (pod : PodId) (h : List Event) (conforming : IsConforming h) where
+  abbrev u : List ℕ
+  u = pod_text pod.bytes
+
+  abbrev now : DirState
+  now = state_after h
+
+  abbrev Stands : Area → Bool
+  Stands a = stands now.namespace (pod_spot pod a)
+
+  lone : (a b : Area) → is_stage a ≡ true → is_stage b ≡ true → Stands a ≡ true → (rank a == rank b) ≡ false → Stands b ≡ false
+  lone a b p q there apart = by (Stands b) refl
+    where
+      by : (s : Bool) → Stands b ≡ s → s ≡ false
+      by false is = refl
+      by true is =
+          let one = one_folder h (pod_spot pod a) (pod_spot pod b) conforming p q refl there is in
+          let clash : true ≡ false = sym (and_left (rank a == rank b) (bytes_eq u u) one) ∙ apart in cc
+
+  here_is : (a : Area) (p : Phase) → is_stage a ≡ true → Stands a ≡ true → pod_phase u h ≡ Some p → phase_in a (is_owned_at now.namespace (pod_spot pod a)) ≡ Some p
+  here_is a p stage there is =
+      let k = some_number (folder_at now.namespace (pod_spot pod a)) there in
+      ap (λ (o : Option ℕ). phase_in a (is_owned_in now.namespace o)) k.1 ∙ (phase_of_place u h (pod_spot pod a) k.0 conforming (ap (λ b. b && bytes_eq u u) stage ∙ same_bytes u) k.1 ∙ is)
+
+  found_is : (a : Area) (p : Phase) (later : Found) → Stands a ≡ true → phase_in a (is_owned_at now.namespace (pod_spot pod a)) ≡ Some p → cond (Stands a) (found_in a (phase_in a (is_owned_at now.namespace (pod_spot pod a)))) later ≡ At p a
+  found_is a p later there is = rw (there, is) refl
+
+  later_is : (a : Area) (here later found : Found) → Stands a ≡ false → later ≡ found → cond (Stands a) here later ≡ found
+  later_is a here later found there is = rw there is
+
+  module _ (p : Phase) where
+    reads : (a : Area) → is_stage a ≡ true → Stands a ≡ true → phase_in a (is_owned_at now.namespace (pod_spot pod a)) ≡ Some p → ((b : Area) → is_stage b ≡ true → (rank a == rank b) ≡ false → Stands b ≡ false) → sequential_read now pod ≡ At p a
+    reads area.Embryo stage there is none = found_is area.Embryo p _ there is
+    reads area.Prepare stage there is none = later_is area.Embryo _ _ _ (none area.Embryo refl refl) (found_is area.Prepare p _ there is)
+    reads area.Prepared stage there is none = later_is area.Embryo _ _ _ (none area.Embryo refl refl) (later_is area.Prepare _ _ _ (none area.Prepare refl refl) (found_is area.Prepared p _ there is))
+    reads area.Run stage there is none =
+        later_is area.Embryo _ _ _ (none area.Embryo refl refl) (later_is area.Prepare _ _ _ (none area.Prepare refl refl) (later_is area.Prepared _ _ _ (none area.Prepared refl refl) (found_is area.Run p _ there is)))
+    reads area.ExitedGarbage stage there is none =
+        later_is area.Embryo _ _ _ (none area.Embryo refl refl) (later_is area.Prepare _ _ _ (none area.Prepare refl refl) (later_is area.Prepared _ _ _ (none area.Prepared refl refl)
+        (later_is area.Run _ _ _ (none area.Run refl refl) (found_is area.ExitedGarbage p _ there is))))
+    reads area.Garbage stage there is none =
+        later_is area.Embryo _ _ _ (none area.Embryo refl refl) (later_is area.Prepare _ _ _ (none area.Prepare refl refl) (later_is area.Prepared _ _ _ (none area.Prepared refl refl)
+        (later_is area.Run _ _ _ (none area.Run refl refl) (later_is area.ExitedGarbage _ _ _ (none area.ExitedGarbage refl refl) (found_is area.Garbage p _ there is)))))
+    reads a stage there is none = cc
+
+    phase_exists : (x : PodState) → phase_of_state x ≡ Some p → exists x ≡ true
+    phase_exists state.Absent is = cc
+    phase_exists state.Gone is = cc
+    phase_exists x is = refl
+
+    pub has_phase_now : pod_phase u h ≡ Some p → HasPhaseNow pod p h
+    has_phase_now is =
+        let x = exists_stands u h conforming (phase_exists (pod_state u h) is) in
+        record { area = x.0; is = record { there = x.1.1; is = is }; reads = reads x.0 x.1.0 x.1.1 (here_is x.0 p x.1.0 x.1.1 is) (λ b q apart. lone x.0 b x.1.0 q x.1.1 apart) }
+
+module _ (pod : PodId) (now : ℕ) {me : ℕ} {old new : List Event} (ext : Extends (in_process (removes pod now)) me old new) (quiet : Quiet me old new) where
+  abbrev its : List ℕ
+  its = pod_text pod.bytes
+
+  -- that phase the pod had before
+  had_phase : (p : Phase) → AtOwnEvent me old new (λ h. (phase_of_state (pod_state its h) ≡ Some p) × (is_lasting me (pod_state its h) ≡ true)) → pod_phase its old ≡ Some p
+  had_phase p at = lasting_back (removes pod now) (removes_late pod now) its (λ x. phase_of_state x ≡ Some p) at ext quiet
+
+  before_end : {ended : List Event} → (more : List Event) → new ≡ ended ++ more → IsConforming new → IsConforming ended
+  before_end {ended} more grown conforming = conforming_left ended more (subst IsConforming grown conforming)
+
+  by_embryo : Meanwhile (WasSo pod kind.Embryo) me old new → IsConforming new → pod_phase its old ≡ Some kind.Embryo
+  by_embryo m conforming =
+      let w = m.so (before_end m.finishes.more m.finishes.grown conforming) in
+      had_phase kind.Embryo (event_process m.begins m.finishes (event_weaker (λ h. (phase_of_state (pod_state its h) ≡ Some kind.Embryo) × (is_lasting me (pod_state its h) ≡ true)) (λ h x. (x.is, embryo_lasts me (pod_state its h) x.is)) w.was))
+
+  by_owner : (p : Phase) → (a : Area) × AtOwnEvent me old new (IsOwnedElsewhere me pod p a) → pod_phase its old ≡ Some p
+  by_owner p other =
+      had_phase p (event_weaker (λ h. (phase_of_state (pod_state its h) ≡ Some p) × (is_lasting me (pod_state its h) ≡ true)) (λ h x. (x.was.is, owned_lasts me x.owner (pod_state its h) x.is x.other)) other.1)
+
+  owner_process : (p : Phase) (m : Meanwhile (WasOwned pod p) me old new) → (a : Area) × AtOwnEvent me m.begun m.ended (IsOwnedElsewhere me pod p a) → (a : Area) × AtOwnEvent me old new (IsOwnedElsewhere me pod p a)
+  owner_process p m x = (x.0, event_process m.begins m.finishes x.1)
+
+  had : (p : Phase) → Meanwhile (WasSo pod p) me old new → Meanwhile (WasOwned pod p) me old new → IsConforming new → pod_phase its old ≡ Some p
+  had kind.Embryo m o conforming = by_embryo m conforming
+  had kind.Preparing m o conforming = by_owner kind.Preparing (owner_process kind.Preparing o (o.so (before_end o.finishes.more o.finishes.grown conforming) refl))
+  had kind.Running m o conforming = by_owner kind.Running (owner_process kind.Running o (o.so (before_end o.finishes.more o.finishes.grown conforming) refl))
+  had kind.Deleting m o conforming = by_owner kind.Deleting (owner_process kind.Deleting o (o.so (before_end o.finishes.more o.finishes.grown conforming) refl))
+  had kind.AbortedPrepare m o conforming = let clash : true ≡ false = (m.so (before_end m.finishes.more m.finishes.grown conforming)).wrong in cc
+  had kind.Prepared m o conforming = let clash : true ≡ false = (m.so (before_end m.finishes.more m.finishes.grown conforming)).wrong in cc
+  had kind.Exited m o conforming = let clash : true ≡ false = (m.so (before_end m.finishes.more m.finishes.grown conforming)).wrong in cc
+  had kind.ExitedGarbage m o conforming = let clash : true ≡ false = (m.so (before_end m.finishes.more m.finishes.grown conforming)).wrong in cc
+  had kind.Garbage m o conforming = let clash : true ≡ false = (m.so (before_end m.finishes.more m.finishes.grown conforming)).wrong in cc
+
+  pub rm_wrong_before : (p : Phase) → Meanwhile (WasSo pod p) me old new → Meanwhile (WasOwned pod p) me old new → IsConforming new → HasPhaseNow pod p old
+  rm_wrong_before p m o conforming =
+      has_phase_now pod old (conforming_left old quiet.more (subst IsConforming quiet.grown conforming)) p (had p m o conforming)
+
+  -- the folder whose lock was held stood at one of the pod's places before
+  abbrev ItsFolder : ℕ → DirState → Type 0
+  ItsFolder k s = (place : Spot) × (slice_get s.namespace.folders k ≡ Some (Some place)) × (is_pod_spot pod place ≡ true)
+
+  found_its : (n : Namespace) (a : Area) (k : ℕ) → is_stage a ≡ true → folder_at n (pod_spot pod a) ≡ Some k → (place : Spot) × (slice_get n.folders k ≡ Some (Some place)) × (is_pod_spot pod place ≡ true)
+  found_its n a k stage at =
+      let x = position-Some (is_at (pod_spot pod a)) n.folders k None at in
+      by (get_or n.folders k None) (slice_get-get_or n.folders k None x.0) x.1
+    where
+      by : (o : Option Spot) → slice_get n.folders k ≡ Some o → is_at (pod_spot pod a) o ≡ true → (place : Spot) × (slice_get n.folders k ≡ Some (Some place)) × (is_pod_spot pod place ≡ true)
+      by None at is = cc
+      by (Some here) at is = (here, at, of_same its here (pod_spot pod a) is ∙ (ap (λ b. b && bytes_eq its its) stage ∙ same_bytes its))
+
+  moved_from : (from to place : Spot) (o : Option (Option Spot)) → is_pod_spot pod from ≡ true → option_map (moved from to) o ≡ Some (Some place) → is_pod_spot pod place ≡ true → (p : Spot) × (o ≡ Some (Some p)) × (is_pod_spot pod p ≡ true)
+  moved_from from to place None source is here = cc
+  moved_from from to place (Some None) source is here = cc
+  moved_from from to place (Some (Some p)) source is here = by (spot_eq p from) refl is
+    where
+      by : (b : Bool) → spot_eq p from ≡ b → Some (cond b (Some to) (Some p)) ≡ Some (Some place) → (q : Spot) × (Some (Some p) ≡ Some (Some q)) × (is_pod_spot pod q ≡ true)
+      by true same is = (p, refl, of_same its p from same ∙ source)
+      by false apart is = let same : p ≡ place = cc in (p, refl, subst (λ (q : Spot). is_pod_spot pod q ≡ true) (sym same) here)
+
+  removed_from : (gone place : Spot) (o : Option (Option Spot)) → option_map (removed gone) o ≡ Some (Some place) → o ≡ Some (Some place)
+  removed_from gone place None is = cc
+  removed_from gone place (Some None) is = cc
+  removed_from gone place (Some (Some p)) is = by (spot_eq p gone) is
+    where
+      by : (b : Bool) → Some (cond b None (Some p)) ≡ Some (Some place) → Some (Some p) ≡ Some (Some place)
+      by true is = cc
+      by false is = is
+
+  its_back : (k : ℕ) (s : DirState) (request : Request) (reply : Reply) → (is_kill request || in_process (removes pod now) request) ≡ true → (place : Spot) × (slice_get (namespace_replied s.namespace me request reply).folders k ≡ Some (Some place)) × (is_pod_spot pod place ≡ true) → ItsFolder k s
+  its_back k s (MakeFolder here) reply h x = cc
+  its_back k s (MoveFolder from to) Done h x = moved_from from to x.0 (slice_get s.namespace.folders k) (rm_moves pod now from to (or_false (removes pod now (MoveFolder from to)) h)) (sym (slice_get-map (moved from to) s.namespace.folders k) ∙ x.1) x.2
+  its_back k s (MoveFolder from to) reply h x = x
+  its_back k s (RemoveFolder gone) Done h x = (x.0, removed_from gone x.0 (slice_get s.namespace.folders k) (sym (slice_get-map (removed gone) s.namespace.folders k) ∙ x.1), x.2)
+  its_back k s (RemoveFolder gone) reply h x = x
+  its_back k s request reply h x = (x.0, ap (λ (fs : List (Option Spot)). slice_get fs k) (sym (same_folders me s.namespace request reply refl (λ handle. refl))) ∙ x.1, x.2)
+
+  its_at : (k : ℕ) → AtOwnStep me old new (ItsFolder k) → ItsFolder k (state_after old)
+  its_at k at = back_at (ItsFolder k) (in_process (removes pod now)) me (λ s request reply h x. its_back k s request reply h x) at ext quiet
+
+  pub rm_held_before : (which : Which) → Meanwhile (IsBusyAt pod which) me old new → IsHeldNow pod which me (state_after old)
+  rm_held_before which m =
+      let b = m.so in
+      let last = at_grown b.held.held in
+      let first = at_grown b.held.found in
+      let found : AtOwnStep me m.begun m.ended (ItsFolder b.held.folder) =
+      at_part grown_none refl (record { more = last.0; grown = last.1 }) (at_weaker (ItsFolder b.held.folder) (λ s at. found_its s.namespace b.area b.held.folder b.stage at) b.held.found) in
+      let held = at_part (record { more = first.0; grown = first.1 }) refl grown_none b.held.held in
+      let x = its_at b.held.folder (at_process m.begins m.finishes found) in
+      record {
+        folder = b.held.folder;
+        place = x.0;
+        there = x.1;
+        its = x.2;
+        mode = b.mode;
+        held = held_before (λ o. is_folder b.held.folder o.folder && (is_lock which o.target && opposes b.mode o.lock)) (at_process m.begins m.finishes held) ext quiet;
+      }

@@ -1,0 +1,61 @@
+-- What `rm` and `gc` come to, and leave, where nobody else steps.
+use Rattle.std.specs.Prelude.{◌≡◌, ℕ, Bool, true, false, Some, List, Ok, Err, slice_get}
+use Rattle.std.specs.List.{list_any}
+use Rattle.dir_model.specs.declared.area.Area.{Area}
+use Rattle.dir_model.specs.declared.area.Phase.{Phase}
+use Rattle.dir_model.specs.declared.event.Event.{Event}
+use Rattle.dir_model.specs.declared.pod.PodId.{PodId}
+use Rattle.dir_model.specs.declared.spot.Mode.{Mode}
+use Rattle.dir_model.specs.declared.spot.Spot.{Spot}
+use Rattle.dir_model.specs.declared.spot.Which.{Which}
+use Rattle.dir_model.specs.Areas.{is_stage}
+use Rattle.dir_model.specs.Pods.{pod_text}
+use Rattle.dir_trait.specs.State.{DirState, stands}
+use Rattle.dir_trait.specs.Trace.{state_after}
+use Rattle.lifecycle.specs.declared.machine.PodState.TheVariants.{Gone}
+use Rattle.lifecycle.specs.PodMachine.{pod_state}
+use Rattle.lifecycle.specs.Executions.{IsConforming}
+use Rattle.phase_read.specs.declared.found.Found.TheVariants.{At}
+use Rattle.phase_read.specs.Exact.{IsInPhase}
+use Rattle.phase_read.specs.Read.{pod_spot, is_pod_spot}
+use Rattle.phase_read.specs.Sequential.{sequential_read}
+use Rattle.pod_claim.specs.Causes.{LacksManifest}
+use Rattle.pod_steps.specs.Causes.{is_held_against}
+use Rattle.command_outcomes.specs.declared.refusal.Refusal.TheVariants.{NoPod, WrongPhase, NoManifest, PodBusy, Stray}
+use Rattle.command_outcomes.specs.Moments.{DirSeen, Outcome}
+use Rattle.removal_commands.specs.Rm.{removed_text, HasRemovedPod, HasFoundNoPod, HasFoundWrong, HasFoundNoManifest, HasFoundBusy, HasMetStrayAtPod}
+
+-- no folder of the pod stands at any of its six places
+abbrev pub StandsNowhere : PodId → DirState → Type 0
+StandsNowhere pod s = (a : Area) → is_stage a ≡ true → stands s.namespace (pod_spot pod a) ≡ false
+
+-- the pod is gone, and so for good
+pub record IsGoneForGood (pod : PodId) (trace : List Event) : Type 0 where
+  pub is : pod_state (pod_text pod.bytes) trace ≡ Gone
+  pub nowhere : StandsNowhere pod (state_after trace)
+
+-- the pod has this phase, by its history, by the first area in which it stands, and by its lock there
+pub record HasPhaseNow (pod : PodId) (phase : Phase) (trace : List Event) : Type 0 where
+  pub area : Area
+  pub is : IsInPhase pod phase area trace
+  pub reads : sequential_read (state_after trace) pod ≡ At phase area
+
+-- a folder stands at one of the pod's places, and another process holds this lock of it
+pub record IsHeldNow (pod : PodId) (which : Which) (me : ℕ) (s : DirState) : Type 0 where
+  pub folder : ℕ
+  pub place : Spot
+  pub there : slice_get s.namespace.folders folder ≡ Some (Some place)
+  pub its : is_pod_spot pod place ≡ true
+  pub mode : Mode
+  pub held : list_any (is_held_against me which mode folder) s.namespace.openings ≡ true
+
+-- of `rm`: the pod is gone; or by the state before there was none, or it had that phase, or no manifest, or its lock was held; or by
+-- its own answers
+abbrev pub RemovesPodQuietly : PodId → DirSeen → DirSeen → Outcome → Type 0
+RemovesPodQuietly pod old new (Ok text) = (text ≡ removed_text pod) × HasRemovedPod pod old new × (IsConforming new.trace → IsGoneForGood pod new.trace)
+RemovesPodQuietly pod old new (Err NoPod) = HasFoundNoPod pod old new × StandsNowhere pod (state_after old.trace)
+RemovesPodQuietly pod old new (Err (WrongPhase phase)) = HasFoundWrong pod phase old new × (IsConforming new.trace → HasPhaseNow pod phase old.trace)
+RemovesPodQuietly pod old new (Err (NoManifest other)) = (other ≡ pod) × HasFoundNoManifest pod old new × (IsConforming new.trace → LacksManifest pod (state_after old.trace))
+RemovesPodQuietly pod old new (Err (PodBusy other which)) = (other ≡ pod) × HasFoundBusy pod which old new × IsHeldNow pod which old.process (state_after old.trace)
+RemovesPodQuietly pod old new (Err Stray) = HasMetStrayAtPod pod old new
+RemovesPodQuietly pod old new (Err refusal) = ⊥
