@@ -176,7 +176,7 @@ module _ (pod : PodId) (now : ℕ) where
   pub rm_removes : (spot : Spot) → removes pod now (RemoveFolder spot) ≡ true → is_pod_spot pod spot ≡ true
   rm_removes spot is = elim (or_either (spot_eq spot (pod_spot pod area.ExitedGarbage)) _ is) [ inl x ↦ its_spot area.ExitedGarbage spot refl x | inr x ↦ its_spot area.Garbage spot refl x ]
 
-  in_garbage : (spot : Spot) → (spot_eq spot (pod_spot pod area.ExitedGarbage) || spot_eq spot (pod_spot pod area.Garbage)) ≡ true → is_garbage spot.area ≡ true
+  pub in_garbage : (spot : Spot) → (spot_eq spot (pod_spot pod area.ExitedGarbage) || spot_eq spot (pod_spot pod area.Garbage)) ≡ true → is_garbage spot.area ≡ true
   in_garbage spot is = elim (or_either (spot_eq spot (pod_spot pod area.ExitedGarbage)) _ is) [
     inl x ↦ exited_rank spot.area (and_left (rank spot.area == rank area.ExitedGarbage) (bytes_eq spot.name u) x)
     | inr x ↦ garbage_rank spot.area (and_left (rank spot.area == rank area.Garbage) (bytes_eq spot.name u) x)
