@@ -29,6 +29,7 @@ use Rattle.phase_read.specs.Read.{pod_spot, is_pod_spot}
 use Rattle.pod_steps.specs.Requests.{moves}
 use Rattle.pod_removal.specs.Requests.{removes, goes_aside}
 use Rattle.pod_gc.specs.Requests.{sweeps}
+use Rattle.removal_commands.specs.Quiet.{is_pods_place}
 use Rattle.removal_commands.proofs.OwnSteps.{in_process, history_back}
 
 pub or_false : (b : Bool) → (b || false) ≡ true → b ≡ true
@@ -182,11 +183,26 @@ module _ (pod : PodId) (now : ℕ) where
     | inr x ↦ garbage_rank spot.area (and_left (rank spot.area == rank area.Garbage) (bytes_eq spot.name u) x)
   ]
 
+abbrev Sweeps : Spot → Spot → Bool
+Sweeps from to = (is_in area.Run from.area && is_in area.ExitedGarbage to.area) || is_in area.Garbage to.area
+
 pub sweeps_late : (now : ℕ) → Late (sweeps now)
 sweeps_late now = record {
   makes = λ spot is. cc;
-  moves = λ from to is. elim (or_either (is_in area.Run from.area && is_in area.ExitedGarbage to.area) _ is) [
+  moves = λ from to is. elim (or_either (is_in area.Run from.area && is_in area.ExitedGarbage to.area) _ (and_right (is_stage from.area) (Sweeps from to) is)) [
     inl x ↦ rank_exited to.area (and_right (is_in area.Run from.area) (is_in area.ExitedGarbage to.area) x)
     | inr x ↦ rank_garbage to.area x
   ];
 }
+
+-- it moves and removes folders in the areas of pods alone
+pub gc_moves : (now : ℕ) (from to : Spot) → sweeps now (MoveFolder from to) ≡ true → is_pods_place from ≡ true
+gc_moves now from to is = and_left (is_stage from.area) (Sweeps from to) is
+
+garbage_stage : (x : Area) → is_garbage x ≡ true → is_stage x ≡ true
+garbage_stage area.ExitedGarbage is = refl
+garbage_stage area.Garbage is = refl
+garbage_stage x is = cc
+
+pub gc_removes : (now : ℕ) (spot : Spot) → sweeps now (RemoveFolder spot) ≡ true → is_pods_place spot ≡ true
+gc_removes now spot is = elim (or_either (is_in spot.area area.ExitedGarbage) _ is) [ inl x ↦ garbage_stage spot.area (exited_rank spot.area x) | inr x ↦ garbage_stage spot.area (garbage_rank spot.area x) ]

@@ -6,3 +6,4 @@ pub mod LateTurns
 pub mod RmQuiet
 pub mod RmBefore
 pub mod RmLacking
+pub mod GcQuiet

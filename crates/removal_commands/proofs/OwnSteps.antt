@@ -15,7 +15,7 @@ use Rattle.dir_model.specs.State.{Namespace, DirState, empty_state}
 use Rattle.dir_model.specs.Trace.{state_after, state_next, states_next, namespace_replied, namespace_done, namespace_opened, locked, opened, opened_gate}
 use Rattle.dir_model.specs.Calls.{event, is_begin, is_finish, is_foreign, is_kill, Extends, AtOwnStep}
 use Rattle.dir_model.specs.Quiet.{Quiet}
-use Rattle.dir_model.proofs.Lists.{and_left, or_map, or_last, same_rest, same_self, all_left, any_map, any_last_not}
+use Rattle.dir_model.proofs.Lists.{and_left, or_map, or_last, same_rest, same_self, all_left, all_right, any_map, any_last_not}
 use Rattle.dir_model.proofs.Chains.{states_next-append}
 use Rattle.dir_model.proofs.Moments.{at_within}
 use Rattle.lifecycle.specs.declared.machine.PodState.{PodState}
@@ -24,6 +24,7 @@ use Rattle.lifecycle.specs.PodMachine.{turned, transition, pod_state_next, pod_s
 use Rattle.lifecycle.proofs.Stays.{machine_append}
 use Rattle.phase_read.specs.Exact.{AtOwnEvent}
 use Rattle.phase_read.proofs.Exact.{event_within}
+use Rattle.pod_claim.specs.Work.{Grew}
 
 -- the requests of a process, with its begin and its finish
 abbrev pub in_process : (Request → Bool) → Request → Bool
@@ -40,6 +41,21 @@ at_process b f at = at_within b.more f.more b.grown f.grown at
 
 pub event_process : {first last : Request → Bool} {me : ℕ} {old begun ended new : List Event} {P : List Event → Type 0} → Extends first me old begun → Extends last me ended new → AtOwnEvent me begun ended P → AtOwnEvent me old new P
 event_process b f at = event_within b.more f.more b.grown f.grown at
+
+-- a part of a quiet time
+pub quiet_part : {me : ℕ} {old a new : List Event} → Quiet me old new → Grew old a → (z : Grew a new) → Quiet me a new
+quiet_part {me} {old} {a} {new} quiet x z =
+    let whole : new ≡ old ++ (x.more ++ z.more) = z.grown ∙ (ap (λ (h : List Event). h ++ z.more) x.grown ∙ append_assoc old x.more z.more) in
+    record {
+      more = z.more;
+      grown = z.grown;
+      own = all_right _ x.more z.more (subst (λ (l : List Event). AllByRecursion (λ e. e.process ≡ me) l) (same_rest old quiet.more (x.more ++ z.more) (sym quiet.grown ∙ whole)) quiet.own);
+    }
+
+pub own_first : {me : ℕ} {old a new : List Event} → Quiet me old new → (x : Grew old a) → Grew a new → AllByRecursion (λ e. e.process ≡ me) x.more
+own_first {me} {old} {a} {new} quiet x z =
+    let whole : new ≡ old ++ (x.more ++ z.more) = z.grown ∙ (ap (λ (h : List Event). h ++ z.more) x.grown ∙ append_assoc old x.more z.more) in
+    all_left _ x.more z.more (subst (λ (l : List Event). AllByRecursion (λ e. e.process ≡ me) l) (same_rest old quiet.more (x.more ++ z.more) (sym quiet.grown ∙ whole)) quiet.own)
 
 -- the events up to a moment are its own, and asked for
 module _ (asks : Request → Bool) (me : ℕ) (old new : List Event) (ext : Extends asks me old new) (quiet : Quiet me old new) (es rest : List Event) (whole : new ≡ old ++ (es ++ rest)) where
@@ -64,6 +80,21 @@ module _ (Q : DirState → Type 0) (asks : Request → Bool) (me : ℕ) (back : 
       let here : state_after (at.before ++ at.step ∷ []) ≡ states_next (state_after old) es = ap (λ h. state_after (h ++ at.step ∷ [])) at.begins ∙
       (ap state_after (append_assoc old at.later (at.step ∷ [])) ∙ states_next-append empty_state old es) in
       back_all (state_after old) es (own_part asks me old new ext quiet es at.rest whole) (asked_part asks me old new ext quiet es at.rest whole) (subst Q here at.holds)
+
+-- and what they keep is so on
+module _ (Q : DirState → Type 0) (asks : Request → Bool) (me : ℕ) (keeps : (s : DirState) (request : Request) (reply : Reply) → (is_kill request || asks request) ≡ true → Q s → Q (state_next s (event me request reply))) where
+  forward_all : (s : DirState) (es : List Event) → AllByRecursion (λ e. e.process ≡ me) es → AllByRecursion (λ e. (is_foreign me e || asks e.request) ≡ true) es → Q s → Q (states_next s es)
+  forward_all s [] own asked q = q
+  forward_all s (e ∷ es) own asked q =
+      let next : Q (state_next s (event me e.request e.reply)) = keeps s e.request e.reply (own_asked asks me e own.0 asked.0) q in
+      forward_all (state_next s e) es own.1 asked.1 (subst (λ (p : ℕ). Q (state_next s (event p e.request e.reply))) (sym own.0) next)
+
+  pub forward : {old new : List Event} (b : List Event) → Grew old b → Grew b new → Extends asks me old new → Quiet me old new → Q (state_after b) → Q (state_after new)
+  forward {old} {new} b x y ext quiet q =
+      let whole : new ≡ old ++ (x.more ++ y.more) = y.grown ∙ (ap (λ (h : List Event). h ++ y.more) x.grown ∙ append_assoc old x.more y.more) in
+      let own = all_right _ x.more y.more (subst (λ (l : List Event). AllByRecursion (λ e. e.process ≡ me) l) (same_rest old quiet.more (x.more ++ y.more) (sym quiet.grown ∙ whole)) quiet.own) in
+      let asked = all_right _ x.more y.more (subst (λ (l : List Event). AllByRecursion (λ e. (is_foreign me e || asks e.request) ≡ true) l) (same_rest old ext.more (x.more ++ y.more) (sym ext.grown ∙ whole)) ext.asked) in
+      subst Q (sym (ap state_after y.grown ∙ states_next-append empty_state b y.more)) (forward_all (state_after b) y.more own asked q)
 
 -- of a pod's history
 module _ (u : List ℕ) (Q : PodState → Type 0) (asks : Request → Bool) (me : ℕ)

@@ -54,7 +54,7 @@ use Rattle.removal_commands.proofs.LateTurns.{is_lasting, lasting_back, removes_
 
 -- the phase that didn't allow the removal
 
-event_weaker : {me : ℕ} {a b : List Event} {P : List Event → Type 0} (Q : List Event → Type 0) → ((h : List Event) → P h → Q h) → AtOwnEvent me a b P → AtOwnEvent me a b Q
+pub event_weaker : {me : ℕ} {a b : List Event} {P : List Event → Type 0} (Q : List Event → Type 0) → ((h : List Event) → P h → Q h) → AtOwnEvent me a b P → AtOwnEvent me a b Q
 event_weaker Q f at = record { before = at.before; step = at.step; later = at.later; rest = at.rest; begins = at.begins; ends = at.ends; own = at.own; holds = f (at.before ++ at.step ∷ []) at.holds }
 
 embryo_lasts : (me : ℕ) (x : PodState) → phase_of_state x ≡ Some kind.Embryo → is_lasting me x ≡ true

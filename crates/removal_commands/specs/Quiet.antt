@@ -1,17 +1,21 @@
 -- What `rm` and `gc` come to, and leave, where nobody else steps.
-use Rattle.std.specs.Prelude.{◌≡◌, ℕ, Bool, true, false, Some, List, Ok, Err, slice_get}
-use Rattle.std.specs.List.{list_any}
+use Rattle.std.specs.Prelude.{◌≡◌, ◌⊎◌, ℕ, Bool, true, false, Some, None, List, Ok, Err, slice_get}
+use Rattle.std.specs.List.{list_any, AllByRecursion}
 use Rattle.dir_model.specs.declared.area.Area.{Area}
+use Rattle.dir_model.specs.declared.area.Area.TheVariants.{Embryo}
 use Rattle.dir_model.specs.declared.area.Phase.{Phase}
+use Rattle.dir_model.specs.declared.area.Phase.TheVariants.{Preparing, Prepared, Running}
 use Rattle.dir_model.specs.declared.event.Event.{Event}
 use Rattle.dir_model.specs.declared.pod.PodId.{PodId}
 use Rattle.dir_model.specs.declared.spot.Mode.{Mode}
+use Rattle.dir_model.specs.declared.spot.Mode.TheVariants.{Exclusive}
 use Rattle.dir_model.specs.declared.spot.Spot.{Spot}
 use Rattle.dir_model.specs.declared.spot.Which.{Which}
 use Rattle.dir_model.specs.Areas.{is_stage}
-use Rattle.dir_model.specs.Pods.{pod_text}
-use Rattle.dir_trait.specs.State.{DirState, stands}
+use Rattle.dir_model.specs.Pods.{pod_text, pod_of}
+use Rattle.dir_trait.specs.State.{DirState, stands, folder_at}
 use Rattle.dir_trait.specs.Trace.{state_after}
+use Rattle.area_locks.specs.AreaLocks.{IsBusyElsewhere}
 use Rattle.lifecycle.specs.declared.machine.PodState.TheVariants.{Gone}
 use Rattle.lifecycle.specs.PodMachine.{pod_state}
 use Rattle.lifecycle.specs.Executions.{IsConforming}
@@ -21,9 +25,13 @@ use Rattle.phase_read.specs.Read.{pod_spot, is_pod_spot}
 use Rattle.phase_read.specs.Sequential.{sequential_read}
 use Rattle.pod_claim.specs.Causes.{LacksManifest}
 use Rattle.pod_steps.specs.Causes.{is_held_against}
+use Rattle.pod_gc.specs.declared.ages.Times.{Times}
+use Rattle.pod_gc.specs.declared.line.Deed.TheVariants.{Kept}
+use Rattle.pod_gc.specs.declared.line.GcLine.{GcLine}
 use Rattle.command_outcomes.specs.declared.refusal.Refusal.TheVariants.{NoPod, WrongPhase, NoManifest, PodBusy, Stray}
 use Rattle.command_outcomes.specs.Moments.{DirSeen, Outcome}
 use Rattle.removal_commands.specs.Rm.{removed_text, HasRemovedPod, HasFoundNoPod, HasFoundWrong, HasFoundNoManifest, HasFoundBusy, HasMetStrayAtPod}
+use Rattle.removal_commands.specs.Gc.{HasSweptPods, HasMetStrayInPods}
 
 -- no folder of the pod stands at any of its six places
 abbrev pub StandsNowhere : PodId → DirState → Type 0
@@ -59,3 +67,35 @@ RemovesPodQuietly pod old new (Err (NoManifest other)) = (other ≡ pod) × HasF
 RemovesPodQuietly pod old new (Err (PodBusy other which)) = (other ≡ pod) × HasFoundBusy pod which old new × IsHeldNow pod which old.process (state_after old.trace)
 RemovesPodQuietly pod old new (Err Stray) = HasMetStrayAtPod pod old new
 RemovesPodQuietly pod old new (Err refusal) = ⊥
+
+-- no folder of a pod stands in embryo, unless another process held that area's lock before
+abbrev pub LeavesNoEmbryo : DirSeen → DirSeen → Type 0
+LeavesNoEmbryo old new =
+    ((name : List ℕ) (pod : PodId) → pod_of name ≡ Some pod → folder_at (state_after new.trace).namespace (record { area = Embryo; name = name }) ≡ None)
+    ⊎ IsBusyElsewhere old.process Embryo Exclusive (state_after old.trace)
+
+-- a pod in this phase is being made, waits or runs: no step of a sweep brings it there
+abbrev pub is_lasting_phase : Phase → Bool
+is_lasting_phase Preparing = true
+is_lasting_phase Prepared = true
+is_lasting_phase Running = true
+is_lasting_phase _ = false
+
+-- a pod that is kept for such a phase had it before
+abbrev pub KeptAsBefore : List Event → GcLine → Type 0
+KeptAsBefore old line = (pod : PodId) (phase : Phase) → line.pod ≡ Some pod → line.deed ≡ Kept phase → is_lasting_phase phase ≡ true → HasPhaseNow pod phase old
+
+-- of `gc`: its lines by its own steps, of which those of kept pods agree with the state before, and no embryo is left
+pub record SweepsSo (times : Times) (old new : DirSeen) (text : List ℕ) : Type 0 where
+  pub swept : HasSweptPods times old new text
+  pub kept : IsConforming new.trace → AllByRecursion (KeptAsBefore old.trace) swept.lines
+  pub embryos : LeavesNoEmbryo old new
+
+abbrev pub SweepsPodsQuietly : Times → DirSeen → DirSeen → Outcome → Type 0
+SweepsPodsQuietly times old new (Ok text) = SweepsSo times old new text
+SweepsPodsQuietly times old new (Err Stray) = HasMetStrayInPods old new
+SweepsPodsQuietly times old new (Err refusal) = ⊥
+
+-- where a sweep moves and removes folders. A removal does so at the pod's places (`is_pod_spot`)
+abbrev pub is_pods_place : Spot → Bool
+is_pods_place place = is_stage place.area
