@@ -1,5 +1,5 @@
 -- What `gc` comes to where nobody else steps.
-use Rattle.std.proofs.Common.{◌≡◌, ◌⊎◌, inl, inr, ◌+◌, ℕ, Bool, true, false, not, ◌&&◌, ◌||◌, ◌==◌, cond, bytes_eq, option_map, map, Option, Some, None, List, [], ◌∷◌, ◌++◌, append-nil, append_assoc, refl, sym, ap, subst, ◌∙◌}
+use Rattle.std.proofs.Common.{◌≡◌, ◌⊎◌, inl, inr, ◌+◌, ℕ, Bool, true, false, not, ◌&&◌, ◌||◌, ◌==◌, cond, bytes_eq, option_map, map, Option, Some, None, is_some, List, [], ◌∷◌, ◌++◌, append-nil, append_assoc, refl, sym, ap, subst, ◌∙◌}
 use Rattle.std.specs.List.{list_any, position_from, cons_option, AllByRecursion}
 use Rattle.std.proofs.lemmas.Iterator.Adapters.{position_from-zero}
 use Rattle.std.proofs.lemmas.Slice.Eq.{bytes_eq-Decides}
@@ -16,17 +16,17 @@ use Rattle.dir_model.specs.declared.request.Request.TheVariants.{MakeFolder, Mov
 use Rattle.dir_model.specs.declared.request.Reply.{Reply}
 use Rattle.dir_model.specs.declared.request.Reply.TheVariants.{Done, Names}
 use Rattle.dir_model.specs.Areas.{rank}
-use Rattle.dir_model.specs.Calls.{event, is_kill, is_foreign, TookPlace, LeftNothing, Extends, AtOwnStep}
+use Rattle.dir_model.specs.Calls.{event, is_kill, is_foreign, may_step, CallStep, TookPlace, LeftNothing, Extends, AtOwnStep}
 use Rattle.dir_model.specs.Listings.{has_name}
 use Rattle.dir_model.specs.Pods.{pod_text, pod_of, is_pod_text, bytes_read}
 use Rattle.dir_model.specs.Quiet.{Quiet}
-use Rattle.dir_model.specs.State.{Namespace, DirState, empty_state, is_at, spot_eq, folder_at}
+use Rattle.dir_model.specs.State.{Namespace, DirState, empty_state, is_at, spot_eq, folder_at, stands}
 use Rattle.dir_model.specs.Trace.{state_after, state_next, states_next, namespace_replied}
 use Rattle.dir_model.specs.Trees.{names_in}
 use Rattle.dir_model.proofs.Chains.{states_next-append, state_after-push}
 use Rattle.dir_model.proofs.Hex.{parsed_back}
 use Rattle.dir_model.proofs.PodTexts.{passes_text}
-use Rattle.dir_model.proofs.Lists.{or_left_false, or_right_false, all_both, all_right, all_weaker, same_rest, same_self}
+use Rattle.dir_model.proofs.Lists.{and_right, or_left_false, or_right_false, all_both, all_right, all_weaker, same_rest, same_self}
 use Rattle.dir_rules.proofs.Looks.{same_bytes}
 use Rattle.dir_rules.specs.Standing.{is_garbage}
 use Rattle.dir_laws.specs.Stretches.{Throughout, StandsInArea}
@@ -37,6 +37,7 @@ use Rattle.lifecycle.specs.declared.machine.PodState.TheVariants as state
 use Rattle.lifecycle.specs.PodMachine.{pod_state, phase_of_state}
 use Rattle.lifecycle.specs.Executions.{IsConforming}
 use Rattle.lifecycle.proofs.Draws.{conforming_left}
+use Rattle.lifecycle.proofs.Step.{stands_from}
 use Rattle.lifecycle.proofs.Places.{none_stands, moved_away, moved_elsewhere, removed_there, removed_elsewhere}
 use Rattle.phase_read.specs.Read.{pod_spot}
 use Rattle.phase_read.specs.Exact.{AtOwnEvent}
@@ -49,14 +50,14 @@ use Rattle.pod_gc.specs.declared.ages.Times.{Times}
 use Rattle.pod_gc.specs.declared.line.Deed.{Deed}
 use Rattle.pod_gc.specs.declared.line.Deed.TheVariants.{Moved, Deleted, Kept, Busy, BusyGate, Left}
 use Rattle.pod_gc.specs.declared.line.GcLine.{GcLine}
-use Rattle.pod_gc.specs.Requests.{lists, sweeps}
+use Rattle.pod_gc.specs.Requests.{lists, moves_pods, sweeps}
 use Rattle.pod_gc.specs.Deeds.{Dealt}
 use Rattle.pod_gc.specs.Sweeping.{MaySweepAll}
 use Rattle.pod_gc.specs.Told.{Knew, and_pod, pods_of, IsTold, TellsShown, UnderGate, WasGated, Passed, ArePassed, places}
 use Rattle.command_outcomes.specs.Meanwhile.{Meanwhile}
 use Rattle.removal_commands.specs.Gc.{Sweeps}
-use Rattle.removal_commands.specs.Quiet.{is_lasting_phase, KeptAsBefore}
-use Rattle.removal_commands.proofs.OwnSteps.{in_process, own_asked, quiet_part, own_first, forward, at_process, same_folders, held_before}
+use Rattle.removal_commands.specs.Quiet.{is_lasting_phase, KeptAsBefore, MovedAsBefore}
+use Rattle.removal_commands.proofs.OwnSteps.{in_process, back_from, own_asked, quiet_part, own_first, forward, at_process, same_folders, held_before}
 use Rattle.removal_commands.proofs.LateTurns.{is_lasting, lasting_back, sweeps_late, or_false}
 use Rattle.removal_commands.proofs.RmBefore.{event_weaker, has_phase_now}
 
@@ -248,6 +249,64 @@ module _ (Can : Type 0) (times : Times) (lines : List GcLine) (me : ℕ) (locked
         none = absent_at (state_after t.listed).namespace (InEmbryo name) (sym (named_at area.Embryo name (state_after t.listed).namespace.folders) ∙ is);
       }
 
+-- no folder comes to a place from which a pass moves pods
+
+moved_apart : (place a : Area) → moves_pods place ≡ true → is_garbage a ≡ true → (rank a == rank place) ≡ false
+moved_apart area.Embryo a moves is = embryo_apart a is
+moved_apart area.Prepare area.ExitedGarbage moves is = refl
+moved_apart area.Prepare area.Garbage moves is = refl
+moved_apart area.Prepare a moves is = cc
+moved_apart area.Prepared area.ExitedGarbage moves is = refl
+moved_apart area.Prepared area.Garbage moves is = refl
+moved_apart area.Prepared a moves is = cc
+moved_apart area.Run area.ExitedGarbage moves is = refl
+moved_apart area.Run area.Garbage moves is = refl
+moved_apart area.Run a moves is = cc
+moved_apart place a moves is = cc
+
+module _ (now : ℕ) (pod : PodId) (place : Area) (moves : moves_pods place ≡ true) (me : ℕ) where
+  abbrev its_place : Spot
+  its_place = pod_spot pod place
+
+  stood_back : (s : DirState) (request : Request) (reply : Reply) → (is_kill request || in_process (sweeps now) request) ≡ true → stands (namespace_replied s.namespace me request reply) its_place ≡ true → stands s.namespace its_place ≡ true
+  stood_back s (MakeFolder here) reply h there = cc
+  stood_back s (MoveFolder from to) Done h there = by (spot_eq from its_place) refl
+    where
+      off : spot_eq to its_place ≡ false
+      off = ap (λ b. b && bytes_eq to.name (pod_text pod.bytes)) (moved_apart place to.area moves ((sweeps_late now).moves from to (or_false (sweeps now (MoveFolder from to)) h)))
+
+      by : (b : Bool) → spot_eq from its_place ≡ b → stands s.namespace its_place ≡ true
+      by true is = let clash : false ≡ true = sym (ap (λ (o : Option ℕ). is_some o) (moved_away s.namespace its_place from to off is)) ∙ there in cc
+      by false is = sym (ap (λ (o : Option ℕ). is_some o) (moved_elsewhere s.namespace its_place from to off is)) ∙ there
+  stood_back s (MoveFolder from to) reply h there = there
+  stood_back s (RemoveFolder gone) Done h there = by (spot_eq gone its_place) refl
+    where
+      by : (b : Bool) → spot_eq gone its_place ≡ b → stands s.namespace its_place ≡ true
+      by true is = let clash : false ≡ true = sym (ap (λ (o : Option ℕ). is_some o) (removed_there s.namespace its_place gone is)) ∙ there in cc
+      by false is = sym (ap (λ (o : Option ℕ). is_some o) (removed_elsewhere s.namespace its_place gone is)) ∙ there
+  stood_back s (RemoveFolder gone) reply h there = there
+  stood_back s request reply h there = ap (λ (fs : List (Option Spot)). stands (record s.namespace { folders = fs }) its_place) (sym (same_folders me s.namespace request reply refl (λ handle. refl))) ∙ there
+
+-- just before an own move the pod stood where it was moved from
+stood_moved : (pod : PodId) (place to : Area) (me : ℕ) (old new : List Event) → Did (MoveFolder (pod_spot pod place) (pod_spot pod to)) Done me old new → (b : List Event) × Grew old b × Grew b new × (stands (state_after b).namespace (pod_spot pod place) ≡ true)
+stood_moved pod place to me old new did = by s.own
+  where
+    s : CallStep me did.each.0 (MoveFolder (pod_spot pod place) (pod_spot pod to)) Done did.each.1
+    s = did.each.3
+
+    e : Event
+    e = event me (MoveFolder (pod_spot pod place) (pod_spot pod to)) Done
+
+    by : TookPlace s.before me (MoveFolder (pod_spot pod place) (pod_spot pod to)) Done did.each.1 ⊎ LeftNothing s.before me (MoveFolder (pod_spot pod place) (pod_spot pod to)) Done did.each.1 →
+        (b : List Event) × Grew old b × Grew b new × (stands (state_after b).namespace (pod_spot pod place) ≡ true)
+    by (inr left) = let clash : false ≡ true = left.late in cc
+    by (inl took) = (
+      s.before,
+      grown_more did.each.2 (record { more = s.meanwhile.others; grown = s.meanwhile.grown }),
+      grown_more (record { more = e ∷ []; grown = took.grown }) did.each.4,
+      (stands_from (state_after s.before) me (pod_spot pod place) (pod_spot pod to) (and_right (may_step (state_after s.before) me (MoveFolder (pod_spot pod place) (pod_spot pod to))) _ took.allowed)).0,
+    )
+
 -- how far the trace has grown
 
 shown_grown : {Can : Type 0} {times : Times} {here : Area} {lines : List GcLine} {me : ℕ} {a b : List Event} → TellsShown Can times here lines me a b → Grew a b
@@ -297,6 +356,40 @@ module _ (times : Times) (lines : List GcLine) {me : ℕ} {old new : List Event}
       let x = m.so.swept in
       embryos_left x.between (passes_grown (Knew (MaySweepAll times.now times.expire) m.so.from) times later_places x.others me x.between m.ended x.rest) x.first m.so.can
 
+  -- a pod that was moved stood there before
+  told_moved : {Can : Type 0} {here : Area} (a b : List Event) → Grew old a → Grew b new → (line : GcLine) → IsTold Can times here line me a b → MovedAsBefore old line
+  told_moved {Can} {here} a b to_a from_b line x pod to is deed =
+      let same : x.shown ≡ pod = let e : Some x.shown ≡ Some pod = sym x.pod_is ∙ is in cc in
+      let c = x.dealt.cause.moved to deed in
+      let y = stood_moved x.shown here to me x.from x.upto c.2 in
+      let stood = back_from (λ s. stands s.namespace (pod_spot x.shown here) ≡ true) asks me (λ s request reply h there. stood_back times.now x.shown here c.0 me s request reply h there) y.0
+      (grown_more to_a (grown_more x.first y.1)) (grown_more y.2 (grown_more x.last from_b)) ext quiet y.3 in
+      subst (λ (p : Area). stands (state_after old).namespace (pod_spot pod p) ≡ true) (sym x.place_is) (subst (λ (q : PodId). stands (state_after old).namespace (pod_spot q here) ≡ true) same stood)
+
+  -- of each line
+  module _ (P : GcLine → Type 0) (told : (Can : Type 0) (here : Area) (a b : List Event) → Grew old a → Grew b new → (line : GcLine) → IsTold Can times here line me a b → P line) (gated : P (record { place = area.Embryo; pod = None; deed = BusyGate })) where
+    shown_each : {Can : Type 0} {here : Area} (ls : List GcLine) (a b : List Event) → Grew old a → Grew b new → TellsShown Can times here ls me a b → AllByRecursion P ls
+    shown_each {Can} {here} ls a b to_a from_b t = all_weaker (λ l. IsTold Can times here l me t.listed b) P (λ l x. told Can here t.listed b (grown_more to_a (grown_by t.only_lists)) from_b l x) ls t.tells.each
+
+    passed_each : (Can : Type 0) (here : Area) (ls : List GcLine) (a b : List Event) → Grew old a → Grew b new → Passed Can times here ls me a b → AllByRecursion P ls
+    passed_each Can area.Embryo ls a b to_a from_b (inl g) = shown_each ls g.locked g.done (grown_more to_a (grown_by g.takes_gate)) (grown_more (grown_by g.gives_back) from_b) g.tells
+    passed_each Can area.Embryo ls a b to_a from_b (inr w) = subst (λ (l : List GcLine). AllByRecursion P l) (sym w.line_is) (gated, tt)
+    passed_each Can here ls a b to_a from_b t = shown_each ls a b to_a from_b t
+
+    passes_each : (Can : Type 0) (ps : List Area) (ls : List GcLine) (a b : List Event) → Grew old a → Grew b new → ArePassed Can times ps ls me a b → AllByRecursion P ls
+    passes_each Can [] ls a b to_a from_b x = subst (λ (l : List GcLine). AllByRecursion P l) (sym x.0) tt
+    passes_each Can (here ∷ ps) ls a b to_a from_b x =
+        let rest = passes_grown Can times ps x.others me x.between b x.rest in
+        let first = passed_grown Can times here x.own me a x.between x.first in
+        subst (λ (l : List GcLine). AllByRecursion P l) (sym x.lines_are)
+        (all_both P x.own x.others (passed_each Can here x.own a x.between to_a (grown_more rest from_b) x.first) (passes_each Can ps x.others x.between b (grown_more to_a first) from_b x.rest))
+
+    each_line : AllByRecursion P lines
+    each_line = passes_each (Knew (MaySweepAll times.now times.expire) m.so.from) places lines m.begun m.ended before after m.so.swept
+
+  pub gc_moved : AllByRecursion (MovedAsBefore old) lines
+  gc_moved = each_line (MovedAsBefore old) (λ Can here a b to_a from_b line x. told_moved a b to_a from_b line x) (λ pod to is deed. cc)
+
   -- a pod that is kept for being made, for waiting or for running
   module _ (conforming : IsConforming new) where
     before_new : (b : List Event) → Grew b new → IsConforming b
@@ -326,21 +419,5 @@ module _ (times : Times) (lines : List GcLine) {me : ℕ} {old new : List Event}
         let had = lasting_back (sweeps times.now) (sweeps_late times.now) u (λ s. phase_of_state s ≡ Some p) moment ext quiet in
         has_phase_now pod old (conforming_left old quiet.more (subst IsConforming quiet.grown conforming)) p (subst (λ (q : PodId). phase_of_state (pod_state (pod_text q.bytes) old) ≡ Some p) same had)
 
-    shown_kept : {Can : Type 0} {here : Area} (lines : List GcLine) (a b : List Event) → Grew old a → Grew b new → TellsShown Can times here lines me a b → AllByRecursion (KeptAsBefore old) lines
-    shown_kept {Can} {here} lines a b to_a from_b t = all_weaker (λ l. IsTold Can times here l me t.listed b) (KeptAsBefore old) (λ l x. told_kept t.listed b (grown_more to_a (grown_by t.only_lists)) from_b l x) lines t.tells.each
-
-    passed_kept : (Can : Type 0) (here : Area) (ls : List GcLine) (a b : List Event) → Grew old a → Grew b new → Passed Can times here ls me a b → AllByRecursion (KeptAsBefore old) ls
-    passed_kept Can area.Embryo ls a b to_a from_b (inl g) = shown_kept ls g.locked g.done (grown_more to_a (grown_by g.takes_gate)) (grown_more (grown_by g.gives_back) from_b) g.tells
-    passed_kept Can area.Embryo ls a b to_a from_b (inr w) = subst (λ (l : List GcLine). AllByRecursion (KeptAsBefore old) l) (sym w.line_is) (λ pod p is deed lasts. cc, tt)
-    passed_kept Can here ls a b to_a from_b t = shown_kept ls a b to_a from_b t
-
-    passes_kept : (Can : Type 0) (ps : List Area) (ls : List GcLine) (a b : List Event) → Grew old a → Grew b new → ArePassed Can times ps ls me a b → AllByRecursion (KeptAsBefore old) ls
-    passes_kept Can [] ls a b to_a from_b x = subst (λ (l : List GcLine). AllByRecursion (KeptAsBefore old) l) (sym x.0) tt
-    passes_kept Can (here ∷ ps) ls a b to_a from_b x =
-        let rest = passes_grown Can times ps x.others me x.between b x.rest in
-        let first = passed_grown Can times here x.own me a x.between x.first in
-        subst (λ (l : List GcLine). AllByRecursion (KeptAsBefore old) l) (sym x.lines_are)
-        (all_both (KeptAsBefore old) x.own x.others (passed_kept Can here x.own a x.between to_a (grown_more rest from_b) x.first) (passes_kept Can ps x.others x.between b (grown_more to_a first) from_b x.rest))
-
     pub gc_kept : AllByRecursion (KeptAsBefore old) lines
-    gc_kept = passes_kept (Knew (MaySweepAll times.now times.expire) m.so.from) places lines m.begun m.ended before after m.so.swept
+    gc_kept = each_line (KeptAsBefore old) (λ Can here a b to_a from_b line x. told_kept a b to_a from_b line x) (λ pod p is deed lasts. cc)

@@ -81,6 +81,11 @@ module _ (Q : DirState → Type 0) (asks : Request → Bool) (me : ℕ) (back : 
       (ap state_after (append_assoc old at.later (at.step ∷ [])) ∙ states_next-append empty_state old es) in
       back_all (state_after old) es (own_part asks me old new ext quiet es at.rest whole) (asked_part asks me old new ext quiet es at.rest whole) (subst Q here at.holds)
 
+  pub back_from : {old new : List Event} (b : List Event) → Grew old b → Grew b new → Extends asks me old new → Quiet me old new → Q (state_after b) → Q (state_after old)
+  back_from {old} {new} b x y ext quiet q =
+      let whole : new ≡ old ++ (x.more ++ y.more) = y.grown ∙ (ap (λ (h : List Event). h ++ y.more) x.grown ∙ append_assoc old x.more y.more) in
+      back_all (state_after old) x.more (own_part asks me old new ext quiet x.more y.more whole) (asked_part asks me old new ext quiet x.more y.more whole) (subst Q (ap state_after x.grown ∙ states_next-append empty_state old x.more) q)
+
 -- and what they keep is so on
 module _ (Q : DirState → Type 0) (asks : Request → Bool) (me : ℕ) (keeps : (s : DirState) (request : Request) (reply : Reply) → (is_kill request || asks request) ≡ true → Q s → Q (state_next s (event me request reply))) where
   forward_all : (s : DirState) (es : List Event) → AllByRecursion (λ e. e.process ≡ me) es → AllByRecursion (λ e. (is_foreign me e || asks e.request) ≡ true) es → Q s → Q (states_next s es)

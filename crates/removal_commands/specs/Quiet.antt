@@ -26,7 +26,7 @@ use Rattle.phase_read.specs.Sequential.{sequential_read}
 use Rattle.pod_claim.specs.Causes.{LacksManifest}
 use Rattle.pod_steps.specs.Causes.{is_held_against}
 use Rattle.pod_gc.specs.declared.ages.Times.{Times}
-use Rattle.pod_gc.specs.declared.line.Deed.TheVariants.{Kept}
+use Rattle.pod_gc.specs.declared.line.Deed.TheVariants.{Moved, Kept}
 use Rattle.pod_gc.specs.declared.line.GcLine.{GcLine}
 use Rattle.command_outcomes.specs.declared.refusal.Refusal.TheVariants.{NoPod, WrongPhase, NoManifest, PodBusy, Stray}
 use Rattle.command_outcomes.specs.Moments.{DirSeen, Outcome}
@@ -85,10 +85,15 @@ is_lasting_phase _ = false
 abbrev pub KeptAsBefore : List Event → GcLine → Type 0
 KeptAsBefore old line = (pod : PodId) (phase : Phase) → line.pod ≡ Some pod → line.deed ≡ Kept phase → is_lasting_phase phase ≡ true → HasPhaseNow pod phase old
 
--- of `gc`: its lines by its own steps, of which those of kept pods agree with the state before, and no embryo is left
+-- a pod that was moved stood at that place before
+abbrev pub MovedAsBefore : List Event → GcLine → Type 0
+MovedAsBefore old line = (pod : PodId) (to : Area) → line.pod ≡ Some pod → line.deed ≡ Moved to → stands (state_after old).namespace (pod_spot pod line.place) ≡ true
+
+-- of `gc`: its lines by its own steps, of which those of kept and moved pods agree with the state before, and no embryo is left
 pub record SweepsSo (times : Times) (old new : DirSeen) (text : List ℕ) : Type 0 where
   pub swept : HasSweptPods times old new text
   pub kept : IsConforming new.trace → AllByRecursion (KeptAsBefore old.trace) swept.lines
+  pub moved : AllByRecursion (MovedAsBefore old.trace) swept.lines
   pub embryos : LeavesNoEmbryo old new
 
 abbrev pub SweepsPodsQuietly : Times → DirSeen → DirSeen → Outcome → Type 0
