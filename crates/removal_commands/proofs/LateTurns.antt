@@ -157,7 +157,7 @@ module _ (pod : PodId) (now : ℕ) where
   removes_late = record {
     makes = λ spot is. cc;
     moves = λ from to is. elim (aside_cases from to is) [
-      inl x ↦ rank_garbage to.area (to_place area.Prepare area.Garbage from to x)
+      | inl x ↦ rank_garbage to.area (to_place area.Prepare area.Garbage from to x)
       | inr (inl x) ↦ rank_garbage to.area (to_place area.Prepared area.Garbage from to x)
       | inr (inr x) ↦ rank_exited to.area (to_place area.Run area.ExitedGarbage from to x)
     ];
@@ -166,7 +166,7 @@ module _ (pod : PodId) (now : ℕ) where
   -- it moves and removes folders at the pod's places alone
   pub rm_moves : (from to : Spot) → removes pod now (MoveFolder from to) ≡ true → is_pod_spot pod from ≡ true
   rm_moves from to is = elim (aside_cases from to is) [
-    inl x ↦ from_place area.Prepare area.Garbage from to refl x
+    | inl x ↦ from_place area.Prepare area.Garbage from to refl x
     | inr (inl x) ↦ from_place area.Prepared area.Garbage from to refl x
     | inr (inr x) ↦ from_place area.Run area.ExitedGarbage from to refl x
   ]
@@ -179,7 +179,7 @@ module _ (pod : PodId) (now : ℕ) where
 
   pub in_garbage : (spot : Spot) → (spot_eq spot (pod_spot pod area.ExitedGarbage) || spot_eq spot (pod_spot pod area.Garbage)) ≡ true → is_garbage spot.area ≡ true
   in_garbage spot is = elim (or_either (spot_eq spot (pod_spot pod area.ExitedGarbage)) _ is) [
-    inl x ↦ exited_rank spot.area (and_left (rank spot.area == rank area.ExitedGarbage) (bytes_eq spot.name u) x)
+    | inl x ↦ exited_rank spot.area (and_left (rank spot.area == rank area.ExitedGarbage) (bytes_eq spot.name u) x)
     | inr x ↦ garbage_rank spot.area (and_left (rank spot.area == rank area.Garbage) (bytes_eq spot.name u) x)
   ]
 
@@ -190,7 +190,7 @@ pub sweeps_late : (now : ℕ) → Late (sweeps now)
 sweeps_late now = record {
   makes = λ spot is. cc;
   moves = λ from to is. elim (or_either (is_in area.Run from.area && is_in area.ExitedGarbage to.area) _ (and_right (is_stage from.area) (Sweeps from to) is)) [
-    inl x ↦ rank_exited to.area (and_right (is_in area.Run from.area) (is_in area.ExitedGarbage to.area) x)
+    | inl x ↦ rank_exited to.area (and_right (is_in area.Run from.area) (is_in area.ExitedGarbage to.area) x)
     | inr x ↦ rank_garbage to.area x
   ];
 }

@@ -201,8 +201,7 @@ left_out_all : (pod : PodId) (me : ℕ) (old new : List Event) (areas : List Are
 left_out_all pod me old new [] between l more = tt
 left_out_all pod me old new (a ∷ earlier) between l more =
     let first = left_out_grown pod me old l.0 earlier l.1 in
-    let last = at_grown l.2 in
-    (
+    let last = at_grown l.2 in (
       at_part (record { more = first.0; grown = first.1 }) refl more l.2,
       left_out_all pod me old new earlier l.0 l.1 (grown_more (record { more = last.0; grown = last.1 }) more),
     )
