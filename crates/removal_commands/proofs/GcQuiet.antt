@@ -63,7 +63,7 @@ use Rattle.removal_commands.proofs.RmBefore.{event_weaker, has_phase_now}
 
 -- names and pods
 
-pod_back : (name : List ℕ) (pod : PodId) → pod_of name ≡ Some pod → pod_text pod.bytes ≡ name
+pub pod_back : (name : List ℕ) (pod : PodId) → pod_of name ≡ Some pod → pod_text pod.bytes ≡ name
 pod_back name pod is = by (is_pod_text name) refl (bytes_read name) refl is
   where
     by : (b : Bool) → is_pod_text name ≡ b → (o : Option (List ℕ)) → bytes_read name ≡ o → cond b (option_map (λ bytes. record { bytes = bytes }) o) None ≡ Some pod → pod_text pod.bytes ≡ name
@@ -78,7 +78,7 @@ none_from t i (x ∷ xs) none = rw (or_left_false (t x) (list_any t xs) none, no
 absent_at : (n : Namespace) (spot : Spot) → list_any (is_at spot) n.folders ≡ false → folder_at n spot ≡ None
 absent_at n spot none = position_from-zero (is_at spot) n.folders ∙ none_from (is_at spot) 0 n.folders none
 
-named_at : (a : Area) (name : List ℕ) (places : List (Option Spot)) → has_name (names_in a places) name ≡ list_any (is_at (record { area = a; name = name })) places
+pub named_at : (a : Area) (name : List ℕ) (places : List (Option Spot)) → has_name (names_in a places) name ≡ list_any (is_at (record { area = a; name = name })) places
 named_at a name [] = refl
 named_at a name (None ∷ places) = named_at a name places
 named_at a name (Some here ∷ places) = by (rank here.area == rank a) (named_at a name places)
@@ -191,30 +191,30 @@ deed_leaves times pod Left me old new d =
 
 -- a listing leaves each folder where it is
 
-abbrev Leaves : Event → Type 0
+abbrev pub Leaves : Event → Type 0
 Leaves e = (p : ℕ) (w : Namespace) → (namespace_replied w p e.request e.reply).folders ≡ w.folders
 
-list_leaves : (a : Area) (request : Request) (reply : Reply) → (is_kill request || lists a request) ≡ true → (p : ℕ) (w : Namespace) → (namespace_replied w p request reply).folders ≡ w.folders
+pub list_leaves : (a : Area) (request : Request) (reply : Reply) → (is_kill request || lists a request) ≡ true → (p : ℕ) (w : Namespace) → (namespace_replied w p request reply).folders ≡ w.folders
 list_leaves a (MakeFolder here) reply h p w = cc
 list_leaves a (MoveFolder from to) reply h p w = cc
 list_leaves a (RemoveFolder gone) reply h p w = cc
 list_leaves a request reply h p w = same_folders p w request reply refl (λ handle. refl)
 
-lists_leave : (me : ℕ) (a : Area) (es : List Event) → AllByRecursion (λ e. e.process ≡ me) es → AllByRecursion (λ e. (is_foreign me e || lists a e.request) ≡ true) es → AllByRecursion Leaves es
+pub lists_leave : (me : ℕ) (a : Area) (es : List Event) → AllByRecursion (λ e. e.process ≡ me) es → AllByRecursion (λ e. (is_foreign me e || lists a e.request) ≡ true) es → AllByRecursion Leaves es
 lists_leave me a [] own asked = tt
 lists_leave me a (e ∷ es) own asked = (λ p w. list_leaves a e.request e.reply (own_asked (lists a) me e own.0 asked.0) p w, lists_leave me a es own.1 asked.1)
 
-leaves_same : (s : DirState) (es : List Event) → AllByRecursion Leaves es → (states_next s es).namespace.folders ≡ s.namespace.folders
+pub leaves_same : (s : DirState) (es : List Event) → AllByRecursion Leaves es → (states_next s es).namespace.folders ≡ s.namespace.folders
 leaves_same s [] leave = refl
 leaves_same s (e ∷ es) leave = leaves_same (state_next s e) es leave.1 ∙ leave.0 e.process s.namespace
 
-throughout_same : (a : Area) (name : List ℕ) (s : DirState) (es rest : List Event) → AllByRecursion Leaves (es ++ rest) → StandsInArea a name s → Throughout (StandsInArea a name) s es
+pub throughout_same : (a : Area) (name : List ℕ) (s : DirState) (es rest : List Event) → AllByRecursion Leaves (es ++ rest) → StandsInArea a name s → Throughout (StandsInArea a name) s es
 throughout_same a name s [] rest leave at = at
 throughout_same a name s (e ∷ es) rest leave at =
     (at, throughout_same a name (state_next s e) es rest leave.1 (subst (λ (fs : List (Option Spot)). has_name (names_in a fs) name ≡ true) (sym (leave.0 e.process s.namespace)) at))
 
 -- what stands after a listing it has shown
-shown_in : (me : ℕ) (a : Area) (name : List ℕ) (names : List (List ℕ)) (old new : List Event) (x : Extends (lists a) me old new) → AllByRecursion (λ e. e.process ≡ me) x.more → ShowsArea me old new a names → StandsInArea a name (state_after new) → has_name names name ≡ true
+pub shown_in : (me : ℕ) (a : Area) (name : List ℕ) (names : List (List ℕ)) (old new : List Event) (x : Extends (lists a) me old new) → AllByRecursion (λ e. e.process ≡ me) x.more → ShowsArea me old new a names → StandsInArea a name (state_after new) → has_name names name ≡ true
 shown_in me a name names old new x own shows at =
     let t = shows.stretch in
     let last = event me (ListArea a) (Names names) in
@@ -309,18 +309,18 @@ stood_moved pod place to me old new did = by s.own
 
 -- how far the trace has grown
 
-shown_grown : {Can : Type 0} {times : Times} {here : Area} {lines : List GcLine} {me : ℕ} {a b : List Event} → TellsShown Can times here lines me a b → Grew a b
+pub shown_grown : {Can : Type 0} {times : Times} {here : Area} {lines : List GcLine} {me : ℕ} {a b : List Event} → TellsShown Can times here lines me a b → Grew a b
 shown_grown t = grown_more (grown_by t.only_lists) (grown_by t.only)
 
-under_grown : {Can : Type 0} {times : Times} {lines : List GcLine} {me : ℕ} {a b : List Event} → UnderGate Can times lines me a b → Grew a b
+pub under_grown : {Can : Type 0} {times : Times} {lines : List GcLine} {me : ℕ} {a b : List Event} → UnderGate Can times lines me a b → Grew a b
 under_grown x = grown_more (grown_by x.takes_gate) (grown_more (shown_grown x.tells) (grown_by x.gives_back))
 
-passed_grown : (Can : Type 0) (times : Times) (here : Area) (lines : List GcLine) (me : ℕ) (a b : List Event) → Passed Can times here lines me a b → Grew a b
+pub passed_grown : (Can : Type 0) (times : Times) (here : Area) (lines : List GcLine) (me : ℕ) (a b : List Event) → Passed Can times here lines me a b → Grew a b
 passed_grown Can times area.Embryo lines me a b (inl x) = under_grown x
 passed_grown Can times area.Embryo lines me a b (inr x) = grown_by x.only
 passed_grown Can times here lines me a b x = shown_grown x
 
-passes_grown : (Can : Type 0) (times : Times) (ps : List Area) (lines : List GcLine) (me : ℕ) (a b : List Event) → ArePassed Can times ps lines me a b → Grew a b
+pub passes_grown : (Can : Type 0) (times : Times) (ps : List Area) (lines : List GcLine) (me : ℕ) (a b : List Event) → ArePassed Can times ps lines me a b → Grew a b
 passes_grown Can times [] lines me a b x = record { more = []; grown = x.1 ∙ sym (append-nil a) }
 passes_grown Can times (here ∷ ps) lines me a b x = grown_more (passed_grown Can times here x.own me a x.between x.first) (passes_grown Can times ps x.others me x.between b x.rest)
 

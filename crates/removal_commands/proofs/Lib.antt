@@ -7,3 +7,4 @@ pub mod RmQuiet
 pub mod RmBefore
 pub mod RmLacking
 pub mod GcQuiet
+pub mod GcTells

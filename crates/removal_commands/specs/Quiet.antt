@@ -1,5 +1,5 @@
 -- What `rm` and `gc` come to, and leave, where nobody else steps.
-use Rattle.std.specs.Prelude.{◌≡◌, ◌⊎◌, ℕ, Bool, true, false, Some, None, List, Ok, Err, slice_get}
+use Rattle.std.specs.Prelude.{◌≡◌, ◌⊎◌, ℕ, Bool, true, false, Some, None, List, ◌∷◌, ◌++◌, Ok, Err, slice_get}
 use Rattle.std.specs.List.{list_any, AllByRecursion}
 use Rattle.dir_model.specs.declared.area.Area.{Area}
 use Rattle.dir_model.specs.declared.area.Area.TheVariants.{Embryo}
@@ -89,9 +89,26 @@ KeptAsBefore old line = (pod : PodId) (phase : Phase) → line.pod ≡ Some pod 
 abbrev pub MovedAsBefore : List Event → GcLine → Type 0
 MovedAsBefore old line = (pod : PodId) (to : Area) → line.pod ≡ Some pod → line.deed ≡ Moved to → stands (state_after old).namespace (pod_spot pod line.place) ≡ true
 
--- of `gc`: its lines by its own steps, of which those of kept and moved pods agree with the state before, and no embryo is left
+-- a line of this pod at this place is among them
+pub record HasLine (place : Area) (pod : PodId) (lines : List GcLine) : Type 0 where
+  pub before : List GcLine
+  pub line : GcLine
+  pub after : List GcLine
+  pub are : lines ≡ before ++ line ∷ after
+  pub place_is : line.place ≡ place
+  pub pod_is : line.pod ≡ Some pod
+
+-- each pod that stood in an area before has a line of that place, but those in embryo where another process held that area's lock
+abbrev pub TellsOfEach : List GcLine → DirSeen → Type 0
+TellsOfEach lines old =
+    (name : List ℕ) (pod : PodId) (place : Area) → pod_of name ≡ Some pod → is_stage place ≡ true → stands (state_after old.trace).namespace (pod_spot pod place) ≡ true →
+    HasLine place pod lines ⊎ ((place ≡ Embryo) × IsBusyElsewhere old.process Embryo Exclusive (state_after old.trace))
+
+-- of `gc`: its lines by its own steps, one of each pod that stood before; those of kept and moved pods agree with the state before, and
+-- no embryo is left
 pub record SweepsSo (times : Times) (old new : DirSeen) (text : List ℕ) : Type 0 where
   pub swept : HasSweptPods times old new text
+  pub tells : IsConforming new.trace → TellsOfEach swept.lines old
   pub kept : IsConforming new.trace → AllByRecursion (KeptAsBefore old.trace) swept.lines
   pub moved : AllByRecursion (MovedAsBefore old.trace) swept.lines
   pub embryos : LeavesNoEmbryo old new
