@@ -96,9 +96,9 @@ moves_named p a b from to is =
 
 deals_moves : (p : PodId) (now : ℕ) (here : Area) (from to : Spot) → deals_with p now here (MoveFolder from to) ≡ true → (pod_text p.bytes ≡ from.name) × (pod_text p.bytes ≡ to.name)
 deals_moves p now here from to is = elim (or_either (moves p area.Embryo area.Garbage (MoveFolder from to)) _ is) [
-  inl x ↦ moves_named p area.Embryo area.Garbage from to x
+  | inl x ↦ moves_named p area.Embryo area.Garbage from to x
   | inr y ↦ elim (or_either (moves p area.Prepare area.Garbage (MoveFolder from to)) _ y) [
-    inl x ↦ moves_named p area.Prepare area.Garbage from to x
+    | inl x ↦ moves_named p area.Prepare area.Garbage from to x
     | inr z ↦ elim (or_either (moves p area.Prepared area.Garbage (MoveFolder from to)) _ z) [ inl x ↦ moves_named p area.Prepared area.Garbage from to x | inr x ↦ moves_named p area.Run area.ExitedGarbage from to x ]
   ]
 ]
@@ -107,7 +107,7 @@ deals_removes : (p : PodId) (now : ℕ) (here : Area) (gone : Spot) → deals_wi
 deals_removes p now here gone is =
     let text = pod_text p.bytes in
     elim (or_either (spot_eq gone (pod_spot p area.ExitedGarbage)) _ is) [
-      inl x ↦ sym (same_text gone.name text (and_right (rank gone.area == rank area.ExitedGarbage) (bytes_eq gone.name text) x))
+      | inl x ↦ sym (same_text gone.name text (and_right (rank gone.area == rank area.ExitedGarbage) (bytes_eq gone.name text) x))
       | inr x ↦ sym (same_text gone.name text (and_right (rank gone.area == rank area.Garbage) (bytes_eq gone.name text) x))
     ]
 
@@ -303,7 +303,7 @@ module _ (Can : Type 0) (times : Times) (me : ℕ) (old new : List Event) (quiet
   tells_after [] rest ls a b apart x to_a last there =
       let more = passes_grown Can times rest x.others me x.between b x.rest in
       elim (told_or x.own a x.between x.first to_a (grown_more more last) there) [
-        inl y ↦ inl (subst (λ (l : List GcLine). HasLine place pod l) (sym x.lines_are) (and_after place pod x.own x.others y))
+        | inl y ↦ inl (subst (λ (l : List GcLine). HasLine place pod l) (sym x.lines_are) (and_after place pod x.own x.others y))
         | inr y ↦ inr (y.0, (a, x.between, x.own, to_a, y.1, more))
       ]
   tells_after (here ∷ skipped) rest ls a b apart x to_a last there =
@@ -311,10 +311,9 @@ module _ (Can : Type 0) (times : Times) (me : ℕ) (old new : List Event) (quiet
       let first = passed_grown Can times here x.own me a x.between x.first in
       let then = passes_over here x.own a x.between apart.0.0 apart.0.1 x.first to_a (grown_more more last) there in
       elim (tells_after skipped rest x.others x.between b apart.1 x.rest (grown_more to_a first) last then) [
-        inl y ↦ inl (subst (λ (l : List GcLine). HasLine place pod l) (sym x.lines_are) (and_before place pod x.own x.others y))
+        | inl y ↦ inl (subst (λ (l : List GcLine). HasLine place pod l) (sym x.lines_are) (and_before place pod x.own x.others y))
         | inr y ↦ inr y
       ]
-
 
 -- of a whole process
 
@@ -370,6 +369,6 @@ module _ (times : Times) (lines : List GcLine) {me : ℕ} {old new : List Event}
       let here : stands (state_after old).namespace (record { area = place; name = name }) ≡ true =
       subst (λ (n : List ℕ). stands (state_after old).namespace (record { area = place; name = n }) ≡ true) (pod_back name pod its) there in
       elim (says name pod its place stage (begun_stands (record { area = place; name = name }) here)) [
-        inl x ↦ inl x
+        | inl x ↦ inl x
         | inr y ↦ inr (y.0, held_before (is_against area.Embryo Exclusive) (at_part y.1.3 refl (grown_more y.1.5 finish) (y.1.4.another m.so.can)) ext quiet)
       ]

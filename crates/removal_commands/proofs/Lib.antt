@@ -8,3 +8,4 @@ pub mod RmBefore
 pub mod RmLacking
 pub mod GcQuiet
 pub mod GcTells
+pub mod Quietly
