@@ -58,7 +58,7 @@ use Rattle.command_outcomes.specs.Meanwhile.{Meanwhile}
 use Rattle.removal_commands.specs.Gc.{Sweeps}
 use Rattle.removal_commands.specs.Quiet.{is_lasting_phase, KeptAsBefore, MovedAsBefore}
 use Rattle.removal_commands.proofs.OwnSteps.{in_process, back_from, own_asked, quiet_part, own_first, forward, at_process, same_folders, held_before}
-use Rattle.removal_commands.proofs.LateTurns.{is_lasting, lasting_back, sweeps_late, or_false}
+use Rattle.removal_commands.proofs.LateTurns.{is_lasting, lasting_back, sweeps_late, embryo_apart, or_false}
 use Rattle.removal_commands.proofs.RmBefore.{event_weaker, has_phase_now}
 
 -- names and pods
@@ -111,11 +111,6 @@ module _ (P : GcLine → Type 0) (name : List ℕ) (pod : PodId) (its : pod_of n
           rest ls tail all.1 shown
 
 -- no folder comes to embryo by a sweep
-
-embryo_apart : (a : Area) → is_garbage a ≡ true → (rank a == rank area.Embryo) ≡ false
-embryo_apart area.ExitedGarbage is = refl
-embryo_apart area.Garbage is = refl
-embryo_apart a is = cc
 
 abbrev InEmbryo : List ℕ → Spot
 InEmbryo name = record { area = area.Embryo; name = name }

@@ -41,7 +41,7 @@ or_either true c h = inl refl
 or_either false c h = inr h
 
 -- the transitions that its own steps may be
-abbrev is_late : Option Transition → Bool
+abbrev pub is_late : Option Transition → Bool
 is_late None = true
 is_late (Some turn.Sweep) = true
 is_late (Some turn.Mark) = true
@@ -99,7 +99,7 @@ late_arrival true area.Garbage is = refl
 late_arrival true a is = cc
 
 module _ (asks : Request → Bool) (l : Late asks) where
-  late_turn : (u : List ℕ) (n : Namespace) (x : PodState) (me : ℕ) (request : Request) (reply : Reply) → (is_kill request || in_process asks request) ≡ true → is_late (transition u n x me request reply) ≡ true
+  pub late_turn : (u : List ℕ) (n : Namespace) (x : PodState) (me : ℕ) (request : Request) (reply : Reply) → (is_kill request || in_process asks request) ≡ true → is_late (transition u n x me request reply) ≡ true
   late_turn u n x me (MakeFolder spot) Done h = absurd (l.makes spot (or_false (asks (MakeFolder spot)) h))
   late_turn u n x me (MoveFolder from to) Done h = late_arrival (is_of u to) to.area (l.moves from to (or_false (asks (MoveFolder from to)) h))
   late_turn u n x me (TryLock handle Exclusive) Done h = late_if _ turn.BeginDelete refl
@@ -135,6 +135,23 @@ pub exited_rank : (x : Area) → (rank x == rank area.ExitedGarbage) ≡ true �
 exited_rank area.ExitedGarbage is = refl
 exited_rank x is = cc
 
+pub embryo_apart : (a : Area) → is_garbage a ≡ true → (rank a == rank area.Embryo) ≡ false
+embryo_apart area.ExitedGarbage is = refl
+embryo_apart area.Garbage is = refl
+embryo_apart a is = cc
+
+prepare_apart : (x : Area) → (rank area.Prepare == rank x) ≡ true → (rank x == rank area.Embryo) ≡ false
+prepare_apart area.Prepare is = refl
+prepare_apart x is = cc
+
+prepared_apart : (x : Area) → (rank area.Prepared == rank x) ≡ true → (rank x == rank area.Embryo) ≡ false
+prepared_apart area.Prepared is = refl
+prepared_apart x is = cc
+
+run_apart : (x : Area) → (rank area.Run == rank x) ≡ true → (rank x == rank area.Embryo) ≡ false
+run_apart area.Run is = refl
+run_apart x is = cc
+
 module _ (pod : PodId) (now : ℕ) where
   abbrev u : List ℕ
   u = pod_text pod.bytes
@@ -145,6 +162,9 @@ module _ (pod : PodId) (now : ℕ) where
   aside_cases : (from to : Spot) → goes_aside pod (MoveFolder from to) ≡ true →
       (Moves area.Prepare area.Garbage from to ≡ true) ⊎ ((Moves area.Prepared area.Garbage from to ≡ true) ⊎ (Moves area.Run area.ExitedGarbage from to ≡ true))
   aside_cases from to is = elim (or_either (Moves area.Prepare area.Garbage from to) _ is) [ inl a ↦ inl a | inr rest ↦ inr (or_either (Moves area.Prepared area.Garbage from to) _ rest) ]
+
+  from_rank : (a b : Area) (from to : Spot) → Moves a b from to ≡ true → (rank a == rank from.area) ≡ true
+  from_rank a b from to is = and_left (rank a == rank from.area) (bytes_eq u from.name) (and_left (spot_eq (pod_spot pod a) from) (spot_eq (pod_spot pod b) to) is)
 
   to_place : (a b : Area) (from to : Spot) → Moves a b from to ≡ true → (rank b == rank to.area) ≡ true
   to_place a b from to is = and_left (rank b == rank to.area) (bytes_eq u to.name) (and_right (spot_eq (pod_spot pod a) from) (spot_eq (pod_spot pod b) to) is)
@@ -169,6 +189,13 @@ module _ (pod : PodId) (now : ℕ) where
     | inl x ↦ from_place area.Prepare area.Garbage from to refl x
     | inr (inl x) ↦ from_place area.Prepared area.Garbage from to refl x
     | inr (inr x) ↦ from_place area.Run area.ExitedGarbage from to refl x
+  ]
+
+  pub rm_not_embryo : (from to : Spot) → removes pod now (MoveFolder from to) ≡ true → (rank from.area == rank area.Embryo) ≡ false
+  rm_not_embryo from to is = elim (aside_cases from to is) [
+    | inl x ↦ prepare_apart from.area (from_rank area.Prepare area.Garbage from to x)
+    | inr (inl x) ↦ prepared_apart from.area (from_rank area.Prepared area.Garbage from to x)
+    | inr (inr x) ↦ run_apart from.area (from_rank area.Run area.ExitedGarbage from to x)
   ]
 
   its_spot : (a : Area) (spot : Spot) → is_stage a ≡ true → spot_eq spot (pod_spot pod a) ≡ true → is_pod_spot pod spot ≡ true

@@ -5,6 +5,7 @@ pub mod OwnSteps
 pub mod LateTurns
 pub mod RmQuiet
 pub mod RmBefore
+pub mod RmFrom
 pub mod RmLacking
 pub mod GcQuiet
 pub mod GcTells

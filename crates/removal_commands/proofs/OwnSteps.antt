@@ -118,6 +118,21 @@ module _ (u : List ℕ) (Q : PodState → Type 0) (asks : Request → Bool) (me 
       (ap (pod_state u) (append_assoc old at.later (at.step ∷ [])) ∙ machine_append u old es empty_state Absent) in
       history_all (state_after old) (pod_state u old) es (own_part asks me old new ext quiet es at.rest whole) (asked_part asks me old new ext quiet es at.rest whole) (subst Q here at.holds)
 
+-- a state that no own step turns
+module _ (u : List ℕ) (x : PodState) (asks : Request → Bool) (me : ℕ) (keeps : (n : Namespace) (request : Request) (reply : Reply) → (is_kill request || asks request) ≡ true → turned (transition u n x me request reply) me x ≡ x) where
+  fixed_all : (s : DirState) (es : List Event) → AllByRecursion (λ e. e.process ≡ me) es → AllByRecursion (λ e. (is_foreign me e || asks e.request) ≡ true) es → pod_state_from u s x es ≡ x
+  fixed_all s [] own asked = refl
+  fixed_all s (e ∷ es) own asked =
+      let same : turned (transition u s.namespace x e.process e.request e.reply) e.process x ≡ x =
+      subst (λ (p : ℕ). turned (transition u s.namespace x p e.request e.reply) p x ≡ x) (sym own.0) (keeps s.namespace e.request e.reply (own_asked asks me e own.0 asked.0)) in
+      ap (λ (y : PodState). pod_state_from u (state_next s e) y es) same ∙ fixed_all (state_next s e) es own.1 asked.1
+
+  pub history_fixed : {old new : List Event} → pod_state u old ≡ x → Extends asks me old new → Quiet me old new → pod_state u new ≡ x
+  history_fixed {old} {new} is ext quiet =
+      let own : AllByRecursion (λ e. e.process ≡ me) ext.more = subst (λ (l : List Event). AllByRecursion (λ e. e.process ≡ me) l) (same_rest old quiet.more ext.more (sym quiet.grown ∙ ext.grown)) quiet.own in
+      ap (pod_state u) ext.grown ∙ (machine_append u old ext.more empty_state Absent
+      ∙ (ap (λ (y : PodState). pod_state_from u (state_after old) y ext.more) is ∙ fixed_all (state_after old) ext.more own ext.asked))
+
 -- requests that change no folder
 pub same_folders : (p : ℕ) (w : Namespace) (request : Request) (reply : Reply) → (namespace_done w p request).folders ≡ w.folders → ((handle : Handle) → (namespace_opened w p request handle).folders ≡ w.folders) →
     (namespace_replied w p request reply).folders ≡ w.folders

@@ -4,7 +4,8 @@ use Rattle.dir_model.specs.declared.area.Phase.{Phase}
 use Rattle.dir_model.specs.declared.pod.PodId.{PodId}
 use Rattle.dir_model.specs.declared.spot.Which.{Which}
 use Rattle.dir_model.specs.Calls.{Extends}
-use Rattle.dir_model.specs.Quiet.{Quiet}
+use Rattle.dir_model.specs.Quiet.{Quiet, OwnsNothing}
+use Rattle.dir_model.specs.Trace.{state_after}
 use Rattle.pod_removal.specs.Requests.{removes}
 use Rattle.pod_gc.specs.declared.ages.Times.{Times}
 use Rattle.pod_gc.specs.Requests.{sweeps}
@@ -16,14 +17,15 @@ use Rattle.removal_commands.specs.Quiet.{RemovesPodQuietly, SweepsPodsQuietly}
 use Rattle.removal_commands.proofs.OwnSteps.{in_process}
 use Rattle.removal_commands.proofs.RmQuiet.{rm_gone, rm_none_before}
 use Rattle.removal_commands.proofs.RmBefore.{rm_wrong_before, rm_held_before}
+use Rattle.removal_commands.proofs.RmFrom.{rm_removable_before}
 use Rattle.removal_commands.proofs.RmLacking.{rm_lacked_before}
 use Rattle.removal_commands.proofs.GcQuiet.{gc_embryos, gc_moved, gc_kept}
 use Rattle.removal_commands.proofs.GcTells.{gc_tells}
 
-pub rm_removed_quietly : (pod : PodId) (old new : DirSeen) (text : List ℕ) → text ≡ removed_text pod → HasRemovedPod pod old new → RemovesPodQuietly pod old new (Ok text)
-rm_removed_quietly pod old new text is done = (is, done, λ conforming. rm_gone pod done conforming)
-
 module _ (pod : PodId) (now : ℕ) (old new : DirSeen) (ext : Extends (in_process (removes pod now)) old.process old.trace new.trace) (quiet : Quiet old.process old.trace new.trace) where
+  pub rm_removed_quietly : OwnsNothing old.process (state_after old.trace).namespace → (text : List ℕ) → text ≡ removed_text pod → HasRemovedPod pod old new → RemovesPodQuietly pod old new (Ok text)
+  rm_removed_quietly idle text is done = (is, done, λ conforming. (rm_gone pod done conforming, rm_removable_before pod now ext quiet idle done conforming))
+
   pub rm_none_quietly : HasFoundNoPod pod old new → RemovesPodQuietly pod old new (Err NoPod)
   rm_none_quietly found = (found, rm_none_before pod quiet found)
 

@@ -32,7 +32,7 @@ use Rattle.lifecycle.specs.declared.machine.PodState.{PodState}
 use Rattle.lifecycle.specs.declared.machine.PodState.TheVariants as state
 use Rattle.lifecycle.specs.declared.machine.Transition.{Transition}
 use Rattle.lifecycle.specs.declared.machine.Transition.TheVariants as turn
-use Rattle.lifecycle.specs.PodMachine.{pod_state, pod_state_from, pod_phase, phase_of_state, age, exists, turned, if_so, transition}
+use Rattle.lifecycle.specs.PodMachine.{pod_state, pod_state_from, pod_phase, phase_of_state, age, exists, enabled, turned, if_so, transition}
 use Rattle.lifecycle.specs.Executions.{IsConforming}
 use Rattle.lifecycle.proofs.Draws.{conforming_left}
 use Rattle.lifecycle.proofs.Forward.{ages}
@@ -43,7 +43,7 @@ use Rattle.phase_read.specs.Exact.{AtOwnEvent, IsNowhere}
 use Rattle.phase_read.proofs.InTurn.{left_out_grown}
 use Rattle.pod_claim.specs.Work.{Grew}
 use Rattle.pod_claim.proofs.Times.{at_part}
-use Rattle.pod_claim.proofs.Traces.{grown_none, grown_more}
+use Rattle.pod_claim.proofs.Traces.{grown_none, grown_more, grown_call}
 use Rattle.pod_steps.specs.Causes.{Did}
 use Rattle.pod_removal.specs.Causes.{IsDeleted}
 use Rattle.pod_removal.specs.Removals.{FoundNone, FoundThenEnded}
@@ -101,9 +101,25 @@ did_remove u spot me old new its did conforming = by did.each.3.own
         let c = subst IsConforming took.grown (conforming_before did.each.4 conforming) in
         gone_after u did.each.1 new did.each.4 (subst (λ (h : List Event). pod_state u h ≡ state.Gone) (sym took.grown) (removed_now u spot me did.each.3.before its c))
 
+-- and it wasn't gone before
+did_there : (u : List ℕ) (spot : Spot) (me : ℕ) (old new : List Event) → is_of u spot ≡ true → Did (RemoveFolder spot) Done me old new → IsConforming new → pod_state u old ≡ state.Gone → ⊥
+did_there u spot me old new its did conforming gone = by did.each.3.own
+  where
+    by : TookPlace did.each.3.before me (RemoveFolder spot) Done did.each.1 ⊎ LeftNothing did.each.3.before me (RemoveFolder spot) Done did.each.1 → ⊥
+    by (inr left) = let clash : false ≡ true = left.late in cc
+    by (inl took) =
+        let h = did.each.3.before in
+        let c = subst IsConforming took.grown (conforming_before did.each.4 conforming) in
+        let may = enabled_each u h (event me (RemoveFolder spot) Done) [] c turn.Remove (ap (λ b. if_so b turn.Remove) its) in
+        let then = gone_after u old h (grown_more did.each.2 (record { more = did.each.3.meanwhile.others; grown = did.each.3.meanwhile.grown })) gone in
+        let clash : true ≡ false = sym may ∙ ap (enabled turn.Remove me) then in cc
+
 module _ (pod : PodId) where
   abbrev u : List ℕ
   u = pod_text pod.bytes
+
+  did_grown : {me : ℕ} {a b : List Event} {request : Request} → Did request Done me a b → Grew a b
+  did_grown did = grown_more did.each.2 (grown_more (grown_call did.each.3) did.each.4)
 
   deleted_gone : (me : ℕ) (old new : List Event) → IsDeleted pod me old new → IsConforming new → pod_state u new ≡ state.Gone
   deleted_gone me old new (inl did) conforming = did_remove u (pod_spot pod area.ExitedGarbage) me old new (same_bytes u) did conforming
@@ -125,6 +141,11 @@ module _ (pod : PodId) where
 
   stage_of : (a : Area) → rank a ≤ 5 → is_stage a ≡ true
   stage_of a l = grind (arith, nat_tests)
+
+  ended_grown : {me : ℕ} (a b : List Event) → IsDeleted pod me a b ⊎ FoundNone pod me a b → Grew a b
+  ended_grown a b (inl (inl did)) = did_grown did
+  ended_grown a b (inl (inr did)) = did_grown did
+  ended_grown a b (inr none) = record { more = none.only.more; grown = none.only.grown }
 
   -- where it stood, it had been made
   was_young : (a : Area) (h : List Event) → rank a ≤ 5 → IsConforming h → stands (state_after h).namespace (pod_spot pod a) ≡ true → 1 ≤ age (pod_state u h)
@@ -149,6 +170,28 @@ module _ (pod : PodId) where
           let young = was_young e.missed.area hx e.missed.read.stage (conforming_before (grown_more on last) conforming) x.holds in
           let old_enough : age (pod_state u hx) ≤ age (pod_state u hy) = subst (λ (h : List Event). age (pod_state u hx) ≤ age (pod_state u h)) (sym on.grown) (older u hx on.more) in
           gone_after u hy new last (none_last (pod_state u hy) y.holds (omega (arith, young, old_enough)))
+
+  pub was_there : {me : ℕ} {old new : List Event} (m : Meanwhile (Removes pod) me old new) → IsConforming new → pod_state u old ≡ state.Gone → ⊥
+  was_there {me} {old} {new} m conforming gone =
+      let last : Grew m.ended new = record { more = m.finishes.more; grown = m.finishes.grown } in
+      let first : Grew old m.begun = record { more = m.begins.more; grown = m.begins.grown } in
+      by m.so (conforming_before last conforming) (gone_after u old m.begun first gone)
+    where
+      by : Removes pod me m.begun m.ended → IsConforming m.ended → pod_state u m.begun ≡ state.Gone → ⊥
+      by (inl (inl did)) c at = did_there u (pod_spot pod area.ExitedGarbage) me m.begun m.ended (same_bytes u) did c at
+      by (inl (inr did)) c at = did_there u (pod_spot pod area.Garbage) me m.begun m.ended (same_bytes u) did c at
+      by (inr e) c at =
+          let x = stood_at e.missed.phase e.missed.area e.missed.read in
+          let hx = x.before ++ x.step ∷ [] in
+          let on : Grew m.begun hx = record { more = x.later ++ x.step ∷ []; grown = ap (λ (t : List Event). t ++ x.step ∷ []) x.begins ∙ append_assoc m.begun x.later (x.step ∷ []) } in
+          let missed = at_grown e.missed.missed in
+          let rest : Grew hx e.missed.between = record { more = x.rest; grown = x.ends } in
+          let to_end = grown_more rest (grown_more (record { more = missed.0; grown = missed.1 }) (grown_more e.ended.first (ended_grown e.ended.between m.ended e.ended.ended))) in
+          let young = was_young e.missed.area hx e.missed.read.stage (conforming_before to_end c) x.holds in
+          let none = gone_after u m.begun hx on at in
+          let its : is_of u (pod_spot pod e.missed.area) ≡ true = ap (λ b. b && bytes_eq u u) (stage_of e.missed.area e.missed.read.stage) ∙ same_bytes u in
+          let there = (stands_exists u hx (pod_spot pod e.missed.area) (conforming_before to_end c) its x.holds).0 in
+          let clash : true ≡ false = sym there ∙ ap exists none in cc
 
   gone_nowhere : (h : List Event) → IsConforming h → pod_state u h ≡ state.Gone → StandsNowhere pod (state_after h)
   gone_nowhere h conforming gone a stage = by (stands (state_after h).namespace (pod_spot pod a)) refl

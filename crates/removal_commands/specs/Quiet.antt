@@ -25,6 +25,7 @@ use Rattle.phase_read.specs.Read.{pod_spot, is_pod_spot}
 use Rattle.phase_read.specs.Sequential.{sequential_read}
 use Rattle.pod_claim.specs.Causes.{LacksManifest}
 use Rattle.pod_steps.specs.Causes.{is_held_against}
+use Rattle.pod_removal.specs.Requests.{is_removable}
 use Rattle.pod_gc.specs.declared.ages.Times.{Times}
 use Rattle.pod_gc.specs.declared.line.Deed.TheVariants.{Moved, Kept}
 use Rattle.pod_gc.specs.declared.line.GcLine.{GcLine}
@@ -48,6 +49,12 @@ pub record HasPhaseNow (pod : PodId) (phase : Phase) (trace : List Event) : Type
   pub is : IsInPhase pod phase area trace
   pub reads : sequential_read (state_after trace) pod ≡ At phase area
 
+-- or one that its removal takes
+pub record IsRemovableNow (pod : PodId) (trace : List Event) : Type 0 where
+  pub phase : Phase
+  pub removable : is_removable phase ≡ true
+  pub has : HasPhaseNow pod phase trace
+
 -- a folder stands at one of the pod's places, and another process holds this lock of it
 pub record IsHeldNow (pod : PodId) (which : Which) (me : ℕ) (s : DirState) : Type 0 where
   pub folder : ℕ
@@ -57,10 +64,10 @@ pub record IsHeldNow (pod : PodId) (which : Which) (me : ℕ) (s : DirState) : T
   pub mode : Mode
   pub held : list_any (is_held_against me which mode folder) s.namespace.openings ≡ true
 
--- of `rm`: the pod is gone; or by the state before there was none, or it had that phase, or no manifest, or its lock was held; or by
+-- of `rm`: the pod is gone, which could be removed before; or by the state before there was none, or it had that phase, or no manifest, or its lock was held; or by
 -- its own answers
 abbrev pub RemovesPodQuietly : PodId → DirSeen → DirSeen → Outcome → Type 0
-RemovesPodQuietly pod old new (Ok text) = (text ≡ removed_text pod) × HasRemovedPod pod old new × (IsConforming new.trace → IsGoneForGood pod new.trace)
+RemovesPodQuietly pod old new (Ok text) = (text ≡ removed_text pod) × HasRemovedPod pod old new × (IsConforming new.trace → IsGoneForGood pod new.trace × IsRemovableNow pod old.trace)
 RemovesPodQuietly pod old new (Err NoPod) = HasFoundNoPod pod old new × StandsNowhere pod (state_after old.trace)
 RemovesPodQuietly pod old new (Err (WrongPhase phase)) = HasFoundWrong pod phase old new × (IsConforming new.trace → HasPhaseNow pod phase old.trace)
 RemovesPodQuietly pod old new (Err (NoManifest other)) = (other ≡ pod) × HasFoundNoManifest pod old new × (IsConforming new.trace → LacksManifest pod (state_after old.trace))
