@@ -1,6 +1,7 @@
 -- What `gc` comes to where nobody else steps.
-use Rattle.std.proofs.Common.{◌≡◌, ◌⊎◌, inl, inr, ◌+◌, ℕ, Bool, true, false, not, ◌&&◌, ◌||◌, ◌==◌, cond, bytes_eq, option_map, map, Option, Some, None, is_some, List, [], ◌∷◌, ◌++◌, append-nil, append_assoc, refl, sym, ap, subst, ◌∙◌}
+use Rattle.std.proofs.Common.{◌≡◌, ◌⊎◌, inl, inr, ◌+◌, ℕ, Bool, true, false, not, ◌&&◌, ◌||◌, ◌==◌, cond, bytes_eq, option_map, map, Option, Some, None, is_some, nat_le, List, [], ◌∷◌, ◌++◌, append-nil, append_assoc, refl, sym, ap, subst, ◌∙◌}
 use Rattle.std.specs.List.{list_any, position_from, cons_option, AllByRecursion}
+use Rattle.std.proofs.lemmas.Bool.{eqb-true}
 use Rattle.std.proofs.lemmas.Iterator.Adapters.{position_from-zero}
 use Rattle.std.proofs.lemmas.Slice.Eq.{bytes_eq-Decides}
 use Rattle.dir_model.specs.declared.area.Area.{Area}
@@ -26,7 +27,7 @@ use Rattle.dir_model.specs.Trees.{names_in}
 use Rattle.dir_model.proofs.Chains.{states_next-append, state_after-push}
 use Rattle.dir_model.proofs.Hex.{parsed_back}
 use Rattle.dir_model.proofs.PodTexts.{passes_text}
-use Rattle.dir_model.proofs.Lists.{and_right, or_left_false, or_right_false, all_both, all_right, all_weaker, same_rest, same_self}
+use Rattle.dir_model.proofs.Lists.{and_left, and_right, or_left_false, or_right_false, all_both, all_right, all_weaker, same_rest, same_self}
 use Rattle.dir_rules.proofs.Looks.{same_bytes}
 use Rattle.dir_rules.specs.Standing.{is_garbage}
 use Rattle.dir_laws.specs.Stretches.{Throughout, StandsInArea}
@@ -56,9 +57,10 @@ use Rattle.pod_gc.specs.Sweeping.{MaySweepAll}
 use Rattle.pod_gc.specs.Told.{Knew, and_pod, pods_of, IsTold, TellsShown, UnderGate, WasGated, Passed, ArePassed, places}
 use Rattle.command_outcomes.specs.Meanwhile.{Meanwhile}
 use Rattle.removal_commands.specs.Gc.{Sweeps}
-use Rattle.removal_commands.specs.Quiet.{is_lasting_phase, KeptAsBefore, MovedAsBefore}
+use Rattle.removal_commands.specs.Quiet.{is_lasting_phase, KeptAsBefore, MovedAsBefore, BusyAsBefore, is_pods_place}
 use Rattle.removal_commands.proofs.OwnSteps.{in_process, back_from, own_asked, quiet_part, own_first, forward, at_process, same_folders, held_before}
-use Rattle.removal_commands.proofs.LateTurns.{is_lasting, lasting_back, sweeps_late, embryo_apart, or_false}
+use Rattle.removal_commands.proofs.LateTurns.{is_lasting, lasting_back, sweeps_late, gc_moves, embryo_apart, or_false}
+use Rattle.removal_commands.proofs.Held.{was_held}
 use Rattle.removal_commands.proofs.RmBefore.{event_weaker, has_phase_now}
 
 -- names and pods
@@ -302,6 +304,10 @@ stood_moved pod place to me old new did = by s.own
       (stands_from (state_after s.before) me (pod_spot pod place) (pod_spot pod to) (and_right (may_step (state_after s.before) me (MoveFolder (pod_spot pod place) (pod_spot pod to))) _ took.allowed)).0,
     )
 
+-- one location is in one area
+pods_alike : (a b : Spot) → spot_eq a b ≡ true → is_pods_place a ≡ is_pods_place b
+pods_alike a b same = ap (λ (n : ℕ). nat_le n 5) (eqb-true (rank a.area) (rank b.area) (and_left (rank a.area == rank b.area) (bytes_eq a.name b.name) same))
+
 -- how far the trace has grown
 
 pub shown_grown : {Can : Type 0} {times : Times} {here : Area} {lines : List GcLine} {me : ℕ} {a b : List Event} → TellsShown Can times here lines me a b → Grew a b
@@ -362,28 +368,36 @@ module _ (times : Times) (lines : List GcLine) {me : ℕ} {old new : List Event}
       subst (λ (p : Area). stands (state_after old).namespace (pod_spot pod p) ≡ true) (sym x.place_is) (subst (λ (q : PodId). stands (state_after old).namespace (pod_spot q here) ≡ true) same stood)
 
   -- of each line
-  module _ (P : GcLine → Type 0) (told : (Can : Type 0) (here : Area) (a b : List Event) → Grew old a → Grew b new → (line : GcLine) → IsTold Can times here line me a b → P line) (gated : P (record { place = area.Embryo; pod = None; deed = BusyGate })) where
-    shown_each : {Can : Type 0} {here : Area} (ls : List GcLine) (a b : List Event) → Grew old a → Grew b new → TellsShown Can times here ls me a b → AllByRecursion P ls
-    shown_each {Can} {here} ls a b to_a from_b t = all_weaker (λ l. IsTold Can times here l me t.listed b) P (λ l x. told Can here t.listed b (grown_more to_a (grown_by t.only_lists)) from_b l x) ls t.tells.each
+  module _ (P : GcLine → Type 0) (told : (Can : Type 0) (can : Can) (here : Area) (a b : List Event) → Grew old a → Grew b new → (line : GcLine) → IsTold Can times here line me a b → P line) (gated : P (record { place = area.Embryo; pod = None; deed = BusyGate })) where
+    shown_each : {Can : Type 0} {here : Area} (can : Can) (ls : List GcLine) (a b : List Event) → Grew old a → Grew b new → TellsShown Can times here ls me a b → AllByRecursion P ls
+    shown_each {Can} {here} can ls a b to_a from_b t = all_weaker (λ l. IsTold Can times here l me t.listed b) P (λ l x. told Can can here t.listed b (grown_more to_a (grown_by t.only_lists)) from_b l x) ls t.tells.each
 
-    passed_each : (Can : Type 0) (here : Area) (ls : List GcLine) (a b : List Event) → Grew old a → Grew b new → Passed Can times here ls me a b → AllByRecursion P ls
-    passed_each Can area.Embryo ls a b to_a from_b (inl g) = shown_each ls g.locked g.done (grown_more to_a (grown_by g.takes_gate)) (grown_more (grown_by g.gives_back) from_b) g.tells
-    passed_each Can area.Embryo ls a b to_a from_b (inr w) = subst (λ (l : List GcLine). AllByRecursion P l) (sym w.line_is) (gated, tt)
-    passed_each Can here ls a b to_a from_b t = shown_each ls a b to_a from_b t
+    passed_each : (Can : Type 0) (can : Can) (here : Area) (ls : List GcLine) (a b : List Event) → Grew old a → Grew b new → Passed Can times here ls me a b → AllByRecursion P ls
+    passed_each Can can area.Embryo ls a b to_a from_b (inl g) = shown_each can ls g.locked g.done (grown_more to_a (grown_by g.takes_gate)) (grown_more (grown_by g.gives_back) from_b) g.tells
+    passed_each Can can area.Embryo ls a b to_a from_b (inr w) = subst (λ (l : List GcLine). AllByRecursion P l) (sym w.line_is) (gated, tt)
+    passed_each Can can here ls a b to_a from_b t = shown_each can ls a b to_a from_b t
 
-    passes_each : (Can : Type 0) (ps : List Area) (ls : List GcLine) (a b : List Event) → Grew old a → Grew b new → ArePassed Can times ps ls me a b → AllByRecursion P ls
-    passes_each Can [] ls a b to_a from_b x = subst (λ (l : List GcLine). AllByRecursion P l) (sym x.0) tt
-    passes_each Can (here ∷ ps) ls a b to_a from_b x =
+    passes_each : (Can : Type 0) (can : Can) (ps : List Area) (ls : List GcLine) (a b : List Event) → Grew old a → Grew b new → ArePassed Can times ps ls me a b → AllByRecursion P ls
+    passes_each Can can [] ls a b to_a from_b x = subst (λ (l : List GcLine). AllByRecursion P l) (sym x.0) tt
+    passes_each Can can (here ∷ ps) ls a b to_a from_b x =
         let rest = passes_grown Can times ps x.others me x.between b x.rest in
         let first = passed_grown Can times here x.own me a x.between x.first in
         subst (λ (l : List GcLine). AllByRecursion P l) (sym x.lines_are)
-        (all_both P x.own x.others (passed_each Can here x.own a x.between to_a (grown_more rest from_b) x.first) (passes_each Can ps x.others x.between b (grown_more to_a first) from_b x.rest))
+        (all_both P x.own x.others (passed_each Can can here x.own a x.between to_a (grown_more rest from_b) x.first) (passes_each Can can ps x.others x.between b (grown_more to_a first) from_b x.rest))
 
     each_line : AllByRecursion P lines
-    each_line = passes_each (Knew (MaySweepAll times.now times.expire) m.so.from) places lines m.begun m.ended before after m.so.swept
+    each_line = passes_each (Knew (MaySweepAll times.now times.expire) m.so.from) m.so.can places lines m.begun m.ended before after m.so.swept
+
+  -- of a busy lock another process held one before
+  told_busy : {Can : Type 0} {here : Area} (a b : List Event) → Can → Grew old a → Grew b new → (line : GcLine) → IsTold Can times here line me a b → BusyAsBefore me old line
+  told_busy {Can} {here} a b can to_a from_b line x which deed =
+      was_held is_pods_place pods_alike (sweeps times.now) (sweeps_late times.now) (gc_moves times.now) me x.shown (λ p stage. stage) which old a b new to_a from_b ext quiet (x.another can which deed)
+
+  pub gc_busy : AllByRecursion (BusyAsBefore me old) lines
+  gc_busy = each_line (BusyAsBefore me old) (λ Can can here a b to_a from_b line x. told_busy a b can to_a from_b line x) (λ which deed. cc)
 
   pub gc_moved : AllByRecursion (MovedAsBefore old) lines
-  gc_moved = each_line (MovedAsBefore old) (λ Can here a b to_a from_b line x. told_moved a b to_a from_b line x) (λ pod to is deed. cc)
+  gc_moved = each_line (MovedAsBefore old) (λ Can can here a b to_a from_b line x. told_moved a b to_a from_b line x) (λ pod to is deed. cc)
 
   -- a pod that is kept for being made, for waiting or for running
   module _ (conforming : IsConforming new) where
@@ -415,4 +429,4 @@ module _ (times : Times) (lines : List GcLine) {me : ℕ} {old new : List Event}
         has_phase_now pod old (conforming_left old quiet.more (subst IsConforming quiet.grown conforming)) p (subst (λ (q : PodId). phase_of_state (pod_state (pod_text q.bytes) old) ≡ Some p) same had)
 
     pub gc_kept : AllByRecursion (KeptAsBefore old) lines
-    gc_kept = each_line (KeptAsBefore old) (λ Can here a b to_a from_b line x. told_kept a b to_a from_b line x) (λ pod p is deed lasts. cc)
+    gc_kept = each_line (KeptAsBefore old) (λ Can can here a b to_a from_b line x. told_kept a b to_a from_b line x) (λ pod p is deed lasts. cc)

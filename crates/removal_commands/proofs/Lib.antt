@@ -3,6 +3,7 @@ pub mod Sweeps
 pub mod Unhindered
 pub mod OwnSteps
 pub mod LateTurns
+pub mod Held
 pub mod RmQuiet
 pub mod RmBefore
 pub mod RmFrom

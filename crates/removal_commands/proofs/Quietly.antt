@@ -19,7 +19,7 @@ use Rattle.removal_commands.proofs.RmQuiet.{rm_gone, rm_none_before}
 use Rattle.removal_commands.proofs.RmBefore.{rm_wrong_before, rm_held_before}
 use Rattle.removal_commands.proofs.RmFrom.{rm_removable_before}
 use Rattle.removal_commands.proofs.RmLacking.{rm_lacked_before}
-use Rattle.removal_commands.proofs.GcQuiet.{gc_embryos, gc_moved, gc_kept}
+use Rattle.removal_commands.proofs.GcQuiet.{gc_embryos, gc_moved, gc_busy, gc_kept}
 use Rattle.removal_commands.proofs.GcTells.{gc_tells}
 
 module _ (pod : PodId) (now : ℕ) (old new : DirSeen) (ext : Extends (in_process (removes pod now)) old.process old.trace new.trace) (quiet : Quiet old.process old.trace new.trace) where
@@ -44,5 +44,6 @@ gc_swept_quietly times old new text ext quiet x = record {
   tells = λ conforming. gc_tells times x.lines ext quiet x.swept conforming;
   kept = λ conforming. gc_kept times x.lines ext quiet x.swept conforming;
   moved = gc_moved times x.lines ext quiet x.swept;
+  busy = gc_busy times x.lines ext quiet x.swept;
   embryos = gc_embryos times x.lines ext quiet x.swept;
 }

@@ -50,6 +50,7 @@ use Rattle.command_outcomes.specs.Meanwhile.{Meanwhile}
 use Rattle.removal_commands.specs.Rm.{WasSo, WasOwned}
 use Rattle.removal_commands.specs.Quiet.{HasPhaseNow, IsHeldNow}
 use Rattle.removal_commands.proofs.OwnSteps.{in_process, back_at, at_process, event_process, same_folders, held_before}
+use Rattle.removal_commands.proofs.Held.{was_held}
 use Rattle.removal_commands.proofs.LateTurns.{is_lasting, lasting_back, removes_late, rm_moves, or_false}
 
 -- the phase that didn't allow the removal
@@ -160,62 +161,7 @@ module _ (pod : PodId) (now : ℕ) {me : ℕ} {old new : List Event} (ext : Exte
   rm_wrong_before p m o conforming =
       has_phase_now pod old (conforming_left old quiet.more (subst IsConforming quiet.grown conforming)) p (had p m o conforming)
 
-  -- the folder whose lock was held stood at one of the pod's places before
-  abbrev ItsFolder : ℕ → DirState → Type 0
-  ItsFolder k s = (place : Spot) × (slice_get s.namespace.folders k ≡ Some (Some place)) × (is_pod_spot pod place ≡ true)
-
-  found_its : (n : Namespace) (a : Area) (k : ℕ) → is_stage a ≡ true → folder_at n (pod_spot pod a) ≡ Some k → (place : Spot) × (slice_get n.folders k ≡ Some (Some place)) × (is_pod_spot pod place ≡ true)
-  found_its n a k stage at =
-      let x = position-Some (is_at (pod_spot pod a)) n.folders k None at in
-      by (get_or n.folders k None) (slice_get-get_or n.folders k None x.0) x.1
-    where
-      by : (o : Option Spot) → slice_get n.folders k ≡ Some o → is_at (pod_spot pod a) o ≡ true → (place : Spot) × (slice_get n.folders k ≡ Some (Some place)) × (is_pod_spot pod place ≡ true)
-      by None at is = cc
-      by (Some here) at is = (here, at, of_same its here (pod_spot pod a) is ∙ (ap (λ b. b && bytes_eq its its) stage ∙ same_bytes its))
-
-  moved_from : (from to place : Spot) (o : Option (Option Spot)) → is_pod_spot pod from ≡ true → option_map (moved from to) o ≡ Some (Some place) → is_pod_spot pod place ≡ true → (p : Spot) × (o ≡ Some (Some p)) × (is_pod_spot pod p ≡ true)
-  moved_from from to place None source is here = cc
-  moved_from from to place (Some None) source is here = cc
-  moved_from from to place (Some (Some p)) source is here = by (spot_eq p from) refl is
-    where
-      by : (b : Bool) → spot_eq p from ≡ b → Some (cond b (Some to) (Some p)) ≡ Some (Some place) → (q : Spot) × (Some (Some p) ≡ Some (Some q)) × (is_pod_spot pod q ≡ true)
-      by true same is = (p, refl, of_same its p from same ∙ source)
-      by false apart is = let same : p ≡ place = cc in (p, refl, subst (λ (q : Spot). is_pod_spot pod q ≡ true) (sym same) here)
-
-  removed_from : (gone place : Spot) (o : Option (Option Spot)) → option_map (removed gone) o ≡ Some (Some place) → o ≡ Some (Some place)
-  removed_from gone place None is = cc
-  removed_from gone place (Some None) is = cc
-  removed_from gone place (Some (Some p)) is = by (spot_eq p gone) is
-    where
-      by : (b : Bool) → Some (cond b None (Some p)) ≡ Some (Some place) → Some (Some p) ≡ Some (Some place)
-      by true is = cc
-      by false is = is
-
-  its_back : (k : ℕ) (s : DirState) (request : Request) (reply : Reply) → (is_kill request || in_process (removes pod now) request) ≡ true → (place : Spot) × (slice_get (namespace_replied s.namespace me request reply).folders k ≡ Some (Some place)) × (is_pod_spot pod place ≡ true) → ItsFolder k s
-  its_back k s (MakeFolder here) reply h x = cc
-  its_back k s (MoveFolder from to) Done h x = moved_from from to x.0 (slice_get s.namespace.folders k) (rm_moves pod now from to (or_false (removes pod now (MoveFolder from to)) h)) (sym (slice_get-map (moved from to) s.namespace.folders k) ∙ x.1) x.2
-  its_back k s (MoveFolder from to) reply h x = x
-  its_back k s (RemoveFolder gone) Done h x = (x.0, removed_from gone x.0 (slice_get s.namespace.folders k) (sym (slice_get-map (removed gone) s.namespace.folders k) ∙ x.1), x.2)
-  its_back k s (RemoveFolder gone) reply h x = x
-  its_back k s request reply h x = (x.0, ap (λ (fs : List (Option Spot)). slice_get fs k) (sym (same_folders me s.namespace request reply refl (λ handle. refl))) ∙ x.1, x.2)
-
-  its_at : (k : ℕ) → AtOwnStep me old new (ItsFolder k) → ItsFolder k (state_after old)
-  its_at k at = back_at (ItsFolder k) (in_process (removes pod now)) me (λ s request reply h x. its_back k s request reply h x) at ext quiet
-
-  pub rm_held_before : (which : Which) → Meanwhile (IsBusyAt pod which) me old new → IsHeldNow pod which me (state_after old)
+  pub rm_held_before : (which : Which) → Meanwhile (IsBusyAt pod which) me old new → IsHeldNow (is_pod_spot pod) which me (state_after old)
   rm_held_before which m =
-      let b = m.so in
-      let last = at_grown b.held.held in
-      let first = at_grown b.held.found in
-      let found : AtOwnStep me m.begun m.ended (ItsFolder b.held.folder) =
-      at_part grown_none refl (record { more = last.0; grown = last.1 }) (at_weaker (ItsFolder b.held.folder) (λ s at. found_its s.namespace b.area b.held.folder b.stage at) b.held.found) in
-      let held = at_part (record { more = first.0; grown = first.1 }) refl grown_none b.held.held in
-      let x = its_at b.held.folder (at_process m.begins m.finishes found) in
-      record {
-        folder = b.held.folder;
-        place = x.0;
-        there = x.1;
-        its = x.2;
-        mode = b.mode;
-        held = held_before (λ o. is_folder b.held.folder o.folder && (is_lock which o.target && opposes b.mode o.lock)) (at_process m.begins m.finishes held) ext quiet;
-      }
+      was_held (is_pod_spot pod) (λ a b same. of_same its a b same) (removes pod now) (removes_late pod now) (rm_moves pod now) me pod (λ a stage. ap (λ b. b && bytes_eq its its) stage ∙ same_bytes its) which old m.begun m.ended new
+      (record { more = m.begins.more; grown = m.begins.grown }) (record { more = m.finishes.more; grown = m.finishes.grown }) ext quiet m.so

@@ -27,7 +27,7 @@ use Rattle.pod_claim.specs.Causes.{LacksManifest}
 use Rattle.pod_steps.specs.Causes.{is_held_against}
 use Rattle.pod_removal.specs.Requests.{is_removable}
 use Rattle.pod_gc.specs.declared.ages.Times.{Times}
-use Rattle.pod_gc.specs.declared.line.Deed.TheVariants.{Moved, Kept}
+use Rattle.pod_gc.specs.declared.line.Deed.TheVariants.{Moved, Kept, Busy}
 use Rattle.pod_gc.specs.declared.line.GcLine.{GcLine}
 use Rattle.command_outcomes.specs.declared.refusal.Refusal.TheVariants.{NoPod, WrongPhase, NoManifest, PodBusy, Stray}
 use Rattle.command_outcomes.specs.Moments.{DirSeen, Outcome}
@@ -55,12 +55,12 @@ pub record IsRemovableNow (pod : PodId) (trace : List Event) : Type 0 where
   pub removable : is_removable phase ≡ true
   pub has : HasPhaseNow pod phase trace
 
--- a folder stands at one of the pod's places, and another process holds this lock of it
-pub record IsHeldNow (pod : PodId) (which : Which) (me : ℕ) (s : DirState) : Type 0 where
+-- a folder stands at one of these places, and another process holds this lock of it
+pub record IsHeldNow (its_place : Spot → Bool) (which : Which) (me : ℕ) (s : DirState) : Type 0 where
   pub folder : ℕ
   pub place : Spot
   pub there : slice_get s.namespace.folders folder ≡ Some (Some place)
-  pub its : is_pod_spot pod place ≡ true
+  pub its : its_place place ≡ true
   pub mode : Mode
   pub held : list_any (is_held_against me which mode folder) s.namespace.openings ≡ true
 
@@ -71,9 +71,13 @@ RemovesPodQuietly pod old new (Ok text) = (text ≡ removed_text pod) × HasRemo
 RemovesPodQuietly pod old new (Err NoPod) = HasFoundNoPod pod old new × StandsNowhere pod (state_after old.trace)
 RemovesPodQuietly pod old new (Err (WrongPhase phase)) = HasFoundWrong pod phase old new × (IsConforming new.trace → HasPhaseNow pod phase old.trace)
 RemovesPodQuietly pod old new (Err (NoManifest other)) = (other ≡ pod) × HasFoundNoManifest pod old new × (IsConforming new.trace → LacksManifest pod (state_after old.trace))
-RemovesPodQuietly pod old new (Err (PodBusy other which)) = (other ≡ pod) × HasFoundBusy pod which old new × IsHeldNow pod which old.process (state_after old.trace)
+RemovesPodQuietly pod old new (Err (PodBusy other which)) = (other ≡ pod) × HasFoundBusy pod which old new × IsHeldNow (is_pod_spot pod) which old.process (state_after old.trace)
 RemovesPodQuietly pod old new (Err Stray) = HasMetStrayAtPod pod old new
 RemovesPodQuietly pod old new (Err refusal) = ⊥
+
+-- where a sweep moves and removes folders. A removal does so at the pod's places (`is_pod_spot`)
+abbrev pub is_pods_place : Spot → Bool
+is_pods_place place = is_stage place.area
 
 -- no folder of a pod stands in embryo, unless another process held that area's lock before
 abbrev pub LeavesNoEmbryo : DirSeen → DirSeen → Type 0
@@ -111,20 +115,21 @@ TellsOfEach lines old =
     (name : List ℕ) (pod : PodId) (place : Area) → pod_of name ≡ Some pod → is_stage place ≡ true → stands (state_after old.trace).namespace (pod_spot pod place) ≡ true →
     HasLine place pod lines ⊎ ((place ≡ Embryo) × IsBusyElsewhere old.process Embryo Exclusive (state_after old.trace))
 
--- of `gc`: its lines by its own steps, one of each pod that stood before; those of kept and moved pods agree with the state before, and
--- no embryo is left
+-- of a line that a lock was busy, another process held such a lock of a folder in the areas of pods before
+abbrev pub BusyAsBefore : ℕ → List Event → GcLine → Type 0
+BusyAsBefore me old line = (which : Which) → line.deed ≡ Busy which → IsHeldNow is_pods_place which me (state_after old)
+
+-- of `gc`: its lines by its own steps, one of each pod that stood before; those of kept, moved and busy pods agree with the state
+-- before, and no embryo is left
 pub record SweepsSo (times : Times) (old new : DirSeen) (text : List ℕ) : Type 0 where
   pub swept : HasSweptPods times old new text
   pub tells : IsConforming new.trace → TellsOfEach swept.lines old
   pub kept : IsConforming new.trace → AllByRecursion (KeptAsBefore old.trace) swept.lines
   pub moved : AllByRecursion (MovedAsBefore old.trace) swept.lines
+  pub busy : AllByRecursion (BusyAsBefore old.process old.trace) swept.lines
   pub embryos : LeavesNoEmbryo old new
 
 abbrev pub SweepsPodsQuietly : Times → DirSeen → DirSeen → Outcome → Type 0
 SweepsPodsQuietly times old new (Ok text) = SweepsSo times old new text
 SweepsPodsQuietly times old new (Err Stray) = HasMetStrayInPods old new
 SweepsPodsQuietly times old new (Err refusal) = ⊥
-
--- where a sweep moves and removes folders. A removal does so at the pod's places (`is_pod_spot`)
-abbrev pub is_pods_place : Spot → Bool
-is_pods_place place = is_stage place.area
