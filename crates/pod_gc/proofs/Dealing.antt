@@ -1,5 +1,5 @@
 -- Each pass deals with its pods by its own step.
-use Rattle.std.proofs.Common.{◌≡◌, ◌||◌, ℕ, true, Result, Ok, Err, IfOk, List, ap, subst}
+use Rattle.std.proofs.Common.{◌≡◌, ◌||◌, ℕ, true, Result, Ok, Err, IfOk, List, ap, subst, Option, Some, None, ◌==◌, ◌&&◌}
 use Rattle.dir_model.specs.declared.area.Area.{Area}
 use Rattle.dir_model.specs.declared.area.Area.TheVariants as area
 use Rattle.dir_model.specs.declared.event.Event.{Event}
@@ -9,7 +9,6 @@ use Rattle.dir_model.proofs.Lists.{or_last, and_left}
 use Rattle.dir_rules.specs.declared.seen.Seen.{Seen}
 use Rattle.dir_rules.specs.Standing.{intends, is_gc}
 use Rattle.dir_model.specs.declared.intent.Intent.{Intent}
-use Rattle.std.proofs.Common.{Option, Some, None, ◌==◌, ◌&&◌}
 use Rattle.pod_steps.specs.Requests.{moves}
 use Rattle.pod_removal.specs.Requests.{removes}
 use Rattle.pod_gc.specs.declared.ages.Times.{Times}

@@ -16,21 +16,16 @@ use Rattle.dir_trait.specs.DirCalls.{DirAt, ListCall}
 use Rattle.dir_files.specs.Listed.{ShowsAreaBetween}
 use Rattle.folder_building.specs.Work.{Worked}
 use Rattle.folder_removal.proofs.Calls.{list_extends}
-use Rattle.lifecycle.specs.Executions.{IsConforming}
-use Rattle.lifecycle.proofs.Draws.{conforming_left}
-use Rattle.phase_read.specs.Exact.{AtOwnEvent}
 use Rattle.pod_claim.specs.Work.{Grew}
-use Rattle.pod_claim.proofs.Times.{at_part, deeds_part}
 use Rattle.pod_claim.proofs.Traces.{grown_none, grown_more}
 use Rattle.pod_steps.specs.Holding.{Keeps, KeepsReady, Stays}
 use Rattle.pod_steps.proofs.Calls.{Follows}
-use Rattle.pod_removal.proofs.Rounds.{event_after, busy_within}
+use Rattle.pod_removal.proofs.Rounds.{busy_within}
 use Rattle.pod_gc.specs.declared.ages.Times.{Times}
 use Rattle.pod_gc.specs.declared.line.Deed.{Deed}
 use Rattle.pod_gc.specs.declared.line.GcLine.{GcLine}
 use Rattle.pod_gc.specs.Requests.{deals_with}
-use Rattle.pod_gc.specs.Marks.{Showed}
-use Rattle.pod_gc.specs.Deeds.{DeedCause, BusyBecause, Dealt}
+use Rattle.pod_gc.specs.Deeds.{BusyBecause, Dealt}
 use Rattle.pod_gc.specs.Sweeping.{MayPass}
 use Rattle.pod_gc.specs.Told.{and_pod, pods_of, deals_with_some, Knew, IsTold, TellsEach, AddsTold, AddsShown}
 use Rattle.pod_gc.proofs.InTurn.{pass_kept}

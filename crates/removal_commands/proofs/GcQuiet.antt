@@ -1,5 +1,5 @@
 -- What `gc` comes to where nobody else steps.
-use Rattle.std.proofs.Common.{◌≡◌, ◌⊎◌, inl, inr, ◌+◌, ℕ, Bool, true, false, not, ◌&&◌, ◌||◌, ◌==◌, cond, bytes_eq, option_map, map, Option, Some, None, is_some, nat_le, List, [], ◌∷◌, ◌++◌, append-nil, append_assoc, refl, sym, ap, subst, ◌∙◌}
+use Rattle.std.proofs.Common.{◌≡◌, ◌⊎◌, inl, inr, ◌+◌, ℕ, Bool, true, false, ◌&&◌, ◌||◌, ◌==◌, cond, bytes_eq, option_map, map, Option, Some, None, is_some, nat_le, List, [], ◌∷◌, ◌++◌, append-nil, append_assoc, refl, sym, ap, subst, ◌∙◌}
 use Rattle.std.specs.List.{list_any, position_from, cons_option, AllByRecursion}
 use Rattle.std.proofs.lemmas.Bool.{eqb-true}
 use Rattle.std.proofs.lemmas.Iterator.Adapters.{position_from-zero}
@@ -17,7 +17,7 @@ use Rattle.dir_model.specs.declared.request.Request.TheVariants.{MakeFolder, Mov
 use Rattle.dir_model.specs.declared.request.Reply.{Reply}
 use Rattle.dir_model.specs.declared.request.Reply.TheVariants.{Done, Names}
 use Rattle.dir_model.specs.Areas.{rank}
-use Rattle.dir_model.specs.Calls.{event, is_kill, is_foreign, may_step, CallStep, TookPlace, LeftNothing, Extends, AtOwnStep}
+use Rattle.dir_model.specs.Calls.{event, is_kill, is_foreign, may_step, CallStep, TookPlace, LeftNothing, Extends}
 use Rattle.dir_model.specs.Listings.{has_name}
 use Rattle.dir_model.specs.Pods.{pod_text, pod_of, is_pod_text, bytes_read}
 use Rattle.dir_model.specs.Quiet.{Quiet}
@@ -27,7 +27,7 @@ use Rattle.dir_model.specs.Trees.{names_in}
 use Rattle.dir_model.proofs.Chains.{states_next-append, state_after-push}
 use Rattle.dir_model.proofs.Hex.{parsed_back}
 use Rattle.dir_model.proofs.PodTexts.{passes_text}
-use Rattle.dir_model.proofs.Lists.{and_left, and_right, or_left_false, or_right_false, all_both, all_right, all_weaker, same_rest, same_self}
+use Rattle.dir_model.proofs.Lists.{and_left, and_right, or_left_false, or_right_false, all_both, all_right, all_weaker, same_rest}
 use Rattle.dir_rules.proofs.Looks.{same_bytes}
 use Rattle.dir_rules.specs.Standing.{is_garbage}
 use Rattle.dir_laws.specs.Stretches.{Throughout, StandsInArea}
@@ -41,7 +41,6 @@ use Rattle.lifecycle.proofs.Draws.{conforming_left}
 use Rattle.lifecycle.proofs.Step.{stands_from}
 use Rattle.lifecycle.proofs.Places.{none_stands, moved_away, moved_elsewhere, removed_there, removed_elsewhere}
 use Rattle.phase_read.specs.Read.{pod_spot}
-use Rattle.phase_read.specs.Exact.{AtOwnEvent}
 use Rattle.phase_read.proofs.Exact.{event_within}
 use Rattle.pod_claim.specs.Work.{Grew}
 use Rattle.pod_claim.proofs.Times.{at_part}
@@ -54,7 +53,7 @@ use Rattle.pod_gc.specs.declared.line.GcLine.{GcLine}
 use Rattle.pod_gc.specs.Requests.{lists, moves_pods, sweeps}
 use Rattle.pod_gc.specs.Deeds.{Dealt}
 use Rattle.pod_gc.specs.Sweeping.{MaySweepAll}
-use Rattle.pod_gc.specs.Told.{Knew, and_pod, pods_of, IsTold, TellsShown, UnderGate, WasGated, Passed, ArePassed, places}
+use Rattle.pod_gc.specs.Told.{Knew, and_pod, pods_of, IsTold, TellsShown, UnderGate, Passed, ArePassed, places}
 use Rattle.command_outcomes.specs.Meanwhile.{Meanwhile}
 use Rattle.removal_commands.specs.Gc.{Sweeps}
 use Rattle.removal_commands.specs.Quiet.{is_lasting_phase, KeptAsBefore, MovedAsBefore, BusyAsBefore, is_pods_place}

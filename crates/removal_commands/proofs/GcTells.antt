@@ -1,5 +1,5 @@
 -- Where nobody else steps, a sweep has a line of each pod that stood in an area before.
-use Rattle.std.proofs.Common.{◌≡◌, ◌⊎◌, inl, inr, ◌+◌, ℕ, Bool, true, false, ◌&&◌, ◌||◌, ◌==◌, cond, bytes_eq, map, Option, Some, None, is_some, List, [], ◌∷◌, ◌++◌, append_assoc, refl, sym, ap, subst, ◌∙◌}
+use Rattle.std.proofs.Common.{◌≡◌, ◌⊎◌, inl, inr, ◌+◌, ℕ, Bool, true, false, ◌||◌, ◌==◌, cond, bytes_eq, map, Option, Some, None, is_some, List, [], ◌∷◌, ◌++◌, append_assoc, refl, sym, ap, subst, ◌∙◌}
 use Rattle.std.specs.List.{list_any, position_from, AllByRecursion}
 use Rattle.std.proofs.lemmas.Iterator.Adapters.{position_from-zero}
 use Rattle.std.proofs.lemmas.Slice.Eq.{bytes_eq-Decides}
@@ -19,7 +19,7 @@ use Rattle.dir_model.specs.Calls.{event, is_begin, is_kill, Extends}
 use Rattle.dir_model.specs.Listings.{has_name}
 use Rattle.dir_model.specs.Pods.{pod_text, pod_of}
 use Rattle.dir_model.specs.Quiet.{Quiet}
-use Rattle.dir_model.specs.State.{Namespace, DirState, empty_state, is_at, spot_eq, folder_at, stands}
+use Rattle.dir_model.specs.State.{DirState, empty_state, is_at, spot_eq, stands}
 use Rattle.dir_model.specs.Trace.{state_after, state_next, states_next, namespace_replied}
 use Rattle.dir_model.specs.Trees.{names_in}
 use Rattle.dir_model.proofs.Chains.{states_next-append}
@@ -41,14 +41,14 @@ use Rattle.pod_gc.specs.declared.ages.Times.{Times}
 use Rattle.pod_gc.specs.declared.line.GcLine.{GcLine}
 use Rattle.pod_gc.specs.Requests.{lists, deals_with, sweeps}
 use Rattle.pod_gc.specs.Sweeping.{MaySweepAll}
-use Rattle.pod_gc.specs.Told.{Knew, and_pod, pods_of, deals_with_some, IsTold, TellsShown, UnderGate, WasGated, Passed, ArePassed, places}
+use Rattle.pod_gc.specs.Told.{Knew, and_pod, pods_of, deals_with_some, IsTold, TellsShown, WasGated, Passed, ArePassed, places}
 use Rattle.pod_gc.proofs.Asking.{some_sweep}
 use Rattle.command_outcomes.specs.Meanwhile.{Meanwhile}
 use Rattle.removal_commands.specs.Gc.{Sweeps}
 use Rattle.removal_commands.specs.Quiet.{HasLine}
-use Rattle.removal_commands.proofs.OwnSteps.{in_process, quiet_part, own_first, forward, at_process, same_folders, held_before}
+use Rattle.removal_commands.proofs.OwnSteps.{in_process, quiet_part, own_first, forward, same_folders, held_before}
 use Rattle.removal_commands.proofs.LateTurns.{or_either}
-use Rattle.removal_commands.proofs.GcQuiet.{pod_back, named_at, Leaves, lists_leave, leaves_same, shown_in, shown_grown, under_grown, passed_grown, passes_grown}
+use Rattle.removal_commands.proofs.GcQuiet.{pod_back, named_at, Leaves, lists_leave, leaves_same, shown_in, shown_grown, passed_grown, passes_grown}
 
 -- where a folder of this name is at an area, one stands there
 

@@ -1,5 +1,5 @@
 -- Where nobody else steps, the folder whose lock was busy stood before where it may have been moved from, and the lock was held.
-use Rattle.std.proofs.Common.{◌≡◌, ℕ, Bool, true, false, ◌&&◌, ◌||◌, cond, Option, Some, None, option_map, slice_get, get_or, List, [], ◌∷◌, ◌++◌, refl, sym, ap, subst, ◌∙◌}
+use Rattle.std.proofs.Common.{◌≡◌, ℕ, Bool, true, false, ◌&&◌, ◌||◌, cond, Option, Some, None, option_map, slice_get, get_or, List, refl, sym, ap, subst, ◌∙◌}
 use Rattle.std.proofs.lemmas.List.Quantifiers.{position-Some}
 use Rattle.std.proofs.lemmas.Option.{slice_get-map, slice_get-get_or}
 use Rattle.dir_model.specs.declared.area.Area.{Area}
@@ -22,7 +22,7 @@ use Rattle.phase_read.specs.Read.{pod_spot}
 use Rattle.pod_claim.specs.Causes.{is_lock}
 use Rattle.pod_claim.specs.Work.{Grew}
 use Rattle.pod_claim.proofs.Times.{at_part}
-use Rattle.pod_claim.proofs.Traces.{grown_none, grown_more}
+use Rattle.pod_claim.proofs.Traces.{grown_more}
 use Rattle.pod_removal.specs.Causes.{IsBusyAt}
 use Rattle.removal_commands.specs.Quiet.{IsHeldNow}
 use Rattle.removal_commands.proofs.OwnSteps.{in_process, back_at, same_folders, held_before}

@@ -7,7 +7,7 @@ use Rattle.dir_model.specs.declared.pod.PodId.{PodId}
 use Rattle.dir_model.specs.declared.spot.Mode.TheVariants.{Shared, Exclusive}
 use Rattle.dir_model.specs.declared.spot.Spot.{Spot}
 use Rattle.dir_model.specs.declared.request.Request.{Request}
-use Rattle.dir_model.specs.declared.request.Request.TheVariants.{MakeFolder, MoveFolder, RemoveFolder, RemoveFileIn, RemoveDirIn, TryLock, Close, Finish, Kill}
+use Rattle.dir_model.specs.declared.request.Request.TheVariants.{MakeFolder, MoveFolder, RemoveFolder, TryLock, Close, Finish, Kill}
 use Rattle.dir_model.specs.declared.request.Reply.{Reply}
 use Rattle.dir_model.specs.declared.request.Reply.TheVariants.{Done}
 use Rattle.dir_model.specs.Areas.{rank, is_stage}
@@ -26,7 +26,6 @@ use Rattle.lifecycle.specs.PodMachine.{pod_state, turned, enabled, leads, if_so,
 use Rattle.lifecycle.proofs.Makes.{of_same}
 use Rattle.phase_read.specs.Exact.{AtOwnEvent}
 use Rattle.phase_read.specs.Read.{pod_spot, is_pod_spot}
-use Rattle.pod_steps.specs.Requests.{moves}
 use Rattle.pod_removal.specs.Requests.{removes, goes_aside}
 use Rattle.pod_gc.specs.Requests.{sweeps}
 use Rattle.removal_commands.specs.Quiet.{is_pods_place}

@@ -1,31 +1,21 @@
 -- Where nobody else steps, what refused a removal was so before.
-use Rattle.std.proofs.Common.{◌≡◌, ◌⊎◌, inl, inr, ℕ, Bool, true, false, not, ◌&&◌, ◌||◌, ◌==◌, cond, bytes_eq, Option, Some, None, is_some, option_map, slice_get, get_or, List, [], ◌∷◌, ◌++◌, refl, sym, ap, subst, ◌∙◌}
-use Rattle.std.proofs.lemmas.Bool.{eqb-true}
-use Rattle.std.proofs.lemmas.List.Quantifiers.{position-Some}
-use Rattle.std.proofs.lemmas.Option.{slice_get-map, slice_get-get_or}
+use Rattle.std.proofs.Common.{◌≡◌, ℕ, Bool, true, false, not, ◌&&◌, ◌==◌, cond, bytes_eq, Option, Some, List, [], ◌∷◌, ◌++◌, refl, sym, ap, subst, ◌∙◌}
 use Rattle.dir_model.specs.declared.area.Area.{Area}
 use Rattle.dir_model.specs.declared.area.Area.TheVariants as area
 use Rattle.dir_model.specs.declared.area.Phase.{Phase}
 use Rattle.dir_model.specs.declared.area.Phase.TheVariants as kind
 use Rattle.dir_model.specs.declared.event.Event.{Event}
 use Rattle.dir_model.specs.declared.pod.PodId.{PodId}
-use Rattle.dir_model.specs.declared.spot.Spot.{Spot}
 use Rattle.dir_model.specs.declared.spot.Which.{Which}
-use Rattle.dir_model.specs.declared.request.Request.{Request}
-use Rattle.dir_model.specs.declared.request.Request.TheVariants.{MakeFolder, MoveFolder, RemoveFolder}
-use Rattle.dir_model.specs.declared.request.Reply.{Reply}
-use Rattle.dir_model.specs.declared.request.Reply.TheVariants.{Done}
 use Rattle.dir_model.specs.Areas.{rank, is_stage, phase_in}
-use Rattle.dir_model.specs.Calls.{event, is_kill, Extends, AtOwnStep}
-use Rattle.dir_model.specs.Locks.{is_folder, opposes}
+use Rattle.dir_model.specs.Calls.{Extends}
 use Rattle.dir_model.specs.Pods.{pod_text}
 use Rattle.dir_model.specs.Quiet.{Quiet}
-use Rattle.dir_model.specs.State.{Namespace, DirState, is_at, spot_eq, folder_at, stands, is_owned, is_owned_in, is_owned_at}
-use Rattle.dir_model.specs.Trace.{state_after, namespace_replied, moved, removed}
+use Rattle.dir_model.specs.State.{DirState, folder_at, stands, is_owned_in, is_owned_at}
+use Rattle.dir_model.specs.Trace.{state_after}
 use Rattle.dir_model.proofs.Lists.{and_left}
-use Rattle.dir_model.proofs.Moments.{at_grown, at_weaker, some_number}
+use Rattle.dir_model.proofs.Moments.{some_number}
 use Rattle.dir_rules.proofs.Looks.{same_bytes}
-use Rattle.dir_rules.specs.Standing.{is_of}
 use Rattle.lifecycle.specs.declared.machine.PodState.{PodState}
 use Rattle.lifecycle.specs.declared.machine.PodState.TheVariants as state
 use Rattle.lifecycle.specs.PodMachine.{pod_state, pod_phase, phase_of_state, owner_of, exists}
@@ -39,19 +29,15 @@ use Rattle.phase_read.specs.declared.found.Found.TheVariants.{At}
 use Rattle.phase_read.specs.Read.{pod_spot, is_pod_spot}
 use Rattle.phase_read.specs.Sequential.{sequential_read, found_in}
 use Rattle.phase_read.specs.Exact.{AtOwnEvent}
-use Rattle.pod_claim.specs.Causes.{is_lock}
 use Rattle.pod_claim.specs.Elsewhere.{IsOwnedElsewhere}
-use Rattle.pod_claim.specs.Work.{Grew}
-use Rattle.pod_claim.proofs.Times.{at_part}
-use Rattle.pod_claim.proofs.Traces.{grown_none}
-use Rattle.pod_removal.specs.Requests.{is_removable, removes}
+use Rattle.pod_removal.specs.Requests.{removes}
 use Rattle.pod_removal.specs.Causes.{IsBusyAt}
 use Rattle.command_outcomes.specs.Meanwhile.{Meanwhile}
 use Rattle.removal_commands.specs.Rm.{WasSo, WasOwned}
 use Rattle.removal_commands.specs.Quiet.{HasPhaseNow, IsHeldNow}
-use Rattle.removal_commands.proofs.OwnSteps.{in_process, back_at, at_process, event_process, same_folders, held_before}
+use Rattle.removal_commands.proofs.OwnSteps.{in_process, event_process}
 use Rattle.removal_commands.proofs.Held.{was_held}
-use Rattle.removal_commands.proofs.LateTurns.{is_lasting, lasting_back, removes_late, rm_moves, or_false}
+use Rattle.removal_commands.proofs.LateTurns.{is_lasting, lasting_back, removes_late, rm_moves}
 
 -- the phase that didn't allow the removal
 

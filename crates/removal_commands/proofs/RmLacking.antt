@@ -1,5 +1,5 @@
 -- Where nobody else steps, a pod without its manifest had none before.
-use Rattle.std.proofs.Common.{◌≡◌, ℕ, Bool, true, false, not, ◌&&◌, ◌||◌, ◌==◌, bytes_eq, codes, Option, Some, None, List, [], ◌∷◌, ◌++◌, filter, option_to_list, refl, sym, ap, subst, ◌∙◌}
+use Rattle.std.proofs.Common.{◌≡◌, ℕ, Bool, true, false, not, ◌&&◌, ◌||◌, ◌==◌, bytes_eq, codes, Option, Some, None, List, [], ◌∷◌, ◌++◌, option_to_list, refl, sym, ap, subst, ◌∙◌}
 use Rattle.std.specs.List.{list_any}
 use Rattle.std.proofs.lemmas.Bool.{eqb-true}
 use Rattle.dir_model.specs.declared.area.Area.{Area}
@@ -20,7 +20,6 @@ use Rattle.dir_model.specs.State.{Namespace, DirState, spot_eq, folder_at}
 use Rattle.dir_model.specs.Trace.{state_after, state_next, namespace_replied, entries_kept, entry_made, removed_in}
 use Rattle.dir_model.specs.Trees.{is_file_entry, is_dir, is_within, has_file}
 use Rattle.dir_model.proofs.Lists.{and_left, or_map, any_filter}
-use Rattle.dir_model.proofs.Moments.{at_weaker}
 use Rattle.dir_rules.specs.Standing.{is_garbage}
 use Rattle.lifecycle.specs.Executions.{IsConforming}
 use Rattle.lifecycle.proofs.Draws.{conforming_left}

@@ -1,18 +1,13 @@
 -- What `rm` comes to where nobody else steps.
-use Rattle.std.proofs.Common.{arith, ◌≡◌, ◌⊎◌, inl, inr, ◌≤◌, ℕ, Bool, true, false, ◌&&◌, ◌||◌, cond, Option, Some, None, is_some, option_map, slice_get, get_or, bytes_eq, List, [], ◌∷◌, ◌++◌, refl, sym, ap, subst, ◌∙◌, append_assoc, append-nil}
+use Rattle.std.proofs.Common.{arith, ◌≡◌, ◌⊎◌, inl, inr, ◌≤◌, ℕ, Bool, true, false, ◌&&◌, ◌||◌, cond, Option, Some, None, is_some, bytes_eq, List, [], ◌∷◌, ◌++◌, refl, sym, ap, subst, ◌∙◌, append_assoc}
 use Rattle.std.specs.List.{AllByRecursion}
-use Rattle.std.specs.Prelude.{nat_le}
 use Rattle.std.proofs.lemmas.Bool.Decides.{nat_tests}
-use Rattle.std.proofs.lemmas.List.Quantifiers.{position-Some}
-use Rattle.std.proofs.lemmas.Option.{slice_get-map, slice_get-get_or}
 use Rattle.dir_model.specs.declared.area.Area.{Area}
 use Rattle.dir_model.specs.declared.area.Area.TheVariants as area
 use Rattle.dir_model.specs.declared.area.Phase.{Phase}
-use Rattle.dir_model.specs.declared.area.Phase.TheVariants as phase
 use Rattle.dir_model.specs.declared.event.Event.{Event}
 use Rattle.dir_model.specs.declared.pod.PodId.{PodId}
 use Rattle.dir_model.specs.declared.spot.Spot.{Spot}
-use Rattle.dir_model.specs.declared.spot.Which.{Which}
 use Rattle.dir_model.specs.declared.request.Request.{Request}
 use Rattle.dir_model.specs.declared.request.Request.TheVariants.{MakeFolder, MoveFolder, RemoveFolder}
 use Rattle.dir_model.specs.declared.request.Reply.{Reply}
@@ -22,8 +17,8 @@ use Rattle.dir_model.specs.Calls.{event, is_begin, is_finish, is_kill, TookPlace
 use Rattle.dir_model.specs.Pods.{pod_text}
 use Rattle.dir_model.specs.Quiet.{Quiet}
 use Rattle.dir_model.specs.Replies.{is_look_at}
-use Rattle.dir_model.specs.State.{Namespace, DirState, empty_state, is_at, spot_eq, folder_at, stands}
-use Rattle.dir_model.specs.Trace.{state_after, namespace_replied, moved, removed}
+use Rattle.dir_model.specs.State.{Namespace, DirState, empty_state, folder_at, stands}
+use Rattle.dir_model.specs.Trace.{state_after, namespace_replied}
 use Rattle.dir_model.proofs.Chains.{extends_wider, extends_more}
 use Rattle.dir_model.proofs.Moments.{at_grown, at_weaker}
 use Rattle.dir_rules.proofs.Looks.{same_bytes}
@@ -32,14 +27,13 @@ use Rattle.lifecycle.specs.declared.machine.PodState.{PodState}
 use Rattle.lifecycle.specs.declared.machine.PodState.TheVariants as state
 use Rattle.lifecycle.specs.declared.machine.Transition.{Transition}
 use Rattle.lifecycle.specs.declared.machine.Transition.TheVariants as turn
-use Rattle.lifecycle.specs.PodMachine.{pod_state, pod_state_from, pod_phase, phase_of_state, age, exists, enabled, turned, if_so, transition}
+use Rattle.lifecycle.specs.PodMachine.{pod_state, phase_of_state, age, exists, enabled, turned, if_so, transition}
 use Rattle.lifecycle.specs.Executions.{IsConforming}
 use Rattle.lifecycle.proofs.Draws.{conforming_left}
 use Rattle.lifecycle.proofs.Forward.{ages}
 use Rattle.lifecycle.proofs.Phases.{enabled_each, stands_exists}
 use Rattle.lifecycle.proofs.Stays.{machine_append}
 use Rattle.phase_read.specs.Read.{pod_spot, is_pod_spot, stages, LeftOut, WasFound, IsFound}
-use Rattle.phase_read.specs.Exact.{AtOwnEvent, IsNowhere}
 use Rattle.phase_read.proofs.InTurn.{left_out_grown}
 use Rattle.pod_claim.specs.Work.{Grew}
 use Rattle.pod_claim.proofs.Times.{at_part}

@@ -1,12 +1,12 @@
 -- Where nothing hinders the removal of a pod, `rm` is refused for a failure alone.
-use Rattle.std.proofs.Common.{◌≡◌, ℕ, true, false, Result, Ok, Err, IfErr, List, [], ◌∷◌, ◌++◌, refl, sym, ap, subst, ◌∙◌, append_assoc, append-nil}
+use Rattle.std.proofs.Common.{◌≡◌, ℕ, true, Ok, Err, IfErr, List, [], ◌∷◌, ◌++◌, refl, sym, ap, subst, ◌∙◌, append_assoc, append-nil}
 use Rattle.dir_model.specs.declared.event.Event.{Event}
 use Rattle.dir_model.specs.declared.pod.PodId.{PodId}
 use Rattle.dir_model.specs.Calls.{is_begin, is_finish, Extends}
 use Rattle.dir_model.proofs.Moments.{at_within}
 use Rattle.lifecycle.specs.Executions.{IsConforming}
 use Rattle.lifecycle.proofs.Draws.{conforming_left}
-use Rattle.pod_removal.specs.Hindrances.{IsUnhindered, IsUnhinderedThroughout}
+use Rattle.pod_removal.specs.Hindrances.{IsUnhinderedThroughout}
 use Rattle.pod_removal.proofs.Hindrances.{never_gone, never_wrong, never_lacking, never_held}
 use Rattle.command_outcomes.specs.declared.refusal.Refusal.{Refusal}
 use Rattle.command_outcomes.specs.declared.refusal.Refusal.TheVariants.{NoPod, WrongPhase, NoManifest, PodBusy, DirFault, Stray, NoMemory}

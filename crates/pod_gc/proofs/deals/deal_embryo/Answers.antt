@@ -10,13 +10,12 @@ use Rattle.pod_gc.specs.declared.error.GcError.{GcError}
 use Rattle.pod_gc.specs.declared.line.Deed.{Deed}
 use Rattle.pod_gc.specs.declared.line.Deed.TheVariants.{Moved, Busy}
 use Rattle.pod_gc.specs.Causes.{GcCause}
-use Rattle.pod_gc.specs.Deeds.{DeedCause}
+use Rattle.pod_gc.specs.Deeds.{DeedCause, LetBe}
 use Rattle.pod_gc.proofs.Steps.{SetBackAt, set_stopped, cause_moved, step_deed, step_cause, step_calm}
 use Rattle.pod_gc.proofs.Embryos.{ready_embryo}
 use Rattle.pod_steps.specs.declared.setback.Setback.TheVariants as stop
 use Rattle.pod_removal.specs.Causes.{BusyByLooks}
 use Rattle.pod_gc.specs.Requests.{may_be_busy}
-use Rattle.pod_gc.specs.Deeds.{LetBe}
 use Rattle.pod_gc.proofs.Untouched.{step_let_be}
 use Rattle.pod_gc.proofs.deals.deal_embryo.Goals as goal
 

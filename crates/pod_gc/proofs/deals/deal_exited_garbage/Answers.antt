@@ -8,9 +8,8 @@ use Rattle.pod_removal.specs.Holding.{MayRemove}
 use Rattle.pod_removal.proofs.Stages.{err_same}
 use Rattle.pod_gc.specs.Causes.{GcCause}
 use Rattle.pod_gc.specs.Marks.{Showed, is_young}
-use Rattle.pod_gc.specs.Deeds.{DeedCause, BusyBecause, RestsBy, RestedSo}
+use Rattle.pod_gc.specs.Deeds.{DeedCause, BusyBecause, RestsBy, RestedSo, LetBe}
 use Rattle.pod_gc.proofs.Steps.{lists_deal, cause_after, rested_so, deed_later, busy_later, ready_later, gone_deed}
-use Rattle.pod_gc.specs.Deeds.{LetBe}
 use Rattle.pod_gc.proofs.Untouched.{let_left, let_listed}
 use Rattle.pod_gc.proofs.deals.deal_exited_garbage.Goals as goal
 

@@ -15,13 +15,12 @@ use Rattle.pod_gc.specs.declared.error.GcError.{GcError}
 use Rattle.pod_gc.specs.declared.line.Deed.{Deed}
 use Rattle.pod_gc.specs.declared.line.Deed.TheVariants.{Deleted, Kept}
 use Rattle.pod_gc.specs.Causes.{GcCause}
-use Rattle.pod_gc.specs.Deeds.{DeedCause, BusyBecause}
+use Rattle.pod_gc.specs.Deeds.{DeedCause, BusyBecause, LetBe}
 use Rattle.pod_gc.proofs.Steps.{removes_deal, SetBackAt, set_stopped, gone_garbage, cause_deleted, step_deed, step_cause, step_another, step_ends}
 use Rattle.pod_removal.proofs.Stages.{err_all}
 use Rattle.pod_steps.specs.declared.setback.Setback.TheVariants as stop
 use Rattle.dir_model.specs.declared.spot.Which.{Which}
 use Rattle.pod_gc.specs.Requests.{may_be_busy}
-use Rattle.pod_gc.specs.Deeds.{LetBe}
 use Rattle.pod_gc.proofs.Untouched.{garbage_busy, step_let_be}
 use Rattle.pod_gc.proofs.deals.deal_garbage.Goals as goal
 

@@ -12,10 +12,8 @@ use Rattle.pod_gc.specs.declared.error.GcError.{GcError}
 use Rattle.pod_gc.specs.declared.line.Deed.{Deed}
 use Rattle.pod_gc.specs.declared.line.Deed.TheVariants.{Moved}
 use Rattle.pod_gc.specs.Causes.{GcCause}
-use Rattle.pod_gc.specs.Deeds.{DeedCause, BusyBecause}
-use Rattle.pod_gc.proofs.Steps.{removes_deal, looks_deal, set_stopped, cause_moved, step_deed, step_cause, step_another, said_deed, said_calm, cause_after, ready_looked}
-use Rattle.pod_gc.specs.Deeds.{SaysThere, LetBe}
-use Rattle.pod_gc.proofs.Steps.{said_unbusy}
+use Rattle.pod_gc.specs.Deeds.{DeedCause, BusyBecause, SaysThere, LetBe}
+use Rattle.pod_gc.proofs.Steps.{removes_deal, looks_deal, set_stopped, cause_moved, step_deed, step_cause, step_another, said_deed, said_calm, cause_after, ready_looked, said_unbusy}
 use Rattle.pod_gc.proofs.Untouched.{let_moved, let_refused, step_let_be}
 use Rattle.pod_gc.proofs.deals.deal_prepare.Goals as goal
 

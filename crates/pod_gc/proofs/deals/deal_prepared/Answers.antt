@@ -13,11 +13,10 @@ use Rattle.pod_removal.proofs.Stages.{err_same}
 use Rattle.pod_gc.specs.declared.line.Deed.TheVariants.{Kept}
 use Rattle.pod_gc.specs.Causes.{GcCause}
 use Rattle.pod_gc.specs.Marks.{Showed, is_ripe}
-use Rattle.pod_gc.specs.Deeds.{DeedCause, BusyBecause, WaitsBy, WaitedSo}
+use Rattle.pod_gc.specs.Deeds.{DeedCause, BusyBecause, WaitsBy, WaitedSo, LetBe}
 use Rattle.pod_gc.specs.Sweeping.{MaySweep, NotesMark, Ripens}
 use Rattle.pod_gc.proofs.Steps.{lists_deal, removes_deal, cause_after, gone_deed}
 use Rattle.pod_gc.proofs.Waiting.{gone_waiting, waited_so, waited_deed, ready_waited, busy_waited}
-use Rattle.pod_gc.specs.Deeds.{LetBe}
 use Rattle.pod_gc.proofs.Untouched.{let_left, let_listed}
 use Rattle.pod_gc.proofs.deals.deal_prepared.Goals as goal
 

@@ -8,9 +8,8 @@ use Rattle.pod_steps.specs.Holding.{Stays}
 use Rattle.pod_removal.specs.Holding.{MayRemove}
 use Rattle.pod_gc.specs.declared.line.Deed.TheVariants.{Kept, Busy}
 use Rattle.pod_gc.specs.Marks.{is_young}
-use Rattle.pod_gc.specs.Deeds.{DoesNothing, BusyBecause, RestsBy}
+use Rattle.pod_gc.specs.Deeds.{DoesNothing, BusyBecause, RestsBy, LetBe}
 use Rattle.pod_gc.proofs.Steps.{looks_deal, rests_young, rests_over}
-use Rattle.pod_gc.specs.Deeds.{LetBe}
 use Rattle.pod_gc.proofs.Untouched.{let_looked}
 use Rattle.pod_gc.proofs.deals.deal_rested.Goals as goal
 

@@ -17,7 +17,7 @@ use Rattle.pod_gc.specs.declared.line.Deed.{Deed}
 use Rattle.pod_gc.specs.declared.line.Deed.TheVariants.{Moved, Kept}
 use Rattle.pod_gc.specs.Causes.{GcCause}
 use Rattle.pod_gc.specs.Marks.{is_ripe}
-use Rattle.pod_gc.specs.Deeds.{DeedCause, BusyBecause, WaitsBy}
+use Rattle.pod_gc.specs.Deeds.{DeedCause, BusyBecause, WaitsBy, LetBe}
 use Rattle.pod_gc.specs.Sweeping.{Ripens}
 use Rattle.pod_gc.proofs.Steps.{SetBackAt, cause_moved, step_deed, step_cause, step_another, step_ends}
 use Rattle.pod_gc.proofs.Waiting.{may_ripen, set_alone, waits_kept, waits_over}
@@ -26,7 +26,6 @@ use Rattle.pod_steps.specs.declared.setback.Setback.TheVariants as stop
 use Rattle.dir_model.specs.declared.spot.Which.{Which}
 use Rattle.dir_model.proofs.Chains.{nothing_yet}
 use Rattle.pod_gc.specs.Requests.{may_be_busy}
-use Rattle.pod_gc.specs.Deeds.{LetBe}
 use Rattle.pod_gc.proofs.Untouched.{let_looked, step_let_be}
 use Rattle.pod_gc.proofs.deals.deal_waiting.Goals as goal
 
