@@ -102,5 +102,6 @@ BusyWhere observed May pod deed old new = observed ≡ true → Stays May old (�
 abbrev pub WaitsOr : Bool → PodId → Deed → DirAt → DirAt → Type 0
 WaitsOr observed pod deed old new = (deed ≡ Kept kind.Prepared) ⊎ (observed ≡ true → DeedCause pod area.Prepared deed old.process old.trace new.trace)
 
+-- a pod was let be so, where the trace is observed
 abbrev pub LetBe : Bool → PodId → Area → Deed → DirAt → DirAt → Type 0
 LetBe observed pod place deed old new = observed ≡ true → LetBeSo pod place deed old.process old.trace new.trace

@@ -384,7 +384,7 @@ module _ (times : Times) (lines : List GcLine) {me : ℕ} {old new : List Event}
         subst (λ (l : List GcLine). AllByRecursion P l) (sym x.lines_are)
         (all_both P x.own x.others (passed_each Can can here x.own a x.between to_a (grown_more rest from_b) x.first) (passes_each Can can ps x.others x.between b (grown_more to_a first) from_b x.rest))
 
-    each_line : AllByRecursion P lines
+    pub each_line : AllByRecursion P lines
     each_line = passes_each (Knew (MaySweepAll times.now times.expire) m.so.from) m.so.can places lines m.begun m.ended before after m.so.swept
 
   -- of a busy lock another process held one before

@@ -10,4 +10,5 @@ pub mod RmFrom
 pub mod RmLacking
 pub mod GcQuiet
 pub mod GcTells
+pub mod GcFrom
 pub mod Quietly

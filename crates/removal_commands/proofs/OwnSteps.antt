@@ -117,6 +117,12 @@ module _ (u : List ℕ) (Q : PodState → Type 0) (asks : Request → Bool) (me 
       (ap (pod_state u) (append_assoc old at.later (at.step ∷ [])) ∙ machine_append u old es empty_state Absent) in
       history_all (state_after old) (pod_state u old) es (own_part asks me old new ext quiet es at.rest whole) (asked_part asks me old new ext quiet es at.rest whole) (subst Q here at.holds)
 
+  pub history_from : {old new : List Event} (b : List Event) → Grew old b → Grew b new → Extends asks me old new → Quiet me old new → Q (pod_state u b) → Q (pod_state u old)
+  history_from {old} {new} b x y ext quiet q =
+      let whole : new ≡ old ++ (x.more ++ y.more) = y.grown ∙ (ap (λ (h : List Event). h ++ y.more) x.grown ∙ append_assoc old x.more y.more) in
+      history_all (state_after old) (pod_state u old) x.more (own_part asks me old new ext quiet x.more y.more whole) (asked_part asks me old new ext quiet x.more y.more whole)
+      (subst Q (ap (pod_state u) x.grown ∙ machine_append u old x.more empty_state Absent) q)
+
 -- a state that no own step turns
 module _ (u : List ℕ) (x : PodState) (asks : Request → Bool) (me : ℕ) (keeps : (n : Namespace) (request : Request) (reply : Reply) → (is_kill request || asks request) ≡ true → turned (transition u n x me request reply) me x ≡ x) where
   fixed_all : (s : DirState) (es : List Event) → AllByRecursion (λ e. e.process ≡ me) es → AllByRecursion (λ e. (is_foreign me e || asks e.request) ≡ true) es → pod_state_from u s x es ≡ x

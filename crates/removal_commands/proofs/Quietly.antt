@@ -20,6 +20,7 @@ use Rattle.removal_commands.proofs.RmBefore.{rm_wrong_before, rm_held_before}
 use Rattle.removal_commands.proofs.RmFrom.{rm_removable_before}
 use Rattle.removal_commands.proofs.RmLacking.{rm_lacked_before}
 use Rattle.removal_commands.proofs.GcQuiet.{gc_embryos, gc_moved, gc_busy, gc_kept}
+use Rattle.removal_commands.proofs.GcFrom.{gc_had}
 use Rattle.removal_commands.proofs.GcTells.{gc_tells}
 
 module _ (pod : PodId) (now : ℕ) (old new : DirSeen) (ext : Extends (in_process (removes pod now)) old.process old.trace new.trace) (quiet : Quiet old.process old.trace new.trace) where
@@ -38,12 +39,13 @@ module _ (pod : PodId) (now : ℕ) (old new : DirSeen) (ext : Extends (in_proces
   pub rm_busy_quietly : (other : PodId) (which : Which) → other ≡ pod → HasFoundBusy pod which old new → RemovesPodQuietly pod old new (Err (PodBusy other which))
   rm_busy_quietly other which is found = (is, found, rm_held_before pod now ext quiet which found)
 
-pub gc_swept_quietly : (times : Times) (old new : DirSeen) (text : List ℕ) → Extends (in_process (sweeps times.now)) old.process old.trace new.trace → Quiet old.process old.trace new.trace → HasSweptPods times old new text → SweepsPodsQuietly times old new (Ok text)
-gc_swept_quietly times old new text ext quiet x = record {
+pub gc_swept_quietly : (times : Times) (old new : DirSeen) (text : List ℕ) → Extends (in_process (sweeps times.now)) old.process old.trace new.trace → Quiet old.process old.trace new.trace → OwnsNothing old.process (state_after old.trace).namespace → HasSweptPods times old new text → SweepsPodsQuietly times old new (Ok text)
+gc_swept_quietly times old new text ext quiet idle x = record {
   swept = x;
   tells = λ conforming. gc_tells times x.lines ext quiet x.swept conforming;
   kept = λ conforming. gc_kept times x.lines ext quiet x.swept conforming;
   moved = gc_moved times x.lines ext quiet x.swept;
+  had = λ conforming. gc_had times x.lines ext quiet x.swept idle conforming;
   busy = gc_busy times x.lines ext quiet x.swept;
   embryos = gc_embryos times x.lines ext quiet x.swept;
 }

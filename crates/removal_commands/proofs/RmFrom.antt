@@ -91,6 +91,13 @@ all_in P x [] all i = absurd i
 all_in P x (y ∷ ys) all (inl e) = subst P (sym e) all.0
 all_in P x (y ∷ ys) all (inr i) = all_in P x ys all.1 i
 
+-- a process that holds nothing exclusively owns no pod
+pub owns_nothing : (u : List ℕ) (me : ℕ) (h : List Event) → IsConforming h → OwnsNothing me (state_after h).namespace → is_owner me (pod_state u h) ≡ true → ⊥
+owns_nothing u me h conforming idle own =
+    let o = (good u h conforming).inv.pod.held me own in
+    let shut = all_in (λ (x : Opening). (x.process == me) ≡ true → is_exclusive x.lock ≡ false) o.0 (state_after h).namespace.openings idle o.1.0 (ap (λ (p : ℕ). p == me) o.1.1.1 ∙ same_self me) in
+    let clash : true ≡ false = sym (and_right (is_own_of u o.0.target) (is_exclusive o.0.lock) o.1.1.0) ∙ shut in cc
+
 module _ (pod : PodId) (now : ℕ) {me : ℕ} {old new : List Event} (ext : Extends (in_process (removes pod now)) me old new) (quiet : Quiet me old new) (idle : OwnsNothing me (state_after old).namespace) (m : Meanwhile (Removes pod) me old new) (conforming : IsConforming new) where
   abbrev u : List ℕ
   u = pod_text pod.bytes
@@ -101,12 +108,8 @@ module _ (pod : PodId) (now : ℕ) {me : ℕ} {old new : List Event} (ext : Exte
   mine_turned : (owner : ℕ) → (owner == me) ≡ true → (me == owner) ≡ true
   mine_turned owner mine = ap (λ (q : ℕ). me == q) (eqb-true owner me mine) ∙ same_self me
 
-  -- it owns no pod before
   owns_none : is_owner me (pod_state u old) ≡ true → ⊥
-  owns_none own =
-      let o = (good u old before).inv.pod.held me own in
-      let shut = all_in (λ (x : Opening). (x.process == me) ≡ true → is_exclusive x.lock ≡ false) o.0 (state_after old).namespace.openings idle o.1.0 (ap (λ (p : ℕ). p == me) o.1.1.1 ∙ same_self me) in
-      let clash : true ≡ false = sym (and_right (is_own_of u o.0.target) (is_exclusive o.0.lock) o.1.1.0) ∙ shut in cc
+  owns_none own = owns_nothing u me old before idle own
 
   fixed_gone : (x : PodState) → pod_state u old ≡ x → is_fixed me x ≡ true → x ≡ state.Gone
   fixed_gone x is fixed =

@@ -3,7 +3,9 @@ use Rattle.std.specs.Prelude.{◌≡◌, ◌⊎◌, ℕ, Bool, true, false, Some
 use Rattle.std.specs.List.{list_any, AllByRecursion}
 use Rattle.dir_model.specs.declared.area.Area.{Area}
 use Rattle.dir_model.specs.declared.area.Area.TheVariants.{Embryo}
+use Rattle.dir_model.specs.declared.area.Area.TheVariants as area
 use Rattle.dir_model.specs.declared.area.Phase.{Phase}
+use Rattle.dir_model.specs.declared.area.Phase.TheVariants as kind
 use Rattle.dir_model.specs.declared.area.Phase.TheVariants.{Preparing, Prepared, Running}
 use Rattle.dir_model.specs.declared.event.Event.{Event}
 use Rattle.dir_model.specs.declared.pod.PodId.{PodId}
@@ -96,6 +98,17 @@ is_lasting_phase _ = false
 abbrev pub KeptAsBefore : List Event → GcLine → Type 0
 KeptAsBefore old line = (pod : PodId) (phase : Phase) → line.pod ≡ Some pod → line.deed ≡ Kept phase → is_lasting_phase phase ≡ true → HasPhaseNow pod phase old
 
+-- the phase of a pod that the pass over this place moves
+abbrev pub swept_phase : Area → Phase
+swept_phase Embryo = kind.Embryo
+swept_phase area.Prepare = kind.AbortedPrepare
+swept_phase area.Prepared = Prepared
+swept_phase place = kind.Exited
+
+-- a pod that was moved had that phase before
+abbrev pub SweptAsBefore : List Event → GcLine → Type 0
+SweptAsBefore old line = (pod : PodId) (to : Area) → line.pod ≡ Some pod → line.deed ≡ Moved to → HasPhaseNow pod (swept_phase line.place) old
+
 -- a pod that was moved stood at that place before
 abbrev pub MovedAsBefore : List Event → GcLine → Type 0
 MovedAsBefore old line = (pod : PodId) (to : Area) → line.pod ≡ Some pod → line.deed ≡ Moved to → stands (state_after old).namespace (pod_spot pod line.place) ≡ true
@@ -126,6 +139,7 @@ pub record SweepsSo (times : Times) (old new : DirSeen) (text : List ℕ) : Type
   pub tells : IsConforming new.trace → TellsOfEach swept.lines old
   pub kept : IsConforming new.trace → AllByRecursion (KeptAsBefore old.trace) swept.lines
   pub moved : AllByRecursion (MovedAsBefore old.trace) swept.lines
+  pub had : IsConforming new.trace → AllByRecursion (SweptAsBefore old.trace) swept.lines
   pub busy : AllByRecursion (BusyAsBefore old.process old.trace) swept.lines
   pub embryos : LeavesNoEmbryo old new
 
