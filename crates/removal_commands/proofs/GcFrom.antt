@@ -37,9 +37,11 @@ use Rattle.pod_gc.specs.Requests.{goes_to, moves_pods, sweeps}
 use Rattle.pod_gc.specs.Told.{IsTold}
 use Rattle.command_outcomes.specs.Meanwhile.{Meanwhile}
 use Rattle.removal_commands.specs.Gc.{Sweeps}
-use Rattle.removal_commands.specs.Quiet.{swept_phase, SweptAsBefore}
+use Rattle.removal_commands.specs.Quiet.{IsGoneForGood, swept_phase, SweptAsBefore, GoneAfter}
 use Rattle.removal_commands.proofs.OwnSteps.{in_process, history_from}
 use Rattle.removal_commands.proofs.LateTurns.{is_late, late_turn, sweeps_late}
+use Rattle.pod_removal.proofs.Rounds.{garbage_stage}
+use Rattle.removal_commands.proofs.RmQuiet.{did_remove, gone_after, gone_nowhere}
 use Rattle.removal_commands.proofs.RmFrom.{owns_nothing}
 use Rattle.removal_commands.proofs.RmBefore.{has_phase_now}
 use Rattle.removal_commands.proofs.GcQuiet.{each_line}
@@ -184,6 +186,19 @@ module _ (times : Times) (lines : List GcLine) {me : ℕ} {old new : List Event}
       let has = had x.shown (swept_phase here) (swept_is here) y.at (grown_more to_a (grown_more x.first y.first)) (grown_more y.last last) y.has in
       has_phase_now pod old before (swept_phase line.place)
       (subst (λ (a : Area). phase_of_state (pod_state (pod_text pod.bytes) old) ≡ Some (swept_phase a)) (sym x.place_is) (subst (λ (q : PodId). phase_of_state (pod_state (pod_text q.bytes) old) ≡ Some (swept_phase here)) same has))
+
+  told_gone : {Can : Type 0} {here : Area} (a b : List Event) → Grew b new → (line : GcLine) → IsTold Can times here line me a b → GoneAfter new line
+  told_gone {Can} {here} a b from_b line x pod is deed =
+      let same : x.shown ≡ pod = let e : Some x.shown ≡ Some pod = sym x.pod_is ∙ is in cc in
+      let u = pod_text x.shown.bytes in
+      let c = x.dealt.cause.deleted deed in
+      let last = grown_more x.last from_b in
+      let its : is_of u (pod_spot x.shown here) ≡ true = ap (λ b. b && bytes_eq u u) (garbage_stage here c.0) ∙ same_bytes u in
+      let gone = gone_after u x.upto new last (did_remove u (pod_spot x.shown here) me x.from x.upto its c.1 (conforming_left x.upto last.more (subst IsConforming last.grown conforming))) in
+      subst (λ (p : PodId). IsGoneForGood p new) same (record { is = gone; nowhere = gone_nowhere x.shown new conforming gone })
+
+  pub gc_gone : AllByRecursion (GoneAfter new) lines
+  gc_gone = each_line times lines ext quiet m (GoneAfter new) (λ Can can here a b to_a from_b line x. told_gone a b from_b line x) (λ pod is deed. cc)
 
   pub gc_had : AllByRecursion (SweptAsBefore old) lines
   gc_had = each_line times lines ext quiet m (SweptAsBefore old) (λ Can can here a b to_a from_b line x. told_swept a b to_a from_b line x) (λ pod to is deed. cc)

@@ -20,7 +20,7 @@ use Rattle.removal_commands.proofs.RmBefore.{rm_wrong_before, rm_held_before}
 use Rattle.removal_commands.proofs.RmFrom.{rm_removable_before}
 use Rattle.removal_commands.proofs.RmLacking.{rm_lacked_before}
 use Rattle.removal_commands.proofs.GcQuiet.{gc_embryos, gc_moved, gc_busy, gc_kept}
-use Rattle.removal_commands.proofs.GcFrom.{gc_had}
+use Rattle.removal_commands.proofs.GcFrom.{gc_had, gc_gone}
 use Rattle.removal_commands.proofs.GcTells.{gc_tells}
 
 module _ (pod : PodId) (now : ℕ) (old new : DirSeen) (ext : Extends (in_process (removes pod now)) old.process old.trace new.trace) (quiet : Quiet old.process old.trace new.trace) where
@@ -46,6 +46,7 @@ gc_swept_quietly times old new text ext quiet idle x = record {
   kept = λ conforming. gc_kept times x.lines ext quiet x.swept conforming;
   moved = gc_moved times x.lines ext quiet x.swept;
   had = λ conforming. gc_had times x.lines ext quiet x.swept idle conforming;
+  gone = λ conforming. gc_gone times x.lines ext quiet x.swept idle conforming;
   busy = gc_busy times x.lines ext quiet x.swept;
   embryos = gc_embryos times x.lines ext quiet x.swept;
 }

@@ -72,7 +72,7 @@ older u h more = subst (λ (z : PodState). age (pod_state u h) ≤ age z) (sym (
 gone_on : (u : List ℕ) (h more : List Event) → pod_state u h ≡ state.Gone → pod_state u (h ++ more) ≡ state.Gone
 gone_on u h more gone = is_last (pod_state u (h ++ more)) (subst (λ (s : PodState). age s ≤ age (pod_state u (h ++ more))) gone (older u h more))
 
-gone_after : (u : List ℕ) (a b : List Event) → Grew a b → pod_state u a ≡ state.Gone → pod_state u b ≡ state.Gone
+pub gone_after : (u : List ℕ) (a b : List Event) → Grew a b → pod_state u a ≡ state.Gone → pod_state u b ≡ state.Gone
 gone_after u a b ab gone = subst (λ (h : List Event). pod_state u h ≡ state.Gone) (sym ab.grown) (gone_on u a ab.more gone)
 
 conforming_before : {a b : List Event} → Grew a b → IsConforming b → IsConforming a
@@ -86,7 +86,7 @@ removed_now u spot me h its conforming =
     let may = enabled_each u h e [] conforming turn.Remove turns in
     machine_append u h (e ∷ []) empty_state state.Absent ∙ (ap (λ (o : Option Transition). turned o me x) turns ∙ ap (λ b. cond b state.Gone x) may)
 
-did_remove : (u : List ℕ) (spot : Spot) (me : ℕ) (old new : List Event) → is_of u spot ≡ true → Did (RemoveFolder spot) Done me old new → IsConforming new → pod_state u new ≡ state.Gone
+pub did_remove : (u : List ℕ) (spot : Spot) (me : ℕ) (old new : List Event) → is_of u spot ≡ true → Did (RemoveFolder spot) Done me old new → IsConforming new → pod_state u new ≡ state.Gone
 did_remove u spot me old new its did conforming = by did.each.3.own
   where
     by : TookPlace did.each.3.before me (RemoveFolder spot) Done did.each.1 ⊎ LeftNothing did.each.3.before me (RemoveFolder spot) Done did.each.1 → pod_state u new ≡ state.Gone
@@ -187,7 +187,7 @@ module _ (pod : PodId) where
           let there = (stands_exists u hx (pod_spot pod e.missed.area) (conforming_before to_end c) its x.holds).0 in
           let clash : true ≡ false = sym there ∙ ap exists none in cc
 
-  gone_nowhere : (h : List Event) → IsConforming h → pod_state u h ≡ state.Gone → StandsNowhere pod (state_after h)
+  pub gone_nowhere : (h : List Event) → IsConforming h → pod_state u h ≡ state.Gone → StandsNowhere pod (state_after h)
   gone_nowhere h conforming gone a stage = by (stands (state_after h).namespace (pod_spot pod a)) refl
     where
       by : (b : Bool) → stands (state_after h).namespace (pod_spot pod a) ≡ b → b ≡ false

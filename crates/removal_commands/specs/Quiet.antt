@@ -29,7 +29,7 @@ use Rattle.pod_claim.specs.Causes.{LacksManifest}
 use Rattle.pod_steps.specs.Causes.{is_held_against}
 use Rattle.pod_removal.specs.Requests.{is_removable}
 use Rattle.pod_gc.specs.declared.ages.Times.{Times}
-use Rattle.pod_gc.specs.declared.line.Deed.TheVariants.{Moved, Kept, Busy}
+use Rattle.pod_gc.specs.declared.line.Deed.TheVariants.{Moved, Deleted, Kept, Busy}
 use Rattle.pod_gc.specs.declared.line.GcLine.{GcLine}
 use Rattle.command_outcomes.specs.declared.refusal.Refusal.TheVariants.{NoPod, WrongPhase, NoManifest, PodBusy, Stray}
 use Rattle.command_outcomes.specs.Moments.{DirSeen, Outcome}
@@ -113,6 +113,10 @@ SweptAsBefore old line = (pod : PodId) (to : Area) → line.pod ≡ Some pod →
 abbrev pub MovedAsBefore : List Event → GcLine → Type 0
 MovedAsBefore old line = (pod : PodId) (to : Area) → line.pod ≡ Some pod → line.deed ≡ Moved to → stands (state_after old).namespace (pod_spot pod line.place) ≡ true
 
+-- a pod that was deleted is gone at the end
+abbrev pub GoneAfter : List Event → GcLine → Type 0
+GoneAfter new line = (pod : PodId) → line.pod ≡ Some pod → line.deed ≡ Deleted → IsGoneForGood pod new
+
 -- a line of this pod at this place is among them
 pub record HasLine (place : Area) (pod : PodId) (lines : List GcLine) : Type 0 where
   pub before : List GcLine
@@ -133,13 +137,14 @@ abbrev pub BusyAsBefore : ℕ → List Event → GcLine → Type 0
 BusyAsBefore me old line = (which : Which) → line.deed ≡ Busy which → IsHeldNow is_pods_place which me (state_after old)
 
 -- of `gc`: its lines by its own steps, one of each pod that stood before; those of kept, moved and busy pods agree with the state
--- before, and no embryo is left
+-- before, the deleted ones are gone, and no embryo is left
 pub record SweepsSo (times : Times) (old new : DirSeen) (text : List ℕ) : Type 0 where
   pub swept : HasSweptPods times old new text
   pub tells : IsConforming new.trace → TellsOfEach swept.lines old
   pub kept : IsConforming new.trace → AllByRecursion (KeptAsBefore old.trace) swept.lines
   pub moved : AllByRecursion (MovedAsBefore old.trace) swept.lines
   pub had : IsConforming new.trace → AllByRecursion (SweptAsBefore old.trace) swept.lines
+  pub gone : IsConforming new.trace → AllByRecursion (GoneAfter new.trace) swept.lines
   pub busy : AllByRecursion (BusyAsBefore old.process old.trace) swept.lines
   pub embryos : LeavesNoEmbryo old new
 
