@@ -36,14 +36,20 @@ aside_by a x y is =
     let g = is_in a Garbage in
     cases (e && x) (g && y) (e || g) (λ h. ap (λ b. b || g) (and_left e x h)) (λ h. or_last e g (and_left g y h)) is
 
-moved_by : (f : Area) (t : Area) (x e y : Bool) → ((x && e) && (is_in Garbage t && y)) ≡ true → ((is_in Run f && is_in ExitedGarbage t) || is_in Garbage t) ≡ true
-moved_by f t x e y is = or_last (is_in Run f && is_in ExitedGarbage t) (is_in Garbage t) (and_left (is_in Garbage t) y (and_right (x && e) (is_in Garbage t && y) is))
+abbrev Sweeps : Area → Area → Bool
+Sweeps f t = is_stage f && ((is_in Run f && is_in ExitedGarbage t) || is_in Garbage t)
 
-marked_by : (f : Area) (t : Area) (e y : Bool) → ((is_in Run f && e) && (is_in ExitedGarbage t && y)) ≡ true → ((is_in Run f && is_in ExitedGarbage t) || is_in Garbage t) ≡ true
+moved_by : (a f t : Area) (e y : Bool) → is_stage a ≡ true → ((is_in a f && e) && (is_in Garbage t && y)) ≡ true → Sweeps f t ≡ true
+moved_by a f t e y stage is =
+    and_both (is_stage f) ((is_in Run f && is_in ExitedGarbage t) || is_in Garbage t) (stage_of a f stage (and_left (is_in a f) e (and_left (is_in a f && e) (is_in Garbage t && y) is)))
+    (or_last (is_in Run f && is_in ExitedGarbage t) (is_in Garbage t) (and_left (is_in Garbage t) y (and_right (is_in a f && e) (is_in Garbage t && y) is)))
+
+marked_by : (f : Area) (t : Area) (e y : Bool) → ((is_in Run f && e) && (is_in ExitedGarbage t && y)) ≡ true → Sweeps f t ≡ true
 marked_by f t e y is =
     let run = is_in Run f in
     let aside = is_in ExitedGarbage t in
-    ap (λ b. b || is_in Garbage t) (and_both run aside (and_left run e (and_left (run && e) (aside && y) is)) (and_left aside y (and_right (run && e) (aside && y) is)))
+    let here = and_left run e (and_left (run && e) (aside && y) is) in
+    and_both (is_stage f) ((run && aside) || is_in Garbage t) (stage_of Run f refl here) (ap (λ b. b || is_in Garbage t) (and_both run aside here (and_left aside y (and_right (run && e) (aside && y) is))))
 
 pub deals_sweep : (pod : PodId) (now : ℕ) (place : Area) → is_stage place ≡ true → (r : Request) → deals_with pod now place r ≡ true → sweeps now r ≡ true
 deals_sweep pod now place stage (Open spot which) is = and_left (is_stage spot.area) _ is
@@ -54,10 +60,9 @@ deals_sweep pod now place stage (MoveFolder from to) is =
     let t = to.area in
     let named : Area → Bool = λ a. bytes_eq (pod_spot pod a).name from.name in
     let kept : Area → Bool = λ a. bytes_eq (pod_spot pod a).name to.name in
-    let goal = (is_in Run f && is_in ExitedGarbage t) || is_in Garbage t in
-    cases _ _ goal (moved_by f t (is_in Embryo f) (named Embryo) (kept Garbage))
-    (cases _ _ goal (moved_by f t (is_in Prepare f) (named Prepare) (kept Garbage))
-    (cases _ _ goal (moved_by f t (is_in Prepared f) (named Prepared) (kept Garbage)) (marked_by f t (named Run) (kept ExitedGarbage)))) is
+    let goal = Sweeps f t in
+    cases _ _ goal (moved_by Embryo f t (named Embryo) (kept Garbage) refl)
+    (cases _ _ goal (moved_by Prepare f t (named Prepare) (kept Garbage) refl) (cases _ _ goal (moved_by Prepared f t (named Prepared) (kept Garbage) refl) (marked_by f t (named Run) (kept ExitedGarbage)))) is
 deals_sweep pod now place stage (MakeFileIn inner) is = and_both (is_in Run inner.spot.area) _ (and_left (is_in Run inner.spot.area) _ (and_left (spot_eq (pod_spot pod Run) inner.spot) _ is)) (and_right (spot_eq (pod_spot pod Run) inner.spot) _ is)
 deals_sweep pod now place stage (ListIn inner) is =
     let here = inner.spot.area in

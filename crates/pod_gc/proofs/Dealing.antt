@@ -1,5 +1,5 @@
 -- Each pass deals with its pods by its own step.
-use Rattle.std.proofs.Common.{◌≡◌, ◌||◌, ℕ, true, Result, Ok, Err, IfOk, List, ap, subst}
+use Rattle.std.proofs.Common.{◌≡◌, ◌||◌, ℕ, true, Result, Ok, Err, IfOk, List, ap, subst, Option, Some, None, ◌==◌, ◌&&◌}
 use Rattle.dir_model.specs.declared.area.Area.{Area}
 use Rattle.dir_model.specs.declared.area.Area.TheVariants as area
 use Rattle.dir_model.specs.declared.event.Event.{Event}
@@ -9,25 +9,28 @@ use Rattle.dir_model.proofs.Lists.{or_last, and_left}
 use Rattle.dir_rules.specs.declared.seen.Seen.{Seen}
 use Rattle.dir_rules.specs.Standing.{intends, is_gc}
 use Rattle.dir_model.specs.declared.intent.Intent.{Intent}
-use Rattle.std.proofs.Common.{Option, Some, None, ◌==◌, ◌&&◌}
 use Rattle.pod_steps.specs.Requests.{moves}
 use Rattle.pod_removal.specs.Requests.{removes}
 use Rattle.pod_gc.specs.declared.ages.Times.{Times}
 use Rattle.pod_gc.specs.declared.line.Deed.{Deed}
 use Rattle.pod_gc.specs.Requests.{deals_with, lists_marks}
-use Rattle.pod_gc.specs.Deeds.{DeedCause, WaitedSo, RestedSo, Dealt}
+use Rattle.pod_gc.specs.Deeds.{DeedCause, LetBeSo, WaitedSo, RestedSo, Dealt}
 use Rattle.pod_gc.specs.Sweeping.{MayPass, HoldsEmbryo}
 
 pub embryo_deal : (pod : PodId) (now : ℕ) (place : Area) (r : Request) → moves pod area.Embryo area.Garbage r ≡ true → deals_with pod now place r ≡ true
 embryo_deal pod now place r is = or_last (lists_marks pod place r) _ (ap (λ b. b || removes pod now r) is)
 
-pub dealt_at : {me : ℕ} {old new : List Event} (times : Times) (pod : PodId) (here place : Area) → here ≡ place → (deed : Deed) → DeedCause pod here deed me old new → (here ≡ area.Prepared → WaitedSo times pod deed me old new)
+pub dealt_at : {me : ℕ} {old new : List Event} (times : Times) (pod : PodId) (here place : Area) → here ≡ place → (deed : Deed) → DeedCause pod here deed me old new → LetBeSo pod here deed me old new → (here ≡ area.Prepared → WaitedSo times pod deed me old new)
     → (here ≡ area.ExitedGarbage → RestedSo times pod deed me old new) → Dealt times pod place deed me old new
-dealt_at {me} {old} {new} times pod here place is deed cause waited rested = subst (λ (a : Area). Dealt times pod a deed me old new) is (record { cause = cause; waited = waited; rested = rested })
+dealt_at {me} {old} {new} times pod here place is deed cause let_be waited rested = subst (λ (a : Area). Dealt times pod a deed me old new) is (record { cause = cause; let_be = let_be; waited = waited; rested = rested })
 
 pub both_ok : {T E : Type 0} (P Q R : T → Type 0) (r : Result T E) → ((x : T) → P x → Q x → R x) → IfOk r P → IfOk r Q → IfOk r R
 both_ok P Q R (Ok x) f p q = f x p q
 both_ok P Q R (Err e) f p q = tt
+
+pub all_ok : {T E : Type 0} (P Q R S : T → Type 0) (r : Result T E) → ((x : T) → P x → Q x → R x → S x) → IfOk r P → IfOk r Q → IfOk r R → IfOk r S
+all_ok P Q R S (Ok x) f p q o = f x p q o
+all_ok P Q R S (Err e) f p q o = tt
 
 pub gc_by : (expire : ℕ) (intent : Option Intent) → intends (λ i. is_gc i.kind && (i.expire == expire)) intent ≡ true → intends (λ i. is_gc i.kind) intent ≡ true
 gc_by expire None is = cc

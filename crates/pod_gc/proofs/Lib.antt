@@ -11,3 +11,4 @@ pub mod Telling
 pub mod Gates
 pub mod Sweeps
 pub mod Begun
+pub mod Untouched

@@ -16,77 +16,34 @@ use Rattle.dir_trait.specs.DirCalls.{DirAt, ListCall}
 use Rattle.dir_files.specs.Listed.{ShowsAreaBetween}
 use Rattle.folder_building.specs.Work.{Worked}
 use Rattle.folder_removal.proofs.Calls.{list_extends}
-use Rattle.lifecycle.specs.Executions.{IsConforming}
-use Rattle.lifecycle.proofs.Draws.{conforming_left}
-use Rattle.phase_read.specs.Exact.{AtOwnEvent}
 use Rattle.pod_claim.specs.Work.{Grew}
-use Rattle.pod_claim.proofs.Times.{at_part, deeds_part}
 use Rattle.pod_claim.proofs.Traces.{grown_none, grown_more}
 use Rattle.pod_steps.specs.Holding.{Keeps, KeepsReady, Stays}
 use Rattle.pod_steps.proofs.Calls.{Follows}
-use Rattle.pod_removal.proofs.Rounds.{event_after, busy_within}
+use Rattle.pod_removal.proofs.Rounds.{busy_within}
 use Rattle.pod_gc.specs.declared.ages.Times.{Times}
 use Rattle.pod_gc.specs.declared.line.Deed.{Deed}
 use Rattle.pod_gc.specs.declared.line.GcLine.{GcLine}
 use Rattle.pod_gc.specs.Requests.{deals_with}
-use Rattle.pod_gc.specs.Marks.{Showed}
-use Rattle.pod_gc.specs.Deeds.{DeedCause, BusyBecause, Dealt}
+use Rattle.pod_gc.specs.Deeds.{BusyBecause, Dealt}
 use Rattle.pod_gc.specs.Sweeping.{MayPass}
 use Rattle.pod_gc.specs.Told.{and_pod, pods_of, deals_with_some, Knew, IsTold, TellsEach, AddsTold, AddsShown}
 use Rattle.pod_gc.proofs.InTurn.{pass_kept}
 
 -- what came about in a part of the time came about in the whole
 
-event_before : {me : ℕ} {a b c : List Event} {P : List Event → Type 0} → AtOwnEvent me a b P → Grew b c → AtOwnEvent me a c P
-event_before at bc = record {
-  before = at.before;
-  step = at.step;
-  later = at.later;
-  rest = at.rest ++ bc.more;
-  begins = at.begins;
-  ends = bc.grown ∙ (ap (λ h. h ++ bc.more) at.ends ∙ append_assoc (at.before ++ at.step ∷ []) at.rest bc.more);
-  own = at.own;
-  holds = at.holds;
-}
-
-conforming_before : {a b : List Event} → Grew a b → IsConforming b → IsConforming a
-conforming_before {a} ab c = conforming_left a ab.more (subst (λ (h : List Event). IsConforming h) ab.grown c)
-
 module _ {me other : ℕ} {a b c d : List Event} (ab : Grew a b) (same : other ≡ me) (cd : Grew c d) where
-  showed_within : {pod : PodId} {place : Area} {text : List ℕ} {m : Option ℕ} → Showed pod place text m other b c → Showed pod place text m me a d
-  showed_within {pod} {place} {text} {m} s =
-      let x = subst (λ (p : ℕ). Showed pod place text m p b c) same s in
-      record { items = x.items; before = x.before; after = x.after; first = grown_more ab x.first; shows = x.shows; last = grown_more x.last cd; greatest = x.greatest }
-
-  deed_within : {pod : PodId} {place : Area} {deed : Deed} → DeedCause pod place deed other b c → DeedCause pod place deed me a d
-  deed_within x = record {
-    moved = λ to is. let y = x.moved to is in (y.0, y.1, deeds_part ab same cd y.2);
-    deleted = λ is. let y = x.deleted is in (y.0, deeds_part ab same cd y.1);
-    kept = λ p is. let y = x.kept p is in (y.0, λ conforming. event_before (event_after ab same (y.1 (conforming_before cd conforming))) cd);
-    left = λ is. at_part ab same cd (x.left is);
-    gate = x.gate;
-  }
-
-  dealt_within : {times : Times} {pod : PodId} {place : Area} {deed : Deed} → Dealt times pod place deed other b c → Dealt times pod place deed me a d
-  dealt_within x = record {
-    cause = deed_within x.cause;
-    waited = λ at. let w = x.waited at in record {
-      waits = λ p is. let y = w.waits p is in (y.0, showed_within y.1, y.2);
-      ripe = λ to is. let y = w.ripe to is in (y.0, showed_within y.1, y.2);
-    };
-    rested = λ at. let w = x.rested at in record {
-      rests = λ p is. let y = w.rests p is in (y.0, showed_within y.1, y.2);
-      over = λ is. let y = w.over is in (y.0, showed_within y.1, y.2);
-    };
-  }
-
   module _ {CanA CanB : Type 0} (f : CanA → CanB) (times : Times) (here : Area) where
     told_within : (line : GcLine) → IsTold CanB times here line other b c → IsTold CanA times here line me a d
     told_within line x = record {
       shown = x.shown;
       pod_is = x.pod_is;
       place_is = x.place_is;
-      dealt = dealt_within x.dealt;
+      from = x.from;
+      upto = x.upto;
+      first = grown_more ab x.first;
+      dealt = subst (λ (p : ℕ). Dealt times x.shown here line.deed p x.from x.upto) same x.dealt;
+      last = grown_more x.last cd;
       another = λ can which is. busy_within ab same cd (x.another (f can) which is);
     }
 
@@ -145,7 +102,7 @@ adds_pod old new times here name pod deed before after is adds dealt busy = (
   adds,
   record {
     pods_are = ap (λ (o : Option PodId). map (λ (p : PodId). Some p) (and_pod o [])) (sym is);
-    each = (record { shown = pod; pod_is = refl; place_is = refl; dealt = dealt; another = λ can which is. busy can.0 can.1 can.2 which is }, tt);
+    each = (record { shown = pod; pod_is = refl; place_is = refl; from = old.trace; upto = new.trace; first = grown_none; dealt = dealt; last = grown_none; another = λ can which is. busy can.0 can.1 can.2 which is }, tt);
   },
 )
 

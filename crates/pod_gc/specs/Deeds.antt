@@ -3,25 +3,28 @@ use Rattle.std.specs.Prelude.{◌≡◌, ◌⊎◌, ℕ, Bool, true, false, Opti
 use Rattle.dir_model.specs.declared.area.Area.{Area}
 use Rattle.dir_model.specs.declared.area.Area.TheVariants as area
 use Rattle.dir_model.specs.declared.area.Phase.{Phase}
+use Rattle.dir_model.specs.declared.area.Phase.TheVariants as kind
 use Rattle.dir_model.specs.declared.event.Event.{Event}
 use Rattle.dir_model.specs.declared.pod.PodId.{PodId}
 use Rattle.dir_model.specs.declared.spot.Which.{Which}
 use Rattle.dir_model.specs.declared.spot.Which.TheVariants.{Claim}
 use Rattle.dir_model.specs.declared.request.Request.TheVariants.{MoveFolder, RemoveFolder}
 use Rattle.dir_model.specs.declared.request.Reply.TheVariants.{Done}
-use Rattle.dir_model.specs.Calls.{AtOwnStep}
+use Rattle.dir_model.specs.Calls.{Extends, AtOwnStep}
 use Rattle.dir_model.specs.State.{DirState, stands}
+use Rattle.dir_rules.specs.declared.seen.Seen.{Seen}
 use Rattle.dir_trait.specs.DirCalls.{DirAt, HeldBetween}
 use Rattle.lifecycle.specs.Executions.{IsConforming}
 use Rattle.phase_read.specs.Read.{pod_spot}
 use Rattle.phase_read.specs.Exact.{AtOwnEvent, IsInPhase}
+use Rattle.pod_steps.specs.Holding.{Stays}
 use Rattle.pod_steps.specs.Causes.{IsAbsentAt, CannotOpenAt, Did}
 use Rattle.pod_removal.specs.Requests.{is_garbage_place}
 use Rattle.pod_removal.specs.Causes.{IsBusyAt}
 use Rattle.pod_gc.specs.declared.ages.Times.{Times}
 use Rattle.pod_gc.specs.declared.line.Deed.{Deed}
 use Rattle.pod_gc.specs.declared.line.Deed.TheVariants.{Moved, Deleted, Kept, Busy, BusyGate, Left}
-use Rattle.pod_gc.specs.Requests.{goes_to, moves_pods, lets_be}
+use Rattle.pod_gc.specs.Requests.{goes_to, moves_pods, lets_be, looks_over, may_be_busy}
 use Rattle.pod_gc.specs.Marks.{Showed, is_young, is_ripe}
 
 -- the pod, or in prepared its file `pod`, isn't at this place
@@ -60,9 +63,21 @@ pub record RestedSo (times : Times) (pod : PodId) (deed : Deed) (me : ℕ) (old 
   pub rests : (phase : Phase) → deed ≡ Kept phase → (m : Option ℕ) × Showed pod area.ExitedGarbage (codes "marked-") m me old new × (is_young times.now times.grace m ≡ true)
   pub over : deed ≡ Deleted → (m : Option ℕ) × Showed pod area.ExitedGarbage (codes "marked-") m me old new × (is_young times.now times.grace m ≡ false)
 
--- a deed, what it rests on, and what the ages say of it
+-- the pod is let be for its phase, its age or a lock
+abbrev pub is_let_be : Deed → Bool
+is_let_be (Kept phase) = true
+is_let_be (Busy which) = true
+is_let_be _ = false
+
+-- a pod that is let be was looked at alone; and it is said to be busy only where that tells nothing of its phase
+pub record LetBeSo (pod : PodId) (place : Area) (deed : Deed) (me : ℕ) (old new : List Event) : Type 0 where
+  pub still : is_let_be deed ≡ true → Extends (looks_over pod place) me old new
+  pub busy : (which : Which) → deed ≡ Busy which → may_be_busy place ≡ true
+
+-- a deed, what it rests on, that the pod wasn't touched where it is let be, and what the ages say of it
 pub record Dealt (times : Times) (pod : PodId) (place : Area) (deed : Deed) (me : ℕ) (old new : List Event) : Type 0 where
   pub cause : DeedCause pod place deed me old new
+  pub let_be : LetBeSo pod place deed me old new
   pub waited : place ≡ area.Prepared → WaitedSo times pod deed me old new
   pub rested : place ≡ area.ExitedGarbage → RestedSo times pod deed me old new
 
@@ -78,3 +93,15 @@ pub record WaitsBy (ripe : Bool) (deed : Deed) : Type 0 where
 -- where a lock was refused, another process held it
 abbrev pub BusyBecause : PodId → Deed → DirAt → DirAt → Type 0
 BusyBecause pod deed old new = (which : Which) → deed ≡ Busy which → IsBusyAt pod which old.process old.trace new.trace
+
+-- and where that is known of a process that may do so
+abbrev pub BusyWhere : Bool → (Seen → Type 0) → PodId → Deed → DirAt → DirAt → Type 0
+BusyWhere observed May pod deed old new = observed ≡ true → Stays May old (λ s. BusyBecause pod deed old new)
+
+-- what is done with a prepared pod once its marks were listed: it is kept for its age, or what was done has its cause
+abbrev pub WaitsOr : Bool → PodId → Deed → DirAt → DirAt → Type 0
+WaitsOr observed pod deed old new = (deed ≡ Kept kind.Prepared) ⊎ (observed ≡ true → DeedCause pod area.Prepared deed old.process old.trace new.trace)
+
+-- a pod was let be so, where the trace is observed
+abbrev pub LetBe : Bool → PodId → Area → Deed → DirAt → DirAt → Type 0
+LetBe observed pod place deed old new = observed ≡ true → LetBeSo pod place deed old.process old.trace new.trace

@@ -13,7 +13,9 @@ use Rattle.pod_claim.specs.Work.{Grew}
 
 -- the moment of a mark that begins with this text: its digits stand for a number of 64 bits
 abbrev pub mark_moment : List ℕ → List ℕ → Option ℕ
-mark_moment text name = cond (bytes_eq name (mark text (number_of (drop (length text) name))) && nat_le (number_of (drop (length text) name)) 18446744073709551615) (Some (number_of (drop (length text) name))) None
+mark_moment text name =
+    cond (bytes_eq name (mark text (number_of (drop (length text) name))) && nat_le (number_of (drop (length text) name)) 18446744073709551615)
+    (Some (number_of (drop (length text) name))) None
 
 -- the greatest moment of such marks among the items
 abbrev pub moment_among : List ℕ → List Item → Option ℕ

@@ -13,7 +13,7 @@ use Rattle.dir_rules.specs.Standing.{is_in}
 use Rattle.dir_rules.specs.Seen.{inner_eq}
 use Rattle.dir_rules.specs.Rules.{root_of}
 use Rattle.phase_read.specs.Read.{pod_spot}
-use Rattle.pod_steps.specs.Requests.{moves}
+use Rattle.pod_steps.specs.Requests.{looks_at, moves}
 use Rattle.pod_removal.specs.Requests.{removes}
 
 -- where a pod's age counts
@@ -35,6 +35,17 @@ lists area _ = false
 -- a pod is dealt with: looked at, its marks listed, and brought to a garbage place or deleted there
 abbrev pub deals_with : PodId → ℕ → Area → Request → Bool
 deals_with pod now place request = lists_marks pod place request || (moves pod Embryo Garbage request || removes pod now request)
+
+-- it is looked at there, its locks are asked for, and its marks are listed: it is neither moved nor removed
+abbrev pub looks_over : PodId → Area → Request → Bool
+looks_over pod place request = lists_marks pod place request || looks_at pod place request
+
+-- the places where a lock of the pod may be busy that tells nothing of its phase
+abbrev pub may_be_busy : Area → Bool
+may_be_busy Prepared = true
+may_be_busy ExitedGarbage = true
+may_be_busy Garbage = true
+may_be_busy _ = false
 
 -- whence to where a pass moves a pod
 abbrev pub goes_to : Area → Area
@@ -65,7 +76,7 @@ sweeps now (OpenArea area) = is_in Embryo area
 sweeps now (Open spot which) = is_stage spot.area
 sweeps now (TryLock handle mode) = true
 sweeps now (Close handle) = true
-sweeps now (MoveFolder from to) = (is_in Run from.area && is_in ExitedGarbage to.area) || is_in Garbage to.area
+sweeps now (MoveFolder from to) = is_stage from.area && ((is_in Run from.area && is_in ExitedGarbage to.area) || is_in Garbage to.area)
 sweeps now (MakeFileIn inner) = is_in Run inner.spot.area && bytes_eq inner.path (marked_mark now)
 sweeps now (ListIn inner) = is_stage inner.spot.area
 sweeps now (RemoveFileIn inner) = is_in inner.spot.area ExitedGarbage || is_in inner.spot.area Garbage

@@ -16,6 +16,7 @@ use Rattle.dir_trait.specs.DirCalls.{DirAt}
 use Rattle.dir_trait.specs.Knowledge.{Knows}
 use Rattle.dir_files.specs.Listed.{ShowsArea}
 use Rattle.area_locks.specs.AreaLocks.{takes, closes, IsBusy, IsBusyElsewhere}
+use Rattle.pod_claim.specs.Work.{Grew}
 use Rattle.pod_removal.specs.Causes.{IsBusyAt}
 use Rattle.pod_gc.specs.declared.ages.Times.{Times}
 use Rattle.pod_gc.specs.declared.line.Deed.TheVariants.{Busy, BusyGate}
@@ -41,13 +42,17 @@ deals_with_some now place names request = list_any (λ (pod : PodId). deals_with
 abbrev pub Knew : (Seen → Type 0) → DirAt → Type 0
 Knew May d = (s : Seen) × Knows d s × May s
 
--- the line is of this pod at this place, with what was done and why. Where the process may do that, another one held each
--- lock that was refused
+-- the line is of this pod at this place, with what was done in its turn, one stretch of the pass, and why. Where the process may do
+-- that, another one held each lock that was refused
 pub record IsTold (Can : Type 0) (times : Times) (here : Area) (line : GcLine) (me : ℕ) (old new : List Event) : Type 0 where
   pub shown : PodId
   pub pod_is : line.pod ≡ Some shown
   pub place_is : line.place ≡ here
-  pub dealt : Dealt times shown here line.deed me old new
+  pub from : List Event
+  pub upto : List Event
+  pub first : Grew old from
+  pub dealt : Dealt times shown here line.deed me from upto
+  pub last : Grew upto new
   pub another : Can → (which : Which) → line.deed ≡ Busy which → IsBusyAt shown which me old new
 
 -- the lines are one for each pod among the names, in that order

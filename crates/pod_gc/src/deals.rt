@@ -1,5 +1,5 @@
 // What is done with one listed pod, by the area of the pass.
-ghost use Rattle.std.specs.Prelude.{◌≡◌, ◌⊎◌, ℕ, true, IfOk, IfErr};
+ghost use Rattle.std.specs.Prelude.{◌≡◌, ℕ, true, IfOk, IfErr};
 ghost use Rattle.dir_model.specs.declared.spot.Which.{Which};
 ghost use Rattle.dir_model.specs.declared.area.Phase.{Phase};
 ghost use Rattle.pod_steps.specs.Requests.{moves};
@@ -14,7 +14,7 @@ ghost use Rattle.pod_removal.specs.Holding.{MayRemove};
 ghost use Rattle.pod_gc.specs.Requests.{deals_with};
 ghost use Rattle.pod_gc.specs.Causes.{GcCause};
 ghost use Rattle.pod_gc.specs.Marks.{is_young, is_ripe};
-ghost use Rattle.pod_gc.specs.Deeds.{DeedCause, BusyBecause, RestsBy, WaitsBy, RestedSo, WaitedSo, Dealt};
+ghost use Rattle.pod_gc.specs.Deeds.{DeedCause, BusyBecause, BusyWhere, LetBe, WaitsOr, RestsBy, WaitsBy, RestedSo, WaitedSo, Dealt};
 
 use crate::ages::{Times, is_ripe, is_young, marked_at};
 use crate::error::GcError;
@@ -32,6 +32,7 @@ fn deal_embryo<D: Dir>(alloc: Global, dir: &mut D, pod: PodId) -> Result<Deed, G
     ensures cause { IfErr result (λ e. GcCause D.observed e (D.shown dir.old) (D.shown dir.new)) }
     ensures deed { IfOk result (λ deed. D.observed ≡ true → DeedCause pod area.Embryo deed (D.shown dir.old).process (D.shown dir.old).trace (D.shown dir.new).trace) }
     ensures calm { IfOk result (λ deed. (which : Which) → deed ≡ Deed.Busy which → ⊥) }
+    ensures let_be { IfOk result (λ deed. LetBe D.observed pod area.Embryo deed (D.shown dir.old) (D.shown dir.new)) }
     ensures ready { D.observed ≡ true → (now : ℕ) → Stays (HoldsEmbryo now) (D.shown dir.old) (λ s. KeepsReady s (D.shown dir.new)) }
 {
     let answer = put_aside(alloc, dir, pod, Area::Embryo, Area::Garbage);
@@ -45,6 +46,7 @@ fn deal_prepare<D: Dir>(alloc: Global, dir: &mut D, pod: PodId, now: u64) -> Res
     ensures cause { IfErr result (λ e. GcCause D.observed e (D.shown dir.old) (D.shown dir.new)) }
     ensures deed { IfOk result (λ deed. D.observed ≡ true → DeedCause pod area.Prepare deed (D.shown dir.old).process (D.shown dir.old).trace (D.shown dir.new).trace) }
     ensures another { IfOk result (λ deed. D.observed ≡ true → Stays (MayRemove now) (D.shown dir.old) (λ s. BusyBecause pod deed (D.shown dir.old) (D.shown dir.new))) }
+    ensures let_be { IfOk result (λ deed. LetBe D.observed pod area.Prepare deed (D.shown dir.old) (D.shown dir.new)) }
     ensures ready { D.observed ≡ true → Stays (MayRemove now) (D.shown dir.old) (λ s. KeepsReady s (D.shown dir.new)) }
 {
     match discard_aborted(alloc, dir, pod, now) {
@@ -65,9 +67,10 @@ fn deal_waiting<D: Dir>(
     requires active { IsActive (D.shown dir.old).local }
     ensures worked { Worked D.observed (removes pod times.now) (D.shown dir.old) (D.shown dir.new) }
     ensures cause { IfErr result (λ e. GcCause D.observed e (D.shown dir.old) (D.shown dir.new)) }
-    ensures deed { IfOk result (λ deed. (deed ≡ Deed.Kept Phase.Prepared) ⊎ (D.observed ≡ true → DeedCause pod area.Prepared deed (D.shown dir.old).process (D.shown dir.old).trace (D.shown dir.new).trace)) }
+    ensures deed { IfOk result (λ deed. WaitsOr D.observed pod deed (D.shown dir.old) (D.shown dir.new)) }
     ensures aged { IfOk result (λ deed. WaitsBy (is_ripe times.now times.expire created) deed) }
-    ensures another { IfOk result (λ deed. D.observed ≡ true → Stays (Ripens pod created times.now times.expire) (D.shown dir.old) (λ s. BusyBecause pod deed (D.shown dir.old) (D.shown dir.new))) }
+    ensures another { IfOk result (λ deed. BusyWhere D.observed (Ripens pod created times.now times.expire) pod deed (D.shown dir.old) (D.shown dir.new)) }
+    ensures let_be { IfOk result (λ deed. LetBe D.observed pod area.Prepared deed (D.shown dir.old) (D.shown dir.new)) }
     ensures ready { D.observed ≡ true → Stays (Ripens pod created times.now times.expire) (D.shown dir.old) (λ s. KeepsReady s (D.shown dir.new)) }
 {
     if is_ripe(times.now, times.expire, created) {
@@ -91,6 +94,7 @@ fn deal_prepared<D: Dir>(
     ensures deed { IfOk result (λ deed. D.observed ≡ true → DeedCause pod area.Prepared deed (D.shown dir.old).process (D.shown dir.old).trace (D.shown dir.new).trace) }
     ensures aged { IfOk result (λ deed. D.observed ≡ true → WaitedSo times pod deed (D.shown dir.old).process (D.shown dir.old).trace (D.shown dir.new).trace) }
     ensures another { IfOk result (λ deed. D.observed ≡ true → Stays (MaySweep times.now times.expire) (D.shown dir.old) (λ s. BusyBecause pod deed (D.shown dir.old) (D.shown dir.new))) }
+    ensures let_be { IfOk result (λ deed. LetBe D.observed pod area.Prepared deed (D.shown dir.old) (D.shown dir.new)) }
     ensures ready { D.observed ≡ true → Stays (MaySweep times.now times.expire) (D.shown dir.old) (λ s. KeepsReady s (D.shown dir.new)) }
 {
     match marked_at(alloc, dir, pod, Area::Prepared, b"created-")? {
@@ -106,6 +110,7 @@ fn deal_run<D: Dir>(alloc: Global, dir: &mut D, pod: PodId, now: u64) -> Result<
     ensures cause { IfErr result (λ e. GcCause D.observed e (D.shown dir.old) (D.shown dir.new)) }
     ensures deed { IfOk result (λ deed. D.observed ≡ true → DeedCause pod area.Run deed (D.shown dir.old).process (D.shown dir.old).trace (D.shown dir.new).trace) }
     ensures another { IfOk result (λ deed. D.observed ≡ true → Stays (MayRemove now) (D.shown dir.old) (λ s. BusyBecause pod deed (D.shown dir.old) (D.shown dir.new))) }
+    ensures let_be { IfOk result (λ deed. LetBe D.observed pod area.Run deed (D.shown dir.old) (D.shown dir.new)) }
     ensures ready { D.observed ≡ true → Stays (MayRemove now) (D.shown dir.old) (λ s. KeepsReady s (D.shown dir.new)) }
 {
     match retire_exited(alloc, dir, pod, now) {
@@ -129,6 +134,7 @@ fn deal_rested<D: Dir>(
     ensures deed { IfOk result (λ deed. D.observed ≡ true → DeedCause pod area.ExitedGarbage deed (D.shown dir.old).process (D.shown dir.old).trace (D.shown dir.new).trace) }
     ensures aged { IfOk result (λ deed. RestsBy (is_young times.now times.grace marked) deed) }
     ensures another { IfOk result (λ deed. D.observed ≡ true → Stays (MayRemove times.now) (D.shown dir.old) (λ s. BusyBecause pod deed (D.shown dir.old) (D.shown dir.new))) }
+    ensures let_be { IfOk result (λ deed. LetBe D.observed pod area.ExitedGarbage deed (D.shown dir.old) (D.shown dir.new)) }
     ensures ready { D.observed ≡ true → Stays (MayRemove times.now) (D.shown dir.old) (λ s. KeepsReady s (D.shown dir.new)) }
 {
     if is_young(times.now, times.grace, marked) {
@@ -152,6 +158,7 @@ fn deal_exited_garbage<D: Dir>(
     ensures deed { IfOk result (λ deed. D.observed ≡ true → DeedCause pod area.ExitedGarbage deed (D.shown dir.old).process (D.shown dir.old).trace (D.shown dir.new).trace) }
     ensures aged { IfOk result (λ deed. D.observed ≡ true → RestedSo times pod deed (D.shown dir.old).process (D.shown dir.old).trace (D.shown dir.new).trace) }
     ensures another { IfOk result (λ deed. D.observed ≡ true → Stays (MayRemove times.now) (D.shown dir.old) (λ s. BusyBecause pod deed (D.shown dir.old) (D.shown dir.new))) }
+    ensures let_be { IfOk result (λ deed. LetBe D.observed pod area.ExitedGarbage deed (D.shown dir.old) (D.shown dir.new)) }
     ensures ready { D.observed ≡ true → Stays (MayRemove times.now) (D.shown dir.old) (λ s. KeepsReady s (D.shown dir.new)) }
 {
     match marked_at(alloc, dir, pod, Area::ExitedGarbage, b"marked-")? {
@@ -175,6 +182,7 @@ fn deal_garbage<D: Dir>(
     ensures deed { IfOk result (λ deed. D.observed ≡ true → DeedCause pod area deed (D.shown dir.old).process (D.shown dir.old).trace (D.shown dir.new).trace) }
     ensures ends { IfOk result (λ deed. (phase : Phase) → deed ≡ Deed.Kept phase → ⊥) }
     ensures another { IfOk result (λ deed. D.observed ≡ true → Stays (MayRemove now) (D.shown dir.old) (λ s. BusyBecause pod deed (D.shown dir.old) (D.shown dir.new))) }
+    ensures let_be { IfOk result (λ deed. LetBe D.observed pod area deed (D.shown dir.old) (D.shown dir.new)) }
     ensures ready { D.observed ≡ true → Stays (MayRemove now) (D.shown dir.old) (λ s. KeepsReady s (D.shown dir.new)) }
 {
     let answer = delete_at(alloc, dir, pod, area, now);

@@ -10,7 +10,7 @@ use Rattle.dir_model.specs.declared.spot.Which.{Which}
 use Rattle.dir_model.specs.declared.spot.Which.TheVariants.{Own, Claim}
 use Rattle.dir_model.specs.declared.request.Request.TheVariants.{Close}
 use Rattle.dir_model.specs.declared.request.Reply.TheVariants.{Done}
-use Rattle.dir_model.specs.Local.{IsUnopened}
+use Rattle.dir_model.specs.Local.{Local, IsUnopened}
 use Rattle.dir_model.specs.Pods.{pod_text}
 use Rattle.dir_model.proofs.Chains.{and_call, and_more, extends_wider}
 use Rattle.dir_rules.specs.declared.seen.Seen.{Seen}
@@ -35,7 +35,7 @@ use Rattle.pod_steps.proofs.Calls.{Follows}
 use Rattle.pod_steps.proofs.Knowing.{new_number, knows_as}
 use Rattle.pod_removal.specs.Requests.{removes}
 use Rattle.pod_removal.specs.Holding.{MayDiscard, UnderClaim}
-use Rattle.pod_removal.specs.Causes.{is_look_setback, StopsAlone, StoppedAlone, BusyInPrepared}
+use Rattle.pod_removal.specs.Causes.{is_look_setback, StopsAlone, StoppedAlone, BusyInPrepared, BusyByLooks}
 use Rattle.pod_removal.proofs.Closing.{given_keeps}
 use Rattle.pod_removal.proofs.CallKinds.{looks_remove}
 use Rattle.pod_removal.proofs.Stages.{none_kind, spares, same_ready}
@@ -169,3 +169,10 @@ stops_else pod other s = record { fault = s.fault; missing = λ is t. absurd (ot
 
 pub stops_alone : {observed : Bool} {pod : PodId} {e : Setback} {a b : DirAt} → Stopped observed pod (IsAbsentAt pod Prepared) e a b → StoppedAlone observed pod e a b
 stops_alone s = record { fault = s.fault; missing = s.missing; manifest = λ is t. absurd (s.manifest is); stray = s.stray }
+
+-- a lock was refused, and nothing but looks was asked for
+pub looks_alone : {observed : Bool} {e : Setback} {b c : DirAt} {pod : PodId} (a : DirAt) → StopsAlone observed pod e b c → BusyByLooks observed pod Prepared e a c
+looks_alone {observed} {e} a s which is = absurd ((look_only e s.calm).1 which is)
+
+pub looks_claimed : {observed : Bool} {e : Setback} {l : Local} {a b c d : DirAt} {h : Handle} (pod : PodId) → Went observed (looks_at pod Prepared) l a b → c.process ≡ b.process → DirCall observed c (Close h) Done d → BusyByLooks observed pod Prepared e b c → BusyByLooks observed pod Prepared e a d
+looks_claimed pod w same z busy which is t = and_call (and_more (w.extends t) w.same (busy which is t)) (same ∙ w.same) refl (z.step t)

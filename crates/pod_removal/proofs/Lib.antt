@@ -7,3 +7,4 @@ pub mod MarkNames
 pub mod Marking
 pub mod Deleting
 pub mod Rounds
+pub mod Hindrances

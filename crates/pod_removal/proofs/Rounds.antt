@@ -15,6 +15,7 @@ use Rattle.dir_model.specs.declared.spot.Which.{Which}
 use Rattle.dir_model.specs.declared.request.Request.{Request}
 use Rattle.dir_model.specs.declared.request.Request.TheVariants.{Open, TryLock, Close, RemoveFolder}
 use Rattle.dir_model.specs.declared.request.Reply.TheVariants.{Done}
+use Rattle.dir_model.specs.Areas.{is_stage}
 use Rattle.dir_model.specs.Causes.{Rose}
 use Rattle.dir_model.specs.Pods.{pod_text}
 use Rattle.dir_model.specs.Replies.{is_look_at}
@@ -70,6 +71,11 @@ look_removes pod now _ is = cc
 pub worked_read : {observed : Bool} (pod : PodId) (now : ℕ) (old new : DirAt) → new.process ≡ old.process → old.faults ≤ new.faults → new.local ≡ old.local → (observed ≡ true → ExtendsBy (is_look_at (is_pod_spot pod)) old new) → Worked observed (removes pod now) old new
 worked_read pod now old new same faults local extends = record { same = same; faults = faults; local = local; extends = λ t. extends_wider (look_removes pod now) (extends t) }
 
+pub garbage_stage : (a : Area) → is_garbage_place a ≡ true → is_stage a ≡ true
+garbage_stage ExitedGarbage place = refl
+garbage_stage Garbage place = refl
+garbage_stage _ place = cc
+
 pub aside_place : (p : Phase) → is_garbage_place (aside p) ≡ true
 aside_place phase.Exited = refl
 aside_place phase.ExitedGarbage = refl
@@ -124,13 +130,13 @@ held_within {pod} {area} {which} {mode} {me} {other} {a} {b} {c} {d} ab same cd 
     record { folder = g.folder; between = g.between; found = at_part ab refl grown_none g.found; held = at_part grown_none refl cd g.held }
 
 pub busy_within : {pod : PodId} {which : Which} {me other : ℕ} {a b c d : List Event} → Grew a b → other ≡ me → Grew c d → IsBusyAt pod which other b c → IsBusyAt pod which me a d
-busy_within ab same cd h = record { area = h.area; mode = h.mode; held = held_within ab same cd h.held }
+busy_within ab same cd h = record { area = h.area; stage = h.stage; mode = h.mode; held = held_within ab same cd h.held }
 
-pub busy_at : {pod : PodId} (e : Setback) (area : Area) (mode : Mode) (old new : DirAt) → BusyElsewhere pod area mode e old new → BusyAny pod e old new
-busy_at e area mode old new busy which is = record { area = area; mode = mode; held = busy which is }
+pub busy_at : {pod : PodId} (e : Setback) (area : Area) (mode : Mode) (old new : DirAt) → is_stage area ≡ true → BusyElsewhere pod area mode e old new → BusyAny pod e old new
+busy_at e area mode old new stage busy which is = record { area = area; stage = stage; mode = mode; held = busy which is }
 
 pub busy_waiting : {pod : PodId} (e : Setback) (old new : DirAt) → BusyInPrepared pod e old new → BusyAny pod e old new
-busy_waiting e old new busy which is = record { area = Prepared; mode = asked_mode which; held = busy which is }
+busy_waiting e old new busy which is = record { area = Prepared; stage = refl; mode = asked_mode which; held = busy which is }
 
 pub busy_part : {observed : Bool} {pod : PodId} (e : Setback) {a b c d : DirAt} → observed ≡ true → Follows observed a b → Follows observed c d → BusyAny pod e b c → BusyAny pod e a d
 busy_part e t ab cd busy which is = busy_within (ab.grown t) ab.same (cd.grown t) (busy which is)

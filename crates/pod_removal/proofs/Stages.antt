@@ -30,6 +30,10 @@ pub err_both : {A E : Type 0} (P Q R : E → Type 0) (r : Result A E) → ((e : 
 err_both P Q R (Ok a) f p q = tt
 err_both P Q R (Err e) f p q = f e p q
 
+pub err_all : {A E : Type 0} (P : E → Type 0) (r : Result A E) → ((e : E) → P e) → IfErr r P
+err_all P (Ok a) f = tt
+err_all P (Err e) f = f e
+
 -- a process that has only locks of areas
 kind_one : (which : Which) (t : Target) → is_lock which t ≡ true → not (is_gate t) ≡ true
 kind_one Own (target.Own here) is = refl

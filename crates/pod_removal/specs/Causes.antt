@@ -12,13 +12,15 @@ use Rattle.dir_model.specs.declared.spot.Which.{Which}
 use Rattle.dir_model.specs.declared.spot.Which.TheVariants.{Own, Claim}
 use Rattle.dir_model.specs.declared.request.Reply.TheVariants.{Done}
 use Rattle.dir_model.specs.declared.request.Request.TheVariants.{RemoveFolder}
+use Rattle.dir_model.specs.Areas.{is_stage}
 use Rattle.dir_model.specs.Causes.{Rose}
 use Rattle.dir_model.specs.State.{DirState, stands}
-use Rattle.dir_trait.specs.DirCalls.{DirAt, HeldBetween}
+use Rattle.dir_trait.specs.DirCalls.{DirAt, ExtendsBy, HeldBetween}
 use Rattle.phase_read.specs.Read.{pod_spot}
 use Rattle.pod_steps.specs.declared.setback.Setback.{Setback}
 use Rattle.pod_steps.specs.declared.setback.Setback.TheVariants.{Missing, NoManifest, Busy, DirFault, Stray, NoMemory}
 use Rattle.pod_claim.specs.Causes.{OpensOwnAlone}
+use Rattle.pod_steps.specs.Requests.{looks_at}
 use Rattle.pod_steps.specs.Causes.{IsAbsentAt, Did, WasStray, HeldByAnother}
 use Rattle.pod_removal.specs.Requests.{aside, place_of}
 
@@ -68,11 +70,16 @@ asked_mode Own = Shared
 abbrev pub BusyInPrepared : PodId → Setback → DirAt → DirAt → Type 0
 BusyInPrepared pod stop old new = (which : Which) → stop ≡ Busy which → HeldByAnother pod Prepared which (asked_mode which) old.process old.trace new.trace
 
--- at some place and in some mode
+-- at one of its places and in some mode
 pub record IsBusyAt (pod : PodId) (which : Which) (me : ℕ) (old new : List Event) : Type 0 where
   pub area : Area
+  pub stage : is_stage area ≡ true
   pub mode : Mode
   pub held : HeldByAnother pod area which mode me old new
 
 abbrev pub BusyAny : PodId → Setback → DirAt → DirAt → Type 0
 BusyAny pod stop old new = (which : Which) → stop ≡ Busy which → IsBusyAt pod which old.process old.trace new.trace
+
+-- where a lock was refused, nothing but looks at this place and locks there was asked for
+abbrev pub BusyByLooks : Bool → PodId → Area → Setback → DirAt → DirAt → Type 0
+BusyByLooks observed pod area stop old new = (which : Which) → stop ≡ Busy which → observed ≡ true → ExtendsBy (looks_at pod area) old new

@@ -3,3 +3,4 @@ pub mod Requests
 pub mod Holding
 pub mod Causes
 pub mod Removals
+pub mod Hindrances

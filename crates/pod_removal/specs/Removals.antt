@@ -5,12 +5,13 @@ use Rattle.dir_model.specs.declared.area.Phase.{Phase}
 use Rattle.dir_model.specs.declared.event.Event.{Event}
 use Rattle.dir_model.specs.declared.pod.PodId.{PodId}
 use Rattle.dir_model.specs.declared.spot.Which.{Which}
-use Rattle.dir_model.specs.Calls.{AtOwnStep}
+use Rattle.dir_model.specs.Calls.{Extends, AtOwnStep}
 use Rattle.dir_model.specs.Causes.{Rose}
+use Rattle.dir_model.specs.Replies.{is_look_at}
 use Rattle.dir_trait.specs.DirCalls.{DirAt, HeldBetween}
 use Rattle.lifecycle.specs.Executions.{IsConforming}
 use Rattle.phase_read.specs.declared.found.Found.TheVariants.{At, Gone}
-use Rattle.phase_read.specs.Read.{IsReading}
+use Rattle.phase_read.specs.Read.{is_pod_spot, IsReading}
 use Rattle.phase_read.specs.Exact.{AtOwnEvent, IsInPhase, IsNowhere}
 use Rattle.pod_claim.specs.Causes.{LacksManifest}
 use Rattle.pod_claim.specs.Work.{Grew}
@@ -46,9 +47,11 @@ abbrev pub MissedTimes : ℕ → PodId → ℕ → List Event → List Event →
 MissedTimes zero pod me old new = Grew old new
 MissedTimes (suc n) pod me old new = (between : List Event) × MissedTimes n pod me old between × FoundThenMissed pod me between new
 
--- a read found none, and where the execution conforms up to its end the pod didn't exist at an own event
+-- a read found none, by looks at its locations alone, and where the execution conforms up to its end the pod didn't exist at an own
+-- event
 pub record FoundNone (pod : PodId) (me : ℕ) (old new : List Event) : Type 0 where
   pub read : IsReading me old new pod Gone
+  pub only : Extends (is_look_at (is_pod_spot pod)) me old new
   pub nowhere : IsConforming new → AtOwnEvent me old new (IsNowhere pod)
 
 -- how a round ended that wasn't refused

@@ -11,6 +11,7 @@ ghost use Rattle.pod_removal.specs.Requests.{is_garbage_place, deletes_in, remov
 ghost use Rattle.pod_steps.specs.Holding.{KeepsReady, Stays};
 ghost use Rattle.pod_removal.specs.Holding.{MayRemove, HasOwn, KeepsBut};
 ghost use Rattle.pod_steps.specs.Causes.{Stopped, IsAbsentAt, BusyElsewhere, Did};
+ghost use Rattle.pod_removal.specs.Causes.{BusyByLooks};
 
 use dir_trait::{Area, Dir, PodId, Which};
 use folder_removal::delete_folder;
@@ -83,6 +84,7 @@ pub fn delete_at<D: Dir>(
         (λ s. BusyElsewhere pod area mode.Exclusive e (D.shown dir.old) (D.shown dir.new))) }
     ensures done { IfOk result (λ done. D.observed ≡ true
         → Did (RemoveFolder (pod_spot pod area)) Done (D.shown dir.old).process (D.shown dir.old).trace (D.shown dir.new).trace) }
+    ensures looks { IfErr result (λ e. BusyByLooks D.observed pod area e (D.shown dir.old) (D.shown dir.new)) }
     ensures ready { D.observed ≡ true → Stays (MayRemove now) (D.shown dir.old) (λ s. KeepsReady s (D.shown dir.new)) }
 {
     let own = take(alloc, dir, pod, area, Which::Own)?;

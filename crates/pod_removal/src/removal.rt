@@ -6,6 +6,8 @@ ghost use Rattle.folder_building.specs.Work.{Worked};
 ghost use Rattle.pod_removal.specs.Requests.{removes};
 ghost use Rattle.pod_steps.specs.Holding.{KeepsReady, Stays};
 ghost use Rattle.pod_removal.specs.Holding.{MayRemovePod};
+ghost use Rattle.lifecycle.specs.Executions.{IsConforming};
+ghost use Rattle.pod_removal.specs.Hindrances.{IsUnhinderedThroughout, IsFailure};
 ghost use Rattle.pod_removal.specs.Removals.{RemovedBetween, RemovedLater, RemoveCause, LaterCause, RefusedByAnother};
 
 use crate::attempt::{Round, attempt};
@@ -57,6 +59,8 @@ pub fn remove_pod<D: Dir>(
     ensures cause { IfErr result (λ e. RemoveCause D.observed pod e (D.shown dir.old) (D.shown dir.new)) }
     ensures another { IfErr result (λ e. D.observed ≡ true → Stays (MayRemovePod pod now) (D.shown dir.old) (λ s. RefusedByAnother pod e (D.shown dir.old) (D.shown dir.new))) }
     ensures ready { D.observed ≡ true → Stays (MayRemovePod pod now) (D.shown dir.old) (λ s. KeepsReady s (D.shown dir.new)) }
+    ensures complete { IfErr result (λ e. D.observed ≡ true → Stays (MayRemovePod pod now) (D.shown dir.old) (λ s. IsConforming (D.shown dir.new).trace
+        → IsUnhinderedThroughout pod (D.shown dir.old).process (D.shown dir.old).trace (D.shown dir.new).trace → IsFailure e)) }
 {
     match attempt(alloc, dir, pod, now)? {
         Round::Gone => Err(RemoveError::NoPod),

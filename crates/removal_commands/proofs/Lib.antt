@@ -1,2 +1,14 @@
 pub mod Removals
 pub mod Sweeps
+pub mod Unhindered
+pub mod OwnSteps
+pub mod LateTurns
+pub mod Held
+pub mod RmQuiet
+pub mod RmBefore
+pub mod RmFrom
+pub mod RmLacking
+pub mod GcQuiet
+pub mod GcTells
+pub mod GcFrom
+pub mod Quietly

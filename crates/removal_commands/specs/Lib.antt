@@ -1,2 +1,3 @@
 pub mod Rm
 pub mod Gc
+pub mod Quiet

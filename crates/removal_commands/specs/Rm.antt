@@ -1,5 +1,5 @@
 -- The command `rm`.
-use Rattle.std.specs.Prelude.{◌≡◌, ◌⊎◌, ℕ, Bool, true, List, codes, Ok, Err}
+use Rattle.std.specs.Prelude.{◌≡◌, ◌⊎◌, ℕ, Bool, true, false, List, codes, Ok, Err}
 use Rattle.dir_model.specs.declared.area.Area.{Area}
 use Rattle.dir_model.specs.declared.area.Phase.{Phase}
 use Rattle.dir_model.specs.declared.event.Event.{Event}
@@ -18,6 +18,7 @@ use Rattle.pod_removal.specs.declared.error.RemoveError.{RemoveError}
 use Rattle.pod_removal.specs.declared.error.RemoveError.TheVariants as error
 use Rattle.pod_removal.specs.Causes.{IsBusyAt, IsDeleted}
 use Rattle.pod_removal.specs.Holding.{MayRemovePod}
+use Rattle.pod_removal.specs.Hindrances.{IsUnhinderedThroughout}
 use Rattle.pod_removal.specs.Removals.{FoundNone, FoundThenEnded, MissedTimes, WasWrong}
 use Rattle.command_outcomes.specs.declared.refusal.Refusal.{Refusal}
 use Rattle.command_outcomes.specs.declared.refusal.Refusal.TheVariants.{NoPod, WrongPhase, NoManifest, PodBusy, DirFault, Stray, NoMemory}
@@ -91,6 +92,17 @@ RmSays pod now old new (Err (NoManifest other)) = (other ≡ pod) × (old.observ
 RmSays pod now old new (Err (PodBusy other which)) = (other ≡ pod) × WhereRemoving pod now old (IsBusyAt pod which old.process old.trace new.trace)
 RmSays pod now old new (Err Stray) = old.observed ≡ true → MeetsStray pod old.process old.trace new.trace
 RmSays pod now old new (Err refusal) = Unit {0}
+
+-- the directory failed or gave an answer that the locks don't explain, or memory ran out
+abbrev pub is_failure : Refusal → Bool
+is_failure DirFault = true
+is_failure Stray = true
+is_failure NoMemory = true
+is_failure refusal = false
+
+-- in a conforming execution in which nothing hinders the pod's removal, only a failure refuses it
+abbrev pub FailsAlone : PodId → DirSeen → DirSeen → Refusal → Type 0
+FailsAlone pod old new refusal = IsConforming new.trace → IsUnhinderedThroughout pod old.process old.trace new.trace → is_failure refusal ≡ true
 
 -- of a whole process: that it removed the pod, that it found none, that it found it in such a phase or without its manifest, that
 -- another process held its lock, that it met an answer which the locks don't explain

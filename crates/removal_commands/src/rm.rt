@@ -8,7 +8,7 @@ ghost use Rattle.pod_steps.specs.Holding.{KeepsReady, Stays};
 ghost use Rattle.pod_removal.specs.Holding.{MayRemovePod};
 ghost use Rattle.pod_removal.specs.Requests.{removes};
 ghost use Rattle.command_outcomes.specs.Moments.{dir_at};
-ghost use Rattle.removal_commands.specs.Rm.{removed_text, remove_refusal, rm_refusal, RmSays};
+ghost use Rattle.removal_commands.specs.Rm.{removed_text, remove_refusal, rm_refusal, RmSays, WhereRemoving, FailsAlone};
 
 use ac_types::NoMemory;
 use command_outcomes::{Output, Refusal};
@@ -78,6 +78,7 @@ pub fn rm<D: Dir>(alloc: Global, pod: PodId, now: u64, dir: &mut D) -> Result<Ou
     ensures refusals { IfErr result (λ r. rm_refusal r ≡ true) }
     ensures ready { D.observed ≡ true → Stays (MayRemovePod pod now) (D.shown dir.old) (λ s. KeepsReady s (D.shown dir.new)) }
     ensures says { RmSays pod now (dir_at D.Dir dir.old) (dir_at D.Dir dir.new) result }
+    ensures complete { IfErr result (λ r. WhereRemoving pod now (dir_at D.Dir dir.old) (FailsAlone pod (dir_at D.Dir dir.old) (dir_at D.Dir dir.new) r)) }
 {
     // Made first: a pod that is gone can't be said to be removed where there is no memory for the line.
     match removed_line(alloc, pod) {

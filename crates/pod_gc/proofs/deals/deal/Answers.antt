@@ -9,9 +9,9 @@ use Rattle.pod_steps.specs.Holding.{Stays}
 use Rattle.pod_removal.specs.Holding.{MayRemove}
 use Rattle.pod_gc.specs.declared.line.Deed.TheVariants.{Busy}
 use Rattle.pod_gc.specs.Requests.{deals_with}
-use Rattle.pod_gc.specs.Deeds.{DeedCause, BusyBecause, WaitedSo, RestedSo, Dealt}
+use Rattle.pod_gc.specs.Deeds.{DeedCause, BusyBecause, LetBe, WaitedSo, RestedSo, Dealt}
 use Rattle.pod_gc.specs.Sweeping.{MaySweep, MayPass}
-use Rattle.pod_gc.proofs.Dealing.{embryo_deal, dealt_at, both_ok, may_embryo}
+use Rattle.pod_gc.proofs.Dealing.{embryo_deal, dealt_at, both_ok, all_ok, may_embryo}
 use Rattle.pod_gc.proofs.deals.deal.Goals as goal
 
 pub returns-in-Embryo-clause-worked : goal.returns-in-Embryo-clause-worked
@@ -24,8 +24,8 @@ returns-in-Embryo-clause-dealt g c =
     let D = g.D.Dir in
     let old = D.shown c.args.dir.now in
     let new = D.shown c.deal_embryo.new.dir in
-    ok_more (λ deed. D.observed ≡ true → DeedCause c.args.pod area.Embryo deed old.process old.trace new.trace) (λ deed. D.observed ≡ true → Dealt c.args.times c.args.pod c.args.area deed old.process old.trace new.trace) c.deal_embryo.result
-    (λ deed x t. dealt_at c.args.times c.args.pod area.Embryo c.args.area (sym c.in-Embryo.is) deed (x t) (λ is. let e : area.Embryo ≡ area.Prepared = is in cc) (λ is. let e : area.Embryo ≡ area.ExitedGarbage = is in cc)) c.deal_embryo.ensures.deed
+    both_ok (λ deed. D.observed ≡ true → DeedCause c.args.pod area.Embryo deed old.process old.trace new.trace) (λ deed. LetBe D.observed c.args.pod area.Embryo deed old new) (λ deed. D.observed ≡ true → Dealt c.args.times c.args.pod c.args.area deed old.process old.trace new.trace) c.deal_embryo.result
+    (λ deed x y t. dealt_at c.args.times c.args.pod area.Embryo c.args.area (sym c.in-Embryo.is) deed (x t) (y t) (λ is. let e : area.Embryo ≡ area.Prepared = is in cc) (λ is. let e : area.Embryo ≡ area.ExitedGarbage = is in cc)) c.deal_embryo.ensures.deed c.deal_embryo.ensures.let_be
 
 pub returns-in-Embryo-clause-another : goal.returns-in-Embryo-clause-another
 returns-in-Embryo-clause-another g c =
@@ -48,8 +48,8 @@ returns-in-Prepare-clause-dealt g c =
     let D = g.D.Dir in
     let old = D.shown c.args.dir.now in
     let new = D.shown c.deal_prepare.new.dir in
-    ok_more (λ deed. D.observed ≡ true → DeedCause c.args.pod area.Prepare deed old.process old.trace new.trace) (λ deed. D.observed ≡ true → Dealt c.args.times c.args.pod c.args.area deed old.process old.trace new.trace) c.deal_prepare.result
-    (λ deed x t. dealt_at c.args.times c.args.pod area.Prepare c.args.area (sym c.in-Prepare.is) deed (x t) (λ is. let e : area.Prepare ≡ area.Prepared = is in cc) (λ is. let e : area.Prepare ≡ area.ExitedGarbage = is in cc)) c.deal_prepare.ensures.deed
+    both_ok (λ deed. D.observed ≡ true → DeedCause c.args.pod area.Prepare deed old.process old.trace new.trace) (λ deed. LetBe D.observed c.args.pod area.Prepare deed old new) (λ deed. D.observed ≡ true → Dealt c.args.times c.args.pod c.args.area deed old.process old.trace new.trace) c.deal_prepare.result
+    (λ deed x y t. dealt_at c.args.times c.args.pod area.Prepare c.args.area (sym c.in-Prepare.is) deed (x t) (y t) (λ is. let e : area.Prepare ≡ area.Prepared = is in cc) (λ is. let e : area.Prepare ≡ area.ExitedGarbage = is in cc)) c.deal_prepare.ensures.deed c.deal_prepare.ensures.let_be
 
 pub returns-in-Prepare-clause-another : goal.returns-in-Prepare-clause-another
 returns-in-Prepare-clause-another g c =
@@ -72,8 +72,8 @@ returns-in-Prepared-clause-dealt g c =
     let D = g.D.Dir in
     let old = D.shown c.args.dir.now in
     let new = D.shown c.deal_prepared.new.dir in
-    both_ok (λ deed. D.observed ≡ true → DeedCause c.args.pod area.Prepared deed old.process old.trace new.trace) (λ deed. D.observed ≡ true → WaitedSo c.args.times c.args.pod deed old.process old.trace new.trace) (λ deed. D.observed ≡ true → Dealt c.args.times c.args.pod c.args.area deed old.process old.trace new.trace) c.deal_prepared.result
-    (λ deed x y t. let w = y t in dealt_at c.args.times c.args.pod area.Prepared c.args.area (sym c.in-Prepared.is) deed (x t) (λ is. w) (λ is. let e : area.Prepared ≡ area.ExitedGarbage = is in cc)) c.deal_prepared.ensures.deed c.deal_prepared.ensures.aged
+    all_ok (λ deed. D.observed ≡ true → DeedCause c.args.pod area.Prepared deed old.process old.trace new.trace) (λ deed. LetBe D.observed c.args.pod area.Prepared deed old new) (λ deed. D.observed ≡ true → WaitedSo c.args.times c.args.pod deed old.process old.trace new.trace) (λ deed. D.observed ≡ true → Dealt c.args.times c.args.pod c.args.area deed old.process old.trace new.trace) c.deal_prepared.result
+    (λ deed x y z t. dealt_at c.args.times c.args.pod area.Prepared c.args.area (sym c.in-Prepared.is) deed (x t) (y t) (λ is. z t) (λ is. let e : area.Prepared ≡ area.ExitedGarbage = is in cc)) c.deal_prepared.ensures.deed c.deal_prepared.ensures.let_be c.deal_prepared.ensures.aged
 
 pub returns-in-Prepared-clause-another : goal.returns-in-Prepared-clause-another
 returns-in-Prepared-clause-another g c =
@@ -96,8 +96,8 @@ returns-in-Run-clause-dealt g c =
     let D = g.D.Dir in
     let old = D.shown c.args.dir.now in
     let new = D.shown c.deal_run.new.dir in
-    ok_more (λ deed. D.observed ≡ true → DeedCause c.args.pod area.Run deed old.process old.trace new.trace) (λ deed. D.observed ≡ true → Dealt c.args.times c.args.pod c.args.area deed old.process old.trace new.trace) c.deal_run.result
-    (λ deed x t. dealt_at c.args.times c.args.pod area.Run c.args.area (sym c.in-Run.is) deed (x t) (λ is. let e : area.Run ≡ area.Prepared = is in cc) (λ is. let e : area.Run ≡ area.ExitedGarbage = is in cc)) c.deal_run.ensures.deed
+    both_ok (λ deed. D.observed ≡ true → DeedCause c.args.pod area.Run deed old.process old.trace new.trace) (λ deed. LetBe D.observed c.args.pod area.Run deed old new) (λ deed. D.observed ≡ true → Dealt c.args.times c.args.pod c.args.area deed old.process old.trace new.trace) c.deal_run.result
+    (λ deed x y t. dealt_at c.args.times c.args.pod area.Run c.args.area (sym c.in-Run.is) deed (x t) (y t) (λ is. let e : area.Run ≡ area.Prepared = is in cc) (λ is. let e : area.Run ≡ area.ExitedGarbage = is in cc)) c.deal_run.ensures.deed c.deal_run.ensures.let_be
 
 pub returns-in-Run-clause-another : goal.returns-in-Run-clause-another
 returns-in-Run-clause-another g c =
@@ -120,8 +120,8 @@ returns-in-ExitedGarbage-clause-dealt g c =
     let D = g.D.Dir in
     let old = D.shown c.args.dir.now in
     let new = D.shown c.deal_exited_garbage.new.dir in
-    both_ok (λ deed. D.observed ≡ true → DeedCause c.args.pod area.ExitedGarbage deed old.process old.trace new.trace) (λ deed. D.observed ≡ true → RestedSo c.args.times c.args.pod deed old.process old.trace new.trace) (λ deed. D.observed ≡ true → Dealt c.args.times c.args.pod c.args.area deed old.process old.trace new.trace) c.deal_exited_garbage.result
-    (λ deed x y t. let w = y t in dealt_at c.args.times c.args.pod area.ExitedGarbage c.args.area (sym c.in-ExitedGarbage.is) deed (x t) (λ is. let e : area.ExitedGarbage ≡ area.Prepared = is in cc) (λ is. w)) c.deal_exited_garbage.ensures.deed c.deal_exited_garbage.ensures.aged
+    all_ok (λ deed. D.observed ≡ true → DeedCause c.args.pod area.ExitedGarbage deed old.process old.trace new.trace) (λ deed. LetBe D.observed c.args.pod area.ExitedGarbage deed old new) (λ deed. D.observed ≡ true → RestedSo c.args.times c.args.pod deed old.process old.trace new.trace) (λ deed. D.observed ≡ true → Dealt c.args.times c.args.pod c.args.area deed old.process old.trace new.trace) c.deal_exited_garbage.result
+    (λ deed x y z t. dealt_at c.args.times c.args.pod area.ExitedGarbage c.args.area (sym c.in-ExitedGarbage.is) deed (x t) (y t) (λ is. let e : area.ExitedGarbage ≡ area.Prepared = is in cc) (λ is. z t)) c.deal_exited_garbage.ensures.deed c.deal_exited_garbage.ensures.let_be c.deal_exited_garbage.ensures.aged
 
 pub returns-in-ExitedGarbage-clause-another : goal.returns-in-ExitedGarbage-clause-another
 returns-in-ExitedGarbage-clause-another g c =
@@ -144,8 +144,8 @@ returns-in-Garbage-clause-dealt g c =
     let D = g.D.Dir in
     let old = D.shown c.args.dir.now in
     let new = D.shown c.deal_garbage.new.dir in
-    ok_more (λ deed. D.observed ≡ true → DeedCause c.args.pod area.Garbage deed old.process old.trace new.trace) (λ deed. D.observed ≡ true → Dealt c.args.times c.args.pod c.args.area deed old.process old.trace new.trace) c.deal_garbage.result
-    (λ deed x t. dealt_at c.args.times c.args.pod area.Garbage c.args.area (sym c.in-Garbage.is) deed (x t) (λ is. let e : area.Garbage ≡ area.Prepared = is in cc) (λ is. let e : area.Garbage ≡ area.ExitedGarbage = is in cc)) c.deal_garbage.ensures.deed
+    both_ok (λ deed. D.observed ≡ true → DeedCause c.args.pod area.Garbage deed old.process old.trace new.trace) (λ deed. LetBe D.observed c.args.pod area.Garbage deed old new) (λ deed. D.observed ≡ true → Dealt c.args.times c.args.pod c.args.area deed old.process old.trace new.trace) c.deal_garbage.result
+    (λ deed x y t. dealt_at c.args.times c.args.pod area.Garbage c.args.area (sym c.in-Garbage.is) deed (x t) (y t) (λ is. let e : area.Garbage ≡ area.Prepared = is in cc) (λ is. let e : area.Garbage ≡ area.ExitedGarbage = is in cc)) c.deal_garbage.ensures.deed c.deal_garbage.ensures.let_be
 
 pub returns-in-Garbage-clause-another : goal.returns-in-Garbage-clause-another
 returns-in-Garbage-clause-another g c =

@@ -8,8 +8,9 @@ use Rattle.pod_removal.specs.Holding.{MayRemove}
 use Rattle.pod_removal.proofs.Stages.{err_same}
 use Rattle.pod_gc.specs.Causes.{GcCause}
 use Rattle.pod_gc.specs.Marks.{Showed, is_young}
-use Rattle.pod_gc.specs.Deeds.{DeedCause, BusyBecause, RestsBy, RestedSo}
+use Rattle.pod_gc.specs.Deeds.{DeedCause, BusyBecause, RestsBy, RestedSo, LetBe}
 use Rattle.pod_gc.proofs.Steps.{lists_deal, cause_after, rested_so, deed_later, busy_later, ready_later, gone_deed}
+use Rattle.pod_gc.proofs.Untouched.{let_left, let_listed}
 use Rattle.pod_gc.proofs.deals.deal_exited_garbage.Goals as goal
 
 pub returns-in_err-marked-clause-worked : goal.returns-in_err-marked-clause-worked
@@ -80,3 +81,15 @@ returns-in-None-clause-another g c t s k m which is = cc
 
 pub returns-in-None-clause-ready : goal.returns-in-None-clause-ready
 returns-in-None-clause-ready g c t = c.marked_at.ensures.ready t c.args.times.now
+
+pub returns-in-Some-clause-let_be : goal.returns-in-Some-clause-let_be
+returns-in-Some-clause-let_be g c =
+    let D = g.D.Dir in
+    let old = D.shown c.args.dir.now in
+    let mid = D.shown c.marked_at.new.dir in
+    let new = D.shown c.deal_rested.new.dir in
+    ok_more (λ deed. LetBe D.observed c.args.pod area.ExitedGarbage deed mid new) (λ deed. LetBe D.observed c.args.pod area.ExitedGarbage deed old new) c.deal_rested.result
+    (λ deed x t. let_listed (c.marked_at.ensures.worked.extends t) c.marked_at.ensures.worked.same (x t)) c.deal_rested.ensures.let_be
+
+pub returns-in-None-clause-let_be : goal.returns-in-None-clause-let_be
+returns-in-None-clause-let_be g c t = let_left

@@ -1,4 +1,4 @@
-use Rattle.std.proofs.Common.{◌≡◌, true, Result, IfOk, IfErr, sym, subst}
+use Rattle.std.proofs.Common.{◌≡◌, true, refl, Result, IfOk, IfErr, sym, subst}
 use Rattle.dir_model.specs.declared.area.Phase.{Phase}
 use Rattle.dir_model.specs.declared.spot.Mode.TheVariants.{Exclusive}
 use Rattle.dir_model.specs.declared.request.Request.TheVariants.{RemoveFolder}
@@ -10,13 +10,18 @@ use Rattle.pod_steps.specs.Holding.{Stays}
 use Rattle.pod_steps.specs.Causes.{Stopped, IsAbsentAt, BusyElsewhere, Did}
 use Rattle.pod_removal.specs.Causes.{BusyAny}
 use Rattle.pod_removal.specs.Holding.{MayRemove}
-use Rattle.pod_removal.proofs.Rounds.{busy_at}
+use Rattle.pod_removal.proofs.Rounds.{busy_at, garbage_stage}
 use Rattle.pod_gc.specs.declared.error.GcError.{GcError}
 use Rattle.pod_gc.specs.declared.line.Deed.{Deed}
 use Rattle.pod_gc.specs.declared.line.Deed.TheVariants.{Deleted, Kept}
 use Rattle.pod_gc.specs.Causes.{GcCause}
-use Rattle.pod_gc.specs.Deeds.{DeedCause, BusyBecause}
+use Rattle.pod_gc.specs.Deeds.{DeedCause, BusyBecause, LetBe}
 use Rattle.pod_gc.proofs.Steps.{removes_deal, SetBackAt, set_stopped, gone_garbage, cause_deleted, step_deed, step_cause, step_another, step_ends}
+use Rattle.pod_removal.proofs.Stages.{err_all}
+use Rattle.pod_steps.specs.declared.setback.Setback.TheVariants as stop
+use Rattle.dir_model.specs.declared.spot.Which.{Which}
+use Rattle.pod_gc.specs.Requests.{may_be_busy}
+use Rattle.pod_gc.proofs.Untouched.{garbage_busy, step_let_be}
 use Rattle.pod_gc.proofs.deals.deal_garbage.Goals as goal
 
 pub returns-clause-worked : goal.returns-clause-worked
@@ -52,7 +57,16 @@ returns-clause-another g c =
     subst (λ (x : Result Deed GcError). IfOk x (λ deed. D.observed ≡ true → Stays (MayRemove c.args.now) old (λ s. BusyBecause c.args.pod deed old new))) (sym c.deed_of.ensures)
     (step_another D.observed c.args.pod c.args.area Deleted old new (MayRemove c.args.now) (λ which is. cc) c.delete_at-answer.result
     (err_more (λ e. D.observed ≡ true → Stays (MayRemove c.args.now) old (λ s. BusyElsewhere c.args.pod c.args.area Exclusive e old new)) (λ e. D.observed ≡ true → Stays (MayRemove c.args.now) old (λ s. BusyAny c.args.pod e old new)) c.delete_at-answer.result
-    (λ e busy t s k m. busy_at e c.args.area Exclusive old new (busy t s k m)) c.delete_at-answer.ensures.another))
+    (λ e busy t s k m. busy_at e c.args.area Exclusive old new (garbage_stage c.args.area c.requires.garbage) (busy t s k m)) c.delete_at-answer.ensures.another))
 
 pub returns-clause-ends : goal.returns-clause-ends
 returns-clause-ends g c = subst (λ (x : Result Deed GcError). IfOk x (λ deed. (p : Phase) → deed ≡ Kept p → ⊥)) (sym c.deed_of.ensures) (step_ends Deleted (λ p is. cc) c.delete_at-answer.result)
+
+pub returns-clause-let_be : goal.returns-clause-let_be
+returns-clause-let_be g c =
+    let D = g.D.Dir in
+    let old = D.shown c.args.dir.now in
+    let new = D.shown c.delete_at-answer.new.dir in
+    subst (λ (x : Result Deed GcError). IfOk x (λ deed. LetBe D.observed c.args.pod c.args.area deed old new)) (sym c.deed_of.ensures)
+    (step_let_be D.observed c.args.pod c.args.area Deleted old new refl c.delete_at-answer.result c.delete_at-answer.ensures.looks
+    (err_all (λ e. (which : Which) → e ≡ stop.Busy which → may_be_busy c.args.area ≡ true) c.delete_at-answer.result (λ e which is. garbage_busy c.args.area c.requires.garbage)))

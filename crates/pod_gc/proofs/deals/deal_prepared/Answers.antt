@@ -13,10 +13,11 @@ use Rattle.pod_removal.proofs.Stages.{err_same}
 use Rattle.pod_gc.specs.declared.line.Deed.TheVariants.{Kept}
 use Rattle.pod_gc.specs.Causes.{GcCause}
 use Rattle.pod_gc.specs.Marks.{Showed, is_ripe}
-use Rattle.pod_gc.specs.Deeds.{DeedCause, BusyBecause, WaitsBy, WaitedSo}
+use Rattle.pod_gc.specs.Deeds.{DeedCause, BusyBecause, WaitsBy, WaitedSo, LetBe}
 use Rattle.pod_gc.specs.Sweeping.{MaySweep, NotesMark, Ripens}
 use Rattle.pod_gc.proofs.Steps.{lists_deal, removes_deal, cause_after, gone_deed}
 use Rattle.pod_gc.proofs.Waiting.{gone_waiting, waited_so, waited_deed, ready_waited, busy_waited}
+use Rattle.pod_gc.proofs.Untouched.{let_left, let_listed}
 use Rattle.pod_gc.proofs.deals.deal_prepared.Goals as goal
 
 pub returns-in_err-created-clause-worked : goal.returns-in_err-created-clause-worked
@@ -95,3 +96,15 @@ returns-in-None-clause-another g c t s k m which is = cc
 
 pub returns-in-None-clause-ready : goal.returns-in-None-clause-ready
 returns-in-None-clause-ready g c t s k m = c.marked_at.ensures.ready t c.args.times.now s k m.may
+
+pub returns-in-Some-clause-let_be : goal.returns-in-Some-clause-let_be
+returns-in-Some-clause-let_be g c =
+    let D = g.D.Dir in
+    let old = D.shown c.args.dir.now in
+    let mid = D.shown c.marked_at.new.dir in
+    let new = D.shown c.deal_waiting.new.dir in
+    ok_more (λ deed. LetBe D.observed c.args.pod area.Prepared deed mid new) (λ deed. LetBe D.observed c.args.pod area.Prepared deed old new) c.deal_waiting.result
+    (λ deed x t. let_listed (c.marked_at.ensures.worked.extends t) c.marked_at.ensures.worked.same (x t)) c.deal_waiting.ensures.let_be
+
+pub returns-in-None-clause-let_be : goal.returns-in-None-clause-let_be
+returns-in-None-clause-let_be g c t = let_left

@@ -8,8 +8,9 @@ use Rattle.pod_steps.specs.Holding.{Stays}
 use Rattle.pod_removal.specs.Holding.{MayRemove}
 use Rattle.pod_gc.specs.declared.line.Deed.TheVariants.{Kept, Busy}
 use Rattle.pod_gc.specs.Marks.{is_young}
-use Rattle.pod_gc.specs.Deeds.{DoesNothing, BusyBecause, RestsBy}
+use Rattle.pod_gc.specs.Deeds.{DoesNothing, BusyBecause, RestsBy, LetBe}
 use Rattle.pod_gc.proofs.Steps.{looks_deal, rests_young, rests_over}
+use Rattle.pod_gc.proofs.Untouched.{let_looked}
 use Rattle.pod_gc.proofs.deals.deal_rested.Goals as goal
 
 pub returns-then-is_young-clause-worked : goal.returns-then-is_young-clause-worked
@@ -35,3 +36,11 @@ pub returns-else-is_young-clause-aged : goal.returns-else-is_young-clause-aged
 returns-else-is_young-clause-aged g c =
     ok_more (λ deed. (p : Phase) → deed ≡ Kept p → ⊥) (λ deed. RestsBy (is_young c.args.times.now c.args.times.grace c.args.marked) deed) c.deal_garbage.result
     (λ deed ends. rests_over deed (sym c.is_young.ensures ∙ c.if-is_young.false) ends) c.deal_garbage.ensures.ends
+
+pub returns-then-is_young-clause-let_be : goal.returns-then-is_young-clause-let_be
+returns-then-is_young-clause-let_be g c =
+    let D = g.D.Dir in
+    let old = D.shown c.args.dir.now in
+    let new = D.shown c.kept_exited.new.dir in
+    ok_more (λ deed. (which : Which) → deed ≡ Busy which → ⊥) (λ deed. LetBe D.observed c.args.pod area.ExitedGarbage deed old new) c.kept_exited.result
+    (λ deed calm t. let_looked (c.kept_exited.ensures.worked.extends t) calm) c.kept_exited.ensures.calm

@@ -1,8 +1,8 @@
-use Rattle.std.proofs.Common.{◌≡◌, true, Err, Result, IfOk, IfErr, refl, sym, subst, arith}
+use Rattle.std.proofs.Common.{◌≡◌, rules, true, Err, Result, IfOk, IfErr, refl, sym, subst, arith}
 use Rattle.dir_model.specs.declared.area.Area.TheVariants as area
 use Rattle.dir_model.specs.declared.area.Phase.TheVariants as phase
 use Rattle.dir_model.specs.declared.spot.Mode.TheVariants.{Shared}
-use Rattle.folder_building.proofs.Copying.{err_more}
+use Rattle.folder_building.proofs.Copying.{ok_more, err_more}
 use Rattle.folder_building.proofs.Working.{worked_more, worked_wider}
 use Rattle.pod_steps.specs.Holding.{Stays}
 use Rattle.pod_steps.proofs.Calls.{follows_work}
@@ -12,8 +12,9 @@ use Rattle.pod_gc.specs.declared.error.GcError.{GcError}
 use Rattle.pod_gc.specs.declared.line.Deed.{Deed}
 use Rattle.pod_gc.specs.declared.line.Deed.TheVariants.{Moved}
 use Rattle.pod_gc.specs.Causes.{GcCause}
-use Rattle.pod_gc.specs.Deeds.{DeedCause, BusyBecause}
-use Rattle.pod_gc.proofs.Steps.{removes_deal, looks_deal, set_stopped, cause_moved, step_deed, step_cause, step_another, said_deed, said_calm, cause_after, ready_looked}
+use Rattle.pod_gc.specs.Deeds.{DeedCause, BusyBecause, SaysThere, LetBe}
+use Rattle.pod_gc.proofs.Steps.{removes_deal, looks_deal, set_stopped, cause_moved, step_deed, step_cause, step_another, said_deed, said_calm, cause_after, ready_looked, said_unbusy}
+use Rattle.pod_gc.proofs.Untouched.{let_moved, let_refused, step_let_be}
 use Rattle.pod_gc.proofs.deals.deal_run.Goals as goal
 
 pub returns-in-Ok-clause-worked : goal.returns-in-Ok-clause-worked
@@ -73,4 +74,25 @@ returns-in-Err-clause-another g c =
     let old = D.shown c.args.dir.now in
     let new = D.shown c.retire_exited.new.dir in
     subst (λ (x : Result Deed GcError). IfOk x (λ deed. D.observed ≡ true → Stays (MayRemove c.args.now) old (λ s. BusyBecause c.args.pod deed old new))) (sym c.deed_of.ensures)
-    (step_another D.observed c.args.pod area.Run (Moved area.ExitedGarbage) old new (MayRemove c.args.now) (λ which is. cc) (Err c.in-Err.stop) (λ t s k m. busy_at c.in-Err.stop area.Run Shared old new (c.in-Err.ensures.another t s k m)))
+    (step_another D.observed c.args.pod area.Run (Moved area.ExitedGarbage) old new (MayRemove c.args.now) (λ which is. cc) (Err c.in-Err.stop) (λ t s k m. busy_at c.in-Err.stop area.Run Shared old new refl (c.in-Err.ensures.another t s k m)))
+
+pub returns-in-Ok-clause-let_be : goal.returns-in-Ok-clause-let_be
+returns-in-Ok-clause-let_be g c t = let_moved
+
+pub returns-in-Err-Busy-clause-let_be : goal.returns-in-Err-Busy-clause-let_be
+returns-in-Err-Busy-clause-let_be g c =
+    let D = g.D.Dir in
+    let e = rw c.in-Err-Busy.field-0-is at c.in-Err-Busy.ensures in
+    let old = D.shown c.args.dir.now in
+    let mid = D.shown c.retire_exited.new.dir in
+    let new = D.shown c.kept.new.dir in
+    ok_more (λ deed. SaysThere D.observed c.args.pod area.Run phase.Running deed mid new) (λ deed. LetBe D.observed c.args.pod area.Run deed old new) c.kept.result
+    (λ deed x t. let_refused old mid new t e.looks c.retire_exited.ensures.worked.same (c.kept.ensures.worked.extends t) (said_unbusy phase.Running deed x.is) t) c.kept.ensures.said
+
+pub returns-in-Err-clause-let_be : goal.returns-in-Err-clause-let_be
+returns-in-Err-clause-let_be g c =
+    let D = g.D.Dir in
+    let old = D.shown c.args.dir.now in
+    let new = D.shown c.retire_exited.new.dir in
+    subst (λ (x : Result Deed GcError). IfOk x (λ deed. LetBe D.observed c.args.pod area.Run deed old new)) (sym c.deed_of.ensures)
+    (step_let_be D.observed c.args.pod area.Run (Moved area.ExitedGarbage) old new refl (Err c.in-Err.stop) c.in-Err.ensures.looks (λ which is. search (rules, is, c.in-Err.stop-is)))

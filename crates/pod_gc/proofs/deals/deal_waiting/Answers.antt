@@ -17,10 +17,16 @@ use Rattle.pod_gc.specs.declared.line.Deed.{Deed}
 use Rattle.pod_gc.specs.declared.line.Deed.TheVariants.{Moved, Kept}
 use Rattle.pod_gc.specs.Causes.{GcCause}
 use Rattle.pod_gc.specs.Marks.{is_ripe}
-use Rattle.pod_gc.specs.Deeds.{DeedCause, BusyBecause, WaitsBy}
+use Rattle.pod_gc.specs.Deeds.{DeedCause, BusyBecause, WaitsBy, LetBe}
 use Rattle.pod_gc.specs.Sweeping.{Ripens}
 use Rattle.pod_gc.proofs.Steps.{SetBackAt, cause_moved, step_deed, step_cause, step_another, step_ends}
 use Rattle.pod_gc.proofs.Waiting.{may_ripen, set_alone, waits_kept, waits_over}
+use Rattle.pod_removal.proofs.Stages.{err_all}
+use Rattle.pod_steps.specs.declared.setback.Setback.TheVariants as stop
+use Rattle.dir_model.specs.declared.spot.Which.{Which}
+use Rattle.dir_model.proofs.Chains.{nothing_yet}
+use Rattle.pod_gc.specs.Requests.{may_be_busy}
+use Rattle.pod_gc.proofs.Untouched.{let_looked, step_let_be}
 use Rattle.pod_gc.proofs.deals.deal_waiting.Goals as goal
 
 pub returns-then-is_ripe-clause-cause : goal.returns-then-is_ripe-clause-cause
@@ -77,3 +83,15 @@ returns-else-is_ripe-clause-another g c t s k m which is = cc
 
 pub returns-else-is_ripe-clause-ready : goal.returns-else-is_ripe-clause-ready
 returns-else-is_ripe-clause-ready g c t s k m = record { known = s; keeps = record { intent = refl; holdings = refl; kept = refl; bare = m.sweeps.may.bare }; knows = k }
+
+pub returns-then-is_ripe-clause-let_be : goal.returns-then-is_ripe-clause-let_be
+returns-then-is_ripe-clause-let_be g c =
+    let D = g.D.Dir in
+    let old = D.shown c.args.dir.now in
+    let new = D.shown c.discard_prepared-answer.new.dir in
+    subst (λ (x : Result Deed GcError). IfOk x (λ deed. LetBe D.observed c.args.pod area.Prepared deed old new)) (sym c.deed_of.ensures)
+    (step_let_be D.observed c.args.pod area.Prepared (Moved area.Garbage) old new refl c.discard_prepared-answer.result c.discard_prepared-answer.ensures.looks
+    (err_all (λ e. (which : Which) → e ≡ stop.Busy which → may_be_busy area.Prepared ≡ true) c.discard_prepared-answer.result (λ e which is. refl)))
+
+pub returns-else-is_ripe-clause-let_be : goal.returns-else-is_ripe-clause-let_be
+returns-else-is_ripe-clause-let_be g c t = let_looked nothing_yet (λ which is. cc)

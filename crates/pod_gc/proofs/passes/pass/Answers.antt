@@ -1,6 +1,5 @@
-use Rattle.std.proofs.Common.{◌≡◌, true, sym, subst}
+use Rattle.std.proofs.Common.{◌≡◌, true, sym, subst, IfOk}
 use Rattle.dir_model.specs.declared.area.Area.{Area}
-use Rattle.std.proofs.Common.{IfOk}
 use Rattle.folder_building.proofs.Copying.{ok_more}
 use Rattle.pod_gc.specs.Told.{AddsShown, AddsPassed}
 use Rattle.pod_gc.proofs.Gates.{adds_plain}

@@ -15,8 +15,9 @@ use Rattle.pod_steps.specs.Holding.{MayLook, Stays}
 use Rattle.pod_steps.specs.Causes.{Stopped, IsAbsentAt, BusyElsewhere, Did}
 use Rattle.pod_steps.proofs.Calls.{follows_none, follows_work, stops_part}
 use Rattle.pod_removal.specs.Holding.{MayRemove}
+use Rattle.pod_removal.specs.Causes.{BusyByLooks}
 use Rattle.pod_removal.proofs.CallKinds.{looks_remove, first_remove}
-use Rattle.pod_removal.proofs.Stages.{err_same, looks_aborted, same_ready, ready_aborted}
+use Rattle.pod_removal.proofs.Stages.{err_same, looks_aborted, same_ready, ready_aborted, err_all}
 use Rattle.pod_removal.proofs.aside.discard_aborted.Goals as goal
 
 pub returns-in_err-probe-clause-worked : goal.returns-in_err-probe-clause-worked
@@ -89,4 +90,15 @@ returns-clause-owned g c =
     let old = D.shown c.args.dir.now in
     let new = D.shown c.put_aside.new.dir in
     err_more (λ e. (which : Which) → e ≡ stop.Busy which → ⊥) (λ e. (which : Which) → e ≡ stop.Busy which → D.observed ≡ true → LockToldBetween old new (pod_spot c.args.pod Prepare) true) c.put_aside.result
+    (λ e calm which is t. absurd (calm which is)) c.put_aside.ensures.calm
+
+pub returns-in_err-probe-clause-looks : goal.returns-in_err-probe-clause-looks
+returns-in_err-probe-clause-looks g c =
+    let D = g.D.Dir in
+    err_all (λ e. BusyByLooks D.observed c.args.pod Prepare e (D.shown c.args.dir.now) (D.shown c.probe.new.dir)) c.from_residual.result (λ e which is t. c.probe.ensures.worked.extends t)
+
+pub returns-clause-looks : goal.returns-clause-looks
+returns-clause-looks g c =
+    let D = g.D.Dir in
+    err_more (λ e. (which : Which) → e ≡ stop.Busy which → ⊥) (λ e. BusyByLooks D.observed c.args.pod Prepare e (D.shown c.args.dir.now) (D.shown c.put_aside.new.dir)) c.put_aside.result
     (λ e calm which is t. absurd (calm which is)) c.put_aside.ensures.calm

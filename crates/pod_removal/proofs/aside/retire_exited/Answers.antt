@@ -15,8 +15,9 @@ use Rattle.pod_steps.specs.Holding.{MayLook, Stays}
 use Rattle.pod_steps.specs.Causes.{Stopped, IsAbsentAt, BusyElsewhere, Did}
 use Rattle.pod_steps.proofs.Calls.{follows_none, follows_work, stops_part}
 use Rattle.pod_removal.specs.Holding.{MayRemove}
+use Rattle.pod_removal.specs.Causes.{BusyByLooks}
 use Rattle.pod_removal.proofs.CallKinds.{looks_remove, marks_remove, third_remove}
-use Rattle.pod_removal.proofs.Stages.{err_same, looks_exited, same_ready}
+use Rattle.pod_removal.proofs.Stages.{err_same, looks_exited, same_ready, err_all}
 use Rattle.pod_removal.proofs.Marking.{ready_exited, ready_unmarked}
 use Rattle.pod_removal.proofs.aside.retire_exited.Goals as goal
 
@@ -133,3 +134,23 @@ returns-in_err-mark-clause-owned g c =
     (λ e h. search (rules, h, c.from_residual-in_err-mark.ensures, c.in_err-mark.is))
     (err_more (λ e. (which : Which) → e ≡ stop.Busy which → ⊥) (λ e. (which : Which) → e ≡ stop.Busy which → D.observed ≡ true → LockToldBetween old new (pod_spot c.args.pod Run) true) c.mark.result
     (λ e calm which is t. absurd (calm which is)) c.mark.ensures.calm)
+
+pub returns-in_err-probe-clause-looks : goal.returns-in_err-probe-clause-looks
+returns-in_err-probe-clause-looks g c =
+    let D = g.D.Dir in
+    err_all (λ e. BusyByLooks D.observed c.args.pod Run e (D.shown c.args.dir.now) (D.shown c.probe.new.dir)) c.from_residual.result (λ e which is t. c.probe.ensures.worked.extends t)
+
+pub returns-clause-looks : goal.returns-clause-looks
+returns-clause-looks g c =
+    let D = g.D.Dir in
+    err_more (λ e. (which : Which) → e ≡ stop.Busy which → ⊥) (λ e. BusyByLooks D.observed c.args.pod Run e (D.shown c.args.dir.now) (D.shown c.put_aside.new.dir)) c.put_aside.result
+    (λ e calm which is t. absurd (calm which is)) c.put_aside.ensures.calm
+
+pub returns-in_err-mark-clause-looks : goal.returns-in_err-mark-clause-looks
+returns-in_err-mark-clause-looks g c =
+    let D = g.D.Dir in
+    let old = D.shown c.args.dir.now in
+    let new = D.shown c.mark.new.dir in
+    err_same (λ e. BusyByLooks D.observed c.args.pod Run e old new) c.mark.result c.from_residual-in_err-mark.result
+    (λ e h. search (rules, h, c.from_residual-in_err-mark.ensures, c.in_err-mark.is))
+    (err_more (λ e. (which : Which) → e ≡ stop.Busy which → ⊥) (λ e. BusyByLooks D.observed c.args.pod Run e old new) c.mark.result (λ e calm which is t. absurd (calm which is)) c.mark.ensures.calm)

@@ -78,7 +78,7 @@ returns-in-Ok-Gone-clause-worked g c = let r = c.read_phase.ensures in worked_re
 pub returns-in-Ok-Gone-clause-went : goal.returns-in-Ok-Gone-clause-went
 returns-in-Ok-Gone-clause-went g c t =
     let e = rw c.in-Ok-Gone.field-0-is at c.in-Ok-Gone.ensures in
-    record { read = e.read t; nowhere = λ conforming. e.exact t conforming }
+    record { read = e.read t; only = c.read_phase.ensures.extends t; nowhere = λ conforming. e.exact t conforming }
 
 pub returns-in-Ok-Gone-clause-ready : goal.returns-in-Ok-Gone-clause-ready
 returns-in-Ok-Gone-clause-ready g c t = ready_looks c.args.pod (c.read_phase.ensures.known t)

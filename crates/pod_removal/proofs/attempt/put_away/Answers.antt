@@ -1,4 +1,4 @@
-use Rattle.std.proofs.Common.{◌≡◌, true, ap}
+use Rattle.std.proofs.Common.{◌≡◌, true, refl, ap}
 use Rattle.dir_model.specs.declared.area.Area.TheVariants.{Prepare, Run}
 use Rattle.dir_model.specs.declared.spot.Mode.TheVariants.{Shared}
 use Rattle.folder_building.proofs.Copying.{err_more}
@@ -25,7 +25,7 @@ returns-in-AbortedPrepare-clause-another g c =
     let old = D.shown c.args.dir.now in
     let new = D.shown c.discard_aborted.new.dir in
     err_more (λ e. D.observed ≡ true → Stays (MayRemove c.args.now) old (λ s. BusyElsewhere c.args.pod Prepare Shared e old new)) (λ e. D.observed ≡ true → Stays (MayRemovePod c.args.pod c.args.now) old (λ s. BusyAny c.args.pod e old new)) c.discard_aborted.result
-    (λ e busy t s k m. busy_at e Prepare Shared old new (busy t s k m.may)) c.discard_aborted.ensures.another
+    (λ e busy t s k m. busy_at e Prepare Shared old new refl (busy t s k m.may)) c.discard_aborted.ensures.another
 
 pub returns-in-AbortedPrepare-clause-ready : goal.returns-in-AbortedPrepare-clause-ready
 returns-in-AbortedPrepare-clause-ready g c t = ready_any c.args.pod (c.discard_aborted.ensures.ready t)
@@ -63,7 +63,7 @@ returns-in-Exited-clause-another g c =
     let old = D.shown c.args.dir.now in
     let new = D.shown c.retire_exited.new.dir in
     err_more (λ e. D.observed ≡ true → Stays (MayRemove c.args.now) old (λ s. BusyElsewhere c.args.pod Run Shared e old new)) (λ e. D.observed ≡ true → Stays (MayRemovePod c.args.pod c.args.now) old (λ s. BusyAny c.args.pod e old new)) c.retire_exited.result
-    (λ e busy t s k m. busy_at e Run Shared old new (busy t s k m.may)) c.retire_exited.ensures.another
+    (λ e busy t s k m. busy_at e Run Shared old new refl (busy t s k m.may)) c.retire_exited.ensures.another
 
 pub returns-in-Exited-clause-ready : goal.returns-in-Exited-clause-ready
 returns-in-Exited-clause-ready g c t = ready_any c.args.pod (c.retire_exited.ensures.ready t)

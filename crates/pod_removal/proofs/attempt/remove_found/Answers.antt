@@ -14,7 +14,7 @@ use Rattle.pod_removal.specs.Requests.{is_garbage_place}
 use Rattle.pod_removal.specs.Holding.{MayRemove, MayRemovePod}
 use Rattle.pod_removal.specs.Causes.{IsDeleted, StoppedFound, BusyAny}
 use Rattle.pod_removal.proofs.Stages.{err_same}
-use Rattle.pod_removal.proofs.Rounds.{aside_place, found_aside, found_part, busy_at, another_ready, deleted_at, deleted_part, ready_any, ready_more}
+use Rattle.pod_removal.proofs.Rounds.{garbage_stage, aside_place, found_aside, found_part, busy_at, another_ready, deleted_at, deleted_part, ready_any, ready_more}
 use Rattle.pod_removal.proofs.attempt.remove_found.Goals as goal
 
 pub delete_at-requires-clause-garbage : goal.delete_at-requires-clause-garbage
@@ -53,7 +53,7 @@ returns-clause-another g c =
     let mid = D.shown c.put_away.new.dir in
     let new = D.shown c.delete_at.new.dir in
     err_more (λ e. D.observed ≡ true → Stays (MayRemove c.args.now) mid (λ s. BusyElsewhere c.args.pod c.aside.result Exclusive e mid new)) (λ e. D.observed ≡ true → Stays (MayRemovePod c.args.pod c.args.now) old (λ s. BusyAny c.args.pod e old new)) c.delete_at.result
-    (λ e busy t. another_ready e new t (follows_work c.put_away.ensures.worked) follows_none (c.put_away.ensures.ready t) (λ s k m. busy_at e c.aside.result Exclusive mid new (busy t s k m.may))) c.delete_at.ensures.another
+    (λ e busy t. another_ready e new t (follows_work c.put_away.ensures.worked) follows_none (c.put_away.ensures.ready t) (λ s k m. busy_at e c.aside.result Exclusive mid new (garbage_stage c.aside.result (subst (λ (a : Area). is_garbage_place a ≡ true) (sym c.aside.ensures) (aside_place c.args.phase))) (busy t s k m.may))) c.delete_at.ensures.another
 
 pub returns-clause-removed : goal.returns-clause-removed
 returns-clause-removed g c =

@@ -14,7 +14,8 @@ use Rattle.pod_steps.specs.Holding.{Went, and_taken, MayTake, Stays}
 use Rattle.pod_steps.specs.Causes.{Stopped, IsAbsentAt, CannotOpenAt, BusyElsewhere, Did}
 use Rattle.pod_steps.proofs.Calls.{follows_went, follows_call, stops_part}
 use Rattle.pod_removal.specs.Holding.{MayRemove}
-use Rattle.pod_removal.proofs.Stages.{err_same}
+use Rattle.pod_removal.specs.Causes.{BusyByLooks}
+use Rattle.pod_removal.proofs.Stages.{err_same, err_all}
 use Rattle.pod_removal.proofs.Deleting.{own_stopped, takes_own, ready_owned, ready_unowned, worked_owned, worked_unowned}
 use Rattle.pod_removal.proofs.deletion.delete_at.Goals as goal
 
@@ -88,3 +89,14 @@ returns-clause-done g c =
 pub returns-clause-ready : goal.returns-clause-ready
 returns-clause-ready g c t =
     ready_owned c.args.pod c.args.area c.requires.garbage t c.in_ok-own.ensures.unopened (c.in_ok-own.ensures.held t) (c.delete_if_there-result.ensures.known t) c.close.ensures.called
+
+pub returns-in_err-own-clause-looks : goal.returns-in_err-own-clause-looks
+returns-in_err-own-clause-looks g c =
+    let D = g.D.Dir in
+    err_all (λ e. BusyByLooks D.observed c.args.pod c.args.area e (D.shown c.args.dir.now) (D.shown c.take.new.dir)) c.from_residual.result (λ e which is t. c.take.ensures.went.extends t)
+
+pub returns-clause-looks : goal.returns-clause-looks
+returns-clause-looks g c =
+    let D = g.D.Dir in
+    err_more (λ e. (which : Which) → e ≡ stop.Busy which → ⊥) (λ e. BusyByLooks D.observed c.args.pod c.args.area e (D.shown c.args.dir.now) (D.shown c.close.new.self)) c.delete_if_there-result.result
+    (λ e calm which is t. absurd (calm which is)) c.delete_if_there-result.ensures.calm

@@ -12,8 +12,8 @@ use Rattle.pod_steps.specs.Holding.{Went, and_taken, Stays}
 use Rattle.pod_steps.specs.Causes.{Stopped, IsAbsentAt, Did}
 use Rattle.pod_steps.proofs.Calls.{follows_went, follows_call, stops_part}
 use Rattle.pod_removal.specs.Holding.{MayDiscard, UnderClaim}
-use Rattle.pod_removal.specs.Causes.{StoppedAlone, BusyInPrepared}
-use Rattle.pod_removal.proofs.Discarding.{takes_claim, discards_under, busy_within, worked_claimed, worked_alone, alone_stops, alone_busy, ready_claimed, ready_looked, ready_left, busy_claim, worked_untaken, stops_else, stops_alone}
+use Rattle.pod_removal.specs.Causes.{StoppedAlone, BusyInPrepared, BusyByLooks}
+use Rattle.pod_removal.proofs.Discarding.{takes_claim, discards_under, busy_within, worked_claimed, worked_alone, alone_stops, alone_busy, ready_claimed, ready_looked, ready_left, busy_claim, worked_untaken, stops_else, stops_alone, looks_alone, looks_claimed}
 use Rattle.pod_removal.proofs.prepared.discard_prepared.Goals as goal
 
 pub returns-in-Ok-clause-worked : goal.returns-in-Ok-clause-worked
@@ -92,3 +92,15 @@ returns-in-Err-clause-another g c t s k may =
 
 pub returns-in-Err-clause-ready : goal.returns-in-Err-clause-ready
 returns-in-Err-clause-ready g c t = ready_left (c.in-Err.ensures.left t)
+
+pub returns-in-Ok-clause-looks : goal.returns-in-Ok-clause-looks
+returns-in-Ok-clause-looks g c =
+    let D = g.D.Dir in
+    err_more (λ e. BusyByLooks D.observed c.args.pod Prepared e (D.shown c.take.new.dir) (D.shown c.discard_under_claim-result.new.dir)) (λ e. BusyByLooks D.observed c.args.pod Prepared e (D.shown c.args.dir.now) (D.shown c.close.new.self)) c.discard_under_claim-result.result
+    (λ e x. looks_claimed c.args.pod c.take.ensures.went c.discard_under_claim-result.ensures.worked.same c.close.ensures.called x) c.discard_under_claim-result.ensures.looks
+
+pub returns-in-Err-Missing-clause-looks : goal.returns-in-Err-Missing-clause-looks
+returns-in-Err-Missing-clause-looks g c = looks_alone (g.D.Dir.shown c.args.dir.now) c.without_claim.ensures.stopped
+
+pub returns-in-Err-clause-looks : goal.returns-in-Err-clause-looks
+returns-in-Err-clause-looks g c which is t = c.take.ensures.went.extends t

@@ -10,9 +10,9 @@ use Rattle.pod_steps.specs.Holding.{MayLook, Stays}
 use Rattle.pod_steps.specs.Causes.{Stopped, IsAbsentAt, BusyElsewhere}
 use Rattle.pod_steps.proofs.Calls.{follows_none, follows_work, stops_part}
 use Rattle.pod_removal.specs.Holding.{UnderClaim}
-use Rattle.pod_removal.specs.Causes.{BusyInPrepared}
+use Rattle.pod_removal.specs.Causes.{BusyInPrepared, BusyByLooks}
 use Rattle.pod_removal.proofs.CallKinds.{looks_remove, second_remove}
-use Rattle.pod_removal.proofs.Stages.{err_same, err_both}
+use Rattle.pod_removal.proofs.Stages.{err_same, err_both, err_all}
 use Rattle.pod_removal.proofs.Discarding.{looks_under, bare_under, ready_under, busy_own}
 use Rattle.pod_removal.proofs.prepared.discard_under_claim.Goals as goal
 
@@ -62,3 +62,14 @@ returns-clause-another g c =
 
 pub returns-clause-ready : goal.returns-clause-ready
 returns-clause-ready g c t = ready_under c.args.pod (c.in_ok-probe.ensures.free t) (c.put_aside.ensures.ready t)
+
+pub returns-in_err-probe-clause-looks : goal.returns-in_err-probe-clause-looks
+returns-in_err-probe-clause-looks g c =
+    let D = g.D.Dir in
+    err_all (λ e. BusyByLooks D.observed c.args.pod Prepared e (D.shown c.args.dir.now) (D.shown c.probe.new.dir)) c.from_residual.result (λ e which is t. c.probe.ensures.worked.extends t)
+
+pub returns-clause-looks : goal.returns-clause-looks
+returns-clause-looks g c =
+    let D = g.D.Dir in
+    err_more (λ e. (which : Which) → e ≡ stop.Busy which → ⊥) (λ e. BusyByLooks D.observed c.args.pod Prepared e (D.shown c.args.dir.now) (D.shown c.put_aside.new.dir)) c.put_aside.result
+    (λ e calm which is t. absurd (calm which is)) c.put_aside.ensures.calm

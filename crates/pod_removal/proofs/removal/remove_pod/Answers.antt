@@ -8,6 +8,7 @@ use Rattle.pod_removal.specs.Holding.{MayRemovePod}
 use Rattle.pod_removal.specs.Removals.{RoundCause, LaterCause, RemoveCause, WentRound, RemovedLater, RemovedBetween, RefusedByAnother}
 use Rattle.pod_removal.proofs.Stages.{err_same}
 use Rattle.pod_removal.proofs.Rounds.{cause_first, cause_then, removed_then, refused_later, ready_more}
+use Rattle.pod_removal.proofs.Hindrances.{never_gone, refused_so}
 use Rattle.pod_removal.proofs.removal.remove_pod.Goals as goal
 
 pub returns-in_err-attempt-clause-cause : goal.returns-in_err-attempt-clause-cause
@@ -59,3 +60,21 @@ returns-in-Missed-clause-another g c =
 
 pub returns-in-Missed-clause-ready : goal.returns-in-Missed-clause-ready
 returns-in-Missed-clause-ready g c t = ready_more (c.attempt.ensures.ready t) (c.remove_later.ensures.ready t)
+
+pub returns-in_err-attempt-clause-complete : goal.returns-in_err-attempt-clause-complete
+returns-in_err-attempt-clause-complete g c =
+    let D = g.D.Dir in
+    refused_so D.observed c.args.pod c.args.now (D.shown c.args.dir.now) (D.shown c.attempt.new.dir) c.from_residual.result (returns-in_err-attempt-clause-cause g c) (returns-in_err-attempt-clause-another g c)
+
+pub returns-in-Gone-clause-complete : goal.returns-in-Gone-clause-complete
+returns-in-Gone-clause-complete g c t s k m conforming free =
+    let D = g.D.Dir in
+    let old = D.shown c.args.dir.now in
+    let new = D.shown c.attempt.new.dir in
+    let none = subst (λ (y : Round). WentRound c.args.pod y old new) c.in-Gone.is (c.in_ok-attempt.ensures.went t) in
+    absurd (never_gone c.args.pod old.process old.trace new.trace free (none.nowhere conforming))
+
+pub returns-in-Missed-clause-complete : goal.returns-in-Missed-clause-complete
+returns-in-Missed-clause-complete g c =
+    let D = g.D.Dir in
+    refused_so D.observed c.args.pod c.args.now (D.shown c.args.dir.now) (D.shown c.remove_later.new.dir) c.remove_later.result (returns-in-Missed-clause-cause g c) (returns-in-Missed-clause-another g c)

@@ -1,0 +1,52 @@
+-- Where nobody else steps, what a whole process of `rm` or `gc` has told is told of the state before.
+use Rattle.std.proofs.Common.{◌≡◌, ℕ, List, Ok, Err}
+use Rattle.dir_model.specs.declared.area.Phase.{Phase}
+use Rattle.dir_model.specs.declared.pod.PodId.{PodId}
+use Rattle.dir_model.specs.declared.spot.Which.{Which}
+use Rattle.dir_model.specs.Calls.{Extends}
+use Rattle.dir_model.specs.Quiet.{Quiet, OwnsNothing}
+use Rattle.dir_model.specs.Trace.{state_after}
+use Rattle.pod_removal.specs.Requests.{removes}
+use Rattle.pod_gc.specs.declared.ages.Times.{Times}
+use Rattle.pod_gc.specs.Requests.{sweeps}
+use Rattle.command_outcomes.specs.declared.refusal.Refusal.TheVariants.{NoPod, WrongPhase, NoManifest, PodBusy}
+use Rattle.command_outcomes.specs.Moments.{DirSeen}
+use Rattle.removal_commands.specs.Rm.{removed_text, HasRemovedPod, HasFoundNoPod, HasFoundWrong, HasFoundNoManifest, HasFoundBusy}
+use Rattle.removal_commands.specs.Gc.{HasSweptPods}
+use Rattle.removal_commands.specs.Quiet.{RemovesPodQuietly, SweepsPodsQuietly}
+use Rattle.removal_commands.proofs.OwnSteps.{in_process}
+use Rattle.removal_commands.proofs.RmQuiet.{rm_gone, rm_none_before}
+use Rattle.removal_commands.proofs.RmBefore.{rm_wrong_before, rm_held_before}
+use Rattle.removal_commands.proofs.RmFrom.{rm_removable_before}
+use Rattle.removal_commands.proofs.RmLacking.{rm_lacked_before}
+use Rattle.removal_commands.proofs.GcQuiet.{gc_embryos, gc_moved, gc_busy, gc_kept}
+use Rattle.removal_commands.proofs.GcFrom.{gc_had, gc_gone}
+use Rattle.removal_commands.proofs.GcTells.{gc_tells}
+
+module _ (pod : PodId) (now : ℕ) (old new : DirSeen) (ext : Extends (in_process (removes pod now)) old.process old.trace new.trace) (quiet : Quiet old.process old.trace new.trace) where
+  pub rm_removed_quietly : OwnsNothing old.process (state_after old.trace).namespace → (text : List ℕ) → text ≡ removed_text pod → HasRemovedPod pod old new → RemovesPodQuietly pod old new (Ok text)
+  rm_removed_quietly idle text is done = (is, done, λ conforming. (rm_gone pod done conforming, rm_removable_before pod now ext quiet idle done conforming))
+
+  pub rm_none_quietly : HasFoundNoPod pod old new → RemovesPodQuietly pod old new (Err NoPod)
+  rm_none_quietly found = (found, rm_none_before pod quiet found)
+
+  pub rm_wrong_quietly : (phase : Phase) → HasFoundWrong pod phase old new → RemovesPodQuietly pod old new (Err (WrongPhase phase))
+  rm_wrong_quietly phase found = (found, λ conforming. rm_wrong_before pod now ext quiet phase found.was found.owner conforming)
+
+  pub rm_lacking_quietly : (other : PodId) → other ≡ pod → HasFoundNoManifest pod old new → RemovesPodQuietly pod old new (Err (NoManifest other))
+  rm_lacking_quietly other is found = (is, found, λ conforming. rm_lacked_before pod now ext quiet found conforming)
+
+  pub rm_busy_quietly : (other : PodId) (which : Which) → other ≡ pod → HasFoundBusy pod which old new → RemovesPodQuietly pod old new (Err (PodBusy other which))
+  rm_busy_quietly other which is found = (is, found, rm_held_before pod now ext quiet which found)
+
+pub gc_swept_quietly : (times : Times) (old new : DirSeen) (text : List ℕ) → Extends (in_process (sweeps times.now)) old.process old.trace new.trace → Quiet old.process old.trace new.trace → OwnsNothing old.process (state_after old.trace).namespace → HasSweptPods times old new text → SweepsPodsQuietly times old new (Ok text)
+gc_swept_quietly times old new text ext quiet idle x = record {
+  swept = x;
+  tells = λ conforming. gc_tells times x.lines ext quiet x.swept conforming;
+  kept = λ conforming. gc_kept times x.lines ext quiet x.swept conforming;
+  moved = gc_moved times x.lines ext quiet x.swept;
+  had = λ conforming. gc_had times x.lines ext quiet x.swept idle conforming;
+  gone = λ conforming. gc_gone times x.lines ext quiet x.swept idle conforming;
+  busy = gc_busy times x.lines ext quiet x.swept;
+  embryos = gc_embryos times x.lines ext quiet x.swept;
+}

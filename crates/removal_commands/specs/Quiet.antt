@@ -1,0 +1,154 @@
+-- What `rm` and `gc` come to, and leave, where nobody else steps.
+use Rattle.std.specs.Prelude.{◌≡◌, ◌⊎◌, ℕ, Bool, true, false, Some, None, List, ◌∷◌, ◌++◌, Ok, Err, slice_get}
+use Rattle.std.specs.List.{list_any, AllByRecursion}
+use Rattle.dir_model.specs.declared.area.Area.{Area}
+use Rattle.dir_model.specs.declared.area.Area.TheVariants.{Embryo}
+use Rattle.dir_model.specs.declared.area.Area.TheVariants as area
+use Rattle.dir_model.specs.declared.area.Phase.{Phase}
+use Rattle.dir_model.specs.declared.area.Phase.TheVariants as kind
+use Rattle.dir_model.specs.declared.area.Phase.TheVariants.{Preparing, Prepared, Running}
+use Rattle.dir_model.specs.declared.event.Event.{Event}
+use Rattle.dir_model.specs.declared.pod.PodId.{PodId}
+use Rattle.dir_model.specs.declared.spot.Mode.{Mode}
+use Rattle.dir_model.specs.declared.spot.Mode.TheVariants.{Exclusive}
+use Rattle.dir_model.specs.declared.spot.Spot.{Spot}
+use Rattle.dir_model.specs.declared.spot.Which.{Which}
+use Rattle.dir_model.specs.Areas.{is_stage}
+use Rattle.dir_model.specs.Pods.{pod_text, pod_of}
+use Rattle.dir_trait.specs.State.{DirState, stands, folder_at}
+use Rattle.dir_trait.specs.Trace.{state_after}
+use Rattle.area_locks.specs.AreaLocks.{IsBusyElsewhere}
+use Rattle.lifecycle.specs.declared.machine.PodState.TheVariants.{Gone}
+use Rattle.lifecycle.specs.PodMachine.{pod_state}
+use Rattle.lifecycle.specs.Executions.{IsConforming}
+use Rattle.phase_read.specs.declared.found.Found.TheVariants.{At}
+use Rattle.phase_read.specs.Exact.{IsInPhase}
+use Rattle.phase_read.specs.Read.{pod_spot, is_pod_spot}
+use Rattle.phase_read.specs.Sequential.{sequential_read}
+use Rattle.pod_claim.specs.Causes.{LacksManifest}
+use Rattle.pod_steps.specs.Causes.{is_held_against}
+use Rattle.pod_removal.specs.Requests.{is_removable}
+use Rattle.pod_gc.specs.declared.ages.Times.{Times}
+use Rattle.pod_gc.specs.declared.line.Deed.TheVariants.{Moved, Deleted, Kept, Busy}
+use Rattle.pod_gc.specs.declared.line.GcLine.{GcLine}
+use Rattle.command_outcomes.specs.declared.refusal.Refusal.TheVariants.{NoPod, WrongPhase, NoManifest, PodBusy, Stray}
+use Rattle.command_outcomes.specs.Moments.{DirSeen, Outcome}
+use Rattle.removal_commands.specs.Rm.{removed_text, HasRemovedPod, HasFoundNoPod, HasFoundWrong, HasFoundNoManifest, HasFoundBusy, HasMetStrayAtPod}
+use Rattle.removal_commands.specs.Gc.{HasSweptPods, HasMetStrayInPods}
+
+-- no folder of the pod stands at any of its six places
+abbrev pub StandsNowhere : PodId → DirState → Type 0
+StandsNowhere pod s = (a : Area) → is_stage a ≡ true → stands s.namespace (pod_spot pod a) ≡ false
+
+-- the pod is gone, and so for good
+pub record IsGoneForGood (pod : PodId) (trace : List Event) : Type 0 where
+  pub is : pod_state (pod_text pod.bytes) trace ≡ Gone
+  pub nowhere : StandsNowhere pod (state_after trace)
+
+-- the pod has this phase, by its history, by the first area in which it stands, and by its lock there
+pub record HasPhaseNow (pod : PodId) (phase : Phase) (trace : List Event) : Type 0 where
+  pub area : Area
+  pub is : IsInPhase pod phase area trace
+  pub reads : sequential_read (state_after trace) pod ≡ At phase area
+
+-- or one that its removal takes
+pub record IsRemovableNow (pod : PodId) (trace : List Event) : Type 0 where
+  pub phase : Phase
+  pub removable : is_removable phase ≡ true
+  pub has : HasPhaseNow pod phase trace
+
+-- a folder stands at one of these places, and another process holds this lock of it
+pub record IsHeldNow (its_place : Spot → Bool) (which : Which) (me : ℕ) (s : DirState) : Type 0 where
+  pub folder : ℕ
+  pub place : Spot
+  pub there : slice_get s.namespace.folders folder ≡ Some (Some place)
+  pub its : its_place place ≡ true
+  pub mode : Mode
+  pub held : list_any (is_held_against me which mode folder) s.namespace.openings ≡ true
+
+-- of `rm`: the pod is gone, which could be removed before; or by the state before there was none, or it had that phase, or no manifest, or its lock was held; or by
+-- its own answers
+abbrev pub RemovesPodQuietly : PodId → DirSeen → DirSeen → Outcome → Type 0
+RemovesPodQuietly pod old new (Ok text) = (text ≡ removed_text pod) × HasRemovedPod pod old new × (IsConforming new.trace → IsGoneForGood pod new.trace × IsRemovableNow pod old.trace)
+RemovesPodQuietly pod old new (Err NoPod) = HasFoundNoPod pod old new × StandsNowhere pod (state_after old.trace)
+RemovesPodQuietly pod old new (Err (WrongPhase phase)) = HasFoundWrong pod phase old new × (IsConforming new.trace → HasPhaseNow pod phase old.trace)
+RemovesPodQuietly pod old new (Err (NoManifest other)) = (other ≡ pod) × HasFoundNoManifest pod old new × (IsConforming new.trace → LacksManifest pod (state_after old.trace))
+RemovesPodQuietly pod old new (Err (PodBusy other which)) = (other ≡ pod) × HasFoundBusy pod which old new × IsHeldNow (is_pod_spot pod) which old.process (state_after old.trace)
+RemovesPodQuietly pod old new (Err Stray) = HasMetStrayAtPod pod old new
+RemovesPodQuietly pod old new (Err refusal) = ⊥
+
+-- where a sweep moves and removes folders. A removal does so at the pod's places (`is_pod_spot`)
+abbrev pub is_pods_place : Spot → Bool
+is_pods_place place = is_stage place.area
+
+-- no folder of a pod stands in embryo, unless another process held that area's lock before
+abbrev pub LeavesNoEmbryo : DirSeen → DirSeen → Type 0
+LeavesNoEmbryo old new =
+    ((name : List ℕ) (pod : PodId) → pod_of name ≡ Some pod → folder_at (state_after new.trace).namespace (record { area = Embryo; name = name }) ≡ None)
+    ⊎ IsBusyElsewhere old.process Embryo Exclusive (state_after old.trace)
+
+-- a pod in this phase is being made, waits or runs: no step of a sweep brings it there
+abbrev pub is_lasting_phase : Phase → Bool
+is_lasting_phase Preparing = true
+is_lasting_phase Prepared = true
+is_lasting_phase Running = true
+is_lasting_phase _ = false
+
+-- a pod that is kept for such a phase had it before
+abbrev pub KeptAsBefore : List Event → GcLine → Type 0
+KeptAsBefore old line = (pod : PodId) (phase : Phase) → line.pod ≡ Some pod → line.deed ≡ Kept phase → is_lasting_phase phase ≡ true → HasPhaseNow pod phase old
+
+-- the phase of a pod that the pass over this place moves
+abbrev pub swept_phase : Area → Phase
+swept_phase Embryo = kind.Embryo
+swept_phase area.Prepare = kind.AbortedPrepare
+swept_phase area.Prepared = Prepared
+swept_phase place = kind.Exited
+
+-- a pod that was moved had that phase before
+abbrev pub SweptAsBefore : List Event → GcLine → Type 0
+SweptAsBefore old line = (pod : PodId) (to : Area) → line.pod ≡ Some pod → line.deed ≡ Moved to → HasPhaseNow pod (swept_phase line.place) old
+
+-- a pod that was moved stood at that place before
+abbrev pub MovedAsBefore : List Event → GcLine → Type 0
+MovedAsBefore old line = (pod : PodId) (to : Area) → line.pod ≡ Some pod → line.deed ≡ Moved to → stands (state_after old).namespace (pod_spot pod line.place) ≡ true
+
+-- a pod that was deleted is gone at the end
+abbrev pub GoneAfter : List Event → GcLine → Type 0
+GoneAfter new line = (pod : PodId) → line.pod ≡ Some pod → line.deed ≡ Deleted → IsGoneForGood pod new
+
+-- a line of this pod at this place is among them
+pub record HasLine (place : Area) (pod : PodId) (lines : List GcLine) : Type 0 where
+  pub before : List GcLine
+  pub line : GcLine
+  pub after : List GcLine
+  pub are : lines ≡ before ++ line ∷ after
+  pub place_is : line.place ≡ place
+  pub pod_is : line.pod ≡ Some pod
+
+-- each pod that stood in an area before has a line of that place, but those in embryo where another process held that area's lock
+abbrev pub TellsOfEach : List GcLine → DirSeen → Type 0
+TellsOfEach lines old =
+    (name : List ℕ) (pod : PodId) (place : Area) → pod_of name ≡ Some pod → is_stage place ≡ true → stands (state_after old.trace).namespace (pod_spot pod place) ≡ true →
+    HasLine place pod lines ⊎ ((place ≡ Embryo) × IsBusyElsewhere old.process Embryo Exclusive (state_after old.trace))
+
+-- of a line that a lock was busy, another process held such a lock of a folder in the areas of pods before
+abbrev pub BusyAsBefore : ℕ → List Event → GcLine → Type 0
+BusyAsBefore me old line = (which : Which) → line.deed ≡ Busy which → IsHeldNow is_pods_place which me (state_after old)
+
+-- of `gc`: its lines by its own steps, one of each pod that stood before; those of kept, moved and busy pods agree with the state
+-- before, the deleted ones are gone, and no embryo is left
+pub record SweepsSo (times : Times) (old new : DirSeen) (text : List ℕ) : Type 0 where
+  pub swept : HasSweptPods times old new text
+  pub tells : IsConforming new.trace → TellsOfEach swept.lines old
+  pub kept : IsConforming new.trace → AllByRecursion (KeptAsBefore old.trace) swept.lines
+  pub moved : AllByRecursion (MovedAsBefore old.trace) swept.lines
+  pub had : IsConforming new.trace → AllByRecursion (SweptAsBefore old.trace) swept.lines
+  pub gone : IsConforming new.trace → AllByRecursion (GoneAfter new.trace) swept.lines
+  pub busy : AllByRecursion (BusyAsBefore old.process old.trace) swept.lines
+  pub embryos : LeavesNoEmbryo old new
+
+abbrev pub SweepsPodsQuietly : Times → DirSeen → DirSeen → Outcome → Type 0
+SweepsPodsQuietly times old new (Ok text) = SweepsSo times old new text
+SweepsPodsQuietly times old new (Err Stray) = HasMetStrayInPods old new
+SweepsPodsQuietly times old new (Err refusal) = ⊥
