@@ -13,6 +13,7 @@ use Rattle.dir_model.specs.declared.request.Request.TheVariants.{Begin, MoveFold
 use Rattle.dir_model.specs.declared.event.Event.{Event}
 use Rattle.dir_model.specs.declared.request.Reply.{Reply}
 use Rattle.dir_model.specs.declared.request.Reply.TheVariants.{Done}
+use Rattle.dir_model.specs.Areas.{is_stage}
 use Rattle.dir_model.specs.State.{spot_eq}
 use Rattle.dir_model.specs.Calls.{CallStep, Extends, IsRun, is_begin, is_finish}
 use Rattle.dir_model.specs.Replies.{is_look_at}
@@ -35,6 +36,7 @@ use Rattle.pod_build.specs.FaithfulBuild.{IsFaithfulBuild, HandsOverFaithfully}
 use Rattle.pod_build.specs.Preparations.{Began, MakesFaithfully}
 use Rattle.command_outcomes.specs.Conforming.{begun}
 use Rattle.store_commands.specs.ImageList.{lists_images}
+use Rattle.removal_commands.proofs.LateTurns.{or_false, or_either}
 use Rattle.run_commands.specs.RunPrepared.{runs_prepared}
 use Rattle.rkt_cli.specs.declared.line.Line.{Line}
 use Rattle.rkt_cli.specs.declared.line.Line.TheVariants.{Prepare as PrepareLine, Run as RunLine}
@@ -52,14 +54,6 @@ not_to from to off = ap (λ b. is_in Prepare from.area && b) off ∙ and_false (
 spares : (asks : Request → Bool) → ((from to : Spot) → asks (MoveFolder from to) ≡ true → hands_over (MoveFolder from to) ≡ false) → HandsNothingOver asks
 spares asks f (MoveFolder from to) is = f from to is
 spares asks f request is = refl
-
-pub or_false : (b : Bool) → (b || false) ≡ true → b ≡ true
-or_false true is = refl
-or_false false is = cc
-
-either_of : (a b : Bool) → (a || b) ≡ true → (a ≡ true) ⊎ (b ≡ true)
-either_of true b is = inl refl
-either_of false b is = inr is
 
 pub looks_none : (pod : PodId) → HandsNothingOver (is_look_at (is_pod_spot pod))
 looks_none pod = spares (is_look_at (is_pod_spot pod)) (λ from to is. cc)
@@ -84,7 +78,7 @@ led_to : (pod : PodId) (here there : Area) (from to : Spot) → is_handed_to the
 led_to pod here there from to off is = not_to from to (ap (λ (s : Spot). is_handed_to s.area) (sym (one_location (pod_spot pod there) to (and_right (spot_eq (pod_spot pod here) from) (spot_eq (pod_spot pod there) to) is))) ∙ off)
 
 pub removes_none : (pod : PodId) (now : ℕ) → HandsNothingOver (removes pod now)
-removes_none pod now = spares (removes pod now) (λ from to is. by from to (either_of _ _ is))
+removes_none pod now = spares (removes pod now) (λ from to is. by from to (or_either _ _ is))
   where
     rest : (from to : Spot) → ((spot_eq (pod_spot pod Prepared) from && spot_eq (pod_spot pod Garbage) to) ≡ true) ⊎ ((spot_eq (pod_spot pod Run) from && spot_eq (pod_spot pod ExitedGarbage) to) ≡ true) → hands_over (MoveFolder from to) ≡ false
     rest from to (inl x) = led_to pod Prepared Garbage from to refl x
@@ -93,10 +87,10 @@ removes_none pod now = spares (removes pod now) (λ from to is. by from to (eith
     by : (from to : Spot) → ((spot_eq (pod_spot pod Prepare) from && spot_eq (pod_spot pod Garbage) to) ≡ true)
         ⊎ (((spot_eq (pod_spot pod Prepared) from && spot_eq (pod_spot pod Garbage) to) || (spot_eq (pod_spot pod Run) from && spot_eq (pod_spot pod ExitedGarbage) to)) ≡ true) → hands_over (MoveFolder from to) ≡ false
     by from to (inl x) = led_to pod Prepare Garbage from to refl x
-    by from to (inr x) = rest from to (either_of _ _ x)
+    by from to (inr x) = rest from to (or_either _ _ x)
 
 pub sweeps_none : (now : ℕ) → HandsNothingOver (sweeps_pods now)
-sweeps_none now = spares (sweeps_pods now) (λ from to is. by from to (either_of _ _ is))
+sweeps_none now = spares (sweeps_pods now) (λ from to is. by from to (or_either _ _ (and_right (is_stage from.area) _ is)))
   where
     by : (from to : Spot) → ((is_in Run from.area && is_in ExitedGarbage to.area) ≡ true) ⊎ (is_in Garbage to.area ≡ true) → hands_over (MoveFolder from to) ≡ false
     by from to (inl x) = not_to from to (ap is_handed_to (sym (in_area ExitedGarbage to.area (and_right (is_in Run from.area) (is_in ExitedGarbage to.area) x))))

@@ -28,7 +28,7 @@ use Rattle.phase_read.specs.Read.{is_pod_spot}
 use Rattle.phase_read.proofs.Quiet.{read_quiet}
 use Rattle.rkt_cli.specs.declared.line.Line.{Line}
 use Rattle.rkt_cli.specs.declared.line.Line.TheVariants.{Status, Validate, ImageList, ImageImport, ImageRm, ImageGc, Prepare, RunPrepared, Run, Rm, Gc}
-use Rattle.command_outcomes.specs.declared.refusal.Refusal.TheVariants.{Usage, Busy, NoImage, DirFault, BundleFault, NoMemory, Damaged, Stray}
+use Rattle.command_outcomes.specs.declared.refusal.Refusal.TheVariants.{Usage, Busy, NoImage, NoPod, WrongPhase, NoManifest, PodBusy, DirFault, BundleFault, NoMemory, Damaged, Stray}
 use Rattle.command_outcomes.specs.Moments.{BundleSeen, Outside, Moment, SinkSeen, Outcome}
 use Rattle.command_outcomes.specs.Ends.{is_own_end, IsUnchanged, StaysBeside}
 use Rattle.rkt_cli.specs.Status.{read_outcome, sequential_status}
@@ -37,7 +37,7 @@ use Rattle.store_commands.specs.ImageImport.{IsAreaHeld, LeavesImages, ImportsQu
 use Rattle.store_commands.specs.ImageRm.{image_rm_refusal, is_removal_place, FindsBusy, RemovesQuietly}
 use Rattle.store_commands.specs.ImageGc.{is_swept_place, SweepsQuietly}
 use Rattle.command_outcomes.specs.Conforming.{begun}
-use Rattle.rkt_cli.specs.Commands.{intent_for, intent_of, asks, ComesQuietly, LeavesQuietly}
+use Rattle.rkt_cli.specs.Commands.{intent_for, intent_of, gc_intent, grace_time, expire_time, asks, ComesQuietly, LeavesQuietly}
 use Rattle.rkt_cli.specs.Runs.{CommandRan, Performs, InProcess, Apart, Printed, RunOf, RunIs, end_status}
 use Rattle.rkt_cli.specs.Statuses.{IsAnswer, IsUndisturbed, Works, IsPlainAnswer, IsQuietAnswer}
 use Rattle.rkt_cli.proofs.Grades.{graded_same}
@@ -60,6 +60,13 @@ use Rattle.store_commands.proofs.RemovalEnds.{removal_ends, none_before}
 use Rattle.store_commands.proofs.SweepEnds.{incoming_left, removed_left}
 use Rattle.store_commands.proofs.RemovalQuiet.{in_process, asks_in_process, places_beside, removal_changes, sweep_changes, held_before}
 use Rattle.store_commands.proofs.ImportQuiet.{is_modest, imports_is_modest, at_modest, end_modest}
+use Rattle.pod_removal.specs.Requests.{removes}
+use Rattle.pod_gc.specs.Requests.{sweeps as sweeps_pods}
+use Rattle.removal_commands.specs.Gc.{times_of}
+use Rattle.removal_commands.specs.Quiet.{RemovesPodQuietly, SweepsPodsQuietly, is_pods_place}
+use Rattle.removal_commands.proofs.LateTurns.{rm_moves, rm_removes, gc_moves, gc_removes}
+use Rattle.removal_commands.proofs.Quietly.{rm_removed_quietly, rm_none_quietly, rm_wrong_quietly, rm_lacking_quietly, rm_busy_quietly, gc_swept_quietly}
+use Rattle.rkt_cli.proofs.PodRemovals.{rm_intent, rm_printed, rm_done, rm_none, rm_wrong, rm_bare, rm_busy, rm_stray, gc_done, gc_stray}
 use Rattle.run_commands.specs.RunPrepared.{runs_prepared}
 use Rattle.run_commands.specs.Run.{makes_and_runs}
 use Rattle.rkt_cli.proofs.RunsQuiet.{claim_changes, run_changes}
@@ -300,6 +307,48 @@ prepare_leaves : (words : List (List ℕ)) (now : ℕ) (draw : Draw) (intent : I
 prepare_leaves words now draw intent old new o s u =
     places_beside (is_pod_place draw.uuid) (prepare_asks draw) (prepare_changes draw.uuid) (prepare_extends words now draw intent old new o s u) (u.alone refl)
 
+-- `rm` and `gc`
+rm_quiet : (pod : PodId) (now : ℕ) (draw : Draw) (old new : Outside) (o : Outcome) → InProcess (Rm pod) now draw (rm_intent pod now draw) old new o → IsUndisturbed (Some (Rm pod)) old new → is_own_end o ≡ true → RemovesPodQuietly pod old.dir new.dir o
+rm_quiet pod now draw old new o s u own = by o s own
+  where
+    t : old.dir.observed ≡ true
+    t = u.observed refl
+
+    quiet : Quiet old.dir.process old.dir.trace new.dir.trace
+    quiet = u.alone refl
+
+    ext : (o : Outcome) → InProcess (Rm pod) now draw (rm_intent pod now draw) old new o → Extends (in_process (removes pod now)) old.dir.process old.dir.trace new.dir.trace
+    ext o s = all_parts s t (in_process (removes pod now)) refl (asks_in_process (removes pod now)) refl
+
+    by : (o : Outcome) → InProcess (Rm pod) now draw (rm_intent pod now draw) old new o → is_own_end o ≡ true → RemovesPodQuietly pod old.dir new.dir o
+    by (Ok text) s own =
+        rm_removed_quietly pod now old.dir new.dir (ext (Ok text) s) quiet (idle s t quiet) text (rm_printed pod now draw (Some (rm_intent pod now draw)) old new text (inl s)) (rm_done pod now draw (Some (rm_intent pod now draw)) old new text (inl s) t)
+    by (Err NoPod) s own = rm_none_quietly pod now old.dir new.dir (ext (Err NoPod) s) quiet (rm_none pod now draw (Some (rm_intent pod now draw)) old new t (inl s))
+    by (Err (WrongPhase phase)) s own = rm_wrong_quietly pod now old.dir new.dir (ext (Err (WrongPhase phase)) s) quiet phase (rm_wrong pod now draw old new phase (inl s) t)
+    by (Err (NoManifest other)) s own =
+        let x = rm_bare pod now draw (Some (rm_intent pod now draw)) old new other (inl s) in
+        rm_lacking_quietly pod now old.dir new.dir (ext (Err (NoManifest other)) s) quiet other x.0 (x.1 t)
+    by (Err (PodBusy other which)) s own =
+        let x = rm_busy pod now draw old new other which (inl s) in
+        rm_busy_quietly pod now old.dir new.dir (ext (Err (PodBusy other which)) s) quiet other which x.0 (x.1 t)
+    by (Err Stray) s own = rm_stray pod now draw (Some (rm_intent pod now draw)) old new (inl s) t
+    by (Err NoMemory) s own = let clash : false ≡ true = own in cc
+    by (Err DirFault) s own = let clash : false ≡ true = own in cc
+    by (Err BundleFault) s own = let clash : false ≡ true = own in cc
+    by (Err r) s own = let clash : false ≡ true = s.ran.refusals in cc
+
+gc_quiet : (now : ℕ) (draw : Draw) (old new : Outside) (o : Outcome) → InProcess Gc now draw (gc_intent now draw) old new o → IsUndisturbed (Some Gc) old new → is_own_end o ≡ true →
+    SweepsPodsQuietly (times_of now grace_time expire_time) old.dir new.dir o
+gc_quiet now draw old new (Ok text) s u own =
+    let t = u.observed refl in
+    let quiet = u.alone refl in
+    gc_swept_quietly (times_of now grace_time expire_time) old.dir new.dir text (all_parts s t (in_process (sweeps_pods now)) refl (asks_in_process (sweeps_pods now)) refl) quiet (idle s t quiet) (gc_done now draw old new text (inl s) t)
+gc_quiet now draw old new (Err Stray) s u own = gc_stray now draw (Some (gc_intent now draw)) old new (inl s) (u.observed refl)
+gc_quiet now draw old new (Err NoMemory) s u own = let clash : false ≡ true = own in cc
+gc_quiet now draw old new (Err DirFault) s u own = let clash : false ≡ true = own in cc
+gc_quiet now draw old new (Err BundleFault) s u own = let clash : false ≡ true = own in cc
+gc_quiet now draw old new (Err r) s u own = let clash : false ≡ true = s.ran.refusals in cc
+
 -- each command
 comes_of : (line : Line) (now : ℕ) (draw : Draw) (intent : Intent) (old new : Outside) (o : Outcome) → intent_of line now draw ≡ Some intent → InProcess line now draw intent old new o → IsUndisturbed (Some line) old new → is_own_end o ≡ true → ComesQuietly line now draw old new o
 comes_of (Status pod) now draw intent old new o said s u own = status_quiet pod now draw intent old new o s u own
@@ -314,8 +363,10 @@ comes_of (Prepare words) now draw intent old new o said s u own =
     prepare_quiet words now draw old new o (subst (λ (i : Intent). InProcess (Prepare words) now draw i old new o) (let e : intent ≡ prepare_intent now draw = cc in e) s) u own
 comes_of (RunPrepared pod) now draw intent old new o said s u own = tt
 comes_of (Run words) now draw intent old new o said s u own = tt
-comes_of (Rm pod) now draw intent old new o said s u own = tt
-comes_of Gc now draw intent old new o said s u own = tt
+comes_of (Rm pod) now draw intent old new o said s u own =
+    rm_quiet pod now draw old new o (subst (λ (i : Intent). InProcess (Rm pod) now draw i old new o) (let e : intent ≡ rm_intent pod now draw = cc in e) s) u own
+comes_of Gc now draw intent old new o said s u own =
+    gc_quiet now draw old new o (subst (λ (i : Intent). InProcess Gc now draw i old new o) (let e : intent ≡ gc_intent now draw = cc in e) s) u own
 
 comes_apart : (line : Line) (now : ℕ) (draw : Draw) (old new : Outside) (o : Outcome) → Apart line now draw old new o → IsUndisturbed (Some line) old new → is_own_end o ≡ true → ComesQuietly line now draw old new o
 comes_apart (Status pod) now draw old new o p u own = let clash : true ≡ false = p.apart in cc
@@ -343,8 +394,10 @@ leaves_quietly (RunPrepared pod) now draw intent old new o s u =
     places_beside (is_pod_spot pod) (runs_prepared pod) (claim_changes pod) (all_parts s (u.observed refl) (in_process (runs_prepared pod)) refl (asks_in_process (runs_prepared pod)) refl) (u.alone refl)
 leaves_quietly (Run words) now draw intent old new o s u =
     places_beside (is_pod_spot draw.uuid) (makes_and_runs draw.uuid) (run_changes draw.uuid) (all_parts s (u.observed refl) (in_process (makes_and_runs draw.uuid)) refl (asks_in_process (makes_and_runs draw.uuid)) refl) (u.alone refl)
-leaves_quietly (Rm pod) now draw intent old new o s u = tt
-leaves_quietly Gc now draw intent old new o s u = tt
+leaves_quietly (Rm pod) now draw intent old new o s u =
+    places_beside (is_pod_spot pod) (removes pod now) (record { moves = rm_moves pod now; removes = rm_removes pod now }) (all_parts s (u.observed refl) (in_process (removes pod now)) refl (asks_in_process (removes pod now)) refl) (u.alone refl)
+leaves_quietly Gc now draw intent old new o s u =
+    places_beside is_pods_place (sweeps_pods now) (record { moves = gc_moves now; removes = gc_removes now }) (all_parts s (u.observed refl) (in_process (sweeps_pods now)) refl (asks_in_process (sweeps_pods now)) refl) (u.alone refl)
 
 leaves_apart : (line : Line) (now : ℕ) (draw : Draw) (old new : Outside) (o : Outcome) → Apart line now draw old new o → LeavesQuietly line now draw old.bundle.tree (state_after old.dir.trace) (state_after new.dir.trace)
 leaves_apart (Status pod) now draw old new o p = let clash : true ≡ false = p.apart in cc

@@ -17,7 +17,7 @@ use Rattle.pod_making.specs.Requests.{pod_at}
 use Rattle.run_commands.specs.RunPrepared.{runs_prepared}
 use Rattle.run_commands.specs.Run.{makes_and_runs}
 use Rattle.store_commands.proofs.RemovalQuiet.{ChangesAt}
-use Rattle.rkt_cli.proofs.Makers.{or_false}
+use Rattle.removal_commands.proofs.LateTurns.{or_false}
 
 -- a place of the pod
 its_place : (pod : PodId) (area : Area) (place : Spot) → is_stage area ≡ true → place ≡ pod_spot pod area → is_pod_spot pod place ≡ true

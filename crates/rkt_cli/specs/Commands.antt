@@ -33,6 +33,7 @@ use Rattle.run_commands.specs.RunPrepared.{runs_prepared}
 use Rattle.run_commands.specs.Run.{makes_and_runs}
 use Rattle.removal_commands.specs.Rm.{rm_refusal, RmSays}
 use Rattle.removal_commands.specs.Gc.{times_of, gc_refusal, GcSays}
+use Rattle.removal_commands.specs.Quiet.{RemovesPodQuietly, SweepsPodsQuietly, is_pods_place}
 use Rattle.pod_removal.specs.Requests.{removes}
 use Rattle.pod_gc.specs.Requests.{sweeps as sweeps_pods}
 use Rattle.rkt_cli.specs.Validate.{validate_refusal, ValidateSays, ReadsFile, sequential_validate}
@@ -201,8 +202,8 @@ ComesQuietly ImageGc now draw old new o = SweepsQuietly old.dir new.dir o
 ComesQuietly (Prepare words) now draw old new o = PreparesQuietly words now draw old.dir new.dir o
 ComesQuietly (RunPrepared pod) now draw old new o = Unit {0}
 ComesQuietly (Run words) now draw old new o = Unit {0}
-ComesQuietly (Rm pod) now draw old new o = Unit {0}
-ComesQuietly Gc now draw old new o = Unit {0}
+ComesQuietly (Rm pod) now draw old new o = RemovesPodQuietly pod old.dir new.dir o
+ComesQuietly Gc now draw old new o = SweepsPodsQuietly (times_of now grace_time expire_time) old.dir new.dir o
 
 -- and what it leaves in the directory then, from one state to the other: by its moment, its draw and the bundle's tree
 abbrev pub LeavesQuietly : Line → ℕ → Draw → Tree → DirState → DirState → Type 0
@@ -215,5 +216,5 @@ LeavesQuietly ImageGc now draw tree old new = StaysBeside is_swept_place old new
 LeavesQuietly (Prepare words) now draw tree old new = StaysBeside (is_pod_place draw.uuid) old new
 LeavesQuietly (RunPrepared pod) now draw tree old new = StaysBeside (is_pod_spot pod) old new
 LeavesQuietly (Run words) now draw tree old new = StaysBeside (is_pod_spot draw.uuid) old new
-LeavesQuietly (Rm pod) now draw tree old new = Unit {0}
-LeavesQuietly Gc now draw tree old new = Unit {0}
+LeavesQuietly (Rm pod) now draw tree old new = StaysBeside (is_pod_spot pod) old new
+LeavesQuietly Gc now draw tree old new = StaysBeside is_pods_place old new
