@@ -13,6 +13,7 @@ pub mod PodRemovals
 pub mod AppsRan
 pub mod Statuses
 pub mod QuietRun
+pub mod Completing
 pub mod Conforming
 pub mod Ran
 pub mod StoreRan

@@ -1,5 +1,6 @@
 -- What a run tells of pods and images, by its own answers or in an execution in which every process keeps the local rules.
-use Rattle.std.specs.Prelude.{◌≡◌, ◌⊎◌, ℕ, true, false, ◌||◌, ◌==◌, Option, Some, List, ◌++◌}
+use Rattle.std.specs.Prelude.{◌≡◌, ◌⊎◌, ℕ, Bool, true, false, ◌||◌, ◌==◌, Option, Some, List, [], ◌∷◌, ◌++◌}
+use Rattle.std.specs.List.{list_any}
 use Rattle.dir_model.specs.declared.area.Area.{Area}
 use Rattle.dir_model.specs.declared.area.Phase.{Phase}
 use Rattle.dir_model.specs.declared.event.Event.{Event}
@@ -13,6 +14,8 @@ use Rattle.dir_trait.specs.DirCalls.{DirAt}
 use Rattle.dir_trait.specs.Knowledge.{Knows}
 use Rattle.pod_build.specs.FaithfulBuild.{HandsOverFaithfully}
 use Rattle.command_outcomes.specs.Conforming.{begun}
+use Rattle.lifecycle.specs.Executions.{IsConforming}
+use Rattle.pod_removal.specs.Hindrances.{IsUnhinderedThroughout}
 use Rattle.phase_read.specs.Exact.{AtOwnEvent, IsInPhase, IsNowhere}
 use Rattle.rkt_cli.specs.declared.line.Line.{Line}
 use Rattle.rkt_cli.specs.declared.line.Line.TheVariants.{Status, ImageList, ImageImport, ImageRm, ImageGc, Prepare, Rm, Gc}
@@ -85,3 +88,13 @@ HandsOver old new = IsRun new.trace → HandsOverFaithfully old.process old.trac
 -- it is so where the process has just begun with the intent of its line
 abbrev pub WhereKnown : Line → ℕ → Draw → DirAt → Type 0 → Type 0
 WhereKnown line now draw old P = (intent : Intent) → intent_of line now draw ≡ Some intent → Knows old (begun intent) → P
+
+-- how a removal of a pod ends that nothing hinders: it is done, or the directory failed, its line wasn't written, memory ran out, or a reply
+-- came that the locks don't explain
+abbrev pub is_removal_end : ℕ → Bool
+is_removal_end status = list_any (λ n. n == status) (0 ∷ 9 ∷ 12 ∷ 14 ∷ 20 ∷ [])
+
+-- where every process keeps the local rules, and nothing hinders the pod's removal after any own step, `rm` ends so
+abbrev pub IsComplete : Option Line → ℕ → DirSeen → DirSeen → Type 0
+IsComplete (Some (Rm pod)) status old new = IsConforming new.trace → IsUnhinderedThroughout pod old.process old.trace new.trace → is_removal_end status ≡ true
+IsComplete _ status old new = Unit {0}

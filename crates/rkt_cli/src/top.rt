@@ -5,7 +5,7 @@ ghost use Rattle.dir_trait.specs.DirCalls.{ExtendsBy};
 ghost use Rattle.dir_trait.specs.Local.{nothing_local};
 ghost use Rattle.rkt_cli.specs.Lines.{line_in};
 ghost use Rattle.lifecycle.specs.Executions.{IsConforming};
-ghost use Rattle.rkt_cli.specs.Histories.{TellsHistory, TellsDeed, TellsLeft, HandsOver};
+ghost use Rattle.rkt_cli.specs.Histories.{TellsHistory, TellsDeed, TellsLeft, HandsOver, IsComplete};
 ghost use Rattle.pod_build.specs.LegalExecutions.{IsLegal};
 ghost use Rattle.pod_roots.specs.Roots.{AppsStartFaithfully};
 ghost use Rattle.command_outcomes.specs.Conforming.{KeepsConforming};
@@ -114,6 +114,7 @@ pub fn rkt<D: Dir, B: Bundle, S: Spawner, O: Sink, E: Sink>(
     ensures left { D.observed ≡ true → TellsLeft (line_in words.now) draw.now result (dir_at D.Dir dir.old) (dir_at D.Dir dir.new) }
     ensures history { D.observed ≡ true → IsConforming (D.shown dir.new).trace → TellsHistory (line_in words.now) now draw.now result
         (outside_at D.Dir B.Bundle dir.old bundle.old) (outside_at D.Dir B.Bundle dir.new bundle.new) (sink_at O.Sink out.old) (sink_at O.Sink out.new) }
+    ensures complete { D.observed ≡ true → IsComplete (line_in words.now) result (dir_at D.Dir dir.old) (dir_at D.Dir dir.new) }
     ensures apps { TellsApps (line_in words.now) now draw.now result (inside_at D.Dir S.Spawner dir.old spawner.old) (inside_at D.Dir S.Spawner dir.new spawner.new)
         (sink_at O.Sink out.old) (sink_at O.Sink out.new) (sink_at E.Sink err.old) (sink_at E.Sink err.new) }
     ensures out { O.observed ≡ true → IsOutput (line_in words.now) draw.now (bundle_at B.Bundle bundle.old) result (O.shown out.old).bytes (O.shown out.new).bytes }
