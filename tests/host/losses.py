@@ -1,8 +1,8 @@
 """Kills of rkt, and calls of the system that fail, on a data folder of this host; and what may stand afterwards.
 
-losses.py PROGRAM WORK SEED KILLS CALLS: in the folder WORK it kills KILLS commands at random times, and lets CALLS
+losses.py PROGRAM WORK SEED KILLS CALLS: in the folder WORK it kills commands at random times until KILLS are killed, and lets CALLS
 commands be killed at one of their system calls or have one of these fail (all of them where CALLS is 'all', but
-of a call that a command makes more than 24 times 24, evenly spread; none where it is 0). It prints a line for each fault, tables, and last how many checks there were and how many failed."""
+of a call that a command makes more than 16 times 16, evenly spread; none where it is 0). It prints a line for each fault, tables, and last how many checks there were and how many failed."""
 import collections
 import fcntl
 import json
@@ -19,8 +19,10 @@ import wholeness
 
 AREAS = ["embryo", "prepare", "prepared", "run", "exited-garbage", "garbage"]
 OLD = 1000000
+# How a call fails that doesn't answer with an error: the system answers with the end of the heap as it was.
+FAILS = {"brk": "retval=0"}
 # How many calls of one kind are tried of a command that makes more.
-MOST = 24
+MOST = 16
 STATUSES = set(range(21)) - {3, 13}
 APP = """#!/bin/sh
 echo here >sentinel
@@ -123,8 +125,10 @@ class World:
                         os.rename(f"{self.area(area)}/{pod}/{name}", f"{self.area(area)}/{pod}/{mark.group(1)}-{OLD:020}")
 
     def old(self, pod, area):
-        folder = f"{self.area(area)}/{pod}"
-        return any(name.endswith(f"-{OLD:020}") for name in os.listdir(folder))
+        """Whether a pod's time is over. A cut removal may have taken the mark of a pod in exited-garbage already."""
+        names = os.listdir(f"{self.area(area)}/{pod}")
+        cut = area == "exited-garbage" and not any(name.startswith("marked-") for name in names)
+        return cut or any(name.endswith(f"-{OLD:020}") for name in names)
 
 
 class Bundles:
@@ -350,6 +354,7 @@ class Life:
         return [*command.split(), *(["example.com/app"] if command in NEW else [])]
 
     def kill(self, command, name):
+        """Whether the command was killed before its end."""
         trial = Trial(self.tally, self.world, self.bundles, self.words(command), name)
         begun = time.monotonic()
         process = self.world.start(trial.words)
@@ -358,13 +363,16 @@ class Life:
             time.sleep(self.random.uniform(0, longest))
             process.kill()
         status = process.wait(timeout=60)
-        if status >= 0:
-            taken = time.monotonic() - begun
-            self.durations[command] = max(taken, 0.9 * self.durations.get(command, 0))
+        # So about one in three ends before its kill comes.
+        if longest is None:
+            self.durations[command] = time.monotonic() - begun
+        else:
+            self.durations[command] = longest * (1.05 if status < 0 else 0.9)
         if command in ("run", "run-prepared"):
             time.sleep(OUTLIVES)
         came = trial.judge(None if status == -signal.SIGKILL else status)
         self.tally.came[command][("killed, " if status < 0 else "ended, ") + came] += 1
+        return status < 0
 
     def end(self):
         for process, root in self.processes:
@@ -383,14 +391,16 @@ def random_kills(tally, program, work, seed, count):
     for command in COMMANDS:
         life.kill(command, f"{command}, unhindered")
     tally.came.clear()
-    for number in range(count):
+    killed = number = 0
+    while killed < count and number < 4 * count:
         command = COMMANDS[number % len(COMMANDS)]
-        life.kill(command, f"kill {number} of {command}")
-        if number % 40 == 39:
-            sweep(tally, life.world, f"after {number + 1} kills", life.living)
-    sweep(tally, life.world, f"after {count} kills", life.living)
+        killed += life.kill(command, f"kill {number} of {command}")
+        number += 1
+        if number % 40 == 0:
+            sweep(tally, life.world, f"after {killed} kills", life.living)
+    sweep(tally, life.world, f"after {killed} kills", life.living)
     life.end()
-    tally.table(f"kills at random times, by what stood afterwards ({count}, seed {seed}):")
+    tally.table(f"kills at random times, by what stood afterwards ({number} commands, {killed} of them killed, seed {seed}):")
 
 
 # Kills and failures at single calls of the system, each in a copy of one data folder.
@@ -492,7 +502,7 @@ def single_calls(tally, program, work, seed, count):
             for number in spread(times):
                 trials.append((words, call, number, "signal=KILL"))
                 if number > loaded[call]:
-                    trials.append((words, call, number, "error=EIO"))
+                    trials.append((words, call, number, FAILS.get(call, "error=EIO")))
     tally.came.clear()
     all_of_them = len(trials)
     if count != "all":
