@@ -237,6 +237,7 @@ def sweeps():
         for _ in range(100):
             data.says("run", "example.com/small")
         shutil.copytree(data.area("run"), WORK + "/hundred", symlinks=True)
+        os.sync()
         rounds.setdefault("`gc`: 100 exited pods are marked and put aside", []).append(data.rkt("gc"))
         rounds.setdefault("`gc`: 100 that rest are looked at", []).append(data.rkt("gc"))
         data.age("exited-garbage")
