@@ -2,12 +2,12 @@
 ghost use Rattle.std.specs.Prelude.{◌≡◌, IfOk};
 ghost use Rattle.dir_trait.specs.Local.{nothing_local};
 
-use crate::stage::{
+use dir_memory::MemoryDir;
+use dir_trait::{NoMemory, PodId};
+use pod_stage::{
     ASKED, DISCARDED, ENDED, EXITED, FILLED, HANDED, MADE, MANIFEST, RETIRED, Row, STARTED,
     before_in,
 };
-use dir_memory::MemoryDir;
-use dir_trait::{NoMemory, PodId};
 use std::alloc::Global;
 
 /// A dead embryo, an aborted prepare, one that is being prepared, a prepared one, an exited one, one that

@@ -6,8 +6,4 @@
 #[cfg(test)]
 mod crowd;
 #[cfg(test)]
-mod places;
-#[cfg(test)]
-mod stage;
-#[cfg(test)]
 mod sweeps;

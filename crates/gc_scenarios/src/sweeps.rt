@@ -3,13 +3,12 @@ ghost use Rattle.std.specs.Prelude.{◌≡◌, ◌≤◌};
 ghost use Rattle.dir_trait.specs.Local.{nothing_local};
 
 use crate::crowd::{U1, U2, U3, U4, U5, U6, U7, U8, with_pods};
-use crate::places::{Situation, with_pod};
-use crate::stage::{POD, Row, SWEPT, Step, before, intent};
 use conformance::keeps_rules;
 use dir_memory::MemoryDir;
 use dir_trait::{Area, Dir, Kind, Mode, NoMemory, Phase, PodId, Which};
 use lifecycle::replay;
 use pod_gc::{Deed, GcLine, gc};
+use pod_stage::{POD, Row, SWEPT, Situation, Step, before, intent, with_pod};
 use std::alloc::Global;
 use std::test::Fail;
 

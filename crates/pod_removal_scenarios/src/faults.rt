@@ -4,10 +4,10 @@ ghost use Rattle.std.specs.Prelude.{◌≡◌, ◌≤◌};
 ghost use Rattle.dir_trait.specs.Local.{nothing_local};
 
 use crate::outcome::{Came, removed, told_of};
-use crate::places::{Situation, with_pod};
 use dir_memory::MemoryDir;
 use dir_trait::NoMemory;
 use pod_removal::RemoveError;
+use pod_stage::{Situation, with_pod};
 use std::alloc::Global;
 use std::test::Fail;
 

@@ -8,10 +8,6 @@ mod faults;
 #[cfg(test)]
 mod outcome;
 #[cfg(test)]
-mod places;
-#[cfg(test)]
 mod races;
 #[cfg(test)]
 mod removals;
-#[cfg(test)]
-mod stage;

@@ -2,12 +2,12 @@
 ghost use Rattle.std.specs.Prelude.{◌≡◌};
 ghost use Rattle.dir_trait.specs.Local.{nothing_local};
 
-use crate::stage::{POD, intent};
 use conformance::keeps_rules;
 use dir_memory::MemoryDir;
 use dir_trait::{Dir, Event, Kind, NoMemory, Phase, Reply, Request};
 use lifecycle::replay;
 use pod_removal::{RemoveError, remove_pod};
+use pod_stage::{POD, intent};
 use std::alloc::Global;
 
 /// How the removal ended.
@@ -34,7 +34,7 @@ pub struct Told {
 pub fn removed<D: Dir>(alloc: Global, dir: &mut D, process: u32) -> Came
     requires { (D.shown dir.old).local ≡ nothing_local }
 {
-    match dir.begin(alloc, intent(Kind::Rm, process, 2000)) {
+    match dir.begin(alloc, intent(Kind::Rm, process, POD, 2000)) {
         Ok(()) => match remove_pod(alloc, dir, POD, 2000) {
             Ok(()) => Came::Removed,
             Err(error) => Came::Refused(error),

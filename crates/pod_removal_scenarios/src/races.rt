@@ -2,13 +2,13 @@
 ghost use Rattle.std.specs.Prelude.{◌≡◌};
 
 use crate::outcome::{Came, REMOVED, Told, told_of};
-use crate::places::{Situation, with_pod};
-use crate::stage::{
-    ASKED, DELETED, DISCARDED, EXITED, HELD, POD, RETIRED, Row, STARTED, SWEPT, before,
-};
 use dir_memory::MemoryDir;
 use dir_trait::{NoMemory, Phase, Which};
 use pod_removal::RemoveError;
+use pod_stage::{
+    ASKED, DELETED, DISCARDED, EXITED, HELD, POD, RETIRED, Row, STARTED, SWEPT, Situation, before,
+    with_pod,
+};
 use std::alloc::Global;
 use std::test::Fail;
 

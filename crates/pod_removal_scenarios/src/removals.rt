@@ -2,11 +2,10 @@
 ghost use Rattle.std.specs.Prelude.{◌≡◌};
 
 use crate::outcome::{REMOVED, Told, refused, told_of};
-use crate::places::{Situation, with_pod};
-use crate::stage::{DELETED, LEFT, POD, before};
 use dir_memory::MemoryDir;
 use dir_trait::{NoMemory, Phase, Which};
 use pod_removal::RemoveError;
+use pod_stage::{DELETED, LEFT, POD, Situation, before, with_pod};
 use std::alloc::Global;
 use std::test::Fail;
 

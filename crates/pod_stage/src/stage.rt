@@ -32,10 +32,11 @@ pub enum Step {
     Remove(Area),
 }
 
-/// A step of a process: the maker is 2, who runs the pod 3, and another that removes pods 4.
+/// A step of a process: the maker is 2, who runs the pod 3, and another that removes pods 4. For the pod of
+/// a later group, each with the group's number added.
 pub type Row = (u32, Step);
 
-// Process 2 makes the folder, with its own lock held.
+/// Process 2 makes the folder, with its own lock held.
 pub const MADE: &[Row] = &[
     (2, Step::Begin(Kind::Prepare)),
     (2, Step::OpenArea(Area::Embryo)),
@@ -154,19 +155,31 @@ pub const DELETED: &[Row] = &[
 /// It ends.
 pub const LEFT: &[Row] = &[(4, Step::Finish)];
 
-fn spot(area: Area) -> Spot {
+/// It holds the pod in exited-garbage.
+pub const KEPT: &[Row] = &[
+    (4, Step::Open(Area::ExitedGarbage, Which::Own)),
+    (4, Step::Lock(0, Mode::Exclusive)),
+];
+
+/// The pod of a group: what its maker draws.
+pub fn pod_of(group: u32) -> PodId {
+    let [drawn, _, _, _] = group.saturating_add(2).to_le_bytes();
+    PodId { bytes: [drawn; 16] }
+}
+
+fn spot(pod: PodId, area: Area) -> Spot {
     Spot {
         area,
-        name: POD.name(),
+        name: pod.name(),
     }
 }
 
 /// What a process begins with. Each draws an identity and a token of its own.
-pub fn intent(kind: Kind, process: u32, now: u64) -> Intent {
+pub fn intent(kind: Kind, process: u32, pod: PodId, now: u64) -> Intent {
     let [drawn, _, _, _] = process.to_le_bytes();
     Intent {
         kind,
-        word: PodPrefix::of(POD),
+        word: PodPrefix::of(pod),
         now,
         grace: 1800,
         expire: 86_400,
@@ -175,35 +188,35 @@ pub fn intent(kind: Kind, process: u32, now: u64) -> Intent {
     }
 }
 
-fn inner(alloc: Global, area: Area, path: &str) -> Result<Inner, NoMemory> {
+fn inner(alloc: Global, pod: PodId, area: Area, path: &str) -> Result<Inner, NoMemory> {
     Ok(Inner {
-        spot: spot(area),
+        spot: spot(pod, area),
         path: Bytes::of(alloc, path.as_bytes())?,
     })
 }
 
-fn inside(alloc: Global, step: Step) -> Result<Request, NoMemory> {
+fn inside(alloc: Global, pod: PodId, step: Step) -> Result<Request, NoMemory> {
     Ok(match step {
-        Step::MakeDir(area, path) => Request::MakeDirIn(inner(alloc, area, path)?),
-        Step::MakeFile(area, path) => Request::MakeFileIn(inner(alloc, area, path)?),
-        Step::Sync(area, path) => Request::SyncIn(inner(alloc, area, path)?),
-        Step::List(area, path) => Request::ListIn(inner(alloc, area, path)?),
-        Step::RemoveFile(area, path) => Request::RemoveFileIn(inner(alloc, area, path)?),
-        Step::RemoveDir(area, path) => Request::RemoveDirIn(inner(alloc, area, path)?),
+        Step::MakeDir(area, path) => Request::MakeDirIn(inner(alloc, pod, area, path)?),
+        Step::MakeFile(area, path) => Request::MakeFileIn(inner(alloc, pod, area, path)?),
+        Step::Sync(area, path) => Request::SyncIn(inner(alloc, pod, area, path)?),
+        Step::List(area, path) => Request::ListIn(inner(alloc, pod, area, path)?),
+        Step::RemoveFile(area, path) => Request::RemoveFileIn(inner(alloc, pod, area, path)?),
+        Step::RemoveDir(area, path) => Request::RemoveDirIn(inner(alloc, pod, area, path)?),
         _ => Request::Finish,
     })
 }
 
-fn request(alloc: Global, process: u32, step: Step) -> Result<Request, NoMemory> {
+fn request(alloc: Global, process: u32, pod: PodId, step: Step) -> Result<Request, NoMemory> {
     match step {
-        Step::Begin(kind) => Ok(Request::Begin(intent(kind, process, 1000))),
-        Step::Make(area) => Ok(Request::MakeFolder(spot(area))),
+        Step::Begin(kind) => Ok(Request::Begin(intent(kind, process, pod, 1000))),
+        Step::Make(area) => Ok(Request::MakeFolder(spot(pod, area))),
         Step::Move(from, to) => Ok(Request::MoveFolder {
-            from: spot(from),
-            to: spot(to),
+            from: spot(pod, from),
+            to: spot(pod, to),
         }),
         Step::Open(area, which) => Ok(Request::Open {
-            spot: spot(area),
+            spot: spot(pod, area),
             which,
         }),
         Step::OpenArea(area) => Ok(Request::OpenArea(area)),
@@ -212,20 +225,36 @@ fn request(alloc: Global, process: u32, step: Step) -> Result<Request, NoMemory>
             mode,
         }),
         Step::Close(number) => Ok(Request::Close(Handle { number })),
-        Step::Remove(area) => Ok(Request::RemoveFolder(spot(area))),
-        _ => inside(alloc, step),
+        Step::Remove(area) => Ok(Request::RemoveFolder(spot(pod, area))),
+        _ => inside(alloc, pod, step),
     }
 }
 
-/// The same folder, in which these steps come before that call of process 1.
-pub fn before(alloc: Global, dir: MemoryDir, call: u64, rows: &[Row]) -> Result<MemoryDir, NoMemory>
+/// The same folder, in which these steps on a group's pod come before that call of process 1.
+pub fn before_in(
+    alloc: Global,
+    dir: MemoryDir,
+    group: u32,
+    call: u64,
+    rows: &[Row],
+) -> Result<MemoryDir, NoMemory>
     requires { dir.local ≡ nothing_local }
     ensures { IfOk result (λ dir. dir.local ≡ nothing_local) }
 {
     let mut dir = dir;
-    'rows: for (process, step) in rows {
-        let asked = request(alloc, *process, *step)?;
-        dir = dir.schedule(alloc, call, *process, asked)?;
+    'rows: for (role, step) in rows {
+        let process = group.saturating_add(*role);
+        let asked = request(alloc, process, pod_of(group), *step)?;
+        dir = dir.schedule(alloc, call, process, asked)?;
     }
+    Ok(dir)
+}
+
+/// The same on the pod of the tests that have one.
+pub fn before(alloc: Global, dir: MemoryDir, call: u64, rows: &[Row]) -> Result<MemoryDir, NoMemory>
+    requires { dir.local ≡ nothing_local }
+    ensures { IfOk result (λ dir. dir.local ≡ nothing_local) }
+{
+    let dir = before_in(alloc, dir, 0, call, rows)?;
     Ok(dir)
 }
