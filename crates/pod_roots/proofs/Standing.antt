@@ -25,8 +25,9 @@ use Rattle.folder_contents.proofs.Spots.{in_area}
 use Rattle.pod_contents.specs.Filled.{is_filled, lasting, lasting_after, IsFilled}
 use Rattle.pod_contents.proofs.Comes.{pods_are_filled}
 use Rattle.pod_plans.specs.Pods.{names_of}
-use Rattle.pod_build.specs.FaithfulBuild.{IsFaithfulBuild}
-use Rattle.pod_build.specs.LegalExecutions.{IsLegal}
+use Rattle.pod_making.specs.Handovers.{is_handed_to}
+use Rattle.pod_build.specs.FaithfulBuild.{IsFaithfulBuild, HandsOverFaithfully}
+use Rattle.pod_build.specs.LegalExecutions.{IsLegal, MakersAreFaithful}
 use Rattle.pod_roots.specs.Roots.{IsFaithfullyFilled, StandsFaithfully, PodsStandFaithfully, AppsStartFaithfully, then_marked}
 use Rattle.pod_roots.proofs.Plain.{all_lasts}
 
@@ -37,6 +38,18 @@ legal_before before later conforms legal = record {
   makers = λ h p from to rest is out hands.
       legal.makers h p from to (rest ++ later) (ap (λ l. l ++ later) is ∙ append_assoc h (event p (MoveFolder from to) Done ∷ rest) later) out hands;
 }
+
+-- where each process hands over only what it made faithfully, every maker is faithful
+handed_on : (a : Area) → hands_over Prepare a ≡ true → is_handed_to a ≡ true
+handed_on Prepared is = refl
+handed_on Run is = refl
+handed_on a is = cc
+
+pub makers_are : (trace : List Event) → ((p : ℕ) → HandsOverFaithfully p [] trace) → MakersAreFaithful trace
+makers_are trace each before p from to later is out hands =
+    let area : Prepare ≡ from.area = in_area Prepare from.area out in
+    let on : is_handed_to to.area ≡ true = handed_on to.area (ap (λ a. hands_over a to.area) area ∙ hands) in
+    (each p).so before before later from to refl is (ap (λ b. b && is_handed_to to.area) out ∙ on)
 
 hands_to_filled : (a : Area) → is_filled a ≡ true → hands_over Prepare a ≡ true
 hands_to_filled Prepared is = refl

@@ -3,7 +3,7 @@ use Rattle.std.proofs.Common.{◌≡◌, List, ◌++◌, subst}
 use Rattle.dir_model.specs.declared.event.Event.{Event}
 use Rattle.lifecycle.proofs.Draws.{conforming_left}
 use Rattle.pod_build.specs.LegalExecutions.{IsLegal}
-use Rattle.pod_roots.proofs.Standing.{legal_before, pods_stand, apps_start}
+use Rattle.pod_roots.proofs.Standing.{legal_before, makers_are, pods_stand, apps_start}
 use Rattle.pod_roots.proofs.laws.roots.Goals as goal
 
 pub returns-clause-begins : goal.returns-clause-begins
@@ -16,3 +16,6 @@ returns-clause-stand c = λ legal. pods_stand c.args.history.now.items legal
 
 pub returns-clause-start : goal.returns-clause-start
 returns-clause-start c = λ legal. apps_start c.args.history.now.items legal
+
+pub returns-clause-makers : goal.returns-clause-makers
+returns-clause-makers c = makers_are c.args.history.now.items
