@@ -50,12 +50,12 @@ took_call {me} {request} {reply} {a} {b} untaken s = from s.own
     from (inr late) = record { more = s.meanwhile.others; grown = late.same ∙ s.meanwhile.grown; still = others_took me s.meanwhile.others s.meanwhile.foreign }
 
 -- requests that take nothing away, whatever they are answered
-pub took_by : {asks : Request → Bool} {me : ℕ} {a b : List Event} → ((r : Request) (y : Reply) → asks r ≡ true → not (takes_away r y) ≡ true) → Extends asks me a b → TookNothing me a b
-took_by {asks} {me} {a} {b} spares e = record {
-  more = e.more;
-  grown = e.grown;
-  still = all_weaker (λ x. (is_foreign me x || asks x.request) ≡ true) (Untaken me) (λ x. or_map (is_foreign me x) (asks x.request) (not (takes_away x.request x.reply)) (spares x.request x.reply)) e.more e.asked;
-}
+pub took_by : {asks : Request → Bool} {me : ℕ} {a b : List Event} → ((r : Request) (y : Reply) → asks r ≡ true → not (takes_away r y) ≡ true) → Extends asks me a b
+    → TookNothing me a b
+took_by {asks} {me} {a} {b} spares e = record { more = e.more; grown = e.grown; still = all_weaker (λ x. (is_foreign me x || asks x.request) ≡ true) (Untaken me) each e.more e.asked }
+  where
+    each : (x : Event) → (is_foreign me x || asks x.request) ≡ true → Untaken me x
+    each x = or_map (is_foreign me x) (asks x.request) (not (takes_away x.request x.reply)) (spares x.request x.reply)
 
 look_spares : (pod : PodId) (place : Area) (r : Request) (y : Reply) → looks_at pod place r ≡ true → not (takes_away r y) ≡ true
 look_spares pod place (Open spot which) y is = refl
@@ -67,6 +67,6 @@ pub took_looks : {me : ℕ} {a b : List Event} (pod : PodId) (place : Area) → 
 took_looks pod place e = took_by (look_spares pod place) e
 
 -- between a lock's taking and its close
-pub took_closed : {observed : Bool} {l : Local} {a b c d : DirAt} {h : Handle} → observed ≡ true → (pod : PodId) (place : Area) → Went observed (looks_at pod place) l a b → c.process ≡ b.process → DirCall observed c (Close h) Done d
-    → TookNothing b.process b.trace c.trace → TookNothing a.process a.trace d.trace
+pub took_closed : {observed : Bool} {l : Local} {a b c d : DirAt} {h : Handle} → observed ≡ true → (pod : PodId) (place : Area)
+    → Went observed (looks_at pod place) l a b → c.process ≡ b.process → DirCall observed c (Close h) Done d → TookNothing b.process b.trace c.trace → TookNothing a.process a.trace d.trace
 took_closed t pod place w same z x = took_more (took_more (took_looks pod place (w.extends t)) w.same x) (same ∙ w.same) (took_call refl (z.step t))

@@ -59,5 +59,6 @@ returns-clause-let_be g c =
     subst (λ (x : Result Deed GcError). IfOk x (λ deed. LetBe D.observed c.args.pod area.Embryo deed old new)) (sym c.deed_of.ensures)
     (step_let_be D.observed c.args.pod area.Embryo (Moved area.Garbage) old new refl (λ is. cc) c.put_aside-answer.result
     (err_more (λ e. (which : Which) → e ≡ stop.Busy which → ⊥) (λ e. BusyByLooks D.observed c.args.pod area.Embryo e old new) c.put_aside-answer.result (λ e never which is t. absurd (never which is)) calm)
-    (err_more (λ e. (which : Which) → e ≡ stop.Busy which → ⊥) (λ e. (which : Which) → e ≡ stop.Busy which → may_be_busy area.Embryo ≡ true) c.put_aside-answer.result (λ e never which is. absurd (never which is)) calm)
+    (err_more (λ e. (which : Which) → e ≡ stop.Busy which → ⊥) (λ e. (which : Which) → e ≡ stop.Busy which → may_be_busy area.Embryo ≡ true) c.put_aside-answer.result
+    (λ e never which is. absurd (never which is)) calm)
     (err_more (λ e. TakesNothing D.observed old new) (λ e. MissedUntaken D.observed e old new) c.put_aside-answer.result (λ e x is. x) c.put_aside-answer.ensures.still))

@@ -172,5 +172,8 @@ returns-in_err-mark-clause-still g c =
 pub returns-clause-still : goal.returns-clause-still
 returns-clause-still g c =
     let D = g.D.Dir in
-    err_more (λ e. TakesNothing D.observed (D.shown c.mark.new.dir) (D.shown c.put_aside.new.dir)) (λ e. TakesNothing D.observed (D.shown c.args.dir.now) (D.shown c.put_aside.new.dir)) c.put_aside.result
-    (λ e x t. took_more (took_looks c.args.pod Run (c.probe.ensures.worked.extends t)) c.probe.ensures.worked.same (took_more (took_marks c.args.pod c.args.now (c.mark.ensures.worked.extends t)) c.mark.ensures.worked.same (x t))) c.put_aside.ensures.still
+    let new = D.shown c.put_aside.new.dir in
+    let looked = c.probe.ensures.worked in
+    let marked = c.mark.ensures.worked in
+    err_more (λ e. TakesNothing D.observed (D.shown c.mark.new.dir) new) (λ e. TakesNothing D.observed (D.shown c.args.dir.now) new) c.put_aside.result
+    (λ e x t. took_more (took_looks c.args.pod Run (looked.extends t)) looked.same (took_more (took_marks c.args.pod c.args.now (marked.extends t)) marked.same (x t))) c.put_aside.ensures.still

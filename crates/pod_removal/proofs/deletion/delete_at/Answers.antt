@@ -111,5 +111,7 @@ returns-in_err-own-clause-still g c =
 pub returns-clause-still : goal.returns-clause-still
 returns-clause-still g c =
     let D = g.D.Dir in
-    err_more (λ e. MissedUntaken D.observed e (D.shown c.take.new.dir) (D.shown c.delete_if_there-result.new.dir)) (λ e. MissedUntaken D.observed e (D.shown c.args.dir.now) (D.shown c.close.new.self)) c.delete_if_there-result.result
+    let mid = D.shown c.take.new.dir in
+    let late = D.shown c.delete_if_there-result.new.dir in
+    err_more (λ e. MissedUntaken D.observed e mid late) (λ e. MissedUntaken D.observed e (D.shown c.args.dir.now) (D.shown c.close.new.self)) c.delete_if_there-result.result
     (λ e x is t. took_closed t c.args.pod c.args.area c.take.ensures.went c.delete_if_there-result.ensures.worked.same c.close.ensures.called (x is t)) c.delete_if_there-result.ensures.still

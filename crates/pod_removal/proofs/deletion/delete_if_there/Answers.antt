@@ -84,9 +84,11 @@ returns-in-Ok-true-clause-still g c =
 pub returns-in-Ok-false-clause-still : goal.returns-in-Ok-false-clause-still
 returns-in-Ok-false-clause-still g c is t =
     let l = c.look.ensures in
-    took_looks c.args.pod c.args.area ((worked_look c.args.pod c.args.area (g.D.Dir.shown c.args.dir.now) (g.D.Dir.shown c.look.new.dir) c.pod_spot.ensures l.same l.faults l.local l.extends).extends t)
+    let w = worked_look c.args.pod c.args.area (g.D.Dir.shown c.args.dir.now) (g.D.Dir.shown c.look.new.dir) c.pod_spot.ensures l.same l.faults l.local l.extends in
+    took_looks c.args.pod c.args.area (w.extends t)
 
 pub returns-in-Err-clause-still : goal.returns-in-Err-clause-still
 returns-in-Err-clause-still g c is t =
     let l = c.look.ensures in
-    took_looks c.args.pod c.args.area ((worked_look c.args.pod c.args.area (g.D.Dir.shown c.args.dir.now) (g.D.Dir.shown c.look.new.dir) c.pod_spot.ensures l.same l.faults l.local l.extends).extends t)
+    let w = worked_look c.args.pod c.args.area (g.D.Dir.shown c.args.dir.now) (g.D.Dir.shown c.look.new.dir) c.pod_spot.ensures l.same l.faults l.local l.extends in
+    took_looks c.args.pod c.args.area (w.extends t)

@@ -110,11 +110,14 @@ returns-in-Err-clause-looks g c which is t = c.take.ensures.went.extends t
 pub returns-in-Ok-clause-still : goal.returns-in-Ok-clause-still
 returns-in-Ok-clause-still g c =
     let D = g.D.Dir in
-    err_more (λ e. TakesNothing D.observed (D.shown c.take.new.dir) (D.shown c.discard_under_claim-result.new.dir)) (λ e. TakesNothing D.observed (D.shown c.args.dir.now) (D.shown c.close.new.self)) c.discard_under_claim-result.result
+    let mid = D.shown c.take.new.dir in
+    let late = D.shown c.discard_under_claim-result.new.dir in
+    err_more (λ e. TakesNothing D.observed mid late) (λ e. TakesNothing D.observed (D.shown c.args.dir.now) (D.shown c.close.new.self)) c.discard_under_claim-result.result
     (λ e x t. took_closed t c.args.pod Prepared c.take.ensures.went c.discard_under_claim-result.ensures.worked.same c.close.ensures.called (x t)) c.discard_under_claim-result.ensures.still
 
 pub returns-in-Err-Missing-clause-still : goal.returns-in-Err-Missing-clause-still
-returns-in-Err-Missing-clause-still g c t = took_more (took_looks c.args.pod Prepared (c.take.ensures.went.extends t)) c.take.ensures.went.same (took_looks c.args.pod Prepared (c.without_claim.ensures.worked.extends t))
+returns-in-Err-Missing-clause-still g c t =
+    took_more (took_looks c.args.pod Prepared (c.take.ensures.went.extends t)) c.take.ensures.went.same (took_looks c.args.pod Prepared (c.without_claim.ensures.worked.extends t))
 
 pub returns-in-Err-clause-still : goal.returns-in-Err-clause-still
 returns-in-Err-clause-still g c t = took_looks c.args.pod Prepared (c.take.ensures.went.extends t)

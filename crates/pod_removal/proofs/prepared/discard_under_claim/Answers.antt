@@ -84,5 +84,6 @@ returns-in_err-probe-clause-still g c =
 pub returns-clause-still : goal.returns-clause-still
 returns-clause-still g c =
     let D = g.D.Dir in
-    err_more (λ e. TakesNothing D.observed (D.shown c.probe.new.dir) (D.shown c.put_aside.new.dir)) (λ e. TakesNothing D.observed (D.shown c.args.dir.now) (D.shown c.put_aside.new.dir)) c.put_aside.result
+    let new = D.shown c.put_aside.new.dir in
+    err_more (λ e. TakesNothing D.observed (D.shown c.probe.new.dir) new) (λ e. TakesNothing D.observed (D.shown c.args.dir.now) new) c.put_aside.result
     (λ e x t. took_more (took_looks c.args.pod Prepared (c.probe.ensures.worked.extends t)) c.probe.ensures.worked.same (x t)) c.put_aside.ensures.still
