@@ -1,11 +1,13 @@
--- A pod that is let be was looked at alone.
-use Rattle.std.proofs.Common.{◌≡◌, ◌||◌, ℕ, Bool, true, false, refl, Result, Ok, Err, IfOk, IfErr, List, sym, ap, ◌∙◌}
+-- A pod that is let be was looked at alone, and of one that isn't there nothing was moved or removed.
+use Rattle.std.proofs.Common.{◌≡◌, ◌||◌, ℕ, Bool, true, false, not, refl, Result, Ok, Err, IfOk, IfErr, List, sym, ap, ◌∙◌}
 use Rattle.dir_model.specs.declared.area.Area.{Area}
 use Rattle.dir_model.specs.declared.area.Area.TheVariants as area
 use Rattle.dir_model.specs.declared.event.Event.{Event}
 use Rattle.dir_model.specs.declared.pod.PodId.{PodId}
 use Rattle.dir_model.specs.declared.spot.Which.{Which}
 use Rattle.dir_model.specs.declared.request.Request.{Request}
+use Rattle.dir_model.specs.declared.request.Request.TheVariants.{ListIn}
+use Rattle.dir_model.specs.declared.request.Reply.{Reply}
 use Rattle.dir_model.specs.Calls.{Extends}
 use Rattle.dir_model.proofs.Chains.{and_more, extends_wider}
 use Rattle.dir_model.proofs.Lists.{or_last}
@@ -13,8 +15,10 @@ use Rattle.dir_trait.specs.DirCalls.{DirAt}
 use Rattle.pod_steps.specs.declared.setback.Setback.{Setback}
 use Rattle.pod_steps.specs.declared.setback.Setback.TheVariants as stop
 use Rattle.pod_steps.specs.Requests.{looks_at}
+use Rattle.pod_steps.specs.Taking.{takes_away, TookNothing}
+use Rattle.pod_steps.proofs.Taking.{took_by, took_looks, took_more}
 use Rattle.pod_removal.specs.Requests.{is_garbage_place}
-use Rattle.pod_removal.specs.Causes.{BusyByLooks}
+use Rattle.pod_removal.specs.Causes.{BusyByLooks, MissedUntaken}
 use Rattle.pod_gc.specs.declared.line.Deed.{Deed}
 use Rattle.pod_gc.specs.declared.line.Deed.TheVariants.{Moved, Busy, Left}
 use Rattle.pod_gc.specs.Requests.{lists_marks, looks_over, may_be_busy}
@@ -28,18 +32,30 @@ lists_also : (pod : PodId) (place : Area) (r : Request) → lists_marks pod plac
 lists_also pod place r is = ap (λ b. b || looks_at pod place r) is
 
 pub let_moved : {pod : PodId} {place to : Area} {me : ℕ} {old new : List Event} → LetBeSo pod place (Moved to) me old new
-let_moved = record { still = λ is. cc; busy = λ which is. cc }
+let_moved = record { still = λ is. cc; left = λ is. cc; busy = λ which is. cc }
 
-pub let_left : {pod : PodId} {place : Area} {me : ℕ} {old new : List Event} → LetBeSo pod place Left me old new
-let_left = record { still = λ is. cc; busy = λ which is. cc }
+pub let_left : {pod : PodId} {place : Area} {me : ℕ} {old new : List Event} → TookNothing me old new → LetBeSo pod place Left me old new
+let_left took = record { still = λ is. cc; left = λ is. took; busy = λ which is. cc }
+
+-- listings of its marks take nothing away
+lists_spare : (pod : PodId) (place : Area) (r : Request) (y : Reply) → lists_marks pod place r ≡ true → not (takes_away r y) ≡ true
+lists_spare pod place (ListIn inner) y is = refl
+lists_spare pod place r y is = cc
+
+pub took_lists : {me : ℕ} {a b : List Event} (pod : PodId) (place : Area) → Extends (lists_marks pod place) me a b → TookNothing me a b
+took_lists pod place e = took_by (lists_spare pod place) e
 
 -- by looks, and no lock is named
 pub let_looked : {pod : PodId} {place : Area} {deed : Deed} {me : ℕ} {old new : List Event} → Extends (looks_at pod place) me old new → ((which : Which) → deed ≡ Busy which → ⊥) → LetBeSo pod place deed me old new
-let_looked {pod} {place} looks calm = record { still = λ is. extends_wider (looks_also pod place) looks; busy = λ which is. absurd (calm which is) }
+let_looked {pod} {place} looks calm = record { still = λ is. extends_wider (looks_also pod place) looks; left = λ is. took_looks pod place looks; busy = λ which is. absurd (calm which is) }
 
 -- after its marks were listed
 pub let_listed : {pod : PodId} {place : Area} {deed : Deed} {me other : ℕ} {a b c : List Event} → Extends (lists_marks pod place) me a b → other ≡ me → LetBeSo pod place deed other b c → LetBeSo pod place deed me a c
-let_listed {pod} {place} lists same x = record { still = λ is. and_more (extends_wider (lists_also pod place) lists) same (x.still is); busy = x.busy }
+let_listed {pod} {place} lists same x = record {
+  still = λ is. and_more (extends_wider (lists_also pod place) lists) same (x.still is);
+  left = λ is. took_more (took_lists pod place lists) same (x.left is);
+  busy = x.busy;
+}
 
 -- after its lock was refused
 pub let_refused : {observed : Bool} {pod : PodId} {place : Area} {deed : Deed} {which : Which} (a b c : DirAt) → observed ≡ true → BusyByLooks observed pod place (stop.Busy which) a b → b.process ≡ a.process → Extends (looks_at pod place) b.process b.trace c.trace
@@ -52,16 +68,16 @@ garbage_busy area.Garbage is = refl
 garbage_busy _ is = cc
 
 -- by a step that was done or set back
-module _ (observed : Bool) (pod : PodId) (place : Area) (done : Deed) (old new : DirAt) (acts : is_let_be done ≡ false) where
+module _ (observed : Bool) (pod : PodId) (place : Area) (done : Deed) (old new : DirAt) (acts : is_let_be done ≡ false) (goes : done ≡ Left → ⊥) where
   never : {X : Type 0} → is_let_be done ≡ true → X
   never is = let clash : true ≡ false = sym is ∙ acts in cc
 
   pub step_let_be : (r : Result (Unit {0}) Setback) → IfErr r (λ e. BusyByLooks observed pod place e old new) → IfErr r (λ e. (which : Which) → e ≡ stop.Busy which → may_be_busy place ≡ true)
-      → IfOk (deed_of r done) (λ deed. LetBe observed pod place deed old new)
-  step_let_be (Ok d) looks places = λ t. record { still = λ is. never is; busy = λ which is. never (ap is_let_be is) }
-  step_let_be (Err stop.Missing) looks places = λ t. let_left
-  step_let_be (Err stop.NoManifest) looks places = λ t. let_left
-  step_let_be (Err (stop.Busy which)) looks places = λ t. record { still = λ is. extends_wider (looks_also pod place) (looks which refl t); busy = λ w is. places which refl }
-  step_let_be (Err stop.DirFault) looks places = tt
-  step_let_be (Err stop.Stray) looks places = tt
-  step_let_be (Err stop.NoMemory) looks places = tt
+      → IfErr r (λ e. MissedUntaken observed e old new) → IfOk (deed_of r done) (λ deed. LetBe observed pod place deed old new)
+  step_let_be (Ok d) looks places took = λ t. record { still = λ is. never is; left = λ is. absurd (goes is); busy = λ which is. never (ap is_let_be is) }
+  step_let_be (Err stop.Missing) looks places took = λ t. let_left (took refl t)
+  step_let_be (Err stop.NoManifest) looks places took = λ t. let_left (took refl t)
+  step_let_be (Err (stop.Busy which)) looks places took = λ t. record { still = λ is. extends_wider (looks_also pod place) (looks which refl t); left = λ is. cc; busy = λ w is. places which refl }
+  step_let_be (Err stop.DirFault) looks places took = tt
+  step_let_be (Err stop.Stray) looks places took = tt
+  step_let_be (Err stop.NoMemory) looks places took = tt

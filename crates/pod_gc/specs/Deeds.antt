@@ -19,6 +19,7 @@ use Rattle.phase_read.specs.Read.{pod_spot}
 use Rattle.phase_read.specs.Exact.{AtOwnEvent, IsInPhase}
 use Rattle.pod_steps.specs.Holding.{Stays}
 use Rattle.pod_steps.specs.Causes.{IsAbsentAt, CannotOpenAt, Did}
+use Rattle.pod_steps.specs.Taking.{TookNothing}
 use Rattle.pod_removal.specs.Requests.{is_garbage_place}
 use Rattle.pod_removal.specs.Causes.{IsBusyAt}
 use Rattle.pod_gc.specs.declared.ages.Times.{Times}
@@ -69,9 +70,11 @@ is_let_be (Kept phase) = true
 is_let_be (Busy which) = true
 is_let_be _ = false
 
--- a pod that is let be was looked at alone; and it is said to be busy only where that tells nothing of its phase
+-- a pod that is let be was looked at alone, and of one that isn't there nothing was moved or removed; and a pod is said to be busy only
+-- where that tells nothing of its phase
 pub record LetBeSo (pod : PodId) (place : Area) (deed : Deed) (me : ℕ) (old new : List Event) : Type 0 where
   pub still : is_let_be deed ≡ true → Extends (looks_over pod place) me old new
+  pub left : deed ≡ Left → TookNothing me old new
   pub busy : (which : Which) → deed ≡ Busy which → may_be_busy place ≡ true
 
 -- a deed, what it rests on, that the pod wasn't touched where it is let be, and what the ages say of it

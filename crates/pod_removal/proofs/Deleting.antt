@@ -54,6 +54,7 @@ use Rattle.pod_steps.proofs.Calls.{lock_closed}
 use Rattle.pod_steps.proofs.Knowing.{new_number}
 use Rattle.pod_steps.proofs.Seen.{none_of_filter}
 use Rattle.pod_removal.specs.Requests.{is_garbage_place, deletes_in, removes}
+use Rattle.pod_removal.specs.Causes.{is_missing}
 use Rattle.pod_removal.specs.Holding.{MayRemove, HasOwn, KeepsBut}
 use Rattle.pod_removal.proofs.CallKinds.{looks_remove}
 use Rattle.pod_removal.proofs.Closing.{given_holdings, given_kept}
@@ -140,6 +141,11 @@ pub delete_calm : (e : DeleteError) (which : Which) → delete_setback e ≡ sto
 delete_calm delete.DirFault which is = cc
 delete_calm delete.Stray which is = cc
 delete_calm delete.NoMemory which is = cc
+
+pub delete_there : (e : DeleteError) → is_missing (delete_setback e) ≡ false
+delete_there delete.DirFault = refl
+delete_there delete.Stray = refl
+delete_there delete.NoMemory = refl
 
 pub deed_removed : {spot : Spot} (pod : PodId) (a : Area) (old new : DirAt) → spot ≡ pod_spot pod a → EndsRemoved spot old new → Did (RemoveFolder (pod_spot pod a)) Done old.process old.trace new.trace
 deed_removed {spot} pod a old new is w = subst (λ (s : Spot). Did (RemoveFolder s) Done old.process old.trace new.trace) is (deeds_after (grown_by w.first) (one_deed w.last))

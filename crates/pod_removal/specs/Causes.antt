@@ -22,6 +22,7 @@ use Rattle.pod_steps.specs.declared.setback.Setback.TheVariants.{Missing, NoMani
 use Rattle.pod_claim.specs.Causes.{OpensOwnAlone}
 use Rattle.pod_steps.specs.Requests.{looks_at}
 use Rattle.pod_steps.specs.Causes.{IsAbsentAt, Did, WasStray, HeldByAnother}
+use Rattle.pod_steps.specs.Taking.{TakesNothing}
 use Rattle.pod_removal.specs.Requests.{aside, place_of}
 
 -- it doesn't stand where one with this phase does, or not where such a pod is put aside
@@ -83,3 +84,13 @@ BusyAny pod stop old new = (which : Which) → stop ≡ Busy which → IsBusyAt 
 -- where a lock was refused, nothing but looks at this place and locks there was asked for
 abbrev pub BusyByLooks : Bool → PodId → Area → Setback → DirAt → DirAt → Type 0
 BusyByLooks observed pod area stop old new = (which : Which) → stop ≡ Busy which → observed ≡ true → ExtendsBy (looks_at pod area) old new
+
+-- the pod was missing, or its manifest was
+abbrev pub is_missing : Setback → Bool
+is_missing Missing = true
+is_missing NoManifest = true
+is_missing _ = false
+
+-- where it was so, nothing was moved or removed
+abbrev pub MissedUntaken : Bool → Setback → DirAt → DirAt → Type 0
+MissedUntaken observed stop old new = is_missing stop ≡ true → TakesNothing observed old new

@@ -13,6 +13,7 @@ ghost use Rattle.pod_removal.specs.Requests.{removes, marks_at};
 ghost use Rattle.pod_steps.specs.Holding.{KeepsReady, Stays};
 ghost use Rattle.pod_removal.specs.Holding.{MayRemove, MayMark, Marked};
 ghost use Rattle.pod_steps.specs.Causes.{Stopped, IsAbsentAt, BusyElsewhere, Did};
+ghost use Rattle.pod_steps.specs.Taking.{TakesNothing};
 ghost use Rattle.pod_removal.specs.Causes.{BusyByLooks};
 
 use dir_trait::{Area, Dir, DirError, PodId};
@@ -39,6 +40,7 @@ pub fn discard_aborted<D: Dir>(
     ensures done { IfOk result (λ done. D.observed ≡ true → Did (MoveFolder (pod_spot pod area.Prepare) (pod_spot pod area.Garbage)) Done
         (D.shown dir.old).process (D.shown dir.old).trace (D.shown dir.new).trace) }
     ensures looks { IfErr result (λ e. BusyByLooks D.observed pod area.Prepare e (D.shown dir.old) (D.shown dir.new)) }
+    ensures still { IfErr result (λ e. TakesNothing D.observed (D.shown dir.old) (D.shown dir.new)) }
     ensures ready { D.observed ≡ true → Stays (MayRemove now) (D.shown dir.old) (λ s. KeepsReady s (D.shown dir.new)) }
 {
     probe(alloc, dir, pod, Area::Prepare)?;
@@ -85,6 +87,7 @@ pub fn retire_exited<D: Dir>(
     ensures done { IfOk result (λ done. D.observed ≡ true → Did (MoveFolder (pod_spot pod area.Run) (pod_spot pod area.ExitedGarbage)) Done
         (D.shown dir.old).process (D.shown dir.old).trace (D.shown dir.new).trace) }
     ensures looks { IfErr result (λ e. BusyByLooks D.observed pod area.Run e (D.shown dir.old) (D.shown dir.new)) }
+    ensures still { IfErr result (λ e. TakesNothing D.observed (D.shown dir.old) (D.shown dir.new)) }
     ensures ready { D.observed ≡ true → Stays (MayRemove now) (D.shown dir.old) (λ s. KeepsReady s (D.shown dir.new)) }
 {
     probe(alloc, dir, pod, Area::Run)?;

@@ -1,5 +1,5 @@
 // A pod in a garbage place is deleted under its own lock.
-ghost use Rattle.std.specs.Prelude.{◌≡◌, true, IfOk, IfErr};
+ghost use Rattle.std.specs.Prelude.{◌≡◌, true, false, IfOk, IfErr};
 ghost use Rattle.dir_model.specs.declared.spot.Mode.TheVariants as mode;
 ghost use Rattle.dir_model.specs.declared.spot.Which.{Which};
 ghost use Rattle.dir_model.specs.declared.request.Request.TheVariants.{RemoveFolder};
@@ -11,7 +11,7 @@ ghost use Rattle.pod_removal.specs.Requests.{is_garbage_place, deletes_in, remov
 ghost use Rattle.pod_steps.specs.Holding.{KeepsReady, Stays};
 ghost use Rattle.pod_removal.specs.Holding.{MayRemove, HasOwn, KeepsBut};
 ghost use Rattle.pod_steps.specs.Causes.{Stopped, IsAbsentAt, BusyElsewhere, Did};
-ghost use Rattle.pod_removal.specs.Causes.{BusyByLooks};
+ghost use Rattle.pod_removal.specs.Causes.{BusyByLooks, is_missing, MissedUntaken};
 
 use dir_trait::{Area, Dir, PodId, Which};
 use folder_removal::delete_folder;
@@ -31,6 +31,7 @@ fn delete_standing<D: Dir>(
     ensures worked { Worked D.observed (deletes_in pod area) (D.shown dir.old) (D.shown dir.new) }
     ensures stopped { IfErr result (λ e. Stopped D.observed pod (IsAbsentAt pod area) e (D.shown dir.old) (D.shown dir.new)) }
     ensures calm { IfErr result (λ e. (which : Which) → e ≡ Setback.Busy which → ⊥) }
+    ensures there { IfErr result (λ e. is_missing e ≡ false) }
     ensures done { IfOk result (λ done. D.observed ≡ true
         → Did (RemoveFolder (pod_spot pod area)) Done (D.shown dir.old).process (D.shown dir.old).trace (D.shown dir.new).trace) }
     ensures known { D.observed ≡ true → Stays (HasOwn pod area) (D.shown dir.old) (λ s. KeepsBut pod area s (D.shown dir.new)) }
@@ -54,6 +55,7 @@ fn delete_if_there<D: Dir>(
     ensures worked { Worked D.observed (deletes_in pod area) (D.shown dir.old) (D.shown dir.new) }
     ensures stopped { IfErr result (λ e. Stopped D.observed pod (IsAbsentAt pod area) e (D.shown dir.old) (D.shown dir.new)) }
     ensures calm { IfErr result (λ e. (which : Which) → e ≡ Setback.Busy which → ⊥) }
+    ensures still { IfErr result (λ e. MissedUntaken D.observed e (D.shown dir.old) (D.shown dir.new)) }
     ensures done { IfOk result (λ done. D.observed ≡ true
         → Did (RemoveFolder (pod_spot pod area)) Done (D.shown dir.old).process (D.shown dir.old).trace (D.shown dir.new).trace) }
     ensures known { D.observed ≡ true → Stays (HasOwn pod area) (D.shown dir.old) (λ s. KeepsBut pod area s (D.shown dir.new)) }
@@ -85,6 +87,7 @@ pub fn delete_at<D: Dir>(
     ensures done { IfOk result (λ done. D.observed ≡ true
         → Did (RemoveFolder (pod_spot pod area)) Done (D.shown dir.old).process (D.shown dir.old).trace (D.shown dir.new).trace) }
     ensures looks { IfErr result (λ e. BusyByLooks D.observed pod area e (D.shown dir.old) (D.shown dir.new)) }
+    ensures still { IfErr result (λ e. MissedUntaken D.observed e (D.shown dir.old) (D.shown dir.new)) }
     ensures ready { D.observed ≡ true → Stays (MayRemove now) (D.shown dir.old) (λ s. KeepsReady s (D.shown dir.new)) }
 {
     let own = take(alloc, dir, pod, area, Which::Own)?;

@@ -12,6 +12,7 @@ ghost use Rattle.pod_removal.specs.Requests.{removes};
 ghost use Rattle.pod_steps.specs.Holding.{KeepsReady, Stays};
 ghost use Rattle.pod_removal.specs.Holding.{MayDiscard, UnderClaim};
 ghost use Rattle.pod_steps.specs.Causes.{Stopped, IsAbsentAt, Did};
+ghost use Rattle.pod_steps.specs.Taking.{TakesNothing};
 ghost use Rattle.pod_removal.specs.Causes.{StopsAlone, StoppedAlone, BusyInPrepared, BusyByLooks};
 
 use dir_trait::{Area, Dir, PodId, Which};
@@ -35,6 +36,7 @@ fn discard_under_claim<D: Dir>(
     ensures done { IfOk result (λ done. D.observed ≡ true → Did (MoveFolder (pod_spot pod area.Prepared) (pod_spot pod area.Garbage)) Done
         (D.shown dir.old).process (D.shown dir.old).trace (D.shown dir.new).trace) }
     ensures looks { IfErr result (λ e. BusyByLooks D.observed pod area.Prepared e (D.shown dir.old) (D.shown dir.new)) }
+    ensures still { IfErr result (λ e. TakesNothing D.observed (D.shown dir.old) (D.shown dir.new)) }
     ensures ready { D.observed ≡ true → Stays (UnderClaim pod now) (D.shown dir.old) (λ s. KeepsReady s (D.shown dir.new)) }
 {
     probe(alloc, dir, pod, Area::Prepared)?;
@@ -74,6 +76,7 @@ pub fn discard_prepared<D: Dir>(
     ensures done { IfOk result (λ done. D.observed ≡ true → Did (MoveFolder (pod_spot pod area.Prepared) (pod_spot pod area.Garbage)) Done
         (D.shown dir.old).process (D.shown dir.old).trace (D.shown dir.new).trace) }
     ensures looks { IfErr result (λ e. BusyByLooks D.observed pod area.Prepared e (D.shown dir.old) (D.shown dir.new)) }
+    ensures still { IfErr result (λ e. TakesNothing D.observed (D.shown dir.old) (D.shown dir.new)) }
     ensures ready { D.observed ≡ true → Stays (MayDiscard pod now) (D.shown dir.old) (λ s. KeepsReady s (D.shown dir.new)) }
 {
     match take(alloc, dir, pod, Area::Prepared, Which::Claim) {

@@ -2,3 +2,4 @@ pub mod Seen
 pub mod Opposed
 pub mod Calls
 pub mod Knowing
+pub mod Taking

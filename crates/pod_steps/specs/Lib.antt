@@ -2,3 +2,4 @@ pub mod Setbacks
 pub mod Requests
 pub mod Holding
 pub mod Causes
+pub mod Taking

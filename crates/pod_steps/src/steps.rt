@@ -13,6 +13,7 @@ ghost use Rattle.phase_read.specs.Read.{pod_spot};
 ghost use Rattle.pod_steps.specs.Requests.{looks_at, moves};
 ghost use Rattle.pod_steps.specs.Holding.{Went, and_taken, with_lock, MayLook, MayTake, MayMove, LooksFree, KeepsReady, Stays};
 ghost use Rattle.pod_steps.specs.Causes.{Stopped, CannotOpenAt, IsAbsentAt, BusyElsewhere, Did};
+ghost use Rattle.pod_steps.specs.Taking.{TakesNothing};
 
 use crate::place::pod_spot;
 use crate::setback::{Setback, lock_setback, set_back};
@@ -95,6 +96,7 @@ pub fn put_aside<D: Dir>(
     ensures calm { IfErr result (λ e. (which : Which) → e ≡ Setback.Busy which → ⊥) }
     ensures done { IfOk result (λ done. D.observed ≡ true
         → Did (MoveFolder (pod_spot pod from) (pod_spot pod to)) Done (D.shown dir.old).process (D.shown dir.old).trace (D.shown dir.new).trace) }
+    ensures still { IfErr result (λ e. TakesNothing D.observed (D.shown dir.old) (D.shown dir.new)) }
     ensures ready { D.observed ≡ true → Stays (MayMove pod from to) (D.shown dir.old) (λ s. KeepsReady s (D.shown dir.new)) }
 {
     match dir.move_folder(alloc, pod_spot(pod, from), pod_spot(pod, to)) {

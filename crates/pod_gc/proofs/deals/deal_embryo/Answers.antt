@@ -14,7 +14,8 @@ use Rattle.pod_gc.specs.Deeds.{DeedCause, LetBe}
 use Rattle.pod_gc.proofs.Steps.{SetBackAt, set_stopped, cause_moved, step_deed, step_cause, step_calm}
 use Rattle.pod_gc.proofs.Embryos.{ready_embryo}
 use Rattle.pod_steps.specs.declared.setback.Setback.TheVariants as stop
-use Rattle.pod_removal.specs.Causes.{BusyByLooks}
+use Rattle.pod_steps.specs.Taking.{TakesNothing}
+use Rattle.pod_removal.specs.Causes.{BusyByLooks, MissedUntaken}
 use Rattle.pod_gc.specs.Requests.{may_be_busy}
 use Rattle.pod_gc.proofs.Untouched.{step_let_be}
 use Rattle.pod_gc.proofs.deals.deal_embryo.Goals as goal
@@ -56,6 +57,8 @@ returns-clause-let_be g c =
     let new = D.shown c.put_aside-answer.new.dir in
     let calm = c.put_aside-answer.ensures.calm in
     subst (λ (x : Result Deed GcError). IfOk x (λ deed. LetBe D.observed c.args.pod area.Embryo deed old new)) (sym c.deed_of.ensures)
-    (step_let_be D.observed c.args.pod area.Embryo (Moved area.Garbage) old new refl c.put_aside-answer.result
+    (step_let_be D.observed c.args.pod area.Embryo (Moved area.Garbage) old new refl (λ is. cc) c.put_aside-answer.result
     (err_more (λ e. (which : Which) → e ≡ stop.Busy which → ⊥) (λ e. BusyByLooks D.observed c.args.pod area.Embryo e old new) c.put_aside-answer.result (λ e never which is t. absurd (never which is)) calm)
-    (err_more (λ e. (which : Which) → e ≡ stop.Busy which → ⊥) (λ e. (which : Which) → e ≡ stop.Busy which → may_be_busy area.Embryo ≡ true) c.put_aside-answer.result (λ e never which is. absurd (never which is)) calm))
+    (err_more (λ e. (which : Which) → e ≡ stop.Busy which → ⊥) (λ e. (which : Which) → e ≡ stop.Busy which → may_be_busy area.Embryo ≡ true) c.put_aside-answer.result
+    (λ e never which is. absurd (never which is)) calm)
+    (err_more (λ e. TakesNothing D.observed old new) (λ e. MissedUntaken D.observed e old new) c.put_aside-answer.result (λ e x is. x) c.put_aside-answer.ensures.still))

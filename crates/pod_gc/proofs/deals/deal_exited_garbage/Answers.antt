@@ -10,7 +10,7 @@ use Rattle.pod_gc.specs.Causes.{GcCause}
 use Rattle.pod_gc.specs.Marks.{Showed, is_young}
 use Rattle.pod_gc.specs.Deeds.{DeedCause, BusyBecause, RestsBy, RestedSo, LetBe}
 use Rattle.pod_gc.proofs.Steps.{lists_deal, cause_after, rested_so, deed_later, busy_later, ready_later, gone_deed}
-use Rattle.pod_gc.proofs.Untouched.{let_left, let_listed}
+use Rattle.pod_gc.proofs.Untouched.{let_left, took_lists, let_listed}
 use Rattle.pod_gc.proofs.deals.deal_exited_garbage.Goals as goal
 
 pub returns-in_err-marked-clause-worked : goal.returns-in_err-marked-clause-worked
@@ -92,4 +92,4 @@ returns-in-Some-clause-let_be g c =
     (λ deed x t. let_listed (c.marked_at.ensures.worked.extends t) c.marked_at.ensures.worked.same (x t)) c.deal_rested.ensures.let_be
 
 pub returns-in-None-clause-let_be : goal.returns-in-None-clause-let_be
-returns-in-None-clause-let_be g c t = let_left
+returns-in-None-clause-let_be g c t = let_left (took_lists c.args.pod area.ExitedGarbage (c.marked_at.ensures.worked.extends t))

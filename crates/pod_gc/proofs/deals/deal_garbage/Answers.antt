@@ -68,5 +68,6 @@ returns-clause-let_be g c =
     let old = D.shown c.args.dir.now in
     let new = D.shown c.delete_at-answer.new.dir in
     subst (λ (x : Result Deed GcError). IfOk x (λ deed. LetBe D.observed c.args.pod c.args.area deed old new)) (sym c.deed_of.ensures)
-    (step_let_be D.observed c.args.pod c.args.area Deleted old new refl c.delete_at-answer.result c.delete_at-answer.ensures.looks
-    (err_all (λ e. (which : Which) → e ≡ stop.Busy which → may_be_busy c.args.area ≡ true) c.delete_at-answer.result (λ e which is. garbage_busy c.args.area c.requires.garbage)))
+    (step_let_be D.observed c.args.pod c.args.area Deleted old new refl (λ is. cc) c.delete_at-answer.result c.delete_at-answer.ensures.looks
+    (err_all (λ e. (which : Which) → e ≡ stop.Busy which → may_be_busy c.args.area ≡ true) c.delete_at-answer.result (λ e which is. garbage_busy c.args.area c.requires.garbage))
+    c.delete_at-answer.ensures.still)

@@ -17,7 +17,7 @@ use Rattle.pod_gc.specs.Deeds.{DeedCause, BusyBecause, WaitsBy, WaitedSo, LetBe}
 use Rattle.pod_gc.specs.Sweeping.{MaySweep, NotesMark, Ripens}
 use Rattle.pod_gc.proofs.Steps.{lists_deal, removes_deal, cause_after, gone_deed}
 use Rattle.pod_gc.proofs.Waiting.{gone_waiting, waited_so, waited_deed, ready_waited, busy_waited}
-use Rattle.pod_gc.proofs.Untouched.{let_left, let_listed}
+use Rattle.pod_gc.proofs.Untouched.{let_left, took_lists, let_listed}
 use Rattle.pod_gc.proofs.deals.deal_prepared.Goals as goal
 
 pub returns-in_err-created-clause-worked : goal.returns-in_err-created-clause-worked
@@ -107,4 +107,4 @@ returns-in-Some-clause-let_be g c =
     (λ deed x t. let_listed (c.marked_at.ensures.worked.extends t) c.marked_at.ensures.worked.same (x t)) c.deal_waiting.ensures.let_be
 
 pub returns-in-None-clause-let_be : goal.returns-in-None-clause-let_be
-returns-in-None-clause-let_be g c t = let_left
+returns-in-None-clause-let_be g c t = let_left (took_lists c.args.pod area.Prepared (c.marked_at.ensures.worked.extends t))

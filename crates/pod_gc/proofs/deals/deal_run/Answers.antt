@@ -95,4 +95,5 @@ returns-in-Err-clause-let_be g c =
     let old = D.shown c.args.dir.now in
     let new = D.shown c.retire_exited.new.dir in
     subst (λ (x : Result Deed GcError). IfOk x (λ deed. LetBe D.observed c.args.pod area.Run deed old new)) (sym c.deed_of.ensures)
-    (step_let_be D.observed c.args.pod area.Run (Moved area.ExitedGarbage) old new refl (Err c.in-Err.stop) c.in-Err.ensures.looks (λ which is. search (rules, is, c.in-Err.stop-is)))
+    (step_let_be D.observed c.args.pod area.Run (Moved area.ExitedGarbage) old new refl (λ is. cc) (Err c.in-Err.stop)
+    c.in-Err.ensures.looks (λ which is. search (rules, is, c.in-Err.stop-is)) (λ is. c.in-Err.ensures.still))

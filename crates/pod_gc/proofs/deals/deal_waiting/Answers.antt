@@ -9,7 +9,8 @@ use Rattle.folder_building.proofs.Working.{worked_none}
 use Rattle.phase_read.specs.Read.{pod_spot}
 use Rattle.pod_steps.specs.Holding.{Stays}
 use Rattle.pod_steps.specs.Causes.{Did}
-use Rattle.pod_removal.specs.Causes.{StoppedAlone, BusyInPrepared, BusyAny}
+use Rattle.pod_steps.specs.Taking.{TakesNothing}
+use Rattle.pod_removal.specs.Causes.{StoppedAlone, BusyInPrepared, BusyAny, MissedUntaken}
 use Rattle.pod_removal.specs.Holding.{MayDiscard}
 use Rattle.pod_removal.proofs.Rounds.{busy_waiting}
 use Rattle.pod_gc.specs.declared.error.GcError.{GcError}
@@ -90,8 +91,9 @@ returns-then-is_ripe-clause-let_be g c =
     let old = D.shown c.args.dir.now in
     let new = D.shown c.discard_prepared-answer.new.dir in
     subst (λ (x : Result Deed GcError). IfOk x (λ deed. LetBe D.observed c.args.pod area.Prepared deed old new)) (sym c.deed_of.ensures)
-    (step_let_be D.observed c.args.pod area.Prepared (Moved area.Garbage) old new refl c.discard_prepared-answer.result c.discard_prepared-answer.ensures.looks
-    (err_all (λ e. (which : Which) → e ≡ stop.Busy which → may_be_busy area.Prepared ≡ true) c.discard_prepared-answer.result (λ e which is. refl)))
+    (step_let_be D.observed c.args.pod area.Prepared (Moved area.Garbage) old new refl (λ is. cc) c.discard_prepared-answer.result c.discard_prepared-answer.ensures.looks
+    (err_all (λ e. (which : Which) → e ≡ stop.Busy which → may_be_busy area.Prepared ≡ true) c.discard_prepared-answer.result (λ e which is. refl))
+    (err_more (λ e. TakesNothing D.observed old new) (λ e. MissedUntaken D.observed e old new) c.discard_prepared-answer.result (λ e x is. x) c.discard_prepared-answer.ensures.still))
 
 pub returns-else-is_ripe-clause-let_be : goal.returns-else-is_ripe-clause-let_be
 returns-else-is_ripe-clause-let_be g c t = let_looked nothing_yet (λ which is. cc)

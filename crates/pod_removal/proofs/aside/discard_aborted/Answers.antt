@@ -18,6 +18,8 @@ use Rattle.pod_removal.specs.Holding.{MayRemove}
 use Rattle.pod_removal.specs.Causes.{BusyByLooks}
 use Rattle.pod_removal.proofs.CallKinds.{looks_remove, first_remove}
 use Rattle.pod_removal.proofs.Stages.{err_same, looks_aborted, same_ready, ready_aborted, err_all}
+use Rattle.pod_steps.specs.Taking.{TakesNothing}
+use Rattle.pod_steps.proofs.Taking.{took_looks, took_more}
 use Rattle.pod_removal.proofs.aside.discard_aborted.Goals as goal
 
 pub returns-in_err-probe-clause-worked : goal.returns-in_err-probe-clause-worked
@@ -102,3 +104,15 @@ returns-clause-looks g c =
     let D = g.D.Dir in
     err_more (λ e. (which : Which) → e ≡ stop.Busy which → ⊥) (λ e. BusyByLooks D.observed c.args.pod Prepare e (D.shown c.args.dir.now) (D.shown c.put_aside.new.dir)) c.put_aside.result
     (λ e calm which is t. absurd (calm which is)) c.put_aside.ensures.calm
+
+pub returns-in_err-probe-clause-still : goal.returns-in_err-probe-clause-still
+returns-in_err-probe-clause-still g c =
+    let D = g.D.Dir in
+    err_all (λ e. TakesNothing D.observed (D.shown c.args.dir.now) (D.shown c.probe.new.dir)) c.from_residual.result (λ e t. took_looks c.args.pod Prepare (c.probe.ensures.worked.extends t))
+
+pub returns-clause-still : goal.returns-clause-still
+returns-clause-still g c =
+    let D = g.D.Dir in
+    let new = D.shown c.put_aside.new.dir in
+    err_more (λ e. TakesNothing D.observed (D.shown c.probe.new.dir) new) (λ e. TakesNothing D.observed (D.shown c.args.dir.now) new) c.put_aside.result
+    (λ e x t. took_more (took_looks c.args.pod Prepare (c.probe.ensures.worked.extends t)) c.probe.ensures.worked.same (x t)) c.put_aside.ensures.still

@@ -19,6 +19,9 @@ use Rattle.pod_removal.specs.Causes.{BusyByLooks}
 use Rattle.pod_removal.proofs.CallKinds.{looks_remove, marks_remove, third_remove}
 use Rattle.pod_removal.proofs.Stages.{err_same, looks_exited, same_ready, err_all}
 use Rattle.pod_removal.proofs.Marking.{ready_exited, ready_unmarked}
+use Rattle.pod_steps.specs.Taking.{TakesNothing}
+use Rattle.pod_steps.proofs.Taking.{took_looks, took_more}
+use Rattle.pod_removal.proofs.CallKinds.{took_marks}
 use Rattle.pod_removal.proofs.aside.retire_exited.Goals as goal
 
 pub returns-in_err-probe-clause-worked : goal.returns-in_err-probe-clause-worked
@@ -154,3 +157,23 @@ returns-in_err-mark-clause-looks g c =
     err_same (λ e. BusyByLooks D.observed c.args.pod Run e old new) c.mark.result c.from_residual-in_err-mark.result
     (λ e h. search (rules, h, c.from_residual-in_err-mark.ensures, c.in_err-mark.is))
     (err_more (λ e. (which : Which) → e ≡ stop.Busy which → ⊥) (λ e. BusyByLooks D.observed c.args.pod Run e old new) c.mark.result (λ e calm which is t. absurd (calm which is)) c.mark.ensures.calm)
+
+pub returns-in_err-probe-clause-still : goal.returns-in_err-probe-clause-still
+returns-in_err-probe-clause-still g c =
+    let D = g.D.Dir in
+    err_all (λ e. TakesNothing D.observed (D.shown c.args.dir.now) (D.shown c.probe.new.dir)) c.from_residual.result (λ e t. took_looks c.args.pod Run (c.probe.ensures.worked.extends t))
+
+pub returns-in_err-mark-clause-still : goal.returns-in_err-mark-clause-still
+returns-in_err-mark-clause-still g c =
+    let D = g.D.Dir in
+    err_all (λ e. TakesNothing D.observed (D.shown c.args.dir.now) (D.shown c.mark.new.dir)) c.from_residual-in_err-mark.result
+    (λ e t. took_more (took_looks c.args.pod Run (c.probe.ensures.worked.extends t)) c.probe.ensures.worked.same (took_marks c.args.pod c.args.now (c.mark.ensures.worked.extends t)))
+
+pub returns-clause-still : goal.returns-clause-still
+returns-clause-still g c =
+    let D = g.D.Dir in
+    let new = D.shown c.put_aside.new.dir in
+    let looked = c.probe.ensures.worked in
+    let marked = c.mark.ensures.worked in
+    err_more (λ e. TakesNothing D.observed (D.shown c.mark.new.dir) new) (λ e. TakesNothing D.observed (D.shown c.args.dir.now) new) c.put_aside.result
+    (λ e x t. took_more (took_looks c.args.pod Run (looked.extends t)) looked.same (took_more (took_marks c.args.pod c.args.now (marked.extends t)) marked.same (x t))) c.put_aside.ensures.still

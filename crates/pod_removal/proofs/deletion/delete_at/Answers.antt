@@ -17,6 +17,8 @@ use Rattle.pod_removal.specs.Holding.{MayRemove}
 use Rattle.pod_removal.specs.Causes.{BusyByLooks}
 use Rattle.pod_removal.proofs.Stages.{err_same, err_all}
 use Rattle.pod_removal.proofs.Deleting.{own_stopped, takes_own, ready_owned, ready_unowned, worked_owned, worked_unowned}
+use Rattle.pod_removal.specs.Causes.{MissedUntaken}
+use Rattle.pod_steps.proofs.Taking.{took_looks, took_closed}
 use Rattle.pod_removal.proofs.deletion.delete_at.Goals as goal
 
 pub returns-in_err-own-clause-worked : goal.returns-in_err-own-clause-worked
@@ -100,3 +102,16 @@ returns-clause-looks g c =
     let D = g.D.Dir in
     err_more (λ e. (which : Which) → e ≡ stop.Busy which → ⊥) (λ e. BusyByLooks D.observed c.args.pod c.args.area e (D.shown c.args.dir.now) (D.shown c.close.new.self)) c.delete_if_there-result.result
     (λ e calm which is t. absurd (calm which is)) c.delete_if_there-result.ensures.calm
+
+pub returns-in_err-own-clause-still : goal.returns-in_err-own-clause-still
+returns-in_err-own-clause-still g c =
+    let D = g.D.Dir in
+    err_all (λ e. MissedUntaken D.observed e (D.shown c.args.dir.now) (D.shown c.take.new.dir)) c.from_residual.result (λ e is t. took_looks c.args.pod c.args.area (c.take.ensures.went.extends t))
+
+pub returns-clause-still : goal.returns-clause-still
+returns-clause-still g c =
+    let D = g.D.Dir in
+    let mid = D.shown c.take.new.dir in
+    let late = D.shown c.delete_if_there-result.new.dir in
+    err_more (λ e. MissedUntaken D.observed e mid late) (λ e. MissedUntaken D.observed e (D.shown c.args.dir.now) (D.shown c.close.new.self)) c.delete_if_there-result.result
+    (λ e x is t. took_closed t c.args.pod c.args.area c.take.ensures.went c.delete_if_there-result.ensures.worked.same c.close.ensures.called (x is t)) c.delete_if_there-result.ensures.still

@@ -1,4 +1,4 @@
-use Rattle.std.proofs.Common.{◌≡◌, true, Err, sym, ap, subst, ◌∙◌}
+use Rattle.std.proofs.Common.{◌≡◌, true, false, Err, sym, ap, subst, ◌∙◌}
 use Rattle.dir_model.specs.declared.request.Request.TheVariants.{RemoveFolder}
 use Rattle.dir_model.specs.declared.request.Reply.TheVariants.{Done}
 use Rattle.folder_building.proofs.Copying.{ok_more, err_more}
@@ -11,6 +11,8 @@ use Rattle.pod_steps.specs.Causes.{Stopped, IsAbsentAt, Did}
 use Rattle.pod_steps.proofs.Calls.{follows_none, follows_work, stops_part}
 use Rattle.pod_removal.proofs.Looking.{worked_look, missing_stops, failed_stops, look_calm}
 use Rattle.pod_removal.proofs.Deleting.{look_kinds, known_later, known_looked}
+use Rattle.pod_removal.specs.Causes.{is_missing, MissedUntaken}
+use Rattle.pod_steps.proofs.Taking.{took_looks}
 use Rattle.pod_removal.proofs.deletion.delete_if_there.Goals as goal
 
 pub returns-in-Ok-true-clause-worked : goal.returns-in-Ok-true-clause-worked
@@ -72,3 +74,21 @@ returns-in-Err-clause-calm g c which is = look_calm c.in-Err.error which (sym c.
 
 pub returns-in-Err-clause-known : goal.returns-in-Err-clause-known
 returns-in-Err-clause-known g c t = known_looked (c.look.ensures.known t)
+
+pub returns-in-Ok-true-clause-still : goal.returns-in-Ok-true-clause-still
+returns-in-Ok-true-clause-still g c =
+    let D = g.D.Dir in
+    err_more (λ e. is_missing e ≡ false) (λ e. MissedUntaken D.observed e (D.shown c.args.dir.now) (D.shown c.delete_standing.new.dir)) c.delete_standing.result
+    (λ e there is t. let clash : true ≡ false = sym is ∙ there in cc) c.delete_standing.ensures.there
+
+pub returns-in-Ok-false-clause-still : goal.returns-in-Ok-false-clause-still
+returns-in-Ok-false-clause-still g c is t =
+    let l = c.look.ensures in
+    let w = worked_look c.args.pod c.args.area (g.D.Dir.shown c.args.dir.now) (g.D.Dir.shown c.look.new.dir) c.pod_spot.ensures l.same l.faults l.local l.extends in
+    took_looks c.args.pod c.args.area (w.extends t)
+
+pub returns-in-Err-clause-still : goal.returns-in-Err-clause-still
+returns-in-Err-clause-still g c is t =
+    let l = c.look.ensures in
+    let w = worked_look c.args.pod c.args.area (g.D.Dir.shown c.args.dir.now) (g.D.Dir.shown c.look.new.dir) c.pod_spot.ensures l.same l.faults l.local l.extends in
+    took_looks c.args.pod c.args.area (w.extends t)

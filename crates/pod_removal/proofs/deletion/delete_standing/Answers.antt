@@ -4,6 +4,8 @@ use Rattle.folder_removal.specs.Removal.{is_removal_area}
 use Rattle.pod_steps.specs.declared.setback.Setback.{Setback}
 use Rattle.pod_steps.specs.Causes.{Stopped, IsAbsentAt}
 use Rattle.pod_removal.proofs.Deleting.{place_deletes, worked_delete, delete_stops, delete_calm, deed_removed, known_deleted, known_tried}
+use Rattle.pod_removal.specs.Causes.{is_missing}
+use Rattle.pod_removal.proofs.Deleting.{delete_there}
 use Rattle.pod_removal.proofs.deletion.delete_standing.Goals as goal
 
 pub delete_folder-requires-clause-area : goal.delete_folder-requires-clause-area
@@ -36,3 +38,6 @@ returns-in-Err-clause-calm g c which is = delete_calm c.in-Err.error which (sym 
 
 pub returns-in-Err-clause-known : goal.returns-in-Err-clause-known
 returns-in-Err-clause-known g c t = known_tried c.pod_spot.ensures c.requires.garbage (c.in-Err.ensures.refused t)
+
+pub returns-in-Err-clause-there : goal.returns-in-Err-clause-there
+returns-in-Err-clause-there g c = ap is_missing c.delete_setback.ensures ∙ delete_there c.in-Err.error

@@ -14,6 +14,8 @@ use Rattle.pod_steps.proofs.Calls.{follows_went, follows_call, stops_part}
 use Rattle.pod_removal.specs.Holding.{MayDiscard, UnderClaim}
 use Rattle.pod_removal.specs.Causes.{StoppedAlone, BusyInPrepared, BusyByLooks}
 use Rattle.pod_removal.proofs.Discarding.{takes_claim, discards_under, busy_within, worked_claimed, worked_alone, alone_stops, alone_busy, ready_claimed, ready_looked, ready_left, busy_claim, worked_untaken, stops_else, stops_alone, looks_alone, looks_claimed}
+use Rattle.pod_steps.specs.Taking.{TakesNothing}
+use Rattle.pod_steps.proofs.Taking.{took_looks, took_more, took_closed}
 use Rattle.pod_removal.proofs.prepared.discard_prepared.Goals as goal
 
 pub returns-in-Ok-clause-worked : goal.returns-in-Ok-clause-worked
@@ -104,3 +106,18 @@ returns-in-Err-Missing-clause-looks g c = looks_alone (g.D.Dir.shown c.args.dir.
 
 pub returns-in-Err-clause-looks : goal.returns-in-Err-clause-looks
 returns-in-Err-clause-looks g c which is t = c.take.ensures.went.extends t
+
+pub returns-in-Ok-clause-still : goal.returns-in-Ok-clause-still
+returns-in-Ok-clause-still g c =
+    let D = g.D.Dir in
+    let mid = D.shown c.take.new.dir in
+    let late = D.shown c.discard_under_claim-result.new.dir in
+    err_more (λ e. TakesNothing D.observed mid late) (λ e. TakesNothing D.observed (D.shown c.args.dir.now) (D.shown c.close.new.self)) c.discard_under_claim-result.result
+    (λ e x t. took_closed t c.args.pod Prepared c.take.ensures.went c.discard_under_claim-result.ensures.worked.same c.close.ensures.called (x t)) c.discard_under_claim-result.ensures.still
+
+pub returns-in-Err-Missing-clause-still : goal.returns-in-Err-Missing-clause-still
+returns-in-Err-Missing-clause-still g c t =
+    took_more (took_looks c.args.pod Prepared (c.take.ensures.went.extends t)) c.take.ensures.went.same (took_looks c.args.pod Prepared (c.without_claim.ensures.worked.extends t))
+
+pub returns-in-Err-clause-still : goal.returns-in-Err-clause-still
+returns-in-Err-clause-still g c t = took_looks c.args.pod Prepared (c.take.ensures.went.extends t)

@@ -1,10 +1,11 @@
-use Rattle.std.proofs.Common.{Ok, Err, sym, ap, subst, ◌∙◌}
+use Rattle.std.proofs.Common.{Ok, Err, refl, sym, ap, subst, ◌∙◌}
 use Rattle.pod_claim.proofs.Calls.{with_spots}
 use Rattle.pod_claim.proofs.Traces.{one_deed}
 use Rattle.pod_steps.specs.declared.setback.Setback.{Setback}
 use Rattle.pod_steps.specs.Causes.{Stopped, IsAbsentAt}
 use Rattle.pod_steps.proofs.Calls.{worked_move, move_stops}
 use Rattle.pod_steps.proofs.Knowing.{never_busy, ready_moved, ready_unmoved}
+use Rattle.pod_steps.proofs.Taking.{took_call}
 use Rattle.pod_steps.proofs.steps.put_aside.Goals as goal
 
 pub returns-in-Ok-clause-worked : goal.returns-in-Ok-clause-worked
@@ -30,3 +31,6 @@ returns-in-Err-clause-ready g c = ready_unmoved c.args.pod c.args.from c.args.to
 
 pub returns-in-Err-clause-calm : goal.returns-in-Err-clause-calm
 returns-in-Err-clause-calm g c which is = never_busy c.in-Err.error which (sym c.set_back.ensures ∙ is)
+
+pub returns-in-Err-clause-still : goal.returns-in-Err-clause-still
+returns-in-Err-clause-still g c t = took_call refl ((with_spots c.pod_spot.ensures c.pod_spot-2.ensures c.in-Err.ensures.called).step t)
