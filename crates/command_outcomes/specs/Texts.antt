@@ -1,6 +1,9 @@
 -- The exit statuses of refusals, and their messages.
-use Rattle.std.specs.Prelude.{ℕ, Bool, true, false, List, ◌++◌, codes}
+use Rattle.std.specs.Prelude.{ℕ, Bool, true, false, List, [], ◌∷◌, ◌++◌, if◌then◌else◌, codes}
+use Rattle.std.specs.Char.{is_ascii_control}
 use Rattle.std.specs.Fmt.{decimal}
+use Rattle.std.specs.List.{flat_map}
+use Rattle.percent_encoding.specs.Percent.{percent_encode_byte}
 use Rattle.dir_model.specs.declared.area.Area.{Area}
 use Rattle.dir_model.specs.declared.area.Area.TheVariants as area
 use Rattle.dir_model.specs.declared.spot.Which.{Which}
@@ -58,6 +61,14 @@ lock_text Claim = codes "claim"
 abbrev pub named_line : List ℕ → List ℕ → List ℕ
 named_line front name = (front ++ name) ++ codes "\n"
 
+-- a byte below 0x20, or 0x7f, as `%` and two upper-case hexadecimal digits, and any other as it is
+abbrev pub shown_byte : ℕ → List ℕ
+shown_byte byte = if is_ascii_control byte then percent_encode_byte byte else byte ∷ []
+
+-- a path as a message shows it, which is on one line
+unfoldable pub shown : List ℕ → List ℕ
+shown path = flat_map shown_byte path
+
 -- the line that is printed of it
 abbrev pub message : Refusal → List ℕ
 message Usage = codes "rkt: usage\n"
@@ -73,10 +84,10 @@ message BundleFault = codes "rkt: bundle fault\n"
 message SpawnFault = codes "rkt: spawner fault\n"
 message OutFault = codes "rkt: output fault\n"
 message NoMemory = codes "rkt: out of memory\n"
-message (NoFile path) = named_line (codes "rkt: no file: ") path
+message (NoFile path) = named_line (codes "rkt: no file: ") (shown path)
 message (Conflict key stored new) = (((((codes "rkt: conflict: " ++ key) ++ codes " ") ++ stored) ++ codes " ") ++ new) ++ codes "\n"
-message (Damaged path) = named_line (codes "rkt: damaged: ") path
-message (BadKind path) = named_line (codes "rkt: bad kind: ") path
+message (Damaged path) = named_line (codes "rkt: damaged: ") (shown path)
+message (BadKind path) = named_line (codes "rkt: bad kind: ") (shown path)
 message (Taken pod) = named_line (codes "rkt: taken: ") (pod_text pod.bytes)
 message (WrongPhase phase) = named_line (codes "rkt: wrong phase: ") (phase_text phase)
 message (PodBusy pod which) = (((codes "rkt: busy: " ++ pod_text pod.bytes) ++ codes " ") ++ lock_text which) ++ codes "\n"

@@ -1,7 +1,9 @@
 // What a command prints.
 ghost use Rattle.std.specs.Prelude.{◌≡◌, ◌++◌, [], IfOk, OnOk};
 ghost use Rattle.std.specs.Fmt.{decimal};
+ghost use Rattle.command_outcomes.specs.Texts.{shown, shown_byte};
 
+use percent_encoding::percent_encode_byte;
 use std::alloc::{AllocError, Global};
 use std::marker::Model;
 
@@ -46,6 +48,17 @@ impl Output {
         Ok(())
     }
 
+    /// Appends a path as a message shows it: no byte of it ends the line. Refused only where memory ran out.
+    #[tactic(auto, unfolding(crate::specs::Texts::shown))]
+    pub fn push_shown(&mut self, path: &str) -> Result<(), AllocError>
+        ensures { OnOk result (self.new ≡ self.old ++ shown path.now) }
+    {
+        for byte in path.as_bytes() {
+            push_shown_byte(&mut self.text, *byte)?;
+        }
+        Ok(())
+    }
+
     /// Appends a text. Refused only where memory ran out.
     pub fn append(&mut self, text: &Output) -> Result<(), AllocError>
         ensures { OnOk result (self.new ≡ self.old ++ text.now) }
@@ -68,4 +81,15 @@ impl Output {
     {
         self.text.as_slice()
     }
+}
+
+fn push_shown_byte(text: &mut Vec<u8>, byte: u8) -> Result<(), AllocError>
+    ensures { OnOk result (text.new.items ≡ text.old.items ++ shown_byte byte) }
+{
+    if byte.is_ascii_control() {
+        text.extend_from_slice(percent_encode_byte(byte).as_bytes())?;
+    } else {
+        text.push(byte)?;
+    }
+    Ok(())
 }

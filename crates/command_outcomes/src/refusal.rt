@@ -1,7 +1,7 @@
 // Why a command wasn't done.
 ghost use Rattle.std.specs.Prelude.{◌≡◌, true, IfOk, IfSome, IsNone};
 ghost use Rattle.dir_model.specs.Pods.{pod_text};
-ghost use Rattle.command_outcomes.specs.Texts.{status_of, message, area_text, named_line, lock_text, is_made};
+ghost use Rattle.command_outcomes.specs.Texts.{status_of, message, area_text, named_line, lock_text, shown, is_made};
 
 use crate::output::Output;
 use ac_types::Text;
@@ -135,10 +135,10 @@ impl Refusal {
             Refusal::NoDependency(name) => named(alloc, "rkt: no dependency: ", name),
             Refusal::Cycle(key) => named(alloc, "rkt: cycle: ", key),
             Refusal::Limit(number) => limit(alloc, *number),
-            Refusal::NoFile(path) => named(alloc, "rkt: no file: ", path),
+            Refusal::NoFile(path) => path_named(alloc, "rkt: no file: ", path),
             Refusal::Conflict(key, stored, new) => conflict(alloc, key, stored, new),
-            Refusal::Damaged(path) => named(alloc, "rkt: damaged: ", path),
-            Refusal::BadKind(path) => named(alloc, "rkt: bad kind: ", path),
+            Refusal::Damaged(path) => path_named(alloc, "rkt: damaged: ", path),
+            Refusal::BadKind(path) => path_named(alloc, "rkt: bad kind: ", path),
             Refusal::Taken(pod) => pod_named(alloc, "rkt: taken: ", *pod),
             Refusal::WrongPhase(phase) => wrong_phase(alloc, *phase),
             Refusal::PodBusy(pod, which) => pod_busy(alloc, *pod, *which),
@@ -147,6 +147,16 @@ impl Refusal {
             _ => unreachable!(),
         }
     }
+}
+
+// A line that ends with a path.
+fn path_named(alloc: Global, front: &str, path: &Text) -> Result<Output, AllocError>
+    ensures { IfOk result (λ line. line ≡ named_line front.now (shown path.now)) }
+{
+    let mut line = Output::of(alloc, front)?;
+    line.push_shown(path.as_str())?;
+    line.push("\n")?;
+    Ok(line)
 }
 
 fn bad_manifest(alloc: Global, path: &Text, number: u8) -> Result<Output, AllocError>
