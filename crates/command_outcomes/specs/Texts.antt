@@ -65,7 +65,7 @@ named_line front name = (front ++ name) ++ codes "\n"
 abbrev pub shown_byte : ℕ → List ℕ
 shown_byte byte = if is_ascii_control byte then percent_encode_byte byte else byte ∷ []
 
--- a path as a message shows it, which is on one line
+-- a path or a program word as a message shows it, which is on one line
 unfoldable pub shown : List ℕ → List ℕ
 shown path = flat_map shown_byte path
 
@@ -92,7 +92,7 @@ message (Taken pod) = named_line (codes "rkt: taken: ") (pod_text pod.bytes)
 message (WrongPhase phase) = named_line (codes "rkt: wrong phase: ") (phase_text phase)
 message (PodBusy pod which) = (((codes "rkt: busy: " ++ pod_text pod.bytes) ++ codes " ") ++ lock_text which) ++ codes "\n"
 message (NoManifest pod) = named_line (codes "rkt: no manifest: ") (pod_text pod.bytes)
-message (NoProgram app word) = (((codes "rkt: no program: " ++ app) ++ codes " ") ++ word) ++ codes "\n"
+message (NoProgram app word) = (((codes "rkt: no program: " ++ app) ++ codes " ") ++ shown word) ++ codes "\n"
 message Stray = codes "rkt: stray reply\n"
 
 -- the message has a path, a key or a number in it, so that it takes memory

@@ -275,7 +275,7 @@ fn no_program(alloc: Global, app: &Text, word: &Text) -> Result<Output, AllocErr
     let mut line = Output::of(alloc, "rkt: no program: ")?;
     line.push(app.as_str())?;
     line.push(" ")?;
-    line.push(word.as_str())?;
+    line.push_shown(word.as_str())?;
     line.push("\n")?;
     Ok(line)
 }
