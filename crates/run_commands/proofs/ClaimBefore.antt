@@ -265,16 +265,16 @@ module _ (pod : PodId) {me : ℕ} {old begun ended new : List Event} (r : Refuse
       by true is = elim (still_event free moved (met is).1) [
         | inl same ↦ sym (ap phase_of_state same) ∙ (met is).1.holds.was.is
         | inr d ↦
-          let e : Some me ≡ Some (met is).1.holds.owner = sym (ap owner_of d.0) ∙ (met is).1.holds.is in
-          let one : me ≡ (met is).1.holds.owner = cc in
-          let clash : true ≡ false = sym (same_self me) ∙ (ap (λ (q : ℕ). q == me) one ∙ (met is).1.holds.other) in cc
+            let e : Some me ≡ Some (met is).1.holds.owner = sym (ap owner_of d.0) ∙ (met is).1.holds.is in
+            let one : me ≡ (met is).1.holds.owner = cc in
+            let clash : true ≡ false = sym (same_self me) ∙ (ap (λ (q : ℕ). q == me) one ∙ (met is).1.holds.other) in cc
       ]
       by false is = elim (still_event free moved was.was) [
         | inl same ↦ sym (ap phase_of_state same) ∙ was.was.holds.is
         | inr d ↦
-          let e : Some phase.Deleting ≡ Some p = sym (ap phase_of_state d.0) ∙ was.was.holds.is in
-          let one : phase.Deleting ≡ p = cc in
-          let clash : true ≡ false = sym (deleting one) ∙ is in cc
+            let e : Some phase.Deleting ≡ Some p = sym (ap phase_of_state d.0) ∙ was.was.holds.is in
+            let one : phase.Deleting ≡ p = cc in
+            let clash : true ≡ false = sym (deleting one) ∙ is in cc
       ]
 
   -- its manifest

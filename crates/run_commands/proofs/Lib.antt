@@ -6,3 +6,4 @@ pub mod Passing
 pub mod ClaimQuiet
 pub mod ClaimBefore
 pub mod NewRunQuiet
+pub mod Quietly

@@ -15,10 +15,13 @@ use Rattle.phase_read.specs.declared.found.Found.TheVariants.{At}
 use Rattle.phase_read.specs.Exact.{IsInPhase}
 use Rattle.phase_read.specs.Sequential.{sequential_read}
 use Rattle.pod_build.specs.Preparations.{IsPrepared}
-use Rattle.pod_claim.specs.Causes.{is_held_elsewhere}
+use Rattle.pod_claim.specs.declared.error.ClaimError.{ClaimError}
+use Rattle.pod_claim.specs.declared.error.ClaimError.TheVariants as claim
+use Rattle.pod_claim.specs.Causes.{LacksManifest, is_held_elsewhere}
 use Rattle.pod_claim.specs.Requests.{in_prepared, in_run}
 use Rattle.pod_commands.specs.References.{OfReferences}
 use Rattle.pod_commands.specs.Prepare.{no_wishes}
+use Rattle.removal_commands.specs.Quiet.{StandsNowhere, HasPhaseNow}
 
 -- the pod stands in this area and has this phase: by its history, and by the first area in which it stands and its lock there
 pub record IsPhaseAt (pod : PodId) (phase : Phase) (area : Area) (trace : List Event) : Type 0 where
@@ -47,3 +50,11 @@ pub record IsClaimHeld (pod : PodId) (which : Which) (me : ℕ) (s : DirState) :
 -- a pod that was made for this process was made faithfully, and its folder is left in run
 abbrev pub HasMadeAndLeft : List (List ℕ) → ℕ → PodId → List Event → List Event → Type 0
 HasMadeAndLeft words me draw old new = OfReferences words (λ refs. (x : IsPrepared refs no_wishes me draw area.Run old new) × IsLeftInRun draw x.folder new)
+
+-- why a pod isn't claimed, by the state before
+abbrev pub UnclaimedFor : PodId → ClaimError → ℕ → List Event → List Event → Type 0
+UnclaimedFor pod claim.NoPod me old new = IsConforming new → StandsNowhere pod (state_after old)
+UnclaimedFor pod (claim.WrongPhase phase) me old new = IsConforming new → HasPhaseNow pod phase old
+UnclaimedFor pod claim.NoManifest me old new = IsConforming new → LacksManifest pod (state_after old)
+UnclaimedFor pod (claim.Busy other which) me old new = (other ≡ pod) × IsClaimHeld pod which me (state_after old)
+UnclaimedFor pod error me old new = Unit {0}
