@@ -3,3 +3,4 @@ pub mod Refusals
 pub mod Runs
 pub mod RunPrepared
 pub mod Run
+pub mod Quiet

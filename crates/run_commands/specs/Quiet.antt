@@ -1,0 +1,60 @@
+-- What `run-prepared` and `run` come to, and leave, where nobody else steps.
+use Rattle.std.specs.Prelude.{◌≡◌, ℕ, true, false, Some, List}
+use Rattle.std.specs.List.{list_any}
+use Rattle.dir_model.specs.declared.area.Area.{Area}
+use Rattle.dir_model.specs.declared.area.Area.TheVariants as area
+use Rattle.dir_model.specs.declared.area.Phase.{Phase}
+use Rattle.dir_model.specs.declared.area.Phase.TheVariants as phase
+use Rattle.dir_model.specs.declared.event.Event.{Event}
+use Rattle.dir_model.specs.declared.pod.PodId.{PodId}
+use Rattle.dir_model.specs.declared.spot.Which.{Which}
+use Rattle.dir_trait.specs.State.{DirState, folder_at, is_owned}
+use Rattle.dir_trait.specs.Trace.{state_after}
+use Rattle.lifecycle.specs.Executions.{IsConforming}
+use Rattle.phase_read.specs.declared.found.Found.TheVariants.{At}
+use Rattle.phase_read.specs.Exact.{IsInPhase}
+use Rattle.phase_read.specs.Sequential.{sequential_read}
+use Rattle.pod_build.specs.Preparations.{IsPrepared}
+use Rattle.pod_claim.specs.declared.error.ClaimError.{ClaimError}
+use Rattle.pod_claim.specs.declared.error.ClaimError.TheVariants as claim
+use Rattle.pod_claim.specs.Causes.{LacksManifest, is_held_elsewhere}
+use Rattle.pod_claim.specs.Requests.{in_prepared, in_run}
+use Rattle.pod_commands.specs.References.{OfReferences}
+use Rattle.pod_commands.specs.Prepare.{no_wishes}
+use Rattle.removal_commands.specs.Quiet.{StandsNowhere, HasPhaseNow}
+
+-- the pod stands in this area and has this phase: by its history, and by the first area in which it stands and its lock there
+pub record IsPhaseAt (pod : PodId) (phase : Phase) (area : Area) (trace : List Event) : Type 0 where
+  pub is : IsInPhase pod phase area trace
+  pub reads : sequential_read (state_after trace) pod ≡ At phase area
+
+-- the pod's folder stands in run. In a conforming execution nobody owns it
+pub record IsLeftInRun (pod : PodId) (folder : ℕ) (trace : List Event) : Type 0 where
+  pub there : folder_at (state_after trace).namespace (in_run pod) ≡ Some folder
+  pub exited : IsConforming trace → IsPhaseAt pod phase.Exited area.Run trace
+  pub unowned : IsConforming trace → is_owned (state_after trace).namespace folder ≡ false
+
+-- a pod that was claimed waited in prepared before, and its folder is left in run
+pub record HasPassed (pod : PodId) (old new : List Event) : Type 0 where
+  pub folder : ℕ
+  pub stood : folder_at (state_after old).namespace (in_prepared pod) ≡ Some folder
+  pub waited : IsConforming old → IsPhaseAt pod phase.Prepared area.Prepared old
+  pub left : IsLeftInRun pod folder new
+
+-- a folder of the pod stands in prepared, and another process holds this lock of it
+pub record IsClaimHeld (pod : PodId) (which : Which) (me : ℕ) (s : DirState) : Type 0 where
+  pub folder : ℕ
+  pub there : folder_at s.namespace (in_prepared pod) ≡ Some folder
+  pub held : list_any (is_held_elsewhere me which folder) s.namespace.openings ≡ true
+
+-- a pod that was made for this process was made faithfully, and its folder is left in run
+abbrev pub HasMadeAndLeft : List (List ℕ) → ℕ → PodId → List Event → List Event → Type 0
+HasMadeAndLeft words me draw old new = OfReferences words (λ refs. (x : IsPrepared refs no_wishes me draw area.Run old new) × IsLeftInRun draw x.folder new)
+
+-- why a pod isn't claimed, by the state before
+abbrev pub UnclaimedFor : PodId → ClaimError → ℕ → List Event → List Event → Type 0
+UnclaimedFor pod claim.NoPod me old new = IsConforming new → StandsNowhere pod (state_after old)
+UnclaimedFor pod (claim.WrongPhase phase) me old new = IsConforming new → HasPhaseNow pod phase old
+UnclaimedFor pod claim.NoManifest me old new = IsConforming new → LacksManifest pod (state_after old)
+UnclaimedFor pod (claim.Busy other which) me old new = (other ≡ pod) × IsClaimHeld pod which me (state_after old)
+UnclaimedFor pod error me old new = Unit {0}
