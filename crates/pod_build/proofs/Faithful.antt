@@ -209,9 +209,11 @@ module _ {refs : List ImageRef} {options : Wishes} {draw : Draw} {now : ℕ} {to
 pub hands_faithfully : {refs : List ImageRef} {options : Wishes} {draw : Draw} {now : ℕ} {to : Area} {intent : Intent} {under : List Held} {b : DirAt} {trace : List Event} → IsRun trace → Began to draw now intent →
     shares_images (at_work intent under nothing_made) ≡ true → Knows b (at_work intent under nothing_made) → BeforeHandingOver (ReadsThenMakes refs options draw now to intent b) b.process b.trace trace →
     HandsOverFaithfully b.process b.trace trace
-hands_faithfully {b = b} run began gate knows x = record { so = λ before meanwhile later from there begins moved out.
-    faithful_build b.process refl began gate knows (x.so before meanwhile later from there begins moved out)
-    (alive_in_run before (event b.process (MoveFolder from there) Done) later (subst IsRun moved run) refl) }
+hands_faithfully {b = b} run began gate knows x = record {
+  so = λ before meanwhile later from there begins moved out.
+      faithful_build b.process refl began gate knows (x.so before meanwhile later from there begins moved out)
+      (alive_in_run before (event b.process (MoveFolder from there) Done) later (subst IsRun moved run) refl);
+}
 
 module _ {observed : Bool} {refs : List ImageRef} {options : Wishes} {draw : Draw} {now : ℕ} {to : Area} {intent : Intent} {hs under : List Held} {a b d e : DirAt}
     (t : observed ≡ true) (run : IsRun e.trace) (began : Began to draw now intent) (ab : Follows observed a b) (de : Follows observed d e)

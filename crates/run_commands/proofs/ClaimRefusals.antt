@@ -11,7 +11,7 @@ use Rattle.pod_claim.specs.Causes.{ClaimCause}
 use Rattle.pod_claim.specs.Claims.{RefusedByAnother}
 use Rattle.pod_claim.specs.Elsewhere.{MetOwner}
 use Rattle.pod_claim.specs.Holding.{MayClaim}
-use Rattle.pod_claim.specs.Work.{Leaves, MovedNothing, TookBoth}
+use Rattle.pod_claim.specs.Work.{Grew, Leaves, MovedNothing, TookBoth}
 use Rattle.command_outcomes.specs.declared.refusal.Refusal.{Refusal}
 use Rattle.command_outcomes.specs.declared.refusal.Refusal.TheVariants.{NoPod, WrongPhase, PodBusy, DirFault, SpawnFault}
 use Rattle.command_outcomes.specs.Moments.{Answer, Inside, dir_seen, SpawnerSeen}
@@ -54,8 +54,8 @@ module _ (seen observed : Bool) (pod : PodId) (a c : DirAt) (s s' : SpawnerAt) (
   abbrev Says : Type 0
   Says = RunPreparedSays pod (inside_of seen observed a s) (inside_of seen observed c s') answer
 
-  pub claimed_says : (b : DirAt) (owned : Owned) → IsOwned pod a.local owned → (seen ≡ true → TookBoth pod owned.own a.process a.trace b.trace) → RunSays seen observed owned [] b c s s' answer → Says
-  claimed_says b owned is took says = record { from = a; to = c; begins = refl; ends = refl; so = inl (record { claimed = b; owned = owned; is_owned = is; took = took; says = says }) }
+  pub claimed_says : (b : DirAt) (owned : Owned) → IsOwned pod a.local owned → (seen ≡ true → TookBoth pod owned.own a.process a.trace b.trace) → (seen ≡ true → Grew b.trace c.trace) → RunSays seen observed owned [] b c s s' answer → Says
+  claimed_says b owned is took then says = record { from = a; to = c; begins = refl; ends = refl; so = inl (record { claimed = b; owned = owned; is_owned = is; took = took; then = then; says = says }) }
 
   pub unclaimed_says : (e : ClaimError) → answer ≡ Err (claim_refusal pod e) → ClaimCause seen pod e a c → (seen ≡ true → MovedNothing a.process a.trace c.trace) → Leaves seen MayClaim a (λ known. RefusedByAnother pod e a c) → Leaves seen MayClaim a (λ known. MetOwner pod e a c) → s' ≡ s → Says
   unclaimed_says e is cause still another owner unasked =

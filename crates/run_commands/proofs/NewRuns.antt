@@ -24,6 +24,7 @@ use Rattle.folder_building.specs.Work.{Worked}
 use Rattle.lifecycle.specs.Executions.{IsConforming}
 use Rattle.pod_ownership.specs.declared.owned.Owned.{Owned}
 use Rattle.pod_ownership.specs.Running.{IsOwned, RunsPod}
+use Rattle.pod_claim.specs.Work.{Grew}
 use Rattle.pod_making.specs.Progress.{at_work, nothing_made, handed, own_held, and_own}
 use Rattle.pod_making.specs.Work.{From, HasOwnFolder}
 use Rattle.pod_making.specs.Work as making
@@ -177,13 +178,14 @@ never_spawns r known is = cc
 module _ (seen observed : Bool) (words : List (List ℕ)) (now : ℕ) (draw : Draw) (a c : DirAt) (s s' : SpawnerAt) (answer : Answer) where
   pub made_says : (refs : List ImageRef) (b : DirAt) (owned : Owned) → AreReferences words refs → IsOwned draw.uuid a.local owned → (seen ≡ true → KnowsMade draw now owned a b)
       → (seen ≡ true → IsConforming b.trace → From (Began area.Run draw now) IsAlone nothing_made a (λ intent hs. IsPrepared refs no_wishes a.process draw.uuid area.Run a.trace b.trace))
-      → RunSays seen observed owned (pod_line draw.uuid) b c s s' answer → NewRunSays seen observed words now draw a c s s' answer
-  made_says refs b owned are is knows prepared says = inl (record {
+      → (seen ≡ true → Grew b.trace c.trace) → RunSays seen observed owned (pod_line draw.uuid) b c s s' answer → NewRunSays seen observed words now draw a c s s' answer
+  made_says refs b owned are is knows prepared then says = inl (record {
     made = b;
     owned = owned;
     is_owned = is;
     knows = knows;
     faithful = λ t conforming intent hs began alone k. (refs, are, prepared t conforming intent hs began alone k);
+    then = then;
     says = says;
   })
 

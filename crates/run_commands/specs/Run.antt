@@ -14,6 +14,7 @@ use Rattle.lifecycle.specs.Executions.{IsConforming}
 use Rattle.pod_ownership.specs.declared.owned.Owned.{Owned}
 use Rattle.pod_ownership.specs.Running.{IsOwned}
 use Rattle.pod_making.specs.Progress.{nothing_made, at_work, own_held}
+use Rattle.pod_claim.specs.Work.{Grew}
 use Rattle.pod_making.specs.Work.{From, HasOwnFolder}
 use Rattle.pod_build.specs.declared.error.BuildError.{BuildError}
 use Rattle.pod_build.specs.Requests.{prepares}
@@ -48,6 +49,7 @@ pub record MakesAndRuns (seen observed : Bool) (words : List (List ℕ)) (now : 
   pub is_owned : IsOwned draw.uuid d.local owned
   pub knows : seen ≡ true → From (Began area.Run draw now) IsAlone nothing_made d (λ intent hs. KnowsPrepared draw.uuid area.Run intent (own_held draw.uuid owned.own (Some Exclusive) ∷ []) made)
   pub faithful : seen ≡ true → IsConforming made.trace → WhereMaking draw now d (OfReferences words (λ refs. IsPrepared refs no_wishes d.process draw.uuid area.Run d.trace made.trace))
+  pub then : seen ≡ true → Grew made.trace d'.trace
   pub says : RunSays seen observed owned (pod_line draw.uuid) made d' s s' answer
 
 -- the pod wasn't made, for this cause: at most its own folder is left in embryo or prepare, and nothing was asked of the spawner

@@ -15,7 +15,7 @@ use Rattle.pod_claim.specs.Causes.{ClaimCause}
 use Rattle.pod_claim.specs.Claims.{RefusedByAnother}
 use Rattle.pod_claim.specs.Elsewhere.{MetOwner}
 use Rattle.pod_claim.specs.Holding.{MayClaim}
-use Rattle.pod_claim.specs.Work.{Leaves, MovedNothing, TookBoth}
+use Rattle.pod_claim.specs.Work.{Grew, Leaves, MovedNothing, TookBoth}
 use Rattle.stage1.specs.Runs.{runs_pod}
 use Rattle.command_outcomes.specs.Moments.{Answer, Inside}
 use Rattle.run_commands.specs.Refusals.{claim_refusal}
@@ -35,6 +35,7 @@ pub record ClaimsAndRuns (seen observed : Bool) (pod : PodId) (d d' : DirAt) (s 
   pub owned : Owned
   pub is_owned : IsOwned pod d.local owned
   pub took : seen ≡ true → TookBoth pod owned.own d.process d.trace claimed.trace
+  pub then : seen ≡ true → Grew claimed.trace d'.trace
   pub says : RunSays seen observed owned [] claimed d' s s' answer
 
 -- the claim was refused for this cause: this process moved nothing, and nothing was asked of the spawner

@@ -113,8 +113,8 @@ returns-in-Ok-clause-whole g c t intent hs began alone k =
     let make = c.make.ensures.went.extends t in
     let same = c.plan_pod.ensures.only.same in
     let made : HandsOverMade draw.uuid c.in-Ok.plan.items intent mid new = subst (λ (plan : List PlanEntry). HandsOverMade draw.uuid plan intent mid new) c.deref.ensures.value
-        (c.make.ensures.whole t intent hs (subst (λ (plan : List PlanEntry). MayMake to plan draw.uuid intent) (sym c.deref.ensures.value) (may_make began c.in-Ok.ensures.turn c.in-Ok.ensures.whole)) (under_images draw.uuid c.args.gate alone) (knows_read c.args.gate alone (c.plan_pod.ensures.known t) k)) in
+    (c.make.ensures.whole t intent hs (subst (λ (plan : List PlanEntry). MayMake to plan draw.uuid intent) (sym c.deref.ensures.value) (may_make began c.in-Ok.ensures.turn c.in-Ok.ensures.whole)) (under_images draw.uuid c.args.gate alone) (knows_read c.args.gate alone (c.plan_pod.ensures.known t) k)) in
     let Planned = λ (p : ℕ). BeforeHandingOver (ReadsThenMakes c.args.refs.now c.args.options.now draw c.args.now to intent old) p mid.trace new.trace in
     let second : Planned mid.process =
-        handed_so (λ before x. record { mid = mid; reads = worked_reads t c.plan_pod.ensures.only; plan = c.in-Ok.plan.items; planned = c.in-Ok.ensures.faithful t; makes = x.1; knew = x.0 }) (handed_among make made) in
+    handed_so (λ before x. record { mid = mid; reads = worked_reads t c.plan_pod.ensures.only; plan = c.in-Ok.plan.items; planned = c.in-Ok.ensures.faithful t; makes = x.1; knew = x.0 }) (handed_among make made) in
     handed_then read.more make.more read.grown make.grown (none_handed reads_hand_none read) (subst Planned same second)

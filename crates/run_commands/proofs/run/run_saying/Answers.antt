@@ -7,6 +7,7 @@ use Rattle.run_commands.proofs.Claimed.{is_open, still_active}
 use Rattle.run_commands.proofs.NewRuns.{kept_pod, kept_owned, made_went, unmade_went, made_worked, unmade_worked, made_knows, made_runs, made_keeps, unmade_keeps, run_in, prepare_in, never_spawns, made_says, unmade_says}
 use Rattle.pod_making.proofs.Handing.{handed_before, run_until}
 use Rattle.run_commands.proofs.NewRuns.{runs_hand_none}
+use Rattle.pod_claim.proofs.Traces.{grown_by}
 use Rattle.run_commands.proofs.run.run_saying.Goals as goal
 
 pub kept-requires : goal.kept-requires
@@ -65,7 +66,7 @@ returns-in-Ok-clause-says g c =
     made_says D.observed S.observed c.args.wanted.now c.args.now c.args.draw.now a (D.shown c.run_owned.new.dir) (S.shown c.args.spawner.now) (S.shown c.run_owned.new.spawner) c.run_owned.result c.refs.result.now b c.kept.result c.refs.ensures
     (kept_owned c.args.draw.now.uuid a.local c.in-Ok.built c.kept.result c.kept.ensures c.in-Ok.ensures.answer)
     (λ t. made_knows c.args.draw.now c.args.now c.in-Ok.built c.kept.result a b c.kept.ensures (c.in-Ok.ensures.knows t))
-    (rw c.no_options-options.ensures at c.in-Ok.ensures.prepared) (rw c.requires.line at c.run_owned.ensures.says)
+    (rw c.no_options-options.ensures at c.in-Ok.ensures.prepared) (λ t. grown_by (c.run_owned.ensures.went.extends t)) (rw c.requires.line at c.run_owned.ensures.says)
 
 pub returns-in-Err-clause-worked : goal.returns-in-Err-clause-worked
 returns-in-Err-clause-worked g c = unmade_worked c.args.draw.now.uuid (unmade_went (g.D.Dir.shown c.args.dir.now).local c.args.draw.now.uuid c.prepare.result c.in-Err.error c.in-Err.is c.prepare.ensures.went)

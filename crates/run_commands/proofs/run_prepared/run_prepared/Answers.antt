@@ -7,6 +7,7 @@ use Rattle.dir_model.specs.Pods.{pod_text}
 use Rattle.run_commands.specs.Refusals.{run_prepared_refusal}
 use Rattle.run_commands.proofs.Claimed.{none_open, claimed_went, unclaimed_went, is_open, still_active, owned_runs, claimed_worked, unclaimed_worked, claimed_keeps, unclaimed_keeps}
 use Rattle.run_commands.proofs.ClaimRefusals.{claim_fault, claim_no_spawn, claim_allowed, run_in, claimed_says, unclaimed_says}
+use Rattle.pod_claim.proofs.Traces.{grown_by}
 use Rattle.run_commands.proofs.run_prepared.run_prepared.Goals as goal
 
 pub claim-requires-clause-alone : goal.claim-requires-clause-alone
@@ -42,7 +43,7 @@ returns-in-Ok-clause-says g c =
     let D = g.D.Dir in
     let S = g.S.Spawner in
     claimed_says D.observed S.observed c.args.pod (D.shown c.args.dir.now) (D.shown c.run_owned.new.dir) (S.shown c.args.spawner.now) (S.shown c.run_owned.new.spawner) c.run_owned.result (D.shown c.claim.new.dir) c.in-Ok.owned
-    c.in-Ok.ensures.owned c.in-Ok.ensures.moved (rw c.new.ensures at c.run_owned.ensures.says)
+    c.in-Ok.ensures.owned c.in-Ok.ensures.moved (λ t. grown_by (c.run_owned.ensures.went.extends t)) (rw c.new.ensures at c.run_owned.ensures.says)
 
 pub returns-in-Err-clause-worked : goal.returns-in-Err-clause-worked
 returns-in-Err-clause-worked g c = unclaimed_worked c.args.pod (unclaimed_went (g.D.Dir.shown c.args.dir.now).local c.args.pod c.claim.result c.in-Err.error c.in-Err.is c.claim.ensures.went)
