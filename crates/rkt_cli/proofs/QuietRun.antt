@@ -37,8 +37,8 @@ use Rattle.store_commands.specs.ImageImport.{IsAreaHeld, LeavesImages, ImportsQu
 use Rattle.store_commands.specs.ImageRm.{image_rm_refusal, is_removal_place, FindsBusy, RemovesQuietly}
 use Rattle.store_commands.specs.ImageGc.{is_swept_place, SweepsQuietly}
 use Rattle.command_outcomes.specs.Conforming.{begun}
-use Rattle.rkt_cli.specs.Commands.{intent_for, intent_of, gc_intent, grace_time, expire_time, asks, ComesQuietly, LeavesQuietly}
-use Rattle.rkt_cli.specs.Runs.{CommandRan, Performs, InProcess, Apart, Printed, RunOf, RunIs, end_status}
+use Rattle.rkt_cli.specs.Commands.{uses_dir, runs_apps, intent_for, intent_of, gc_intent, grace_time, expire_time, asks, ComesQuietly, RunsQuietly, LeavesQuietly}
+use Rattle.rkt_cli.specs.Runs.{CommandRan, Performs, InProcess, Apart, Printed, RunOf, RunOfLine, RunIs, end_status, inside_in}
 use Rattle.rkt_cli.specs.Statuses.{IsAnswer, IsUndisturbed, Works, IsPlainAnswer, IsQuietAnswer}
 use Rattle.rkt_cli.proofs.Grades.{graded_same}
 use Rattle.rkt_cli.proofs.Judged.{judged_whole}
@@ -69,7 +69,7 @@ use Rattle.removal_commands.proofs.Quietly.{rm_removed_quietly, rm_none_quietly,
 use Rattle.rkt_cli.proofs.PodRemovals.{rm_intent, rm_printed, rm_done, rm_none, rm_wrong, rm_bare, rm_busy, rm_stray, gc_done, gc_stray}
 use Rattle.run_commands.specs.RunPrepared.{runs_prepared}
 use Rattle.run_commands.specs.Run.{makes_and_runs}
-use Rattle.rkt_cli.proofs.RunsQuiet.{claim_changes, run_changes}
+use Rattle.rkt_cli.proofs.RunsQuiet.{claim_changes, run_changes, runs_quietly}
 use Rattle.rkt_cli.proofs.Sessions.{all_parts, quiet_act, state_begun, idle}
 
 -- undisturbed it came to an end of its own, or memory ran out
@@ -350,22 +350,22 @@ gc_quiet now draw old new (Err BundleFault) s u own = let clash : false ≡ true
 gc_quiet now draw old new (Err r) s u own = let clash : false ≡ true = s.ran.refusals in cc
 
 -- each command
-comes_of : (line : Line) (now : ℕ) (draw : Draw) (intent : Intent) (old new : Outside) (o : Outcome) → intent_of line now draw ≡ Some intent → InProcess line now draw intent old new o → IsUndisturbed (Some line) old new → is_own_end o ≡ true → ComesQuietly line now draw old new o
-comes_of (Status pod) now draw intent old new o said s u own = status_quiet pod now draw intent old new o s u own
-comes_of (Validate path) now draw intent old new o said s u own = let clash : false ≡ true = s.uses in cc
-comes_of ImageList now draw intent old new o said s u own = list_quiet now draw intent old new o s u own
-comes_of (ImageImport path) now draw intent old new o said s u own = import_quiet path now draw intent old new o said s u own
-comes_of (ImageRm key) now draw intent old new o said s u own =
+comes_of : (line : Line) (now : ℕ) (draw : Draw) (intent : Intent) (old new : Outside) (o : Outcome) → intent_of line now draw ≡ Some intent → InProcess line now draw intent old new o → IsUndisturbed (Some line) old new → is_own_end o ≡ true → RunsQuietly line draw old.dir new.dir o → ComesQuietly line now draw old new o
+comes_of (Status pod) now draw intent old new o said s u own ran = status_quiet pod now draw intent old new o s u own
+comes_of (Validate path) now draw intent old new o said s u own ran = let clash : false ≡ true = s.uses in cc
+comes_of ImageList now draw intent old new o said s u own ran = list_quiet now draw intent old new o s u own
+comes_of (ImageImport path) now draw intent old new o said s u own ran = import_quiet path now draw intent old new o said s u own
+comes_of (ImageRm key) now draw intent old new o said s u own ran =
     removal_quiet key now draw old new o (subst (λ (i : Intent). InProcess (ImageRm key) now draw i old new o) (let e : intent ≡ removal_intent now draw = cc in e) s) u own
-comes_of ImageGc now draw intent old new o said s u own =
+comes_of ImageGc now draw intent old new o said s u own ran =
     sweep_quiet now draw old new o (subst (λ (i : Intent). InProcess ImageGc now draw i old new o) (let e : intent ≡ intent_for kind.ImageGc [] now draw = cc in e) s) u own
-comes_of (Prepare words) now draw intent old new o said s u own =
+comes_of (Prepare words) now draw intent old new o said s u own ran =
     prepare_quiet words now draw old new o (subst (λ (i : Intent). InProcess (Prepare words) now draw i old new o) (let e : intent ≡ prepare_intent now draw = cc in e) s) u own
-comes_of (RunPrepared pod) now draw intent old new o said s u own = tt
-comes_of (Run words) now draw intent old new o said s u own = tt
-comes_of (Rm pod) now draw intent old new o said s u own =
+comes_of (RunPrepared pod) now draw intent old new o said s u own ran = ran
+comes_of (Run words) now draw intent old new o said s u own ran = ran
+comes_of (Rm pod) now draw intent old new o said s u own ran =
     rm_quiet pod now draw old new o (subst (λ (i : Intent). InProcess (Rm pod) now draw i old new o) (let e : intent ≡ rm_intent pod now draw = cc in e) s) u own
-comes_of Gc now draw intent old new o said s u own =
+comes_of Gc now draw intent old new o said s u own ran =
     gc_quiet now draw old new o (subst (λ (i : Intent). InProcess Gc now draw i old new o) (let e : intent ≡ gc_intent now draw = cc in e) s) u own
 
 comes_apart : (line : Line) (now : ℕ) (draw : Draw) (old new : Outside) (o : Outcome) → Apart line now draw old new o → IsUndisturbed (Some line) old new → is_own_end o ≡ true → ComesQuietly line now draw old new o
@@ -417,10 +417,17 @@ IsQuiet line now draw old new o =
     (o ≡ Err NoMemory)
     ⊎ (ComesQuietly line now draw old new o × LeavesQuietly line now draw old.bundle.tree (state_after old.dir.trace) (state_after new.dir.trace))
 
-performs_quiet : (line : Line) (now : ℕ) (draw : Draw) (intent : Option Intent) (old new : Outside) (o : Outcome) → intent_of line now draw ≡ intent → Performs line now draw intent old new o → IsUndisturbed (Some line) old new → IsQuiet line now draw old new o
-performs_quiet line now draw (Some intent) old new o said (inr n) u = inl n.is
-performs_quiet line now draw (Some intent) old new o said (inl s) u = elim (ends_own line now draw intent old new o s u) [ inl e ↦ inl e | inr own ↦ inr (comes_of line now draw intent old new o said s u own, leaves_quietly line now draw intent old new o s u) ]
-performs_quiet line now draw None old new o said p u = elim (own_end line now draw old new o p.ran u) [ inl e ↦ inl e | inr own ↦ inr (comes_apart line now draw old new o p u own, leaves_apart line now draw old new o p) ]
+performs_quiet : (line : Line) (now : ℕ) (draw : Draw) (intent : Option Intent) (old new : Outside) (o : Outcome) → intent_of line now draw ≡ intent → Performs line now draw intent old new o → IsUndisturbed (Some line) old new → ((OwnsNothing old.dir.process (state_after old.dir.trace).namespace) → RunsQuietly line draw old.dir new.dir o) → IsQuiet line now draw old new o
+performs_quiet line now draw (Some intent) old new o said (inr n) u ran = inl n.is
+performs_quiet line now draw (Some intent) old new o said (inl s) u ran =
+    elim (ends_own line now draw intent old new o s u) [ inl e ↦ inl e | inr own ↦ inr (comes_of line now draw intent old new o said s u own (ran (idle s (u.observed s.uses) (u.alone s.uses))), leaves_quietly line now draw intent old new o s u) ]
+performs_quiet line now draw None old new o said p u ran = elim (own_end line now draw old new o p.ran u) [ inl e ↦ inl e | inr own ↦ inr (comes_apart line now draw old new o p u own, leaves_apart line now draw old new o p) ]
+
+-- a command that starts apps works on the directory
+runs_use : (line : Line) → runs_apps line ≡ true → uses_dir line ≡ true
+runs_use (RunPrepared pod) runs = refl
+runs_use (Run words) runs = refl
+runs_use line runs = cc
 
 -- and what it comes to is said, or memory ran out
 said_quiet : (o : Outcome) (old new : Moment) (status : ℕ) → WasAnswered o status old new → Works old.out new.out → (status ≡ 14) ⊎ IsAnswer o status old new
@@ -429,10 +436,16 @@ said_quiet o old new status (inr (inl x)) works = absurd (works x.2)
 said_quiet o old new status (inr (inr x)) works = inr x
 
 module _ (now : ℕ) (draw : Draw) (old new : Moment) (status : ℕ) where
+  -- what is told of a run of apps
+  ran_quietly : (line : Line) → (r : RunOfLine line now draw (intent_of line now draw) old new status) → IsUndisturbed (Some line) old.outside new.outside →
+      OwnsNothing old.outside.dir.process (state_after old.outside.dir.trace).namespace → RunsQuietly line draw old.outside.dir new.outside.dir r.outcome
+  ran_quietly line r u idle = subst (λ (o : Outcome). RunsQuietly line draw old.outside.dir new.outside.dir o) (sym r.outcome_is)
+      (runs_quietly line now draw (inside_in old) (inside_in new) r.answer (λ runs. u.observed (runs_use line runs)) (λ runs. u.alone (runs_use line runs)) (λ runs. idle) r.came)
+
   quiet_of : (l : Option Line) → RunOf l now draw old new status → IsUndisturbed l old.outside new.outside → Works old.out new.out → (status ≡ 14) ⊎ IsPlainAnswer l now draw status old new
   quiet_of None r u works = inr (Err Usage, refl, (r.is, λ t. ap (λ (s : SinkSeen). s.bytes) r.out, r.reported), tt)
   quiet_of (Some line) (inr n) u works = inl n.is
-  quiet_of (Some line) (inl r) u works = by (performs_quiet line now draw (intent_of line now draw) old.outside new.outside r.outcome refl r.performs u)
+  quiet_of (Some line) (inl r) u works = by (performs_quiet line now draw (intent_of line now draw) old.outside new.outside r.outcome refl r.performs u (ran_quietly line r u))
     where
       by : IsQuiet line now draw old.outside new.outside r.outcome → (status ≡ 14) ⊎ IsPlainAnswer (Some line) now draw status old new
       by (inl e) = inl (r.is ∙ ap end_status ((subst (λ (o : Outcome). Printed o old.out new.out r.end) e r.printed).refused.0))

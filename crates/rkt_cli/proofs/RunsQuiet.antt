@@ -1,23 +1,53 @@
--- Where nobody else steps, a run of apps leaves each folder where it was, but its pod's.
-use Rattle.std.proofs.Common.{◌≡◌, ◌⊎◌, inl, inr, Bool, true, false, ◌&&◌, ◌||◌, bytes_eq, refl, sym, ap, ◌∙◌}
+-- Where nobody else steps: what a run of apps comes to, and that it leaves each folder where it was, but its pod's.
+use Rattle.std.proofs.Common.{◌≡◌, ◌⊎◌, inl, inr, ℕ, Bool, true, false, ◌&&◌, ◌||◌, bytes_eq, Some, List, [], Ok, Err, refl, sym, ap, subst, ◌∙◌}
 use Rattle.dir_model.specs.declared.area.Area.{Area}
-use Rattle.dir_model.specs.declared.area.Area.TheVariants.{Embryo, Prepare, Prepared, Run}
+use Rattle.dir_model.specs.declared.area.Area.TheVariants.{Embryo, Prepare, Prepared}
+use Rattle.dir_model.specs.declared.area.Area.TheVariants as area
+use Rattle.dir_model.specs.declared.event.Event.{Event}
+use Rattle.dir_model.specs.declared.intent.Draw.{Draw}
+use Rattle.dir_model.specs.declared.intent.Intent.{Intent}
+use Rattle.dir_model.specs.declared.intent.Kind.TheVariants as kind
 use Rattle.dir_model.specs.declared.pod.PodId.{PodId}
 use Rattle.dir_model.specs.declared.spot.Spot.{Spot}
-use Rattle.dir_model.specs.declared.request.Request.TheVariants.{MoveFolder}
+use Rattle.dir_model.specs.declared.request.Request.{Request}
+use Rattle.dir_model.specs.declared.request.Request.TheVariants.{Begin, MoveFolder, Finish}
+use Rattle.dir_model.specs.declared.request.Reply.TheVariants.{Done}
 use Rattle.dir_model.specs.Areas.{is_stage}
+use Rattle.dir_model.specs.Calls.{CallStep, Extends, is_begin, is_finish}
 use Rattle.dir_model.specs.Pods.{pod_text}
+use Rattle.dir_model.specs.Quiet.{Quiet, OwnsNothing}
 use Rattle.dir_model.specs.State.{spot_eq}
-use Rattle.dir_model.proofs.Lists.{and_left}
+use Rattle.dir_model.specs.Trace.{state_after}
+use Rattle.dir_model.proofs.Chains.{and_more, extends_wider, step_extends}
+use Rattle.dir_model.proofs.Lists.{and_left, or_last}
 use Rattle.dir_rules.proofs.Looks.{same_bytes}
+use Rattle.dir_trait.specs.DirCalls.{DirAt}
+use Rattle.dir_trait.specs.Knowledge.{Knows}
 use Rattle.folder_contents.proofs.Spots.{one_location}
 use Rattle.phase_read.specs.Read.{pod_spot, is_pod_spot}
+use Rattle.pod_claim.specs.declared.error.ClaimError.{ClaimError}
 use Rattle.pod_claim.specs.Requests.{in_prepared, in_run}
+use Rattle.pod_claim.specs.Work.{Grew}
 use Rattle.pod_making.specs.Requests.{pod_at}
-use Rattle.run_commands.specs.RunPrepared.{runs_prepared}
-use Rattle.run_commands.specs.Run.{makes_and_runs}
-use Rattle.store_commands.proofs.RemovalQuiet.{ChangesAt}
+use Rattle.command_outcomes.specs.declared.refusal.Refusal.{Refusal}
+use Rattle.command_outcomes.specs.declared.refusal.Refusal.TheVariants.{NoMemory}
+use Rattle.command_outcomes.specs.declared.told.Told.{Told}
+use Rattle.command_outcomes.specs.Conforming.{shown_at}
+use Rattle.command_outcomes.specs.Conforming.{begun as just_begun}
+use Rattle.command_outcomes.specs.Moments.{DirSeen, Inside, Answer, outcome_of, dir_seen}
 use Rattle.removal_commands.proofs.LateTurns.{or_false}
+use Rattle.run_commands.specs.Refusals.{claim_refusal}
+use Rattle.run_commands.specs.RunPrepared.{runs_prepared, ClaimsAndRuns, IsUnclaimed}
+use Rattle.run_commands.specs.Run.{makes_and_runs, NewRunSays}
+use Rattle.run_commands.specs.Quiet.{HasPassed, HasMadeAndLeft, UnclaimedFor}
+use Rattle.run_commands.proofs.Claimed.{may_begin}
+use Rattle.run_commands.proofs.ClaimBefore.{RefusedClaim}
+use Rattle.run_commands.proofs.Quietly.{run_prepared_passed, run_prepared_unclaimed, run_made_left}
+use Rattle.store_commands.proofs.RemovalQuiet.{ChangesAt, in_process, asks_in_process}
+use Rattle.rkt_cli.specs.declared.line.Line.{Line}
+use Rattle.rkt_cli.specs.declared.line.Line.TheVariants.{RunPrepared, Run}
+use Rattle.rkt_cli.specs.Commands.{asks, runs_apps, intent_for, intent_of, PassesQuietly, LeavesMade, RunsQuietly}
+use Rattle.rkt_cli.specs.Spawns.{CameInProcess, CameBetween}
 
 -- a place of the pod
 its_place : (pod : PodId) (area : Area) (place : Spot) → is_stage area ≡ true → place ≡ pod_spot pod area → is_pod_spot pod place ≡ true
@@ -42,4 +72,139 @@ run_changes draw = record { moves = λ from to h. moved from to h; removes = λ 
     place from (inr x) = its_place draw Prepare from refl (one_location from (pod_at Prepare draw) x)
 
     moved : (from to : Spot) → makes_and_runs draw (MoveFolder from to) ≡ true → is_pod_spot draw from ≡ true
-    moved from to h = place from (or_parts (spot_eq from (pod_at Embryo draw)) (spot_eq to (pod_at Prepare draw)) (spot_eq from (pod_at Prepare draw)) (spot_eq to (pod_at Run draw)) h)
+    moved from to h = place from (or_parts (spot_eq from (pod_at Embryo draw)) (spot_eq to (pod_at Prepare draw)) (spot_eq from (pod_at Prepare draw)) (spot_eq to (pod_at area.Run draw)) h)
+
+-- what is told of a run of apps where nobody else steps, by what came between its begin and its finish
+of_passed : (pod : PodId) (old new : DirSeen) (answer : Answer) → HasPassed pod old.trace new.trace → PassesQuietly pod old new (outcome_of answer)
+of_passed pod old new (Ok told) h = h
+of_passed pod old new (Err NoMemory) h = tt
+of_passed pod old new (Err r) h = inl h
+
+of_refused : (pod : PodId) (old new : DirSeen) (r : Refusal) (error : ClaimError) → r ≡ claim_refusal pod error → UnclaimedFor pod error old.process old.trace new.trace → PassesQuietly pod old new (Err r)
+of_refused pod old new NoMemory error is u = tt
+of_refused pod old new r error is u = inr (error, is, u)
+
+module _ {line : Line} {now : ℕ} {draw : Draw} {intent : Intent} {a b : Inside} {answer : Answer} (x : CameInProcess line now draw intent a b answer) (t : a.dir.observed ≡ true) where
+  abbrev me : ℕ
+  me = a.dir.process
+
+  begin_ext : (asked : Request → Bool) → asked (Begin intent) ≡ true → Extends asked me a.dir.trace x.begun.trace
+  begin_ext asked is = step_extends asked me a.dir.trace (Begin intent) Done x.begun.trace is (x.begins t)
+
+  act_ext : Extends (asks line now draw) me x.begun.trace x.ended.trace
+  act_ext = subst (λ (p : ℕ). Extends (asks line now draw) p x.begun.trace x.ended.trace) x.me (x.extends t)
+
+  finish_call : CallStep me x.ended.trace Finish Done b.dir.trace
+  finish_call = subst (λ (p : ℕ). CallStep p x.ended.trace Finish Done b.dir.trace) (x.same ∙ x.me) (x.finishes t)
+
+  finish_ext : (asked : Request → Bool) → asked Finish ≡ true → Extends asked me x.ended.trace b.dir.trace
+  finish_ext asked is = step_extends asked me x.ended.trace Finish Done b.dir.trace is finish_call
+
+  whole_ext : Extends (in_process (asks line now draw)) me a.dir.trace b.dir.trace
+  whole_ext = and_more (and_more (begin_ext (in_process (asks line now draw)) refl) refl (extends_wider (asks_in_process (asks line now draw)) act_ext)) refl (finish_ext (in_process (asks line now draw)) (or_last (asks line now draw Finish) true refl))
+
+  -- by a directory that shows so at these two moments
+  module _ (d d' : DirAt) (begins : dir_seen x.begun.observed d ≡ x.begun) (ends : dir_seen x.ended.observed d' ≡ x.ended) where
+    seen : x.begun.observed ≡ true
+    seen = x.told ∙ t
+
+    me_is : me ≡ d.process
+    me_is = sym (ap (λ (z : DirSeen). z.process) begins ∙ x.me)
+
+    from_is : x.begun.trace ≡ d.trace
+    from_is = sym (ap (λ (z : DirSeen). z.trace) begins)
+
+    to_is : x.ended.trace ≡ d'.trace
+    to_is = sym (ap (λ (z : DirSeen). z.trace) ends)
+
+    ext : Extends (in_process (asks line now draw)) d.process a.dir.trace b.dir.trace
+    ext = subst (λ (p : ℕ). Extends (in_process (asks line now draw)) p a.dir.trace b.dir.trace) me_is whole_ext
+
+    alone : Quiet me a.dir.trace b.dir.trace → Quiet d.process a.dir.trace b.dir.trace
+    alone q = subst (λ (p : ℕ). Quiet p a.dir.trace b.dir.trace) me_is q
+
+    first : Grew a.dir.trace d.trace
+    first = let e = begin_ext (λ r. true) refl in subst (λ (h : List Event). Grew a.dir.trace h) from_is (record { more = e.more; grown = e.grown })
+
+    finish : CallStep d.process d'.trace Finish Done b.dir.trace
+    finish = subst (λ (h : List Event). CallStep d.process h Finish Done b.dir.trace) to_is (subst (λ (p : ℕ). CallStep p x.ended.trace Finish Done b.dir.trace) me_is finish_call)
+
+    knows_there : Knows d (just_begun intent)
+    knows_there = let k = subst (λ (z : DirSeen). Knows (shown_at z) (just_begun intent)) (sym begins) (x.knows t) in record { tied = k.tied; handles = k.handles }
+
+module _ (pod : PodId) (now : ℕ) (draw : Draw) (a b : Inside) (answer : Answer) (t : a.dir.observed ≡ true) (quiet : Quiet a.dir.process a.dir.trace b.dir.trace) (idle : OwnsNothing a.dir.process (state_after a.dir.trace).namespace) where
+  abbrev its_intent : Intent
+  its_intent = intent_for kind.RunPrepared (pod_text pod.bytes) now draw
+
+  passed_in : CameInProcess (RunPrepared pod) now draw its_intent a b answer → PassesQuietly pod a.dir b.dir (outcome_of answer)
+  passed_in x = by x.came.so
+    where
+      d : DirAt
+      d = x.came.from
+
+      d' : DirAt
+      d' = x.came.to
+
+      refused : RefusedClaim pod a.dir.process a.dir.trace x.begun.trace x.ended.trace b.dir.trace
+      refused = record { begins = begin_ext x t is_begin refl; works = act_ext x t; finishes = finish_ext x t is_finish refl; whole = whole_ext x t; quiet = quiet }
+
+      refused_there : RefusedClaim pod d.process a.dir.trace d.trace d'.trace b.dir.trace
+      refused_there =
+          subst (λ (k : List Event). RefusedClaim pod d.process a.dir.trace d.trace k b.dir.trace) (to_is x t d d' x.came.begins x.came.ends)
+          (subst (λ (h : List Event). RefusedClaim pod d.process a.dir.trace h x.ended.trace b.dir.trace) (from_is x t d d' x.came.begins x.came.ends)
+          (subst (λ (p : ℕ). RefusedClaim pod p a.dir.trace x.begun.trace x.ended.trace b.dir.trace) (me_is x t d d' x.came.begins x.came.ends) refused))
+
+      by : ClaimsAndRuns x.begun.observed a.spawner.observed pod d d' a.spawner.shown b.spawner.shown answer ⊎ IsUnclaimed x.begun.observed pod d d' a.spawner.shown b.spawner.shown answer → PassesQuietly pod a.dir b.dir (outcome_of answer)
+      by (inl c) = of_passed pod a.dir b.dir answer
+          (run_prepared_passed x.begun.observed a.spawner.observed pod d d' a.spawner.shown b.spawner.shown answer (seen x t d d' x.came.begins x.came.ends) a.dir.trace b.dir.trace (ext x t d d' x.came.begins x.came.ends) (alone x t d d' x.came.begins x.came.ends quiet)
+          (first x t d d' x.came.begins x.came.ends) (finish x t d d' x.came.begins x.came.ends) c (c.then (seen x t d d' x.came.begins x.came.ends)))
+      by (inr c) =
+          let u = run_prepared_unclaimed x.begun.observed a.spawner.observed pod d d' a.spawner.shown b.spawner.shown answer (seen x t d d' x.came.begins x.came.ends) a.dir.trace b.dir.trace refused_there
+          (subst (λ (p : ℕ). OwnsNothing p (state_after a.dir.trace).namespace) (me_is x t d d' x.came.begins x.came.ends) idle)
+          (just_begun its_intent, knows_there x t d d' x.came.begins x.came.ends, may_begin its_intent refl) c in
+          subst (λ (z : Answer). PassesQuietly pod a.dir b.dir (outcome_of z)) (sym c.is)
+          (of_refused pod a.dir b.dir (claim_refusal pod c.error) c.error refl (subst (λ (p : ℕ). UnclaimedFor pod c.error p a.dir.trace b.dir.trace) (sym (me_is x t d d' x.came.begins x.came.ends)) u))
+
+  pub passes : CameBetween (RunPrepared pod) now draw (Some its_intent) a b answer → PassesQuietly pod a.dir b.dir (outcome_of answer)
+  passes (inl x) = passed_in x
+  passes (inr x) = subst (λ (z : Answer). PassesQuietly pod a.dir b.dir (outcome_of z)) (sym x.0) tt
+
+-- an answer isn't both
+ok_not_err : {X : Type 0} (told : Told) (r : Refusal) → ◌≡◌ {A = Answer} (Ok told) (Err r) → X
+ok_not_err told r is = cc
+
+module _ (words : List (List ℕ)) (now : ℕ) (draw : Draw) (a b : Inside) (t : a.dir.observed ≡ true) (quiet : Quiet a.dir.process a.dir.trace b.dir.trace) where
+  abbrev new_intent : Intent
+  new_intent = intent_for kind.Run [] now draw
+
+  made_in : (told : Told) → CameInProcess (Run words) now draw new_intent a b (Ok told) → LeavesMade words draw a.dir b.dir (Ok told.text)
+  made_in told x = by x.came.so
+    where
+      d : DirAt
+      d = x.came.from
+
+      d' : DirAt
+      d' = x.came.to
+
+      k : Knows d (just_begun new_intent)
+      k = knows_there x t d d' x.came.begins x.came.ends
+
+      by : NewRunSays x.begun.observed a.spawner.observed words now draw d d' a.spawner.shown b.spawner.shown (Ok told) → LeavesMade words draw a.dir b.dir (Ok told.text)
+      by (inl m) = λ conforming.
+          subst (λ (p : ℕ). HasMadeAndLeft words p draw.uuid a.dir.trace b.dir.trace) (sym (me_is x t d d' x.came.begins x.came.ends))
+          (run_made_left x.begun.observed a.spawner.observed words now draw d d' a.spawner.shown b.spawner.shown (Ok told) (seen x t d d' x.came.begins x.came.ends) a.dir.trace b.dir.trace (ext x t d d' x.came.begins x.came.ends) (alone x t d d' x.came.begins x.came.ends quiet)
+          (first x t d d' x.came.begins x.came.ends) (finish x t d d' x.came.begins x.came.ends) new_intent (record { leads = refl; drawn = refl; token = refl; moment = refl }) (record { tied = k.tied; handles = k.handles }) m (m.then (seen x t d d' x.came.begins x.came.ends)) conforming)
+      by (inr (inl u)) = ok_not_err told u.is.0 u.is.1
+      by (inr (inr u)) = ok_not_err told NoMemory u.is
+
+  pub made : (answer : Answer) → CameBetween (Run words) now draw (Some new_intent) a b answer → LeavesMade words draw a.dir b.dir (outcome_of answer)
+  made (Ok told) (inl x) = made_in told x
+  made (Ok told) (inr x) = ok_not_err told NoMemory x.0
+  made (Err r) came = tt
+
+-- of each command
+pub runs_quietly : (line : Line) (now : ℕ) (draw : Draw) (a b : Inside) (answer : Answer) → (runs_apps line ≡ true → a.dir.observed ≡ true) → (runs_apps line ≡ true → Quiet a.dir.process a.dir.trace b.dir.trace) →
+    (runs_apps line ≡ true → OwnsNothing a.dir.process (state_after a.dir.trace).namespace) → CameBetween line now draw (intent_of line now draw) a b answer → RunsQuietly line draw a.dir b.dir (outcome_of answer)
+runs_quietly (RunPrepared pod) now draw a b answer t quiet idle came = passes pod now draw a b answer (t refl) (quiet refl) (idle refl) came
+runs_quietly (Run words) now draw a b answer t quiet idle came = made words now draw a b (t refl) (quiet refl) answer came
+runs_quietly line now draw a b answer t quiet idle came = tt

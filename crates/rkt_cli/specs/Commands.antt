@@ -1,9 +1,10 @@
 -- What each command does between its begin and its finish. A new command is one line in each of these.
-use Rattle.std.specs.Prelude.{◌≡◌, ℕ, Bool, true, false, Option, Some, None, List, []}
+use Rattle.std.specs.Prelude.{◌≡◌, ◌⊎◌, ℕ, Bool, true, false, Option, Some, None, List, [], Ok, Err}
 use Rattle.dir_model.specs.declared.intent.Draw.{Draw}
 use Rattle.dir_model.specs.declared.intent.Intent.{Intent}
 use Rattle.dir_model.specs.declared.intent.Kind.{Kind}
 use Rattle.dir_model.specs.declared.intent.Kind.TheVariants as kind
+use Rattle.dir_model.specs.declared.pod.PodId.{PodId}
 use Rattle.dir_model.specs.declared.request.Request.{Request}
 use Rattle.dir_trait.specs.Bundles.{Tree}
 use Rattle.dir_trait.specs.Pods.{pod_text}
@@ -18,7 +19,7 @@ use Rattle.rkt_cli.specs.declared.line.Line.{Line}
 use Rattle.rkt_cli.specs.declared.line.Line.TheVariants.{Status, Validate, ImageList, ImageImport, ImageRm, ImageGc, Prepare, RunPrepared, Run, Rm, Gc}
 use Rattle.command_outcomes.specs.declared.refusal.Refusal.{Refusal}
 use Rattle.command_outcomes.specs.declared.refusal.Refusal.TheVariants.{Usage, DirFault, BundleFault, OutFault, NoMemory}
-use Rattle.command_outcomes.specs.Moments.{BundleSeen, Outside, Outcome}
+use Rattle.command_outcomes.specs.Moments.{BundleSeen, DirSeen, Outside, Outcome}
 use Rattle.command_outcomes.specs.Ends.{is_own_end, IsUnchanged, StaysBeside}
 use Rattle.rkt_cli.specs.Status.{status_refusal, StatusSays, sequential_status}
 use Rattle.store_commands.specs.ImageList.{image_list_refusal, lists_images, ImageListSays, ListsQuietly}
@@ -28,7 +29,10 @@ use Rattle.store_commands.specs.ImageGc.{image_gc_refusal, ImageGcSays, SweepsQu
 use Rattle.pod_commands.specs.Refusals.{prepare_refusal}
 use Rattle.pod_commands.specs.Prepare.{prepares_pod, PrepareSays}
 use Rattle.pod_commands.specs.Quiet.{PreparesQuietly, is_pod_place}
-use Rattle.run_commands.specs.Refusals.{run_prepared_refusal, new_run_refusal}
+use Rattle.lifecycle.specs.Executions.{IsConforming}
+use Rattle.pod_claim.specs.declared.error.ClaimError.{ClaimError}
+use Rattle.run_commands.specs.Quiet.{HasPassed, HasMadeAndLeft, UnclaimedFor}
+use Rattle.run_commands.specs.Refusals.{run_prepared_refusal, new_run_refusal, claim_refusal}
 use Rattle.run_commands.specs.RunPrepared.{runs_prepared}
 use Rattle.run_commands.specs.Run.{makes_and_runs}
 use Rattle.removal_commands.specs.Rm.{rm_refusal, RmSays}
@@ -190,6 +194,24 @@ ReadsOnly (Run words) old new = Unit {0}
 ReadsOnly (Rm pod) old new = Unit {0}
 ReadsOnly Gc old new = Unit {0}
 
+-- of `run-prepared`: the pod waited in prepared before and is left in run, without an owner; where it is refused that may be so too, or
+-- it wasn't claimed, for a cause in the state before
+abbrev pub PassesQuietly : PodId → DirSeen → DirSeen → Outcome → Type 0
+PassesQuietly pod old new (Ok text) = HasPassed pod old.trace new.trace
+PassesQuietly pod old new (Err NoMemory) = Unit {0}
+PassesQuietly pod old new (Err refusal) = HasPassed pod old.trace new.trace ⊎ ((error : ClaimError) × (refusal ≡ claim_refusal pod error) × UnclaimedFor pod error old.process old.trace new.trace)
+
+-- of `run`: where every process keeps the local rules the pod was made faithfully, and is left in run, without an owner
+abbrev pub LeavesMade : List (List ℕ) → Draw → DirSeen → DirSeen → Outcome → Type 0
+LeavesMade words draw old new (Ok text) = IsConforming new.trace → HasMadeAndLeft words old.process draw.uuid old.trace new.trace
+LeavesMade words draw old new (Err refusal) = Unit {0}
+
+-- of a command that starts apps
+abbrev pub RunsQuietly : Line → Draw → DirSeen → DirSeen → Outcome → Type 0
+RunsQuietly (RunPrepared pod) draw old new o = PassesQuietly pod old new o
+RunsQuietly (Run words) draw old new o = LeavesMade words draw old new o
+RunsQuietly line draw old new o = Unit {0}
+
 -- what it comes to where nobody else steps: for `status` and `validate` by the state and the bundle before. Of the commands that run or
 -- remove pods nothing more is said than always
 abbrev pub ComesQuietly : Line → ℕ → Draw → Outside → Outside → Outcome → Type 0
@@ -200,8 +222,8 @@ ComesQuietly (ImageImport path) now draw old new o = ImportsQuietly path now dra
 ComesQuietly (ImageRm key) now draw old new o = RemovesQuietly key draw.uuid old.dir new.dir o
 ComesQuietly ImageGc now draw old new o = SweepsQuietly old.dir new.dir o
 ComesQuietly (Prepare words) now draw old new o = PreparesQuietly words now draw old.dir new.dir o
-ComesQuietly (RunPrepared pod) now draw old new o = Unit {0}
-ComesQuietly (Run words) now draw old new o = Unit {0}
+ComesQuietly (RunPrepared pod) now draw old new o = PassesQuietly pod old.dir new.dir o
+ComesQuietly (Run words) now draw old new o = LeavesMade words draw old.dir new.dir o
 ComesQuietly (Rm pod) now draw old new o = RemovesPodQuietly pod old.dir new.dir o
 ComesQuietly Gc now draw old new o = SweepsPodsQuietly (times_of now grace_time expire_time) old.dir new.dir o
 

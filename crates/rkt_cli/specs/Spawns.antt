@@ -4,11 +4,15 @@ use Rattle.dir_model.specs.declared.intent.Draw.{Draw}
 use Rattle.dir_model.specs.declared.intent.Intent.{Intent}
 use Rattle.dir_model.specs.declared.request.Request.TheVariants.{Begin, Finish}
 use Rattle.dir_model.specs.declared.request.Reply.TheVariants.{Done}
-use Rattle.dir_trait.specs.Calls.{CallStep}
+use Rattle.dir_trait.specs.Calls.{Extends, CallStep}
+use Rattle.dir_trait.specs.Knowledge.{Knows}
 use Rattle.rkt_cli.specs.declared.line.Line.{Line}
 use Rattle.rkt_cli.specs.declared.line.Line.TheVariants.{RunPrepared, Run}
 use Rattle.command_outcomes.specs.declared.refusal.Refusal.TheVariants.{NoMemory}
 use Rattle.command_outcomes.specs.Moments.{DirSeen, SpawnerSeen, Inside, Answer, is_well}
+use Rattle.command_outcomes.specs.Conforming.{shown_at}
+use Rattle.command_outcomes.specs.Conforming.{begun as just_begun}
+use Rattle.rkt_cli.specs.Commands.{asks}
 use Rattle.run_commands.specs.RunPrepared.{RunPreparedSays}
 use Rattle.run_commands.specs.Run.{RunIsTold}
 
@@ -29,6 +33,9 @@ pub record CameInProcess (line : Line) (now : ℕ) (draw : Draw) (intent : Inten
   pub me : begun.process ≡ old.dir.process
   pub begins : old.dir.observed ≡ true → CallStep old.dir.process old.dir.trace (Begin intent) Done begun.trace
   pub came : Came line now draw (inside begun old.spawner) (inside ended new.spawner) answer
+  pub knows : old.dir.observed ≡ true → Knows (shown_at begun) (just_begun intent)
+  pub same : ended.process ≡ begun.process
+  pub extends : old.dir.observed ≡ true → Extends (asks line now draw) begun.process begun.trace ended.trace
   pub finishes : old.dir.observed ≡ true → CallStep ended.process ended.trace Finish Done new.dir.trace
 
 -- or it couldn't begin

@@ -1,3 +1,5 @@
+use Rattle.std.proofs.Common.{inl, refl}
+use Rattle.command_outcomes.specs.Moments.{dir_at}
 use Rattle.rkt_cli.proofs.RunsRan.{begun_at, begun_as}
 use Rattle.rkt_cli.proofs.Makers.{process_hands, never_begun_hands}
 use Rattle.rkt_cli.proofs.perform.act_in_process.Goals as goal
@@ -14,3 +16,17 @@ returns-in-Ok-clause-makers g c t =
 
 pub returns-in-Err-clause-makers : goal.returns-in-Err-clause-makers
 returns-in-Err-clause-makers g c t run = never_begun_hands (c.in-Err.ensures.called.step t)
+
+pub returns-in-Ok-clause-came : goal.returns-in-Ok-clause-came
+returns-in-Ok-clause-came g c = inl (record {
+  begun = dir_at g.D.Dir c.begin.new.self;
+  ended = dir_at g.D.Dir c.act-answer.new.dir;
+  told = refl;
+  me = c.in-Ok.ensures.called.same;
+  begins = λ t. c.in-Ok.ensures.called.step t;
+  came = c.act-answer.ensures.came;
+  knows = λ t. (let k = begun_at c.args.intent c.requires.fresh c.in-Ok.ensures.called t in record { tied = k.tied; handles = k.handles });
+  same = c.act-answer.ensures.ran.same;
+  extends = λ t. c.act-answer.ensures.ran.extends t;
+  finishes = λ t. c.finish.ensures.called.step t;
+})
