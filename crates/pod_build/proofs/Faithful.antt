@@ -1,5 +1,5 @@
 -- A pod that was prepared was made faithfully, whatever others did; and in a conforming execution it stands there as it was made.
-use Rattle.std.proofs.Common.{◌≡◌, ℕ, Bool, true, false, not, ◌&&◌, ◌||◌, cond, Option, Some, None, option_map, List, [], ◌∷◌, ◌++◌, unwrap_or, refl, sym, ap, subst, ◌∙◌, append-nil, append_assoc, arith}
+use Rattle.std.proofs.Common.{◌≡◌, ℕ, Bool, true, false, not, ◌||◌, cond, Option, Some, None, List, [], ◌∷◌, ◌++◌, unwrap_or, refl, sym, ap, subst, ◌∙◌, append-nil, append_assoc, arith}
 use Rattle.std.specs.List.{AllByRecursion}
 use Rattle.ac_types.specs.declared.image_ref.ImageRef.{ImageRef}
 use Rattle.dir_model.specs.declared.area.Area.{Area}
@@ -19,9 +19,8 @@ use Rattle.dir_model.specs.State.{DirState, empty_state, has_begun, lives}
 use Rattle.dir_model.specs.declared.area.Area.TheVariants as area
 use Rattle.dir_model.specs.Trace.{state_after}
 use Rattle.dir_model.proofs.Chains.{run_from-right, states_next-append, and_more, extends_wider}
-use Rattle.dir_model.proofs.Lists.{all_left, all_right, all_weaker, and_left, and_right, or_map, same_rest}
+use Rattle.dir_model.proofs.Lists.{all_right, all_weaker, and_left, and_right, or_map}
 use Rattle.dir_rules.specs.declared.standing.Held.{Held}
-use Rattle.dir_rules.specs.declared.seen.Entry.{Entry}
 use Rattle.dir_rules.specs.declared.standing.Standing.{Standing}
 use Rattle.dir_rules.specs.declared.seen.Making.{Making}
 use Rattle.dir_rules.specs.declared.seen.Seen.{Seen}

@@ -5,7 +5,6 @@ use Rattle.std.specs.List.{AllByRecursion}
 use Rattle.dir_model.specs.declared.area.Area.{Area}
 use Rattle.dir_model.specs.declared.area.Area.TheVariants.{Embryo, Prepare}
 use Rattle.dir_model.specs.declared.event.Event.{Event}
-use Rattle.dir_model.specs.declared.intent.Intent.{Intent}
 use Rattle.dir_model.specs.declared.pod.PodId.{PodId}
 use Rattle.dir_model.specs.declared.spot.Handle.{Handle}
 use Rattle.dir_model.specs.declared.spot.Spot.{Spot}
@@ -19,16 +18,12 @@ use Rattle.dir_model.specs.State.{spot_eq}
 use Rattle.dir_model.specs.Calls.{CallStep, IsRun, TookPlace, LeftNothing, Extends, event, is_foreign}
 use Rattle.dir_model.proofs.Chains.{nothing_yet, and_call, and_more, extends_wider, run-left}
 use Rattle.dir_model.proofs.Lists.{all_left, all_right, and_left, not_true, same_rest, same_self}
-use Rattle.dir_rules.specs.declared.standing.Held.{Held}
-use Rattle.dir_rules.specs.declared.seen.Entry.{Entry}
-use Rattle.dir_rules.specs.Standing.{is_in}
 use Rattle.dir_trait.specs.DirCalls.{DirAt, DirCall}
-use Rattle.dir_trait.specs.Knowledge.{Knows}
 use Rattle.folder_building.specs.declared.plan.PlanEntry.{PlanEntry}
 use Rattle.pod_making.specs.Requests.{pod_at, begins_pod, fills_pod}
 use Rattle.pod_making.specs.Progress.{at_work, in_prepare}
 use Rattle.pod_making.specs.Makings.{FromFilled}
-use Rattle.pod_making.specs.Handovers.{is_handed_to, hands_over, BeforeHandingOver, KnewMade, HandsOverMade}
+use Rattle.pod_making.specs.Handovers.{is_handed_to, hands_over, BeforeHandingOver, HandsOverMade}
 use Rattle.pod_making.proofs.Calls.{tied_meanwhile}
 
 -- no request of this kind hands a pod over

@@ -1,5 +1,5 @@
 -- A pod holds nothing, when it is made, of what is noted while it runs.
-use Rattle.std.proofs.Common.{◌≡◌, ℕ, Bool, true, false, not, ◌||◌, cond, bytes_eq, codes, List, [], ◌∷◌, ◌++◌, filter, refl, sym, ap, subst, ◌∙◌}
+use Rattle.std.proofs.Common.{◌≡◌, ℕ, Bool, true, false, not, ◌||◌, cond, bytes_eq, codes, List, [], ◌∷◌, refl, sym, ap, subst, ◌∙◌}
 use Rattle.std.specs.List.{list_any, list_all, AllByRecursion}
 use Rattle.dir_model.specs.Paths.{lies_below}
 use Rattle.dir_model.specs.Trees.{is_dir, app_root}

@@ -4,31 +4,27 @@ use Rattle.dir_model.specs.declared.area.Area.{Area}
 use Rattle.dir_model.specs.declared.area.Area.TheVariants.{Prepare, Prepared, Run}
 use Rattle.dir_model.specs.declared.event.Event.{Event}
 use Rattle.dir_model.specs.declared.item.Inner.{Inner}
-use Rattle.dir_model.specs.declared.spot.Spot.{Spot}
 use Rattle.dir_model.specs.declared.tree.TreeEntry.{TreeEntry}
 use Rattle.dir_model.specs.declared.request.Request.TheVariants.{MakeFileIn, MoveFolder}
 use Rattle.dir_model.specs.declared.request.Reply.TheVariants.{Done}
 use Rattle.dir_model.specs.Calls.{event}
 use Rattle.dir_model.specs.State.{DirState, folder_at}
 use Rattle.dir_model.specs.Trace.{state_after}
-use Rattle.dir_model.specs.Replies.{is_reply, is_own_at, is_state_reply, is_any_reply, make_refusal, refused_in}
+use Rattle.dir_model.specs.Replies.{is_reply, is_own_at, make_refusal, refused_in}
 use Rattle.dir_model.proofs.Chains.{state_after-push}
 use Rattle.dir_rules.specs.declared.seen.Making.{Making}
-use Rattle.dir_rules.specs.declared.seen.Entry.{Entry}
-use Rattle.dir_rules.specs.Marks.{is_started_mark}
 use Rattle.dir_rules.specs.Standing.{is_in}
-use Rattle.dir_rules.specs.Conforms.{seen_of}
 use Rattle.lifecycle.specs.Executions.{IsConforming}
 use Rattle.folder_contents.specs.Handing.{hands_over}
-use Rattle.folder_contents.proofs.Along.{Happens, happens, conforming_to}
+use Rattle.folder_contents.proofs.Along.{happens, conforming_to}
 use Rattle.folder_contents.proofs.Spots.{in_area}
-use Rattle.pod_contents.specs.Filled.{is_filled, lasting, lasting_after, IsFilled}
+use Rattle.pod_contents.specs.Filled.{is_filled, lasting, IsFilled}
 use Rattle.pod_contents.proofs.Comes.{pods_are_filled}
 use Rattle.pod_plans.specs.Pods.{names_of}
 use Rattle.pod_making.specs.Handovers.{is_handed_to}
 use Rattle.pod_build.specs.FaithfulBuild.{IsFaithfulBuild, HandsOverFaithfully}
 use Rattle.pod_build.specs.LegalExecutions.{IsLegal, MakersAreFaithful}
-use Rattle.pod_roots.specs.Roots.{IsFaithfullyFilled, StandsFaithfully, PodsStandFaithfully, AppsStartFaithfully, then_marked}
+use Rattle.pod_roots.specs.Roots.{PodsStandFaithfully, AppsStartFaithfully, then_marked}
 use Rattle.pod_roots.proofs.Plain.{all_lasts}
 
 -- a beginning of a legal execution is legal

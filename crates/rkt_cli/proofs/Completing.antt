@@ -1,5 +1,5 @@
 -- A removal that nothing hinders is done, or something failed.
-use Rattle.std.proofs.Common.{◌≡◌, ◌⊎◌, inl, inr, ℕ, Bool, true, false, Option, Some, None, Result, Ok, Err, refl, sym, ap, subst, ◌∙◌}
+use Rattle.std.proofs.Common.{◌≡◌, inl, inr, ℕ, true, Option, Some, None, Ok, Err, refl, sym, ap, subst, ◌∙◌}
 use Rattle.dir_model.specs.declared.intent.Draw.{Draw}
 use Rattle.dir_model.specs.declared.pod.PodId.{PodId}
 use Rattle.dir_model.specs.Calls.{Extends, is_begin, is_finish}
@@ -9,8 +9,8 @@ use Rattle.command_outcomes.specs.declared.refusal.Refusal.{Refusal}
 use Rattle.command_outcomes.specs.declared.refusal.Refusal.TheVariants.{Usage, DirFault, BundleFault, OutFault, NoMemory, Stray}
 use Rattle.command_outcomes.specs.Texts.{status_of}
 use Rattle.command_outcomes.specs.Conforming.{begun}
-use Rattle.command_outcomes.specs.Moments.{Moment, Outside, Outcome, SinkSeen}
-use Rattle.removal_commands.specs.Rm.{rm_refusal, is_failure, FailsAlone}
+use Rattle.command_outcomes.specs.Moments.{Moment, Outcome, SinkSeen}
+use Rattle.removal_commands.specs.Rm.{rm_refusal, is_failure}
 use Rattle.removal_commands.proofs.Unhindered.{rm_complete, fails_alone}
 use Rattle.rkt_cli.specs.declared.line.Line.{Line}
 use Rattle.rkt_cli.specs.declared.line.Line.TheVariants.{Rm}

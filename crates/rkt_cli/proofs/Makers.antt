@@ -15,13 +15,12 @@ use Rattle.dir_model.specs.declared.request.Reply.{Reply}
 use Rattle.dir_model.specs.declared.request.Reply.TheVariants.{Done}
 use Rattle.dir_model.specs.Areas.{is_stage}
 use Rattle.dir_model.specs.State.{spot_eq}
-use Rattle.dir_model.specs.Calls.{CallStep, Extends, IsRun, is_begin, is_finish}
+use Rattle.dir_model.specs.Calls.{CallStep, Extends, is_begin, is_finish}
 use Rattle.dir_model.specs.Replies.{is_look_at}
 use Rattle.dir_model.proofs.Chains.{and_call, nothing_yet}
 use Rattle.dir_model.proofs.Lists.{and_false, and_left, and_right}
 use Rattle.dir_rules.specs.Standing.{is_in}
 use Rattle.dir_trait.specs.DirCalls.{DirAt, DirCall, ExtendsBy}
-use Rattle.dir_trait.specs.Knowledge.{Knows}
 use Rattle.folder_contents.proofs.Spots.{in_area, one_location}
 use Rattle.image_store.specs.Requests.{imports_at}
 use Rattle.image_removal.specs.Requests.{away_spot, removes_at, sweeps}

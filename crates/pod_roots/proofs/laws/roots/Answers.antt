@@ -1,6 +1,4 @@
-use Rattle.lifecycle.specs.Executions.{IsConforming}
-use Rattle.std.proofs.Common.{◌≡◌, List, ◌++◌, subst}
-use Rattle.dir_model.specs.declared.event.Event.{Event}
+use Rattle.std.proofs.Common.{◌++◌, subst}
 use Rattle.lifecycle.proofs.Draws.{conforming_left}
 use Rattle.pod_build.specs.LegalExecutions.{IsLegal}
 use Rattle.pod_roots.proofs.Standing.{legal_before, makers_are, pods_stand, apps_start}
