@@ -1,22 +1,39 @@
--- A removal that nothing hinders is done, or something failed.
-use Rattle.std.proofs.Common.{◌≡◌, inl, inr, ℕ, true, Option, Some, None, Ok, Err, refl, sym, ap, subst, ◌∙◌}
+-- A removal that nothing hinders is done, or something failed; and a pod that is free is claimed, unless something fails.
+use Rattle.std.proofs.Common.{◌≡◌, ◌⊎◌, inl, inr, ℕ, true, false, Option, Some, None, List, [], ◌∷◌, ◌++◌, Ok, Err, refl, sym, ap, subst, ◌∙◌, append_assoc}
 use Rattle.dir_model.specs.declared.intent.Draw.{Draw}
+use Rattle.dir_model.specs.declared.event.Event.{Event}
+use Rattle.dir_model.specs.declared.intent.Intent.{Intent}
+use Rattle.dir_model.specs.declared.intent.Kind.TheVariants as kind
 use Rattle.dir_model.specs.declared.pod.PodId.{PodId}
-use Rattle.dir_model.specs.Calls.{Extends, is_begin, is_finish}
+use Rattle.dir_model.specs.Calls.{Extends, is_begin, is_finish, is_foreign}
+use Rattle.dir_model.specs.Pods.{pod_text}
+use Rattle.dir_trait.specs.DirCalls.{DirAt}
 use Rattle.lifecycle.specs.Executions.{IsConforming}
+use Rattle.lifecycle.proofs.Draws.{conforming_left}
+use Rattle.pod_claim.specs.declared.error.ClaimError.{ClaimError}
+use Rattle.pod_claim.specs.Claims.{IsFree, IsFreeThroughout, IsFailure}
+use Rattle.stage1.specs.declared.error.RunError.{RunError}
+use Rattle.stage1.specs.declared.error.RunError.TheVariants as run
 use Rattle.pod_removal.specs.Hindrances.{IsUnhinderedThroughout}
 use Rattle.command_outcomes.specs.declared.refusal.Refusal.{Refusal}
 use Rattle.command_outcomes.specs.declared.refusal.Refusal.TheVariants.{Usage, DirFault, BundleFault, OutFault, NoMemory, Stray}
 use Rattle.command_outcomes.specs.Texts.{status_of}
-use Rattle.command_outcomes.specs.Conforming.{begun}
-use Rattle.command_outcomes.specs.Moments.{Moment, Outcome, SinkSeen}
+use Rattle.command_outcomes.specs.Conforming.{begun, shown_at}
+use Rattle.command_outcomes.specs.Conforming.{begun as just_begun}
+use Rattle.command_outcomes.specs.Moments.{Moment, Inside, Answer, Outcome, SinkSeen, outcome_of}
+use Rattle.run_commands.specs.Refusals.{claim_refusal, run_refusal, IsRunSaid}
+use Rattle.run_commands.specs.RunPrepared.{ClaimsAndRuns, IsUnclaimed}
+use Rattle.run_commands.specs.Runs.{RunSays}
+use Rattle.run_commands.proofs.Claimed.{may_begin}
 use Rattle.removal_commands.specs.Rm.{rm_refusal, is_failure}
 use Rattle.removal_commands.proofs.Unhindered.{rm_complete, fails_alone}
 use Rattle.rkt_cli.specs.declared.line.Line.{Line}
-use Rattle.rkt_cli.specs.declared.line.Line.TheVariants.{Rm}
-use Rattle.rkt_cli.specs.Commands.{may, intent_of}
-use Rattle.rkt_cli.specs.Runs.{End, InProcess, Performs, Printed, Unwritten, RunIs, RunOf, end_status}
-use Rattle.rkt_cli.specs.Histories.{is_removal_end, IsComplete}
+use Rattle.rkt_cli.specs.declared.line.Line.TheVariants.{RunPrepared, Rm}
+use Rattle.rkt_cli.specs.Commands.{may, intent_for, intent_of}
+use Rattle.rkt_cli.specs.Spawns.{CameBetween}
+use Rattle.rkt_cli.proofs.RunsQuiet.{finish_ext, seen, me_is, first, to_is, knows_there}
+use Rattle.rkt_cli.specs.Runs.{End, InProcess, Performs, Printed, Unwritten, Graded, RunIs, RunOf, end_status, inside_in}
+use Rattle.rkt_cli.specs.Histories.{is_removal_end, is_unfree_status, IsComplete}
 use Rattle.rkt_cli.proofs.Conforming.{begun_knows}
 use Rattle.rkt_cli.proofs.Grades.{unhurt}
 use Rattle.rkt_cli.proofs.PodRemovals.{rm_intent, begun_removes}
@@ -61,7 +78,88 @@ module _ (pod : PodId) (now : ℕ) (draw : Draw) (old new : Moment) (t : old.out
   plainly plain (inl r) = ap is_removal_end r.is ∙ ended r.outcome r.end r.performs r.printed
   plainly plain (inr n) = ap is_removal_end n.is
 
+-- a claim of a pod that is free throughout isn't refused but by a failure
+claim_apart : (pod : PodId) (error : ClaimError) → IsFailure error → is_unfree_status (status_of (claim_refusal pod error)) ≡ false
+claim_apart pod error (inl e) = ap (λ (x : ClaimError). is_unfree_status (status_of (claim_refusal pod x))) e
+claim_apart pod error (inr e) = ap (λ (x : ClaimError). is_unfree_status (status_of (claim_refusal pod x))) e
+
+run_apart : (pod : PodId) (error : RunError) → is_unfree_status (status_of (run_refusal pod error)) ≡ false
+run_apart pod run.NoManifest = refl
+run_apart pod (run.Damaged path) = refl
+run_apart pod (run.NoProgram app word) = refl
+run_apart pod run.SpawnFault = refl
+run_apart pod run.DirFault = refl
+run_apart pod run.Stray = refl
+run_apart pod run.NoMemory = refl
+
+said_apart : (pod : PodId) (error : RunError) (r : Refusal) → IsRunSaid pod error r → is_unfree_status (status_of r) ≡ false
+said_apart pod error r (inl e) = ap (λ (x : Refusal). is_unfree_status (status_of x)) e ∙ run_apart pod error
+said_apart pod error r (inr e) = ap (λ (x : Refusal). is_unfree_status (status_of x)) e
+
+same_refusal : (r q : Refusal) → ◌≡◌ {A = Answer} (Err r) (Err q) → r ≡ q
+same_refusal r q is = cc
+
+-- what is free in the whole is free in a part
+free_part : (pod : PodId) (old new d d' : DirAt) (more rest : List Event) → d.process ≡ old.process → d.trace ≡ old.trace ++ more → new.trace ≡ d'.trace ++ rest → IsFreeThroughout pod old new → IsFreeThroughout pod d d'
+free_part pod old new d d' more rest me first last free before later left step begins ends own =
+    subst (λ (p : ℕ). IsFree pod p (before ++ step ∷ [])) (sym me)
+    (free before (more ++ later) (left ++ rest) step (begins ∙ (ap (λ (h : List Event). h ++ later) first ∙ append_assoc old.trace more later))
+    (last ∙ (ap (λ (h : List Event). h ++ rest) ends ∙ append_assoc (before ++ step ∷ []) left rest)) (subst (λ (p : ℕ). is_foreign p step ≡ false) me own))
+
+module _ (pod : PodId) (now : ℕ) (draw : Draw) (a b : Inside) (t : a.dir.observed ≡ true) (conforms : IsConforming b.dir.trace) (free : IsFreeThroughout pod (shown_at a.dir) (shown_at b.dir)) where
+  abbrev its_intent : Intent
+  its_intent = intent_for kind.RunPrepared (pod_text pod.bytes) now draw
+
+  unfree : (r : Refusal) → CameBetween (RunPrepared pod) now draw (Some its_intent) a b (Err r) → is_unfree_status (status_of r) ≡ false
+  unfree r (inr x) = ap (λ (z : Refusal). is_unfree_status (status_of z)) (same_refusal r NoMemory x.0)
+  unfree r (inl x) = by x.came.so
+    where
+      d : DirAt
+      d = x.came.from
+
+      d' : DirAt
+      d' = x.came.to
+
+      last : Extends is_finish a.dir.process x.ended.trace b.dir.trace
+      last = finish_ext x t is_finish refl
+
+      ends : b.dir.trace ≡ d'.trace ++ last.more
+      ends = last.grown ∙ ap (λ (h : List Event). h ++ last.more) (to_is x t d d' x.came.begins x.came.ends)
+
+      by : ClaimsAndRuns x.begun.observed a.spawner.observed pod d d' a.spawner.shown b.spawner.shown (Err r) ⊎ IsUnclaimed x.begun.observed pod d d' a.spawner.shown b.spawner.shown (Err r) → is_unfree_status (status_of r) ≡ false
+      by (inl c) = stopped c.says
+        where
+          stopped : RunSays x.begun.observed a.spawner.observed c.owned [] c.claimed d' a.spawner.shown b.spawner.shown (Err r) → is_unfree_status (status_of r) ≡ false
+          stopped (inl w) = ap (λ (z : Refusal). is_unfree_status (status_of z)) (same_refusal r w.is.0 w.is.1) ∙ said_apart c.owned.pod w.error w.is.0 w.is.2
+          stopped (inr w) = ap (λ (z : Refusal). is_unfree_status (status_of z)) (same_refusal r NoMemory w.is)
+      by (inr u) =
+          let grew = first x t d d' x.came.begins x.came.ends in
+          let there = conforming_left d'.trace last.more (subst IsConforming ends conforms) in
+          let fails = u.complete (seen x t d d' x.came.begins x.came.ends) (just_begun its_intent) (may_begin its_intent refl) (knows_there x t d d' x.came.begins x.came.ends) there
+          (free_part pod (shown_at a.dir) (shown_at b.dir) d d' grew.more last.more (sym (me_is x t d d' x.came.begins x.came.ends)) grew.grown ends free) in
+          ap (λ (z : Refusal). is_unfree_status (status_of z)) (same_refusal r (claim_refusal pod u.error) u.is) ∙ claim_apart pod u.error fails
+
+unwritten_apart : (r : Refusal) (old new : SinkSeen) → Unwritten r old new → is_unfree_status (status_of r) ≡ false
+unwritten_apart r old new (inl x) = ap (λ (e : Refusal). is_unfree_status (status_of e)) x.0
+unwritten_apart r old new (inr x) = ap (λ (e : Refusal). is_unfree_status (status_of e)) x.0
+
+module _ (pod : PodId) (now : ℕ) (draw : Draw) (old new : Moment) (t : old.outside.dir.observed ≡ true) (conforms : IsConforming new.outside.dir.trace)
+    (free : IsFreeThroughout pod (shown_at old.outside.dir) (shown_at new.outside.dir)) where
+  run_ended : (answer : Answer) (end : End) → CameBetween (RunPrepared pod) now draw (intent_of (RunPrepared pod) now draw) (inside_in old) (inside_in new) answer → Printed (outcome_of answer) old.out new.out end → is_unfree_status (end_status end) ≡ false
+  run_ended (Ok told) (Ok done) came printed = refl
+  run_ended (Ok told) (Err r) came printed = unwritten_apart r old.out new.out (printed.cause told.text refl)
+  run_ended (Err r) end came printed = ap (λ (e : End). is_unfree_status (end_status e)) printed.refused.0 ∙ unfree pod now draw (inside_in old) (inside_in new) t conforms free r came
+
+  run_plainly : (plain : ℕ) → RunOf (Some (RunPrepared pod)) now draw old new plain → is_unfree_status plain ≡ false
+  run_plainly plain (inl r) = ap is_unfree_status r.is ∙ run_ended r.answer r.end r.came (subst (λ (o : Outcome). Printed o old.out new.out r.end) r.outcome_is r.printed)
+  run_plainly plain (inr n) = ap is_unfree_status n.is
+
+  graded_apart : (plain status : ℕ) → Graded (Some (RunPrepared pod)) plain status → is_unfree_status plain ≡ false → is_unfree_status status ≡ false
+  graded_apart plain status (inl same) apart = ap is_unfree_status same ∙ apart
+  graded_apart plain status (inr x) apart = ap is_unfree_status x.0
+
 pub completes : (l : Option Line) (now : ℕ) (draw : Draw) (old new : Moment) (status : ℕ) → RunIs l now draw old new status → old.outside.dir.observed ≡ true → IsComplete l status old.outside.dir new.outside.dir
 completes None now draw old new status run t = tt
 completes (Some (Rm pod)) now draw old new status run t = λ conforms free. ap is_removal_end (unhurt (Some (Rm pod)) run.plain status run.is refl) ∙ plainly pod now draw old new t conforms free run.plain run.ran
+completes (Some (RunPrepared pod)) now draw old new status run t = λ conforms free. graded_apart pod now draw old new t conforms free run.plain status run.is (run_plainly pod now draw old new t conforms free run.plain run.ran)
 completes (Some line) now draw old new status run t = tt

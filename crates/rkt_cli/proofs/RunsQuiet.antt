@@ -97,7 +97,7 @@ module _ {line : Line} {now : ℕ} {draw : Draw} {intent : Intent} {a b : Inside
   finish_call : CallStep me x.ended.trace Finish Done b.dir.trace
   finish_call = subst (λ (p : ℕ). CallStep p x.ended.trace Finish Done b.dir.trace) (x.same ∙ x.me) (x.finishes t)
 
-  finish_ext : (asked : Request → Bool) → asked Finish ≡ true → Extends asked me x.ended.trace b.dir.trace
+  pub finish_ext : (asked : Request → Bool) → asked Finish ≡ true → Extends asked me x.ended.trace b.dir.trace
   finish_ext asked is = step_extends asked me x.ended.trace Finish Done b.dir.trace is finish_call
 
   whole_ext : Extends (in_process (asks line now draw)) me a.dir.trace b.dir.trace
@@ -105,16 +105,16 @@ module _ {line : Line} {now : ℕ} {draw : Draw} {intent : Intent} {a b : Inside
 
   -- by a directory that shows so at these two moments
   module _ (d d' : DirAt) (begins : dir_seen x.begun.observed d ≡ x.begun) (ends : dir_seen x.ended.observed d' ≡ x.ended) where
-    seen : x.begun.observed ≡ true
+    pub seen : x.begun.observed ≡ true
     seen = x.told ∙ t
 
-    me_is : me ≡ d.process
+    pub me_is : me ≡ d.process
     me_is = sym (ap (λ (z : DirSeen). z.process) begins ∙ x.me)
 
     from_is : x.begun.trace ≡ d.trace
     from_is = sym (ap (λ (z : DirSeen). z.trace) begins)
 
-    to_is : x.ended.trace ≡ d'.trace
+    pub to_is : x.ended.trace ≡ d'.trace
     to_is = sym (ap (λ (z : DirSeen). z.trace) ends)
 
     ext : Extends (in_process (asks line now draw)) d.process a.dir.trace b.dir.trace
@@ -123,13 +123,13 @@ module _ {line : Line} {now : ℕ} {draw : Draw} {intent : Intent} {a b : Inside
     alone : Quiet me a.dir.trace b.dir.trace → Quiet d.process a.dir.trace b.dir.trace
     alone q = subst (λ (p : ℕ). Quiet p a.dir.trace b.dir.trace) me_is q
 
-    first : Grew a.dir.trace d.trace
+    pub first : Grew a.dir.trace d.trace
     first = let e = begin_ext (λ r. true) refl in subst (λ (h : List Event). Grew a.dir.trace h) from_is (record { more = e.more; grown = e.grown })
 
     finish : CallStep d.process d'.trace Finish Done b.dir.trace
     finish = subst (λ (h : List Event). CallStep d.process h Finish Done b.dir.trace) to_is (subst (λ (p : ℕ). CallStep p x.ended.trace Finish Done b.dir.trace) me_is finish_call)
 
-    knows_there : Knows d (just_begun intent)
+    pub knows_there : Knows d (just_begun intent)
     knows_there = let k = subst (λ (z : DirSeen). Knows (shown_at z) (just_begun intent)) (sym begins) (x.knows t) in record { tied = k.tied; handles = k.handles }
 
 module _ (pod : PodId) (now : ℕ) (draw : Draw) (a b : Inside) (answer : Answer) (t : a.dir.observed ≡ true) (quiet : Quiet a.dir.process a.dir.trace b.dir.trace) (idle : OwnsNothing a.dir.process (state_after a.dir.trace).namespace) where

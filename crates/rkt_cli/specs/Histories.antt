@@ -13,12 +13,13 @@ use Rattle.dir_model.specs.Calls.{IsRun}
 use Rattle.dir_trait.specs.DirCalls.{DirAt}
 use Rattle.dir_trait.specs.Knowledge.{Knows}
 use Rattle.pod_build.specs.FaithfulBuild.{HandsOverFaithfully}
-use Rattle.command_outcomes.specs.Conforming.{begun}
+use Rattle.command_outcomes.specs.Conforming.{begun, shown_at}
 use Rattle.lifecycle.specs.Executions.{IsConforming}
+use Rattle.pod_claim.specs.Claims.{IsFreeThroughout}
 use Rattle.pod_removal.specs.Hindrances.{IsUnhinderedThroughout}
 use Rattle.phase_read.specs.Exact.{AtOwnEvent, IsInPhase, IsNowhere}
 use Rattle.rkt_cli.specs.declared.line.Line.{Line}
-use Rattle.rkt_cli.specs.declared.line.Line.TheVariants.{Status, ImageList, ImageImport, ImageRm, ImageGc, Prepare, Rm, Gc}
+use Rattle.rkt_cli.specs.declared.line.Line.TheVariants.{Status, ImageList, ImageImport, ImageRm, ImageGc, Prepare, RunPrepared, Rm, Gc}
 use Rattle.rkt_cli.specs.Texts.{state_text}
 use Rattle.store_commands.specs.ImageImport.{StoresImage}
 use Rattle.store_commands.specs.ImageList.{ListsStore}
@@ -94,7 +95,13 @@ WhereKnown line now draw old P = (intent : Intent) → intent_of line now draw �
 abbrev pub is_removal_end : ℕ → Bool
 is_removal_end status = list_any (λ n. n == status) (0 ∷ 9 ∷ 12 ∷ 14 ∷ 20 ∷ [])
 
--- where every process keeps the local rules, and nothing hinders the pod's removal after any own step, `rm` ends so
+-- that the pod isn't prepared, or that another process holds a lock of it
+abbrev pub is_unfree_status : ℕ → Bool
+is_unfree_status status = list_any (λ n. n == status) (2 ∷ 4 ∷ 5 ∷ [])
+
+-- where every process keeps the local rules: if nothing hinders the pod's removal after any own step, `rm` ends so; and if the pod waits
+-- with its manifest after each own step, and no other process holds a lock of it, `run-prepared` isn't refused for such a cause
 abbrev pub IsComplete : Option Line → ℕ → DirSeen → DirSeen → Type 0
 IsComplete (Some (Rm pod)) status old new = IsConforming new.trace → IsUnhinderedThroughout pod old.process old.trace new.trace → is_removal_end status ≡ true
+IsComplete (Some (RunPrepared pod)) status old new = IsConforming new.trace → IsFreeThroughout pod (shown_at old) (shown_at new) → is_unfree_status status ≡ false
 IsComplete _ status old new = Unit {0}

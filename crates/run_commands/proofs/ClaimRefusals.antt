@@ -8,7 +8,8 @@ use Rattle.pod_ownership.specs.Running.{IsOwned}
 use Rattle.pod_claim.specs.declared.error.ClaimError.{ClaimError}
 use Rattle.pod_claim.specs.declared.error.ClaimError.TheVariants as claim
 use Rattle.pod_claim.specs.Causes.{ClaimCause}
-use Rattle.pod_claim.specs.Claims.{RefusedByAnother}
+use Rattle.lifecycle.specs.Executions.{IsConforming}
+use Rattle.pod_claim.specs.Claims.{RefusedByAnother, IsFreeThroughout, IsFailure}
 use Rattle.pod_claim.specs.Elsewhere.{MetOwner}
 use Rattle.pod_claim.specs.Holding.{MayClaim}
 use Rattle.pod_claim.specs.Work.{Grew, Leaves, MovedNothing, TookBoth}
@@ -57,6 +58,7 @@ module _ (seen observed : Bool) (pod : PodId) (a c : DirAt) (s s' : SpawnerAt) (
   pub claimed_says : (b : DirAt) (owned : Owned) → IsOwned pod a.local owned → (seen ≡ true → TookBoth pod owned.own a.process a.trace b.trace) → (seen ≡ true → Grew b.trace c.trace) → RunSays seen observed owned [] b c s s' answer → Says
   claimed_says b owned is took then says = record { from = a; to = c; begins = refl; ends = refl; so = inl (record { claimed = b; owned = owned; is_owned = is; took = took; then = then; says = says }) }
 
-  pub unclaimed_says : (e : ClaimError) → answer ≡ Err (claim_refusal pod e) → ClaimCause seen pod e a c → (seen ≡ true → MovedNothing a.process a.trace c.trace) → Leaves seen MayClaim a (λ known. RefusedByAnother pod e a c) → Leaves seen MayClaim a (λ known. MetOwner pod e a c) → s' ≡ s → Says
-  unclaimed_says e is cause still another owner unasked =
-      record { from = a; to = c; begins = refl; ends = refl; so = inr (record { error = e; is = is; cause = cause; still = still; another = another; owner = owner; unasked = unasked }) }
+  pub unclaimed_says : (e : ClaimError) → answer ≡ Err (claim_refusal pod e) → ClaimCause seen pod e a c → (seen ≡ true → MovedNothing a.process a.trace c.trace) → Leaves seen MayClaim a (λ known. RefusedByAnother pod e a c) → Leaves seen MayClaim a (λ known. MetOwner pod e a c) →
+      Leaves seen MayClaim a (λ known. IsConforming c.trace → IsFreeThroughout pod a c → IsFailure e) → s' ≡ s → Says
+  unclaimed_says e is cause still another owner complete unasked =
+      record { from = a; to = c; begins = refl; ends = refl; so = inr (record { error = e; is = is; cause = cause; still = still; another = another; owner = owner; complete = complete; unasked = unasked }) }

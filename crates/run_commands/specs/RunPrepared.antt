@@ -12,7 +12,8 @@ use Rattle.pod_ownership.specs.Running.{IsOwned}
 use Rattle.pod_claim.specs.declared.error.ClaimError.{ClaimError}
 use Rattle.pod_claim.specs.Requests.{claims}
 use Rattle.pod_claim.specs.Causes.{ClaimCause}
-use Rattle.pod_claim.specs.Claims.{RefusedByAnother}
+use Rattle.lifecycle.specs.Executions.{IsConforming}
+use Rattle.pod_claim.specs.Claims.{RefusedByAnother, IsFreeThroughout, IsFailure}
 use Rattle.pod_claim.specs.Elsewhere.{MetOwner}
 use Rattle.pod_claim.specs.Holding.{MayClaim}
 use Rattle.pod_claim.specs.Work.{Grew, Leaves, MovedNothing, TookBoth}
@@ -38,7 +39,8 @@ pub record ClaimsAndRuns (seen observed : Bool) (pod : PodId) (d d' : DirAt) (s 
   pub then : seen ≡ true → Grew claimed.trace d'.trace
   pub says : RunSays seen observed owned [] claimed d' s s' answer
 
--- the claim was refused for this cause: this process moved nothing, and nothing was asked of the spawner
+-- the claim was refused for this cause, which is a failure where the pod was free throughout: this process moved nothing, and nothing was
+-- asked of the spawner
 pub record IsUnclaimed (seen : Bool) (pod : PodId) (d d' : DirAt) (s s' : SpawnerAt) (answer : Answer) : Type 0 where
   pub error : ClaimError
   pub is : answer ≡ Err (claim_refusal pod error)
@@ -46,6 +48,7 @@ pub record IsUnclaimed (seen : Bool) (pod : PodId) (d d' : DirAt) (s s' : Spawne
   pub still : seen ≡ true → MovedNothing d.process d.trace d'.trace
   pub another : Leaves seen MayClaim d (λ known. RefusedByAnother pod error d d')
   pub owner : Leaves seen MayClaim d (λ known. MetOwner pod error d d')
+  pub complete : Leaves seen MayClaim d (λ known. IsConforming d'.trace → IsFreeThroughout pod d d' → IsFailure error)
   pub unasked : s' ≡ s
 
 -- what was told of the pod
