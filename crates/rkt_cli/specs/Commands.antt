@@ -212,8 +212,7 @@ RunsQuietly (RunPrepared pod) draw old new o = PassesQuietly pod old new o
 RunsQuietly (Run words) draw old new o = LeavesMade words draw old new o
 RunsQuietly line draw old new o = Unit {0}
 
--- what it comes to where nobody else steps: for `status` and `validate` by the state and the bundle before. Of the commands that run or
--- remove pods nothing more is said than always
+-- what it comes to where nobody else steps: for `status` and `validate` by the state and the bundle before
 abbrev pub ComesQuietly : Line → ℕ → Draw → Outside → Outside → Outcome → Type 0
 ComesQuietly (Status pod) now draw old new o = o ≡ sequential_status pod (state_after old.dir.trace)
 ComesQuietly (Validate path) now draw old new o = o ≡ sequential_validate path old.bundle.tree
