@@ -3,19 +3,26 @@ ghost use Rattle.std.specs.Prelude.{◌≡◌, ◌≤◌, IfOk};
 ghost use Rattle.dir_trait.specs.Local.{nothing_local};
 
 use crate::outcome::{CLAIMED, refused, told_of};
-use crate::stage::{ASKED, BEGUN, GIVEN_UP, HANDED, MANIFEST, POD, before, with_pod};
 use dir_memory::MemoryDir;
 use dir_trait::{NoMemory, Phase, Which};
 use pod_claim::ClaimError;
+use pod_stage::{POD, Situation, with_pod};
 use std::alloc::Global;
 use std::test::Fail;
 
 const PREPARED: Option<Phase> = Some(Phase::Prepared);
 
+/// The pod in this situation, before process 1 begins.
+fn stands(alloc: Global, situation: Situation) -> Result<MemoryDir, NoMemory>
+    ensures { IfOk result (λ dir. dir.local ≡ nothing_local) }
+{
+    let dir = with_pod(alloc, MemoryDir::new(alloc, 1)?, situation)?;
+    Ok(dir)
+}
+
 #[test]
 fn a_prepared_pod_is_claimed(rt: HostRuntime) -> Result<(), Fail> {
-    let alloc = rt.alloc();
-    let found = told_of(alloc, with_pod(alloc, MemoryDir::new(alloc, 1)?)?)?;
+    let found = told_of(rt.alloc(), stands(rt.alloc(), Situation::Prepared)?)?;
     assert!(rt; found == CLAIMED);
     Ok(())
 }
@@ -27,52 +34,23 @@ fn no_pod_is_claimed_where_there_is_none(rt: HostRuntime) -> Result<(), Fail> {
     Ok(())
 }
 
-/// Its maker hands it over without a manifest.
-fn without_manifest(alloc: Global) -> Result<MemoryDir, NoMemory>
-    ensures { IfOk result (λ dir. dir.local ≡ nothing_local) }
-{
-    let begun = before(alloc, MemoryDir::new(alloc, 1)?, 2, BEGUN)?;
-    let handed = before(alloc, begun, 2, HANDED)?;
-    let dir = before(alloc, handed, 2, GIVEN_UP)?;
-    Ok(dir)
-}
-
 #[test]
 fn a_pod_without_manifest_is_refused(rt: HostRuntime) -> Result<(), Fail> {
-    let found = told_of(rt.alloc(), without_manifest(rt.alloc())?)?;
+    let found = told_of(rt.alloc(), stands(rt.alloc(), Situation::WithoutManifest)?)?;
     assert!(rt; found == refused(ClaimError::NoManifest, PREPARED, None));
     Ok(())
 }
 
-/// Its maker still holds its own lock.
-fn held_by_maker(alloc: Global) -> Result<MemoryDir, NoMemory>
-    ensures { IfOk result (λ dir. dir.local ≡ nothing_local) }
-{
-    let begun = before(alloc, MemoryDir::new(alloc, 1)?, 2, BEGUN)?;
-    let written = before(alloc, begun, 2, MANIFEST)?;
-    let dir = before(alloc, written, 2, HANDED)?;
-    Ok(dir)
-}
-
 #[test]
 fn a_pod_that_its_maker_holds_is_busy(rt: HostRuntime) -> Result<(), Fail> {
-    let found = told_of(rt.alloc(), held_by_maker(rt.alloc())?)?;
+    let found = told_of(rt.alloc(), stands(rt.alloc(), Situation::WithMaker)?)?;
     assert!(rt; found == refused(ClaimError::Busy(POD, Which::Own), PREPARED, None));
     Ok(())
 }
 
-/// Process 3 holds the activation lock.
-fn held_by_another(alloc: Global) -> Result<MemoryDir, NoMemory>
-    ensures { IfOk result (λ dir. dir.local ≡ nothing_local) }
-{
-    let made = with_pod(alloc, MemoryDir::new(alloc, 1)?)?;
-    let dir = before(alloc, made, 2, ASKED)?;
-    Ok(dir)
-}
-
 #[test]
 fn a_pod_that_another_claims_is_busy(rt: HostRuntime) -> Result<(), Fail> {
-    let found = told_of(rt.alloc(), held_by_another(rt.alloc())?)?;
+    let found = told_of(rt.alloc(), stands(rt.alloc(), Situation::Claimed)?)?;
     assert!(rt; found == refused(ClaimError::Busy(POD, Which::Claim), PREPARED, None));
     Ok(())
 }
@@ -84,7 +62,7 @@ fn is_cut_short(alloc: Global, call: u64) -> Result<bool, NoMemory>
     requires { 2 ≤ call }
 {
     let dir = MemoryDir::new(alloc, 1)?.fail(alloc, call)?;
-    let found = told_of(alloc, with_pod(alloc, dir)?)?;
+    let found = told_of(alloc, with_pod(alloc, dir, Situation::Prepared)?)?;
     Ok(found == refused(ClaimError::DirFault, PREPARED, None))
 }
 

@@ -9,5 +9,3 @@ mod claims;
 mod outcome;
 #[cfg(test)]
 mod races;
-#[cfg(test)]
-mod stage;

@@ -2,12 +2,11 @@
 ghost use Rattle.std.specs.Prelude.{◌≡◌};
 ghost use Rattle.dir_trait.specs.Local.{nothing_local};
 
-use crate::stage::{POD, intent};
-use conformance::keeps_rules;
 use dir_memory::MemoryDir;
-use dir_trait::{Area, Dir, Event, Kind, NoMemory, Phase, Reply, Request};
+use dir_trait::{Area, Dir, Kind, NoMemory, Phase};
 use lifecycle::replay;
 use pod_claim::{ClaimError, claim};
+use pod_stage::{POD, are_kept, intent, open_handles};
 use std::alloc::Global;
 
 /// How the claim ended.
@@ -33,42 +32,13 @@ pub struct Told {
 fn claimed<D: Dir>(alloc: Global, dir: &mut D) -> Came
     requires { (D.shown dir.old).local ≡ nothing_local }
 {
-    match dir.begin(alloc, intent(Kind::RunPrepared, 1)) {
+    match dir.begin(alloc, intent(Kind::RunPrepared, 1, POD, 1000)) {
         Ok(()) => match claim(alloc, dir, POD) {
             Ok(owned) => Came::Owned(owned.area),
             Err(error) => Came::Refused(error),
         },
         Err(_) => Came::NotBegun,
     }
-}
-
-fn are_kept(alloc: Global, dir: &MemoryDir) -> Result<bool, NoMemory> {
-    let mut kept = true;
-    'processes: for process in 1..4 {
-        let keeps = keeps_rules(alloc, dir.history(), process)?;
-        kept = kept && keeps;
-    }
-    Ok(kept)
-}
-
-fn is_opening(event: &Event) -> bool {
-    match &event.reply {
-        Reply::Opened(_) => event.process == 1,
-        _ => false,
-    }
-}
-
-fn is_closing(event: &Event) -> bool {
-    match &event.request {
-        Request::Close(_) => event.process == 1,
-        _ => false,
-    }
-}
-
-fn handles(events: &[Event]) -> usize {
-    let opened = events.iter().filter(|event| is_opening(event)).count();
-    let closed = events.iter().filter(|event| is_closing(event)).count();
-    opened.saturating_sub(closed)
 }
 
 /// What is told after a claim among the steps that are scheduled.
@@ -78,8 +48,8 @@ pub fn told_of(alloc: Global, dir: MemoryDir) -> Result<Told, NoMemory>
     let mut dir = dir;
     let came = claimed(alloc, &mut dir);
     let machine = replay(alloc, dir.history())?;
-    let kept = are_kept(alloc, &dir)?;
-    let handles = handles(dir.history().as_slice());
+    let kept = are_kept(alloc, &dir, 3)?;
+    let handles = open_handles(dir.history().as_slice());
     Ok(Told {
         came,
         phase: machine.phase(POD),

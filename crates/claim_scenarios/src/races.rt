@@ -3,10 +3,10 @@ ghost use Rattle.std.specs.Prelude.{◌≡◌, IfOk};
 ghost use Rattle.dir_trait.specs.Local.{nothing_local};
 
 use crate::outcome::{CLAIMED, refused, told_of};
-use crate::stage::{ASKED, ENDED, STARTED, TURNED_AWAY, before, with_pod};
 use dir_memory::MemoryDir;
 use dir_trait::{NoMemory, Phase};
 use pod_claim::ClaimError;
+use pod_stage::{ASKED, EXITED, STARTED, Situation, before, with_pod};
 use std::alloc::Global;
 use std::test::Fail;
 
@@ -14,7 +14,7 @@ use std::test::Fail;
 fn overtaken(alloc: Global, call: u64) -> Result<MemoryDir, NoMemory>
     ensures { IfOk result (λ dir. dir.local ≡ nothing_local) }
 {
-    let made = with_pod(alloc, MemoryDir::new(alloc, 1)?)?;
+    let made = with_pod(alloc, MemoryDir::new(alloc, 1)?, Situation::Prepared)?;
     let asked = before(alloc, made, call, ASKED)?;
     let dir = before(alloc, asked, call, STARTED)?;
     Ok(dir)
@@ -39,9 +39,9 @@ fn the_other_has_it_first(rt: HostRuntime) -> Result<(), Fail> {
 fn asked_for(alloc: Global, call: u64) -> Result<MemoryDir, NoMemory>
     ensures { IfOk result (λ dir. dir.local ≡ nothing_local) }
 {
-    let made = with_pod(alloc, MemoryDir::new(alloc, 1)?)?;
+    let made = with_pod(alloc, MemoryDir::new(alloc, 1)?, Situation::Prepared)?;
     let asked = before(alloc, made, call, ASKED)?;
-    let dir = before(alloc, asked, call, TURNED_AWAY)?;
+    let dir = before(alloc, asked, call, EXITED)?;
     Ok(dir)
 }
 
@@ -59,7 +59,7 @@ fn run_to_its_end(alloc: Global) -> Result<MemoryDir, NoMemory>
     ensures { IfOk result (λ dir. dir.local ≡ nothing_local) }
 {
     let started = overtaken(alloc, 6)?;
-    let dir = before(alloc, started, 6, ENDED)?;
+    let dir = before(alloc, started, 6, EXITED)?;
     Ok(dir)
 }
 

@@ -1,7 +1,7 @@
 // The images that a user asks for.
-ghost use Rattle.std.specs.Prelude.{◌≡◌, map, string_bytes, IfOk};
+ghost use Rattle.std.specs.Prelude.{◌≡◌, ℕ, Err, map, string_bytes, IfOk};
 ghost use Rattle.std.specs.List.{list_all};
-ghost use Rattle.pod_commands.specs.References.{is_reference, AreReferences};
+ghost use Rattle.pod_commands.specs.References.{is_reference, AreReferences, IsFirstBad};
 
 use ac_types::{ImageRef, NoMemory, RefError, Text};
 use std::alloc::Global;
@@ -53,7 +53,8 @@ fn texts_of(alloc: Global, words: &[String]) -> Result<Vec<Text>, NoMemory>
 }
 
 fn refs_of(alloc: Global, words: &[Text]) -> Result<Vec<ImageRef>, RefError>
-    ensures { IfOk result (λ refs. AreReferences words.now refs.items) }
+    ensures are { IfOk result (λ refs. AreReferences words.now refs.items) }
+    ensures bad { (place : ℕ) → result ≡ Err (RefError.BadRef place) → IsFirstBad words.now place }
 {
     let mut refs = Vec::new(alloc);
     'words: for word in words {
@@ -69,7 +70,8 @@ impl Wanted {
     /// The images that the words name. `BadRef` at the first word that is no reference, with the place in that word;
     /// `NoMemory` at any time.
     pub fn read(alloc: Global, words: &[String]) -> Result<Wanted, RefError>
-        ensures { IfOk result (λ wanted. wanted ≡ map string_bytes words.now) }
+        ensures words { IfOk result (λ wanted. wanted ≡ map string_bytes words.now) }
+        ensures bad { (place : ℕ) → result ≡ Err (RefError.BadRef place) → IsFirstBad (map string_bytes words.now) place }
     {
         let words = texts_of(alloc, words)?;
         let refs = refs_of(alloc, words.as_slice())?;

@@ -4,10 +4,10 @@ ghost use Rattle.dir_trait.specs.Local.{nothing_local};
 
 use conformance::keeps_rules;
 use dir_memory::MemoryDir;
-use dir_trait::{Dir, Event, Kind, NoMemory, Phase, Reply, Request};
+use dir_trait::{Dir, Kind, NoMemory, Phase};
 use lifecycle::replay;
 use pod_removal::{RemoveError, remove_pod};
-use pod_stage::{POD, intent};
+use pod_stage::{POD, intent, open_handles};
 use std::alloc::Global;
 
 /// How the removal ended.
@@ -43,26 +43,6 @@ pub fn removed<D: Dir>(alloc: Global, dir: &mut D, process: u32) -> Came
     }
 }
 
-fn is_opening(event: &Event) -> bool {
-    match &event.reply {
-        Reply::Opened(_) => event.process == 1,
-        _ => false,
-    }
-}
-
-fn is_closing(event: &Event) -> bool {
-    match &event.request {
-        Request::Close(_) => event.process == 1,
-        _ => false,
-    }
-}
-
-fn handles(events: &[Event]) -> usize {
-    let opened = events.iter().filter(|event| is_opening(event)).count();
-    let closed = events.iter().filter(|event| is_closing(event)).count();
-    opened.saturating_sub(closed)
-}
-
 /// What is told after a removal among the steps that are scheduled.
 pub fn told_of(alloc: Global, dir: MemoryDir) -> Result<Told, NoMemory>
     requires { dir.local ≡ nothing_local }
@@ -71,7 +51,7 @@ pub fn told_of(alloc: Global, dir: MemoryDir) -> Result<Told, NoMemory>
     let came = removed(alloc, &mut dir, 1);
     let machine = replay(alloc, dir.history())?;
     let kept = keeps_rules(alloc, dir.history(), 1)?;
-    let handles = handles(dir.history().as_slice());
+    let handles = open_handles(dir.history().as_slice());
     Ok(Told {
         came,
         phase: machine.phase(POD),

@@ -25,6 +25,7 @@ pub enum Step {
     Close(u32),
     MakeDir(Area, &'static str),
     MakeFile(Area, &'static str),
+    Append(Area, &'static str, &'static str),
     Sync(Area, &'static str),
     List(Area, &'static str),
     RemoveFile(Area, &'static str),
@@ -175,7 +176,9 @@ fn spot(pod: PodId, area: Area) -> Spot {
 }
 
 /// What a process begins with. Each draws an identity and a token of its own.
-pub fn intent(kind: Kind, process: u32, pod: PodId, now: u64) -> Intent {
+pub fn intent(kind: Kind, process: u32, pod: PodId, now: u64) -> Intent
+    ensures { result.kind ≡ kind }
+{
     let [drawn, _, _, _] = process.to_le_bytes();
     Intent {
         kind,
@@ -199,6 +202,10 @@ fn inside(alloc: Global, pod: PodId, step: Step) -> Result<Request, NoMemory> {
     Ok(match step {
         Step::MakeDir(area, path) => Request::MakeDirIn(inner(alloc, pod, area, path)?),
         Step::MakeFile(area, path) => Request::MakeFileIn(inner(alloc, pod, area, path)?),
+        Step::Append(area, path, text) => Request::AppendIn {
+            inner: inner(alloc, pod, area, path)?,
+            piece: Bytes::of(alloc, text.as_bytes())?,
+        },
         Step::Sync(area, path) => Request::SyncIn(inner(alloc, pod, area, path)?),
         Step::List(area, path) => Request::ListIn(inner(alloc, pod, area, path)?),
         Step::RemoveFile(area, path) => Request::RemoveFileIn(inner(alloc, pod, area, path)?),

@@ -4,13 +4,12 @@ ghost use Rattle.dir_model.specs.Local.{IsActive};
 ghost use Rattle.dir_trait.specs.Local.{nothing_local};
 ghost use Rattle.stage1_scenarios.specs.Ready.{IsReady};
 
-use crate::stage::{POD, intent};
-use conformance::keeps_rules;
 use dir_memory::MemoryDir;
 use dir_trait::{Area, Bytes, Dir, Event, Kind, NoMemory, Phase, Reply, Request};
 use lifecycle::replay;
 use memory_spawner::MemorySpawner;
 use pod_claim::claim;
+use pod_stage::{POD, are_kept, intent, open_handles};
 use spawner::Spawner;
 use stage1::{AppEnd, RunError, run_pod};
 use std::alloc::Global;
@@ -94,39 +93,10 @@ fn claim_and_run<D: Dir, S: Spawner>(alloc: Global, dir: &mut D, spawner: &mut S
 fn run<D: Dir, S: Spawner>(alloc: Global, dir: &mut D, spawner: &mut S) -> Came
     requires { (D.shown dir.old).local ≡ nothing_local }
 {
-    match dir.begin(alloc, intent(Kind::RunPrepared, 1)) {
+    match dir.begin(alloc, intent(Kind::RunPrepared, 1, POD, 1000)) {
         Ok(()) => claim_and_run(alloc, dir, spawner),
         Err(_) => Came::NotClaimed,
     }
-}
-
-fn are_kept(alloc: Global, dir: &MemoryDir) -> Result<bool, NoMemory> {
-    let mut kept = true;
-    'processes: for process in 1..3 {
-        let keeps = keeps_rules(alloc, dir.history(), process)?;
-        kept = kept && keeps;
-    }
-    Ok(kept)
-}
-
-fn is_opening(event: &Event) -> bool {
-    match &event.reply {
-        Reply::Opened(_) => event.process == 1,
-        _ => false,
-    }
-}
-
-fn is_closing(event: &Event) -> bool {
-    match &event.request {
-        Request::Close(_) => event.process == 1,
-        _ => false,
-    }
-}
-
-fn handles(events: &[Event]) -> usize {
-    let opened = events.iter().filter(|event| is_opening(event)).count();
-    let closed = events.iter().filter(|event| is_closing(event)).count();
-    opened.saturating_sub(closed)
 }
 
 // Whether process 1 made a file there.
@@ -150,7 +120,7 @@ pub fn told_of(alloc: Global, dir: MemoryDir, spawner: &mut MemorySpawner) -> Re
     let mut dir = dir;
     let came = run(alloc, &mut dir, spawner);
     let machine = replay(alloc, dir.history())?;
-    let kept = are_kept(alloc, &dir)?;
+    let kept = are_kept(alloc, &dir, 2)?;
     let events = dir.history().as_slice();
     Ok(Told {
         came,
@@ -158,7 +128,7 @@ pub fn told_of(alloc: Global, dir: MemoryDir, spawner: &mut MemorySpawner) -> Re
         phase: machine.phase(POD),
         marks: count_made(events, b"started-"),
         statuses: count_made(events, b"stage1/rootfs/rkt/status/"),
-        handles: handles(events),
+        handles: open_handles(events),
         kept,
     })
 }

@@ -4,7 +4,7 @@ use crate::pods::{
     BAD_MANIFEST, BAD_TOKEN, BAD_TREE, NO_TREE, TWO, WITH_HANDLERS, WITH_SERVE, WITHOUT_SERVE,
     WORKER,
 };
-use crate::stage::{Step, with_pod};
+use crate::stage::with_pod;
 use dir_memory::MemoryDir;
 use dir_trait::{NoMemory, Phase};
 use memory_spawner::MemorySpawner;
@@ -14,7 +14,7 @@ use std::test::Fail;
 
 // A pod, the starts that don't end with 0, and what comes of it.
 struct Row {
-    pod: &'static [&'static [Step]],
+    pod: &'static [&'static [pod_stage::Row]],
     ends: &'static [(u64, u8)],
     came: Came,
     starts: u64,
