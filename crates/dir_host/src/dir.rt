@@ -9,6 +9,7 @@ use crate::open_folders::{OpenFolder, give_up, keep, set_lock, target_of};
 use dir_trait::{
     Area, Dir, DirError, Handle, Intent, Items, Mode, Names, Reply, Request, Spot, Target, Which,
 };
+use host_files::Reached;
 use std::alloc::Global;
 use std::fs::File;
 use std::rt::Files;
@@ -24,6 +25,7 @@ pub struct HostDir<R: Files<File = File> + AllocGlobal + Clone + Drop> {
     intent: Option<Intent>,
     finished: bool,
     folders: Vec<OpenFolder>,
+    reached: Option<Reached>,
 }
 
 impl<R: Files<File = File> + AllocGlobal + Clone + Drop> HostDir<R> {
@@ -41,6 +43,7 @@ impl<R: Files<File = File> + AllocGlobal + Clone + Drop> HostDir<R> {
             intent: None,
             finished: false,
             folders: Vec::new(alloc),
+            reached: None,
         }
     }
 }
@@ -130,7 +133,7 @@ impl<R: Files<File = File> + AllocGlobal + Clone + Drop> Dir for HostDir<R> {
         ensures unopened { IfOk result (λ handle. IsUnopened (dir_shown self.old).local handle) }
         ensures called { DirCall false (dir_shown self.old) (Request.Open spot which) (opened_reply result) (dir_shown self.new) }
     {
-        match open_lock(&self.rt, alloc, self.root.as_str(), &spot, which) {
+        match open_lock(&self.rt, alloc, self.root.as_str(), &mut self.reached, &spot, which) {
             Ok(folder) => keep(&mut self.folders, folder, target_of(&spot, which)),
             Err(error) => Err(counted(&mut self.faults, error)),
         }
@@ -201,7 +204,7 @@ impl<R: Files<File = File> + AllocGlobal + Clone + Drop> Dir for HostDir<R> {
         ensures ordered { IfOk result (λ items. IsStrictlySortedBy (slice_cmp nat_cmp) (item_names items)) }
         ensures called { ListCall false (dir_shown self.old) (Request.ListIn (record { spot = spot; path = path.now })) (items_reply result) (dir_shown self.new) }
     {
-        match host_files::list_inside(&self.rt, alloc, self.root.as_str(), &spot, path) {
+        match host_files::list_inside(&self.rt, alloc, self.root.as_str(), &mut self.reached, &spot, path) {
             Ok(items) => Ok(items),
             Err(error) => Err(counted(&mut self.faults, error)),
         }
@@ -217,7 +220,7 @@ impl<R: Files<File = File> + AllocGlobal + Clone + Drop> Dir for HostDir<R> {
         ensures refusals { IfErr result (λ e. may_refuse (Request.MakeDirIn (record { spot = spot; path = path.now })) e ≡ true) }
         ensures called { DirCall false (dir_shown self.old) (Request.MakeDirIn (record { spot = spot; path = path.now })) (done_reply result) (dir_shown self.new) }
     {
-        match host_files::make_dir(&self.rt, alloc, self.root.as_str(), &spot, path) {
+        match host_files::make_dir(&self.rt, alloc, self.root.as_str(), &mut self.reached, &spot, path) {
             Ok(()) => Ok(()),
             Err(error) => Err(counted(&mut self.faults, error)),
         }
@@ -233,7 +236,7 @@ impl<R: Files<File = File> + AllocGlobal + Clone + Drop> Dir for HostDir<R> {
         ensures refusals { IfErr result (λ e. may_refuse (Request.MakeFileIn (record { spot = spot; path = path.now })) e ≡ true) }
         ensures called { DirCall false (dir_shown self.old) (Request.MakeFileIn (record { spot = spot; path = path.now })) (done_reply result) (dir_shown self.new) }
     {
-        match host_files::make_file(&self.rt, alloc, self.root.as_str(), &spot, path) {
+        match host_files::make_file(&self.rt, alloc, self.root.as_str(), &mut self.reached, &spot, path) {
             Ok(()) => Ok(()),
             Err(error) => Err(counted(&mut self.faults, error)),
         }
@@ -255,7 +258,7 @@ impl<R: Files<File = File> + AllocGlobal + Clone + Drop> Dir for HostDir<R> {
         ensures refusals { IfErr result (λ e. may_refuse (Request.AppendIn (record { spot = spot; path = path.now }) piece.now) e ≡ true) }
         ensures called { AppendCall false (dir_shown self.old) (Request.AppendIn (record { spot = spot; path = path.now }) piece.now) result (dir_shown self.new) }
     {
-        match host_files::append(&self.rt, alloc, self.root.as_str(), &spot, path, piece) {
+        match host_files::append(&self.rt, alloc, self.root.as_str(), &mut self.reached, &spot, path, piece) {
             Ok(()) => Ok(()),
             Err(error) => Err(counted(&mut self.faults, error)),
         }
@@ -279,7 +282,7 @@ impl<R: Files<File = File> + AllocGlobal + Clone + Drop> Dir for HostDir<R> {
         ensures filled { IsFilled room.old result room.new }
         ensures called { DirCall false (dir_shown self.old) (Request.ReadIn (record { spot = spot; path = path.now }) at (length room.old)) (read_reply room.new result) (dir_shown self.new) }
     {
-        match host_files::read(&self.rt, alloc, self.root.as_str(), &spot, path, at, room) {
+        match host_files::read(&self.rt, alloc, self.root.as_str(), &mut self.reached, &spot, path, at, room) {
             Ok(count) => Ok(count),
             Err(error) => Err(counted(&mut self.faults, error)),
         }
@@ -294,7 +297,7 @@ impl<R: Files<File = File> + AllocGlobal + Clone + Drop> Dir for HostDir<R> {
         ensures refusals { IfErr result (λ e. may_refuse (Request.SyncIn (record { spot = spot; path = path.now })) e ≡ true) }
         ensures called { DirCall false (dir_shown self.old) (Request.SyncIn (record { spot = spot; path = path.now })) (done_reply result) (dir_shown self.new) }
     {
-        match host_files::sync(&self.rt, alloc, self.root.as_str(), &spot, path) {
+        match host_files::sync(&self.rt, alloc, self.root.as_str(), &mut self.reached, &spot, path) {
             Ok(()) => Ok(()),
             Err(error) => Err(counted(&mut self.faults, error)),
         }
@@ -323,7 +326,7 @@ impl<R: Files<File = File> + AllocGlobal + Clone + Drop> Dir for HostDir<R> {
         ensures refusals { IfErr result (λ e. may_refuse (Request.RemoveFileIn (record { spot = spot; path = path.now })) e ≡ true) }
         ensures called { DirCall false (dir_shown self.old) (Request.RemoveFileIn (record { spot = spot; path = path.now })) (done_reply result) (dir_shown self.new) }
     {
-        match host_files::remove_file(&self.rt, alloc, self.root.as_str(), &spot, path) {
+        match host_files::remove_file(&self.rt, alloc, self.root.as_str(), &mut self.reached, &spot, path) {
             Ok(()) => Ok(()),
             Err(error) => Err(counted(&mut self.faults, error)),
         }
@@ -339,7 +342,7 @@ impl<R: Files<File = File> + AllocGlobal + Clone + Drop> Dir for HostDir<R> {
         ensures refusals { IfErr result (λ e. may_refuse (Request.RemoveDirIn (record { spot = spot; path = path.now })) e ≡ true) }
         ensures called { DirCall false (dir_shown self.old) (Request.RemoveDirIn (record { spot = spot; path = path.now })) (done_reply result) (dir_shown self.new) }
     {
-        match host_files::remove_dir(&self.rt, alloc, self.root.as_str(), &spot, path) {
+        match host_files::remove_dir(&self.rt, alloc, self.root.as_str(), &mut self.reached, &spot, path) {
             Ok(()) => Ok(()),
             Err(error) => Err(counted(&mut self.faults, error)),
         }

@@ -7,7 +7,7 @@ ghost use Rattle.dir_host.specs.LockAnswers.{lock_answer};
 
 use crate::open_folders::{OpenFolder, folder_of};
 use dir_trait::{DirError, Handle, Mode, Spot, Which};
-use host_files::{fault, for_reading, open_dir, open_regular};
+use host_files::{Reached, fault, for_reading, open_dir, open_regular};
 use std::alloc::Global;
 use std::fs::{File, TryLockError};
 use std::rt::Files;
@@ -17,14 +17,15 @@ pub fn open_lock<R: Files<File = File>>(
     rt: &R,
     alloc: Global,
     root: &str,
+    reached: &mut Option<Reached>,
     spot: &Spot,
     which: Which,
 ) -> Result<File, DirError>
     ensures { IfErr result (λ e. (e ≡ DirError.Missing) ⊎ (is_fault e ≡ true)) }
 {
     match which {
-        Which::Own => open_dir(rt, alloc, root, spot, ""),
-        Which::Claim => open_regular(rt, alloc, &for_reading(), root, spot, "pod"),
+        Which::Own => open_dir(rt, alloc, root, reached, spot, ""),
+        Which::Claim => open_regular(rt, alloc, &for_reading(), root, reached, spot, "pod"),
     }
 }
 

@@ -10,7 +10,7 @@ use crate::asks::{
     make_dir_at, make_file_at, open_dir_at, open_file_at, remove_dir_at, remove_file_at,
 };
 use crate::files::{fill, read_from};
-use crate::looks::{Found, look, reach, reach_below};
+use crate::looks::{Found, Reached, look, reach, reach_below};
 use crate::refusals::{absent, fault, short, unmade, unremoved};
 use dir_trait::{DirError, Spot};
 use std::alloc::Global;
@@ -23,6 +23,7 @@ pub fn make_dir<R: Files>(
     rt: &R,
     alloc: Global,
     root: &str,
+    reached: &mut Option<Reached>,
     spot: &Spot,
     inner: &str,
 ) -> Result<(), DirError>
@@ -30,7 +31,7 @@ pub fn make_dir<R: Files>(
     ensures below { OnOk result (inner.now ≢ []) }
     ensures refusals { IfErr result (λ e. (e ≡ DirError.Exists) ⊎ (e ≡ DirError.Missing) ⊎ (is_fault e ≡ true)) }
 {
-    let path = reach_below(rt, alloc, root, spot, inner, DirError::Exists)?;
+    let path = reach_below(rt, alloc, root, reached, spot, inner, DirError::Exists)?;
     make_dir_at(rt, path.as_str(), root, spot, inner).map_err(unmade)
 }
 
@@ -39,6 +40,7 @@ pub fn make_file<R: Files>(
     rt: &R,
     alloc: Global,
     root: &str,
+    reached: &mut Option<Reached>,
     spot: &Spot,
     inner: &str,
 ) -> Result<(), DirError>
@@ -46,7 +48,7 @@ pub fn make_file<R: Files>(
     ensures below { OnOk result (inner.now ≢ []) }
     ensures refusals { IfErr result (λ e. (e ≡ DirError.Exists) ⊎ (e ≡ DirError.Missing) ⊎ (is_fault e ≡ true)) }
 {
-    let path = reach_below(rt, alloc, root, spot, inner, DirError::Exists)?;
+    let path = reach_below(rt, alloc, root, reached, spot, inner, DirError::Exists)?;
     match make_file_at(rt, path.as_str(), root, spot, inner) {
         Ok(_) => Ok(()),
         Err(error) => Err(unmade(error)),
@@ -89,6 +91,7 @@ pub fn open_regular<R: Files<File = File>>(
     alloc: Global,
     options: &OpenOptions,
     root: &str,
+    reached: &mut Option<Reached>,
     spot: &Spot,
     inner: &str,
 ) -> Result<File, DirError>
@@ -96,7 +99,7 @@ pub fn open_regular<R: Files<File = File>>(
     ensures below { OnOk result (inner.now ≢ []) }
     ensures refusals { IfErr result (λ e. (e ≡ DirError.Missing) ⊎ (is_fault e ≡ true)) }
 {
-    let path = reach_below(rt, alloc, root, spot, inner, DirError::Missing)?;
+    let path = reach_below(rt, alloc, root, reached, spot, inner, DirError::Missing)?;
     if look(rt, alloc, root, spot, inner)? != Found::File {
         return Err(DirError::Missing);
     }
@@ -111,13 +114,14 @@ pub fn open_dir<R: Files<File = File>>(
     rt: &R,
     alloc: Global,
     root: &str,
+    reached: &mut Option<Reached>,
     spot: &Spot,
     inner: &str,
 ) -> Result<File, DirError>
     ensures dots { has_dots inner.now ≡ true → result ≡ Err DirError.Missing }
     ensures refusals { IfErr result (λ e. (e ≡ DirError.Missing) ⊎ (is_fault e ≡ true)) }
 {
-    let mut path = reach(rt, alloc, root, spot, inner)?;
+    let mut path = reach(rt, alloc, root, reached, spot, inner)?;
     if look(rt, alloc, root, spot, inner)? != Found::Dir {
         return Err(DirError::Missing);
     }
@@ -138,6 +142,7 @@ pub fn append<R: Files<File = File>>(
     rt: &R,
     alloc: Global,
     root: &str,
+    reached: &mut Option<Reached>,
     spot: &Spot,
     inner: &str,
     piece: &[u8],
@@ -146,7 +151,7 @@ pub fn append<R: Files<File = File>>(
     ensures below { OnOk result (inner.now ≢ []) }
     ensures refusals { IfErr result (λ e. (e ≡ DirError.Missing) ⊎ (is_fault e ≡ true)) }
 {
-    let mut file = open_regular(rt, alloc, &for_appending(), root, spot, inner)?;
+    let mut file = open_regular(rt, alloc, &for_appending(), root, reached, spot, inner)?;
     write_piece(&mut file, piece)
 }
 
@@ -168,6 +173,7 @@ pub fn read<R: Files<File = File>>(
     rt: &R,
     alloc: Global,
     root: &str,
+    reached: &mut Option<Reached>,
     spot: &Spot,
     inner: &str,
     at: u64,
@@ -178,7 +184,7 @@ pub fn read<R: Files<File = File>>(
     ensures filled { IsFilled room.old result room.new }
     ensures refusals { IfErr result (λ e. (e ≡ DirError.Missing) ⊎ (is_fault e ≡ true)) }
 {
-    match open_regular(rt, alloc, &for_reading(), root, spot, inner) {
+    match open_regular(rt, alloc, &for_reading(), root, reached, spot, inner) {
         Ok(file) => read_opened(alloc, &file, at, room),
         Err(error) => Err(error),
     }
@@ -189,14 +195,23 @@ fn open_either<R: Files<File = File>>(
     rt: &R,
     alloc: Global,
     root: &str,
+    reached: &mut Option<Reached>,
     spot: &Spot,
     inner: &str,
 ) -> Result<File, DirError>
     ensures dots { has_dots inner.now ≡ true → result ≡ Err DirError.Missing }
     ensures refusals { IfErr result (λ e. (e ≡ DirError.Missing) ⊎ (is_fault e ≡ true)) }
 {
-    match open_dir(rt, alloc, root, spot, inner) {
-        Err(DirError::Missing) => open_regular(rt, alloc, &for_reading(), root, spot, inner),
+    match open_dir(rt, alloc, root, reached, spot, inner) {
+        Err(DirError::Missing) => open_regular(
+            rt,
+            alloc,
+            &for_reading(),
+            root,
+            reached,
+            spot,
+            inner,
+        ),
         opened => opened,
     }
 }
@@ -206,13 +221,14 @@ pub fn sync<R: Files<File = File>>(
     rt: &R,
     alloc: Global,
     root: &str,
+    reached: &mut Option<Reached>,
     spot: &Spot,
     inner: &str,
 ) -> Result<(), DirError>
     ensures dots { has_dots inner.now ≡ true → result ≡ Err DirError.Missing }
     ensures refusals { IfErr result (λ e. (e ≡ DirError.Missing) ⊎ (is_fault e ≡ true)) }
 {
-    let opened = open_either(rt, alloc, root, spot, inner)?;
+    let opened = open_either(rt, alloc, root, reached, spot, inner)?;
     opened.sync_all().map_err(fault)
 }
 
@@ -221,6 +237,7 @@ pub fn remove_file<R: Files>(
     rt: &R,
     alloc: Global,
     root: &str,
+    reached: &mut Option<Reached>,
     spot: &Spot,
     inner: &str,
 ) -> Result<(), DirError>
@@ -228,7 +245,7 @@ pub fn remove_file<R: Files>(
     ensures below { OnOk result (inner.now ≢ []) }
     ensures refusals { IfErr result (λ e. (e ≡ DirError.Missing) ⊎ (is_fault e ≡ true)) }
 {
-    let path = reach_below(rt, alloc, root, spot, inner, DirError::Missing)?;
+    let path = reach_below(rt, alloc, root, reached, spot, inner, DirError::Missing)?;
     remove_file_at(rt, path.as_str(), root, spot, inner).map_err(absent)
 }
 
@@ -237,6 +254,7 @@ pub fn remove_dir<R: Files>(
     rt: &R,
     alloc: Global,
     root: &str,
+    reached: &mut Option<Reached>,
     spot: &Spot,
     inner: &str,
 ) -> Result<(), DirError>
@@ -244,6 +262,6 @@ pub fn remove_dir<R: Files>(
     ensures below { OnOk result (inner.now ≢ []) }
     ensures refusals { IfErr result (λ e. (e ≡ DirError.Missing) ⊎ (e ≡ DirError.NotEmpty) ⊎ (is_fault e ≡ true)) }
 {
-    let path = reach_below(rt, alloc, root, spot, inner, DirError::Missing)?;
+    let path = reach_below(rt, alloc, root, reached, spot, inner, DirError::Missing)?;
     remove_dir_at(rt, path.as_str(), root, spot, inner).map_err(unremoved)
 }

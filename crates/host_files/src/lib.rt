@@ -20,5 +20,6 @@ pub use inside::{
 };
 pub use links::list_bundle;
 pub use listings::{list_area, list_inside};
+pub use looks::Reached;
 pub use place::{AREAS, join, path_of_area};
 pub use refusals::fault;

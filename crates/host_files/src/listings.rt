@@ -11,6 +11,7 @@ ghost use Rattle.host_files.specs.Shown.{shown_item};
 
 use crate::files::list_folder;
 use crate::inside::open_dir;
+use crate::looks::Reached;
 use crate::place::path_of_area;
 use crate::refusals::short;
 use dir_trait::{
@@ -86,6 +87,7 @@ pub fn list_inside<R: Files<File = File> + AllocGlobal + Clone + Drop>(
     rt: &R,
     alloc: Global,
     root: &str,
+    reached: &mut Option<Reached>,
     spot: &Spot,
     inner: &str,
 ) -> Result<Items, DirError>
@@ -93,7 +95,7 @@ pub fn list_inside<R: Files<File = File> + AllocGlobal + Clone + Drop>(
     ensures ordered { IfOk result (λ items. IsStrictlySortedBy (slice_cmp nat_cmp) (item_names items)) }
     ensures refusals { IfErr result (λ e. (e ≡ DirError.Missing) ⊎ (is_fault e ≡ true)) }
 {
-    let directory = open_dir(rt, alloc, root, spot, inner)?;
+    let directory = open_dir(rt, alloc, root, reached, spot, inner)?;
     let listing = list_opened(rt, alloc, &directory)?;
     shown_listing(alloc, &listing)
 }

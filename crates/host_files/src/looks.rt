@@ -10,7 +10,7 @@ use crate::refusals::{absent, fault, short};
 use dir_trait::{Area, DirError, Spot};
 use std::alloc::Global;
 use std::fs::Metadata;
-use std::io;
+use std::os::unix::fs::MetadataExt;
 use std::rt::Files;
 
 /// What stands at a path.
@@ -48,8 +48,28 @@ fn check_area<R: Files>(rt: &R, alloc: Global, root: &str, area: Area) -> Result
     }
 }
 
-/// What stands behind a path in a folder. `Missing` where nothing does. Fails where the folder's area
-/// isn't a directory that can be looked at.
+/// What the system tells of what stands behind a path in a folder. `Missing` where nothing does. Fails
+/// where the folder's area isn't a directory that can be looked at.
+fn examine<R: Files>(
+    rt: &R,
+    alloc: Global,
+    root: &str,
+    spot: &Spot,
+    inner: &str,
+) -> Result<Metadata, DirError>
+    ensures { IfErr result (λ e. (e ≡ DirError.Missing) ⊎ (is_fault e ≡ true)) }
+{
+    let path = path_inside(alloc, root, spot, inner).map_err(short)?;
+    match look_at(rt, path.as_str(), root, spot, inner) {
+        Ok(metadata) => Ok(metadata),
+        Err(error) => {
+            check_area(rt, alloc, root, spot.area)?;
+            Err(absent(error))
+        }
+    }
+}
+
+/// What stands behind a path in a folder, told and refused as above.
 pub fn look<R: Files>(
     rt: &R,
     alloc: Global,
@@ -59,14 +79,8 @@ pub fn look<R: Files>(
 ) -> Result<Found, DirError>
     ensures { IfErr result (λ e. (e ≡ DirError.Missing) ⊎ (is_fault e ≡ true)) }
 {
-    let path = path_inside(alloc, root, spot, inner).map_err(short)?;
-    match look_at(rt, path.as_str(), root, spot, inner) {
-        Ok(metadata) => Ok(found_of(metadata)),
-        Err(error) => {
-            check_area(rt, alloc, root, spot.area)?;
-            Err(absent(error))
-        }
-    }
+    let metadata = examine(rt, alloc, root, spot, inner)?;
+    Ok(found_of(metadata))
 }
 
 /// `Missing` where no directory stands behind a path in a folder.
@@ -85,6 +99,23 @@ pub fn check_dir<R: Files>(
     }
 }
 
+/// A directory in a folder that was reached last: at each directory on the way to it was looked.
+#[derive(Drop)]
+pub struct Reached {
+    spot: Spot,
+    inner: String,
+    device: u64,
+    number: u64,
+}
+
+/// The path of the directory above: the folder's own, the empty path, where no other is.
+fn above_of(inner: &str) -> &str {
+    match inner.rsplit_once('/') {
+        Some((above, _)) => above,
+        None => "",
+    }
+}
+
 /// `Missing` where the folder isn't there, or one of the directories above a path in it.
 fn check_above<R: Files>(
     rt: &R,
@@ -95,6 +126,9 @@ fn check_above<R: Files>(
 ) -> Result<(), DirError>
     ensures { IfErr result (λ e. (e ≡ DirError.Missing) ⊎ (is_fault e ≡ true)) }
 {
+    if inner.is_empty() {
+        return Ok(());
+    }
     check_dir(rt, alloc, root, spot, "")?;
     let bytes = inner.as_bytes();
     'above: for end in 0..bytes.len() {
@@ -106,12 +140,75 @@ fn check_above<R: Files>(
     Ok(())
 }
 
-/// The path of what stands behind a path in a folder, once each directory above it was looked at.
-/// `Missing` where one of them isn't there, and for a path with a segment `.` or `..`.
+/// Goes to a directory, with a look at each on the way.
+fn go<R: Files>(
+    rt: &R,
+    alloc: Global,
+    root: &str,
+    spot: &Spot,
+    inner: &str,
+) -> Result<Reached, DirError>
+    ensures { IfErr result (λ e. (e ≡ DirError.Missing) ⊎ (is_fault e ≡ true)) }
+{
+    check_above(rt, alloc, root, spot, inner)?;
+    let found = examine(rt, alloc, root, spot, inner)?;
+    if !found.is_dir() {
+        return Err(DirError::Missing);
+    }
+    Ok(Reached {
+        spot: *spot,
+        inner: String::from_str(alloc, inner).map_err(short)?,
+        device: found.dev(),
+        number: found.ino(),
+    })
+}
+
+/// Whether the path leads to the directory that was reached by it.
+fn leads_back<R: Files>(
+    rt: &R,
+    alloc: Global,
+    root: &str,
+    reached: &Reached,
+    spot: &Spot,
+    inner: &str,
+) -> bool {
+    if reached.spot != *spot || reached.inner.as_str() != inner {
+        return false;
+    }
+    match examine(rt, alloc, root, spot, inner) {
+        Ok(found) => found.dev() == reached.device && found.ino() == reached.number,
+        Err(_) => false,
+    }
+}
+
+/// Goes to a directory. Where the path leads to the one that was reached last, no link can have come
+/// in between that leads elsewhere, so the way isn't looked at again.
+fn go_or_stay<R: Files>(
+    rt: &R,
+    alloc: Global,
+    root: &str,
+    reached: &mut Option<Reached>,
+    spot: &Spot,
+    inner: &str,
+) -> Result<(), DirError>
+    ensures { IfErr result (λ e. (e ≡ DirError.Missing) ⊎ (is_fault e ≡ true)) }
+{
+    if let Some(last) = reached {
+        if leads_back(rt, alloc, root, last, spot, inner) {
+            return Ok(());
+        }
+    }
+    *reached = Some(go(rt, alloc, root, spot, inner)?);
+    Ok(())
+}
+
+/// The path of what stands behind a path in a folder, once the directory above it was reached.
+/// `Missing` where that or one above it isn't there, and for a path with a segment `.` or `..`.
 pub fn reach<R: Files>(
     rt: &R,
     alloc: Global,
     root: &str,
+    reached: &mut Option<Reached>,
     spot: &Spot,
     inner: &str,
 ) -> Result<String, DirError>
@@ -122,7 +219,7 @@ pub fn reach<R: Files>(
     if has_dots(inner) {
         return Err(DirError::Missing);
     }
-    check_above(rt, alloc, root, spot, inner)?;
+    go_or_stay(rt, alloc, root, reached, spot, above_of(inner))?;
     path_inside(alloc, root, spot, inner).map_err(short)
 }
 
@@ -131,6 +228,7 @@ pub fn reach_below<R: Files>(
     rt: &R,
     alloc: Global,
     root: &str,
+    reached: &mut Option<Reached>,
     spot: &Spot,
     inner: &str,
     folder: DirError,
@@ -140,7 +238,7 @@ pub fn reach_below<R: Files>(
     ensures below { OnOk result (inner.now ≢ []) }
     ensures refusals { IfErr result (λ e. (e ≡ folder) ⊎ (e ≡ DirError.Missing) ⊎ (is_fault e ≡ true)) }
 {
-    let path = reach(rt, alloc, root, spot, inner)?;
+    let path = reach(rt, alloc, root, reached, spot, inner)?;
     if inner.is_empty() {
         return Err(folder);
     }
