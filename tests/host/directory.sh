@@ -123,6 +123,30 @@ ln -s "$tmp/outside/f" "$inside/flink"
 calls 'no link is followed' 'missing|missing|missing|missing|missing|missing|missing|exists|exists' "list run $pod link" "copy run $pod link/f 9" \
     "copy run $pod flink 9" "append run $pod flink x" "make-file run $pod link/g" "remove-file run $pod link/f" "sync run $pod flink" \
     "make-file run $pod flink" "make-dir run $pod link"
+
+# Nor one that comes in the way of a directory between two calls at it: what stands behind it is another.
+mkdir -p "$tmp/elsewhere/deep"
+coproc holder { exec "$check" "make-dir run $pod way" "make-dir run $pod way/deep" "make-file run $pod way/deep/f" hold \
+    "make-file run $pod way/deep/g" "remove-file run $pod way/deep/f" 2>&1; }
+holder_id=$holder_PID
+answers=''
+for call in 1 2 3; do
+    read -r answer <&"${holder[0]}"
+    answers=$answers$answer\|
+done
+mv "$inside/way" "$inside/moved"
+ln -s "$tmp/elsewhere" "$inside/way"
+touch "$tmp/elsewhere/deep/f"
+eval "exec ${holder[1]}>&-"
+for call in 4 5; do
+    read -r answer <&"${holder[0]}"
+    answers=$answers$answer\|
+done
+wait "$holder_id"
+same 'a link that comes between two calls' 'ok|ok|ok|missing|missing|' "$answers"
+same 'what stands behind it' 'f' "$(ls "$tmp/elsewhere/deep")"
+rm "$inside/way"
+rm -r "$inside/moved" "$tmp/elsewhere"
 if command -v mkfifo >/dev/null; then
     mkfifo "$inside/pipe"
 else

@@ -3,3 +3,4 @@ pub mod Places
 pub mod Readings
 pub mod Refusals
 pub mod Shown
+pub mod Ways

@@ -1,8 +1,9 @@
 // What stands in the data folder, by its own kind: no link is followed.
-ghost use Rattle.std.specs.Prelude.{◌≡◌, ◌≢◌, ◌⊎◌, ◌↔◌, true, [], string_bytes, Err, IfOk, IfErr, OnOk};
+ghost use Rattle.std.specs.Prelude.{◌≡◌, ◌≢◌, ◌⊎◌, ◌↔◌, true, [], string_bytes, Err, IsTrue, IsSomeAnd, IfOk, IfErr, OnOk};
 ghost use Rattle.std.specs.Fs.{file_type, IsDir, IsFile};
 ghost use Rattle.dir_model.specs.Replies.{is_fault};
 ghost use Rattle.host_files.specs.Places.{inner_path, has_dots};
+ghost use Rattle.host_files.specs.Ways.{IsAt};
 
 use crate::asks::{look_at, look_at_area};
 use crate::place::{has_dots, path_inside, path_of_area};
@@ -148,7 +149,8 @@ fn go<R: Files>(
     spot: &Spot,
     inner: &str,
 ) -> Result<Reached, DirError>
-    ensures { IfErr result (λ e. (e ≡ DirError.Missing) ⊎ (is_fault e ≡ true)) }
+    ensures at { IfOk result (λ reached. IsAt reached spot.now inner.now) }
+    ensures refusals { IfErr result (λ e. (e ≡ DirError.Missing) ⊎ (is_fault e ≡ true)) }
 {
     check_above(rt, alloc, root, spot, inner)?;
     let found = examine(rt, alloc, root, spot, inner)?;
@@ -163,6 +165,13 @@ fn go<R: Files>(
     })
 }
 
+/// Whether it was reached by this path in this folder.
+fn is_at(reached: &Reached, spot: &Spot, inner: &str) -> bool
+    ensures { IsTrue result ↔ IsAt reached.now spot.now inner.now }
+{
+    reached.spot == *spot && reached.inner.as_str() == inner
+}
+
 /// Whether the path leads to the directory that was reached by it.
 fn leads_back<R: Files>(
     rt: &R,
@@ -171,8 +180,10 @@ fn leads_back<R: Files>(
     reached: &Reached,
     spot: &Spot,
     inner: &str,
-) -> bool {
-    if reached.spot != *spot || reached.inner.as_str() != inner {
+) -> bool
+    ensures { IsTrue result → IsAt reached.now spot.now inner.now }
+{
+    if !is_at(reached, spot, inner) {
         return false;
     }
     match examine(rt, alloc, root, spot, inner) {
@@ -191,7 +202,8 @@ fn go_or_stay<R: Files>(
     spot: &Spot,
     inner: &str,
 ) -> Result<(), DirError>
-    ensures { IfErr result (λ e. (e ≡ DirError.Missing) ⊎ (is_fault e ≡ true)) }
+    ensures at { OnOk result (IsSomeAnd reached.new (λ reached. IsAt reached spot.now inner.now)) }
+    ensures refusals { IfErr result (λ e. (e ≡ DirError.Missing) ⊎ (is_fault e ≡ true)) }
 {
     if let Some(last) = reached {
         if leads_back(rt, alloc, root, last, spot, inner) {
