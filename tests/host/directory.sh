@@ -129,9 +129,10 @@ mkdir -p "$tmp/elsewhere/deep"
 coproc holder { exec "$check" "make-dir run $pod way" "make-dir run $pod way/deep" "make-file run $pod way/deep/f" hold \
     "make-file run $pod way/deep/g" "remove-file run $pod way/deep/f" 2>&1; }
 holder_id=$holder_PID
+exec 7<&"${holder[0]}"
 answers=''
 for call in 1 2 3; do
-    read -r answer <&"${holder[0]}"
+    read -r answer <&7
     answers=$answers$answer\|
 done
 mv "$inside/way" "$inside/moved"
@@ -139,9 +140,10 @@ ln -s "$tmp/elsewhere" "$inside/way"
 touch "$tmp/elsewhere/deep/f"
 eval "exec ${holder[1]}>&-"
 for call in 4 5; do
-    read -r answer <&"${holder[0]}"
+    read -r answer <&7
     answers=$answers$answer\|
 done
+exec 7<&-
 wait "$holder_id"
 same 'a link that comes between two calls' 'ok|ok|ok|missing|missing|' "$answers"
 same 'what stands behind it' 'f' "$(ls "$tmp/elsewhere/deep")"
