@@ -1,2 +1,3 @@
 pub mod Plain
 pub mod Standing
+pub mod Reading

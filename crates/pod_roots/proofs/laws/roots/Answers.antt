@@ -2,6 +2,7 @@ use Rattle.std.proofs.Common.{◌++◌, subst}
 use Rattle.lifecycle.proofs.Draws.{conforming_left}
 use Rattle.pod_build.specs.LegalExecutions.{IsLegal}
 use Rattle.pod_roots.proofs.Standing.{legal_before, makers_are, pods_stand, apps_start}
+use Rattle.pod_roots.proofs.Reading.{pods_read}
 use Rattle.pod_roots.proofs.laws.roots.Goals as goal
 
 pub returns-clause-begins : goal.returns-clause-begins
@@ -17,3 +18,6 @@ returns-clause-start c = λ legal. apps_start c.args.history.now.items legal
 
 pub returns-clause-makers : goal.returns-clause-makers
 returns-clause-makers c = makers_are c.args.history.now.items
+
+pub returns-clause-read : goal.returns-clause-read
+returns-clause-read c = λ legal. pods_read c.args.history.now.items legal
