@@ -1,6 +1,9 @@
 -- What is noted of an app stands outside the roots of started apps, which write there themselves.
-use Rattle.std.proofs.Common.{arith, ◌≡◌, ℕ, Bool, true, false, ◌&&◌, ◌||◌, ◌==◌, cond, bytes_eq, get_or, Option, Some, None, option_to_list, List, [], ◌∷◌, ◌++◌, length, drop, refl, sym, ap, subst, ◌∙◌}
-use Rattle.std.specs.List.{AllByRecursion}
+use Rattle.std.proofs.Common.{arith, ◌≡◌, ℕ, Bool, true, false, ◌&&◌, ◌||◌, ◌==◌, cond, bytes_eq, nat_eq, not, slice_index, get_or, Option, Some, None, option_to_list, List, [], ◌∷◌, ◌++◌, length, drop, append-nil, refl, sym, ap, subst, ◌∙◌}
+use Rattle.std.specs.List.{AllByRecursion, starts_with}
+use Rattle.std.proofs.lemmas.Bool.Decides.{Decides-eqb, nat_tests}
+use Rattle.std.proofs.lemmas.Grind.{common_steps}
+use Rattle.std.proofs.lemmas.Slice.Eq.{starts_is}
 use Rattle.dir_model.specs.declared.event.Event.{Event}
 use Rattle.dir_model.specs.declared.tree.StartedApp.{StartedApp}
 use Rattle.dir_model.specs.declared.request.Request.{Request}
@@ -11,11 +14,21 @@ use Rattle.dir_model.specs.Paths.{lies_below}
 use Rattle.dir_model.specs.State.{Namespace, DirState, empty_state, folder_at}
 use Rattle.dir_model.specs.Trees.{is_within, mark_prefix, app_root, is_apps_own}
 use Rattle.dir_model.specs.Trace.{is_mark, marked_app, app_started, state_next, states_next, state_after}
-use Rattle.dir_model.proofs.Lists.{and_false, or_none, all_both}
-use Rattle.gate_reading.proofs.PlainPaths.{not_empty, below_front}
+use Rattle.dir_model.proofs.Lists.{and_left, and_false, or_none, all_both}
 use Rattle.lifecycle.proofs.Places.{name_same}
 use Rattle.spawner.specs.Conditions.{start_mark}
 use Rattle.stage1.specs.Notes.{status_path}
+
+-- what lies below a path begins with it
+not_empty : (x : ℕ) (xs : List ℕ) → (length (x ∷ xs) == 0) ≡ false
+not_empty x xs = grind (arith, nat_tests, common_steps)
+
+below_front : (path q : List ℕ) → (length q == 0) ≡ false → lies_below path q ≡ true → path ≡ q ++ drop (length q) path
+unfolding lies_below
+below_front path q other h =
+    let parts : (starts_with nat_eq path q && (slice_index path (length q) == 47)) ≡ true =
+    sym (ap (λ b. cond b (not (length path == 0)) (starts_with nat_eq path q && (slice_index path (length q) == 47))) other) ∙ h in
+    (starts_is Decides-eqb path q _ refl).0 (and_left (starts_with nat_eq path q) (slice_index path (length q) == 47) parts)
 
 -- no app's root has it
 abbrev pub IsOutside : List ℕ → Type 0
@@ -25,7 +38,7 @@ outside : (path : List ℕ) → ((app rest : List ℕ) → path ≡ app_root app
 outside path apart app = by (bytes_eq path (app_root app)) refl (lies_below path (app_root app)) refl
   where
     by : (b : Bool) → bytes_eq path (app_root app) ≡ b → (c : Bool) → lies_below path (app_root app) ≡ c → is_within (app_root app) path ≡ false
-    by true is c below = absurd (apart app [] (name_same path (app_root app) is ∙ refl))
+    by true is c below = absurd (apart app [] (name_same path (app_root app) is ∙ sym (append-nil (app_root app))))
     by false is true below = absurd (apart app (drop (length (app_root app)) path) (below_front path (app_root app) (not_empty 115 (drop 1 (app_root app))) below))
     by false is false below = or_none (bytes_eq path (app_root app)) (lies_below path (app_root app)) is below
 

@@ -1,6 +1,6 @@
 -- What `run-prepared` and `run` come to, and leave, where nobody else steps.
-use Rattle.std.specs.Prelude.{◌≡◌, ℕ, true, false, Some, List}
-use Rattle.std.specs.List.{list_any}
+use Rattle.std.specs.Prelude.{◌≡◌, ℕ, true, false, Some, List, ◌++◌}
+use Rattle.std.specs.List.{AllByRecursion, list_any}
 use Rattle.dir_model.specs.declared.area.Area.{Area}
 use Rattle.dir_model.specs.declared.area.Area.TheVariants as area
 use Rattle.dir_model.specs.declared.area.Phase.{Phase}
@@ -8,6 +8,7 @@ use Rattle.dir_model.specs.declared.area.Phase.TheVariants as phase
 use Rattle.dir_model.specs.declared.event.Event.{Event}
 use Rattle.dir_model.specs.declared.pod.PodId.{PodId}
 use Rattle.dir_model.specs.declared.spot.Which.{Which}
+use Rattle.dir_model.specs.Trees.{content, has_file}
 use Rattle.dir_trait.specs.State.{DirState, folder_at, is_owned}
 use Rattle.dir_trait.specs.Trace.{state_after}
 use Rattle.lifecycle.specs.Executions.{IsConforming}
@@ -22,6 +23,10 @@ use Rattle.pod_claim.specs.Requests.{in_prepared, in_run}
 use Rattle.pod_commands.specs.References.{OfReferences}
 use Rattle.pod_commands.specs.Prepare.{no_wishes}
 use Rattle.removal_commands.specs.Quiet.{StandsNowhere, HasPhaseNow}
+use Rattle.spawner.specs.Conditions.{start_mark}
+use Rattle.stage1.specs.declared.end.AppEnd.{AppEnd}
+use Rattle.stage1.specs.Notes.{status_path, status_text}
+use Rattle.run_commands.specs.Ends.{app_lines}
 
 -- the pod stands in this area and has this phase: by its history, and by the first area in which it stands and its lock there
 pub record IsPhaseAt (pod : PodId) (phase : Phase) (area : Area) (trace : List Event) : Type 0 where
@@ -50,6 +55,24 @@ pub record IsClaimHeld (pod : PodId) (which : Which) (me : ℕ) (s : DirState) :
 -- a pod that was made for this process was made faithfully, and its folder is left in run
 abbrev pub HasMadeAndLeft : List (List ℕ) → ℕ → PodId → List Event → List Event → Type 0
 HasMadeAndLeft words me draw old new = OfReferences words (λ refs. (x : IsPrepared refs no_wishes me draw area.Run old new) × IsLeftInRun draw x.folder new)
+
+-- the mark of an app stands in the folder with this number, and the file of its status with that alone
+pub record HasEnded (folder : ℕ) (s : DirState) (end : AppEnd) : Type 0 where
+  pub marked : has_file s.entries folder (start_mark end.app) ≡ true
+  pub noted : has_file s.entries folder (status_path end.app) ≡ true
+  pub status : content s.entries folder (status_path end.app) ≡ status_text end.status
+
+-- the pod's folder in run has those of each app
+pub record HasItsEnds (pod : PodId) (ends : List AppEnd) (trace : List Event) : Type 0 where
+  pub folder : ℕ
+  pub there : folder_at (state_after trace).namespace (in_run pod) ≡ Some folder
+  pub each : AllByRecursion (HasEnded folder (state_after trace)) ends
+
+-- each app's line is told after this text, and the pod has them
+pub record TellsItsEnds (pod : PodId) (front : List ℕ) (trace : List Event) (text : List ℕ) : Type 0 where
+  pub ends : List AppEnd
+  pub is : text ≡ front ++ app_lines ends
+  pub stand : HasItsEnds pod ends trace
 
 -- why a pod isn't claimed, by the state before
 abbrev pub UnclaimedFor : PodId → ClaimError → ℕ → List Event → List Event → Type 0

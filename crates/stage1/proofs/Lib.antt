@@ -2,7 +2,7 @@ mod Counting
 mod Asked
 mod Cuts
 mod Noted
-mod Appends
+pub mod Appends
 mod Keeping
 mod Causes
 mod Results
