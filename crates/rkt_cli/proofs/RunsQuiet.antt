@@ -39,10 +39,10 @@ use Rattle.removal_commands.proofs.LateTurns.{or_false}
 use Rattle.run_commands.specs.Refusals.{claim_refusal}
 use Rattle.run_commands.specs.RunPrepared.{runs_prepared, ClaimsAndRuns, IsUnclaimed}
 use Rattle.run_commands.specs.Run.{makes_and_runs, NewRunSays}
-use Rattle.run_commands.specs.Quiet.{HasPassed, HasMadeAndLeft, UnclaimedFor}
+use Rattle.run_commands.specs.Quiet.{HasPassed, HasMadeAndLeft, TellsItsEnds, UnclaimedFor}
 use Rattle.run_commands.proofs.Claimed.{may_begin}
 use Rattle.run_commands.proofs.ClaimBefore.{RefusedClaim}
-use Rattle.run_commands.proofs.Quietly.{run_prepared_passed, run_prepared_unclaimed, run_made_left}
+use Rattle.run_commands.proofs.Quietly.{run_prepared_passed, run_prepared_unclaimed, run_prepared_ends, run_made_left, run_ends}
 use Rattle.store_commands.proofs.RemovalQuiet.{ChangesAt, in_process, asks_in_process}
 use Rattle.rkt_cli.specs.declared.line.Line.{Line}
 use Rattle.rkt_cli.specs.declared.line.Line.TheVariants.{RunPrepared, Run}
@@ -75,10 +75,10 @@ run_changes draw = record { moves = λ from to h. moved from to h; removes = λ 
     moved from to h = place from (or_parts (spot_eq from (pod_at Embryo draw)) (spot_eq to (pod_at Prepare draw)) (spot_eq from (pod_at Prepare draw)) (spot_eq to (pod_at area.Run draw)) h)
 
 -- what is told of a run of apps where nobody else steps, by what came between its begin and its finish
-of_passed : (pod : PodId) (old new : DirSeen) (answer : Answer) → HasPassed pod old.trace new.trace → PassesQuietly pod old new (outcome_of answer)
-of_passed pod old new (Ok told) h = h
-of_passed pod old new (Err NoMemory) h = tt
-of_passed pod old new (Err r) h = inl h
+of_passed : (pod : PodId) (old new : DirSeen) (answer : Answer) → HasPassed pod old.trace new.trace → ((told : Told) → answer ≡ Ok told → TellsItsEnds pod [] new.trace told.text) → PassesQuietly pod old new (outcome_of answer)
+of_passed pod old new (Ok told) h ends = (h, ends told refl)
+of_passed pod old new (Err NoMemory) h ends = tt
+of_passed pod old new (Err r) h ends = inl h
 
 of_refused : (pod : PodId) (old new : DirSeen) (r : Refusal) (error : ClaimError) → r ≡ claim_refusal pod error → UnclaimedFor pod error old.process old.trace new.trace → PassesQuietly pod old new (Err r)
 of_refused pod old new NoMemory error is u = tt
@@ -126,6 +126,12 @@ module _ {line : Line} {now : ℕ} {draw : Draw} {intent : Intent} {a b : Inside
     pub first : Grew a.dir.trace d.trace
     first = let e = begin_ext (λ r. true) refl in subst (λ (h : List Event). Grew a.dir.trace h) from_is (record { more = e.more; grown = e.grown })
 
+    begin_there : CallStep d.process a.dir.trace (Begin intent) Done d.trace
+    begin_there = subst (λ (h : List Event). CallStep d.process a.dir.trace (Begin intent) Done h) from_is (subst (λ (p : ℕ). CallStep p a.dir.trace (Begin intent) Done x.begun.trace) me_is (x.begins t))
+
+    stays : d'.process ≡ d.process
+    stays = ap (λ (z : DirSeen). z.process) ends ∙ (x.same ∙ (x.me ∙ me_is))
+
     finish : CallStep d.process d'.trace Finish Done b.dir.trace
     finish = subst (λ (h : List Event). CallStep d.process h Finish Done b.dir.trace) to_is (subst (λ (p : ℕ). CallStep p x.ended.trace Finish Done b.dir.trace) me_is finish_call)
 
@@ -155,9 +161,13 @@ module _ (pod : PodId) (now : ℕ) (draw : Draw) (a b : Inside) (answer : Answer
           (subst (λ (p : ℕ). RefusedClaim pod p a.dir.trace x.begun.trace x.ended.trace b.dir.trace) (me_is x t d d' x.came.begins x.came.ends) refused))
 
       by : ClaimsAndRuns x.begun.observed a.spawner.observed pod d d' a.spawner.shown b.spawner.shown answer ⊎ IsUnclaimed x.begun.observed pod d d' a.spawner.shown b.spawner.shown answer → PassesQuietly pod a.dir b.dir (outcome_of answer)
-      by (inl c) = of_passed pod a.dir b.dir answer
-          (run_prepared_passed x.begun.observed a.spawner.observed pod d d' a.spawner.shown b.spawner.shown answer (seen x t d d' x.came.begins x.came.ends) a.dir.trace b.dir.trace (ext x t d d' x.came.begins x.came.ends) (alone x t d d' x.came.begins x.came.ends quiet)
-          (first x t d d' x.came.begins x.came.ends) (finish x t d d' x.came.begins x.came.ends) c (c.then (seen x t d d' x.came.begins x.came.ends)))
+      by (inl c) =
+          let passed = run_prepared_passed x.begun.observed a.spawner.observed pod d d' a.spawner.shown b.spawner.shown answer (seen x t d d' x.came.begins x.came.ends) a.dir.trace b.dir.trace (ext x t d d' x.came.begins x.came.ends) (alone x t d d' x.came.begins x.came.ends quiet)
+          (first x t d d' x.came.begins x.came.ends) (finish x t d d' x.came.begins x.came.ends) c (c.then (seen x t d d' x.came.begins x.came.ends)) in
+          of_passed pod a.dir b.dir answer passed
+          (λ told is. run_prepared_ends x.begun.observed a.spawner.observed d d' a.spawner.shown b.spawner.shown told (seen x t d d' x.came.begins x.came.ends) a.dir.trace b.dir.trace (alone x t d d' x.came.begins x.came.ends quiet)
+          its_intent (begin_there x t d d' x.came.begins x.came.ends) (stays x t d d' x.came.begins x.came.ends) (finish x t d d' x.came.begins x.came.ends) pod (ext x t d d' x.came.begins x.came.ends)
+          (subst (λ (z : Answer). ClaimsAndRuns x.begun.observed a.spawner.observed pod d d' a.spawner.shown b.spawner.shown z) is c) passed)
       by (inr c) =
           let u = run_prepared_unclaimed x.begun.observed a.spawner.observed pod d d' a.spawner.shown b.spawner.shown answer (seen x t d d' x.came.begins x.came.ends) a.dir.trace b.dir.trace refused_there
           (subst (λ (p : ℕ). OwnsNothing p (state_after a.dir.trace).namespace) (me_is x t d d' x.came.begins x.came.ends) idle)
@@ -190,12 +200,16 @@ module _ (words : List (List ℕ)) (now : ℕ) (draw : Draw) (a b : Inside) (t :
       k = knows_there x t d d' x.came.begins x.came.ends
 
       by : NewRunSays x.begun.observed a.spawner.observed words now draw d d' a.spawner.shown b.spawner.shown (Ok told) → LeavesMade words draw a.dir b.dir (Ok told.text)
-      by (inl m) = λ conforming.
-          subst (λ (p : ℕ). HasMadeAndLeft words p draw.uuid a.dir.trace b.dir.trace) (sym (me_is x t d d' x.came.begins x.came.ends))
-          (run_made_left x.begun.observed a.spawner.observed words now draw d d' a.spawner.shown b.spawner.shown (Ok told) (seen x t d d' x.came.begins x.came.ends) a.dir.trace b.dir.trace (ext x t d d' x.came.begins x.came.ends) (alone x t d d' x.came.begins x.came.ends quiet)
-          (first x t d d' x.came.begins x.came.ends) (finish x t d d' x.came.begins x.came.ends) new_intent (record { leads = refl; drawn = refl; token = refl; moment = refl }) (record { tied = k.tied; handles = k.handles }) m (m.then (seen x t d d' x.came.begins x.came.ends)) conforming)
-      by (inr (inl u)) = ok_not_err told u.is.0 u.is.1
-      by (inr (inr u)) = ok_not_err told NoMemory u.is
+      by (inl m) conforming =
+          let left = run_made_left x.begun.observed a.spawner.observed words now draw d d' a.spawner.shown b.spawner.shown (Ok told) (seen x t d d' x.came.begins x.came.ends) a.dir.trace b.dir.trace (ext x t d d' x.came.begins x.came.ends) (alone x t d d' x.came.begins x.came.ends quiet)
+          (first x t d d' x.came.begins x.came.ends) (finish x t d d' x.came.begins x.came.ends) new_intent (record { leads = refl; drawn = refl; token = refl; moment = refl }) (record { tied = k.tied; handles = k.handles }) m (m.then (seen x t d d' x.came.begins x.came.ends)) conforming in
+          (
+            subst (λ (p : ℕ). HasMadeAndLeft words p draw.uuid a.dir.trace b.dir.trace) (sym (me_is x t d d' x.came.begins x.came.ends)) left,
+            run_ends x.begun.observed a.spawner.observed d d' a.spawner.shown b.spawner.shown told (seen x t d d' x.came.begins x.came.ends) a.dir.trace b.dir.trace (alone x t d d' x.came.begins x.came.ends quiet)
+                new_intent (begin_there x t d d' x.came.begins x.came.ends) (stays x t d d' x.came.begins x.came.ends) (finish x t d d' x.came.begins x.came.ends) words now draw (ext x t d d' x.came.begins x.came.ends) m left,
+          )
+      by (inr (inl u)) conforming = ok_not_err told u.is.0 u.is.1
+      by (inr (inr u)) conforming = ok_not_err told NoMemory u.is
 
   pub made : (answer : Answer) → CameBetween (Run words) now draw (Some new_intent) a b answer → LeavesMade words draw a.dir b.dir (outcome_of answer)
   made (Ok told) (inl x) = made_in told x
