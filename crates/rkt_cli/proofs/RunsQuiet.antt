@@ -37,11 +37,15 @@ use Rattle.command_outcomes.specs.Conforming.{begun as just_begun}
 use Rattle.command_outcomes.specs.Moments.{DirSeen, Inside, Answer, outcome_of, dir_seen}
 use Rattle.removal_commands.proofs.LateTurns.{or_false}
 use Rattle.run_commands.specs.Refusals.{claim_refusal}
+use Rattle.lifecycle.specs.Executions.{IsConforming}
+use Rattle.pod_build.specs.Preparations.{Began}
+use Rattle.pod_making.specs.Progress.{at_work, nothing_made}
 use Rattle.run_commands.specs.RunPrepared.{runs_prepared, ClaimsAndRuns, IsUnclaimed}
-use Rattle.run_commands.specs.Run.{makes_and_runs, NewRunSays}
-use Rattle.run_commands.specs.Quiet.{HasPassed, HasMadeAndLeft, TellsItsEnds, UnclaimedFor}
+use Rattle.run_commands.specs.Run.{makes_and_runs, MakesAndRuns, NewRunSays}
+use Rattle.run_commands.specs.Quiet.{HasPassed, HasMadeAndLeft, TellsItsEnds, UnclaimedFor, IsRunRefusal, IsUnmadeFor}
 use Rattle.run_commands.proofs.Claimed.{may_begin}
 use Rattle.run_commands.proofs.ClaimBefore.{RefusedClaim}
+use Rattle.run_commands.proofs.RunRefused.{same_refusal, made_refusal, unmade_refusal}
 use Rattle.run_commands.proofs.Quietly.{run_prepared_passed, run_prepared_unclaimed, run_prepared_ends, run_made_left, run_ends}
 use Rattle.store_commands.proofs.RemovalQuiet.{ChangesAt, in_process, asks_in_process}
 use Rattle.rkt_cli.specs.declared.line.Line.{Line}
@@ -187,38 +191,80 @@ module _ (words : List (List ℕ)) (now : ℕ) (draw : Draw) (a b : Inside) (t :
   abbrev new_intent : Intent
   new_intent = intent_for kind.Run [] now draw
 
-  made_in : (told : Told) → CameInProcess (Run words) now draw new_intent a b (Ok told) → LeavesMade words draw a.dir b.dir (Ok told.text)
+  -- the pod of a run, whatever came of it
+  module _ {answer : Answer} (x : CameInProcess (Run words) now draw new_intent a b answer) where
+    abbrev d : DirAt
+    d = x.came.from
+
+    abbrev d' : DirAt
+    d' = x.came.to
+
+    abbrev sees : x.begun.observed ≡ true
+    sees = seen x t d d' x.came.begins x.came.ends
+
+    abbrev mine : a.dir.process ≡ d.process
+    mine = me_is x t d d' x.came.begins x.came.ends
+
+    began : Began area.Run draw now new_intent
+    began = record { leads = refl; drawn = refl; token = refl; moment = refl }
+
+    knows : Knows d (at_work new_intent [] nothing_made)
+    knows = let k = knows_there x t d d' x.came.begins x.came.ends in record { tied = k.tied; handles = k.handles }
+
+    left : MakesAndRuns x.begun.observed a.spawner.observed words now draw d d' a.spawner.shown b.spawner.shown answer → IsConforming b.dir.trace → HasMadeAndLeft words d.process draw.uuid a.dir.trace b.dir.trace
+    left m conforming =
+        run_made_left x.begun.observed a.spawner.observed words now draw d d' a.spawner.shown b.spawner.shown answer sees a.dir.trace b.dir.trace (ext x t d d' x.came.begins x.came.ends) (alone x t d d' x.came.begins x.came.ends quiet)
+        (first x t d d' x.came.begins x.came.ends) (finish x t d d' x.came.begins x.came.ends) new_intent began knows m (m.then sees) conforming
+
+    there : HasMadeAndLeft words d.process draw.uuid a.dir.trace b.dir.trace → HasMadeAndLeft words a.dir.process draw.uuid a.dir.trace b.dir.trace
+    there h = subst (λ (p : ℕ). HasMadeAndLeft words p draw.uuid a.dir.trace b.dir.trace) (sym mine) h
+
+    begins : Extends is_begin a.dir.process a.dir.trace d.trace
+    begins = subst (λ (h : List Event). Extends is_begin a.dir.process a.dir.trace h) (from_is x t d d' x.came.begins x.came.ends) (begin_ext x t is_begin refl)
+
+    ends : Extends is_finish a.dir.process d'.trace b.dir.trace
+    ends = subst (λ (h : List Event). Extends is_finish a.dir.process h b.dir.trace) (to_is x t d d' x.came.begins x.came.ends) (finish_ext x t is_finish refl)
+
+  made_in : (told : Told) → CameInProcess (Run words) now draw new_intent a b (Ok told) → LeavesMade words now draw a.dir b.dir (Ok told.text)
   made_in told x = by x.came.so
     where
-      d : DirAt
-      d = x.came.from
-
-      d' : DirAt
-      d' = x.came.to
-
-      k : Knows d (just_begun new_intent)
-      k = knows_there x t d d' x.came.begins x.came.ends
-
-      by : NewRunSays x.begun.observed a.spawner.observed words now draw d d' a.spawner.shown b.spawner.shown (Ok told) → LeavesMade words draw a.dir b.dir (Ok told.text)
+      by : NewRunSays x.begun.observed a.spawner.observed words now draw (d x) (d' x) a.spawner.shown b.spawner.shown (Ok told) → LeavesMade words now draw a.dir b.dir (Ok told.text)
       by (inl m) conforming =
-          let left = run_made_left x.begun.observed a.spawner.observed words now draw d d' a.spawner.shown b.spawner.shown (Ok told) (seen x t d d' x.came.begins x.came.ends) a.dir.trace b.dir.trace (ext x t d d' x.came.begins x.came.ends) (alone x t d d' x.came.begins x.came.ends quiet)
-          (first x t d d' x.came.begins x.came.ends) (finish x t d d' x.came.begins x.came.ends) new_intent (record { leads = refl; drawn = refl; token = refl; moment = refl }) (record { tied = k.tied; handles = k.handles }) m (m.then (seen x t d d' x.came.begins x.came.ends)) conforming in
+          let h = left x m conforming in
           (
-            subst (λ (p : ℕ). HasMadeAndLeft words p draw.uuid a.dir.trace b.dir.trace) (sym (me_is x t d d' x.came.begins x.came.ends)) left,
-            run_ends x.begun.observed a.spawner.observed d d' a.spawner.shown b.spawner.shown told (seen x t d d' x.came.begins x.came.ends) a.dir.trace b.dir.trace (alone x t d d' x.came.begins x.came.ends quiet)
-                new_intent (begin_there x t d d' x.came.begins x.came.ends) (stays x t d d' x.came.begins x.came.ends) (finish x t d d' x.came.begins x.came.ends) words now draw (ext x t d d' x.came.begins x.came.ends) m left,
+            there x h,
+            run_ends x.begun.observed a.spawner.observed (d x) (d' x) a.spawner.shown b.spawner.shown told (sees x) a.dir.trace b.dir.trace (alone x t (d x) (d' x) x.came.begins x.came.ends quiet)
+                new_intent (begin_there x t (d x) (d' x) x.came.begins x.came.ends) (stays x t (d x) (d' x) x.came.begins x.came.ends) (finish x t (d x) (d' x) x.came.begins x.came.ends) words now draw (ext x t (d x) (d' x) x.came.begins x.came.ends) m h,
           )
       by (inr (inl u)) conforming = ok_not_err told u.is.0 u.is.1
       by (inr (inr u)) conforming = ok_not_err told NoMemory u.is
 
-  pub made : (answer : Answer) → CameBetween (Run words) now draw (Some new_intent) a b answer → LeavesMade words draw a.dir b.dir (outcome_of answer)
+  -- why it was refused
+  abbrev IsWhy : Refusal → Type 0
+  IsWhy r = IsRunRefusal draw.uuid r × (IsConforming b.dir.trace → HasMadeAndLeft words a.dir.process draw.uuid a.dir.trace b.dir.trace) ⊎ IsUnmadeFor words now draw a.dir b.dir r
+
+  of_why : (r : Refusal) → (r ≡ NoMemory) ⊎ IsWhy r → LeavesMade words now draw a.dir b.dir (Err r)
+  of_why NoMemory why = tt
+  of_why r (inl is) = cc
+  of_why r (inr why) = why
+
+  refused_in : (r : Refusal) → CameInProcess (Run words) now draw new_intent a b (Err r) → (r ≡ NoMemory) ⊎ IsWhy r
+  refused_in r x = by x.came.so
+    where
+      by : NewRunSays x.begun.observed a.spawner.observed words now draw (d x) (d' x) a.spawner.shown b.spawner.shown (Err r) → (r ≡ NoMemory) ⊎ IsWhy r
+      by (inl m) = elim (made_refusal r m) [ inl is ↦ inl is | inr one ↦ inr (inl (one, λ conforming. there x (left x m conforming))) ]
+      by (inr (inl u)) = elim (unmade_refusal a.dir b.dir x.told (sees x) (sym (mine x)) (stays x t (d x) (d' x) x.came.begins x.came.ends) (whole_ext x t) quiet (begins x) (ends x) new_intent (began x) (knows x) r u) [ inl is ↦ inl is | inr why ↦ inr (inr why) ]
+      by (inr (inr u)) = inl (same_refusal r NoMemory u.is)
+
+  pub made : (answer : Answer) → CameBetween (Run words) now draw (Some new_intent) a b answer → LeavesMade words now draw a.dir b.dir (outcome_of answer)
   made (Ok told) (inl x) = made_in told x
   made (Ok told) (inr x) = ok_not_err told NoMemory x.0
-  made (Err r) came = tt
+  made (Err r) (inl x) = of_why r (refused_in r x)
+  made (Err r) (inr x) = of_why r (inl (same_refusal r NoMemory x.0))
 
 -- of each command
 pub runs_quietly : (line : Line) (now : ℕ) (draw : Draw) (a b : Inside) (answer : Answer) → (runs_apps line ≡ true → a.dir.observed ≡ true) → (runs_apps line ≡ true → Quiet a.dir.process a.dir.trace b.dir.trace) →
-    (runs_apps line ≡ true → OwnsNothing a.dir.process (state_after a.dir.trace).namespace) → CameBetween line now draw (intent_of line now draw) a b answer → RunsQuietly line draw a.dir b.dir (outcome_of answer)
+    (runs_apps line ≡ true → OwnsNothing a.dir.process (state_after a.dir.trace).namespace) → CameBetween line now draw (intent_of line now draw) a b answer → RunsQuietly line now draw a.dir b.dir (outcome_of answer)
 runs_quietly (RunPrepared pod) now draw a b answer t quiet idle came = passes pod now draw a b answer (t refl) (quiet refl) (idle refl) came
 runs_quietly (Run words) now draw a b answer t quiet idle came = made words now draw a b (t refl) (quiet refl) answer came
 runs_quietly line now draw a b answer t quiet idle came = tt

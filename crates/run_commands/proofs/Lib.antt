@@ -11,3 +11,4 @@ pub mod EndsQuiet
 pub mod ClaimBefore
 pub mod NewRunQuiet
 pub mod Quietly
+pub mod RunRefused
