@@ -45,7 +45,7 @@ use Rattle.run_commands.specs.Run.{makes_and_runs, MakesAndRuns, NewRunSays}
 use Rattle.run_commands.specs.Quiet.{HasPassed, HasMadeAndLeft, TellsItsEnds, UnclaimedFor, IsRunRefusal, IsUnmadeFor}
 use Rattle.run_commands.proofs.Claimed.{may_begin}
 use Rattle.run_commands.proofs.ClaimBefore.{RefusedClaim}
-use Rattle.run_commands.proofs.RunRefused.{same_refusal, made_refusal, unmade_refusal}
+use Rattle.run_commands.proofs.RunRefused.{same_refusal, claimed_refusal, made_refusal, unmade_refusal}
 use Rattle.run_commands.proofs.Quietly.{run_prepared_passed, run_prepared_unclaimed, run_prepared_ends, run_made_left, run_ends}
 use Rattle.store_commands.proofs.RemovalQuiet.{ChangesAt, in_process, asks_in_process}
 use Rattle.rkt_cli.specs.declared.line.Line.{Line}
@@ -79,10 +79,15 @@ run_changes draw = record { moves = λ from to h. moved from to h; removes = λ 
     moved from to h = place from (or_parts (spot_eq from (pod_at Embryo draw)) (spot_eq to (pod_at Prepare draw)) (spot_eq from (pod_at Prepare draw)) (spot_eq to (pod_at area.Run draw)) h)
 
 -- what is told of a run of apps where nobody else steps, by what came between its begin and its finish
-of_passed : (pod : PodId) (old new : DirSeen) (answer : Answer) → HasPassed pod old.trace new.trace → ((told : Told) → answer ≡ Ok told → TellsItsEnds pod [] new.trace told.text) → PassesQuietly pod old new (outcome_of answer)
-of_passed pod old new (Ok told) h ends = (h, ends told refl)
-of_passed pod old new (Err NoMemory) h ends = tt
-of_passed pod old new (Err r) h ends = inl h
+passed_refused : (pod : PodId) (old new : DirSeen) (r : Refusal) → HasPassed pod old.trace new.trace → (r ≡ NoMemory) ⊎ IsRunRefusal pod r → PassesQuietly pod old new (Err r)
+passed_refused pod old new NoMemory h why = tt
+passed_refused pod old new r h (inl is) = cc
+passed_refused pod old new r h (inr one) = inl (one, h)
+
+of_passed : (pod : PodId) (old new : DirSeen) (answer : Answer) → HasPassed pod old.trace new.trace → ((told : Told) → answer ≡ Ok told → TellsItsEnds pod [] new.trace told.text) → ((r : Refusal) → answer ≡ Err r → (r ≡ NoMemory) ⊎ IsRunRefusal pod r) →
+    PassesQuietly pod old new (outcome_of answer)
+of_passed pod old new (Ok told) h ends why = (h, ends told refl)
+of_passed pod old new (Err r) h ends why = passed_refused pod old new r h (why r refl)
 
 of_refused : (pod : PodId) (old new : DirSeen) (r : Refusal) (error : ClaimError) → r ≡ claim_refusal pod error → UnclaimedFor pod error old.process old.trace new.trace → PassesQuietly pod old new (Err r)
 of_refused pod old new NoMemory error is u = tt
@@ -172,6 +177,7 @@ module _ (pod : PodId) (now : ℕ) (draw : Draw) (a b : Inside) (answer : Answer
           (λ told is. run_prepared_ends x.begun.observed a.spawner.observed d d' a.spawner.shown b.spawner.shown told (seen x t d d' x.came.begins x.came.ends) a.dir.trace b.dir.trace (alone x t d d' x.came.begins x.came.ends quiet)
           its_intent (begin_there x t d d' x.came.begins x.came.ends) (stays x t d d' x.came.begins x.came.ends) (finish x t d d' x.came.begins x.came.ends) pod (ext x t d d' x.came.begins x.came.ends)
           (subst (λ (z : Answer). ClaimsAndRuns x.begun.observed a.spawner.observed pod d d' a.spawner.shown b.spawner.shown z) is c) passed)
+          (λ r is. claimed_refusal r (subst (λ (z : Answer). ClaimsAndRuns x.begun.observed a.spawner.observed pod d d' a.spawner.shown b.spawner.shown z) is c))
       by (inr c) =
           let u = run_prepared_unclaimed x.begun.observed a.spawner.observed pod d d' a.spawner.shown b.spawner.shown answer (seen x t d d' x.came.begins x.came.ends) a.dir.trace b.dir.trace refused_there
           (subst (λ (p : ℕ). OwnsNothing p (state_after a.dir.trace).namespace) (me_is x t d d' x.came.begins x.came.ends) idle)
@@ -230,8 +236,7 @@ module _ (words : List (List ℕ)) (now : ℕ) (draw : Draw) (a b : Inside) (t :
     where
       by : NewRunSays x.begun.observed a.spawner.observed words now draw (d x) (d' x) a.spawner.shown b.spawner.shown (Ok told) → LeavesMade words now draw a.dir b.dir (Ok told.text)
       by (inl m) conforming =
-          let h = left x m conforming in
-          (
+          let h = left x m conforming in (
             there x h,
             run_ends x.begun.observed a.spawner.observed (d x) (d' x) a.spawner.shown b.spawner.shown told (sees x) a.dir.trace b.dir.trace (alone x t (d x) (d' x) x.came.begins x.came.ends quiet)
                 new_intent (begin_there x t (d x) (d' x) x.came.begins x.came.ends) (stays x t (d x) (d' x) x.came.begins x.came.ends) (finish x t (d x) (d' x) x.came.begins x.came.ends) words now draw (ext x t (d x) (d' x) x.came.begins x.came.ends) m h,

@@ -195,14 +195,16 @@ ReadsOnly (Rm pod) old new = Unit {0}
 ReadsOnly Gc old new = Unit {0}
 
 -- of `run-prepared`: the pod waited in prepared before and is left in run, without an owner, and the mark and the status of each app whose
--- line is told stand there; where it is refused it may be left so too, or it wasn't claimed, for a cause in the state before
+-- line is told stand there; where it is refused for a cause of the run it is left so too, or it wasn't claimed, for a cause in the state
+-- before
 abbrev pub PassesQuietly : PodId → DirSeen → DirSeen → Outcome → Type 0
 PassesQuietly pod old new (Ok text) = HasPassed pod old.trace new.trace × TellsItsEnds pod [] new.trace text
 PassesQuietly pod old new (Err NoMemory) = Unit {0}
-PassesQuietly pod old new (Err refusal) = HasPassed pod old.trace new.trace ⊎ ((error : ClaimError) × (refusal ≡ claim_refusal pod error) × UnclaimedFor pod error old.process old.trace new.trace)
+PassesQuietly pod old new (Err refusal) = IsRunRefusal pod refusal × HasPassed pod old.trace new.trace ⊎ ((error : ClaimError) × (refusal ≡ claim_refusal pod error) × UnclaimedFor pod error old.process old.trace new.trace)
 
 -- of `run`: where every process keeps the local rules the pod was made faithfully, and is left in run, without an owner, with the mark
--- and the status of each app whose line is told; where it is refused it may be left so too, or it wasn't made, for this cause
+-- and the status of each app whose line is told; where it is refused for a cause of the run it is left so too, or it wasn't made, for
+-- this cause
 abbrev pub LeavesMade : List (List ℕ) → ℕ → Draw → DirSeen → DirSeen → Outcome → Type 0
 LeavesMade words now draw old new (Ok text) = IsConforming new.trace → HasMadeAndLeft words old.process draw.uuid old.trace new.trace × TellsItsEnds draw.uuid (pod_line draw.uuid) new.trace text
 LeavesMade words now draw old new (Err NoMemory) = Unit {0}

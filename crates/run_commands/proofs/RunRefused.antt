@@ -1,4 +1,4 @@
--- Where nobody else steps: why `run` is refused.
+-- Where nobody else steps: why `run` is refused, and `run-prepared` of a pod that was claimed.
 use Rattle.std.proofs.Common.{◌≡◌, ◌⊎◌, inl, inr, ℕ, Bool, true, List, [], Err, refl, sym, ap, subst, ◌∙◌}
 use Rattle.dir_model.specs.declared.area.Area.{Area}
 use Rattle.dir_model.specs.declared.area.Area.TheVariants.{Run}
@@ -19,6 +19,7 @@ use Rattle.pod_build.specs.declared.error.BuildError.TheVariants as build
 use Rattle.pod_build.specs.Causes.{IsRefused}
 use Rattle.pod_build.specs.Preparations.{Began}
 use Rattle.pod_making.specs.Progress.{at_work, nothing_made}
+use Rattle.pod_ownership.specs.declared.owned.Owned.{Owned}
 use Rattle.pod_making.specs.Work.{HasOwnFolder}
 use Rattle.spawner.specs.Calls.{SpawnerAt}
 use Rattle.stage1.specs.declared.error.RunError.{RunError}
@@ -33,23 +34,27 @@ use Rattle.pod_commands.proofs.Whole.{refused_whole}
 use Rattle.removal_commands.proofs.OwnSteps.{at_process, held_before, in_process}
 use Rattle.run_commands.specs.Refusals.{run_refusal, IsRunSaid}
 use Rattle.run_commands.specs.Run.{makes_and_runs, MakesAndRuns, IsUnmade}
+use Rattle.run_commands.specs.RunPrepared.{ClaimsAndRuns}
 use Rattle.run_commands.specs.Runs.{RunSays}
 use Rattle.run_commands.specs.Quiet.{IsRunRefusal, IsUnmadeFor}
 
 pub same_refusal : (r q : Refusal) → ◌≡◌ {A = Answer} (Err r) (Err q) → r ≡ q
 same_refusal r q is = cc
 
--- a pod that was made
-pub made_refusal : {seen observed : Bool} {words : List (List ℕ)} {now : ℕ} {draw : Draw} {d d' : DirAt} {s s' : SpawnerAt} (r : Refusal) → MakesAndRuns seen observed words now draw d d' s s' (Err r) → (r ≡ NoMemory) ⊎ IsRunRefusal draw.uuid r
-made_refusal {seen} {observed} {words} {now} {draw} {d} {d'} {s} {s'} r x = by x.says
+-- a pod that its process runs
+says_refusal : {seen observed : Bool} {owned : Owned} {d d' : DirAt} {s s' : SpawnerAt} (front : List ℕ) (pod : PodId) (r : Refusal) → owned.pod ≡ pod → RunSays seen observed owned front d d' s s' (Err r) → (r ≡ NoMemory) ⊎ IsRunRefusal pod r
+says_refusal {owned = owned} front pod r its (inl w) = said w.error w.is.0 (same_refusal r w.is.0 w.is.1) w.is.2
   where
-    said : (error : RunError) (q : Refusal) → r ≡ q → IsRunSaid x.owned.pod error q → (r ≡ NoMemory) ⊎ IsRunRefusal draw.uuid r
-    said error q is (inl told) = inr (error, is ∙ (told ∙ ap (λ (p : PodId). run_refusal p error) x.is_owned.is))
+    said : (error : RunError) (q : Refusal) → r ≡ q → IsRunSaid owned.pod error q → (r ≡ NoMemory) ⊎ IsRunRefusal pod r
+    said error q is (inl told) = inr (error, is ∙ (told ∙ ap (λ (p : PodId). run_refusal p error) its))
     said error q is (inr told) = inl (is ∙ told)
+says_refusal front pod r its (inr w) = inl (same_refusal r NoMemory w.is)
 
-    by : RunSays seen observed x.owned (pod_line draw.uuid) x.made d' s s' (Err r) → (r ≡ NoMemory) ⊎ IsRunRefusal draw.uuid r
-    by (inl w) = said w.error w.is.0 (same_refusal r w.is.0 w.is.1) w.is.2
-    by (inr w) = inl (same_refusal r NoMemory w.is)
+pub claimed_refusal : {seen observed : Bool} {pod : PodId} {d d' : DirAt} {s s' : SpawnerAt} (r : Refusal) → ClaimsAndRuns seen observed pod d d' s s' (Err r) → (r ≡ NoMemory) ⊎ IsRunRefusal pod r
+claimed_refusal {pod = pod} r x = says_refusal [] pod r x.is_owned.is x.says
+
+pub made_refusal : {seen observed : Bool} {words : List (List ℕ)} {now : ℕ} {draw : Draw} {d d' : DirAt} {s s' : SpawnerAt} (r : Refusal) → MakesAndRuns seen observed words now draw d d' s s' (Err r) → (r ≡ NoMemory) ⊎ IsRunRefusal draw.uuid r
+made_refusal {draw = draw} r x = says_refusal (pod_line draw.uuid) draw.uuid r x.is_owned.is x.says
 
 -- and one that wasn't, for what is seen of the directory before and in the end
 module _ {seen : Bool} {words : List (List ℕ)} {now : ℕ} {draw : Draw} {d d' : DirAt} {s s' : SpawnerAt} (old new : DirSeen) (told : seen ≡ old.observed) (t : seen ≡ true) (mine : d.process ≡ old.process) (stays : d'.process ≡ d.process)

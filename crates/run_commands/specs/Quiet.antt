@@ -90,7 +90,7 @@ UnclaimedFor pod claim.NoManifest me old new = IsConforming new → LacksManifes
 UnclaimedFor pod (claim.Busy other which) me old new = (other ≡ pod) × IsClaimHeld pod which me (state_after old)
 UnclaimedFor pod error me old new = Unit {0}
 
--- this refusal is one of the run of a pod that was made
+-- this refusal is one of the run of this pod
 abbrev pub IsRunRefusal : PodId → Refusal → Type 0
 IsRunRefusal pod refusal = (error : RunError) × (refusal ≡ run_refusal pod error)
 
