@@ -25,6 +25,7 @@ use Rattle.run_commands.specs.Refusals.{claim_refusal, run_refusal, IsRunSaid}
 use Rattle.run_commands.specs.RunPrepared.{ClaimsAndRuns, IsUnclaimed}
 use Rattle.run_commands.specs.Runs.{RunSays}
 use Rattle.run_commands.proofs.Claimed.{may_begin}
+use Rattle.run_commands.proofs.RunRefused.{same_refusal}
 use Rattle.removal_commands.specs.Rm.{rm_refusal, is_failure}
 use Rattle.removal_commands.proofs.Unhindered.{rm_complete, fails_alone}
 use Rattle.rkt_cli.specs.declared.line.Line.{Line}
@@ -95,9 +96,6 @@ run_apart pod run.NoMemory = refl
 said_apart : (pod : PodId) (error : RunError) (r : Refusal) → IsRunSaid pod error r → is_unfree_status (status_of r) ≡ false
 said_apart pod error r (inl e) = ap (λ (x : Refusal). is_unfree_status (status_of x)) e ∙ run_apart pod error
 said_apart pod error r (inr e) = ap (λ (x : Refusal). is_unfree_status (status_of x)) e
-
-same_refusal : (r q : Refusal) → ◌≡◌ {A = Answer} (Err r) (Err q) → r ≡ q
-same_refusal r q is = cc
 
 -- what is free in the whole is free in a part
 free_part : (pod : PodId) (old new d d' : DirAt) (more rest : List Event) → d.process ≡ old.process → d.trace ≡ old.trace ++ more → new.trace ≡ d'.trace ++ rest → IsFreeThroughout pod old new → IsFreeThroughout pod d d'

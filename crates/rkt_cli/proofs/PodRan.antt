@@ -67,9 +67,6 @@ pub prepare_ran : (line : Line) (now : ℕ) (draw : Draw) (words : List (List �
     CommandRan line now draw (beside (seen_at observed a) bundle) (beside (seen_at observed b) bundle) o
 prepare_ran line now draw words observed a b bundle o is worked cause known says = ran (Prepare words) prepare_refusal refl (prepare_may words) line now draw observed a b bundle o is tt worked cause known says
 
-still : (a b : ℕ) → b ≡ a → a ≤ b
-still a b same = omega arith
-
 -- the refusals that may come with the pod in prepared
 abbrev pub is_fault : Refusal → Bool
 is_fault NoMemory = true
@@ -83,7 +80,7 @@ says_why words now draw old new r other says = (says.1, says.2)
 
 module _ {words : List (List ℕ)} {now : ℕ} {draw : Draw} {intent : Intent} {old new : Outside} {o : Outcome} (s : InProcess (Prepare words) now draw intent old new o) where
   refused_in_process : (r : Refusal) → RefusesPod words now draw s.begun.dir s.ended.dir r → RefusesPod words now draw old.dir new.dir r
-  refused_in_process r x = refuses_whole any_call s.told s.me s.ran.same s.same s.risen (still s.ended.dir.faults new.dir.faults s.faults) (λ t. begin_part s t any_call refl)
+  refused_in_process r x = refuses_whole any_call s.told s.me s.ran.same (λ t. begin_part s t any_call refl)
       (λ t. step_extends any_call s.ended.dir.process s.ended.dir.trace Finish Done new.dir.trace refl (s.finishes t)) x
 
   -- the pod was brought to prepared, and then the sync was answered so

@@ -350,7 +350,7 @@ gc_quiet now draw old new (Err BundleFault) s u own = let clash : false ≡ true
 gc_quiet now draw old new (Err r) s u own = let clash : false ≡ true = s.ran.refusals in cc
 
 -- each command
-comes_of : (line : Line) (now : ℕ) (draw : Draw) (intent : Intent) (old new : Outside) (o : Outcome) → intent_of line now draw ≡ Some intent → InProcess line now draw intent old new o → IsUndisturbed (Some line) old new → is_own_end o ≡ true → RunsQuietly line draw old.dir new.dir o → ComesQuietly line now draw old new o
+comes_of : (line : Line) (now : ℕ) (draw : Draw) (intent : Intent) (old new : Outside) (o : Outcome) → intent_of line now draw ≡ Some intent → InProcess line now draw intent old new o → IsUndisturbed (Some line) old new → is_own_end o ≡ true → RunsQuietly line now draw old.dir new.dir o → ComesQuietly line now draw old new o
 comes_of (Status pod) now draw intent old new o said s u own ran = status_quiet pod now draw intent old new o s u own
 comes_of (Validate path) now draw intent old new o said s u own ran = let clash : false ≡ true = s.uses in cc
 comes_of ImageList now draw intent old new o said s u own ran = list_quiet now draw intent old new o s u own
@@ -417,7 +417,7 @@ IsQuiet line now draw old new o =
     (o ≡ Err NoMemory)
     ⊎ (ComesQuietly line now draw old new o × LeavesQuietly line now draw old.bundle.tree (state_after old.dir.trace) (state_after new.dir.trace))
 
-performs_quiet : (line : Line) (now : ℕ) (draw : Draw) (intent : Option Intent) (old new : Outside) (o : Outcome) → intent_of line now draw ≡ intent → Performs line now draw intent old new o → IsUndisturbed (Some line) old new → ((OwnsNothing old.dir.process (state_after old.dir.trace).namespace) → RunsQuietly line draw old.dir new.dir o) → IsQuiet line now draw old new o
+performs_quiet : (line : Line) (now : ℕ) (draw : Draw) (intent : Option Intent) (old new : Outside) (o : Outcome) → intent_of line now draw ≡ intent → Performs line now draw intent old new o → IsUndisturbed (Some line) old new → ((OwnsNothing old.dir.process (state_after old.dir.trace).namespace) → RunsQuietly line now draw old.dir new.dir o) → IsQuiet line now draw old new o
 performs_quiet line now draw (Some intent) old new o said (inr n) u ran = inl n.is
 performs_quiet line now draw (Some intent) old new o said (inl s) u ran =
     elim (ends_own line now draw intent old new o s u) [ inl e ↦ inl e | inr own ↦ inr (comes_of line now draw intent old new o said s u own (ran (idle s (u.observed s.uses) (u.alone s.uses))), leaves_quietly line now draw intent old new o s u) ]
@@ -438,8 +438,8 @@ said_quiet o old new status (inr (inr x)) works = inr x
 module _ (now : ℕ) (draw : Draw) (old new : Moment) (status : ℕ) where
   -- what is told of a run of apps
   ran_quietly : (line : Line) → (r : RunOfLine line now draw (intent_of line now draw) old new status) → IsUndisturbed (Some line) old.outside new.outside →
-      OwnsNothing old.outside.dir.process (state_after old.outside.dir.trace).namespace → RunsQuietly line draw old.outside.dir new.outside.dir r.outcome
-  ran_quietly line r u idle = subst (λ (o : Outcome). RunsQuietly line draw old.outside.dir new.outside.dir o) (sym r.outcome_is)
+      OwnsNothing old.outside.dir.process (state_after old.outside.dir.trace).namespace → RunsQuietly line now draw old.outside.dir new.outside.dir r.outcome
+  ran_quietly line r u idle = subst (λ (o : Outcome). RunsQuietly line now draw old.outside.dir new.outside.dir o) (sym r.outcome_is)
       (runs_quietly line now draw (inside_in old) (inside_in new) r.answer (λ runs. u.observed (runs_use line runs)) (λ runs. u.alone (runs_use line runs)) (λ runs. idle) r.came)
 
   quiet_of : (l : Option Line) → RunOf l now draw old new status → IsUndisturbed l old.outside new.outside → Works old.out new.out → (status ≡ 14) ⊎ IsPlainAnswer l now draw status old new

@@ -37,12 +37,16 @@ use Rattle.command_outcomes.specs.Conforming.{begun as just_begun}
 use Rattle.command_outcomes.specs.Moments.{DirSeen, Inside, Answer, outcome_of, dir_seen}
 use Rattle.removal_commands.proofs.LateTurns.{or_false}
 use Rattle.run_commands.specs.Refusals.{claim_refusal}
+use Rattle.lifecycle.specs.Executions.{IsConforming}
+use Rattle.pod_build.specs.Preparations.{Began}
+use Rattle.pod_making.specs.Progress.{at_work, nothing_made}
 use Rattle.run_commands.specs.RunPrepared.{runs_prepared, ClaimsAndRuns, IsUnclaimed}
-use Rattle.run_commands.specs.Run.{makes_and_runs, NewRunSays}
-use Rattle.run_commands.specs.Quiet.{HasPassed, HasMadeAndLeft, UnclaimedFor}
+use Rattle.run_commands.specs.Run.{makes_and_runs, MakesAndRuns, NewRunSays}
+use Rattle.run_commands.specs.Quiet.{HasPassed, HasMadeAndLeft, TellsItsEnds, UnclaimedFor, IsRunRefusal, IsUnmadeFor}
 use Rattle.run_commands.proofs.Claimed.{may_begin}
 use Rattle.run_commands.proofs.ClaimBefore.{RefusedClaim}
-use Rattle.run_commands.proofs.Quietly.{run_prepared_passed, run_prepared_unclaimed, run_made_left}
+use Rattle.run_commands.proofs.RunRefused.{same_refusal, claimed_refusal, made_refusal, unmade_refusal}
+use Rattle.run_commands.proofs.Quietly.{run_prepared_passed, run_prepared_unclaimed, run_prepared_ends, run_made_left, run_ends}
 use Rattle.store_commands.proofs.RemovalQuiet.{ChangesAt, in_process, asks_in_process}
 use Rattle.rkt_cli.specs.declared.line.Line.{Line}
 use Rattle.rkt_cli.specs.declared.line.Line.TheVariants.{RunPrepared, Run}
@@ -75,10 +79,15 @@ run_changes draw = record { moves = λ from to h. moved from to h; removes = λ 
     moved from to h = place from (or_parts (spot_eq from (pod_at Embryo draw)) (spot_eq to (pod_at Prepare draw)) (spot_eq from (pod_at Prepare draw)) (spot_eq to (pod_at area.Run draw)) h)
 
 -- what is told of a run of apps where nobody else steps, by what came between its begin and its finish
-of_passed : (pod : PodId) (old new : DirSeen) (answer : Answer) → HasPassed pod old.trace new.trace → PassesQuietly pod old new (outcome_of answer)
-of_passed pod old new (Ok told) h = h
-of_passed pod old new (Err NoMemory) h = tt
-of_passed pod old new (Err r) h = inl h
+passed_refused : (pod : PodId) (old new : DirSeen) (r : Refusal) → HasPassed pod old.trace new.trace → (r ≡ NoMemory) ⊎ IsRunRefusal pod r → PassesQuietly pod old new (Err r)
+passed_refused pod old new NoMemory h why = tt
+passed_refused pod old new r h (inl is) = cc
+passed_refused pod old new r h (inr one) = inl (one, h)
+
+of_passed : (pod : PodId) (old new : DirSeen) (answer : Answer) → HasPassed pod old.trace new.trace → ((told : Told) → answer ≡ Ok told → TellsItsEnds pod [] new.trace told.text) → ((r : Refusal) → answer ≡ Err r → (r ≡ NoMemory) ⊎ IsRunRefusal pod r) →
+    PassesQuietly pod old new (outcome_of answer)
+of_passed pod old new (Ok told) h ends why = (h, ends told refl)
+of_passed pod old new (Err r) h ends why = passed_refused pod old new r h (why r refl)
 
 of_refused : (pod : PodId) (old new : DirSeen) (r : Refusal) (error : ClaimError) → r ≡ claim_refusal pod error → UnclaimedFor pod error old.process old.trace new.trace → PassesQuietly pod old new (Err r)
 of_refused pod old new NoMemory error is u = tt
@@ -126,6 +135,12 @@ module _ {line : Line} {now : ℕ} {draw : Draw} {intent : Intent} {a b : Inside
     pub first : Grew a.dir.trace d.trace
     first = let e = begin_ext (λ r. true) refl in subst (λ (h : List Event). Grew a.dir.trace h) from_is (record { more = e.more; grown = e.grown })
 
+    begin_there : CallStep d.process a.dir.trace (Begin intent) Done d.trace
+    begin_there = subst (λ (h : List Event). CallStep d.process a.dir.trace (Begin intent) Done h) from_is (subst (λ (p : ℕ). CallStep p a.dir.trace (Begin intent) Done x.begun.trace) me_is (x.begins t))
+
+    stays : d'.process ≡ d.process
+    stays = ap (λ (z : DirSeen). z.process) ends ∙ (x.same ∙ (x.me ∙ me_is))
+
     finish : CallStep d.process d'.trace Finish Done b.dir.trace
     finish = subst (λ (h : List Event). CallStep d.process h Finish Done b.dir.trace) to_is (subst (λ (p : ℕ). CallStep p x.ended.trace Finish Done b.dir.trace) me_is finish_call)
 
@@ -155,9 +170,14 @@ module _ (pod : PodId) (now : ℕ) (draw : Draw) (a b : Inside) (answer : Answer
           (subst (λ (p : ℕ). RefusedClaim pod p a.dir.trace x.begun.trace x.ended.trace b.dir.trace) (me_is x t d d' x.came.begins x.came.ends) refused))
 
       by : ClaimsAndRuns x.begun.observed a.spawner.observed pod d d' a.spawner.shown b.spawner.shown answer ⊎ IsUnclaimed x.begun.observed pod d d' a.spawner.shown b.spawner.shown answer → PassesQuietly pod a.dir b.dir (outcome_of answer)
-      by (inl c) = of_passed pod a.dir b.dir answer
-          (run_prepared_passed x.begun.observed a.spawner.observed pod d d' a.spawner.shown b.spawner.shown answer (seen x t d d' x.came.begins x.came.ends) a.dir.trace b.dir.trace (ext x t d d' x.came.begins x.came.ends) (alone x t d d' x.came.begins x.came.ends quiet)
-          (first x t d d' x.came.begins x.came.ends) (finish x t d d' x.came.begins x.came.ends) c (c.then (seen x t d d' x.came.begins x.came.ends)))
+      by (inl c) =
+          let passed = run_prepared_passed x.begun.observed a.spawner.observed pod d d' a.spawner.shown b.spawner.shown answer (seen x t d d' x.came.begins x.came.ends) a.dir.trace b.dir.trace (ext x t d d' x.came.begins x.came.ends) (alone x t d d' x.came.begins x.came.ends quiet)
+          (first x t d d' x.came.begins x.came.ends) (finish x t d d' x.came.begins x.came.ends) c (c.then (seen x t d d' x.came.begins x.came.ends)) in
+          of_passed pod a.dir b.dir answer passed
+          (λ told is. run_prepared_ends x.begun.observed a.spawner.observed d d' a.spawner.shown b.spawner.shown told (seen x t d d' x.came.begins x.came.ends) a.dir.trace b.dir.trace (alone x t d d' x.came.begins x.came.ends quiet)
+          its_intent (begin_there x t d d' x.came.begins x.came.ends) (stays x t d d' x.came.begins x.came.ends) (finish x t d d' x.came.begins x.came.ends) pod (ext x t d d' x.came.begins x.came.ends)
+          (subst (λ (z : Answer). ClaimsAndRuns x.begun.observed a.spawner.observed pod d d' a.spawner.shown b.spawner.shown z) is c) passed)
+          (λ r is. claimed_refusal r (subst (λ (z : Answer). ClaimsAndRuns x.begun.observed a.spawner.observed pod d d' a.spawner.shown b.spawner.shown z) is c))
       by (inr c) =
           let u = run_prepared_unclaimed x.begun.observed a.spawner.observed pod d d' a.spawner.shown b.spawner.shown answer (seen x t d d' x.came.begins x.came.ends) a.dir.trace b.dir.trace refused_there
           (subst (λ (p : ℕ). OwnsNothing p (state_after a.dir.trace).namespace) (me_is x t d d' x.came.begins x.came.ends) idle)
@@ -177,34 +197,79 @@ module _ (words : List (List ℕ)) (now : ℕ) (draw : Draw) (a b : Inside) (t :
   abbrev new_intent : Intent
   new_intent = intent_for kind.Run [] now draw
 
-  made_in : (told : Told) → CameInProcess (Run words) now draw new_intent a b (Ok told) → LeavesMade words draw a.dir b.dir (Ok told.text)
+  -- the pod of a run, whatever came of it
+  module _ {answer : Answer} (x : CameInProcess (Run words) now draw new_intent a b answer) where
+    abbrev d : DirAt
+    d = x.came.from
+
+    abbrev d' : DirAt
+    d' = x.came.to
+
+    abbrev sees : x.begun.observed ≡ true
+    sees = seen x t d d' x.came.begins x.came.ends
+
+    abbrev mine : a.dir.process ≡ d.process
+    mine = me_is x t d d' x.came.begins x.came.ends
+
+    began : Began area.Run draw now new_intent
+    began = record { leads = refl; drawn = refl; token = refl; moment = refl }
+
+    knows : Knows d (at_work new_intent [] nothing_made)
+    knows = let k = knows_there x t d d' x.came.begins x.came.ends in record { tied = k.tied; handles = k.handles }
+
+    left : MakesAndRuns x.begun.observed a.spawner.observed words now draw d d' a.spawner.shown b.spawner.shown answer → IsConforming b.dir.trace → HasMadeAndLeft words d.process draw.uuid a.dir.trace b.dir.trace
+    left m conforming =
+        run_made_left x.begun.observed a.spawner.observed words now draw d d' a.spawner.shown b.spawner.shown answer sees a.dir.trace b.dir.trace (ext x t d d' x.came.begins x.came.ends) (alone x t d d' x.came.begins x.came.ends quiet)
+        (first x t d d' x.came.begins x.came.ends) (finish x t d d' x.came.begins x.came.ends) new_intent began knows m (m.then sees) conforming
+
+    there : HasMadeAndLeft words d.process draw.uuid a.dir.trace b.dir.trace → HasMadeAndLeft words a.dir.process draw.uuid a.dir.trace b.dir.trace
+    there h = subst (λ (p : ℕ). HasMadeAndLeft words p draw.uuid a.dir.trace b.dir.trace) (sym mine) h
+
+    begins : Extends is_begin a.dir.process a.dir.trace d.trace
+    begins = subst (λ (h : List Event). Extends is_begin a.dir.process a.dir.trace h) (from_is x t d d' x.came.begins x.came.ends) (begin_ext x t is_begin refl)
+
+    ends : Extends is_finish a.dir.process d'.trace b.dir.trace
+    ends = subst (λ (h : List Event). Extends is_finish a.dir.process h b.dir.trace) (to_is x t d d' x.came.begins x.came.ends) (finish_ext x t is_finish refl)
+
+  made_in : (told : Told) → CameInProcess (Run words) now draw new_intent a b (Ok told) → LeavesMade words now draw a.dir b.dir (Ok told.text)
   made_in told x = by x.came.so
     where
-      d : DirAt
-      d = x.came.from
+      by : NewRunSays x.begun.observed a.spawner.observed words now draw (d x) (d' x) a.spawner.shown b.spawner.shown (Ok told) → LeavesMade words now draw a.dir b.dir (Ok told.text)
+      by (inl m) conforming =
+          let h = left x m conforming in (
+            there x h,
+            run_ends x.begun.observed a.spawner.observed (d x) (d' x) a.spawner.shown b.spawner.shown told (sees x) a.dir.trace b.dir.trace (alone x t (d x) (d' x) x.came.begins x.came.ends quiet)
+                new_intent (begin_there x t (d x) (d' x) x.came.begins x.came.ends) (stays x t (d x) (d' x) x.came.begins x.came.ends) (finish x t (d x) (d' x) x.came.begins x.came.ends) words now draw (ext x t (d x) (d' x) x.came.begins x.came.ends) m h,
+          )
+      by (inr (inl u)) conforming = ok_not_err told u.is.0 u.is.1
+      by (inr (inr u)) conforming = ok_not_err told NoMemory u.is
 
-      d' : DirAt
-      d' = x.came.to
+  -- why it was refused
+  abbrev IsWhy : Refusal → Type 0
+  IsWhy r = IsRunRefusal draw.uuid r × (IsConforming b.dir.trace → HasMadeAndLeft words a.dir.process draw.uuid a.dir.trace b.dir.trace) ⊎ IsUnmadeFor words now draw a.dir b.dir r
 
-      k : Knows d (just_begun new_intent)
-      k = knows_there x t d d' x.came.begins x.came.ends
+  of_why : (r : Refusal) → (r ≡ NoMemory) ⊎ IsWhy r → LeavesMade words now draw a.dir b.dir (Err r)
+  of_why NoMemory why = tt
+  of_why r (inl is) = cc
+  of_why r (inr why) = why
 
-      by : NewRunSays x.begun.observed a.spawner.observed words now draw d d' a.spawner.shown b.spawner.shown (Ok told) → LeavesMade words draw a.dir b.dir (Ok told.text)
-      by (inl m) = λ conforming.
-          subst (λ (p : ℕ). HasMadeAndLeft words p draw.uuid a.dir.trace b.dir.trace) (sym (me_is x t d d' x.came.begins x.came.ends))
-          (run_made_left x.begun.observed a.spawner.observed words now draw d d' a.spawner.shown b.spawner.shown (Ok told) (seen x t d d' x.came.begins x.came.ends) a.dir.trace b.dir.trace (ext x t d d' x.came.begins x.came.ends) (alone x t d d' x.came.begins x.came.ends quiet)
-          (first x t d d' x.came.begins x.came.ends) (finish x t d d' x.came.begins x.came.ends) new_intent (record { leads = refl; drawn = refl; token = refl; moment = refl }) (record { tied = k.tied; handles = k.handles }) m (m.then (seen x t d d' x.came.begins x.came.ends)) conforming)
-      by (inr (inl u)) = ok_not_err told u.is.0 u.is.1
-      by (inr (inr u)) = ok_not_err told NoMemory u.is
+  refused_in : (r : Refusal) → CameInProcess (Run words) now draw new_intent a b (Err r) → (r ≡ NoMemory) ⊎ IsWhy r
+  refused_in r x = by x.came.so
+    where
+      by : NewRunSays x.begun.observed a.spawner.observed words now draw (d x) (d' x) a.spawner.shown b.spawner.shown (Err r) → (r ≡ NoMemory) ⊎ IsWhy r
+      by (inl m) = elim (made_refusal r m) [ inl is ↦ inl is | inr one ↦ inr (inl (one, λ conforming. there x (left x m conforming))) ]
+      by (inr (inl u)) = elim (unmade_refusal a.dir b.dir x.told (sees x) (sym (mine x)) (stays x t (d x) (d' x) x.came.begins x.came.ends) (whole_ext x t) quiet (begins x) (ends x) new_intent (began x) (knows x) r u) [ inl is ↦ inl is | inr why ↦ inr (inr why) ]
+      by (inr (inr u)) = inl (same_refusal r NoMemory u.is)
 
-  pub made : (answer : Answer) → CameBetween (Run words) now draw (Some new_intent) a b answer → LeavesMade words draw a.dir b.dir (outcome_of answer)
+  pub made : (answer : Answer) → CameBetween (Run words) now draw (Some new_intent) a b answer → LeavesMade words now draw a.dir b.dir (outcome_of answer)
   made (Ok told) (inl x) = made_in told x
   made (Ok told) (inr x) = ok_not_err told NoMemory x.0
-  made (Err r) came = tt
+  made (Err r) (inl x) = of_why r (refused_in r x)
+  made (Err r) (inr x) = of_why r (inl (same_refusal r NoMemory x.0))
 
 -- of each command
 pub runs_quietly : (line : Line) (now : ℕ) (draw : Draw) (a b : Inside) (answer : Answer) → (runs_apps line ≡ true → a.dir.observed ≡ true) → (runs_apps line ≡ true → Quiet a.dir.process a.dir.trace b.dir.trace) →
-    (runs_apps line ≡ true → OwnsNothing a.dir.process (state_after a.dir.trace).namespace) → CameBetween line now draw (intent_of line now draw) a b answer → RunsQuietly line draw a.dir b.dir (outcome_of answer)
+    (runs_apps line ≡ true → OwnsNothing a.dir.process (state_after a.dir.trace).namespace) → CameBetween line now draw (intent_of line now draw) a b answer → RunsQuietly line now draw a.dir b.dir (outcome_of answer)
 runs_quietly (RunPrepared pod) now draw a b answer t quiet idle came = passes pod now draw a b answer (t refl) (quiet refl) (idle refl) came
 runs_quietly (Run words) now draw a b answer t quiet idle came = made words now draw a b (t refl) (quiet refl) answer came
 runs_quietly line now draw a b answer t quiet idle came = tt

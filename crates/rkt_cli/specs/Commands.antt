@@ -27,11 +27,11 @@ use Rattle.store_commands.specs.ImageImport.{image_import_refusal, ImageImportSa
 use Rattle.store_commands.specs.ImageRm.{image_rm_refusal, ImageRmSays, RemovesQuietly, is_removal_place}
 use Rattle.store_commands.specs.ImageGc.{image_gc_refusal, ImageGcSays, SweepsQuietly, is_swept_place}
 use Rattle.pod_commands.specs.Refusals.{prepare_refusal}
-use Rattle.pod_commands.specs.Prepare.{prepares_pod, PrepareSays}
+use Rattle.pod_commands.specs.Prepare.{prepares_pod, pod_line, PrepareSays}
 use Rattle.pod_commands.specs.Quiet.{PreparesQuietly, is_pod_place}
 use Rattle.lifecycle.specs.Executions.{IsConforming}
 use Rattle.pod_claim.specs.declared.error.ClaimError.{ClaimError}
-use Rattle.run_commands.specs.Quiet.{HasPassed, HasMadeAndLeft, UnclaimedFor}
+use Rattle.run_commands.specs.Quiet.{HasPassed, HasMadeAndLeft, TellsItsEnds, UnclaimedFor, IsRunRefusal, IsUnmadeFor}
 use Rattle.run_commands.specs.Refusals.{run_prepared_refusal, new_run_refusal, claim_refusal}
 use Rattle.run_commands.specs.RunPrepared.{runs_prepared}
 use Rattle.run_commands.specs.Run.{makes_and_runs}
@@ -194,23 +194,28 @@ ReadsOnly (Run words) old new = Unit {0}
 ReadsOnly (Rm pod) old new = Unit {0}
 ReadsOnly Gc old new = Unit {0}
 
--- of `run-prepared`: the pod waited in prepared before and is left in run, without an owner; where it is refused that may be so too, or
--- it wasn't claimed, for a cause in the state before
+-- of `run-prepared`: the pod waited in prepared before and is left in run, without an owner, and the mark and the status of each app whose
+-- line is told stand there; where it is refused for a cause of the run it is left so too, or it wasn't claimed, for a cause in the state
+-- before
 abbrev pub PassesQuietly : PodId → DirSeen → DirSeen → Outcome → Type 0
-PassesQuietly pod old new (Ok text) = HasPassed pod old.trace new.trace
+PassesQuietly pod old new (Ok text) = HasPassed pod old.trace new.trace × TellsItsEnds pod [] new.trace text
 PassesQuietly pod old new (Err NoMemory) = Unit {0}
-PassesQuietly pod old new (Err refusal) = HasPassed pod old.trace new.trace ⊎ ((error : ClaimError) × (refusal ≡ claim_refusal pod error) × UnclaimedFor pod error old.process old.trace new.trace)
+PassesQuietly pod old new (Err refusal) = IsRunRefusal pod refusal × HasPassed pod old.trace new.trace ⊎ ((error : ClaimError) × (refusal ≡ claim_refusal pod error) × UnclaimedFor pod error old.process old.trace new.trace)
 
--- of `run`: where every process keeps the local rules the pod was made faithfully, and is left in run, without an owner
-abbrev pub LeavesMade : List (List ℕ) → Draw → DirSeen → DirSeen → Outcome → Type 0
-LeavesMade words draw old new (Ok text) = IsConforming new.trace → HasMadeAndLeft words old.process draw.uuid old.trace new.trace
-LeavesMade words draw old new (Err refusal) = Unit {0}
+-- of `run`: where every process keeps the local rules the pod was made faithfully, and is left in run, without an owner, with the mark
+-- and the status of each app whose line is told; where it is refused for a cause of the run it is left so too, or it wasn't made, for
+-- this cause
+abbrev pub LeavesMade : List (List ℕ) → ℕ → Draw → DirSeen → DirSeen → Outcome → Type 0
+LeavesMade words now draw old new (Ok text) = IsConforming new.trace → HasMadeAndLeft words old.process draw.uuid old.trace new.trace × TellsItsEnds draw.uuid (pod_line draw.uuid) new.trace text
+LeavesMade words now draw old new (Err NoMemory) = Unit {0}
+LeavesMade words now draw old new (Err refusal) =
+    IsRunRefusal draw.uuid refusal × (IsConforming new.trace → HasMadeAndLeft words old.process draw.uuid old.trace new.trace) ⊎ IsUnmadeFor words now draw old new refusal
 
 -- of a command that starts apps
-abbrev pub RunsQuietly : Line → Draw → DirSeen → DirSeen → Outcome → Type 0
-RunsQuietly (RunPrepared pod) draw old new o = PassesQuietly pod old new o
-RunsQuietly (Run words) draw old new o = LeavesMade words draw old new o
-RunsQuietly line draw old new o = Unit {0}
+abbrev pub RunsQuietly : Line → ℕ → Draw → DirSeen → DirSeen → Outcome → Type 0
+RunsQuietly (RunPrepared pod) now draw old new o = PassesQuietly pod old new o
+RunsQuietly (Run words) now draw old new o = LeavesMade words now draw old new o
+RunsQuietly line now draw old new o = Unit {0}
 
 -- what it comes to where nobody else steps: for `status` and `validate` by the state and the bundle before
 abbrev pub ComesQuietly : Line → ℕ → Draw → Outside → Outside → Outcome → Type 0
@@ -222,7 +227,7 @@ ComesQuietly (ImageRm key) now draw old new o = RemovesQuietly key draw.uuid old
 ComesQuietly ImageGc now draw old new o = SweepsQuietly old.dir new.dir o
 ComesQuietly (Prepare words) now draw old new o = PreparesQuietly words now draw old.dir new.dir o
 ComesQuietly (RunPrepared pod) now draw old new o = PassesQuietly pod old.dir new.dir o
-ComesQuietly (Run words) now draw old new o = LeavesMade words draw old.dir new.dir o
+ComesQuietly (Run words) now draw old new o = LeavesMade words now draw old.dir new.dir o
 ComesQuietly (Rm pod) now draw old new o = RemovesPodQuietly pod old.dir new.dir o
 ComesQuietly Gc now draw old new o = SweepsPodsQuietly (times_of now grace_time expire_time) old.dir new.dir o
 

@@ -25,13 +25,15 @@ use Rattle.lifecycle.specs.PodMachine.{pod_state, arrival, is_place}
 use Rattle.lifecycle.proofs.Opens.{prepared_is}
 use Rattle.lifecycle.proofs.Phases.{stands_exists}
 use Rattle.lifecycle.proofs.Places.{moved_away}
-use Rattle.pod_claim.specs.Requests.{in_prepared, in_run}
+use Rattle.pod_claim.specs.Requests.{in_prepared, in_run, claims}
 use Rattle.pod_claim.specs.Work.{Grew, TookBoth}
 use Rattle.pod_claim.proofs.Traces.{grown_more, grown_call}
 use Rattle.removal_commands.proofs.OwnSteps.{in_process, back_from, same_folders}
 use Rattle.removal_commands.proofs.LateTurns.{or_false}
 use Rattle.run_commands.specs.RunPrepared.{runs_prepared}
 use Rattle.run_commands.specs.Quiet.{HasPassed}
+use Rattle.run_commands.proofs.EndsQuiet.{MakesNoNote}
+use Rattle.run_commands.proofs.NotesStand.{RemovesNothing}
 use Rattle.run_commands.proofs.Passing.{Leaves, is_unmarked, is_past, left_in_run, stood_before, phase_at}
 
 -- its move
@@ -48,6 +50,12 @@ claim_leaves pod = record {
   marks = λ from to h. subst (λ (x : Spot). is_unmarked (arrival x.area) ≡ true) (sym (claim_moves pod from to h).1) refl;
   removes = λ spot h. cc;
 }
+
+pub claim_removes : (pod : PodId) → RemovesNothing (runs_prepared pod)
+claim_removes pod = record { files = λ inner h. cc; dirs = λ inner h. cc }
+
+pub claim_notes : (pod : PodId) → MakesNoNote pod (claims pod)
+claim_notes pod = record { none = λ path. refl }
 
 module _ (pod : PodId) (me : ℕ) where
   abbrev u : List ℕ

@@ -1,7 +1,7 @@
 -- The command `run-prepared`: from the claim and the run to what is told.
 use Rattle.std.proofs.Common.{◌≡◌, inl, inr, Bool, true, [], Ok, Err, IfErr, refl}
 use Rattle.dir_model.specs.declared.pod.PodId.{PodId}
-use Rattle.dir_trait.specs.DirCalls.{DirAt}
+use Rattle.dir_trait.specs.DirCalls.{DirAt, ExtendsBy}
 use Rattle.spawner.specs.Calls.{SpawnerAt}
 use Rattle.pod_ownership.specs.declared.owned.Owned.{Owned}
 use Rattle.pod_ownership.specs.Running.{IsOwned}
@@ -12,6 +12,7 @@ use Rattle.lifecycle.specs.Executions.{IsConforming}
 use Rattle.pod_claim.specs.Claims.{RefusedByAnother, IsFreeThroughout, IsFailure}
 use Rattle.pod_claim.specs.Elsewhere.{MetOwner}
 use Rattle.pod_claim.specs.Holding.{MayClaim}
+use Rattle.pod_claim.specs.Requests.{claims}
 use Rattle.pod_claim.specs.Work.{Grew, Leaves, MovedNothing, TookBoth}
 use Rattle.command_outcomes.specs.declared.refusal.Refusal.{Refusal}
 use Rattle.command_outcomes.specs.declared.refusal.Refusal.TheVariants.{NoPod, WrongPhase, PodBusy, DirFault, SpawnFault}
@@ -55,8 +56,8 @@ module _ (seen observed : Bool) (pod : PodId) (a c : DirAt) (s s' : SpawnerAt) (
   abbrev Says : Type 0
   Says = RunPreparedSays pod (inside_of seen observed a s) (inside_of seen observed c s') answer
 
-  pub claimed_says : (b : DirAt) (owned : Owned) → IsOwned pod a.local owned → (seen ≡ true → TookBoth pod owned.own a.process a.trace b.trace) → (seen ≡ true → Grew b.trace c.trace) → RunSays seen observed owned [] b c s s' answer → Says
-  claimed_says b owned is took then says = record { from = a; to = c; begins = refl; ends = refl; so = inl (record { claimed = b; owned = owned; is_owned = is; took = took; then = then; says = says }) }
+  pub claimed_says : (b : DirAt) (owned : Owned) → IsOwned pod a.local owned → b.process ≡ a.process → (seen ≡ true → ExtendsBy (claims pod) a b) → (seen ≡ true → TookBoth pod owned.own a.process a.trace b.trace) → (seen ≡ true → Grew b.trace c.trace) → RunSays seen observed owned [] b c s s' answer → Says
+  claimed_says b owned is same asked took then says = record { from = a; to = c; begins = refl; ends = refl; so = inl (record { claimed = b; owned = owned; is_owned = is; same = same; asked = asked; took = took; then = then; says = says }) }
 
   pub unclaimed_says : (e : ClaimError) → answer ≡ Err (claim_refusal pod e) → ClaimCause seen pod e a c → (seen ≡ true → MovedNothing a.process a.trace c.trace) → Leaves seen MayClaim a (λ known. RefusedByAnother pod e a c) → Leaves seen MayClaim a (λ known. MetOwner pod e a c) →
       Leaves seen MayClaim a (λ known. IsConforming c.trace → IsFreeThroughout pod a c → IsFailure e) → s' ≡ s → Says

@@ -4,6 +4,11 @@ pub mod ClaimRefusals
 pub mod NewRuns
 pub mod Passing
 pub mod ClaimQuiet
+pub mod Unowned
+pub mod NotesStand
+pub mod EndsStand
+pub mod EndsQuiet
 pub mod ClaimBefore
 pub mod NewRunQuiet
 pub mod Quietly
+pub mod RunRefused

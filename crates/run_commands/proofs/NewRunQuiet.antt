@@ -15,6 +15,7 @@ use Rattle.dir_model.proofs.Moments.{some_number}
 use Rattle.folder_contents.proofs.Spots.{one_location}
 use Rattle.lifecycle.specs.PodMachine.{arrival}
 use Rattle.pod_build.specs.Preparations.{IsPrepared}
+use Rattle.pod_build.specs.Requests.{prepares}
 use Rattle.pod_claim.specs.Requests.{in_run}
 use Rattle.pod_claim.specs.Work.{Grew}
 use Rattle.pod_claim.proofs.Traces.{grown_more, grown_call}
@@ -25,6 +26,8 @@ use Rattle.pod_making.specs.Requests.{pod_at}
 use Rattle.removal_commands.proofs.OwnSteps.{in_process}
 use Rattle.run_commands.specs.Run.{makes_and_runs}
 use Rattle.run_commands.specs.Quiet.{IsLeftInRun, HasMadeAndLeft}
+use Rattle.run_commands.proofs.EndsQuiet.{MakesNoNote}
+use Rattle.run_commands.proofs.NotesStand.{RemovesNothing}
 use Rattle.run_commands.proofs.Passing.{Leaves, is_unmarked, is_past, left_in_run, stood_before, moved_here}
 
 module _ (draw : PodId) where
@@ -58,6 +61,12 @@ module _ (draw : PodId) where
     marks = λ from to h. to_unmarked from to (its_moves from to h);
     removes = λ spot h. cc;
   }
+
+  pub run_removes : RemovesNothing (makes_and_runs draw)
+  run_removes = record { files = λ inner h. cc; dirs = λ inner h. cc }
+
+  pub run_notes : MakesNoNote draw (prepares draw Run)
+  run_notes = record { none = λ path. refl }
 
   -- the pod that it made
   pub made_left : {me : ℕ} {old ended new : List Event} {refs : List ImageRef} → Extends (in_process (makes_and_runs draw)) me old new → Quiet me old new → CallStep me ended Finish Done new → (x : IsPrepared refs no_wishes me draw Run old new) → IsLeftInRun draw x.folder new

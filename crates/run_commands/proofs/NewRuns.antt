@@ -176,13 +176,15 @@ never_spawns r known is = cc
 
 -- what is told
 module _ (seen observed : Bool) (words : List (List ℕ)) (now : ℕ) (draw : Draw) (a c : DirAt) (s s' : SpawnerAt) (answer : Answer) where
-  pub made_says : (refs : List ImageRef) (b : DirAt) (owned : Owned) → AreReferences words refs → IsOwned draw.uuid a.local owned → (seen ≡ true → KnowsMade draw now owned a b)
+  pub made_says : (refs : List ImageRef) (b : DirAt) (owned : Owned) → AreReferences words refs → IsOwned draw.uuid a.local owned → b.process ≡ a.process → (seen ≡ true → ExtendsBy (prepares draw.uuid area.Run) a b) → (seen ≡ true → KnowsMade draw now owned a b)
       → (seen ≡ true → IsConforming b.trace → From (Began area.Run draw now) IsAlone nothing_made a (λ intent hs. IsPrepared refs no_wishes a.process draw.uuid area.Run a.trace b.trace))
       → (seen ≡ true → Grew b.trace c.trace) → RunSays seen observed owned (pod_line draw.uuid) b c s s' answer → NewRunSays seen observed words now draw a c s s' answer
-  made_says refs b owned are is knows prepared then says = inl (record {
+  made_says refs b owned are is same asked knows prepared then says = inl (record {
     made = b;
     owned = owned;
     is_owned = is;
+    same = same;
+    asked = asked;
     knows = knows;
     faithful = λ t conforming intent hs began alone k. (refs, are, prepared t conforming intent hs began alone k);
     then = then;

@@ -134,7 +134,7 @@ module _ (pod : PodId) (asks : Request → Bool) (l : Leaves (in_run pod) asks) 
   stays_there k s (RemoveFolder gone) reply may h at = at
   stays_there k s request reply may h at = ap (λ (fs : List (Option Spot)). folder_at (record s.namespace { folders = fs }) spot) (same_folders me s.namespace request reply refl (λ handle. refl)) ∙ at
 
-  there_all : (k : ℕ) (s : DirState) (es : List Event) → is_run_from s es ≡ true → AllByRecursion (λ e. e.process ≡ me) es → AllByRecursion (λ e. (is_foreign me e || in_process asks e.request) ≡ true) es →
+  pub there_all : (k : ℕ) (s : DirState) (es : List Event) → is_run_from s es ≡ true → AllByRecursion (λ e. e.process ≡ me) es → AllByRecursion (λ e. (is_foreign me e || in_process asks e.request) ≡ true) es →
       folder_at s.namespace spot ≡ Some k → folder_at (states_next s es).namespace spot ≡ Some k
   there_all k s [] run own asked at = at
   there_all k s (e ∷ es) run own asked at =

@@ -1,11 +1,11 @@
 -- Where nobody else steps, what a whole process of `run-prepared` or `run` has told is told of the state before and of that which it leaves.
-use Rattle.std.proofs.Common.{◌≡◌, ℕ, Bool, true, List, [], refl, ap, subst, ◌∙◌}
+use Rattle.std.proofs.Common.{◌≡◌, ℕ, Bool, true, List, [], Ok, refl, ap, subst, ◌∙◌}
 use Rattle.dir_model.specs.declared.area.Area.TheVariants.{Run}
 use Rattle.dir_model.specs.declared.event.Event.{Event}
 use Rattle.dir_model.specs.declared.intent.Draw.{Draw}
 use Rattle.dir_model.specs.declared.intent.Intent.{Intent}
 use Rattle.dir_model.specs.declared.pod.PodId.{PodId}
-use Rattle.dir_model.specs.declared.request.Request.TheVariants.{Finish}
+use Rattle.dir_model.specs.declared.request.Request.TheVariants.{Begin, Finish}
 use Rattle.dir_model.specs.declared.request.Reply.TheVariants.{Done}
 use Rattle.dir_model.specs.Calls.{Extends, CallStep}
 use Rattle.dir_model.specs.Quiet.{Quiet, OwnsNothing}
@@ -16,19 +16,26 @@ use Rattle.spawner.specs.Calls.{SpawnerAt}
 use Rattle.lifecycle.specs.Executions.{IsConforming}
 use Rattle.lifecycle.proofs.Draws.{conforming_left}
 use Rattle.pod_build.specs.Preparations.{Began}
+use Rattle.pod_build.specs.Requests.{prepares}
 use Rattle.pod_claim.specs.declared.error.ClaimError.{ClaimError}
 use Rattle.pod_claim.specs.declared.error.ClaimError.TheVariants as claim
+use Rattle.pod_claim.specs.Requests.{claims}
 use Rattle.pod_claim.specs.Work.{Grew}
 use Rattle.pod_claim.proofs.Traces.{grown_more, grown_call}
 use Rattle.pod_making.specs.Progress.{at_work, nothing_made}
+use Rattle.command_outcomes.specs.declared.told.Told.{Told}
 use Rattle.command_outcomes.specs.Moments.{Answer}
+use Rattle.pod_commands.specs.Prepare.{pod_line}
 use Rattle.removal_commands.proofs.OwnSteps.{in_process}
 use Rattle.run_commands.specs.RunPrepared.{runs_prepared, CanClaim, ClaimsAndRuns, IsUnclaimed}
 use Rattle.run_commands.specs.Run.{makes_and_runs, MakesAndRuns}
-use Rattle.run_commands.specs.Quiet.{HasPassed, HasMadeAndLeft, UnclaimedFor}
-use Rattle.run_commands.proofs.ClaimQuiet.{claimed_passed}
+use Rattle.run_commands.specs.Quiet.{HasPassed, HasMadeAndLeft, UnclaimedFor, TellsItsEnds}
+use Rattle.run_commands.specs.Runs.{metadata}
+use Rattle.stage1.specs.Runs.{HasRun}
+use Rattle.run_commands.proofs.EndsQuiet.{early_part, ran_ends, unborn_before}
+use Rattle.run_commands.proofs.ClaimQuiet.{claimed_passed, claim_leaves, claim_removes, claim_notes}
 use Rattle.run_commands.proofs.ClaimBefore.{RefusedClaim, none_before, wrong_before, lacked_before, lock_before}
-use Rattle.run_commands.proofs.NewRunQuiet.{made_and_left}
+use Rattle.run_commands.proofs.NewRunQuiet.{made_and_left, run_leaves, run_removes, run_notes}
 
 conforming_at : {a b : List Event} → Grew a b → IsConforming b → IsConforming a
 conforming_at {a} {b} g conforming = conforming_left a g.more (subst IsConforming g.grown conforming)
@@ -64,3 +71,25 @@ module _ (seen observed : Bool) (words : List (List ℕ)) (now : ℕ) (draw : Dr
       (x : MakesAndRuns seen observed words now draw d d' s s' answer) → Grew x.made.trace d'.trace → IsConforming new → HasMadeAndLeft words d.process draw.uuid old new
   run_made_left ext quiet first finish intent began knows x after conforming =
       made_and_left words draw.uuid ext quiet first after finish (x.faithful t (conforming_at (grown_more after (grown_call finish)) conforming) intent [] began refl knows)
+
+-- and what was told of a run to its end: the marks and the statuses stand in the pod
+module _ (seen observed : Bool) (d d' : DirAt) (s s' : SpawnerAt) (told : Told) (t : seen ≡ true) (old new : List Event) (quiet : Quiet d.process old new) (intent : Intent) (begins : CallStep d.process old (Begin intent) Done d.trace)
+    (stays : d'.process ≡ d.process) (finish : CallStep d.process d'.trace Finish Done new) where
+  pub run_prepared_ends : (pod : PodId) → Extends (in_process (runs_prepared pod)) d.process old new → ClaimsAndRuns seen observed pod d d' s s' (Ok told) → HasPassed pod old new → TellsItsEnds pod [] new told.text
+  run_prepared_ends pod ext x passed = record {
+    ends = x.says.ends;
+    is = ap (λ (w : Told). w.text) x.says.is;
+    stand = ran_ends pod (runs_prepared pod) (claims pod) (claim_leaves pod) (claim_removes pod) (claim_notes pod) d.process old new ext quiet finish.run (unborn_before intent begins) t x.owned.own x.says.ends x.claimed d' s s' x.same stays
+        (early_part d intent refl begins (x.asked t)) (x.then t) finish (subst (λ (p : PodId). HasRun seen observed p x.owned.own metadata x.says.ends x.claimed d' s s') x.is_owned.is x.says.ran) passed.folder passed.left.there;
+  }
+
+  pub run_ends : (words : List (List ℕ)) (now : ℕ) (draw : Draw) → Extends (in_process (makes_and_runs draw.uuid)) d.process old new → MakesAndRuns seen observed words now draw d d' s s' (Ok told) → HasMadeAndLeft words d.process draw.uuid old new →
+      TellsItsEnds draw.uuid (pod_line draw.uuid) new told.text
+  run_ends words now draw ext x left =
+      let pod = draw.uuid in
+      record {
+        ends = x.says.ends;
+        is = ap (λ (w : Told). w.text) x.says.is;
+        stand = ran_ends pod (makes_and_runs pod) (prepares pod Run) (run_leaves pod) (run_removes pod) (run_notes pod) d.process old new ext quiet finish.run (unborn_before intent begins) t x.owned.own x.says.ends x.made d' s s' x.same stays
+            (early_part d intent refl begins (x.asked t)) (x.then t) finish (subst (λ (p : PodId). HasRun seen observed p x.owned.own metadata x.says.ends x.made d' s s') x.is_owned.is x.says.ran) left.2.0.folder left.2.1.there;
+      }

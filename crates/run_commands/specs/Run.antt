@@ -6,7 +6,7 @@ use Rattle.dir_model.specs.declared.intent.Intent.{Intent}
 use Rattle.dir_model.specs.declared.pod.PodId.{PodId}
 use Rattle.dir_model.specs.declared.request.Request.{Request}
 use Rattle.dir_model.specs.declared.spot.Mode.TheVariants.{Exclusive}
-use Rattle.dir_trait.specs.DirCalls.{DirAt}
+use Rattle.dir_trait.specs.DirCalls.{DirAt, ExtendsBy}
 use Rattle.dir_trait.specs.Knowledge.{Knows}
 use Rattle.spawner.specs.Calls.{SpawnerAt}
 use Rattle.folder_building.specs.Work.{either}
@@ -47,6 +47,8 @@ pub record MakesAndRuns (seen observed : Bool) (words : List (List ℕ)) (now : 
   pub made : DirAt
   pub owned : Owned
   pub is_owned : IsOwned draw.uuid d.local owned
+  pub same : made.process ≡ d.process
+  pub asked : seen ≡ true → ExtendsBy (prepares draw.uuid area.Run) d made
   pub knows : seen ≡ true → From (Began area.Run draw now) IsAlone nothing_made d (λ intent hs. KnowsPrepared draw.uuid area.Run intent (own_held draw.uuid owned.own (Some Exclusive) ∷ []) made)
   pub faithful : seen ≡ true → IsConforming made.trace → WhereMaking draw now d (OfReferences words (λ refs. IsPrepared refs no_wishes d.process draw.uuid area.Run d.trace made.trace))
   pub then : seen ≡ true → Grew made.trace d'.trace

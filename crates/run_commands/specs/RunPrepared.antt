@@ -3,7 +3,7 @@ use Rattle.std.specs.Prelude.{◌≡◌, ◌⊎◌, Bool, true, [], Err}
 use Rattle.dir_model.specs.declared.pod.PodId.{PodId}
 use Rattle.dir_model.specs.declared.request.Request.{Request}
 use Rattle.dir_rules.specs.declared.seen.Seen.{Seen}
-use Rattle.dir_trait.specs.DirCalls.{DirAt}
+use Rattle.dir_trait.specs.DirCalls.{DirAt, ExtendsBy}
 use Rattle.dir_trait.specs.Knowledge.{Knows}
 use Rattle.spawner.specs.Calls.{SpawnerAt}
 use Rattle.folder_building.specs.Work.{either}
@@ -35,6 +35,8 @@ pub record ClaimsAndRuns (seen observed : Bool) (pod : PodId) (d d' : DirAt) (s 
   pub claimed : DirAt
   pub owned : Owned
   pub is_owned : IsOwned pod d.local owned
+  pub same : claimed.process ≡ d.process
+  pub asked : seen ≡ true → ExtendsBy (claims pod) d claimed
   pub took : seen ≡ true → TookBoth pod owned.own d.process d.trace claimed.trace
   pub then : seen ≡ true → Grew claimed.trace d'.trace
   pub says : RunSays seen observed owned [] claimed d' s s' answer

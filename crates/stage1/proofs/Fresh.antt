@@ -5,6 +5,8 @@ use Rattle.std.proofs.lemmas.Map.Keys.{IsDistinct-head, IsDistinct-tail}
 use Rattle.std.proofs.lemmas.Slice.Eq.{bytes_eq-Decides}
 use Rattle.dir_model.specs.declared.item.Inner.{Inner}
 use Rattle.dir_model.specs.declared.pod.PodId.{PodId}
+use Rattle.dir_model.specs.declared.request.Request.{Request}
+use Rattle.dir_model.specs.declared.request.Request.TheVariants.{AppendIn}
 use Rattle.dir_model.specs.Areas.{rank}
 use Rattle.dir_model.specs.Pods.{pod_text}
 use Rattle.dir_model.specs.State.{spot_eq}
@@ -19,8 +21,9 @@ use Rattle.pod_launches.specs.declared.start.AppStart.{AppStart}
 use Rattle.pod_launches.specs.Starts.{IsPlacedIn, ReadsStarts}
 use Rattle.pod_launches.proofs.Apart.{distinct_starts}
 use Rattle.stage1.specs.Notes.{mark_inner, status_inner, status_path}
-use Rattle.pod_launches.specs.Looks.{OnlyReadsPod}
-use Rattle.stage1.specs.Keeping.{once, noted, MayNote, mark_times, status_times, app_times, all_times, Keeps, IsFresh, KeepsRules}
+use Rattle.pod_launches.specs.Looks.{reads_pod, OnlyReadsPod}
+use Rattle.stage1.specs.Keeping.{appends, AppendsOnce, once, noted, MayNote, mark_times, status_times, app_times, all_times, Keeps, IsFresh, KeepsRules, appends_to}
+use Rattle.stage1.proofs.Appends.{none_few}
 
 -- a file of an app
 is_once : (b : Bool) → 1 ≤ once b → b ≡ true
@@ -139,3 +142,12 @@ pub keeps_run : {observed : Bool} {a b c : DirAt} (pod : PodId) (address : List 
 keeps_run pod address starts t placed o read bc s k fresh =
     let one = bc.keep s (o.known t s refl k) (may_all pod starts s placed (distinct_starts pod address starts read) fresh) in
     record { known = one.known; stands = one.noted.stands; kept = one.noted.kept; knows = one.knows }
+
+-- to each file it appends at most once
+reads_append_none : (pod : PodId) (i : Inner) (request : Request) → reads_pod pod request ≡ true → appends_to i request ≡ false
+reads_append_none pod i (AppendIn file piece) asked = cc
+reads_append_none pod i request asked = refl
+
+pub once_run : {observed : Bool} {a b c : DirAt} (pod : PodId) (address : List ℕ) (starts : List AppStart) → observed ≡ true → AllByRecursion (IsPlacedIn pod) starts → OnlyReadsPod observed pod a b → ReadsStarts pod address starts a b → Keeps (all_times starts) b c → AppendsOnce a c
+once_run {observed} {a} {b} {c} pod address starts t placed o read bc i =
+    omega (arith, none_few a b i (reads_append_none pod i) o.same (o.extends t), bc.few i, all_once pod starts i placed (distinct_starts pod address starts read))

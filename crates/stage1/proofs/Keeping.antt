@@ -27,12 +27,13 @@ use Rattle.pod_launches.proofs.Names.{app_name, no_slashes}
 use Rattle.spawner.specs.declared.call.RootPlace.{RootPlace}
 use Rattle.spawner.specs.Conditions.{start_mark}
 use Rattle.stage1.specs.Notes.{IsPlaced, mark_inner, status_inner, status_path}
-use Rattle.stage1.specs.Keeping.{Called, once, noted, MayNote, Noted, Keeps, mark_times, status_times}
+use Rattle.stage1.specs.Keeping.{appends, Called, once, noted, MayNote, Noted, Keeps, mark_times, status_times}
+use Rattle.stage1.proofs.Appends.{call_few}
 use Rattle.stage1.proofs.Noted.{inner_self}
 
 -- nothing was asked; one after the other; a bound more
 pub keeps_none : {times : Inner → ℕ} {d : DirAt} → Keeps times d d
-keeps_none {times} = record { keep = λ s k may. record { known = s; noted = record { stands = refl; kept = refl; made = λ inner. omega arith }; knows = k } }
+keeps_none {times} = record { few = λ i. omega arith; keep = λ s k may. record { known = s; noted = record { stands = refl; kept = refl; made = λ inner. omega arith }; knows = k } }
 
 may_first : (t u : Inner → ℕ) (s : Seen) → MayNote (λ i. t i + u i) s → MayNote t s
 may_first t u s may = record {
@@ -53,6 +54,7 @@ noted_more t u a b c ab bc = record { stands = bc.stands ∙ ab.stands; kept = b
 
 pub keeps_more : {t u : Inner → ℕ} {a b c : DirAt} → Keeps t a b → Keeps u b c → Keeps (λ i. t i + u i) a c
 keeps_more {t} {u} ab bc = record {
+  few = λ i. omega (arith, ab.few i, bc.few i);
   keep = λ s k may.
       let one = ab.keep s k (may_first t u s may) in
       let two = bc.keep one.known one.knows (may_second t u s one.known may one.noted) in
@@ -61,6 +63,7 @@ keeps_more {t} {u} ab bc = record {
 
 pub keeps_wider : {t u : Inner → ℕ} {a b : DirAt} → ((i : Inner) → t i ≤ u i) → Keeps t a b → Keeps u a b
 keeps_wider {t} {u} wider ab = record {
+  few = λ i. omega (arith, ab.few i, wider i);
   keep = λ s k may.
       let one = ab.keep s k (record {
         once_all = λ i. omega (arith, may.once_all i, wider i);
@@ -163,12 +166,16 @@ module _ (inner : Inner) (area : inner.spot.area ≡ Run) (form : (is_started_ma
   }
 
   pub keeps_file : {observed : Bool} {a b : DirAt} → observed ≡ true → Called observed (MakeFileIn inner) a b → Keeps (file_times inner) a b
-  keeps_file t c = record { keep = λ s k may. record { known = seen_replied s (MakeFileIn inner) c.reply; noted = file_noted s c.reply may; knows = knows_call t k refl refl c.called } }
+  keeps_file {observed} {a} {b} t c = record { few = λ i. (let f : appends b i ≤ appends a i + 0 = call_few t i c.called in omega (arith, f)); keep = λ s k may. record { known = seen_replied s (MakeFileIn inner) c.reply; noted = file_noted s c.reply may; knows = knows_call t k refl refl c.called } }
 
   -- and then the folder is synced
   module _ (folder : Inner) (at : folder.spot ≡ inner.spot) (root : folder.path ≡ []) where
-    pub keeps_synced : {observed : Bool} {a b c : DirAt} → observed ≡ true → DirCall observed a (MakeFileIn inner) Done b → Called observed (SyncIn folder) b c → Keeps (file_times inner) a c
-    keeps_synced t made c = record {
+    pub keeps_synced : {observed : Bool} {a b d : DirAt} → observed ≡ true → DirCall observed a (MakeFileIn inner) Done b → Called observed (SyncIn folder) b d → Keeps (file_times inner) a d
+    keeps_synced {observed} {a} {b} {d} t made c = record {
+      few = λ i.
+          let one : appends b i ≤ appends a i + 0 = call_few t i made in
+          let two : appends d i ≤ appends b i + 0 = call_few t i c.called in
+          omega (arith, one, two);
       keep = λ s k may.
           let s' = seen_replied s (MakeFileIn inner) Done in
           let n = file_noted s Done may in
@@ -204,8 +211,12 @@ module _ (inner : Inner) (area : inner.spot.area ≡ Run) (form : is_status_file
         made = λ i. subst (λ (l : List Inner). once (list_any (inner_eq i) l) ≤ noted s i + file_times inner i) (sym (notes_append s' inner piece p)) (n.made i);
       }
 
-  pub keeps_appended : {observed : Bool} {a b c : DirAt} → observed ≡ true → DirCall observed a (MakeFileIn inner) Done b → Called observed (AppendIn inner piece) b c → Keeps (file_times inner) a c
-  keeps_appended t made c = record {
+  pub keeps_appended : {observed : Bool} {a b d : DirAt} → observed ≡ true → DirCall observed a (MakeFileIn inner) Done b → Called observed (AppendIn inner piece) b d → Keeps (file_times inner) a d
+  keeps_appended {observed} {a} {b} {d} t made c = record {
+    few = λ i.
+        let one : appends b i ≤ appends a i + 0 = call_few t i made in
+        let two : appends d i ≤ appends b i + file_times inner i = call_few t i c.called in
+        omega (arith, one, two);
     keep = λ s k may. record {
       known = seen_replied (seen_replied s (MakeFileIn inner) Done) (AppendIn inner piece) c.reply;
       noted = appended s c.reply may;
@@ -214,7 +225,12 @@ module _ (inner : Inner) (area : inner.spot.area ≡ Run) (form : is_status_file
   }
 
   pub keeps_written : {observed : Bool} {a b c d : DirAt} → observed ≡ true → DirCall observed a (MakeFileIn inner) Done b → Called observed (AppendIn inner piece) b c → Called observed (SyncIn inner) c d → Keeps (file_times inner) a d
-  keeps_written t made ap_call sy_call = record {
+  keeps_written {observed} {a} {b} {c} {d} t made ap_call sy_call = record {
+    few = λ i.
+        let one : appends b i ≤ appends a i + 0 = call_few t i made in
+        let two : appends c i ≤ appends b i + file_times inner i = call_few t i ap_call.called in
+        let three : appends d i ≤ appends c i + 0 = call_few t i sy_call.called in
+        omega (arith, one, two, three);
     keep = λ s k may.
         let s' = seen_replied s (MakeFileIn inner) Done in
         let s'' = seen_replied s' (AppendIn inner piece) ap_call.reply in

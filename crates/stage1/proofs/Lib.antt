@@ -2,6 +2,7 @@ mod Counting
 mod Asked
 mod Cuts
 mod Noted
+pub mod Appends
 mod Keeping
 mod Causes
 mod Results

@@ -29,7 +29,7 @@ use Rattle.folder_building.proofs.Working.{append_call, worked_wider}
 use Rattle.spawner.specs.declared.call.RootPlace.{RootPlace}
 use Rattle.spawner.specs.Conditions.{start_mark, did, MarkSynced, StillRuns}
 use Rattle.spawner.proofs.Marking.{mark_kept, mark_synced}
-use Rattle.stage1.specs.Notes.{IsPlaced, status_path, status_text, status_inner, makes_status, writes_status, syncs_status, DidInTurn, WroteStatus, anything, StaysAble, MadeFile, Appended, Synced}
+use Rattle.stage1.specs.Notes.{IsPlaced, status_path, status_text, mark_inner, status_inner, makes_own_mark, makes_status, writes_status, syncs_status, DidInTurn, MadeMark, WroteStatus, anything, StaysAble, MadeFile, Appended, Synced}
 
 -- what was done in turn was so whatever comes later
 did_kept : (me : ℕ) (asks : List (Request → Bool)) (trace more : List Event) → DidInTurn me asks trace → DidInTurn me asks (trace ++ more)
@@ -74,8 +74,11 @@ stays_on : (old new : DirAt) (more : List Event) → new.process ≡ old.process
 stays_on old new more same grown runs = record {
   runs = runs;
   may = λ root m. record {
-    marked = subst (λ (p : ℕ). MarkSynced p new.trace root) (sym same) (subst (λ (h : List Event). MarkSynced old.process h root) (sym grown) (mark_kept old.process old.trace more root m.marked));
-    runs = runs root.spot.name m.runs;
+    may = record {
+      marked = subst (λ (p : ℕ). MarkSynced p new.trace root) (sym same) (subst (λ (h : List Event). MarkSynced old.process h root) (sym grown) (mark_kept old.process old.trace more root m.may.marked));
+      runs = runs root.spot.name m.may.runs;
+    };
+    made = subst (λ (p : ℕ). DidInTurn p (makes_own_mark root ∷ []) new.trace) (sym same) (subst (λ (h : List Event). DidInTurn old.process (makes_own_mark root ∷ []) h) (sym grown) (did_kept old.process (makes_own_mark root ∷ []) old.trace more m.made));
   };
   wrote = λ root status w.
       subst (λ (p : ℕ). DidInTurn p (makes_status root ∷ writes_status root status ∷ syncs_status root ∷ []) new.trace) (sym same)
@@ -114,3 +117,9 @@ marked root t placed made synced =
     mark_synced root (inner_at root.spot (start_mark root.app)) (inner_at root.spot []) t made synced
     (and_both (is_of root.spot.name root.spot) (bytes_eq (start_mark root.app) (start_mark root.app)) (of_self root placed) (same_bytes (start_mark root.app)))
     (and_both (is_of root.spot.name root.spot) true (of_self root placed) refl)
+
+pub made_mark : {observed : Bool} {a b c : DirAt} (root : RootPlace) → observed ≡ true → MadeFile observed root.spot (start_mark root.app) a b → Synced observed root.spot [] b c → MadeMark root c
+made_mark {observed} {a} {b} {c} root t made synced =
+    let one = did_call t [] (makes_own_mark root) (MakeFileIn (mark_inner root)) refl refl (inner_self (mark_inner root)) made tt in
+    let e = step_extends (λ r. true) b.process b.trace (SyncIn (inner_at root.spot [])) Done c.trace refl (synced.step t) in
+    subst (λ (p : ℕ). DidInTurn p (makes_own_mark root ∷ []) c.trace) (sym synced.same) (subst (λ (h : List Event). DidInTurn b.process (makes_own_mark root ∷ []) h) (sym e.grown) (did_kept b.process (makes_own_mark root ∷ []) b.trace e.more one))

@@ -9,14 +9,13 @@ use Rattle.spawner.specs.declared.call.Child.{Child}
 use Rattle.spawner.specs.declared.call.RootPlace.{RootPlace}
 use Rattle.spawner.specs.declared.call.SpawnCall.{SpawnCall}
 use Rattle.spawner.specs.Calls.{SpawnerAt}
-use Rattle.spawner.specs.Conditions.{MayStart}
 use Rattle.pod_launches.specs.declared.start.AppStart.{AppStart}
 use Rattle.stage1.specs.declared.stand.Stand.{Stand}
 use Rattle.stage1.specs.declared.stand.Stand.TheVariants.{Running, Ended}
 use Rattle.stage1.specs.Sequences.{Beginning, first_calls}
 use Rattle.stage1.specs.Asking.{Asks, StartedIn}
-use Rattle.stage1.specs.Notes.{StaysAble}
-use Rattle.stage1.specs.Beginnings.{stand_of, MayStartEach, IsStartedIn, AreStartedIn, IsWritten, AreWritten, HasBegun, HaveBegun}
+use Rattle.stage1.specs.Notes.{StaysAble, IsMarked}
+use Rattle.stage1.specs.Beginnings.{stand_of, AreMarked, IsStartedIn, AreStartedIn, IsWritten, AreWritten, HasBegun, HaveBegun}
 use Rattle.stage1.proofs.Asked.{asks_none, asks_more}
 
 -- an element of a list
@@ -78,8 +77,8 @@ written_at d (a ∷ starts) (s ∷ stands) zero app stand h at at' w = subst (λ
 written_at d (a ∷ starts) (s ∷ stands) (suc i) app stand h at at' w = written_at d starts stands i app stand (omega (arith, h)) at at' w.1
 
 -- whatever may be started may still
-pub may_still : {old new : DirAt} → StaysAble old new → (starts : List AppStart) → MayStartEach old starts → MayStartEach new starts
-may_still {old} {new} stays starts m = all_weaker (λ app. MayStart old app.root) (λ app. MayStart new app.root) (λ app x. stays.may app.root x) starts m
+pub may_still : {old new : DirAt} → StaysAble old new → (starts : List AppStart) → AreMarked old starts → AreMarked new starts
+may_still {old} {new} stays starts m = all_weaker (λ app. IsMarked old app.root) (λ app. IsMarked new app.root) (λ app x. stays.may app.root x) starts m
 
 -- one app more has begun
 pub begun_none : {observed : Bool} {s : SpawnerAt} (starts : List AppStart) (stands : List Stand) → starts ≡ [] → stands ≡ [] → HaveBegun observed starts stands s s

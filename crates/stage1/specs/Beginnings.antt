@@ -7,14 +7,14 @@ use Rattle.spawner.specs.declared.call.Child.{Child}
 use Rattle.spawner.specs.declared.call.SpawnCall.{SpawnCall}
 use Rattle.spawner.specs.declared.call.SpawnRequest.TheVariants.{Wait}
 use Rattle.spawner.specs.Calls.{SpawnerAt}
-use Rattle.spawner.specs.Conditions.{StillRuns, MayStart}
+use Rattle.spawner.specs.Conditions.{StillRuns}
 use Rattle.pod_launches.specs.declared.start.AppStart.{AppStart}
 use Rattle.stage1.specs.declared.stand.Stand.{Stand}
 use Rattle.stage1.specs.declared.stand.Stand.TheVariants.{Running, Ended}
 use Rattle.stage1.specs.Sequences.{Ran, Beginning, ready_call, start_call, handler_calls, handler_status, first_calls, starts_main, first_status}
 use Rattle.stage1.specs.Asking.{Asks, StartedIn}
 use Rattle.stage1.specs.Cutting.{IsCutOff, AreWaitedFor}
-use Rattle.stage1.specs.Notes.{WroteStatus, IsPlaced}
+use Rattle.stage1.specs.Notes.{WroteStatus, IsPlaced, IsMarked}
 use Rattle.stage1.specs.Programs.{WasCut}
 
 -- where an app stands that has begun
@@ -39,9 +39,9 @@ AreAt spot starts = AllByRecursion (λ app. app.root.spot ≡ spot) starts
 abbrev pub RunsEach : DirAt → List AppStart → Type 0
 RunsEach d starts = AllByRecursion (λ app. StillRuns d app.root.spot.name) starts
 
--- each may be started
-abbrev pub MayStartEach : DirAt → List AppStart → Type 0
-MayStartEach d starts = AllByRecursion (λ app. MayStart d app.root) starts
+-- each is marked, and may be started
+abbrev pub AreMarked : DirAt → List AppStart → Type 0
+AreMarked d starts = AllByRecursion (λ app. IsMarked d app.root) starts
 
 -- a child that runs was started in its app's root
 abbrev pub IsStartedIn : List SpawnCall → AppStart → Stand → Type 0

@@ -1,13 +1,15 @@
 -- What a process knows of its notes: no file is made twice, so each request keeps the local rules.
-use Rattle.std.specs.Prelude.{◌≡◌, ◌≤◌, ℕ, ◌+◌, Bool, true, false, bytes_eq, Result, Ok, Err, List, [], ◌∷◌}
+use Rattle.std.specs.Prelude.{◌≡◌, ◌≤◌, ℕ, ◌+◌, Bool, true, false, not, ◌&&◌, bytes_eq, Result, Ok, Err, List, [], ◌∷◌, filter, length}
 use Rattle.std.specs.List.{list_any}
+use Rattle.dir_model.specs.declared.event.Event.{Event}
 use Rattle.dir_model.specs.declared.item.Inner.{Inner}
 use Rattle.dir_model.specs.declared.pod.PodId.{PodId}
 use Rattle.dir_model.specs.declared.request.Request.{Request}
-use Rattle.dir_model.specs.declared.request.Request.TheVariants.{Close}
+use Rattle.dir_model.specs.declared.request.Request.TheVariants.{Close, AppendIn}
 use Rattle.dir_model.specs.declared.request.Reply.{Reply}
 use Rattle.dir_model.specs.declared.request.Reply.TheVariants.{Done}
 use Rattle.dir_model.specs.declared.spot.Handle.{Handle}
+use Rattle.dir_model.specs.Calls.{is_foreign}
 use Rattle.dir_model.specs.Pods.{pod_text}
 use Rattle.dir_rules.specs.declared.seen.Seen.{Seen}
 use Rattle.dir_rules.specs.Seen.{inner_eq}
@@ -54,8 +56,24 @@ pub record KnowsNoted (times : Inner → ℕ) (s : Seen) (new : DirAt) : Type 0 
   pub noted : Noted times s known
   pub knows : Knows new known
 
--- files were made at most so often; where that may be, each request was allowed
+-- how often a process asked for an append to a file
+abbrev pub appends_to : Inner → Request → Bool
+appends_to inner (AppendIn file piece) = inner_eq inner file
+appends_to inner _ = false
+
+abbrev pub is_append : ℕ → Inner → Event → Bool
+is_append me inner e = not (is_foreign me e) && appends_to inner e.request
+
+abbrev pub appends : DirAt → Inner → ℕ
+appends d inner = length (filter (is_append d.process inner) d.trace)
+
+-- to each file at most once
+abbrev pub AppendsOnce : DirAt → DirAt → Type 0
+AppendsOnce old new = (inner : Inner) → appends new inner ≤ appends old inner + 1
+
+-- files were made at most so often, and appended to; where that may be, each request was allowed
 pub record Keeps (times : Inner → ℕ) (old new : DirAt) : Type 0 where
+  pub few : (inner : Inner) → appends new inner ≤ appends old inner + times inner
   pub keep : (s : Seen) → Knows old s → MayNote times s → KnowsNoted times s new
 
 -- the mark of an app, and its status

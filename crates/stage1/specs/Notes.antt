@@ -56,6 +56,11 @@ notes_at spot _ = false
 abbrev pub anything : Request → Bool
 anything r = true
 
+-- the step of a mark, where the app's root is
+abbrev pub makes_own_mark : RootPlace → Request → Bool
+makes_own_mark root (MakeFileIn inner) = inner_eq inner (mark_inner root)
+makes_own_mark root _ = false
+
 -- the three steps of a status
 abbrev pub makes_status : RootPlace → Request → Bool
 makes_status root (MakeFileIn inner) = inner_eq inner (status_inner root)
@@ -74,12 +79,21 @@ abbrev pub DidInTurn : ℕ → List (Request → Bool) → List Event → Type 0
 DidInTurn me [] trace = Unit {0}
 DidInTurn me (asks ∷ more) trace = (before : List Event) × (step : Event) × (after : List Event) × (trace ≡ before ++ step ∷ after) × (did me asks step ≡ true) × DidInTurn me more after
 
+-- it made the mark of an app
+abbrev pub MadeMark : RootPlace → DirAt → Type 0
+MadeMark root d = DidInTurn d.process (makes_own_mark root ∷ []) d.trace
+
+-- the app may be started, and its mark was made where its root is
+pub record IsMarked (d : DirAt) (root : RootPlace) : Type 0 where
+  pub may : MayStart d root
+  pub made : MadeMark root d
+
 -- it made the file of an app's status, wrote the status into it, and synced it
 abbrev pub WroteStatus : RootPlace → ℕ → DirAt → Type 0
 WroteStatus root status d = DidInTurn d.process (makes_status root ∷ writes_status root status ∷ syncs_status root ∷ []) d.trace
 
--- whatever pod the process runs, it runs; and what may be started may be started
+-- whatever pod the process runs, it runs; and what is marked stays marked
 pub record StaysAble (old new : DirAt) : Type 0 where
   pub runs : (name : List ℕ) → StillRuns old name → StillRuns new name
-  pub may : (root : RootPlace) → MayStart old root → MayStart new root
+  pub may : (root : RootPlace) → IsMarked old root → IsMarked new root
   pub wrote : (root : RootPlace) (status : ℕ) → WroteStatus root status old → WroteStatus root status new

@@ -24,6 +24,8 @@ use Rattle.stage1.specs.Refusals.{WasStrayBetween}
 use Rattle.stage1.specs.Sequences.{Ending, launch_sequence, status_of}
 use Rattle.stage1.specs.Asking.{Asks}
 use Rattle.stage1.specs.Cutting.{IsCutShort}
+use Rattle.stage1.specs.Beginnings.{AreMarked}
+use Rattle.stage1.specs.Keeping.{AppendsOnce}
 use Rattle.stage1.specs.Notes.{notes_at, WroteStatus}
 
 -- reads, notes, and the close of the handle
@@ -72,19 +74,21 @@ AreEnds (app ∷ starts) (status ∷ statuses) (end ∷ ends) = (end ≡ end_of 
 AreEnds [] [] [] = Unit {0}
 AreEnds _ _ _ = ⊥
 
--- apps were run so, and their statuses were written
+-- apps were run so, their marks were made and their statuses written
 pub record HasRunStarts (seen observed : Bool) (starts : List AppStart) (ends : List AppEnd) (d : DirAt) (old new : SpawnerAt) : Type 0 where
   pub statuses : List ℕ
   pub are : AreEnds starts statuses ends
   pub run : HaveRun observed starts statuses old new
+  pub marked : seen ≡ true → AreMarked d starts
   pub wrote : seen ≡ true → AreWrittenAll d starts statuses
 
--- the apps of a pod were run by what was read of it
+-- the apps of a pod were run by what was read of it; to each file at most one append was asked for
 pub record HasRunHeld (seen observed : Bool) (pod : PodId) (address : List ℕ) (ends : List AppEnd) (d d' : DirAt) (s s' : SpawnerAt) : Type 0 where
   pub starts : List AppStart
   pub loaded : DirAt
   pub read : seen ≡ true → ReadsStarts pod address starts d loaded
   pub ran : HasRunStarts seen observed starts ends d' s s'
+  pub once : seen ≡ true → AppendsOnce d d'
 
 -- the pod was run, and its own lock was given up once the statuses stood written
 pub record HasRun (seen observed : Bool) (pod : PodId) (own : Handle) (address : List ℕ) (ends : List AppEnd) (d d' : DirAt) (s s' : SpawnerAt) : Type 0 where

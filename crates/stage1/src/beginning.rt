@@ -4,9 +4,9 @@ ghost use Rattle.std.specs.List.{AllByRecursion};
 ghost use Rattle.dir_model.specs.declared.spot.Spot.{Spot};
 ghost use Rattle.dir_model.specs.Local.{IsActive};
 ghost use Rattle.folder_building.specs.Work.{Worked};
-ghost use Rattle.spawner.specs.Conditions.{StillRuns, MayStart};
-ghost use Rattle.stage1.specs.Notes.{anything, notes_at, StaysAble};
-ghost use Rattle.stage1.specs.Beginnings.{IsInRun, AreAt, RunsEach, MayStartEach, IsStartedIn, AreStartedIn, IsWritten, AreWritten};
+ghost use Rattle.spawner.specs.Conditions.{StillRuns};
+ghost use Rattle.stage1.specs.Notes.{anything, notes_at, StaysAble, IsMarked};
+ghost use Rattle.stage1.specs.Beginnings.{IsInRun, AreAt, RunsEach, AreMarked, IsStartedIn, AreStartedIn, IsWritten, AreWritten};
 ghost use Rattle.stage1.specs.Beginnings.{RanPrelude, PreludeCut, WentOn, GoingCut, HasBegun, IsBrokenOff, HaveBegun, AreBrokenOff};
 ghost use Rattle.stage1.specs.Refusals.{SpawnCause, RunCause};
 ghost use Rattle.stage1.specs.Keeping.{Keeps, going_times, beginning_times, all_begun_times};
@@ -30,7 +30,7 @@ fn go_on<D: Dir, S: Spawner>(
 ) -> Result<Stand, Fault>
     requires active { IsActive (D.shown dir.old).local }
     requires place { IsInRun app.now }
-    requires may { D.observed ≡ true → MayStart (D.shown dir.old) app.now.root }
+    requires may { D.observed ≡ true → IsMarked (D.shown dir.old) app.now.root }
     ensures worked { Worked D.observed (notes_at app.now.root.spot) (D.shown dir.old) (D.shown dir.new) }
     ensures stays { D.observed ≡ true → StaysAble (D.shown dir.old) (D.shown dir.new) }
     ensures cause { IfErr result (λ f. RunCause D.observed f (D.shown dir.old) (D.shown dir.new) (S.shown spawner.old) (S.shown spawner.new)) }
@@ -60,7 +60,7 @@ fn prelude<D: Dir, S: Spawner>(
     spawner: &mut S,
     app: &AppStart,
 ) -> Result<u8, Fault>
-    requires may { D.observed ≡ true → MayStart (D.shown dir.now) app.now.root }
+    requires may { D.observed ≡ true → IsMarked (D.shown dir.now) app.now.root }
     ensures ran { IfOk result (λ status. RanPrelude S.observed app.now status (S.shown spawner.old) (S.shown spawner.new)) }
     ensures cut { IfErr result (λ f. PreludeCut S.observed app.now (S.shown spawner.old) (S.shown spawner.new)) }
     ensures cause { IfErr result (λ f. SpawnCause f (S.shown spawner.old) (S.shown spawner.new)) }
@@ -85,7 +85,7 @@ fn begin_app<D: Dir, S: Spawner>(
     ensures cause { IfErr result (λ f. RunCause D.observed f (D.shown dir.old) (D.shown dir.new) (S.shown spawner.old) (S.shown spawner.new)) }
     ensures begun { IfOk result (λ stand. HasBegun S.observed app.now stand (S.shown spawner.old) (S.shown spawner.new)) }
     ensures broken { IfErr result (λ f. IsBrokenOff S.observed app.now (S.shown spawner.old) (S.shown spawner.new)) }
-    ensures may { IfOk result (λ stand. D.observed ≡ true → MayStart (D.shown dir.new) app.now.root) }
+    ensures may { IfOk result (λ stand. D.observed ≡ true → IsMarked (D.shown dir.new) app.now.root) }
     ensures started { IfOk result (λ stand. S.observed ≡ true → IsStartedIn (S.shown spawner.new).calls app.now stand) }
     ensures wrote { IfOk result (λ stand. D.observed ≡ true → IsWritten (D.shown dir.new) app.now stand) }
     ensures keeps { D.observed ≡ true → Keeps (beginning_times app.now result) (D.shown dir.old) (D.shown dir.new) }
@@ -128,7 +128,7 @@ pub(crate) fn begin_apps<D: Dir, S: Spawner>(
     ensures cause { IfErr result (λ f. RunCause D.observed f (D.shown dir.old) (D.shown dir.new) (S.shown spawner.old) (S.shown spawner.new)) }
     ensures begun { IfOk result (λ done. HaveBegun S.observed apps.now stands.new.items (S.shown spawner.old) (S.shown spawner.new)) }
     ensures broken { IfErr result (λ f. AreBrokenOff S.observed apps.now stands.new.items (S.shown spawner.old) (S.shown spawner.new)) }
-    ensures may { D.observed ≡ true → MayStartEach (D.shown dir.new) (take (length stands.new.items) apps.now) }
+    ensures may { D.observed ≡ true → AreMarked (D.shown dir.new) (take (length stands.new.items) apps.now) }
     ensures started { S.observed ≡ true → AreStartedIn (S.shown spawner.new).calls (take (length stands.new.items) apps.now) stands.new.items }
     ensures wrote { D.observed ≡ true → AreWritten (D.shown dir.new) (take (length stands.new.items) apps.now) stands.new.items }
     ensures keeps { D.observed ≡ true → Keeps (all_begun_times apps.now stands.new.items) (D.shown dir.old) (D.shown dir.new) }

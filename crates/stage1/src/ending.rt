@@ -4,11 +4,10 @@ ghost use Rattle.std.specs.List.{AllByRecursion};
 ghost use Rattle.dir_model.specs.declared.spot.Spot.{Spot};
 ghost use Rattle.dir_model.specs.Local.{IsActive};
 ghost use Rattle.folder_building.specs.Work.{Worked};
-ghost use Rattle.spawner.specs.Conditions.{MayStart};
 ghost use Rattle.stage1.specs.Sequences.{wait_call};
 ghost use Rattle.stage1.specs.Asking.{Asks, StartedIn};
-ghost use Rattle.stage1.specs.Notes.{anything, notes_at, WroteStatus, StaysAble};
-ghost use Rattle.stage1.specs.Beginnings.{IsInRun, AreAt, MayStartEach, IsStartedIn, AreStartedIn, IsWritten, AreWritten, running};
+ghost use Rattle.stage1.specs.Notes.{anything, notes_at, WroteStatus, StaysAble, IsMarked};
+ghost use Rattle.stage1.specs.Beginnings.{IsInRun, AreAt, AreMarked, IsStartedIn, AreStartedIn, IsWritten, AreWritten, running};
 ghost use Rattle.stage1.specs.Endings.{WasWaitedFor, HasEnded, IsEndCut, EndsSo, EndsCut, AddsEnd, HaveEnded, AreEndsCut, WereWaitedFor};
 ghost use Rattle.stage1.specs.Refusals.{RunCause};
 ghost use Rattle.stage1.specs.Keeping.{Keeps, status_times, end_times, all_end_times};
@@ -40,7 +39,7 @@ fn wait_app<D: Dir, S: Spawner>(
 ) -> Result<u8, Fault>
     requires active { IsActive (D.shown dir.old).local }
     requires place { IsInRun app.now }
-    requires may { D.observed ≡ true → MayStart (D.shown dir.old) app.now.root }
+    requires may { D.observed ≡ true → IsMarked (D.shown dir.old) app.now.root }
     requires started { S.observed ≡ true → StartedIn app.now.root child (S.shown spawner.old).calls }
     ensures worked { Worked D.observed (notes_at app.now.root.spot) (D.shown dir.old) (D.shown dir.new) }
     ensures stays { D.observed ≡ true → StaysAble (D.shown dir.old) (D.shown dir.new) }
@@ -69,7 +68,7 @@ fn end_running<D: Dir, S: Spawner>(
 ) -> Result<u8, Fault>
     requires active { IsActive (D.shown dir.old).local }
     requires place { IsInRun app.now }
-    requires may { D.observed ≡ true → MayStart (D.shown dir.old) app.now.root }
+    requires may { D.observed ≡ true → IsMarked (D.shown dir.old) app.now.root }
     requires started { S.observed ≡ true → StartedIn app.now.root child (S.shown spawner.old).calls }
     ensures worked { Worked D.observed (notes_at app.now.root.spot) (D.shown dir.old) (D.shown dir.new) }
     ensures stays { D.observed ≡ true → StaysAble (D.shown dir.old) (D.shown dir.new) }
@@ -96,7 +95,7 @@ fn end_app<D: Dir, S: Spawner>(
 ) -> Result<u8, Fault>
     requires active { IsActive (D.shown dir.old).local }
     requires place { IsInRun app.now }
-    requires may { D.observed ≡ true → MayStart (D.shown dir.old) app.now.root }
+    requires may { D.observed ≡ true → IsMarked (D.shown dir.old) app.now.root }
     requires started { S.observed ≡ true → IsStartedIn (S.shown spawner.old).calls app.now stand }
     requires wrote { D.observed ≡ true → IsWritten (D.shown dir.old) app.now stand }
     ensures worked { Worked D.observed (notes_at app.now.root.spot) (D.shown dir.old) (D.shown dir.new) }
@@ -124,7 +123,7 @@ fn add_end<D: Dir, S: Spawner>(
 ) -> Result<(), Fault>
     requires active { IsActive (D.shown dir.old).local }
     requires place { IsInRun app.now }
-    requires may { D.observed ≡ true → MayStart (D.shown dir.old) app.now.root }
+    requires may { D.observed ≡ true → IsMarked (D.shown dir.old) app.now.root }
     requires started { S.observed ≡ true → IsStartedIn (S.shown spawner.old).calls app.now stand }
     requires wrote { D.observed ≡ true → IsWritten (D.shown dir.old) app.now stand }
     ensures worked { Worked D.observed (notes_at app.now.root.spot) (D.shown dir.old) (D.shown dir.new) }
@@ -153,7 +152,7 @@ pub(crate) fn end_apps<D: Dir, S: Spawner>(
     requires active { IsActive (D.shown dir.old).local }
     requires place { AllByRecursion IsInRun apps.now }
     requires each { length apps.now ≡ length stands.now }
-    requires may { D.observed ≡ true → MayStartEach (D.shown dir.old) apps.now }
+    requires may { D.observed ≡ true → AreMarked (D.shown dir.old) apps.now }
     requires started { S.observed ≡ true → AreStartedIn (S.shown spawner.old).calls apps.now stands.now }
     requires wrote { D.observed ≡ true → AreWritten (D.shown dir.old) apps.now stands.now }
     ensures went { Worked D.observed anything (D.shown dir.old) (D.shown dir.new) }
@@ -188,7 +187,7 @@ fn wait_still<D: Dir, S: Spawner>(
 )
     requires active { IsActive (D.shown dir.old).local }
     requires place { IsInRun app.now }
-    requires may { D.observed ≡ true → MayStart (D.shown dir.old) app.now.root }
+    requires may { D.observed ≡ true → IsMarked (D.shown dir.old) app.now.root }
     requires started { S.observed ≡ true → IsStartedIn (S.shown spawner.old).calls app.now stand }
     ensures worked { Worked D.observed (notes_at app.now.root.spot) (D.shown dir.old) (D.shown dir.new) }
     ensures stays { D.observed ≡ true → StaysAble (D.shown dir.old) (D.shown dir.new) }
@@ -214,7 +213,7 @@ pub(crate) fn wait_rest<D: Dir, S: Spawner>(
     requires active { IsActive (D.shown dir.old).local }
     requires place { AllByRecursion IsInRun apps.now }
     requires each { length stands.now ≤ length apps.now }
-    requires may { D.observed ≡ true → MayStartEach (D.shown dir.old) (take (length stands.now) apps.now) }
+    requires may { D.observed ≡ true → AreMarked (D.shown dir.old) (take (length stands.now) apps.now) }
     requires started { S.observed ≡ true → AreStartedIn (S.shown spawner.old).calls (take (length stands.now) apps.now) stands.now }
     ensures went { Worked D.observed anything (D.shown dir.old) (D.shown dir.new) }
     ensures worked { (spot : Spot) → AreAt spot apps.now → Worked D.observed (notes_at spot) (D.shown dir.old) (D.shown dir.new) }

@@ -5,8 +5,8 @@ ghost use Rattle.dir_model.specs.Paths.{is_path};
 ghost use Rattle.dir_model.specs.declared.request.Request.TheVariants.{MakeFileIn, AppendIn, SyncIn};
 ghost use Rattle.folder_building.specs.Making.{inner_at};
 ghost use Rattle.folder_building.specs.Work.{Worked};
-ghost use Rattle.spawner.specs.Conditions.{start_mark, StillRuns, MayStart};
-ghost use Rattle.stage1.specs.Notes.{status_path, status_text, MadeFile, Appended, Synced, IsPlaced, notes_at, WroteStatus, StaysAble};
+ghost use Rattle.spawner.specs.Conditions.{start_mark, StillRuns};
+ghost use Rattle.stage1.specs.Notes.{status_path, status_text, MadeFile, Appended, Synced, IsPlaced, notes_at, WroteStatus, StaysAble, IsMarked};
 ghost use Rattle.stage1.specs.Refusals.{NoteCause};
 ghost use Rattle.stage1.specs.Keeping.{Called, Keeps, mark_times, status_times};
 
@@ -109,7 +109,7 @@ fn make_mark<D: Dir>(alloc: Global, dir: &mut D, root: &RootPlace, path: &str) -
     ensures worked { Worked D.observed (notes_at root.now.spot) (D.shown dir.old) (D.shown dir.new) }
     ensures cause { IfErr result (λ f. NoteCause D.observed f (D.shown dir.old) (D.shown dir.new)) }
     ensures stays { D.observed ≡ true → StaysAble (D.shown dir.old) (D.shown dir.new) }
-    ensures may { IfOk result (λ done. D.observed ≡ true → MayStart (D.shown dir.new) root.now) }
+    ensures may { IfOk result (λ done. D.observed ≡ true → IsMarked (D.shown dir.new) root.now) }
     ensures keeps { D.observed ≡ true → Keeps (mark_times root.now) (D.shown dir.old) (D.shown dir.new) }
 {
     make_file(alloc, dir, &root.spot, path)?;
@@ -129,7 +129,7 @@ pub(crate) fn mark_started<D: Dir>(
     ensures worked { Worked D.observed (notes_at root.now.spot) (D.shown dir.old) (D.shown dir.new) }
     ensures cause { IfErr result (λ f. NoteCause D.observed f (D.shown dir.old) (D.shown dir.new)) }
     ensures stays { D.observed ≡ true → StaysAble (D.shown dir.old) (D.shown dir.new) }
-    ensures may { IfOk result (λ done. D.observed ≡ true → MayStart (D.shown dir.new) root.now) }
+    ensures may { IfOk result (λ done. D.observed ≡ true → IsMarked (D.shown dir.new) root.now) }
     ensures keeps { D.observed ≡ true → Keeps (mark_times root.now) (D.shown dir.old) (D.shown dir.new) }
 {
     match mark_path(alloc, root.app.as_str()) {

@@ -1,6 +1,7 @@
 // The programs of an app: started, and waited for.
 ghost use Rattle.std.specs.Prelude.{◌≡◌, ◌∷◌, [], true, IfOk, IfErr};
-ghost use Rattle.spawner.specs.Conditions.{MayStart, MayWait};
+ghost use Rattle.spawner.specs.Conditions.{MayWait};
+ghost use Rattle.stage1.specs.Notes.{IsMarked};
 ghost use Rattle.stage1.specs.Sequences.{ready_call, start_call, wait_call};
 ghost use Rattle.stage1.specs.Asking.{Asks, StartedIn};
 ghost use Rattle.stage1.specs.Programs.{WasRefused, ready_request, start_request, wait_request, RanProgram, ProgramCut, RanHandler, HandlerCut};
@@ -19,7 +20,7 @@ pub(crate) fn make_ready<D: Dir, S: Spawner>(
     spawner: &mut S,
     app: &AppStart,
 ) -> Result<(), Fault>
-    requires may { D.observed ≡ true → MayStart (D.shown dir.now) app.now.root }
+    requires may { D.observed ≡ true → IsMarked (D.shown dir.now) app.now.root }
     ensures asked { IfOk result (λ done. Asks S.observed (S.shown spawner.old) (ready_call app.now ∷ []) (S.shown spawner.new)) }
     ensures refused { IfErr result (λ f. WasRefused S.observed (ready_request app.now) (S.shown spawner.old) (S.shown spawner.new)) }
     ensures cause { IfErr result (λ f. SpawnCause f (S.shown spawner.old) (S.shown spawner.new)) }
@@ -38,7 +39,7 @@ pub(crate) fn start_program<D: Dir, S: Spawner>(
     app: &AppStart,
     argv: &Words,
 ) -> Result<Child, Fault>
-    requires may { D.observed ≡ true → MayStart (D.shown dir.now) app.now.root }
+    requires may { D.observed ≡ true → IsMarked (D.shown dir.now) app.now.root }
     ensures asked { IfOk result (λ child. Asks S.observed (S.shown spawner.old) (start_call app.now argv.now child ∷ []) (S.shown spawner.new)) }
     ensures started { IfOk result (λ child. S.observed ≡ true → StartedIn app.now.root child (S.shown spawner.new).calls) }
     ensures refused { IfErr result (λ f. WasRefused S.observed (start_request app.now argv.now) (S.shown spawner.old) (S.shown spawner.new)) }
@@ -84,7 +85,7 @@ fn run_program<D: Dir, S: Spawner>(
     app: &AppStart,
     argv: &Words,
 ) -> Result<u8, Fault>
-    requires may { D.observed ≡ true → MayStart (D.shown dir.now) app.now.root }
+    requires may { D.observed ≡ true → IsMarked (D.shown dir.now) app.now.root }
     ensures ran { IfOk result (λ status. RanProgram S.observed app.now argv.now status (S.shown spawner.old) (S.shown spawner.new)) }
     ensures cut { IfErr result (λ f. ProgramCut S.observed app.now argv.now (S.shown spawner.old) (S.shown spawner.new)) }
     ensures cause { IfErr result (λ f. SpawnCause f (S.shown spawner.old) (S.shown spawner.new)) }
@@ -103,7 +104,7 @@ pub(crate) fn run_handler<D: Dir, S: Spawner>(
     app: &AppStart,
     handler: &Option<Words>,
 ) -> Result<u8, Fault>
-    requires may { D.observed ≡ true → MayStart (D.shown dir.now) app.now.root }
+    requires may { D.observed ≡ true → IsMarked (D.shown dir.now) app.now.root }
     ensures ran { IfOk result (λ status. RanHandler S.observed app.now handler.now status (S.shown spawner.old) (S.shown spawner.new)) }
     ensures cut { IfErr result (λ f. HandlerCut S.observed app.now handler.now (S.shown spawner.old) (S.shown spawner.new)) }
     ensures cause { IfErr result (λ f. SpawnCause f (S.shown spawner.old) (S.shown spawner.new)) }

@@ -6,7 +6,7 @@ ghost use Rattle.dir_model.specs.Local.{IsActive, IsOpen, without};
 ghost use Rattle.folder_building.specs.Work.{Worked};
 ghost use Rattle.pod_ownership.specs.Running.{RunsPod};
 ghost use Rattle.stage1.specs.Notes.{anything, notes_at, StaysAble};
-ghost use Rattle.stage1.specs.Beginnings.{IsInRun, AreAt, RunsEach, MayStartEach, AreStartedIn, AreWritten};
+ghost use Rattle.stage1.specs.Beginnings.{IsInRun, AreAt, RunsEach, AreMarked, AreStartedIn, AreWritten};
 ghost use Rattle.stage1.specs.Cutting.{IsCutShort};
 ghost use Rattle.stage1.specs.Endings.{HaveEnded, AreEndsBroken};
 ghost use Rattle.stage1.specs.Refusals.{RunCause};
@@ -35,7 +35,7 @@ fn end_all<D: Dir, S: Spawner>(
     requires active { IsActive (D.shown dir.old).local }
     requires place { AllByRecursion IsInRun apps.now }
     requires each { length apps.now ≡ length stands.now }
-    requires may { D.observed ≡ true → MayStartEach (D.shown dir.old) apps.now }
+    requires may { D.observed ≡ true → AreMarked (D.shown dir.old) apps.now }
     requires started { S.observed ≡ true → AreStartedIn (S.shown spawner.old).calls apps.now stands.now }
     requires wrote { D.observed ≡ true → AreWritten (D.shown dir.old) apps.now stands.now }
     ensures went { Worked D.observed anything (D.shown dir.old) (D.shown dir.new) }
@@ -78,6 +78,7 @@ fn run_apps<D: Dir, S: Spawner>(
     ensures cause { IfErr result (λ f. RunCause D.observed f (D.shown dir.old) (D.shown dir.new) (S.shown spawner.old) (S.shown spawner.new)) }
     ensures ran { IfOk result (λ statuses. HaveRun S.observed apps.now statuses.items (S.shown spawner.old) (S.shown spawner.new)) }
     ensures cut { IfErr result (λ f. IsCutShort S.observed apps.now (S.shown spawner.old) (S.shown spawner.new)) }
+    ensures marked { IfOk result (λ statuses. D.observed ≡ true → AreMarked (D.shown dir.new) apps.now) }
     ensures wrote { IfOk result (λ statuses. D.observed ≡ true → AreWrittenAll (D.shown dir.new) apps.now statuses.items) }
     ensures keeps { D.observed ≡ true → Keeps (all_times apps.now) (D.shown dir.old) (D.shown dir.new) }
 {

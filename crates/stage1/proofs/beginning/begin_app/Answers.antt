@@ -1,7 +1,7 @@
 use Rattle.std.proofs.Common.{rules, ◌≡◌, ◌≤◌, true, arith, sym, subst}
 use Rattle.dir_model.specs.Local.{IsActive, Local}
 use Rattle.folder_building.proofs.Working.{worked_more}
-use Rattle.spawner.specs.Conditions.{MayStart}
+use Rattle.stage1.specs.Notes.{IsMarked}
 use Rattle.stage1.specs.Beginnings.{WentOn, GoingCut, HasBegun, IsBrokenOff}
 use Rattle.stage1.specs.Refusals.{SpawnCause, NoteCause, RunCause}
 use Rattle.stage1.proofs.Results.{if_ok, if_err, err_same, any_ok, any_err}
@@ -88,7 +88,7 @@ pub returns-clause-may : goal.returns-clause-may
 returns-clause-may g c =
     let D = g.D.Dir in
     let root = c.args.app.now.root in
-    any_ok (D.observed ≡ true → MayStart (D.shown c.go_on.new.dir) root) c.go_on.result (λ t. (c.go_on.ensures.stays t).may root (c.in_ok-mark_started.ensures.may t))
+    any_ok (D.observed ≡ true → IsMarked (D.shown c.go_on.new.dir) root) c.go_on.result (λ t. (c.go_on.ensures.stays t).may root (c.in_ok-mark_started.ensures.may t))
 
 pub returns-in_err-mark_started-clause-keeps : goal.returns-in_err-mark_started-clause-keeps
 returns-in_err-mark_started-clause-keeps g c t = keeps_marked_only c.args.app.now c.from_residual.result (c.mark_started.ensures.keeps t)

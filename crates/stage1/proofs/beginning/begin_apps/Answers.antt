@@ -5,11 +5,11 @@ use Rattle.dir_model.specs.declared.spot.Spot.{Spot}
 use Rattle.dir_model.specs.Local.{IsActive, Local}
 use Rattle.folder_building.specs.Work.{Worked}
 use Rattle.folder_building.proofs.Working.{worked_none, worked_more}
-use Rattle.spawner.specs.Conditions.{StillRuns, MayStart}
+use Rattle.spawner.specs.Conditions.{StillRuns}
 use Rattle.pod_launches.specs.declared.start.AppStart.{AppStart}
 use Rattle.stage1.specs.declared.stand.Stand.{Stand}
-use Rattle.stage1.specs.Notes.{notes_at}
-use Rattle.stage1.specs.Beginnings.{IsInRun, MayStartEach, AreStartedIn, AreWritten, HaveBegun, AreBrokenOff}
+use Rattle.stage1.specs.Notes.{notes_at, IsMarked}
+use Rattle.stage1.specs.Beginnings.{IsInRun, AreMarked, AreStartedIn, AreWritten, HaveBegun, AreBrokenOff}
 use Rattle.stage1.specs.Refusals.{RunCause}
 use Rattle.stage1.proofs.Results.{if_err, err_same, any_err}
 use Rattle.stage1.proofs.Noted.{stays_none, stays_more, worked_any}
@@ -75,7 +75,7 @@ apps-preserved g c =
       begun =
           subst (λ (l : List AppStart). HaveBegun S.observed l c.push_within.new.stands.items (S.shown c.args.spawner.now) last) (sym next)
           (subst (λ (l : List Stand). HaveBegun S.observed (take i apps ++ app ∷ []) l (S.shown c.args.spawner.now) last) (sym pushed) (begun_more (take i apps) stands app stand inv.begun one.begun));
-      may = λ t. subst (λ (l : List AppStart). MayStartEach new l) (sym next) (all_push (λ (a : AppStart). MayStart new a.root) (take i apps) app (may_still (c.begin_app.ensures.stays t) (take i apps) (inv.may t)) (one.may t));
+      may = λ t. subst (λ (l : List AppStart). AreMarked new l) (sym next) (all_push (λ (a : AppStart). IsMarked new a.root) (take i apps) app (may_still (c.begin_app.ensures.stays t) (take i apps) (inv.may t)) (one.may t));
       started = λ t.
           subst (λ (l : List AppStart). AreStartedIn last.calls l c.push_within.new.stands.items) (sym next)
           (subst (λ (l : List Stand). AreStartedIn last.calls (take i apps ++ app ∷ []) l) (sym pushed)
@@ -128,7 +128,7 @@ pub returns-in_err-stand-clause-may : goal.returns-in_err-stand-clause-may
 returns-in_err-stand-clause-may g c t =
     let new = g.D.Dir.shown c.begin_app.new.dir in
     let apps = c.args.apps.now in
-    subst (λ (n : ℕ). MayStartEach new (take n apps)) (sym c.apps.invariant.each) (may_still (c.begin_app.ensures.stays t) (take c.apps.app-index apps) (c.apps.invariant.may t))
+    subst (λ (n : ℕ). AreMarked new (take n apps)) (sym c.apps.invariant.each) (may_still (c.begin_app.ensures.stays t) (take c.apps.app-index apps) (c.apps.invariant.may t))
 
 pub returns-in_err-stand-clause-started : goal.returns-in_err-stand-clause-started
 returns-in_err-stand-clause-started g c t =
@@ -155,7 +155,7 @@ returns-clause-begun g c =
     subst (λ (l : List AppStart). HaveBegun S.observed l c.apps.stands.items (S.shown c.args.spawner.now) (S.shown c.apps.spawner)) (take_all c.apps.app-index c.args.apps.now c.apps-test.false) c.apps.invariant.begun
 
 pub returns-clause-may : goal.returns-clause-may
-returns-clause-may g c t = subst (λ (n : ℕ). MayStartEach (g.D.Dir.shown c.apps.dir) (take n c.args.apps.now)) (sym c.apps.invariant.each) (c.apps.invariant.may t)
+returns-clause-may g c t = subst (λ (n : ℕ). AreMarked (g.D.Dir.shown c.apps.dir) (take n c.args.apps.now)) (sym c.apps.invariant.each) (c.apps.invariant.may t)
 
 pub returns-clause-started : goal.returns-clause-started
 returns-clause-started g c t = subst (λ (n : ℕ). AreStartedIn (g.S.Spawner.shown c.apps.spawner).calls (take n c.args.apps.now) c.apps.stands.items) (sym c.apps.invariant.each) (c.apps.invariant.started t)

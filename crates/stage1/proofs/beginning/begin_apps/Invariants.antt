@@ -2,7 +2,7 @@ use Rattle.std.proofs.Common.{◌≡◌, ◌≤◌, true, take, length, vec_len,
 use Rattle.dir_model.specs.declared.spot.Spot.{Spot}
 use Rattle.folder_building.specs.Work.{Worked}
 use Rattle.stage1.specs.Notes.{anything, notes_at, StaysAble}
-use Rattle.stage1.specs.Beginnings.{AreAt, MayStartEach, AreStartedIn, AreWritten, HaveBegun}
+use Rattle.stage1.specs.Beginnings.{AreAt, AreMarked, AreStartedIn, AreWritten, HaveBegun}
 use Rattle.stage1.specs.Keeping.{Keeps, all_begun_times}
 use Rattle.stage1.proofs.beginning.begin_apps.Given as goal
 
@@ -18,7 +18,7 @@ invariant-apps g l =
       each : length l.stands.items ≡ l.app-index;
       room : length l.apps ≤ vec_capacity l.stands;
       begun : HaveBegun S.observed (take l.app-index l.apps) l.stands.items (S.shown l.fn.spawner) (S.shown l.spawner);
-      may : D.observed ≡ true → MayStartEach (D.shown l.dir) (take l.app-index l.apps);
+      may : D.observed ≡ true → AreMarked (D.shown l.dir) (take l.app-index l.apps);
       started : S.observed ≡ true → AreStartedIn (S.shown l.spawner).calls (take l.app-index l.apps) l.stands.items;
       wrote : D.observed ≡ true → AreWritten (D.shown l.dir) (take l.app-index l.apps) l.stands.items;
       keeps : D.observed ≡ true → Keeps (all_begun_times (take l.app-index l.apps) l.stands.items) (D.shown l.fn.dir) (D.shown l.dir);

@@ -4,11 +4,10 @@ use Rattle.dir_model.specs.declared.spot.Spot.{Spot}
 use Rattle.dir_model.specs.Local.{IsActive, Local}
 use Rattle.folder_building.specs.Work.{Worked}
 use Rattle.folder_building.proofs.Working.{worked_none, worked_more}
-use Rattle.spawner.specs.Conditions.{MayStart}
 use Rattle.pod_launches.specs.declared.start.AppStart.{AppStart}
 use Rattle.stage1.specs.declared.stand.Stand.{Stand}
 use Rattle.stage1.specs.declared.stand.Stand.TheVariants.{Running}
-use Rattle.stage1.specs.Notes.{notes_at}
+use Rattle.stage1.specs.Notes.{notes_at, IsMarked}
 use Rattle.stage1.specs.Beginnings.{IsInRun}
 use Rattle.stage1.specs.Endings.{HaveEnded}
 use Rattle.stage1.specs.Runs.{AreWrittenAll}
@@ -49,7 +48,7 @@ add_end-requires g c =
     record {
       active = subst (λ (m : Local). IsActive m) (sym inv.went.local) c.requires.active;
       place = at_place IsInRun apps i app c.apps-test.true c.index-apps-place.is c.requires.place;
-      may = λ t. (inv.stays t).may app.root (at_place (λ (a : AppStart). MayStart old a.root) apps i app c.apps-test.true c.index-apps-place.is (c.requires.may t));
+      may = λ t. (inv.stays t).may app.root (at_place (λ (a : AppStart). IsMarked old a.root) apps i app c.apps-test.true c.index-apps-place.is (c.requires.may t));
       started = λ t. started_still s.calls s'.calls ((ended_last S.observed s s' (take i apps) (take i stands) c.apps.statuses.items inv.ended).kept t) app stand (started_at s.calls apps stands i app stand c.apps-test.true c.index-apps-place.is (stand_at stands i within) (c.requires.started t));
       wrote = λ t. written_still (inv.stays t) app stand (written_at old apps stands i app stand c.apps-test.true c.index-apps-place.is (stand_at stands i within) (c.requires.wrote t));
     }

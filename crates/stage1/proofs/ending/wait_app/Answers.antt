@@ -6,7 +6,7 @@ use Rattle.stage1.proofs.Keeping.{keeps_none}
 use Rattle.stage1.proofs.ending.wait_app.Goals as goal
 
 pub wait_for-requires : goal.wait_for-requires
-wait_for-requires g c = record { may = λ t s. record { root = c.args.app.now.root; started = (c.requires.started s).last; runs = (c.requires.may t).runs } }
+wait_for-requires g c = record { may = λ t s. record { root = c.args.app.now.root; started = (c.requires.started s).last; runs = (c.requires.may t).may.runs } }
 
 pub returns-in-Err-note_status-clause-waited : goal.returns-in-Err-note_status-clause-waited
 returns-in-Err-note_status-clause-waited g c = waited_done c.args.child c.in-Ok.status c.in-Ok.ensures.asked

@@ -4,11 +4,10 @@ use Rattle.dir_model.specs.declared.spot.Spot.{Spot}
 use Rattle.dir_model.specs.Local.{IsActive, Local}
 use Rattle.folder_building.specs.Work.{Worked}
 use Rattle.folder_building.proofs.Working.{worked_none, worked_more}
-use Rattle.spawner.specs.Conditions.{MayStart}
 use Rattle.pod_launches.specs.declared.start.AppStart.{AppStart}
 use Rattle.stage1.specs.declared.stand.Stand.{Stand}
 use Rattle.stage1.specs.declared.stand.Stand.TheVariants.{Running}
-use Rattle.stage1.specs.Notes.{notes_at}
+use Rattle.stage1.specs.Notes.{notes_at, IsMarked}
 use Rattle.stage1.specs.Beginnings.{IsInRun, running}
 use Rattle.stage1.specs.Endings.{WereWaitedFor}
 use Rattle.stage1.proofs.Noted.{stays_none, stays_more, worked_any}
@@ -40,7 +39,7 @@ wait_still-requires g c =
     record {
       active = subst (λ (m : Local). IsActive m) (sym inv.went.local) c.requires.active;
       place = at_place IsInRun apps i app within c.index-apps-place.is c.requires.place;
-      may = λ t. (inv.stays t).may app.root (front_at (λ (a : AppStart). MayStart old a.root) apps (length stands) i app c.stands-test.true within c.index-apps-place.is (c.requires.may t));
+      may = λ t. (inv.stays t).may app.root (front_at (λ (a : AppStart). IsMarked old a.root) apps (length stands) i app c.stands-test.true within c.index-apps-place.is (c.requires.may t));
       started = λ t. started_still s.calls s'.calls (inv.waited.asked.kept t) app stand (started_front s.calls apps stands i app stand c.stands-test.true within c.index-apps-place.is (stand_at stands i c.stands-test.true) (c.requires.started t));
     }
 

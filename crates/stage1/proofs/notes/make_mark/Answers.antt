@@ -1,11 +1,10 @@
 use Rattle.std.proofs.Common.{rules, ◌≡◌, true, refl, sym, subst, ℕ, List, []}
 use Rattle.dir_model.specs.Local.{IsActive, Local}
 use Rattle.folder_building.proofs.Working.{worked_more}
-use Rattle.spawner.specs.Conditions.{MayStart}
-use Rattle.stage1.specs.Notes.{MadeFile, Synced}
+use Rattle.stage1.specs.Notes.{MadeFile, Synced, IsMarked}
 use Rattle.stage1.specs.Refusals.{NoteCause}
 use Rattle.stage1.proofs.Results.{if_ok, if_err, err_same}
-use Rattle.stage1.proofs.Noted.{stays_more, marked}
+use Rattle.stage1.proofs.Noted.{stays_more, marked, made_mark}
 use Rattle.stage1.proofs.Causes.{note_after}
 use Rattle.dir_model.specs.declared.request.Request.TheVariants.{MakeFileIn}
 use Rattle.folder_building.specs.Making.{inner_at}
@@ -42,10 +41,15 @@ returns-clause-may g c =
     let old = D.shown c.args.dir.now in
     let mid = D.shown c.make_file.new.dir in
     let new = D.shown c.sync.new.dir in
-    if_ok (λ done. Synced D.observed root.spot [] mid new) (λ done. D.observed ≡ true → MayStart new root) c.sync.result
-    (λ done synced t. record {
-      marked = marked root t c.requires.place (subst (λ (p : List ℕ). MadeFile D.observed root.spot p old mid) c.requires.path c.in_ok-make_file.ensures.done) synced;
-      runs = (stays_more (c.make_file.ensures.stays t) (c.sync.ensures.stays t)).runs root.spot.name (c.requires.runs t);
+    if_ok (λ done. Synced D.observed root.spot [] mid new) (λ done. D.observed ≡ true → IsMarked new root) c.sync.result
+    (λ done synced t.
+    let file = subst (λ (p : List ℕ). MadeFile D.observed root.spot p old mid) c.requires.path c.in_ok-make_file.ensures.done in
+    record {
+      may = record {
+        marked = marked root t c.requires.place file synced;
+        runs = (stays_more (c.make_file.ensures.stays t) (c.sync.ensures.stays t)).runs root.spot.name (c.requires.runs t);
+      };
+      made = made_mark root t file synced;
     })
     c.sync.ensures.done
 

@@ -10,7 +10,7 @@ use Rattle.stage1.proofs.OneApp.{unstarted, unwaited}
 use Rattle.stage1.proofs.programs.run_program.Goals as goal
 
 pub wait_for-requires : goal.wait_for-requires
-wait_for-requires g c = record { may = λ t s. record { root = c.args.app.now.root; started = (c.in-Ok.ensures.started s).last; runs = (c.requires.may t).runs } }
+wait_for-requires g c = record { may = λ t s. record { root = c.args.app.now.root; started = (c.in-Ok.ensures.started s).last; runs = (c.requires.may t).may.runs } }
 
 pub returns-in-Ok-clause-ran : goal.returns-in-Ok-clause-ran
 returns-in-Ok-clause-ran g c =

@@ -42,3 +42,6 @@ returns-in-Err-clause-cause g c =
     let old = S.shown c.args.spawner.now in
     let new = S.shown c.start.new.self in
     subst (λ (f : Fault). SpawnCause f old new) (sym c.spawn_fault.ensures) (spawn_cause old new c.in-Err.error (λ is. c.in-Err.ensures.cause (ap Err is)))
+
+pub start-requires : goal.start-requires
+start-requires g c = record { may = λ t. (c.requires.may t).may }

@@ -1,8 +1,8 @@
 use Rattle.std.proofs.Common.{◌≡◌, List, sym, subst}
 use Rattle.dir_model.specs.Local.{IsActive, Local}
 use Rattle.folder_building.proofs.Working.{worked_more}
-use Rattle.spawner.specs.Conditions.{MayStart}
 use Rattle.pod_launches.specs.declared.start.AppStart.{AppStart}
+use Rattle.stage1.specs.Notes.{IsMarked}
 use Rattle.stage1.specs.declared.stand.Stand.{Stand}
 use Rattle.stage1.specs.Beginnings.{IsInRun, running}
 use Rattle.stage1.specs.Endings.{WereWaitedFor}
@@ -28,7 +28,7 @@ wait_rest-requires g c =
       active = subst (λ (m : Local). IsActive m) (sym c.end_apps.ensures.went.local) c.requires.active;
       place = all_rest IsInRun n apps c.requires.place;
       each = rests_each n apps stands c.requires.each;
-      may = λ t. all_take (λ (a : AppStart). MayStart mid a.root) _ (rest_of n apps) (all_rest (λ (a : AppStart). MayStart mid a.root) n apps (may_still (c.end_apps.ensures.stays t) apps (c.requires.may t)));
+      may = λ t. all_take (λ (a : AppStart). IsMarked mid a.root) _ (rest_of n apps) (all_rest (λ (a : AppStart). IsMarked mid a.root) n apps (may_still (c.end_apps.ensures.stays t) apps (c.requires.may t)));
       started = λ t. started_rest s'.calls n apps stands c.requires.each (are_started_still s.calls s'.calls ((ends_cut_last S.observed s s' apps stands n c.in-Err.ensures.cut).kept t) apps stands (c.requires.started t));
     }
 

@@ -1,15 +1,16 @@
-use Rattle.std.proofs.Common.{arith, ◌≡◌, sym, ap, subst, ◌∙◌, List, length, take}
+use Rattle.std.proofs.Common.{arith, ◌≡◌, true, sym, ap, subst, ◌∙◌, List, length, take}
 use Rattle.dir_model.specs.Local.{IsActive, Local}
 use Rattle.folder_building.proofs.Working.{worked_none, worked_more}
 use Rattle.pod_launches.specs.declared.start.AppStart.{AppStart}
 use Rattle.stage1.specs.declared.stand.Stand.{Stand}
 use Rattle.std.proofs.lemmas.List.{take_all}
-use Rattle.stage1.specs.Beginnings.{MayStartEach, AreStartedIn, AreWritten, running}
+use Rattle.stage1.specs.Beginnings.{AreMarked, AreStartedIn, AreWritten, running}
 use Rattle.stage1.specs.Cutting.{IsCutShort}
 use Rattle.stage1.specs.Endings.{HaveEnded, AreEndsBroken, WereWaitedFor}
 use Rattle.stage1.specs.Refusals.{RunCause}
 use Rattle.stage1.specs.Runs.{HaveRun}
-use Rattle.stage1.proofs.Results.{if_ok, if_err, any_err}
+use Rattle.stage1.proofs.Pairs.{may_still}
+use Rattle.stage1.proofs.Results.{if_ok, if_err, any_ok, any_err}
 use Rattle.stage1.proofs.Noted.{stays_none, stays_more}
 use Rattle.stage1.proofs.Causes.{run_after, run_before}
 use Rattle.stage1.proofs.Whole.{have_run, cut_nothing, cut_begun, cut_ended}
@@ -49,7 +50,7 @@ end_all-requires g c =
       active = subst (λ (m : Local). IsActive m) (sym c.begin_apps.ensures.went.local) c.requires.active;
       place = c.requires.place;
       each = each ∙ ap length (sym same);
-      may = λ t. subst (λ (l : List AppStart). MayStartEach mid l) full (c.begin_apps.ensures.may t);
+      may = λ t. subst (λ (l : List AppStart). AreMarked mid l) full (c.begin_apps.ensures.may t);
       started = λ t. subst (λ (x : List Stand). AreStartedIn s'.calls apps x) (sym same) (subst (λ (l : List AppStart). AreStartedIn s'.calls l stands) full (c.begin_apps.ensures.started t));
       wrote = λ t. subst (λ (x : List Stand). AreWritten mid apps x) (sym same) (subst (λ (l : List AppStart). AreWritten mid l stands) full (c.begin_apps.ensures.wrote t));
     }
@@ -68,7 +69,7 @@ wait_rest-requires g c =
       active = subst (λ (m : Local). IsActive m) (sym c.begin_apps.ensures.went.local) c.requires.active;
       place = c.requires.place;
       each = omega (arith, each, ap length same);
-      may = λ t. subst (λ (x : List Stand). MayStartEach mid (take (length x) apps)) (sym same) (c.begin_apps.ensures.may t);
+      may = λ t. subst (λ (x : List Stand). AreMarked mid (take (length x) apps)) (sym same) (c.begin_apps.ensures.may t);
       started = λ t. subst (λ (x : List Stand). AreStartedIn s'.calls (take (length x) apps) x) (sym same) (c.begin_apps.ensures.started t);
     }
 
@@ -103,6 +104,15 @@ returns-in-Ok-clause-ran g c =
     let s'' = S.shown c.end_all.new.spawner in
     if_ok (λ statuses. HaveEnded S.observed apps c.deref.result.now statuses.items s' s'') (λ statuses. HaveRun S.observed apps statuses.items s s'') c.end_all.result
     (λ statuses e. have_run apps stands statuses.items c.in-Ok.ensures.begun (subst (λ (x : List Stand). HaveEnded S.observed apps x statuses.items s' s'') c.deref.ensures.value e)) c.end_all.ensures.ended
+
+pub returns-in-Ok-clause-marked : goal.returns-in-Ok-clause-marked
+returns-in-Ok-clause-marked g c =
+    let D = g.D.Dir in
+    let apps = c.args.apps.now in
+    let stands = c.begin_apps.new.stands.items in
+    let full : take (length stands) apps ≡ apps = take_all (length stands) apps (let each = begun_each apps stands c.in-Ok.ensures.begun in omega (arith, each)) in
+    any_ok (D.observed ≡ true → AreMarked (D.shown c.end_all.new.dir) apps) c.end_all.result
+    (λ t. may_still (c.end_all.ensures.stays t) apps (subst (λ (l : List AppStart). AreMarked (D.shown c.begin_apps.new.dir) l) full (c.begin_apps.ensures.may t)))
 
 pub returns-in-Ok-clause-cut : goal.returns-in-Ok-clause-cut
 returns-in-Ok-clause-cut g c =

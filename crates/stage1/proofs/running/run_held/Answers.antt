@@ -10,7 +10,7 @@ use Rattle.stage1.specs.Runs.{HasRunStarts, HasRunHeld, StopCause, IsRefusedRun}
 use Rattle.stage1.proofs.Results.{if_ok, if_errs}
 use Rattle.stage1.proofs.Held.{in_run, at_run, runs_each, still_runs, worked_reads, worked_runs, refused_run, refused_load}
 use Rattle.stage1.specs.Keeping.{Keeps, all_times}
-use Rattle.stage1.proofs.Fresh.{keeps_reads, keeps_run}
+use Rattle.stage1.proofs.Fresh.{keeps_reads, keeps_run, once_run}
 use Rattle.stage1.proofs.running.run_held.Goals as goal
 
 pub run_starts-requires : goal.run_starts-requires
@@ -40,7 +40,14 @@ returns-in-Ok-clause-ran g c =
     let s = S.shown c.args.spawner.now in
     let s' = S.shown c.run_starts.new.spawner in
     if_ok (λ ends. HasRunStarts D.observed S.observed c.deref.result.now ends.items new s s') (λ ends. HasRunHeld D.observed S.observed c.args.pod c.args.address.now ends.items old new s s') c.run_starts.result
-    (λ ends ran. record { starts = c.in-Ok.apps.items; loaded = D.shown c.pod_launches.new.dir; read = c.in-Ok.ensures.read; ran = subst (λ (l : List AppStart). HasRunStarts D.observed S.observed l ends.items new s s') c.deref.ensures.value ran }) c.run_starts.ensures.ran
+    (λ ends ran. record {
+      starts = c.in-Ok.apps.items;
+      loaded = D.shown c.pod_launches.new.dir;
+      read = c.in-Ok.ensures.read;
+      ran = subst (λ (l : List AppStart). HasRunStarts D.observed S.observed l ends.items new s s') c.deref.ensures.value ran;
+      once = λ t. once_run c.args.pod c.args.address.now c.in-Ok.apps.items t c.in-Ok.ensures.placed c.pod_launches.ensures.only (c.in-Ok.ensures.read t)
+          (subst (λ (l : List AppStart). Keeps (all_times l) (D.shown c.pod_launches.new.dir) new) c.deref.ensures.value (c.run_starts.ensures.keeps t));
+    }) c.run_starts.ensures.ran
 
 pub returns-in-Ok-clause-refused : goal.returns-in-Ok-clause-refused
 returns-in-Ok-clause-refused g c =

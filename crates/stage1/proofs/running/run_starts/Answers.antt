@@ -21,7 +21,7 @@ returns-in-Ok-clause-ran g c =
     let s = S.shown c.args.spawner.now in
     let s' = S.shown c.run_apps.new.spawner in
     if_ok (λ ends. AreEnds apps c.deref.result.now ends.items) (λ ends. HasRunStarts D.observed S.observed apps ends.items new s s') c.ends_of.result
-    (λ ends are. record { statuses = statuses; are = subst (λ (l : List ℕ). AreEnds apps l ends.items) c.deref.ensures.value are; run = c.in-Ok.ensures.ran; wrote = c.in-Ok.ensures.wrote }) c.ends_of.ensures.ends
+    (λ ends are. record { statuses = statuses; are = subst (λ (l : List ℕ). AreEnds apps l ends.items) c.deref.ensures.value are; run = c.in-Ok.ensures.ran; marked = c.in-Ok.ensures.marked; wrote = c.in-Ok.ensures.wrote }) c.ends_of.ensures.ends
 
 pub returns-in-Ok-clause-cut : goal.returns-in-Ok-clause-cut
 returns-in-Ok-clause-cut g c =
