@@ -7,7 +7,7 @@ ghost use Rattle.rkt_cli.specs.Lines.{line_in};
 ghost use Rattle.lifecycle.specs.Executions.{IsConforming};
 ghost use Rattle.rkt_cli.specs.Histories.{TellsHistory, TellsDeed, TellsLeft, HandsOver, IsComplete};
 ghost use Rattle.pod_build.specs.LegalExecutions.{IsLegal};
-ghost use Rattle.pod_roots.specs.Roots.{AppsStartFaithfully};
+ghost use Rattle.pod_roots.specs.Roots.{AppsStartFaithfully, PodsReadAsMade};
 ghost use Rattle.command_outcomes.specs.Conforming.{KeepsConforming};
 ghost use Rattle.command_outcomes.specs.Moments.{dir_at, bundle_at, outside_at, inside_at, sink_at};
 ghost use Rattle.rkt_cli.specs.Between.{RunBetween, JudgedBetween, QuietBetween};
@@ -109,6 +109,7 @@ pub fn rkt<D: Dir, B: Bundle, S: Spawner, O: Sink, E: Sink>(
     ensures conforms { D.observed ≡ true → KeepsConforming (dir_at D.Dir dir.old) (dir_at D.Dir dir.new) }
     ensures makers { D.observed ≡ true → HandsOver (D.shown dir.old) (D.shown dir.new) }
     ensures starts { D.observed ≡ true → IsLegal (D.shown dir.new).trace → AppsStartFaithfully (D.shown dir.new).trace }
+    ensures as_made { D.observed ≡ true → IsLegal (D.shown dir.new).trace → PodsReadAsMade (D.shown dir.new).trace }
     ensures deed { D.observed ≡ true → TellsDeed (line_in words.now) now draw.now result (dir_at D.Dir dir.old) (dir_at D.Dir dir.new)
         (sink_at O.Sink out.old) (sink_at O.Sink out.new) }
     ensures left { D.observed ≡ true → TellsLeft (line_in words.now) draw.now result (dir_at D.Dir dir.old) (dir_at D.Dir dir.new) }

@@ -4,6 +4,7 @@ use Rattle.rkt_cli.proofs.Conforming.{run_conforms}
 use Rattle.rkt_cli.proofs.Histories.{run_tells, run_deed}
 use Rattle.rkt_cli.proofs.PodLeft.{run_left}
 use Rattle.rkt_cli.proofs.Completing.{completes}
+use Rattle.pod_roots.proofs.Reading.{pods_read}
 use Rattle.pod_roots.proofs.Standing.{apps_start}
 use Rattle.rkt_cli.proofs.top.rkt.Goals as goal
 
@@ -96,6 +97,9 @@ returns-clause-apps g c = c.run.ensures.ran.apps
 
 pub returns-clause-starts : goal.returns-clause-starts
 returns-clause-starts g c t legal = apps_start (g.D.Dir.shown c.run.new.dir).trace legal
+
+pub returns-clause-as_made : goal.returns-clause-as_made
+returns-clause-as_made g c t legal = pods_read (g.D.Dir.shown c.run.new.dir).trace legal
 
 pub returns-clause-complete : goal.returns-clause-complete
 returns-clause-complete g c t = completes _ _ _ _ _ _ c.run.ensures.ran t
