@@ -1,5 +1,5 @@
 -- What `prepare` owes between its begin and its finish, and what it tells of the whole run.
-use Rattle.std.proofs.Common.{arith, ◌≡◌, inl, inr, ◌≤◌, ℕ, Bool, true, false, ◌&&◌, ◌||◌, List, [], append-nil, Option, Some, None, Ok, Err, IfErr, IsErrOf, refl, sym, ap, subst, ◌∙◌}
+use Rattle.std.proofs.Common.{◌≡◌, inl, inr, ℕ, Bool, true, false, ◌&&◌, ◌||◌, List, [], append-nil, Option, Some, None, Ok, Err, IfErr, IsErrOf, refl, sym, ap, subst, ◌∙◌}
 use Rattle.dir_model.specs.declared.area.Area.{Area}
 use Rattle.dir_model.specs.declared.area.Area.TheVariants.{Embryo, Prepared}
 use Rattle.dir_model.specs.declared.area.Area.TheVariants as area

@@ -1,5 +1,5 @@
 -- Where nobody else steps: of a pod that was run to its end by a whole process, the marks and the statuses stand in its folder in the end.
-use Rattle.std.proofs.Common.{arith, ◌≡◌, ◌≤◌, ◌⊎◌, inl, inr, ℕ, ◌+◌, Bool, true, false, not, ◌&&◌, ◌||◌, cond, Some, List, [], ◌∷◌, ◌++◌, refl, sym, ap, subst, ◌∙◌, append_assoc}
+use Rattle.std.proofs.Common.{arith, ◌≡◌, ◌≤◌, ◌⊎◌, inl, inr, ℕ, ◌+◌, Bool, true, false, not, ◌||◌, Some, List, ◌∷◌, ◌++◌, refl, sym, ap, subst, ◌∙◌, append_assoc}
 use Rattle.std.specs.List.{AllByRecursion}
 use Rattle.dir_model.specs.declared.event.Event.{Event}
 use Rattle.dir_model.specs.declared.intent.Intent.{Intent}
@@ -9,16 +9,16 @@ use Rattle.dir_model.specs.declared.spot.Handle.{Handle}
 use Rattle.dir_model.specs.declared.request.Request.{Request}
 use Rattle.dir_model.specs.declared.request.Request.TheVariants.{Begin, MakeFileIn, Close, Finish}
 use Rattle.dir_model.specs.declared.request.Reply.TheVariants.{Done}
-use Rattle.dir_model.specs.Calls.{event, is_allowed, is_begin, is_foreign, is_kill, is_run_from, Extends, IsRun, CallStep, TookPlace, LeftNothing}
+use Rattle.dir_model.specs.Calls.{event, is_allowed, is_begin, is_foreign, is_run_from, Extends, IsRun, CallStep, TookPlace, LeftNothing}
 use Rattle.dir_model.specs.Paths.{is_well_formed}
 use Rattle.dir_model.specs.Quiet.{Quiet}
 use Rattle.dir_model.specs.State.{DirState, empty_state, folder_at, has_begun, has_ended, lives}
-use Rattle.dir_model.specs.Trace.{state_after, state_next, states_next}
+use Rattle.dir_model.specs.Trace.{state_after, state_next}
 use Rattle.dir_model.proofs.Allowed.{allowed_step, begin_says}
 use Rattle.dir_model.proofs.Begun.{begun_stays}
 use Rattle.dir_model.proofs.Chains.{and_more, extends_wider, run-left, run_from-right, states_next-append, step_extends}
 use Rattle.dir_model.proofs.Lists.{all_right, and_left, and_right, or_last, same_rest, same_self}
-use Rattle.dir_trait.specs.DirCalls.{DirAt, ExtendsBy}
+use Rattle.dir_trait.specs.DirCalls.{DirAt}
 use Rattle.folder_building.specs.Making.{inner_at}
 use Rattle.folder_building.specs.Work.{either}
 use Rattle.lifecycle.proofs.Handles.{clash}
@@ -28,7 +28,6 @@ use Rattle.pod_claim.proofs.Traces.{grown_more, grown_call}
 use Rattle.removal_commands.proofs.OwnSteps.{in_process}
 use Rattle.spawner.specs.Calls.{SpawnerAt}
 use Rattle.stage1.specs.declared.end.AppEnd.{AppEnd}
-use Rattle.stage1.specs.Keeping.{appends, once}
 use Rattle.stage1.specs.Runs.{HasRun}
 use Rattle.stage1.proofs.Appends.{count, count_more, step_few}
 use Rattle.run_commands.specs.Quiet.{HasItsEnds}

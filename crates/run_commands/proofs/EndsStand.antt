@@ -1,5 +1,5 @@
 -- Where nobody else steps: the marks and the statuses of the apps of a pod that was run stand in its folder in the end.
-use Rattle.std.proofs.Common.{arith, ◌≡◌, ◌≤◌, ◌⊎◌, inl, inr, ℕ, ◌+◌, Bool, true, false, not, ◌&&◌, ◌||◌, ◌==◌, bytes_eq, Some, List, [], ◌∷◌, ◌++◌, length, refl, sym, ap, subst, ◌∙◌, append_assoc}
+use Rattle.std.proofs.Common.{arith, ◌≡◌, ◌≤◌, ◌⊎◌, inl, inr, ℕ, ◌+◌, Bool, true, false, not, ◌&&◌, ◌||◌, ◌==◌, bytes_eq, Some, List, [], ◌∷◌, ◌++◌, refl, sym, ap, subst, ◌∙◌, append_assoc}
 use Rattle.std.specs.List.{AllByRecursion}
 use Rattle.dir_model.specs.declared.event.Event.{Event}
 use Rattle.dir_model.specs.declared.item.Inner.{Inner}
@@ -33,7 +33,6 @@ use Rattle.spawner.specs.declared.call.RootPlace.{RootPlace}
 use Rattle.spawner.specs.Conditions.{start_mark, did, is_done}
 use Rattle.stage1.specs.declared.end.AppEnd.{AppEnd}
 use Rattle.stage1.specs.Beginnings.{AreMarked}
-use Rattle.stage1.specs.Keeping.{appends_to, is_append}
 use Rattle.stage1.specs.Notes.{mark_inner, status_inner, status_path, status_text, makes_own_mark, makes_status, writes_status, MadeMark, WroteStatus}
 use Rattle.stage1.specs.Runs.{AreEnds, AreWrittenAll}
 use Rattle.stage1.proofs.Appends.{count, count_more}

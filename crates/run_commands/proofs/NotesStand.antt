@@ -4,7 +4,6 @@ use Rattle.std.specs.List.{AllByRecursion, list_any, flat_map}
 use Rattle.dir_model.specs.declared.event.Event.{Event}
 use Rattle.dir_model.specs.declared.item.Inner.{Inner}
 use Rattle.dir_model.specs.declared.pod.PodId.{PodId}
-use Rattle.dir_model.specs.declared.request.DirError.{DirError}
 use Rattle.dir_model.specs.declared.request.DirError.TheVariants.{Exists, Missing}
 use Rattle.dir_model.specs.declared.request.Reply.{Reply}
 use Rattle.dir_model.specs.declared.request.Reply.TheVariants.{Done, Refused}

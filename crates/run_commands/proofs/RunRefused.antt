@@ -2,11 +2,9 @@
 use Rattle.std.proofs.Common.{◌≡◌, ◌⊎◌, inl, inr, ℕ, Bool, true, List, [], Err, refl, sym, ap, subst, ◌∙◌}
 use Rattle.dir_model.specs.declared.area.Area.{Area}
 use Rattle.dir_model.specs.declared.area.Area.TheVariants.{Run}
-use Rattle.dir_model.specs.declared.event.Event.{Event}
 use Rattle.dir_model.specs.declared.intent.Draw.{Draw}
 use Rattle.dir_model.specs.declared.intent.Intent.{Intent}
 use Rattle.dir_model.specs.declared.pod.PodId.{PodId}
-use Rattle.dir_model.specs.declared.request.Request.{Request}
 use Rattle.dir_model.specs.declared.spot.Mode.TheVariants.{Shared}
 use Rattle.dir_model.specs.Calls.{Extends, is_begin, is_finish, AtOwnStep}
 use Rattle.dir_model.specs.Quiet.{Quiet}
@@ -24,10 +22,10 @@ use Rattle.pod_making.specs.Work.{HasOwnFolder}
 use Rattle.spawner.specs.Calls.{SpawnerAt}
 use Rattle.stage1.specs.declared.error.RunError.{RunError}
 use Rattle.command_outcomes.specs.declared.refusal.Refusal.{Refusal}
-use Rattle.command_outcomes.specs.declared.refusal.Refusal.TheVariants.{Busy, NoMemory}
+use Rattle.command_outcomes.specs.declared.refusal.Refusal.TheVariants.{NoMemory}
 use Rattle.command_outcomes.specs.Conforming.{shown_at}
 use Rattle.command_outcomes.specs.Moments.{Answer, DirSeen}
-use Rattle.pod_commands.specs.Refusals.{build_refusal, IsSaid}
+use Rattle.pod_commands.specs.Refusals.{IsSaid}
 use Rattle.pod_commands.specs.Prepare.{no_wishes, pod_line}
 use Rattle.pod_commands.proofs.Sayings.{busy_of}
 use Rattle.pod_commands.proofs.Whole.{refused_whole}

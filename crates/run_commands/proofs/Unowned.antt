@@ -1,5 +1,5 @@
 -- What is noted of an app stands outside the roots of started apps, which write there themselves.
-use Rattle.std.proofs.Common.{arith, ◌≡◌, ℕ, Bool, true, false, ◌&&◌, ◌||◌, ◌==◌, cond, bytes_eq, nat_eq, not, slice_index, get_or, Option, Some, None, option_to_list, List, [], ◌∷◌, ◌++◌, length, drop, append-nil, refl, sym, ap, subst, ◌∙◌}
+use Rattle.std.proofs.Common.{arith, ◌≡◌, ℕ, Bool, true, false, ◌&&◌, ◌==◌, cond, bytes_eq, nat_eq, not, slice_index, get_or, Option, Some, None, option_to_list, List, [], ◌∷◌, ◌++◌, length, drop, append-nil, refl, sym, ap, ◌∙◌}
 use Rattle.std.specs.List.{AllByRecursion, starts_with}
 use Rattle.std.proofs.lemmas.Bool.Decides.{Decides-eqb, nat_tests}
 use Rattle.std.proofs.lemmas.Grind.{common_steps}

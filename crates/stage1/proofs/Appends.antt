@@ -6,7 +6,6 @@ use Rattle.dir_model.specs.declared.event.Event.{Event}
 use Rattle.dir_model.specs.declared.item.Inner.{Inner}
 use Rattle.dir_model.specs.declared.request.Reply.{Reply}
 use Rattle.dir_model.specs.declared.request.Request.{Request}
-use Rattle.dir_model.specs.declared.request.Request.TheVariants.{AppendIn}
 use Rattle.dir_model.specs.Calls.{event, is_foreign, CallStep, TookPlace, LeftNothing}
 use Rattle.dir_trait.specs.DirCalls.{DirAt, DirCall, ExtendsBy}
 use Rattle.stage1.specs.Keeping.{once, appends_to, is_append, appends}

@@ -22,7 +22,7 @@ use Rattle.pod_launches.specs.Starts.{IsPlacedIn, ReadsStarts}
 use Rattle.pod_launches.proofs.Apart.{distinct_starts}
 use Rattle.stage1.specs.Notes.{mark_inner, status_inner, status_path}
 use Rattle.pod_launches.specs.Looks.{reads_pod, OnlyReadsPod}
-use Rattle.stage1.specs.Keeping.{appends, AppendsOnce, once, noted, MayNote, mark_times, status_times, app_times, all_times, Keeps, IsFresh, KeepsRules, appends_to}
+use Rattle.stage1.specs.Keeping.{AppendsOnce, once, noted, MayNote, mark_times, status_times, app_times, all_times, Keeps, IsFresh, KeepsRules, appends_to}
 use Rattle.stage1.proofs.Appends.{none_few}
 
 -- a file of an app
