@@ -1,7 +1,6 @@
 -- What `gc` comes to where nobody else steps.
-use Rattle.std.proofs.Common.{◌≡◌, ◌⊎◌, inl, inr, ◌+◌, ℕ, Bool, true, false, ◌&&◌, ◌||◌, ◌==◌, cond, bytes_eq, option_map, map, Option, Some, None, is_some, nat_le, List, [], ◌∷◌, ◌++◌, append-nil, append_assoc, refl, sym, ap, subst, ◌∙◌}
+use Rattle.std.proofs.Common.{◌≡◌, ◌⊎◌, inl, inr, ◌+◌, ℕ, Bool, true, false, ◌&&◌, ◌||◌, ◌==◌, cond, bytes_eq, option_map, map, Option, Some, None, is_some, List, [], ◌∷◌, ◌++◌, append-nil, append_assoc, refl, sym, ap, subst, ◌∙◌}
 use Rattle.std.specs.List.{list_any, position_from, cons_option, AllByRecursion}
-use Rattle.std.proofs.lemmas.Bool.{eqb-true}
 use Rattle.std.proofs.lemmas.Iterator.Adapters.{position_from-zero}
 use Rattle.std.proofs.lemmas.Slice.Eq.{bytes_eq-Decides}
 use Rattle.dir_model.specs.declared.area.Area.{Area}
@@ -27,7 +26,7 @@ use Rattle.dir_model.specs.Trees.{names_in}
 use Rattle.dir_model.proofs.Chains.{states_next-append, state_after-push}
 use Rattle.dir_model.proofs.Hex.{parsed_back}
 use Rattle.dir_model.proofs.PodTexts.{passes_text}
-use Rattle.dir_model.proofs.Lists.{and_left, and_right, or_left_false, or_right_false, all_both, all_right, all_weaker, same_rest}
+use Rattle.dir_model.proofs.Lists.{and_right, or_left_false, or_right_false, all_both, all_right, all_weaker, same_rest}
 use Rattle.dir_rules.proofs.Looks.{same_bytes}
 use Rattle.dir_rules.specs.Standing.{is_garbage}
 use Rattle.dir_laws.specs.Stretches.{Throughout, StandsInArea}
@@ -56,10 +55,9 @@ use Rattle.pod_gc.specs.Sweeping.{MaySweepAll}
 use Rattle.pod_gc.specs.Told.{Knew, and_pod, pods_of, IsTold, TellsShown, UnderGate, Passed, ArePassed, places}
 use Rattle.command_outcomes.specs.Meanwhile.{Meanwhile}
 use Rattle.removal_commands.specs.Gc.{Sweeps}
-use Rattle.removal_commands.specs.Quiet.{is_lasting_phase, KeptAsBefore, MovedAsBefore, BusyAsBefore, is_pods_place}
+use Rattle.removal_commands.specs.Quiet.{is_lasting_phase, KeptAsBefore, MovedAsBefore}
 use Rattle.removal_commands.proofs.OwnSteps.{in_process, back_from, own_asked, quiet_part, own_first, forward, at_process, same_folders, held_before}
-use Rattle.removal_commands.proofs.LateTurns.{is_lasting, lasting_back, sweeps_late, gc_moves, embryo_apart, or_false}
-use Rattle.removal_commands.proofs.Held.{was_held}
+use Rattle.removal_commands.proofs.LateTurns.{is_lasting, lasting_back, sweeps_late, embryo_apart, or_false}
 use Rattle.removal_commands.proofs.RmBefore.{event_weaker, has_phase_now}
 
 -- names and pods
@@ -303,10 +301,6 @@ stood_moved pod place to me old new did = by s.own
       (stands_from (state_after s.before) me (pod_spot pod place) (pod_spot pod to) (and_right (may_step (state_after s.before) me (MoveFolder (pod_spot pod place) (pod_spot pod to))) _ took.allowed)).0,
     )
 
--- one location is in one area
-pods_alike : (a b : Spot) → spot_eq a b ≡ true → is_pods_place a ≡ is_pods_place b
-pods_alike a b same = ap (λ (n : ℕ). nat_le n 5) (eqb-true (rank a.area) (rank b.area) (and_left (rank a.area == rank b.area) (bytes_eq a.name b.name) same))
-
 -- how far the trace has grown
 
 pub shown_grown : {Can : Type 0} {times : Times} {here : Area} {lines : List GcLine} {me : ℕ} {a b : List Event} → TellsShown Can times here lines me a b → Grew a b
@@ -386,14 +380,6 @@ module _ (times : Times) (lines : List GcLine) {me : ℕ} {old new : List Event}
 
     pub each_line : AllByRecursion P lines
     each_line = passes_each (Knew (MaySweepAll times.now times.expire) m.so.from) m.so.can places lines m.begun m.ended before after m.so.swept
-
-  -- of a busy lock another process held one before
-  told_busy : {Can : Type 0} {here : Area} (a b : List Event) → Can → Grew old a → Grew b new → (line : GcLine) → IsTold Can times here line me a b → BusyAsBefore me old line
-  told_busy {Can} {here} a b can to_a from_b line x which deed =
-      was_held is_pods_place pods_alike (sweeps times.now) (sweeps_late times.now) (gc_moves times.now) me x.shown (λ p stage. stage) which old a b new to_a from_b ext quiet (x.another can which deed)
-
-  pub gc_busy : AllByRecursion (BusyAsBefore me old) lines
-  gc_busy = each_line (BusyAsBefore me old) (λ Can can here a b to_a from_b line x. told_busy a b can to_a from_b line x) (λ which deed. cc)
 
   pub gc_moved : AllByRecursion (MovedAsBefore old) lines
   gc_moved = each_line (MovedAsBefore old) (λ Can can here a b to_a from_b line x. told_moved a b to_a from_b line x) (λ pod to is deed. cc)

@@ -83,7 +83,7 @@ named_stands s a name there =
 named_by : (n name : List ℕ) (p : PodId) (ns : List (List ℕ)) → pod_of n ≡ Some p → pod_text p.bytes ≡ name → has_name (n ∷ ns) name ≡ true
 named_by n name p ns is same = ap (λ b. b || has_name ns name) (subst (λ (x : List ℕ). bytes_eq n x ≡ true) (sym (pod_back n p is) ∙ same) (same_bytes n))
 
-same_text : (a b : List ℕ) → bytes_eq a b ≡ true → a ≡ b
+pub same_text : (a b : List ℕ) → bytes_eq a b ≡ true → a ≡ b
 same_text a b is = (bytes_eq-Decides a b).0 is
 
 moves_named : (p : PodId) (a b : Area) (from to : Spot) → moves p a b (MoveFolder from to) ≡ true → (pod_text p.bytes ≡ from.name) × (pod_text p.bytes ≡ to.name)
@@ -94,7 +94,7 @@ moves_named p a b from to is =
       same_text (pod_text p.bytes) to.name (and_right (rank b == rank to.area) (bytes_eq (pod_text p.bytes) to.name) (and_right f t is)),
     )
 
-deals_moves : (p : PodId) (now : ℕ) (here : Area) (from to : Spot) → deals_with p now here (MoveFolder from to) ≡ true → (pod_text p.bytes ≡ from.name) × (pod_text p.bytes ≡ to.name)
+pub deals_moves : (p : PodId) (now : ℕ) (here : Area) (from to : Spot) → deals_with p now here (MoveFolder from to) ≡ true → (pod_text p.bytes ≡ from.name) × (pod_text p.bytes ≡ to.name)
 deals_moves p now here from to is = elim (or_either (moves p area.Embryo area.Garbage (MoveFolder from to)) _ is) [
   | inl x ↦ moves_named p area.Embryo area.Garbage from to x
   | inr y ↦ elim (or_either (moves p area.Prepare area.Garbage (MoveFolder from to)) _ y) [

@@ -11,4 +11,5 @@ pub mod RmLacking
 pub mod GcQuiet
 pub mod GcTells
 pub mod GcFrom
+pub mod GcBusy
 pub mod Quietly

@@ -19,9 +19,10 @@ use Rattle.removal_commands.proofs.RmQuiet.{rm_gone, rm_none_before}
 use Rattle.removal_commands.proofs.RmBefore.{rm_wrong_before, rm_held_before}
 use Rattle.removal_commands.proofs.RmFrom.{rm_removable_before}
 use Rattle.removal_commands.proofs.RmLacking.{rm_lacked_before}
-use Rattle.removal_commands.proofs.GcQuiet.{gc_embryos, gc_moved, gc_busy, gc_kept}
+use Rattle.removal_commands.proofs.GcQuiet.{gc_embryos, gc_moved, gc_kept}
 use Rattle.removal_commands.proofs.GcFrom.{gc_had, gc_gone}
 use Rattle.removal_commands.proofs.GcTells.{gc_tells}
+use Rattle.removal_commands.proofs.GcBusy.{gc_busy}
 
 module _ (pod : PodId) (now : ℕ) (old new : DirSeen) (ext : Extends (in_process (removes pod now)) old.process old.trace new.trace) (quiet : Quiet old.process old.trace new.trace) where
   pub rm_removed_quietly : OwnsNothing old.process (state_after old.trace).namespace → (text : List ℕ) → text ≡ removed_text pod → HasRemovedPod pod old new → RemovesPodQuietly pod old new (Ok text)

@@ -132,9 +132,9 @@ TellsOfEach lines old =
     (name : List ℕ) (pod : PodId) (place : Area) → pod_of name ≡ Some pod → is_stage place ≡ true → stands (state_after old.trace).namespace (pod_spot pod place) ≡ true →
     HasLine place pod lines ⊎ ((place ≡ Embryo) × IsBusyElsewhere old.process Embryo Exclusive (state_after old.trace))
 
--- of a line that a lock was busy, another process held such a lock of a folder in the areas of pods before
+-- of a pod that is called busy, another process held this lock before, of a folder at one of the pod's places
 abbrev pub BusyAsBefore : ℕ → List Event → GcLine → Type 0
-BusyAsBefore me old line = (which : Which) → line.deed ≡ Busy which → IsHeldNow is_pods_place which me (state_after old)
+BusyAsBefore me old line = (pod : PodId) (which : Which) → line.pod ≡ Some pod → line.deed ≡ Busy which → IsHeldNow (is_pod_spot pod) which me (state_after old)
 
 -- of `gc`: its lines by its own steps, one of each pod that stood before; those of kept, moved and busy pods agree with the state
 -- before, the deleted ones are gone, and no embryo is left
