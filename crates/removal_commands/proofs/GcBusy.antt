@@ -70,7 +70,7 @@ some_named now here names stage r is = refl
 module _ (Can : Type 0) (times : Times) (me : ℕ) where
   shown_named : (here : Area) (ls : List GcLine) (a b : List Event) → is_stage here ≡ true → TellsShown Can times here ls me a b → Extends keeps_names me a b
   shown_named here ls a b stage t =
-      extends_more keeps_names me a t.listed b (extends_wider (no_folders (lists here) (λ spot. refl) (λ from to. refl)) t.only_lists) (extends_wider (some_named times.now here t.names stage) t.only)
+      extends_more keeps_names me a t.listed b (extends_wider (no_folders (lists here) (λ spot. refl) (λ from to. refl)) t.only_lists) (extends_wider (some_named times.now here t.names stage) t.tells.only)
 
   takes_named : (r : Request) → takes area.Embryo Exclusive r ≡ true → keeps_names r ≡ true
   takes_named = no_folders (takes area.Embryo Exclusive) (λ spot. refl) (λ from to. refl)
@@ -105,8 +105,8 @@ module _ (times : Times) (lines : List GcLine) {me : ℕ} {old new : List Event}
       let same = same_text from.name to.name (and_right (is_garbage to.area) _ (and_right (is_stage from.area) _ is)) in
       and_both (is_stage from.area) (bytes_eq from.name u) (and_left (is_stage from.area) _ is) (subst (λ (n : List ℕ). bytes_eq n u ≡ true) (sym same) (and_right (is_stage to.area) (bytes_eq to.name u) here))
 
-  told_busy : {Can : Type 0} {here : Area} (a b : List Event) → Can → Grew old a → Grew b new → (line : GcLine) → IsTold Can times here line me a b → BusyAsBefore me old line
-  told_busy {Can} {here} a b can to_a from_b line x pod which is deed =
+  told_busy : {Can : Type 0} {here : Area} {names : List (List ℕ)} (a b : List Event) → Can → Grew old a → Grew b new → (line : GcLine) → IsTold Can times here names line me a b → BusyAsBefore me old line
+  told_busy {Can} {here} {names} a b can to_a from_b line x pod which is deed =
       let same : x.shown ≡ pod = let e : Some x.shown ≡ Some pod = sym x.pod_is ∙ is in cc in
       let u = pod_text x.shown.bytes in
       let held = was_held (is_pod_spot x.shown) (λ c d alike. of_same u c d alike) keeps_names names_late (from_its x.shown) me x.shown (λ p stage. ap (λ c. c && bytes_eq u u) stage ∙ same_bytes u) which old a b new
@@ -114,4 +114,4 @@ module _ (times : Times) (lines : List GcLine) {me : ℕ} {old new : List Event}
       subst (λ (q : PodId). IsHeldNow (is_pod_spot q) which me (state_after old)) same held
 
   pub gc_busy : AllByRecursion (BusyAsBefore me old) lines
-  gc_busy = each_line times lines ext quiet m (BusyAsBefore me old) (λ Can can here a b to_a from_b line x. told_busy a b can to_a from_b line x) (λ pod which is deed. cc)
+  gc_busy = each_line times lines ext quiet m (BusyAsBefore me old) (λ Can can here names a b to_a from_b line x. told_busy a b can to_a from_b line x) (λ pod which is deed. cc)

@@ -23,6 +23,7 @@ use Rattle.removal_commands.proofs.GcQuiet.{gc_embryos, gc_moved, gc_kept}
 use Rattle.removal_commands.proofs.GcFrom.{gc_had, gc_gone}
 use Rattle.removal_commands.proofs.GcTells.{gc_tells}
 use Rattle.removal_commands.proofs.GcBusy.{gc_busy}
+use Rattle.removal_commands.proofs.GcLeft.{gc_left}
 
 module _ (pod : PodId) (now : ℕ) (old new : DirSeen) (ext : Extends (in_process (removes pod now)) old.process old.trace new.trace) (quiet : Quiet old.process old.trace new.trace) where
   pub rm_removed_quietly : OwnsNothing old.process (state_after old.trace).namespace → (text : List ℕ) → text ≡ removed_text pod → HasRemovedPod pod old new → RemovesPodQuietly pod old new (Ok text)
@@ -49,5 +50,6 @@ gc_swept_quietly times old new text ext quiet idle x = record {
   had = λ conforming. gc_had times x.lines ext quiet x.swept idle conforming;
   gone = λ conforming. gc_gone times x.lines ext quiet x.swept idle conforming;
   busy = gc_busy times x.lines ext quiet x.swept;
+  left = gc_left times x.lines ext quiet x.swept;
   embryos = gc_embryos times x.lines ext quiet x.swept;
 }

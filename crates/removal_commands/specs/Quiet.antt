@@ -29,7 +29,7 @@ use Rattle.pod_claim.specs.Causes.{LacksManifest}
 use Rattle.pod_steps.specs.Causes.{is_held_against}
 use Rattle.pod_removal.specs.Requests.{is_removable}
 use Rattle.pod_gc.specs.declared.ages.Times.{Times}
-use Rattle.pod_gc.specs.declared.line.Deed.TheVariants.{Moved, Deleted, Kept, Busy}
+use Rattle.pod_gc.specs.declared.line.Deed.TheVariants.{Moved, Deleted, Kept, Busy, Left}
 use Rattle.pod_gc.specs.declared.line.GcLine.{GcLine}
 use Rattle.command_outcomes.specs.declared.refusal.Refusal.TheVariants.{NoPod, WrongPhase, NoManifest, PodBusy, Stray}
 use Rattle.command_outcomes.specs.Moments.{DirSeen, Outcome}
@@ -136,7 +136,11 @@ TellsOfEach lines old =
 abbrev pub BusyAsBefore : ℕ → List Event → GcLine → Type 0
 BusyAsBefore me old line = (pod : PodId) (which : Which) → line.pod ≡ Some pod → line.deed ≡ Busy which → IsHeldNow (is_pod_spot pod) which me (state_after old)
 
--- of `gc`: its lines by its own steps, one of each pod that stood before; those of kept, moved and busy pods agree with the state
+-- of no pod it is said that it had left, but of one in prepared whose folder stood there before without its manifest
+abbrev pub LeftAsBefore : List Event → GcLine → Type 0
+LeftAsBefore old line = (pod : PodId) → line.pod ≡ Some pod → line.deed ≡ Left → (line.place ≡ area.Prepared) × LacksManifest pod (state_after old)
+
+-- of `gc`: its lines by its own steps, one of each pod that stood before; those of kept, moved, busy and left pods agree with the state
 -- before, the deleted ones are gone, and no embryo is left
 pub record SweepsSo (times : Times) (old new : DirSeen) (text : List ℕ) : Type 0 where
   pub swept : HasSweptPods times old new text
@@ -146,6 +150,7 @@ pub record SweepsSo (times : Times) (old new : DirSeen) (text : List ℕ) : Type
   pub had : IsConforming new.trace → AllByRecursion (SweptAsBefore old.trace) swept.lines
   pub gone : IsConforming new.trace → AllByRecursion (GoneAfter new.trace) swept.lines
   pub busy : AllByRecursion (BusyAsBefore old.process old.trace) swept.lines
+  pub left : AllByRecursion (LeftAsBefore old.trace) swept.lines
   pub embryos : LeavesNoEmbryo old new
 
 abbrev pub SweepsPodsQuietly : Times → DirSeen → DirSeen → Outcome → Type 0
