@@ -262,7 +262,7 @@ module _ (now : ℕ) (pod : PodId) (place : Area) (moves : moves_pods place ≡ 
   abbrev its_place : Spot
   its_place = pod_spot pod place
 
-  stood_back : (s : DirState) (request : Request) (reply : Reply) → (is_kill request || in_process (sweeps now) request) ≡ true → stands (namespace_replied s.namespace me request reply) its_place ≡ true → stands s.namespace its_place ≡ true
+  pub stood_back : (s : DirState) (request : Request) (reply : Reply) → (is_kill request || in_process (sweeps now) request) ≡ true → stands (namespace_replied s.namespace me request reply) its_place ≡ true → stands s.namespace its_place ≡ true
   stood_back s (MakeFolder here) reply h there = cc
   stood_back s (MoveFolder from to) Done h there = by (spot_eq from its_place) refl
     where

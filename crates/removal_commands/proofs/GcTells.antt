@@ -271,10 +271,10 @@ module _ (Can : Type 0) (times : Times) (me : ℕ) (old new : List Event) (quiet
   taken : (a b : List Event) → Extends (takes area.Embryo Exclusive) me a b → Grew old a → Grew b new → Stood a → Stood b
   taken a b x to_a rest there = forward (λ s. stands s.namespace spot ≡ true) (takes area.Embryo Exclusive) me (λ s request reply h q. takes_leave spot me s request reply h q) a grown_none (grown_by x) x (part a b to_a (grown_by x) rest) there
 
-  closed : (handle : Handle) (a b : List Event) → Extends (closes handle) me a b → Grew old a → Grew b new → Stood a → Stood b
+  pub closed : (handle : Handle) (a b : List Event) → Extends (closes handle) me a b → Grew old a → Grew b new → Stood a → Stood b
   closed handle a b x to_a rest there = forward (λ s. stands s.namespace spot ≡ true) (closes handle) me (λ s request reply h q. closes_leave handle spot me s request reply h q) a grown_none (grown_by x) x (part a b to_a (grown_by x) rest) there
 
-  passes_over : (here : Area) (ls : List GcLine) (a b : List Event) → is_stage here ≡ true → (rank place == rank here) ≡ false → Passed Can times here ls me a b → Grew old a → Grew b new → Stood a → Stood b
+  pub passes_over : (here : Area) (ls : List GcLine) (a b : List Event) → is_stage here ≡ true → (rank place == rank here) ≡ false → Passed Can times here ls me a b → Grew old a → Grew b new → Stood a → Stood b
   passes_over area.Embryo ls a b here_stage apart (inl g) to_a rest there =
       let last = grown_more (grown_by g.gives_back) rest in
       let first = grown_more to_a (grown_by g.takes_gate) in

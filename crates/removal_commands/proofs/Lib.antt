@@ -15,4 +15,6 @@ pub mod GcFrom
 pub mod GcBusy
 pub mod GcTurn
 pub mod GcLeft
+pub mod GcStood
+pub mod GcEnds
 pub mod Quietly

@@ -24,6 +24,8 @@ use Rattle.removal_commands.proofs.GcFrom.{gc_had, gc_gone}
 use Rattle.removal_commands.proofs.GcTells.{gc_tells}
 use Rattle.removal_commands.proofs.GcBusy.{gc_busy}
 use Rattle.removal_commands.proofs.GcLeft.{gc_left}
+use Rattle.removal_commands.proofs.GcStood.{gc_stood}
+use Rattle.removal_commands.proofs.GcEnds.{gc_stays}
 
 module _ (pod : PodId) (now : ℕ) (old new : DirSeen) (ext : Extends (in_process (removes pod now)) old.process old.trace new.trace) (quiet : Quiet old.process old.trace new.trace) where
   pub rm_removed_quietly : OwnsNothing old.process (state_after old.trace).namespace → (text : List ℕ) → text ≡ removed_text pod → HasRemovedPod pod old new → RemovesPodQuietly pod old new (Ok text)
@@ -48,6 +50,8 @@ gc_swept_quietly times old new text ext quiet idle x = record {
   kept = λ conforming. gc_kept times x.lines ext quiet x.swept conforming;
   moved = gc_moved times x.lines ext quiet x.swept;
   had = λ conforming. gc_had times x.lines ext quiet x.swept idle conforming;
+  stood = gc_stood times x.lines ext quiet x.swept;
+  stays = λ conforming. gc_stays times x.lines ext quiet x.swept conforming;
   gone = λ conforming. gc_gone times x.lines ext quiet x.swept idle conforming;
   busy = gc_busy times x.lines ext quiet x.swept;
   left = gc_left times x.lines ext quiet x.swept;

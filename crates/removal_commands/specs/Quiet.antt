@@ -29,8 +29,10 @@ use Rattle.pod_claim.specs.Causes.{LacksManifest}
 use Rattle.pod_steps.specs.Causes.{is_held_against}
 use Rattle.pod_removal.specs.Requests.{is_removable}
 use Rattle.pod_gc.specs.declared.ages.Times.{Times}
+use Rattle.pod_gc.specs.declared.line.Deed.{Deed}
 use Rattle.pod_gc.specs.declared.line.Deed.TheVariants.{Moved, Deleted, Kept, Busy, Left}
 use Rattle.pod_gc.specs.declared.line.GcLine.{GcLine}
+use Rattle.pod_gc.specs.Requests.{moves_pods}
 use Rattle.command_outcomes.specs.declared.refusal.Refusal.TheVariants.{NoPod, WrongPhase, NoManifest, PodBusy, Stray}
 use Rattle.command_outcomes.specs.Moments.{DirSeen, Outcome}
 use Rattle.removal_commands.specs.Rm.{removed_text, HasRemovedPod, HasFoundNoPod, HasFoundWrong, HasFoundNoManifest, HasFoundBusy, HasMetStrayAtPod}
@@ -113,6 +115,21 @@ SweptAsBefore old line = (pod : PodId) (to : Area) → line.pod ≡ Some pod →
 abbrev pub MovedAsBefore : List Event → GcLine → Type 0
 MovedAsBefore old line = (pod : PodId) (to : Area) → line.pod ≡ Some pod → line.deed ≡ Moved to → stands (state_after old).namespace (pod_spot pod line.place) ≡ true
 
+-- each line of a place from which pods are moved is of one that stood there before
+abbrev pub StoodAsBefore : List Event → GcLine → Type 0
+StoodAsBefore old line = (pod : PodId) → line.pod ≡ Some pod → moves_pods line.place ≡ true → stands (state_after old).namespace (pod_spot pod line.place) ≡ true
+
+-- the pod is neither moved nor deleted
+abbrev pub leaves_there : Deed → Bool
+leaves_there (Kept phase) = true
+leaves_there (Busy which) = true
+leaves_there Left = true
+leaves_there _ = false
+
+-- such a pod stands at that place at the end
+abbrev pub StandsAfter : List Event → GcLine → Type 0
+StandsAfter new line = (pod : PodId) → line.pod ≡ Some pod → leaves_there line.deed ≡ true → stands (state_after new).namespace (pod_spot pod line.place) ≡ true
+
 -- a pod that was deleted is gone at the end
 abbrev pub GoneAfter : List Event → GcLine → Type 0
 GoneAfter new line = (pod : PodId) → line.pod ≡ Some pod → line.deed ≡ Deleted → IsGoneForGood pod new
@@ -141,13 +158,15 @@ abbrev pub LeftAsBefore : List Event → GcLine → Type 0
 LeftAsBefore old line = (pod : PodId) → line.pod ≡ Some pod → line.deed ≡ Left → (line.place ≡ area.Prepared) × LacksManifest pod (state_after old)
 
 -- of `gc`: its lines by its own steps, one of each pod that stood before; those of kept, moved, busy and left pods agree with the state
--- before, the deleted ones are gone, and no embryo is left
+-- before, the deleted ones are gone, those neither moved nor deleted stand where they were, and no embryo is left
 pub record SweepsSo (times : Times) (old new : DirSeen) (text : List ℕ) : Type 0 where
   pub swept : HasSweptPods times old new text
   pub tells : IsConforming new.trace → TellsOfEach swept.lines old
   pub kept : IsConforming new.trace → AllByRecursion (KeptAsBefore old.trace) swept.lines
   pub moved : AllByRecursion (MovedAsBefore old.trace) swept.lines
   pub had : IsConforming new.trace → AllByRecursion (SweptAsBefore old.trace) swept.lines
+  pub stood : AllByRecursion (StoodAsBefore old.trace) swept.lines
+  pub stays : IsConforming new.trace → AllByRecursion (StandsAfter new.trace) swept.lines
   pub gone : IsConforming new.trace → AllByRecursion (GoneAfter new.trace) swept.lines
   pub busy : AllByRecursion (BusyAsBefore old.process old.trace) swept.lines
   pub left : AllByRecursion (LeftAsBefore old.trace) swept.lines
