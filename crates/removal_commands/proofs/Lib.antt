@@ -17,4 +17,5 @@ pub mod GcTurn
 pub mod GcLeft
 pub mod GcStood
 pub mod GcEnds
+pub mod GcRested
 pub mod Quietly

@@ -24,6 +24,7 @@ use Rattle.removal_commands.proofs.GcFrom.{gc_had, gc_gone}
 use Rattle.removal_commands.proofs.GcTells.{gc_tells}
 use Rattle.removal_commands.proofs.GcBusy.{gc_busy}
 use Rattle.removal_commands.proofs.GcLeft.{gc_left}
+use Rattle.removal_commands.proofs.GcRested.{gc_rested}
 use Rattle.removal_commands.proofs.GcStood.{gc_stood}
 use Rattle.removal_commands.proofs.GcEnds.{gc_stays}
 
@@ -48,6 +49,7 @@ gc_swept_quietly times old new text ext quiet idle x = record {
   swept = x;
   tells = λ conforming. gc_tells times x.lines ext quiet x.swept conforming;
   kept = λ conforming. gc_kept times x.lines ext quiet x.swept conforming;
+  rested = λ conforming. gc_rested times x.lines ext quiet x.swept idle conforming;
   moved = gc_moved times x.lines ext quiet x.swept;
   had = λ conforming. gc_had times x.lines ext quiet x.swept idle conforming;
   stood = gc_stood times x.lines ext quiet x.swept;

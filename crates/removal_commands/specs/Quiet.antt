@@ -100,6 +100,10 @@ is_lasting_phase _ = false
 abbrev pub KeptAsBefore : List Event → GcLine → Type 0
 KeptAsBefore old line = (pod : PodId) (phase : Phase) → line.pod ≡ Some pod → line.deed ≡ Kept phase → is_lasting_phase phase ≡ true → HasPhaseNow pod phase old
 
+-- a pod that is kept as one that rests in exited-garbage rested there before, if it stood there before
+abbrev pub RestedAsBefore : List Event → GcLine → Type 0
+RestedAsBefore old line = (pod : PodId) → line.pod ≡ Some pod → line.deed ≡ Kept kind.ExitedGarbage → stands (state_after old).namespace (pod_spot pod area.ExitedGarbage) ≡ true → HasPhaseNow pod kind.ExitedGarbage old
+
 -- the phase of a pod that the pass over this place moves
 abbrev pub swept_phase : Area → Phase
 swept_phase Embryo = kind.Embryo
@@ -163,6 +167,7 @@ pub record SweepsSo (times : Times) (old new : DirSeen) (text : List ℕ) : Type
   pub swept : HasSweptPods times old new text
   pub tells : IsConforming new.trace → TellsOfEach swept.lines old
   pub kept : IsConforming new.trace → AllByRecursion (KeptAsBefore old.trace) swept.lines
+  pub rested : IsConforming new.trace → AllByRecursion (RestedAsBefore old.trace) swept.lines
   pub moved : AllByRecursion (MovedAsBefore old.trace) swept.lines
   pub had : IsConforming new.trace → AllByRecursion (SweptAsBefore old.trace) swept.lines
   pub stood : AllByRecursion (StoodAsBefore old.trace) swept.lines
