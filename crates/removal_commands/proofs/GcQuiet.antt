@@ -245,7 +245,7 @@ module _ (Can : Type 0) (times : Times) (lines : List GcLine) (me : ℕ) (locked
 
 -- no folder comes to a place from which a pass moves pods
 
-moved_apart : (place a : Area) → moves_pods place ≡ true → is_garbage a ≡ true → (rank a == rank place) ≡ false
+pub moved_apart : (place a : Area) → moves_pods place ≡ true → is_garbage a ≡ true → (rank a == rank place) ≡ false
 moved_apart area.Embryo a moves is = embryo_apart a is
 moved_apart area.Prepare area.ExitedGarbage moves is = refl
 moved_apart area.Prepare area.Garbage moves is = refl

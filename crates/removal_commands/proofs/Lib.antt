@@ -18,4 +18,5 @@ pub mod GcLeft
 pub mod GcStood
 pub mod GcEnds
 pub mod GcRested
+pub mod GcCame
 pub mod Quietly

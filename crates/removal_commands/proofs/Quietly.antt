@@ -24,6 +24,7 @@ use Rattle.removal_commands.proofs.GcFrom.{gc_had, gc_gone}
 use Rattle.removal_commands.proofs.GcTells.{gc_tells}
 use Rattle.removal_commands.proofs.GcBusy.{gc_busy}
 use Rattle.removal_commands.proofs.GcLeft.{gc_left}
+use Rattle.removal_commands.proofs.GcCame.{gc_came}
 use Rattle.removal_commands.proofs.GcRested.{gc_rested}
 use Rattle.removal_commands.proofs.GcStood.{gc_stood}
 use Rattle.removal_commands.proofs.GcEnds.{gc_stays}
@@ -53,6 +54,7 @@ gc_swept_quietly times old new text ext quiet idle x = record {
   moved = gc_moved times x.lines ext quiet x.swept;
   had = λ conforming. gc_had times x.lines ext quiet x.swept idle conforming;
   stood = gc_stood times x.lines ext quiet x.swept;
+  came = λ conforming. gc_came times x.lines ext quiet x.swept conforming;
   stays = λ conforming. gc_stays times x.lines ext quiet x.swept conforming;
   gone = λ conforming. gc_gone times x.lines ext quiet x.swept idle conforming;
   busy = gc_busy times x.lines ext quiet x.swept;

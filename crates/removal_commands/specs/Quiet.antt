@@ -27,7 +27,7 @@ use Rattle.phase_read.specs.Read.{pod_spot, is_pod_spot}
 use Rattle.phase_read.specs.Sequential.{sequential_read}
 use Rattle.pod_claim.specs.Causes.{LacksManifest}
 use Rattle.pod_steps.specs.Causes.{is_held_against}
-use Rattle.pod_removal.specs.Requests.{is_removable}
+use Rattle.pod_removal.specs.Requests.{is_removable, is_garbage_place}
 use Rattle.pod_gc.specs.declared.ages.Times.{Times}
 use Rattle.pod_gc.specs.declared.line.Deed.{Deed}
 use Rattle.pod_gc.specs.declared.line.Deed.TheVariants.{Moved, Deleted, Kept, Busy, Left}
@@ -153,6 +153,19 @@ TellsOfEach lines old =
     (name : List ℕ) (pod : PodId) (place : Area) → pod_of name ≡ Some pod → is_stage place ≡ true → stands (state_after old.trace).namespace (pod_spot pod place) ≡ true →
     HasLine place pod lines ⊎ ((place ≡ Embryo) × IsBusyElsewhere old.process Embryo Exclusive (state_after old.trace))
 
+-- a line of this pod says that it was moved there
+pub record SaysMoved (pod : PodId) (to : Area) (lines : List GcLine) : Type 0 where
+  pub from : Area
+  pub has : HasLine from pod lines
+  pub moved : has.line.deed ≡ Moved to
+
+-- each line of a garbage place is of a pod that stood there before, or of which a line says that it was moved there; or it stood in
+-- embryo, and another process held that area's lock
+abbrev pub CameSo : List GcLine → ℕ → List Event → GcLine → Type 0
+CameSo lines me old line =
+    (pod : PodId) → line.pod ≡ Some pod → is_garbage_place line.place ≡ true → (stands (state_after old).namespace (pod_spot pod line.place) ≡ true)
+    ⊎ (SaysMoved pod line.place lines ⊎ ((stands (state_after old).namespace (pod_spot pod Embryo) ≡ true) × IsBusyElsewhere me Embryo Exclusive (state_after old)))
+
 -- of a pod that is called busy, another process held this lock before, of a folder at one of the pod's places
 abbrev pub BusyAsBefore : ℕ → List Event → GcLine → Type 0
 BusyAsBefore me old line = (pod : PodId) (which : Which) → line.pod ≡ Some pod → line.deed ≡ Busy which → IsHeldNow (is_pod_spot pod) which me (state_after old)
@@ -171,6 +184,7 @@ pub record SweepsSo (times : Times) (old new : DirSeen) (text : List ℕ) : Type
   pub moved : AllByRecursion (MovedAsBefore old.trace) swept.lines
   pub had : IsConforming new.trace → AllByRecursion (SweptAsBefore old.trace) swept.lines
   pub stood : AllByRecursion (StoodAsBefore old.trace) swept.lines
+  pub came : IsConforming new.trace → AllByRecursion (CameSo swept.lines old.process old.trace) swept.lines
   pub stays : IsConforming new.trace → AllByRecursion (StandsAfter new.trace) swept.lines
   pub gone : IsConforming new.trace → AllByRecursion (GoneAfter new.trace) swept.lines
   pub busy : AllByRecursion (BusyAsBefore old.process old.trace) swept.lines
