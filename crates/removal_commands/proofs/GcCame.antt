@@ -1,5 +1,5 @@
 -- Where nobody else steps, a pod that a sweep found in a garbage place stood there before, or a line says that it was moved there.
-use Rattle.std.proofs.Common.{◌≡◌, ◌⊎◌, inl, inr, ◌&&◌, ◌||◌, ◌==◌, ℕ, Bool, true, false, cond, bytes_eq, Option, Some, None, List, ◌∷◌, ◌++◌, refl, sym, ap, subst, ◌∙◌}
+use Rattle.std.proofs.Common.{◌≡◌, ◌⊎◌, inl, inr, ◌&&◌, ◌||◌, ◌==◌, ℕ, Bool, true, false, cond, bytes_eq, Option, Some, None, List, [], ◌∷◌, ◌++◌, refl, sym, ap, subst, ◌∙◌}
 use Rattle.std.specs.List.{AllByRecursion}
 use Rattle.dir_model.specs.declared.area.Area.{Area}
 use Rattle.dir_model.specs.declared.area.Area.TheVariants as area
@@ -7,17 +7,15 @@ use Rattle.dir_model.specs.declared.event.Event.{Event}
 use Rattle.dir_model.specs.declared.pod.PodId.{PodId}
 use Rattle.dir_model.specs.declared.request.Request.{Request}
 use Rattle.dir_model.specs.declared.request.Reply.{Reply}
-use Rattle.dir_model.specs.declared.spot.Mode.TheVariants.{Exclusive}
 use Rattle.dir_model.specs.Areas.{rank, is_stage}
 use Rattle.dir_model.specs.Calls.{is_kill, Extends}
-use Rattle.dir_model.specs.Pods.{pod_text}
+use Rattle.dir_model.specs.Pods.{pod_text, pod_of}
 use Rattle.dir_model.specs.Quiet.{Quiet}
 use Rattle.dir_model.specs.State.{DirState, stands}
 use Rattle.dir_model.specs.Trace.{state_after, namespace_replied}
 use Rattle.dir_model.proofs.Lists.{and_left, all_right}
 use Rattle.dir_rules.proofs.Looks.{same_bytes}
 use Rattle.dir_rules.specs.Standing.{is_of, is_garbage}
-use Rattle.area_locks.specs.AreaLocks.{IsBusyElsewhere}
 use Rattle.lifecycle.specs.declared.machine.PodState.{PodState}
 use Rattle.lifecycle.specs.declared.machine.PodState.TheVariants as state
 use Rattle.lifecycle.specs.declared.machine.Transition.{Transition}
@@ -36,16 +34,17 @@ use Rattle.pod_gc.specs.declared.line.Deed.{Deed}
 use Rattle.pod_gc.specs.declared.line.Deed.TheVariants.{Moved, Deleted, Kept, Busy, BusyGate, Left}
 use Rattle.pod_gc.specs.declared.line.GcLine.{GcLine}
 use Rattle.pod_gc.specs.Requests.{goes_to, moves_pods, sweeps}
-use Rattle.pod_gc.specs.Told.{IsTold, TellsShown}
+use Rattle.pod_gc.specs.Sweeping.{MaySweepAll}
+use Rattle.pod_gc.specs.Told.{Knew, IsTold, TellsShown, Passed, ArePassed, places}
 use Rattle.command_outcomes.specs.Meanwhile.{Meanwhile}
 use Rattle.removal_commands.specs.Gc.{Sweeps}
 use Rattle.removal_commands.specs.Quiet.{leaves_there, StandsAfter, HasLine, SaysMoved, CameSo}
 use Rattle.removal_commands.proofs.OwnSteps.{in_process, history_from, forward}
 use Rattle.removal_commands.proofs.LateTurns.{is_late, late_turn, sweeps_late}
-use Rattle.removal_commands.proofs.GcQuiet.{each_line, each_shown, moved_apart, stood_back}
-use Rattle.removal_commands.proofs.GcTells.{gc_tells}
+use Rattle.removal_commands.proofs.GcQuiet.{pod_back, shown_grown, passes_grown, each_line, each_shown, moved_apart, stood_back}
+use Rattle.removal_commands.proofs.GcTells.{and_after, taken, told_in, begun_stands, gc_tells}
 use Rattle.removal_commands.proofs.GcTurn.{stood_listed}
-use Rattle.removal_commands.proofs.GcEnds.{gc_stays}
+use Rattle.removal_commands.proofs.GcEnds.{later_leaves, finished, gc_stays}
 
 -- the garbage place to which the pod goes, or in which it is
 abbrev aim : PodState → Option Area
@@ -197,7 +196,43 @@ module _ (times : Times) (lines : List GcLine) {me : ℕ} {old new : List Event}
             let ends = line_at (StandsAfter new) lines x.before x.line x.after x.are (gc_stays times lines ext quiet m conforming) pod x.pod_is is in
             absurd (not_back there (subst (λ (p : Area). stands (state_after new).namespace (pod_spot pod p) ≡ true) x.place_is ends))
 
-  told_came : {Can : Type 0} (here : Area) → is_stage here ≡ true → (ls : List GcLine) (a b : List Event) → Grew old a → Grew b new → (t : TellsShown Can times here ls me a b) → (line : GcLine) → IsTold Can times here t.names line me t.listed b → CameSo lines me old line
+  abbrev May : Type 0
+  May = Knew (MaySweepAll times.now times.expire) m.so.from
+
+  abbrev others : List Area
+  others = area.Prepare ∷ area.Prepared ∷ area.Run ∷ area.ExitedGarbage ∷ area.Garbage ∷ []
+
+  abbrev first : ArePassed May times places lines me m.begun m.ended
+  first = m.so.swept
+
+  to_begun : Grew old m.begun
+  to_begun = record { more = m.begins.more; grown = m.begins.grown }
+
+  finish : Grew m.ended new
+  finish = record { more = m.finishes.more; grown = m.finishes.grown }
+
+  rest : Grew first.between new
+  rest = grown_more (passes_grown May times others first.others me first.between m.ended first.rest) finish
+
+  -- a pod in embryo has a line there, or stays
+  embryo_line : (name : List ℕ) (pod : PodId) → pod_of name ≡ Some pod → stands (state_after old).namespace (record { area = area.Embryo; name = name }) ≡ true
+      → HasLine area.Embryo pod lines ⊎ (stands (state_after new).namespace (record { area = area.Embryo; name = name }) ≡ true)
+  embryo_line name pod its there = by first.first (begun_stands times lines ext quiet m conforming (record { area = area.Embryo; name = name }) there)
+    where
+      by : Passed May times area.Embryo first.own me m.begun first.between → stands (state_after m.begun).namespace (record { area = area.Embryo; name = name }) ≡ true
+          → HasLine area.Embryo pod lines ⊎ (stands (state_after new).namespace (record { area = area.Embryo; name = name }) ≡ true)
+      by (inl g) begun =
+          let last = grown_more (grown_by g.gives_back) rest in
+          let locked = taken May times me old new quiet conforming name pod its area.Embryo refl m.begun g.locked g.takes_gate to_begun (grown_more (shown_grown g.tells) last) begun in
+          let line = told_in May times me old new quiet conforming name pod its area.Embryo refl g.locked g.done g.tells (grown_more to_begun (grown_by g.takes_gate)) last locked in
+          inl (subst (λ (l : List GcLine). HasLine area.Embryo pod l) (sym first.lines_are) (and_after area.Embryo pod first.own first.others line))
+      by (inr w) begun =
+          let between = taken May times me old new quiet conforming name pod its area.Embryo refl m.begun first.between w.only to_begun rest begun in
+          let r : (true ≡ true) × (false ≡ false) = (refl, refl) in
+          let ended = later_leaves times ext quiet May conforming name pod its area.Embryo refl others (r, (r, (r, (r, (r, tt))))) first.others first.between m.ended (grown_more to_begun (grown_by w.only)) finish first.rest between in
+          inr (finished times lines ext quiet m conforming area.Embryo name pod its ended)
+
+  told_came : {Can : Type 0} (here : Area) → is_stage here ≡ true → (ls : List GcLine) (a b : List Event) → Grew old a → Grew b new → (t : TellsShown Can times here ls me a b) → (line : GcLine) → IsTold Can times here t.names line me t.listed b → CameSo lines old line
   told_came {Can} here stage ls a b to_a from_b t line x pod is garbage =
       let same : x.shown ≡ pod = let e : Some x.shown ≡ Some pod = sym x.pod_is ∙ is in cc in
       let u = pod_text x.shown.bytes in
@@ -215,15 +250,19 @@ module _ (times : Times) (lines : List GcLine) {me : ℕ} {old new : List Event}
       subst (λ (p : Area). Came pod p) (sym x.place_is) (subst (λ (q : PodId). Came q here) same (by found.0 found.1.0 found.1.1 aside to_h from_h there (comes_from found.0 (pod_state u old) here placed aims)))
     where
       Came : PodId → Area → Type 0
-      Came q p = (stands (state_after old).namespace (pod_spot q p) ≡ true) ⊎ (SaysMoved q p lines ⊎ ((stands (state_after old).namespace (pod_spot q area.Embryo) ≡ true) × IsBusyElsewhere me area.Embryo Exclusive (state_after old)))
+      Came q p = (stands (state_after old).namespace (pod_spot q p) ≡ true) ⊎ SaysMoved q p lines
 
       by : (place : Area) → is_stage place ≡ true → stands (state_after old).namespace (pod_spot x.shown place) ≡ true → is_garbage_place here ≡ true → Grew old t.listed → Grew t.listed new → stands (state_after t.listed).namespace (pod_spot x.shown here) ≡ true
           → (place ≡ here) ⊎ ((moves_pods place ≡ true) × (goes_to place ≡ here)) → Came x.shown here
       by place place_stage stood aside to_h from_h there (inl e) = inl (subst (λ (p : Area). stands (state_after old).namespace (pod_spot x.shown p) ≡ true) e stood)
       by place place_stage stood aside to_h from_h there (inr y) = elim (gc_tells times lines ext quiet m conforming x.name x.shown place x.name_is place_stage stood) [
-        | inl has ↦ inr (inl (says x.shown here place aside y.0 stage place_stage t.listed to_h from_h there y.1 has))
-        | inr gate ↦ inr (inr (subst (λ (p : Area). stands (state_after old).namespace (pod_spot x.shown p) ≡ true) gate.0 stood, gate.1))
+        | inl has ↦ inr (says x.shown here place aside y.0 stage place_stage t.listed to_h from_h there y.1 has)
+        | inr gate ↦ elim (embryo_line x.name x.shown x.name_is (subst (λ (n : List ℕ). stands (state_after old).namespace (record { area = area.Embryo; name = n }) ≡ true) (pod_back x.name x.shown x.name_is) (subst (λ (p : Area). stands (state_after old).namespace (pod_spot x.shown p) ≡ true) gate.0 stood))) [
+          | inl has ↦ inr (says x.shown here place aside y.0 stage place_stage t.listed to_h from_h there y.1 (subst (λ (p : Area). HasLine p x.shown lines) (sym gate.0) has))
+          | inr ends ↦ absurd (not_back x.shown here place aside y.0 stage place_stage t.listed to_h from_h there
+              (subst (λ (p : Area). stands (state_after new).namespace (pod_spot x.shown p) ≡ true) (sym gate.0) (subst (λ (n : List ℕ). stands (state_after new).namespace (record { area = area.Embryo; name = n }) ≡ true) (sym (pod_back x.name x.shown x.name_is)) ends)))
+        ]
       ]
 
-  pub gc_came : AllByRecursion (CameSo lines me old) lines
-  gc_came = each_shown times lines ext quiet m (CameSo lines me old) (λ Can can here stage ls a b to_a from_b t line x. told_came here stage ls a b to_a from_b t line x) (λ pod is garbage. cc)
+  pub gc_came : AllByRecursion (CameSo lines old) lines
+  gc_came = each_shown times lines ext quiet m (CameSo lines old) (λ Can can here stage ls a b to_a from_b t line x. told_came here stage ls a b to_a from_b t line x) (λ pod is garbage. cc)

@@ -56,7 +56,7 @@ Differ [] = Unit {0}
 Differ (here ∷ ps) = (is_stage here ≡ true) × AllByRecursion (λ (y : Area). (is_stage y ≡ true) × ((rank here == rank y) ≡ false)) ps × Differ ps
 
 -- what stands at this place at one moment stands there at another
-abbrev Keeps : Area → List Event → List Event → Type 0
+abbrev pub Keeps : Area → List Event → List Event → Type 0
 Keeps here b c = (name : List ℕ) (pod : PodId) → pod_of name ≡ Some pod → stands (state_after b).namespace (record { area = here; name = name }) ≡ true → stands (state_after c).namespace (record { area = here; name = name }) ≡ true
 
 module _ (times : Times) {me : ℕ} {old new : List Event} (ext : Extends (in_process (sweeps times.now)) me old new) (quiet : Quiet me old new) where
@@ -93,7 +93,7 @@ module _ (times : Times) {me : ℕ} {old new : List Event} (ext : Extends (in_pr
 
   -- and over the passes that follow
   module _ (Can : Type 0) (conforming : IsConforming new) where
-    later_leaves : (name : List ℕ) (pod : PodId) (its : pod_of name ≡ Some pod) (place : Area) (stage : is_stage place ≡ true) (ps : List Area) → AllByRecursion (λ (y : Area). (is_stage y ≡ true) × ((rank place == rank y) ≡ false)) ps → (ls : List GcLine) (a b : List Event) → Grew old a → Grew b new
+    pub later_leaves : (name : List ℕ) (pod : PodId) (its : pod_of name ≡ Some pod) (place : Area) (stage : is_stage place ≡ true) (ps : List Area) → AllByRecursion (λ (y : Area). (is_stage y ≡ true) × ((rank place == rank y) ≡ false)) ps → (ls : List GcLine) (a b : List Event) → Grew old a → Grew b new
         → ArePassed Can times ps ls me a b → stands (state_after a).namespace (record { area = place; name = name }) ≡ true → stands (state_after b).namespace (record { area = place; name = name }) ≡ true
     later_leaves name pod its place stage [] apart ls a b to_a from_b x there = subst (λ (h : List Event). stands (state_after h).namespace (record { area = place; name = name }) ≡ true) (sym x.1) there
     later_leaves name pod its place stage (here ∷ ps) apart ls a b to_a from_b x there =
@@ -130,13 +130,23 @@ module _ (times : Times) {me : ℕ} {old new : List Event} (ext : Extends (in_pr
         subst (λ (l : List GcLine). AllByRecursion (StandsAfter new) l) (sym x.lines_are) (all_both (StandsAfter new) x.own x.others own (passes_leave ps differ.2 x.others x.between b to_between from_b x.rest keeps))
 
 module _ (times : Times) (lines : List GcLine) {me : ℕ} {old new : List Event} (ext : Extends (in_process (sweeps times.now)) me old new) (quiet : Quiet me old new) (m : Meanwhile (Sweeps times lines) me old new) (conforming : IsConforming new) where
+  before : Grew old m.begun
+  before = record { more = m.begins.more; grown = m.begins.grown }
+
+  after : Grew m.ended new
+  after = record { more = m.finishes.more; grown = m.finishes.grown }
+
+  swept : Grew m.begun m.ended
+  swept = passes_grown (Knew (MaySweepAll times.now times.expire) m.so.from) times places lines me m.begun m.ended m.so.swept
+
+  pub finished : (here : Area) → Keeps here m.ended new
+  finished here name pod its there =
+      let last : Grew m.ended new = record { more = m.finishes.more; grown = m.finishes.grown } in
+      forward (λ s. stands s.namespace (record { area = here; name = name }) ≡ true) is_finish me (λ s request reply h q. finish_leaves (record { area = here; name = name }) me s request reply h q) m.ended grown_none last m.finishes
+      (quiet_part quiet (grown_more before swept) last) there
+
   pub gc_stays : AllByRecursion (StandsAfter new) lines
   gc_stays =
-      let Can = Knew (MaySweepAll times.now times.expire) m.so.from in
-      let before : Grew old m.begun = record { more = m.begins.more; grown = m.begins.grown } in
-      let after : Grew m.ended new = record { more = m.finishes.more; grown = m.finishes.grown } in
-      let swept = passes_grown Can times places lines me m.begun m.ended m.so.swept in
-      let finish : (here : Area) → Keeps here m.ended new = λ here name pod its there. forward (λ s. stands s.namespace (record { area = here; name = name }) ≡ true) is_finish me
-      (λ s request reply h q. finish_leaves (record { area = here; name = name }) me s request reply h q) m.ended grown_none after m.finishes (quiet_part quiet (grown_more before swept) after) there in
       let r : (true ≡ true) × (false ≡ false) = (refl, refl) in
-      passes_leave times ext quiet Can conforming places (refl, (r, (r, (r, (r, (r, tt))))), (refl, (r, (r, (r, (r, tt)))), (refl, (r, (r, (r, tt))), (refl, (r, (r, tt)), (refl, (r, tt), (refl, tt, tt)))))) lines m.begun m.ended before after m.so.swept finish
+      passes_leave times ext quiet (Knew (MaySweepAll times.now times.expire) m.so.from) conforming places
+      (refl, (r, (r, (r, (r, (r, tt))))), (refl, (r, (r, (r, (r, tt)))), (refl, (r, (r, (r, tt))), (refl, (r, (r, tt)), (refl, (r, tt), (refl, tt, tt)))))) lines m.begun m.ended before after m.so.swept finished

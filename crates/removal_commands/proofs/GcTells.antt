@@ -182,7 +182,7 @@ shown_stands me a name names old new x own shows shown =
 more_before : (place : Area) (pod : PodId) (l : GcLine) (ls : List GcLine) → HasLine place pod ls → HasLine place pod (l ∷ ls)
 more_before place pod l ls x = record { before = l ∷ x.before; line = x.line; after = x.after; are = ap (λ (y : List GcLine). l ∷ y) x.are; place_is = x.place_is; pod_is = x.pod_is }
 
-and_after : (place : Area) (pod : PodId) (ls ms : List GcLine) → HasLine place pod ls → HasLine place pod (ls ++ ms)
+pub and_after : (place : Area) (pod : PodId) (ls ms : List GcLine) → HasLine place pod ls → HasLine place pod (ls ++ ms)
 and_after place pod ls ms x = record {
   before = x.before;
   line = x.line;
@@ -261,14 +261,14 @@ module _ (Can : Type 0) (times : Times) (me : ℕ) (old new : List Event) (quiet
           let clash : true ≡ false = sym (and_left (rank place == rank here) (bytes_eq name name) one) ∙ apart in cc
 
   -- over its own it has a line
-  told_in : {ls : List GcLine} (a b : List Event) → TellsShown Can times place ls me a b → Grew old a → Grew b new → Stood a → HasLine place pod ls
+  pub told_in : {ls : List GcLine} (a b : List Event) → TellsShown Can times place ls me a b → Grew old a → Grew b new → Stood a → HasLine place pod ls
   told_in {ls} a b t to_a rest there =
       let more = grown_more (grown_by t.tells.only) rest in
       let listed = listed_same place a t.listed t.only_lists to_a more there in
       let shown = shown_in me place name t.names a t.listed t.only_lists (own_listed place a t.listed t.only_lists to_a more) t.shows (named_stands (state_after t.listed) place name listed) in
       line_among Can times place t.names me t.listed b name pod its t.names ls t.tells.pods_are t.tells.each shown
 
-  taken : (a b : List Event) → Extends (takes area.Embryo Exclusive) me a b → Grew old a → Grew b new → Stood a → Stood b
+  pub taken : (a b : List Event) → Extends (takes area.Embryo Exclusive) me a b → Grew old a → Grew b new → Stood a → Stood b
   taken a b x to_a rest there = forward (λ s. stands s.namespace spot ≡ true) (takes area.Embryo Exclusive) me (λ s request reply h q. takes_leave spot me s request reply h q) a grown_none (grown_by x) x (part a b to_a (grown_by x) rest) there
 
   pub closed : (handle : Handle) (a b : List Event) → Extends (closes handle) me a b → Grew old a → Grew b new → Stood a → Stood b
@@ -341,7 +341,7 @@ module _ (times : Times) (lines : List GcLine) {me : ℕ} {old new : List Event}
       let g : Grew old m.begun = record { more = m.begins.more; grown = m.begins.grown } in
       record { more = m.begins.more; grown = m.begins.grown; own = own_first quiet (record { more = m.begins.more; grown = m.begins.grown }) (grown_more swept_grown finish) }
 
-  begun_stands : (spot : Spot) → stands (state_after old).namespace spot ≡ true → stands (state_after m.begun).namespace spot ≡ true
+  pub begun_stands : (spot : Spot) → stands (state_after old).namespace spot ≡ true → stands (state_after m.begun).namespace spot ≡ true
   begun_stands spot there = forward (λ s. stands s.namespace spot ≡ true) is_begin me (λ s request reply h q. begin_leaves spot me s request reply h q) old grown_none start m.begins first_quiet there
 
   module _ (name : List ℕ) (pod : PodId) (its : pod_of name ≡ Some pod) where

@@ -159,12 +159,9 @@ pub record SaysMoved (pod : PodId) (to : Area) (lines : List GcLine) : Type 0 wh
   pub has : HasLine from pod lines
   pub moved : has.line.deed ≡ Moved to
 
--- each line of a garbage place is of a pod that stood there before, or of which a line says that it was moved there; or it stood in
--- embryo, and another process held that area's lock
-abbrev pub CameSo : List GcLine → ℕ → List Event → GcLine → Type 0
-CameSo lines me old line =
-    (pod : PodId) → line.pod ≡ Some pod → is_garbage_place line.place ≡ true → (stands (state_after old).namespace (pod_spot pod line.place) ≡ true)
-    ⊎ (SaysMoved pod line.place lines ⊎ ((stands (state_after old).namespace (pod_spot pod Embryo) ≡ true) × IsBusyElsewhere me Embryo Exclusive (state_after old)))
+-- each line of a garbage place is of a pod that stood there before, or of which a line says that it was moved there
+abbrev pub CameSo : List GcLine → List Event → GcLine → Type 0
+CameSo lines old line = (pod : PodId) → line.pod ≡ Some pod → is_garbage_place line.place ≡ true → (stands (state_after old).namespace (pod_spot pod line.place) ≡ true) ⊎ SaysMoved pod line.place lines
 
 -- of a pod that is called busy, another process held this lock before, of a folder at one of the pod's places
 abbrev pub BusyAsBefore : ℕ → List Event → GcLine → Type 0
@@ -174,8 +171,9 @@ BusyAsBefore me old line = (pod : PodId) (which : Which) → line.pod ≡ Some p
 abbrev pub LeftAsBefore : List Event → GcLine → Type 0
 LeftAsBefore old line = (pod : PodId) → line.pod ≡ Some pod → line.deed ≡ Left → (line.place ≡ area.Prepared) × LacksManifest pod (state_after old)
 
--- of `gc`: its lines by its own steps, one of each pod that stood before; those of kept, moved, busy and left pods agree with the state
--- before, the deleted ones are gone, those neither moved nor deleted stand where they were, and no embryo is left
+-- of `gc`: its lines by its own steps, one of each pod that stood before, and none of others but where a pod was moved; those of kept,
+-- moved, busy and left pods agree with the state before, the deleted ones are gone, those neither moved nor deleted stand where they
+-- were, and no embryo is left
 pub record SweepsSo (times : Times) (old new : DirSeen) (text : List ℕ) : Type 0 where
   pub swept : HasSweptPods times old new text
   pub tells : IsConforming new.trace → TellsOfEach swept.lines old
@@ -184,7 +182,7 @@ pub record SweepsSo (times : Times) (old new : DirSeen) (text : List ℕ) : Type
   pub moved : AllByRecursion (MovedAsBefore old.trace) swept.lines
   pub had : IsConforming new.trace → AllByRecursion (SweptAsBefore old.trace) swept.lines
   pub stood : AllByRecursion (StoodAsBefore old.trace) swept.lines
-  pub came : IsConforming new.trace → AllByRecursion (CameSo swept.lines old.process old.trace) swept.lines
+  pub came : IsConforming new.trace → AllByRecursion (CameSo swept.lines old.trace) swept.lines
   pub stays : IsConforming new.trace → AllByRecursion (StandsAfter new.trace) swept.lines
   pub gone : IsConforming new.trace → AllByRecursion (GoneAfter new.trace) swept.lines
   pub busy : AllByRecursion (BusyAsBefore old.process old.trace) swept.lines
