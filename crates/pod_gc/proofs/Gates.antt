@@ -23,7 +23,7 @@ use Rattle.pod_steps.specs.Holding.{is_in_garbage, Keeps, KeepsReady, Stays}
 use Rattle.pod_steps.proofs.Calls.{Follows}
 use Rattle.pod_steps.proofs.Knowing.{new_number}
 use Rattle.pod_steps.proofs.Seen.{none_of_filter}
-use Rattle.pod_claim.proofs.Traces.{grown_none, grown_by}
+use Rattle.pod_claim.proofs.Traces.{grown_by}
 use Rattle.pod_gc.specs.declared.ages.Times.{Times}
 use Rattle.pod_gc.specs.declared.line.Deed.TheVariants.{BusyGate}
 use Rattle.pod_gc.specs.declared.line.GcLine.{GcLine}
@@ -33,7 +33,7 @@ use Rattle.pod_gc.specs.Sweeping.{MayPass, MaySweepAll}
 use Rattle.pod_gc.specs.Told.{Knew, TellsShown, UnderGate, WasGated, Passed, AddsShown, AddsPassed}
 use Rattle.pod_gc.proofs.Dealing.{gc_by}
 use Rattle.pod_gc.proofs.Asking.{takes_sweep, closes_sweep}
-use Rattle.pod_gc.proofs.Telling.{tells_within}
+use Rattle.pod_gc.proofs.Telling.{tells_as}
 
 pub may_lock : {now expire : ℕ} {s : Seen} → MaySweepAll now expire s → MayLock s Embryo Exclusive
 may_lock {now} {expire} {s} m = record { free = m.free; kind = gc_by expire s.standing.intent m.sweeps.sweeps }
@@ -93,7 +93,7 @@ lock_cause lock.NoMemory other rose = record { fault = λ is. cc; stray = λ is.
 shown_by : {CanA CanB : Type 0} {here : Area} {lines : List GcLine} {me other : ℕ} {old new : List Event} (times : Times) → (CanA → CanB) → other ≡ me → TellsShown CanB times here lines other old new → TellsShown CanA times here lines me old new
 shown_by {CanA} {CanB} {here} {lines} {me} {other} {old} {new} times f same s =
     let x = subst (λ (p : ℕ). TellsShown CanB times here lines p old new) same s in
-    record { names = x.names; listed = x.listed; only_lists = x.only_lists; shows = x.shows; only = x.only; tells = tells_within grown_none refl grown_none f times here x.names lines x.tells }
+    record { names = x.names; listed = x.listed; only_lists = x.only_lists; ordered = x.ordered; shows = x.shows; tells = tells_as f refl times here x.names x.listed new lines x.tells }
 
 under_by : {CanA CanB : Type 0} {lines : List GcLine} {me other : ℕ} {old new : List Event} (times : Times) → (CanA → CanB) → other ≡ me → UnderGate CanB times lines other old new → UnderGate CanA times lines me old new
 under_by {CanA} {CanB} {lines} {me} {other} {old} {new} times f same u =

@@ -1,6 +1,9 @@
 -- What the lines of a sweep say.
 use Rattle.std.specs.Prelude.{◌≡◌, ◌⊎◌, ℕ, Bool, Option, Some, None, List, [], ◌∷◌, ◌++◌, map}
 use Rattle.std.specs.List.{list_any, AllByRecursion}
+use Rattle.std.specs.List.Sorted.{IsStrictlySortedBy}
+use Rattle.std.specs.Ordering.{nat_cmp}
+use Rattle.std.specs.Cmp.Lexicographic.{slice_cmp}
 use Rattle.dir_model.specs.declared.area.Area.{Area}
 use Rattle.dir_model.specs.declared.area.Area.TheVariants.{Embryo, Prepare, Prepared, Run, ExitedGarbage, Garbage}
 use Rattle.dir_model.specs.declared.event.Event.{Event}
@@ -16,7 +19,6 @@ use Rattle.dir_trait.specs.DirCalls.{DirAt}
 use Rattle.dir_trait.specs.Knowledge.{Knows}
 use Rattle.dir_files.specs.Listed.{ShowsArea}
 use Rattle.area_locks.specs.AreaLocks.{takes, closes, IsBusy, IsBusyElsewhere}
-use Rattle.pod_claim.specs.Work.{Grew}
 use Rattle.pod_removal.specs.Causes.{IsBusyAt}
 use Rattle.pod_gc.specs.declared.ages.Times.{Times}
 use Rattle.pod_gc.specs.declared.line.Deed.TheVariants.{Busy, BusyGate}
@@ -42,31 +44,38 @@ deals_with_some now place names request = list_any (λ (pod : PodId). deals_with
 abbrev pub Knew : (Seen → Type 0) → DirAt → Type 0
 Knew May d = (s : Seen) × Knows d s × May s
 
--- the line is of this pod at this place, with what was done in its turn, one stretch of the pass, and why. Where the process may do
--- that, another one held each lock that was refused
-pub record IsTold (Can : Type 0) (times : Times) (here : Area) (line : GcLine) (me : ℕ) (old new : List Event) : Type 0 where
+-- the line is of this pod at this place, with what was done in its turn, one stretch of the pass, and why: before its turn the pods that
+-- stand before it among the names were dealt with, and after it those after it. Where the process may do that, another one held each
+-- lock that was refused
+pub record IsTold (Can : Type 0) (times : Times) (here : Area) (names : List (List ℕ)) (line : GcLine) (me : ℕ) (old new : List Event) : Type 0 where
   pub shown : PodId
   pub pod_is : line.pod ≡ Some shown
   pub place_is : line.place ≡ here
+  pub earlier : List (List ℕ)
+  pub name : List ℕ
+  pub later : List (List ℕ)
+  pub names_are : names ≡ earlier ++ name ∷ later
+  pub name_is : pod_of name ≡ Some shown
   pub from : List Event
   pub upto : List Event
-  pub first : Grew old from
+  pub first : Extends (deals_with_some times.now here earlier) me old from
   pub dealt : Dealt times shown here line.deed me from upto
-  pub last : Grew upto new
+  pub last : Extends (deals_with_some times.now here later) me upto new
   pub another : Can → (which : Which) → line.deed ≡ Busy which → IsBusyAt shown which me old new
 
--- the lines are one for each pod among the names, in that order
+-- the lines are one for each pod among the names, in that order, and nothing was asked for but what deals with these
 pub record TellsEach (Can : Type 0) (times : Times) (here : Area) (names : List (List ℕ)) (lines : List GcLine) (me : ℕ) (old new : List Event) : Type 0 where
   pub pods_are : map (λ (l : GcLine). l.pod) lines ≡ map (λ (p : PodId). Some p) (pods_of names)
-  pub each : AllByRecursion (λ (l : GcLine). IsTold Can times here l me old new) lines
+  pub each : AllByRecursion (λ (l : GcLine). IsTold Can times here names l me old new) lines
+  pub only : Extends (deals_with_some times.now here names) me old new
 
--- the area was listed, and then each pod that this showed was dealt with and has its line. Nothing else was asked for
+-- the area was listed, each name once and in byte order, and then each pod that this showed was dealt with and has its line
 pub record TellsShown (Can : Type 0) (times : Times) (here : Area) (lines : List GcLine) (me : ℕ) (old new : List Event) : Type 0 where
   pub names : List (List ℕ)
   pub listed : List Event
   pub only_lists : Extends (lists here) me old listed
+  pub ordered : IsStrictlySortedBy (slice_cmp nat_cmp) names
   pub shows : ShowsArea me old listed here names
-  pub only : Extends (deals_with_some times.now here names) me listed new
   pub tells : TellsEach Can times here names lines me listed new
 
 -- that in embryo, with its lock taken before and given up after

@@ -29,7 +29,7 @@ use Rattle.lifecycle.proofs.Phases.{enabled_each, stands_exists}
 use Rattle.lifecycle.proofs.Step.{stands_from}
 use Rattle.phase_read.specs.Read.{pod_spot}
 use Rattle.pod_claim.specs.Work.{Grew}
-use Rattle.pod_claim.proofs.Traces.{grown_more}
+use Rattle.pod_claim.proofs.Traces.{grown_more, grown_by}
 use Rattle.pod_steps.specs.Causes.{Did}
 use Rattle.pod_gc.specs.declared.ages.Times.{Times}
 use Rattle.pod_gc.specs.declared.line.GcLine.{GcLine}
@@ -176,29 +176,29 @@ module _ (times : Times) (lines : List GcLine) {me : ℕ} {old new : List Event}
         | inr held ↦ absurd (owns_nothing u me old before idle (held_owner me (pod_state u old) held))
       ]
 
-  told_swept : {Can : Type 0} {here : Area} (a b : List Event) → Grew old a → Grew b new → (line : GcLine) → IsTold Can times here line me a b → SweptAsBefore old line
-  told_swept {Can} {here} a b to_a from_b line x pod to is deed =
+  told_swept : {Can : Type 0} {here : Area} {names : List (List ℕ)} (a b : List Event) → Grew old a → Grew b new → (line : GcLine) → IsTold Can times here names line me a b → SweptAsBefore old line
+  told_swept {Can} {here} {names} a b to_a from_b line x pod to is deed =
       let same : x.shown ≡ pod = let e : Some x.shown ≡ Some pod = sym x.pod_is ∙ is in cc in
       let c = x.dealt.cause.moved to deed in
-      let last = grown_more x.last from_b in
+      let last = grown_more (grown_by x.last) from_b in
       let did = subst (λ (t : Area). Did (MoveFolder (pod_spot x.shown here) (pod_spot x.shown t)) Done me x.from x.upto) c.1 c.2 in
       let y = moved_then x.shown here me x.from x.upto c.0 did (conforming_left x.upto last.more (subst IsConforming last.grown conforming)) in
-      let has = had x.shown (swept_phase here) (swept_is here) y.at (grown_more to_a (grown_more x.first y.first)) (grown_more y.last last) y.has in
+      let has = had x.shown (swept_phase here) (swept_is here) y.at (grown_more to_a (grown_more (grown_by x.first) y.first)) (grown_more y.last last) y.has in
       has_phase_now pod old before (swept_phase line.place)
       (subst (λ (a : Area). phase_of_state (pod_state (pod_text pod.bytes) old) ≡ Some (swept_phase a)) (sym x.place_is) (subst (λ (q : PodId). phase_of_state (pod_state (pod_text q.bytes) old) ≡ Some (swept_phase here)) same has))
 
-  told_gone : {Can : Type 0} {here : Area} (a b : List Event) → Grew b new → (line : GcLine) → IsTold Can times here line me a b → GoneAfter new line
-  told_gone {Can} {here} a b from_b line x pod is deed =
+  told_gone : {Can : Type 0} {here : Area} {names : List (List ℕ)} (a b : List Event) → Grew b new → (line : GcLine) → IsTold Can times here names line me a b → GoneAfter new line
+  told_gone {Can} {here} {names} a b from_b line x pod is deed =
       let same : x.shown ≡ pod = let e : Some x.shown ≡ Some pod = sym x.pod_is ∙ is in cc in
       let u = pod_text x.shown.bytes in
       let c = x.dealt.cause.deleted deed in
-      let last = grown_more x.last from_b in
+      let last = grown_more (grown_by x.last) from_b in
       let its : is_of u (pod_spot x.shown here) ≡ true = ap (λ b. b && bytes_eq u u) (garbage_stage here c.0) ∙ same_bytes u in
       let gone = gone_after u x.upto new last (did_remove u (pod_spot x.shown here) me x.from x.upto its c.1 (conforming_left x.upto last.more (subst IsConforming last.grown conforming))) in
       subst (λ (p : PodId). IsGoneForGood p new) same (record { is = gone; nowhere = gone_nowhere x.shown new conforming gone })
 
   pub gc_gone : AllByRecursion (GoneAfter new) lines
-  gc_gone = each_line times lines ext quiet m (GoneAfter new) (λ Can can here a b to_a from_b line x. told_gone a b from_b line x) (λ pod is deed. cc)
+  gc_gone = each_line times lines ext quiet m (GoneAfter new) (λ Can can here names a b to_a from_b line x. told_gone a b from_b line x) (λ pod is deed. cc)
 
   pub gc_had : AllByRecursion (SweptAsBefore old) lines
-  gc_had = each_line times lines ext quiet m (SweptAsBefore old) (λ Can can here a b to_a from_b line x. told_swept a b to_a from_b line x) (λ pod to is deed. cc)
+  gc_had = each_line times lines ext quiet m (SweptAsBefore old) (λ Can can here names a b to_a from_b line x. told_swept a b to_a from_b line x) (λ pod to is deed. cc)

@@ -1,7 +1,6 @@
 -- What `gc` comes to where nobody else steps.
-use Rattle.std.proofs.Common.{◌≡◌, ◌⊎◌, inl, inr, ◌+◌, ℕ, Bool, true, false, ◌&&◌, ◌||◌, ◌==◌, cond, bytes_eq, option_map, map, Option, Some, None, is_some, nat_le, List, [], ◌∷◌, ◌++◌, append-nil, append_assoc, refl, sym, ap, subst, ◌∙◌}
+use Rattle.std.proofs.Common.{◌≡◌, ◌⊎◌, inl, inr, ◌+◌, ℕ, Bool, true, false, ◌&&◌, ◌||◌, ◌==◌, cond, bytes_eq, option_map, map, Option, Some, None, is_some, List, [], ◌∷◌, ◌++◌, append-nil, append_assoc, refl, sym, ap, subst, ◌∙◌}
 use Rattle.std.specs.List.{list_any, position_from, cons_option, AllByRecursion}
-use Rattle.std.proofs.lemmas.Bool.{eqb-true}
 use Rattle.std.proofs.lemmas.Iterator.Adapters.{position_from-zero}
 use Rattle.std.proofs.lemmas.Slice.Eq.{bytes_eq-Decides}
 use Rattle.dir_model.specs.declared.area.Area.{Area}
@@ -16,7 +15,7 @@ use Rattle.dir_model.specs.declared.request.Request.{Request}
 use Rattle.dir_model.specs.declared.request.Request.TheVariants.{MakeFolder, MoveFolder, RemoveFolder, ListArea}
 use Rattle.dir_model.specs.declared.request.Reply.{Reply}
 use Rattle.dir_model.specs.declared.request.Reply.TheVariants.{Done, Names}
-use Rattle.dir_model.specs.Areas.{rank}
+use Rattle.dir_model.specs.Areas.{rank, is_stage}
 use Rattle.dir_model.specs.Calls.{event, is_kill, is_foreign, may_step, CallStep, TookPlace, LeftNothing, Extends}
 use Rattle.dir_model.specs.Listings.{has_name}
 use Rattle.dir_model.specs.Pods.{pod_text, pod_of, is_pod_text, bytes_read}
@@ -27,7 +26,7 @@ use Rattle.dir_model.specs.Trees.{names_in}
 use Rattle.dir_model.proofs.Chains.{states_next-append, state_after-push}
 use Rattle.dir_model.proofs.Hex.{parsed_back}
 use Rattle.dir_model.proofs.PodTexts.{passes_text}
-use Rattle.dir_model.proofs.Lists.{and_left, and_right, or_left_false, or_right_false, all_both, all_right, all_weaker, same_rest}
+use Rattle.dir_model.proofs.Lists.{and_right, or_left_false, or_right_false, all_both, all_right, all_weaker, same_rest}
 use Rattle.dir_rules.proofs.Looks.{same_bytes}
 use Rattle.dir_rules.specs.Standing.{is_garbage}
 use Rattle.dir_laws.specs.Stretches.{Throughout, StandsInArea}
@@ -56,10 +55,9 @@ use Rattle.pod_gc.specs.Sweeping.{MaySweepAll}
 use Rattle.pod_gc.specs.Told.{Knew, and_pod, pods_of, IsTold, TellsShown, UnderGate, Passed, ArePassed, places}
 use Rattle.command_outcomes.specs.Meanwhile.{Meanwhile}
 use Rattle.removal_commands.specs.Gc.{Sweeps}
-use Rattle.removal_commands.specs.Quiet.{is_lasting_phase, KeptAsBefore, MovedAsBefore, BusyAsBefore, is_pods_place}
+use Rattle.removal_commands.specs.Quiet.{is_lasting_phase, KeptAsBefore, MovedAsBefore}
 use Rattle.removal_commands.proofs.OwnSteps.{in_process, back_from, own_asked, quiet_part, own_first, forward, at_process, same_folders, held_before}
-use Rattle.removal_commands.proofs.LateTurns.{is_lasting, lasting_back, sweeps_late, gc_moves, embryo_apart, or_false}
-use Rattle.removal_commands.proofs.Held.{was_held}
+use Rattle.removal_commands.proofs.LateTurns.{is_lasting, lasting_back, sweeps_late, embryo_apart, or_false}
 use Rattle.removal_commands.proofs.RmBefore.{event_weaker, has_phase_now}
 
 -- names and pods
@@ -223,15 +221,15 @@ shown_in me a name names old new x own shows at =
 -- after the pass over embryo none stands there
 module _ (Can : Type 0) (times : Times) (lines : List GcLine) (me : ℕ) (locked done : List Event) (t : TellsShown Can times area.Embryo lines me locked done) (quiet : Quiet me locked done) (name : List ℕ) (pod : PodId) (its : pod_of name ≡ Some pod) where
   to_done : Grew t.listed done
-  to_done = grown_by t.only
+  to_done = grown_by t.tells.only
 
   by_line : has_name t.names name ≡ true → NoneSince name t.listed done
   by_line shown =
-      let x = line_of (λ l. IsTold Can times area.Embryo l me t.listed done) name pod its t.names lines t.tells.pods_are t.tells.each shown in
+      let x = line_of (λ l. IsTold Can times area.Embryo t.names l me t.listed done) name pod its t.names lines t.tells.pods_are t.tells.each shown in
       let l = x.1 in
       let same : l.shown ≡ pod = let e : Some l.shown ≡ Some pod = sym l.pod_is ∙ x.2 in cc in
       let y = deed_leaves times l.shown x.0.deed me l.from l.upto l.dealt in
-      subst (λ (n : List ℕ). NoneSince n t.listed done) (ap (λ (p : PodId). pod_text p.bytes) same ∙ pod_back name pod its) (record { at = y.at; first = grown_more l.first y.first; last = grown_more y.last l.last; none = y.none })
+      subst (λ (n : List ℕ). NoneSince n t.listed done) (ap (λ (p : PodId). pod_text p.bytes) same ∙ pod_back name pod its) (record { at = y.at; first = grown_more (grown_by l.first) y.first; last = grown_more y.last (grown_by l.last); none = y.none })
 
   none_since : NoneSince name t.listed done
   none_since = by (has_name (names_in area.Embryo (state_after t.listed).namespace.folders) name) refl
@@ -247,7 +245,7 @@ module _ (Can : Type 0) (times : Times) (lines : List GcLine) (me : ℕ) (locked
 
 -- no folder comes to a place from which a pass moves pods
 
-moved_apart : (place a : Area) → moves_pods place ≡ true → is_garbage a ≡ true → (rank a == rank place) ≡ false
+pub moved_apart : (place a : Area) → moves_pods place ≡ true → is_garbage a ≡ true → (rank a == rank place) ≡ false
 moved_apart area.Embryo a moves is = embryo_apart a is
 moved_apart area.Prepare area.ExitedGarbage moves is = refl
 moved_apart area.Prepare area.Garbage moves is = refl
@@ -264,7 +262,7 @@ module _ (now : ℕ) (pod : PodId) (place : Area) (moves : moves_pods place ≡ 
   abbrev its_place : Spot
   its_place = pod_spot pod place
 
-  stood_back : (s : DirState) (request : Request) (reply : Reply) → (is_kill request || in_process (sweeps now) request) ≡ true → stands (namespace_replied s.namespace me request reply) its_place ≡ true → stands s.namespace its_place ≡ true
+  pub stood_back : (s : DirState) (request : Request) (reply : Reply) → (is_kill request || in_process (sweeps now) request) ≡ true → stands (namespace_replied s.namespace me request reply) its_place ≡ true → stands s.namespace its_place ≡ true
   stood_back s (MakeFolder here) reply h there = cc
   stood_back s (MoveFolder from to) Done h there = by (spot_eq from its_place) refl
     where
@@ -303,14 +301,10 @@ stood_moved pod place to me old new did = by s.own
       (stands_from (state_after s.before) me (pod_spot pod place) (pod_spot pod to) (and_right (may_step (state_after s.before) me (MoveFolder (pod_spot pod place) (pod_spot pod to))) _ took.allowed)).0,
     )
 
--- one location is in one area
-pods_alike : (a b : Spot) → spot_eq a b ≡ true → is_pods_place a ≡ is_pods_place b
-pods_alike a b same = ap (λ (n : ℕ). nat_le n 5) (eqb-true (rank a.area) (rank b.area) (and_left (rank a.area == rank b.area) (bytes_eq a.name b.name) same))
-
 -- how far the trace has grown
 
 pub shown_grown : {Can : Type 0} {times : Times} {here : Area} {lines : List GcLine} {me : ℕ} {a b : List Event} → TellsShown Can times here lines me a b → Grew a b
-shown_grown t = grown_more (grown_by t.only_lists) (grown_by t.only)
+shown_grown t = grown_more (grown_by t.only_lists) (grown_by t.tells.only)
 
 pub under_grown : {Can : Type 0} {times : Times} {lines : List GcLine} {me : ℕ} {a b : List Event} → UnderGate Can times lines me a b → Grew a b
 under_grown x = grown_more (grown_by x.takes_gate) (grown_more (shown_grown x.tells) (grown_by x.gives_back))
@@ -357,46 +351,44 @@ module _ (times : Times) (lines : List GcLine) {me : ℕ} {old new : List Event}
       embryos_left x.between (passes_grown (Knew (MaySweepAll times.now times.expire) m.so.from) times later_places x.others me x.between m.ended x.rest) x.first m.so.can
 
   -- a pod that was moved stood there before
-  told_moved : {Can : Type 0} {here : Area} (a b : List Event) → Grew old a → Grew b new → (line : GcLine) → IsTold Can times here line me a b → MovedAsBefore old line
-  told_moved {Can} {here} a b to_a from_b line x pod to is deed =
+  told_moved : {Can : Type 0} {here : Area} {names : List (List ℕ)} (a b : List Event) → Grew old a → Grew b new → (line : GcLine) → IsTold Can times here names line me a b → MovedAsBefore old line
+  told_moved {Can} {here} {names} a b to_a from_b line x pod to is deed =
       let same : x.shown ≡ pod = let e : Some x.shown ≡ Some pod = sym x.pod_is ∙ is in cc in
       let c = x.dealt.cause.moved to deed in
       let y = stood_moved x.shown here to me x.from x.upto c.2 in
       let stood = back_from (λ s. stands s.namespace (pod_spot x.shown here) ≡ true) asks me (λ s request reply h there. stood_back times.now x.shown here c.0 me s request reply h there) y.0
-      (grown_more to_a (grown_more x.first y.1)) (grown_more y.2 (grown_more x.last from_b)) ext quiet y.3 in
+      (grown_more to_a (grown_more (grown_by x.first) y.1)) (grown_more y.2 (grown_more (grown_by x.last) from_b)) ext quiet y.3 in
       subst (λ (p : Area). stands (state_after old).namespace (pod_spot pod p) ≡ true) (sym x.place_is) (subst (λ (q : PodId). stands (state_after old).namespace (pod_spot q here) ≡ true) same stood)
 
   -- of each line
-  module _ (P : GcLine → Type 0) (told : (Can : Type 0) (can : Can) (here : Area) (a b : List Event) → Grew old a → Grew b new → (line : GcLine) → IsTold Can times here line me a b → P line) (gated : P (record { place = area.Embryo; pod = None; deed = BusyGate })) where
-    shown_each : {Can : Type 0} {here : Area} (can : Can) (ls : List GcLine) (a b : List Event) → Grew old a → Grew b new → TellsShown Can times here ls me a b → AllByRecursion P ls
-    shown_each {Can} {here} can ls a b to_a from_b t = all_weaker (λ l. IsTold Can times here l me t.listed b) P (λ l x. told Can can here t.listed b (grown_more to_a (grown_by t.only_lists)) from_b l x) ls t.tells.each
+  module _ (P : GcLine → Type 0)
+      (told : (Can : Type 0) (can : Can) (here : Area) → is_stage here ≡ true → (ls : List GcLine) (a b : List Event) → Grew old a → Grew b new → (t : TellsShown Can times here ls me a b) → (line : GcLine) → IsTold Can times here t.names line me t.listed b → P line)
+      (gated : P (record { place = area.Embryo; pod = None; deed = BusyGate })) where
+    shown_each : {Can : Type 0} (can : Can) (here : Area) → is_stage here ≡ true → (ls : List GcLine) (a b : List Event) → Grew old a → Grew b new → TellsShown Can times here ls me a b → AllByRecursion P ls
+    shown_each {Can} can here stage ls a b to_a from_b t = all_weaker (λ l. IsTold Can times here t.names l me t.listed b) P (λ l x. told Can can here stage ls a b to_a from_b t l x) ls t.tells.each
 
-    passed_each : (Can : Type 0) (can : Can) (here : Area) (ls : List GcLine) (a b : List Event) → Grew old a → Grew b new → Passed Can times here ls me a b → AllByRecursion P ls
-    passed_each Can can area.Embryo ls a b to_a from_b (inl g) = shown_each can ls g.locked g.done (grown_more to_a (grown_by g.takes_gate)) (grown_more (grown_by g.gives_back) from_b) g.tells
-    passed_each Can can area.Embryo ls a b to_a from_b (inr w) = subst (λ (l : List GcLine). AllByRecursion P l) (sym w.line_is) (gated, tt)
-    passed_each Can can here ls a b to_a from_b t = shown_each can ls a b to_a from_b t
+    passed_each : (Can : Type 0) (can : Can) (here : Area) → is_stage here ≡ true → (ls : List GcLine) (a b : List Event) → Grew old a → Grew b new → Passed Can times here ls me a b → AllByRecursion P ls
+    passed_each Can can area.Embryo stage ls a b to_a from_b (inl g) = shown_each can area.Embryo stage ls g.locked g.done (grown_more to_a (grown_by g.takes_gate)) (grown_more (grown_by g.gives_back) from_b) g.tells
+    passed_each Can can area.Embryo stage ls a b to_a from_b (inr w) = subst (λ (l : List GcLine). AllByRecursion P l) (sym w.line_is) (gated, tt)
+    passed_each Can can here stage ls a b to_a from_b t = shown_each can here stage ls a b to_a from_b t
 
-    passes_each : (Can : Type 0) (can : Can) (ps : List Area) (ls : List GcLine) (a b : List Event) → Grew old a → Grew b new → ArePassed Can times ps ls me a b → AllByRecursion P ls
-    passes_each Can can [] ls a b to_a from_b x = subst (λ (l : List GcLine). AllByRecursion P l) (sym x.0) tt
-    passes_each Can can (here ∷ ps) ls a b to_a from_b x =
+    passes_each : (Can : Type 0) (can : Can) (ps : List Area) → AllByRecursion (λ (p : Area). is_stage p ≡ true) ps → (ls : List GcLine) (a b : List Event) → Grew old a → Grew b new → ArePassed Can times ps ls me a b → AllByRecursion P ls
+    passes_each Can can [] stages ls a b to_a from_b x = subst (λ (l : List GcLine). AllByRecursion P l) (sym x.0) tt
+    passes_each Can can (here ∷ ps) stages ls a b to_a from_b x =
         let rest = passes_grown Can times ps x.others me x.between b x.rest in
         let first = passed_grown Can times here x.own me a x.between x.first in
         subst (λ (l : List GcLine). AllByRecursion P l) (sym x.lines_are)
-        (all_both P x.own x.others (passed_each Can can here x.own a x.between to_a (grown_more rest from_b) x.first) (passes_each Can can ps x.others x.between b (grown_more to_a first) from_b x.rest))
+        (all_both P x.own x.others (passed_each Can can here stages.0 x.own a x.between to_a (grown_more rest from_b) x.first) (passes_each Can can ps stages.1 x.others x.between b (grown_more to_a first) from_b x.rest))
 
-    pub each_line : AllByRecursion P lines
-    each_line = passes_each (Knew (MaySweepAll times.now times.expire) m.so.from) m.so.can places lines m.begun m.ended before after m.so.swept
+    pub each_shown : AllByRecursion P lines
+    each_shown = passes_each (Knew (MaySweepAll times.now times.expire) m.so.from) m.so.can places (refl, (refl, (refl, (refl, (refl, (refl, tt)))))) lines m.begun m.ended before after m.so.swept
 
-  -- of a busy lock another process held one before
-  told_busy : {Can : Type 0} {here : Area} (a b : List Event) → Can → Grew old a → Grew b new → (line : GcLine) → IsTold Can times here line me a b → BusyAsBefore me old line
-  told_busy {Can} {here} a b can to_a from_b line x which deed =
-      was_held is_pods_place pods_alike (sweeps times.now) (sweeps_late times.now) (gc_moves times.now) me x.shown (λ p stage. stage) which old a b new to_a from_b ext quiet (x.another can which deed)
-
-  pub gc_busy : AllByRecursion (BusyAsBefore me old) lines
-  gc_busy = each_line (BusyAsBefore me old) (λ Can can here a b to_a from_b line x. told_busy a b can to_a from_b line x) (λ which deed. cc)
+  pub each_line : (P : GcLine → Type 0) → ((Can : Type 0) (can : Can) (here : Area) (names : List (List ℕ)) (a b : List Event) → Grew old a → Grew b new → (line : GcLine) → IsTold Can times here names line me a b → P line)
+      → P (record { place = area.Embryo; pod = None; deed = BusyGate }) → AllByRecursion P lines
+  each_line P told gated = each_shown P (λ Can can here stage ls a b to_a from_b t line x. told Can can here t.names t.listed b (grown_more to_a (grown_by t.only_lists)) from_b line x) gated
 
   pub gc_moved : AllByRecursion (MovedAsBefore old) lines
-  gc_moved = each_line (MovedAsBefore old) (λ Can can here a b to_a from_b line x. told_moved a b to_a from_b line x) (λ pod to is deed. cc)
+  gc_moved = each_line (MovedAsBefore old) (λ Can can here names a b to_a from_b line x. told_moved a b to_a from_b line x) (λ pod to is deed. cc)
 
   -- a pod that is kept for being made, for waiting or for running
   module _ (conforming : IsConforming new) where
@@ -416,11 +408,11 @@ module _ (times : Times) (lines : List GcLine) {me : ℕ} {old new : List Event}
     lasting_of p lasts (state.Deleting owner from) is = let same : kind.Deleting ≡ p = cc in let clash : false ≡ true = ap is_lasting_phase same ∙ lasts in cc
     lasting_of p lasts state.Gone is = cc
 
-    told_kept : {Can : Type 0} {here : Area} (a b : List Event) → Grew old a → Grew b new → (line : GcLine) → IsTold Can times here line me a b → KeptAsBefore old line
-    told_kept {Can} {here} a b to_a from_b line x pod p is deed lasts =
+    told_kept : {Can : Type 0} {here : Area} {names : List (List ℕ)} (a b : List Event) → Grew old a → Grew b new → (line : GcLine) → IsTold Can times here names line me a b → KeptAsBefore old line
+    told_kept {Can} {here} {names} a b to_a from_b line x pod p is deed lasts =
         let same : x.shown ≡ pod = let e : Some x.shown ≡ Some pod = sym x.pod_is ∙ is in cc in
-        let first = grown_more to_a x.first in
-        let last = grown_more x.last from_b in
+        let first = grown_more to_a (grown_by x.first) in
+        let last = grown_more (grown_by x.last) from_b in
         let at = (x.dealt.cause.kept p deed).1 (before_new x.upto last) in
         let u = pod_text x.shown.bytes in
         let moment = event_within first.more last.more first.grown last.grown (event_weaker (λ h. (phase_of_state (pod_state u h) ≡ Some p) × (is_lasting me (pod_state u h) ≡ true)) (λ h y. (y.is, lasting_of p lasts (pod_state u h) y.is)) at) in
@@ -428,4 +420,4 @@ module _ (times : Times) (lines : List GcLine) {me : ℕ} {old new : List Event}
         has_phase_now pod old (conforming_left old quiet.more (subst IsConforming quiet.grown conforming)) p (subst (λ (q : PodId). phase_of_state (pod_state (pod_text q.bytes) old) ≡ Some p) same had)
 
     pub gc_kept : AllByRecursion (KeptAsBefore old) lines
-    gc_kept = each_line (KeptAsBefore old) (λ Can can here a b to_a from_b line x. told_kept a b to_a from_b line x) (λ pod p is deed lasts. cc)
+    gc_kept = each_line (KeptAsBefore old) (λ Can can here names a b to_a from_b line x. told_kept a b to_a from_b line x) (λ pod p is deed lasts. cc)

@@ -68,7 +68,7 @@ any_from t i (x ∷ xs) found = by (t x) found (λ h. any_from t (i + 1) xs h)
     by true h go = refl
     by false h go = go h
 
-stands_named : (s : DirState) (a : Area) (name : List ℕ) → StandsInArea a name s → stands s.namespace (record { area = a; name = name }) ≡ true
+pub stands_named : (s : DirState) (a : Area) (name : List ℕ) → StandsInArea a name s → stands s.namespace (record { area = a; name = name }) ≡ true
 stands_named s a name at =
     let spot : Spot = record { area = a; name = name } in
     ap (λ (o : Option ℕ). is_some o) (position_from-zero (is_at spot) s.namespace.folders) ∙ found_from (is_at spot) 0 s.namespace.folders (sym (named_at a name s.namespace.folders) ∙ at)
@@ -83,7 +83,7 @@ named_stands s a name there =
 named_by : (n name : List ℕ) (p : PodId) (ns : List (List ℕ)) → pod_of n ≡ Some p → pod_text p.bytes ≡ name → has_name (n ∷ ns) name ≡ true
 named_by n name p ns is same = ap (λ b. b || has_name ns name) (subst (λ (x : List ℕ). bytes_eq n x ≡ true) (sym (pod_back n p is) ∙ same) (same_bytes n))
 
-same_text : (a b : List ℕ) → bytes_eq a b ≡ true → a ≡ b
+pub same_text : (a b : List ℕ) → bytes_eq a b ≡ true → a ≡ b
 same_text a b is = (bytes_eq-Decides a b).0 is
 
 moves_named : (p : PodId) (a b : Area) (from to : Spot) → moves p a b (MoveFolder from to) ≡ true → (pod_text p.bytes ≡ from.name) × (pod_text p.bytes ≡ to.name)
@@ -94,7 +94,7 @@ moves_named p a b from to is =
       same_text (pod_text p.bytes) to.name (and_right (rank b == rank to.area) (bytes_eq (pod_text p.bytes) to.name) (and_right f t is)),
     )
 
-deals_moves : (p : PodId) (now : ℕ) (here : Area) (from to : Spot) → deals_with p now here (MoveFolder from to) ≡ true → (pod_text p.bytes ≡ from.name) × (pod_text p.bytes ≡ to.name)
+pub deals_moves : (p : PodId) (now : ℕ) (here : Area) (from to : Spot) → deals_with p now here (MoveFolder from to) ≡ true → (pod_text p.bytes ≡ from.name) × (pod_text p.bytes ≡ to.name)
 deals_moves p now here from to is = elim (or_either (moves p area.Embryo area.Garbage (MoveFolder from to)) _ is) [
   | inl x ↦ moves_named p area.Embryo area.Garbage from to x
   | inr y ↦ elim (or_either (moves p area.Prepare area.Garbage (MoveFolder from to)) _ y) [
@@ -133,7 +133,7 @@ module _ (now : ℕ) (here : Area) (stage : is_stage here ≡ true) (names : Lis
           let same = same_text other.name spot.name (and_right (rank other.area == rank spot.area) (bytes_eq other.name spot.name) is) in
           let clash : true ≡ false = sym shown ∙ (ap (has_name names) same ∙ unshown) in cc
 
-  stays : (s : DirState) (request : Request) (reply : Reply) → (is_kill request || asks request) ≡ true → stands s.namespace spot ≡ true → stands (namespace_replied s.namespace me request reply) spot ≡ true
+  pub stays : (s : DirState) (request : Request) (reply : Reply) → (is_kill request || asks request) ≡ true → stands s.namespace spot ≡ true → stands (namespace_replied s.namespace me request reply) spot ≡ true
   stays s (MakeFolder new) reply h there = let clash : false ≡ true = some_sweep now here names stage (MakeFolder new) h in cc
   stays s (MoveFolder from to) Done h there =
       let f = apart from (among now here (MoveFolder from to) from.name (λ p is. (deals_moves p now here from to is).0) names h) in
@@ -167,7 +167,7 @@ sometime_same a name s (e ∷ es) rest leave (inl at) = at
 sometime_same a name s (e ∷ es) rest leave (inr at) =
     subst (λ (fs : List (Option Spot)). has_name (names_in a fs) name ≡ true) (leave.0 e.process s.namespace) (sometime_same a name (state_next s e) es rest leave.1 at)
 
-shown_stands : (me : ℕ) (a : Area) (name : List ℕ) (names : List (List ℕ)) (old new : List Event) (x : Extends (lists a) me old new) → AllByRecursion (λ e. e.process ≡ me) x.more → ShowsArea me old new a names → has_name names name ≡ true → StandsInArea a name (state_after new)
+pub shown_stands : (me : ℕ) (a : Area) (name : List ℕ) (names : List (List ℕ)) (old new : List Event) (x : Extends (lists a) me old new) → AllByRecursion (λ e. e.process ≡ me) x.more → ShowsArea me old new a names → has_name names name ≡ true → StandsInArea a name (state_after new)
 shown_stands me a name names old new x own shows shown =
     let t = shows.stretch in
     let last = event me (ListArea a) (Names names) in
@@ -182,7 +182,7 @@ shown_stands me a name names old new x own shows shown =
 more_before : (place : Area) (pod : PodId) (l : GcLine) (ls : List GcLine) → HasLine place pod ls → HasLine place pod (l ∷ ls)
 more_before place pod l ls x = record { before = l ∷ x.before; line = x.line; after = x.after; are = ap (λ (y : List GcLine). l ∷ y) x.are; place_is = x.place_is; pod_is = x.pod_is }
 
-and_after : (place : Area) (pod : PodId) (ls ms : List GcLine) → HasLine place pod ls → HasLine place pod (ls ++ ms)
+pub and_after : (place : Area) (pod : PodId) (ls ms : List GcLine) → HasLine place pod ls → HasLine place pod (ls ++ ms)
 and_after place pod ls ms x = record {
   before = x.before;
   line = x.line;
@@ -196,9 +196,9 @@ and_before : (place : Area) (pod : PodId) (ls ms : List GcLine) → HasLine plac
 and_before place pod [] ms x = x
 and_before place pod (l ∷ ls) ms x = more_before place pod l (ls ++ ms) (and_before place pod ls ms x)
 
-module _ (Can : Type 0) (times : Times) (place : Area) (me : ℕ) (a b : List Event) (name : List ℕ) (pod : PodId) (its : pod_of name ≡ Some pod) where
+module _ (Can : Type 0) (times : Times) (place : Area) (whole : List (List ℕ)) (me : ℕ) (a b : List Event) (name : List ℕ) (pod : PodId) (its : pod_of name ≡ Some pod) where
   abbrev Told : GcLine → Type 0
-  Told l = IsTold Can times place l me a b
+  Told l = IsTold Can times place whole l me a b
 
   line_among : (names : List (List ℕ)) (lines : List GcLine) → map (λ (l : GcLine). l.pod) lines ≡ map (λ (p : PodId). Some p) (pods_of names) → AllByRecursion Told lines → has_name names name ≡ true → HasLine place pod lines
   line_among [] lines are all shown = cc
@@ -246,35 +246,35 @@ module _ (Can : Type 0) (times : Times) (me : ℕ) (old new : List Event) (quiet
   stays_over : {here : Area} {ls : List GcLine} (a b : List Event) → is_stage here ≡ true → (rank place == rank here) ≡ false → TellsShown Can times here ls me a b → Grew old a → Grew b new → Stood a → Stood b
   stays_over {here} a b here_stage apart t to_a rest there =
       let to_listed = grown_by t.only_lists in
-      let to_end = grown_by t.only in
+      let to_end = grown_by t.tells.only in
       let listed = listed_same here a t.listed t.only_lists to_a (grown_more to_end rest) there in
       let unshown : has_name t.names name ≡ false = by (has_name t.names name) refl listed in
       forward (λ s. stands s.namespace spot ≡ true) (deals_with_some times.now here t.names) me (λ s request reply h q. stays times.now here here_stage t.names spot unshown me s request reply h q) t.listed
-      grown_none to_end t.only (part t.listed b (grown_more to_a to_listed) to_end rest) listed
+      grown_none to_end t.tells.only (part t.listed b (grown_more to_a to_listed) to_end rest) listed
     where
       by : (c : Bool) → has_name t.names name ≡ c → Stood t.listed → c ≡ false
       by false is listed = refl
       by true is listed =
-          let more = grown_more (grown_by t.only) rest in
+          let more = grown_more (grown_by t.tells.only) rest in
           let at = shown_stands me here name t.names a t.listed t.only_lists (own_listed here a t.listed t.only_lists to_a more) t.shows is in
           let one = one_folder t.listed spot (record { area = here; name = name }) (before_new t.listed more) stage here_stage refl listed (stands_named (state_after t.listed) here name at) in
           let clash : true ≡ false = sym (and_left (rank place == rank here) (bytes_eq name name) one) ∙ apart in cc
 
   -- over its own it has a line
-  told_in : {ls : List GcLine} (a b : List Event) → TellsShown Can times place ls me a b → Grew old a → Grew b new → Stood a → HasLine place pod ls
+  pub told_in : {ls : List GcLine} (a b : List Event) → TellsShown Can times place ls me a b → Grew old a → Grew b new → Stood a → HasLine place pod ls
   told_in {ls} a b t to_a rest there =
-      let more = grown_more (grown_by t.only) rest in
+      let more = grown_more (grown_by t.tells.only) rest in
       let listed = listed_same place a t.listed t.only_lists to_a more there in
       let shown = shown_in me place name t.names a t.listed t.only_lists (own_listed place a t.listed t.only_lists to_a more) t.shows (named_stands (state_after t.listed) place name listed) in
-      line_among Can times place me t.listed b name pod its t.names ls t.tells.pods_are t.tells.each shown
+      line_among Can times place t.names me t.listed b name pod its t.names ls t.tells.pods_are t.tells.each shown
 
-  taken : (a b : List Event) → Extends (takes area.Embryo Exclusive) me a b → Grew old a → Grew b new → Stood a → Stood b
+  pub taken : (a b : List Event) → Extends (takes area.Embryo Exclusive) me a b → Grew old a → Grew b new → Stood a → Stood b
   taken a b x to_a rest there = forward (λ s. stands s.namespace spot ≡ true) (takes area.Embryo Exclusive) me (λ s request reply h q. takes_leave spot me s request reply h q) a grown_none (grown_by x) x (part a b to_a (grown_by x) rest) there
 
-  closed : (handle : Handle) (a b : List Event) → Extends (closes handle) me a b → Grew old a → Grew b new → Stood a → Stood b
+  pub closed : (handle : Handle) (a b : List Event) → Extends (closes handle) me a b → Grew old a → Grew b new → Stood a → Stood b
   closed handle a b x to_a rest there = forward (λ s. stands s.namespace spot ≡ true) (closes handle) me (λ s request reply h q. closes_leave handle spot me s request reply h q) a grown_none (grown_by x) x (part a b to_a (grown_by x) rest) there
 
-  passes_over : (here : Area) (ls : List GcLine) (a b : List Event) → is_stage here ≡ true → (rank place == rank here) ≡ false → Passed Can times here ls me a b → Grew old a → Grew b new → Stood a → Stood b
+  pub passes_over : (here : Area) (ls : List GcLine) (a b : List Event) → is_stage here ≡ true → (rank place == rank here) ≡ false → Passed Can times here ls me a b → Grew old a → Grew b new → Stood a → Stood b
   passes_over area.Embryo ls a b here_stage apart (inl g) to_a rest there =
       let last = grown_more (grown_by g.gives_back) rest in
       let first = grown_more to_a (grown_by g.takes_gate) in
@@ -341,7 +341,7 @@ module _ (times : Times) (lines : List GcLine) {me : ℕ} {old new : List Event}
       let g : Grew old m.begun = record { more = m.begins.more; grown = m.begins.grown } in
       record { more = m.begins.more; grown = m.begins.grown; own = own_first quiet (record { more = m.begins.more; grown = m.begins.grown }) (grown_more swept_grown finish) }
 
-  begun_stands : (spot : Spot) → stands (state_after old).namespace spot ≡ true → stands (state_after m.begun).namespace spot ≡ true
+  pub begun_stands : (spot : Spot) → stands (state_after old).namespace spot ≡ true → stands (state_after m.begun).namespace spot ≡ true
   begun_stands spot there = forward (λ s. stands s.namespace spot ≡ true) is_begin me (λ s request reply h q. begin_leaves spot me s request reply h q) old grown_none start m.begins first_quiet there
 
   module _ (name : List ℕ) (pod : PodId) (its : pod_of name ≡ Some pod) where

@@ -28,18 +28,18 @@ use Rattle.removal_commands.specs.Quiet.{IsHeldNow}
 use Rattle.removal_commands.proofs.OwnSteps.{in_process, back_at, same_folders, held_before}
 use Rattle.removal_commands.proofs.LateTurns.{Late, or_false}
 
--- folders are moved from such places alone
-module _ (its_place : Spot → Bool) (alike : (a b : Spot) → spot_eq a b ≡ true → its_place a ≡ its_place b) (asks : Request → Bool) (l : Late asks) (moves : (from to : Spot) → asks (MoveFolder from to) ≡ true → its_place from ≡ true) (me : ℕ) where
+-- folders are moved to such places from such alone
+module _ (its_place : Spot → Bool) (alike : (a b : Spot) → spot_eq a b ≡ true → its_place a ≡ its_place b) (asks : Request → Bool) (l : Late asks) (moves : (from to : Spot) → asks (MoveFolder from to) ≡ true → its_place to ≡ true → its_place from ≡ true) (me : ℕ) where
   abbrev ItsFolder : ℕ → DirState → Type 0
   ItsFolder k s = (place : Spot) × (slice_get s.namespace.folders k ≡ Some (Some place)) × (its_place place ≡ true)
 
-  moved_from : (from to place : Spot) (o : Option (Option Spot)) → its_place from ≡ true → option_map (moved from to) o ≡ Some (Some place) → its_place place ≡ true → (p : Spot) × (o ≡ Some (Some p)) × (its_place p ≡ true)
+  moved_from : (from to place : Spot) (o : Option (Option Spot)) → (its_place to ≡ true → its_place from ≡ true) → option_map (moved from to) o ≡ Some (Some place) → its_place place ≡ true → (p : Spot) × (o ≡ Some (Some p)) × (its_place p ≡ true)
   moved_from from to place None source is here = cc
   moved_from from to place (Some None) source is here = cc
   moved_from from to place (Some (Some p)) source is here = by (spot_eq p from) refl is
     where
       by : (b : Bool) → spot_eq p from ≡ b → Some (cond b (Some to) (Some p)) ≡ Some (Some place) → (q : Spot) × (Some (Some p) ≡ Some (Some q)) × (its_place q ≡ true)
-      by true same is = (p, refl, alike p from same ∙ source)
+      by true same is = let arrived : to ≡ place = cc in (p, refl, alike p from same ∙ source (subst (λ (q : Spot). its_place q ≡ true) (sym arrived) here))
       by false apart is = let same : p ≡ place = cc in (p, refl, subst (λ (q : Spot). its_place q ≡ true) (sym same) here)
 
   removed_from : (gone place : Spot) (o : Option (Option Spot)) → option_map (removed gone) o ≡ Some (Some place) → o ≡ Some (Some place)

@@ -7,8 +7,16 @@ pub mod Held
 pub mod RmQuiet
 pub mod RmBefore
 pub mod RmFrom
+pub mod Lacking
 pub mod RmLacking
 pub mod GcQuiet
 pub mod GcTells
 pub mod GcFrom
+pub mod GcBusy
+pub mod GcTurn
+pub mod GcLeft
+pub mod GcStood
+pub mod GcEnds
+pub mod GcRested
+pub mod GcCame
 pub mod Quietly

@@ -19,9 +19,15 @@ use Rattle.removal_commands.proofs.RmQuiet.{rm_gone, rm_none_before}
 use Rattle.removal_commands.proofs.RmBefore.{rm_wrong_before, rm_held_before}
 use Rattle.removal_commands.proofs.RmFrom.{rm_removable_before}
 use Rattle.removal_commands.proofs.RmLacking.{rm_lacked_before}
-use Rattle.removal_commands.proofs.GcQuiet.{gc_embryos, gc_moved, gc_busy, gc_kept}
+use Rattle.removal_commands.proofs.GcQuiet.{gc_embryos, gc_moved, gc_kept}
 use Rattle.removal_commands.proofs.GcFrom.{gc_had, gc_gone}
 use Rattle.removal_commands.proofs.GcTells.{gc_tells}
+use Rattle.removal_commands.proofs.GcBusy.{gc_busy}
+use Rattle.removal_commands.proofs.GcLeft.{gc_left}
+use Rattle.removal_commands.proofs.GcCame.{gc_came}
+use Rattle.removal_commands.proofs.GcRested.{gc_rested}
+use Rattle.removal_commands.proofs.GcStood.{gc_stood}
+use Rattle.removal_commands.proofs.GcEnds.{gc_stays}
 
 module _ (pod : PodId) (now : ℕ) (old new : DirSeen) (ext : Extends (in_process (removes pod now)) old.process old.trace new.trace) (quiet : Quiet old.process old.trace new.trace) where
   pub rm_removed_quietly : OwnsNothing old.process (state_after old.trace).namespace → (text : List ℕ) → text ≡ removed_text pod → HasRemovedPod pod old new → RemovesPodQuietly pod old new (Ok text)
@@ -44,9 +50,14 @@ gc_swept_quietly times old new text ext quiet idle x = record {
   swept = x;
   tells = λ conforming. gc_tells times x.lines ext quiet x.swept conforming;
   kept = λ conforming. gc_kept times x.lines ext quiet x.swept conforming;
+  rested = λ conforming. gc_rested times x.lines ext quiet x.swept idle conforming;
   moved = gc_moved times x.lines ext quiet x.swept;
   had = λ conforming. gc_had times x.lines ext quiet x.swept idle conforming;
+  stood = gc_stood times x.lines ext quiet x.swept;
+  came = λ conforming. gc_came times x.lines ext quiet x.swept conforming;
+  stays = λ conforming. gc_stays times x.lines ext quiet x.swept conforming;
   gone = λ conforming. gc_gone times x.lines ext quiet x.swept idle conforming;
   busy = gc_busy times x.lines ext quiet x.swept;
+  left = gc_left times x.lines ext quiet x.swept;
   embryos = gc_embryos times x.lines ext quiet x.swept;
 }

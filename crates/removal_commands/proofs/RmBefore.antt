@@ -149,5 +149,5 @@ module _ (pod : PodId) (now : ℕ) {me : ℕ} {old new : List Event} (ext : Exte
 
   pub rm_held_before : (which : Which) → Meanwhile (IsBusyAt pod which) me old new → IsHeldNow (is_pod_spot pod) which me (state_after old)
   rm_held_before which m =
-      was_held (is_pod_spot pod) (λ a b same. of_same its a b same) (removes pod now) (removes_late pod now) (rm_moves pod now) me pod (λ a stage. ap (λ b. b && bytes_eq its its) stage ∙ same_bytes its) which old m.begun m.ended new
+      was_held (is_pod_spot pod) (λ a b same. of_same its a b same) (removes pod now) (removes_late pod now) (λ from to is here. rm_moves pod now from to is) me pod (λ a stage. ap (λ b. b && bytes_eq its its) stage ∙ same_bytes its) which old m.begun m.ended new
       (record { more = m.begins.more; grown = m.begins.grown }) (record { more = m.finishes.more; grown = m.finishes.grown }) ext quiet m.so

@@ -27,10 +27,12 @@ use Rattle.phase_read.specs.Read.{pod_spot, is_pod_spot}
 use Rattle.phase_read.specs.Sequential.{sequential_read}
 use Rattle.pod_claim.specs.Causes.{LacksManifest}
 use Rattle.pod_steps.specs.Causes.{is_held_against}
-use Rattle.pod_removal.specs.Requests.{is_removable}
+use Rattle.pod_removal.specs.Requests.{is_removable, is_garbage_place}
 use Rattle.pod_gc.specs.declared.ages.Times.{Times}
-use Rattle.pod_gc.specs.declared.line.Deed.TheVariants.{Moved, Deleted, Kept, Busy}
+use Rattle.pod_gc.specs.declared.line.Deed.{Deed}
+use Rattle.pod_gc.specs.declared.line.Deed.TheVariants.{Moved, Deleted, Kept, Busy, Left}
 use Rattle.pod_gc.specs.declared.line.GcLine.{GcLine}
+use Rattle.pod_gc.specs.Requests.{moves_pods}
 use Rattle.command_outcomes.specs.declared.refusal.Refusal.TheVariants.{NoPod, WrongPhase, NoManifest, PodBusy, Stray}
 use Rattle.command_outcomes.specs.Moments.{DirSeen, Outcome}
 use Rattle.removal_commands.specs.Rm.{removed_text, HasRemovedPod, HasFoundNoPod, HasFoundWrong, HasFoundNoManifest, HasFoundBusy, HasMetStrayAtPod}
@@ -98,6 +100,10 @@ is_lasting_phase _ = false
 abbrev pub KeptAsBefore : List Event → GcLine → Type 0
 KeptAsBefore old line = (pod : PodId) (phase : Phase) → line.pod ≡ Some pod → line.deed ≡ Kept phase → is_lasting_phase phase ≡ true → HasPhaseNow pod phase old
 
+-- a pod that is kept as one that rests in exited-garbage rested there before, if it stood there before
+abbrev pub RestedAsBefore : List Event → GcLine → Type 0
+RestedAsBefore old line = (pod : PodId) → line.pod ≡ Some pod → line.deed ≡ Kept kind.ExitedGarbage → stands (state_after old).namespace (pod_spot pod area.ExitedGarbage) ≡ true → HasPhaseNow pod kind.ExitedGarbage old
+
 -- the phase of a pod that the pass over this place moves
 abbrev pub swept_phase : Area → Phase
 swept_phase Embryo = kind.Embryo
@@ -112,6 +118,21 @@ SweptAsBefore old line = (pod : PodId) (to : Area) → line.pod ≡ Some pod →
 -- a pod that was moved stood at that place before
 abbrev pub MovedAsBefore : List Event → GcLine → Type 0
 MovedAsBefore old line = (pod : PodId) (to : Area) → line.pod ≡ Some pod → line.deed ≡ Moved to → stands (state_after old).namespace (pod_spot pod line.place) ≡ true
+
+-- each line of a place from which pods are moved is of one that stood there before
+abbrev pub StoodAsBefore : List Event → GcLine → Type 0
+StoodAsBefore old line = (pod : PodId) → line.pod ≡ Some pod → moves_pods line.place ≡ true → stands (state_after old).namespace (pod_spot pod line.place) ≡ true
+
+-- the pod is neither moved nor deleted
+abbrev pub leaves_there : Deed → Bool
+leaves_there (Kept phase) = true
+leaves_there (Busy which) = true
+leaves_there Left = true
+leaves_there _ = false
+
+-- such a pod stands at that place at the end
+abbrev pub StandsAfter : List Event → GcLine → Type 0
+StandsAfter new line = (pod : PodId) → line.pod ≡ Some pod → leaves_there line.deed ≡ true → stands (state_after new).namespace (pod_spot pod line.place) ≡ true
 
 -- a pod that was deleted is gone at the end
 abbrev pub GoneAfter : List Event → GcLine → Type 0
@@ -132,20 +153,40 @@ TellsOfEach lines old =
     (name : List ℕ) (pod : PodId) (place : Area) → pod_of name ≡ Some pod → is_stage place ≡ true → stands (state_after old.trace).namespace (pod_spot pod place) ≡ true →
     HasLine place pod lines ⊎ ((place ≡ Embryo) × IsBusyElsewhere old.process Embryo Exclusive (state_after old.trace))
 
--- of a line that a lock was busy, another process held such a lock of a folder in the areas of pods before
-abbrev pub BusyAsBefore : ℕ → List Event → GcLine → Type 0
-BusyAsBefore me old line = (which : Which) → line.deed ≡ Busy which → IsHeldNow is_pods_place which me (state_after old)
+-- a line of this pod says that it was moved there
+pub record SaysMoved (pod : PodId) (to : Area) (lines : List GcLine) : Type 0 where
+  pub from : Area
+  pub has : HasLine from pod lines
+  pub moved : has.line.deed ≡ Moved to
 
--- of `gc`: its lines by its own steps, one of each pod that stood before; those of kept, moved and busy pods agree with the state
--- before, the deleted ones are gone, and no embryo is left
+-- each line of a garbage place is of a pod that stood there before, or of which a line says that it was moved there
+abbrev pub CameSo : List GcLine → List Event → GcLine → Type 0
+CameSo lines old line = (pod : PodId) → line.pod ≡ Some pod → is_garbage_place line.place ≡ true → (stands (state_after old).namespace (pod_spot pod line.place) ≡ true) ⊎ SaysMoved pod line.place lines
+
+-- of a pod that is called busy, another process held this lock before, of a folder at one of the pod's places
+abbrev pub BusyAsBefore : ℕ → List Event → GcLine → Type 0
+BusyAsBefore me old line = (pod : PodId) (which : Which) → line.pod ≡ Some pod → line.deed ≡ Busy which → IsHeldNow (is_pod_spot pod) which me (state_after old)
+
+-- of no pod it is said that it had left, but of one in prepared whose folder stood there before without its manifest
+abbrev pub LeftAsBefore : List Event → GcLine → Type 0
+LeftAsBefore old line = (pod : PodId) → line.pod ≡ Some pod → line.deed ≡ Left → (line.place ≡ area.Prepared) × LacksManifest pod (state_after old)
+
+-- of `gc`: its lines by its own steps, one of each pod that stood before, and none of others but where a pod was moved; those of kept,
+-- moved, busy and left pods agree with the state before, the deleted ones are gone, those neither moved nor deleted stand where they
+-- were, and no embryo is left
 pub record SweepsSo (times : Times) (old new : DirSeen) (text : List ℕ) : Type 0 where
   pub swept : HasSweptPods times old new text
   pub tells : IsConforming new.trace → TellsOfEach swept.lines old
   pub kept : IsConforming new.trace → AllByRecursion (KeptAsBefore old.trace) swept.lines
+  pub rested : IsConforming new.trace → AllByRecursion (RestedAsBefore old.trace) swept.lines
   pub moved : AllByRecursion (MovedAsBefore old.trace) swept.lines
   pub had : IsConforming new.trace → AllByRecursion (SweptAsBefore old.trace) swept.lines
+  pub stood : AllByRecursion (StoodAsBefore old.trace) swept.lines
+  pub came : IsConforming new.trace → AllByRecursion (CameSo swept.lines old.trace) swept.lines
+  pub stays : IsConforming new.trace → AllByRecursion (StandsAfter new.trace) swept.lines
   pub gone : IsConforming new.trace → AllByRecursion (GoneAfter new.trace) swept.lines
   pub busy : AllByRecursion (BusyAsBefore old.process old.trace) swept.lines
+  pub left : AllByRecursion (LeftAsBefore old.trace) swept.lines
   pub embryos : LeavesNoEmbryo old new
 
 abbrev pub SweepsPodsQuietly : Times → DirSeen → DirSeen → Outcome → Type 0

@@ -54,4 +54,4 @@ returns-in_ok-deed-in-Some-clause-told g c =
     let after = c.push.new.lines.items in
     let some : pod_of c.args.name.now ≡ Some c.in-Some.id = search (rules, c.parse.ensures.is, c.as_str.ensures, c.in-Some.is) in
     ok_more (λ done. after ≡ before ++ record { place = c.args.place; pod = Some c.in-Some.id; deed = c.in_ok-deed-in-Some.deed } ∷ []) (λ done. D.observed ≡ true → AddsTold c.args.times c.args.place (c.args.name.now ∷ []) old new before after) c.push.result
-    (λ done adds t. adds_pod old new c.args.times c.args.place c.args.name.now c.in-Some.id c.in_ok-deed-in-Some.deed before after some adds (c.in_ok-deed-in-Some.ensures.dealt t) (c.in_ok-deed-in-Some.ensures.another t)) c.push.ensures.items
+    (λ done adds t. adds_pod old new c.args.times c.args.place c.args.name.now c.in-Some.id c.in_ok-deed-in-Some.deed before after some adds (c.deal.ensures.worked.extends t) (c.in_ok-deed-in-Some.ensures.dealt t) (c.in_ok-deed-in-Some.ensures.another t)) c.push.ensures.items

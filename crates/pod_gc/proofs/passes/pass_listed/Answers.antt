@@ -1,12 +1,11 @@
 use Rattle.std.proofs.Common.{◌≡◌, ℕ, List, true, Ok, Err, sym, ap, subst}
-use Rattle.folder_building.specs.Work.{Worked}
 use Rattle.folder_building.proofs.Copying.{ok_more, err_more}
 use Rattle.folder_building.proofs.Working.{worked_more, worked_wider}
 use Rattle.pod_steps.proofs.Calls.{follows_work}
 use Rattle.pod_gc.specs.declared.error.GcError.{GcError}
 use Rattle.pod_gc.specs.Causes.{GcCause}
 use Rattle.pod_gc.proofs.Steps.{cause_after}
-use Rattle.pod_gc.specs.Told.{deals_with_some, AddsTold, AddsShown}
+use Rattle.pod_gc.specs.Told.{AddsTold, AddsShown}
 use Rattle.pod_gc.proofs.InTurn.{pass_more}
 use Rattle.pod_gc.proofs.Asking.{lists_sweep, some_sweep}
 use Rattle.pod_gc.proofs.Listing.{ready_area, worked_area, area_cause}
@@ -39,9 +38,8 @@ returns-in-Ok-clause-told g c =
     let before = c.args.lines.now.items in
     let after = c.deal_each.new.lines.items in
     let shown = c.as_slice.result.now in
-    let works = subst (λ (ns : List (List ℕ)). Worked D.observed (deals_with_some times.now place ns) mid new) c.as_slice.ensures c.deal_each.ensures.worked in
     ok_more (λ done. D.observed ≡ true → AddsTold times place shown mid new before after) (λ done. D.observed ≡ true → AddsShown times place old new before after) c.deal_each.result
-    (λ done told t. adds_shown times place names before after t c.in-Ok.ensures.called (c.in-Ok.ensures.shows t) works (ready_area place (Ok names) c.requires.stage c.in-Ok.ensures.called t)
+    (λ done told t. adds_shown old mid new times place names before after t c.in-Ok.ensures.called c.in-Ok.ensures.ordered (c.in-Ok.ensures.shows t) (ready_area place (Ok names) c.requires.stage c.in-Ok.ensures.called t)
     (subst (λ (ns : List (List ℕ)). AddsTold times place ns mid new before after) c.as_slice.ensures (told t))) c.deal_each.ensures.told
 
 pub returns-in-Ok-clause-ready : goal.returns-in-Ok-clause-ready
