@@ -133,7 +133,14 @@ impl<R: Files<File = File> + AllocGlobal + Clone + Drop> Dir for HostDir<R> {
         ensures unopened { IfOk result (λ handle. IsUnopened (dir_shown self.old).local handle) }
         ensures called { DirCall false (dir_shown self.old) (Request.Open spot which) (opened_reply result) (dir_shown self.new) }
     {
-        match open_lock(&self.rt, alloc, self.root.as_str(), &mut self.reached, &spot, which) {
+        match open_lock(
+            &self.rt,
+            alloc,
+            self.root.as_str(),
+            &mut self.reached,
+            &spot,
+            which,
+        ) {
             Ok(folder) => keep(&mut self.folders, folder, target_of(&spot, which)),
             Err(error) => Err(counted(&mut self.faults, error)),
         }
@@ -204,7 +211,14 @@ impl<R: Files<File = File> + AllocGlobal + Clone + Drop> Dir for HostDir<R> {
         ensures ordered { IfOk result (λ items. IsStrictlySortedBy (slice_cmp nat_cmp) (item_names items)) }
         ensures called { ListCall false (dir_shown self.old) (Request.ListIn (record { spot = spot; path = path.now })) (items_reply result) (dir_shown self.new) }
     {
-        match host_files::list_inside(&self.rt, alloc, self.root.as_str(), &mut self.reached, &spot, path) {
+        match host_files::list_inside(
+            &self.rt,
+            alloc,
+            self.root.as_str(),
+            &mut self.reached,
+            &spot,
+            path,
+        ) {
             Ok(items) => Ok(items),
             Err(error) => Err(counted(&mut self.faults, error)),
         }
@@ -220,7 +234,14 @@ impl<R: Files<File = File> + AllocGlobal + Clone + Drop> Dir for HostDir<R> {
         ensures refusals { IfErr result (λ e. may_refuse (Request.MakeDirIn (record { spot = spot; path = path.now })) e ≡ true) }
         ensures called { DirCall false (dir_shown self.old) (Request.MakeDirIn (record { spot = spot; path = path.now })) (done_reply result) (dir_shown self.new) }
     {
-        match host_files::make_dir(&self.rt, alloc, self.root.as_str(), &mut self.reached, &spot, path) {
+        match host_files::make_dir(
+            &self.rt,
+            alloc,
+            self.root.as_str(),
+            &mut self.reached,
+            &spot,
+            path,
+        ) {
             Ok(()) => Ok(()),
             Err(error) => Err(counted(&mut self.faults, error)),
         }
@@ -236,7 +257,14 @@ impl<R: Files<File = File> + AllocGlobal + Clone + Drop> Dir for HostDir<R> {
         ensures refusals { IfErr result (λ e. may_refuse (Request.MakeFileIn (record { spot = spot; path = path.now })) e ≡ true) }
         ensures called { DirCall false (dir_shown self.old) (Request.MakeFileIn (record { spot = spot; path = path.now })) (done_reply result) (dir_shown self.new) }
     {
-        match host_files::make_file(&self.rt, alloc, self.root.as_str(), &mut self.reached, &spot, path) {
+        match host_files::make_file(
+            &self.rt,
+            alloc,
+            self.root.as_str(),
+            &mut self.reached,
+            &spot,
+            path,
+        ) {
             Ok(()) => Ok(()),
             Err(error) => Err(counted(&mut self.faults, error)),
         }
@@ -258,7 +286,15 @@ impl<R: Files<File = File> + AllocGlobal + Clone + Drop> Dir for HostDir<R> {
         ensures refusals { IfErr result (λ e. may_refuse (Request.AppendIn (record { spot = spot; path = path.now }) piece.now) e ≡ true) }
         ensures called { AppendCall false (dir_shown self.old) (Request.AppendIn (record { spot = spot; path = path.now }) piece.now) result (dir_shown self.new) }
     {
-        match host_files::append(&self.rt, alloc, self.root.as_str(), &mut self.reached, &spot, path, piece) {
+        match host_files::append(
+            &self.rt,
+            alloc,
+            self.root.as_str(),
+            &mut self.reached,
+            &spot,
+            path,
+            piece,
+        ) {
             Ok(()) => Ok(()),
             Err(error) => Err(counted(&mut self.faults, error)),
         }
@@ -282,7 +318,16 @@ impl<R: Files<File = File> + AllocGlobal + Clone + Drop> Dir for HostDir<R> {
         ensures filled { IsFilled room.old result room.new }
         ensures called { DirCall false (dir_shown self.old) (Request.ReadIn (record { spot = spot; path = path.now }) at (length room.old)) (read_reply room.new result) (dir_shown self.new) }
     {
-        match host_files::read(&self.rt, alloc, self.root.as_str(), &mut self.reached, &spot, path, at, room) {
+        match host_files::read(
+            &self.rt,
+            alloc,
+            self.root.as_str(),
+            &mut self.reached,
+            &spot,
+            path,
+            at,
+            room,
+        ) {
             Ok(count) => Ok(count),
             Err(error) => Err(counted(&mut self.faults, error)),
         }
@@ -297,7 +342,14 @@ impl<R: Files<File = File> + AllocGlobal + Clone + Drop> Dir for HostDir<R> {
         ensures refusals { IfErr result (λ e. may_refuse (Request.SyncIn (record { spot = spot; path = path.now })) e ≡ true) }
         ensures called { DirCall false (dir_shown self.old) (Request.SyncIn (record { spot = spot; path = path.now })) (done_reply result) (dir_shown self.new) }
     {
-        match host_files::sync(&self.rt, alloc, self.root.as_str(), &mut self.reached, &spot, path) {
+        match host_files::sync(
+            &self.rt,
+            alloc,
+            self.root.as_str(),
+            &mut self.reached,
+            &spot,
+            path,
+        ) {
             Ok(()) => Ok(()),
             Err(error) => Err(counted(&mut self.faults, error)),
         }
@@ -326,7 +378,14 @@ impl<R: Files<File = File> + AllocGlobal + Clone + Drop> Dir for HostDir<R> {
         ensures refusals { IfErr result (λ e. may_refuse (Request.RemoveFileIn (record { spot = spot; path = path.now })) e ≡ true) }
         ensures called { DirCall false (dir_shown self.old) (Request.RemoveFileIn (record { spot = spot; path = path.now })) (done_reply result) (dir_shown self.new) }
     {
-        match host_files::remove_file(&self.rt, alloc, self.root.as_str(), &mut self.reached, &spot, path) {
+        match host_files::remove_file(
+            &self.rt,
+            alloc,
+            self.root.as_str(),
+            &mut self.reached,
+            &spot,
+            path,
+        ) {
             Ok(()) => Ok(()),
             Err(error) => Err(counted(&mut self.faults, error)),
         }
@@ -342,7 +401,14 @@ impl<R: Files<File = File> + AllocGlobal + Clone + Drop> Dir for HostDir<R> {
         ensures refusals { IfErr result (λ e. may_refuse (Request.RemoveDirIn (record { spot = spot; path = path.now })) e ≡ true) }
         ensures called { DirCall false (dir_shown self.old) (Request.RemoveDirIn (record { spot = spot; path = path.now })) (done_reply result) (dir_shown self.new) }
     {
-        match host_files::remove_dir(&self.rt, alloc, self.root.as_str(), &mut self.reached, &spot, path) {
+        match host_files::remove_dir(
+            &self.rt,
+            alloc,
+            self.root.as_str(),
+            &mut self.reached,
+            &spot,
+            path,
+        ) {
             Ok(()) => Ok(()),
             Err(error) => Err(counted(&mut self.faults, error)),
         }
