@@ -8,7 +8,7 @@ use dir_memory::MemoryDir;
 use dir_trait::{Area, Dir, Kind, Mode, NoMemory, Phase, PodId, Which};
 use lifecycle::replay;
 use pod_gc::{Deed, GcLine, gc};
-use pod_stage::{POD, Row, SWEPT, Situation, Step, before, intent, with_pod};
+use pod_stage::{DISCARDED, POD, Row, SWEPT, Situation, Step, before, intent, with_pod};
 use std::alloc::Global;
 use std::test::Fail;
 
@@ -253,25 +253,52 @@ fn embryos_are_let_be_while_one_is_made(rt: HostRuntime) -> Result<(), Fail> {
     Ok(())
 }
 
-const LEFT: &[Said] = &[
-    (Area::Prepare, Some(POD), Deed::Left),
-    (Area::Garbage, Some(POD), Deed::Deleted),
+/// Where a pod stands, by which steps another process moves it to garbage, and what a sweep then says.
+type Departure = (Situation, &'static [Row], &'static [Said]);
+
+const DEPARTURES: &[Departure] = &[
+    (
+        Situation::AbortedPrepare,
+        SWEPT,
+        &[
+            (Area::Prepare, Some(POD), Deed::Left),
+            (Area::Garbage, Some(POD), Deed::Deleted),
+        ],
+    ),
+    // Before the sweep lists its marks.
+    (
+        Situation::Prepared,
+        DISCARDED,
+        &[
+            (Area::Prepared, Some(POD), Deed::Left),
+            (Area::Garbage, Some(POD), Deed::Deleted),
+        ],
+    ),
 ];
 
-/// The pod has left prepare where another process moves it before this call.
-fn has_left(alloc: Global, call: u64) -> Result<bool, NoMemory> {
-    let dead = with_pod(alloc, MemoryDir::new(alloc, 1)?, Situation::AbortedPrepare)?;
-    gives(alloc, before(alloc, dead, call, SWEPT)?, CROWD, LEFT)
+/// The sweep says so where the pod is moved before this call.
+fn has_left(alloc: Global, departure: &Departure, call: u64) -> Result<bool, NoMemory> {
+    let (situation, moves, wanted) = departure;
+    let stands = with_pod(alloc, MemoryDir::new(alloc, 1)?, *situation)?;
+    gives(alloc, before(alloc, stands, call, moves)?, CROWD, wanted)
+}
+
+/// There is such a call.
+fn is_met(alloc: Global, departure: &Departure) -> Result<bool, NoMemory> {
+    let mut found = false;
+    'calls: for call in 5..=16u64 {
+        let left = has_left(alloc, departure, call)?;
+        found = found || left;
+    }
+    Ok(found)
 }
 
 #[test]
 fn a_pod_that_another_moves_meanwhile_has_left(rt: HostRuntime) -> Result<(), Fail> {
-    let mut found = false;
-    'calls: for call in 5..=12u64 {
-        let left = has_left(rt.alloc(), call)?;
-        found = found || left;
+    'departures: for departure in DEPARTURES {
+        let met = is_met(rt.alloc(), departure)?;
+        assert!(rt; met);
     }
-    assert!(rt; found);
     Ok(())
 }
 

@@ -59,3 +59,7 @@ failed_stops look.NoMemory rose = record { fault = λ is. cc; missing = λ is. c
 pub look_calm : (e : LookError) (which : Which) → look_setback e ≡ stop.Busy which → ⊥
 look_calm look.DirFault which is = cc
 look_calm look.NoMemory which is = cc
+
+pub look_no_stray : (e : LookError) → look_setback e ≡ stop.Stray → ⊥
+look_no_stray look.DirFault is = cc
+look_no_stray look.NoMemory is = cc

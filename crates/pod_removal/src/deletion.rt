@@ -4,6 +4,8 @@ ghost use Rattle.dir_model.specs.declared.spot.Mode.TheVariants as mode;
 ghost use Rattle.dir_model.specs.declared.spot.Which.{Which};
 ghost use Rattle.dir_model.specs.declared.request.Request.TheVariants.{RemoveFolder};
 ghost use Rattle.dir_model.specs.declared.request.Reply.TheVariants.{Done};
+ghost use Rattle.dir_model.specs.State.{stands};
+ghost use Rattle.dir_trait.specs.DirCalls.{HeldBetween};
 ghost use Rattle.dir_trait.specs.Local.{IsActive};
 ghost use Rattle.folder_building.specs.Work.{Worked};
 ghost use Rattle.phase_read.specs.Read.{pod_spot};
@@ -56,6 +58,8 @@ fn delete_if_there<D: Dir>(
     ensures stopped { IfErr result (λ e. Stopped D.observed pod (IsAbsentAt pod area) e (D.shown dir.old) (D.shown dir.new)) }
     ensures calm { IfErr result (λ e. (which : Which) → e ≡ Setback.Busy which → ⊥) }
     ensures still { IfErr result (λ e. MissedUntaken D.observed e (D.shown dir.old) (D.shown dir.new)) }
+    ensures stood { IfErr result (λ e. e ≡ Setback.Stray → D.observed ≡ true
+        → HeldBetween (D.shown dir.old) (D.shown dir.new) (λ s. stands s.namespace (pod_spot pod area) ≡ true)) }
     ensures done { IfOk result (λ done. D.observed ≡ true
         → Did (RemoveFolder (pod_spot pod area)) Done (D.shown dir.old).process (D.shown dir.old).trace (D.shown dir.new).trace) }
     ensures known { D.observed ≡ true → Stays (HasOwn pod area) (D.shown dir.old) (λ s. KeepsBut pod area s (D.shown dir.new)) }

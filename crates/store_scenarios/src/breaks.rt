@@ -4,7 +4,7 @@ ghost use Rattle.dir_trait.specs.Local.{nothing_local};
 
 use crate::imports::{BASE_STANDS, base_spot};
 use dir_memory::MemoryDir;
-use dir_trait::{Area, Dir, Handle, Kind, Mode, NoMemory, Request};
+use dir_trait::{Area, Dir, Handle, Kind, Mode, NoMemory, Request, Spot};
 use std::alloc::Global;
 use std::test::Fail;
 use store_stage::{
@@ -127,17 +127,21 @@ fn a_lock_that_another_holds_exclusively_is_busy(rt: HostRuntime) -> Result<(), 
 const LIB_KEY: &str = "sha512-bbbbbbbbbbbbbbbbbbbbbbbbbbbbbbbbbbbbbbbbbbbbbbbbbbbbbbbbbbbbbbbb";
 
 /// An importer that is killed before a call, whose folder another process then moves to images, before a
-/// call of the next importer.
+/// call of the next importer, and out of images again, before another of its calls. 0 is never.
 #[derive(Clone, Copy)]
 struct Race {
     first: &'static [Put],
     killed: u64,
     moved: u64,
+    gone: u64,
     wanted: Wanted,
 }
 
 // That of the second image: it has one empty file and one directory less.
 const LIB_MOVE: u64 = 27;
+
+// That of the look at the image that was in its way.
+const LIB_LOOK: u64 = 28;
 
 const RACES: &[Race] = &[
     // The same image, just before it is looked for and just before the own move.
@@ -145,12 +149,14 @@ const RACES: &[Race] = &[
         first: LIB,
         killed: LIB_MOVE,
         moved: 3,
+        gone: 0,
         wanted: Wanted::There(0xbb),
     },
     Race {
         first: LIB,
         killed: LIB_MOVE,
         moved: LIB_MOVE,
+        gone: 0,
         wanted: Wanted::There(0xbb),
     },
     // Another tree.
@@ -158,6 +164,7 @@ const RACES: &[Race] = &[
         first: OTHER,
         killed: 22,
         moved: LIB_MOVE,
+        gone: 0,
         wanted: Wanted::Refused("conflict", ""),
     },
     // A folder that isn't whole.
@@ -165,15 +172,41 @@ const RACES: &[Race] = &[
         first: LIB,
         killed: 9,
         moved: LIB_MOVE,
+        gone: 0,
         wanted: Wanted::Refused(
             "damaged",
             "sha512-bbbbbbbbbbbbbbbbbbbbbbbbbbbbbbbbbbbbbbbbbbbbbbbbbbbbbbbbbbbbbbbb/manifest",
         ),
     },
+    // One that vanishes before it is compared.
+    Race {
+        first: LIB,
+        killed: LIB_MOVE,
+        moved: LIB_MOVE,
+        gone: LIB_LOOK,
+        wanted: Wanted::Refused("stray", ""),
+    },
 ];
 
 fn races() -> &'static [Race] {
     RACES
+}
+
+// Another process moves the folder away, before this call.
+fn taken_away(
+    alloc: Global,
+    dir: MemoryDir,
+    before: u64,
+    from: Spot,
+) -> Result<MemoryDir, NoMemory>
+    requires { dir.local ≡ nothing_local }
+    ensures { IfOk result (λ d. d.local ≡ nothing_local) }
+{
+    let to = Spot {
+        area: Area::Removed,
+        name: from.name,
+    };
+    dir.schedule(alloc, before, 9, Request::MoveFolder { from, to })
 }
 
 fn comes_to(alloc: Global, race: Race) -> Result<bool, NoMemory> {
@@ -196,6 +229,7 @@ fn comes_to(alloc: Global, race: Race) -> Result<bool, NoMemory> {
     let dir = first.dir.schedule(alloc, 2, 9, begin)?;
     let from = building(1);
     let dir = dir.schedule(alloc, race.moved, 9, Request::MoveFolder { from, to })?;
+    let dir = taken_away(alloc, dir, race.gone, to)?;
     let second = imports(alloc, dir, LIB, 2, 100, race.wanted)?;
     Ok(first.so && second.so)
 }

@@ -1,15 +1,18 @@
-use Rattle.std.proofs.Common.{◌≡◌, true, false, Err, sym, ap, subst, ◌∙◌}
+use Rattle.std.proofs.Common.{◌≡◌, true, false, Err, refl, sym, ap, subst, ◌∙◌}
 use Rattle.dir_model.specs.declared.request.Request.TheVariants.{RemoveFolder}
 use Rattle.dir_model.specs.declared.request.Reply.TheVariants.{Done}
 use Rattle.folder_building.proofs.Copying.{ok_more, err_more}
 use Rattle.folder_building.proofs.Working.{worked_more, worked_wider}
 use Rattle.phase_read.specs.Read.{pod_spot}
-use Rattle.pod_claim.proofs.Times.{deeds_part}
+use Rattle.pod_claim.proofs.Times.{deeds_part, at_part}
 use Rattle.pod_claim.proofs.Traces.{grown_none}
 use Rattle.pod_steps.specs.declared.setback.Setback.{Setback}
 use Rattle.pod_steps.specs.Causes.{Stopped, IsAbsentAt, Did}
 use Rattle.pod_steps.proofs.Calls.{follows_none, follows_work, stops_part}
-use Rattle.pod_removal.proofs.Looking.{worked_look, missing_stops, failed_stops, look_calm}
+use Rattle.dir_model.specs.State.{DirState, stands}
+use Rattle.dir_model.specs.declared.spot.Spot.{Spot}
+use Rattle.dir_trait.specs.DirCalls.{HeldBetween}
+use Rattle.pod_removal.proofs.Looking.{worked_look, missing_stops, failed_stops, look_calm, look_no_stray}
 use Rattle.pod_removal.proofs.Deleting.{look_kinds, known_later, known_looked}
 use Rattle.pod_removal.specs.Causes.{is_missing, MissedUntaken}
 use Rattle.pod_steps.proofs.Taking.{took_looks}
@@ -92,3 +95,18 @@ returns-in-Err-clause-still g c is t =
     let l = c.look.ensures in
     let w = worked_look c.args.pod c.args.area (g.D.Dir.shown c.args.dir.now) (g.D.Dir.shown c.look.new.dir) c.pod_spot.ensures l.same l.faults l.local l.extends in
     took_looks c.args.pod c.args.area (w.extends t)
+
+pub returns-in-Ok-true-clause-stood : goal.returns-in-Ok-true-clause-stood
+returns-in-Ok-true-clause-stood g c =
+    let D = g.D.Dir in
+    let old = D.shown c.args.dir.now in
+    let mid = D.shown c.look.new.dir in
+    let new = D.shown c.delete_standing.new.dir in
+    let told = rw c.in-Ok-true.field-0-test at c.in-Ok-true.ensures in
+    err_more (λ e. is_missing e ≡ false)
+    (λ e. e ≡ Setback.Stray → D.observed ≡ true → HeldBetween old new (λ s. stands s.namespace (pod_spot c.args.pod c.args.area) ≡ true)) c.delete_standing.result
+    (λ e there is t. at_part grown_none refl ((follows_work c.delete_standing.ensures.worked).grown t)
+    (subst (λ (spot : Spot). HeldBetween old mid (λ (s : DirState). stands s.namespace spot ≡ true)) c.pod_spot.ensures (told.there t))) c.delete_standing.ensures.there
+
+pub returns-in-Err-clause-stood : goal.returns-in-Err-clause-stood
+returns-in-Err-clause-stood g c is = absurd (look_no_stray c.in-Err.error (sym c.look_setback.ensures ∙ is))
