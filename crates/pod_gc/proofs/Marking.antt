@@ -31,7 +31,7 @@ use Rattle.dir_rules.specs.Rules.{root_of, may_look, is_gate}
 use Rattle.dir_rules.specs.Seen.{later, created_among, note_created, with_items}
 use Rattle.dir_rules.specs.Conforms.{seen_listed}
 use Rattle.dir_rules.proofs.Looks.{same_bytes}
-use Rattle.dir_trait.specs.DirCalls.{DirAt, ListCall, HeldBetween}
+use Rattle.dir_trait.specs.DirCalls.{DirAt, ListCall, HeldBetween, ExtendsBy}
 use Rattle.dir_files.specs.Listed.{ShowsDirectoryBetween}
 use Rattle.dir_files.proofs.Folders.{tells_absent, tells_present}
 use Rattle.folder_building.specs.Work.{Worked}
@@ -60,13 +60,12 @@ worked_listing {observed} {old} {new} pod area r x = record { same = x.same; fau
     by (Ok items) x = x.local
     by (Err e) x = x.local
 
-pub showed : (spot : Spot) (old new : DirAt) (items : List Item) (pod : PodId) (area : Area) (text : List ℕ) (moment : Option ℕ) → spot ≡ pod_spot pod area → moment ≡ moment_among text items → ShowsDirectoryBetween old new (record { spot = spot; path = [] }) items
+pub showed : (spot : Spot) (old new : DirAt) (items : List Item) (pod : PodId) (area : Area) (text : List ℕ) (moment : Option ℕ) → spot ≡ pod_spot pod area → moment ≡ moment_among text items → ShowsDirectoryBetween old new (record { spot = spot; path = [] }) items → ExtendsBy (lists_marks pod area) old new
     → Showed pod area text moment old.process old.trace new.trace
-showed spot old new items pod area text moment is greatest shows = record {
+showed spot old new items pod area text moment is greatest shows only = record {
   items = items;
-  before = old.trace;
   after = new.trace;
-  first = grown_none;
+  only = only;
   shows = subst (λ (s : Spot). ShowsDirectoryBetween old new (root_of s) items) is shows;
   last = grown_none;
   greatest = greatest;

@@ -26,7 +26,7 @@ le_on a b c x y = grind (arith, nat_tests)
 more_on : (a b c : ℕ) → nat_le a b ≡ false → nat_le b c ≡ false → nat_le a c ≡ false
 more_on a b c x y = grind (arith, nat_tests)
 
-later_more : (a b c : Option ℕ) → later (later a b) c ≡ later a (later b c)
+pub later_more : (a b c : Option ℕ) → later (later a b) c ≡ later a (later b c)
 later_more None b c = refl
 later_more (Some a) None c = refl
 later_more (Some a) (Some b) None = by (nat_le a b)

@@ -243,7 +243,7 @@ rests_over deed is ends = record { rests = λ p e. absurd (ends p e); over = λ 
 -- after the marks were listed
 
 pub showed_longer : {pod : PodId} {place : Area} {text : List ℕ} {m : Option ℕ} {me : ℕ} {a b c : List Event} → Showed pod place text m me a b → Grew b c → Showed pod place text m me a c
-showed_longer x more = record { items = x.items; before = x.before; after = x.after; first = x.first; shows = x.shows; last = grown_more x.last more; greatest = x.greatest }
+showed_longer x more = record { items = x.items; after = x.after; only = x.only; shows = x.shows; last = grown_more x.last more; greatest = x.greatest }
 
 pub rested_so : {observed : Bool} {b c : DirAt} (times : Times) (pod : PodId) (a : DirAt) (m : Option ℕ) (deed : Deed) → observed ≡ true → Follows observed b c → Showed pod area.ExitedGarbage (codes "marked-") m a.process a.trace b.trace → RestsBy (is_young times.now times.grace m) deed
     → RestedSo times pod deed a.process a.trace c.trace

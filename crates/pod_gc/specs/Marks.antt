@@ -4,12 +4,14 @@ use Rattle.dir_model.specs.declared.area.Area.{Area}
 use Rattle.dir_model.specs.declared.event.Event.{Event}
 use Rattle.dir_model.specs.declared.item.Item.{Item}
 use Rattle.dir_model.specs.declared.pod.PodId.{PodId}
+use Rattle.dir_model.specs.Calls.{Extends}
 use Rattle.dir_rules.specs.Marks.{mark, number_of}
 use Rattle.dir_rules.specs.Rules.{root_of}
 use Rattle.dir_rules.specs.Seen.{later}
 use Rattle.dir_files.specs.Listed.{ShowsDirectory}
 use Rattle.phase_read.specs.Read.{pod_spot}
 use Rattle.pod_claim.specs.Work.{Grew}
+use Rattle.pod_gc.specs.Requests.{lists_marks}
 
 -- the moment of a mark that begins with this text: its digits stand for a number of 64 bits
 abbrev pub mark_moment : List ℕ → List ℕ → Option ℕ
@@ -22,13 +24,13 @@ abbrev pub moment_among : List ℕ → List Item → Option ℕ
 moment_among text [] = None
 moment_among text (item ∷ items) = later (mark_moment text item.name) (moment_among text items)
 
--- its own listing of the pod's folder, between these two moments, showed this as the greatest moment of such marks
+-- its own listing of the pod's folder, the first thing that it asked for after the one moment, and which ended before the other, showed
+-- this as the greatest moment of such marks
 pub record Showed (pod : PodId) (area : Area) (text : List ℕ) (moment : Option ℕ) (me : ℕ) (old new : List Event) : Type 0 where
   pub items : List Item
-  pub before : List Event
   pub after : List Event
-  pub first : Grew old before
-  pub shows : ShowsDirectory me before after (root_of (pod_spot pod area)) items
+  pub only : Extends (lists_marks pod area) me old after
+  pub shows : ShowsDirectory me old after (root_of (pod_spot pod area)) items
   pub last : Grew after new
   pub greatest : moment ≡ moment_among text items
 

@@ -32,7 +32,7 @@ use Rattle.removal_commands.proofs.Lacking.{Aside, Lacks, lacks_back}
 use Rattle.removal_commands.proofs.GcQuiet.{each_shown}
 use Rattle.removal_commands.proofs.GcTurn.{turn_after, turn_before, stood_until, untaken_at}
 
-sweeps_aside : (now : ℕ) → Aside (sweeps now)
+pub sweeps_aside : (now : ℕ) → Aside (sweeps now)
 sweeps_aside now = record {
   late = sweeps_late now;
   files = λ inner is. elim (or_either _ _ is) [ inl x ↦ exited_rank inner.spot.area x | inr x ↦ garbage_rank inner.spot.area x ];

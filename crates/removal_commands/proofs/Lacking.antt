@@ -26,7 +26,7 @@ use Rattle.phase_read.specs.Read.{pod_spot}
 use Rattle.removal_commands.proofs.OwnSteps.{in_process, same_folders}
 use Rattle.removal_commands.proofs.LateTurns.{Late, or_false}
 
-garbage_apart : (a : Area) → is_garbage a ≡ true → (rank a == rank area.Prepared) ≡ false
+pub garbage_apart : (a : Area) → is_garbage a ≡ true → (rank a == rank area.Prepared) ≡ false
 garbage_apart area.ExitedGarbage is = refl
 garbage_apart area.Garbage is = refl
 garbage_apart a is = cc
@@ -82,7 +82,7 @@ module _ (asks : Request → Bool) (l : Aside asks) (pod : PodId) (k : ℕ) wher
 
   -- its folder stood there
   module _ (me : ℕ) where
-    folder_back : (s : DirState) (request : Request) (reply : Reply) → (is_kill request || in_process asks request) ≡ true → folder_at (namespace_replied s.namespace me request reply) here ≡ Some k → folder_at s.namespace here ≡ Some k
+    pub folder_back : (s : DirState) (request : Request) (reply : Reply) → (is_kill request || in_process asks request) ≡ true → folder_at (namespace_replied s.namespace me request reply) here ≡ Some k → folder_at s.namespace here ≡ Some k
     folder_back s (MakeFolder spot) reply h at = absurd (l.late.makes spot (or_false (asks (MakeFolder spot)) h))
     folder_back s (MoveFolder from to) Done h at = by (spot_eq from here) refl
       where

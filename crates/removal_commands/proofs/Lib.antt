@@ -16,6 +16,9 @@ pub mod GcBusy
 pub mod GcTurn
 pub mod GcLeft
 pub mod GcStood
+pub mod MarkTimes
+pub mod FolderItems
+pub mod GcWaited
 pub mod GcEnds
 pub mod GcRested
 pub mod GcCame

@@ -1,5 +1,5 @@
 -- What `rm` and `gc` come to, and leave, where nobody else steps.
-use Rattle.std.specs.Prelude.{◌≡◌, ◌⊎◌, ℕ, Bool, true, false, Some, None, List, ◌∷◌, ◌++◌, Ok, Err, slice_get}
+use Rattle.std.specs.Prelude.{◌≡◌, ◌⊎◌, ℕ, Bool, true, false, codes, Option, Some, None, List, [], ◌∷◌, ◌++◌, Ok, Err, slice_get}
 use Rattle.std.specs.List.{list_any, AllByRecursion}
 use Rattle.dir_model.specs.declared.area.Area.{Area}
 use Rattle.dir_model.specs.declared.area.Area.TheVariants.{Embryo}
@@ -17,6 +17,7 @@ use Rattle.dir_model.specs.Areas.{is_stage}
 use Rattle.dir_model.specs.Pods.{pod_text, pod_of}
 use Rattle.dir_trait.specs.State.{DirState, stands, folder_at}
 use Rattle.dir_trait.specs.Trace.{state_after}
+use Rattle.dir_model.specs.Trees.{items_in}
 use Rattle.area_locks.specs.AreaLocks.{IsBusyElsewhere}
 use Rattle.lifecycle.specs.declared.machine.PodState.TheVariants.{Gone}
 use Rattle.lifecycle.specs.PodMachine.{pod_state}
@@ -32,6 +33,7 @@ use Rattle.pod_gc.specs.declared.ages.Times.{Times}
 use Rattle.pod_gc.specs.declared.line.Deed.{Deed}
 use Rattle.pod_gc.specs.declared.line.Deed.TheVariants.{Moved, Deleted, Kept, Busy, Left}
 use Rattle.pod_gc.specs.declared.line.GcLine.{GcLine}
+use Rattle.pod_gc.specs.Marks.{moment_among, is_ripe}
 use Rattle.pod_gc.specs.Requests.{moves_pods}
 use Rattle.command_outcomes.specs.declared.refusal.Refusal.TheVariants.{NoPod, WrongPhase, NoManifest, PodBusy, Stray}
 use Rattle.command_outcomes.specs.Moments.{DirSeen, Outcome}
@@ -171,6 +173,20 @@ BusyAsBefore me old line = (pod : PodId) (which : Which) → line.pod ≡ Some p
 abbrev pub LeftAsBefore : List Event → GcLine → Type 0
 LeftAsBefore old line = (pod : PodId) → line.pod ≡ Some pod → line.deed ≡ Left → (line.place ≡ area.Prepared) × LacksManifest pod (state_after old)
 
+-- the greatest moment of such marks that stand directly in a folder
+abbrev pub moment_in : List ℕ → Option ℕ → DirState → Option ℕ
+moment_in text None s = None
+moment_in text (Some folder) s = moment_among text (items_in folder [] s.entries)
+
+-- in the pod's folder at this place
+abbrev pub moment_at : List ℕ → PodId → Area → DirState → Option ℕ
+moment_at text pod place s = moment_in text (folder_at s.namespace (pod_spot pod place)) s
+
+-- by the `created-` marks that stood in its folder before, a pod that is kept in prepared wasn't ripe, and one that was moved from there was
+pub record WaitedAsBefore (times : Times) (old : List Event) (line : GcLine) : Type 0 where
+  pub waits : (pod : PodId) (phase : Phase) → line.pod ≡ Some pod → line.place ≡ area.Prepared → line.deed ≡ Kept phase → is_ripe times.now times.expire (moment_at (codes "created-") pod area.Prepared (state_after old)) ≡ false
+  pub ripe : (pod : PodId) (to : Area) → line.pod ≡ Some pod → line.place ≡ area.Prepared → line.deed ≡ Moved to → is_ripe times.now times.expire (moment_at (codes "created-") pod area.Prepared (state_after old)) ≡ true
+
 -- of `gc`: its lines by its own steps, one of each pod that stood before, and none of others but where a pod was moved; those of kept,
 -- moved, busy and left pods agree with the state before, the deleted ones are gone, those neither moved nor deleted stand where they
 -- were, and no embryo is left
@@ -187,6 +203,7 @@ pub record SweepsSo (times : Times) (old new : DirSeen) (text : List ℕ) : Type
   pub gone : IsConforming new.trace → AllByRecursion (GoneAfter new.trace) swept.lines
   pub busy : AllByRecursion (BusyAsBefore old.process old.trace) swept.lines
   pub left : AllByRecursion (LeftAsBefore old.trace) swept.lines
+  pub waited : AllByRecursion (WaitedAsBefore times old.trace) swept.lines
   pub embryos : LeavesNoEmbryo old new
 
 abbrev pub SweepsPodsQuietly : Times → DirSeen → DirSeen → Outcome → Type 0

@@ -12,6 +12,7 @@ returns-in-Ok-clause-worked g c = worked_listing c.args.pod c.args.area (Ok c.in
 pub returns-in-Ok-clause-shown : goal.returns-in-Ok-clause-shown
 returns-in-Ok-clause-shown g c t =
     showed c.pod_spot.result (g.D.Dir.shown c.args.dir.now) (g.D.Dir.shown c.items_of.new.dir) c.in-Ok.items c.args.pod c.args.area c.args.text.now c.greatest.result c.pod_spot.ensures (c.greatest.ensures ∙ ap (moment_among c.args.text.now) c.as_slice.ensures) (c.in-Ok.ensures.shows t)
+    ((worked_listing c.args.pod c.args.area (Ok c.in-Ok.items) (with_root c.args.pod c.args.area c.pod_spot.ensures c.in-Ok.ensures.called)).extends t)
 
 pub returns-in-Ok-clause-ready : goal.returns-in-Ok-clause-ready
 returns-in-Ok-clause-ready g c t now = ready_listed c.args.pod c.args.area (Ok c.in-Ok.items) c.requires.marks (with_root c.args.pod c.args.area c.pod_spot.ensures c.in-Ok.ensures.called) t

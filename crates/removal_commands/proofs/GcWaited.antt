@@ -1,0 +1,107 @@
+-- Where nobody else steps, a sweep lets a prepared pod wait, or moves it, by the marks that stood in its folder before.
+use Rattle.std.proofs.Common.{◌≡◌, ◌||◌, ◌&&◌, ◌==◌, ℕ, Bool, true, false, bytes_eq, codes, Option, Some, List, [], refl, sym, ap, subst, ◌∙◌}
+use Rattle.std.specs.List.{AllByRecursion}
+use Rattle.dir_model.specs.declared.area.Area.{Area}
+use Rattle.dir_model.specs.declared.area.Area.TheVariants as area
+use Rattle.dir_model.specs.declared.event.Event.{Event}
+use Rattle.dir_model.specs.declared.item.Inner.{Inner}
+use Rattle.dir_model.specs.declared.item.Item.{Item}
+use Rattle.dir_model.specs.declared.pod.PodId.{PodId}
+use Rattle.dir_model.specs.declared.spot.Spot.{Spot}
+use Rattle.dir_model.specs.declared.request.Request.{Request}
+use Rattle.dir_model.specs.declared.request.Request.TheVariants.{MakeDirIn, MakeFileIn, AppendIn, RemoveFileIn, RemoveDirIn}
+use Rattle.dir_model.specs.declared.request.Reply.{Reply}
+use Rattle.dir_model.specs.Areas.{rank}
+use Rattle.dir_model.specs.Calls.{event, is_kill, Extends}
+use Rattle.dir_model.specs.Pods.{pod_text}
+use Rattle.dir_model.specs.Quiet.{Quiet}
+use Rattle.dir_model.specs.State.{DirState, spot_eq, folder_at}
+use Rattle.dir_model.specs.Trace.{state_after, state_next}
+use Rattle.dir_model.specs.Trees.{items_in}
+use Rattle.dir_model.proofs.Lists.{and_left}
+use Rattle.dir_rules.specs.Standing.{is_in}
+use Rattle.phase_read.specs.Read.{pod_spot}
+use Rattle.pod_claim.specs.Work.{Grew}
+use Rattle.pod_claim.proofs.Traces.{grown_more, grown_by}
+use Rattle.pod_gc.specs.declared.ages.Times.{Times}
+use Rattle.pod_gc.specs.declared.line.GcLine.{GcLine}
+use Rattle.pod_gc.specs.Marks.{moment_among, Showed, is_ripe}
+use Rattle.pod_gc.specs.Requests.{sweeps}
+use Rattle.pod_gc.specs.Told.{IsTold}
+use Rattle.command_outcomes.specs.Meanwhile.{Meanwhile}
+use Rattle.removal_commands.specs.Gc.{Sweeps}
+use Rattle.removal_commands.specs.Quiet.{moment_in, moment_at, WaitedAsBefore}
+use Rattle.removal_commands.proofs.OwnSteps.{in_process, back_from, quiet_part, own_first}
+use Rattle.removal_commands.proofs.LateTurns.{or_false}
+use Rattle.removal_commands.proofs.Lacking.{garbage_apart, folder_back}
+use Rattle.removal_commands.proofs.GcLeft.{sweeps_aside}
+use Rattle.removal_commands.proofs.GcQuiet.{each_line}
+use Rattle.removal_commands.proofs.FolderItems.{changed, items_replied, showed_then}
+
+run_prepared : (x : Area) → (rank area.Run == rank x) ≡ true → (rank x == rank area.Prepared) ≡ false
+run_prepared area.Run is = refl
+run_prepared x is = cc
+
+-- nothing is changed in prepared
+module _ (now : ℕ) (pod : PodId) where
+  abbrev here : Spot
+  here = pod_spot pod area.Prepared
+
+  abbrev Off : Inner → Type 0
+  Off inner = spot_eq inner.spot here ≡ false
+
+  off : (inner : Inner) → (rank inner.spot.area == rank area.Prepared) ≡ false → Off inner
+  off inner is = ap (λ b. b && bytes_eq inner.spot.name (pod_text pod.bytes)) is
+
+  changed_off : (request : Request) → (is_kill request || in_process (sweeps now) request) ≡ true → (inner : Inner) → changed request ≡ Some inner → Off inner
+  changed_off (MakeDirIn i) h inner is = cc
+  changed_off (AppendIn i piece) h inner is = cc
+  changed_off (MakeFileIn i) h inner is =
+      let same : i ≡ inner = cc in
+      subst Off same (off i (run_prepared i.spot.area (and_left (is_in area.Run i.spot.area) _ (or_false (sweeps now (MakeFileIn i)) h))))
+  changed_off (RemoveFileIn i) h inner is =
+      let same : i ≡ inner = cc in
+      subst Off same (off i (garbage_apart i.spot.area ((sweeps_aside now).files i (or_false (sweeps now (RemoveFileIn i)) h))))
+  changed_off (RemoveDirIn i) h inner is =
+      let same : i ≡ inner = cc in
+      subst Off same (off i (garbage_apart i.spot.area ((sweeps_aside now).dirs i (or_false (sweeps now (RemoveDirIn i)) h))))
+  changed_off request h inner is = cc
+
+  module _ (k : ℕ) (items : List Item) (me : ℕ) where
+    abbrev pub Holds : DirState → Type 0
+    Holds s = (folder_at s.namespace here ≡ Some k) × (items_in k [] s.entries ≡ items)
+
+    pub holds_back : (s : DirState) (request : Request) (reply : Reply) → (is_kill request || in_process (sweeps now) request) ≡ true → Holds (state_next s (event me request reply)) → Holds s
+    holds_back s request reply h x =
+        let at = folder_back (sweeps now) (sweeps_aside now) pod k me s request reply h x.0 in
+        (at, sym (items_replied k here s.namespace at s.entries request reply (λ inner is. changed_off request h inner is)) ∙ x.1)
+
+module _ (times : Times) (lines : List GcLine) {me : ℕ} {old new : List Event} (ext : Extends (in_process (sweeps times.now)) me old new) (quiet : Quiet me old new) (m : Meanwhile (Sweeps times lines) me old new) where
+  -- what its own listing showed stood there before
+  showed_before : (text : List ℕ) (pod : PodId) (moment : Option ℕ) {a b : List Event} → Grew old a → Grew b new → Showed pod area.Prepared text moment me a b → moment ≡ moment_at text pod area.Prepared (state_after old)
+  showed_before text pod moment {a} {b} to_a from_b x =
+      let listing : Grew a x.after = record { more = x.only.more; grown = x.only.grown } in
+      let rest = grown_more x.last from_b in
+      let own = own_first (quiet_part quiet to_a (grown_more listing rest)) (record { more = x.only.more; grown = x.only.grown }) rest in
+      let then = showed_then pod area.Prepared x.items x.only own x.shows in
+      let shown = items_in then.folder [] (state_after then.begun).entries in
+      let stood = back_from (Holds times.now pod then.folder shown me) (in_process (sweeps times.now)) me (λ s request reply h y. holds_back times.now pod then.folder shown me s request reply h y) then.begun
+      (grown_more to_a then.first) (grown_more then.last rest) ext quiet (then.there, refl) in
+      x.greatest ∙ (then.same text ∙ sym (ap (λ (o : Option ℕ). moment_in text o (state_after old)) stood.0 ∙ ap (moment_among text) stood.1))
+
+  told_waited : {Can : Type 0} {here : Area} {names : List (List ℕ)} (a b : List Event) → Grew old a → Grew b new → (line : GcLine) → IsTold Can times here names line me a b → WaitedAsBefore times old line
+  told_waited {Can} {here} {names} a b to_a from_b line x = record {
+    waits = λ pod p is place deed. let w = x.dealt.waited (sym x.place_is ∙ place) in let y = w.waits p deed in by false pod is y.0 y.1 y.2;
+    ripe = λ pod to is place deed. let w = x.dealt.waited (sym x.place_is ∙ place) in let y = w.ripe to deed in by true pod is y.0 y.1 y.2;
+  }
+    where
+      by : (is_so : Bool) (pod : PodId) → line.pod ≡ Some pod → (moment : Option ℕ) → Showed x.shown area.Prepared (codes "created-") moment me x.from x.upto → is_ripe times.now times.expire moment ≡ is_so →
+          is_ripe times.now times.expire (moment_at (codes "created-") pod area.Prepared (state_after old)) ≡ is_so
+      by is_so pod is moment showed aged =
+          let same : x.shown ≡ pod = let e : Some x.shown ≡ Some pod = sym x.pod_is ∙ is in cc in
+          let stood = showed_before (codes "created-") x.shown moment (grown_more to_a (grown_by x.first)) (grown_more (grown_by x.last) from_b) showed in
+          subst (λ (q : PodId). is_ripe times.now times.expire (moment_at (codes "created-") q area.Prepared (state_after old)) ≡ is_so) same
+          (subst (λ (o : Option ℕ). is_ripe times.now times.expire o ≡ is_so) stood aged)
+
+  pub gc_waited : AllByRecursion (WaitedAsBefore times old) lines
+  gc_waited = each_line times lines ext quiet m (WaitedAsBefore times old) (λ Can can here names a b to_a from_b line x. told_waited a b to_a from_b line x) (record { waits = λ pod p is place deed. cc; ripe = λ pod to is place deed. cc })
