@@ -103,7 +103,7 @@ deals_moves p now here from to is = elim (or_either (moves p area.Embryo area.Ga
   ]
 ]
 
-deals_removes : (p : PodId) (now : ℕ) (here : Area) (gone : Spot) → deals_with p now here (RemoveFolder gone) ≡ true → pod_text p.bytes ≡ gone.name
+pub deals_removes : (p : PodId) (now : ℕ) (here : Area) (gone : Spot) → deals_with p now here (RemoveFolder gone) ≡ true → pod_text p.bytes ≡ gone.name
 deals_removes p now here gone is =
     let text = pod_text p.bytes in
     elim (or_either (spot_eq gone (pod_spot p area.ExitedGarbage)) _ is) [
@@ -111,7 +111,7 @@ deals_removes p now here gone is =
       | inr x ↦ sym (same_text gone.name text (and_right (rank gone.area == rank area.Garbage) (bytes_eq gone.name text) x))
     ]
 
-among : (now : ℕ) (here : Area) (r : Request) (name : List ℕ) → ((p : PodId) → deals_with p now here r ≡ true → pod_text p.bytes ≡ name) → (names : List (List ℕ)) → deals_with_some now here names r ≡ true → has_name names name ≡ true
+pub among : (now : ℕ) (here : Area) (r : Request) (name : List ℕ) → ((p : PodId) → deals_with p now here r ≡ true → pod_text p.bytes ≡ name) → (names : List (List ℕ)) → deals_with_some now here names r ≡ true → has_name names name ≡ true
 among now here r name only [] is = cc
 among now here r name only (n ∷ ns) is = by (pod_of n) refl is (λ h. among now here r name only ns h)
   where
@@ -124,7 +124,7 @@ module _ (now : ℕ) (here : Area) (stage : is_stage here ≡ true) (names : Lis
   abbrev asks : Request → Bool
   asks = deals_with_some now here names
 
-  apart : (other : Spot) → has_name names other.name ≡ true → spot_eq other spot ≡ false
+  pub apart : (other : Spot) → has_name names other.name ≡ true → spot_eq other spot ≡ false
   apart other shown = by (spot_eq other spot) refl
     where
       by : (b : Bool) → spot_eq other spot ≡ b → b ≡ false

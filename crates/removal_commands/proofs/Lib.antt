@@ -19,6 +19,8 @@ pub mod GcStood
 pub mod MarkTimes
 pub mod FolderItems
 pub mod GcWaited
+pub mod Untouched
+pub mod GcAged
 pub mod GcEnds
 pub mod GcRested
 pub mod GcCame

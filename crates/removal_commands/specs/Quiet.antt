@@ -33,7 +33,7 @@ use Rattle.pod_gc.specs.declared.ages.Times.{Times}
 use Rattle.pod_gc.specs.declared.line.Deed.{Deed}
 use Rattle.pod_gc.specs.declared.line.Deed.TheVariants.{Moved, Deleted, Kept, Busy, Left}
 use Rattle.pod_gc.specs.declared.line.GcLine.{GcLine}
-use Rattle.pod_gc.specs.Marks.{moment_among, is_ripe}
+use Rattle.pod_gc.specs.Marks.{moment_among, is_young, is_ripe}
 use Rattle.pod_gc.specs.Requests.{moves_pods}
 use Rattle.command_outcomes.specs.declared.refusal.Refusal.TheVariants.{NoPod, WrongPhase, NoManifest, PodBusy, Stray}
 use Rattle.command_outcomes.specs.Moments.{DirSeen, Outcome}
@@ -187,6 +187,14 @@ pub record WaitedAsBefore (times : Times) (old : List Event) (line : GcLine) : T
   pub waits : (pod : PodId) (phase : Phase) → line.pod ≡ Some pod → line.place ≡ area.Prepared → line.deed ≡ Kept phase → is_ripe times.now times.expire (moment_at (codes "created-") pod area.Prepared (state_after old)) ≡ false
   pub ripe : (pod : PodId) (to : Area) → line.pod ≡ Some pod → line.place ≡ area.Prepared → line.deed ≡ Moved to → is_ripe times.now times.expire (moment_at (codes "created-") pod area.Prepared (state_after old)) ≡ true
 
+-- by the `marked-` marks that stood in its folder before, a pod that stood in exited-garbage and is kept there was young, and one that was
+-- deleted there wasn't
+pub record AgedAsBefore (times : Times) (old : List Event) (line : GcLine) : Type 0 where
+  pub rests : (pod : PodId) (phase : Phase) → line.pod ≡ Some pod → line.place ≡ area.ExitedGarbage → stands (state_after old).namespace (pod_spot pod area.ExitedGarbage) ≡ true → line.deed ≡ Kept phase →
+      is_young times.now times.grace (moment_at (codes "marked-") pod area.ExitedGarbage (state_after old)) ≡ true
+  pub over : (pod : PodId) → line.pod ≡ Some pod → line.place ≡ area.ExitedGarbage → stands (state_after old).namespace (pod_spot pod area.ExitedGarbage) ≡ true → line.deed ≡ Deleted →
+      is_young times.now times.grace (moment_at (codes "marked-") pod area.ExitedGarbage (state_after old)) ≡ false
+
 -- of `gc`: its lines by its own steps, one of each pod that stood before, and none of others but where a pod was moved; those of kept,
 -- moved, busy and left pods agree with the state before, the deleted ones are gone, those neither moved nor deleted stand where they
 -- were, and no embryo is left
@@ -204,6 +212,7 @@ pub record SweepsSo (times : Times) (old new : DirSeen) (text : List ℕ) : Type
   pub busy : AllByRecursion (BusyAsBefore old.process old.trace) swept.lines
   pub left : AllByRecursion (LeftAsBefore old.trace) swept.lines
   pub waited : AllByRecursion (WaitedAsBefore times old.trace) swept.lines
+  pub aged : IsConforming new.trace → AllByRecursion (AgedAsBefore times old.trace) swept.lines
   pub embryos : LeavesNoEmbryo old new
 
 abbrev pub SweepsPodsQuietly : Times → DirSeen → DirSeen → Outcome → Type 0
