@@ -193,12 +193,7 @@ fn races() -> &'static [Race] {
 }
 
 // Another process moves the folder away, before this call.
-fn taken_away(
-    alloc: Global,
-    dir: MemoryDir,
-    before: u64,
-    from: Spot,
-) -> Result<MemoryDir, NoMemory>
+fn taken_away(alloc: Global, dir: MemoryDir, before: u64, from: Spot) -> Result<MemoryDir, NoMemory>
     requires { dir.local ≡ nothing_local }
     ensures { IfOk result (λ d. d.local ≡ nothing_local) }
 {
