@@ -52,7 +52,7 @@ lacks_then pod s gone there = by (folder_at s.namespace (pod_spot pod area.Prepa
     by (Some k) at gone there = record { folder = k; there = at; without = unclaimed (has_file s.entries k (codes "pod")) gone }
 
 module _ (times : Times) (lines : List GcLine) {me : ℕ} {old new : List Event} (ext : Extends (in_process (sweeps times.now)) me old new) (quiet : Quiet me old new) (m : Meanwhile (Sweeps times lines) me old new) where
-  told_left : {Can : Type 0} (here : Area) → is_stage here ≡ true → (ls : List GcLine) (a b : List Event) → Grew old a → Grew b new → (t : TellsShown Can times here ls me a b) → (line : GcLine) → IsTold Can times here t.names line me t.listed b → LeftAsBefore old line
+  pub told_left : {Can : Type 0} (here : Area) → is_stage here ≡ true → (ls : List GcLine) (a b : List Event) → Grew old a → Grew b new → (t : TellsShown Can times here ls me a b) → (line : GcLine) → IsTold Can times here t.names line me t.listed b → LeftAsBefore old line
   told_left {Can} here stage ls a b to_a from_b t line x pod is deed =
       let same : x.shown ≡ pod = let e : Some x.shown ≡ Some pod = sym x.pod_is ∙ is in cc in
       let first = turn_after stage quiet to_a from_b t x in

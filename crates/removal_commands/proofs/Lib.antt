@@ -21,6 +21,7 @@ pub mod FolderItems
 pub mod GcWaited
 pub mod Untouched
 pub mod GcAged
+pub mod GcFits
 pub mod GcEnds
 pub mod GcRested
 pub mod GcCame

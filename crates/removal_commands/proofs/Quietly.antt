@@ -29,6 +29,7 @@ use Rattle.removal_commands.proofs.GcRested.{gc_rested}
 use Rattle.removal_commands.proofs.GcStood.{gc_stood}
 use Rattle.removal_commands.proofs.GcWaited.{gc_waited}
 use Rattle.removal_commands.proofs.GcAged.{gc_aged}
+use Rattle.removal_commands.proofs.GcFits.{gc_fits}
 use Rattle.removal_commands.proofs.GcEnds.{gc_stays}
 
 module _ (pod : PodId) (now : ℕ) (old new : DirSeen) (ext : Extends (in_process (removes pod now)) old.process old.trace new.trace) (quiet : Quiet old.process old.trace new.trace) where
@@ -61,6 +62,7 @@ gc_swept_quietly times old new text ext quiet idle x = record {
   gone = λ conforming. gc_gone times x.lines ext quiet x.swept idle conforming;
   busy = gc_busy times x.lines ext quiet x.swept;
   left = gc_left times x.lines ext quiet x.swept;
+  fits = gc_fits times x.lines ext quiet x.swept;
   waited = gc_waited times x.lines ext quiet x.swept;
   aged = λ conforming. gc_aged times x.lines ext quiet x.swept conforming;
   embryos = gc_embryos times x.lines ext quiet x.swept;

@@ -1,5 +1,5 @@
 -- What `rm` and `gc` come to, and leave, where nobody else steps.
-use Rattle.std.specs.Prelude.{◌≡◌, ◌⊎◌, ℕ, Bool, true, false, codes, Option, Some, None, List, [], ◌∷◌, ◌++◌, Ok, Err, slice_get}
+use Rattle.std.specs.Prelude.{◌≡◌, ◌⊎◌, ℕ, Bool, true, false, ◌&&◌, codes, Option, Some, None, List, [], ◌∷◌, ◌++◌, Ok, Err, slice_get}
 use Rattle.std.specs.List.{list_any, AllByRecursion}
 use Rattle.dir_model.specs.declared.area.Area.{Area}
 use Rattle.dir_model.specs.declared.area.Area.TheVariants.{Embryo}
@@ -18,6 +18,7 @@ use Rattle.dir_model.specs.Pods.{pod_text, pod_of}
 use Rattle.dir_trait.specs.State.{DirState, stands, folder_at}
 use Rattle.dir_trait.specs.Trace.{state_after}
 use Rattle.dir_model.specs.Trees.{items_in}
+use Rattle.dir_rules.specs.Standing.{is_in}
 use Rattle.area_locks.specs.AreaLocks.{IsBusyElsewhere}
 use Rattle.lifecycle.specs.declared.machine.PodState.TheVariants.{Gone}
 use Rattle.lifecycle.specs.PodMachine.{pod_state}
@@ -31,10 +32,10 @@ use Rattle.pod_steps.specs.Causes.{is_held_against}
 use Rattle.pod_removal.specs.Requests.{is_removable, is_garbage_place}
 use Rattle.pod_gc.specs.declared.ages.Times.{Times}
 use Rattle.pod_gc.specs.declared.line.Deed.{Deed}
-use Rattle.pod_gc.specs.declared.line.Deed.TheVariants.{Moved, Deleted, Kept, Busy, Left}
+use Rattle.pod_gc.specs.declared.line.Deed.TheVariants.{Moved, Deleted, Kept, Busy, BusyGate, Left}
 use Rattle.pod_gc.specs.declared.line.GcLine.{GcLine}
 use Rattle.pod_gc.specs.Marks.{moment_among, is_young, is_ripe}
-use Rattle.pod_gc.specs.Requests.{moves_pods}
+use Rattle.pod_gc.specs.Requests.{goes_to, moves_pods, lets_be, may_be_busy}
 use Rattle.command_outcomes.specs.declared.refusal.Refusal.TheVariants.{NoPod, WrongPhase, NoManifest, PodBusy, Stray}
 use Rattle.command_outcomes.specs.Moments.{DirSeen, Outcome}
 use Rattle.removal_commands.specs.Rm.{removed_text, HasRemovedPod, HasFoundNoPod, HasFoundWrong, HasFoundNoManifest, HasFoundBusy, HasMetStrayAtPod}
@@ -195,9 +196,21 @@ pub record AgedAsBefore (times : Times) (old : List Event) (line : GcLine) : Typ
   pub over : (pod : PodId) → line.pod ≡ Some pod → line.place ≡ area.ExitedGarbage → stands (state_after old).namespace (pod_spot pod area.ExitedGarbage) ≡ true → line.deed ≡ Deleted →
       is_young times.now times.grace (moment_at (codes "marked-") pod area.ExitedGarbage (state_after old)) ≡ false
 
+-- what a line says of a pod at this place: in garbage only that it was deleted or is busy
+abbrev pub may_say : Area → Deed → Bool
+may_say place (Moved to) = moves_pods place && is_in to (goes_to place)
+may_say place Deleted = is_garbage_place place
+may_say place (Kept phase) = lets_be place phase
+may_say place (Busy which) = may_be_busy place
+may_say place Left = is_in area.Prepared place
+may_say place BusyGate = false
+
+abbrev pub SaysFitting : GcLine → Type 0
+SaysFitting line = (pod : PodId) → line.pod ≡ Some pod → may_say line.place line.deed ≡ true
+
 -- of `gc`: its lines by its own steps, one of each pod that stood before, and none of others but where a pod was moved; those of kept,
--- moved, busy and left pods agree with the state before, the deleted ones are gone, those neither moved nor deleted stand where they
--- were, and no embryo is left
+-- moved, busy and left pods agree with the state before, and so do the ages; the deleted ones are gone, those neither moved nor deleted
+-- stand where they were, and no embryo is left
 pub record SweepsSo (times : Times) (old new : DirSeen) (text : List ℕ) : Type 0 where
   pub swept : HasSweptPods times old new text
   pub tells : IsConforming new.trace → TellsOfEach swept.lines old
@@ -211,6 +224,7 @@ pub record SweepsSo (times : Times) (old new : DirSeen) (text : List ℕ) : Type
   pub gone : IsConforming new.trace → AllByRecursion (GoneAfter new.trace) swept.lines
   pub busy : AllByRecursion (BusyAsBefore old.process old.trace) swept.lines
   pub left : AllByRecursion (LeftAsBefore old.trace) swept.lines
+  pub fits : AllByRecursion SaysFitting swept.lines
   pub waited : AllByRecursion (WaitedAsBefore times old.trace) swept.lines
   pub aged : IsConforming new.trace → AllByRecursion (AgedAsBefore times old.trace) swept.lines
   pub embryos : LeavesNoEmbryo old new
