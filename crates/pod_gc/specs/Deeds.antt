@@ -25,7 +25,7 @@ use Rattle.pod_removal.specs.Causes.{IsBusyAt}
 use Rattle.pod_gc.specs.declared.ages.Times.{Times}
 use Rattle.pod_gc.specs.declared.line.Deed.{Deed}
 use Rattle.pod_gc.specs.declared.line.Deed.TheVariants.{Moved, Deleted, Kept, Busy, BusyGate, Left}
-use Rattle.pod_gc.specs.Requests.{goes_to, moves_pods, lets_be, looks_over, may_be_busy}
+use Rattle.pod_gc.specs.Requests.{goes_to, moves_pods, lets_be, looks_over, moves_on, may_be_busy}
 use Rattle.pod_gc.specs.Marks.{Showed, is_young, is_ripe}
 
 -- the pod, or in prepared its file `pod`, isn't at this place
@@ -70,11 +70,12 @@ is_let_be (Kept phase) = true
 is_let_be (Busy which) = true
 is_let_be _ = false
 
--- a pod that is let be was looked at alone, and of one that isn't there nothing was moved or removed; and a pod is said to be busy only
--- where that tells nothing of its phase
+-- a pod that is let be was looked at alone, of one that isn't there nothing was moved or removed, and of one that was moved nothing was
+-- removed; and a pod is said to be busy only where that tells nothing of its phase
 pub record LetBeSo (pod : PodId) (place : Area) (deed : Deed) (me : ℕ) (old new : List Event) : Type 0 where
   pub still : is_let_be deed ≡ true → Extends (looks_over pod place) me old new
   pub left : deed ≡ Left → TookNothing me old new
+  pub moved : (to : Area) → deed ≡ Moved to → Extends (moves_on pod place to) me old new
   pub busy : (which : Which) → deed ≡ Busy which → may_be_busy place ≡ true
 
 -- a deed, what it rests on, that the pod wasn't touched where it is let be, and what the ages say of it

@@ -14,7 +14,7 @@ use Rattle.dir_rules.specs.Seen.{inner_eq}
 use Rattle.dir_rules.specs.Rules.{root_of}
 use Rattle.phase_read.specs.Read.{pod_spot}
 use Rattle.pod_steps.specs.Requests.{looks_at, moves}
-use Rattle.pod_removal.specs.Requests.{removes}
+use Rattle.pod_removal.specs.Requests.{puts_aside, removes}
 
 -- where a pod's age counts
 abbrev pub counts_time : Area → Bool
@@ -39,6 +39,10 @@ deals_with pod now place request = lists_marks pod place request || (moves pod E
 -- it is looked at there, its locks are asked for, and its marks are listed: it is neither moved nor removed
 abbrev pub looks_over : PodId → Area → Request → Bool
 looks_over pod place request = lists_marks pod place request || looks_at pod place request
+
+-- its marks are listed, and it is put aside from there: nothing of it is removed
+abbrev pub moves_on : PodId → Area → Area → Request → Bool
+moves_on pod place to request = lists_marks pod place request || puts_aside pod place to request
 
 -- the places where a lock of the pod may be busy that tells nothing of its phase
 abbrev pub may_be_busy : Area → Bool

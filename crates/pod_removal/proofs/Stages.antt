@@ -1,5 +1,5 @@
 -- What a process may do at a dead pod, and what it knows once that is done.
-use Rattle.std.proofs.Common.{◌≡◌, ℕ, true, false, not, Result, Ok, Err, IfErr, List, refl, subst}
+use Rattle.std.proofs.Common.{◌≡◌, ℕ, true, false, not, Result, Ok, Err, IfOk, IfErr, List, refl, subst}
 use Rattle.std.specs.List.{list_any}
 use Rattle.dir_model.specs.declared.area.Area.TheVariants.{Prepare, Run, Garbage}
 use Rattle.dir_model.specs.declared.opening.Target.{Target}
@@ -33,6 +33,10 @@ err_both P Q R (Err e) f p q = f e p q
 pub err_all : {A E : Type 0} (P : E → Type 0) (r : Result A E) → ((e : E) → P e) → IfErr r P
 err_all P (Ok a) f = tt
 err_all P (Err e) f = f e
+
+pub ok_all : {A E : Type 0} (P : A → Type 0) (r : Result A E) → ((a : A) → P a) → IfOk r P
+ok_all P (Ok a) f = f a
+ok_all P (Err e) f = tt
 
 -- a process that has only locks of areas
 kind_one : (which : Which) (t : Target) → is_lock which t ≡ true → not (is_gate t) ≡ true

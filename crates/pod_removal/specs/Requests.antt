@@ -54,6 +54,12 @@ deletes_in pod area request = looks_at pod area request || deletes_at (pod_spot 
 abbrev pub goes_aside : PodId → Request → Bool
 goes_aside pod request = moves pod Prepare Garbage request || (moves pod Prepared Garbage request || moves pod Run ExitedGarbage request)
 
+-- it is looked at here, marked, and moved there: nothing of it is removed
+abbrev pub puts_aside : PodId → Area → Area → Request → Bool
+puts_aside pod from to (MakeFileIn inner) = spot_eq (pod_spot pod from) inner.spot
+puts_aside pod from to (MoveFolder here there) = moves pod from to (MoveFolder here there)
+puts_aside pod from to request = looks_at pod from request
+
 -- looks at its locations, locks there, its moves to a garbage place, its mark, and its deletion in such a place
 abbrev pub removes : PodId → ℕ → Request → Bool
 removes pod now (Open spot which) = is_pod_spot pod spot

@@ -5,11 +5,11 @@ ghost use Rattle.dir_model.specs.declared.spot.Mode.TheVariants as mode;
 ghost use Rattle.dir_model.specs.declared.spot.Which.{Which};
 ghost use Rattle.dir_model.specs.declared.request.Request.TheVariants.{MoveFolder};
 ghost use Rattle.dir_model.specs.declared.request.Reply.TheVariants.{Done};
-ghost use Rattle.dir_trait.specs.DirCalls.{LockToldBetween};
+ghost use Rattle.dir_trait.specs.DirCalls.{ExtendsBy, LockToldBetween};
 ghost use Rattle.dir_trait.specs.Local.{IsActive};
 ghost use Rattle.folder_building.specs.Work.{Worked};
 ghost use Rattle.phase_read.specs.Read.{pod_spot};
-ghost use Rattle.pod_removal.specs.Requests.{removes, marks_at};
+ghost use Rattle.pod_removal.specs.Requests.{removes, marks_at, puts_aside};
 ghost use Rattle.pod_steps.specs.Holding.{KeepsReady, Stays};
 ghost use Rattle.pod_removal.specs.Holding.{MayRemove, MayMark, Marked};
 ghost use Rattle.pod_steps.specs.Causes.{Stopped, IsAbsentAt, BusyElsewhere, Did};
@@ -39,6 +39,7 @@ pub fn discard_aborted<D: Dir>(
         → LockToldBetween (D.shown dir.old) (D.shown dir.new) (pod_spot pod area.Prepare) true) }
     ensures done { IfOk result (λ done. D.observed ≡ true → Did (MoveFolder (pod_spot pod area.Prepare) (pod_spot pod area.Garbage)) Done
         (D.shown dir.old).process (D.shown dir.old).trace (D.shown dir.new).trace) }
+    ensures aside { IfOk result (λ done. D.observed ≡ true → ExtendsBy (puts_aside pod area.Prepare area.Garbage) (D.shown dir.old) (D.shown dir.new)) }
     ensures looks { IfErr result (λ e. BusyByLooks D.observed pod area.Prepare e (D.shown dir.old) (D.shown dir.new)) }
     ensures still { IfErr result (λ e. TakesNothing D.observed (D.shown dir.old) (D.shown dir.new)) }
     ensures ready { D.observed ≡ true → Stays (MayRemove now) (D.shown dir.old) (λ s. KeepsReady s (D.shown dir.new)) }
@@ -86,6 +87,7 @@ pub fn retire_exited<D: Dir>(
         → LockToldBetween (D.shown dir.old) (D.shown dir.new) (pod_spot pod area.Run) true) }
     ensures done { IfOk result (λ done. D.observed ≡ true → Did (MoveFolder (pod_spot pod area.Run) (pod_spot pod area.ExitedGarbage)) Done
         (D.shown dir.old).process (D.shown dir.old).trace (D.shown dir.new).trace) }
+    ensures aside { IfOk result (λ done. D.observed ≡ true → ExtendsBy (puts_aside pod area.Run area.ExitedGarbage) (D.shown dir.old) (D.shown dir.new)) }
     ensures looks { IfErr result (λ e. BusyByLooks D.observed pod area.Run e (D.shown dir.old) (D.shown dir.new)) }
     ensures still { IfErr result (λ e. TakesNothing D.observed (D.shown dir.old) (D.shown dir.new)) }
     ensures ready { D.observed ≡ true → Stays (MayRemove now) (D.shown dir.old) (λ s. KeepsReady s (D.shown dir.new)) }

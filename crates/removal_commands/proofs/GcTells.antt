@@ -52,7 +52,7 @@ use Rattle.removal_commands.proofs.GcQuiet.{pod_back, named_at, Leaves, lists_le
 
 -- where a folder of this name is at an area, one stands there
 
-found_from : (t : Option Spot → Bool) (i : ℕ) (xs : List (Option Spot)) → list_any t xs ≡ true → is_some (position_from t i xs) ≡ true
+pub found_from : (t : Option Spot → Bool) (i : ℕ) (xs : List (Option Spot)) → list_any t xs ≡ true → is_some (position_from t i xs) ≡ true
 found_from t i [] any = cc
 found_from t i (x ∷ xs) any = by (t x) any (λ h. found_from t (i + 1) xs h)
   where
@@ -60,7 +60,7 @@ found_from t i (x ∷ xs) any = by (t x) any (λ h. found_from t (i + 1) xs h)
     by true h go = refl
     by false h go = go h
 
-any_from : (t : Option Spot → Bool) (i : ℕ) (xs : List (Option Spot)) → is_some (position_from t i xs) ≡ true → list_any t xs ≡ true
+pub any_from : (t : Option Spot → Bool) (i : ℕ) (xs : List (Option Spot)) → is_some (position_from t i xs) ≡ true → list_any t xs ≡ true
 any_from t i [] found = cc
 any_from t i (x ∷ xs) found = by (t x) found (λ h. any_from t (i + 1) xs h)
   where
@@ -192,7 +192,7 @@ and_after place pod ls ms x = record {
   pod_is = x.pod_is;
 }
 
-and_before : (place : Area) (pod : PodId) (ls ms : List GcLine) → HasLine place pod ms → HasLine place pod (ls ++ ms)
+pub and_before : (place : Area) (pod : PodId) (ls ms : List GcLine) → HasLine place pod ms → HasLine place pod (ls ++ ms)
 and_before place pod [] ms x = x
 and_before place pod (l ∷ ls) ms x = more_before place pod l (ls ++ ms) (and_before place pod ls ms x)
 
@@ -296,10 +296,10 @@ module _ (Can : Type 0) (times : Times) (me : ℕ) (old new : List Event) (quiet
       by p is t = inl (told_in a b (subst (λ (q : Area). TellsShown Can times q ls me a b) (sym is) t) to_a rest there)
 
   -- after those before it
-  abbrev Tells : List GcLine → List Event → Type 0
+  abbrev pub Tells : List GcLine → List Event → Type 0
   Tells ls b = HasLine place pod ls ⊎ ((place ≡ area.Embryo) × ((a : List Event) × (c : List Event) × (ms : List GcLine) × Grew old a × WasGated Can ms me a c × Grew c b))
 
-  tells_after : (skipped rest : List Area) (ls : List GcLine) (a b : List Event) → AllByRecursion (λ y. (is_stage y ≡ true) × ((rank place == rank y) ≡ false)) skipped → ArePassed Can times (skipped ++ place ∷ rest) ls me a b → Grew old a → Grew b new → Stood a → Tells ls b
+  pub tells_after : (skipped rest : List Area) (ls : List GcLine) (a b : List Event) → AllByRecursion (λ y. (is_stage y ≡ true) × ((rank place == rank y) ≡ false)) skipped → ArePassed Can times (skipped ++ place ∷ rest) ls me a b → Grew old a → Grew b new → Stood a → Tells ls b
   tells_after [] rest ls a b apart x to_a last there =
       let more = passes_grown Can times rest x.others me x.between b x.rest in
       elim (told_or x.own a x.between x.first to_a (grown_more more last) there) [

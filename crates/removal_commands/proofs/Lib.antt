@@ -23,6 +23,7 @@ pub mod Untouched
 pub mod GcAged
 pub mod GcFits
 pub mod GcEnds
+pub mod GcGoes
 pub mod GcRested
 pub mod GcCame
 pub mod Quietly

@@ -31,6 +31,7 @@ use Rattle.removal_commands.proofs.GcWaited.{gc_waited}
 use Rattle.removal_commands.proofs.GcAged.{gc_aged}
 use Rattle.removal_commands.proofs.GcFits.{gc_fits}
 use Rattle.removal_commands.proofs.GcEnds.{gc_stays}
+use Rattle.removal_commands.proofs.GcGoes.{gc_goes}
 
 module _ (pod : PodId) (now : ℕ) (old new : DirSeen) (ext : Extends (in_process (removes pod now)) old.process old.trace new.trace) (quiet : Quiet old.process old.trace new.trace) where
   pub rm_removed_quietly : OwnsNothing old.process (state_after old.trace).namespace → (text : List ℕ) → text ≡ removed_text pod → HasRemovedPod pod old new → RemovesPodQuietly pod old new (Ok text)
@@ -58,6 +59,7 @@ gc_swept_quietly times old new text ext quiet idle x = record {
   had = λ conforming. gc_had times x.lines ext quiet x.swept idle conforming;
   stood = gc_stood times x.lines ext quiet x.swept;
   came = λ conforming. gc_came times x.lines ext quiet x.swept conforming;
+  goes_on = λ conforming. gc_goes times x.lines ext quiet x.swept conforming;
   stays = λ conforming. gc_stays times x.lines ext quiet x.swept conforming;
   gone = λ conforming. gc_gone times x.lines ext quiet x.swept idle conforming;
   busy = gc_busy times x.lines ext quiet x.swept;

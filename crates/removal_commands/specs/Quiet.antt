@@ -166,6 +166,10 @@ pub record SaysMoved (pod : PodId) (to : Area) (lines : List GcLine) : Type 0 wh
 abbrev pub CameSo : List GcLine → List Event → GcLine → Type 0
 CameSo lines old line = (pod : PodId) → line.pod ≡ Some pod → is_garbage_place line.place ≡ true → (stands (state_after old).namespace (pod_spot pod line.place) ≡ true) ⊎ SaysMoved pod line.place lines
 
+-- a pod that was moved has a line of the place where it was moved to
+abbrev pub GoesOnSo : List GcLine → GcLine → Type 0
+GoesOnSo lines line = (pod : PodId) (to : Area) → line.pod ≡ Some pod → line.deed ≡ Moved to → HasLine to pod lines
+
 -- of a pod that is called busy, another process held this lock before, of a folder at one of the pod's places
 abbrev pub BusyAsBefore : ℕ → List Event → GcLine → Type 0
 BusyAsBefore me old line = (pod : PodId) (which : Which) → line.pod ≡ Some pod → line.deed ≡ Busy which → IsHeldNow (is_pod_spot pod) which me (state_after old)
@@ -220,6 +224,7 @@ pub record SweepsSo (times : Times) (old new : DirSeen) (text : List ℕ) : Type
   pub had : IsConforming new.trace → AllByRecursion (SweptAsBefore old.trace) swept.lines
   pub stood : AllByRecursion (StoodAsBefore old.trace) swept.lines
   pub came : IsConforming new.trace → AllByRecursion (CameSo swept.lines old.trace) swept.lines
+  pub goes_on : IsConforming new.trace → AllByRecursion (GoesOnSo swept.lines) swept.lines
   pub stays : IsConforming new.trace → AllByRecursion (StandsAfter new.trace) swept.lines
   pub gone : IsConforming new.trace → AllByRecursion (GoneAfter new.trace) swept.lines
   pub busy : AllByRecursion (BusyAsBefore old.process old.trace) swept.lines

@@ -1,8 +1,11 @@
 use Rattle.std.proofs.Common.{◌≡◌, true, Result, IfOk, IfErr, refl, sym, subst}
+use Rattle.dir_model.specs.declared.area.Area.{Area}
 use Rattle.dir_model.specs.declared.area.Area.TheVariants as area
 use Rattle.dir_model.specs.declared.spot.Which.{Which}
 use Rattle.dir_model.specs.declared.request.Request.TheVariants.{MoveFolder}
 use Rattle.dir_model.specs.declared.request.Reply.TheVariants.{Done}
+use Rattle.dir_model.proofs.Chains.{extends_wider}
+use Rattle.dir_trait.specs.DirCalls.{ExtendsBy}
 use Rattle.folder_building.proofs.Copying.{ok_more, err_more}
 use Rattle.phase_read.specs.Read.{pod_spot}
 use Rattle.pod_steps.specs.Causes.{Stopped, IsAbsentAt, Did}
@@ -16,8 +19,10 @@ use Rattle.pod_gc.proofs.Embryos.{ready_embryo}
 use Rattle.pod_steps.specs.declared.setback.Setback.TheVariants as stop
 use Rattle.pod_steps.specs.Taking.{TakesNothing}
 use Rattle.pod_removal.specs.Causes.{BusyByLooks, MissedUntaken}
-use Rattle.pod_gc.specs.Requests.{may_be_busy}
-use Rattle.pod_gc.proofs.Untouched.{step_let_be}
+use Rattle.pod_removal.proofs.CallKinds.{moves_aside}
+use Rattle.pod_removal.proofs.Stages.{ok_all}
+use Rattle.pod_gc.specs.Requests.{moves_on, may_be_busy}
+use Rattle.pod_gc.proofs.Untouched.{moved_on, step_let_be}
 use Rattle.pod_gc.proofs.deals.deal_embryo.Goals as goal
 
 pub returns-clause-cause : goal.returns-clause-cause
@@ -61,4 +66,6 @@ returns-clause-let_be g c =
     (err_more (λ e. (which : Which) → e ≡ stop.Busy which → ⊥) (λ e. BusyByLooks D.observed c.args.pod area.Embryo e old new) c.put_aside-answer.result (λ e never which is t. absurd (never which is)) calm)
     (err_more (λ e. (which : Which) → e ≡ stop.Busy which → ⊥) (λ e. (which : Which) → e ≡ stop.Busy which → may_be_busy area.Embryo ≡ true) c.put_aside-answer.result
     (λ e never which is. absurd (never which is)) calm)
-    (err_more (λ e. TakesNothing D.observed old new) (λ e. MissedUntaken D.observed e old new) c.put_aside-answer.result (λ e x is. x) c.put_aside-answer.ensures.still))
+    (err_more (λ e. TakesNothing D.observed old new) (λ e. MissedUntaken D.observed e old new) c.put_aside-answer.result (λ e x is. x) c.put_aside-answer.ensures.still)
+    (ok_all (λ done. (to : Area) → Moved area.Garbage ≡ Moved to → D.observed ≡ true → ExtendsBy (moves_on c.args.pod area.Embryo to) old new) c.put_aside-answer.result
+    (λ done to is t. moved_on c.args.pod area.Embryo area.Garbage (extends_wider (moves_aside c.args.pod area.Embryo area.Garbage) (c.put_aside-answer.ensures.worked.extends t)) to is)))

@@ -1,8 +1,10 @@
 use Rattle.std.proofs.Common.{◌≡◌, true, refl, Result, IfOk, IfErr, sym, subst}
+use Rattle.dir_model.specs.declared.area.Area.{Area}
 use Rattle.dir_model.specs.declared.area.Phase.{Phase}
 use Rattle.dir_model.specs.declared.spot.Mode.TheVariants.{Exclusive}
 use Rattle.dir_model.specs.declared.request.Request.TheVariants.{RemoveFolder}
 use Rattle.dir_model.specs.declared.request.Reply.TheVariants.{Done}
+use Rattle.dir_trait.specs.DirCalls.{ExtendsBy}
 use Rattle.folder_building.proofs.Copying.{ok_more, err_more}
 use Rattle.folder_building.proofs.Working.{worked_wider}
 use Rattle.phase_read.specs.Read.{pod_spot}
@@ -13,14 +15,14 @@ use Rattle.pod_removal.specs.Holding.{MayRemove}
 use Rattle.pod_removal.proofs.Rounds.{busy_at, garbage_stage}
 use Rattle.pod_gc.specs.declared.error.GcError.{GcError}
 use Rattle.pod_gc.specs.declared.line.Deed.{Deed}
-use Rattle.pod_gc.specs.declared.line.Deed.TheVariants.{Deleted, Kept}
+use Rattle.pod_gc.specs.declared.line.Deed.TheVariants.{Moved, Deleted, Kept}
 use Rattle.pod_gc.specs.Causes.{GcCause}
 use Rattle.pod_gc.specs.Deeds.{DeedCause, BusyBecause, LetBe}
 use Rattle.pod_gc.proofs.Steps.{removes_deal, SetBackAt, set_stopped, gone_garbage, cause_deleted, step_deed, step_cause, step_another, step_ends}
-use Rattle.pod_removal.proofs.Stages.{err_all}
+use Rattle.pod_removal.proofs.Stages.{ok_all, err_all}
 use Rattle.pod_steps.specs.declared.setback.Setback.TheVariants as stop
 use Rattle.dir_model.specs.declared.spot.Which.{Which}
-use Rattle.pod_gc.specs.Requests.{may_be_busy}
+use Rattle.pod_gc.specs.Requests.{moves_on, may_be_busy}
 use Rattle.pod_gc.proofs.Untouched.{garbage_busy, step_let_be}
 use Rattle.pod_gc.proofs.deals.deal_garbage.Goals as goal
 
@@ -70,4 +72,5 @@ returns-clause-let_be g c =
     subst (λ (x : Result Deed GcError). IfOk x (λ deed. LetBe D.observed c.args.pod c.args.area deed old new)) (sym c.deed_of.ensures)
     (step_let_be D.observed c.args.pod c.args.area Deleted old new refl (λ is. cc) c.delete_at-answer.result c.delete_at-answer.ensures.looks
     (err_all (λ e. (which : Which) → e ≡ stop.Busy which → may_be_busy c.args.area ≡ true) c.delete_at-answer.result (λ e which is. garbage_busy c.args.area c.requires.garbage))
-    c.delete_at-answer.ensures.still)
+    c.delete_at-answer.ensures.still
+    (ok_all (λ done. (to : Area) → Deleted ≡ Moved to → D.observed ≡ true → ExtendsBy (moves_on c.args.pod c.args.area to) old new) c.delete_at-answer.result (λ done to is t. cc)))

@@ -77,7 +77,7 @@ returns-in-Err-clause-another g c =
     (step_another D.observed c.args.pod area.Prepare (Moved area.Garbage) old new (MayRemove c.args.now) (λ which is. cc) (Err c.in-Err.stop) (λ t s k m. busy_at c.in-Err.stop area.Prepare Shared old new refl (c.in-Err.ensures.another t s k m)))
 
 pub returns-in-Ok-clause-let_be : goal.returns-in-Ok-clause-let_be
-returns-in-Ok-clause-let_be g c t = let_moved
+returns-in-Ok-clause-let_be g c t = let_moved (c.in-Ok.ensures.aside t)
 
 pub returns-in-Err-Busy-clause-let_be : goal.returns-in-Err-Busy-clause-let_be
 returns-in-Err-Busy-clause-let_be g c =
@@ -96,4 +96,4 @@ returns-in-Err-clause-let_be g c =
     let new = D.shown c.discard_aborted.new.dir in
     subst (λ (x : Result Deed GcError). IfOk x (λ deed. LetBe D.observed c.args.pod area.Prepare deed old new)) (sym c.deed_of.ensures)
     (step_let_be D.observed c.args.pod area.Prepare (Moved area.Garbage) old new refl (λ is. cc) (Err c.in-Err.stop)
-    c.in-Err.ensures.looks (λ which is. search (rules, is, c.in-Err.stop-is)) (λ is. c.in-Err.ensures.still))
+    c.in-Err.ensures.looks (λ which is. search (rules, is, c.in-Err.stop-is)) (λ is. c.in-Err.ensures.still) tt)

@@ -1,4 +1,5 @@
 use Rattle.std.proofs.Common.{◌≡◌, ◌⊎◌, inl, inr, true, Result, IfOk, IfErr, refl, sym, subst, ◌∙◌}
+use Rattle.dir_model.specs.declared.area.Area.{Area}
 use Rattle.dir_model.specs.declared.area.Area.TheVariants as area
 use Rattle.dir_model.specs.declared.area.Phase.{Phase}
 use Rattle.dir_model.specs.declared.area.Phase.TheVariants as phase
@@ -26,8 +27,10 @@ use Rattle.pod_removal.proofs.Stages.{err_all}
 use Rattle.pod_steps.specs.declared.setback.Setback.TheVariants as stop
 use Rattle.dir_model.specs.declared.spot.Which.{Which}
 use Rattle.dir_model.proofs.Chains.{nothing_yet}
-use Rattle.pod_gc.specs.Requests.{may_be_busy}
-use Rattle.pod_gc.proofs.Untouched.{let_looked, step_let_be}
+use Rattle.dir_trait.specs.DirCalls.{ExtendsBy}
+use Rattle.pod_removal.specs.Requests.{puts_aside}
+use Rattle.pod_gc.specs.Requests.{moves_on, may_be_busy}
+use Rattle.pod_gc.proofs.Untouched.{let_looked, moved_on, step_let_be}
 use Rattle.pod_gc.proofs.deals.deal_waiting.Goals as goal
 
 pub returns-then-is_ripe-clause-cause : goal.returns-then-is_ripe-clause-cause
@@ -93,7 +96,9 @@ returns-then-is_ripe-clause-let_be g c =
     subst (λ (x : Result Deed GcError). IfOk x (λ deed. LetBe D.observed c.args.pod area.Prepared deed old new)) (sym c.deed_of.ensures)
     (step_let_be D.observed c.args.pod area.Prepared (Moved area.Garbage) old new refl (λ is. cc) c.discard_prepared-answer.result c.discard_prepared-answer.ensures.looks
     (err_all (λ e. (which : Which) → e ≡ stop.Busy which → may_be_busy area.Prepared ≡ true) c.discard_prepared-answer.result (λ e which is. refl))
-    (err_more (λ e. TakesNothing D.observed old new) (λ e. MissedUntaken D.observed e old new) c.discard_prepared-answer.result (λ e x is. x) c.discard_prepared-answer.ensures.still))
+    (err_more (λ e. TakesNothing D.observed old new) (λ e. MissedUntaken D.observed e old new) c.discard_prepared-answer.result (λ e x is. x) c.discard_prepared-answer.ensures.still)
+    (ok_more (λ done. D.observed ≡ true → ExtendsBy (puts_aside c.args.pod area.Prepared area.Garbage) old new) (λ done. (to : Area) → Moved area.Garbage ≡ Moved to → D.observed ≡ true → ExtendsBy (moves_on c.args.pod area.Prepared to) old new) c.discard_prepared-answer.result
+    (λ done x to is t. moved_on c.args.pod area.Prepared area.Garbage (x t) to is) c.discard_prepared-answer.ensures.aside))
 
 pub returns-else-is_ripe-clause-let_be : goal.returns-else-is_ripe-clause-let_be
 returns-else-is_ripe-clause-let_be g c t = let_looked nothing_yet (λ which is. cc)

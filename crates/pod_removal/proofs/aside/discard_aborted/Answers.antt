@@ -4,7 +4,7 @@ use Rattle.dir_model.specs.declared.spot.Mode.TheVariants.{Shared}
 use Rattle.dir_model.specs.declared.spot.Which.{Which}
 use Rattle.dir_model.specs.declared.request.Request.TheVariants.{MoveFolder}
 use Rattle.dir_model.specs.declared.request.Reply.TheVariants.{Done}
-use Rattle.dir_trait.specs.DirCalls.{LockToldBetween}
+use Rattle.dir_trait.specs.DirCalls.{ExtendsBy, LockToldBetween}
 use Rattle.folder_building.proofs.Copying.{ok_more, err_more}
 use Rattle.folder_building.proofs.Working.{worked_more, worked_wider}
 use Rattle.phase_read.specs.Read.{pod_spot}
@@ -16,8 +16,9 @@ use Rattle.pod_steps.specs.Causes.{Stopped, IsAbsentAt, BusyElsewhere, Did}
 use Rattle.pod_steps.proofs.Calls.{follows_none, follows_work, stops_part}
 use Rattle.pod_removal.specs.Holding.{MayRemove}
 use Rattle.pod_removal.specs.Causes.{BusyByLooks}
-use Rattle.pod_removal.proofs.CallKinds.{looks_remove, first_remove}
-use Rattle.pod_removal.proofs.Stages.{err_same, looks_aborted, same_ready, ready_aborted, err_all}
+use Rattle.pod_removal.specs.Requests.{puts_aside}
+use Rattle.pod_removal.proofs.CallKinds.{looks_remove, first_remove, put_aside}
+use Rattle.pod_removal.proofs.Stages.{err_same, looks_aborted, same_ready, ready_aborted, ok_all, err_all}
 use Rattle.pod_steps.specs.Taking.{TakesNothing}
 use Rattle.pod_steps.proofs.Taking.{took_looks, took_more}
 use Rattle.pod_removal.proofs.aside.discard_aborted.Goals as goal
@@ -116,3 +117,8 @@ returns-clause-still g c =
     let new = D.shown c.put_aside.new.dir in
     err_more (λ e. TakesNothing D.observed (D.shown c.probe.new.dir) new) (λ e. TakesNothing D.observed (D.shown c.args.dir.now) new) c.put_aside.result
     (λ e x t. took_more (took_looks c.args.pod Prepare (c.probe.ensures.worked.extends t)) c.probe.ensures.worked.same (x t)) c.put_aside.ensures.still
+
+pub returns-clause-aside : goal.returns-clause-aside
+returns-clause-aside g c =
+    let D = g.D.Dir in
+    ok_all (λ done. D.observed ≡ true → ExtendsBy (puts_aside c.args.pod Prepare Garbage) (D.shown c.args.dir.now) (D.shown c.put_aside.new.dir)) c.put_aside.result (λ done t. put_aside c.args.pod Prepare Garbage c.probe.ensures.worked c.put_aside.ensures.worked t)

@@ -4,7 +4,7 @@ use Rattle.dir_model.specs.declared.spot.Mode.TheVariants.{Shared}
 use Rattle.dir_model.specs.declared.spot.Which.{Which}
 use Rattle.dir_model.specs.declared.request.Request.TheVariants.{MoveFolder}
 use Rattle.dir_model.specs.declared.request.Reply.TheVariants.{Done}
-use Rattle.dir_trait.specs.DirCalls.{LockToldBetween}
+use Rattle.dir_trait.specs.DirCalls.{ExtendsBy, LockToldBetween}
 use Rattle.folder_building.proofs.Copying.{ok_more, err_more}
 use Rattle.folder_building.proofs.Working.{worked_more, worked_wider}
 use Rattle.phase_read.specs.Read.{pod_spot}
@@ -16,8 +16,9 @@ use Rattle.pod_steps.specs.Causes.{Stopped, IsAbsentAt, BusyElsewhere, Did}
 use Rattle.pod_steps.proofs.Calls.{follows_none, follows_work, stops_part}
 use Rattle.pod_removal.specs.Holding.{MayRemove}
 use Rattle.pod_removal.specs.Causes.{BusyByLooks}
-use Rattle.pod_removal.proofs.CallKinds.{looks_remove, marks_remove, third_remove}
-use Rattle.pod_removal.proofs.Stages.{err_same, looks_exited, same_ready, err_all}
+use Rattle.pod_removal.specs.Requests.{puts_aside}
+use Rattle.pod_removal.proofs.CallKinds.{looks_remove, marks_remove, third_remove, put_marked}
+use Rattle.pod_removal.proofs.Stages.{err_same, looks_exited, same_ready, ok_all, err_all}
 use Rattle.pod_removal.proofs.Marking.{ready_exited, ready_unmarked}
 use Rattle.pod_steps.specs.Taking.{TakesNothing}
 use Rattle.pod_steps.proofs.Taking.{took_looks, took_more}
@@ -177,3 +178,9 @@ returns-clause-still g c =
     let marked = c.mark.ensures.worked in
     err_more (λ e. TakesNothing D.observed (D.shown c.mark.new.dir) new) (λ e. TakesNothing D.observed (D.shown c.args.dir.now) new) c.put_aside.result
     (λ e x t. took_more (took_looks c.args.pod Run (looked.extends t)) looked.same (took_more (took_marks c.args.pod c.args.now (marked.extends t)) marked.same (x t))) c.put_aside.ensures.still
+
+pub returns-clause-aside : goal.returns-clause-aside
+returns-clause-aside g c =
+    let D = g.D.Dir in
+    ok_all (λ done. D.observed ≡ true → ExtendsBy (puts_aside c.args.pod Run ExitedGarbage) (D.shown c.args.dir.now) (D.shown c.put_aside.new.dir)) c.put_aside.result
+    (λ done t. put_marked c.args.pod c.args.now ExitedGarbage c.probe.ensures.worked c.mark.ensures.worked c.put_aside.ensures.worked t)

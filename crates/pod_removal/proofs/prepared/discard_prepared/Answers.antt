@@ -4,6 +4,7 @@ use Rattle.dir_model.specs.declared.spot.Which.TheVariants.{Claim}
 use Rattle.dir_model.specs.declared.request.Request.TheVariants.{MoveFolder}
 use Rattle.dir_model.specs.declared.request.Reply.TheVariants.{Done}
 use Rattle.dir_model.specs.Local.{Local}
+use Rattle.dir_trait.specs.DirCalls.{ExtendsBy}
 use Rattle.folder_building.proofs.Copying.{ok_more, err_more}
 use Rattle.phase_read.specs.Read.{pod_spot}
 use Rattle.pod_claim.proofs.Times.{deeds_part}
@@ -13,6 +14,8 @@ use Rattle.pod_steps.specs.Causes.{Stopped, IsAbsentAt, Did}
 use Rattle.pod_steps.proofs.Calls.{follows_went, follows_call, stops_part}
 use Rattle.pod_removal.specs.Holding.{MayDiscard, UnderClaim}
 use Rattle.pod_removal.specs.Causes.{StoppedAlone, BusyInPrepared, BusyByLooks}
+use Rattle.pod_removal.specs.Requests.{puts_aside}
+use Rattle.pod_removal.proofs.CallKinds.{put_locked}
 use Rattle.pod_removal.proofs.Discarding.{takes_claim, discards_under, busy_within, worked_claimed, worked_alone, alone_stops, alone_busy, ready_claimed, ready_looked, ready_left, busy_claim, worked_untaken, stops_else, stops_alone, looks_alone, looks_claimed}
 use Rattle.pod_steps.specs.Taking.{TakesNothing}
 use Rattle.pod_steps.proofs.Taking.{took_looks, took_more, took_closed}
@@ -121,3 +124,10 @@ returns-in-Err-Missing-clause-still g c t =
 
 pub returns-in-Err-clause-still : goal.returns-in-Err-clause-still
 returns-in-Err-clause-still g c t = took_looks c.args.pod Prepared (c.take.ensures.went.extends t)
+
+pub returns-in-Ok-clause-aside : goal.returns-in-Ok-clause-aside
+returns-in-Ok-clause-aside g c =
+    let D = g.D.Dir in
+    ok_more (λ done. D.observed ≡ true → ExtendsBy (puts_aside c.args.pod Prepared Garbage) (D.shown c.take.new.dir) (D.shown c.discard_under_claim-result.new.dir))
+    (λ done. D.observed ≡ true → ExtendsBy (puts_aside c.args.pod Prepared Garbage) (D.shown c.args.dir.now) (D.shown c.close.new.self)) c.discard_under_claim-result.result
+    (λ done x t. put_locked c.args.pod Prepared Garbage c.take.ensures.went c.discard_under_claim-result.ensures.worked.same c.close.ensures.called t (x t)) c.discard_under_claim-result.ensures.aside

@@ -1,8 +1,9 @@
 use Rattle.std.proofs.Common.{◌≡◌, rules, true, arith}
-use Rattle.dir_model.specs.declared.area.Area.TheVariants.{Prepared}
+use Rattle.dir_model.specs.declared.area.Area.TheVariants.{Prepared, Garbage}
 use Rattle.dir_model.specs.declared.spot.Mode.TheVariants.{Shared}
 use Rattle.dir_model.specs.declared.spot.Which.{Which}
 use Rattle.dir_model.specs.declared.spot.Which.TheVariants.{Own}
+use Rattle.dir_trait.specs.DirCalls.{ExtendsBy}
 use Rattle.folder_building.proofs.Copying.{err_more}
 use Rattle.folder_building.proofs.Working.{worked_more, worked_wider}
 use Rattle.pod_steps.specs.declared.setback.Setback.TheVariants as stop
@@ -11,8 +12,9 @@ use Rattle.pod_steps.specs.Causes.{Stopped, IsAbsentAt, BusyElsewhere}
 use Rattle.pod_steps.proofs.Calls.{follows_none, follows_work, stops_part}
 use Rattle.pod_removal.specs.Holding.{UnderClaim}
 use Rattle.pod_removal.specs.Causes.{BusyInPrepared, BusyByLooks}
-use Rattle.pod_removal.proofs.CallKinds.{looks_remove, second_remove}
-use Rattle.pod_removal.proofs.Stages.{err_same, err_both, err_all}
+use Rattle.pod_removal.specs.Requests.{puts_aside}
+use Rattle.pod_removal.proofs.CallKinds.{looks_remove, second_remove, put_aside}
+use Rattle.pod_removal.proofs.Stages.{err_same, err_both, ok_all, err_all}
 use Rattle.pod_removal.proofs.Discarding.{looks_under, bare_under, ready_under, busy_own}
 use Rattle.pod_steps.specs.Taking.{TakesNothing}
 use Rattle.pod_steps.proofs.Taking.{took_looks, took_more}
@@ -87,3 +89,8 @@ returns-clause-still g c =
     let new = D.shown c.put_aside.new.dir in
     err_more (λ e. TakesNothing D.observed (D.shown c.probe.new.dir) new) (λ e. TakesNothing D.observed (D.shown c.args.dir.now) new) c.put_aside.result
     (λ e x t. took_more (took_looks c.args.pod Prepared (c.probe.ensures.worked.extends t)) c.probe.ensures.worked.same (x t)) c.put_aside.ensures.still
+
+pub returns-clause-aside : goal.returns-clause-aside
+returns-clause-aside g c =
+    let D = g.D.Dir in
+    ok_all (λ done. D.observed ≡ true → ExtendsBy (puts_aside c.args.pod Prepared Garbage) (D.shown c.args.dir.now) (D.shown c.put_aside.new.dir)) c.put_aside.result (λ done t. put_aside c.args.pod Prepared Garbage c.probe.ensures.worked c.put_aside.ensures.worked t)
