@@ -54,7 +54,7 @@ deletes_in pod area request = looks_at pod area request || deletes_at (pod_spot 
 abbrev pub goes_aside : PodId → Request → Bool
 goes_aside pod request = moves pod Prepare Garbage request || (moves pod Prepared Garbage request || moves pod Run ExitedGarbage request)
 
--- it is looked at here, marked, and moved there: nothing of it is removed
+-- it is looked at here, a file is made in its folder, and it is moved there: nothing of it is removed
 abbrev pub puts_aside : PodId → Area → Area → Request → Bool
 puts_aside pod from to (MakeFileIn inner) = spot_eq (pod_spot pod from) inner.spot
 puts_aside pod from to (MoveFolder here there) = moves pod from to (MoveFolder here there)

@@ -1,5 +1,5 @@
 -- Where nobody else steps, a pod that a sweep moved has a line of the place to which it was moved.
-use Rattle.std.proofs.Common.{◌≡◌, ◌⊎◌, inl, inr, ◌||◌, ◌==◌, ℕ, Bool, true, false, cond, map, Option, Some, None, is_some, List, [], ◌∷◌, ◌++◌, refl, sym, ap, subst, ◌∙◌}
+use Rattle.std.proofs.Common.{◌≡◌, ◌⊎◌, inl, inr, ◌||◌, ◌==◌, ℕ, Bool, true, false, cond, map, Option, Some, is_some, List, [], ◌∷◌, ◌++◌, refl, sym, ap, subst, ◌∙◌}
 use Rattle.std.specs.List.{list_any, AllByRecursion}
 use Rattle.std.specs.List.Sorted.{IsStrictlySortedBy}
 use Rattle.std.specs.Ordering.{nat_cmp}
@@ -32,7 +32,7 @@ use Rattle.pod_claim.specs.Work.{Grew}
 use Rattle.pod_claim.proofs.Traces.{grown_none, grown_more, grown_by, grown_call}
 use Rattle.pod_steps.specs.Causes.{Did}
 use Rattle.pod_gc.specs.declared.ages.Times.{Times}
-use Rattle.pod_gc.specs.declared.line.Deed.TheVariants.{Moved, BusyGate}
+use Rattle.pod_gc.specs.declared.line.Deed.TheVariants.{Moved}
 use Rattle.pod_gc.specs.declared.line.GcLine.{GcLine}
 use Rattle.pod_gc.specs.Requests.{goes_to, moves_pods, moves_on, sweeps}
 use Rattle.pod_gc.specs.Sweeping.{MaySweepAll}

@@ -212,9 +212,9 @@ may_say place BusyGate = false
 abbrev pub SaysFitting : GcLine → Type 0
 SaysFitting line = (pod : PodId) → line.pod ≡ Some pod → may_say line.place line.deed ≡ true
 
--- of `gc`: its lines by its own steps, one of each pod that stood before, and none of others but where a pod was moved; those of kept,
--- moved, busy and left pods agree with the state before, and so do the ages; the deleted ones are gone, those neither moved nor deleted
--- stand where they were, and no embryo is left
+-- of `gc`: its lines by its own steps, one of each pod that stood before, one more where a pod was moved to, and none of others; those of
+-- kept, moved, busy and left pods agree with the state before, and so do the ages; the deleted ones are gone, those neither moved nor
+-- deleted stand where they were, and no embryo is left
 pub record SweepsSo (times : Times) (old new : DirSeen) (text : List ℕ) : Type 0 where
   pub swept : HasSweptPods times old new text
   pub tells : IsConforming new.trace → TellsOfEach swept.lines old
