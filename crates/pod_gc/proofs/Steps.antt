@@ -1,17 +1,19 @@
 -- What a step at a listed pod comes to as a deed.
-use Rattle.std.proofs.Common.{◌≡◌, ◌≤◌, ◌||◌, ◌⊎◌, inl, inr, ℕ, Bool, true, false, Option, Some, codes, Result, Ok, Err, IfOk, IfErr, List, refl, sym, ap, subst, ◌∙◌}
+use Rattle.std.proofs.Common.{◌≡◌, ◌≤◌, ◌||◌, ◌⊎◌, inl, inr, ℕ, Bool, true, false, Option, Some, None, codes, Result, Ok, Err, IfOk, IfErr, List, refl, sym, ap, subst, ◌∙◌}
 use Rattle.dir_model.specs.declared.area.Area.{Area}
 use Rattle.dir_model.specs.declared.area.Area.TheVariants as area
 use Rattle.dir_model.specs.declared.area.Phase.{Phase}
+use Rattle.dir_model.specs.declared.area.Phase.TheVariants as kind
 use Rattle.dir_model.specs.declared.event.Event.{Event}
 use Rattle.dir_model.specs.declared.pod.PodId.{PodId}
+use Rattle.dir_model.specs.declared.spot.Mode.{Mode}
 use Rattle.dir_model.specs.declared.spot.Spot.{Spot}
 use Rattle.dir_model.specs.declared.spot.Which.{Which}
 use Rattle.dir_model.specs.declared.spot.Which.TheVariants.{Own}
 use Rattle.dir_model.specs.declared.request.Request.{Request}
 use Rattle.dir_model.specs.declared.request.Request.TheVariants.{MoveFolder, RemoveFolder}
 use Rattle.dir_model.specs.declared.request.Reply.TheVariants.{Done}
-use Rattle.dir_model.specs.Areas.{rank, phase_in}
+use Rattle.dir_model.specs.Areas.{rank, is_stage, phase_in}
 use Rattle.dir_model.specs.Between.{LockTold}
 use Rattle.dir_model.specs.Calls.{AtOwnStep}
 use Rattle.dir_model.specs.Causes.{Rose}
@@ -36,14 +38,14 @@ use Rattle.pod_steps.specs.declared.setback.Setback.{Setback}
 use Rattle.pod_steps.specs.declared.setback.Setback.TheVariants as stop
 use Rattle.pod_steps.specs.Requests.{looks_at, moves}
 use Rattle.pod_steps.specs.Holding.{MayLook, LooksFree, with_look, KeepsReady, Stays}
-use Rattle.pod_steps.specs.Causes.{Stopped, IsAbsentAt, Did, WasStray}
+use Rattle.pod_steps.specs.Causes.{Stopped, IsAbsentAt, Did, WasStray, BusyElsewhere}
 use Rattle.pod_steps.proofs.Calls.{Follows, stray_part, rose_later}
 use Rattle.pod_removal.specs.Requests.{is_garbage_place, removes}
-use Rattle.pod_removal.specs.Causes.{BusyAny}
+use Rattle.pod_removal.specs.Causes.{BusyAny, IsBusyAt}
 use Rattle.pod_removal.specs.Holding.{MayRemove}
 use Rattle.pod_removal.proofs.CallKinds.{looks_remove}
 use Rattle.pod_removal.proofs.Stages.{none_kind, same_ready}
-use Rattle.pod_removal.proofs.Rounds.{may_kept, looked_keeps, busy_within, event_after}
+use Rattle.pod_removal.proofs.Rounds.{may_kept, looked_keeps, busy_within, busy_at, event_after}
 use Rattle.pod_gc.specs.declared.error.GcError.{GcError}
 use Rattle.pod_gc.specs.declared.line.Deed.{Deed}
 use Rattle.pod_gc.specs.declared.line.Deed.TheVariants.{Moved, Deleted, Kept, Busy, Left}
@@ -51,7 +53,7 @@ use Rattle.pod_gc.specs.Requests.{deals_with, lists_marks, goes_to, moves_pods, 
 use Rattle.pod_gc.specs.Causes.{deed_of, look_fault, GcCause}
 use Rattle.pod_gc.specs.declared.ages.Times.{Times}
 use Rattle.pod_gc.specs.Marks.{Showed, is_young}
-use Rattle.pod_gc.specs.Deeds.{IsGoneFrom, SaysThere, DoesNothing, DeedCause, BusyBecause, RestsBy, RestedSo}
+use Rattle.pod_gc.specs.Deeds.{IsGoneFrom, SaysThere, DoesNothing, DeedCause, refused_lock, BusyBecause, RestsBy, RestedSo}
 
 -- the calls are of their kind
 
@@ -123,12 +125,12 @@ module _ (observed : Bool) (pod : PodId) (place : Area) (done : Deed) (old new :
   step_cause (Err stop.Stray) err = record { fault = λ is. cc; stray = λ is t. err.stray refl t }
   step_cause (Err stop.NoMemory) err = record { fault = λ is. cc; stray = λ is. cc }
 
-  module _ (May : Seen → Type 0) (calm : (which : Which) → done ≡ Busy which → ⊥) where
+  module _ (May : Seen → Type 0) (calm : (which : Which) → refused_lock done ≡ Some which → ⊥) where
     pub step_another : (r : Result (Unit {0}) Setback) → IfErr r (λ e. observed ≡ true → Stays May old (λ s. BusyAny pod e old new)) → IfOk (deed_of r done) (λ deed. observed ≡ true → Stays May old (λ s. BusyBecause pod deed old new))
     step_another (Ok d) busy = λ t s k m which is. absurd (calm which is)
     step_another (Err stop.Missing) busy = λ t s k m which is. cc
     step_another (Err stop.NoManifest) busy = λ t s k m which is. cc
-    step_another (Err (stop.Busy w)) busy = λ t s k m which is. let named : stop.Busy w ≡ stop.Busy which = cc in busy t s k m which named
+    step_another (Err (stop.Busy w)) busy = λ t s k m which is. let same : w ≡ which = cc in busy t s k m which (ap (λ (x : Which). stop.Busy x) same)
     step_another (Err stop.DirFault) busy = tt
     step_another (Err stop.Stray) busy = tt
     step_another (Err stop.NoMemory) busy = tt
@@ -156,10 +158,30 @@ never_busy : (d : Deed) (p : Phase) → (d ≡ Kept p) ⊎ (d ≡ Left) → (whi
 never_busy d p (inl kept) which is = let e : Kept p ≡ Busy which = sym kept ∙ is in cc
 never_busy d p (inr left) which is = let e : Left ≡ Busy which = sym left ∙ is in cc
 
-pub said_calm : (observed : Bool) (May : Seen → Type 0) (pod : PodId) (place : Area) (p : Phase) (a old mid new : DirAt) (r : Result Deed GcError) → IfOk r (λ deed. SaysThere observed pod place p deed mid new)
-    → IfOk r (λ deed. observed ≡ true → Stays May a (λ s. BusyBecause pod deed old new))
-said_calm observed May pod place p a old mid new (Err e) x = tt
-said_calm observed May pod place p a old mid new (Ok deed) x = λ t s k m which is. absurd (never_busy deed p x.is which is)
+lock_kept : (d : Deed) (p : Phase) → (d ≡ Kept p) ⊎ (d ≡ Left) → (which : Which) → refused_lock d ≡ Some which → refused_lock (Kept p) ≡ Some which
+lock_kept d p (inl kept) which is = sym (ap refused_lock kept) ∙ is
+lock_kept d p (inr left) which is = let e : None ≡ Some which = sym (ap refused_lock left) ∙ is in cc
+
+-- by a phase that has no owner
+pub said_calm : (observed : Bool) (May : Seen → Type 0) (pod : PodId) (place : Area) (p : Phase) (old mid new : DirAt) → refused_lock (Kept p) ≡ None → (r : Result Deed GcError) → IfOk r (λ deed. SaysThere observed pod place p deed mid new)
+    → IfOk r (λ deed. observed ≡ true → Stays May old (λ s. BusyBecause pod deed old new))
+said_calm observed May pod place p old mid new free (Err e) x = tt
+said_calm observed May pod place p old mid new free (Ok deed) x = λ t s k m which is. let e : None ≡ Some which = sym free ∙ lock_kept deed p x.is which is in cc
+
+-- by a phase that has one, once its own lock was refused
+own_kept : (p : Phase) (which : Which) → refused_lock (Kept p) ≡ Some which → which ≡ Own
+own_kept kind.Preparing which is = cc
+own_kept kind.Running which is = cc
+own_kept kind.Deleting which is = cc
+own_kept _ which is = cc
+
+pub said_refused : (observed : Bool) (May : Seen → Type 0) (pod : PodId) (place : Area) (mode : Mode) (w : Which) (p : Phase) (old mid new : DirAt) → is_stage place ≡ true → Follows observed mid new → w ≡ Own
+    → (observed ≡ true → Stays May old (λ s. BusyElsewhere pod place mode (stop.Busy w) old mid)) → (r : Result Deed GcError) → IfOk r (λ deed. SaysThere observed pod place p deed mid new)
+    → IfOk r (λ deed. observed ≡ true → Stays May old (λ s. BusyBecause pod deed old new))
+said_refused observed May pod place mode w p old mid new stage after named busy (Err e) x = tt
+said_refused observed May pod place mode w p old mid new stage after named busy (Ok deed) x = λ t s k m which is.
+    subst (λ (l : Which). IsBusyAt pod l old.process old.trace new.trace) (named ∙ sym (own_kept p which (lock_kept deed p x.is which is)))
+    (busy_within grown_none refl (after.grown t) (busy_at (stop.Busy w) place mode old mid stage (busy t s k m) w refl))
 
 pub cause_after : {observed : Bool} {e : GcError} {a b c : DirAt} → Follows observed a b → GcCause observed e b c → GcCause observed e a c
 cause_after {observed} {e} {a} {b} {c} ab x = record { fault = λ is. rose_later a.faults b.faults c.faults ab.faults (x.fault is); stray = λ is t. stray_part (ab.grown t) ab.same grown_none (x.stray is t) }
@@ -207,7 +229,7 @@ pub ready_unprobed : {now : ℕ} {a b : DirAt} (pod : PodId) → Stays (MayLook 
 ready_unprobed pod left s k m = same_ready m (left s k (looks_resting pod m))
 
 -- a step that no lock stops
-pub step_calm : (done : Deed) → ((which : Which) → done ≡ Busy which → ⊥) → (r : Result (Unit {0}) Setback) → IfErr r (λ e. (which : Which) → e ≡ stop.Busy which → ⊥) → IfOk (deed_of r done) (λ deed. (which : Which) → deed ≡ Busy which → ⊥)
+pub step_calm : (done : Deed) → ((which : Which) → refused_lock done ≡ Some which → ⊥) → (r : Result (Unit {0}) Setback) → IfErr r (λ e. (which : Which) → e ≡ stop.Busy which → ⊥) → IfOk (deed_of r done) (λ deed. (which : Which) → refused_lock deed ≡ Some which → ⊥)
 step_calm done calm (Ok d) never = calm
 step_calm done calm (Err stop.Missing) never = λ which is. cc
 step_calm done calm (Err stop.NoManifest) never = λ which is. cc
@@ -261,8 +283,8 @@ deed_after ab same x = record {
 pub deed_later : {observed : Bool} {pod : PodId} {place : Area} {deed : Deed} {a b : DirAt} (c : DirAt) → observed ≡ true → Follows observed a b → DeedCause pod place deed b.process b.trace c.trace → DeedCause pod place deed a.process a.trace c.trace
 deed_later c t ab x = deed_after (ab.grown t) ab.same x
 
-pub busy_later : {observed : Bool} {now : ℕ} {pod : PodId} {deed : Deed} {a b : DirAt} (c : DirAt) → observed ≡ true → Follows observed a b → Stays (MayRemove now) a (λ s. KeepsReady s b) → Stays (MayRemove now) b (λ s. BusyBecause pod deed b c) → Stays (MayRemove now) a (λ s. BusyBecause pod deed a c)
-busy_later c t ab ready busy s k m which is = let x = ready s k m in busy_within (ab.grown t) ab.same grown_none (busy x.known x.knows (may_kept x.keeps m) which is)
+pub busy_later : {observed : Bool} {now : ℕ} {pod : PodId} {a b : DirAt} (deed : Deed) (c : DirAt) → observed ≡ true → Follows observed a b → Stays (MayRemove now) a (λ s. KeepsReady s b) → Stays (MayRemove now) b (λ s. BusyBecause pod deed b c) → Stays (MayRemove now) a (λ s. BusyBecause pod deed a c)
+busy_later deed c t ab ready busy s k m which is = let x = ready s k m in busy_within (ab.grown t) ab.same grown_none (busy x.known x.knows (may_kept x.keeps m) which is)
 
 pub ready_later : {now : ℕ} {a b c : DirAt} → Stays (MayRemove now) a (λ s. KeepsReady s b) → Stays (MayRemove now) b (λ s. KeepsReady s c) → Stays (MayRemove now) a (λ s. KeepsReady s c)
 ready_later ab bc s k m =

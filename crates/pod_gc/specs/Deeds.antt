@@ -1,5 +1,5 @@
 -- What was done with a pod that a pass listed.
-use Rattle.std.specs.Prelude.{◌≡◌, ◌⊎◌, ℕ, Bool, true, false, Option, List, codes}
+use Rattle.std.specs.Prelude.{◌≡◌, ◌⊎◌, ℕ, Bool, true, false, Option, Some, None, List, codes}
 use Rattle.dir_model.specs.declared.area.Area.{Area}
 use Rattle.dir_model.specs.declared.area.Area.TheVariants as area
 use Rattle.dir_model.specs.declared.area.Phase.{Phase}
@@ -7,7 +7,7 @@ use Rattle.dir_model.specs.declared.area.Phase.TheVariants as kind
 use Rattle.dir_model.specs.declared.event.Event.{Event}
 use Rattle.dir_model.specs.declared.pod.PodId.{PodId}
 use Rattle.dir_model.specs.declared.spot.Which.{Which}
-use Rattle.dir_model.specs.declared.spot.Which.TheVariants.{Claim}
+use Rattle.dir_model.specs.declared.spot.Which.TheVariants.{Claim, Own}
 use Rattle.dir_model.specs.declared.request.Request.TheVariants.{MoveFolder, RemoveFolder}
 use Rattle.dir_model.specs.declared.request.Reply.TheVariants.{Done}
 use Rattle.dir_model.specs.Calls.{Extends, AtOwnStep}
@@ -94,9 +94,18 @@ pub record WaitsBy (ripe : Bool) (deed : Deed) : Type 0 where
   pub waits : (phase : Phase) → deed ≡ Kept phase → ripe ≡ false
   pub goes : (to : Area) → deed ≡ Moved to → ripe ≡ true
 
+-- the lock that was refused where this was done: the one that the line of a busy pod names, or the pod's own where it is kept for a phase
+-- that has an owner
+abbrev pub refused_lock : Deed → Option Which
+refused_lock (Busy which) = Some which
+refused_lock (Kept kind.Preparing) = Some Own
+refused_lock (Kept kind.Running) = Some Own
+refused_lock (Kept kind.Deleting) = Some Own
+refused_lock _ = None
+
 -- where a lock was refused, another process held it
 abbrev pub BusyBecause : PodId → Deed → DirAt → DirAt → Type 0
-BusyBecause pod deed old new = (which : Which) → deed ≡ Busy which → IsBusyAt pod which old.process old.trace new.trace
+BusyBecause pod deed old new = (which : Which) → refused_lock deed ≡ Some which → IsBusyAt pod which old.process old.trace new.trace
 
 -- and where that is known of a process that may do so
 abbrev pub BusyWhere : Bool → (Seen → Type 0) → PodId → Deed → DirAt → DirAt → Type 0

@@ -21,10 +21,10 @@ use Rattle.dir_files.specs.Listed.{ShowsArea}
 use Rattle.area_locks.specs.AreaLocks.{takes, closes, IsBusy, IsBusyElsewhere}
 use Rattle.pod_removal.specs.Causes.{IsBusyAt}
 use Rattle.pod_gc.specs.declared.ages.Times.{Times}
-use Rattle.pod_gc.specs.declared.line.Deed.TheVariants.{Busy, BusyGate}
+use Rattle.pod_gc.specs.declared.line.Deed.TheVariants.{BusyGate}
 use Rattle.pod_gc.specs.declared.line.GcLine.{GcLine}
 use Rattle.pod_gc.specs.Requests.{lists, deals_with}
-use Rattle.pod_gc.specs.Deeds.{Dealt}
+use Rattle.pod_gc.specs.Deeds.{Dealt, refused_lock}
 use Rattle.pod_gc.specs.Sweeping.{MayPass, MaySweepAll}
 
 -- the pods among these names of folders, in that order
@@ -61,7 +61,7 @@ pub record IsTold (Can : Type 0) (times : Times) (here : Area) (names : List (Li
   pub first : Extends (deals_with_some times.now here earlier) me old from
   pub dealt : Dealt times shown here line.deed me from upto
   pub last : Extends (deals_with_some times.now here later) me upto new
-  pub another : Can → (which : Which) → line.deed ≡ Busy which → IsBusyAt shown which me old new
+  pub another : Can → (which : Which) → refused_lock line.deed ≡ Some which → IsBusyAt shown which me old new
 
 -- the lines are one for each pod among the names, in that order, and nothing was asked for but what deals with these
 pub record TellsEach (Can : Type 0) (times : Times) (here : Area) (names : List (List ℕ)) (lines : List GcLine) (me : ℕ) (old new : List Event) : Type 0 where

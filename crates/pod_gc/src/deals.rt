@@ -1,5 +1,5 @@
 // What is done with one listed pod, by the area of the pass.
-ghost use Rattle.std.specs.Prelude.{◌≡◌, ℕ, true, IfOk, IfErr};
+ghost use Rattle.std.specs.Prelude.{◌≡◌, ℕ, true, Some, IfOk, IfErr};
 ghost use Rattle.dir_model.specs.declared.spot.Which.{Which};
 ghost use Rattle.dir_model.specs.declared.area.Phase.{Phase};
 ghost use Rattle.pod_steps.specs.Requests.{moves};
@@ -14,7 +14,7 @@ ghost use Rattle.pod_removal.specs.Holding.{MayRemove};
 ghost use Rattle.pod_gc.specs.Requests.{deals_with};
 ghost use Rattle.pod_gc.specs.Causes.{GcCause};
 ghost use Rattle.pod_gc.specs.Marks.{is_young, is_ripe};
-ghost use Rattle.pod_gc.specs.Deeds.{DeedCause, BusyBecause, BusyWhere, LetBe, WaitsOr, RestsBy, WaitsBy, RestedSo, WaitedSo, Dealt};
+ghost use Rattle.pod_gc.specs.Deeds.{DeedCause, refused_lock, BusyBecause, BusyWhere, LetBe, WaitsOr, RestsBy, WaitsBy, RestedSo, WaitedSo, Dealt};
 
 use crate::ages::{Times, is_ripe, is_young, marked_at};
 use crate::error::GcError;
@@ -31,7 +31,7 @@ fn deal_embryo<D: Dir>(alloc: Global, dir: &mut D, pod: PodId) -> Result<Deed, G
     ensures worked { Worked D.observed (moves pod area.Embryo area.Garbage) (D.shown dir.old) (D.shown dir.new) }
     ensures cause { IfErr result (λ e. GcCause D.observed e (D.shown dir.old) (D.shown dir.new)) }
     ensures deed { IfOk result (λ deed. D.observed ≡ true → DeedCause pod area.Embryo deed (D.shown dir.old).process (D.shown dir.old).trace (D.shown dir.new).trace) }
-    ensures calm { IfOk result (λ deed. (which : Which) → deed ≡ Deed.Busy which → ⊥) }
+    ensures calm { IfOk result (λ deed. (which : Which) → refused_lock deed ≡ Some which → ⊥) }
     ensures let_be { IfOk result (λ deed. LetBe D.observed pod area.Embryo deed (D.shown dir.old) (D.shown dir.new)) }
     ensures ready { D.observed ≡ true → (now : ℕ) → Stays (HoldsEmbryo now) (D.shown dir.old) (λ s. KeepsReady s (D.shown dir.new)) }
 {

@@ -1,4 +1,4 @@
-use Rattle.std.proofs.Common.{◌≡◌, true, sym, subst}
+use Rattle.std.proofs.Common.{◌≡◌, true, Some, sym, subst}
 use Rattle.dir_model.specs.declared.area.Area.{Area}
 use Rattle.dir_model.specs.declared.area.Area.TheVariants as area
 use Rattle.dir_model.specs.declared.spot.Which.{Which}
@@ -7,9 +7,8 @@ use Rattle.folder_building.proofs.Copying.{ok_more}
 use Rattle.folder_building.proofs.Working.{worked_wider}
 use Rattle.pod_steps.specs.Holding.{Stays}
 use Rattle.pod_removal.specs.Holding.{MayRemove}
-use Rattle.pod_gc.specs.declared.line.Deed.TheVariants.{Busy}
 use Rattle.pod_gc.specs.Requests.{deals_with}
-use Rattle.pod_gc.specs.Deeds.{DeedCause, BusyBecause, LetBe, WaitedSo, RestedSo, Dealt}
+use Rattle.pod_gc.specs.Deeds.{DeedCause, refused_lock, BusyBecause, LetBe, WaitedSo, RestedSo, Dealt}
 use Rattle.pod_gc.specs.Sweeping.{MaySweep, MayPass}
 use Rattle.pod_gc.proofs.Dealing.{embryo_deal, dealt_at, both_ok, all_ok, may_embryo}
 use Rattle.pod_gc.proofs.deals.deal.Goals as goal
@@ -32,7 +31,7 @@ returns-in-Embryo-clause-another g c =
     let D = g.D.Dir in
     let old = D.shown c.args.dir.now in
     let new = D.shown c.deal_embryo.new.dir in
-    ok_more (λ deed. (which : Which) → deed ≡ Busy which → ⊥) (λ deed. D.observed ≡ true → Stays (MayPass c.args.area c.args.times.now c.args.times.expire) old (λ s. BusyBecause c.args.pod deed old new)) c.deal_embryo.result
+    ok_more (λ deed. (which : Which) → refused_lock deed ≡ Some which → ⊥) (λ deed. D.observed ≡ true → Stays (MayPass c.args.area c.args.times.now c.args.times.expire) old (λ s. BusyBecause c.args.pod deed old new)) c.deal_embryo.result
     (λ deed calm t s k m which is. absurd (calm which is)) c.deal_embryo.ensures.calm
 
 pub returns-in-Embryo-clause-ready : goal.returns-in-Embryo-clause-ready

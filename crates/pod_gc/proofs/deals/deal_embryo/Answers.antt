@@ -1,4 +1,4 @@
-use Rattle.std.proofs.Common.{◌≡◌, true, Result, IfOk, IfErr, refl, sym, subst}
+use Rattle.std.proofs.Common.{◌≡◌, true, Some, Result, IfOk, IfErr, refl, sym, subst}
 use Rattle.dir_model.specs.declared.area.Area.{Area}
 use Rattle.dir_model.specs.declared.area.Area.TheVariants as area
 use Rattle.dir_model.specs.declared.spot.Which.{Which}
@@ -11,9 +11,9 @@ use Rattle.phase_read.specs.Read.{pod_spot}
 use Rattle.pod_steps.specs.Causes.{Stopped, IsAbsentAt, Did}
 use Rattle.pod_gc.specs.declared.error.GcError.{GcError}
 use Rattle.pod_gc.specs.declared.line.Deed.{Deed}
-use Rattle.pod_gc.specs.declared.line.Deed.TheVariants.{Moved, Busy}
+use Rattle.pod_gc.specs.declared.line.Deed.TheVariants.{Moved}
 use Rattle.pod_gc.specs.Causes.{GcCause}
-use Rattle.pod_gc.specs.Deeds.{DeedCause, LetBe}
+use Rattle.pod_gc.specs.Deeds.{DeedCause, refused_lock, LetBe}
 use Rattle.pod_gc.proofs.Steps.{SetBackAt, set_stopped, cause_moved, step_deed, step_cause, step_calm}
 use Rattle.pod_gc.proofs.Embryos.{ready_embryo}
 use Rattle.pod_steps.specs.declared.setback.Setback.TheVariants as stop
@@ -49,7 +49,7 @@ returns-clause-deed g c =
 
 pub returns-clause-calm : goal.returns-clause-calm
 returns-clause-calm g c =
-    subst (λ (x : Result Deed GcError). IfOk x (λ deed. (which : Which) → deed ≡ Busy which → ⊥)) (sym c.deed_of.ensures)
+    subst (λ (x : Result Deed GcError). IfOk x (λ deed. (which : Which) → refused_lock deed ≡ Some which → ⊥)) (sym c.deed_of.ensures)
     (step_calm (Moved area.Garbage) (λ which is. cc) c.put_aside-answer.result c.put_aside-answer.ensures.calm)
 
 pub returns-clause-ready : goal.returns-clause-ready

@@ -62,7 +62,7 @@ returns-in-Some-clause-another g c =
     let mid = D.shown c.marked_at.new.dir in
     let new = D.shown c.deal_rested.new.dir in
     ok_more (λ deed. D.observed ≡ true → Stays (MayRemove c.args.times.now) mid (λ s. BusyBecause c.args.pod deed mid new)) (λ deed. D.observed ≡ true → Stays (MayRemove c.args.times.now) old (λ s. BusyBecause c.args.pod deed old new)) c.deal_rested.result
-    (λ deed x t. busy_later new t (follows_work c.marked_at.ensures.worked) (c.marked_at.ensures.ready t c.args.times.now) (x t)) c.deal_rested.ensures.another
+    (λ deed x t. busy_later deed new t (follows_work c.marked_at.ensures.worked) (c.marked_at.ensures.ready t c.args.times.now) (x t)) c.deal_rested.ensures.another
 
 pub returns-in-Some-clause-ready : goal.returns-in-Some-clause-ready
 returns-in-Some-clause-ready g c t = ready_later (c.marked_at.ensures.ready t c.args.times.now) (c.deal_rested.ensures.ready t)

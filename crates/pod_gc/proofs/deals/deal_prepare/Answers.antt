@@ -13,7 +13,7 @@ use Rattle.pod_gc.specs.declared.line.Deed.{Deed}
 use Rattle.pod_gc.specs.declared.line.Deed.TheVariants.{Moved}
 use Rattle.pod_gc.specs.Causes.{GcCause}
 use Rattle.pod_gc.specs.Deeds.{DeedCause, BusyBecause, SaysThere, LetBe}
-use Rattle.pod_gc.proofs.Steps.{removes_deal, looks_deal, set_stopped, cause_moved, step_deed, step_cause, step_another, said_deed, said_calm, cause_after, ready_looked, said_unbusy}
+use Rattle.pod_gc.proofs.Steps.{removes_deal, looks_deal, set_stopped, cause_moved, step_deed, step_cause, step_another, said_deed, said_refused, cause_after, ready_looked, said_unbusy}
 use Rattle.pod_gc.proofs.Untouched.{let_moved, let_refused, step_let_be}
 use Rattle.pod_gc.proofs.deals.deal_prepare.Goals as goal
 
@@ -44,7 +44,8 @@ returns-in-Err-Busy-clause-deed g c =
 pub returns-in-Err-Busy-clause-another : goal.returns-in-Err-Busy-clause-another
 returns-in-Err-Busy-clause-another g c =
     let D = g.D.Dir in
-    said_calm D.observed (MayRemove c.args.now) c.args.pod area.Prepare phase.Preparing (D.shown c.args.dir.now) (D.shown c.args.dir.now) (D.shown c.discard_aborted.new.dir) (D.shown c.kept.new.dir) c.kept.result c.kept.ensures.said
+    let e = rw c.in-Err-Busy.field-0-is at c.in-Err-Busy.ensures in
+    said_refused D.observed (MayRemove c.args.now) c.args.pod area.Prepare Shared _ phase.Preparing (D.shown c.args.dir.now) (D.shown c.discard_aborted.new.dir) (D.shown c.kept.new.dir) refl (follows_work c.kept.ensures.worked) (e.named _ refl) e.another c.kept.result c.kept.ensures.said
 
 pub returns-in-Err-Busy-clause-ready : goal.returns-in-Err-Busy-clause-ready
 returns-in-Err-Busy-clause-ready g c t = ready_looked (c.discard_aborted.ensures.ready t) (c.kept.ensures.known t)

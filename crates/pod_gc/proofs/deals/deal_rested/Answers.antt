@@ -4,12 +4,12 @@ use Rattle.dir_model.specs.declared.area.Phase.{Phase}
 use Rattle.dir_model.specs.declared.spot.Which.{Which}
 use Rattle.folder_building.proofs.Copying.{ok_more}
 use Rattle.folder_building.proofs.Working.{worked_wider}
-use Rattle.pod_steps.specs.Holding.{Stays}
+use Rattle.pod_steps.specs.Holding.{MayLook, Stays}
 use Rattle.pod_removal.specs.Holding.{MayRemove}
 use Rattle.pod_gc.specs.declared.line.Deed.TheVariants.{Kept, Busy}
 use Rattle.pod_gc.specs.Marks.{is_young}
 use Rattle.pod_gc.specs.Deeds.{DoesNothing, BusyBecause, RestsBy, LetBe}
-use Rattle.pod_gc.proofs.Steps.{looks_deal, rests_young, rests_over}
+use Rattle.pod_gc.proofs.Steps.{looks_deal, looks_resting, rests_young, rests_over}
 use Rattle.pod_gc.proofs.Untouched.{let_looked}
 use Rattle.pod_gc.proofs.deals.deal_rested.Goals as goal
 
@@ -26,8 +26,8 @@ returns-then-is_young-clause-another g c =
     let D = g.D.Dir in
     let old = D.shown c.args.dir.now in
     let new = D.shown c.kept_exited.new.dir in
-    ok_more (λ deed. (which : Which) → deed ≡ Busy which → ⊥) (λ deed. D.observed ≡ true → Stays (MayRemove c.args.times.now) old (λ s. BusyBecause c.args.pod deed old new)) c.kept_exited.result
-    (λ deed calm t s k m which is. absurd (calm which is)) c.kept_exited.ensures.calm
+    ok_more (λ deed. D.observed ≡ true → Stays (MayLook c.args.pod area.ExitedGarbage) old (λ s. BusyBecause c.args.pod deed old new)) (λ deed. D.observed ≡ true → Stays (MayRemove c.args.times.now) old (λ s. BusyBecause c.args.pod deed old new)) c.kept_exited.result
+    (λ deed x t s k m. x t s k (looks_resting c.args.pod m)) c.kept_exited.ensures.another
 
 pub returns-then-is_young-clause-ready : goal.returns-then-is_young-clause-ready
 returns-then-is_young-clause-ready g c t = c.kept_exited.ensures.ready t c.args.times.now

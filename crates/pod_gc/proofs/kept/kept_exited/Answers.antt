@@ -1,16 +1,19 @@
-use Rattle.std.proofs.Common.{◌≡◌, rules, true, false, Err, Result, IfOk, IfErr, refl, sym, subst, arith}
+use Rattle.std.proofs.Common.{◌≡◌, rules, true, false, Some, Err, Result, IfOk, IfErr, refl, sym, ap, subst, arith}
 use Rattle.dir_model.specs.declared.area.Area.TheVariants as area
 use Rattle.dir_model.specs.declared.area.Phase.TheVariants as phase
+use Rattle.dir_model.specs.declared.spot.Mode.TheVariants.{Shared}
 use Rattle.dir_model.specs.declared.spot.Which.{Which}
 use Rattle.folder_building.proofs.Copying.{ok_more, err_more}
 use Rattle.folder_building.proofs.Working.{worked_more}
+use Rattle.pod_steps.specs.Holding.{MayLook, Stays}
 use Rattle.pod_steps.proofs.Calls.{follows_work}
+use Rattle.pod_removal.proofs.Rounds.{busy_at}
 use Rattle.pod_gc.specs.declared.error.GcError.{GcError}
 use Rattle.pod_gc.specs.declared.line.Deed.{Deed}
 use Rattle.pod_gc.specs.declared.line.Deed.TheVariants.{Left, Busy}
-use Rattle.pod_gc.specs.Causes.{GcCause}
-use Rattle.pod_gc.specs.Deeds.{DeedCause, SaysThere, DoesNothing}
-use Rattle.pod_gc.proofs.Steps.{set_stopped, step_deed, step_cause, step_rests, step_calm, said_deed, said_rests, said_unbusy, cause_after, ready_probed, ready_unprobed, ready_looked}
+use Rattle.pod_gc.specs.Causes.{deed_of, GcCause}
+use Rattle.pod_gc.specs.Deeds.{DeedCause, SaysThere, DoesNothing, refused_lock, BusyBecause}
+use Rattle.pod_gc.proofs.Steps.{set_stopped, step_deed, step_cause, step_rests, step_calm, step_another, said_deed, said_calm, said_refused, said_rests, said_unbusy, cause_after, ready_probed, ready_unprobed, ready_looked}
 use Rattle.pod_gc.proofs.kept.kept_exited.Goals as goal
 
 pub returns-in-Ok-clause-worked : goal.returns-in-Ok-clause-worked
@@ -95,4 +98,25 @@ returns-in-Err-Busy-clause-calm g c =
 pub returns-in-Err-clause-calm : goal.returns-in-Err-clause-calm
 returns-in-Err-clause-calm g c =
     subst (λ (x : Result Deed GcError). IfOk x (λ deed. (which : Which) → deed ≡ Busy which → ⊥)) (sym c.deed_of.ensures)
-    (step_calm Left (λ which is. cc) (Err c.in-Err.stop) (λ which is. search (rules, is, c.in-Err.stop-is)))
+    (ok_more (λ deed. (which : Which) → refused_lock deed ≡ Some which → ⊥) (λ deed. (which : Which) → deed ≡ Busy which → ⊥) (deed_of (Err c.in-Err.stop) Left) (λ deed calm which is. calm which (ap refused_lock is))
+    (step_calm Left (λ which is. cc) (Err c.in-Err.stop) (λ which is. search (rules, is, c.in-Err.stop-is))))
+
+pub returns-in-Ok-clause-another : goal.returns-in-Ok-clause-another
+returns-in-Ok-clause-another g c =
+    let D = g.D.Dir in
+    said_calm D.observed (MayLook c.args.pod area.ExitedGarbage) c.args.pod area.ExitedGarbage phase.ExitedGarbage (D.shown c.args.dir.now) (D.shown c.probe.new.dir) (D.shown c.kept.new.dir) refl c.kept.result c.kept.ensures.said
+
+pub returns-in-Err-Busy-clause-another : goal.returns-in-Err-Busy-clause-another
+returns-in-Err-Busy-clause-another g c =
+    let D = g.D.Dir in
+    let e = rw c.in-Err-Busy.field-0-is at c.in-Err-Busy.ensures in
+    said_refused D.observed (MayLook c.args.pod area.ExitedGarbage) c.args.pod area.ExitedGarbage Shared _ phase.Deleting (D.shown c.args.dir.now) (D.shown c.probe.new.dir) (D.shown c.kept-in-Err-Busy.new.dir) refl (follows_work c.kept-in-Err-Busy.ensures.worked) (e.named _ refl) e.another
+    c.kept-in-Err-Busy.result c.kept-in-Err-Busy.ensures.said
+
+pub returns-in-Err-clause-another : goal.returns-in-Err-clause-another
+returns-in-Err-clause-another g c =
+    let D = g.D.Dir in
+    let old = D.shown c.args.dir.now in
+    let new = D.shown c.probe.new.dir in
+    subst (λ (x : Result Deed GcError). IfOk x (λ deed. D.observed ≡ true → Stays (MayLook c.args.pod area.ExitedGarbage) old (λ s. BusyBecause c.args.pod deed old new))) (sym c.deed_of.ensures)
+    (step_another D.observed c.args.pod area.ExitedGarbage Left old new (MayLook c.args.pod area.ExitedGarbage) (λ which is. cc) (Err c.in-Err.stop) (λ t s k m. busy_at c.in-Err.stop area.ExitedGarbage Shared old new refl (c.in-Err.ensures.another t s k m)))

@@ -2,6 +2,7 @@ use Rattle.std.proofs.Common.{◌≡◌, rules, true, arith}
 use Rattle.dir_model.specs.declared.area.Area.TheVariants.{Prepare, Garbage}
 use Rattle.dir_model.specs.declared.spot.Mode.TheVariants.{Shared}
 use Rattle.dir_model.specs.declared.spot.Which.{Which}
+use Rattle.dir_model.specs.declared.spot.Which.TheVariants.{Own}
 use Rattle.dir_model.specs.declared.request.Request.TheVariants.{MoveFolder}
 use Rattle.dir_model.specs.declared.request.Reply.TheVariants.{Done}
 use Rattle.dir_trait.specs.DirCalls.{ExtendsBy, LockToldBetween}
@@ -122,3 +123,11 @@ pub returns-clause-aside : goal.returns-clause-aside
 returns-clause-aside g c =
     let D = g.D.Dir in
     ok_all (λ done. D.observed ≡ true → ExtendsBy (puts_aside c.args.pod Prepare Garbage) (D.shown c.args.dir.now) (D.shown c.put_aside.new.dir)) c.put_aside.result (λ done t. put_aside c.args.pod Prepare Garbage c.probe.ensures.worked c.put_aside.ensures.worked t)
+
+pub returns-in_err-probe-clause-named : goal.returns-in_err-probe-clause-named
+returns-in_err-probe-clause-named g c =
+    err_same (λ e. (which : Which) → e ≡ stop.Busy which → which ≡ Own) c.probe.result c.from_residual.result (λ e h. search (rules, h, c.from_residual.ensures, c.in_err-probe.is)) c.probe.ensures.named
+
+pub returns-clause-named : goal.returns-clause-named
+returns-clause-named g c =
+    err_more (λ e. (which : Which) → e ≡ stop.Busy which → ⊥) (λ e. (which : Which) → e ≡ stop.Busy which → which ≡ Own) c.put_aside.result (λ e calm which is. absurd (calm which is)) c.put_aside.ensures.calm

@@ -2,6 +2,7 @@ use Rattle.std.proofs.Common.{◌≡◌, rules, true, arith}
 use Rattle.dir_model.specs.declared.area.Area.TheVariants.{Run, ExitedGarbage}
 use Rattle.dir_model.specs.declared.spot.Mode.TheVariants.{Shared}
 use Rattle.dir_model.specs.declared.spot.Which.{Which}
+use Rattle.dir_model.specs.declared.spot.Which.TheVariants.{Own}
 use Rattle.dir_model.specs.declared.request.Request.TheVariants.{MoveFolder}
 use Rattle.dir_model.specs.declared.request.Reply.TheVariants.{Done}
 use Rattle.dir_trait.specs.DirCalls.{ExtendsBy, LockToldBetween}
@@ -184,3 +185,16 @@ returns-clause-aside g c =
     let D = g.D.Dir in
     ok_all (λ done. D.observed ≡ true → ExtendsBy (puts_aside c.args.pod Run ExitedGarbage) (D.shown c.args.dir.now) (D.shown c.put_aside.new.dir)) c.put_aside.result
     (λ done t. put_marked c.args.pod c.args.now ExitedGarbage c.probe.ensures.worked c.mark.ensures.worked c.put_aside.ensures.worked t)
+
+pub returns-in_err-probe-clause-named : goal.returns-in_err-probe-clause-named
+returns-in_err-probe-clause-named g c =
+    err_same (λ e. (which : Which) → e ≡ stop.Busy which → which ≡ Own) c.probe.result c.from_residual.result (λ e h. search (rules, h, c.from_residual.ensures, c.in_err-probe.is)) c.probe.ensures.named
+
+pub returns-clause-named : goal.returns-clause-named
+returns-clause-named g c =
+    err_more (λ e. (which : Which) → e ≡ stop.Busy which → ⊥) (λ e. (which : Which) → e ≡ stop.Busy which → which ≡ Own) c.put_aside.result (λ e calm which is. absurd (calm which is)) c.put_aside.ensures.calm
+
+pub returns-in_err-mark-clause-named : goal.returns-in_err-mark-clause-named
+returns-in_err-mark-clause-named g c =
+    err_same (λ e. (which : Which) → e ≡ stop.Busy which → which ≡ Own) c.mark.result c.from_residual-in_err-mark.result (λ e h. search (rules, h, c.from_residual-in_err-mark.ensures, c.in_err-mark.is))
+    (err_more (λ e. (which : Which) → e ≡ stop.Busy which → ⊥) (λ e. (which : Which) → e ≡ stop.Busy which → which ≡ Own) c.mark.result (λ e calm which is. absurd (calm which is)) c.mark.ensures.calm)
