@@ -25,7 +25,6 @@ use Rattle.pod_claim.specs.Work.{Grew}
 use Rattle.pod_gc.specs.declared.ages.Times.{Times}
 use Rattle.pod_gc.specs.declared.line.GcLine.{GcLine}
 use Rattle.pod_gc.specs.Requests.{lists, deals_with, sweeps}
-use Rattle.pod_gc.specs.Deeds.{refused_lock}
 use Rattle.pod_gc.specs.Sweeping.{MaySweepAll}
 use Rattle.pod_gc.specs.Told.{Knew, pods_of, deals_with_some, IsTold, TellsShown, Passed, ArePassed, places}
 use Rattle.pod_gc.proofs.Asking.{some_sweep}
@@ -111,7 +110,7 @@ module _ (times : Times) (lines : List GcLine) {me : ℕ} {old new : List Event}
       let same : x.shown ≡ pod = let e : Some x.shown ≡ Some pod = sym x.pod_is ∙ is in cc in
       let u = pod_text x.shown.bytes in
       let held = was_held (is_pod_spot x.shown) (λ c d alike. of_same u c d alike) keeps_names names_late (from_its x.shown) me x.shown (λ p stage. ap (λ c. c && bytes_eq u u) stage ∙ same_bytes u) which old a b new
-      to_a from_b named quiet (x.another can which (ap refused_lock deed)) in
+      to_a from_b named quiet (x.another can which deed) in
       subst (λ (q : PodId). IsHeldNow (is_pod_spot q) which me (state_after old)) same held
 
   pub gc_busy : AllByRecursion (BusyAsBefore me old) lines

@@ -34,6 +34,7 @@ use Rattle.pod_gc.specs.declared.ages.Times.{Times}
 use Rattle.pod_gc.specs.declared.line.Deed.{Deed}
 use Rattle.pod_gc.specs.declared.line.Deed.TheVariants.{Moved, Deleted, Kept, Busy, BusyGate, Left}
 use Rattle.pod_gc.specs.declared.line.GcLine.{GcLine}
+use Rattle.pod_gc.specs.Deeds.{refused_lock}
 use Rattle.pod_gc.specs.Marks.{moment_among, is_young, is_ripe}
 use Rattle.pod_gc.specs.Requests.{goes_to, moves_pods, lets_be, may_be_busy}
 use Rattle.command_outcomes.specs.declared.refusal.Refusal.TheVariants.{NoPod, WrongPhase, NoManifest, PodBusy, Stray}
@@ -170,9 +171,10 @@ CameSo lines old line = (pod : PodId) → line.pod ≡ Some pod → is_garbage_p
 abbrev pub GoesOnSo : List GcLine → GcLine → Type 0
 GoesOnSo lines line = (pod : PodId) (to : Area) → line.pod ≡ Some pod → line.deed ≡ Moved to → HasLine to pod lines
 
--- of a pod that is called busy, another process held this lock before, of a folder at one of the pod's places
+-- of a pod that is called busy, or is kept for a phase that has an owner, another process held that lock before, of a folder at one of
+-- the pod's places
 abbrev pub BusyAsBefore : ℕ → List Event → GcLine → Type 0
-BusyAsBefore me old line = (pod : PodId) (which : Which) → line.pod ≡ Some pod → line.deed ≡ Busy which → IsHeldNow (is_pod_spot pod) which me (state_after old)
+BusyAsBefore me old line = (pod : PodId) (which : Which) → line.pod ≡ Some pod → refused_lock line.deed ≡ Some which → IsHeldNow (is_pod_spot pod) which me (state_after old)
 
 -- of no pod it is said that it had left, but of one in prepared whose folder stood there before without its manifest
 abbrev pub LeftAsBefore : List Event → GcLine → Type 0
