@@ -2,6 +2,7 @@ pub mod Traces
 pub mod Seen
 pub mod Calls
 pub mod Times
+pub mod OwnOpenings
 pub mod Opposed
 pub mod Knowing
 pub mod Parts

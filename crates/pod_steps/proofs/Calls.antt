@@ -5,7 +5,7 @@ use Rattle.dir_model.specs.declared.event.Event.{Event}
 use Rattle.dir_model.specs.declared.pod.PodId.{PodId}
 use Rattle.dir_model.specs.declared.spot.Handle.{Handle}
 use Rattle.dir_model.specs.declared.spot.Mode.{Mode}
-use Rattle.dir_model.specs.declared.spot.Mode.TheVariants.{Exclusive}
+use Rattle.dir_model.specs.declared.spot.Mode.TheVariants.{Shared, Exclusive}
 use Rattle.dir_model.specs.declared.spot.Which.{Which}
 use Rattle.dir_model.specs.declared.spot.Which.TheVariants.{Own}
 use Rattle.dir_model.specs.declared.request.DirError.{DirError}
@@ -29,7 +29,7 @@ use Rattle.dir_model.proofs.Holdings.{tried_by, closed_after_lock}
 use Rattle.dir_model.proofs.Lists.{and_both, same_self, map_push}
 use Rattle.dir_model.proofs.Moments.{step_at, missed}
 use Rattle.dir_model.proofs.Spots.{spot_self}
-use Rattle.dir_trait.specs.DirCalls.{DirAt, DirCall}
+use Rattle.dir_trait.specs.DirCalls.{DirAt, DirCall, ExtendsBy}
 use Rattle.folder_building.specs.Work.{Worked}
 use Rattle.phase_read.specs.Read.{pod_spot}
 use Rattle.pod_claim.specs.Work.{Grew}
@@ -37,7 +37,7 @@ use Rattle.pod_claim.proofs.Times.{at_part, deeds_part}
 use Rattle.pod_claim.proofs.Traces.{grown_none, one_deed}
 use Rattle.pod_steps.specs.declared.setback.Setback.{Setback}
 use Rattle.pod_steps.specs.Setbacks.{set_back, lock_setback}
-use Rattle.pod_steps.specs.Requests.{looks_at, moves}
+use Rattle.pod_steps.specs.Requests.{looks_at, peeks_at, moves}
 use Rattle.pod_steps.specs.Holding.{Went, and_lock}
 use Rattle.pod_steps.specs.Causes.{Stopped, IsAbsentAt, CannotOpenAt, WasStray}
 
@@ -61,6 +61,17 @@ module _ {observed : Bool} (pod : PodId) (a : Area) (which : Which) {h : Handle}
 
   pub went_tried : Went observed (looks_at pod a) old.local old new
   went_tried = record { same = worked_tried.same; faults = worked_tried.faults; local_is = worked_tried.local; extends = worked_tried.extends }
+
+-- with no lock asked for but shared
+pub asks_peek : (pod : PodId) (a : Area) (which : Which) → peeks_at pod a (Open (pod_spot pod a) which) ≡ true
+asks_peek pod a which = spot_self (pod_spot pod a)
+
+pub peeked_tried : {observed : Bool} {h : Handle} {old mid late new : DirAt} (pod : PodId) (a : Area) (answer : Result (Unit {0}) DirError) → DirCall observed old (Open (pod_spot pod a) Own) (Opened h) mid
+    → DirCall observed mid (TryLock h Shared) (done_reply answer) late → DirCall observed late (Close h) Done new → observed ≡ true → ExtendsBy (peeks_at pod a) old new
+peeked_tried pod a answer x y z t = and_call (and_call (and_call nothing_yet refl (asks_peek pod a Own) (x.step t)) x.same refl (y.step t)) (y.same ∙ x.same) refl (z.step t)
+
+pub peeked_unopened : {observed : Bool} {old new : DirAt} (pod : PodId) (a : Area) (e : DirError) → DirCall observed old (Open (pod_spot pod a) Own) (Refused e 0) new → observed ≡ true → ExtendsBy (peeks_at pod a) old new
+peeked_unopened pod a e x t = and_call nothing_yet refl (asks_peek pod a Own) (x.step t)
 
 none_locked : (h : Handle) (hs : List Holding) → is_open_among h hs ≡ false → map (held_in h Exclusive) hs ≡ hs
 none_locked h [] none = refl

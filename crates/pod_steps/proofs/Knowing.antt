@@ -1,12 +1,10 @@
 -- What a process knows after each single step at a pod.
-use Rattle.std.proofs.Common.{◌≡◌, ℕ, Bool, true, false, List, refl, subst, ◌∙◌}
+use Rattle.std.proofs.Common.{◌≡◌, ℕ, Bool, true, false, refl, subst, ◌∙◌}
 use Rattle.dir_model.specs.declared.area.Area.{Area}
-use Rattle.dir_model.specs.declared.event.Event.{Event}
 use Rattle.dir_model.specs.declared.pod.PodId.{PodId}
 use Rattle.dir_model.specs.declared.spot.Handle.{Handle}
 use Rattle.dir_model.specs.declared.spot.Mode.{Mode}
 use Rattle.dir_model.specs.declared.spot.Mode.TheVariants.{Shared, Exclusive}
-use Rattle.dir_model.specs.declared.spot.Spot.{Spot}
 use Rattle.dir_model.specs.declared.spot.Which.{Which}
 use Rattle.dir_model.specs.declared.spot.Which.TheVariants.{Own}
 use Rattle.dir_model.specs.declared.request.DirError.{DirError}
@@ -14,7 +12,6 @@ use Rattle.dir_model.specs.declared.request.DirError.TheVariants.{Missing, Exist
 use Rattle.dir_model.specs.declared.request.DirError.TheVariants as dir
 use Rattle.dir_model.specs.declared.request.Request.TheVariants.{Open, TryLock, MoveFolder, Close}
 use Rattle.dir_model.specs.declared.request.Reply.TheVariants.{Done, Opened, Refused}
-use Rattle.dir_model.specs.Between.{LockTold}
 use Rattle.dir_model.specs.Calls.{CallStep}
 use Rattle.dir_model.specs.Local.{IsUnopened, is_number}
 use Rattle.dir_model.proofs.LockTold.{told_free, told_held}
@@ -25,14 +22,13 @@ use Rattle.dir_trait.specs.DirCalls.{DirAt, DirCall, LockToldBetween}
 use Rattle.dir_trait.specs.Knowledge.{Knows}
 use Rattle.dir_trait.proofs.Knowing.{knows_call}
 use Rattle.phase_read.specs.Read.{pod_spot}
-use Rattle.pod_claim.specs.Work.{Grew}
-use Rattle.pod_claim.proofs.Times.{at_part}
 use Rattle.pod_claim.proofs.Traces.{grown_none, grown_call}
 use Rattle.pod_steps.specs.declared.setback.Setback.TheVariants as stop
 use Rattle.pod_steps.specs.Setbacks.{set_back, lock_setback}
 use Rattle.pod_steps.specs.Holding.{and_held, covers, HasNone, MayLook, LooksFree, MayTake, with_lock, MayMove, KeepsReady, Stays}
-use Rattle.pod_steps.specs.Causes.{HeldByAnother, BusyElsewhere}
-use Rattle.pod_steps.proofs.Opposed.{asked_on, held_step}
+use Rattle.pod_steps.specs.Causes.{HeldByAnother, FreeWhere, BusyElsewhere}
+use Rattle.pod_steps.proofs.Opposed.{asked_on, held_step, free_step}
+use Rattle.pod_steps.proofs.Within.{held_within, told_within}
 use Rattle.pod_steps.proofs.Seen.{probed, not_probed, not_opened, lock_opened, lock_unopened, lock_had, lock_refused, lock_given, moved_keeps, unmoved}
 
 pub new_number : {d : DirAt} {s : Seen} (h : Handle) → Knows d s → IsUnopened d.local h → Fresh h s.standing.holdings
@@ -65,13 +61,16 @@ module _ {observed : Bool} (pod : PodId) (a : Area) (which : Which) {h : Handle}
       let asked = knows_as (lock_refused pod a which h s fresh may e) (knows_call t (knows_as (lock_opened pod a which h s fresh may) (knows_call t k refl refl x)) refl refl y) in
       knows_as (lock_given pod a which h s fresh) (knows_call t asked refl refl z)
 
+-- and where it was, no other process held it
+pub free_taken : {observed : Bool} {h : Handle} {old mid new : DirAt} (pod : PodId) (a : Area) (which : Which) (mode : Mode) → DirCall observed old (Open (pod_spot pod a) which) (Opened h) mid → DirCall observed mid (TryLock h mode) Done new
+    → FreeWhere observed pod a which mode old new
+free_taken {observed} {h} {old} {mid} {new} pod a which mode x y t =
+    free_step old.process old.trace mid.trace new.trace h pod a which mode (x.step t) (subst (λ (p : ℕ). CallStep p mid.trace (TryLock h mode) Done new.trace) x.same (y.step t))
+
 pub knows_unlocked : {observed : Bool} {old new : DirAt} (pod : PodId) (a : Area) (which : Which) (e : DirError) → DirCall observed old (Open (pod_spot pod a) which) (Refused e 0) new → observed ≡ true → Stays (MayTake pod a which) old (λ s. Knows new s)
 knows_unlocked pod a which e x t s k may = knows_as (lock_unopened pod a which s may e) (knows_call t k refl refl x)
 
 -- the lock was refused: another process held it
-
-held_part : {pod : PodId} {a : Area} {which : Which} {mode : Mode} {me : ℕ} {old late new : List Event} → Grew late new → HeldByAnother pod a which mode me old late → HeldByAnother pod a which mode me old new
-held_part more h = record { folder = h.folder; between = h.between; found = h.found; held = at_part grown_none refl more h.held }
 
 pub busy_elsewhere : {observed : Bool} {h : Handle} {old mid late new : DirAt} (pod : PodId) (a : Area) (which : Which) (mode : Mode) (covered : Bool) (e : DirError) → DirCall observed old (Open (pod_spot pod a) which) (Opened h) mid
     → DirCall observed mid (TryLock h mode) (Refused e 0) late → DirCall observed late (Close h) Done new → observed ≡ true → (z : Seen) → HasNone which z → Knows mid (and_held (asked_on pod a which h covered) z) → BusyElsewhere pod a mode (lock_setback which e) old new
@@ -83,7 +82,7 @@ busy_elsewhere {observed} {h} {old} {mid} {late} {new} pod a which mode covered 
         let asks = subst (λ (p : ℕ). CallStep p mid.trace (TryLock h mode) (Refused Locked 0) late.trace) x.same (y.step t) in
         let tied = subst (λ (p : ℕ). IsTied p mid.trace (and_held (asked_on pod a which h covered) z)) x.same k.tied in
         let held = held_step old.process old.trace mid.trace late.trace h pod a which mode covered (x.step t) asks z single tied in
-        subst (λ (v : Which). HeldByAnother pod a v mode old.process old.trace new.trace) same (held_part (grown_call (w.step t)) held)
+        subst (λ (v : Which). HeldByAnother pod a v mode old.process old.trace new.trace) same (held_within grown_none refl (grown_call (w.step t)) held)
     by Missing is y = cc
     by Exists is y = cc
     by NotEmpty is y = cc
@@ -129,19 +128,16 @@ module _ {observed : Bool} (pod : PodId) (from to : Area) {old new : DirAt} wher
 
 -- whether it was held is told of the folder that stood there
 
-told_longer : {me : ℕ} {a b c : List Event} {spot : Spot} {owned : Bool} → LockTold me a b spot owned → Grew b c → LockTold me a c spot owned
-told_longer x more = record { folder = x.folder; between = x.between; found = x.found; told = at_part grown_none refl more x.told }
-
 module _ {observed : Bool} {h : Handle} {old mid late new : DirAt} (pod : PodId) (a : Area) (x : DirCall observed old (Open (pod_spot pod a) Own) (Opened h) mid) (z : DirCall observed late (Close h) Done new) where
   pub told_probed : DirCall observed mid (TryLock h Shared) Done late → observed ≡ true → LockToldBetween old new (pod_spot pod a) false
   told_probed y t =
       let asks = subst (λ (p : ℕ). CallStep p mid.trace (TryLock h Shared) Done late.trace) x.same (y.step t) in
-      told_longer (told_free _ _ _ _ _ _ (x.step t) asks) (grown_call (subst (λ (p : ℕ). CallStep p late.trace (Close h) Done new.trace) (y.same ∙ x.same) (z.step t)))
+      told_within grown_none refl (grown_call (subst (λ (p : ℕ). CallStep p late.trace (Close h) Done new.trace) (y.same ∙ x.same) (z.step t))) (told_free _ _ _ _ _ _ (x.step t) asks)
 
   pub told_busy : (e : DirError) → DirCall observed mid (TryLock h Shared) (Refused e 0) late → (which : Which) → lock_setback Own e ≡ stop.Busy which → observed ≡ true → LockToldBetween old new (pod_spot pod a) true
   told_busy Locked y which is t =
       let asks = subst (λ (p : ℕ). CallStep p mid.trace (TryLock h Shared) (Refused Locked 0) late.trace) x.same (y.step t) in
-      told_longer (told_held _ _ _ _ _ _ (x.step t) asks) (grown_call (subst (λ (p : ℕ). CallStep p late.trace (Close h) Done new.trace) (y.same ∙ x.same) (z.step t)))
+      told_within grown_none refl (grown_call (subst (λ (p : ℕ). CallStep p late.trace (Close h) Done new.trace) (y.same ∙ x.same) (z.step t))) (told_held _ _ _ _ _ _ (x.step t) asks)
   told_busy Missing y which is t = cc
   told_busy Exists y which is t = cc
   told_busy NotEmpty y which is t = cc

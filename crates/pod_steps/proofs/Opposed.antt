@@ -1,12 +1,10 @@
 -- Where a lock of a pod can't be had, at any place and in either mode, another process holds it, unless this one has a second
--- handle on it.
-use Rattle.std.proofs.Common.{arith, ◌≡◌, ◌⊎◌, inl, inr, ℕ, Bool, true, false, not, ◌&&◌, ◌||◌, ◌==◌, cond}
-use Rattle.std.proofs.Common.{Option, Some, None, List, [], ◌∷◌, ◌++◌, map, filter, find, refl, sym, ap, subst, ◌∙◌}
-use Rattle.std.specs.List.{list_any, AllByRecursion}
-use Rattle.std.proofs.lemmas.Bool.Decides.{nat_tests}
+-- handle on it; and where it is had, no other process holds it in a mode that conflicts.
+use Rattle.std.proofs.Common.{◌≡◌, ◌⊎◌, inl, inr, ℕ, Bool, true, false, not, ◌&&◌, ◌==◌, cond}
+use Rattle.std.proofs.Common.{Option, Some, None, is_some, List, [], ◌∷◌, ◌++◌, append-nil, map, find, refl, sym, ap, subst, ◌∙◌}
+use Rattle.std.specs.List.{list_any}
 use Rattle.dir_model.specs.declared.area.Area.{Area}
 use Rattle.dir_model.specs.declared.event.Event.{Event}
-use Rattle.dir_model.specs.declared.opening.Holding.{Holding}
 use Rattle.dir_model.specs.declared.opening.Opening.{Opening}
 use Rattle.dir_model.specs.declared.opening.Target.{Target}
 use Rattle.dir_model.specs.declared.opening.Target.TheVariants as target
@@ -16,187 +14,36 @@ use Rattle.dir_model.specs.declared.spot.Mode.{Mode}
 use Rattle.dir_model.specs.declared.spot.Spot.{Spot}
 use Rattle.dir_model.specs.declared.spot.Which.{Which}
 use Rattle.dir_model.specs.declared.spot.Which.TheVariants.{Own, Claim}
+use Rattle.dir_model.specs.declared.request.DirError.{DirError}
 use Rattle.dir_model.specs.declared.request.DirError.TheVariants.{Locked}
 use Rattle.dir_model.specs.declared.request.Request.{Request}
-use Rattle.dir_model.specs.declared.request.Request.TheVariants.{Open, OpenArea, TryLock, Close, Finish, Kill}
+use Rattle.dir_model.specs.declared.request.Request.TheVariants.{Open, TryLock}
 use Rattle.dir_model.specs.declared.request.Reply.{Reply}
 use Rattle.dir_model.specs.declared.request.Reply.TheVariants.{Done, Opened, Refused}
+use Rattle.dir_model.specs.declared.tree.TreeEntry.{TreeEntry}
 use Rattle.dir_model.specs.Locks.{is_handle, is_folder, is_one_lock, is_same_lock, opposes, target_of}
-use Rattle.dir_model.specs.State.{Namespace, DirState, empty_state, folder_at, has_begun, lives}
-use Rattle.dir_model.specs.Trace.{namespace_replied, locked, opened, opened_gate, state_next, states_next, state_after}
-use Rattle.dir_model.specs.Replies.{is_late_reply, is_locked, is_opposed}
-use Rattle.dir_model.specs.Calls.{CallStep, Interference, IsRun, LeftNothing, TookPlace, is_foreign, is_kill, event}
+use Rattle.dir_model.specs.State.{Namespace, DirState, folder_at, has_open}
+use Rattle.dir_model.specs.Trace.{locked, opened, state_after}
+use Rattle.dir_model.specs.Replies.{is_late_reply, is_locked, is_opposed, refused_in, open_refusal}
+use Rattle.dir_model.specs.Calls.{CallStep, Interference, IsRun, LeftNothing, TookPlace, AtOwnStep, event}
 use Rattle.dir_model.specs.Local.{holding_of}
-use Rattle.dir_model.proofs.Lists.{and_left, and_right, and_both, and_false, or_none, same_self, any_last, any_fewer, filter_push, filter_past}
-use Rattle.dir_model.proofs.Chains.{states_next-append, state_after-push, run-left}
-use Rattle.dir_model.proofs.Allowed.{open_says, held_says}
+use Rattle.dir_model.proofs.Lists.{and_left, and_right, and_both, and_false, or_none, same_self, any_fewer, any_map, filter_push}
+use Rattle.dir_model.proofs.Chains.{state_after-push, run-left}
+use Rattle.dir_model.proofs.Allowed.{open_says, lock_says, held_says, allowed_reply}
 use Rattle.dir_model.proofs.Moments.{took_at, some_number}
 use Rattle.dir_rules.specs.declared.standing.Held.{Held}
 use Rattle.dir_rules.specs.declared.seen.Seen.{Seen}
 use Rattle.dir_rules.specs.Conforms.{seen_of, IsTied}
-use Rattle.dir_rules.proofs.Tied.{meanwhile_unseen, lived_meanwhile, lived_before}
+use Rattle.dir_rules.proofs.Tied.{meanwhile_unseen, lived_meanwhile}
 use Rattle.area_locks.proofs.OwnHandles.{Lives, open_as_seen}
 use Rattle.phase_read.specs.Read.{pod_spot}
 use Rattle.pod_claim.specs.Causes.{is_lock}
 use Rattle.pod_steps.specs.Holding.{and_held}
-use Rattle.pod_steps.specs.Causes.{is_held_against, HeldByAnother}
+use Rattle.pod_steps.specs.Causes.{OpensAt, is_held_against, HeldByAnother, FreeOfOthers}
+use Rattle.pod_claim.proofs.OwnOpenings.{none_fails, find_last, any_but, mine, own, own_any, find_own, own_meanwhile, same_lock, doubles}
 
 abbrev pub asked_on : PodId → Area → Which → Handle → Bool → Held
 asked_on pod area which handle covered = record { handle = handle; target = target_of (pod_spot pod area) which; lock = None; covered = covered }
-
--- lists
-
-none_fails : {X : Type 0} (t q : X → Bool) (xs : List X) → list_any t xs ≡ false → list_any t (filter q xs) ≡ false
-none_fails t q [] none = refl
-none_fails t q (x ∷ xs) none = by (t x) (q x) refl none (λ rest. none_fails t q xs rest)
-  where
-    by : (a b : Bool) → t x ≡ a → (a || list_any t xs) ≡ false → (list_any t xs ≡ false → list_any t (filter q xs) ≡ false) → list_any t (cond b (x ∷ filter q xs) (filter q xs)) ≡ false
-    by true b is n go = cc
-    by false true is n go = ap (λ c. c || list_any t (filter q xs)) is ∙ go n
-    by false false is n go = go n
-
-find_last : {X : Type 0} (t : X → Bool) (xs : List X) (y : X) → list_any t xs ≡ false → t y ≡ true → find t (xs ++ y ∷ []) ≡ Some y
-find_last {X} t [] y none is = ap (λ b. cond b (Some y) (find t [])) is
-find_last {X} t (x ∷ xs) y none is = by (t x) none (λ rest. find_last t xs y rest is)
-  where
-    by : (b : Bool) → (b || list_any t xs) ≡ false → (list_any t xs ≡ false → find t (xs ++ y ∷ []) ≡ Some y) → cond b (Some x) (find t (xs ++ y ∷ [])) ≡ Some y
-    by true n go = cc
-    by false n go = go n
-
-any_but : {X : Type 0} (t bad q : X → Bool) → ((x : X) → t x ≡ true → bad x ≡ false → q x ≡ true) → (xs : List X) → list_any bad xs ≡ false → list_any t xs ≡ true → list_any q xs ≡ true
-any_but t bad q only [] none h = cc
-any_but t bad q only (x ∷ xs) none h = by (t x) (bad x) (q x) (only x) none h (λ rest more. any_but t bad q only xs rest more)
-  where
-    by : (a b c : Bool) → (a ≡ true → b ≡ false → c ≡ true) → (b || list_any bad xs) ≡ false → (a || list_any t xs) ≡ true
-        → (list_any bad xs ≡ false → list_any t xs ≡ true → list_any q xs ≡ true) → (c || list_any q xs) ≡ true
-    by a b true f n k go = refl
-    by true false false f n k go = let e : false ≡ true = f refl refl in cc
-    by false false false f n k go = go n k
-    by a true c f n k go = cc
-
--- the handles of one process
-
-abbrev mine : ℕ → Opening → Bool
-mine me o = o.process == me
-
-abbrev own : ℕ → List Opening → List Opening
-own me os = filter (mine me) os
-
-own_any : (me : ℕ) (test : Holding → Bool) (os : List Opening) → list_any test (map holding_of (own me os)) ≡ list_any (λ o. (o.process == me) && test (holding_of o)) os
-own_any me test [] = refl
-own_any me test (o ∷ os) = by (o.process == me) (own_any me test os)
-  where
-    by : (b : Bool) → list_any test (map holding_of (own me os)) ≡ list_any (λ x. (x.process == me) && test (holding_of x)) os
-        → list_any test (map holding_of (cond b (o ∷ own me os) (own me os))) ≡ ((b && test (holding_of o)) || list_any (λ x. (x.process == me) && test (holding_of x)) os)
-    by true rest = ap (λ b. test (holding_of o) || b) rest
-    by false rest = rest
-
-find_own : (me : ℕ) (h : Handle) (os : List Opening) → find (is_handle me h) os ≡ find (is_handle me h) (own me os)
-find_own me h [] = refl
-find_own me h (o ∷ os) = by (o.process == me) refl (find_own me h os)
-  where
-    by : (b : Bool) → (o.process == me) ≡ b → find (is_handle me h) os ≡ find (is_handle me h) (own me os)
-        → cond (b && (o.handle.number == h.number)) (Some o) (find (is_handle me h) os) ≡ find (is_handle me h) (cond b (o ∷ own me os) (own me os))
-    by true is rest = ap (λ (x : Option Opening). cond (o.handle.number == h.number) (Some o) x) rest ∙ ap (λ c. cond (c && (o.handle.number == h.number)) (Some o) (find (is_handle me h) (own me os))) (sym is)
-    by false is rest = rest
-
-clash : (a p me : ℕ) → (a == p) ≡ true → (a == me) ≡ true → (p == me) ≡ false → ⊥
-clash a p me x y z = grind (arith, nat_tests)
-
-apart_from : (a p me : ℕ) → (p == me) ≡ false → (a == p) ≡ true → (a == me) ≡ false
-apart_from a p me apart is = by (a == me) refl
-  where
-    by : (b : Bool) → (a == me) ≡ b → (a == me) ≡ false
-    by true it = absurd (clash a p me is it apart)
-    by false it = it
-
-own_mapped : (me p : ℕ) (h : Handle) (mode : Mode) → (p == me) ≡ false → (os : List Opening) → own me (map (locked p h mode) os) ≡ own me os
-own_mapped me p h mode apart [] = refl
-own_mapped me p h mode apart (o ∷ os) = by (is_handle p h o) (λ is. apart_from o.process p me apart (and_left (o.process == p) (o.handle.number == h.number) is)) (own_mapped me p h mode apart os)
-  where
-    rest : List Opening
-    rest = own me (map (locked p h mode) os)
-
-    by : (b : Bool) → (b ≡ true → (o.process == me) ≡ false) → own me (map (locked p h mode) os) ≡ own me os
-        → own me (cond b (record o { lock = Some mode }) o ∷ map (locked p h mode) os) ≡ cond (o.process == me) (o ∷ own me os) (own me os)
-    by true other same = ap (λ c. cond c (record o { lock = Some mode } ∷ rest) rest) (other refl) ∙ (same ∙ ap (λ c. cond c (o ∷ own me os) (own me os)) (sym (other refl)))
-    by false other same = ap (λ (l : List Opening). cond (o.process == me) (o ∷ l) l) same
-
-own_filtered : (me : ℕ) (q : Opening → Bool) → ((o : Opening) → (o.process == me) ≡ true → q o ≡ true) → (os : List Opening) → own me (filter q os) ≡ own me os
-own_filtered me q keeps [] = refl
-own_filtered me q keeps (o ∷ os) = by (q o) (o.process == me) refl (keeps o) (own_filtered me q keeps os)
-  where
-    by : (b c : Bool) → (o.process == me) ≡ c → ((o.process == me) ≡ true → b ≡ true) → own me (filter q os) ≡ own me os → own me (cond b (o ∷ filter q os) (filter q os)) ≡ cond c (o ∷ own me os) (own me os)
-    by true c is k same = ap (λ (l : List Opening). cond (o.process == me) (o ∷ l) l) same ∙ ap (λ d. cond d (o ∷ own me os) (own me os)) is
-    by false true is k same = let e : false ≡ true = k is in cc
-    by false false is k same = same
-
-keeps_handle : (p : ℕ) (h : Handle) (me : ℕ) → (p == me) ≡ false → (o : Opening) → (o.process == me) ≡ true → not (is_handle p h o) ≡ true
-keeps_handle p h me apart o is = by (is_handle p h o) (λ it. and_left (o.process == p) (o.handle.number == h.number) it)
-  where
-    by : (b : Bool) → (b ≡ true → (o.process == p) ≡ true) → not b ≡ true
-    by true it = absurd (clash o.process p me (it refl) is apart)
-    by false it = refl
-
-keeps_process : (p me : ℕ) → (p == me) ≡ false → (o : Opening) → (o.process == me) ≡ true → not (o.process == p) ≡ true
-keeps_process p me apart o is = by (o.process == p) (λ it. it)
-  where
-    by : (b : Bool) → (b ≡ true → (o.process == p) ≡ true) → not b ≡ true
-    by true it = absurd (clash o.process p me (it refl) is apart)
-    by false it = refl
-
-module _ (n : Namespace) (p me : ℕ) (apart : (p == me) ≡ false) where
-  others_own : (request : Request) (reply : Reply) → own me (namespace_replied n p request reply).openings ≡ own me n.openings
-  others_own request (Refused error left) = refl
-  others_own (Open spot which) (Opened handle) = filter_past (mine me) n.openings (opened n p handle spot which) apart
-  others_own (OpenArea area) (Opened handle) = filter_past (mine me) n.openings (opened_gate p handle area) apart
-  others_own _ (Opened handle) = refl
-  others_own (TryLock handle mode) Done = own_mapped me p handle mode apart n.openings
-  others_own (Close handle) Done = own_filtered me (λ o. not (is_handle p handle o)) (keeps_handle p handle me apart) n.openings
-  others_own Finish Done = own_filtered me (λ o. not (o.process == p)) (keeps_process p me apart) n.openings
-  others_own Kill Done = own_filtered me (λ o. not (o.process == p)) (keeps_process p me apart) n.openings
-  others_own _ Done = refl
-  others_own request reply = refl
-
-over : {X : Type 0} (b : Bool) → b ≡ true → not b ≡ true → X
-over true h k = cc
-over false h k = cc
-
-kill_own : (n : Namespace) (me p : ℕ) (request : Request) (reply : Reply) → (p == me) ≡ true → is_kill request ≡ true → lives (namespace_replied n p request reply) me ≡ true → own me (namespace_replied n p request reply).openings ≡ own me n.openings
-kill_own n me p Kill Done is kill now = over (list_any (λ q. q == me) (n.ended ++ p ∷ [])) (any_last (λ q. q == me) n.ended p is) (and_right (has_begun n me) (not (list_any (λ q. q == me) (n.ended ++ p ∷ []))) now)
-kill_own n me p Kill (Opened handle) is kill now = refl
-kill_own n me p Kill reply is kill now = refl
-kill_own n me p _ reply is kill now = cc
-
-foreign_own : (me : ℕ) (s : DirState) (e : Event) → is_foreign me e ≡ true → lives (state_next s e).namespace me ≡ true → own me (state_next s e).namespace.openings ≡ own me s.namespace.openings
-foreign_own me s e f now = by (e.process == me) refl f
-  where
-    by : (b : Bool) → (e.process == me) ≡ b → (not b || is_kill e.request) ≡ true → own me (state_next s e).namespace.openings ≡ own me s.namespace.openings
-    by true is kill = kill_own s.namespace me e.process e.request e.reply is kill now
-    by false is kill = others_own s.namespace e.process me is e.request e.reply
-
-others_keep : (me : ℕ) (s : DirState) (es : List Event) → AllByRecursion (λ e. is_foreign me e ≡ true) es → lives (states_next s es).namespace me ≡ true → own me (states_next s es).namespace.openings ≡ own me s.namespace.openings
-others_keep me s [] f now = refl
-others_keep me s (e ∷ es) f now = others_keep me (state_next s e) es f.1 now ∙ foreign_own me s e f.0 (lived_before me (state_next s e) es f.1 now)
-
-own_meanwhile : {me : ℕ} {old new : List Event} → Interference me old new → Lives me new → own me (state_after new).namespace.openings ≡ own me (state_after old).namespace.openings
-own_meanwhile {me} {old} {new} m now =
-    let is : state_after new ≡ states_next (state_after old) m.others = ap state_after m.grown ∙ states_next-append empty_state old m.others in
-    ap (λ (s : DirState). own me s.namespace.openings) is ∙ others_keep me (state_after old) m.others m.foreign (subst (λ (s : DirState). lives s.namespace me ≡ true) is now)
-
--- one lock of one folder
-
-same_lock : (which : Which) (spot : Spot) (f : ℕ) (t : Target) (g : Option ℕ) → is_one_lock (target_of spot which) (Some f) t g ≡ true → (is_lock which t ≡ true) × (is_folder f g ≡ true)
-same_lock Own spot f (target.Own here) g is = (refl, is)
-same_lock Own spot f (target.Claim here) g is = cc
-same_lock Own spot f (target.Gate a) g is = cc
-same_lock Claim spot f (target.Claim here) g is = (refl, is)
-same_lock Claim spot f (target.Own here) g is = cc
-same_lock Claim spot f (target.Gate a) g is = cc
-
--- an own handle of another number on a lock of that kind
-abbrev doubles : Which → Handle → Holding → Bool
-doubles which handle x = is_lock which x.target && not (x.handle.number == handle.number)
 
 module _ (me : ℕ) (handle : Handle) (which : Which) (mode : Mode) (spot : Spot) (f : ℕ) where
   abbrev here : Opening
@@ -222,22 +69,18 @@ module _ (me : ℕ) (handle : Handle) (which : Which) (mode : Mode) (spot : Spot
       by false i true false l other single x y z = cc
       by false i true true false other single x y z = cc
 
--- the lock was opened, and asked for in vain
-module _ (me : ℕ) (handle : Handle) (pod : PodId) (area : Area) (which : Which) (mode : Mode) (covered : Bool) (old opened_at mid asked_at late : List Event) (first : Interference me old opened_at)
-    (open_took : TookPlace opened_at me (Open (pod_spot pod area) which) (Opened handle) mid) (between : Interference me mid asked_at)
-    (ask_took : TookPlace asked_at me (TryLock handle mode) (Refused Locked 0) late)
-    (z : Seen) (single : list_any (λ h. is_lock which h.target) z.standing.holdings ≡ false) (run : IsRun late) (tied : IsTied me mid (and_held (asked_on pod area which handle covered) z)) where
+not_refused : (o : Option DirError) (more : Bool) → (not (is_some o) && more) ≡ true → o ≡ None
+not_refused None more is = refl
+not_refused (Some e) more is = cc
+
+-- the lock was opened, and asked for later
+module _ (me : ℕ) (handle : Handle) (pod : PodId) (area : Area) (which : Which) (mode : Mode) (old opened_at mid asked_at : List Event) (first : Interference me old opened_at)
+    (open_took : TookPlace opened_at me (Open (pod_spot pod area) which) (Opened handle) mid) (between : Interference me mid asked_at) (living : Lives me asked_at) where
   abbrev before : Namespace
   before = (state_after opened_at).namespace
 
   abbrev after : Namespace
   after = (state_after asked_at).namespace
-
-  told : is_locked after me handle mode ≡ true
-  told = (held_says (state_after asked_at) me handle mode ask_took.allowed).told
-
-  living : Lives me asked_at
-  living = (held_says (state_after asked_at) me handle mode ask_took.allowed).living
 
   abbrev New : Opening
   New = opened before me handle (pod_spot pod area) which
@@ -254,6 +97,37 @@ module _ (me : ℕ) (handle : Handle) (pod : PodId) (area : Area) (which : Which
       (none_fails (is_handle me handle) (mine me) before.openings (open_says (state_after opened_at) me (pod_spot pod area) which handle open_took.allowed).unopened)
       (and_both (me == me) (handle.number == handle.number) (same_self me) (same_self handle.number)))
 
+  -- of the folder that stood there
+  its : (k : ℕ) × (folder_at before (pod_spot pod area) ≡ Some k)
+  its = some_number (folder_at before (pod_spot pod area)) (open_says (state_after opened_at) me (pod_spot pod area) which handle open_took.allowed).there
+
+  is_its : find (is_handle me handle) after.openings ≡ Some (here me handle which mode (pod_spot pod area) its.0)
+  is_its = is_it ∙ ap (λ (o : Option ℕ). let r : Opening = record { process = me; handle = handle; target = target_of (pod_spot pod area) which; folder = o; lock = None } in Some r) its.1
+
+  opens : refused_in (open_refusal which) (state_after opened_at).entries (Some its.0) ≡ None
+  opens =
+      ap (λ (o : Option ℕ). refused_in (open_refusal which) (state_after opened_at).entries o) (sym its.1)
+      ∙ not_refused (refused_in (open_refusal which) (state_after opened_at).entries (folder_at before (pod_spot pod area))) (not (has_open before me handle))
+      (allowed_reply (state_after opened_at) me (Open (pod_spot pod area) which) (Opened handle) open_took.allowed)
+
+  found_its : AtOwnStep me old mid (OpensAt pod area which its.0)
+  found_its = took_at me old opened_at (Open (pod_spot pod area) which) (Opened handle) mid (OpensAt pod area which its.0) refl first open_took
+      (its.1, ap (λ (es : List TreeEntry). refused_in (open_refusal which) es (Some its.0)) (append-nil (state_after opened_at).entries) ∙ opens)
+
+-- in vain
+module _ (me : ℕ) (handle : Handle) (pod : PodId) (area : Area) (which : Which) (mode : Mode) (covered : Bool) (old opened_at mid asked_at late : List Event) (first : Interference me old opened_at)
+    (open_took : TookPlace opened_at me (Open (pod_spot pod area) which) (Opened handle) mid) (between : Interference me mid asked_at)
+    (ask_took : TookPlace asked_at me (TryLock handle mode) (Refused Locked 0) late)
+    (z : Seen) (single : list_any (λ h. is_lock which h.target) z.standing.holdings ≡ false) (run : IsRun late) (tied : IsTied me mid (and_held (asked_on pod area which handle covered) z)) where
+  abbrev then : Namespace
+  then = (state_after asked_at).namespace
+
+  told : is_locked then me handle mode ≡ true
+  told = (held_says (state_after asked_at) me handle mode ask_took.allowed).told
+
+  alive : Lives me asked_at
+  alive = (held_says (state_after asked_at) me handle mode ask_took.allowed).living
+
   abbrev doubled : Held → Bool
   doubled h = doubles which handle (record { handle = h.handle; target = h.target; lock = h.lock })
 
@@ -263,28 +137,77 @@ module _ (me : ℕ) (handle : Handle) (pod : PodId) (area : Area) (which : Which
   seen_once : list_any doubled (seen_of me asked_at).standing.holdings ≡ false
   seen_once =
       ap (λ (s : Seen). list_any doubled s.standing.holdings) (meanwhile_unseen between)
-      ∙ (sym (ap (λ (s : Seen). list_any doubled s.standing.holdings) (tied.living (lived_meanwhile between living)).same)
+      ∙ (sym (ap (λ (s : Seen). list_any doubled s.standing.holdings) (tied.living (lived_meanwhile between alive)).same)
       ∙ or_none (doubled (asked_on pod area which handle covered)) (list_any doubled z.standing.holdings)
       (ap (λ b. is_lock which (target_of (pod_spot pod area) which) && not b) (same_self handle.number) ∙ and_false (is_lock which (target_of (pod_spot pod area) which))) rest)
 
   earlier : IsRun asked_at
   earlier = run-left asked_at (event me (TryLock handle mode) (Refused Locked 0) ∷ []) (subst IsRun ask_took.grown run)
 
-  single_now : list_any (doubles which handle) (map holding_of (own me after.openings)) ≡ false
-  single_now = sym (open_as_seen me asked_at earlier living (doubles which handle)) ∙ seen_once
+  single_now : list_any (doubles which handle) (map holding_of (own me then.openings)) ≡ false
+  single_now = sym (open_as_seen me asked_at earlier alive (doubles which handle)) ∙ seen_once
 
   held_took : HeldByAnother pod area which mode me old late
   held_took =
-      let k = some_number (folder_at before (pod_spot pod area)) (open_says (state_after opened_at) me (pod_spot pod area) which handle open_took.allowed).there in
-      let at : New ≡ here me handle which mode (pod_spot pod area) k.0 = ap (λ (o : Option ℕ). let r : Opening = record { process = me; handle = handle; target = target_of (pod_spot pod area) which; folder = o; lock = None } in r) k.1 in
-      let found : find (is_handle me handle) after.openings ≡ Some (here me handle which mode (pod_spot pod area) k.0) = is_it ∙ ap (λ (o : Opening). Some o) at in
+      let k = its me handle pod area which mode old opened_at mid asked_at first open_took between alive in
       record {
         folder = k.0;
         between = mid;
-        found = took_at me old opened_at (Open (pod_spot pod area) which) (Opened handle) mid (λ s. folder_at s.namespace (pod_spot pod area) ≡ Some k.0) refl first open_took k.1;
+        found = found_its me handle pod area which mode old opened_at mid asked_at first open_took between alive;
         held = took_at me mid asked_at (TryLock handle mode) (Refused Locked 0) late (λ s. list_any (is_held_against me which mode k.0) s.namespace.openings ≡ true) refl between ask_took
-            (elsewhere_by me handle which mode (pod_spot pod area) k.0 after.openings single_now (sym (ap (is_opposed after me handle mode) found) ∙ told));
+            (elsewhere_by me handle which mode (pod_spot pod area) k.0 then.openings single_now
+            (sym (ap (is_opposed then me handle mode) (is_its me handle pod area which mode old opened_at mid asked_at first open_took between alive)) ∙ told));
       }
+
+-- or with the lock had
+module _ (me : ℕ) (handle : Handle) (which : Which) (mode : Mode) (spot : Spot) (f : ℕ) where
+  -- who holds it elsewhere opposes this handle
+  opposing : (o : Opening) → is_held_against me which mode f o ≡ true → (not (is_handle me handle o) && (is_same_lock (here me handle which mode spot f) o && opposes mode o.lock)) ≡ true
+  opposing o is =
+      let rest = and_right (not (o.process == me)) (is_folder f o.folder && (is_lock which o.target && opposes mode o.lock)) is in
+      let lock = and_right (is_folder f o.folder) (is_lock which o.target && opposes mode o.lock) rest in
+      and_both (not (is_handle me handle o)) _ (not_mine (o.process == me) (o.handle.number == handle.number) (and_left (not (o.process == me)) _ is))
+      (and_both (is_same_lock (here me handle which mode spot f) o) (opposes mode o.lock)
+      (one_lock which o.target o.folder (and_left (is_lock which o.target) (opposes mode o.lock) lock) (and_left (is_folder f o.folder) _ rest)) (and_right (is_lock which o.target) (opposes mode o.lock) lock))
+    where
+      not_mine : (p i : Bool) → not p ≡ true → not (p && i) ≡ true
+      not_mine false i is = refl
+      not_mine true i is = cc
+
+      one_lock : (w : Which) (t : Target) (g : Option ℕ) → is_lock w t ≡ true → is_folder f g ≡ true → is_one_lock (target_of spot w) (Some f) t g ≡ true
+      one_lock Own (target.Own at) g lock is = is
+      one_lock Own (target.Claim at) g lock is = cc
+      one_lock Own (target.Gate a) g lock is = cc
+      one_lock Claim (target.Claim at) g lock is = is
+      one_lock Claim (target.Own at) g lock is = cc
+      one_lock Claim (target.Gate a) g lock is = cc
+
+  none_opposing : (os : List Opening) → list_any (λ o. not (is_handle me handle o) && (is_same_lock (here me handle which mode spot f) o && opposes mode o.lock)) os ≡ false → list_any (is_held_against me which mode f) os ≡ false
+  none_opposing os none = any_fewer (is_held_against me which mode f) (λ o. not (is_handle me handle o) && (is_same_lock (here me handle which mode spot f) o && opposes mode o.lock)) opposing os none
+
+  -- and an own lock changes nothing of that
+  its_own : (given : Mode) (o : Opening) → is_held_against me which mode f (locked me handle given o) ≡ is_held_against me which mode f o
+  its_own given o = by (is_handle me handle o) (λ it. and_left (o.process == me) (o.handle.number == handle.number) it)
+    where
+      by : (b : Bool) → (b ≡ true → (o.process == me) ≡ true) → is_held_against me which mode f (cond b (record o { lock = Some given }) o) ≡ is_held_against me which mode f o
+      by true it = ap (λ c. not c && (is_folder f o.folder && (is_lock which o.target && opposes mode (Some given)))) (it refl) ∙ sym (ap (λ c. not c && (is_folder f o.folder && (is_lock which o.target && opposes mode o.lock))) (it refl))
+      by false it = refl
+
+free_took : (me : ℕ) (handle : Handle) (pod : PodId) (area : Area) (which : Which) (mode : Mode) (old opened_at mid asked_at late : List Event) → Interference me old opened_at → TookPlace opened_at me (Open (pod_spot pod area) which) (Opened handle) mid
+    → Interference me mid asked_at → TookPlace asked_at me (TryLock handle mode) Done late → FreeOfOthers pod area which mode me old late
+free_took me handle pod area which mode old opened_at mid asked_at late first open_took between ask_took =
+    let n : Namespace = (state_after asked_at).namespace in
+    let says = lock_says (state_after asked_at) me handle mode ask_took.allowed in
+    let k = its me handle pod area which mode old opened_at mid asked_at first open_took between says.living in
+    let none = none_opposing me handle which mode (pod_spot pod area) k.0 n.openings
+    (sym (ap (is_opposed n me handle mode) (is_its me handle pod area which mode old opened_at mid asked_at first open_took between says.living)) ∙ says.told) in
+    record {
+      folder = k.0;
+      between = mid;
+      found = found_its me handle pod area which mode old opened_at mid asked_at first open_took between says.living;
+      free = took_at me mid asked_at (TryLock handle mode) Done late (λ s. list_any (is_held_against me which mode k.0) s.namespace.openings ≡ false) refl between ask_took
+          (any_map (is_held_against me which mode k.0) (locked me handle mode) (its_own me handle which mode (pod_spot pod area) k.0 mode) n.openings ∙ none);
+    }
 
 late_never : {X : Type 0} {request : Request} {reply : Reply} {me : ℕ} {before new : List Event} → LeftNothing before me request reply new → is_late_reply request reply ≡ false → X
 late_never {X} {request} {reply} {me} {before} {new} l timely = let e : true ≡ false = sym l.late ∙ timely in cc
@@ -297,5 +220,15 @@ held_step me old mid late handle pod area which mode covered opens asks z single
     by : TookPlace opens.before me (Open (pod_spot pod area) which) (Opened handle) mid ⊎ LeftNothing opens.before me (Open (pod_spot pod area) which) (Opened handle) mid
         → TookPlace asks.before me (TryLock handle mode) (Refused Locked 0) late ⊎ LeftNothing asks.before me (TryLock handle mode) (Refused Locked 0) late → HeldByAnother pod area which mode me old late
     by (inl o) (inl a) = held_took me handle pod area which mode covered old opens.before mid asks.before late opens.meanwhile o asks.meanwhile a z single asks.run tied
+    by (inl o) (inr l) = late_never l refl
+    by (inr l) a = late_never l refl
+
+pub free_step : (me : ℕ) (old mid late : List Event) (handle : Handle) (pod : PodId) (area : Area) (which : Which) (mode : Mode) → CallStep me old (Open (pod_spot pod area) which) (Opened handle) mid → CallStep me mid (TryLock handle mode) Done late
+    → FreeOfOthers pod area which mode me old late
+free_step me old mid late handle pod area which mode opens asks = by opens.own asks.own
+  where
+    by : TookPlace opens.before me (Open (pod_spot pod area) which) (Opened handle) mid ⊎ LeftNothing opens.before me (Open (pod_spot pod area) which) (Opened handle) mid
+        → TookPlace asks.before me (TryLock handle mode) Done late ⊎ LeftNothing asks.before me (TryLock handle mode) Done late → FreeOfOthers pod area which mode me old late
+    by (inl o) (inl a) = free_took me handle pod area which mode old opens.before mid asks.before late opens.meanwhile o asks.meanwhile a
     by (inl o) (inr l) = late_never l refl
     by (inr l) a = late_never l refl

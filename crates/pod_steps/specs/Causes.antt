@@ -1,5 +1,5 @@
 -- Why a step at a pod wasn't done, and what was done.
-use Rattle.std.specs.Prelude.{◌≡◌, ◌==◌, ◌&&◌, ℕ, Bool, true, false, not, Some, List, [], ◌∷◌}
+use Rattle.std.specs.Prelude.{◌≡◌, ◌==◌, ◌&&◌, ℕ, Bool, true, false, not, Some, None, List, [], ◌∷◌}
 use Rattle.std.specs.List.{list_any}
 use Rattle.dir_model.specs.declared.area.Area.{Area}
 use Rattle.dir_model.specs.declared.event.Event.{Event}
@@ -33,6 +33,10 @@ IsAbsentAt pod area s = stands s.namespace (pod_spot pod area) ≡ false
 abbrev pub CannotOpenAt : PodId → Area → Which → DirState → Type 0
 CannotOpenAt pod area which s = refused_in (open_refusal which) s.entries (folder_at s.namespace (pod_spot pod area)) ≡ Some dir.Missing
 
+-- the folder with this number stands at this place, and the lock can be opened: for Claim it has its file
+abbrev pub OpensAt : PodId → Area → Which → ℕ → DirState → Type 0
+OpensAt pod area which folder s = (folder_at s.namespace (pod_spot pod area) ≡ Some folder) × (refused_in (open_refusal which) s.entries (Some folder) ≡ None)
+
 -- this process asked for this and was answered so
 abbrev pub Did : Request → Reply → ℕ → List Event → List Event → Type 0
 Did request reply me old new = InOrder me old new (record { request = request; reply = reply } ∷ [])
@@ -63,8 +67,19 @@ is_held_against me which mode folder o = not (o.process == me) && (is_folder fol
 pub record HeldByAnother (pod : PodId) (area : Area) (which : Which) (mode : Mode) (me : ℕ) (old new : List Event) : Type 0 where
   pub folder : ℕ
   pub between : List Event
-  pub found : AtOwnStep me old between (λ s. folder_at s.namespace (pod_spot pod area) ≡ Some folder)
+  pub found : AtOwnStep me old between (OpensAt pod area which folder)
   pub held : AtOwnStep me between new (λ s. list_any (is_held_against me which mode folder) s.namespace.openings ≡ true)
+
+-- or no other process held it so
+pub record FreeOfOthers (pod : PodId) (area : Area) (which : Which) (mode : Mode) (me : ℕ) (old new : List Event) : Type 0 where
+  pub folder : ℕ
+  pub between : List Event
+  pub found : AtOwnStep me old between (OpensAt pod area which folder)
+  pub free : AtOwnStep me between new (λ s. list_any (is_held_against me which mode folder) s.namespace.openings ≡ false)
+
+-- that, where the trace is observed
+abbrev pub FreeWhere : Bool → PodId → Area → Which → Mode → DirAt → DirAt → Type 0
+FreeWhere observed pod area which mode old new = observed ≡ true → FreeOfOthers pod area which mode old.process old.trace new.trace
 
 -- where the lock was refused, another process held it
 abbrev pub BusyElsewhere : PodId → Area → Mode → Setback → DirAt → DirAt → Type 0

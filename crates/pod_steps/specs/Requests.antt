@@ -4,6 +4,7 @@ use Rattle.dir_model.specs.declared.area.Area.{Area}
 use Rattle.dir_model.specs.declared.pod.PodId.{PodId}
 use Rattle.dir_model.specs.declared.request.Request.{Request}
 use Rattle.dir_model.specs.declared.request.Request.TheVariants.{Open, TryLock, Close, MoveFolder}
+use Rattle.dir_model.specs.Replies.{is_look_at}
 use Rattle.dir_model.specs.State.{spot_eq}
 use Rattle.phase_read.specs.Read.{pod_spot}
 
@@ -13,6 +14,10 @@ looks_at pod area (Open spot which) = spot_eq (pod_spot pod area) spot
 looks_at pod area (TryLock handle mode) = true
 looks_at pod area (Close handle) = true
 looks_at pod area _ = false
+
+-- the same, and no lock is asked for but shared
+abbrev pub peeks_at : PodId → Area → Request → Bool
+peeks_at pod area request = is_look_at (spot_eq (pod_spot pod area)) request
 
 -- it is moved from here to there
 abbrev pub moves : PodId → Area → Area → Request → Bool

@@ -6,13 +6,13 @@ ghost use Rattle.dir_model.specs.declared.spot.Which.TheVariants.{Own};
 ghost use Rattle.dir_model.specs.declared.request.Request.TheVariants.{MoveFolder};
 ghost use Rattle.dir_model.specs.declared.request.Reply.TheVariants.{Done};
 ghost use Rattle.dir_trait.specs.Local.{IsActive, IsUnopened};
-ghost use Rattle.dir_trait.specs.DirCalls.{LockToldBetween};
+ghost use Rattle.dir_trait.specs.DirCalls.{ExtendsBy, LockToldBetween};
 ghost use Rattle.dir_trait.specs.Knowledge.{Knows};
 ghost use Rattle.folder_building.specs.Work.{Worked};
 ghost use Rattle.phase_read.specs.Read.{pod_spot};
-ghost use Rattle.pod_steps.specs.Requests.{looks_at, moves};
+ghost use Rattle.pod_steps.specs.Requests.{looks_at, peeks_at, moves};
 ghost use Rattle.pod_steps.specs.Holding.{Went, and_taken, with_lock, MayLook, MayTake, MayMove, LooksFree, KeepsReady, Stays};
-ghost use Rattle.pod_steps.specs.Causes.{Stopped, CannotOpenAt, IsAbsentAt, BusyElsewhere, Did};
+ghost use Rattle.pod_steps.specs.Causes.{Stopped, CannotOpenAt, IsAbsentAt, BusyElsewhere, FreeWhere, Did};
 ghost use Rattle.pod_steps.specs.Taking.{TakesNothing};
 
 use crate::place::pod_spot;
@@ -26,6 +26,7 @@ use std::alloc::Global;
 pub fn probe<D: Dir>(alloc: Global, dir: &mut D, pod: PodId, area: Area) -> Result<(), Setback>
     requires active { IsActive (D.shown dir.old).local }
     ensures worked { Worked D.observed (looks_at pod area) (D.shown dir.old) (D.shown dir.new) }
+    ensures peeks { D.observed ≡ true → ExtendsBy (peeks_at pod area) (D.shown dir.old) (D.shown dir.new) }
     ensures stopped { IfErr result (λ e. Stopped D.observed pod (IsAbsentAt pod area) e (D.shown dir.old) (D.shown dir.new)) }
     ensures named { IfErr result (λ e. (which : Which) → e ≡ Setback.Busy which → which ≡ Own) }
     ensures another { IfErr result (λ e. D.observed ≡ true → Stays (MayLook pod area) (D.shown dir.old)
@@ -65,6 +66,7 @@ pub fn take<D: Dir>(
     ensures named { IfErr result (λ e. (other : Which) → e ≡ Setback.Busy other → other ≡ which) }
     ensures another { IfErr result (λ e. D.observed ≡ true → Stays (MayTake pod area which) (D.shown dir.old)
         (λ s. BusyElsewhere pod area mode.Exclusive e (D.shown dir.old) (D.shown dir.new))) }
+    ensures free { IfOk result (λ handle. FreeWhere D.observed pod area which mode.Exclusive (D.shown dir.old) (D.shown dir.new)) }
     ensures held { IfOk result (λ handle. D.observed ≡ true → Stays (MayTake pod area which) (D.shown dir.old)
         (λ s. Knows (D.shown dir.new) (with_lock pod area which handle s))) }
     ensures left { IfErr result (λ e. D.observed ≡ true → Stays (MayTake pod area which) (D.shown dir.old) (λ s. Knows (D.shown dir.new) s)) }

@@ -8,7 +8,7 @@ use Rattle.dir_model.proofs.Holdings.{unlocked_new}
 use Rattle.pod_claim.proofs.Calls.{with_spot}
 use Rattle.pod_steps.specs.declared.setback.Setback.{Setback}
 use Rattle.pod_steps.specs.Causes.{Stopped, IsAbsentAt}
-use Rattle.pod_steps.proofs.Calls.{worked_tried, worked_unopened, lock_stops, own_stops, stops_part, follows_call}
+use Rattle.pod_steps.proofs.Calls.{worked_tried, worked_unopened, peeked_tried, peeked_unopened, lock_stops, own_stops, stops_part, follows_call}
 use Rattle.pod_steps.proofs.Knowing.{busy_probe, lock_named, never_busy, knows_probed, knows_unprobed, knows_unopened, told_probed, told_busy}
 use Rattle.pod_steps.proofs.steps.probe.Goals as goal
 
@@ -75,3 +75,12 @@ returns-in-Err-answer-clause-owned g c which is =
 
 pub returns-in-Err-clause-owned : goal.returns-in-Err-clause-owned
 returns-in-Err-clause-owned g c which is t = absurd (never_busy c.in-Err.error which (sym c.set_back.ensures ∙ is))
+
+pub returns-in-Ok-answer-clause-peeks : goal.returns-in-Ok-answer-clause-peeks
+returns-in-Ok-answer-clause-peeks g c = peeked_tried c.args.pod c.args.area c.try_lock-answer.result (with_spot (λ s. Open s Own) c.pod_spot.ensures c.in-Ok.ensures.called) c.try_lock-answer.ensures.called c.close.ensures.called
+
+pub returns-in-Err-answer-clause-peeks : goal.returns-in-Err-answer-clause-peeks
+returns-in-Err-answer-clause-peeks g c = peeked_tried c.args.pod c.args.area c.try_lock-answer.result (with_spot (λ s. Open s Own) c.pod_spot.ensures c.in-Ok.ensures.called) c.try_lock-answer.ensures.called c.close.ensures.called
+
+pub returns-in-Err-clause-peeks : goal.returns-in-Err-clause-peeks
+returns-in-Err-clause-peeks g c = peeked_unopened c.args.pod c.args.area c.in-Err.error (with_spot (λ s. Open s Own) c.pod_spot.ensures c.in-Err.ensures.called)

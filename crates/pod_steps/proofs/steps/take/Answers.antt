@@ -8,7 +8,7 @@ use Rattle.pod_claim.proofs.Calls.{with_spot}
 use Rattle.pod_steps.specs.declared.setback.Setback.{Setback}
 use Rattle.pod_steps.specs.Causes.{Stopped, CannotOpenAt}
 use Rattle.pod_steps.proofs.Calls.{went_taken, went_tried, went_unopened, lock_stops, open_stops, stops_part, follows_call}
-use Rattle.pod_steps.proofs.Knowing.{busy_take, lock_named, never_busy, knows_taken, knows_untaken, knows_unlocked}
+use Rattle.pod_steps.proofs.Knowing.{free_taken, busy_take, lock_named, never_busy, knows_taken, knows_untaken, knows_unlocked}
 use Rattle.pod_steps.proofs.steps.take.Goals as goal
 
 pub try_lock-requires-clause-unlocked : goal.try_lock-requires-clause-unlocked
@@ -62,3 +62,6 @@ returns-in-Err-try_lock-clause-named g c other is = lock_named c.args.which c.in
 
 pub returns-in-Err-clause-named : goal.returns-in-Err-clause-named
 returns-in-Err-clause-named g c other is = absurd (never_busy c.in-Err.error other (sym c.set_back.ensures ∙ is))
+
+pub returns-in-Ok-try_lock-clause-free : goal.returns-in-Ok-try_lock-clause-free
+returns-in-Ok-try_lock-clause-free g c = free_taken c.args.pod c.args.area c.args.which Exclusive (with_spot (λ s. Open s c.args.which) c.pod_spot.ensures c.in-Ok.ensures.called) c.in-Ok-try_lock.ensures.called
