@@ -1,10 +1,8 @@
 -- What a process may do under the pod's Claim, and what it knows once Claim is given up.
-use Rattle.std.proofs.Common.{◌≡◌, ℕ, Bool, true, Some, List, refl, sym, subst, ◌∙◌, arith}
+use Rattle.std.proofs.Common.{◌≡◌, ℕ, Bool, true, Some, refl, sym, subst, ◌∙◌, arith}
 use Rattle.dir_model.specs.declared.area.Area.TheVariants.{Prepared, Garbage}
-use Rattle.dir_model.specs.declared.event.Event.{Event}
 use Rattle.dir_model.specs.declared.pod.PodId.{PodId}
 use Rattle.dir_model.specs.declared.spot.Handle.{Handle}
-use Rattle.dir_model.specs.declared.spot.Mode.{Mode}
 use Rattle.dir_model.specs.declared.spot.Mode.TheVariants.{Shared, Exclusive}
 use Rattle.dir_model.specs.declared.spot.Which.{Which}
 use Rattle.dir_model.specs.declared.spot.Which.TheVariants.{Own, Claim}
@@ -21,7 +19,6 @@ use Rattle.dir_trait.specs.Knowledge.{Knows, OnlyLooks}
 use Rattle.dir_trait.proofs.Knowing.{knows_call}
 use Rattle.folder_building.specs.Work.{Worked}
 use Rattle.phase_read.specs.Read.{pod_spot}
-use Rattle.pod_claim.specs.Work.{Grew}
 use Rattle.pod_claim.proofs.Calls.{lock_closed}
 use Rattle.pod_claim.proofs.Seen.{off}
 use Rattle.pod_claim.proofs.Times.{at_part}
@@ -30,8 +27,9 @@ use Rattle.pod_steps.specs.declared.setback.Setback.{Setback}
 use Rattle.pod_steps.specs.declared.setback.Setback.TheVariants as stop
 use Rattle.pod_steps.specs.Requests.{looks_at}
 use Rattle.pod_steps.specs.Holding.{Went, and_lock, on_lock, with_lock, with_look, IsBare, MayLook, LooksFree, MayTake, MayMove, Keeps, KeepsReady, Stays}
-use Rattle.pod_steps.specs.Causes.{Stopped, IsAbsentAt, CannotOpenAt, HeldByAnother, BusyElsewhere}
+use Rattle.pod_steps.specs.Causes.{Stopped, IsAbsentAt, CannotOpenAt, BusyElsewhere}
 use Rattle.pod_steps.proofs.Calls.{Follows}
+use Rattle.pod_steps.proofs.Within.{held_within}
 use Rattle.pod_steps.proofs.Knowing.{new_number, knows_as}
 use Rattle.pod_removal.specs.Requests.{removes}
 use Rattle.pod_removal.specs.Holding.{MayDiscard, UnderClaim}
@@ -106,11 +104,6 @@ ready_claimed {observed} {now} {a} {b} {c} {d} {h} pod t unopened held under z s
     }
 
 -- a part of the time in which another process held the lock
-held_within : {pod : PodId} {which : Which} {mode : Mode} {me other : ℕ} {a b c d : List Event} → Grew a b → other ≡ me → Grew c d → HeldByAnother pod Prepared which mode other b c → HeldByAnother pod Prepared which mode me a d
-held_within {pod} {which} {mode} {me} {other} {a} {b} {c} {d} ab same cd h =
-    let g = subst (λ (p : ℕ). HeldByAnother pod Prepared which mode p b c) same h in
-    record { folder = g.folder; between = g.between; found = at_part ab refl grown_none g.found; held = at_part grown_none refl cd g.held }
-
 pub busy_within : {observed : Bool} {pod : PodId} {e : Setback} {a b c d : DirAt} → observed ≡ true → Follows observed a b → Follows observed c d → BusyInPrepared pod e b c → BusyInPrepared pod e a d
 busy_within t ab cd busy which is = held_within (ab.grown t) ab.same (cd.grown t) (busy which is)
 
@@ -170,9 +163,16 @@ stops_else pod other s = record { fault = s.fault; missing = λ is t. absurd (ot
 pub stops_alone : {observed : Bool} {pod : PodId} {e : Setback} {a b : DirAt} → Stopped observed pod (IsAbsentAt pod Prepared) e a b → StoppedAlone observed pod e a b
 stops_alone s = record { fault = s.fault; missing = s.missing; manifest = λ is t. absurd (s.manifest is); stray = s.stray }
 
+-- no lock was refused where Claim couldn't be opened
+pub alone_calm : {observed : Bool} {e : Setback} {b c : DirAt} {pod : PodId} {which : Which} → StopsAlone observed pod e b c → e ≡ stop.Busy which → ⊥
+alone_calm {observed} {e} {b} {c} {pod} {which} s is = (look_only e s.calm).1 which is
+
+pub claim_calm : Own ≡ Claim → ⊥
+claim_calm is = cc
+
 -- a lock was refused, and nothing but looks was asked for
 pub looks_alone : {observed : Bool} {e : Setback} {b c : DirAt} {pod : PodId} (a : DirAt) → StopsAlone observed pod e b c → BusyByLooks observed pod Prepared e a c
-looks_alone {observed} {e} a s which is = absurd ((look_only e s.calm).1 which is)
+looks_alone a s which is = absurd (alone_calm s is)
 
 pub looks_claimed : {observed : Bool} {e : Setback} {l : Local} {a b c d : DirAt} {h : Handle} (pod : PodId) → Went observed (looks_at pod Prepared) l a b → c.process ≡ b.process → DirCall observed c (Close h) Done d → BusyByLooks observed pod Prepared e b c → BusyByLooks observed pod Prepared e a d
 looks_claimed pod w same z busy which is t = and_call (and_more (w.extends t) w.same (busy which is t)) (same ∙ w.same) refl (z.step t)

@@ -13,7 +13,7 @@ use Rattle.dir_model.specs.Locks.{is_folder, opposes}
 use Rattle.dir_model.specs.State.{folder_at}
 use Rattle.dir_model.specs.Trace.{state_after}
 use Rattle.dir_model.proofs.Lists.{and_left, and_right, and_both, any_fewer, same_self}
-use Rattle.dir_model.proofs.Moments.{at_grown}
+use Rattle.dir_model.proofs.Moments.{at_grown, at_weaker}
 use Rattle.dir_trait.specs.DirCalls.{DirAt}
 use Rattle.lifecycle.specs.Executions.{IsConforming}
 use Rattle.phase_read.specs.Read.{pod_spot}
@@ -101,7 +101,7 @@ module _ (pod : PodId) (me : ℕ) (a c : List Event) (free : IsUnhinderedThrough
       let grown = at_grown x in
       let here = free y.before (grown.0 ++ y.later) y.rest y.step (y.begins ∙ (ap (λ (t : List Event). t ++ y.later) grown.1 ∙ append_assoc a grown.0 y.later)) y.ends y.own in
       let on : Grew h.between now = record { more = y.later ++ y.step ∷ []; grown = ap (λ (t : List Event). t ++ y.step ∷ []) y.begins ∙ append_assoc h.between y.later (y.step ∷ []) } in
-      let stood : AtOwnStep me a now (λ s. folder_at s.namespace (pod_spot pod b.area) ≡ Some h.folder) = at_part grown_none refl on x in
+      let stood : AtOwnStep me a now (λ s. folder_at s.namespace (pod_spot pod b.area) ≡ Some h.folder) = at_part grown_none refl on (at_weaker (λ s. folder_at s.namespace (pod_spot pod b.area) ≡ Some h.folder) (λ s o. o.0) x) in
       let none = any_fewer (is_held_against me which b.mode h.folder) (is_held_elsewhere me which h.folder) (against_held me which b.mode h.folder) (state_after now).namespace.openings (here.unheld h.folder which (b.area, stood)) in
       let e : false ≡ true = sym none ∙ y.holds in cc
 

@@ -1,5 +1,5 @@
 -- What a process knows that marks a pod in run, and what the refusal of a mark rests on.
-use Rattle.std.proofs.Common.{◌≡◌, ◌⊎◌, inl, inr, ◌==◌, ◌&&◌, ◌||◌, ℕ, Bool, true, false, not, cond, bytes_eq, Option, Some, None, is_some, Result, Ok, Err, List, [], ◌∷◌, refl, sym, ap, subst, ◌∙◌}
+use Rattle.std.proofs.Common.{◌≡◌, ◌⊎◌, inl, inr, ◌==◌, ◌&&◌, ◌||◌, ℕ, Bool, true, false, not, cond, bytes_eq, Option, Some, None, is_some, Result, Ok, Err, List, [], ◌∷◌, ◌++◌, option_to_list, append-nil, refl, sym, ap, subst, ◌∙◌}
 use Rattle.std.specs.List.{list_any}
 use Rattle.std.proofs.lemmas.Bool.{eqb-true}
 use Rattle.dir_model.specs.declared.area.Area.TheVariants.{Run, ExitedGarbage}
@@ -11,24 +11,25 @@ use Rattle.dir_model.specs.declared.pod.PodId.{PodId}
 use Rattle.dir_model.specs.declared.spot.Spot.{Spot}
 use Rattle.dir_model.specs.declared.spot.Which.TheVariants.{Own}
 use Rattle.dir_model.specs.declared.tree.TreeEntry.{TreeEntry}
+use Rattle.dir_model.specs.declared.tree.TreeNode.TheVariants.{Piece}
 use Rattle.dir_model.specs.declared.request.DirError.{DirError}
 use Rattle.dir_model.specs.declared.request.DirError.TheVariants.{Missing, Exists, NotEmpty, Locked, Failed}
 use Rattle.dir_model.specs.declared.request.DirError.TheVariants as dir
 use Rattle.dir_model.specs.declared.request.Request.TheVariants.{MakeFileIn}
 use Rattle.dir_model.specs.declared.request.Reply.{Reply}
 use Rattle.dir_model.specs.declared.request.Reply.TheVariants.{Done, Refused}
-use Rattle.dir_model.specs.Calls.{AtOwnStep, CallStep, TookPlace, LeftNothing}
+use Rattle.dir_model.specs.Calls.{AtOwnStep, CallStep, Extends, TookPlace, LeftNothing}
 use Rattle.dir_model.specs.Causes.{Rose}
 use Rattle.dir_model.specs.Pods.{pod_text}
 use Rattle.dir_model.specs.Paths.{is_directly_in}
 use Rattle.dir_model.specs.Replies.{refused_in, make_refusal, is_error, is_own_of, is_any_reply, is_reply, is_state_reply, may_refuse, done_reply}
 use Rattle.dir_model.specs.State.{DirState, folder_at, spot_eq}
-use Rattle.dir_model.specs.Trace.{state_after}
-use Rattle.dir_model.specs.Trees.{has_any, has_parent, is_parent_entry}
+use Rattle.dir_model.specs.Trace.{state_after, placed}
+use Rattle.dir_model.specs.Trees.{has_any, has_dir, has_file, has_parent, is_file_entry, is_parent_entry}
 use Rattle.dir_model.proofs.Allowed.{allowed_reply}
 use Rattle.dir_model.proofs.Chains.{nothing_yet, and_call}
-use Rattle.dir_model.proofs.Lists.{and_both, or_last}
-use Rattle.dir_model.proofs.Moments.{took_at}
+use Rattle.dir_model.proofs.Lists.{and_both, any_last, or_last, same_self}
+use Rattle.dir_model.proofs.Moments.{took_at, some_number}
 use Rattle.dir_model.proofs.Spots.{spot_self}
 use Rattle.dir_rules.specs.declared.standing.Standing.{Standing}
 use Rattle.dir_rules.specs.declared.seen.Seen.{Seen}
@@ -46,10 +47,15 @@ use Rattle.folder_building.specs.Work.{Worked}
 use Rattle.gate_reading.proofs.PlainPaths.{plain_own}
 use Rattle.phase_read.specs.Read.{pod_spot}
 use Rattle.pod_claim.proofs.Seen.{off}
+use Rattle.pod_claim.proofs.Times.{at_part}
+use Rattle.pod_claim.proofs.Traces.{grown_none}
 use Rattle.pod_steps.specs.declared.setback.Setback.TheVariants as stop
 use Rattle.pod_steps.specs.Setbacks.{set_back}
 use Rattle.pod_steps.specs.Holding.{IsBare, MayLook, LooksFree, with_look, MayMove, Keeps, KeepsReady, Stays}
+use Rattle.pod_steps.specs.Requests.{moves}
 use Rattle.pod_steps.specs.Causes.{Stopped, IsAbsentAt}
+use Rattle.pod_steps.proofs.Calls.{Follows}
+use Rattle.pod_removal.specs.Causes.{IsMarkedIn, IsMarkedBetween, MarkedFirst}
 use Rattle.pod_removal.specs.Requests.{marks_at}
 use Rattle.pod_removal.specs.Holding.{MayRemove, MayMark, Marked}
 use Rattle.pod_removal.proofs.MarkNames.{marked_directly, marked_plain}
@@ -141,10 +147,10 @@ absent_by path es (Some folder) direct h = by (has_any es folder path) (has_pare
     by false true p h = cc
     by false false p h = cc
 
-by_state : (s : DirState) (me : ℕ) (inner : Inner) → is_own_of s (Some inner) ≡ false → is_reply s me (MakeFileIn inner) (Refused Missing 0) ≡ true → is_state_reply s me (MakeFileIn inner) (Refused Missing 0) ≡ true
-by_state s me inner off h = by (is_own_of s (Some inner)) off h
+by_state : (s : DirState) (me : ℕ) (inner : Inner) (reply : Reply) → is_own_of s (Some inner) ≡ false → is_reply s me (MakeFileIn inner) reply ≡ true → is_state_reply s me (MakeFileIn inner) reply ≡ true
+by_state s me inner reply off h = by (is_own_of s (Some inner)) off h
   where
-    by : (b : Bool) → b ≡ false → cond b (is_any_reply s me (MakeFileIn inner) (Refused Missing 0)) (is_state_reply s me (MakeFileIn inner) (Refused Missing 0)) ≡ true → is_state_reply s me (MakeFileIn inner) (Refused Missing 0) ≡ true
+    by : (b : Bool) → b ≡ false → cond b (is_any_reply s me (MakeFileIn inner) reply) (is_state_reply s me (MakeFileIn inner) reply) ≡ true → is_state_reply s me (MakeFileIn inner) reply ≡ true
     by true is h = cc
     by false is h = h
 
@@ -156,8 +162,76 @@ missed_mark {me} {old} {new} pod now s = from s.own
         let w = state_after s.before in
         took_at me old s.before (MakeFileIn (mark_of pod now)) (Refused Missing 0) new (IsAbsentAt pod Run) refl s.meanwhile took
         (absent_by (marked_mark now) w.entries (folder_at w.namespace (pod_spot pod Run)) (marked_directly now)
-        (by_state w me (mark_of pod now) (plain_own s.before (mark_of pod now) (marked_plain now)) (allowed_reply w me (MakeFileIn (mark_of pod now)) (Refused Missing 0) took.allowed)))
+        (by_state w me (mark_of pod now) (Refused Missing 0) (plain_own s.before (mark_of pod now) (marked_plain now)) (allowed_reply w me (MakeFileIn (mark_of pod now)) (Refused Missing 0) took.allowed)))
     from (inr left) = let clash : true ≡ false = sym left.late in cc
+
+-- or it was, or had been
+
+placed_by : (path : List ℕ) (es : List TreeEntry) (o : Option ℕ) → (not (is_some (refused_in (make_refusal path) es o)) && true) ≡ true → is_some o ≡ true
+placed_by path es None h = cc
+placed_by path es (Some folder) h = refl
+
+there_by : (path : List ℕ) (es : List TreeEntry) (o : Option ℕ) → is_error Exists (refused_in (make_refusal path) es o) ≡ true → (k : ℕ) × (o ≡ Some k) × (has_any es k path ≡ true)
+there_by path es None h = cc
+there_by path es (Some k) h = (k, refl, by (has_any es k path) (has_parent es k path) h)
+  where
+    by : (any parent : Bool) → is_error Exists (cond any (Some Exists) (cond parent None (Some Missing))) ≡ true → any ≡ true
+    by true parent h = refl
+    by false true h = cc
+    by false false h = cc
+
+has_new : (es : List TreeEntry) (k : ℕ) (path : List ℕ) → has_any (es ++ record { folder = k; path = path; node = Piece [] } ∷ []) k path ≡ true
+has_new es k path =
+    let new : TreeEntry = record { folder = k; path = path; node = Piece [] } in
+    let its : is_file_entry k path new ≡ true = and_both ((k == k) && bytes_eq path path) true (and_both (k == k) (bytes_eq path path) (same_self k) (same_bytes path)) refl in
+    or_last (has_dir (es ++ new ∷ []) k path) (has_file (es ++ new ∷ []) k path) (any_last (is_file_entry k path) es new its)
+
+abbrev IsNoted : PodId → ℕ → ℕ → List Event → List Event → Type 0
+IsNoted pod now me old new = (k : ℕ) × AtOwnStep me old new (IsMarkedIn pod now k)
+
+module _ {me : ℕ} {old new : List Event} (pod : PodId) (now : ℕ) where
+  noted_made : CallStep me old (MakeFileIn (mark_of pod now)) Done new → IsNoted pod now me old new
+  noted_made s = from s.own
+    where
+      from : TookPlace s.before me (MakeFileIn (mark_of pod now)) Done new ⊎ LeftNothing s.before me (MakeFileIn (mark_of pod now)) Done new → IsNoted pod now me old new
+      from (inl took) =
+          let w = state_after s.before in
+          let is = by_state w me (mark_of pod now) Done (plain_own s.before (mark_of pod now) (marked_plain now)) (allowed_reply w me (MakeFileIn (mark_of pod now)) Done took.allowed) in
+          let k = some_number (folder_at w.namespace (pod_spot pod Run)) (placed_by (marked_mark now) w.entries (folder_at w.namespace (pod_spot pod Run)) is) in (
+            k.0,
+            took_at me old s.before (MakeFileIn (mark_of pod now)) Done new (IsMarkedIn pod now k.0) refl s.meanwhile took
+                (k.1, subst (λ (o : Option ℕ). has_any (w.entries ++ option_to_list (placed o (marked_mark now) (Piece []))) k.0 (marked_mark now) ≡ true) (sym k.1) (has_new w.entries k.0 (marked_mark now))),
+          )
+      from (inr left) = let clash : true ≡ false = sym left.late in cc
+
+  noted_there : CallStep me old (MakeFileIn (mark_of pod now)) (Refused Exists 0) new → IsNoted pod now me old new
+  noted_there s = from s.own
+    where
+      from : TookPlace s.before me (MakeFileIn (mark_of pod now)) (Refused Exists 0) new ⊎ LeftNothing s.before me (MakeFileIn (mark_of pod now)) (Refused Exists 0) new → IsNoted pod now me old new
+      from (inl took) =
+          let w = state_after s.before in
+          let x = there_by (marked_mark now) w.entries (folder_at w.namespace (pod_spot pod Run))
+          (by_state w me (mark_of pod now) (Refused Exists 0) (plain_own s.before (mark_of pod now) (marked_plain now)) (allowed_reply w me (MakeFileIn (mark_of pod now)) (Refused Exists 0) took.allowed)) in (
+            x.0,
+            took_at me old s.before (MakeFileIn (mark_of pod now)) (Refused Exists 0) new (IsMarkedIn pod now x.0) refl s.meanwhile took
+                (x.1, subst (λ (es : List TreeEntry). has_any es x.0 (marked_mark now) ≡ true) (sym (append-nil w.entries)) x.2),
+          )
+      from (inr left) = let clash : true ≡ false = sym left.late in cc
+
+pub noted_marked : {observed : Bool} {old new : DirAt} (pod : PodId) (now : ℕ) → DirCall observed old (MakeFileIn (mark_of pod now)) Done new → observed ≡ true → IsMarkedBetween pod now old new
+noted_marked pod now x t = noted_made pod now (x.step t)
+
+pub noted_already : {observed : Bool} {old new : DirAt} (pod : PodId) (now : ℕ) → DirCall observed old (MakeFileIn (mark_of pod now)) (Refused Exists 0) new → observed ≡ true → IsMarkedBetween pod now old new
+noted_already pod now x t = noted_there pod now (x.step t)
+
+-- and then it was moved
+pub marked_first : {observed : Bool} {a b c d : DirAt} (pod : PodId) (now : ℕ) → observed ≡ true → Follows observed a b → IsMarkedBetween pod now b c → c.process ≡ b.process → Worked observed (moves pod Run ExitedGarbage) c d → MarkedFirst pod now a.process a.trace d.trace
+marked_first {observed} {a} {b} {c} {d} pod now t ab x same w = record {
+  folder = x.0;
+  between = c.trace;
+  marked = at_part (ab.grown t) ab.same grown_none x.1;
+  only = subst (λ (p : ℕ). Extends (moves pod Run ExitedGarbage) p c.trace d.trace) (same ∙ ab.same) (w.extends t);
+}
 
 pub mark_stops : {observed : Bool} {old new : DirAt} (inner : Inner) (pod : PodId) (now : ℕ) (e : DirError) → (e ≡ Exists → ⊥) → may_refuse (MakeFileIn inner) e ≡ true → (e ≡ Failed → Rose old.faults new.faults)
     → DirCall observed old (MakeFileIn (mark_of pod now)) (Refused e 0) new → Stopped observed pod (IsAbsentAt pod Run) (set_back e) old new

@@ -49,8 +49,9 @@ use Rattle.pod_steps.specs.declared.setback.Setback.{Setback}
 use Rattle.pod_steps.specs.declared.setback.Setback.TheVariants as stop
 use Rattle.pod_steps.specs.Setbacks.{look_setback}
 use Rattle.pod_steps.specs.Holding.{Keeps, KeepsReady, Stays}
-use Rattle.pod_steps.specs.Causes.{Stopped, IsAbsentAt, Did, WasStray, HeldByAnother, BusyElsewhere}
+use Rattle.pod_steps.specs.Causes.{Stopped, IsAbsentAt, Did, WasStray, BusyElsewhere}
 use Rattle.pod_steps.proofs.Calls.{Follows, stray_part, rose_later, rose_still}
+use Rattle.pod_steps.proofs.Within.{held_within}
 use Rattle.pod_removal.specs.declared.attempt.Round.{Round}
 use Rattle.pod_removal.specs.declared.attempt.Round.TheVariants as round
 use Rattle.pod_removal.specs.declared.error.RemoveError.{RemoveError}
@@ -123,11 +124,6 @@ found_part {observed} {pod} {p} {e} {a} {b} {c} {d} ab cd x = record {
 }
 
 -- a lock was refused
-
-held_within : {pod : PodId} {area : Area} {which : Which} {mode : Mode} {me other : ℕ} {a b c d : List Event} → Grew a b → other ≡ me → Grew c d → HeldByAnother pod area which mode other b c → HeldByAnother pod area which mode me a d
-held_within {pod} {area} {which} {mode} {me} {other} {a} {b} {c} {d} ab same cd h =
-    let g = subst (λ (p : ℕ). HeldByAnother pod area which mode p b c) same h in
-    record { folder = g.folder; between = g.between; found = at_part ab refl grown_none g.found; held = at_part grown_none refl cd g.held }
 
 pub busy_within : {pod : PodId} {which : Which} {me other : ℕ} {a b c d : List Event} → Grew a b → other ≡ me → Grew c d → IsBusyAt pod which other b c → IsBusyAt pod which me a d
 busy_within ab same cd h = record { area = h.area; stage = h.stage; mode = h.mode; held = held_within ab same cd h.held }

@@ -1,7 +1,7 @@
 -- Why a pod wasn't put aside or deleted.
-use Rattle.std.specs.Prelude.{◌≡◌, ◌⊎◌, ℕ, Bool, true, false, List}
+use Rattle.std.specs.Prelude.{◌≡◌, ◌⊎◌, ℕ, Bool, true, false, Some, List}
 use Rattle.dir_model.specs.declared.area.Area.{Area}
-use Rattle.dir_model.specs.declared.area.Area.TheVariants.{Prepared, ExitedGarbage, Garbage}
+use Rattle.dir_model.specs.declared.area.Area.TheVariants.{Prepared, Run, ExitedGarbage, Garbage}
 use Rattle.dir_model.specs.declared.area.Phase.{Phase}
 use Rattle.dir_model.specs.declared.area.Phase.TheVariants as kind
 use Rattle.dir_model.specs.declared.event.Event.{Event}
@@ -13,14 +13,17 @@ use Rattle.dir_model.specs.declared.spot.Which.TheVariants.{Own, Claim}
 use Rattle.dir_model.specs.declared.request.Reply.TheVariants.{Done}
 use Rattle.dir_model.specs.declared.request.Request.TheVariants.{RemoveFolder}
 use Rattle.dir_model.specs.Areas.{is_stage}
+use Rattle.dir_model.specs.Calls.{Extends, AtOwnStep}
 use Rattle.dir_model.specs.Causes.{Rose}
-use Rattle.dir_model.specs.State.{DirState, stands}
+use Rattle.dir_model.specs.State.{DirState, folder_at, stands}
+use Rattle.dir_model.specs.Trees.{has_any}
+use Rattle.dir_rules.specs.Marks.{marked_mark}
 use Rattle.dir_trait.specs.DirCalls.{DirAt, ExtendsBy, HeldBetween}
 use Rattle.phase_read.specs.Read.{pod_spot}
 use Rattle.pod_steps.specs.declared.setback.Setback.{Setback}
 use Rattle.pod_steps.specs.declared.setback.Setback.TheVariants.{Missing, NoManifest, Busy, DirFault, Stray, NoMemory}
 use Rattle.pod_claim.specs.Causes.{OpensOwnAlone}
-use Rattle.pod_steps.specs.Requests.{looks_at}
+use Rattle.pod_steps.specs.Requests.{looks_at, peeks_at, moves}
 use Rattle.pod_steps.specs.Causes.{IsAbsentAt, Did, WasStray, HeldByAnother}
 use Rattle.pod_steps.specs.Taking.{TakesNothing}
 use Rattle.pod_removal.specs.Requests.{aside, place_of}
@@ -84,6 +87,25 @@ BusyAny pod stop old new = (which : Which) → stop ≡ Busy which → IsBusyAt 
 -- where a lock was refused, nothing but looks at this place and locks there was asked for
 abbrev pub BusyByLooks : Bool → PodId → Area → Setback → DirAt → DirAt → Type 0
 BusyByLooks observed pod area stop old new = (which : Which) → stop ≡ Busy which → observed ≡ true → ExtendsBy (looks_at pod area) old new
+
+-- and no lock but shared
+abbrev pub BusyByPeeks : Bool → PodId → Area → Setback → DirAt → DirAt → Type 0
+BusyByPeeks observed pod area stop old new = (which : Which) → stop ≡ Busy which → observed ≡ true → ExtendsBy (peeks_at pod area) old new
+
+-- the folder with this number stands in run, and something at the path of the mark of this moment
+abbrev pub IsMarkedIn : PodId → ℕ → ℕ → DirState → Type 0
+IsMarkedIn pod now folder s = (folder_at s.namespace (pod_spot pod Run) ≡ Some folder) × (has_any s.entries folder (marked_mark now) ≡ true)
+
+-- that so, at an own step
+abbrev pub IsMarkedBetween : PodId → ℕ → DirAt → DirAt → Type 0
+IsMarkedBetween pod now old new = (folder : ℕ) × HeldBetween old new (IsMarkedIn pod now folder)
+
+-- its mark was there, and after that nothing was asked for but its move
+pub record MarkedFirst (pod : PodId) (now : ℕ) (me : ℕ) (old new : List Event) : Type 0 where
+  pub folder : ℕ
+  pub between : List Event
+  pub marked : AtOwnStep me old between (IsMarkedIn pod now folder)
+  pub only : Extends (moves pod Run ExitedGarbage) me between new
 
 -- the pod was missing, or its manifest was
 abbrev pub is_missing : Setback → Bool

@@ -1,5 +1,5 @@
 // A dead pod is put aside: from prepare to garbage, and from run, with a mark, to exited-garbage.
-ghost use Rattle.std.specs.Prelude.{◌≡◌, true, IfOk, IfErr};
+ghost use Rattle.std.specs.Prelude.{◌≡◌, true, false, IfOk, IfErr};
 ghost use Rattle.dir_model.specs.declared.area.Area.TheVariants as area;
 ghost use Rattle.dir_model.specs.declared.spot.Mode.TheVariants as mode;
 ghost use Rattle.dir_model.specs.declared.spot.Which.{Which};
@@ -15,7 +15,7 @@ ghost use Rattle.pod_steps.specs.Holding.{KeepsReady, Stays};
 ghost use Rattle.pod_removal.specs.Holding.{MayRemove, MayMark, Marked};
 ghost use Rattle.pod_steps.specs.Causes.{Stopped, IsAbsentAt, BusyElsewhere, Did};
 ghost use Rattle.pod_steps.specs.Taking.{TakesNothing};
-ghost use Rattle.pod_removal.specs.Causes.{BusyByLooks};
+ghost use Rattle.pod_removal.specs.Causes.{BusyByPeeks, IsMarkedBetween, MarkedFirst};
 
 use dir_trait::{Area, Dir, DirError, PodId};
 use folder_plans::mark_text;
@@ -42,7 +42,8 @@ pub fn discard_aborted<D: Dir>(
     ensures done { IfOk result (λ done. D.observed ≡ true → Did (MoveFolder (pod_spot pod area.Prepare) (pod_spot pod area.Garbage)) Done
         (D.shown dir.old).process (D.shown dir.old).trace (D.shown dir.new).trace) }
     ensures aside { IfOk result (λ done. D.observed ≡ true → ExtendsBy (puts_aside pod area.Prepare area.Garbage) (D.shown dir.old) (D.shown dir.new)) }
-    ensures looks { IfErr result (λ e. BusyByLooks D.observed pod area.Prepare e (D.shown dir.old) (D.shown dir.new)) }
+    ensures free { IfOk result (λ done. D.observed ≡ true → LockToldBetween (D.shown dir.old) (D.shown dir.new) (pod_spot pod area.Prepare) false) }
+    ensures peeks { IfErr result (λ e. BusyByPeeks D.observed pod area.Prepare e (D.shown dir.old) (D.shown dir.new)) }
     ensures still { IfErr result (λ e. TakesNothing D.observed (D.shown dir.old) (D.shown dir.new)) }
     ensures ready { D.observed ≡ true → Stays (MayRemove now) (D.shown dir.old) (λ s. KeepsReady s (D.shown dir.new)) }
 {
@@ -58,6 +59,7 @@ fn mark<D: Dir>(alloc: Global, dir: &mut D, pod: PodId, now: u64) -> Result<(), 
     ensures stopped { IfErr result (λ e. Stopped D.observed pod (IsAbsentAt pod area.Run) e (D.shown dir.old) (D.shown dir.new)) }
     ensures calm { IfErr result (λ e. (which : Which) → e ≡ Setback.Busy which → ⊥) }
     ensures marked { IfOk result (λ done. D.observed ≡ true → Stays (MayMark pod now) (D.shown dir.old) (λ s. Marked pod s (D.shown dir.new))) }
+    ensures noted { IfOk result (λ done. D.observed ≡ true → IsMarkedBetween pod now (D.shown dir.old) (D.shown dir.new)) }
     ensures left { D.observed ≡ true → Stays (MayMark pod now) (D.shown dir.old) (λ s. KeepsReady s (D.shown dir.new)) }
 {
     let name = match mark_text(alloc, "marked-", now) {
@@ -91,7 +93,9 @@ pub fn retire_exited<D: Dir>(
     ensures done { IfOk result (λ done. D.observed ≡ true → Did (MoveFolder (pod_spot pod area.Run) (pod_spot pod area.ExitedGarbage)) Done
         (D.shown dir.old).process (D.shown dir.old).trace (D.shown dir.new).trace) }
     ensures aside { IfOk result (λ done. D.observed ≡ true → ExtendsBy (puts_aside pod area.Run area.ExitedGarbage) (D.shown dir.old) (D.shown dir.new)) }
-    ensures looks { IfErr result (λ e. BusyByLooks D.observed pod area.Run e (D.shown dir.old) (D.shown dir.new)) }
+    ensures free { IfOk result (λ done. D.observed ≡ true → LockToldBetween (D.shown dir.old) (D.shown dir.new) (pod_spot pod area.Run) false) }
+    ensures noted { IfOk result (λ done. D.observed ≡ true → MarkedFirst pod now (D.shown dir.old).process (D.shown dir.old).trace (D.shown dir.new).trace) }
+    ensures peeks { IfErr result (λ e. BusyByPeeks D.observed pod area.Run e (D.shown dir.old) (D.shown dir.new)) }
     ensures still { IfErr result (λ e. TakesNothing D.observed (D.shown dir.old) (D.shown dir.new)) }
     ensures ready { D.observed ≡ true → Stays (MayRemove now) (D.shown dir.old) (λ s. KeepsReady s (D.shown dir.new)) }
 {

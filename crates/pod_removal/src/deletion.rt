@@ -2,6 +2,7 @@
 ghost use Rattle.std.specs.Prelude.{◌≡◌, true, false, IfOk, IfErr};
 ghost use Rattle.dir_model.specs.declared.spot.Mode.TheVariants as mode;
 ghost use Rattle.dir_model.specs.declared.spot.Which.{Which};
+ghost use Rattle.dir_model.specs.declared.spot.Which.TheVariants.{Own};
 ghost use Rattle.dir_model.specs.declared.request.Request.TheVariants.{RemoveFolder};
 ghost use Rattle.dir_model.specs.declared.request.Reply.TheVariants.{Done};
 ghost use Rattle.dir_model.specs.State.{stands};
@@ -12,7 +13,7 @@ ghost use Rattle.phase_read.specs.Read.{pod_spot};
 ghost use Rattle.pod_removal.specs.Requests.{is_garbage_place, deletes_in, removes};
 ghost use Rattle.pod_steps.specs.Holding.{KeepsReady, Stays};
 ghost use Rattle.pod_removal.specs.Holding.{MayRemove, HasOwn, KeepsBut};
-ghost use Rattle.pod_steps.specs.Causes.{Stopped, IsAbsentAt, BusyElsewhere, Did};
+ghost use Rattle.pod_steps.specs.Causes.{Stopped, IsAbsentAt, BusyElsewhere, FreeWhere, Did};
 ghost use Rattle.pod_removal.specs.Causes.{BusyByLooks, is_missing, MissedUntaken};
 
 use dir_trait::{Area, Dir, PodId, Which};
@@ -90,6 +91,8 @@ pub fn delete_at<D: Dir>(
         (λ s. BusyElsewhere pod area mode.Exclusive e (D.shown dir.old) (D.shown dir.new))) }
     ensures done { IfOk result (λ done. D.observed ≡ true
         → Did (RemoveFolder (pod_spot pod area)) Done (D.shown dir.old).process (D.shown dir.old).trace (D.shown dir.new).trace) }
+    ensures named { IfErr result (λ e. (which : Which) → e ≡ Setback.Busy which → which ≡ Own) }
+    ensures free { IfOk result (λ done. FreeWhere D.observed pod area Own mode.Exclusive (D.shown dir.old) (D.shown dir.new)) }
     ensures looks { IfErr result (λ e. BusyByLooks D.observed pod area e (D.shown dir.old) (D.shown dir.new)) }
     ensures still { IfErr result (λ e. MissedUntaken D.observed e (D.shown dir.old) (D.shown dir.new)) }
     ensures ready { D.observed ≡ true → Stays (MayRemove now) (D.shown dir.old) (λ s. KeepsReady s (D.shown dir.new)) }

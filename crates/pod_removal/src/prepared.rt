@@ -1,9 +1,11 @@
 // A prepared pod is put aside under its activation lock.
-ghost use Rattle.std.specs.Prelude.{◌≡◌, true, IfOk, IfErr};
+ghost use Rattle.std.specs.Prelude.{◌≡◌, true, false, IfOk, IfErr};
 ghost use Rattle.dir_model.specs.declared.area.Area.TheVariants as area;
+ghost use Rattle.dir_model.specs.declared.spot.Mode.TheVariants as mode;
+ghost use Rattle.dir_model.specs.declared.spot.Which.TheVariants.{Own, Claim};
 ghost use Rattle.dir_model.specs.declared.request.Request.TheVariants.{MoveFolder};
 ghost use Rattle.dir_model.specs.declared.request.Reply.TheVariants.{Done};
-ghost use Rattle.dir_trait.specs.DirCalls.{ExtendsBy};
+ghost use Rattle.dir_trait.specs.DirCalls.{ExtendsBy, LockToldBetween};
 ghost use Rattle.dir_trait.specs.Local.{IsActive};
 ghost use Rattle.dir_trait.specs.Knowledge.{OnlyLooks};
 ghost use Rattle.folder_building.specs.Work.{Worked};
@@ -12,7 +14,7 @@ ghost use Rattle.pod_steps.specs.Requests.{looks_at};
 ghost use Rattle.pod_removal.specs.Requests.{removes, puts_aside};
 ghost use Rattle.pod_steps.specs.Holding.{KeepsReady, Stays};
 ghost use Rattle.pod_removal.specs.Holding.{MayDiscard, UnderClaim};
-ghost use Rattle.pod_steps.specs.Causes.{Stopped, IsAbsentAt, Did};
+ghost use Rattle.pod_steps.specs.Causes.{Stopped, IsAbsentAt, FreeWhere, Did};
 ghost use Rattle.pod_steps.specs.Taking.{TakesNothing};
 ghost use Rattle.pod_removal.specs.Causes.{StopsAlone, StoppedAlone, BusyInPrepared, BusyByLooks};
 
@@ -37,6 +39,7 @@ fn discard_under_claim<D: Dir>(
     ensures done { IfOk result (λ done. D.observed ≡ true → Did (MoveFolder (pod_spot pod area.Prepared) (pod_spot pod area.Garbage)) Done
         (D.shown dir.old).process (D.shown dir.old).trace (D.shown dir.new).trace) }
     ensures aside { IfOk result (λ done. D.observed ≡ true → ExtendsBy (puts_aside pod area.Prepared area.Garbage) (D.shown dir.old) (D.shown dir.new)) }
+    ensures free { IfOk result (λ done. D.observed ≡ true → LockToldBetween (D.shown dir.old) (D.shown dir.new) (pod_spot pod area.Prepared) false) }
     ensures looks { IfErr result (λ e. BusyByLooks D.observed pod area.Prepared e (D.shown dir.old) (D.shown dir.new)) }
     ensures still { IfErr result (λ e. TakesNothing D.observed (D.shown dir.old) (D.shown dir.new)) }
     ensures ready { D.observed ≡ true → Stays (UnderClaim pod now) (D.shown dir.old) (λ s. KeepsReady s (D.shown dir.new)) }
@@ -78,6 +81,9 @@ pub fn discard_prepared<D: Dir>(
     ensures done { IfOk result (λ done. D.observed ≡ true → Did (MoveFolder (pod_spot pod area.Prepared) (pod_spot pod area.Garbage)) Done
         (D.shown dir.old).process (D.shown dir.old).trace (D.shown dir.new).trace) }
     ensures aside { IfOk result (λ done. D.observed ≡ true → ExtendsBy (puts_aside pod area.Prepared area.Garbage) (D.shown dir.old) (D.shown dir.new)) }
+    ensures claimed { IfOk result (λ done. FreeWhere D.observed pod area.Prepared Claim mode.Exclusive (D.shown dir.old) (D.shown dir.new)) }
+    ensures under_claim { IfErr result (λ e. e ≡ Setback.Busy Own → FreeWhere D.observed pod area.Prepared Claim mode.Exclusive (D.shown dir.old) (D.shown dir.new)) }
+    ensures free { IfOk result (λ done. D.observed ≡ true → LockToldBetween (D.shown dir.old) (D.shown dir.new) (pod_spot pod area.Prepared) false) }
     ensures looks { IfErr result (λ e. BusyByLooks D.observed pod area.Prepared e (D.shown dir.old) (D.shown dir.new)) }
     ensures still { IfErr result (λ e. TakesNothing D.observed (D.shown dir.old) (D.shown dir.new)) }
     ensures ready { D.observed ≡ true → Stays (MayDiscard pod now) (D.shown dir.old) (λ s. KeepsReady s (D.shown dir.new)) }

@@ -1,4 +1,4 @@
-use Rattle.std.proofs.Common.{◌≡◌, rules, true, arith}
+use Rattle.std.proofs.Common.{◌≡◌, rules, true, false, refl, arith}
 use Rattle.dir_model.specs.declared.area.Area.TheVariants.{Prepare, Garbage}
 use Rattle.dir_model.specs.declared.spot.Mode.TheVariants.{Shared}
 use Rattle.dir_model.specs.declared.spot.Which.{Which}
@@ -11,12 +11,13 @@ use Rattle.folder_building.proofs.Working.{worked_more, worked_wider}
 use Rattle.phase_read.specs.Read.{pod_spot}
 use Rattle.pod_claim.proofs.Times.{deeds_part}
 use Rattle.pod_claim.proofs.Traces.{grown_none}
+use Rattle.pod_steps.proofs.Within.{told_within}
 use Rattle.pod_steps.specs.declared.setback.Setback.TheVariants as stop
 use Rattle.pod_steps.specs.Holding.{MayLook, Stays}
 use Rattle.pod_steps.specs.Causes.{Stopped, IsAbsentAt, BusyElsewhere, Did}
 use Rattle.pod_steps.proofs.Calls.{follows_none, follows_work, stops_part}
 use Rattle.pod_removal.specs.Holding.{MayRemove}
-use Rattle.pod_removal.specs.Causes.{BusyByLooks}
+use Rattle.pod_removal.specs.Causes.{BusyByPeeks}
 use Rattle.pod_removal.specs.Requests.{puts_aside}
 use Rattle.pod_removal.proofs.CallKinds.{looks_remove, first_remove, put_aside}
 use Rattle.pod_removal.proofs.Stages.{err_same, looks_aborted, same_ready, ready_aborted, ok_all, err_all}
@@ -96,15 +97,15 @@ returns-clause-owned g c =
     err_more (λ e. (which : Which) → e ≡ stop.Busy which → ⊥) (λ e. (which : Which) → e ≡ stop.Busy which → D.observed ≡ true → LockToldBetween old new (pod_spot c.args.pod Prepare) true) c.put_aside.result
     (λ e calm which is t. absurd (calm which is)) c.put_aside.ensures.calm
 
-pub returns-in_err-probe-clause-looks : goal.returns-in_err-probe-clause-looks
-returns-in_err-probe-clause-looks g c =
+pub returns-in_err-probe-clause-peeks : goal.returns-in_err-probe-clause-peeks
+returns-in_err-probe-clause-peeks g c =
     let D = g.D.Dir in
-    err_all (λ e. BusyByLooks D.observed c.args.pod Prepare e (D.shown c.args.dir.now) (D.shown c.probe.new.dir)) c.from_residual.result (λ e which is t. c.probe.ensures.worked.extends t)
+    err_all (λ e. BusyByPeeks D.observed c.args.pod Prepare e (D.shown c.args.dir.now) (D.shown c.probe.new.dir)) c.from_residual.result (λ e which is t. c.probe.ensures.peeks t)
 
-pub returns-clause-looks : goal.returns-clause-looks
-returns-clause-looks g c =
+pub returns-clause-peeks : goal.returns-clause-peeks
+returns-clause-peeks g c =
     let D = g.D.Dir in
-    err_more (λ e. (which : Which) → e ≡ stop.Busy which → ⊥) (λ e. BusyByLooks D.observed c.args.pod Prepare e (D.shown c.args.dir.now) (D.shown c.put_aside.new.dir)) c.put_aside.result
+    err_more (λ e. (which : Which) → e ≡ stop.Busy which → ⊥) (λ e. BusyByPeeks D.observed c.args.pod Prepare e (D.shown c.args.dir.now) (D.shown c.put_aside.new.dir)) c.put_aside.result
     (λ e calm which is t. absurd (calm which is)) c.put_aside.ensures.calm
 
 pub returns-in_err-probe-clause-still : goal.returns-in_err-probe-clause-still
@@ -131,3 +132,9 @@ returns-in_err-probe-clause-named g c =
 pub returns-clause-named : goal.returns-clause-named
 returns-clause-named g c =
     err_more (λ e. (which : Which) → e ≡ stop.Busy which → ⊥) (λ e. (which : Which) → e ≡ stop.Busy which → which ≡ Own) c.put_aside.result (λ e calm which is. absurd (calm which is)) c.put_aside.ensures.calm
+
+pub returns-clause-free : goal.returns-clause-free
+returns-clause-free g c =
+    let D = g.D.Dir in
+    ok_all (λ done. D.observed ≡ true → LockToldBetween (D.shown c.args.dir.now) (D.shown c.put_aside.new.dir) (pod_spot c.args.pod Prepare) false) c.put_aside.result
+    (λ done t. told_within grown_none refl ((follows_work c.put_aside.ensures.worked).grown t) (c.in_ok-probe.ensures.told t))

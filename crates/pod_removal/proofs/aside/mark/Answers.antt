@@ -7,7 +7,7 @@ use Rattle.pod_steps.specs.declared.setback.Setback.{Setback}
 use Rattle.pod_steps.specs.Causes.{Stopped, IsAbsentAt}
 use Rattle.pod_steps.proofs.Knowing.{never_busy}
 use Rattle.pod_removal.proofs.MarkNames.{marked_is_path}
-use Rattle.pod_removal.proofs.Marking.{with_mark, worked_mark, knows_marked, knows_there, ready_mark, mark_stops}
+use Rattle.pod_removal.proofs.Marking.{with_mark, noted_marked, noted_already, worked_mark, knows_marked, knows_there, ready_mark, mark_stops}
 use Rattle.pod_removal.proofs.aside.mark.Goals as goal
 
 pub returns-in-Err-clause-worked : goal.returns-in-Err-clause-worked
@@ -58,3 +58,11 @@ returns-clause-calm g c which is = never_busy c.in-Err-make_file_in.error which 
 pub returns-clause-left : goal.returns-clause-left
 returns-clause-left g c =
     ready_mark c.args.pod c.args.now (Err c.in-Err-make_file_in.error) (with_mark c.args.pod c.args.now c.pod_spot.ensures (c.as_str.ensures ∙ c.in-Ok.ensures) c.in-Err-make_file_in.ensures.called)
+
+pub returns-in-Ok-make_file_in-clause-noted : goal.returns-in-Ok-make_file_in-clause-noted
+returns-in-Ok-make_file_in-clause-noted g c = noted_marked c.args.pod c.args.now (with_mark c.args.pod c.args.now c.pod_spot.ensures (c.as_str.ensures ∙ c.in-Ok.ensures) c.in-Ok-make_file_in.ensures.called)
+
+pub returns-in-Err-Exists-clause-noted : goal.returns-in-Err-Exists-clause-noted
+returns-in-Err-Exists-clause-noted g c =
+    let e = rw c.in-Err-Exists.field-0-is at c.in-Err-Exists.ensures in
+    noted_already c.args.pod c.args.now (with_mark c.args.pod c.args.now c.pod_spot.ensures (c.as_str.ensures ∙ c.in-Ok.ensures) e.called)

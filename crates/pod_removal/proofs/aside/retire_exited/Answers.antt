@@ -1,4 +1,4 @@
-use Rattle.std.proofs.Common.{◌≡◌, rules, true, arith}
+use Rattle.std.proofs.Common.{◌≡◌, rules, true, false, refl, arith}
 use Rattle.dir_model.specs.declared.area.Area.TheVariants.{Run, ExitedGarbage}
 use Rattle.dir_model.specs.declared.spot.Mode.TheVariants.{Shared}
 use Rattle.dir_model.specs.declared.spot.Which.{Which}
@@ -10,17 +10,18 @@ use Rattle.folder_building.proofs.Copying.{ok_more, err_more}
 use Rattle.folder_building.proofs.Working.{worked_more, worked_wider}
 use Rattle.phase_read.specs.Read.{pod_spot}
 use Rattle.pod_claim.proofs.Times.{deeds_part}
-use Rattle.pod_claim.proofs.Traces.{grown_none}
+use Rattle.pod_claim.proofs.Traces.{grown_none, grown_more}
+use Rattle.pod_steps.proofs.Within.{told_within}
 use Rattle.pod_steps.specs.declared.setback.Setback.TheVariants as stop
 use Rattle.pod_steps.specs.Holding.{MayLook, Stays}
 use Rattle.pod_steps.specs.Causes.{Stopped, IsAbsentAt, BusyElsewhere, Did}
 use Rattle.pod_steps.proofs.Calls.{follows_none, follows_work, stops_part}
 use Rattle.pod_removal.specs.Holding.{MayRemove}
-use Rattle.pod_removal.specs.Causes.{BusyByLooks}
+use Rattle.pod_removal.specs.Causes.{BusyByPeeks, MarkedFirst}
 use Rattle.pod_removal.specs.Requests.{puts_aside}
 use Rattle.pod_removal.proofs.CallKinds.{looks_remove, marks_remove, third_remove, put_marked}
 use Rattle.pod_removal.proofs.Stages.{err_same, looks_exited, same_ready, ok_all, err_all}
-use Rattle.pod_removal.proofs.Marking.{ready_exited, ready_unmarked}
+use Rattle.pod_removal.proofs.Marking.{ready_exited, ready_unmarked, marked_first}
 use Rattle.pod_steps.specs.Taking.{TakesNothing}
 use Rattle.pod_steps.proofs.Taking.{took_looks, took_more}
 use Rattle.pod_removal.proofs.CallKinds.{took_marks}
@@ -140,25 +141,25 @@ returns-in_err-mark-clause-owned g c =
     (err_more (λ e. (which : Which) → e ≡ stop.Busy which → ⊥) (λ e. (which : Which) → e ≡ stop.Busy which → D.observed ≡ true → LockToldBetween old new (pod_spot c.args.pod Run) true) c.mark.result
     (λ e calm which is t. absurd (calm which is)) c.mark.ensures.calm)
 
-pub returns-in_err-probe-clause-looks : goal.returns-in_err-probe-clause-looks
-returns-in_err-probe-clause-looks g c =
+pub returns-in_err-probe-clause-peeks : goal.returns-in_err-probe-clause-peeks
+returns-in_err-probe-clause-peeks g c =
     let D = g.D.Dir in
-    err_all (λ e. BusyByLooks D.observed c.args.pod Run e (D.shown c.args.dir.now) (D.shown c.probe.new.dir)) c.from_residual.result (λ e which is t. c.probe.ensures.worked.extends t)
+    err_all (λ e. BusyByPeeks D.observed c.args.pod Run e (D.shown c.args.dir.now) (D.shown c.probe.new.dir)) c.from_residual.result (λ e which is t. c.probe.ensures.peeks t)
 
-pub returns-clause-looks : goal.returns-clause-looks
-returns-clause-looks g c =
+pub returns-clause-peeks : goal.returns-clause-peeks
+returns-clause-peeks g c =
     let D = g.D.Dir in
-    err_more (λ e. (which : Which) → e ≡ stop.Busy which → ⊥) (λ e. BusyByLooks D.observed c.args.pod Run e (D.shown c.args.dir.now) (D.shown c.put_aside.new.dir)) c.put_aside.result
+    err_more (λ e. (which : Which) → e ≡ stop.Busy which → ⊥) (λ e. BusyByPeeks D.observed c.args.pod Run e (D.shown c.args.dir.now) (D.shown c.put_aside.new.dir)) c.put_aside.result
     (λ e calm which is t. absurd (calm which is)) c.put_aside.ensures.calm
 
-pub returns-in_err-mark-clause-looks : goal.returns-in_err-mark-clause-looks
-returns-in_err-mark-clause-looks g c =
+pub returns-in_err-mark-clause-peeks : goal.returns-in_err-mark-clause-peeks
+returns-in_err-mark-clause-peeks g c =
     let D = g.D.Dir in
     let old = D.shown c.args.dir.now in
     let new = D.shown c.mark.new.dir in
-    err_same (λ e. BusyByLooks D.observed c.args.pod Run e old new) c.mark.result c.from_residual-in_err-mark.result
+    err_same (λ e. BusyByPeeks D.observed c.args.pod Run e old new) c.mark.result c.from_residual-in_err-mark.result
     (λ e h. search (rules, h, c.from_residual-in_err-mark.ensures, c.in_err-mark.is))
-    (err_more (λ e. (which : Which) → e ≡ stop.Busy which → ⊥) (λ e. BusyByLooks D.observed c.args.pod Run e old new) c.mark.result (λ e calm which is t. absurd (calm which is)) c.mark.ensures.calm)
+    (err_more (λ e. (which : Which) → e ≡ stop.Busy which → ⊥) (λ e. BusyByPeeks D.observed c.args.pod Run e old new) c.mark.result (λ e calm which is t. absurd (calm which is)) c.mark.ensures.calm)
 
 pub returns-in_err-probe-clause-still : goal.returns-in_err-probe-clause-still
 returns-in_err-probe-clause-still g c =
@@ -198,3 +199,16 @@ pub returns-in_err-mark-clause-named : goal.returns-in_err-mark-clause-named
 returns-in_err-mark-clause-named g c =
     err_same (λ e. (which : Which) → e ≡ stop.Busy which → which ≡ Own) c.mark.result c.from_residual-in_err-mark.result (λ e h. search (rules, h, c.from_residual-in_err-mark.ensures, c.in_err-mark.is))
     (err_more (λ e. (which : Which) → e ≡ stop.Busy which → ⊥) (λ e. (which : Which) → e ≡ stop.Busy which → which ≡ Own) c.mark.result (λ e calm which is. absurd (calm which is)) c.mark.ensures.calm)
+
+pub returns-clause-free : goal.returns-clause-free
+returns-clause-free g c =
+    let D = g.D.Dir in
+    ok_all (λ done. D.observed ≡ true → LockToldBetween (D.shown c.args.dir.now) (D.shown c.put_aside.new.dir) (pod_spot c.args.pod Run) false) c.put_aside.result
+    (λ done t. told_within grown_none refl (grown_more ((follows_work c.mark.ensures.worked).grown t) ((follows_work c.put_aside.ensures.worked).grown t)) (c.in_ok-probe.ensures.told t))
+
+pub returns-clause-noted : goal.returns-clause-noted
+returns-clause-noted g c =
+    let D = g.D.Dir in
+    let old = D.shown c.args.dir.now in
+    ok_all (λ done. D.observed ≡ true → MarkedFirst c.args.pod c.args.now old.process old.trace (D.shown c.put_aside.new.dir).trace) c.put_aside.result
+    (λ done t. marked_first c.args.pod c.args.now t (follows_work c.probe.ensures.worked) (c.in_ok-mark.ensures.noted t) c.mark.ensures.worked.same c.put_aside.ensures.worked)

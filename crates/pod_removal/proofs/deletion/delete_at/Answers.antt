@@ -1,4 +1,4 @@
-use Rattle.std.proofs.Common.{◌≡◌, rules, true, ap, subst}
+use Rattle.std.proofs.Common.{◌≡◌, rules, true, refl, ap, subst}
 use Rattle.dir_model.specs.declared.spot.Mode.TheVariants.{Exclusive}
 use Rattle.dir_model.specs.declared.spot.Which.{Which}
 use Rattle.dir_model.specs.declared.spot.Which.TheVariants.{Own}
@@ -11,11 +11,13 @@ use Rattle.pod_claim.proofs.Times.{deeds_part}
 use Rattle.pod_steps.specs.declared.setback.Setback.TheVariants as stop
 use Rattle.pod_steps.specs.Requests.{looks_at}
 use Rattle.pod_steps.specs.Holding.{Went, and_taken, MayTake, Stays}
-use Rattle.pod_steps.specs.Causes.{Stopped, IsAbsentAt, CannotOpenAt, BusyElsewhere, Did}
-use Rattle.pod_steps.proofs.Calls.{follows_went, follows_call, stops_part}
+use Rattle.pod_steps.specs.Causes.{Stopped, IsAbsentAt, CannotOpenAt, BusyElsewhere, FreeWhere, Did}
+use Rattle.pod_claim.proofs.Traces.{grown_none, grown_more}
+use Rattle.pod_steps.proofs.Calls.{follows_work, follows_went, follows_call, stops_part}
+use Rattle.pod_steps.proofs.Within.{free_within}
 use Rattle.pod_removal.specs.Holding.{MayRemove}
 use Rattle.pod_removal.specs.Causes.{BusyByLooks}
-use Rattle.pod_removal.proofs.Stages.{err_same, err_all}
+use Rattle.pod_removal.proofs.Stages.{err_same, err_all, ok_all}
 use Rattle.pod_removal.proofs.Deleting.{own_stopped, takes_own, ready_owned, ready_unowned, worked_owned, worked_unowned}
 use Rattle.pod_removal.specs.Causes.{MissedUntaken}
 use Rattle.pod_steps.proofs.Taking.{took_looks, took_closed}
@@ -115,3 +117,17 @@ returns-clause-still g c =
     let late = D.shown c.delete_if_there-result.new.dir in
     err_more (λ e. MissedUntaken D.observed e mid late) (λ e. MissedUntaken D.observed e (D.shown c.args.dir.now) (D.shown c.close.new.self)) c.delete_if_there-result.result
     (λ e x is t. took_closed t c.args.pod c.args.area c.take.ensures.went c.delete_if_there-result.ensures.worked.same c.close.ensures.called (x is t)) c.delete_if_there-result.ensures.still
+
+pub returns-clause-free : goal.returns-clause-free
+returns-clause-free g c =
+    let D = g.D.Dir in
+    ok_all (λ done. FreeWhere D.observed c.args.pod c.args.area Own Exclusive (D.shown c.args.dir.now) (D.shown c.close.new.self)) c.delete_if_there-result.result
+    (λ done t. free_within grown_none refl (grown_more ((follows_work c.delete_if_there-result.ensures.worked).grown t) ((follows_call c.close.ensures.called).grown t)) (c.in_ok-own.ensures.free t))
+
+pub returns-in_err-own-clause-named : goal.returns-in_err-own-clause-named
+returns-in_err-own-clause-named g c =
+    err_same (λ e. (which : Which) → e ≡ stop.Busy which → which ≡ Own) c.take.result c.from_residual.result (λ e h. search (rules, h, c.from_residual.ensures, c.in_err-own.is)) c.take.ensures.named
+
+pub returns-clause-named : goal.returns-clause-named
+returns-clause-named g c =
+    err_more (λ e. (which : Which) → e ≡ stop.Busy which → ⊥) (λ e. (which : Which) → e ≡ stop.Busy which → which ≡ Own) c.delete_if_there-result.result (λ e calm which is. absurd (calm which is)) c.delete_if_there-result.ensures.calm

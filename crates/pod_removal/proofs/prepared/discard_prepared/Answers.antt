@@ -1,22 +1,27 @@
-use Rattle.std.proofs.Common.{◌≡◌, rules, true, ap, subst}
+use Rattle.std.proofs.Common.{◌≡◌, rules, true, false, refl, ap, subst}
 use Rattle.dir_model.specs.declared.area.Area.TheVariants.{Prepared, Garbage}
-use Rattle.dir_model.specs.declared.spot.Which.TheVariants.{Claim}
+use Rattle.dir_model.specs.declared.spot.Mode.TheVariants.{Exclusive}
+use Rattle.dir_model.specs.declared.spot.Which.TheVariants.{Own, Claim}
 use Rattle.dir_model.specs.declared.request.Request.TheVariants.{MoveFolder}
 use Rattle.dir_model.specs.declared.request.Reply.TheVariants.{Done}
 use Rattle.dir_model.specs.Local.{Local}
-use Rattle.dir_trait.specs.DirCalls.{ExtendsBy}
+use Rattle.dir_trait.specs.DirCalls.{ExtendsBy, LockToldBetween}
 use Rattle.folder_building.proofs.Copying.{ok_more, err_more}
 use Rattle.phase_read.specs.Read.{pod_spot}
 use Rattle.pod_claim.proofs.Times.{deeds_part}
 use Rattle.pod_steps.specs.Requests.{looks_at}
 use Rattle.pod_steps.specs.Holding.{Went, and_taken, Stays}
-use Rattle.pod_steps.specs.Causes.{Stopped, IsAbsentAt, Did}
-use Rattle.pod_steps.proofs.Calls.{follows_went, follows_call, stops_part}
+use Rattle.pod_steps.specs.declared.setback.Setback.TheVariants as stop
+use Rattle.pod_steps.specs.Causes.{Stopped, IsAbsentAt, FreeWhere, Did}
+use Rattle.pod_claim.proofs.Traces.{grown_none, grown_more}
+use Rattle.pod_steps.proofs.Calls.{follows_work, follows_went, follows_call, stops_part}
+use Rattle.pod_steps.proofs.Within.{free_within, told_within}
+use Rattle.pod_removal.proofs.Stages.{ok_all, err_all}
 use Rattle.pod_removal.specs.Holding.{MayDiscard, UnderClaim}
 use Rattle.pod_removal.specs.Causes.{StoppedAlone, BusyInPrepared, BusyByLooks}
 use Rattle.pod_removal.specs.Requests.{puts_aside}
 use Rattle.pod_removal.proofs.CallKinds.{put_locked}
-use Rattle.pod_removal.proofs.Discarding.{takes_claim, discards_under, busy_within, worked_claimed, worked_alone, alone_stops, alone_busy, ready_claimed, ready_looked, ready_left, busy_claim, worked_untaken, stops_else, stops_alone, looks_alone, looks_claimed}
+use Rattle.pod_removal.proofs.Discarding.{takes_claim, discards_under, busy_within, worked_claimed, worked_alone, alone_stops, alone_busy, ready_claimed, ready_looked, ready_left, busy_claim, worked_untaken, stops_else, stops_alone, looks_alone, looks_claimed, alone_calm, claim_calm}
 use Rattle.pod_steps.specs.Taking.{TakesNothing}
 use Rattle.pod_steps.proofs.Taking.{took_looks, took_more, took_closed}
 use Rattle.pod_removal.proofs.prepared.discard_prepared.Goals as goal
@@ -131,3 +136,29 @@ returns-in-Ok-clause-aside g c =
     ok_more (λ done. D.observed ≡ true → ExtendsBy (puts_aside c.args.pod Prepared Garbage) (D.shown c.take.new.dir) (D.shown c.discard_under_claim-result.new.dir))
     (λ done. D.observed ≡ true → ExtendsBy (puts_aside c.args.pod Prepared Garbage) (D.shown c.args.dir.now) (D.shown c.close.new.self)) c.discard_under_claim-result.result
     (λ done x t. put_locked c.args.pod Prepared Garbage c.take.ensures.went c.discard_under_claim-result.ensures.worked.same c.close.ensures.called t (x t)) c.discard_under_claim-result.ensures.aside
+
+pub returns-in-Ok-clause-claimed : goal.returns-in-Ok-clause-claimed
+returns-in-Ok-clause-claimed g c =
+    let D = g.D.Dir in
+    ok_all (λ done. FreeWhere D.observed c.args.pod Prepared Claim Exclusive (D.shown c.args.dir.now) (D.shown c.close.new.self)) c.discard_under_claim-result.result
+    (λ done t. free_within grown_none refl (grown_more ((follows_work c.discard_under_claim-result.ensures.worked).grown t) ((follows_call c.close.ensures.called).grown t)) (c.in-Ok.ensures.free t))
+
+pub returns-in-Ok-clause-under_claim : goal.returns-in-Ok-clause-under_claim
+returns-in-Ok-clause-under_claim g c =
+    let D = g.D.Dir in
+    err_all (λ e. e ≡ stop.Busy Own → FreeWhere D.observed c.args.pod Prepared Claim Exclusive (D.shown c.args.dir.now) (D.shown c.close.new.self)) c.discard_under_claim-result.result
+    (λ e is t. free_within grown_none refl (grown_more ((follows_work c.discard_under_claim-result.ensures.worked).grown t) ((follows_call c.close.ensures.called).grown t)) (c.in-Ok.ensures.free t))
+
+pub returns-in-Ok-clause-free : goal.returns-in-Ok-clause-free
+returns-in-Ok-clause-free g c =
+    let D = g.D.Dir in
+    let mid = D.shown c.take.new.dir in
+    let late = D.shown c.discard_under_claim-result.new.dir in
+    ok_more (λ done. D.observed ≡ true → LockToldBetween mid late (pod_spot c.args.pod Prepared) false) (λ done. D.observed ≡ true → LockToldBetween (D.shown c.args.dir.now) (D.shown c.close.new.self) (pod_spot c.args.pod Prepared) false)
+    c.discard_under_claim-result.result (λ done x t. told_within ((follows_went c.take.ensures.went).grown t) c.take.ensures.went.same ((follows_call c.close.ensures.called).grown t) (x t)) c.discard_under_claim-result.ensures.free
+
+pub returns-in-Err-Missing-clause-under_claim : goal.returns-in-Err-Missing-clause-under_claim
+returns-in-Err-Missing-clause-under_claim g c is = absurd (alone_calm c.without_claim.ensures.stopped is)
+
+pub returns-in-Err-clause-under_claim : goal.returns-in-Err-clause-under_claim
+returns-in-Err-clause-under_claim g c is = absurd (claim_calm (c.in-Err.ensures.named Own is))

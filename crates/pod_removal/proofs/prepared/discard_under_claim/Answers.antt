@@ -1,15 +1,18 @@
-use Rattle.std.proofs.Common.{◌≡◌, rules, true, arith}
+use Rattle.std.proofs.Common.{◌≡◌, rules, true, false, refl, arith}
 use Rattle.dir_model.specs.declared.area.Area.TheVariants.{Prepared, Garbage}
 use Rattle.dir_model.specs.declared.spot.Mode.TheVariants.{Shared}
 use Rattle.dir_model.specs.declared.spot.Which.{Which}
 use Rattle.dir_model.specs.declared.spot.Which.TheVariants.{Own}
-use Rattle.dir_trait.specs.DirCalls.{ExtendsBy}
+use Rattle.dir_trait.specs.DirCalls.{ExtendsBy, LockToldBetween}
 use Rattle.folder_building.proofs.Copying.{err_more}
 use Rattle.folder_building.proofs.Working.{worked_more, worked_wider}
+use Rattle.phase_read.specs.Read.{pod_spot}
+use Rattle.pod_claim.proofs.Traces.{grown_none}
 use Rattle.pod_steps.specs.declared.setback.Setback.TheVariants as stop
 use Rattle.pod_steps.specs.Holding.{MayLook, Stays}
 use Rattle.pod_steps.specs.Causes.{Stopped, IsAbsentAt, BusyElsewhere}
 use Rattle.pod_steps.proofs.Calls.{follows_none, follows_work, stops_part}
+use Rattle.pod_steps.proofs.Within.{told_within}
 use Rattle.pod_removal.specs.Holding.{UnderClaim}
 use Rattle.pod_removal.specs.Causes.{BusyInPrepared, BusyByLooks}
 use Rattle.pod_removal.specs.Requests.{puts_aside}
@@ -94,3 +97,9 @@ pub returns-clause-aside : goal.returns-clause-aside
 returns-clause-aside g c =
     let D = g.D.Dir in
     ok_all (λ done. D.observed ≡ true → ExtendsBy (puts_aside c.args.pod Prepared Garbage) (D.shown c.args.dir.now) (D.shown c.put_aside.new.dir)) c.put_aside.result (λ done t. put_aside c.args.pod Prepared Garbage c.probe.ensures.worked c.put_aside.ensures.worked t)
+
+pub returns-clause-free : goal.returns-clause-free
+returns-clause-free g c =
+    let D = g.D.Dir in
+    ok_all (λ done. D.observed ≡ true → LockToldBetween (D.shown c.args.dir.now) (D.shown c.put_aside.new.dir) (pod_spot c.args.pod Prepared) false) c.put_aside.result
+    (λ done t. told_within grown_none refl ((follows_work c.put_aside.ensures.worked).grown t) (c.in_ok-probe.ensures.told t))
