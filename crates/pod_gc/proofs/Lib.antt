@@ -10,5 +10,6 @@ pub mod Asking
 pub mod Telling
 pub mod Gates
 pub mod Sweeps
+pub mod Ending
 pub mod Begun
 pub mod Untouched

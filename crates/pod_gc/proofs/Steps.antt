@@ -1,5 +1,5 @@
 -- What a step at a listed pod comes to as a deed.
-use Rattle.std.proofs.Common.{◌≡◌, ◌≤◌, ◌||◌, ◌⊎◌, inl, inr, ℕ, Bool, true, false, Option, Some, None, codes, Result, Ok, Err, IfOk, IfErr, List, refl, sym, ap, subst, ◌∙◌}
+use Rattle.std.proofs.Common.{◌≡◌, ◌≤◌, ◌||◌, ◌⊎◌, inl, inr, ℕ, Bool, true, false, Option, Some, None, codes, Result, Ok, Err, IfOk, IfErr, List, refl, sym, ap, subst, ◌∙◌, not}
 use Rattle.dir_model.specs.declared.area.Area.{Area}
 use Rattle.dir_model.specs.declared.area.Area.TheVariants as area
 use Rattle.dir_model.specs.declared.area.Phase.{Phase}
@@ -9,25 +9,25 @@ use Rattle.dir_model.specs.declared.pod.PodId.{PodId}
 use Rattle.dir_model.specs.declared.spot.Mode.{Mode}
 use Rattle.dir_model.specs.declared.spot.Spot.{Spot}
 use Rattle.dir_model.specs.declared.spot.Which.{Which}
-use Rattle.dir_model.specs.declared.spot.Which.TheVariants.{Own}
+use Rattle.dir_model.specs.declared.spot.Which.TheVariants.{Own, Claim}
 use Rattle.dir_model.specs.declared.request.Request.{Request}
-use Rattle.dir_model.specs.declared.request.Request.TheVariants.{MoveFolder, RemoveFolder}
+use Rattle.dir_model.specs.declared.request.Request.TheVariants.{MoveFolder, RemoveFolder, Open, TryLock, Close}
 use Rattle.dir_model.specs.declared.request.Reply.TheVariants.{Done}
-use Rattle.dir_model.specs.Areas.{rank, is_stage, phase_in}
+use Rattle.dir_model.specs.Areas.{rank, phase_in}
 use Rattle.dir_model.specs.Between.{LockTold}
 use Rattle.dir_model.specs.Calls.{AtOwnStep}
 use Rattle.dir_model.specs.Causes.{Rose}
-use Rattle.dir_model.specs.State.{DirState, stands}
+use Rattle.dir_model.specs.State.{DirState, stands, spot_eq}
 use Rattle.dir_model.proofs.Lists.{or_last}
 use Rattle.dir_model.proofs.Moments.{at_weaker, settle}
 use Rattle.dir_rules.specs.declared.seen.Seen.{Seen}
-use Rattle.dir_trait.specs.DirCalls.{DirAt, HeldBetween, LockToldBetween}
+use Rattle.dir_trait.specs.DirCalls.{DirAt, HeldBetween, LockToldBetween, ExtendsBy}
 use Rattle.dir_trait.specs.Knowledge.{Knows, OnlyLooks}
 use Rattle.lifecycle.specs.Executions.{IsConforming}
 use Rattle.lifecycle.proofs.Stays.{stays_between}
 use Rattle.phase_read.specs.declared.found.LookError.{LookError}
 use Rattle.phase_read.specs.declared.found.LookError.TheVariants as look
-use Rattle.phase_read.specs.Read.{pod_spot, HasPhase}
+use Rattle.phase_read.specs.Read.{pod_spot, HasPhase, is_pod_spot}
 use Rattle.phase_read.specs.Exact.{AtOwnEvent, IsInPhase}
 use Rattle.phase_read.proofs.Exact.{found_exactly}
 use Rattle.pod_claim.specs.Work.{Grew}
@@ -36,16 +36,23 @@ use Rattle.pod_claim.proofs.Times.{at_part, deeds_part}
 use Rattle.pod_claim.proofs.Traces.{grown_none, grown_more}
 use Rattle.pod_steps.specs.declared.setback.Setback.{Setback}
 use Rattle.pod_steps.specs.declared.setback.Setback.TheVariants as stop
-use Rattle.pod_steps.specs.Requests.{looks_at, moves}
+use Rattle.pod_steps.specs.Requests.{looks_at, moves, peeks_at}
 use Rattle.pod_steps.specs.Holding.{MayLook, LooksFree, with_look, KeepsReady, Stays}
-use Rattle.pod_steps.specs.Causes.{Stopped, IsAbsentAt, Did, WasStray, BusyElsewhere}
+use Rattle.pod_steps.specs.Causes.{Stopped, IsAbsentAt, Did, WasStray, BusyElsewhere, HeldByAnother, FreeOfOthers, FreeWhere}
 use Rattle.pod_steps.proofs.Calls.{Follows, stray_part, rose_later}
 use Rattle.pod_removal.specs.Requests.{is_garbage_place, removes}
-use Rattle.pod_removal.specs.Causes.{BusyAny, IsBusyAt}
 use Rattle.pod_removal.specs.Holding.{MayRemove}
 use Rattle.pod_removal.proofs.CallKinds.{looks_remove}
-use Rattle.pod_removal.proofs.Stages.{none_kind, same_ready}
-use Rattle.pod_removal.proofs.Rounds.{may_kept, looked_keeps, busy_within, busy_at, event_after}
+use Rattle.pod_removal.proofs.Stages.{none_kind, same_ready, err_all}
+use Rattle.pod_removal.proofs.Rounds.{may_kept, looked_keeps, event_after}
+use Rattle.dir_model.specs.declared.spot.Mode.TheVariants.{Shared, Exclusive}
+use Rattle.dir_model.specs.Replies.{is_look_at}
+use Rattle.dir_model.proofs.Chains.{and_more, extends_wider}
+use Rattle.dir_rules.specs.Standing.{is_in}
+use Rattle.pod_claim.specs.Elsewhere.{is_owned_phase}
+use Rattle.pod_claim.proofs.Elsewhere.{met_elsewhere}
+use Rattle.pod_steps.proofs.Within.{held_within, free_within, told_within}
+use Rattle.phase_read.proofs.Stages.{pod_spot_only}
 use Rattle.pod_gc.specs.declared.error.GcError.{GcError}
 use Rattle.pod_gc.specs.declared.line.Deed.{Deed}
 use Rattle.pod_gc.specs.declared.line.Deed.TheVariants.{Moved, Deleted, Kept, Busy, Left}
@@ -53,7 +60,7 @@ use Rattle.pod_gc.specs.Requests.{deals_with, lists_marks, goes_to, moves_pods, 
 use Rattle.pod_gc.specs.Causes.{deed_of, look_fault, GcCause}
 use Rattle.pod_gc.specs.declared.ages.Times.{Times}
 use Rattle.pod_gc.specs.Marks.{Showed, is_young}
-use Rattle.pod_gc.specs.Deeds.{IsGoneFrom, SaysThere, DoesNothing, DeedCause, refused_lock, BusyBecause, RestsBy, RestedSo}
+use Rattle.pod_gc.specs.Deeds.{IsGoneFrom, SaysThere, DoesNothing, DeedCause, refused_lock, RestsBy, RestedSo, is_under_claim, is_resting, busy_mode, asked_mode, LeftToAnother, LeavesToAnother, LeavesWhere}
 
 -- the calls are of their kind
 
@@ -78,43 +85,85 @@ gone_garbage pod area.ExitedGarbage place s h = h
 gone_garbage pod area.Garbage place s h = h
 gone_garbage pod _ place s h = cc
 
+pub garbage_unprepared : (a : Area) → is_garbage_place a ≡ true → a ≡ area.Prepared → ⊥
+garbage_unprepared area.ExitedGarbage place is = cc
+garbage_unprepared area.Garbage place is = cc
+garbage_unprepared _ place is = cc
+
 -- the deeds
 
 pub cause_left : {pod : PodId} {place : Area} {me : ℕ} {old new : List Event} → AtOwnStep me old new (IsGoneFrom pod place) → DeedCause pod place Left me old new
-cause_left at = record { moved = λ to is. cc; deleted = λ is. cc; kept = λ p is. cc; left = λ is. at; gate = λ is. cc }
+cause_left at = record { moved = λ to is. cc; deleted = λ is. cc; kept = λ p is. cc; left = λ is. at; gate = λ is. cc; claimed = λ here is. cc; freed = λ is. cc; alone = λ is. cc }
 
-pub cause_busy : {pod : PodId} {place : Area} {me : ℕ} {old new : List Event} (which : Which) → DeedCause pod place (Busy which) me old new
-cause_busy which = record { moved = λ to is. cc; deleted = λ is. cc; kept = λ p is. cc; left = λ is. cc; gate = λ is. cc }
+pub cause_busy : {pod : PodId} {place : Area} {me : ℕ} {old new : List Event} (which : Which) → (place ≡ area.Prepared → is_under_claim (Busy which) ≡ true → FreeOfOthers pod place Claim Exclusive me old new) → DeedCause pod place (Busy which) me old new
+cause_busy which claimed = record { moved = λ to is. cc; deleted = λ is. cc; kept = λ p is. cc; left = λ is. cc; gate = λ is. cc; claimed = claimed; freed = λ is. cc; alone = λ is. cc }
 
-pub cause_moved : {me : ℕ} {old new : List Event} (pod : PodId) (place to : Area) → moves_pods place ≡ true → to ≡ goes_to place → Did (MoveFolder (pod_spot pod place) (pod_spot pod to)) Done me old new → DeedCause pod place (Moved to) me old new
-cause_moved {me} {old} {new} pod place to moves goes did = record {
+pub cause_moved : {me : ℕ} {old new : List Event} (pod : PodId) (place to : Area) → moves_pods place ≡ true → to ≡ goes_to place → Did (MoveFolder (pod_spot pod place) (pod_spot pod to)) Done me old new
+    → (place ≡ area.Prepared → FreeOfOthers pod place Claim Exclusive me old new) → (not (is_in area.Embryo place) ≡ true → LockTold me old new (pod_spot pod place) false) → DeedCause pod place (Moved to) me old new
+cause_moved {me} {old} {new} pod place to moves goes did claimed freed = record {
   moved = λ other is. let same : to ≡ other = cc in (moves, sym same ∙ goes, subst (λ (a : Area). Did (MoveFolder (pod_spot pod place) (pod_spot pod a)) Done me old new) same did);
   deleted = λ is. cc;
   kept = λ p is. cc;
   left = λ is. cc;
   gate = λ is. cc;
+  claimed = λ here is. claimed here;
+  freed = freed;
+  alone = λ is. cc;
 }
 
-pub cause_deleted : {pod : PodId} {place : Area} {me : ℕ} {old new : List Event} → is_garbage_place place ≡ true → Did (RemoveFolder (pod_spot pod place)) Done me old new → DeedCause pod place Deleted me old new
-cause_deleted garbage did = record { moved = λ to is. cc; deleted = λ is. (garbage, did); kept = λ p is. cc; left = λ is. cc; gate = λ is. cc }
+pub cause_deleted : {pod : PodId} {place : Area} {me : ℕ} {old new : List Event} → is_garbage_place place ≡ true → Did (RemoveFolder (pod_spot pod place)) Done me old new → FreeOfOthers pod place Own Exclusive me old new → DeedCause pod place Deleted me old new
+cause_deleted garbage did alone = record { moved = λ to is. cc; deleted = λ is. (garbage, did); kept = λ p is. cc; left = λ is. cc; gate = λ is. cc; claimed = λ here is. cc; freed = λ is. cc; alone = λ is. alone }
 
-pub cause_kept : {me : ℕ} {old new : List Event} (pod : PodId) (place : Area) (p : Phase) → lets_be place p ≡ true → (IsConforming new → AtOwnEvent me old new (IsInPhase pod p place)) → DeedCause pod place (Kept p) me old new
-cause_kept {me} {old} {new} pod place p fits so = record {
+pub cause_kept : {me : ℕ} {old new : List Event} (pod : PodId) (place : Area) (p : Phase) → lets_be place p ≡ true → (IsConforming new → AtOwnEvent me old new (IsInPhase pod p place)) → (is_resting p ≡ true → LockTold me old new (pod_spot pod place) false) → DeedCause pod place (Kept p) me old new
+cause_kept {me} {old} {new} pod place p fits so freed = record {
   moved = λ to is. cc;
   deleted = λ is. cc;
   kept = λ q is. let same : p ≡ q = cc in (subst (λ (x : Phase). lets_be place x ≡ true) same fits, λ conforming. subst (λ (x : Phase). AtOwnEvent me old new (IsInPhase pod x place)) same (so conforming));
   left = λ is. cc;
   gate = λ is. cc;
+  claimed = λ here is. cc;
+  freed = freed;
+  alone = λ is. cc;
 }
+
+-- its own lock was refused in prepared
+abbrev pub ClaimsFirst : Bool → PodId → Area → Setback → DirAt → DirAt → Type 0
+ClaimsFirst observed pod place e old new = e ≡ stop.Busy Own → place ≡ area.Prepared → FreeWhere observed pod place Claim Exclusive old new
+
+own_alone : (which : Which) → is_under_claim (Busy which) ≡ true → stop.Busy which ≡ stop.Busy Own
+own_alone Own is = refl
+own_alone Claim is = cc
+
+pub claims_elsewhere : (observed : Bool) (pod : PodId) (place : Area) (old new : DirAt) (r : Result (Unit {0}) Setback) → (place ≡ area.Prepared → ⊥) → IfErr r (λ e. ClaimsFirst observed pod place e old new)
+claims_elsewhere observed pod place old new r never = err_all (λ e. ClaimsFirst observed pod place e old new) r (λ e is here. absurd (never here))
+
+-- nothing is said of another
+pub left_moved : {pod : PodId} {place to : Area} {me : ℕ} {old new : List Event} → LeftToAnother pod place (Moved to) me old new
+left_moved = record { held = λ which is. cc; owner = λ conforming p is. cc }
+
+pub left_waiting : {pod : PodId} {place : Area} {me : ℕ} {old new : List Event} → LeftToAnother pod place (Kept kind.Prepared) me old new
+left_waiting = record { held = λ which is. cc; owner = λ conforming p is owned. let same : kind.Prepared ≡ p = cc in let clash : false ≡ true = ap is_owned_phase same ∙ owned in cc }
+
+pub left_gone : {pod : PodId} {place : Area} {me : ℕ} {old new : List Event} → LeftToAnother pod place Left me old new
+left_gone = record { held = λ which is. cc; owner = λ conforming p is. cc }
+
+-- another process held the lock that was refused here
+abbrev pub BusyHere : PodId → Area → Setback → DirAt → DirAt → Type 0
+BusyHere pod place e old new = (which : Which) → e ≡ stop.Busy which → HeldByAnother pod place which (busy_mode place which) old.process old.trace new.trace
+
+pub busy_garbage : (pod : PodId) (place : Area) (e : Setback) (old new : DirAt) → is_garbage_place place ≡ true → BusyElsewhere pod place Exclusive e old new → BusyHere pod place e old new
+busy_garbage pod area.ExitedGarbage e old new garbage busy which is = busy which is
+busy_garbage pod area.Garbage e old new garbage busy which is = busy which is
+busy_garbage pod _ e old new garbage busy which is = cc
 
 module _ (observed : Bool) (pod : PodId) (place : Area) (done : Deed) (old new : DirAt) where
   pub step_deed : (r : Result (Unit {0}) Setback) → IfOk r (λ d. observed ≡ true → DeedCause pod place done old.process old.trace new.trace) → IfErr r (λ e. SetBackAt observed pod place e old new)
-      → IfOk (deed_of r done) (λ deed. observed ≡ true → DeedCause pod place deed old.process old.trace new.trace)
-  step_deed (Ok d) ok err = ok
-  step_deed (Err stop.Missing) ok err = λ t. cause_left (err.gone refl t)
-  step_deed (Err stop.NoManifest) ok err = λ t. cause_left (err.lacking refl t)
-  step_deed (Err (stop.Busy which)) ok err = λ t. cause_busy which
-  step_deed (Err _) ok err = tt
+      → IfErr r (λ e. ClaimsFirst observed pod place e old new) → IfOk (deed_of r done) (λ deed. observed ≡ true → DeedCause pod place deed old.process old.trace new.trace)
+  step_deed (Ok d) ok err claims = ok
+  step_deed (Err stop.Missing) ok err claims = λ t. cause_left (err.gone refl t)
+  step_deed (Err stop.NoManifest) ok err claims = λ t. cause_left (err.lacking refl t)
+  step_deed (Err (stop.Busy which)) ok err claims = λ t. cause_busy which (λ here is. claims (own_alone which is) here t)
+  step_deed (Err _) ok err claims = tt
 
   pub step_cause : (r : Result (Unit {0}) Setback) → IfErr r (λ e. SetBackAt observed pod place e old new) → IfErr (deed_of r done) (λ e. GcCause observed e old new)
   step_cause (Ok d) err = tt
@@ -125,12 +174,15 @@ module _ (observed : Bool) (pod : PodId) (place : Area) (done : Deed) (old new :
   step_cause (Err stop.Stray) err = record { fault = λ is. cc; stray = λ is t. err.stray refl t }
   step_cause (Err stop.NoMemory) err = record { fault = λ is. cc; stray = λ is. cc }
 
-  module _ (May : Seen → Type 0) (calm : (which : Which) → refused_lock done ≡ Some which → ⊥) where
-    pub step_another : (r : Result (Unit {0}) Setback) → IfErr r (λ e. observed ≡ true → Stays May old (λ s. BusyAny pod e old new)) → IfOk (deed_of r done) (λ deed. observed ≡ true → Stays May old (λ s. BusyBecause pod deed old new))
-    step_another (Ok d) busy = λ t s k m which is. absurd (calm which is)
-    step_another (Err stop.Missing) busy = λ t s k m which is. cc
-    step_another (Err stop.NoManifest) busy = λ t s k m which is. cc
-    step_another (Err (stop.Busy w)) busy = λ t s k m which is. let same : w ≡ which = cc in busy t s k m which (ap (λ (x : Which). stop.Busy x) same)
+  module _ (May : Seen → Type 0) (calm : (which : Which) → refused_lock done ≡ Some which → ⊥) (acts : (p : Phase) → done ≡ Kept p → ⊥) where
+    pub step_another : (r : Result (Unit {0}) Setback) → IfErr r (λ e. observed ≡ true → Stays May old (λ s. BusyHere pod place e old new)) → IfOk (deed_of r done) (λ deed. LeavesWhere observed May pod place deed old new)
+    step_another (Ok d) busy = λ t s k m. record { held = λ which is. absurd (calm which is); owner = λ conforming p is. absurd (acts p is) }
+    step_another (Err stop.Missing) busy = λ t s k m. left_gone
+    step_another (Err stop.NoManifest) busy = λ t s k m. left_gone
+    step_another (Err (stop.Busy w)) busy = λ t s k m. record {
+      held = λ which is. let same : w ≡ which = cc in subst (λ (v : Which). HeldByAnother pod place v (busy_mode place w) old.process old.trace new.trace) same (busy t s k m w refl);
+      owner = λ conforming p is. cc;
+    }
     step_another (Err stop.DirFault) busy = tt
     step_another (Err stop.Stray) busy = tt
     step_another (Err stop.NoMemory) busy = tt
@@ -144,29 +196,37 @@ kept_phase {me} {other} {old} {mid} {new} pod place p owned stage is told same t
     (at_weaker (HasPhase (pod_spot pod place) p) (λ s h. record { owned = owned; here = h; is = is })
     (settle stage told (subst (λ (n : ℕ). AtOwnStep n mid new (λ s. stands s.namespace (pod_spot pod place) ≡ true)) same there) (stays_between new conforming)))
 
-module _ (observed : Bool) (pod : PodId) (place : Area) (p : Phase) (owned : Bool) (stage : rank place ≤ 5) (is : phase_in place owned ≡ Some p) (fits : lets_be place p ≡ true) (only : (s : DirState) → IsAbsentAt pod place s → IsGoneFrom pod place s)
-    (old mid new : DirAt) (ab : Follows observed old mid) (told : observed ≡ true → LockToldBetween old mid (pod_spot pod place) owned) where
+module _ (observed : Bool) (pod : PodId) (place : Area) (p : Phase) (owned : Bool) (stage : rank place ≤ 5) (is : phase_in place owned ≡ Some p) (fits : lets_be place p ≡ true) (rests : is_resting p ≡ true → owned ≡ false) (only : (s : DirState) → IsAbsentAt pod place s → IsGoneFrom pod place s)
+    (old mid new : DirAt) (ab : Follows observed old mid) (bc : Follows observed mid new) (told : observed ≡ true → LockToldBetween old mid (pod_spot pod place) owned) where
   pub said_deed : (r : Result Deed GcError) → IfOk r (λ deed. SaysThere observed pod place p deed mid new) → IfOk r (λ deed. observed ≡ true → DeedCause pod place deed old.process old.trace new.trace)
   said_deed (Err e) x = tt
   said_deed (Ok deed) x = λ t. by deed x.is x t
     where
       by : (d : Deed) → (d ≡ Kept p) ⊎ (d ≡ Left) → SaysThere observed pod place p d mid new → observed ≡ true → DeedCause pod place d old.process old.trace new.trace
-      by d (inl kept) y t = subst (λ (z : Deed). DeedCause pod place z old.process old.trace new.trace) (sym kept) (cause_kept pod place p fits (λ conforming. kept_phase pod place p owned stage is (told t) ab.same (y.there kept t) conforming))
+      by d (inl kept) y t = subst (λ (z : Deed). DeedCause pod place z old.process old.trace new.trace) (sym kept) (cause_kept pod place p fits (λ conforming. kept_phase pod place p owned stage is (told t) ab.same (y.there kept t) conforming)
+          (λ rest. subst (λ (b : Bool). LockTold old.process old.trace new.trace (pod_spot pod place) b) (rests rest) (told_within grown_none refl (bc.grown t) (told t))))
       by d (inr left) y t = subst (λ (z : Deed). DeedCause pod place z old.process old.trace new.trace) (sym left) (cause_left (at_part (ab.grown t) ab.same grown_none (at_weaker (IsGoneFrom pod place) only (y.gone left t))))
 
 never_busy : (d : Deed) (p : Phase) → (d ≡ Kept p) ⊎ (d ≡ Left) → (which : Which) → d ≡ Busy which → ⊥
 never_busy d p (inl kept) which is = let e : Kept p ≡ Busy which = sym kept ∙ is in cc
 never_busy d p (inr left) which is = let e : Left ≡ Busy which = sym left ∙ is in cc
 
+phase_kept : (d : Deed) (p : Phase) → (d ≡ Kept p) ⊎ (d ≡ Left) → (q : Phase) → d ≡ Kept q → p ≡ q
+phase_kept d p (inl kept) q is = let e : Kept p ≡ Kept q = sym kept ∙ is in cc
+phase_kept d p (inr left) q is = let e : Left ≡ Kept q = sym left ∙ is in cc
+
 lock_kept : (d : Deed) (p : Phase) → (d ≡ Kept p) ⊎ (d ≡ Left) → (which : Which) → refused_lock d ≡ Some which → refused_lock (Kept p) ≡ Some which
 lock_kept d p (inl kept) which is = sym (ap refused_lock kept) ∙ is
 lock_kept d p (inr left) which is = let e : None ≡ Some which = sym (ap refused_lock left) ∙ is in cc
 
 -- by a phase that has no owner
-pub said_calm : (observed : Bool) (May : Seen → Type 0) (pod : PodId) (place : Area) (p : Phase) (old mid new : DirAt) → refused_lock (Kept p) ≡ None → (r : Result Deed GcError) → IfOk r (λ deed. SaysThere observed pod place p deed mid new)
-    → IfOk r (λ deed. observed ≡ true → Stays May old (λ s. BusyBecause pod deed old new))
-said_calm observed May pod place p old mid new free (Err e) x = tt
-said_calm observed May pod place p old mid new free (Ok deed) x = λ t s k m which is. let e : None ≡ Some which = sym free ∙ lock_kept deed p x.is which is in cc
+pub said_calm : (observed : Bool) (May : Seen → Type 0) (pod : PodId) (place : Area) (p : Phase) (old mid new : DirAt) → refused_lock (Kept p) ≡ None → is_owned_phase p ≡ false → (r : Result Deed GcError) → IfOk r (λ deed. SaysThere observed pod place p deed mid new)
+    → IfOk r (λ deed. LeavesWhere observed May pod place deed old new)
+said_calm observed May pod place p old mid new free unowned (Err e) x = tt
+said_calm observed May pod place p old mid new free unowned (Ok deed) x = λ t s k m. record {
+  held = λ which is. let e : None ≡ Some which = sym free ∙ lock_kept deed p x.is which is in cc;
+  owner = λ conforming q is owned. let e : false ≡ true = sym unowned ∙ (ap is_owned_phase (phase_kept deed p x.is q is) ∙ owned) in cc;
+}
 
 -- by a phase that has one, once its own lock was refused
 own_kept : (p : Phase) (which : Which) → refused_lock (Kept p) ≡ Some which → which ≡ Own
@@ -175,13 +235,27 @@ own_kept kind.Running which is = cc
 own_kept kind.Deleting which is = cc
 own_kept _ which is = cc
 
-pub said_refused : (observed : Bool) (May : Seen → Type 0) (pod : PodId) (place : Area) (mode : Mode) (w : Which) (p : Phase) (old mid new : DirAt) → is_stage place ≡ true → Follows observed mid new → w ≡ Own
-    → (observed ≡ true → Stays May old (λ s. BusyElsewhere pod place mode (stop.Busy w) old mid)) → (r : Result Deed GcError) → IfOk r (λ deed. SaysThere observed pod place p deed mid new)
-    → IfOk r (λ deed. observed ≡ true → Stays May old (λ s. BusyBecause pod deed old new))
-said_refused observed May pod place mode w p old mid new stage after named busy (Err e) x = tt
-said_refused observed May pod place mode w p old mid new stage after named busy (Ok deed) x = λ t s k m which is.
-    subst (λ (l : Which). IsBusyAt pod l old.process old.trace new.trace) (named ∙ sym (own_kept p which (lock_kept deed p x.is which is)))
-    (busy_within grown_none refl (after.grown t) (busy_at (stop.Busy w) place mode old mid stage (busy t s k m) w refl))
+module _ (observed : Bool) (now : ℕ) (pod : PodId) (place : Area) (w : Which) (p : Phase) (old mid new : DirAt) (stage : rank place ≤ 5) (same : mid.process ≡ old.process) (bc : Follows observed mid new) (named : w ≡ Own)
+    (busy : observed ≡ true → Stays (MayRemove now) old (λ s. BusyElsewhere pod place Shared (stop.Busy w) old mid)) (first : observed ≡ true → ExtendsBy (peeks_at pod place) old mid) (then : observed ≡ true → ExtendsBy (peeks_at pod place) mid new) where
+  peeks_its : (r : Request) → peeks_at pod place r ≡ true → is_look_at (is_pod_spot pod) r ≡ true
+  peeks_its (Open spot which) is = pod_spot_only pod (pod_spot pod place) spot stage refl is
+  peeks_its (TryLock handle Shared) is = refl
+  peeks_its (TryLock handle Exclusive) is = cc
+  peeks_its (Close handle) is = refl
+  peeks_its _ is = cc
+
+  pub said_refused : (r : Result Deed GcError) → IfOk r (λ deed. SaysThere observed pod place p deed mid new) → IfOk r (λ deed. observed ≡ true → DeedCause pod place deed old.process old.trace new.trace) → IfOk r (λ deed. LeavesWhere observed (MayRemove now) pod place deed old new)
+  said_refused (Err e) x cause = tt
+  said_refused (Ok deed) x cause = λ t s k m. record {
+    held = λ which is. subst (λ (mode : Mode). HeldByAnother pod place which mode old.process old.trace new.trace) (kept_mode deed p x.is which is)
+        (subst (λ (l : Which). HeldByAnother pod place l Shared old.process old.trace new.trace) (named ∙ sym (own_kept p which (lock_kept deed p x.is which is)))
+        (held_within grown_none refl (bc.grown t) (busy t s k m w refl)));
+    owner = λ conforming q is owned. met_elsewhere pod old new (extends_wider peeks_its (and_more (first t) same (then t))) conforming s k m.apart q place owned (((cause t).kept q is).1 conforming);
+  }
+    where
+      kept_mode : (d : Deed) (q : Phase) → (d ≡ Kept q) ⊎ (d ≡ Left) → (which : Which) → refused_lock d ≡ Some which → Shared ≡ asked_mode place d
+      kept_mode d q (inl kept) which is = ap (asked_mode place) (sym kept)
+      kept_mode d q (inr left) which is = ap (asked_mode place) (sym left)
 
 pub cause_after : {observed : Bool} {e : GcError} {a b c : DirAt} → Follows observed a b → GcCause observed e b c → GcCause observed e a c
 cause_after {observed} {e} {a} {b} {c} ab x = record { fault = λ is. rose_later a.faults b.faults c.faults ab.faults (x.fault is); stray = λ is t. stray_part (ab.grown t) ab.same grown_none (x.stray is t) }
@@ -202,6 +276,9 @@ says_there pod place p old new is there = record { is = inl refl; there = λ e t
 
 pub says_gone : {observed : Bool} {spot : Spot} (pod : PodId) (place : Area) (p : Phase) (old new : DirAt) → spot ≡ pod_spot pod place → (observed ≡ true → HeldBetween old new (λ s. stands s.namespace spot ≡ false)) → SaysThere observed pod place p Left old new
 says_gone pod place p old new is absent = record { is = inr refl; there = λ e. cc; gone = λ e t. subst (λ (x : Spot). HeldBetween old new (λ s. stands s.namespace x ≡ false)) is (absent t) }
+
+pub peeks_here : {observed : Bool} {spot : Spot} (pod : PodId) (place : Area) (old new : DirAt) → spot ≡ pod_spot pod place → (observed ≡ true → ExtendsBy (is_look_at (spot_eq spot)) old new) → observed ≡ true → ExtendsBy (peeks_at pod place) old new
+peeks_here pod place old new is looks t = subst (λ (s : Spot). ExtendsBy (is_look_at (spot_eq s)) old new) is (looks t)
 
 pub look_cause : {observed : Bool} {old new : DirAt} (e : LookError) → (e ≡ look.DirFault → Rose old.faults new.faults) → GcCause observed (look_fault e) old new
 look_cause look.DirFault rose = record { fault = λ is. rose refl; stray = λ is. cc }
@@ -251,13 +328,23 @@ step_ends done calm (Err stop.NoMemory) = tt
 pub said_unbusy : (p : Phase) (d : Deed) → (d ≡ Kept p) ⊎ (d ≡ Left) → (which : Which) → d ≡ Busy which → ⊥
 said_unbusy p d is which busy = never_busy d p is which busy
 
+pub said_unmoved : (p : Phase) (d : Deed) → (d ≡ Kept p) ⊎ (d ≡ Left) → (to : Area) → d ≡ Moved to → ⊥
+said_unmoved p d (inl kept) to is = let e : Kept p ≡ Moved to = sym kept ∙ is in cc
+said_unmoved p d (inr left) to is = let e : Left ≡ Moved to = sym left ∙ is in cc
+
+pub step_unmoved : (done : Deed) (e : Setback) → IfOk (deed_of (Err e) done) (λ deed. (to : Area) → deed ≡ Moved to → ⊥)
+step_unmoved done stop.Missing = λ to is. cc
+step_unmoved done stop.NoManifest = λ to is. cc
+step_unmoved done (stop.Busy which) = λ to is. cc
+step_unmoved done _ = tt
+
 -- by its age
 
-pub rests_young : {young : Bool} (deed : Deed) → young ≡ true → DoesNothing deed → RestsBy young deed
-rests_young (Kept p) is nothing = record { rests = λ q e. is; over = λ e. cc }
-rests_young (Busy which) is nothing = record { rests = λ q e. is; over = λ e. cc }
-rests_young Left is nothing = record { rests = λ q e. is; over = λ e. cc }
-rests_young _ is nothing = absurd nothing
+pub rests_young : {young : Bool} (deed : Deed) → young ≡ true → DoesNothing deed → ((which : Which) → deed ≡ Busy which → ⊥) → RestsBy young deed
+rests_young (Kept p) is nothing calm = record { rests = λ q e. is; over = λ e. cc }
+rests_young (Busy which) is nothing calm = absurd (calm which refl)
+rests_young Left is nothing calm = record { rests = λ q e. is; over = λ e. cc }
+rests_young _ is nothing calm = absurd nothing
 
 pub rests_over : {young : Bool} (deed : Deed) → young ≡ false → ((p : Phase) → deed ≡ Kept p → ⊥) → RestsBy young deed
 rests_over deed is ends = record { rests = λ p e. absurd (ends p e); over = λ e. is }
@@ -278,13 +365,22 @@ deed_after ab same x = record {
   kept = λ p is. let y = x.kept p is in (y.0, λ conforming. event_after ab same (y.1 conforming));
   left = λ is. at_part ab same grown_none (x.left is);
   gate = x.gate;
+  claimed = λ here is. free_within ab same grown_none (x.claimed here is);
+  freed = λ is. told_within ab same grown_none (x.freed is);
+  alone = λ is. free_within ab same grown_none (x.alone is);
 }
 
 pub deed_later : {observed : Bool} {pod : PodId} {place : Area} {deed : Deed} {a b : DirAt} (c : DirAt) → observed ≡ true → Follows observed a b → DeedCause pod place deed b.process b.trace c.trace → DeedCause pod place deed a.process a.trace c.trace
 deed_later c t ab x = deed_after (ab.grown t) ab.same x
 
-pub busy_later : {observed : Bool} {now : ℕ} {pod : PodId} {a b : DirAt} (deed : Deed) (c : DirAt) → observed ≡ true → Follows observed a b → Stays (MayRemove now) a (λ s. KeepsReady s b) → Stays (MayRemove now) b (λ s. BusyBecause pod deed b c) → Stays (MayRemove now) a (λ s. BusyBecause pod deed a c)
-busy_later deed c t ab ready busy s k m which is = let x = ready s k m in busy_within (ab.grown t) ab.same grown_none (busy x.known x.knows (may_kept x.keeps m) which is)
+pub left_after : {pod : PodId} {place : Area} {deed : Deed} {me other : ℕ} {a b c : List Event} → Grew a b → other ≡ me → LeftToAnother pod place deed other b c → LeftToAnother pod place deed me a c
+left_after {pod} {place} {deed} {me} {other} {a} {b} {c} ab same x =
+    let y = subst (λ (p : ℕ). LeftToAnother pod place deed p b c) same x in
+    record { held = λ which is. held_within ab refl grown_none (y.held which is); owner = λ conforming p is owned. event_after ab refl (y.owner conforming p is owned) }
+
+pub busy_later : {observed : Bool} {now : ℕ} {pod : PodId} {place : Area} {a b : DirAt} (deed : Deed) (c : DirAt) → observed ≡ true → Follows observed a b → Stays (MayRemove now) a (λ s. KeepsReady s b) → Stays (MayRemove now) b (λ s. LeavesToAnother pod place deed b c)
+    → Stays (MayRemove now) a (λ s. LeavesToAnother pod place deed a c)
+busy_later deed c t ab ready busy s k m = let x = ready s k m in left_after (ab.grown t) ab.same (busy x.known x.knows (may_kept x.keeps m))
 
 pub ready_later : {now : ℕ} {a b c : DirAt} → Stays (MayRemove now) a (λ s. KeepsReady s b) → Stays (MayRemove now) b (λ s. KeepsReady s c) → Stays (MayRemove now) a (λ s. KeepsReady s c)
 ready_later ab bc s k m =

@@ -20,7 +20,7 @@ use Rattle.pod_gc.proofs.InTurn.{sweep_kept}
 use Rattle.pod_gc.proofs.Telling.{knew_on}
 use Rattle.pod_gc.proofs.Gates.{passed_by}
 
-all_kept : {now expire : ℕ} {s z : Seen} → Keeps s z → MaySweepAll now expire s → MaySweepAll now expire z
+pub all_kept : {now expire : ℕ} {s z : Seen} → Keeps s z → MaySweepAll now expire s → MaySweepAll now expire z
 all_kept k m = record { sweeps = sweep_kept k m.sweeps; free = ap (λ (hs : List Held). not (is_open_on (Gate Embryo) hs)) k.holdings ∙ m.free }
 
 pub all_none : {now expire : ℕ} {d : DirAt} → Stays (MaySweepAll now expire) d (λ s. KeepsReady s d)

@@ -19,14 +19,12 @@ use Rattle.dir_rules.specs.declared.seen.Seen.{Seen}
 use Rattle.dir_trait.specs.DirCalls.{DirAt, ListCall}
 use Rattle.dir_files.specs.Listed.{ShowsAreaBetween}
 use Rattle.folder_removal.proofs.Calls.{list_extends}
-use Rattle.pod_claim.proofs.Traces.{grown_none, grown_by}
 use Rattle.pod_steps.specs.Holding.{Keeps, KeepsReady, Stays}
-use Rattle.pod_removal.proofs.Rounds.{busy_within}
 use Rattle.pod_gc.specs.declared.ages.Times.{Times}
 use Rattle.pod_gc.specs.declared.line.Deed.{Deed}
 use Rattle.pod_gc.specs.declared.line.GcLine.{GcLine}
 use Rattle.pod_gc.specs.Requests.{deals_with}
-use Rattle.pod_gc.specs.Deeds.{BusyBecause, Dealt}
+use Rattle.pod_gc.specs.Deeds.{LeavesToAnother, Dealt}
 use Rattle.pod_gc.specs.Sweeping.{MayPass}
 use Rattle.pod_gc.specs.Told.{and_pod, pods_of, deals_with_some, Knew, IsTold, TellsEach, AddsTold, AddsShown}
 use Rattle.pod_gc.proofs.InTurn.{pass_kept}
@@ -115,7 +113,7 @@ module _ {Can : Type 0} {me : ℕ} {a b c : List Event} (times : Times) (here : 
     first = x.first;
     dealt = x.dealt;
     last = deals_both times.now here x.later ys x.last rest;
-    another = λ can which is. busy_within grown_none refl (grown_by rest) (x.another can which is);
+    another = x.another;
   }
 
   told_then : Extends (deals_with_some times.now here xs) me a b → (line : GcLine) → IsTold Can times here ys line me b c → IsTold Can times here (xs ++ ys) line me a c
@@ -133,7 +131,7 @@ module _ {Can : Type 0} {me : ℕ} {a b c : List Event} (times : Times) (here : 
     first = deals_both times.now here xs x.earlier front x.first;
     dealt = x.dealt;
     last = x.last;
-    another = λ can which is. busy_within (grown_by front) refl grown_none (x.another can which is);
+    another = x.another;
   }
 
   tells_both : (ls ms : List GcLine) → TellsEach Can times here xs ls me a b → TellsEach Can times here ys ms me b c → TellsEach Can times here (xs ++ ys) (ls ++ ms) me a c
@@ -167,7 +165,7 @@ adds_more a b c times here xs ys before mid after same ready x y =
 
 pub adds_pod : (old new : DirAt) (times : Times) (here : Area) (name : List ℕ) (pod : PodId) (deed : Deed) (before after : List GcLine) → pod_of name ≡ Some pod
     → after ≡ before ++ record { place = here; pod = Some pod; deed = deed } ∷ [] → Extends (deals_with pod times.now here) old.process old.trace new.trace → Dealt times pod here deed old.process old.trace new.trace
-    → Stays (MayPass here times.now times.expire) old (λ s. BusyBecause pod deed old new) → AddsTold times here (name ∷ []) old new before after
+    → Stays (MayPass here times.now times.expire) old (λ s. LeavesToAnother pod here deed old new) → AddsTold times here (name ∷ []) old new before after
 adds_pod old new times here name pod deed before after is adds turn dealt busy = (
   record { place = here; pod = Some pod; deed = deed } ∷ [],
   adds,
@@ -188,7 +186,7 @@ adds_pod old new times here name pod deed before after is adds turn dealt busy =
         first = nothing_yet;
         dealt = dealt;
         last = nothing_yet;
-        another = λ can which is. busy can.0 can.1 can.2 which is;
+        another = λ can. busy can.0 can.1 can.2;
       },
       tt,
     );

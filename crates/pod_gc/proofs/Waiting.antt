@@ -1,6 +1,7 @@
 -- A prepared pod whose time is over.
 use Rattle.std.proofs.Common.{◌≡◌, ◌==◌, ◌&&◌, ◌-◌, ◌⊎◌, inl, inr, ℕ, Bool, true, false, bytes_eq, find, nat_le, codes, Option, Some, None, is_some, List, refl, sym, ap, subst, ◌∙◌, arith}
 use Rattle.std.proofs.lemmas.Bool.{eqb-true}
+use Rattle.dir_model.specs.declared.area.Area.{Area}
 use Rattle.dir_model.specs.declared.area.Area.TheVariants.{Prepared}
 use Rattle.dir_model.specs.declared.area.Phase.{Phase}
 use Rattle.dir_model.specs.declared.area.Phase.TheVariants as phase
@@ -34,14 +35,14 @@ use Rattle.pod_steps.specs.Causes.{IsAbsentAt}
 use Rattle.pod_steps.proofs.Calls.{Follows}
 use Rattle.pod_removal.specs.Causes.{StoppedAlone}
 use Rattle.pod_removal.specs.Holding.{MayRemove, MayDiscard}
-use Rattle.pod_removal.proofs.Rounds.{may_kept, busy_within}
+use Rattle.pod_removal.proofs.Rounds.{may_kept}
 use Rattle.pod_gc.specs.declared.ages.Times.{Times}
 use Rattle.pod_gc.specs.declared.line.Deed.{Deed}
 use Rattle.pod_gc.specs.declared.line.Deed.TheVariants.{Kept}
 use Rattle.pod_gc.specs.Marks.{Showed, is_ripe}
-use Rattle.pod_gc.specs.Deeds.{IsGoneFrom, DeedCause, BusyBecause, WaitsBy, WaitedSo}
+use Rattle.pod_gc.specs.Deeds.{IsGoneFrom, DeedCause, WaitsBy, WaitedSo, LeavesToAnother}
 use Rattle.pod_gc.specs.Sweeping.{MaySweep, NotesMark, Ripens}
-use Rattle.pod_gc.proofs.Steps.{SetBackAt, cause_kept, deed_later, showed_longer}
+use Rattle.pod_gc.proofs.Steps.{SetBackAt, cause_kept, deed_later, showed_longer, left_after}
 
 -- it may be discarded
 
@@ -86,14 +87,18 @@ set_alone pod x = record {
 -- by its age
 
 pub waits_kept : {ripe : Bool} → ripe ≡ false → WaitsBy ripe (Kept phase.Prepared)
-waits_kept is = record { waits = λ p e. is; goes = λ to e. cc }
+waits_kept is = record { waits = λ p e. is; goes = λ e. cc; left = λ e. cc }
 
 pub waits_over : {ripe : Bool} (deed : Deed) → ripe ≡ true → ((p : Phase) → deed ≡ Kept p → ⊥) → WaitsBy ripe deed
-waits_over deed is ends = record { waits = λ p e. absurd (ends p e); goes = λ to e. is }
+waits_over deed is ends = record { waits = λ p e. absurd (ends p e); goes = λ e. is; left = λ e. is }
 
 pub waited_so : {observed : Bool} {b c : DirAt} (times : Times) (pod : PodId) (a : DirAt) (m : Option ℕ) (deed : Deed) → observed ≡ true → Follows observed b c → Showed pod Prepared (codes "created-") m a.process a.trace b.trace → WaitsBy (is_ripe times.now times.expire m) deed
     → WaitedSo times pod deed a.process a.trace c.trace
-waited_so times pod a m deed t bc shows by = record { waits = λ p is. (m, showed_longer shows (bc.grown t), by.waits p is); ripe = λ to is. (m, showed_longer shows (bc.grown t), by.goes to is) }
+waited_so times pod a m deed t bc shows by = record {
+  waits = λ p is. (m, showed_longer shows (bc.grown t), by.waits p is);
+  ripe = λ is. (m, showed_longer shows (bc.grown t), by.goes is);
+  left = λ is. inr (m, showed_longer shows (bc.grown t), by.left is);
+}
 
 -- it was there when its marks were listed
 waits_there : {observed : Bool} {b : DirAt} (pod : PodId) (a c : DirAt) → observed ≡ true → Follows observed b c → HeldBetween a b (λ s. stands s.namespace (pod_spot pod Prepared) ≡ true) → IsConforming c.trace → AtOwnEvent a.process a.trace c.trace (IsInPhase pod phase.Prepared Prepared)
@@ -103,7 +108,7 @@ waits_there pod a c t bc there conforming =
 
 pub waited_deed : {observed : Bool} {b : DirAt} (pod : PodId) (a c : DirAt) (deed : Deed) → observed ≡ true → Follows observed a b → Follows observed b c → HeldBetween a b (λ s. stands s.namespace (pod_spot pod Prepared) ≡ true)
     → (deed ≡ Kept phase.Prepared) ⊎ (observed ≡ true → DeedCause pod Prepared deed b.process b.trace c.trace) → DeedCause pod Prepared deed a.process a.trace c.trace
-waited_deed pod a c deed t ab bc there (inl kept) = subst (λ (d : Deed). DeedCause pod Prepared d a.process a.trace c.trace) (sym kept) (cause_kept pod Prepared phase.Prepared refl (waits_there pod a c t bc there))
+waited_deed pod a c deed t ab bc there (inl kept) = subst (λ (d : Deed). DeedCause pod Prepared d a.process a.trace c.trace) (sym kept) (cause_kept pod Prepared phase.Prepared refl (waits_there pod a c t bc there) (λ rest. cc))
 waited_deed pod a c deed t ab bc there (inr x) = deed_later c t ab (x t)
 
 -- what is known after both
@@ -114,8 +119,8 @@ ready_waited pod created notes ready s k m =
     let y = ready x.known x.knows (ripens_noted pod created m x) in
     record { known = y.known; keeps = record { intent = y.keeps.intent ∙ x.keeps.intent; holdings = y.keeps.holdings ∙ x.keeps.holdings; kept = y.keeps.kept ∙ x.keeps.kept; bare = y.keeps.bare }; knows = y.knows }
 
-pub busy_waited : {observed : Bool} {now expire : ℕ} {a b : DirAt} (pod : PodId) (created : Option ℕ) (deed : Deed) (c : DirAt) → observed ≡ true → Follows observed a b → Stays (MayRemove now) a (λ s. NotesMark pod created s b) → Stays (Ripens pod created now expire) b (λ s. BusyBecause pod deed b c)
-    → Stays (MaySweep now expire) a (λ s. BusyBecause pod deed a c)
-busy_waited pod created deed c t ab notes busy s k m which is =
+pub busy_waited : {observed : Bool} {now expire : ℕ} {place : Area} {a b : DirAt} (pod : PodId) (created : Option ℕ) (deed : Deed) (c : DirAt) → observed ≡ true → Follows observed a b → Stays (MayRemove now) a (λ s. NotesMark pod created s b)
+    → Stays (Ripens pod created now expire) b (λ s. LeavesToAnother pod place deed b c) → Stays (MaySweep now expire) a (λ s. LeavesToAnother pod place deed a c)
+busy_waited pod created deed c t ab notes busy s k m =
     let x = notes s k m.may in
-    busy_within (ab.grown t) ab.same grown_none (busy x.known x.knows (ripens_noted pod created m x) which is)
+    left_after (ab.grown t) ab.same (busy x.known x.knows (ripens_noted pod created m x))

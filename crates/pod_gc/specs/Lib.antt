@@ -4,3 +4,4 @@ pub mod Causes
 pub mod Deeds
 pub mod Sweeping
 pub mod Told
+pub mod Ended

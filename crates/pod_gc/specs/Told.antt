@@ -11,7 +11,6 @@ use Rattle.dir_model.specs.declared.pod.PodId.{PodId}
 use Rattle.dir_model.specs.declared.request.Request.{Request}
 use Rattle.dir_model.specs.declared.spot.Handle.{Handle}
 use Rattle.dir_model.specs.declared.spot.Mode.TheVariants.{Exclusive}
-use Rattle.dir_model.specs.declared.spot.Which.{Which}
 use Rattle.dir_model.specs.Calls.{Extends, AtOwnStep}
 use Rattle.dir_model.specs.Pods.{pod_of}
 use Rattle.dir_rules.specs.declared.seen.Seen.{Seen}
@@ -19,12 +18,11 @@ use Rattle.dir_trait.specs.DirCalls.{DirAt}
 use Rattle.dir_trait.specs.Knowledge.{Knows}
 use Rattle.dir_files.specs.Listed.{ShowsArea}
 use Rattle.area_locks.specs.AreaLocks.{takes, closes, IsBusy, IsBusyElsewhere}
-use Rattle.pod_removal.specs.Causes.{IsBusyAt}
 use Rattle.pod_gc.specs.declared.ages.Times.{Times}
 use Rattle.pod_gc.specs.declared.line.Deed.TheVariants.{BusyGate}
 use Rattle.pod_gc.specs.declared.line.GcLine.{GcLine}
 use Rattle.pod_gc.specs.Requests.{lists, deals_with}
-use Rattle.pod_gc.specs.Deeds.{Dealt, refused_lock}
+use Rattle.pod_gc.specs.Deeds.{Dealt, LeftToAnother}
 use Rattle.pod_gc.specs.Sweeping.{MayPass, MaySweepAll}
 
 -- the pods among these names of folders, in that order
@@ -46,7 +44,7 @@ Knew May d = (s : Seen) × Knows d s × May s
 
 -- the line is of this pod at this place, with what was done in its turn, one stretch of the pass, and why: before its turn the pods that
 -- stand before it among the names were dealt with, and after it those after it. Where the process may do that, another one held each
--- lock that was refused
+-- lock that was refused in its turn, or owned the pod
 pub record IsTold (Can : Type 0) (times : Times) (here : Area) (names : List (List ℕ)) (line : GcLine) (me : ℕ) (old new : List Event) : Type 0 where
   pub shown : PodId
   pub pod_is : line.pod ≡ Some shown
@@ -61,7 +59,7 @@ pub record IsTold (Can : Type 0) (times : Times) (here : Area) (names : List (Li
   pub first : Extends (deals_with_some times.now here earlier) me old from
   pub dealt : Dealt times shown here line.deed me from upto
   pub last : Extends (deals_with_some times.now here later) me upto new
-  pub another : Can → (which : Which) → refused_lock line.deed ≡ Some which → IsBusyAt shown which me old new
+  pub another : Can → LeftToAnother shown here line.deed me from upto
 
 -- the lines are one for each pod among the names, in that order, and nothing was asked for but what deals with these
 pub record TellsEach (Can : Type 0) (times : Times) (here : Area) (names : List (List ℕ)) (lines : List GcLine) (me : ℕ) (old new : List Event) : Type 0 where

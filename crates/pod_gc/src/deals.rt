@@ -14,7 +14,7 @@ ghost use Rattle.pod_removal.specs.Holding.{MayRemove};
 ghost use Rattle.pod_gc.specs.Requests.{deals_with};
 ghost use Rattle.pod_gc.specs.Causes.{GcCause};
 ghost use Rattle.pod_gc.specs.Marks.{is_young, is_ripe};
-ghost use Rattle.pod_gc.specs.Deeds.{DeedCause, refused_lock, BusyBecause, BusyWhere, LetBe, WaitsOr, RestsBy, WaitsBy, RestedSo, WaitedSo, Dealt};
+ghost use Rattle.pod_gc.specs.Deeds.{DeedCause, refused_lock, LeavesWhere, MarksFirst, LetBe, WaitsOr, RestsBy, WaitsBy, RestedSo, WaitedSo, Dealt};
 
 use crate::ages::{Times, is_ripe, is_young, marked_at};
 use crate::error::GcError;
@@ -45,7 +45,7 @@ fn deal_prepare<D: Dir>(alloc: Global, dir: &mut D, pod: PodId, now: u64) -> Res
     ensures worked { Worked D.observed (deals_with pod now area.Prepare) (D.shown dir.old) (D.shown dir.new) }
     ensures cause { IfErr result (λ e. GcCause D.observed e (D.shown dir.old) (D.shown dir.new)) }
     ensures deed { IfOk result (λ deed. D.observed ≡ true → DeedCause pod area.Prepare deed (D.shown dir.old).process (D.shown dir.old).trace (D.shown dir.new).trace) }
-    ensures another { IfOk result (λ deed. D.observed ≡ true → Stays (MayRemove now) (D.shown dir.old) (λ s. BusyBecause pod deed (D.shown dir.old) (D.shown dir.new))) }
+    ensures another { IfOk result (λ deed. LeavesWhere D.observed (MayRemove now) pod area.Prepare deed (D.shown dir.old) (D.shown dir.new)) }
     ensures let_be { IfOk result (λ deed. LetBe D.observed pod area.Prepare deed (D.shown dir.old) (D.shown dir.new)) }
     ensures ready { D.observed ≡ true → Stays (MayRemove now) (D.shown dir.old) (λ s. KeepsReady s (D.shown dir.new)) }
 {
@@ -69,7 +69,7 @@ fn deal_waiting<D: Dir>(
     ensures cause { IfErr result (λ e. GcCause D.observed e (D.shown dir.old) (D.shown dir.new)) }
     ensures deed { IfOk result (λ deed. WaitsOr D.observed pod deed (D.shown dir.old) (D.shown dir.new)) }
     ensures aged { IfOk result (λ deed. WaitsBy (is_ripe times.now times.expire created) deed) }
-    ensures another { IfOk result (λ deed. BusyWhere D.observed (Ripens pod created times.now times.expire) pod deed (D.shown dir.old) (D.shown dir.new)) }
+    ensures another { IfOk result (λ deed. LeavesWhere D.observed (Ripens pod created times.now times.expire) pod area.Prepared deed (D.shown dir.old) (D.shown dir.new)) }
     ensures let_be { IfOk result (λ deed. LetBe D.observed pod area.Prepared deed (D.shown dir.old) (D.shown dir.new)) }
     ensures ready { D.observed ≡ true → Stays (Ripens pod created times.now times.expire) (D.shown dir.old) (λ s. KeepsReady s (D.shown dir.new)) }
 {
@@ -93,7 +93,7 @@ fn deal_prepared<D: Dir>(
     ensures cause { IfErr result (λ e. GcCause D.observed e (D.shown dir.old) (D.shown dir.new)) }
     ensures deed { IfOk result (λ deed. D.observed ≡ true → DeedCause pod area.Prepared deed (D.shown dir.old).process (D.shown dir.old).trace (D.shown dir.new).trace) }
     ensures aged { IfOk result (λ deed. D.observed ≡ true → WaitedSo times pod deed (D.shown dir.old).process (D.shown dir.old).trace (D.shown dir.new).trace) }
-    ensures another { IfOk result (λ deed. D.observed ≡ true → Stays (MaySweep times.now times.expire) (D.shown dir.old) (λ s. BusyBecause pod deed (D.shown dir.old) (D.shown dir.new))) }
+    ensures another { IfOk result (λ deed. LeavesWhere D.observed (MaySweep times.now times.expire) pod area.Prepared deed (D.shown dir.old) (D.shown dir.new)) }
     ensures let_be { IfOk result (λ deed. LetBe D.observed pod area.Prepared deed (D.shown dir.old) (D.shown dir.new)) }
     ensures ready { D.observed ≡ true → Stays (MaySweep times.now times.expire) (D.shown dir.old) (λ s. KeepsReady s (D.shown dir.new)) }
 {
@@ -109,7 +109,8 @@ fn deal_run<D: Dir>(alloc: Global, dir: &mut D, pod: PodId, now: u64) -> Result<
     ensures worked { Worked D.observed (deals_with pod now area.Run) (D.shown dir.old) (D.shown dir.new) }
     ensures cause { IfErr result (λ e. GcCause D.observed e (D.shown dir.old) (D.shown dir.new)) }
     ensures deed { IfOk result (λ deed. D.observed ≡ true → DeedCause pod area.Run deed (D.shown dir.old).process (D.shown dir.old).trace (D.shown dir.new).trace) }
-    ensures another { IfOk result (λ deed. D.observed ≡ true → Stays (MayRemove now) (D.shown dir.old) (λ s. BusyBecause pod deed (D.shown dir.old) (D.shown dir.new))) }
+    ensures another { IfOk result (λ deed. LeavesWhere D.observed (MayRemove now) pod area.Run deed (D.shown dir.old) (D.shown dir.new)) }
+    ensures marked { IfOk result (λ deed. D.observed ≡ true → MarksFirst pod now deed (D.shown dir.old) (D.shown dir.new)) }
     ensures let_be { IfOk result (λ deed. LetBe D.observed pod area.Run deed (D.shown dir.old) (D.shown dir.new)) }
     ensures ready { D.observed ≡ true → Stays (MayRemove now) (D.shown dir.old) (λ s. KeepsReady s (D.shown dir.new)) }
 {
@@ -133,7 +134,7 @@ fn deal_rested<D: Dir>(
     ensures cause { IfErr result (λ e. GcCause D.observed e (D.shown dir.old) (D.shown dir.new)) }
     ensures deed { IfOk result (λ deed. D.observed ≡ true → DeedCause pod area.ExitedGarbage deed (D.shown dir.old).process (D.shown dir.old).trace (D.shown dir.new).trace) }
     ensures aged { IfOk result (λ deed. RestsBy (is_young times.now times.grace marked) deed) }
-    ensures another { IfOk result (λ deed. D.observed ≡ true → Stays (MayRemove times.now) (D.shown dir.old) (λ s. BusyBecause pod deed (D.shown dir.old) (D.shown dir.new))) }
+    ensures another { IfOk result (λ deed. LeavesWhere D.observed (MayRemove times.now) pod area.ExitedGarbage deed (D.shown dir.old) (D.shown dir.new)) }
     ensures let_be { IfOk result (λ deed. LetBe D.observed pod area.ExitedGarbage deed (D.shown dir.old) (D.shown dir.new)) }
     ensures ready { D.observed ≡ true → Stays (MayRemove times.now) (D.shown dir.old) (λ s. KeepsReady s (D.shown dir.new)) }
 {
@@ -157,7 +158,7 @@ fn deal_exited_garbage<D: Dir>(
     ensures cause { IfErr result (λ e. GcCause D.observed e (D.shown dir.old) (D.shown dir.new)) }
     ensures deed { IfOk result (λ deed. D.observed ≡ true → DeedCause pod area.ExitedGarbage deed (D.shown dir.old).process (D.shown dir.old).trace (D.shown dir.new).trace) }
     ensures aged { IfOk result (λ deed. D.observed ≡ true → RestedSo times pod deed (D.shown dir.old).process (D.shown dir.old).trace (D.shown dir.new).trace) }
-    ensures another { IfOk result (λ deed. D.observed ≡ true → Stays (MayRemove times.now) (D.shown dir.old) (λ s. BusyBecause pod deed (D.shown dir.old) (D.shown dir.new))) }
+    ensures another { IfOk result (λ deed. LeavesWhere D.observed (MayRemove times.now) pod area.ExitedGarbage deed (D.shown dir.old) (D.shown dir.new)) }
     ensures let_be { IfOk result (λ deed. LetBe D.observed pod area.ExitedGarbage deed (D.shown dir.old) (D.shown dir.new)) }
     ensures ready { D.observed ≡ true → Stays (MayRemove times.now) (D.shown dir.old) (λ s. KeepsReady s (D.shown dir.new)) }
 {
@@ -181,7 +182,7 @@ fn deal_garbage<D: Dir>(
     ensures cause { IfErr result (λ e. GcCause D.observed e (D.shown dir.old) (D.shown dir.new)) }
     ensures deed { IfOk result (λ deed. D.observed ≡ true → DeedCause pod area deed (D.shown dir.old).process (D.shown dir.old).trace (D.shown dir.new).trace) }
     ensures ends { IfOk result (λ deed. (phase : Phase) → deed ≡ Deed.Kept phase → ⊥) }
-    ensures another { IfOk result (λ deed. D.observed ≡ true → Stays (MayRemove now) (D.shown dir.old) (λ s. BusyBecause pod deed (D.shown dir.old) (D.shown dir.new))) }
+    ensures another { IfOk result (λ deed. LeavesWhere D.observed (MayRemove now) pod area deed (D.shown dir.old) (D.shown dir.new)) }
     ensures let_be { IfOk result (λ deed. LetBe D.observed pod area deed (D.shown dir.old) (D.shown dir.new)) }
     ensures ready { D.observed ≡ true → Stays (MayRemove now) (D.shown dir.old) (λ s. KeepsReady s (D.shown dir.new)) }
 {
@@ -202,7 +203,7 @@ pub(crate) fn deal<D: Dir>(
     ensures worked { Worked D.observed (deals_with pod times.now area) (D.shown dir.old) (D.shown dir.new) }
     ensures cause { IfErr result (λ e. GcCause D.observed e (D.shown dir.old) (D.shown dir.new)) }
     ensures dealt { IfOk result (λ deed. D.observed ≡ true → Dealt times pod area deed (D.shown dir.old).process (D.shown dir.old).trace (D.shown dir.new).trace) }
-    ensures another { IfOk result (λ deed. D.observed ≡ true → Stays (MayPass area times.now times.expire) (D.shown dir.old) (λ s. BusyBecause pod deed (D.shown dir.old) (D.shown dir.new))) }
+    ensures another { IfOk result (λ deed. LeavesWhere D.observed (MayPass area times.now times.expire) pod area deed (D.shown dir.old) (D.shown dir.new)) }
     ensures ready { D.observed ≡ true → Stays (MayPass area times.now times.expire) (D.shown dir.old) (λ s. KeepsReady s (D.shown dir.new)) }
 {
     match area {

@@ -2,14 +2,15 @@
 ghost use Rattle.std.specs.Prelude.{◌≡◌, ℕ, true, IfOk, IfErr};
 ghost use Rattle.dir_model.specs.declared.area.Area.TheVariants as area;
 ghost use Rattle.dir_model.specs.declared.spot.Which.{Which};
+ghost use Rattle.dir_trait.specs.DirCalls.{ExtendsBy};
 ghost use Rattle.dir_trait.specs.Local.{IsActive};
 ghost use Rattle.dir_trait.specs.Knowledge.{OnlyLooks};
 ghost use Rattle.folder_building.specs.Work.{Worked};
-ghost use Rattle.pod_steps.specs.Requests.{looks_at};
-ghost use Rattle.pod_steps.specs.Holding.{MayLook, KeepsReady, Stays};
+ghost use Rattle.pod_steps.specs.Requests.{looks_at, peeks_at};
+ghost use Rattle.pod_steps.specs.Holding.{KeepsReady, Stays};
 ghost use Rattle.pod_removal.specs.Holding.{MayRemove};
 ghost use Rattle.pod_gc.specs.Causes.{GcCause};
-ghost use Rattle.pod_gc.specs.Deeds.{DeedCause, SaysThere, DoesNothing, BusyBecause};
+ghost use Rattle.pod_gc.specs.Deeds.{DeedCause, SaysThere, DoesNothing, LeavesWhere};
 
 use crate::error::{GcError, look_fault};
 use crate::line::{Deed, deed_of};
@@ -31,6 +32,7 @@ pub(crate) fn kept<D: Dir>(
     ensures worked { Worked D.observed (looks_at pod area) (D.shown dir.old) (D.shown dir.new) }
     ensures cause { IfErr result (λ e. GcCause D.observed e (D.shown dir.old) (D.shown dir.new)) }
     ensures said { IfOk result (λ deed. SaysThere D.observed pod area phase deed (D.shown dir.old) (D.shown dir.new)) }
+    ensures peeks { D.observed ≡ true → ExtendsBy (peeks_at pod area) (D.shown dir.old) (D.shown dir.new) }
     ensures known { D.observed ≡ true → OnlyLooks (D.shown dir.old) (D.shown dir.new) }
 {
     match look(alloc, dir, pod_spot(pod, area)) {
@@ -47,7 +49,7 @@ pub(crate) fn kept_exited<D: Dir>(alloc: Global, dir: &mut D, pod: PodId) -> Res
     ensures cause { IfErr result (λ e. GcCause D.observed e (D.shown dir.old) (D.shown dir.new)) }
     ensures deed { IfOk result (λ deed. D.observed ≡ true → DeedCause pod area.ExitedGarbage deed (D.shown dir.old).process (D.shown dir.old).trace (D.shown dir.new).trace) }
     ensures rests { IfOk result (λ deed. DoesNothing deed) }
-    ensures another { IfOk result (λ deed. D.observed ≡ true → Stays (MayLook pod area.ExitedGarbage) (D.shown dir.old) (λ s. BusyBecause pod deed (D.shown dir.old) (D.shown dir.new))) }
+    ensures another { IfOk result (λ deed. (now : ℕ) → LeavesWhere D.observed (MayRemove now) pod area.ExitedGarbage deed (D.shown dir.old) (D.shown dir.new)) }
     ensures calm { IfOk result (λ deed. (which : Which) → deed ≡ Deed.Busy which → ⊥) }
     ensures ready { D.observed ≡ true → (now : ℕ) → Stays (MayRemove now) (D.shown dir.old) (λ s. KeepsReady s (D.shown dir.new)) }
 {

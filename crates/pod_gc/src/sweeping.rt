@@ -7,6 +7,7 @@ ghost use Rattle.pod_gc.specs.Requests.{sweeps};
 ghost use Rattle.pod_gc.specs.Causes.{GcCause};
 ghost use Rattle.pod_gc.specs.Sweeping.{MaySweepAll};
 ghost use Rattle.pod_gc.specs.Told.{places, AddsSwept, IsSweptBetween};
+ghost use Rattle.pod_gc.specs.Ended.{EndsSweepBetween};
 
 use crate::ages::Times;
 use crate::error::GcError;
@@ -35,6 +36,7 @@ fn pass_each<D: Dir>(
     ensures worked { Worked D.observed (sweeps times.now) (D.shown dir.old) (D.shown dir.new) }
     ensures cause { IfErr result (λ e. GcCause D.observed e (D.shown dir.old) (D.shown dir.new)) }
     ensures swept { IfOk result (λ done. D.observed ≡ true → AddsSwept times places (D.shown dir.old) (D.shown dir.new) lines.old.items lines.new.items) }
+    ensures ended { IfErr result (λ e. D.observed ≡ true → EndsSweepBetween times (D.shown dir.old) (D.shown dir.new)) }
     ensures ready { D.observed ≡ true → Stays (MaySweepAll times.now times.expire) (D.shown dir.old) (λ s. KeepsReady s (D.shown dir.new)) }
 {
     'places: for place in PLACES {
@@ -65,6 +67,8 @@ pub fn gc<D: Dir>(
     ensures cause { IfErr result (λ e. GcCause D.observed e (D.shown dir.old) (D.shown dir.new)) }
     ensures swept { IfOk result (λ lines. D.observed ≡ true
         → IsSweptBetween (record { now = now; grace = grace; expire = expire }) (D.shown dir.old) (D.shown dir.new) lines.items) }
+    ensures ended { IfErr result (λ e. D.observed ≡ true
+        → EndsSweepBetween (record { now = now; grace = grace; expire = expire }) (D.shown dir.old) (D.shown dir.new)) }
     ensures ready { D.observed ≡ true → Stays (MaySweepAll now expire) (D.shown dir.old) (λ s. KeepsReady s (D.shown dir.new)) }
 {
     let times = Times { now, grace, expire };

@@ -5,12 +5,11 @@ use Rattle.dir_model.specs.declared.spot.Which.{Which}
 use Rattle.folder_building.specs.Work.{Worked}
 use Rattle.folder_building.proofs.Copying.{ok_more}
 use Rattle.folder_building.proofs.Working.{worked_wider}
-use Rattle.pod_steps.specs.Holding.{Stays}
 use Rattle.pod_removal.specs.Holding.{MayRemove}
 use Rattle.pod_gc.specs.Requests.{deals_with}
-use Rattle.pod_gc.specs.Deeds.{DeedCause, refused_lock, BusyBecause, LetBe, WaitedSo, RestedSo, Dealt}
+use Rattle.pod_gc.specs.Deeds.{DeedCause, refused_lock, LetBe, WaitedSo, RestedSo, Dealt, LeavesWhere, LeavesToAnother, MarksFirst}
 use Rattle.pod_gc.specs.Sweeping.{MaySweep, MayPass}
-use Rattle.pod_gc.proofs.Dealing.{embryo_deal, dealt_at, both_ok, all_ok, may_embryo}
+use Rattle.pod_gc.proofs.Dealing.{embryo_deal, dealt_at, both_ok, all_ok, may_embryo, embryo_left}
 use Rattle.pod_gc.proofs.deals.deal.Goals as goal
 
 pub returns-in-Embryo-clause-worked : goal.returns-in-Embryo-clause-worked
@@ -24,15 +23,15 @@ returns-in-Embryo-clause-dealt g c =
     let old = D.shown c.args.dir.now in
     let new = D.shown c.deal_embryo.new.dir in
     both_ok (λ deed. D.observed ≡ true → DeedCause c.args.pod area.Embryo deed old.process old.trace new.trace) (λ deed. LetBe D.observed c.args.pod area.Embryo deed old new) (λ deed. D.observed ≡ true → Dealt c.args.times c.args.pod c.args.area deed old.process old.trace new.trace) c.deal_embryo.result
-    (λ deed x y t. dealt_at c.args.times c.args.pod area.Embryo c.args.area (sym c.in-Embryo.is) deed (x t) (y t) (λ is. let e : area.Embryo ≡ area.Prepared = is in cc) (λ is. let e : area.Embryo ≡ area.ExitedGarbage = is in cc)) c.deal_embryo.ensures.deed c.deal_embryo.ensures.let_be
+    (λ deed x y t. dealt_at c.args.times c.args.pod area.Embryo c.args.area (sym c.in-Embryo.is) deed (x t) (y t) (λ is. let e : area.Embryo ≡ area.Prepared = is in cc) (λ is. let e : area.Embryo ≡ area.ExitedGarbage = is in cc) (λ is. let e : area.Embryo ≡ area.Run = is in cc)) c.deal_embryo.ensures.deed c.deal_embryo.ensures.let_be
 
 pub returns-in-Embryo-clause-another : goal.returns-in-Embryo-clause-another
 returns-in-Embryo-clause-another g c =
     let D = g.D.Dir in
     let old = D.shown c.args.dir.now in
     let new = D.shown c.deal_embryo.new.dir in
-    ok_more (λ deed. (which : Which) → refused_lock deed ≡ Some which → ⊥) (λ deed. D.observed ≡ true → Stays (MayPass c.args.area c.args.times.now c.args.times.expire) old (λ s. BusyBecause c.args.pod deed old new)) c.deal_embryo.result
-    (λ deed calm t s k m which is. absurd (calm which is)) c.deal_embryo.ensures.calm
+    both_ok (λ deed. (which : Which) → refused_lock deed ≡ Some which → ⊥) (λ deed. D.observed ≡ true → DeedCause c.args.pod area.Embryo deed old.process old.trace new.trace) (λ deed. LeavesWhere D.observed (MayPass c.args.area c.args.times.now c.args.times.expire) c.args.pod c.args.area deed old new) c.deal_embryo.result
+    (λ deed calm cause t s k m. subst (λ (a : Area). LeavesToAnother c.args.pod a deed old new) (sym c.in-Embryo.is) (embryo_left calm (cause t))) c.deal_embryo.ensures.calm c.deal_embryo.ensures.deed
 
 pub returns-in-Embryo-clause-ready : goal.returns-in-Embryo-clause-ready
 returns-in-Embryo-clause-ready g c t s k m = c.deal_embryo.ensures.ready t c.args.times.now s k (may_embryo c.in-Embryo.is m)
@@ -48,15 +47,15 @@ returns-in-Prepare-clause-dealt g c =
     let old = D.shown c.args.dir.now in
     let new = D.shown c.deal_prepare.new.dir in
     both_ok (λ deed. D.observed ≡ true → DeedCause c.args.pod area.Prepare deed old.process old.trace new.trace) (λ deed. LetBe D.observed c.args.pod area.Prepare deed old new) (λ deed. D.observed ≡ true → Dealt c.args.times c.args.pod c.args.area deed old.process old.trace new.trace) c.deal_prepare.result
-    (λ deed x y t. dealt_at c.args.times c.args.pod area.Prepare c.args.area (sym c.in-Prepare.is) deed (x t) (y t) (λ is. let e : area.Prepare ≡ area.Prepared = is in cc) (λ is. let e : area.Prepare ≡ area.ExitedGarbage = is in cc)) c.deal_prepare.ensures.deed c.deal_prepare.ensures.let_be
+    (λ deed x y t. dealt_at c.args.times c.args.pod area.Prepare c.args.area (sym c.in-Prepare.is) deed (x t) (y t) (λ is. let e : area.Prepare ≡ area.Prepared = is in cc) (λ is. let e : area.Prepare ≡ area.ExitedGarbage = is in cc) (λ is. let e : area.Prepare ≡ area.Run = is in cc)) c.deal_prepare.ensures.deed c.deal_prepare.ensures.let_be
 
 pub returns-in-Prepare-clause-another : goal.returns-in-Prepare-clause-another
 returns-in-Prepare-clause-another g c =
     let D = g.D.Dir in
     let old = D.shown c.args.dir.now in
     let new = D.shown c.deal_prepare.new.dir in
-    ok_more (λ deed. D.observed ≡ true → Stays (MayRemove c.args.times.now) old (λ s. BusyBecause c.args.pod deed old new)) (λ deed. D.observed ≡ true → Stays (MayPass c.args.area c.args.times.now c.args.times.expire) old (λ s. BusyBecause c.args.pod deed old new)) c.deal_prepare.result
-    (λ deed x t s k m. x t s k m.sweeps.may) c.deal_prepare.ensures.another
+    ok_more (λ deed. LeavesWhere D.observed (MayRemove c.args.times.now) c.args.pod area.Prepare deed old new) (λ deed. LeavesWhere D.observed (MayPass c.args.area c.args.times.now c.args.times.expire) c.args.pod c.args.area deed old new) c.deal_prepare.result
+    (λ deed x t s k m. subst (λ (a : Area). LeavesToAnother c.args.pod a deed old new) (sym c.in-Prepare.is) (x t s k m.sweeps.may)) c.deal_prepare.ensures.another
 
 pub returns-in-Prepare-clause-ready : goal.returns-in-Prepare-clause-ready
 returns-in-Prepare-clause-ready g c t s k m = c.deal_prepare.ensures.ready t s k m.sweeps.may
@@ -72,15 +71,15 @@ returns-in-Prepared-clause-dealt g c =
     let old = D.shown c.args.dir.now in
     let new = D.shown c.deal_prepared.new.dir in
     all_ok (λ deed. D.observed ≡ true → DeedCause c.args.pod area.Prepared deed old.process old.trace new.trace) (λ deed. LetBe D.observed c.args.pod area.Prepared deed old new) (λ deed. D.observed ≡ true → WaitedSo c.args.times c.args.pod deed old.process old.trace new.trace) (λ deed. D.observed ≡ true → Dealt c.args.times c.args.pod c.args.area deed old.process old.trace new.trace) c.deal_prepared.result
-    (λ deed x y z t. dealt_at c.args.times c.args.pod area.Prepared c.args.area (sym c.in-Prepared.is) deed (x t) (y t) (λ is. z t) (λ is. let e : area.Prepared ≡ area.ExitedGarbage = is in cc)) c.deal_prepared.ensures.deed c.deal_prepared.ensures.let_be c.deal_prepared.ensures.aged
+    (λ deed x y z t. dealt_at c.args.times c.args.pod area.Prepared c.args.area (sym c.in-Prepared.is) deed (x t) (y t) (λ is. z t) (λ is. let e : area.Prepared ≡ area.ExitedGarbage = is in cc) (λ is. let e : area.Prepared ≡ area.Run = is in cc)) c.deal_prepared.ensures.deed c.deal_prepared.ensures.let_be c.deal_prepared.ensures.aged
 
 pub returns-in-Prepared-clause-another : goal.returns-in-Prepared-clause-another
 returns-in-Prepared-clause-another g c =
     let D = g.D.Dir in
     let old = D.shown c.args.dir.now in
     let new = D.shown c.deal_prepared.new.dir in
-    ok_more (λ deed. D.observed ≡ true → Stays (MaySweep c.args.times.now c.args.times.expire) old (λ s. BusyBecause c.args.pod deed old new)) (λ deed. D.observed ≡ true → Stays (MayPass c.args.area c.args.times.now c.args.times.expire) old (λ s. BusyBecause c.args.pod deed old new)) c.deal_prepared.result
-    (λ deed x t s k m. x t s k m.sweeps) c.deal_prepared.ensures.another
+    ok_more (λ deed. LeavesWhere D.observed (MaySweep c.args.times.now c.args.times.expire) c.args.pod area.Prepared deed old new) (λ deed. LeavesWhere D.observed (MayPass c.args.area c.args.times.now c.args.times.expire) c.args.pod c.args.area deed old new) c.deal_prepared.result
+    (λ deed x t s k m. subst (λ (a : Area). LeavesToAnother c.args.pod a deed old new) (sym c.in-Prepared.is) (x t s k m.sweeps)) c.deal_prepared.ensures.another
 
 pub returns-in-Prepared-clause-ready : goal.returns-in-Prepared-clause-ready
 returns-in-Prepared-clause-ready g c t s k m = c.deal_prepared.ensures.ready t s k m.sweeps
@@ -95,16 +94,16 @@ returns-in-Run-clause-dealt g c =
     let D = g.D.Dir in
     let old = D.shown c.args.dir.now in
     let new = D.shown c.deal_run.new.dir in
-    both_ok (λ deed. D.observed ≡ true → DeedCause c.args.pod area.Run deed old.process old.trace new.trace) (λ deed. LetBe D.observed c.args.pod area.Run deed old new) (λ deed. D.observed ≡ true → Dealt c.args.times c.args.pod c.args.area deed old.process old.trace new.trace) c.deal_run.result
-    (λ deed x y t. dealt_at c.args.times c.args.pod area.Run c.args.area (sym c.in-Run.is) deed (x t) (y t) (λ is. let e : area.Run ≡ area.Prepared = is in cc) (λ is. let e : area.Run ≡ area.ExitedGarbage = is in cc)) c.deal_run.ensures.deed c.deal_run.ensures.let_be
+    all_ok (λ deed. D.observed ≡ true → DeedCause c.args.pod area.Run deed old.process old.trace new.trace) (λ deed. LetBe D.observed c.args.pod area.Run deed old new) (λ deed. D.observed ≡ true → MarksFirst c.args.pod c.args.times.now deed old new) (λ deed. D.observed ≡ true → Dealt c.args.times c.args.pod c.args.area deed old.process old.trace new.trace) c.deal_run.result
+    (λ deed x y z t. dealt_at c.args.times c.args.pod area.Run c.args.area (sym c.in-Run.is) deed (x t) (y t) (λ is. let e : area.Run ≡ area.Prepared = is in cc) (λ is. let e : area.Run ≡ area.ExitedGarbage = is in cc) (λ is. z t)) c.deal_run.ensures.deed c.deal_run.ensures.let_be c.deal_run.ensures.marked
 
 pub returns-in-Run-clause-another : goal.returns-in-Run-clause-another
 returns-in-Run-clause-another g c =
     let D = g.D.Dir in
     let old = D.shown c.args.dir.now in
     let new = D.shown c.deal_run.new.dir in
-    ok_more (λ deed. D.observed ≡ true → Stays (MayRemove c.args.times.now) old (λ s. BusyBecause c.args.pod deed old new)) (λ deed. D.observed ≡ true → Stays (MayPass c.args.area c.args.times.now c.args.times.expire) old (λ s. BusyBecause c.args.pod deed old new)) c.deal_run.result
-    (λ deed x t s k m. x t s k m.sweeps.may) c.deal_run.ensures.another
+    ok_more (λ deed. LeavesWhere D.observed (MayRemove c.args.times.now) c.args.pod area.Run deed old new) (λ deed. LeavesWhere D.observed (MayPass c.args.area c.args.times.now c.args.times.expire) c.args.pod c.args.area deed old new) c.deal_run.result
+    (λ deed x t s k m. subst (λ (a : Area). LeavesToAnother c.args.pod a deed old new) (sym c.in-Run.is) (x t s k m.sweeps.may)) c.deal_run.ensures.another
 
 pub returns-in-Run-clause-ready : goal.returns-in-Run-clause-ready
 returns-in-Run-clause-ready g c t s k m = c.deal_run.ensures.ready t s k m.sweeps.may
@@ -120,15 +119,15 @@ returns-in-ExitedGarbage-clause-dealt g c =
     let old = D.shown c.args.dir.now in
     let new = D.shown c.deal_exited_garbage.new.dir in
     all_ok (λ deed. D.observed ≡ true → DeedCause c.args.pod area.ExitedGarbage deed old.process old.trace new.trace) (λ deed. LetBe D.observed c.args.pod area.ExitedGarbage deed old new) (λ deed. D.observed ≡ true → RestedSo c.args.times c.args.pod deed old.process old.trace new.trace) (λ deed. D.observed ≡ true → Dealt c.args.times c.args.pod c.args.area deed old.process old.trace new.trace) c.deal_exited_garbage.result
-    (λ deed x y z t. dealt_at c.args.times c.args.pod area.ExitedGarbage c.args.area (sym c.in-ExitedGarbage.is) deed (x t) (y t) (λ is. let e : area.ExitedGarbage ≡ area.Prepared = is in cc) (λ is. z t)) c.deal_exited_garbage.ensures.deed c.deal_exited_garbage.ensures.let_be c.deal_exited_garbage.ensures.aged
+    (λ deed x y z t. dealt_at c.args.times c.args.pod area.ExitedGarbage c.args.area (sym c.in-ExitedGarbage.is) deed (x t) (y t) (λ is. let e : area.ExitedGarbage ≡ area.Prepared = is in cc) (λ is. z t) (λ is. let e : area.ExitedGarbage ≡ area.Run = is in cc)) c.deal_exited_garbage.ensures.deed c.deal_exited_garbage.ensures.let_be c.deal_exited_garbage.ensures.aged
 
 pub returns-in-ExitedGarbage-clause-another : goal.returns-in-ExitedGarbage-clause-another
 returns-in-ExitedGarbage-clause-another g c =
     let D = g.D.Dir in
     let old = D.shown c.args.dir.now in
     let new = D.shown c.deal_exited_garbage.new.dir in
-    ok_more (λ deed. D.observed ≡ true → Stays (MayRemove c.args.times.now) old (λ s. BusyBecause c.args.pod deed old new)) (λ deed. D.observed ≡ true → Stays (MayPass c.args.area c.args.times.now c.args.times.expire) old (λ s. BusyBecause c.args.pod deed old new)) c.deal_exited_garbage.result
-    (λ deed x t s k m. x t s k m.sweeps.may) c.deal_exited_garbage.ensures.another
+    ok_more (λ deed. LeavesWhere D.observed (MayRemove c.args.times.now) c.args.pod area.ExitedGarbage deed old new) (λ deed. LeavesWhere D.observed (MayPass c.args.area c.args.times.now c.args.times.expire) c.args.pod c.args.area deed old new) c.deal_exited_garbage.result
+    (λ deed x t s k m. subst (λ (a : Area). LeavesToAnother c.args.pod a deed old new) (sym c.in-ExitedGarbage.is) (x t s k m.sweeps.may)) c.deal_exited_garbage.ensures.another
 
 pub returns-in-ExitedGarbage-clause-ready : goal.returns-in-ExitedGarbage-clause-ready
 returns-in-ExitedGarbage-clause-ready g c t s k m = c.deal_exited_garbage.ensures.ready t s k m.sweeps.may
@@ -144,15 +143,15 @@ returns-in-Garbage-clause-dealt g c =
     let old = D.shown c.args.dir.now in
     let new = D.shown c.deal_garbage.new.dir in
     both_ok (λ deed. D.observed ≡ true → DeedCause c.args.pod area.Garbage deed old.process old.trace new.trace) (λ deed. LetBe D.observed c.args.pod area.Garbage deed old new) (λ deed. D.observed ≡ true → Dealt c.args.times c.args.pod c.args.area deed old.process old.trace new.trace) c.deal_garbage.result
-    (λ deed x y t. dealt_at c.args.times c.args.pod area.Garbage c.args.area (sym c.in-Garbage.is) deed (x t) (y t) (λ is. let e : area.Garbage ≡ area.Prepared = is in cc) (λ is. let e : area.Garbage ≡ area.ExitedGarbage = is in cc)) c.deal_garbage.ensures.deed c.deal_garbage.ensures.let_be
+    (λ deed x y t. dealt_at c.args.times c.args.pod area.Garbage c.args.area (sym c.in-Garbage.is) deed (x t) (y t) (λ is. let e : area.Garbage ≡ area.Prepared = is in cc) (λ is. let e : area.Garbage ≡ area.ExitedGarbage = is in cc) (λ is. let e : area.Garbage ≡ area.Run = is in cc)) c.deal_garbage.ensures.deed c.deal_garbage.ensures.let_be
 
 pub returns-in-Garbage-clause-another : goal.returns-in-Garbage-clause-another
 returns-in-Garbage-clause-another g c =
     let D = g.D.Dir in
     let old = D.shown c.args.dir.now in
     let new = D.shown c.deal_garbage.new.dir in
-    ok_more (λ deed. D.observed ≡ true → Stays (MayRemove c.args.times.now) old (λ s. BusyBecause c.args.pod deed old new)) (λ deed. D.observed ≡ true → Stays (MayPass c.args.area c.args.times.now c.args.times.expire) old (λ s. BusyBecause c.args.pod deed old new)) c.deal_garbage.result
-    (λ deed x t s k m. x t s k m.sweeps.may) c.deal_garbage.ensures.another
+    ok_more (λ deed. LeavesWhere D.observed (MayRemove c.args.times.now) c.args.pod area.Garbage deed old new) (λ deed. LeavesWhere D.observed (MayPass c.args.area c.args.times.now c.args.times.expire) c.args.pod c.args.area deed old new) c.deal_garbage.result
+    (λ deed x t s k m. subst (λ (a : Area). LeavesToAnother c.args.pod a deed old new) (sym c.in-Garbage.is) (x t s k m.sweeps.may)) c.deal_garbage.ensures.another
 
 pub returns-in-Garbage-clause-ready : goal.returns-in-Garbage-clause-ready
 returns-in-Garbage-clause-ready g c t s k m = c.deal_garbage.ensures.ready t s k m.sweeps.may

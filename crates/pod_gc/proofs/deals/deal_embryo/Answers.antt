@@ -14,7 +14,7 @@ use Rattle.pod_gc.specs.declared.line.Deed.{Deed}
 use Rattle.pod_gc.specs.declared.line.Deed.TheVariants.{Moved}
 use Rattle.pod_gc.specs.Causes.{GcCause}
 use Rattle.pod_gc.specs.Deeds.{DeedCause, refused_lock, LetBe}
-use Rattle.pod_gc.proofs.Steps.{SetBackAt, set_stopped, cause_moved, step_deed, step_cause, step_calm}
+use Rattle.pod_gc.proofs.Steps.{SetBackAt, set_stopped, cause_moved, step_deed, step_cause, step_calm, claims_elsewhere}
 use Rattle.pod_gc.proofs.Embryos.{ready_embryo}
 use Rattle.pod_steps.specs.declared.setback.Setback.TheVariants as stop
 use Rattle.pod_steps.specs.Taking.{TakesNothing}
@@ -22,7 +22,7 @@ use Rattle.pod_removal.specs.Causes.{BusyByLooks, MissedUntaken}
 use Rattle.pod_removal.proofs.CallKinds.{moves_aside}
 use Rattle.pod_removal.proofs.Stages.{ok_all}
 use Rattle.pod_gc.specs.Requests.{moves_on, may_be_busy}
-use Rattle.pod_gc.proofs.Untouched.{moved_on, step_let_be}
+use Rattle.pod_gc.proofs.Untouched.{moved_on, owns_elsewhere, step_let_be}
 use Rattle.pod_gc.proofs.deals.deal_embryo.Goals as goal
 
 pub returns-clause-cause : goal.returns-clause-cause
@@ -43,9 +43,10 @@ returns-clause-deed g c =
     subst (λ (x : Result Deed GcError). IfOk x (λ deed. D.observed ≡ true → DeedCause c.args.pod area.Embryo deed old.process old.trace new.trace)) (sym c.deed_of.ensures)
     (step_deed D.observed c.args.pod area.Embryo (Moved area.Garbage) old new c.put_aside-answer.result
     (ok_more (λ done. D.observed ≡ true → Did (MoveFolder (pod_spot c.args.pod area.Embryo) (pod_spot c.args.pod area.Garbage)) Done old.process old.trace new.trace) (λ done. D.observed ≡ true → DeedCause c.args.pod area.Embryo (Moved area.Garbage) old.process old.trace new.trace) c.put_aside-answer.result
-    (λ done did t. cause_moved c.args.pod area.Embryo area.Garbage refl refl (did t)) c.put_aside-answer.ensures.done)
+    (λ done did t. cause_moved c.args.pod area.Embryo area.Garbage refl refl (did t) (λ is. cc) (λ is. cc)) c.put_aside-answer.ensures.done)
     (err_more (λ e. Stopped D.observed c.args.pod (IsAbsentAt c.args.pod area.Embryo) e old new) (λ e. SetBackAt D.observed c.args.pod area.Embryo e old new) c.put_aside-answer.result
-    (λ e x. set_stopped c.args.pod area.Embryo (λ s h. h) x) c.put_aside-answer.ensures.stopped))
+    (λ e x. set_stopped c.args.pod area.Embryo (λ s h. h) x) c.put_aside-answer.ensures.stopped)
+    (claims_elsewhere D.observed c.args.pod area.Embryo old new c.put_aside-answer.result (λ is. cc)))
 
 pub returns-clause-calm : goal.returns-clause-calm
 returns-clause-calm g c =
@@ -66,6 +67,7 @@ returns-clause-let_be g c =
     (err_more (λ e. (which : Which) → e ≡ stop.Busy which → ⊥) (λ e. BusyByLooks D.observed c.args.pod area.Embryo e old new) c.put_aside-answer.result (λ e never which is t. absurd (never which is)) calm)
     (err_more (λ e. (which : Which) → e ≡ stop.Busy which → ⊥) (λ e. (which : Which) → e ≡ stop.Busy which → may_be_busy area.Embryo ≡ true) c.put_aside-answer.result
     (λ e never which is. absurd (never which is)) calm)
+    (owns_elsewhere area.Embryo c.put_aside-answer.result refl)
     (err_more (λ e. TakesNothing D.observed old new) (λ e. MissedUntaken D.observed e old new) c.put_aside-answer.result (λ e x is. x) c.put_aside-answer.ensures.still)
     (ok_all (λ done. (to : Area) → Moved area.Garbage ≡ Moved to → D.observed ≡ true → ExtendsBy (moves_on c.args.pod area.Embryo to) old new) c.put_aside-answer.result
     (λ done to is t. moved_on c.args.pod area.Embryo area.Garbage (extends_wider (moves_aside c.args.pod area.Embryo area.Garbage) (c.put_aside-answer.ensures.worked.extends t)) to is)))

@@ -2,14 +2,13 @@ use Rattle.std.proofs.Common.{◌≡◌, rules, ℕ, true, codes, Option, Ok, If
 use Rattle.dir_model.specs.declared.area.Area.TheVariants as area
 use Rattle.folder_building.proofs.Copying.{ok_more, err_more}
 use Rattle.folder_building.proofs.Working.{worked_more, worked_wider}
-use Rattle.pod_steps.specs.Holding.{Stays}
 use Rattle.pod_steps.proofs.Calls.{follows_work}
 use Rattle.pod_removal.specs.Holding.{MayRemove}
 use Rattle.pod_removal.proofs.Stages.{err_same}
 use Rattle.pod_gc.specs.Causes.{GcCause}
 use Rattle.pod_gc.specs.Marks.{Showed, is_young}
-use Rattle.pod_gc.specs.Deeds.{DeedCause, BusyBecause, RestsBy, RestedSo, LetBe}
-use Rattle.pod_gc.proofs.Steps.{lists_deal, cause_after, rested_so, deed_later, busy_later, ready_later, gone_deed}
+use Rattle.pod_gc.specs.Deeds.{DeedCause, RestsBy, RestedSo, LetBe, LeavesWhere}
+use Rattle.pod_gc.proofs.Steps.{lists_deal, cause_after, rested_so, deed_later, busy_later, ready_later, gone_deed, left_gone}
 use Rattle.pod_gc.proofs.Untouched.{let_left, took_lists, let_listed}
 use Rattle.pod_gc.proofs.deals.deal_exited_garbage.Goals as goal
 
@@ -61,7 +60,7 @@ returns-in-Some-clause-another g c =
     let old = D.shown c.args.dir.now in
     let mid = D.shown c.marked_at.new.dir in
     let new = D.shown c.deal_rested.new.dir in
-    ok_more (λ deed. D.observed ≡ true → Stays (MayRemove c.args.times.now) mid (λ s. BusyBecause c.args.pod deed mid new)) (λ deed. D.observed ≡ true → Stays (MayRemove c.args.times.now) old (λ s. BusyBecause c.args.pod deed old new)) c.deal_rested.result
+    ok_more (λ deed. LeavesWhere D.observed (MayRemove c.args.times.now) c.args.pod area.ExitedGarbage deed mid new) (λ deed. LeavesWhere D.observed (MayRemove c.args.times.now) c.args.pod area.ExitedGarbage deed old new) c.deal_rested.result
     (λ deed x t. busy_later deed new t (follows_work c.marked_at.ensures.worked) (c.marked_at.ensures.ready t c.args.times.now) (x t)) c.deal_rested.ensures.another
 
 pub returns-in-Some-clause-ready : goal.returns-in-Some-clause-ready
@@ -77,7 +76,7 @@ pub returns-in-None-clause-aged : goal.returns-in-None-clause-aged
 returns-in-None-clause-aged g c t = record { rests = λ p is. cc; over = λ is. cc }
 
 pub returns-in-None-clause-another : goal.returns-in-None-clause-another
-returns-in-None-clause-another g c t s k m which is = cc
+returns-in-None-clause-another g c t s k m = left_gone
 
 pub returns-in-None-clause-ready : goal.returns-in-None-clause-ready
 returns-in-None-clause-ready g c t = c.marked_at.ensures.ready t c.args.times.now

@@ -5,25 +5,25 @@ use Rattle.dir_model.specs.declared.spot.Mode.TheVariants.{Exclusive}
 use Rattle.dir_model.specs.declared.request.Request.TheVariants.{RemoveFolder}
 use Rattle.dir_model.specs.declared.request.Reply.TheVariants.{Done}
 use Rattle.dir_trait.specs.DirCalls.{ExtendsBy}
-use Rattle.folder_building.proofs.Copying.{ok_more, err_more}
+use Rattle.folder_building.proofs.Copying.{err_more}
 use Rattle.folder_building.proofs.Working.{worked_wider}
 use Rattle.phase_read.specs.Read.{pod_spot}
 use Rattle.pod_steps.specs.Holding.{Stays}
-use Rattle.pod_steps.specs.Causes.{Stopped, IsAbsentAt, BusyElsewhere, Did}
-use Rattle.pod_removal.specs.Causes.{BusyAny}
+use Rattle.pod_steps.specs.Causes.{Stopped, IsAbsentAt, BusyElsewhere, Did, FreeWhere}
 use Rattle.pod_removal.specs.Holding.{MayRemove}
-use Rattle.pod_removal.proofs.Rounds.{busy_at, garbage_stage}
+use Rattle.dir_model.specs.declared.spot.Which.TheVariants.{Own}
+use Rattle.pod_gc.proofs.Dealing.{both_ok}
 use Rattle.pod_gc.specs.declared.error.GcError.{GcError}
 use Rattle.pod_gc.specs.declared.line.Deed.{Deed}
 use Rattle.pod_gc.specs.declared.line.Deed.TheVariants.{Moved, Deleted, Kept}
 use Rattle.pod_gc.specs.Causes.{GcCause}
-use Rattle.pod_gc.specs.Deeds.{DeedCause, BusyBecause, LetBe}
-use Rattle.pod_gc.proofs.Steps.{removes_deal, SetBackAt, set_stopped, gone_garbage, cause_deleted, step_deed, step_cause, step_another, step_ends}
+use Rattle.pod_gc.specs.Deeds.{DeedCause, LetBe, LeavesWhere}
+use Rattle.pod_gc.proofs.Steps.{removes_deal, SetBackAt, set_stopped, gone_garbage, cause_deleted, step_deed, step_cause, step_another, step_ends, claims_elsewhere, garbage_unprepared, BusyHere, busy_garbage}
 use Rattle.pod_removal.proofs.Stages.{ok_all, err_all}
 use Rattle.pod_steps.specs.declared.setback.Setback.TheVariants as stop
 use Rattle.dir_model.specs.declared.spot.Which.{Which}
 use Rattle.pod_gc.specs.Requests.{moves_on, may_be_busy}
-use Rattle.pod_gc.proofs.Untouched.{garbage_busy, step_let_be}
+use Rattle.pod_gc.proofs.Untouched.{garbage_busy, step_let_be, BusyByOwn}
 use Rattle.pod_gc.proofs.deals.deal_garbage.Goals as goal
 
 pub returns-clause-worked : goal.returns-clause-worked
@@ -46,20 +46,21 @@ returns-clause-deed g c =
     let new = D.shown c.delete_at-answer.new.dir in
     subst (λ (x : Result Deed GcError). IfOk x (λ deed. D.observed ≡ true → DeedCause c.args.pod c.args.area deed old.process old.trace new.trace)) (sym c.deed_of.ensures)
     (step_deed D.observed c.args.pod c.args.area Deleted old new c.delete_at-answer.result
-    (ok_more (λ done. D.observed ≡ true → Did (RemoveFolder (pod_spot c.args.pod c.args.area)) Done old.process old.trace new.trace) (λ done. D.observed ≡ true → DeedCause c.args.pod c.args.area Deleted old.process old.trace new.trace) c.delete_at-answer.result
-    (λ done did t. cause_deleted c.requires.garbage (did t)) c.delete_at-answer.ensures.done)
+    (both_ok (λ done. D.observed ≡ true → Did (RemoveFolder (pod_spot c.args.pod c.args.area)) Done old.process old.trace new.trace) (λ done. FreeWhere D.observed c.args.pod c.args.area Own Exclusive old new) (λ done. D.observed ≡ true → DeedCause c.args.pod c.args.area Deleted old.process old.trace new.trace) c.delete_at-answer.result
+    (λ done did free t. cause_deleted c.requires.garbage (did t) (free t)) c.delete_at-answer.ensures.done c.delete_at-answer.ensures.free)
     (err_more (λ e. Stopped D.observed c.args.pod (IsAbsentAt c.args.pod c.args.area) e old new) (λ e. SetBackAt D.observed c.args.pod c.args.area e old new) c.delete_at-answer.result
-    (λ e x. set_stopped c.args.pod c.args.area (gone_garbage c.args.pod c.args.area c.requires.garbage) x) c.delete_at-answer.ensures.stopped))
+    (λ e x. set_stopped c.args.pod c.args.area (gone_garbage c.args.pod c.args.area c.requires.garbage) x) c.delete_at-answer.ensures.stopped)
+    (claims_elsewhere D.observed c.args.pod c.args.area old new c.delete_at-answer.result (garbage_unprepared c.args.area c.requires.garbage)))
 
 pub returns-clause-another : goal.returns-clause-another
 returns-clause-another g c =
     let D = g.D.Dir in
     let old = D.shown c.args.dir.now in
     let new = D.shown c.delete_at-answer.new.dir in
-    subst (λ (x : Result Deed GcError). IfOk x (λ deed. D.observed ≡ true → Stays (MayRemove c.args.now) old (λ s. BusyBecause c.args.pod deed old new))) (sym c.deed_of.ensures)
-    (step_another D.observed c.args.pod c.args.area Deleted old new (MayRemove c.args.now) (λ which is. cc) c.delete_at-answer.result
-    (err_more (λ e. D.observed ≡ true → Stays (MayRemove c.args.now) old (λ s. BusyElsewhere c.args.pod c.args.area Exclusive e old new)) (λ e. D.observed ≡ true → Stays (MayRemove c.args.now) old (λ s. BusyAny c.args.pod e old new)) c.delete_at-answer.result
-    (λ e busy t s k m. busy_at e c.args.area Exclusive old new (garbage_stage c.args.area c.requires.garbage) (busy t s k m)) c.delete_at-answer.ensures.another))
+    subst (λ (x : Result Deed GcError). IfOk x (λ deed. LeavesWhere D.observed (MayRemove c.args.now) c.args.pod c.args.area deed old new)) (sym c.deed_of.ensures)
+    (step_another D.observed c.args.pod c.args.area Deleted old new (MayRemove c.args.now) (λ which is. cc) (λ p is. cc) c.delete_at-answer.result
+    (err_more (λ e. D.observed ≡ true → Stays (MayRemove c.args.now) old (λ s. BusyElsewhere c.args.pod c.args.area Exclusive e old new)) (λ e. D.observed ≡ true → Stays (MayRemove c.args.now) old (λ s. BusyHere c.args.pod c.args.area e old new)) c.delete_at-answer.result
+    (λ e busy t s k m. busy_garbage c.args.pod c.args.area e old new c.requires.garbage (busy t s k m)) c.delete_at-answer.ensures.another))
 
 pub returns-clause-ends : goal.returns-clause-ends
 returns-clause-ends g c = subst (λ (x : Result Deed GcError). IfOk x (λ deed. (p : Phase) → deed ≡ Kept p → ⊥)) (sym c.deed_of.ensures) (step_ends Deleted (λ p is. cc) c.delete_at-answer.result)
@@ -72,5 +73,6 @@ returns-clause-let_be g c =
     subst (λ (x : Result Deed GcError). IfOk x (λ deed. LetBe D.observed c.args.pod c.args.area deed old new)) (sym c.deed_of.ensures)
     (step_let_be D.observed c.args.pod c.args.area Deleted old new refl (λ is. cc) c.delete_at-answer.result c.delete_at-answer.ensures.looks
     (err_all (λ e. (which : Which) → e ≡ stop.Busy which → may_be_busy c.args.area ≡ true) c.delete_at-answer.result (λ e which is. garbage_busy c.args.area c.requires.garbage))
+    (err_more (λ e. (which : Which) → e ≡ stop.Busy which → which ≡ Own) (λ e. BusyByOwn c.args.area e) c.delete_at-answer.result (λ e named which is garbage. named which is) c.delete_at-answer.ensures.named)
     c.delete_at-answer.ensures.still
     (ok_all (λ done. (to : Area) → Deleted ≡ Moved to → D.observed ≡ true → ExtendsBy (moves_on c.args.pod c.args.area to) old new) c.delete_at-answer.result (λ done to is t. cc)))

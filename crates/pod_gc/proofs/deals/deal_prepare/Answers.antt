@@ -1,27 +1,27 @@
 use Rattle.std.proofs.Common.{◌≡◌, rules, true, Err, Result, IfOk, IfErr, refl, sym, subst, arith}
 use Rattle.dir_model.specs.declared.area.Area.TheVariants as area
 use Rattle.dir_model.specs.declared.area.Phase.TheVariants as phase
-use Rattle.dir_model.specs.declared.spot.Mode.TheVariants.{Shared}
 use Rattle.folder_building.proofs.Copying.{ok_more, err_more}
 use Rattle.folder_building.proofs.Working.{worked_more, worked_wider}
-use Rattle.pod_steps.specs.Holding.{Stays}
 use Rattle.pod_steps.proofs.Calls.{follows_work}
 use Rattle.pod_removal.specs.Holding.{MayRemove}
-use Rattle.pod_removal.proofs.Rounds.{busy_at}
 use Rattle.pod_gc.specs.declared.error.GcError.{GcError}
 use Rattle.pod_gc.specs.declared.line.Deed.{Deed}
 use Rattle.pod_gc.specs.declared.line.Deed.TheVariants.{Moved}
 use Rattle.pod_gc.specs.Causes.{GcCause}
-use Rattle.pod_gc.specs.Deeds.{DeedCause, BusyBecause, SaysThere, LetBe}
-use Rattle.pod_gc.proofs.Steps.{removes_deal, looks_deal, set_stopped, cause_moved, step_deed, step_cause, step_another, said_deed, said_refused, cause_after, ready_looked, said_unbusy}
-use Rattle.pod_gc.proofs.Untouched.{let_moved, let_refused, step_let_be}
+use Rattle.pod_gc.specs.Deeds.{DeedCause, SaysThere, LetBe, LeavesWhere}
+use Rattle.pod_gc.proofs.Steps.{removes_deal, looks_deal, set_stopped, cause_moved, step_deed, step_cause, step_another, said_deed, said_refused, cause_after, ready_looked, said_unbusy, left_moved}
+use Rattle.pod_gc.proofs.Untouched.{let_moved, let_refused, step_let_be, peeked_looks, owns_elsewhere}
 use Rattle.pod_gc.proofs.deals.deal_prepare.Goals as goal
 
 pub returns-in-Ok-clause-worked : goal.returns-in-Ok-clause-worked
 returns-in-Ok-clause-worked g c = worked_wider (removes_deal c.args.pod c.args.now area.Prepare) c.discard_aborted.ensures.worked
 
 pub returns-in-Ok-clause-deed : goal.returns-in-Ok-clause-deed
-returns-in-Ok-clause-deed g c t = cause_moved c.args.pod area.Prepare area.Garbage refl refl (c.in-Ok.ensures.done t)
+returns-in-Ok-clause-deed g c t = cause_moved c.args.pod area.Prepare area.Garbage refl refl (c.in-Ok.ensures.done t) (λ is. cc) (λ is. c.in-Ok.ensures.free t)
+
+pub returns-in-Ok-clause-another : goal.returns-in-Ok-clause-another
+returns-in-Ok-clause-another g c t s k m = left_moved
 
 pub returns-in-Err-Busy-clause-worked : goal.returns-in-Err-Busy-clause-worked
 returns-in-Err-Busy-clause-worked g c = worked_more (worked_wider (removes_deal c.args.pod c.args.now area.Prepare) c.discard_aborted.ensures.worked) (worked_wider (looks_deal c.args.pod c.args.now area.Prepare (omega arith)) c.kept.ensures.worked)
@@ -38,14 +38,17 @@ pub returns-in-Err-Busy-clause-deed : goal.returns-in-Err-Busy-clause-deed
 returns-in-Err-Busy-clause-deed g c =
     let D = g.D.Dir in
     let e = rw c.in-Err-Busy.field-0-is at c.in-Err-Busy.ensures in
-    said_deed D.observed c.args.pod area.Prepare phase.Preparing true (omega arith) refl refl (λ s h. h) (D.shown c.args.dir.now) (D.shown c.discard_aborted.new.dir) (D.shown c.kept.new.dir) (follows_work c.discard_aborted.ensures.worked) (λ t. e.owned _ refl t)
+    said_deed D.observed c.args.pod area.Prepare phase.Preparing true (omega arith) refl refl (λ rest. cc) (λ s h. h) (D.shown c.args.dir.now) (D.shown c.discard_aborted.new.dir) (D.shown c.kept.new.dir) (follows_work c.discard_aborted.ensures.worked) (follows_work c.kept.ensures.worked) (λ t. e.owned _ refl t)
     c.kept.result c.kept.ensures.said
 
 pub returns-in-Err-Busy-clause-another : goal.returns-in-Err-Busy-clause-another
 returns-in-Err-Busy-clause-another g c =
     let D = g.D.Dir in
     let e = rw c.in-Err-Busy.field-0-is at c.in-Err-Busy.ensures in
-    said_refused D.observed (MayRemove c.args.now) c.args.pod area.Prepare Shared _ phase.Preparing (D.shown c.args.dir.now) (D.shown c.discard_aborted.new.dir) (D.shown c.kept.new.dir) refl (follows_work c.kept.ensures.worked) (e.named _ refl) e.another c.kept.result c.kept.ensures.said
+    said_refused D.observed c.args.now c.args.pod area.Prepare _ phase.Preparing (D.shown c.args.dir.now) (D.shown c.discard_aborted.new.dir) (D.shown c.kept.new.dir) (omega arith) c.discard_aborted.ensures.worked.same (follows_work c.kept.ensures.worked) (e.named _ refl) e.another (e.peeks _ refl) c.kept.ensures.peeks
+    c.kept.result c.kept.ensures.said
+    (said_deed D.observed c.args.pod area.Prepare phase.Preparing true (omega arith) refl refl (λ rest. cc) (λ s h. h) (D.shown c.args.dir.now) (D.shown c.discard_aborted.new.dir) (D.shown c.kept.new.dir) (follows_work c.discard_aborted.ensures.worked) (follows_work c.kept.ensures.worked) (λ t. e.owned _ refl t)
+    c.kept.result c.kept.ensures.said)
 
 pub returns-in-Err-Busy-clause-ready : goal.returns-in-Err-Busy-clause-ready
 returns-in-Err-Busy-clause-ready g c t = ready_looked (c.discard_aborted.ensures.ready t) (c.kept.ensures.known t)
@@ -67,15 +70,15 @@ returns-in-Err-clause-deed g c =
     let old = D.shown c.args.dir.now in
     let new = D.shown c.discard_aborted.new.dir in
     subst (λ (x : Result Deed GcError). IfOk x (λ deed. D.observed ≡ true → DeedCause c.args.pod area.Prepare deed old.process old.trace new.trace)) (sym c.deed_of.ensures)
-    (step_deed D.observed c.args.pod area.Prepare (Moved area.Garbage) old new (Err c.in-Err.stop) tt (set_stopped c.args.pod area.Prepare (λ s h. h) c.in-Err.ensures.stopped))
+    (step_deed D.observed c.args.pod area.Prepare (Moved area.Garbage) old new (Err c.in-Err.stop) tt (set_stopped c.args.pod area.Prepare (λ s h. h) c.in-Err.ensures.stopped) (λ is here. cc))
 
 pub returns-in-Err-clause-another : goal.returns-in-Err-clause-another
 returns-in-Err-clause-another g c =
     let D = g.D.Dir in
     let old = D.shown c.args.dir.now in
     let new = D.shown c.discard_aborted.new.dir in
-    subst (λ (x : Result Deed GcError). IfOk x (λ deed. D.observed ≡ true → Stays (MayRemove c.args.now) old (λ s. BusyBecause c.args.pod deed old new))) (sym c.deed_of.ensures)
-    (step_another D.observed c.args.pod area.Prepare (Moved area.Garbage) old new (MayRemove c.args.now) (λ which is. cc) (Err c.in-Err.stop) (λ t s k m. busy_at c.in-Err.stop area.Prepare Shared old new refl (c.in-Err.ensures.another t s k m)))
+    subst (λ (x : Result Deed GcError). IfOk x (λ deed. LeavesWhere D.observed (MayRemove c.args.now) c.args.pod area.Prepare deed old new)) (sym c.deed_of.ensures)
+    (step_another D.observed c.args.pod area.Prepare (Moved area.Garbage) old new (MayRemove c.args.now) (λ which is. cc) (λ p is. cc) (Err c.in-Err.stop) (λ t s k m which is. search (rules, is, c.in-Err.stop-is)))
 
 pub returns-in-Ok-clause-let_be : goal.returns-in-Ok-clause-let_be
 returns-in-Ok-clause-let_be g c t = let_moved (c.in-Ok.ensures.aside t)
@@ -88,7 +91,7 @@ returns-in-Err-Busy-clause-let_be g c =
     let mid = D.shown c.discard_aborted.new.dir in
     let new = D.shown c.kept.new.dir in
     ok_more (λ deed. SaysThere D.observed c.args.pod area.Prepare phase.Preparing deed mid new) (λ deed. LetBe D.observed c.args.pod area.Prepare deed old new) c.kept.result
-    (λ deed x t. let_refused old mid new t e.looks c.discard_aborted.ensures.worked.same (c.kept.ensures.worked.extends t) (said_unbusy phase.Preparing deed x.is) t) c.kept.ensures.said
+    (λ deed x t. let_refused old mid new t (peeked_looks c.args.pod area.Prepare old mid e.peeks) c.discard_aborted.ensures.worked.same (c.kept.ensures.worked.extends t) (said_unbusy phase.Preparing deed x.is) t) c.kept.ensures.said
 
 pub returns-in-Err-clause-let_be : goal.returns-in-Err-clause-let_be
 returns-in-Err-clause-let_be g c =
@@ -97,4 +100,4 @@ returns-in-Err-clause-let_be g c =
     let new = D.shown c.discard_aborted.new.dir in
     subst (λ (x : Result Deed GcError). IfOk x (λ deed. LetBe D.observed c.args.pod area.Prepare deed old new)) (sym c.deed_of.ensures)
     (step_let_be D.observed c.args.pod area.Prepare (Moved area.Garbage) old new refl (λ is. cc) (Err c.in-Err.stop)
-    c.in-Err.ensures.looks (λ which is. search (rules, is, c.in-Err.stop-is)) (λ is. c.in-Err.ensures.still) tt)
+    (peeked_looks c.args.pod area.Prepare old new c.in-Err.ensures.peeks) (λ which is. search (rules, is, c.in-Err.stop-is)) (owns_elsewhere area.Prepare (Err c.in-Err.stop) refl) (λ is. c.in-Err.ensures.still) tt)

@@ -1,4 +1,4 @@
-use Rattle.std.proofs.Common.{◌≡◌, ◌⊎◌, rules, ℕ, true, codes, Option, Ok, IfSome, refl, ap, subst, ◌∙◌}
+use Rattle.std.proofs.Common.{◌≡◌, ◌⊎◌, rules, ℕ, true, codes, Option, Ok, IfSome, refl, ap, subst, ◌∙◌, inl}
 use Rattle.dir_model.specs.declared.area.Area.TheVariants as area
 use Rattle.dir_model.specs.declared.area.Phase.TheVariants as phase
 use Rattle.dir_model.specs.State.{stands}
@@ -13,9 +13,9 @@ use Rattle.pod_removal.proofs.Stages.{err_same}
 use Rattle.pod_gc.specs.declared.line.Deed.TheVariants.{Kept}
 use Rattle.pod_gc.specs.Causes.{GcCause}
 use Rattle.pod_gc.specs.Marks.{Showed, is_ripe}
-use Rattle.pod_gc.specs.Deeds.{DeedCause, BusyBecause, WaitsBy, WaitedSo, LetBe}
+use Rattle.pod_gc.specs.Deeds.{DeedCause, WaitsBy, WaitedSo, LetBe, LeavesWhere}
 use Rattle.pod_gc.specs.Sweeping.{MaySweep, NotesMark, Ripens}
-use Rattle.pod_gc.proofs.Steps.{lists_deal, removes_deal, cause_after, gone_deed}
+use Rattle.pod_gc.proofs.Steps.{lists_deal, removes_deal, cause_after, gone_deed, left_gone}
 use Rattle.pod_gc.proofs.Waiting.{gone_waiting, waited_so, waited_deed, ready_waited, busy_waited}
 use Rattle.pod_gc.proofs.Untouched.{let_left, took_lists, let_listed}
 use Rattle.pod_gc.proofs.deals.deal_prepared.Goals as goal
@@ -71,7 +71,7 @@ returns-in-Some-clause-another g c =
     let mid = D.shown c.marked_at.new.dir in
     let new = D.shown c.deal_waiting.new.dir in
     let notes = subst (λ (o : Option (Option ℕ)). IfSome o (λ moment. D.observed ≡ true → (now : ℕ) → codes "created-" ≡ codes "created-" → Stays (MayRemove now) old (λ s. NotesMark c.args.pod moment s mid))) c.in-Some.is c.in_ok-created.ensures.noted in
-    ok_more (λ deed. D.observed ≡ true → Stays (Ripens c.args.pod c.in-Some.created c.args.times.now c.args.times.expire) mid (λ s. BusyBecause c.args.pod deed mid new)) (λ deed. D.observed ≡ true → Stays (MaySweep c.args.times.now c.args.times.expire) old (λ s. BusyBecause c.args.pod deed old new)) c.deal_waiting.result
+    ok_more (λ deed. LeavesWhere D.observed (Ripens c.args.pod c.in-Some.created c.args.times.now c.args.times.expire) c.args.pod area.Prepared deed mid new) (λ deed. LeavesWhere D.observed (MaySweep c.args.times.now c.args.times.expire) c.args.pod area.Prepared deed old new) c.deal_waiting.result
     (λ deed x t. busy_waited c.args.pod c.in-Some.created deed new t (follows_work c.marked_at.ensures.worked) (notes t c.args.times.now refl) (x t)) c.deal_waiting.ensures.another
 
 pub returns-in-Some-clause-ready : goal.returns-in-Some-clause-ready
@@ -89,10 +89,10 @@ pub returns-in-None-clause-deed : goal.returns-in-None-clause-deed
 returns-in-None-clause-deed g c = gone_deed (g.D.Dir.shown c.args.dir.now) (g.D.Dir.shown c.marked_at.new.dir) area.Prepared (gone_waiting c.args.pod) (λ t. c.marked_at.ensures.absent (c.in_ok-created.was ∙ ap Ok c.in-None.is) t)
 
 pub returns-in-None-clause-aged : goal.returns-in-None-clause-aged
-returns-in-None-clause-aged g c t = record { waits = λ p is. cc; ripe = λ to is. cc }
+returns-in-None-clause-aged g c t = record { waits = λ p is. cc; ripe = λ is. cc; left = λ is. inl (c.marked_at.ensures.absent (c.in_ok-created.was ∙ ap Ok c.in-None.is) t) }
 
 pub returns-in-None-clause-another : goal.returns-in-None-clause-another
-returns-in-None-clause-another g c t s k m which is = cc
+returns-in-None-clause-another g c t s k m = left_gone
 
 pub returns-in-None-clause-ready : goal.returns-in-None-clause-ready
 returns-in-None-clause-ready g c t s k m = c.marked_at.ensures.ready t c.args.times.now s k m.may

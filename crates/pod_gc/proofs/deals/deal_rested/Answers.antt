@@ -1,15 +1,15 @@
-use Rattle.std.proofs.Common.{◌≡◌, true, sym, ◌∙◌, arith}
+use Rattle.std.proofs.Common.{◌≡◌, sym, ◌∙◌, arith, ℕ}
 use Rattle.dir_model.specs.declared.area.Area.TheVariants as area
 use Rattle.dir_model.specs.declared.area.Phase.{Phase}
 use Rattle.dir_model.specs.declared.spot.Which.{Which}
 use Rattle.folder_building.proofs.Copying.{ok_more}
 use Rattle.folder_building.proofs.Working.{worked_wider}
-use Rattle.pod_steps.specs.Holding.{MayLook, Stays}
 use Rattle.pod_removal.specs.Holding.{MayRemove}
+use Rattle.pod_gc.proofs.Dealing.{both_ok}
 use Rattle.pod_gc.specs.declared.line.Deed.TheVariants.{Kept, Busy}
 use Rattle.pod_gc.specs.Marks.{is_young}
-use Rattle.pod_gc.specs.Deeds.{DoesNothing, BusyBecause, RestsBy, LetBe}
-use Rattle.pod_gc.proofs.Steps.{looks_deal, looks_resting, rests_young, rests_over}
+use Rattle.pod_gc.specs.Deeds.{DoesNothing, RestsBy, LetBe, LeavesWhere}
+use Rattle.pod_gc.proofs.Steps.{looks_deal, rests_young, rests_over}
 use Rattle.pod_gc.proofs.Untouched.{let_looked}
 use Rattle.pod_gc.proofs.deals.deal_rested.Goals as goal
 
@@ -18,16 +18,16 @@ returns-then-is_young-clause-worked g c = worked_wider (looks_deal c.args.pod c.
 
 pub returns-then-is_young-clause-aged : goal.returns-then-is_young-clause-aged
 returns-then-is_young-clause-aged g c =
-    ok_more (λ deed. DoesNothing deed) (λ deed. RestsBy (is_young c.args.times.now c.args.times.grace c.args.marked) deed) c.kept_exited.result
-    (λ deed nothing. rests_young deed (sym c.is_young.ensures ∙ c.if-is_young.true) nothing) c.kept_exited.ensures.rests
+    both_ok (λ deed. DoesNothing deed) (λ deed. (which : Which) → deed ≡ Busy which → ⊥) (λ deed. RestsBy (is_young c.args.times.now c.args.times.grace c.args.marked) deed) c.kept_exited.result
+    (λ deed nothing calm. rests_young deed (sym c.is_young.ensures ∙ c.if-is_young.true) nothing calm) c.kept_exited.ensures.rests c.kept_exited.ensures.calm
 
 pub returns-then-is_young-clause-another : goal.returns-then-is_young-clause-another
 returns-then-is_young-clause-another g c =
     let D = g.D.Dir in
     let old = D.shown c.args.dir.now in
     let new = D.shown c.kept_exited.new.dir in
-    ok_more (λ deed. D.observed ≡ true → Stays (MayLook c.args.pod area.ExitedGarbage) old (λ s. BusyBecause c.args.pod deed old new)) (λ deed. D.observed ≡ true → Stays (MayRemove c.args.times.now) old (λ s. BusyBecause c.args.pod deed old new)) c.kept_exited.result
-    (λ deed x t s k m. x t s k (looks_resting c.args.pod m)) c.kept_exited.ensures.another
+    ok_more (λ deed. (now : ℕ) → LeavesWhere D.observed (MayRemove now) c.args.pod area.ExitedGarbage deed old new) (λ deed. LeavesWhere D.observed (MayRemove c.args.times.now) c.args.pod area.ExitedGarbage deed old new) c.kept_exited.result
+    (λ deed x. x c.args.times.now) c.kept_exited.ensures.another
 
 pub returns-then-is_young-clause-ready : goal.returns-then-is_young-clause-ready
 returns-then-is_young-clause-ready g c t = c.kept_exited.ensures.ready t c.args.times.now

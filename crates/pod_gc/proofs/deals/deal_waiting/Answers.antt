@@ -1,4 +1,4 @@
-use Rattle.std.proofs.Common.{◌≡◌, ◌⊎◌, inl, inr, true, Result, IfOk, IfErr, refl, sym, subst, ◌∙◌}
+use Rattle.std.proofs.Common.{◌≡◌, ◌⊎◌, inl, inr, true, Result, IfOk, IfErr, refl, sym, subst, ◌∙◌, false}
 use Rattle.dir_model.specs.declared.area.Area.{Area}
 use Rattle.dir_model.specs.declared.area.Area.TheVariants as area
 use Rattle.dir_model.specs.declared.area.Phase.{Phase}
@@ -9,28 +9,30 @@ use Rattle.folder_building.proofs.Copying.{ok_more, err_more}
 use Rattle.folder_building.proofs.Working.{worked_none}
 use Rattle.phase_read.specs.Read.{pod_spot}
 use Rattle.pod_steps.specs.Holding.{Stays}
-use Rattle.pod_steps.specs.Causes.{Did}
+use Rattle.pod_steps.specs.Causes.{Did, FreeWhere}
 use Rattle.pod_steps.specs.Taking.{TakesNothing}
-use Rattle.pod_removal.specs.Causes.{StoppedAlone, BusyInPrepared, BusyAny, MissedUntaken}
+use Rattle.pod_removal.specs.Causes.{StoppedAlone, BusyInPrepared, MissedUntaken}
 use Rattle.pod_removal.specs.Holding.{MayDiscard}
-use Rattle.pod_removal.proofs.Rounds.{busy_waiting}
+use Rattle.dir_model.specs.declared.spot.Which.TheVariants.{Own, Claim}
+use Rattle.dir_model.specs.declared.spot.Mode.TheVariants.{Exclusive}
+use Rattle.pod_gc.proofs.Dealing.{all_ok}
 use Rattle.pod_gc.specs.declared.error.GcError.{GcError}
 use Rattle.pod_gc.specs.declared.line.Deed.{Deed}
 use Rattle.pod_gc.specs.declared.line.Deed.TheVariants.{Moved, Kept}
 use Rattle.pod_gc.specs.Causes.{GcCause}
 use Rattle.pod_gc.specs.Marks.{is_ripe}
-use Rattle.pod_gc.specs.Deeds.{DeedCause, BusyBecause, WaitsBy, LetBe}
+use Rattle.pod_gc.specs.Deeds.{DeedCause, WaitsBy, LetBe, LeavesWhere}
 use Rattle.pod_gc.specs.Sweeping.{Ripens}
-use Rattle.pod_gc.proofs.Steps.{SetBackAt, cause_moved, step_deed, step_cause, step_another, step_ends}
+use Rattle.pod_gc.proofs.Steps.{SetBackAt, cause_moved, step_deed, step_cause, step_another, step_ends, ClaimsFirst, BusyHere, left_waiting}
 use Rattle.pod_gc.proofs.Waiting.{may_ripen, set_alone, waits_kept, waits_over}
 use Rattle.pod_removal.proofs.Stages.{err_all}
 use Rattle.pod_steps.specs.declared.setback.Setback.TheVariants as stop
 use Rattle.dir_model.specs.declared.spot.Which.{Which}
 use Rattle.dir_model.proofs.Chains.{nothing_yet}
-use Rattle.dir_trait.specs.DirCalls.{ExtendsBy}
+use Rattle.dir_trait.specs.DirCalls.{ExtendsBy, LockToldBetween}
 use Rattle.pod_removal.specs.Requests.{puts_aside}
 use Rattle.pod_gc.specs.Requests.{moves_on, may_be_busy}
-use Rattle.pod_gc.proofs.Untouched.{let_looked, moved_on, step_let_be}
+use Rattle.pod_gc.proofs.Untouched.{let_looked, moved_on, step_let_be, owns_elsewhere}
 use Rattle.pod_gc.proofs.deals.deal_waiting.Goals as goal
 
 pub returns-then-is_ripe-clause-cause : goal.returns-then-is_ripe-clause-cause
@@ -50,9 +52,11 @@ returns-then-is_ripe-clause-deed g c =
     ok_more (λ deed. D.observed ≡ true → DeedCause c.args.pod area.Prepared deed old.process old.trace new.trace) (λ deed. (deed ≡ Kept phase.Prepared) ⊎ (D.observed ≡ true → DeedCause c.args.pod area.Prepared deed old.process old.trace new.trace)) c.deed_of.result (λ deed x. inr x)
     (subst (λ (x : Result Deed GcError). IfOk x (λ deed. D.observed ≡ true → DeedCause c.args.pod area.Prepared deed old.process old.trace new.trace)) (sym c.deed_of.ensures)
     (step_deed D.observed c.args.pod area.Prepared (Moved area.Garbage) old new c.discard_prepared-answer.result
-    (ok_more (λ done. D.observed ≡ true → Did (MoveFolder (pod_spot c.args.pod area.Prepared) (pod_spot c.args.pod area.Garbage)) Done old.process old.trace new.trace) (λ done. D.observed ≡ true → DeedCause c.args.pod area.Prepared (Moved area.Garbage) old.process old.trace new.trace) c.discard_prepared-answer.result
-    (λ done did t. cause_moved c.args.pod area.Prepared area.Garbage refl refl (did t)) c.discard_prepared-answer.ensures.done)
-    (err_more (λ e. StoppedAlone D.observed c.args.pod e old new) (λ e. SetBackAt D.observed c.args.pod area.Prepared e old new) c.discard_prepared-answer.result (λ e x. set_alone c.args.pod x) c.discard_prepared-answer.ensures.stopped)))
+    (all_ok (λ done. D.observed ≡ true → Did (MoveFolder (pod_spot c.args.pod area.Prepared) (pod_spot c.args.pod area.Garbage)) Done old.process old.trace new.trace) (λ done. FreeWhere D.observed c.args.pod area.Prepared Claim Exclusive old new)
+    (λ done. D.observed ≡ true → LockToldBetween old new (pod_spot c.args.pod area.Prepared) false) (λ done. D.observed ≡ true → DeedCause c.args.pod area.Prepared (Moved area.Garbage) old.process old.trace new.trace) c.discard_prepared-answer.result
+    (λ done did claimed free t. cause_moved c.args.pod area.Prepared area.Garbage refl refl (did t) (λ is. claimed t) (λ is. free t)) c.discard_prepared-answer.ensures.done c.discard_prepared-answer.ensures.claimed c.discard_prepared-answer.ensures.free)
+    (err_more (λ e. StoppedAlone D.observed c.args.pod e old new) (λ e. SetBackAt D.observed c.args.pod area.Prepared e old new) c.discard_prepared-answer.result (λ e x. set_alone c.args.pod x) c.discard_prepared-answer.ensures.stopped)
+    (err_more (λ e. e ≡ stop.Busy Own → FreeWhere D.observed c.args.pod area.Prepared Claim Exclusive old new) (λ e. ClaimsFirst D.observed c.args.pod area.Prepared e old new) c.discard_prepared-answer.result (λ e x is here. x is) c.discard_prepared-answer.ensures.under_claim)))
 
 pub returns-then-is_ripe-clause-aged : goal.returns-then-is_ripe-clause-aged
 returns-then-is_ripe-clause-aged g c =
@@ -65,10 +69,10 @@ returns-then-is_ripe-clause-another g c =
     let old = D.shown c.args.dir.now in
     let new = D.shown c.discard_prepared-answer.new.dir in
     let May = Ripens c.args.pod c.args.created c.args.times.now c.args.times.expire in
-    subst (λ (x : Result Deed GcError). IfOk x (λ deed. D.observed ≡ true → Stays May old (λ s. BusyBecause c.args.pod deed old new))) (sym c.deed_of.ensures)
-    (step_another D.observed c.args.pod area.Prepared (Moved area.Garbage) old new May (λ which is. cc) c.discard_prepared-answer.result
-    (err_more (λ e. D.observed ≡ true → Stays (MayDiscard c.args.pod c.args.times.now) old (λ s. BusyInPrepared c.args.pod e old new)) (λ e. D.observed ≡ true → Stays May old (λ s. BusyAny c.args.pod e old new)) c.discard_prepared-answer.result
-    (λ e busy t s k m. busy_waiting e old new (busy t s k (may_ripen c.args.pod c.args.created c.args.times.now c.args.times.expire (sym c.is_ripe.ensures ∙ c.if-is_ripe.true) m))) c.discard_prepared-answer.ensures.another))
+    subst (λ (x : Result Deed GcError). IfOk x (λ deed. LeavesWhere D.observed May c.args.pod area.Prepared deed old new)) (sym c.deed_of.ensures)
+    (step_another D.observed c.args.pod area.Prepared (Moved area.Garbage) old new May (λ which is. cc) (λ p is. cc) c.discard_prepared-answer.result
+    (err_more (λ e. D.observed ≡ true → Stays (MayDiscard c.args.pod c.args.times.now) old (λ s. BusyInPrepared c.args.pod e old new)) (λ e. D.observed ≡ true → Stays May old (λ s. BusyHere c.args.pod area.Prepared e old new)) c.discard_prepared-answer.result
+    (λ e busy t s k m. busy t s k (may_ripen c.args.pod c.args.created c.args.times.now c.args.times.expire (sym c.is_ripe.ensures ∙ c.if-is_ripe.true) m)) c.discard_prepared-answer.ensures.another))
 
 pub returns-then-is_ripe-clause-ready : goal.returns-then-is_ripe-clause-ready
 returns-then-is_ripe-clause-ready g c t s k m = c.discard_prepared-answer.ensures.ready t s k (may_ripen c.args.pod c.args.created c.args.times.now c.args.times.expire (sym c.is_ripe.ensures ∙ c.if-is_ripe.true) m)
@@ -83,7 +87,7 @@ pub returns-else-is_ripe-clause-aged : goal.returns-else-is_ripe-clause-aged
 returns-else-is_ripe-clause-aged g c = waits_kept (sym c.is_ripe.ensures ∙ c.if-is_ripe.false)
 
 pub returns-else-is_ripe-clause-another : goal.returns-else-is_ripe-clause-another
-returns-else-is_ripe-clause-another g c t s k m which is = cc
+returns-else-is_ripe-clause-another g c t s k m = left_waiting
 
 pub returns-else-is_ripe-clause-ready : goal.returns-else-is_ripe-clause-ready
 returns-else-is_ripe-clause-ready g c t s k m = record { known = s; keeps = record { intent = refl; holdings = refl; kept = refl; bare = m.sweeps.may.bare }; knows = k }
@@ -96,6 +100,7 @@ returns-then-is_ripe-clause-let_be g c =
     subst (λ (x : Result Deed GcError). IfOk x (λ deed. LetBe D.observed c.args.pod area.Prepared deed old new)) (sym c.deed_of.ensures)
     (step_let_be D.observed c.args.pod area.Prepared (Moved area.Garbage) old new refl (λ is. cc) c.discard_prepared-answer.result c.discard_prepared-answer.ensures.looks
     (err_all (λ e. (which : Which) → e ≡ stop.Busy which → may_be_busy area.Prepared ≡ true) c.discard_prepared-answer.result (λ e which is. refl))
+    (owns_elsewhere area.Prepared c.discard_prepared-answer.result refl)
     (err_more (λ e. TakesNothing D.observed old new) (λ e. MissedUntaken D.observed e old new) c.discard_prepared-answer.result (λ e x is. x) c.discard_prepared-answer.ensures.still)
     (ok_more (λ done. D.observed ≡ true → ExtendsBy (puts_aside c.args.pod area.Prepared area.Garbage) old new) (λ done. (to : Area) → Moved area.Garbage ≡ Moved to → D.observed ≡ true → ExtendsBy (moves_on c.args.pod area.Prepared to) old new) c.discard_prepared-answer.result
     (λ done x to is t. moved_on c.args.pod area.Prepared area.Garbage (x t) to is) c.discard_prepared-answer.ensures.aside))

@@ -2,7 +2,7 @@ use Rattle.std.proofs.Common.{Err, sym, ap, subst, ◌∙◌}
 use Rattle.pod_removal.proofs.Looking.{worked_look}
 use Rattle.pod_gc.specs.declared.error.GcError.{GcError}
 use Rattle.pod_gc.specs.Causes.{GcCause}
-use Rattle.pod_gc.proofs.Steps.{says_there, says_gone, look_cause}
+use Rattle.pod_gc.proofs.Steps.{says_there, says_gone, look_cause, peeks_here}
 use Rattle.pod_gc.proofs.kept.kept.Goals as goal
 
 pub returns-in-Ok-true-clause-worked : goal.returns-in-Ok-true-clause-worked
@@ -29,3 +29,12 @@ returns-in-Err-clause-cause g c =
     let D = g.D.Dir in
     subst (λ (x : GcError). GcCause D.observed x (D.shown c.args.dir.now) (D.shown c.look.new.dir)) (sym c.look_fault.ensures)
     (look_cause c.in-Err.error (λ is. c.look.ensures.cause (c.in-Err.is ∙ ap Err is)))
+
+pub returns-in-Ok-true-clause-peeks : goal.returns-in-Ok-true-clause-peeks
+returns-in-Ok-true-clause-peeks g c = peeks_here c.args.pod c.args.area (g.D.Dir.shown c.args.dir.now) (g.D.Dir.shown c.look.new.dir) c.pod_spot.ensures c.look.ensures.extends
+
+pub returns-in-Ok-false-clause-peeks : goal.returns-in-Ok-false-clause-peeks
+returns-in-Ok-false-clause-peeks g c = peeks_here c.args.pod c.args.area (g.D.Dir.shown c.args.dir.now) (g.D.Dir.shown c.look.new.dir) c.pod_spot.ensures c.look.ensures.extends
+
+pub returns-in-Err-clause-peeks : goal.returns-in-Err-clause-peeks
+returns-in-Err-clause-peeks g c = peeks_here c.args.pod c.args.area (g.D.Dir.shown c.args.dir.now) (g.D.Dir.shown c.look.new.dir) c.pod_spot.ensures c.look.ensures.extends

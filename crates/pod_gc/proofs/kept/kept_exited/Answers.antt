@@ -1,19 +1,18 @@
-use Rattle.std.proofs.Common.{◌≡◌, rules, true, false, Some, Err, Result, IfOk, IfErr, refl, sym, ap, subst, arith}
+use Rattle.std.proofs.Common.{◌≡◌, rules, true, false, Some, Err, Result, IfOk, IfErr, refl, sym, ap, subst, arith, ℕ, Ok}
 use Rattle.dir_model.specs.declared.area.Area.TheVariants as area
 use Rattle.dir_model.specs.declared.area.Phase.TheVariants as phase
-use Rattle.dir_model.specs.declared.spot.Mode.TheVariants.{Shared}
 use Rattle.dir_model.specs.declared.spot.Which.{Which}
 use Rattle.folder_building.proofs.Copying.{ok_more, err_more}
 use Rattle.folder_building.proofs.Working.{worked_more}
-use Rattle.pod_steps.specs.Holding.{MayLook, Stays}
 use Rattle.pod_steps.proofs.Calls.{follows_work}
-use Rattle.pod_removal.proofs.Rounds.{busy_at}
+use Rattle.pod_removal.specs.Holding.{MayRemove}
+use Rattle.pod_gc.proofs.Dealing.{both_ok, all_ok_at}
 use Rattle.pod_gc.specs.declared.error.GcError.{GcError}
 use Rattle.pod_gc.specs.declared.line.Deed.{Deed}
 use Rattle.pod_gc.specs.declared.line.Deed.TheVariants.{Left, Busy}
 use Rattle.pod_gc.specs.Causes.{deed_of, GcCause}
-use Rattle.pod_gc.specs.Deeds.{DeedCause, SaysThere, DoesNothing, refused_lock, BusyBecause}
-use Rattle.pod_gc.proofs.Steps.{set_stopped, step_deed, step_cause, step_rests, step_calm, step_another, said_deed, said_calm, said_refused, said_rests, said_unbusy, cause_after, ready_probed, ready_unprobed, ready_looked}
+use Rattle.pod_gc.specs.Deeds.{DeedCause, SaysThere, DoesNothing, refused_lock, LeavesWhere}
+use Rattle.pod_gc.proofs.Steps.{set_stopped, step_deed, step_cause, step_rests, step_calm, step_another, said_deed, said_calm, said_refused, said_rests, said_unbusy, cause_after, ready_probed, ready_unprobed, ready_looked, looks_resting}
 use Rattle.pod_gc.proofs.kept.kept_exited.Goals as goal
 
 pub returns-in-Ok-clause-worked : goal.returns-in-Ok-clause-worked
@@ -27,7 +26,7 @@ returns-in-Ok-clause-cause g c =
 pub returns-in-Ok-clause-deed : goal.returns-in-Ok-clause-deed
 returns-in-Ok-clause-deed g c =
     let D = g.D.Dir in
-    said_deed D.observed c.args.pod area.ExitedGarbage phase.ExitedGarbage false (omega arith) refl refl (λ s h. h) (D.shown c.args.dir.now) (D.shown c.probe.new.dir) (D.shown c.kept.new.dir) (follows_work c.probe.ensures.worked) (λ t. c.in-Ok.ensures.told t)
+    said_deed D.observed c.args.pod area.ExitedGarbage phase.ExitedGarbage false (omega arith) refl refl (λ rest. refl) (λ s h. h) (D.shown c.args.dir.now) (D.shown c.probe.new.dir) (D.shown c.kept.new.dir) (follows_work c.probe.ensures.worked) (follows_work c.kept.ensures.worked) (λ t. c.in-Ok.ensures.told t)
     c.kept.result c.kept.ensures.said
 
 pub returns-in-Ok-clause-rests : goal.returns-in-Ok-clause-rests
@@ -50,7 +49,7 @@ pub returns-in-Err-Busy-clause-deed : goal.returns-in-Err-Busy-clause-deed
 returns-in-Err-Busy-clause-deed g c =
     let D = g.D.Dir in
     let e = rw c.in-Err-Busy.field-0-is at c.in-Err-Busy.ensures in
-    said_deed D.observed c.args.pod area.ExitedGarbage phase.Deleting true (omega arith) refl refl (λ s h. h) (D.shown c.args.dir.now) (D.shown c.probe.new.dir) (D.shown c.kept-in-Err-Busy.new.dir) (follows_work c.probe.ensures.worked) (λ t. e.owned _ refl t)
+    said_deed D.observed c.args.pod area.ExitedGarbage phase.Deleting true (omega arith) refl refl (λ rest. cc) (λ s h. h) (D.shown c.args.dir.now) (D.shown c.probe.new.dir) (D.shown c.kept-in-Err-Busy.new.dir) (follows_work c.probe.ensures.worked) (follows_work c.kept-in-Err-Busy.ensures.worked) (λ t. e.owned _ refl t)
     c.kept-in-Err-Busy.result c.kept-in-Err-Busy.ensures.said
 
 pub returns-in-Err-Busy-clause-rests : goal.returns-in-Err-Busy-clause-rests
@@ -77,7 +76,7 @@ returns-in-Err-clause-deed g c =
     let old = D.shown c.args.dir.now in
     let new = D.shown c.probe.new.dir in
     subst (λ (x : Result Deed GcError). IfOk x (λ deed. D.observed ≡ true → DeedCause c.args.pod area.ExitedGarbage deed old.process old.trace new.trace)) (sym c.deed_of.ensures)
-    (step_deed D.observed c.args.pod area.ExitedGarbage Left old new (Err c.in-Err.stop) tt (set_stopped c.args.pod area.ExitedGarbage (λ s h. h) c.in-Err.ensures.stopped))
+    (step_deed D.observed c.args.pod area.ExitedGarbage Left old new (Err c.in-Err.stop) tt (set_stopped c.args.pod area.ExitedGarbage (λ s h. h) c.in-Err.ensures.stopped) (λ is here. cc))
 
 pub returns-in-Err-clause-rests : goal.returns-in-Err-clause-rests
 returns-in-Err-clause-rests g c = subst (λ (x : Result Deed GcError). IfOk x (λ deed. DoesNothing deed)) (sym c.deed_of.ensures) (step_rests Left c.in-Err.stop)
@@ -104,19 +103,28 @@ returns-in-Err-clause-calm g c =
 pub returns-in-Ok-clause-another : goal.returns-in-Ok-clause-another
 returns-in-Ok-clause-another g c =
     let D = g.D.Dir in
-    said_calm D.observed (MayLook c.args.pod area.ExitedGarbage) c.args.pod area.ExitedGarbage phase.ExitedGarbage (D.shown c.args.dir.now) (D.shown c.probe.new.dir) (D.shown c.kept.new.dir) refl c.kept.result c.kept.ensures.said
+    ok_more (λ deed. SaysThere D.observed c.args.pod area.ExitedGarbage phase.ExitedGarbage deed (D.shown c.probe.new.dir) (D.shown c.kept.new.dir)) (λ deed. (now : ℕ) → LeavesWhere D.observed (MayRemove now) c.args.pod area.ExitedGarbage deed (D.shown c.args.dir.now) (D.shown c.kept.new.dir)) c.kept.result
+    (λ deed x now. said_calm D.observed (MayRemove now) c.args.pod area.ExitedGarbage phase.ExitedGarbage (D.shown c.args.dir.now) (D.shown c.probe.new.dir) (D.shown c.kept.new.dir) refl refl (Ok deed) x) c.kept.ensures.said
 
 pub returns-in-Err-Busy-clause-another : goal.returns-in-Err-Busy-clause-another
 returns-in-Err-Busy-clause-another g c =
     let D = g.D.Dir in
     let e = rw c.in-Err-Busy.field-0-is at c.in-Err-Busy.ensures in
-    said_refused D.observed (MayLook c.args.pod area.ExitedGarbage) c.args.pod area.ExitedGarbage Shared _ phase.Deleting (D.shown c.args.dir.now) (D.shown c.probe.new.dir) (D.shown c.kept-in-Err-Busy.new.dir) refl (follows_work c.kept-in-Err-Busy.ensures.worked) (e.named _ refl) e.another
-    c.kept-in-Err-Busy.result c.kept-in-Err-Busy.ensures.said
+    let old = D.shown c.args.dir.now in
+    let mid = D.shown c.probe.new.dir in
+    let new = D.shown c.kept-in-Err-Busy.new.dir in
+    both_ok (λ deed. SaysThere D.observed c.args.pod area.ExitedGarbage phase.Deleting deed mid new) (λ deed. D.observed ≡ true → DeedCause c.args.pod area.ExitedGarbage deed old.process old.trace new.trace)
+    (λ deed. (now : ℕ) → LeavesWhere D.observed (MayRemove now) c.args.pod area.ExitedGarbage deed old new) c.kept-in-Err-Busy.result
+    (λ deed x cause now. said_refused D.observed now c.args.pod area.ExitedGarbage _ phase.Deleting old mid new (omega arith) c.probe.ensures.worked.same (follows_work c.kept-in-Err-Busy.ensures.worked) (e.named _ refl)
+    (λ t s k m. e.another t s k (looks_resting c.args.pod m)) c.probe.ensures.peeks c.kept-in-Err-Busy.ensures.peeks (Ok deed) x cause) c.kept-in-Err-Busy.ensures.said
+    (said_deed D.observed c.args.pod area.ExitedGarbage phase.Deleting true (omega arith) refl refl (λ rest. cc) (λ s h. h) old mid new (follows_work c.probe.ensures.worked) (follows_work c.kept-in-Err-Busy.ensures.worked) (λ t. e.owned _ refl t)
+    c.kept-in-Err-Busy.result c.kept-in-Err-Busy.ensures.said)
 
 pub returns-in-Err-clause-another : goal.returns-in-Err-clause-another
 returns-in-Err-clause-another g c =
     let D = g.D.Dir in
     let old = D.shown c.args.dir.now in
     let new = D.shown c.probe.new.dir in
-    subst (λ (x : Result Deed GcError). IfOk x (λ deed. D.observed ≡ true → Stays (MayLook c.args.pod area.ExitedGarbage) old (λ s. BusyBecause c.args.pod deed old new))) (sym c.deed_of.ensures)
-    (step_another D.observed c.args.pod area.ExitedGarbage Left old new (MayLook c.args.pod area.ExitedGarbage) (λ which is. cc) (Err c.in-Err.stop) (λ t s k m. busy_at c.in-Err.stop area.ExitedGarbage Shared old new refl (c.in-Err.ensures.another t s k m)))
+    subst (λ (x : Result Deed GcError). IfOk x (λ deed. (now : ℕ) → LeavesWhere D.observed (MayRemove now) c.args.pod area.ExitedGarbage deed old new)) (sym c.deed_of.ensures)
+    (all_ok_at (deed_of (Err c.in-Err.stop) Left) (λ (now : ℕ) (deed : Deed). LeavesWhere D.observed (MayRemove now) c.args.pod area.ExitedGarbage deed old new)
+    (λ now. step_another D.observed c.args.pod area.ExitedGarbage Left old new (MayRemove now) (λ which is. cc) (λ p is. cc) (Err c.in-Err.stop) (λ t s k m which is. search (rules, is, c.in-Err.stop-is))))

@@ -1,4 +1,4 @@
-use Rattle.std.proofs.Common.{rules, ◌≡◌, ◌+◌, ◌∷◌, ◌++◌, [], ℕ, List, true, take, drop, take-append-drop, ap, sym, subst, ◌∙◌}
+use Rattle.std.proofs.Common.{rules, ◌≡◌, ◌+◌, ◌∷◌, ◌++◌, [], ℕ, List, true, take, drop, take-append-drop, append_assoc, ap, sym, subst, ◌∙◌}
 use Rattle.std.proofs.lemmas.List.{take_more}
 use Rattle.folder_building.proofs.Copying.{err_more}
 use Rattle.folder_building.proofs.Working.{worked_none, worked_more, worked_wider}
@@ -9,6 +9,8 @@ use Rattle.pod_gc.specs.Told.{deals_with_some, AddsTold}
 use Rattle.pod_gc.proofs.Steps.{cause_after}
 use Rattle.pod_gc.proofs.InTurn.{pass_none, pass_more}
 use Rattle.pod_gc.proofs.Telling.{adds_none, adds_more, some_among}
+use Rattle.pod_gc.specs.Ended.{EndsAtPod, EndsAmongBetween}
+use Rattle.pod_gc.proofs.Ending.{ends_among}
 use Rattle.pod_gc.proofs.passes.deal_each.Goals as goal
 
 pub names-init : goal.names-init
@@ -60,3 +62,23 @@ returns-in_err-deal_next-clause-cause g c =
 
 pub returns-in_err-deal_next-clause-ready : goal.returns-in_err-deal_next-clause-ready
 returns-in_err-deal_next-clause-ready g c t = pass_more (c.names.invariant.ready t) (c.deal_next.ensures.ready t)
+
+pub returns-in_err-deal_next-clause-ended : goal.returns-in_err-deal_next-clause-ended
+returns-in_err-deal_next-clause-ended g c =
+    let D = g.D.Dir in
+    let old = D.shown c.args.dir.now in
+    let mid = D.shown c.names.dir in
+    let new = D.shown c.deal_next.new.dir in
+    let times = c.args.times in
+    let place = c.args.place in
+    let names = c.args.names.now in
+    let i = c.names.name-index in
+    let name = c.name-item.result in
+    let inv = c.names.invariant in
+    let more : take (i + 1) names ≡ take i names ++ name ∷ [] = take_more names i name c.names-test.true ∙ ap (λ l. take i names ++ l ∷ []) (sym c.name-item.is) in
+    let whole : (take i names ++ name ∷ []) ++ drop (i + 1) names ≡ names = ap (λ (l : List (List ℕ)). l ++ drop (i + 1) names) (sym more) ∙ take-append-drop (i + 1) names in
+    err_same (λ e. D.observed ≡ true → EndsAmongBetween times place names old new) c.deal_next.result c.from_residual.result
+    (λ e h. search (rules, h, c.from_residual.ensures, c.in_err-deal_next.is))
+    (err_more (λ e. D.observed ≡ true → EndsAtPod times.now place name mid.process mid.trace new.trace) (λ e. D.observed ≡ true → EndsAmongBetween times place names old new) c.deal_next.result
+    (λ e x t. ends_among old mid new times place names (take i names) (drop (i + 1) names) name c.args.lines.now.items c.names.lines.items (sym whole ∙ append_assoc (take i names) (name ∷ []) (drop (i + 1) names)) inv.worked.same (inv.told t) (x t))
+    c.deal_next.ensures.ended)

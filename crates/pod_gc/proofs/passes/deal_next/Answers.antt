@@ -9,6 +9,7 @@ use Rattle.pod_gc.specs.Causes.{GcCause}
 use Rattle.pod_gc.specs.Told.{AddsTold}
 use Rattle.pod_gc.proofs.InTurn.{no_memory, pass_none}
 use Rattle.pod_gc.proofs.Telling.{alone_pod, adds_pod, adds_other}
+use Rattle.pod_gc.proofs.Ending.{whenever}
 use Rattle.pod_gc.proofs.passes.deal_next.Goals as goal
 
 pub returns-in-None-clause-worked : goal.returns-in-None-clause-worked
@@ -55,3 +56,11 @@ returns-in_ok-deed-in-Some-clause-told g c =
     let some : pod_of c.args.name.now ≡ Some c.in-Some.id = search (rules, c.parse.ensures.is, c.as_str.ensures, c.in-Some.is) in
     ok_more (λ done. after ≡ before ++ record { place = c.args.place; pod = Some c.in-Some.id; deed = c.in_ok-deed-in-Some.deed } ∷ []) (λ done. D.observed ≡ true → AddsTold c.args.times c.args.place (c.args.name.now ∷ []) old new before after) c.push.result
     (λ done adds t. adds_pod old new c.args.times c.args.place c.args.name.now c.in-Some.id c.in_ok-deed-in-Some.deed before after some adds (c.deal.ensures.worked.extends t) (c.in_ok-deed-in-Some.ensures.dealt t) (c.in_ok-deed-in-Some.ensures.another t)) c.push.ensures.items
+
+pub returns-in_err-deed-in-Some-clause-ended : goal.returns-in_err-deed-in-Some-clause-ended
+returns-in_err-deed-in-Some-clause-ended g c =
+    whenever c.from_residual.result (λ t. record { pod = c.in-Some.id; name_is = search (rules, c.parse.ensures.is, c.as_str.ensures, c.in-Some.is); turn = c.deal.ensures.worked.extends t })
+
+pub returns-in_ok-deed-in-Some-clause-ended : goal.returns-in_ok-deed-in-Some-clause-ended
+returns-in_ok-deed-in-Some-clause-ended g c =
+    whenever c.push.result (λ t. record { pod = c.in-Some.id; name_is = search (rules, c.parse.ensures.is, c.as_str.ensures, c.in-Some.is); turn = c.deal.ensures.worked.extends t })

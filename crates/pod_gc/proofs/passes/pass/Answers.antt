@@ -1,8 +1,10 @@
-use Rattle.std.proofs.Common.{◌≡◌, true, sym, subst, IfOk}
+use Rattle.std.proofs.Common.{◌≡◌, true, sym, subst, IfOk, IfErr}
 use Rattle.dir_model.specs.declared.area.Area.{Area}
-use Rattle.folder_building.proofs.Copying.{ok_more}
+use Rattle.folder_building.proofs.Copying.{ok_more, err_more}
 use Rattle.pod_gc.specs.Told.{AddsShown, AddsPassed}
 use Rattle.pod_gc.proofs.Gates.{adds_plain}
+use Rattle.pod_gc.specs.Ended.{EndsListingBetween, EndsPassBetween}
+use Rattle.pod_gc.proofs.Ending.{ends_plain}
 use Rattle.pod_gc.proofs.passes.pass.Goals as goal
 
 pub returns-in-Embryo-clause-told : goal.returns-in-Embryo-clause-told
@@ -23,3 +25,17 @@ returns-in_default-clause-told g c =
 
 pub returns-in_default-clause-ready : goal.returns-in_default-clause-ready
 returns-in_default-clause-ready g c t s k m = c.pass_listed.ensures.ready t s k (record { sweeps = m.sweeps; gate = λ is. absurd (c.in_default.not-Embryo is) })
+
+pub returns-in-Embryo-clause-ended : goal.returns-in-Embryo-clause-ended
+returns-in-Embryo-clause-ended g c =
+    let D = g.D.Dir in
+    subst (λ (a : Area). IfErr c.pass_embryo.result (λ e. D.observed ≡ true → EndsPassBetween c.args.times a (D.shown c.args.dir.now) (D.shown c.pass_embryo.new.dir))) (sym c.in-Embryo.is) c.pass_embryo.ensures.ended
+
+pub returns-in_default-clause-ended : goal.returns-in_default-clause-ended
+returns-in_default-clause-ended g c =
+    let D = g.D.Dir in
+    let place = c.args.place in
+    let old = D.shown c.args.dir.now in
+    let new = D.shown c.pass_listed.new.dir in
+    err_more (λ e. D.observed ≡ true → EndsListingBetween c.args.times place old new) (λ e. D.observed ≡ true → EndsPassBetween c.args.times place old new) c.pass_listed.result
+    (λ e x t. ends_plain old new c.args.times place (λ is. c.in_default.not-Embryo is) (x t)) c.pass_listed.ensures.ended

@@ -1,12 +1,14 @@
-use Rattle.std.proofs.Common.{◌≡◌, ◌∷◌, [], ◌++◌, rules, true, None, Err, sym, ap, subst, ◌∙◌}
+use Rattle.std.proofs.Common.{◌≡◌, ◌∷◌, [], ◌++◌, rules, inr, true, None, Err, sym, ap, subst, ◌∙◌}
 use Rattle.dir_model.specs.declared.area.Area.TheVariants.{Embryo}
 use Rattle.area_locks.specs.declared.error.LockError.TheVariants as lock
-use Rattle.folder_building.proofs.Copying.{ok_more}
+use Rattle.folder_building.proofs.Copying.{ok_more, err_more}
 use Rattle.pod_gc.specs.declared.error.GcError.{GcError}
 use Rattle.pod_gc.specs.declared.line.Deed.TheVariants.{BusyGate}
 use Rattle.pod_gc.specs.Causes.{GcCause}
 use Rattle.pod_gc.specs.Told.{AddsShown, AddsPassed}
 use Rattle.pod_gc.proofs.Gates.{ready_under, ready_same, worked_gate, worked_locked, lock_cause, adds_gate, adds_gated}
+use Rattle.pod_gc.specs.Ended.{EndsListingBetween, EndsPassBetween}
+use Rattle.pod_gc.proofs.Ending.{whenever, ends_gate}
 use Rattle.pod_gc.proofs.passes.pass_embryo.Goals as goal
 
 pub returns-in-Ok-clause-worked : goal.returns-in-Ok-clause-worked
@@ -63,3 +65,21 @@ returns-in-Err-Busy-clause-told g c =
     let busy : c.lock_area.result ≡ Err lock.Busy = search (rules, c.in-Err-Busy.is, c.in-Err-Busy.field-0-is) in
     ok_more (λ done. after ≡ before ++ record { place = Embryo; pod = None; deed = BusyGate } ∷ []) (λ done. D.observed ≡ true → AddsPassed times Embryo old new before after) c.push.result
     (λ done adds t. adds_gated times old new before after adds (c.lock_area.ensures.busy busy t) (λ s k free. c.lock_area.ensures.another busy t s k free) (c.lock_area.ensures.extends t)) c.push.ensures.items
+
+pub returns-in-Ok-clause-ended : goal.returns-in-Ok-clause-ended
+returns-in-Ok-clause-ended g c =
+    let D = g.D.Dir in
+    let times = c.args.times in
+    let old = D.shown c.args.dir.now in
+    let mid = D.shown c.lock_area.new.dir in
+    let late = D.shown c.pass_listed-result.new.dir in
+    let new = D.shown c.unlock_area.new.dir in
+    err_more (λ e. D.observed ≡ true → EndsListingBetween times Embryo mid late) (λ e. D.observed ≡ true → EndsPassBetween times Embryo old new) c.pass_listed-result.result
+    (λ e x t. ends_gate old mid late new times c.in-Ok.gate c.lock_area.ensures.same c.pass_listed-result.ensures.worked.same (λ s k m. c.in-Ok.ensures.taken t s k m) (c.lock_area.ensures.extends t) (x t) (c.unlock_area.ensures.extends t))
+    c.pass_listed-result.ensures.ended
+
+pub returns-in-Err-Busy-clause-ended : goal.returns-in-Err-Busy-clause-ended
+returns-in-Err-Busy-clause-ended g c = whenever c.push.result (λ t. inr (c.lock_area.ensures.extends t))
+
+pub returns-in-Err-clause-ended : goal.returns-in-Err-clause-ended
+returns-in-Err-clause-ended g c t = inr (c.lock_area.ensures.extends t)

@@ -1,4 +1,4 @@
-use Rattle.std.proofs.Common.{◌≡◌, ℕ, List, true, Ok, Err, sym, ap, subst}
+use Rattle.std.proofs.Common.{◌≡◌, inr, ℕ, List, true, Ok, Err, sym, ap, subst}
 use Rattle.folder_building.proofs.Copying.{ok_more, err_more}
 use Rattle.folder_building.proofs.Working.{worked_more, worked_wider}
 use Rattle.pod_steps.proofs.Calls.{follows_work}
@@ -10,6 +10,8 @@ use Rattle.pod_gc.proofs.InTurn.{pass_more}
 use Rattle.pod_gc.proofs.Asking.{lists_sweep, some_sweep}
 use Rattle.pod_gc.proofs.Listing.{ready_area, worked_area, area_cause}
 use Rattle.pod_gc.proofs.Telling.{adds_shown}
+use Rattle.pod_gc.specs.Ended.{EndsAmongBetween, EndsListingBetween}
+use Rattle.pod_gc.proofs.Ending.{ends_listed}
 use Rattle.pod_gc.proofs.passes.pass_listed.Goals as goal
 
 pub returns-in-Ok-clause-worked : goal.returns-in-Ok-clause-worked
@@ -56,3 +58,19 @@ returns-in-Err-clause-cause g c =
 
 pub returns-in-Err-clause-ready : goal.returns-in-Err-clause-ready
 returns-in-Err-clause-ready g c t = ready_area c.args.place (Err c.in-Err.error) c.requires.stage c.in-Err.ensures.called t
+
+pub returns-in-Ok-clause-ended : goal.returns-in-Ok-clause-ended
+returns-in-Ok-clause-ended g c =
+    let D = g.D.Dir in
+    let times = c.args.times in
+    let place = c.args.place in
+    let names = c.in-Ok.names in
+    let old = D.shown c.args.dir.now in
+    let mid = D.shown c.names_of.new.dir in
+    let new = D.shown c.deal_each.new.dir in
+    err_more (λ e. D.observed ≡ true → EndsAmongBetween times place c.as_slice.result.now mid new) (λ e. D.observed ≡ true → EndsListingBetween times place old new) c.deal_each.result
+    (λ e x t. ends_listed old mid new times place names t c.in-Ok.ensures.called c.in-Ok.ensures.ordered (c.in-Ok.ensures.shows t) (ready_area place (Ok names) c.requires.stage c.in-Ok.ensures.called t)
+    (subst (λ (ns : List (List ℕ)). EndsAmongBetween times place ns mid new) c.as_slice.ensures (x t))) c.deal_each.ensures.ended
+
+pub returns-in-Err-clause-ended : goal.returns-in-Err-clause-ended
+returns-in-Err-clause-ended g c t = inr ((worked_area c.args.place (Err c.in-Err.error) c.in-Err.ensures.called).extends t)

@@ -1,7 +1,8 @@
-use Rattle.std.proofs.Common.{rules}
+use Rattle.std.proofs.Common.{◌≡◌, rules, true}
 use Rattle.pod_removal.proofs.Stages.{err_same}
 use Rattle.pod_gc.specs.Causes.{GcCause}
 use Rattle.pod_gc.proofs.Sweeps.{swept_all}
+use Rattle.pod_gc.specs.Ended.{EndsSweepBetween}
 use Rattle.pod_gc.proofs.sweeping.gc.Goals as goal
 
 pub returns-clause-swept : goal.returns-clause-swept
@@ -14,3 +15,9 @@ returns-in_err-pass_each-clause-cause g c =
     let D = g.D.Dir in
     err_same (λ e. GcCause D.observed e (D.shown c.args.dir.now) (D.shown c.pass_each.new.dir)) c.pass_each.result c.from_residual.result
     (λ e h. search (rules, h, c.from_residual.ensures, c.in_err-pass_each.is)) c.pass_each.ensures.cause
+
+pub returns-in_err-pass_each-clause-ended : goal.returns-in_err-pass_each-clause-ended
+returns-in_err-pass_each-clause-ended g c =
+    let D = g.D.Dir in
+    err_same (λ e. D.observed ≡ true → EndsSweepBetween (record { now = c.args.now; grace = c.args.grace; expire = c.args.expire }) (D.shown c.args.dir.now) (D.shown c.pass_each.new.dir)) c.pass_each.result c.from_residual.result
+    (λ e h. search (rules, h, c.from_residual.ensures, c.in_err-pass_each.is)) c.pass_each.ensures.ended

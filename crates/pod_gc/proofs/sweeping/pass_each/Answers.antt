@@ -1,4 +1,4 @@
-use Rattle.std.proofs.Common.{rules, ◌≡◌, ◌+◌, ◌∷◌, ◌++◌, [], List, take, get_or, subst, sym}
+use Rattle.std.proofs.Common.{rules, ◌≡◌, ◌+◌, ◌∷◌, ◌++◌, [], List, true, take, drop, get_or, take-append-drop, append_assoc, ap, subst, sym, ◌∙◌}
 use Rattle.std.proofs.lemmas.List.{take_more}
 use Rattle.dir_model.specs.declared.area.Area.{Area}
 use Rattle.dir_model.specs.declared.area.Area.TheVariants.{Embryo}
@@ -10,6 +10,8 @@ use Rattle.pod_gc.specs.Causes.{GcCause}
 use Rattle.pod_gc.specs.Told.{places, AddsSwept}
 use Rattle.pod_gc.proofs.Steps.{cause_after}
 use Rattle.pod_gc.proofs.Sweeps.{all_none, all_more, swept_none, swept_more, stage_at}
+use Rattle.pod_gc.specs.Ended.{EndsPassBetween, EndsSweepBetween}
+use Rattle.pod_gc.proofs.Ending.{ends_sweep}
 use Rattle.pod_gc.proofs.sweeping.pass_each.Goals as goal
 
 pub places-init : goal.places-init
@@ -49,3 +51,21 @@ returns-in_err-pass-clause-cause g c =
 
 pub returns-in_err-pass-clause-ready : goal.returns-in_err-pass-clause-ready
 returns-in_err-pass-clause-ready g c t = all_more (c.places.invariant.ready t) (c.pass.ensures.ready t)
+
+pub returns-in_err-pass-clause-ended : goal.returns-in_err-pass-clause-ended
+returns-in_err-pass-clause-ended g c =
+    let D = g.D.Dir in
+    let old = D.shown c.args.dir.now in
+    let mid = D.shown c.places.dir in
+    let new = D.shown c.pass.new.dir in
+    let times = c.args.times in
+    let i = c.places.place-index in
+    let inv = c.places.invariant in
+    let here = get_or places i Embryo in
+    let more : take (i + 1) places ≡ take i places ++ here ∷ [] = take_more places i Embryo c.places-test.true in
+    let whole : (take i places ++ here ∷ []) ++ drop (i + 1) places ≡ places = ap (λ (l : List Area). l ++ drop (i + 1) places) (sym more) ∙ take-append-drop (i + 1) places in
+    err_same (λ e. D.observed ≡ true → EndsSweepBetween times old new) c.pass.result c.from_residual.result
+    (λ e h. search (rules, h, c.from_residual.ensures, c.in_err-pass.is))
+    (err_more (λ e. D.observed ≡ true → EndsPassBetween times here mid new) (λ e. D.observed ≡ true → EndsSweepBetween times old new) c.pass.result
+    (λ e x t. ends_sweep old mid new times (take i places) (drop (i + 1) places) here c.args.lines.now.items c.places.lines.items (sym whole ∙ append_assoc (take i places) (here ∷ []) (drop (i + 1) places)) (follows_work inv.worked) (inv.ready t) (inv.swept t) (x t))
+    c.pass.ensures.ended)
