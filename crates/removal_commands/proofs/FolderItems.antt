@@ -1,6 +1,6 @@
 -- What stands directly in a folder: which requests leave it, and what a listing shows of it where its time is quiet.
 use Rattle.std.proofs.Common.{◌≡◌, inl, inr, ℕ, Bool, true, false, not, ◌&&◌, ◌||◌, ◌==◌, cond, Option, Some, None, List, [], ◌∷◌, ◌++◌, take, append_assoc, append-nil, option_to_list, refl, sym, ap, subst, ◌∙◌}
-use Rattle.std.specs.List.{cons_option, AllByRecursion}
+use Rattle.std.specs.List.{list_any, cons_option, AllByRecursion}
 use Rattle.std.proofs.lemmas.Bool.{eqb-true}
 use Rattle.dir_model.specs.declared.area.Area.{Area}
 use Rattle.dir_model.specs.declared.event.Event.{Event}
@@ -21,7 +21,7 @@ use Rattle.dir_model.specs.Paths.{is_file_name, is_directly_in, behind}
 use Rattle.dir_model.specs.State.{Namespace, DirState, spot_eq, folder_at}
 use Rattle.dir_model.specs.Trace.{state_after, state_next, entries_kept, entry_made, placed, removed_in}
 use Rattle.dir_model.specs.Trees.{kind_of, is_within, without_path, item_in, items_in}
-use Rattle.dir_model.proofs.Lists.{all_left, all_right, same_rest}
+use Rattle.dir_model.proofs.Lists.{any_last_not, all_left, all_right, same_rest}
 use Rattle.dir_rules.specs.Rules.{root_of}
 use Rattle.dir_laws.specs.Stretches.{Throughout, Sometime}
 use Rattle.dir_files.specs.Listed.{Stretch, ShowsInside, ShowsDirectory}
@@ -42,6 +42,38 @@ changed (AppendIn inner piece) = Some inner
 changed (RemoveFileIn inner) = Some inner
 changed (RemoveDirIn inner) = Some inner
 changed request = None
+
+-- what depends on one folder's entries alone, while that folder stands there and something is changed elsewhere
+module _ {X : Type 0} (F : List TreeEntry → X) (k : ℕ) (pushed : (es : List TreeEntry) (e : TreeEntry) → (e.folder == k) ≡ false → F (es ++ e ∷ []) ≡ F es) (without : (f : ℕ) (path : List ℕ) → (f == k) ≡ false → (es : List TreeEntry) → F (without_path f path es) ≡ F es)
+    (here : Spot) (n : Namespace) (at : folder_at n here ≡ Some k) where
+  other_folder : (spot : Spot) (f : ℕ) → spot_eq spot here ≡ false → folder_at n spot ≡ Some f → (f == k) ≡ false
+  other_folder spot f off there = by (f == k) refl
+    where
+      by : (b : Bool) → (f == k) ≡ b → b ≡ false
+      by false is = refl
+      by true is = let clash : true ≡ false = sym (one_spot n spot here k (there ∙ ap Some (eqb-true f k is)) at) ∙ off in cc
+
+  same_placed : (o : Option ℕ) (path : List ℕ) (node : TreeNode) (es : List TreeEntry) → ((f : ℕ) → o ≡ Some f → (f == k) ≡ false) → F (es ++ option_to_list (placed o path node)) ≡ F es
+  same_placed None path node es off = ap F (append-nil es)
+  same_placed (Some f) path node es off = pushed es (record { folder = f; path = path; node = node }) (off f refl)
+
+  same_removed : (o : Option ℕ) (path : List ℕ) (es : List TreeEntry) → ((f : ℕ) → o ≡ Some f → (f == k) ≡ false) → F (removed_in o path es ++ []) ≡ F es
+  same_removed None path es off = ap F (append-nil es)
+  same_removed (Some f) path es off = ap F (append-nil (without_path f path es)) ∙ without f path (off f refl) es
+
+  same_replied : (es : List TreeEntry) (request : Request) (reply : Reply) → ((inner : Inner) → changed request ≡ Some inner → spot_eq inner.spot here ≡ false) → F (entries_kept n es request reply ++ option_to_list (entry_made n request reply)) ≡ F es
+  same_replied es (MakeDirIn i) Done apart = same_placed (folder_at n i.spot) i.path Dir es (λ f there. other_folder i.spot f (apart i refl) there)
+  same_replied es (MakeFileIn i) Done apart = same_placed (folder_at n i.spot) i.path (Piece []) es (λ f there. other_folder i.spot f (apart i refl) there)
+  same_replied es (AppendIn i piece) Done apart = same_placed (folder_at n i.spot) i.path (Piece piece) es (λ f there. other_folder i.spot f (apart i refl) there)
+  same_replied es (AppendIn i piece) (Refused error left) apart =
+      by (left == 0) (placed (folder_at n i.spot) i.path (Piece (take left piece))) (same_placed (folder_at n i.spot) i.path (Piece (take left piece)) es (λ f there. other_folder i.spot f (apart i refl) there))
+    where
+      by : (b : Bool) (made : Option TreeEntry) → F (es ++ option_to_list made) ≡ F es → F (es ++ option_to_list (cond b None made)) ≡ F es
+      by true made go = ap F (append-nil es)
+      by false made go = go
+  same_replied es (RemoveFileIn i) Done apart = same_removed (folder_at n i.spot) i.path es (λ f there. other_folder i.spot f (apart i refl) there)
+  same_replied es (RemoveDirIn i) Done apart = same_removed (folder_at n i.spot) i.path es (λ f there. other_folder i.spot f (apart i refl) there)
+  same_replied es request reply apart = ap F (append-nil es)
 
 -- entries of other folders show nothing
 module _ (k : ℕ) where
@@ -64,36 +96,33 @@ module _ (k : ℕ) where
           let apart : (x.folder == k) ≡ false = ap (λ (y : ℕ). y == k) (eqb-true x.folder f is) ∙ off in
           go ∙ sym (ap (λ (o : Option Item). cons_option o (items_in k [] es)) (not_shown x apart))
 
-  items_placed : (o : Option ℕ) (path : List ℕ) (node : TreeNode) (es : List TreeEntry) → ((f : ℕ) → o ≡ Some f → (f == k) ≡ false) → items_in k [] (es ++ option_to_list (placed o path node)) ≡ items_in k [] es
-  items_placed None path node es off = ap (items_in k []) (append-nil es)
-  items_placed (Some f) path node es off = items_push es (record { folder = f; path = path; node = node }) (off f refl)
+  pub items_replied : (here : Spot) (n : Namespace) → folder_at n here ≡ Some k → (es : List TreeEntry) (request : Request) (reply : Reply) → ((inner : Inner) → changed request ≡ Some inner → spot_eq inner.spot here ≡ false) →
+      items_in k [] (entries_kept n es request reply ++ option_to_list (entry_made n request reply)) ≡ items_in k [] es
+  items_replied here n at es request reply apart = same_replied (items_in k []) k items_push items_without here n at es request reply apart
 
-  items_removed : (o : Option ℕ) (path : List ℕ) (es : List TreeEntry) → ((f : ℕ) → o ≡ Some f → (f == k) ≡ false) → items_in k [] (removed_in o path es ++ []) ≡ items_in k [] es
-  items_removed None path es off = ap (items_in k []) (append-nil es)
-  items_removed (Some f) path es off = ap (items_in k []) (append-nil (without_path f path es)) ∙ items_without f path (off f refl) es
+-- and don't pass a test of that folder's
+module _ (k : ℕ) (t : TreeEntry → Bool) (only : (e : TreeEntry) → t e ≡ true → (e.folder == k) ≡ true) where
+  not_passed : (e : TreeEntry) → (e.folder == k) ≡ false → t e ≡ false
+  not_passed e off = by (t e) refl
+    where
+      by : (b : Bool) → t e ≡ b → b ≡ false
+      by false is = refl
+      by true is = let clash : true ≡ false = sym (only e is) ∙ off in cc
 
-  -- it stands there, and something is changed elsewhere
-  module _ (here : Spot) (n : Namespace) (at : folder_at n here ≡ Some k) where
-    other_folder : (spot : Spot) (f : ℕ) → spot_eq spot here ≡ false → folder_at n spot ≡ Some f → (f == k) ≡ false
-    other_folder spot f off there = by (f == k) refl
-      where
-        by : (b : Bool) → (f == k) ≡ b → b ≡ false
-        by false is = refl
-        by true is = let clash : true ≡ false = sym (one_spot n spot here k (there ∙ ap Some (eqb-true f k is)) at) ∙ off in cc
+  any_without : (f : ℕ) (path : List ℕ) → (f == k) ≡ false → (es : List TreeEntry) → list_any t (without_path f path es) ≡ list_any t es
+  any_without f path off [] = refl
+  any_without f path off (x ∷ es) = by (x.folder == f) refl (is_within path x.path) (any_without f path off es)
+    where
+      by : (b : Bool) → (x.folder == f) ≡ b → (c : Bool) → list_any t (without_path f path es) ≡ list_any t es → list_any t (cond (not (b && c)) (x ∷ without_path f path es) (without_path f path es)) ≡ (t x || list_any t es)
+      by false is c go = ap (λ d. t x || d) go
+      by true is false go = ap (λ d. t x || d) go
+      by true is true go =
+          let apart : (x.folder == k) ≡ false = ap (λ (y : ℕ). y == k) (eqb-true x.folder f is) ∙ off in
+          go ∙ sym (ap (λ d. d || list_any t es) (not_passed x apart))
 
-    pub items_replied : (es : List TreeEntry) (request : Request) (reply : Reply) → ((inner : Inner) → changed request ≡ Some inner → spot_eq inner.spot here ≡ false) →
-        items_in k [] (entries_kept n es request reply ++ option_to_list (entry_made n request reply)) ≡ items_in k [] es
-    items_replied es (MakeDirIn i) Done apart = items_placed (folder_at n i.spot) i.path Dir es (λ f there. other_folder i.spot f (apart i refl) there)
-    items_replied es (MakeFileIn i) Done apart = items_placed (folder_at n i.spot) i.path (Piece []) es (λ f there. other_folder i.spot f (apart i refl) there)
-    items_replied es (AppendIn i piece) Done apart = items_placed (folder_at n i.spot) i.path (Piece piece) es (λ f there. other_folder i.spot f (apart i refl) there)
-    items_replied es (AppendIn i piece) (Refused error left) apart = by (left == 0) (placed (folder_at n i.spot) i.path (Piece (take left piece))) (items_placed (folder_at n i.spot) i.path (Piece (take left piece)) es (λ f there. other_folder i.spot f (apart i refl) there))
-      where
-        by : (b : Bool) (made : Option TreeEntry) → items_in k [] (es ++ option_to_list made) ≡ items_in k [] es → items_in k [] (es ++ option_to_list (cond b None made)) ≡ items_in k [] es
-        by true made go = ap (items_in k []) (append-nil es)
-        by false made go = go
-    items_replied es (RemoveFileIn i) Done apart = items_removed (folder_at n i.spot) i.path es (λ f there. other_folder i.spot f (apart i refl) there)
-    items_replied es (RemoveDirIn i) Done apart = items_removed (folder_at n i.spot) i.path es (λ f there. other_folder i.spot f (apart i refl) there)
-    items_replied es request reply apart = ap (items_in k []) (append-nil es)
+  pub any_replied : (here : Spot) (n : Namespace) → folder_at n here ≡ Some k → (es : List TreeEntry) (request : Request) (reply : Reply) → ((inner : Inner) → changed request ≡ Some inner → spot_eq inner.spot here ≡ false) →
+      list_any t (entries_kept n es request reply ++ option_to_list (entry_made n request reply)) ≡ list_any t es
+  any_replied here n at es request reply apart = same_replied (list_any t) k (λ fs e off. any_last_not t fs e (not_passed e off)) any_without here n at es request reply apart
 
 -- listings change no entry
 

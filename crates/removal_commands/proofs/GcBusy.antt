@@ -22,9 +22,11 @@ use Rattle.area_locks.specs.AreaLocks.{takes, closes}
 use Rattle.lifecycle.proofs.Makes.{of_same}
 use Rattle.phase_read.specs.Read.{is_pod_spot}
 use Rattle.pod_claim.specs.Work.{Grew}
+use Rattle.pod_claim.proofs.Traces.{grown_more, grown_by}
 use Rattle.pod_gc.specs.declared.ages.Times.{Times}
 use Rattle.pod_gc.specs.declared.line.GcLine.{GcLine}
 use Rattle.pod_gc.specs.Requests.{lists, deals_with, sweeps}
+use Rattle.pod_gc.specs.Deeds.{asked_mode}
 use Rattle.pod_gc.specs.Sweeping.{MaySweepAll}
 use Rattle.pod_gc.specs.Told.{Knew, pods_of, deals_with_some, IsTold, TellsShown, Passed, ArePassed, places}
 use Rattle.pod_gc.proofs.Asking.{some_sweep}
@@ -34,7 +36,7 @@ use Rattle.removal_commands.specs.Quiet.{IsHeldNow, BusyAsBefore}
 use Rattle.removal_commands.proofs.OwnSteps.{in_process}
 use Rattle.removal_commands.proofs.LateTurns.{Late, or_either, sweeps_late, gc_moves}
 use Rattle.removal_commands.proofs.Held.{was_held}
-use Rattle.removal_commands.proofs.GcQuiet.{each_line}
+use Rattle.removal_commands.proofs.GcQuiet.{each_shown}
 use Rattle.removal_commands.proofs.GcTells.{deals_moves, same_text}
 
 -- a folder is moved from a place of pods to a garbage place, and keeps its name
@@ -105,13 +107,13 @@ module _ (times : Times) (lines : List GcLine) {me : ℕ} {old new : List Event}
       let same = same_text from.name to.name (and_right (is_garbage to.area) _ (and_right (is_stage from.area) _ is)) in
       and_both (is_stage from.area) (bytes_eq from.name u) (and_left (is_stage from.area) _ is) (subst (λ (n : List ℕ). bytes_eq n u ≡ true) (sym same) (and_right (is_stage to.area) (bytes_eq to.name u) here))
 
-  told_busy : {Can : Type 0} {here : Area} {names : List (List ℕ)} (a b : List Event) → Can → Grew old a → Grew b new → (line : GcLine) → IsTold Can times here names line me a b → BusyAsBefore me old line
-  told_busy {Can} {here} {names} a b can to_a from_b line x pod which is deed =
+  told_busy : {Can : Type 0} (can : Can) (here : Area) → is_stage here ≡ true → {names : List (List ℕ)} (a b : List Event) → Grew old a → Grew b new → (line : GcLine) → IsTold Can times here names line me a b → BusyAsBefore me old line
+  told_busy {Can} can here stage {names} a b to_a from_b line x pod which is deed =
       let same : x.shown ≡ pod = let e : Some x.shown ≡ Some pod = sym x.pod_is ∙ is in cc in
       let u = pod_text x.shown.bytes in
-      let held = was_held (is_pod_spot x.shown) (λ c d alike. of_same u c d alike) keeps_names names_late (from_its x.shown) me x.shown (λ p stage. ap (λ c. c && bytes_eq u u) stage ∙ same_bytes u) which old a b new
-      to_a from_b named quiet (x.another can which deed) in
+      let held = was_held (is_pod_spot x.shown) (λ c d alike. of_same u c d alike) keeps_names names_late (from_its x.shown) me x.shown (λ p at. ap (λ c. c && bytes_eq u u) at ∙ same_bytes u) which old x.from x.upto new
+      (grown_more to_a (grown_by x.first)) (grown_more (grown_by x.last) from_b) named quiet (record { area = here; stage = stage; mode = asked_mode here line.deed; held = (x.another can).held which deed }) in
       subst (λ (q : PodId). IsHeldNow (is_pod_spot q) which me (state_after old)) same held
 
   pub gc_busy : AllByRecursion (BusyAsBefore me old) lines
-  gc_busy = each_line times lines ext quiet m (BusyAsBefore me old) (λ Can can here names a b to_a from_b line x. told_busy a b can to_a from_b line x) (λ pod which is deed. cc)
+  gc_busy = each_shown times lines ext quiet m (BusyAsBefore me old) (λ Can can here stage ls a b to_a from_b t line x. told_busy can here stage t.listed b (grown_more to_a (grown_by t.only_lists)) from_b line x) (λ pod which is deed. cc)

@@ -132,7 +132,7 @@ moved_not a moves garbage = cc
 abbrev MovesOn : GcLine → Type 0
 MovesOn line = (pod : PodId) → line.pod ≡ Some pod → moves_pods line.place ≡ true → leaves_there line.deed ≡ false → line.deed ≡ Moved (goes_to line.place)
 
-line_at : (P : GcLine → Type 0) (lines before : List GcLine) (line : GcLine) (after : List GcLine) → lines ≡ before ++ line ∷ after → AllByRecursion P lines → P line
+pub line_at : (P : GcLine → Type 0) (lines before : List GcLine) (line : GcLine) (after : List GcLine) → lines ≡ before ++ line ∷ after → AllByRecursion P lines → P line
 line_at P lines before line after are all = (all_right P before (line ∷ after) (subst (λ (l : List GcLine). AllByRecursion P l) are all)).0
 
 module _ (times : Times) (lines : List GcLine) {me : ℕ} {old new : List Event} (ext : Extends (in_process (sweeps times.now)) me old new) (quiet : Quiet me old new) (m : Meanwhile (Sweeps times lines) me old new) (conforming : IsConforming new) where
@@ -186,7 +186,7 @@ module _ (times : Times) (lines : List GcLine) {me : ℕ} {old new : List Event}
         let clash : true ≡ false = sym ends ∙ off in cc
 
     says : stands (state_after h).namespace (pod_spot pod here) ≡ true → goes_to place ≡ here → HasLine place pod lines → SaysMoved pod here lines
-    says there goes x = record { from = place; has = x; moved = by (leaves_there x.line.deed) refl }
+    says there goes x = (place, record { has = x; moved = by (leaves_there x.line.deed) refl })
       where
         by : (b : Bool) → leaves_there x.line.deed ≡ b → x.line.deed ≡ Moved here
         by false is =

@@ -15,7 +15,7 @@ use Rattle.dir_model.specs.Pods.{pod_text}
 use Rattle.dir_model.specs.Quiet.{Quiet, OwnsNothing}
 use Rattle.dir_model.specs.State.{Namespace}
 use Rattle.dir_model.specs.Trace.{state_after}
-use Rattle.dir_model.proofs.Lists.{and_right}
+use Rattle.dir_model.proofs.Lists.{and_right, all_weaker}
 use Rattle.dir_rules.proofs.Looks.{same_bytes}
 use Rattle.dir_rules.specs.Standing.{is_of}
 use Rattle.lifecycle.specs.declared.machine.PodState.{PodState}
@@ -37,14 +37,15 @@ use Rattle.pod_gc.specs.Requests.{goes_to, moves_pods, sweeps}
 use Rattle.pod_gc.specs.Told.{IsTold}
 use Rattle.command_outcomes.specs.Meanwhile.{Meanwhile}
 use Rattle.removal_commands.specs.Gc.{Sweeps}
-use Rattle.removal_commands.specs.Quiet.{IsGoneForGood, swept_phase, SweptAsBefore, GoneAfter}
+use Rattle.removal_commands.specs.Quiet.{swept_phase, SweptAsBefore, GoneAfter}
+use Rattle.removal_commands.specs.History.{IsDeletedSo, IsRemovedBetween}
 use Rattle.removal_commands.proofs.OwnSteps.{in_process, history_from}
 use Rattle.removal_commands.proofs.LateTurns.{is_late, late_turn, sweeps_late}
 use Rattle.pod_removal.proofs.Rounds.{garbage_stage}
-use Rattle.removal_commands.proofs.RmQuiet.{did_remove, gone_after, gone_nowhere}
+use Rattle.removal_commands.proofs.RmQuiet.{did_remove, did_exist, gone_after, gone_nowhere}
 use Rattle.removal_commands.proofs.RmFrom.{owns_nothing}
 use Rattle.removal_commands.proofs.RmBefore.{has_phase_now}
-use Rattle.removal_commands.proofs.GcQuiet.{each_line}
+use Rattle.removal_commands.proofs.GcQuiet.{each_line, lines_told}
 
 abbrev is_swept : Phase → Bool
 is_swept kind.Embryo = true
@@ -163,6 +164,26 @@ moved_then pod place me old new moves did conforming = by s.own
           has = swept_state place me (pod_state u s.before) moves at may;
         }
 
+-- a pod that it calls deleted was there, and is gone, whatever others did
+module _ (times : Times) (lines : List GcLine) {me : ℕ} {old new : List Event} (m : Meanwhile (Sweeps times lines) me old new) (conforming : IsConforming new) where
+  told_deleted : {Can : Type 0} {here : Area} {names : List (List ℕ)} (a b : List Event) → Grew old a → Grew b new → (line : GcLine) → IsTold Can times here names line me a b → IsDeletedSo old new line
+  told_deleted {Can} {here} {names} a b to_a from_b line x pod is deed =
+      let same : x.shown ≡ pod = let e : Some x.shown ≡ Some pod = sym x.pod_is ∙ is in cc in
+      let u = pod_text x.shown.bytes in
+      let c = x.dealt.cause.deleted deed in
+      let last = grown_more (grown_by x.last) from_b in
+      let its : is_of u (pod_spot x.shown here) ≡ true = ap (λ b. b && bytes_eq u u) (garbage_stage here c.0) ∙ same_bytes u in
+      let then = conforming_left x.upto last.more (subst IsConforming last.grown conforming) in
+      let gone = gone_after u x.upto new last (did_remove u (pod_spot x.shown here) me x.from x.upto its c.1 then) in
+      let there = did_exist x.shown (pod_spot x.shown here) me x.from x.upto its c.1 then in
+      subst (λ (p : PodId). IsRemovedBetween p old new) same (record {
+        existed = record { then = there.then; first = grown_more (grown_more to_a (grown_by x.first)) there.first; last = grown_more there.last last; was = there.was };
+        gone = record { is = gone; nowhere = gone_nowhere x.shown new conforming gone };
+      })
+
+  pub gc_deleted : AllByRecursion (IsDeletedSo old new) lines
+  gc_deleted = lines_told times lines m (IsDeletedSo old new) (λ Can can here names a b to_a from_b line x. told_deleted a b to_a from_b line x) (λ pod is deed. cc)
+
 module _ (times : Times) (lines : List GcLine) {me : ℕ} {old new : List Event} (ext : Extends (in_process (sweeps times.now)) me old new) (quiet : Quiet me old new) (m : Meanwhile (Sweeps times lines) me old new) (idle : OwnsNothing me (state_after old).namespace) (conforming : IsConforming new) where
   before : IsConforming old
   before = conforming_left old quiet.more (subst IsConforming quiet.grown conforming)
@@ -187,18 +208,8 @@ module _ (times : Times) (lines : List GcLine) {me : ℕ} {old new : List Event}
       has_phase_now pod old before (swept_phase line.place)
       (subst (λ (a : Area). phase_of_state (pod_state (pod_text pod.bytes) old) ≡ Some (swept_phase a)) (sym x.place_is) (subst (λ (q : PodId). phase_of_state (pod_state (pod_text q.bytes) old) ≡ Some (swept_phase here)) same has))
 
-  told_gone : {Can : Type 0} {here : Area} {names : List (List ℕ)} (a b : List Event) → Grew b new → (line : GcLine) → IsTold Can times here names line me a b → GoneAfter new line
-  told_gone {Can} {here} {names} a b from_b line x pod is deed =
-      let same : x.shown ≡ pod = let e : Some x.shown ≡ Some pod = sym x.pod_is ∙ is in cc in
-      let u = pod_text x.shown.bytes in
-      let c = x.dealt.cause.deleted deed in
-      let last = grown_more (grown_by x.last) from_b in
-      let its : is_of u (pod_spot x.shown here) ≡ true = ap (λ b. b && bytes_eq u u) (garbage_stage here c.0) ∙ same_bytes u in
-      let gone = gone_after u x.upto new last (did_remove u (pod_spot x.shown here) me x.from x.upto its c.1 (conforming_left x.upto last.more (subst IsConforming last.grown conforming))) in
-      subst (λ (p : PodId). IsGoneForGood p new) same (record { is = gone; nowhere = gone_nowhere x.shown new conforming gone })
-
   pub gc_gone : AllByRecursion (GoneAfter new) lines
-  gc_gone = each_line times lines ext quiet m (GoneAfter new) (λ Can can here names a b to_a from_b line x. told_gone a b from_b line x) (λ pod is deed. cc)
+  gc_gone = all_weaker (IsDeletedSo old new) (GoneAfter new) (λ line x pod is deed. (x pod is deed).gone) lines (gc_deleted times lines m conforming)
 
   pub gc_had : AllByRecursion (SweptAsBefore old) lines
   gc_had = each_line times lines ext quiet m (SweptAsBefore old) (λ Can can here names a b to_a from_b line x. told_swept a b to_a from_b line x) (λ pod to is deed. cc)

@@ -104,7 +104,7 @@ module _ {Can : Type 0} {times : Times} {here : Area} {ls : List GcLine} {me : �
   first : Grew old x.from
   first = turn_after stage quiet to_a from_b t x
 
-  stands_upto : Grew x.upto new → stands (state_after x.upto).namespace there_spot ≡ true
+  pub stands_upto : Grew x.upto new → stands (state_after x.upto).namespace there_spot ≡ true
   stands_upto rest =
       forward (λ s. stands s.namespace there_spot ≡ true) (moves_on x.shown here to) me (λ s request reply h q. on_leaves x.shown here to me s request reply h q) did.each.1
       (grown_more did.each.2 (grown_call did.each.3)) did.each.4 turn (quiet_between quiet first (grown_by turn) rest) (moved_stands me (pod_spot x.shown here) there_spot did.each.0 did.each.1 did.each.3)

@@ -318,6 +318,34 @@ pub passes_grown : (Can : Type 0) (times : Times) (ps : List Area) (lines : List
 passes_grown Can times [] lines me a b x = record { more = []; grown = x.1 ∙ sym (append-nil a) }
 passes_grown Can times (here ∷ ps) lines me a b x = grown_more (passed_grown Can times here x.own me a x.between x.first) (passes_grown Can times ps x.others me x.between b x.rest)
 
+-- of each line, whatever others did
+module _ (times : Times) (lines : List GcLine) {me : ℕ} {old new : List Event} (m : Meanwhile (Sweeps times lines) me old new) where
+  module _ (P : GcLine → Type 0)
+      (told : (Can : Type 0) (can : Can) (here : Area) → is_stage here ≡ true → (ls : List GcLine) (a b : List Event) → Grew old a → Grew b new → (t : TellsShown Can times here ls me a b) → (line : GcLine) → IsTold Can times here t.names line me t.listed b → P line)
+      (gated : P (record { place = area.Embryo; pod = None; deed = BusyGate })) where
+    shown_each : {Can : Type 0} (can : Can) (here : Area) → is_stage here ≡ true → (ls : List GcLine) (a b : List Event) → Grew old a → Grew b new → TellsShown Can times here ls me a b → AllByRecursion P ls
+    shown_each {Can} can here stage ls a b to_a from_b t = all_weaker (λ l. IsTold Can times here t.names l me t.listed b) P (λ l x. told Can can here stage ls a b to_a from_b t l x) ls t.tells.each
+
+    passed_each : (Can : Type 0) (can : Can) (here : Area) → is_stage here ≡ true → (ls : List GcLine) (a b : List Event) → Grew old a → Grew b new → Passed Can times here ls me a b → AllByRecursion P ls
+    passed_each Can can area.Embryo stage ls a b to_a from_b (inl g) = shown_each can area.Embryo stage ls g.locked g.done (grown_more to_a (grown_by g.takes_gate)) (grown_more (grown_by g.gives_back) from_b) g.tells
+    passed_each Can can area.Embryo stage ls a b to_a from_b (inr w) = subst (λ (l : List GcLine). AllByRecursion P l) (sym w.line_is) (gated, tt)
+    passed_each Can can here stage ls a b to_a from_b t = shown_each can here stage ls a b to_a from_b t
+
+    passes_each : (Can : Type 0) (can : Can) (ps : List Area) → AllByRecursion (λ (p : Area). is_stage p ≡ true) ps → (ls : List GcLine) (a b : List Event) → Grew old a → Grew b new → ArePassed Can times ps ls me a b → AllByRecursion P ls
+    passes_each Can can [] stages ls a b to_a from_b x = subst (λ (l : List GcLine). AllByRecursion P l) (sym x.0) tt
+    passes_each Can can (here ∷ ps) stages ls a b to_a from_b x =
+        let rest = passes_grown Can times ps x.others me x.between b x.rest in
+        let first = passed_grown Can times here x.own me a x.between x.first in
+        subst (λ (l : List GcLine). AllByRecursion P l) (sym x.lines_are)
+        (all_both P x.own x.others (passed_each Can can here stages.0 x.own a x.between to_a (grown_more rest from_b) x.first) (passes_each Can can ps stages.1 x.others x.between b (grown_more to_a first) from_b x.rest))
+
+    pub lines_shown : AllByRecursion P lines
+    lines_shown = passes_each (Knew (MaySweepAll times.now times.expire) m.so.from) m.so.can places (refl, (refl, (refl, (refl, (refl, (refl, tt)))))) lines m.begun m.ended (record { more = m.begins.more; grown = m.begins.grown }) (record { more = m.finishes.more; grown = m.finishes.grown }) m.so.swept
+
+  pub lines_told : (P : GcLine → Type 0) → ((Can : Type 0) (can : Can) (here : Area) (names : List (List ℕ)) (a b : List Event) → Grew old a → Grew b new → (line : GcLine) → IsTold Can times here names line me a b → P line)
+      → P (record { place = area.Embryo; pod = None; deed = BusyGate }) → AllByRecursion P lines
+  lines_told P told gated = lines_shown P (λ Can can here stage ls a b to_a from_b t line x. told Can can here t.names t.listed b (grown_more to_a (grown_by t.only_lists)) from_b line x) gated
+
 module _ (times : Times) (lines : List GcLine) {me : ℕ} {old new : List Event} (ext : Extends (in_process (sweeps times.now)) me old new) (quiet : Quiet me old new) (m : Meanwhile (Sweeps times lines) me old new) where
   abbrev asks : Request → Bool
   asks = in_process (sweeps times.now)
@@ -360,32 +388,14 @@ module _ (times : Times) (lines : List GcLine) {me : ℕ} {old new : List Event}
       (grown_more to_a (grown_more (grown_by x.first) y.1)) (grown_more y.2 (grown_more (grown_by x.last) from_b)) ext quiet y.3 in
       subst (λ (p : Area). stands (state_after old).namespace (pod_spot pod p) ≡ true) (sym x.place_is) (subst (λ (q : PodId). stands (state_after old).namespace (pod_spot q here) ≡ true) same stood)
 
-  -- of each line
-  module _ (P : GcLine → Type 0)
-      (told : (Can : Type 0) (can : Can) (here : Area) → is_stage here ≡ true → (ls : List GcLine) (a b : List Event) → Grew old a → Grew b new → (t : TellsShown Can times here ls me a b) → (line : GcLine) → IsTold Can times here t.names line me t.listed b → P line)
-      (gated : P (record { place = area.Embryo; pod = None; deed = BusyGate })) where
-    shown_each : {Can : Type 0} (can : Can) (here : Area) → is_stage here ≡ true → (ls : List GcLine) (a b : List Event) → Grew old a → Grew b new → TellsShown Can times here ls me a b → AllByRecursion P ls
-    shown_each {Can} can here stage ls a b to_a from_b t = all_weaker (λ l. IsTold Can times here t.names l me t.listed b) P (λ l x. told Can can here stage ls a b to_a from_b t l x) ls t.tells.each
-
-    passed_each : (Can : Type 0) (can : Can) (here : Area) → is_stage here ≡ true → (ls : List GcLine) (a b : List Event) → Grew old a → Grew b new → Passed Can times here ls me a b → AllByRecursion P ls
-    passed_each Can can area.Embryo stage ls a b to_a from_b (inl g) = shown_each can area.Embryo stage ls g.locked g.done (grown_more to_a (grown_by g.takes_gate)) (grown_more (grown_by g.gives_back) from_b) g.tells
-    passed_each Can can area.Embryo stage ls a b to_a from_b (inr w) = subst (λ (l : List GcLine). AllByRecursion P l) (sym w.line_is) (gated, tt)
-    passed_each Can can here stage ls a b to_a from_b t = shown_each can here stage ls a b to_a from_b t
-
-    passes_each : (Can : Type 0) (can : Can) (ps : List Area) → AllByRecursion (λ (p : Area). is_stage p ≡ true) ps → (ls : List GcLine) (a b : List Event) → Grew old a → Grew b new → ArePassed Can times ps ls me a b → AllByRecursion P ls
-    passes_each Can can [] stages ls a b to_a from_b x = subst (λ (l : List GcLine). AllByRecursion P l) (sym x.0) tt
-    passes_each Can can (here ∷ ps) stages ls a b to_a from_b x =
-        let rest = passes_grown Can times ps x.others me x.between b x.rest in
-        let first = passed_grown Can times here x.own me a x.between x.first in
-        subst (λ (l : List GcLine). AllByRecursion P l) (sym x.lines_are)
-        (all_both P x.own x.others (passed_each Can can here stages.0 x.own a x.between to_a (grown_more rest from_b) x.first) (passes_each Can can ps stages.1 x.others x.between b (grown_more to_a first) from_b x.rest))
-
-    pub each_shown : AllByRecursion P lines
-    each_shown = passes_each (Knew (MaySweepAll times.now times.expire) m.so.from) m.so.can places (refl, (refl, (refl, (refl, (refl, (refl, tt)))))) lines m.begun m.ended before after m.so.swept
+  pub each_shown : (P : GcLine → Type 0)
+      → ((Can : Type 0) (can : Can) (here : Area) → is_stage here ≡ true → (ls : List GcLine) (a b : List Event) → Grew old a → Grew b new → (t : TellsShown Can times here ls me a b) → (line : GcLine) → IsTold Can times here t.names line me t.listed b → P line)
+      → P (record { place = area.Embryo; pod = None; deed = BusyGate }) → AllByRecursion P lines
+  each_shown P told gated = lines_shown times lines m P told gated
 
   pub each_line : (P : GcLine → Type 0) → ((Can : Type 0) (can : Can) (here : Area) (names : List (List ℕ)) (a b : List Event) → Grew old a → Grew b new → (line : GcLine) → IsTold Can times here names line me a b → P line)
       → P (record { place = area.Embryo; pod = None; deed = BusyGate }) → AllByRecursion P lines
-  each_line P told gated = each_shown P (λ Can can here stage ls a b to_a from_b t line x. told Can can here t.names t.listed b (grown_more to_a (grown_by t.only_lists)) from_b line x) gated
+  each_line P told gated = lines_told times lines m P told gated
 
   pub gc_moved : AllByRecursion (MovedAsBefore old) lines
   gc_moved = each_line (MovedAsBefore old) (λ Can can here names a b to_a from_b line x. told_moved a b to_a from_b line x) (λ pod to is deed. cc)

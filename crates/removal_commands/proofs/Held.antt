@@ -75,7 +75,7 @@ module _ (its_place : Spot → Bool) (alike : (a b : Spot) → spot_eq a b ≡ t
         let front = at_grown b.held.found in
         let k = b.held.folder in
         let found : AtOwnStep me old new (ItsFolder k) =
-        at_part first refl (grown_more (record { more = last.0; grown = last.1 }) after) (at_weaker (ItsFolder k) (λ s at. found_its s.namespace b.area k b.stage at) b.held.found) in
+        at_part first refl (grown_more (record { more = last.0; grown = last.1 }) after) (at_weaker (ItsFolder k) (λ s at. found_its s.namespace b.area k b.stage at.0) b.held.found) in
         let held = at_part (grown_more first (record { more = front.0; grown = front.1 })) refl after b.held.held in
         let x = back_at (ItsFolder k) (in_process asks) me (λ s request reply h y. its_back k s request reply h y) found ext quiet in
         record {

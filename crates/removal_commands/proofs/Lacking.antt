@@ -31,7 +31,7 @@ garbage_apart area.ExitedGarbage is = refl
 garbage_apart area.Garbage is = refl
 garbage_apart a is = cc
 
-any_left : {X : Type 0} (t : X → Bool) (xs ys : List X) → list_any t xs ≡ true → list_any t (xs ++ ys) ≡ true
+pub any_left : {X : Type 0} (t : X → Bool) (xs ys : List X) → list_any t xs ≡ true → list_any t (xs ++ ys) ≡ true
 any_left t [] ys h = cc
 any_left t (x ∷ xs) ys h = or_map (t x) (list_any t xs) (list_any t (xs ++ ys)) (any_left t xs ys) h
 

@@ -157,14 +157,14 @@ fewer t q (x ∷ xs) any = by (q x) any (λ rest. fewer t q xs rest)
     by true found rest = or_map (t x) (list_any t (filter q xs)) (list_any t xs) rest found
     by false found rest = or_last (t x) (list_any t xs) (rest found)
 
-mine_only : (me : ℕ) (test : Opening → Bool) (h : Handle) (mode : Mode) (o : Opening) → elsewhere me test (locked me h mode o) ≡ elsewhere me test o
+pub mine_only : (me : ℕ) (test : Opening → Bool) (h : Handle) (mode : Mode) (o : Opening) → elsewhere me test (locked me h mode o) ≡ elsewhere me test o
 mine_only me test h mode o = by (is_handle me h o) (λ it. and_left (o.process == me) (o.handle.number == h.number) it)
   where
     by : (b : Bool) → (b ≡ true → (o.process == me) ≡ true) → elsewhere me test (cond b (record o { lock = Some mode }) o) ≡ elsewhere me test o
     by true it = ap (λ b. not b && test (record o { lock = Some mode })) (it refl) ∙ sym (ap (λ b. not b && test o) (it refl))
     by false it = refl
 
-same_openings : (p : ℕ) (w : Namespace) (request : Request) (reply : Reply) → (namespace_done w p request).openings ≡ w.openings → ((handle : Handle) → (namespace_opened w p request handle).openings ≡ w.openings) →
+pub same_openings : (p : ℕ) (w : Namespace) (request : Request) (reply : Reply) → (namespace_done w p request).openings ≡ w.openings → ((handle : Handle) → (namespace_opened w p request handle).openings ≡ w.openings) →
     (namespace_replied w p request reply).openings ≡ w.openings
 same_openings p w request Done done opened = done
 same_openings p w request (Opened handle) done opened = opened handle

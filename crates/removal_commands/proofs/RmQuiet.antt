@@ -44,6 +44,7 @@ use Rattle.pod_removal.specs.Removals.{FoundNone, FoundThenEnded}
 use Rattle.command_outcomes.specs.Meanwhile.{Meanwhile}
 use Rattle.removal_commands.specs.Rm.{Removes}
 use Rattle.removal_commands.specs.Quiet.{StandsNowhere, IsGoneForGood}
+use Rattle.removal_commands.specs.History.{ExistedBetween, IsRemovedBetween}
 use Rattle.removal_commands.proofs.OwnSteps.{in_process, back_at, at_process, same_folders}
 
 -- the pod is gone for good
@@ -95,18 +96,27 @@ did_remove u spot me old new its did conforming = by did.each.3.own
         let c = subst IsConforming took.grown (conforming_before did.each.4 conforming) in
         gone_after u did.each.1 new did.each.4 (subst (λ (h : List Event). pod_state u h ≡ state.Gone) (sym took.grown) (removed_now u spot me did.each.3.before its c))
 
--- and it wasn't gone before
-did_there : (u : List ℕ) (spot : Spot) (me : ℕ) (old new : List Event) → is_of u spot ≡ true → Did (RemoveFolder spot) Done me old new → IsConforming new → pod_state u old ≡ state.Gone → ⊥
-did_there u spot me old new its did conforming gone = by did.each.3.own
+-- and it existed just before
+remove_exists : (me : ℕ) (x : PodState) → enabled turn.Remove me x ≡ true → exists x ≡ true
+remove_exists me state.Absent h = cc
+remove_exists me state.Gone h = cc
+remove_exists me x h = refl
+
+pub did_exist : (pod : PodId) (spot : Spot) (me : ℕ) (old new : List Event) → is_of (pod_text pod.bytes) spot ≡ true → Did (RemoveFolder spot) Done me old new → IsConforming new → ExistedBetween pod old new
+did_exist pod spot me old new its did conforming = by did.each.3.own
   where
-    by : TookPlace did.each.3.before me (RemoveFolder spot) Done did.each.1 ⊎ LeftNothing did.each.3.before me (RemoveFolder spot) Done did.each.1 → ⊥
+    by : TookPlace did.each.3.before me (RemoveFolder spot) Done did.each.1 ⊎ LeftNothing did.each.3.before me (RemoveFolder spot) Done did.each.1 → ExistedBetween pod old new
     by (inr left) = let clash : false ≡ true = left.late in cc
     by (inl took) =
+        let e = event me (RemoveFolder spot) Done in
         let h = did.each.3.before in
         let c = subst IsConforming took.grown (conforming_before did.each.4 conforming) in
-        let may = enabled_each u h (event me (RemoveFolder spot) Done) [] c turn.Remove (ap (λ b. if_so b turn.Remove) its) in
-        let then = gone_after u old h (grown_more did.each.2 (record { more = did.each.3.meanwhile.others; grown = did.each.3.meanwhile.grown })) gone in
-        let clash : true ≡ false = sym may ∙ ap (enabled turn.Remove me) then in cc
+        record {
+          then = h;
+          first = grown_more did.each.2 (record { more = did.each.3.meanwhile.others; grown = did.each.3.meanwhile.grown });
+          last = grown_more (record { more = e ∷ []; grown = took.grown }) did.each.4;
+          was = remove_exists me (pod_state (pod_text pod.bytes) h) (enabled_each (pod_text pod.bytes) h e [] c turn.Remove (ap (λ b. if_so b turn.Remove) its));
+        }
 
 module _ (pod : PodId) where
   abbrev u : List ℕ
@@ -165,27 +175,35 @@ module _ (pod : PodId) where
           let old_enough : age (pod_state u hx) ≤ age (pod_state u hy) = subst (λ (h : List Event). age (pod_state u hx) ≤ age (pod_state u h)) (sym on.grown) (older u hx on.more) in
           gone_after u hy new last (none_last (pod_state u hy) y.holds (omega (arith, young, old_enough)))
 
-  pub was_there : {me : ℕ} {old new : List Event} (m : Meanwhile (Removes pod) me old new) → IsConforming new → pod_state u old ≡ state.Gone → ⊥
-  was_there {me} {old} {new} m conforming gone =
+  -- that it was there
+  existed : (me : ℕ) (old new : List Event) → Removes pod me old new → IsConforming new → ExistedBetween pod old new
+  existed me old new (inl (inl did)) c = did_exist pod (pod_spot pod area.ExitedGarbage) me old new (same_bytes u) did c
+  existed me old new (inl (inr did)) c = did_exist pod (pod_spot pod area.Garbage) me old new (same_bytes u) did c
+  existed me old new (inr e) c =
+      let x = stood_at e.missed.phase e.missed.area e.missed.read in
+      let hx = x.before ++ x.step ∷ [] in
+      let missed = at_grown e.missed.missed in
+      let rest : Grew hx e.missed.between = record { more = x.rest; grown = x.ends } in
+      let to_end = grown_more rest (grown_more (record { more = missed.0; grown = missed.1 }) (grown_more e.ended.first (ended_grown e.ended.between new e.ended.ended))) in
+      let its : is_of u (pod_spot pod e.missed.area) ≡ true = ap (λ b. b && bytes_eq u u) (stage_of e.missed.area e.missed.read.stage) ∙ same_bytes u in
+      record {
+        then = hx;
+        first = record { more = x.later ++ x.step ∷ []; grown = ap (λ (t : List Event). t ++ x.step ∷ []) x.begins ∙ append_assoc old x.later (x.step ∷ []) };
+        last = to_end;
+        was = (stands_exists u hx (pod_spot pod e.missed.area) (conforming_before to_end c) its x.holds).0;
+      }
+
+  pub rm_existed : {me : ℕ} {old new : List Event} → Meanwhile (Removes pod) me old new → IsConforming new → ExistedBetween pod old new
+  rm_existed {me} {old} {new} m conforming =
       let last : Grew m.ended new = record { more = m.finishes.more; grown = m.finishes.grown } in
       let first : Grew old m.begun = record { more = m.begins.more; grown = m.begins.grown } in
-      by m.so (conforming_before last conforming) (gone_after u old m.begun first gone)
-    where
-      by : Removes pod me m.begun m.ended → IsConforming m.ended → pod_state u m.begun ≡ state.Gone → ⊥
-      by (inl (inl did)) c at = did_there u (pod_spot pod area.ExitedGarbage) me m.begun m.ended (same_bytes u) did c at
-      by (inl (inr did)) c at = did_there u (pod_spot pod area.Garbage) me m.begun m.ended (same_bytes u) did c at
-      by (inr e) c at =
-          let x = stood_at e.missed.phase e.missed.area e.missed.read in
-          let hx = x.before ++ x.step ∷ [] in
-          let on : Grew m.begun hx = record { more = x.later ++ x.step ∷ []; grown = ap (λ (t : List Event). t ++ x.step ∷ []) x.begins ∙ append_assoc m.begun x.later (x.step ∷ []) } in
-          let missed = at_grown e.missed.missed in
-          let rest : Grew hx e.missed.between = record { more = x.rest; grown = x.ends } in
-          let to_end = grown_more rest (grown_more (record { more = missed.0; grown = missed.1 }) (grown_more e.ended.first (ended_grown e.ended.between m.ended e.ended.ended))) in
-          let young = was_young e.missed.area hx e.missed.read.stage (conforming_before to_end c) x.holds in
-          let none = gone_after u m.begun hx on at in
-          let its : is_of u (pod_spot pod e.missed.area) ≡ true = ap (λ b. b && bytes_eq u u) (stage_of e.missed.area e.missed.read.stage) ∙ same_bytes u in
-          let there = (stands_exists u hx (pod_spot pod e.missed.area) (conforming_before to_end c) its x.holds).0 in
-          let clash : true ≡ false = sym there ∙ ap exists none in cc
+      let x = existed me m.begun m.ended m.so (conforming_before last conforming) in
+      record { then = x.then; first = grown_more first x.first; last = grown_more x.last last; was = x.was }
+
+  pub was_there : {me : ℕ} {old new : List Event} (m : Meanwhile (Removes pod) me old new) → IsConforming new → pod_state u old ≡ state.Gone → ⊥
+  was_there {me} {old} {new} m conforming gone =
+      let x = rm_existed m conforming in
+      let clash : true ≡ false = sym x.was ∙ ap exists (gone_after u old x.then x.first gone) in cc
 
   pub gone_nowhere : (h : List Event) → IsConforming h → pod_state u h ≡ state.Gone → StandsNowhere pod (state_after h)
   gone_nowhere h conforming gone a stage = by (stands (state_after h).namespace (pod_spot pod a)) refl
@@ -203,6 +221,10 @@ module _ (pod : PodId) where
       let then = conforming_before last conforming in
       let gone = gone_after u m.ended new last (elim m.so [ inl did ↦ deleted_gone me m.begun m.ended did then | inr e ↦ ended_gone me m.begun m.ended e then ]) in
       record { is = gone; nowhere = gone_nowhere new conforming gone }
+
+  -- it was there, and is gone
+  pub rm_removed : {me : ℕ} {old new : List Event} → Meanwhile (Removes pod) me old new → IsConforming new → IsRemovedBetween pod old new
+  rm_removed m conforming = record { existed = rm_existed m conforming; gone = rm_gone m conforming }
 
 -- where it looked alone and found none, there was none before
 

@@ -1,5 +1,5 @@
 -- The command `gc`.
-use Rattle.std.specs.Prelude.{◌≡◌, ℕ, Bool, true, Option, Some, None, List, ◌++◌, codes, Ok, Err}
+use Rattle.std.specs.Prelude.{◌≡◌, ◌≤◌, ◌⊎◌, ℕ, Bool, true, Option, Some, None, List, ◌++◌, codes, Ok, Err}
 use Rattle.std.specs.List.{flat_map}
 use Rattle.dir_model.specs.declared.area.Area.{Area}
 use Rattle.dir_model.specs.declared.event.Event.{Event}
@@ -18,6 +18,7 @@ use Rattle.pod_gc.specs.declared.line.Deed.TheVariants.{Moved, Deleted, Kept, Bu
 use Rattle.pod_gc.specs.declared.line.GcLine.{GcLine}
 use Rattle.pod_gc.specs.Sweeping.{MaySweepAll}
 use Rattle.pod_gc.specs.Told.{Knew, ArePassed, places}
+use Rattle.pod_gc.specs.Ended.{EndsSweep}
 use Rattle.command_outcomes.specs.declared.refusal.Refusal.{Refusal}
 use Rattle.command_outcomes.specs.declared.refusal.Refusal.TheVariants.{DirFault, Stray, NoMemory}
 use Rattle.command_outcomes.specs.Texts.{area_text, lock_text}
@@ -60,29 +61,54 @@ sweep_refusal error.DirFault = DirFault
 sweep_refusal error.Stray = Stray
 sweep_refusal error.NoMemory = NoMemory
 
--- the six passes, each with its lines, of a process that may sweep
+-- the six passes, each with its lines, of a process that may sweep, at a moment of 64 bits
 pub record Sweeps (times : Times) (lines : List GcLine) (me : ℕ) (old new : List Event) : Type 0 where
   pub from : DirAt
   pub can : Knew (MaySweepAll times.now times.expire) from
   pub swept : ArePassed (Knew (MaySweepAll times.now times.expire) from) times places lines me old new
+  pub moment : times.now ≤ 18446744073709551615
 
--- it printed the lines of what it did, where the process has begun to sweep at this moment
+-- so they were made, and nothing was told of them
+abbrev pub SweepsUntold : Times → ℕ → List Event → List Event → Type 0
+SweepsUntold times me old new = (lines : List GcLine) × Sweeps times lines me old new
+
+-- or the sweep ended early
+pub record SweepsInPart (times : Times) (me : ℕ) (old new : List Event) : Type 0 where
+  pub from : DirAt
+  pub can : Knew (MaySweepAll times.now times.expire) from
+  pub ended : EndsSweep (Knew (MaySweepAll times.now times.expire) from) times me old new
+  pub moment : times.now ≤ 18446744073709551615
+
+-- it is so where the process has begun to sweep at this moment
+abbrev pub WhereSweeping : Times → DirSeen → Type 0 → Type 0
+WhereSweeping times old P = old.observed ≡ true → (s : Seen) → Knows (shown_at old) s → MaySweepAll times.now times.expire s → P
+
+-- it printed the lines of what it did
 pub record SweepsPods (times : Times) (old new : DirSeen) (text : List ℕ) : Type 0 where
   pub lines : List GcLine
   pub is : text ≡ lines_text lines
-  pub swept : old.observed ≡ true → (s : Seen) → Knows (shown_at old) s → MaySweepAll times.now times.expire s → Sweeps times lines old.process old.trace new.trace
+  pub swept : WhereSweeping times old (Sweeps times lines old.process old.trace new.trace)
 
--- what was told of the pods
+-- what was told of the pods, and what was done with them where it was refused
 abbrev pub GcSays : Times → DirSeen → DirSeen → Outcome → Type 0
 GcSays times old new (Ok text) = SweepsPods times old new text
-GcSays times old new (Err Stray) = old.observed ≡ true → WasStray old.process old.trace new.trace
-GcSays times old new (Err refusal) = Unit {0}
+GcSays times old new (Err Stray) = (old.observed ≡ true → WasStray old.process old.trace new.trace) × WhereSweeping times old (SweepsInPart times old.process old.trace new.trace)
+GcSays times old new (Err NoMemory) = WhereSweeping times old (SweepsInPart times old.process old.trace new.trace ⊎ SweepsUntold times old.process old.trace new.trace)
+GcSays times old new (Err refusal) = WhereSweeping times old (SweepsInPart times old.process old.trace new.trace)
 
 -- of a whole process: it printed the lines of what it did
 pub record HasSweptPods (times : Times) (old new : DirSeen) (text : List ℕ) : Type 0 where
   pub lines : List GcLine
   pub is : text ≡ lines_text lines
   pub swept : Meanwhile (Sweeps times lines) old.process old.trace new.trace
+
+-- it made its six passes
+abbrev pub HasMadePasses : Times → DirSeen → DirSeen → Type 0
+HasMadePasses times old new = Meanwhile (SweepsUntold times) old.process old.trace new.trace
+
+-- it ended early
+abbrev pub HasSweptInPart : Times → DirSeen → DirSeen → Type 0
+HasSweptInPart times old new = Meanwhile (SweepsInPart times) old.process old.trace new.trace
 
 abbrev pub HasMetStrayInPods : DirSeen → DirSeen → Type 0
 HasMetStrayInPods old new = Meanwhile WasStray old.process old.trace new.trace

@@ -1,3 +1,5 @@
 pub mod Rm
 pub mod Gc
+pub mod Table
 pub mod Quiet
+pub mod History

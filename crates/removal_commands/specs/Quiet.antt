@@ -1,5 +1,5 @@
 -- What `rm` and `gc` come to, and leave, where nobody else steps.
-use Rattle.std.specs.Prelude.{◌≡◌, ◌⊎◌, ℕ, Bool, true, false, ◌&&◌, codes, Option, Some, None, List, [], ◌∷◌, ◌++◌, Ok, Err, slice_get}
+use Rattle.std.specs.Prelude.{◌≡◌, ◌⊎◌, ℕ, Bool, true, false, ◌&&◌, codes, Some, None, List, ◌∷◌, ◌++◌, Ok, Err, slice_get}
 use Rattle.std.specs.List.{list_any, AllByRecursion}
 use Rattle.dir_model.specs.declared.area.Area.{Area}
 use Rattle.dir_model.specs.declared.area.Area.TheVariants.{Embryo}
@@ -17,7 +17,6 @@ use Rattle.dir_model.specs.Areas.{is_stage}
 use Rattle.dir_model.specs.Pods.{pod_text, pod_of}
 use Rattle.dir_trait.specs.State.{DirState, stands, folder_at}
 use Rattle.dir_trait.specs.Trace.{state_after}
-use Rattle.dir_model.specs.Trees.{items_in}
 use Rattle.dir_rules.specs.Standing.{is_in}
 use Rattle.area_locks.specs.AreaLocks.{IsBusyElsewhere}
 use Rattle.lifecycle.specs.declared.machine.PodState.TheVariants.{Gone}
@@ -35,12 +34,13 @@ use Rattle.pod_gc.specs.declared.line.Deed.{Deed}
 use Rattle.pod_gc.specs.declared.line.Deed.TheVariants.{Moved, Deleted, Kept, Busy, BusyGate, Left}
 use Rattle.pod_gc.specs.declared.line.GcLine.{GcLine}
 use Rattle.pod_gc.specs.Deeds.{refused_lock}
-use Rattle.pod_gc.specs.Marks.{moment_among, is_young, is_ripe}
+use Rattle.pod_gc.specs.Marks.{is_young, is_ripe}
 use Rattle.pod_gc.specs.Requests.{goes_to, moves_pods, lets_be, may_be_busy}
 use Rattle.command_outcomes.specs.declared.refusal.Refusal.TheVariants.{NoPod, WrongPhase, NoManifest, PodBusy, Stray}
 use Rattle.command_outcomes.specs.Moments.{DirSeen, Outcome}
 use Rattle.removal_commands.specs.Rm.{removed_text, HasRemovedPod, HasFoundNoPod, HasFoundWrong, HasFoundNoManifest, HasFoundBusy, HasMetStrayAtPod}
 use Rattle.removal_commands.specs.Gc.{HasSweptPods, HasMetStrayInPods}
+use Rattle.removal_commands.specs.Table.{moment_at, deed_when_moved, ByTable}
 
 -- no folder of the pod stands at any of its six places
 abbrev pub StandsNowhere : PodId → DirState → Type 0
@@ -157,11 +157,14 @@ TellsOfEach lines old =
     (name : List ℕ) (pod : PodId) (place : Area) → pod_of name ≡ Some pod → is_stage place ≡ true → stands (state_after old.trace).namespace (pod_spot pod place) ≡ true →
     HasLine place pod lines ⊎ ((place ≡ Embryo) × IsBusyElsewhere old.process Embryo Exclusive (state_after old.trace))
 
--- a line of this pod says that it was moved there
-pub record SaysMoved (pod : PodId) (to : Area) (lines : List GcLine) : Type 0 where
-  pub from : Area
+-- a line of this pod says that it was moved from the one place to the other
+pub record MovedFrom (from to : Area) (pod : PodId) (lines : List GcLine) : Type 0 where
   pub has : HasLine from pod lines
   pub moved : has.line.deed ≡ Moved to
+
+-- that from some place
+abbrev pub SaysMoved : PodId → Area → List GcLine → Type 0
+SaysMoved pod to lines = (from : Area) × MovedFrom from to pod lines
 
 -- each line of a garbage place is of a pod that stood there before, or of which a line says that it was moved there
 abbrev pub CameSo : List GcLine → List Event → GcLine → Type 0
@@ -180,15 +183,6 @@ BusyAsBefore me old line = (pod : PodId) (which : Which) → line.pod ≡ Some p
 abbrev pub LeftAsBefore : List Event → GcLine → Type 0
 LeftAsBefore old line = (pod : PodId) → line.pod ≡ Some pod → line.deed ≡ Left → (line.place ≡ area.Prepared) × LacksManifest pod (state_after old)
 
--- the greatest moment of such marks that stand directly in a folder
-abbrev pub moment_in : List ℕ → Option ℕ → DirState → Option ℕ
-moment_in text None s = None
-moment_in text (Some folder) s = moment_among text (items_in folder [] s.entries)
-
--- in the pod's folder at this place
-abbrev pub moment_at : List ℕ → PodId → Area → DirState → Option ℕ
-moment_at text pod place s = moment_in text (folder_at s.namespace (pod_spot pod place)) s
-
 -- by the `created-` marks that stood in its folder before, a pod that is kept in prepared wasn't ripe, and one that was moved from there was
 pub record WaitedAsBefore (times : Times) (old : List Event) (line : GcLine) : Type 0 where
   pub waits : (pod : PodId) (phase : Phase) → line.pod ≡ Some pod → line.place ≡ area.Prepared → line.deed ≡ Kept phase → is_ripe times.now times.expire (moment_at (codes "created-") pod area.Prepared (state_after old)) ≡ false
@@ -201,6 +195,10 @@ pub record AgedAsBefore (times : Times) (old : List Event) (line : GcLine) : Typ
       is_young times.now times.grace (moment_at (codes "marked-") pod area.ExitedGarbage (state_after old)) ≡ true
   pub over : (pod : PodId) → line.pod ≡ Some pod → line.place ≡ area.ExitedGarbage → stands (state_after old).namespace (pod_spot pod area.ExitedGarbage) ≡ true → line.deed ≡ Deleted →
       is_young times.now times.grace (moment_at (codes "marked-") pod area.ExitedGarbage (state_after old)) ≡ false
+
+-- of a pod that was moved to its line's place, the line says what the state before asks for at the place from which it was moved
+abbrev pub ByTableMoved : Times → ℕ → List GcLine → List Event → GcLine → Type 0
+ByTableMoved times me lines old line = (pod : PodId) (from : Area) → line.pod ≡ Some pod → MovedFrom from line.place pod lines → line.deed ≡ deed_when_moved times me pod from line.place (state_after old)
 
 -- what a line says of a pod at this place: in garbage only that it was deleted or is busy
 abbrev pub may_say : Area → Deed → Bool
@@ -235,6 +233,8 @@ pub record SweepsSo (times : Times) (old new : DirSeen) (text : List ℕ) : Type
   pub waited : AllByRecursion (WaitedAsBefore times old.trace) swept.lines
   pub aged : IsConforming new.trace → AllByRecursion (AgedAsBefore times old.trace) swept.lines
   pub embryos : LeavesNoEmbryo old new
+  pub table : IsConforming new.trace → AllByRecursion (ByTable times old.process old.trace) swept.lines
+  pub moved_on : IsConforming new.trace → AllByRecursion (ByTableMoved times old.process swept.lines old.trace) swept.lines
 
 abbrev pub SweepsPodsQuietly : Times → DirSeen → DirSeen → Outcome → Type 0
 SweepsPodsQuietly times old new (Ok text) = SweepsSo times old new text
