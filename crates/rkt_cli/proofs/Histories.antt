@@ -17,7 +17,10 @@ use Rattle.rkt_cli.specs.Texts.{state_text}
 use Rattle.command_outcomes.specs.Moments.{Outside, Moment, Outcome}
 use Rattle.command_outcomes.specs.Ends.{is_own_end}
 use Rattle.rkt_cli.specs.Status.{read_outcome}
-use Rattle.rkt_cli.specs.Commands.{intent_of}
+use Rattle.rkt_cli.specs.Commands.{intent_of, grace_time, expire_time}
+use Rattle.removal_commands.specs.Gc.{times_of}
+use Rattle.removal_commands.proofs.RmQuiet.{rm_removed}
+use Rattle.removal_commands.proofs.GcFrom.{gc_deleted}
 use Rattle.rkt_cli.specs.Runs.{Performs, RunOfLine, RunOf, RunIs}
 use Rattle.rkt_cli.specs.Histories.{TellsPhase, WritesOf, TellsHistory, TellsDeed}
 use Rattle.rkt_cli.proofs.Ends.{absurd_number, end_at, from_command}
@@ -58,6 +61,15 @@ tells_gone : (pod : PodId) (me : ℕ) (old new : List Event) (found : Found) →
 tells_gone pod me old new (At phase area) is so = cc
 tells_gone pod me old new Gone is so = so
 
+-- where the status is 0, the line ran and its text was written
+module _ (now : ℕ) (draw : Draw) (old new : Moment) (status : ℕ) where
+  wrote : (line : Line) (P : List ℕ → Type 0) → ((text : List ℕ) → Performs line now draw (intent_of line now draw) old.outside new.outside (Ok text) → P text) →
+      RunOf (Some line) now draw old new status → status ≡ 0 → WritesOf P old.out new.out
+  wrote line P so (inr n) zero = absurd_number 0 14 (sym zero ∙ n.is) refl
+  wrote line P so (inl r) zero =
+      let done = r.printed.done (end_at r.end status 0 r.is zero refl) in
+      (done.0, so done.0 (subst (λ (o : Outcome). Performs line now draw (intent_of line now draw) old.outside new.outside o) done.1 r.performs), done.2)
+
 module _ (now : ℕ) (draw : Draw) (old new : Moment) (status : ℕ) (t : old.outside.dir.observed ≡ true) (conforming : IsConforming new.outside.dir.trace) where
   line_tells : (pod : PodId) → RunOfLine (Status pod) now draw (intent_of (Status pod) now draw) old new status → TellsHistory (Some (Status pod)) now draw status old.outside new.outside old.out new.out
   line_tells pod r = (printed, missing)
@@ -80,32 +92,22 @@ module _ (now : ℕ) (draw : Draw) (old new : Moment) (status : ℕ) (t : old.ou
           let w = was (Err NoPod) e refl in
           tells_gone pod me old.outside.dir.trace new.outside.dir.trace w.found w.is w.so
 
-  image_tells : (path : List ℕ) → RunOfLine (ImageImport path) now draw (intent_of (ImageImport path) now draw) old new status → TellsHistory (Some (ImageImport path)) now draw status old.outside new.outside old.out new.out
-  image_tells path r zero =
-      let done = r.printed.done (end_at r.end status 0 r.is zero refl) in
-      let p = subst (λ (o : Outcome). Performs (ImageImport path) now draw (intent_of (ImageImport path) now draw) old.outside new.outside o) done.1 r.performs in
-      (done.0, import_stored path now draw old.outside new.outside done.0 p t conforming, done.2)
-
-  pod_tells : (words : List (List ℕ)) → RunOfLine (Prepare words) now draw (intent_of (Prepare words) now draw) old new status → TellsHistory (Some (Prepare words)) now draw status old.outside new.outside old.out new.out
-  pod_tells words r zero =
-      let done = r.printed.done (end_at r.end status 0 r.is zero refl) in
-      let p = subst (λ (o : Outcome). Performs (Prepare words) now draw (intent_of (Prepare words) now draw) old.outside new.outside o) done.1 r.performs in
-      (done.0, (prepare_printed words now draw (intent_of (Prepare words) now draw) old.outside new.outside done.0 p, prepare_faithful words now draw old.outside new.outside done.0 p t conforming), done.2)
-
   tells_of : (l : Option Line) → RunOf l now draw old new status → TellsHistory l now draw status old.outside new.outside old.out new.out
   tells_of None r = tt
   tells_of (Some (Validate path)) r = tt
   tells_of (Some ImageList) r = tt
   tells_of (Some (ImageRm key)) r = tt
   tells_of (Some ImageGc) r = tt
-  tells_of (Some Gc) r = tt
-  tells_of (Some (Rm pod)) r = tt
   tells_of (Some (Run words)) r = tt
   tells_of (Some (RunPrepared pod)) r = tt
-  tells_of (Some (Prepare words)) (inr n) = λ zero. absurd_number 0 14 (sym zero ∙ n.is) refl
-  tells_of (Some (Prepare words)) (inl r) = pod_tells words r
-  tells_of (Some (ImageImport path)) (inr n) = λ zero. absurd_number 0 14 (sym zero ∙ n.is) refl
-  tells_of (Some (ImageImport path)) (inl r) = image_tells path r
+  tells_of (Some (Prepare words)) r = wrote now draw old new status (Prepare words) _
+      (λ text p. (prepare_printed words now draw (intent_of (Prepare words) now draw) old.outside new.outside text p, prepare_faithful words now draw old.outside new.outside text p t conforming)) r
+  tells_of (Some (ImageImport path)) r = wrote now draw old new status (ImageImport path) _ (λ text p. import_stored path now draw old.outside new.outside text p t conforming) r
+  tells_of (Some (Rm pod)) r = wrote now draw old new status (Rm pod) _
+      (λ text p. (rm_printed pod now draw (intent_of (Rm pod) now draw) old.outside new.outside text p, rm_removed pod (rm_done pod now draw (intent_of (Rm pod) now draw) old.outside new.outside text p t) conforming)) r
+  tells_of (Some Gc) r = wrote now draw old new status Gc _
+      (λ text p. let swept = gc_done now draw old.outside new.outside text p t in
+      record { swept = swept; deleted = gc_deleted (times_of now grace_time expire_time) swept.lines swept.swept conforming }) r
   tells_of (Some (Status pod)) (inr n) = ((λ zero. absurd_number 0 14 (sym zero ∙ n.is) refl), (λ two. absurd_number 2 14 (sym two ∙ n.is) refl))
   tells_of (Some (Status pod)) (inl r) = line_tells pod r
 
@@ -116,34 +118,28 @@ run_tells {l} {now} {draw} {old} {new} {status} run t conforming = by l (tells_o
     by (Some (Status pod)) x at = (λ zero. x.0 (at 0 zero refl), λ two. x.1 (at 2 two refl))
     by (Some (ImageImport path)) x at = λ zero. x (at 0 zero refl)
     by (Some (Prepare words)) x at = λ zero. x (at 0 zero refl)
+    by (Some (Rm pod)) x at = λ zero. x (at 0 zero refl)
+    by (Some Gc) x at = λ zero. x (at 0 zero refl)
     by None x at = tt
     by (Some line) x at = tt
 
 -- what it did, by its own answers
 module _ (now : ℕ) (draw : Draw) (old new : Moment) (status : ℕ) (t : old.outside.dir.observed ≡ true) where
-  -- where the status is 0, the line ran and its text was written
-  wrote : (line : Line) (P : List ℕ → Type 0) → ((text : List ℕ) → Performs line now draw (intent_of line now draw) old.outside new.outside (Ok text) → P text) →
-      RunOf (Some line) now draw old new status → status ≡ 0 → WritesOf P old.out new.out
-  wrote line P so (inr n) zero = absurd_number 0 14 (sym zero ∙ n.is) refl
-  wrote line P so (inl r) zero =
-      let done = r.printed.done (end_at r.end status 0 r.is zero refl) in
-      (done.0, so done.0 (subst (λ (o : Outcome). Performs line now draw (intent_of line now draw) old.outside new.outside o) done.1 r.performs), done.2)
-
   deed_of : (l : Option Line) → RunOf l now draw old new status → TellsDeed l now draw status old.outside.dir new.outside.dir old.out new.out
   deed_of None r = tt
   deed_of (Some (Status pod)) r = tt
   deed_of (Some (Validate path)) r = tt
   deed_of (Some (ImageImport path)) r = tt
-  deed_of (Some ImageList) r = wrote ImageList _ (λ text p. list_printed now draw (intent_of ImageList now draw) old.outside new.outside text p) r
-  deed_of (Some (ImageRm key)) r = wrote (ImageRm key) _ (λ text p. (removal_printed key now draw (intent_of (ImageRm key) now draw) old.outside new.outside text p, removal_done key now draw old.outside new.outside text p t)) r
-  deed_of (Some (Prepare words)) r = wrote (Prepare words) _
+  deed_of (Some ImageList) r = wrote now draw old new status ImageList _ (λ text p. list_printed now draw (intent_of ImageList now draw) old.outside new.outside text p) r
+  deed_of (Some (ImageRm key)) r = wrote now draw old new status (ImageRm key) _ (λ text p. (removal_printed key now draw (intent_of (ImageRm key) now draw) old.outside new.outside text p, removal_done key now draw old.outside new.outside text p t)) r
+  deed_of (Some (Prepare words)) r = wrote now draw old new status (Prepare words) _
       (λ text p. (prepare_printed words now draw (intent_of (Prepare words) now draw) old.outside new.outside text p, prepare_synced words now draw old.outside new.outside text p t)) r
   deed_of (Some (RunPrepared pod)) r = tt
   deed_of (Some (Run words)) r = tt
-  deed_of (Some (Rm pod)) r = wrote (Rm pod) _
+  deed_of (Some (Rm pod)) r = wrote now draw old new status (Rm pod) _
       (λ text p. (rm_printed pod now draw (intent_of (Rm pod) now draw) old.outside new.outside text p, rm_done pod now draw (intent_of (Rm pod) now draw) old.outside new.outside text p t)) r
-  deed_of (Some Gc) r = wrote Gc _ (λ text p. gc_done now draw old.outside new.outside text p t) r
-  deed_of (Some ImageGc) r = wrote ImageGc _ (λ text p. sweep_done now draw old.outside new.outside text p t) r
+  deed_of (Some Gc) r = wrote now draw old new status Gc _ (λ text p. gc_done now draw old.outside new.outside text p t) r
+  deed_of (Some ImageGc) r = wrote now draw old new status ImageGc _ (λ text p. sweep_done now draw old.outside new.outside text p t) r
 
 pub run_deed : {l : Option Line} {now : ℕ} {draw : Draw} {old new : Moment} {status : ℕ} → RunIs l now draw old new status → old.outside.dir.observed ≡ true → TellsDeed l now draw status old.outside.dir new.outside.dir old.out new.out
 run_deed {l} {now} {draw} {old} {new} {status} run t = by l (deed_of now draw old new run.plain t l run.ran) (λ is. plain_at l run.plain status 0 run.is is refl)

@@ -1,4 +1,4 @@
--- What `prepare` left, by its own answers and its status.
+-- What `prepare` left and `gc` did, by their own answers and status.
 use Rattle.std.proofs.Common.{◌≡◌, ◌⊎◌, inl, inr, ℕ, true, false, ◌||◌, ◌==◌, List, Option, Some, None, Ok, Err, refl, sym, ap, subst, ◌∙◌}
 use Rattle.dir_model.specs.declared.intent.Draw.{Draw}
 use Rattle.dir_model.specs.declared.request.DirError.TheVariants as dir
@@ -13,11 +13,13 @@ use Rattle.command_outcomes.specs.declared.refusal.Refusal.TheVariants.{NoPod, D
 use Rattle.command_outcomes.specs.Texts.{status_of}
 use Rattle.command_outcomes.specs.Moments.{Outside, Moment, SinkSeen, Outcome}
 use Rattle.pod_commands.specs.Prepare.{HasBrought, HasKeptFolder}
-use Rattle.rkt_cli.specs.Commands.{intent_of, may, runs_apps_in}
+use Rattle.removal_commands.specs.Gc.{times_of}
+use Rattle.rkt_cli.specs.Commands.{intent_of, grace_time, expire_time, may, runs_apps_in}
 use Rattle.rkt_cli.specs.Runs.{Performs, End, Unwritten, Printed, end_status, RunOf, RunIs}
-use Rattle.rkt_cli.specs.Histories.{LeavesPod, TellsLeft}
+use Rattle.rkt_cli.specs.Histories.{LeavesPod, LeavesSwept, TellsLeft}
 use Rattle.rkt_cli.proofs.Outcomes.{refusals_of}
 use Rattle.rkt_cli.proofs.PodRan.{began, prepare_synced, brought_in_process, kept_in_process}
+use Rattle.rkt_cli.proofs.PodRemovals.{SweptBy, gc_passes, gc_swept}
 
 -- a prepare that was refused so left its own folder at most, or its sync was refused
 abbrev LeftBy : Draw → Refusal → Outside → Outside → Type 0
@@ -66,13 +68,48 @@ module _ (words : List (List ℕ)) (now : ℕ) (draw : Draw) (before after : Out
   ended (Err r) old new end status p printed is =
       refused r status (is ∙ ap end_status printed.refused.0) (refusals_of (Prepare words) now draw (intent_of (Prepare words) now draw) before after (Err r) r p refl) (left_by words now draw before after r p t)
 
+-- a sweep was refused with another status than these
+neither_swept : (r : Refusal) → may Gc r ≡ true → ((status_of r == 0) || (status_of r == 12)) ≡ false
+neither_swept OutFault allowed = let clash : false ≡ true = allowed in cc
+neither_swept r allowed = refl
+
+module _ (now : ℕ) (draw : Draw) (before after : Outside) (t : before.dir.observed ≡ true) where
+  abbrev Swept : ℕ → Type 0
+  Swept status = LeavesSwept (times_of now grace_time expire_time) status before.dir after.dir
+
+  swept_early : (r : Refusal) (status : ℕ) → status ≡ status_of r → may Gc r ≡ true → SweptBy now r before.dir after.dir → Swept status
+  swept_early r status is allowed swept = subst Swept (sym is) (by r allowed swept)
+    where
+      by : (r : Refusal) → may Gc r ≡ true → SweptBy now r before.dir after.dir → Swept (status_of r)
+      by NoMemory allowed (inl whole) = inl (inr refl, whole)
+      by NoMemory allowed (inr (inl part)) = inr (inl (refl, part))
+      by NoMemory allowed (inr (inr none)) = inr (inr (refl, none))
+      by r allowed part = inr (inl (neither_swept r allowed, part))
+
+  swept_whole : (text : List ℕ) (old new : SinkSeen) (end : End) (status : ℕ) → Performs Gc now draw (intent_of Gc now draw) before after (Ok text) → Printed (Ok text) old new end → status ≡ end_status end → Swept status
+  swept_whole text old new (Ok done) status p printed is = inl (inl (inl is), gc_passes now draw before after text p t)
+  swept_whole text old new (Err r) status p printed is = by (printed.cause text refl)
+    where
+      by : Unwritten r old new → Swept status
+      by (inl x) = inl (inl (inr (is ∙ ap status_of x.0)), gc_passes now draw before after text p t)
+      by (inr x) = inl (inr (is ∙ ap status_of x.0), gc_passes now draw before after text p t)
+
+  swept : (o : Outcome) (old new : SinkSeen) (end : End) (status : ℕ) → Performs Gc now draw (intent_of Gc now draw) before after o → Printed o old new end → status ≡ end_status end → Swept status
+  swept (Ok text) old new end status p printed is = swept_whole text old new end status p printed is
+  swept (Err r) old new end status p printed is =
+      swept_early r status (is ∙ ap end_status printed.refused.0) (refusals_of Gc now draw (intent_of Gc now draw) before after (Err r) r p refl) (gc_swept now draw before after r p t)
+
 module _ (now : ℕ) (draw : Draw) (old new : Moment) (status : ℕ) (t : old.outside.dir.observed ≡ true) where
+  sweep_left : RunOf (Some Gc) now draw old new status → LeavesSwept (times_of now grace_time expire_time) status old.outside.dir new.outside.dir
+  sweep_left (inl r) = swept now draw old.outside new.outside t r.outcome old.out new.out r.end status r.performs r.printed r.is
+  sweep_left (inr n) = inr (inr (n.is, subst (λ (x : Outside). Extends is_begin old.outside.dir.process old.outside.dir.trace x.dir.trace) (sym n.outside) nothing_yet))
+
   pod_left : (words : List (List ℕ)) → RunOf (Some (Prepare words)) now draw old new status → LeavesPod draw.uuid status old.outside.dir new.outside.dir
   pod_left words (inl r) = ended words now draw old.outside new.outside t r.outcome old.out new.out r.end status r.performs r.printed r.is
   pod_left words (inr n) =
       inr (inr (inr (ap (λ (x : ℕ). (x == 0) || (x == 12)) n.is, inl (subst (λ (x : Outside). Extends is_begin old.outside.dir.process old.outside.dir.trace x.dir.trace) (sym n.outside) nothing_yet))))
 
-  left_of : (l : Option Line) → RunOf l now draw old new status → TellsLeft l draw status old.outside.dir new.outside.dir
+  left_of : (l : Option Line) → RunOf l now draw old new status → TellsLeft l now draw status old.outside.dir new.outside.dir
   left_of None r = tt
   left_of (Some (Status pod)) r = tt
   left_of (Some (Validate path)) r = tt
@@ -80,16 +117,17 @@ module _ (now : ℕ) (draw : Draw) (old new : Moment) (status : ℕ) (t : old.ou
   left_of (Some (ImageImport path)) r = tt
   left_of (Some (ImageRm key)) r = tt
   left_of (Some ImageGc) r = tt
-  left_of (Some Gc) r = tt
+  left_of (Some Gc) r = sweep_left r
   left_of (Some (Rm pod)) r = tt
   left_of (Some (Run words)) r = tt
   left_of (Some (RunPrepared pod)) r = tt
   left_of (Some (Prepare words)) r = pod_left words r
 
-pub run_left : {l : Option Line} {now : ℕ} {draw : Draw} {old new : Moment} {status : ℕ} → RunIs l now draw old new status → old.outside.dir.observed ≡ true → TellsLeft l draw status old.outside.dir new.outside.dir
+pub run_left : {l : Option Line} {now : ℕ} {draw : Draw} {old new : Moment} {status : ℕ} → RunIs l now draw old new status → old.outside.dir.observed ≡ true → TellsLeft l now draw status old.outside.dir new.outside.dir
 run_left {l} {now} {draw} {old} {new} {status} run t = by l (left_of now draw old new run.plain t l run.ran) (unhurt l run.plain status run.is)
   where
-    by : (k : Option Line) → TellsLeft k draw run.plain old.outside.dir new.outside.dir → (runs_apps_in k ≡ false → status ≡ run.plain) → TellsLeft k draw status old.outside.dir new.outside.dir
+    by : (k : Option Line) → TellsLeft k now draw run.plain old.outside.dir new.outside.dir → (runs_apps_in k ≡ false → status ≡ run.plain) → TellsLeft k now draw status old.outside.dir new.outside.dir
     by (Some (Prepare words)) x same = subst (λ (n : ℕ). LeavesPod draw.uuid n old.outside.dir new.outside.dir) (sym (same refl)) x
+    by (Some Gc) x same = subst (λ (n : ℕ). LeavesSwept (times_of now grace_time expire_time) n old.outside.dir new.outside.dir) (sym (same refl)) x
     by None x same = tt
     by (Some line) x same = tt

@@ -1,5 +1,5 @@
 -- What `rm` and `gc` tell of the whole run.
-use Rattle.std.proofs.Common.{◌≡◌, inl, inr, ℕ, Bool, true, false, List, [], ◌∷◌, Option, Some, None, Ok, Err, IsErrOf, IfErr, refl, sym, ap, subst, ◌∙◌}
+use Rattle.std.proofs.Common.{◌≡◌, ◌⊎◌, inl, inr, ℕ, Bool, true, false, List, [], ◌∷◌, Option, Some, None, Ok, Err, IsErrOf, IfErr, refl, sym, ap, subst, ◌∙◌}
 use Rattle.dir_model.specs.declared.area.Phase.{Phase}
 use Rattle.dir_model.specs.declared.intent.Draw.{Draw}
 use Rattle.dir_model.specs.declared.intent.Intent.{Intent}
@@ -7,7 +7,9 @@ use Rattle.dir_model.specs.declared.intent.Kind.TheVariants as kind
 use Rattle.dir_model.specs.declared.pod.PodId.{PodId}
 use Rattle.dir_model.specs.declared.spot.Which.{Which}
 use Rattle.dir_model.specs.Pods.{pod_text}
+use Rattle.dir_model.specs.Calls.{Extends, is_begin}
 use Rattle.dir_model.specs.Causes.{Rose}
+use Rattle.dir_model.proofs.Chains.{step_extends}
 use Rattle.dir_model.proofs.Lists.{same_self}
 use Rattle.dir_trait.specs.DirCalls.{DirAt}
 use Rattle.folder_building.specs.Work.{Worked}
@@ -26,10 +28,10 @@ use Rattle.pod_removal.specs.Removals.{FoundNone}
 use Rattle.pod_gc.specs.declared.line.GcLine.{GcLine}
 use Rattle.pod_gc.specs.Sweeping.{MaySweepAll}
 use Rattle.command_outcomes.specs.declared.refusal.Refusal.TheVariants.{NoPod, WrongPhase, PodBusy, NoManifest, DirFault, Stray, NoMemory}
-use Rattle.command_outcomes.specs.Moments.{Outside, BundleSeen, Outcome, dir_seen}
+use Rattle.command_outcomes.specs.Moments.{DirSeen, Outside, BundleSeen, Outcome, dir_seen}
 use Rattle.command_outcomes.specs.Conforming.{begun, StaysConforming}
 use Rattle.removal_commands.specs.Rm.{rm_refusal, RmSays, removed_text, Removes, WasSo, WasOwned, HadNoManifest, MeetsStray, HasRemovedPod, HasFoundNoPod, HasFoundWrong, HasFoundNoManifest, HasFoundBusy, HasMetStrayAtPod}
-use Rattle.removal_commands.specs.Gc.{gc_refusal, GcSays, times_of, lines_text, Sweeps, HasSweptPods, HasMetStrayInPods}
+use Rattle.removal_commands.specs.Gc.{gc_refusal, GcSays, times_of, lines_text, Sweeps, SweepsUntold, SweepsInPart, HasSweptPods, HasMadePasses, HasSweptInPart, HasMetStrayInPods}
 use Rattle.rkt_cli.specs.declared.line.Line.TheVariants.{Rm, Gc}
 use Rattle.rkt_cli.specs.Commands.{intent_for, gc_intent, intent_of, may, grace_time, expire_time}
 use Rattle.rkt_cli.specs.Runs.{CommandRan, Performs}
@@ -118,9 +120,32 @@ gc_done now draw old new text (inl s) t = record {
 gc_done now draw old new text (inr n) t = untold text n.is
 
 pub gc_stray : (now : ℕ) (draw : Draw) (intent : Option Intent) (old new : Outside) → Performs Gc now draw intent old new (Err Stray) → old.dir.observed ≡ true → HasMetStrayInPods old.dir new.dir
-gc_stray now draw (Some intent) old new (inl s) t = meanwhile WasStray s t (s.ran.says (s.told ∙ t))
+gc_stray now draw (Some intent) old new (inl s) t = meanwhile WasStray s t (s.ran.says.0 (s.told ∙ t))
 gc_stray now draw (Some intent) old new (inr n) t = unbegun Stray refl n.is
 gc_stray now draw None old new p t = unused p.apart
+
+-- and what was done where the lines weren't told
+pub gc_passes : (now : ℕ) (draw : Draw) (old new : Outside) (text : List ℕ) → Performs Gc now draw (intent_of Gc now draw) old new (Ok text) → old.dir.observed ≡ true → HasMadePasses (times_of now grace_time expire_time) old.dir new.dir
+gc_passes now draw old new text (inl s) t =
+    meanwhile (SweepsUntold (times_of now grace_time expire_time)) s t (s.ran.says.lines, s.ran.says.swept (s.told ∙ t) (begun (gc_intent now draw)) (begun_knows s t) (begun_sweeps now draw))
+gc_passes now draw old new text (inr n) t = untold text n.is
+
+-- what a sweep did that was refused so
+abbrev pub SweptBy : ℕ → Refusal → DirSeen → DirSeen → Type 0
+SweptBy now NoMemory old new =
+    HasMadePasses (times_of now grace_time expire_time) old new ⊎ HasSweptInPart (times_of now grace_time expire_time) old new ⊎ Extends is_begin old.process old.trace new.trace
+SweptBy now r old new = HasSweptInPart (times_of now grace_time expire_time) old new
+
+pub gc_swept : (now : ℕ) (draw : Draw) (old new : Outside) (r : Refusal) → Performs Gc now draw (intent_of Gc now draw) old new (Err r) → old.dir.observed ≡ true → SweptBy now r old.dir new.dir
+gc_swept now draw old new NoMemory (inr n) t = inr (inr (step_extends is_begin old.dir.process old.dir.trace _ _ new.dir.trace refl (n.step t)))
+gc_swept now draw old new NoMemory (inl s) t =
+    elim (s.ran.says (s.told ∙ t) (begun (gc_intent now draw)) (begun_knows s t) (begun_sweeps now draw))
+    [ inl part ↦ inr (inl (meanwhile (SweepsInPart (times_of now grace_time expire_time)) s t part)) | inr whole ↦ inl (meanwhile (SweepsUntold (times_of now grace_time expire_time)) s t whole) ]
+gc_swept now draw old new Stray (inl s) t =
+    meanwhile (SweepsInPart (times_of now grace_time expire_time)) s t (s.ran.says.1 (s.told ∙ t) (begun (gc_intent now draw)) (begun_knows s t) (begun_sweeps now draw))
+gc_swept now draw old new r (inl s) t =
+    meanwhile (SweepsInPart (times_of now grace_time expire_time)) s t (s.ran.says (s.told ∙ t) (begun (gc_intent now draw)) (begun_knows s t) (begun_sweeps now draw))
+gc_swept now draw old new r (inr n) t = let e = n.is in cc
 
 -- what each owes between its begin and its finish
 pub rm_conforming : (pod : PodId) (now : ℕ) (draw : Draw) (intent : Intent) (observed : Bool) (a b : DirAt) → intent_of (Rm pod) now draw ≡ Some intent → Stays (MayRemovePod pod now) a (λ s. KeepsReady s b) → StaysConforming intent (dir_seen observed a) (dir_seen observed b)

@@ -9,7 +9,7 @@ use Rattle.dir_model.specs.declared.intent.Intent.{Intent}
 use Rattle.dir_model.specs.declared.pod.PodId.{PodId}
 use Rattle.dir_model.specs.declared.request.DirError.TheVariants.{Failed, NoMemory}
 use Rattle.dir_model.specs.declared.request.Reply.TheVariants.{Refused}
-use Rattle.dir_model.specs.Calls.{IsRun}
+use Rattle.dir_model.specs.Calls.{Extends, IsRun, is_begin}
 use Rattle.dir_trait.specs.DirCalls.{DirAt}
 use Rattle.dir_trait.specs.Knowledge.{Knows}
 use Rattle.pod_build.specs.FaithfulBuild.{HandsOverFaithfully}
@@ -17,6 +17,7 @@ use Rattle.command_outcomes.specs.Conforming.{begun, shown_at}
 use Rattle.lifecycle.specs.Executions.{IsConforming}
 use Rattle.pod_claim.specs.Claims.{IsFreeThroughout}
 use Rattle.pod_removal.specs.Hindrances.{IsUnhinderedThroughout}
+use Rattle.pod_gc.specs.declared.ages.Times.{Times}
 use Rattle.phase_read.specs.Exact.{AtOwnEvent, IsInPhase, IsNowhere}
 use Rattle.rkt_cli.specs.declared.line.Line.{Line}
 use Rattle.rkt_cli.specs.declared.line.Line.TheVariants.{Status, ImageList, ImageImport, ImageRm, ImageGc, Prepare, RunPrepared, Rm, Gc}
@@ -27,6 +28,7 @@ use Rattle.store_commands.specs.ImageRm.{removed_text, HasRemoved}
 use Rattle.store_commands.specs.ImageGc.{HasSwept}
 use Rattle.removal_commands.specs.Rm as rm
 use Rattle.removal_commands.specs.Gc as gc
+use Rattle.removal_commands.specs.History.{IsRemovedBetween, SweepsForGood}
 use Rattle.rkt_cli.specs.Commands.{intent_of, grace_time, expire_time}
 use Rattle.pod_commands.specs.Prepare.{pod_line, IsFaithful, HasBrought, HasSynced, HasKeptFolder}
 use Rattle.command_outcomes.specs.Moments.{DirSeen, Outside, SinkSeen}
@@ -44,7 +46,8 @@ WritesOf P out written = (text : List ℕ) × P text × (out.observed ≡ true �
 
 -- of `status`: with status 0 that text was written; with 2 the pod didn't exist at one own event. Of `image import`: with status 0
 -- the line of the image was written that the bundle says, and it is stored. Of `prepare`: with status 0 the drawn name was written, and
--- the pod of the words was prepared faithfully
+-- the pod of the words was prepared faithfully. Of `rm` and `gc`: with status 0 the pod that is said to be removed or deleted existed at a
+-- moment of the call, and is gone at its end, for good
 abbrev pub TellsHistory : Option Line → ℕ → Draw → ℕ → Outside → Outside → SinkSeen → SinkSeen → Type 0
 TellsHistory (Some (Status pod)) now draw status old new out written =
     (status ≡ 0 → WritesOf (TellsPhase pod old.dir.process old.dir.trace new.dir.trace) out written)
@@ -52,6 +55,8 @@ TellsHistory (Some (Status pod)) now draw status old new out written =
 TellsHistory (Some (ImageImport path)) now draw status old new out written = status ≡ 0 → WritesOf (StoresImage path now draw.uuid old new) out written
 TellsHistory (Some (Prepare words)) now draw status old new out written =
     status ≡ 0 → WritesOf (λ text. (text ≡ pod_line draw.uuid) × IsFaithful words draw.uuid old.dir new.dir) out written
+TellsHistory (Some (Rm pod)) now draw status old new out written = status ≡ 0 → WritesOf (λ text. (text ≡ rm.removed_text pod) × IsRemovedBetween pod old.dir.trace new.dir.trace) out written
+TellsHistory (Some Gc) now draw status old new out written = status ≡ 0 → WritesOf (SweepsForGood (gc.times_of now grace_time expire_time) old.dir new.dir) out written
 TellsHistory _ now draw status old new out written = Unit {0}
 
 -- with status 0, by its own answers: `image list` wrote the lines of the images that it read; `image rm` wrote that the image is
@@ -77,10 +82,19 @@ LeavesPod draw status old new =
     ⊎ ((status ≡ 14) × (HasSynced draw old new ⊎ HasBrought draw (Refused NoMemory 0) old new))
     ⊎ ((((status == 0) || (status == 12)) ≡ false) × HasKeptFolder draw old new)
 
--- what `prepare` left, by its own answers
-abbrev pub TellsLeft : Option Line → Draw → ℕ → DirSeen → DirSeen → Type 0
-TellsLeft (Some (Prepare words)) draw status old new = LeavesPod draw.uuid status old new
-TellsLeft _ draw status old new = Unit {0}
+-- with status 0 and 12 a sweep made its six passes, with 14 it may have; with another status than 0 and 12 it ended early, or with 14 it
+-- hadn't begun
+abbrev pub LeavesSwept : Times → ℕ → DirSeen → DirSeen → Type 0
+LeavesSwept times status old new =
+    ((((status ≡ 0) ⊎ (status ≡ 12)) ⊎ (status ≡ 14)) × gc.HasMadePasses times old new)
+    ⊎ ((((status == 0) || (status == 12)) ≡ false) × gc.HasSweptInPart times old new)
+    ⊎ ((status ≡ 14) × Extends is_begin old.process old.trace new.trace)
+
+-- what `prepare` left, and what `gc` did, by their own answers
+abbrev pub TellsLeft : Option Line → ℕ → Draw → ℕ → DirSeen → DirSeen → Type 0
+TellsLeft (Some (Prepare words)) now draw status old new = LeavesPod draw.uuid status old new
+TellsLeft (Some Gc) now draw status old new = LeavesSwept (gc.times_of now grace_time expire_time) status old new
+TellsLeft _ now draw status old new = Unit {0}
 
 -- in every run: whatever pod the process handed over meanwhile, to prepared or to run, it had made faithfully
 abbrev pub HandsOver : DirAt → DirAt → Type 0

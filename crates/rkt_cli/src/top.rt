@@ -112,7 +112,7 @@ pub fn rkt<D: Dir, B: Bundle, S: Spawner, O: Sink, E: Sink>(
     ensures as_made { D.observed ≡ true → IsLegal (D.shown dir.new).trace → PodsReadAsMade (D.shown dir.new).trace }
     ensures deed { D.observed ≡ true → TellsDeed (line_in words.now) now draw.now result (dir_at D.Dir dir.old) (dir_at D.Dir dir.new)
         (sink_at O.Sink out.old) (sink_at O.Sink out.new) }
-    ensures left { D.observed ≡ true → TellsLeft (line_in words.now) draw.now result (dir_at D.Dir dir.old) (dir_at D.Dir dir.new) }
+    ensures left { D.observed ≡ true → TellsLeft (line_in words.now) now draw.now result (dir_at D.Dir dir.old) (dir_at D.Dir dir.new) }
     ensures history { D.observed ≡ true → IsConforming (D.shown dir.new).trace → TellsHistory (line_in words.now) now draw.now result
         (outside_at D.Dir B.Bundle dir.old bundle.old) (outside_at D.Dir B.Bundle dir.new bundle.new) (sink_at O.Sink out.old) (sink_at O.Sink out.new) }
     ensures complete { D.observed ≡ true → IsComplete (line_in words.now) result (dir_at D.Dir dir.old) (dir_at D.Dir dir.new) }
