@@ -101,6 +101,15 @@ const SWEEPS: &[Sweep] = &[
             ),
         ],
     ),
+    // Without a grace time it goes at once, though it was marked with this moment.
+    (
+        Situation::Exited,
+        (1000, 0, 86_400),
+        &[
+            (Area::Run, Some(POD), Deed::Moved(Area::ExitedGarbage)),
+            (Area::ExitedGarbage, Some(POD), Deed::Deleted),
+        ],
+    ),
     (
         Situation::ExitedGarbage,
         (2799, 1800, 86_400),
@@ -142,6 +151,12 @@ const SWEEPS: &[Sweep] = &[
         Situation::WithoutManifest,
         (87_400, 1800, 86_400),
         &[(Area::Prepared, Some(POD), Deed::Left)],
+    ),
+    // Its lock counts only once its time is over.
+    (
+        Situation::Claimed,
+        (87_399, 1800, 86_400),
+        &[(Area::Prepared, Some(POD), Deed::Kept(Phase::Prepared))],
     ),
     (
         Situation::Claimed,
