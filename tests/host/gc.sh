@@ -110,37 +110,67 @@ if [ "$(id -u)" = 0 ]; then
     expect 'a hard root' 0 "removed $pod" '' "$rkt" rm "$pod"
     same 'nothing stands' 0 "$(standing)"
 else
-    skip 'read-only directories: they are removed as root alone'
     chmod -R u+w "$inside/closed"
     expect 'a hard root' 0 "removed $pod" '' "$rkt" rm "$pod"
 fi
 same 'what is outside stands' kept "$(cat "$tmp/outside/file")"
 
-# A life of pods: eight processes prepare, run, remove and sweep, some are killed. Each app writes a file, waits, and
-# looks for it: it says if a running pod lost a file.
+# Another user than root can't empty a directory that isn't to be written: the removal is refused, the pod stays in
+# exited-garbage, and goes once its directories can be written.
+as_user=()
+if [ "$(id -u)" = 0 ]; then
+    as_user=(setpriv --reuid=65534 --regid=65534 --clear-groups)
+fi
+if [ ${#as_user[@]} -eq 0 ] || "${as_user[@]}" "$rkt" --version >/dev/null 2>&1; then
+    whole=$RKT_DIR
+    export RKT_DIR=$tmp/others
+    mkdir "$RKT_DIR"
+    [ ${#as_user[@]} -eq 0 ] || chown 65534:65534 "$RKT_DIR"
+    "${as_user[@]}" "$rkt" image import "$tmp/app" >/dev/null
+    pod=$("${as_user[@]}" "$rkt" run example.com/app | head -n 1)
+    closed=$(root run "$pod" app)/closed
+    "${as_user[@]}" mkdir -p "$closed/below"
+    "${as_user[@]}" touch "$closed/below/file"
+    "${as_user[@]}" chmod 555 "$closed/below" "$closed"
+    expect 'a closed root' 9 '' 'rkt: directory fault' "${as_user[@]}" "$rkt" rm "$pod"
+    expect 'it rests' 0 'state=exited garbage' '' "${as_user[@]}" "$rkt" status "$pod"
+    "${as_user[@]}" chmod -R u+w "$(root exited-garbage "$pod" app)/closed"
+    expect 'an opened root' 0 "removed $pod" '' "${as_user[@]}" "$rkt" rm "$pod"
+    same 'nothing of it stands' 0 "$(standing)"
+    export RKT_DIR=$whole
+else
+    skip 'read-only directories of another user: root may write all, and there is no setpriv'
+fi
+
+# A life of at least 200 pods, for a minute: eight processes prepare, run, remove and sweep, and each command is killed
+# now and then. Each app writes a file, waits, and looks for it: it says if a running pod lost a file.
 image lives "#!/bin/sh
 echo here >sentinel
 sleep 0.1
 [ \"\$(cat sentinel 2>/dev/null)\" = here ] || echo lost >>$tmp/lost"
 : >"$tmp/lost"
+until=$((SECONDS + 60))
 live() {
-    local pod
-    for turn in $(seq 25); do
-        case $(((RANDOM + $1) % 5)) in
-            0) "$rkt" prepare example.com/lives ;;
-            1) timeout -s KILL 0.0$((RANDOM % 9 + 1)) "$rkt" run example.com/lives ;;
-            2) "$rkt" run example.com/lives ;;
+    local pod cut made=0
+    while [ $SECONDS -lt $until ] || [ $made -lt 25 ]; do
+        cut=()
+        [ $((RANDOM % 4)) -ne 0 ] || cut=(timeout -s KILL 0.0$((RANDOM % 9 + 1)))
+        case $((RANDOM % 5)) in
+            0) "${cut[@]}" "$rkt" prepare example.com/lives && made=$((made + 1)) ;;
+            1 | 2) "${cut[@]}" "$rkt" run example.com/lives && made=$((made + 1)) ;;
             3) pod=$(ls "$(area prepared)" "$(area run)" | grep -v : | sort -R | head -n 1)
-                [ -z "$pod" ] || "$rkt" rm "$pod" ;;
-            4) "$rkt" gc ;;
+                [ -z "$pod" ] || "${cut[@]}" "$rkt" rm "$pod" ;;
+            4) "${cut[@]}" "$rkt" gc ;;
         esac >/dev/null 2>>"$tmp/said"
     done
+    echo $made >>"$tmp/made"
 }
 for i in $(seq 8); do
-    live "$i" &
+    live &
 done
 wait
 sleep 0.5
+same 'each process made its pods' 8 "$(awk '$1 >= 25' "$tmp/made" | wc -l)"
 same 'no running pod lost a file' '' "$(cat "$tmp/lost")"
 same 'nothing but what may be was said' '' "$(sort -u "$tmp/said" | grep -v '^rkt: no such pod$\|^rkt: wrong phase: \|^rkt: busy: \|^rkt: no manifest: \|[Kk]illed')"
 "$rkt" gc >/dev/null
