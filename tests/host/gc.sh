@@ -152,7 +152,7 @@ sleep 0.1
 until=$((SECONDS + 60))
 live() {
     local pod cut made=0
-    while [ $SECONDS -lt $until ] || [ $made -lt 25 ]; do
+    while [ $SECONDS -lt $until ] || { [ $made -lt 25 ] && [ $SECONDS -lt $((until + 240)) ]; }; do
         cut=()
         [ $((RANDOM % 4)) -ne 0 ] || cut=(timeout -s KILL 0.0$((RANDOM % 9 + 1)))
         case $((RANDOM % 5)) in
