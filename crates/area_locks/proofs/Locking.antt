@@ -23,9 +23,9 @@ use Rattle.dir_rules.specs.Standing.{is_known}
 use Rattle.dir_trait.specs.DirCalls.{DirAt, DirCall, HeldBetween}
 use Rattle.dir_trait.specs.Knowledge.{Knows}
 use Rattle.dir_trait.proofs.Knowing.{knows_call}
-use Rattle.area_locks.specs.AreaLocks.{is_same_mode, and_lock, with_gate, is_free_of, MayLock, IsBusy, IsBusyElsewhere}
+use Rattle.area_locks.specs.AreaLocks.{is_same_mode, and_lock, with_gate, is_free_of, MayLock, IsBusy, IsBusyElsewhere, IsFreeElsewhere}
 use Rattle.area_locks.proofs.Gates.{lock_seen, refusal_seen, open_given}
-use Rattle.area_locks.proofs.Opposed.{busy_step, elsewhere_step}
+use Rattle.area_locks.proofs.Opposed.{busy_step, elsewhere_step, free_step}
 
 pub mode_self : (mode : Mode) → is_same_mode mode mode ≡ true
 mode_self Shared = refl
@@ -115,3 +115,10 @@ module _ {observed : Bool} {old mid late new : DirAt} {area : Area} {mode : Mode
       within (IsBusyElsewhere old.process area mode)
       (elsewhere_step old.process old.trace mid.trace late.trace h area mode (x.step t) asks s
       (subst (λ (p : ℕ). IsTied p mid.trace (with_gate s h area None)) x.same (knows_call t k refl refl x).tied) free)
+
+-- and where it is had, nobody else does
+pub finds_free : {observed : Bool} {old mid new : DirAt} {area : Area} {mode : Mode} {h : Handle} → observed ≡ true → DirCall observed old (OpenArea area) (Opened h) mid →
+    DirCall observed mid (TryLock h mode) Done new → HeldBetween old new (IsFreeElsewhere old.process area mode)
+finds_free {observed} {old} {mid} {new} {area} {mode} {h} t x y =
+    let asks = subst (λ (p : ℕ). CallStep p mid.trace (TryLock h mode) Done new.trace) x.same (y.step t) in
+    at_after {asks = λ r. true} (and_call nothing_yet refl refl (x.step t)) refl (free_step old.process old.trace mid.trace new.trace h area mode (x.step t) asks)

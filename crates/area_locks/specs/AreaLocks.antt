@@ -75,8 +75,15 @@ abbrev pub IsBusy : Area → Mode → DirState → Type 0
 IsBusy area mode s = list_any (is_against area mode) s.namespace.openings ≡ true
 
 -- some handle of another process does
+abbrev pub is_busy_elsewhere : ℕ → Area → Mode → DirState → Bool
+is_busy_elsewhere me area mode s = list_any (λ o. not (o.process == me) && is_against area mode o) s.namespace.openings
+
 abbrev pub IsBusyElsewhere : ℕ → Area → Mode → DirState → Type 0
-IsBusyElsewhere me area mode s = list_any (λ o. not (o.process == me) && is_against area mode o) s.namespace.openings ≡ true
+IsBusyElsewhere me area mode s = is_busy_elsewhere me area mode s ≡ true
+
+-- no handle of another process does
+abbrev pub IsFreeElsewhere : ℕ → Area → Mode → DirState → Type 0
+IsFreeElsewhere me area mode s = is_busy_elsewhere me area mode s ≡ false
 
 -- what is known once a shared lock is given back: an image in incoming isn't under that area's lock any more
 abbrev pub shared_given : Area → Seen → Seen

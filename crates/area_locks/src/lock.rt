@@ -7,7 +7,7 @@ ghost use Rattle.dir_trait.specs.Causes.{Rose};
 ghost use Rattle.dir_trait.specs.Local.{IsActive, IsOpen, IsUnopened, without};
 ghost use Rattle.dir_trait.specs.DirCalls.{ExtendsBy, HeldBetween};
 ghost use Rattle.dir_trait.specs.Knowledge.{Knows};
-ghost use Rattle.area_locks.specs.AreaLocks.{takes, closes, and_lock, with_gate, is_free_of, MayLock, IsBusy, IsBusyElsewhere, shared_given, exclusive_given};
+ghost use Rattle.area_locks.specs.AreaLocks.{takes, closes, and_lock, with_gate, is_free_of, MayLock, IsBusy, IsBusyElsewhere, IsFreeElsewhere, shared_given, exclusive_given};
 
 use crate::error::{LockError, lock_error};
 use dir_trait::{Area, Dir, Handle, Mode, Reply, Request};
@@ -36,6 +36,8 @@ pub fn lock_area<D: Dir>(
     ensures another { IsErrOf result LockError.Busy → D.observed ≡ true
         → (s : Seen) → Knows (D.shown dir.old) s → is_free_of area s ≡ true
         → HeldBetween (D.shown dir.old) (D.shown dir.new) (IsBusyElsewhere (D.shown dir.old).process area mode) }
+    ensures free { IfOk result (λ handle. D.observed ≡ true
+        → HeldBetween (D.shown dir.old) (D.shown dir.new) (IsFreeElsewhere (D.shown dir.old).process area mode)) }
     ensures taken { IfOk result (λ handle. D.observed ≡ true
         → (s : Seen) → Knows (D.shown dir.old) s → MayLock s area mode
         → Knows (D.shown dir.new) (with_gate s handle area (Some mode))) }

@@ -14,10 +14,10 @@ use Rattle.dir_model.specs.Areas.{rank}
 use Rattle.dir_model.specs.Calls.{Extends}
 use Rattle.dir_model.proofs.Lists.{same_self}
 use Rattle.dir_rules.specs.declared.seen.Seen.{Seen}
-use Rattle.dir_trait.specs.DirCalls.{DirAt, ListCall, ExtendsBy}
+use Rattle.dir_trait.specs.DirCalls.{DirAt, ListCall, ExtendsBy, HeldBetween}
 use Rattle.dir_trait.specs.Knowledge.{Knows}
 use Rattle.dir_files.specs.Listed.{ShowsAreaBetween}
-use Rattle.area_locks.specs.AreaLocks.{takes, closes, with_gate, MayLock}
+use Rattle.area_locks.specs.AreaLocks.{takes, closes, with_gate, MayLock, IsFreeElsewhere}
 use Rattle.folder_removal.proofs.Calls.{list_extends}
 use Rattle.pod_steps.specs.Holding.{KeepsReady, Stays}
 use Rattle.pod_steps.proofs.Calls.{Follows}
@@ -52,7 +52,7 @@ listing_as {CanA} {CanB} {here} {me} {other} {old} {new} times f same y = by (su
 under_as : {CanA CanB : Type 0} {me other : ℕ} {old new : List Event} (times : Times) → (CanA → CanB) → other ≡ me → EndsUnderGate CanB times other old new → EndsUnderGate CanA times me old new
 under_as {CanA} {CanB} {me} {other} {old} {new} times f same u =
     let x = subst (λ (p : ℕ). EndsUnderGate CanB times p old new) same u in
-    record { gate = x.gate; locked = x.locked; done = x.done; takes_gate = x.takes_gate; ends = listing_as times f refl x.ends; gives_back = x.gives_back }
+    record { gate = x.gate; locked = x.locked; done = x.done; takes_gate = x.takes_gate; free = x.free; ends = listing_as times f refl x.ends; gives_back = x.gives_back }
 
 pass_as : {CanA CanB : Type 0} {me other : ℕ} (times : Times) (here : Area) (old new : List Event) → (CanA → CanB) → other ≡ me → EndsPass CanB times here other old new → EndsPass CanA times here me old new
 pass_as times Embryo old new f same (inl u) = inl (under_as times f same u)
@@ -90,12 +90,13 @@ ends_listed a b c times here names t listing ordered shows ready x = inl (record
 })
 
 pub ends_gate : (a b c d : DirAt) (times : Times) (h : Handle) → b.process ≡ a.process → c.process ≡ b.process → ((s : Seen) → Knows a s → MayLock s Embryo Exclusive → Knows b (with_gate s h Embryo (Some Exclusive)))
-    → ExtendsBy (takes Embryo Exclusive) a b → EndsListingBetween times Embryo b c → ExtendsBy (closes h) c d → EndsPassBetween times Embryo a d
-ends_gate a b c d times h ab bc taken first x last = inl (record {
+    → ExtendsBy (takes Embryo Exclusive) a b → HeldBetween a b (IsFreeElsewhere a.process Embryo Exclusive) → EndsListingBetween times Embryo b c → ExtendsBy (closes h) c d → EndsPassBetween times Embryo a d
+ends_gate a b c d times h ab bc taken first free x last = inl (record {
   gate = h;
   locked = b.trace;
   done = c.trace;
   takes_gate = first;
+  free = free;
   ends = listing_as times (λ can. (with_gate can.0 h Embryo (Some Exclusive), taken can.0 can.1 (may_lock can.2), passes_under h can.2)) ab x;
   gives_back = subst (λ (p : ℕ). Extends (closes h) p c.trace d.trace) (bc ∙ ab) last;
 })

@@ -16,7 +16,7 @@ use Rattle.dir_trait.specs.DirCalls.{DirAt, ExtendsBy, HeldBetween}
 use Rattle.dir_trait.specs.Knowledge.{Knows}
 use Rattle.area_locks.specs.declared.error.LockError.{LockError}
 use Rattle.area_locks.specs.declared.error.LockError.TheVariants as lock
-use Rattle.area_locks.specs.AreaLocks.{takes, closes, and_lock, with_gate, exclusive_given, is_free_of, MayLock, IsBusy, IsBusyElsewhere}
+use Rattle.area_locks.specs.AreaLocks.{takes, closes, and_lock, with_gate, exclusive_given, is_free_of, MayLock, IsBusy, IsBusyElsewhere, IsFreeElsewhere}
 use Rattle.area_locks.proofs.Locking.{unlocked_same}
 use Rattle.folder_building.specs.Work.{Worked}
 use Rattle.pod_steps.specs.Holding.{is_in_garbage, Keeps, KeepsReady, Stays}
@@ -98,7 +98,7 @@ shown_by {CanA} {CanB} {here} {lines} {me} {other} {old} {new} times f same s =
 under_by : {CanA CanB : Type 0} {lines : List GcLine} {me other : ℕ} {old new : List Event} (times : Times) → (CanA → CanB) → other ≡ me → UnderGate CanB times lines other old new → UnderGate CanA times lines me old new
 under_by {CanA} {CanB} {lines} {me} {other} {old} {new} times f same u =
     let x = subst (λ (p : ℕ). UnderGate CanB times lines p old new) same u in
-    record { gate = x.gate; locked = x.locked; done = x.done; takes_gate = x.takes_gate; tells = shown_by times f refl x.tells; gives_back = x.gives_back }
+    record { gate = x.gate; locked = x.locked; done = x.done; takes_gate = x.takes_gate; free = x.free; tells = shown_by times f refl x.tells; gives_back = x.gives_back }
 
 gated_by : {CanA CanB : Type 0} {lines : List GcLine} {me other : ℕ} {old new : List Event} → (CanA → CanB) → other ≡ me → WasGated CanB lines other old new → WasGated CanA lines me old new
 gated_by {CanA} {CanB} {lines} {me} {other} {old} {new} f same w =
@@ -120,8 +120,8 @@ adds_plain a b times here before after not x =
     (x.0, x.1, passed_plain times here not f x.2)
 
 pub adds_gate : (a b c d : DirAt) (times : Times) (h : Handle) (before after : List GcLine) → b.process ≡ a.process → c.process ≡ b.process → ((s : Seen) → Knows a s → MayLock s Embryo Exclusive → Knows b (with_gate s h Embryo (Some Exclusive)))
-    → ExtendsBy (takes Embryo Exclusive) a b → AddsShown times Embryo b c before after → ExtendsBy (closes h) c d → AddsPassed times Embryo a d before after
-adds_gate a b c d times h before after ab bc taken first x last =
+    → ExtendsBy (takes Embryo Exclusive) a b → HeldBetween a b (IsFreeElsewhere a.process Embryo Exclusive) → AddsShown times Embryo b c before after → ExtendsBy (closes h) c d → AddsPassed times Embryo a d before after
+adds_gate a b c d times h before after ab bc taken first free x last =
     let f : Knew (MaySweepAll times.now times.expire) a → Knew (MayPass Embryo times.now times.expire) b = λ can. (with_gate can.0 h Embryo (Some Exclusive), taken can.0 can.1 (may_lock can.2), passes_under h can.2) in (
       x.0,
       x.1,
@@ -130,6 +130,7 @@ adds_gate a b c d times h before after ab bc taken first x last =
         locked = b.trace;
         done = c.trace;
         takes_gate = first;
+        free = free;
         tells = shown_by times f ab x.2;
         gives_back = subst (λ (p : ℕ). Extends (closes h) p c.trace d.trace) (bc ∙ ab) last;
       }),

@@ -9,11 +9,11 @@ use Rattle.dir_model.specs.declared.event.Event.{Event}
 use Rattle.dir_model.specs.declared.pod.PodId.{PodId}
 use Rattle.dir_model.specs.declared.spot.Handle.{Handle}
 use Rattle.dir_model.specs.declared.spot.Mode.TheVariants.{Exclusive}
-use Rattle.dir_model.specs.Calls.{Extends}
+use Rattle.dir_model.specs.Calls.{Extends, AtOwnStep}
 use Rattle.dir_model.specs.Pods.{pod_of}
 use Rattle.dir_trait.specs.DirCalls.{DirAt}
 use Rattle.dir_files.specs.Listed.{ShowsArea}
-use Rattle.area_locks.specs.AreaLocks.{takes, closes}
+use Rattle.area_locks.specs.AreaLocks.{takes, closes, IsFreeElsewhere}
 use Rattle.pod_gc.specs.declared.ages.Times.{Times}
 use Rattle.pod_gc.specs.declared.line.GcLine.{GcLine}
 use Rattle.pod_gc.specs.Requests.{lists, deals_with}
@@ -50,12 +50,13 @@ pub record EndsShown (Can : Type 0) (times : Times) (here : Area) (me : ℕ) (ol
 abbrev pub EndsListing : Type 0 → Times → Area → ℕ → List Event → List Event → Type 0
 EndsListing Can times here me old new = EndsShown Can times here me old new ⊎ Extends (lists here) me old new
 
--- that in embryo, with its lock taken before and given up after
+-- that in embryo, with its lock taken before, when no other process held it, and given up after
 pub record EndsUnderGate (Can : Type 0) (times : Times) (me : ℕ) (old new : List Event) : Type 0 where
   pub gate : Handle
   pub locked : List Event
   pub done : List Event
   pub takes_gate : Extends (takes Embryo Exclusive) me old locked
+  pub free : AtOwnStep me old locked (IsFreeElsewhere me Embryo Exclusive)
   pub ends : EndsListing Can times Embryo me locked done
   pub gives_back : Extends (closes gate) me done new
 

@@ -17,7 +17,7 @@ use Rattle.dir_rules.specs.declared.seen.Seen.{Seen}
 use Rattle.dir_trait.specs.DirCalls.{DirAt}
 use Rattle.dir_trait.specs.Knowledge.{Knows}
 use Rattle.dir_files.specs.Listed.{ShowsArea}
-use Rattle.area_locks.specs.AreaLocks.{takes, closes, IsBusy, IsBusyElsewhere}
+use Rattle.area_locks.specs.AreaLocks.{takes, closes, IsBusy, IsBusyElsewhere, IsFreeElsewhere}
 use Rattle.pod_gc.specs.declared.ages.Times.{Times}
 use Rattle.pod_gc.specs.declared.line.Deed.TheVariants.{BusyGate}
 use Rattle.pod_gc.specs.declared.line.GcLine.{GcLine}
@@ -76,12 +76,13 @@ pub record TellsShown (Can : Type 0) (times : Times) (here : Area) (lines : List
   pub shows : ShowsArea me old listed here names
   pub tells : TellsEach Can times here names lines me listed new
 
--- that in embryo, with its lock taken before and given up after
+-- that in embryo, with its lock taken before, when no other process held it, and given up after
 pub record UnderGate (Can : Type 0) (times : Times) (lines : List GcLine) (me : ℕ) (old new : List Event) : Type 0 where
   pub gate : Handle
   pub locked : List Event
   pub done : List Event
   pub takes_gate : Extends (takes Embryo Exclusive) me old locked
+  pub free : AtOwnStep me old locked (IsFreeElsewhere me Embryo Exclusive)
   pub tells : TellsShown Can times Embryo lines me locked done
   pub gives_back : Extends (closes gate) me done new
 

@@ -5,7 +5,7 @@ use Rattle.dir_model.specs.Local.{Local, IsUnlocked}
 use Rattle.dir_model.proofs.Lists.{same_self}
 use Rattle.dir_model.proofs.Chains.{nothing_yet, and_call}
 use Rattle.dir_model.proofs.Holdings.{tried_by, unlocked_new}
-use Rattle.area_locks.proofs.Locking.{mode_self, locked_by, knows_lock, knows_refusal, knows_unopened, finds_busy, finds_busy_elsewhere}
+use Rattle.area_locks.proofs.Locking.{mode_self, locked_by, knows_lock, knows_refusal, knows_unopened, finds_busy, finds_busy_elsewhere, finds_free}
 use Rattle.area_locks.proofs.lock.lock_area.Goals as goal
 
 pub try_lock-requires-clause-unlocked : goal.try_lock-requires-clause-unlocked
@@ -25,6 +25,9 @@ returns-in-Ok-try_lock-clause-extends g c t =
     let opens = c.open_area.ensures.called in
     let asks = c.try_lock.ensures.called in
     and_call (and_call nothing_yet refl (same_self (rank c.args.area)) (opens.step t)) opens.same (mode_self c.args.mode) (asks.step t)
+
+pub returns-in-Ok-try_lock-clause-free : goal.returns-in-Ok-try_lock-clause-free
+returns-in-Ok-try_lock-clause-free g c t = finds_free {area = c.args.area} {mode = c.args.mode} t c.in-Ok.ensures.called c.in-Ok-try_lock.ensures.called
 
 pub returns-in-Ok-try_lock-clause-taken : goal.returns-in-Ok-try_lock-clause-taken
 returns-in-Ok-try_lock-clause-taken g c t =

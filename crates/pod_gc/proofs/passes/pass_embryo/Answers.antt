@@ -51,7 +51,7 @@ returns-in-Ok-clause-told g c =
     let before = c.args.lines.now.items in
     let after = c.pass_listed-result.new.lines.items in
     ok_more (λ done. D.observed ≡ true → AddsShown times Embryo mid late before after) (λ done. D.observed ≡ true → AddsPassed times Embryo old new before after) c.pass_listed-result.result
-    (λ done told t. adds_gate old mid late new times c.in-Ok.gate before after c.lock_area.ensures.same c.pass_listed-result.ensures.worked.same (λ s k m. c.in-Ok.ensures.taken t s k m) (c.lock_area.ensures.extends t) (told t) (c.unlock_area.ensures.extends t))
+    (λ done told t. adds_gate old mid late new times c.in-Ok.gate before after c.lock_area.ensures.same c.pass_listed-result.ensures.worked.same (λ s k m. c.in-Ok.ensures.taken t s k m) (c.lock_area.ensures.extends t) (c.in-Ok.ensures.free t) (told t) (c.unlock_area.ensures.extends t))
     c.pass_listed-result.ensures.told
 
 pub returns-in-Err-Busy-clause-told : goal.returns-in-Err-Busy-clause-told
@@ -75,7 +75,7 @@ returns-in-Ok-clause-ended g c =
     let late = D.shown c.pass_listed-result.new.dir in
     let new = D.shown c.unlock_area.new.dir in
     err_more (λ e. D.observed ≡ true → EndsListingBetween times Embryo mid late) (λ e. D.observed ≡ true → EndsPassBetween times Embryo old new) c.pass_listed-result.result
-    (λ e x t. ends_gate old mid late new times c.in-Ok.gate c.lock_area.ensures.same c.pass_listed-result.ensures.worked.same (λ s k m. c.in-Ok.ensures.taken t s k m) (c.lock_area.ensures.extends t) (x t) (c.unlock_area.ensures.extends t))
+    (λ e x t. ends_gate old mid late new times c.in-Ok.gate c.lock_area.ensures.same c.pass_listed-result.ensures.worked.same (λ s k m. c.in-Ok.ensures.taken t s k m) (c.lock_area.ensures.extends t) (c.in-Ok.ensures.free t) (x t) (c.unlock_area.ensures.extends t))
     c.pass_listed-result.ensures.ended
 
 pub returns-in-Err-Busy-clause-ended : goal.returns-in-Err-Busy-clause-ended
