@@ -38,7 +38,8 @@ use Rattle.pod_gc.specs.Sweeping.{MaySweepAll}
 use Rattle.pod_gc.specs.Told.{Knew, IsTold, TellsShown, Passed, ArePassed, places}
 use Rattle.command_outcomes.specs.Meanwhile.{Meanwhile}
 use Rattle.removal_commands.specs.Gc.{Sweeps}
-use Rattle.removal_commands.specs.Quiet.{leaves_there, StandsAfter, HasLine, SaysMoved, CameSo}
+use Rattle.removal_commands.specs.Lines.{HasLine}
+use Rattle.removal_commands.specs.Quiet.{leaves_there, StandsAfter, SaysMoved, CameSo}
 use Rattle.removal_commands.proofs.OwnSteps.{in_process, history_from, forward}
 use Rattle.removal_commands.proofs.LateTurns.{is_late, late_turn, sweeps_late}
 use Rattle.removal_commands.proofs.GcQuiet.{pod_back, shown_grown, passes_grown, each_line, each_shown, moved_apart, stood_back}

@@ -39,7 +39,8 @@ use Rattle.pod_gc.specs.Sweeping.{MaySweepAll}
 use Rattle.pod_gc.specs.Told.{Knew, deals_with_some, IsTold, TellsShown, Passed, ArePassed, places}
 use Rattle.command_outcomes.specs.Meanwhile.{Meanwhile}
 use Rattle.removal_commands.specs.Gc.{Sweeps}
-use Rattle.removal_commands.specs.Quiet.{HasLine, GoesOnSo}
+use Rattle.removal_commands.specs.Lines.{HasLine}
+use Rattle.removal_commands.specs.Quiet.{GoesOnSo}
 use Rattle.removal_commands.proofs.OwnSteps.{in_process, forward, same_folders}
 use Rattle.removal_commands.proofs.GcQuiet.{pod_back, shown_grown, passed_grown, passes_grown}
 use Rattle.removal_commands.proofs.GcTells.{found_from, any_from, stays, and_before, closed, tells_after}

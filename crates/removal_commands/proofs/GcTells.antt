@@ -45,7 +45,7 @@ use Rattle.pod_gc.specs.Told.{Knew, and_pod, pods_of, deals_with_some, IsTold, T
 use Rattle.pod_gc.proofs.Asking.{some_sweep}
 use Rattle.command_outcomes.specs.Meanwhile.{Meanwhile}
 use Rattle.removal_commands.specs.Gc.{Sweeps}
-use Rattle.removal_commands.specs.Quiet.{HasLine}
+use Rattle.removal_commands.specs.Lines.{HasLine}
 use Rattle.removal_commands.proofs.OwnSteps.{in_process, quiet_part, own_first, forward, same_folders, held_before}
 use Rattle.removal_commands.proofs.LateTurns.{or_either}
 use Rattle.removal_commands.proofs.GcQuiet.{pod_back, named_at, Leaves, lists_leave, leaves_same, shown_in, shown_grown, passed_grown, passes_grown}

@@ -35,4 +35,6 @@ pub mod GcTable
 pub mod GcArrived
 pub mod GcMarked
 pub mod GcMovedOn
+pub mod GcLines
+pub mod GcWhole
 pub mod Quietly

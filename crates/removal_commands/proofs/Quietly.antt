@@ -34,6 +34,7 @@ use Rattle.removal_commands.proofs.GcEnds.{gc_stays}
 use Rattle.removal_commands.proofs.GcGoes.{gc_goes}
 use Rattle.removal_commands.proofs.GcTable.{gc_table}
 use Rattle.removal_commands.proofs.GcMovedOn.{gc_moved_on}
+use Rattle.removal_commands.proofs.GcWhole.{gc_whole}
 
 module _ (pod : PodId) (now : ℕ) (old new : DirSeen) (ext : Extends (in_process (removes pod now)) old.process old.trace new.trace) (quiet : Quiet old.process old.trace new.trace) where
   pub rm_removed_quietly : OwnsNothing old.process (state_after old.trace).namespace → (text : List ℕ) → text ≡ removed_text pod → HasRemovedPod pod old new → RemovesPodQuietly pod old new (Ok text)
@@ -72,4 +73,5 @@ gc_swept_quietly times old new text ext quiet idle x = record {
   embryos = gc_embryos times x.lines ext quiet x.swept;
   table = λ conforming. gc_table times x.lines ext quiet x.swept conforming;
   moved_on = λ conforming. gc_moved_on times x.lines ext quiet x.swept conforming x.swept.so.moment;
+  whole = λ conforming. gc_whole times x.lines ext quiet x.swept conforming x.swept.so.moment;
 }

@@ -41,6 +41,7 @@ use Rattle.command_outcomes.specs.Moments.{DirSeen, Outcome}
 use Rattle.removal_commands.specs.Rm.{removed_text, HasRemovedPod, HasFoundNoPod, HasFoundWrong, HasFoundNoManifest, HasFoundBusy, HasMetStrayAtPod}
 use Rattle.removal_commands.specs.Gc.{HasSweptPods, HasMetStrayInPods}
 use Rattle.removal_commands.specs.Table.{moment_at, deed_when_moved, ByTable}
+use Rattle.removal_commands.specs.Lines.{HasLine, IsSweepOf}
 
 -- no folder of the pod stands at any of its six places
 abbrev pub StandsNowhere : PodId → DirState → Type 0
@@ -142,15 +143,6 @@ StandsAfter new line = (pod : PodId) → line.pod ≡ Some pod → leaves_there 
 abbrev pub GoneAfter : List Event → GcLine → Type 0
 GoneAfter new line = (pod : PodId) → line.pod ≡ Some pod → line.deed ≡ Deleted → IsGoneForGood pod new
 
--- a line of this pod at this place is among them
-pub record HasLine (place : Area) (pod : PodId) (lines : List GcLine) : Type 0 where
-  pub before : List GcLine
-  pub line : GcLine
-  pub after : List GcLine
-  pub are : lines ≡ before ++ line ∷ after
-  pub place_is : line.place ≡ place
-  pub pod_is : line.pod ≡ Some pod
-
 -- each pod that stood in an area before has a line of that place, but those in embryo where another process held that area's lock
 abbrev pub TellsOfEach : List GcLine → DirSeen → Type 0
 TellsOfEach lines old =
@@ -235,6 +227,7 @@ pub record SweepsSo (times : Times) (old new : DirSeen) (text : List ℕ) : Type
   pub embryos : LeavesNoEmbryo old new
   pub table : IsConforming new.trace → AllByRecursion (ByTable times old.process old.trace) swept.lines
   pub moved_on : IsConforming new.trace → AllByRecursion (ByTableMoved times old.process swept.lines old.trace) swept.lines
+  pub whole : IsConforming new.trace → IsSweepOf times old.process (state_after old.trace) swept.lines
 
 abbrev pub SweepsPodsQuietly : Times → DirSeen → DirSeen → Outcome → Type 0
 SweepsPodsQuietly times old new (Ok text) = SweepsSo times old new text
