@@ -34,7 +34,7 @@ use Rattle.command_outcomes.specs.Meanwhile.{Meanwhile}
 use Rattle.removal_commands.specs.Gc.{Sweeps}
 use Rattle.removal_commands.specs.Quiet.{may_say, SaysFitting, StoodAsBefore, MovedAsBefore, CameSo, GoesOnSo, MovedFrom, ByTableMoved}
 use Rattle.removal_commands.specs.Table.{deed_at, deed_when_moved, ByTable}
-use Rattle.removal_commands.specs.Lines.{HasLine, is_gated, is_move_to, moves_there, deed_after_move, deed_in_pass, IsPassLine, ArePassLines, GatedOr, IsPassOf, ArePassesOf, IsSweepOf}
+use Rattle.removal_commands.specs.Lines.{HasLine, is_gated, is_move_to, moves_there, deed_after_move, deed_in_pass, IsPassLine, ArePassLines, GatedOr, IsPassOf, ArePassesOf, IsSweepOf, AreTheLinesOf}
 use Rattle.removal_commands.proofs.OwnSteps.{in_process, at_process, held_before}
 use Rattle.removal_commands.proofs.Openings.{free_before}
 use Rattle.removal_commands.proofs.GcQuiet.{pod_back, passed_grown, passes_grown, gc_moved}
@@ -45,6 +45,7 @@ use Rattle.removal_commands.proofs.GcCame.{gc_came}
 use Rattle.removal_commands.proofs.GcGoes.{gc_goes}
 use Rattle.removal_commands.proofs.GcTable.{gc_table}
 use Rattle.removal_commands.proofs.GcMovedOn.{gc_moved_on}
+use Rattle.removal_commands.proofs.GcOnly.{only_sweep}
 use Rattle.removal_commands.proofs.GcLines.{all_zip, find_only, found_in, same_place, line_in_part, of_line, passed_place, subjects_ascend}
 
 -- places
@@ -336,8 +337,8 @@ module _ (times : Times) (lines : List GcLine) {me : ℕ} {old new : List Event}
     ((refl, λ own a b x. x, λ is. cc, λ own x. x), ((refl, λ own a b x. x, λ is. cc, λ own x. x), ((refl, λ own a b x. x, λ is. cc, λ own x. x), ((refl, λ own a b x. x, λ is. cc, λ own x. x), tt)))),
   )
 
-  pub gc_whole : IsSweepOf times me s lines
-  gc_whole =
+  gc_lines : IsSweepOf times me s lines
+  gc_lines =
       let x = m.so.swept in
       let says = subst (λ (l : List GcLine). AllByRecursion SaysDeed l) x.lines_are all_say in
       let among = passes_place later x.others x.between m.ended x.rest in
@@ -350,3 +351,6 @@ module _ (times : Times) (lines : List GcLine) {me : ℕ} {old new : List Event}
         later_passes later plain_places (refl, (refl, (refl, (refl, (refl, tt))))) x.others x.between m.ended x.rest (all_right SaysDeed x.own x.others says)
         (λ place at pod has. rest_line area.Embryo place later x.own x.others refl all_here at pod (subst (λ (l : List GcLine). HasLine place pod l) x.lines_are has)),
       )
+
+  pub gc_whole : AreTheLinesOf times me s lines
+  gc_whole = record { are = gc_lines; only = λ others x. only_sweep times me s others lines x gc_lines }

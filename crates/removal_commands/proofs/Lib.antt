@@ -36,5 +36,6 @@ pub mod GcArrived
 pub mod GcMarked
 pub mod GcMovedOn
 pub mod GcLines
+pub mod GcOnly
 pub mod GcWhole
 pub mod Quietly

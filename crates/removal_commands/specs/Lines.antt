@@ -83,3 +83,8 @@ ArePassesOf times me s (place ∷ rest) lines = (own : List GcLine) × (others :
 -- a sweep's lines, by the state before it
 abbrev pub IsSweepOf : Times → ℕ → DirState → List GcLine → Type 0
 IsSweepOf times me s lines = ArePassesOf times me s places lines
+
+-- these are they, and there are no others
+pub record AreTheLinesOf (times : Times) (me : ℕ) (s : DirState) (lines : List GcLine) : Type 0 where
+  pub are : IsSweepOf times me s lines
+  pub only : (others : List GcLine) → IsSweepOf times me s others → others ≡ lines

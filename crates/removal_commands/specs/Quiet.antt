@@ -41,7 +41,7 @@ use Rattle.command_outcomes.specs.Moments.{DirSeen, Outcome}
 use Rattle.removal_commands.specs.Rm.{removed_text, HasRemovedPod, HasFoundNoPod, HasFoundWrong, HasFoundNoManifest, HasFoundBusy, HasMetStrayAtPod}
 use Rattle.removal_commands.specs.Gc.{HasSweptPods, HasMetStrayInPods}
 use Rattle.removal_commands.specs.Table.{moment_at, deed_when_moved, ByTable}
-use Rattle.removal_commands.specs.Lines.{HasLine, IsSweepOf}
+use Rattle.removal_commands.specs.Lines.{HasLine, AreTheLinesOf}
 
 -- no folder of the pod stands at any of its six places
 abbrev pub StandsNowhere : PodId → DirState → Type 0
@@ -227,7 +227,7 @@ pub record SweepsSo (times : Times) (old new : DirSeen) (text : List ℕ) : Type
   pub embryos : LeavesNoEmbryo old new
   pub table : IsConforming new.trace → AllByRecursion (ByTable times old.process old.trace) swept.lines
   pub moved_on : IsConforming new.trace → AllByRecursion (ByTableMoved times old.process swept.lines old.trace) swept.lines
-  pub whole : IsConforming new.trace → IsSweepOf times old.process (state_after old.trace) swept.lines
+  pub whole : IsConforming new.trace → AreTheLinesOf times old.process (state_after old.trace) swept.lines
 
 abbrev pub SweepsPodsQuietly : Times → DirSeen → DirSeen → Outcome → Type 0
 SweepsPodsQuietly times old new (Ok text) = SweepsSo times old new text
