@@ -7,4 +7,5 @@ pub mod MarkNames
 pub mod Marking
 pub mod Deleting
 pub mod Rounds
+pub mod Finding
 pub mod Hindrances

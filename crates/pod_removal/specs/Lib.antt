@@ -3,4 +3,5 @@ pub mod Requests
 pub mod Holding
 pub mod Causes
 pub mod Removals
+pub mod Found
 pub mod Hindrances

@@ -8,6 +8,7 @@ ghost use Rattle.pod_steps.specs.Holding.{KeepsReady, Stays};
 ghost use Rattle.pod_removal.specs.Holding.{MayRemovePod};
 ghost use Rattle.pod_removal.specs.Causes.{StoppedFound, BusyAny, IsDeleted};
 ghost use Rattle.pod_removal.specs.Removals.{round_of, WentRound, RoundCause, RefusedByAnother};
+ghost use Rattle.pod_removal.specs.Found.{RoundWent, RoundRefused, PutWhere, TakenWhere, MissedHere, MissedWhere, RefusedHere, RefusedWhere};
 
 use crate::aside::{discard_aborted, retire_exited};
 use crate::deletion::delete_at;
@@ -67,6 +68,10 @@ fn put_away<D: Dir>(
     ensures stopped { IfErr result (λ e. StoppedFound D.observed pod phase e (D.shown dir.old) (D.shown dir.new)) }
     ensures another { IfErr result (λ e. D.observed ≡ true → Stays (MayRemovePod pod now) (D.shown dir.old)
         (λ s. BusyAny pod e (D.shown dir.old) (D.shown dir.new))) }
+    ensures put { IfOk result (λ done. PutWhere D.observed pod phase (D.shown dir.old) (D.shown dir.new)) }
+    ensures missed { IfErr result (λ e. MissedHere D.observed pod phase e (D.shown dir.old) (D.shown dir.new)) }
+    ensures refused { IfErr result (λ e. D.observed ≡ true → Stays (MayRemovePod pod now) (D.shown dir.old)
+        (λ s. RefusedHere pod phase e (D.shown dir.old) (D.shown dir.new))) }
     ensures ready { D.observed ≡ true → Stays (MayRemovePod pod now) (D.shown dir.old) (λ s. KeepsReady s (D.shown dir.new)) }
 {
     match phase {
@@ -92,6 +97,10 @@ fn remove_found<D: Dir>(
         (λ s. BusyAny pod e (D.shown dir.old) (D.shown dir.new))) }
     ensures removed { IfOk result (λ done. D.observed ≡ true
         → IsDeleted pod (D.shown dir.old).process (D.shown dir.old).trace (D.shown dir.new).trace) }
+    ensures taken { IfOk result (λ done. TakenWhere D.observed pod phase (D.shown dir.old) (D.shown dir.new)) }
+    ensures missed { IfErr result (λ e. MissedWhere D.observed pod phase e (D.shown dir.old) (D.shown dir.new)) }
+    ensures refused { IfErr result (λ e. D.observed ≡ true → Stays (MayRemovePod pod now) (D.shown dir.old)
+        (λ s. RefusedWhere pod phase e (D.shown dir.old) (D.shown dir.new))) }
     ensures ready { D.observed ≡ true → Stays (MayRemovePod pod now) (D.shown dir.old) (λ s. KeepsReady s (D.shown dir.new)) }
 {
     put_away(alloc, dir, pod, phase, now)?;
@@ -122,6 +131,8 @@ pub(crate) fn attempt<D: Dir>(
     ensures went { IfOk result (λ round. D.observed ≡ true → WentRound pod round (D.shown dir.old) (D.shown dir.new)) }
     ensures cause { IfErr result (λ e. RoundCause D.observed pod e (D.shown dir.old) (D.shown dir.new)) }
     ensures another { IfErr result (λ e. D.observed ≡ true → Stays (MayRemovePod pod now) (D.shown dir.old) (λ s. RefusedByAnother pod e (D.shown dir.old) (D.shown dir.new))) }
+    ensures round { IfOk result (λ round. D.observed ≡ true → RoundWent pod round (D.shown dir.old) (D.shown dir.new)) }
+    ensures refused { IfErr result (λ e. D.observed ≡ true → Stays (MayRemovePod pod now) (D.shown dir.old) (λ s. RoundRefused pod e (D.shown dir.old) (D.shown dir.new))) }
     ensures ready { D.observed ≡ true → Stays (MayRemovePod pod now) (D.shown dir.old) (λ s. KeepsReady s (D.shown dir.new)) }
 {
     match read_phase(alloc, dir, pod) {

@@ -9,6 +9,7 @@ ghost use Rattle.pod_removal.specs.Holding.{MayRemovePod};
 ghost use Rattle.lifecycle.specs.Executions.{IsConforming};
 ghost use Rattle.pod_removal.specs.Hindrances.{IsUnhinderedThroughout, IsFailure};
 ghost use Rattle.pod_removal.specs.Removals.{RemovedBetween, RemovedLater, RemoveCause, LaterCause, RefusedByAnother};
+ghost use Rattle.pod_removal.specs.Found.{RemovedFirst, RefusedFirst};
 
 use crate::attempt::{Round, attempt};
 use crate::error::RemoveError;
@@ -58,6 +59,8 @@ pub fn remove_pod<D: Dir>(
     ensures removed { IfOk result (λ done. D.observed ≡ true → RemovedBetween pod (D.shown dir.old) (D.shown dir.new)) }
     ensures cause { IfErr result (λ e. RemoveCause D.observed pod e (D.shown dir.old) (D.shown dir.new)) }
     ensures another { IfErr result (λ e. D.observed ≡ true → Stays (MayRemovePod pod now) (D.shown dir.old) (λ s. RefusedByAnother pod e (D.shown dir.old) (D.shown dir.new))) }
+    ensures first { IfOk result (λ done. D.observed ≡ true → RemovedFirst pod (D.shown dir.old) (D.shown dir.new)) }
+    ensures refused { IfErr result (λ e. D.observed ≡ true → Stays (MayRemovePod pod now) (D.shown dir.old) (λ s. RefusedFirst pod e (D.shown dir.old) (D.shown dir.new))) }
     ensures ready { D.observed ≡ true → Stays (MayRemovePod pod now) (D.shown dir.old) (λ s. KeepsReady s (D.shown dir.new)) }
     ensures complete { IfErr result (λ e. D.observed ≡ true → Stays (MayRemovePod pod now) (D.shown dir.old) (λ s. IsConforming (D.shown dir.new).trace
         → IsUnhinderedThroughout pod (D.shown dir.old).process (D.shown dir.old).trace (D.shown dir.new).trace → IsFailure e)) }

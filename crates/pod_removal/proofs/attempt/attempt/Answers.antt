@@ -9,6 +9,8 @@ use Rattle.pod_removal.specs.Setbacks.{refusal}
 use Rattle.pod_removal.specs.Holding.{MayRemovePod}
 use Rattle.pod_removal.specs.Removals.{WentRound, RoundCause, RefusedByAnother}
 use Rattle.pod_removal.proofs.Rounds.{worked_read, went_round, round_cause, round_another, cause_wrong, cause_failed, look_alone, wrong_elsewhere, ready_looks, ready_more}
+use Rattle.pod_removal.specs.Found.{RoundWent, RoundRefused}
+use Rattle.pod_removal.proofs.Finding.{round_went, round_refused, look_unrefused}
 use Rattle.pod_removal.proofs.attempt.attempt.Goals as goal
 
 pub returns-then-is_removable-clause-worked : goal.returns-then-is_removable-clause-worked
@@ -101,3 +103,35 @@ returns-in-Err-clause-another g c t s k m =
 
 pub returns-in-Err-clause-ready : goal.returns-in-Err-clause-ready
 returns-in-Err-clause-ready g c t = ready_looks c.args.pod (c.read_phase.ensures.known t)
+
+pub returns-then-is_removable-clause-round : goal.returns-then-is_removable-clause-round
+returns-then-is_removable-clause-round g c =
+    let D = g.D.Dir in
+    let r = c.read_phase.ensures in
+    let e = rw c.in-Ok-At.field-0-is at c.in-Ok-At.ensures in
+    let old = D.shown c.args.dir.now in
+    let mid = D.shown c.read_phase.new.dir in
+    let new = D.shown c.remove_found.new.dir in
+    subst (λ (x : Result Round RemoveError). IfOk x (λ y. D.observed ≡ true → RoundWent c.args.pod y old new)) (sym c.round_of.ensures)
+    (round_went c.args.pod c.in-Ok-At.phase c.in-Ok-At.field-0-1 old mid new r.same (sym c.is_removable.ensures ∙ c.if-is_removable.true) (λ t. e.read t) (λ t. r.extends t) c.remove_found.result c.remove_found.ensures.taken c.remove_found.ensures.missed)
+
+pub returns-then-is_removable-clause-refused : goal.returns-then-is_removable-clause-refused
+returns-then-is_removable-clause-refused g c =
+    let D = g.D.Dir in
+    let r = c.read_phase.ensures in
+    let e = rw c.in-Ok-At.field-0-is at c.in-Ok-At.ensures in
+    let old = D.shown c.args.dir.now in
+    let mid = D.shown c.read_phase.new.dir in
+    let new = D.shown c.remove_found.new.dir in
+    subst (λ (x : Result Round RemoveError). IfErr x (λ y. D.observed ≡ true → Stays (MayRemovePod c.args.pod c.args.now) old (λ s. RoundRefused c.args.pod y old new))) (sym c.round_of.ensures)
+    (round_refused c.args.pod c.in-Ok-At.phase c.in-Ok-At.field-0-1 old mid new r.same (sym c.is_removable.ensures ∙ c.if-is_removable.true) (λ t. e.read t) (λ t. r.extends t) c.args.now r.known c.remove_found.result c.remove_found.ensures.refused)
+
+pub returns-else-is_removable-clause-refused : goal.returns-else-is_removable-clause-refused
+returns-else-is_removable-clause-refused g c t s k m which is = cc
+
+pub returns-in-Err-clause-refused : goal.returns-in-Err-clause-refused
+returns-in-Err-clause-refused g c t s k m =
+    let D = g.D.Dir in
+    let old = D.shown c.args.dir.now in
+    let new = D.shown c.read_phase.new.dir in
+    subst (λ (e : RemoveError). RoundRefused c.args.pod e old new) (sym (c.refusal.ensures ∙ ap (λ (x : Setback). refusal c.args.pod x) c.look_setback.ensures)) (look_unrefused c.args.pod c.in-Err.error old new)

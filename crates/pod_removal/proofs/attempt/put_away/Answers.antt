@@ -1,13 +1,27 @@
-use Rattle.std.proofs.Common.{◌≡◌, true, refl, ap}
-use Rattle.dir_model.specs.declared.area.Area.TheVariants.{Prepare, Run}
-use Rattle.dir_model.specs.declared.spot.Mode.TheVariants.{Shared}
+use Rattle.std.proofs.Common.{◌≡◌, true, refl, sym, ap, subst, ◌∙◌, IfOk}
 use Rattle.folder_building.proofs.Copying.{err_more}
 use Rattle.folder_building.proofs.Working.{worked_none}
 use Rattle.pod_steps.specs.Holding.{Stays}
-use Rattle.pod_steps.specs.Causes.{Stopped, IsAbsentAt, BusyElsewhere}
-use Rattle.pod_removal.specs.Requests.{place_of}
 use Rattle.pod_removal.specs.Holding.{MayRemove, MayDiscard, MayRemovePod}
 use Rattle.pod_removal.specs.Causes.{StoppedAlone, StoppedFound, BusyInPrepared, BusyAny}
+use Rattle.dir_model.specs.declared.area.Phase.{Phase}
+use Rattle.dir_model.specs.declared.area.Phase.TheVariants as kind
+use Rattle.dir_model.specs.declared.area.Area.TheVariants.{Prepare, Prepared, Run, ExitedGarbage, Garbage}
+use Rattle.dir_model.specs.declared.spot.Mode.TheVariants.{Shared, Exclusive}
+use Rattle.dir_model.specs.declared.spot.Which.{Which}
+use Rattle.dir_model.specs.declared.spot.Which.TheVariants.{Own, Claim}
+use Rattle.dir_model.specs.declared.request.Reply.TheVariants.{Done}
+use Rattle.dir_model.specs.declared.request.Request.TheVariants.{MoveFolder}
+use Rattle.dir_trait.specs.DirCalls.{ExtendsBy}
+use Rattle.phase_read.specs.Read.{pod_spot}
+use Rattle.pod_steps.specs.declared.setback.Setback.{Setback}
+use Rattle.pod_steps.specs.declared.setback.Setback.TheVariants as stop
+use Rattle.pod_steps.specs.Causes.{Stopped, IsAbsentAt, BusyElsewhere, Did, FreeWhere}
+use Rattle.pod_steps.specs.Taking.{TakesNothing}
+use Rattle.pod_removal.specs.Requests.{place_of, puts_aside}
+use Rattle.pod_removal.specs.Found.{PutAway, PutWhere, MissedHere, RefusedHere}
+use Rattle.pod_removal.proofs.Stages.{err_both}
+use Rattle.pod_removal.proofs.Finding.{ok_both, put_aborted, put_exited, put_prepared, put_still, missed_here, refused_own, refused_waiting}
 use Rattle.pod_removal.proofs.Rounds.{found_here, found_waiting, busy_at, busy_waiting, ready_here, ready_any, ready_waiting, may_discard}
 use Rattle.pod_removal.proofs.attempt.put_away.Goals as goal
 
@@ -73,3 +87,85 @@ returns-in_default-clause-worked g c = worked_none
 
 pub returns-in_default-clause-ready : goal.returns-in_default-clause-ready
 returns-in_default-clause-ready g c t = ready_here
+
+pub returns-in-AbortedPrepare-clause-put : goal.returns-in-AbortedPrepare-clause-put
+returns-in-AbortedPrepare-clause-put g c =
+    let D = g.D.Dir in
+    let old = D.shown c.args.dir.now in
+    let new = D.shown c.discard_aborted.new.dir in
+    subst (λ (p : Phase). IfOk c.discard_aborted.result (λ done. PutWhere D.observed c.args.pod p old new)) (sym c.in-AbortedPrepare.is)
+    (ok_both (λ done. D.observed ≡ true → Did (MoveFolder (pod_spot c.args.pod Prepare) (pod_spot c.args.pod Garbage)) Done old.process old.trace new.trace) (λ done. D.observed ≡ true → ExtendsBy (puts_aside c.args.pod Prepare Garbage) old new) (λ done. PutWhere D.observed c.args.pod kind.AbortedPrepare old new) c.discard_aborted.result
+    (λ done did only t. put_aborted c.args.pod old.process old.trace new.trace (did t) (only t)) c.discard_aborted.ensures.done c.discard_aborted.ensures.aside)
+
+pub returns-in-AbortedPrepare-clause-missed : goal.returns-in-AbortedPrepare-clause-missed
+returns-in-AbortedPrepare-clause-missed g c =
+    let D = g.D.Dir in
+    let old = D.shown c.args.dir.now in
+    let new = D.shown c.discard_aborted.new.dir in
+    err_both (λ e. Stopped D.observed c.args.pod (IsAbsentAt c.args.pod Prepare) e old new) (λ e. TakesNothing D.observed old new) (λ e. MissedHere D.observed c.args.pod c.args.phase e old new) c.discard_aborted.result
+    (λ e x still. missed_here old new c.args.phase Prepare (ap place_of c.in-AbortedPrepare.is) x.missing still) c.discard_aborted.ensures.stopped c.discard_aborted.ensures.still
+
+pub returns-in-AbortedPrepare-clause-refused : goal.returns-in-AbortedPrepare-clause-refused
+returns-in-AbortedPrepare-clause-refused g c =
+    let D = g.D.Dir in
+    let old = D.shown c.args.dir.now in
+    let new = D.shown c.discard_aborted.new.dir in
+    err_both (λ e. (which : Which) → e ≡ stop.Busy which → which ≡ Own) (λ e. D.observed ≡ true → Stays (MayRemove c.args.now) old (λ s. BusyElsewhere c.args.pod Prepare Shared e old new)) (λ e. D.observed ≡ true → Stays (MayRemovePod c.args.pod c.args.now) old (λ s. RefusedHere c.args.pod c.args.phase e old new)) c.discard_aborted.result
+    (λ e named busy t s k m. refused_own old new c.args.phase Prepare (ap place_of c.in-AbortedPrepare.is) (λ q. let clash : kind.AbortedPrepare ≡ kind.Prepared = sym c.in-AbortedPrepare.is ∙ q in cc) named (busy t s k m.may)) c.discard_aborted.ensures.named c.discard_aborted.ensures.another
+
+pub returns-in-Exited-clause-put : goal.returns-in-Exited-clause-put
+returns-in-Exited-clause-put g c =
+    let D = g.D.Dir in
+    let old = D.shown c.args.dir.now in
+    let new = D.shown c.retire_exited.new.dir in
+    subst (λ (p : Phase). IfOk c.retire_exited.result (λ done. PutWhere D.observed c.args.pod p old new)) (sym c.in-Exited.is)
+    (ok_both (λ done. D.observed ≡ true → Did (MoveFolder (pod_spot c.args.pod Run) (pod_spot c.args.pod ExitedGarbage)) Done old.process old.trace new.trace) (λ done. D.observed ≡ true → ExtendsBy (puts_aside c.args.pod Run ExitedGarbage) old new) (λ done. PutWhere D.observed c.args.pod kind.Exited old new) c.retire_exited.result
+    (λ done did only t. put_exited c.args.pod old.process old.trace new.trace (did t) (only t)) c.retire_exited.ensures.done c.retire_exited.ensures.aside)
+
+pub returns-in-Exited-clause-missed : goal.returns-in-Exited-clause-missed
+returns-in-Exited-clause-missed g c =
+    let D = g.D.Dir in
+    let old = D.shown c.args.dir.now in
+    let new = D.shown c.retire_exited.new.dir in
+    err_both (λ e. Stopped D.observed c.args.pod (IsAbsentAt c.args.pod Run) e old new) (λ e. TakesNothing D.observed old new) (λ e. MissedHere D.observed c.args.pod c.args.phase e old new) c.retire_exited.result
+    (λ e x still. missed_here old new c.args.phase Run (ap place_of c.in-Exited.is) x.missing still) c.retire_exited.ensures.stopped c.retire_exited.ensures.still
+
+pub returns-in-Exited-clause-refused : goal.returns-in-Exited-clause-refused
+returns-in-Exited-clause-refused g c =
+    let D = g.D.Dir in
+    let old = D.shown c.args.dir.now in
+    let new = D.shown c.retire_exited.new.dir in
+    err_both (λ e. (which : Which) → e ≡ stop.Busy which → which ≡ Own) (λ e. D.observed ≡ true → Stays (MayRemove c.args.now) old (λ s. BusyElsewhere c.args.pod Run Shared e old new)) (λ e. D.observed ≡ true → Stays (MayRemovePod c.args.pod c.args.now) old (λ s. RefusedHere c.args.pod c.args.phase e old new)) c.retire_exited.result
+    (λ e named busy t s k m. refused_own old new c.args.phase Run (ap place_of c.in-Exited.is) (λ q. let clash : kind.Exited ≡ kind.Prepared = sym c.in-Exited.is ∙ q in cc) named (busy t s k m.may)) c.retire_exited.ensures.named c.retire_exited.ensures.another
+
+pub returns-in-Prepared-clause-put : goal.returns-in-Prepared-clause-put
+returns-in-Prepared-clause-put g c =
+    let D = g.D.Dir in
+    let old = D.shown c.args.dir.now in
+    let new = D.shown c.discard_prepared.new.dir in
+    subst (λ (p : Phase). IfOk c.discard_prepared.result (λ done. PutWhere D.observed c.args.pod p old new)) (sym c.in-Prepared.is)
+    (ok_both (λ done. D.observed ≡ true → Did (MoveFolder (pod_spot c.args.pod Prepared) (pod_spot c.args.pod Garbage)) Done old.process old.trace new.trace) (λ done. (only : D.observed ≡ true → ExtendsBy (puts_aside c.args.pod Prepared Garbage) old new) × FreeWhere D.observed c.args.pod Prepared Claim Exclusive old new) (λ done. PutWhere D.observed c.args.pod kind.Prepared old new) c.discard_prepared.result
+    (λ done did more t. put_prepared c.args.pod old.process old.trace new.trace (did t) (more.0 t) (more.1 t)) c.discard_prepared.ensures.done
+    (ok_both (λ done. D.observed ≡ true → ExtendsBy (puts_aside c.args.pod Prepared Garbage) old new) (λ done. FreeWhere D.observed c.args.pod Prepared Claim Exclusive old new) (λ done. (only : D.observed ≡ true → ExtendsBy (puts_aside c.args.pod Prepared Garbage) old new) × FreeWhere D.observed c.args.pod Prepared Claim Exclusive old new) c.discard_prepared.result
+    (λ done only free. (only, free)) c.discard_prepared.ensures.aside c.discard_prepared.ensures.claimed))
+
+pub returns-in-Prepared-clause-missed : goal.returns-in-Prepared-clause-missed
+returns-in-Prepared-clause-missed g c =
+    let D = g.D.Dir in
+    let old = D.shown c.args.dir.now in
+    let new = D.shown c.discard_prepared.new.dir in
+    err_both (λ e. StoppedAlone D.observed c.args.pod e old new) (λ e. TakesNothing D.observed old new) (λ e. MissedHere D.observed c.args.pod c.args.phase e old new) c.discard_prepared.result
+    (λ e x still. missed_here old new c.args.phase Prepared (ap place_of c.in-Prepared.is) x.missing still) c.discard_prepared.ensures.stopped c.discard_prepared.ensures.still
+
+pub returns-in-Prepared-clause-refused : goal.returns-in-Prepared-clause-refused
+returns-in-Prepared-clause-refused g c =
+    let D = g.D.Dir in
+    let old = D.shown c.args.dir.now in
+    let new = D.shown c.discard_prepared.new.dir in
+    err_both (λ e. e ≡ stop.Busy Own → FreeWhere D.observed c.args.pod Prepared Claim Exclusive old new) (λ e. D.observed ≡ true → Stays (MayDiscard c.args.pod c.args.now) old (λ s. BusyInPrepared c.args.pod e old new)) (λ e. D.observed ≡ true → Stays (MayRemovePod c.args.pod c.args.now) old (λ s. RefusedHere c.args.pod c.args.phase e old new)) c.discard_prepared.result
+    (λ e free busy t s k m. subst (λ (p : Phase). RefusedHere c.args.pod p e old new) (sym c.in-Prepared.is) (refused_waiting old new (λ is. free is t) (busy t s k (may_discard c.args.pod m)))) c.discard_prepared.ensures.under_claim c.discard_prepared.ensures.another
+
+pub returns-in_default-clause-put : goal.returns-in_default-clause-put
+returns-in_default-clause-put g c t =
+    let old = g.D.Dir.shown c.args.dir.now in
+    put_still c.args.pod old.process old.trace old.trace c.args.phase (λ is. c.in_default.not-AbortedPrepare is) (λ is. c.in_default.not-Prepared is) (λ is. c.in_default.not-Exited is) refl

@@ -1,4 +1,4 @@
-use Rattle.std.proofs.Common.{◌≡◌, rules, true, sym, subst}
+use Rattle.std.proofs.Common.{◌≡◌, inl, rules, true, sym, ap, subst}
 use Rattle.dir_model.specs.declared.area.Area.{Area}
 use Rattle.dir_model.specs.declared.spot.Mode.TheVariants.{Exclusive}
 use Rattle.dir_model.specs.declared.request.Request.TheVariants.{RemoveFolder}
@@ -8,13 +8,18 @@ use Rattle.folder_building.proofs.Working.{worked_more}
 use Rattle.phase_read.specs.Read.{pod_spot}
 use Rattle.pod_claim.proofs.Traces.{grown_none}
 use Rattle.pod_steps.specs.Holding.{Stays}
-use Rattle.pod_steps.specs.Causes.{Stopped, IsAbsentAt, BusyElsewhere, Did}
+use Rattle.pod_steps.specs.Causes.{Stopped, IsAbsentAt, BusyElsewhere, FreeWhere, Did}
 use Rattle.pod_steps.proofs.Calls.{follows_none, follows_work}
 use Rattle.pod_removal.specs.Requests.{is_garbage_place}
 use Rattle.pod_removal.specs.Holding.{MayRemove, MayRemovePod}
-use Rattle.pod_removal.specs.Causes.{IsDeleted, StoppedFound, BusyAny}
-use Rattle.pod_removal.proofs.Stages.{err_same}
-use Rattle.pod_removal.proofs.Rounds.{garbage_stage, aside_place, found_aside, found_part, busy_at, another_ready, deleted_at, deleted_part, ready_any, ready_more}
+use Rattle.pod_removal.specs.Causes.{IsDeleted, StoppedFound, BusyAny, is_missing, MissedUntaken}
+use Rattle.pod_removal.proofs.Stages.{err_same, err_both}
+use Rattle.pod_removal.proofs.Rounds.{garbage_stage, aside_place, found_aside, found_part, busy_at, another_ready, deleted_at, deleted_part, ready_any, ready_more, may_pod_kept}
+use Rattle.dir_model.specs.declared.spot.Which.{Which}
+use Rattle.dir_model.specs.declared.spot.Which.TheVariants.{Own}
+use Rattle.pod_steps.specs.declared.setback.Setback.TheVariants as stop
+use Rattle.pod_removal.specs.Found.{PutWhere, TakenWhere, MissedHere, MissedWhere, RefusedHere, RefusedWhere}
+use Rattle.pod_removal.proofs.Finding.{taken_by, missed_aside, refused_aside}
 use Rattle.pod_removal.proofs.attempt.remove_found.Goals as goal
 
 pub delete_at-requires-clause-garbage : goal.delete_at-requires-clause-garbage
@@ -67,3 +72,51 @@ returns-clause-removed g c =
 
 pub returns-clause-ready : goal.returns-clause-ready
 returns-clause-ready g c t = ready_more (c.put_away.ensures.ready t) (ready_any c.args.pod (c.delete_at.ensures.ready t))
+
+pub returns-in_err-put_away-clause-missed : goal.returns-in_err-put_away-clause-missed
+returns-in_err-put_away-clause-missed g c =
+    let D = g.D.Dir in
+    let old = D.shown c.args.dir.now in
+    let new = D.shown c.put_away.new.dir in
+    err_same (λ e. MissedWhere D.observed c.args.pod c.args.phase e old new) c.put_away.result c.from_residual.result
+    (λ e h. search (rules, h, c.from_residual.ensures, c.in_err-put_away.is))
+    (err_more (λ e. MissedHere D.observed c.args.pod c.args.phase e old new) (λ e. MissedWhere D.observed c.args.pod c.args.phase e old new) c.put_away.result (λ e x is t. inl (x is t)) c.put_away.ensures.missed)
+
+pub returns-in_err-put_away-clause-refused : goal.returns-in_err-put_away-clause-refused
+returns-in_err-put_away-clause-refused g c =
+    let D = g.D.Dir in
+    let old = D.shown c.args.dir.now in
+    let new = D.shown c.put_away.new.dir in
+    err_same (λ e. D.observed ≡ true → Stays (MayRemovePod c.args.pod c.args.now) old (λ s. RefusedWhere c.args.pod c.args.phase e old new)) c.put_away.result c.from_residual.result
+    (λ e h. search (rules, h, c.from_residual.ensures, c.in_err-put_away.is))
+    (err_more (λ e. D.observed ≡ true → Stays (MayRemovePod c.args.pod c.args.now) old (λ s. RefusedHere c.args.pod c.args.phase e old new)) (λ e. D.observed ≡ true → Stays (MayRemovePod c.args.pod c.args.now) old (λ s. RefusedWhere c.args.pod c.args.phase e old new)) c.put_away.result
+    (λ e busy t s k m which is. inl (busy t s k m which is)) c.put_away.ensures.refused)
+
+pub returns-clause-taken : goal.returns-clause-taken
+returns-clause-taken g c =
+    let D = g.D.Dir in
+    let old = D.shown c.args.dir.now in
+    let mid = D.shown c.put_away.new.dir in
+    let new = D.shown c.delete_at.new.dir in
+    ok_more (λ done. FreeWhere D.observed c.args.pod c.aside.result Own Exclusive mid new) (λ done. TakenWhere D.observed c.args.pod c.args.phase old new) c.delete_at.result
+    (λ done free. taken_by old mid new c.args.phase c.aside.result c.aside.ensures c.put_away.ensures.worked.same c.in_ok-put_away.ensures.put free) c.delete_at.ensures.free
+
+pub returns-clause-missed : goal.returns-clause-missed
+returns-clause-missed g c =
+    let D = g.D.Dir in
+    let old = D.shown c.args.dir.now in
+    let mid = D.shown c.put_away.new.dir in
+    let new = D.shown c.delete_at.new.dir in
+    err_both (λ e. Stopped D.observed c.args.pod (IsAbsentAt c.args.pod c.aside.result) e mid new) (λ e. MissedUntaken D.observed e mid new) (λ e. MissedWhere D.observed c.args.pod c.args.phase e old new) c.delete_at.result
+    (λ e x still. missed_aside old mid new c.args.phase c.aside.result c.aside.ensures c.put_away.ensures.worked.same c.in_ok-put_away.ensures.put x.missing (λ is. still (ap is_missing is))) c.delete_at.ensures.stopped c.delete_at.ensures.still
+
+pub returns-clause-refused : goal.returns-clause-refused
+returns-clause-refused g c =
+    let D = g.D.Dir in
+    let old = D.shown c.args.dir.now in
+    let mid = D.shown c.put_away.new.dir in
+    let new = D.shown c.delete_at.new.dir in
+    err_both (λ e. (which : Which) → e ≡ stop.Busy which → which ≡ Own) (λ e. D.observed ≡ true → Stays (MayRemove c.args.now) mid (λ s. BusyElsewhere c.args.pod c.aside.result Exclusive e mid new)) (λ e. D.observed ≡ true → Stays (MayRemovePod c.args.pod c.args.now) old (λ s. RefusedWhere c.args.pod c.args.phase e old new)) c.delete_at.result
+    (λ e named busy t s k m.
+    let x = c.put_away.ensures.ready t s k m in
+    refused_aside old mid new c.args.phase c.aside.result c.aside.ensures c.put_away.ensures.worked.same c.in_ok-put_away.ensures.put t named (busy t x.known x.knows (may_pod_kept x.keeps m).may)) c.delete_at.ensures.named c.delete_at.ensures.another

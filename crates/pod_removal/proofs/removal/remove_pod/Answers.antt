@@ -6,9 +6,11 @@ use Rattle.pod_steps.proofs.Calls.{follows_work}
 use Rattle.pod_removal.specs.declared.attempt.Round.{Round}
 use Rattle.pod_removal.specs.Holding.{MayRemovePod}
 use Rattle.pod_removal.specs.Removals.{RoundCause, LaterCause, RemoveCause, WentRound, RemovedLater, RemovedBetween, RefusedByAnother}
-use Rattle.pod_removal.proofs.Stages.{err_same}
+use Rattle.pod_removal.proofs.Stages.{err_same, err_all, ok_all}
 use Rattle.pod_removal.proofs.Rounds.{cause_first, cause_then, removed_then, refused_later, ready_more}
 use Rattle.pod_removal.proofs.Hindrances.{never_gone, refused_so}
+use Rattle.pod_removal.specs.Found.{RoundWent, RoundRefused, RemovedFirst, RefusedFirst}
+use Rattle.pod_removal.proofs.Finding.{removed_later, removed_once, refused_then, refused_once}
 use Rattle.pod_removal.proofs.removal.remove_pod.Goals as goal
 
 pub returns-in_err-attempt-clause-cause : goal.returns-in_err-attempt-clause-cause
@@ -78,3 +80,41 @@ pub returns-in-Missed-clause-complete : goal.returns-in-Missed-clause-complete
 returns-in-Missed-clause-complete g c =
     let D = g.D.Dir in
     refused_so D.observed c.args.pod c.args.now (D.shown c.args.dir.now) (D.shown c.remove_later.new.dir) c.remove_later.result (returns-in-Missed-clause-cause g c) (returns-in-Missed-clause-another g c)
+
+pub returns-in_err-attempt-clause-refused : goal.returns-in_err-attempt-clause-refused
+returns-in_err-attempt-clause-refused g c =
+    let D = g.D.Dir in
+    let old = D.shown c.args.dir.now in
+    let new = D.shown c.attempt.new.dir in
+    err_same (λ e. D.observed ≡ true → Stays (MayRemovePod c.args.pod c.args.now) old (λ s. RefusedFirst c.args.pod e old new)) c.attempt.result c.from_residual.result
+    (λ e h. search (rules, h, c.from_residual.ensures, c.in_err-attempt.is))
+    (err_more (λ e. D.observed ≡ true → Stays (MayRemovePod c.args.pod c.args.now) old (λ s. RoundRefused c.args.pod e old new)) (λ e. D.observed ≡ true → Stays (MayRemovePod c.args.pod c.args.now) old (λ s. RefusedFirst c.args.pod e old new)) c.attempt.result
+    (λ e busy t s k m. refused_once old new e (busy t s k m)) c.attempt.ensures.refused)
+
+pub returns-in-Gone-clause-refused : goal.returns-in-Gone-clause-refused
+returns-in-Gone-clause-refused g c t s k m which is = cc
+
+pub returns-in-Removed-clause-first : goal.returns-in-Removed-clause-first
+returns-in-Removed-clause-first g c t =
+    let D = g.D.Dir in
+    let old = D.shown c.args.dir.now in
+    let new = D.shown c.attempt.new.dir in
+    removed_once old new (subst (λ (y : Round). RoundWent c.args.pod y old new) c.in-Removed.is (c.in_ok-attempt.ensures.round t))
+
+pub returns-in-Missed-clause-first : goal.returns-in-Missed-clause-first
+returns-in-Missed-clause-first g c =
+    let D = g.D.Dir in
+    let old = D.shown c.args.dir.now in
+    let mid = D.shown c.attempt.new.dir in
+    let new = D.shown c.remove_later.new.dir in
+    ok_all (λ done. D.observed ≡ true → RemovedFirst c.args.pod old new) c.remove_later.result
+    (λ done t. removed_later old mid new ((follows_work c.remove_later.ensures.worked).grown t) (subst (λ (y : Round). RoundWent c.args.pod y old mid) c.in-Missed.is (c.in_ok-attempt.ensures.round t)))
+
+pub returns-in-Missed-clause-refused : goal.returns-in-Missed-clause-refused
+returns-in-Missed-clause-refused g c =
+    let D = g.D.Dir in
+    let old = D.shown c.args.dir.now in
+    let mid = D.shown c.attempt.new.dir in
+    let new = D.shown c.remove_later.new.dir in
+    err_all (λ e. D.observed ≡ true → Stays (MayRemovePod c.args.pod c.args.now) old (λ s. RefusedFirst c.args.pod e old new)) c.remove_later.result
+    (λ e t s k m. refused_then old mid new ((follows_work c.remove_later.ensures.worked).grown t) (subst (λ (y : Round). RoundWent c.args.pod y old mid) c.in-Missed.is (c.in_ok-attempt.ensures.round t)) e)
