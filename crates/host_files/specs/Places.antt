@@ -1,5 +1,5 @@
 -- Where things stand in the data folder.
-use Rattle.std.specs.Prelude.{ℕ, ◌==◌, Bool, ◌||◌, if◌then◌else◌, List, ◌++◌, length, bytes_eq, codes}
+use Rattle.std.specs.Prelude.{ℕ, ◌==◌, Bool, ◌||◌, if◌then◌else◌, List, [], ◌++◌, length, bytes_eq, codes}
 use Rattle.std.specs.List.{list_any, slice_split}
 use Rattle.dir_model.specs.declared.area.Area.{Area}
 use Rattle.dir_model.specs.declared.area.Area.TheVariants.{Embryo, Prepare, Prepared, Run, ExitedGarbage, Garbage, Incoming, Images, Trees, Removed}
@@ -29,6 +29,10 @@ folder_path root spot = area_path root spot.area ++ codes "/" ++ spot.name
 -- behind a path in the folder. The empty path is the folder itself
 abbrev pub inner_path : List ℕ → Spot → List ℕ → List ℕ
 inner_path root spot inner = if length inner == 0 then folder_path root spot else folder_path root spot ++ codes "/" ++ inner
+
+-- what follows the path of the directory above, where a path in the folder is that directory's and this rest
+abbrev pub rest_path : List ℕ → List ℕ → List ℕ
+rest_path above rest = if length above == 0 then (if length rest == 0 then [] else codes "/" ++ rest) else rest
 
 -- the segment names the directory that it stands in, or the one above
 abbrev pub is_dots : List ℕ → Bool

@@ -2,7 +2,8 @@
 use Rattle.std.specs.Prelude.{◌≡◌, ℕ, List, string_bytes}
 use Rattle.dir_model.specs.declared.spot.Spot.{Spot}
 use Rattle.host_files.specs.declared.looks.Reached.{Reached}
+use Rattle.host_files.specs.Places.{inner_path}
 
--- it is the one at this path in this folder
-abbrev pub IsAt : Reached → Spot → List ℕ → Type 0
-IsAt reached spot inner = (reached.spot ≡ spot) × (string_bytes reached.inner ≡ inner)
+-- it was reached by the path of the system at which this path in this folder stands
+abbrev pub IsAt : Reached → List ℕ → Spot → List ℕ → Type 0
+IsAt reached root spot inner = string_bytes reached.path ≡ inner_path root spot inner

@@ -1,12 +1,12 @@
 // What stands in the data folder, by its own kind: no link is followed.
-ghost use Rattle.std.specs.Prelude.{◌≡◌, ◌≢◌, ◌⊎◌, ◌↔◌, true, [], string_bytes, Err, IsTrue, IsSomeAnd, IfOk, IfErr, OnOk};
+ghost use Rattle.std.specs.Prelude.{◌≡◌, ◌≢◌, ◌⊎◌, ◌↔◌, ◌++◌, true, [], string_bytes, Err, IsTrue, IsSomeAnd, IfOk, IfErr, OnOk};
 ghost use Rattle.std.specs.Fs.{file_type, IsDir, IsFile};
 ghost use Rattle.dir_model.specs.Replies.{is_fault};
-ghost use Rattle.host_files.specs.Places.{inner_path, has_dots};
+ghost use Rattle.host_files.specs.Places.{inner_path, has_dots, rest_path};
 ghost use Rattle.host_files.specs.Ways.{IsAt};
 
 use crate::asks::{look_at, look_at_area};
-use crate::place::{has_dots, path_inside, path_of_area};
+use crate::place::{has_dots, parted, path_inside, path_of_area, push_rest};
 use crate::refusals::{absent, fault, short};
 use dir_trait::{Area, DirError, Spot};
 use std::alloc::Global;
@@ -49,19 +49,20 @@ fn check_area<R: Files>(rt: &R, alloc: Global, root: &str, area: Area) -> Result
     }
 }
 
-/// What the system tells of what stands behind a path in a folder. `Missing` where nothing does. Fails
-/// where the folder's area isn't a directory that can be looked at.
-fn examine<R: Files>(
+/// What the system tells of what stands behind a path in a folder, which is this path of the system.
+/// `Missing` where nothing does. Fails where the folder's area isn't a directory that can be looked at.
+fn examine_at<R: Files>(
     rt: &R,
     alloc: Global,
+    path: &str,
     root: &str,
     spot: &Spot,
     inner: &str,
 ) -> Result<Metadata, DirError>
+    requires { path.now ≡ inner_path root.now spot.now inner.now }
     ensures { IfErr result (λ e. (e ≡ DirError.Missing) ⊎ (is_fault e ≡ true)) }
 {
-    let path = path_inside(alloc, root, spot, inner).map_err(short)?;
-    match look_at(rt, path.as_str(), root, spot, inner) {
+    match look_at(rt, path, root, spot, inner) {
         Ok(metadata) => Ok(metadata),
         Err(error) => {
             check_area(rt, alloc, root, spot.area)?;
@@ -80,7 +81,8 @@ pub fn look<R: Files>(
 ) -> Result<Found, DirError>
     ensures { IfErr result (λ e. (e ≡ DirError.Missing) ⊎ (is_fault e ≡ true)) }
 {
-    let metadata = examine(rt, alloc, root, spot, inner)?;
+    let path = path_inside(alloc, root, spot, inner).map_err(short)?;
+    let metadata = examine_at(rt, alloc, path.as_str(), root, spot, inner)?;
     Ok(found_of(metadata))
 }
 
@@ -100,21 +102,13 @@ pub fn check_dir<R: Files>(
     }
 }
 
-/// A directory in a folder that was reached last: at each directory on the way to it was looked.
+/// A directory in a folder that was reached last, by its path of the system: at each directory on the way
+/// to it was looked.
 #[derive(Drop)]
 pub struct Reached {
-    spot: Spot,
-    inner: String,
+    path: String,
     device: u64,
     number: u64,
-}
-
-/// The path of the directory above: the folder's own, the empty path, where no other is.
-fn above_of(inner: &str) -> &str {
-    match inner.rsplit_once('/') {
-        Some((above, _)) => above,
-        None => "",
-    }
 }
 
 /// `Missing` where the folder isn't there, or one of the directories above a path in it.
@@ -145,48 +139,44 @@ fn check_above<R: Files>(
 fn go<R: Files>(
     rt: &R,
     alloc: Global,
+    path: &str,
     root: &str,
     spot: &Spot,
     inner: &str,
 ) -> Result<Reached, DirError>
-    ensures at { IfOk result (λ reached. IsAt reached spot.now inner.now) }
+    requires { path.now ≡ inner_path root.now spot.now inner.now }
+    ensures at { IfOk result (λ reached. IsAt reached root.now spot.now inner.now) }
     ensures refusals { IfErr result (λ e. (e ≡ DirError.Missing) ⊎ (is_fault e ≡ true)) }
 {
     check_above(rt, alloc, root, spot, inner)?;
-    let found = examine(rt, alloc, root, spot, inner)?;
+    let found = examine_at(rt, alloc, path, root, spot, inner)?;
     if !found.is_dir() {
         return Err(DirError::Missing);
     }
     Ok(Reached {
-        spot: *spot,
-        inner: String::from_str(alloc, inner).map_err(short)?,
+        path: String::from_str(alloc, path).map_err(short)?,
         device: found.dev(),
         number: found.ino(),
     })
-}
-
-/// Whether it was reached by this path in this folder.
-fn is_at(reached: &Reached, spot: &Spot, inner: &str) -> bool
-    ensures { IsTrue result ↔ IsAt reached.now spot.now inner.now }
-{
-    reached.spot == *spot && reached.inner.as_str() == inner
 }
 
 /// Whether the path leads to the directory that was reached by it.
 fn leads_back<R: Files>(
     rt: &R,
     alloc: Global,
-    root: &str,
     reached: &Reached,
+    path: &str,
+    root: &str,
     spot: &Spot,
     inner: &str,
 ) -> bool
-    ensures { IsTrue result → IsAt reached.now spot.now inner.now }
+    requires { path.now ≡ inner_path root.now spot.now inner.now }
+    ensures { IsTrue result → IsAt reached.now root.now spot.now inner.now }
 {
-    if !is_at(reached, spot, inner) {
+    if reached.path.as_str() != path {
         return false;
     }
-    match examine(rt, alloc, root, spot, inner) {
+    match examine_at(rt, alloc, path, root, spot, inner) {
         Ok(found) => found.dev() == reached.device && found.ino() == reached.number,
         Err(_) => false,
     }
@@ -197,20 +187,22 @@ fn leads_back<R: Files>(
 fn go_or_stay<R: Files>(
     rt: &R,
     alloc: Global,
-    root: &str,
     reached: &mut Option<Reached>,
+    path: &str,
+    root: &str,
     spot: &Spot,
     inner: &str,
 ) -> Result<(), DirError>
-    ensures at { OnOk result (IsSomeAnd reached.new (λ reached. IsAt reached spot.now inner.now)) }
+    requires { path.now ≡ inner_path root.now spot.now inner.now }
+    ensures at { OnOk result (IsSomeAnd reached.new (λ reached. IsAt reached root.now spot.now inner.now)) }
     ensures refusals { IfErr result (λ e. (e ≡ DirError.Missing) ⊎ (is_fault e ≡ true)) }
 {
     if let Some(last) = reached {
-        if leads_back(rt, alloc, root, last, spot, inner) {
+        if leads_back(rt, alloc, last, path, root, spot, inner) {
             return Ok(());
         }
     }
-    *reached = Some(go(rt, alloc, root, spot, inner)?);
+    *reached = Some(go(rt, alloc, path, root, spot, inner)?);
     Ok(())
 }
 
@@ -231,8 +223,11 @@ pub fn reach<R: Files>(
     if has_dots(inner) {
         return Err(DirError::Missing);
     }
-    go_or_stay(rt, alloc, root, reached, spot, above_of(inner))?;
-    path_inside(alloc, root, spot, inner).map_err(short)
+    let (above, rest) = parted(inner);
+    let mut path = path_inside(alloc, root, spot, above).map_err(short)?;
+    go_or_stay(rt, alloc, reached, path.as_str(), root, spot, above)?;
+    push_rest(&mut path, above, rest).map_err(short)?;
+    Ok(path)
 }
 
 /// The same of something below the folder: the empty path, that of the folder itself, is refused so.
