@@ -33,6 +33,7 @@ use Rattle.command_outcomes.specs.Meanwhile.{Meanwhile}
 use Rattle.removal_commands.specs.Gc.{Sweeps}
 use Rattle.removal_commands.specs.Quiet.{leaves_there, StandsAfter}
 use Rattle.removal_commands.proofs.OwnSteps.{in_process, quiet_part, forward, same_folders}
+use Rattle.removal_commands.proofs.LateTurns.{sweeps_late}
 use Rattle.removal_commands.proofs.GcQuiet.{pod_back, shown_grown, passed_grown, passes_grown}
 use Rattle.removal_commands.proofs.GcTells.{passes_over, closed}
 use Rattle.removal_commands.proofs.GcTurn.{quiet_between, turn_after, turn_before, stood_until, stood_since, untaken_through}
@@ -80,7 +81,7 @@ module _ (times : Times) {me : ℕ} {old new : List Event} (ext : Extends (in_pr
         grown_none (grown_by e) e (quiet_between quiet first (grown_by e) last) there)
 
     by_took : TookNothing me x.from x.upto → stands (state_after b).namespace spot ≡ true
-    by_took took = over_turn (record { more = took.more; grown = took.grown }) (λ there. untaken_through times.now spot me ext quiet first last took there)
+    by_took took = over_turn (record { more = took.more; grown = took.grown }) (λ there. untaken_through (sweeps times.now) (sweeps_late times.now) spot me ext quiet first last took there)
 
     pub pass_leaves : leaves_there line.deed ≡ true → stands (state_after b).namespace spot ≡ true
     pass_leaves there = by line.deed refl there

@@ -68,7 +68,7 @@ moved_stays s spot from to me at there =
     ap (λ (o : Option ℕ). is_some o) (position_from-zero (is_at spot) gs) ∙ found_from (is_at spot) 0 gs (any_moved spot from to fs at any)
 
 -- nor does what else moves the pod
-on_leaves : (pod : PodId) (here to : Area) (me : ℕ) (s : DirState) (request : Request) (reply : Reply) → (is_kill request || moves_on pod here to request) ≡ true → stands s.namespace (pod_spot pod to) ≡ true → stands (namespace_replied s.namespace me request reply) (pod_spot pod to) ≡ true
+pub on_leaves : (pod : PodId) (here to : Area) (me : ℕ) (s : DirState) (request : Request) (reply : Reply) → (is_kill request || moves_on pod here to request) ≡ true → stands s.namespace (pod_spot pod to) ≡ true → stands (namespace_replied s.namespace me request reply) (pod_spot pod to) ≡ true
 on_leaves pod here to me s (MakeFolder new) reply h there = cc
 on_leaves pod here to me s (MoveFolder a b) Done h there = moved_stays s (pod_spot pod to) a b me (spot_turn (pod_spot pod to) b (and_right (spot_eq (pod_spot pod here) a) (spot_eq (pod_spot pod to) b) h)) there
 on_leaves pod here to me s (MoveFolder a b) reply h there = there
@@ -76,7 +76,7 @@ on_leaves pod here to me s (RemoveFolder gone) reply h there = cc
 on_leaves pod here to me s request reply h there = ap (λ (fs : List (Option Spot)). stands (record s.namespace { folders = fs }) (pod_spot pod to)) (same_folders me s.namespace request reply refl (λ handle. refl)) ∙ there
 
 -- after its own move it stands where it goes
-moved_stands : (me : ℕ) (from to : Spot) (a b : List Event) → CallStep me a (MoveFolder from to) Done b → stands (state_after b).namespace to ≡ true
+pub moved_stands : (me : ℕ) (from to : Spot) (a b : List Event) → CallStep me a (MoveFolder from to) Done b → stands (state_after b).namespace to ≡ true
 moved_stands me from to a b s = by s.own
   where
     e : Event

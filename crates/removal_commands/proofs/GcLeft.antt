@@ -60,7 +60,7 @@ module _ (times : Times) (lines : List GcLine) {me : ℕ} {old new : List Event}
       let took = x.dealt.let_be.left deed in
       let gone = x.dealt.cause.left deed in
       let stood = stood_until stage quiet to_a from_b t x (grown_more (record { more = took.more; grown = took.grown }) last) in
-      let there = untaken_at times.now (pod_spot x.shown here) me ext quiet first last took gone stood in
+      let there = untaken_at (sweeps times.now) (sweeps_late times.now) (pod_spot x.shown here) me ext quiet first last took gone stood in
       let then : List Event = gone.before ++ gone.step ∷ [] in
       let to_then : Grew x.from then = record { more = gone.later ++ gone.step ∷ []; grown = ap (λ (h : List Event). h ++ gone.step ∷ []) gone.begins ∙ append_assoc x.from gone.later (gone.step ∷ []) } in
       let from_then : Grew then x.upto = record { more = gone.rest; grown = gone.ends } in

@@ -44,8 +44,7 @@ use Rattle.removal_commands.specs.Table.{is_held_in}
 use Rattle.removal_commands.proofs.OwnSteps.{in_process, back_at, held_before}
 use Rattle.removal_commands.proofs.Openings.{free_before, held_owns}
 use Rattle.removal_commands.proofs.OneNumber.{one_number}
-use Rattle.removal_commands.proofs.FolderItems.{any_replied}
-use Rattle.removal_commands.proofs.Lacking.{folder_back}
+use Rattle.removal_commands.proofs.Manifests.{had_manifest}
 use Rattle.removal_commands.proofs.GcLeft.{sweeps_aside}
 use Rattle.removal_commands.proofs.GcQuiet.{each_shown}
 use Rattle.removal_commands.proofs.GcTurn.{turn_after, turn_before}
@@ -116,29 +115,6 @@ module _ {asks : Request → Bool} {me : ℕ} {old from upto new : List Event} (
       let free = free_before (λ o. is_folder x.folder o.folder && (is_lock Own o.target && opposes Shared o.lock)) (at_part (then x.found) refl last told) ext quiet in
       subst (λ (f : ℕ). Test Own Shared f (state_after old) ≡ false) one free
 
--- a sweep makes no manifest in prepared
-module _ (now : ℕ) (pod : PodId) (f : ℕ) (me : ℕ) where
-  abbrev manifest : List ℕ
-  manifest = codes "pod"
-
-  abbrev HasManifest : DirState → Type 0
-  HasManifest s = (folder_at s.namespace (pod_spot pod area.Prepared) ≡ Some f) × (has_file s.entries f manifest ≡ true)
-
-  its_entry : (e : TreeEntry) → is_file_entry f manifest e ≡ true → (e.folder == f) ≡ true
-  its_entry e is = and_left (e.folder == f) (bytes_eq e.path manifest) (and_left ((e.folder == f) && bytes_eq e.path manifest) (not (is_dir e.node)) is)
-
-  manifest_back : (s : DirState) (request : Request) (reply : Reply) → (is_kill request || in_process (sweeps now) request) ≡ true → HasManifest (state_next s (event me request reply)) → HasManifest s
-  manifest_back s request reply h x =
-      let at = folder_back (sweeps now) (sweeps_aside now) pod f me s request reply h x.0 in
-      (at, sym (any_replied f (is_file_entry f manifest) its_entry (pod_spot pod area.Prepared) s.namespace at s.entries request reply (λ inner is. changed_off now pod request h inner is)) ∙ x.1)
-
-  opened : (b : Bool) → cond b None (Some Missing) ≡ None → b ≡ true
-  opened true is = refl
-  opened false is = cc
-
-  had_manifest : {old new : List Event} → Extends (in_process (sweeps now)) me old new → Quiet me old new → AtOwnStep me old new (OpensAt pod area.Prepared Claim f) → HasManifest (state_after old)
-  had_manifest ext quiet at = back_at HasManifest (in_process (sweeps now)) me manifest_back (at_weaker HasManifest (λ s y. (y.0, opened (has_file s.entries f manifest) y.1)) at) ext quiet
-
 module _ (times : Times) (lines : List GcLine) {me : ℕ} {old new : List Event} (ext : Extends (in_process (sweeps times.now)) me old new) (quiet : Quiet me old new) (m : Meanwhile (Sweeps times lines) me old new) (conforming : IsConforming new) where
   told_locks : {Can : Type 0} (can : Can) (here : Area) → is_stage here ≡ true → (ls : List GcLine) (a b : List Event) → Grew old a → Grew b new → (t : TellsShown Can times here ls me a b) → (line : GcLine) → IsTold Can times here t.names line me t.listed b → LocksBefore me old new line
   told_locks {Can} can here stage ls a b to_a from_b t line x pod k h is to_new at =
@@ -179,7 +155,7 @@ module _ (times : Times) (lines : List GcLine) {me : ℕ} {old new : List Event}
 
       had : (f : ℕ) (between : List Event) → AtOwnStep me x.from between (OpensAt x.shown area.Prepared Claim f) → Grew between new → folder_at (state_after old).namespace (pod_spot x.shown area.Prepared) ≡ Some k → has_file (state_after old).entries k (codes "pod") ≡ true
       had f between found rest at =
-          let y = had_manifest times.now x.shown f me ext quiet (at_part first refl rest found) in
+          let y = had_manifest (sweeps times.now) (sweeps_aside times.now) x.shown (λ request h inner is. changed_off times.now x.shown request h inner is) f me ext quiet (at_part first refl rest found) in
           let one : f ≡ k = let e : Some f ≡ Some k = sym y.0 ∙ at in cc in
           subst (λ (g : ℕ). has_file (state_after old).entries g (codes "pod") ≡ true) one y.1
 

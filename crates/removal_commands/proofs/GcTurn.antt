@@ -27,10 +27,9 @@ use Rattle.pod_claim.proofs.Traces.{grown_none, grown_more, grown_by}
 use Rattle.pod_steps.specs.Taking.{takes_away, TookNothing}
 use Rattle.pod_gc.specs.declared.ages.Times.{Times}
 use Rattle.pod_gc.specs.declared.line.GcLine.{GcLine}
-use Rattle.pod_gc.specs.Requests.{sweeps}
 use Rattle.pod_gc.specs.Told.{deals_with_some, IsTold, TellsShown}
 use Rattle.removal_commands.proofs.OwnSteps.{in_process, own_asked, own_part, asked_part, own_first, quiet_part, forward, same_folders}
-use Rattle.removal_commands.proofs.LateTurns.{sweeps_late, or_false}
+use Rattle.removal_commands.proofs.LateTurns.{Late, or_false}
 use Rattle.removal_commands.proofs.GcQuiet.{pod_back}
 use Rattle.removal_commands.proofs.GcTells.{same_text, stands_named, shown_stands, stays}
 
@@ -74,35 +73,34 @@ later_apart (n ∷ ns) name later sorted = later_apart ns name later sorted.1
 abbrev Untaken : ℕ → Event → Type 0
 Untaken me e = (is_foreign me e || not (takes_away e.request e.reply)) ≡ true
 
-module _ (now : ℕ) (spot : Spot) (me : ℕ) where
-  untaken_stays : (s : DirState) (request : Request) (reply : Reply) → (is_kill request || in_process (sweeps now) request) ≡ true → (is_kill request || not (takes_away request reply)) ≡ true → stands s.namespace spot ≡ true → stands (namespace_replied s.namespace me request reply) spot ≡ true
-  untaken_stays s (MakeFolder new) reply h still there = absurd ((sweeps_late now).makes new (or_false (sweeps now (MakeFolder new)) h))
+module _ (asks : Request → Bool) (l : Late asks) (spot : Spot) (me : ℕ) where
+  untaken_stays : (s : DirState) (request : Request) (reply : Reply) → (is_kill request || in_process asks request) ≡ true → (is_kill request || not (takes_away request reply)) ≡ true → stands s.namespace spot ≡ true → stands (namespace_replied s.namespace me request reply) spot ≡ true
+  untaken_stays s (MakeFolder new) reply h still there = absurd (l.makes new (or_false (asks (MakeFolder new)) h))
   untaken_stays s (MoveFolder from to) Done h still there = cc
   untaken_stays s (MoveFolder from to) reply h still there = there
   untaken_stays s (RemoveFolder gone) Done h still there = cc
   untaken_stays s (RemoveFolder gone) reply h still there = there
   untaken_stays s request reply h still there = ap (λ (fs : List _). stands (record s.namespace { folders = fs }) spot) (same_folders me s.namespace request reply refl (λ handle. refl)) ∙ there
 
-  untaken_all : (s : DirState) (es : List Event) → AllByRecursion (λ e. e.process ≡ me) es → AllByRecursion (λ e. (is_foreign me e || in_process (sweeps now) e.request) ≡ true) es → AllByRecursion (Untaken me) es → stands s.namespace spot ≡ true
+  untaken_all : (s : DirState) (es : List Event) → AllByRecursion (λ e. e.process ≡ me) es → AllByRecursion (λ e. (is_foreign me e || in_process asks e.request) ≡ true) es → AllByRecursion (Untaken me) es → stands s.namespace spot ≡ true
       → stands (states_next s es).namespace spot ≡ true
   untaken_all s [] own asked still there = there
   untaken_all s (e ∷ es) own asked still there =
-      let next = untaken_stays s e.request e.reply (own_asked (in_process (sweeps now)) me e own.0 asked.0) (own_asked (λ r. not (takes_away r e.reply)) me e own.0 still.0) there in
+      let next = untaken_stays s e.request e.reply (own_asked (in_process asks) me e own.0 asked.0) (own_asked (λ r. not (takes_away r e.reply)) me e own.0 still.0) there in
       untaken_all (state_next s e) es own.1 asked.1 still.1 (subst (λ (p : ℕ). stands (namespace_replied s.namespace p e.request e.reply) spot ≡ true) (sym own.0) next)
 
   -- over the beginning of a stretch
-  untaken_part : {old from upto new : List Event} → Extends (in_process (sweeps now)) me old new → Quiet me old new → Grew old from → Grew upto new → TookNothing me from upto → (es rest : List Event) → upto ≡ from ++ (es ++ rest)
+  untaken_part : {old from upto new : List Event} → Extends (in_process asks) me old new → Quiet me old new → Grew old from → Grew upto new → TookNothing me from upto → (es rest : List Event) → upto ≡ from ++ (es ++ rest)
       → stands (state_after from).namespace spot ≡ true → stands (states_next (state_after from) es).namespace spot ≡ true
   untaken_part {old} {from} {upto} {new} ext quiet first last took es rest part there =
-      let asks = in_process (sweeps now) in
       let whole : new ≡ old ++ ((first.more ++ es) ++ (rest ++ last.more)) = last.grown ∙ (ap (λ (h : List Event). h ++ last.more) (part ∙ ap (λ (h : List Event). h ++ (es ++ rest)) first.grown) ∙ simp append_assoc) in
-      let own = all_right (λ (e : Event). e.process ≡ me) first.more es (own_part asks me old new ext quiet (first.more ++ es) (rest ++ last.more) whole) in
-      let asked = all_right (λ (e : Event). (is_foreign me e || asks e.request) ≡ true) first.more es (asked_part asks me old new ext quiet (first.more ++ es) (rest ++ last.more) whole) in
+      let own = all_right (λ (e : Event). e.process ≡ me) first.more es (own_part (in_process asks) me old new ext quiet (first.more ++ es) (rest ++ last.more) whole) in
+      let asked = all_right (λ (e : Event). (is_foreign me e || in_process asks e.request) ≡ true) first.more es (asked_part (in_process asks) me old new ext quiet (first.more ++ es) (rest ++ last.more) whole) in
       let still = all_left (Untaken me) es rest (subst (λ (l : List Event). AllByRecursion (Untaken me) l) (same_rest from took.more (es ++ rest) (sym took.grown ∙ part)) took.still) in
       untaken_all (state_after from) es own asked still there
 
   -- up to an own step of it, and to its end
-  pub untaken_at : {P : DirState → Type 0} {old from upto new : List Event} → Extends (in_process (sweeps now)) me old new → Quiet me old new → Grew old from → Grew upto new → TookNothing me from upto → (at : AtOwnStep me from upto P)
+  pub untaken_at : {P : DirState → Type 0} {old from upto new : List Event} → Extends (in_process asks) me old new → Quiet me old new → Grew old from → Grew upto new → TookNothing me from upto → (at : AtOwnStep me from upto P)
       → stands (state_after from).namespace spot ≡ true → stands (state_after (at.before ++ at.step ∷ [])).namespace spot ≡ true
   untaken_at {P} {old} {from} {upto} {new} ext quiet first last took at there =
       let es = at.later ++ at.step ∷ [] in
@@ -111,7 +109,7 @@ module _ (now : ℕ) (spot : Spot) (me : ℕ) where
       ∙ (ap state_after (append_assoc from at.later (at.step ∷ [])) ∙ states_next-append empty_state from es) in
       subst (λ (s : DirState). stands s.namespace spot ≡ true) (sym here) (untaken_part ext quiet first last took es at.rest part there)
 
-  pub untaken_through : {old from upto new : List Event} → Extends (in_process (sweeps now)) me old new → Quiet me old new → Grew old from → Grew upto new → TookNothing me from upto → stands (state_after from).namespace spot ≡ true → stands (state_after upto).namespace spot ≡ true
+  pub untaken_through : {old from upto new : List Event} → Extends (in_process asks) me old new → Quiet me old new → Grew old from → Grew upto new → TookNothing me from upto → stands (state_after from).namespace spot ≡ true → stands (state_after upto).namespace spot ≡ true
   untaken_through {old} {from} {upto} {new} ext quiet first last took there =
       subst (λ (s : DirState). stands s.namespace spot ≡ true) (sym (ap state_after took.grown ∙ states_next-append empty_state from took.more))
       (untaken_part ext quiet first last took took.more [] (took.grown ∙ ap (λ (l : List Event). from ++ l) (sym (append-nil took.more))) there)

@@ -36,7 +36,7 @@ use Rattle.removal_commands.specs.Gc.{Sweeps}
 use Rattle.removal_commands.specs.Quiet.{WaitedAsBefore}
 use Rattle.removal_commands.specs.Table.{moment_in, moment_at}
 use Rattle.removal_commands.proofs.OwnSteps.{in_process, back_from, quiet_part, own_first}
-use Rattle.removal_commands.proofs.LateTurns.{or_false}
+use Rattle.removal_commands.proofs.LateTurns.{or_false, sweeps_late}
 use Rattle.removal_commands.proofs.Lacking.{garbage_apart, folder_back}
 use Rattle.removal_commands.proofs.GcLeft.{sweeps_aside}
 use Rattle.removal_commands.proofs.GcQuiet.{each_shown}
@@ -122,7 +122,7 @@ module _ (times : Times) (lines : List GcLine) {me : ℕ} {old new : List Event}
       not_gone {X} deed gone =
           let took = x.dealt.let_be.left deed in
           let stood = stood_until stage quiet to_a from_b t x (grown_more (record { more = took.more; grown = took.grown }) last) in
-          let there = untaken_at times.now (pod_spot x.shown here) me ext quiet first last took gone stood in
+          let there = untaken_at (sweeps times.now) (sweeps_late times.now) (pod_spot x.shown here) me ext quiet first last took gone stood in
           let moved = subst (λ (p : Area). stands (state_after (gone.before ++ gone.step ∷ [])).namespace (pod_spot x.shown p) ≡ true) (sym x.place_is ∙ place) there in
           let clash : false ≡ true = sym gone.holds ∙ moved in cc
 

@@ -30,6 +30,7 @@ pub mod GcEnds
 pub mod GcGoes
 pub mod GcRested
 pub mod GcCame
+pub mod Manifests
 pub mod GcLocks
 pub mod GcTable
 pub mod GcArrived
@@ -38,4 +39,6 @@ pub mod GcMovedOn
 pub mod GcLines
 pub mod GcOnly
 pub mod GcWhole
+pub mod RmRounds
+pub mod RmTable
 pub mod Quietly

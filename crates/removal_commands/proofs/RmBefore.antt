@@ -31,9 +31,8 @@ use Rattle.phase_read.specs.Sequential.{sequential_read, found_in}
 use Rattle.phase_read.specs.Exact.{AtOwnEvent}
 use Rattle.pod_claim.specs.Elsewhere.{IsOwnedElsewhere}
 use Rattle.pod_removal.specs.Requests.{removes}
-use Rattle.pod_removal.specs.Causes.{IsBusyAt}
 use Rattle.command_outcomes.specs.Meanwhile.{Meanwhile}
-use Rattle.removal_commands.specs.Rm.{WasSo, WasOwned}
+use Rattle.removal_commands.specs.Rm.{FindsPodBusy, WasSo, WasOwned}
 use Rattle.removal_commands.specs.Quiet.{HasPhaseNow, IsHeldNow}
 use Rattle.removal_commands.proofs.OwnSteps.{in_process, event_process}
 use Rattle.removal_commands.proofs.Held.{was_held}
@@ -64,7 +63,7 @@ module _ (pod : PodId) (h : List Event) (conforming : IsConforming h) where
   abbrev Stands : Area → Bool
   Stands a = stands now.namespace (pod_spot pod a)
 
-  lone : (a b : Area) → is_stage a ≡ true → is_stage b ≡ true → Stands a ≡ true → (rank a == rank b) ≡ false → Stands b ≡ false
+  pub lone : (a b : Area) → is_stage a ≡ true → is_stage b ≡ true → Stands a ≡ true → (rank a == rank b) ≡ false → Stands b ≡ false
   lone a b p q there apart = by (Stands b) refl
     where
       by : (s : Bool) → Stands b ≡ s → s ≡ false
@@ -85,7 +84,7 @@ module _ (pod : PodId) (h : List Event) (conforming : IsConforming h) where
   later_is a here later found there is = rw there is
 
   module _ (p : Phase) where
-    reads : (a : Area) → is_stage a ≡ true → Stands a ≡ true → phase_in a (is_owned_at now.namespace (pod_spot pod a)) ≡ Some p → ((b : Area) → is_stage b ≡ true → (rank a == rank b) ≡ false → Stands b ≡ false) → sequential_read now pod ≡ At p a
+    pub reads : (a : Area) → is_stage a ≡ true → Stands a ≡ true → phase_in a (is_owned_at now.namespace (pod_spot pod a)) ≡ Some p → ((b : Area) → is_stage b ≡ true → (rank a == rank b) ≡ false → Stands b ≡ false) → sequential_read now pod ≡ At p a
     reads area.Embryo stage there is none = found_is area.Embryo p _ there is
     reads area.Prepare stage there is none = later_is area.Embryo _ _ _ (none area.Embryo refl refl) (found_is area.Prepare p _ there is)
     reads area.Prepared stage there is none = later_is area.Embryo _ _ _ (none area.Embryo refl refl) (later_is area.Prepare _ _ _ (none area.Prepare refl refl) (found_is area.Prepared p _ there is))
@@ -147,7 +146,7 @@ module _ (pod : PodId) (now : ℕ) {me : ℕ} {old new : List Event} (ext : Exte
   rm_wrong_before p m o conforming =
       has_phase_now pod old (conforming_left old quiet.more (subst IsConforming quiet.grown conforming)) p (had p m o conforming)
 
-  pub rm_held_before : (which : Which) → Meanwhile (IsBusyAt pod which) me old new → IsHeldNow (is_pod_spot pod) which me (state_after old)
+  pub rm_held_before : (which : Which) → Meanwhile (FindsPodBusy pod which) me old new → IsHeldNow (is_pod_spot pod) which me (state_after old)
   rm_held_before which m =
       was_held (is_pod_spot pod) (λ a b same. of_same its a b same) (removes pod now) (removes_late pod now) (λ from to is here. rm_moves pod now from to is) me pod (λ a stage. ap (λ b. b && bytes_eq its its) stage ∙ same_bytes its) which old m.begun m.ended new
-      (record { more = m.begins.more; grown = m.begins.grown }) (record { more = m.finishes.more; grown = m.finishes.grown }) ext quiet m.so
+      (record { more = m.begins.more; grown = m.begins.grown }) (record { more = m.finishes.more; grown = m.finishes.grown }) ext quiet m.so.busy

@@ -15,7 +15,7 @@ use Rattle.removal_commands.proofs.OwnSteps.{in_process, back_at, at_process}
 use Rattle.removal_commands.proofs.LateTurns.{removes_late, in_garbage}
 use Rattle.removal_commands.proofs.Lacking.{Aside, Lacks, lacks_back}
 
-removes_aside : (pod : PodId) (now : ℕ) → Aside (removes pod now)
+pub removes_aside : (pod : PodId) (now : ℕ) → Aside (removes pod now)
 removes_aside pod now = record { late = removes_late pod now; files = λ inner is. in_garbage pod now inner.spot is; dirs = λ inner is. in_garbage pod now inner.spot is }
 
 pub rm_lacked_before : (pod : PodId) (now : ℕ) {me : ℕ} {old new : List Event} → Extends (in_process (removes pod now)) me old new → Quiet me old new → Meanwhile (HadNoManifest pod) me old new → IsConforming new → LacksManifest pod (state_after old)

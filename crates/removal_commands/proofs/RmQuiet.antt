@@ -143,7 +143,7 @@ module _ (pod : PodId) where
       let first = left_out_grown pod me old f.between _ f.earlier in
       at_part (record { more = first.0; grown = first.1 }) refl grown_none (found_at a p f.found)
 
-  stage_of : (a : Area) → rank a ≤ 5 → is_stage a ≡ true
+  pub stage_of : (a : Area) → rank a ≤ 5 → is_stage a ≡ true
   stage_of a l = grind (arith, nat_tests)
 
   ended_grown : {me : ℕ} (a b : List Event) → IsDeleted pod me a b ⊎ FoundNone pod me a b → Grew a b
@@ -176,10 +176,10 @@ module _ (pod : PodId) where
           gone_after u hy new last (none_last (pod_state u hy) y.holds (omega (arith, young, old_enough)))
 
   -- that it was there
-  existed : (me : ℕ) (old new : List Event) → Removes pod me old new → IsConforming new → ExistedBetween pod old new
-  existed me old new (inl (inl did)) c = did_exist pod (pod_spot pod area.ExitedGarbage) me old new (same_bytes u) did c
-  existed me old new (inl (inr did)) c = did_exist pod (pod_spot pod area.Garbage) me old new (same_bytes u) did c
-  existed me old new (inr e) c =
+  existed_by : (me : ℕ) (old new : List Event) → IsDeleted pod me old new ⊎ FoundThenEnded pod me old new → IsConforming new → ExistedBetween pod old new
+  existed_by me old new (inl (inl did)) c = did_exist pod (pod_spot pod area.ExitedGarbage) me old new (same_bytes u) did c
+  existed_by me old new (inl (inr did)) c = did_exist pod (pod_spot pod area.Garbage) me old new (same_bytes u) did c
+  existed_by me old new (inr e) c =
       let x = stood_at e.missed.phase e.missed.area e.missed.read in
       let hx = x.before ++ x.step ∷ [] in
       let missed = at_grown e.missed.missed in
@@ -192,6 +192,9 @@ module _ (pod : PodId) where
         last = to_end;
         was = (stands_exists u hx (pod_spot pod e.missed.area) (conforming_before to_end c) its x.holds).0;
       }
+
+  existed : (me : ℕ) (old new : List Event) → Removes pod me old new → IsConforming new → ExistedBetween pod old new
+  existed me old new r c = existed_by me old new r.did c
 
   pub rm_existed : {me : ℕ} {old new : List Event} → Meanwhile (Removes pod) me old new → IsConforming new → ExistedBetween pod old new
   rm_existed {me} {old} {new} m conforming =
@@ -219,7 +222,7 @@ module _ (pod : PodId) where
   rm_gone {me} {old} {new} m conforming =
       let last : Grew m.ended new = record { more = m.finishes.more; grown = m.finishes.grown } in
       let then = conforming_before last conforming in
-      let gone = gone_after u m.ended new last (elim m.so [ inl did ↦ deleted_gone me m.begun m.ended did then | inr e ↦ ended_gone me m.begun m.ended e then ]) in
+      let gone = gone_after u m.ended new last (elim m.so.did [ inl did ↦ deleted_gone me m.begun m.ended did then | inr e ↦ ended_gone me m.begun m.ended e then ]) in
       record { is = gone; nowhere = gone_nowhere new conforming gone }
 
   -- it was there, and is gone

@@ -18,7 +18,7 @@ pub rm_complete : (pod : PodId) (now : ℕ) (old new : DirSeen) (r : Refusal) �
 rm_complete pod now old new NoPod may says t s k m conforming free = absurd (never_gone pod old.process old.trace new.trace free ((says t).nowhere conforming))
 rm_complete pod now old new (WrongPhase p) may says t s k m conforming free = absurd (never_wrong pod old.process old.trace new.trace free p (says.was t conforming) (λ owned. says.owner t s k m conforming owned))
 rm_complete pod now old new (NoManifest other) may says t s k m conforming free = absurd (never_lacking pod old.process old.trace new.trace free (says.1 t conforming))
-rm_complete pod now old new (PodBusy other which) may says t s k m conforming free = absurd (never_held pod old.process old.trace new.trace free which (says.1 t s k m))
+rm_complete pod now old new (PodBusy other which) may says t s k m conforming free = absurd (never_held pod old.process old.trace new.trace free which (says.1 t s k m).busy)
 rm_complete pod now old new DirFault may says t s k m conforming free = refl
 rm_complete pod now old new Stray may says t s k m conforming free = refl
 rm_complete pod now old new NoMemory may says t s k m conforming free = refl

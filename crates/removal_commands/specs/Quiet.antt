@@ -40,7 +40,7 @@ use Rattle.command_outcomes.specs.declared.refusal.Refusal.TheVariants.{NoPod, W
 use Rattle.command_outcomes.specs.Moments.{DirSeen, Outcome}
 use Rattle.removal_commands.specs.Rm.{removed_text, HasRemovedPod, HasFoundNoPod, HasFoundWrong, HasFoundNoManifest, HasFoundBusy, HasMetStrayAtPod}
 use Rattle.removal_commands.specs.Gc.{HasSweptPods, HasMetStrayInPods}
-use Rattle.removal_commands.specs.Table.{moment_at, deed_when_moved, ByTable}
+use Rattle.removal_commands.specs.Table.{moment_at, deed_when_moved, removal_refusal, ByTable}
 use Rattle.removal_commands.specs.Lines.{HasLine, AreTheLinesOf}
 
 -- no folder of the pod stands at any of its six places
@@ -74,13 +74,18 @@ pub record IsHeldNow (its_place : Spot → Bool) (which : Which) (me : ℕ) (s :
   pub held : list_any (is_held_against me which mode folder) s.namespace.openings ≡ true
 
 -- of `rm`: the pod is gone, which could be removed before; or by the state before there was none, or it had that phase, or no manifest, or its lock was held; or by
--- its own answers
+-- its own answers. Whether it is refused, and why, is what the state before asks for
 abbrev pub RemovesPodQuietly : PodId → DirSeen → DirSeen → Outcome → Type 0
-RemovesPodQuietly pod old new (Ok text) = (text ≡ removed_text pod) × HasRemovedPod pod old new × (IsConforming new.trace → IsGoneForGood pod new.trace × IsRemovableNow pod old.trace)
-RemovesPodQuietly pod old new (Err NoPod) = HasFoundNoPod pod old new × StandsNowhere pod (state_after old.trace)
-RemovesPodQuietly pod old new (Err (WrongPhase phase)) = HasFoundWrong pod phase old new × (IsConforming new.trace → HasPhaseNow pod phase old.trace)
-RemovesPodQuietly pod old new (Err (NoManifest other)) = (other ≡ pod) × HasFoundNoManifest pod old new × (IsConforming new.trace → LacksManifest pod (state_after old.trace))
-RemovesPodQuietly pod old new (Err (PodBusy other which)) = (other ≡ pod) × HasFoundBusy pod which old new × IsHeldNow (is_pod_spot pod) which old.process (state_after old.trace)
+RemovesPodQuietly pod old new (Ok text) =
+    (text ≡ removed_text pod) × HasRemovedPod pod old new × (IsConforming new.trace → IsGoneForGood pod new.trace × IsRemovableNow pod old.trace × (removal_refusal old.process pod (state_after old.trace) ≡ None))
+RemovesPodQuietly pod old new (Err NoPod) = HasFoundNoPod pod old new × StandsNowhere pod (state_after old.trace) × (removal_refusal old.process pod (state_after old.trace) ≡ Some NoPod)
+RemovesPodQuietly pod old new (Err (WrongPhase phase)) =
+    HasFoundWrong pod phase old new × (IsConforming new.trace → HasPhaseNow pod phase old.trace × (removal_refusal old.process pod (state_after old.trace) ≡ Some (WrongPhase phase)))
+RemovesPodQuietly pod old new (Err (NoManifest other)) =
+    (other ≡ pod) × HasFoundNoManifest pod old new × (IsConforming new.trace → LacksManifest pod (state_after old.trace) × (removal_refusal old.process pod (state_after old.trace) ≡ Some (NoManifest pod)))
+RemovesPodQuietly pod old new (Err (PodBusy other which)) =
+    (other ≡ pod) × HasFoundBusy pod which old new × IsHeldNow (is_pod_spot pod) which old.process (state_after old.trace)
+    × (IsConforming new.trace → removal_refusal old.process pod (state_after old.trace) ≡ Some (PodBusy pod which))
 RemovesPodQuietly pod old new (Err Stray) = HasMetStrayAtPod pod old new
 RemovesPodQuietly pod old new (Err refusal) = ⊥
 

@@ -20,6 +20,7 @@ use Rattle.pod_removal.specs.Causes.{IsBusyAt, IsDeleted}
 use Rattle.pod_removal.specs.Holding.{MayRemovePod}
 use Rattle.pod_removal.specs.Hindrances.{IsUnhinderedThroughout}
 use Rattle.pod_removal.specs.Removals.{FoundNone, FoundThenEnded, MissedTimes, WasWrong}
+use Rattle.pod_removal.specs.Found.{TakenAway, WasRefused, FirstOrMissed}
 use Rattle.command_outcomes.specs.declared.refusal.Refusal.{Refusal}
 use Rattle.command_outcomes.specs.declared.refusal.Refusal.TheVariants.{NoPod, WrongPhase, NoManifest, PodBusy, DirFault, Stray, NoMemory}
 use Rattle.command_outcomes.specs.Texts.{named_line}
@@ -51,9 +52,16 @@ remove_refusal pod error.DirFault = DirFault
 remove_refusal pod error.Stray = Stray
 remove_refusal pod error.NoMemory = NoMemory
 
--- its own removal of the pod was answered Ok, or the pod was there at its first read and gone at a later one
-abbrev pub Removes : PodId → ℕ → List Event → List Event → Type 0
-Removes pod me old new = IsDeleted pod me old new ⊎ FoundThenEnded pod me old new
+-- its own removal of the pod was answered Ok, or the pod was there at its first read and gone at a later one; in its first round it took the
+-- pod away, or missed it
+pub record Removes (pod : PodId) (me : ℕ) (old new : List Event) : Type 0 where
+  pub did : IsDeleted pod me old new ⊎ FoundThenEnded pod me old new
+  pub first : FirstOrMissed pod (TakenAway pod) me old new
+
+-- another process held this lock of the pod; in its first round that lock was refused, or the pod missed
+pub record FindsPodBusy (pod : PodId) (which : Which) (me : ℕ) (old new : List Event) : Type 0 where
+  pub busy : IsBusyAt pod which me old new
+  pub first : FirstOrMissed pod (WasRefused pod which) me old new
 
 -- it is so where the process has begun to remove this pod at this moment
 abbrev pub WhereRemoving : PodId → ℕ → DirSeen → Type 0 → Type 0
@@ -89,7 +97,7 @@ RmSays pod now old new (Ok text) = (text ≡ removed_text pod) × (old.observed 
 RmSays pod now old new (Err NoPod) = old.observed ≡ true → FoundNone pod old.process old.trace new.trace
 RmSays pod now old new (Err (WrongPhase phase)) = FindsWrong pod now phase old new
 RmSays pod now old new (Err (NoManifest other)) = (other ≡ pod) × (old.observed ≡ true → HadNoManifest pod old.process old.trace new.trace)
-RmSays pod now old new (Err (PodBusy other which)) = (other ≡ pod) × WhereRemoving pod now old (IsBusyAt pod which old.process old.trace new.trace)
+RmSays pod now old new (Err (PodBusy other which)) = (other ≡ pod) × WhereRemoving pod now old (FindsPodBusy pod which old.process old.trace new.trace)
 RmSays pod now old new (Err Stray) = old.observed ≡ true → MeetsStray pod old.process old.trace new.trace
 RmSays pod now old new (Err refusal) = Unit {0}
 
@@ -120,7 +128,7 @@ abbrev pub HasFoundNoManifest : PodId → DirSeen → DirSeen → Type 0
 HasFoundNoManifest pod old new = Meanwhile (HadNoManifest pod) old.process old.trace new.trace
 
 abbrev pub HasFoundBusy : PodId → Which → DirSeen → DirSeen → Type 0
-HasFoundBusy pod which old new = Meanwhile (IsBusyAt pod which) old.process old.trace new.trace
+HasFoundBusy pod which old new = Meanwhile (FindsPodBusy pod which) old.process old.trace new.trace
 
 abbrev pub HasMetStrayAtPod : PodId → DirSeen → DirSeen → Type 0
 HasMetStrayAtPod pod old new = Meanwhile (MeetsStray pod) old.process old.trace new.trace

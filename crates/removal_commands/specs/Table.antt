@@ -1,4 +1,4 @@
--- What a sweep does with a pod, by one state of the directory.
+-- What a sweep does with a pod, and why one isn't removed, by one state of the directory.
 use Rattle.std.specs.Prelude.{◌≡◌, ℕ, Bool, true, false, ◌&&◌, cond, nat_lt, codes, Option, Some, None, List, []}
 use Rattle.std.specs.List.{list_any}
 use Rattle.dir_model.specs.declared.area.Area.{Area}
@@ -14,13 +14,19 @@ use Rattle.dir_trait.specs.State.{DirState, stands, folder_at}
 use Rattle.dir_trait.specs.Trace.{state_after}
 use Rattle.dir_model.specs.Trees.{items_in, has_file}
 use Rattle.dir_rules.specs.Standing.{is_in}
+use Rattle.phase_read.specs.declared.found.Found.{Found}
+use Rattle.phase_read.specs.declared.found.Found.TheVariants.{At, Gone}
 use Rattle.phase_read.specs.Read.{pod_spot}
+use Rattle.phase_read.specs.Sequential.{sequential_read}
 use Rattle.pod_steps.specs.Causes.{is_held_against}
+use Rattle.pod_removal.specs.Requests.{is_removable}
 use Rattle.pod_gc.specs.declared.ages.Times.{Times}
 use Rattle.pod_gc.specs.declared.line.Deed.{Deed}
 use Rattle.pod_gc.specs.declared.line.Deed.TheVariants.{Moved, Deleted, Kept, Busy, Left}
 use Rattle.pod_gc.specs.declared.line.GcLine.{GcLine}
 use Rattle.pod_gc.specs.Marks.{moment_among, is_young, is_ripe}
+use Rattle.command_outcomes.specs.declared.refusal.Refusal.{Refusal}
+use Rattle.command_outcomes.specs.declared.refusal.Refusal.TheVariants.{NoPod, WrongPhase, NoManifest, PodBusy}
 
 -- the greatest moment of such marks that stand directly in a folder
 abbrev pub moment_in : List ℕ → Option ℕ → DirState → Option ℕ
@@ -74,3 +80,26 @@ deed_when_moved times me pod from to s = cond (is_in area.ExitedGarbage to && na
 -- of a pod that stood at its line's place before, the line says what the state before asks for
 abbrev pub ByTable : Times → ℕ → List Event → GcLine → Type 0
 ByTable times me old line = (pod : PodId) → line.pod ≡ Some pod → stands (state_after old).namespace (pod_spot pod line.place) ≡ true → line.deed ≡ deed_at times me pod line.place (state_after old)
+
+-- a pod isn't deleted while another process holds its own lock in any mode
+abbrev pub own_refusal : ℕ → PodId → Area → DirState → Option Refusal
+own_refusal me pod place s = cond (is_held_at me Own Exclusive pod place s) (Some (PodBusy pod Own)) None
+
+-- nor is a prepared one put aside without its file `pod`, or while another process holds its activation lock
+abbrev pub waiting_refusal : ℕ → PodId → DirState → Option Refusal
+waiting_refusal me pod s =
+    cond (has_manifest (folder_at s.namespace (pod_spot pod area.Prepared)) s)
+    (cond (is_held_at me Claim Exclusive pod area.Prepared s) (Some (PodBusy pod Claim)) (own_refusal me pod area.Prepared s))
+    (Some (NoManifest pod))
+
+abbrev pub place_refusal : ℕ → PodId → Area → DirState → Option Refusal
+place_refusal me pod area.Prepared s = waiting_refusal me pod s
+place_refusal me pod place s = own_refusal me pod place s
+
+abbrev pub found_refusal : ℕ → PodId → DirState → Found → Option Refusal
+found_refusal me pod s Gone = Some NoPod
+found_refusal me pod s (At phase place) = cond (is_removable phase) (place_refusal me pod place s) (Some (WrongPhase phase))
+
+-- why `rm` refuses, if it does
+abbrev pub removal_refusal : ℕ → PodId → DirState → Option Refusal
+removal_refusal me pod s = found_refusal me pod s (sequential_read s pod)
