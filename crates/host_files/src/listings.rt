@@ -6,13 +6,14 @@ ghost use Rattle.std.specs.List.Sorted.{IsStrictlySortedBy};
 ghost use Rattle.dir_model.specs.Listings.{item_names};
 ghost use Rattle.dir_model.specs.Replies.{is_fault};
 ghost use Rattle.dir_trait.specs.Bundles.{IsListing};
-ghost use Rattle.host_files.specs.Places.{has_dots};
+ghost use Rattle.host_files.specs.Places.{inner_path, has_dots};
 ghost use Rattle.host_files.specs.Shown.{shown_item};
 
+use crate::asks::look_at;
 use crate::files::list_folder;
 use crate::inside::open_dir;
 use crate::looks::Reached;
-use crate::place::path_of_area;
+use crate::place::{path_inside, path_of_area};
 use crate::refusals::short;
 use dir_trait::{
     Area, BundleError, BundleItem, BundleItems, BundleKind, DirError, Item, ItemKind, Items, Name,
@@ -21,6 +22,7 @@ use dir_trait::{
 use std::alloc::{AllocError, Global};
 use std::collections::BTreeSet;
 use std::fs::File;
+use std::os::unix::fs::MetadataExt;
 use std::os::unix::io::AsRawFd;
 use std::rt::Files;
 
@@ -69,7 +71,7 @@ fn shown_listing(alloc: Global, listing: &BundleItems) -> Result<Items, DirError
 
 /// The entries of an open directory, which is read through its descriptor: so they are told also where
 /// the folder is moved meanwhile.
-fn list_opened<R: Files + AllocGlobal + Clone + Drop>(
+fn list_by_descriptor<R: Files + AllocGlobal + Clone + Drop>(
     rt: &R,
     alloc: Global,
     directory: &File,
@@ -80,6 +82,46 @@ fn list_opened<R: Files + AllocGlobal + Clone + Drop>(
     let number = directory.as_raw_fd();
     let path = format!(in alloc; "/proc/self/fd/{number}").map_err(short)?;
     list_folder(rt, alloc, path.as_str()).map_err(unlisted)
+}
+
+/// Whether the path leads to the open directory, and not by a link.
+fn leads_to<R: Files>(
+    rt: &R,
+    directory: &File,
+    path: &str,
+    root: &str,
+    spot: &Spot,
+    inner: &str,
+) -> bool
+    requires { path.now ≡ inner_path root.now spot.now inner.now }
+{
+    match (directory.metadata(), look_at(rt, path, root, spot, inner)) {
+        (Ok(opened), Ok(found)) => found.dev() == opened.dev() && found.ino() == opened.ino(),
+        _ => false,
+    }
+}
+
+/// The entries of an open directory. The system tells them faster by its path, which is as good where
+/// the path still leads to it afterwards.
+fn list_opened<R: Files<File = File> + AllocGlobal + Clone + Drop>(
+    rt: &R,
+    alloc: Global,
+    directory: &File,
+    path: &str,
+    root: &str,
+    spot: &Spot,
+    inner: &str,
+) -> Result<BundleItems, DirError>
+    requires { path.now ≡ inner_path root.now spot.now inner.now }
+    ensures ordered { IfOk result IsListing }
+    ensures refusals { IfErr result (λ e. is_fault e ≡ true) }
+{
+    if let Ok(items) = list_folder(rt, alloc, path) {
+        if leads_to(rt, directory, path, root, spot, inner) {
+            return Ok(items);
+        }
+    }
+    list_by_descriptor(rt, alloc, directory)
 }
 
 /// What stands in a directory of a folder.
@@ -96,7 +138,8 @@ pub fn list_inside<R: Files<File = File> + AllocGlobal + Clone + Drop>(
     ensures refusals { IfErr result (λ e. (e ≡ DirError.Missing) ⊎ (is_fault e ≡ true)) }
 {
     let directory = open_dir(rt, alloc, root, reached, spot, inner)?;
-    let listing = list_opened(rt, alloc, &directory)?;
+    let path = path_inside(alloc, root, spot, inner).map_err(short)?;
+    let listing = list_opened(rt, alloc, &directory, path.as_str(), root, spot, inner)?;
     shown_listing(alloc, &listing)
 }
 

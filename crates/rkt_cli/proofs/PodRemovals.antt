@@ -22,7 +22,6 @@ use Rattle.rkt_cli.specs.declared.line.Line.{Line}
 use Rattle.rkt_cli.proofs.Ran.{ran}
 use Rattle.dir_rules.specs.Marks.{begins}
 use Rattle.pod_steps.specs.Causes.{WasStray}
-use Rattle.pod_removal.specs.Causes.{IsBusyAt}
 use Rattle.pod_removal.specs.Holding.{MayRemovePod}
 use Rattle.pod_removal.specs.Removals.{FoundNone}
 use Rattle.pod_gc.specs.declared.line.GcLine.{GcLine}
@@ -30,7 +29,7 @@ use Rattle.pod_gc.specs.Sweeping.{MaySweepAll}
 use Rattle.command_outcomes.specs.declared.refusal.Refusal.TheVariants.{NoPod, WrongPhase, PodBusy, NoManifest, DirFault, Stray, NoMemory}
 use Rattle.command_outcomes.specs.Moments.{DirSeen, Outside, BundleSeen, Outcome, dir_seen}
 use Rattle.command_outcomes.specs.Conforming.{begun, StaysConforming}
-use Rattle.removal_commands.specs.Rm.{rm_refusal, RmSays, removed_text, Removes, WasSo, WasOwned, HadNoManifest, MeetsStray, HasRemovedPod, HasFoundNoPod, HasFoundWrong, HasFoundNoManifest, HasFoundBusy, HasMetStrayAtPod}
+use Rattle.removal_commands.specs.Rm.{rm_refusal, RmSays, removed_text, Removes, FindsPodBusy, WasSo, WasOwned, HadNoManifest, MeetsStray, HasRemovedPod, HasFoundNoPod, HasFoundWrong, HasFoundNoManifest, HasFoundBusy, HasMetStrayAtPod}
 use Rattle.removal_commands.specs.Gc.{gc_refusal, GcSays, times_of, lines_text, Sweeps, SweepsUntold, SweepsInPart, HasSweptPods, HasMadePasses, HasSweptInPart, HasMetStrayInPods}
 use Rattle.rkt_cli.specs.declared.line.Line.TheVariants.{Rm, Gc}
 use Rattle.rkt_cli.specs.Commands.{intent_for, gc_intent, intent_of, may, grace_time, expire_time}
@@ -95,7 +94,7 @@ rm_bare pod now draw None old new bare p = unused p.apart
 
 pub rm_busy : (pod : PodId) (now : ℕ) (draw : Draw) (old new : Outside) (busy : PodId) (which : Which) → Performs (Rm pod) now draw (intent_of (Rm pod) now draw) old new (Err (PodBusy busy which)) →
     (busy ≡ pod) × (old.dir.observed ≡ true → HasFoundBusy pod which old.dir new.dir)
-rm_busy pod now draw old new busy which (inl s) = (s.ran.says.0, λ t. meanwhile (IsBusyAt pod which) s t (s.ran.says.1 (s.told ∙ t) (begun (rm_intent pod now draw)) (begun_knows s t) (begun_removes pod now draw)))
+rm_busy pod now draw old new busy which (inl s) = (s.ran.says.0, λ t. meanwhile (FindsPodBusy pod which) s t (s.ran.says.1 (s.told ∙ t) (begun (rm_intent pod now draw)) (begun_knows s t) (begun_removes pod now draw)))
 rm_busy pod now draw old new busy which (inr n) = unbegun (PodBusy busy which) refl n.is
 
 pub rm_wrong : (pod : PodId) (now : ℕ) (draw : Draw) (old new : Outside) (phase : Phase) → Performs (Rm pod) now draw (intent_of (Rm pod) now draw) old new (Err (WrongPhase phase)) → old.dir.observed ≡ true → HasFoundWrong pod phase old.dir new.dir

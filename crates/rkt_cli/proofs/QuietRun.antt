@@ -323,14 +323,14 @@ rm_quiet pod now draw old new o s u own = by o s own
     by : (o : Outcome) → InProcess (Rm pod) now draw (rm_intent pod now draw) old new o → is_own_end o ≡ true → RemovesPodQuietly pod old.dir new.dir o
     by (Ok text) s own =
         rm_removed_quietly pod now old.dir new.dir (ext (Ok text) s) quiet (idle s t quiet) text (rm_printed pod now draw (Some (rm_intent pod now draw)) old new text (inl s)) (rm_done pod now draw (Some (rm_intent pod now draw)) old new text (inl s) t)
-    by (Err NoPod) s own = rm_none_quietly pod now old.dir new.dir (ext (Err NoPod) s) quiet (rm_none pod now draw (Some (rm_intent pod now draw)) old new t (inl s))
-    by (Err (WrongPhase phase)) s own = rm_wrong_quietly pod now old.dir new.dir (ext (Err (WrongPhase phase)) s) quiet phase (rm_wrong pod now draw old new phase (inl s) t)
+    by (Err NoPod) s own = rm_none_quietly pod now old.dir new.dir (ext (Err NoPod) s) quiet (idle s t quiet) (rm_none pod now draw (Some (rm_intent pod now draw)) old new t (inl s))
+    by (Err (WrongPhase phase)) s own = rm_wrong_quietly pod now old.dir new.dir (ext (Err (WrongPhase phase)) s) quiet (idle s t quiet) phase (rm_wrong pod now draw old new phase (inl s) t)
     by (Err (NoManifest other)) s own =
         let x = rm_bare pod now draw (Some (rm_intent pod now draw)) old new other (inl s) in
-        rm_lacking_quietly pod now old.dir new.dir (ext (Err (NoManifest other)) s) quiet other x.0 (x.1 t)
+        rm_lacking_quietly pod now old.dir new.dir (ext (Err (NoManifest other)) s) quiet (idle s t quiet) other x.0 (x.1 t)
     by (Err (PodBusy other which)) s own =
         let x = rm_busy pod now draw old new other which (inl s) in
-        rm_busy_quietly pod now old.dir new.dir (ext (Err (PodBusy other which)) s) quiet other which x.0 (x.1 t)
+        rm_busy_quietly pod now old.dir new.dir (ext (Err (PodBusy other which)) s) quiet (idle s t quiet) other which x.0 (x.1 t)
     by (Err Stray) s own = rm_stray pod now draw (Some (rm_intent pod now draw)) old new (inl s) t
     by (Err NoMemory) s own = let clash : false ≡ true = own in cc
     by (Err DirFault) s own = let clash : false ≡ true = own in cc
