@@ -1,5 +1,5 @@
 -- What a round does with a pod that it found, from its steps.
-use Rattle.std.proofs.Common.{◌≡◌, inl, inr, ℕ, Bool, true, false, Result, Ok, Err, IfOk, IfErr, List, refl, sym, ap, subst, ◌∙◌}
+use Rattle.std.proofs.Common.{◌≡◌, inl, inr, ℕ, Bool, true, Result, Ok, Err, IfOk, IfErr, List, refl, sym, ap, subst, ◌∙◌}
 use Rattle.dir_model.specs.declared.area.Area.{Area}
 use Rattle.dir_model.specs.declared.area.Area.TheVariants.{Prepare, Prepared, Run, ExitedGarbage, Garbage}
 use Rattle.dir_model.specs.declared.area.Phase.{Phase}
@@ -19,25 +19,21 @@ use Rattle.phase_read.specs.declared.found.LookError.{LookError}
 use Rattle.phase_read.specs.declared.found.LookError.TheVariants as look
 use Rattle.phase_read.specs.Read.{pod_spot, is_pod_spot, IsReading}
 use Rattle.pod_claim.specs.Work.{Grew}
-use Rattle.pod_claim.proofs.Traces.{grown_none}
 use Rattle.pod_steps.specs.declared.setback.Setback.{Setback}
 use Rattle.pod_steps.specs.declared.setback.Setback.TheVariants as stop
 use Rattle.pod_steps.specs.Setbacks.{look_setback}
 use Rattle.pod_steps.specs.Causes.{IsAbsentAt, Did, BusyElsewhere, HeldByAnother, FreeOfOthers, FreeWhere}
-use Rattle.pod_steps.specs.Holding.{KeepsReady, Stays}
+use Rattle.pod_steps.specs.Holding.{Stays}
 use Rattle.pod_steps.specs.Taking.{TookNothing, TakesNothing}
-use Rattle.pod_steps.proofs.Calls.{Follows}
-use Rattle.pod_removal.specs.declared.attempt.Round.{Round}
 use Rattle.pod_removal.specs.declared.attempt.Round.TheVariants as round
 use Rattle.pod_removal.specs.declared.error.RemoveError.{RemoveError}
-use Rattle.pod_removal.specs.declared.error.RemoveError.TheVariants as error
 use Rattle.pod_removal.specs.Requests.{is_removable, aside, place_of, puts_aside}
 use Rattle.pod_removal.specs.Setbacks.{refusal}
 use Rattle.pod_removal.specs.Holding.{MayRemovePod}
-use Rattle.pod_removal.specs.Causes.{asked_mode, BusyInPrepared}
+use Rattle.pod_removal.specs.Causes.{BusyInPrepared}
 use Rattle.pod_removal.specs.Removals.{round_of}
-use Rattle.pod_removal.specs.Found.{is_moved, HadClaim, PutAway, TakenAway, MissedAt, WasMissed, RefusedAt, RefusedAside, WasRefused, FoundAnd, RoundWent, RoundRefused, MissedFirst, FirstOrMissed, RemovedFirst, RefusedFirst, PutWhere, TakenWhere, MissedHere, MissedWhere, RefusedHere, RefusedWhere}
-use Rattle.pod_removal.proofs.Rounds.{may_looked, may_pod_kept}
+use Rattle.pod_removal.specs.Found.{PutAway, TakenAway, WasMissed, RefusedAt, WasRefused, FoundAnd, RoundWent, RoundRefused, MissedFirst, RemovedFirst, RefusedFirst, PutWhere, TakenWhere, MissedHere, MissedWhere, RefusedHere, RefusedWhere}
+use Rattle.pod_removal.proofs.Rounds.{may_looked}
 use Rattle.dir_trait.specs.Knowledge.{OnlyLooks}
 
 pub ok_both : {A E : Type 0} (P Q R : A → Type 0) (r : Result A E) → ((a : A) → P a → Q a → R a) → IfOk r P → IfOk r Q → IfOk r R

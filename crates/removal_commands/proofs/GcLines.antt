@@ -8,12 +8,12 @@ use Rattle.dir_model.specs.declared.area.Area.{Area}
 use Rattle.dir_model.specs.declared.area.Area.TheVariants as area
 use Rattle.dir_model.specs.declared.event.Event.{Event}
 use Rattle.dir_model.specs.declared.pod.PodId.{PodId}
-use Rattle.dir_model.specs.Pods.{pod_text, pod_of}
+use Rattle.dir_model.specs.Pods.{pod_of}
 use Rattle.dir_model.proofs.Lists.{all_right, all_weaker}
 use Rattle.dir_rules.specs.Standing.{is_in}
 use Rattle.pod_gc.specs.declared.ages.Times.{Times}
 use Rattle.pod_gc.specs.declared.line.GcLine.{GcLine}
-use Rattle.pod_gc.specs.Told.{and_pod, pods_of, IsTold, TellsShown, Passed, ArePassed}
+use Rattle.pod_gc.specs.Told.{and_pod, pods_of, IsTold, Passed}
 use Rattle.removal_commands.specs.Gc.{subject_text}
 use Rattle.removal_commands.specs.Lines.{HasLine}
 use Rattle.removal_commands.proofs.GcQuiet.{pod_back}

@@ -1,5 +1,5 @@
 -- Where nobody else steps, what a turn of a sweep tells of the locks of a pod's folder, and of its manifest in prepared, was so before.
-use Rattle.std.proofs.Common.{◌≡◌, ◌||◌, ◌&&◌, ◌==◌, ℕ, Bool, true, false, not, cond, bytes_eq, codes, Some, None, List, [], ◌∷◌, ◌++◌, refl, sym, ap, subst, ◌∙◌}
+use Rattle.std.proofs.Common.{◌≡◌, ◌&&◌, ℕ, Bool, true, false, codes, Some, List, [], ◌∷◌, ◌++◌, refl, sym, ap, subst, ◌∙◌}
 use Rattle.std.specs.List.{list_any, AllByRecursion}
 use Rattle.dir_model.specs.declared.area.Area.{Area}
 use Rattle.dir_model.specs.declared.area.Area.TheVariants as area
@@ -10,19 +10,16 @@ use Rattle.dir_model.specs.declared.spot.Mode.TheVariants.{Shared, Exclusive}
 use Rattle.dir_model.specs.declared.spot.Spot.{Spot}
 use Rattle.dir_model.specs.declared.spot.Which.{Which}
 use Rattle.dir_model.specs.declared.spot.Which.TheVariants.{Own, Claim}
-use Rattle.dir_model.specs.declared.tree.TreeEntry.{TreeEntry}
-use Rattle.dir_model.specs.declared.request.DirError.TheVariants.{Missing}
 use Rattle.dir_model.specs.declared.request.Request.{Request}
-use Rattle.dir_model.specs.declared.request.Reply.{Reply}
 use Rattle.dir_model.specs.Areas.{is_stage}
 use Rattle.dir_model.specs.Between.{LockTold}
-use Rattle.dir_model.specs.Calls.{event, is_kill, Extends, AtOwnStep}
+use Rattle.dir_model.specs.Calls.{Extends, AtOwnStep}
 use Rattle.dir_model.specs.Locks.{is_folder, opposes, owns}
 use Rattle.dir_model.specs.Quiet.{Quiet}
 use Rattle.dir_model.specs.State.{DirState, folder_at}
-use Rattle.dir_model.specs.Trace.{state_after, state_next}
-use Rattle.dir_model.specs.Trees.{is_dir, is_file_entry, has_file}
-use Rattle.dir_model.proofs.Lists.{and_left, any_fewer}
+use Rattle.dir_model.specs.Trace.{state_after}
+use Rattle.dir_model.specs.Trees.{has_file}
+use Rattle.dir_model.proofs.Lists.{any_fewer}
 use Rattle.dir_model.proofs.Moments.{at_grown, at_weaker}
 use Rattle.lifecycle.specs.Executions.{IsConforming}
 use Rattle.phase_read.specs.Read.{pod_spot}
@@ -41,7 +38,7 @@ use Rattle.pod_gc.specs.Told.{IsTold, TellsShown}
 use Rattle.command_outcomes.specs.Meanwhile.{Meanwhile}
 use Rattle.removal_commands.specs.Gc.{Sweeps}
 use Rattle.removal_commands.specs.Table.{is_held_in}
-use Rattle.removal_commands.proofs.OwnSteps.{in_process, back_at, held_before}
+use Rattle.removal_commands.proofs.OwnSteps.{in_process, held_before}
 use Rattle.removal_commands.proofs.Openings.{free_before, held_owns}
 use Rattle.removal_commands.proofs.OneNumber.{one_number}
 use Rattle.removal_commands.proofs.Manifests.{had_manifest}

@@ -1,5 +1,5 @@
 -- The lines of a sweep that one state asks for are one list.
-use Rattle.std.proofs.Common.{◌≡◌, ◌⊎◌, inl, inr, ℕ, Bool, true, false, ◌||◌, bytes_eq, map, Less, Option, Some, None, List, [], ◌∷◌, ◌++◌, refl, sym, ap, subst, ◌∙◌}
+use Rattle.std.proofs.Common.{◌≡◌, ℕ, Bool, true, false, ◌||◌, bytes_eq, map, Less, Option, Some, List, [], ◌∷◌, ◌++◌, refl, sym, ap, subst, ◌∙◌}
 use Rattle.std.specs.List.{AllByRecursion}
 use Rattle.std.specs.List.Sorted.{IsStrictlySortedBy}
 use Rattle.std.specs.Ordering.{nat_cmp, ordering_reverse}
@@ -41,7 +41,6 @@ no_cycle : (x y : List ℕ) {X : Type 0} → slice_cmp nat_cmp x y ≡ Less → 
 no_cycle x y less more =
     let clash : slice_cmp nat_cmp x y ≡ ordering_reverse Less = nat_list_cmp_total.antisymm x y ∙ ap ordering_reverse more in
     let e : Less ≡ ordering_reverse Less = sym less ∙ clash in cc
-
 
 module _ (x y : List ℕ) (xs ys : List (List ℕ)) (s : IsStrictlySortedBy (slice_cmp nat_cmp) (x ∷ xs)) (t : IsStrictlySortedBy (slice_cmp nat_cmp) (y ∷ ys)) (same : (n : List ℕ) → has_name (x ∷ xs) n ≡ has_name (y ∷ ys) n) where
   heads : x ≡ y

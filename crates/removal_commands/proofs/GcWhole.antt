@@ -1,5 +1,5 @@
 -- Where nobody else steps, the lines of a sweep are those that the state before asks for.
-use Rattle.std.proofs.Common.{◌≡◌, ◌≤◌, ◌⊎◌, inl, inr, ℕ, Bool, true, false, not, ◌==◌, ◌&&◌, ◌||◌, cond, find, Option, Some, None, List, [], ◌∷◌, ◌++◌, refl, sym, ap, subst, ◌∙◌}
+use Rattle.std.proofs.Common.{◌≡◌, ◌≤◌, inl, inr, ℕ, Bool, true, false, not, ◌==◌, ◌&&◌, ◌||◌, cond, find, Option, Some, None, List, [], ◌∷◌, ◌++◌, refl, sym, ap, subst, ◌∙◌}
 use Rattle.std.specs.List.{list_any, AllByRecursion}
 use Rattle.dir_model.specs.declared.area.Area.{Area}
 use Rattle.dir_model.specs.declared.area.Area.TheVariants as area
@@ -8,13 +8,13 @@ use Rattle.dir_model.specs.declared.pod.PodId.{PodId}
 use Rattle.dir_model.specs.declared.spot.Mode.TheVariants.{Exclusive}
 use Rattle.dir_model.specs.Areas.{rank, is_stage}
 use Rattle.dir_model.specs.Calls.{Extends}
-use Rattle.dir_model.specs.Pods.{pod_text, pod_of}
+use Rattle.dir_model.specs.Pods.{pod_of}
 use Rattle.dir_model.specs.Quiet.{Quiet}
 use Rattle.dir_model.specs.State.{DirState, stands}
 use Rattle.dir_model.specs.Trace.{state_after}
 use Rattle.dir_model.proofs.Lists.{and_left, and_right, and_both, or_last, all_left, all_right, all_both, all_weaker, same_self}
 use Rattle.dir_rules.specs.Standing.{is_in}
-use Rattle.area_locks.specs.AreaLocks.{is_against, IsFreeElsewhere}
+use Rattle.area_locks.specs.AreaLocks.{is_against}
 use Rattle.lifecycle.specs.Executions.{IsConforming}
 use Rattle.lifecycle.proofs.Draws.{conforming_left}
 use Rattle.lifecycle.proofs.Stays.{one_folder}
@@ -37,7 +37,7 @@ use Rattle.removal_commands.specs.Table.{deed_at, deed_when_moved, ByTable}
 use Rattle.removal_commands.specs.Lines.{HasLine, is_gated, is_move_to, moves_there, deed_after_move, deed_in_pass, IsPassLine, ArePassLines, GatedOr, IsPassOf, ArePassesOf, IsSweepOf, AreTheLinesOf}
 use Rattle.removal_commands.proofs.OwnSteps.{in_process, at_process, held_before}
 use Rattle.removal_commands.proofs.Openings.{free_before}
-use Rattle.removal_commands.proofs.GcQuiet.{pod_back, passed_grown, passes_grown, gc_moved}
+use Rattle.removal_commands.proofs.GcQuiet.{passed_grown, passes_grown, gc_moved}
 use Rattle.removal_commands.proofs.GcTells.{gc_tells}
 use Rattle.removal_commands.proofs.GcStood.{gc_stood}
 use Rattle.removal_commands.proofs.GcFits.{gc_fits}
@@ -349,7 +349,7 @@ module _ (times : Times) (lines : List GcLine) {me : ℕ} {old new : List Event}
         x.lines_are,
         gate_pass x.own x.between rest x.first (all_left SaysDeed x.own x.others says) (λ pod has. part_line area.Embryo later x.own x.others refl among pod (subst (λ (l : List GcLine). HasLine area.Embryo pod l) x.lines_are has)),
         later_passes later plain_places (refl, (refl, (refl, (refl, (refl, tt))))) x.others x.between m.ended x.rest (all_right SaysDeed x.own x.others says)
-        (λ place at pod has. rest_line area.Embryo place later x.own x.others refl all_here at pod (subst (λ (l : List GcLine). HasLine place pod l) x.lines_are has)),
+            (λ place at pod has. rest_line area.Embryo place later x.own x.others refl all_here at pod (subst (λ (l : List GcLine). HasLine place pod l) x.lines_are has)),
       )
 
   pub gc_whole : AreTheLinesOf times me s lines

@@ -50,14 +50,21 @@ module _ (pod : PodId) (now : ℕ) (old new : DirSeen) (ext : Extends (in_proces
   rm_none_quietly found = let none = rm_none_before pod quiet found in (found, none, none_refused old.process pod (state_after old.trace) none)
 
   pub rm_wrong_quietly : (phase : Phase) → HasFoundWrong pod phase old new → RemovesPodQuietly pod old new (Err (WrongPhase phase))
-  rm_wrong_quietly phase found = (found, λ conforming.
-      let has = rm_wrong_before pod now ext quiet phase found.was found.owner conforming in
-      (has, wrong_refused old.process pod phase old.trace (rm_wrong pod now ext quiet idle conforming phase found.was) has))
+  rm_wrong_quietly phase found = (
+    found,
+    λ conforming.
+        let has = rm_wrong_before pod now ext quiet phase found.was found.owner conforming in
+        (has, wrong_refused old.process pod phase old.trace (rm_wrong pod now ext quiet idle conforming phase found.was) has),
+  )
 
   pub rm_lacking_quietly : (other : PodId) → other ≡ pod → HasFoundNoManifest pod old new → RemovesPodQuietly pod old new (Err (NoManifest other))
-  rm_lacking_quietly other is found = (is, found, λ conforming.
-      let lacks = rm_lacked_before pod now ext quiet found conforming in
-      (lacks, lacking_refused old.process pod old.trace (before conforming) lacks))
+  rm_lacking_quietly other is found = (
+    is,
+    found,
+    λ conforming.
+        let lacks = rm_lacked_before pod now ext quiet found conforming in
+        (lacks, lacking_refused old.process pod old.trace (before conforming) lacks),
+  )
 
   pub rm_busy_quietly : (other : PodId) (which : Which) → other ≡ pod → HasFoundBusy pod which old new → RemovesPodQuietly pod old new (Err (PodBusy other which))
   rm_busy_quietly other which is found = (is, found, rm_held_before pod now ext quiet which found, λ conforming. rm_busy_refused pod now ext quiet idle conforming which found)

@@ -11,13 +11,12 @@ use Rattle.dir_model.specs.declared.spot.Mode.TheVariants.{Exclusive}
 use Rattle.dir_model.specs.declared.spot.Spot.{Spot}
 use Rattle.dir_model.specs.declared.spot.Which.TheVariants.{Own, Claim}
 use Rattle.dir_model.specs.declared.request.Request.{Request}
-use Rattle.dir_model.specs.declared.request.Request.TheVariants.{MakeDirIn, AppendIn, MakeFileIn, RemoveFileIn, RemoveDirIn, MoveFolder}
+use Rattle.dir_model.specs.declared.request.Request.TheVariants.{MakeDirIn, AppendIn, MakeFileIn, RemoveFileIn, RemoveDirIn}
 use Rattle.dir_model.specs.Areas.{rank, is_stage, phase_in}
-use Rattle.dir_model.specs.Calls.{is_begin, is_finish, is_kill, Extends, AtOwnStep}
-use Rattle.dir_model.specs.Pods.{pod_text}
+use Rattle.dir_model.specs.Calls.{is_begin, is_finish, is_kill, Extends}
 use Rattle.dir_model.specs.Quiet.{Quiet, OwnsNothing, SameNamespace}
 use Rattle.dir_model.specs.Replies.{is_look, is_look_at, is_any_spot}
-use Rattle.dir_model.specs.State.{Namespace, DirState, is_at, spot_eq, folder_at, stands, is_owned, is_owned_in, is_owned_at}
+use Rattle.dir_model.specs.State.{DirState, is_at, spot_eq, folder_at, stands, is_owned, is_owned_in, is_owned_at}
 use Rattle.dir_model.specs.Trace.{state_after}
 use Rattle.dir_model.specs.Trees.{has_file}
 use Rattle.dir_model.proofs.Chains.{extends_wider}
@@ -34,19 +33,17 @@ use Rattle.phase_read.proofs.Quiet.{read_quiet}
 use Rattle.pod_claim.specs.Work.{Grew}
 use Rattle.pod_claim.proofs.Times.{at_part}
 use Rattle.pod_claim.proofs.Traces.{grown_none, grown_more, grown_by, grown_call}
-use Rattle.pod_steps.specs.Causes.{FreeOfOthers}
-use Rattle.pod_removal.specs.Requests.{is_removable, is_garbage_place, aside, place_of, puts_aside, marks_at, removes}
+use Rattle.pod_removal.specs.Requests.{is_removable, aside, place_of, puts_aside, removes}
 use Rattle.pod_removal.specs.Found.{is_moved, HadClaim, PutAway, TakenAway, MissedAt, WasMissed, FoundAnd, MissedFirst}
 use Rattle.pod_gc.specs.Requests.{lists_marks, moves_on}
 use Rattle.removal_commands.specs.Table.{is_held_in}
-use Rattle.removal_commands.proofs.OwnSteps.{in_process, own_first, quiet_part, forward}
+use Rattle.removal_commands.proofs.OwnSteps.{in_process, forward}
 use Rattle.removal_commands.proofs.LateTurns.{removes_late, in_garbage, or_false}
 use Rattle.removal_commands.proofs.OneNumber.{one_number}
 use Rattle.removal_commands.proofs.Lacking.{garbage_apart}
 use Rattle.removal_commands.proofs.FolderItems.{changed}
 use Rattle.removal_commands.proofs.Manifests.{had_manifest}
 use Rattle.removal_commands.proofs.RmLacking.{removes_aside}
-use Rattle.removal_commands.proofs.RmQuiet.{stage_of}
 use Rattle.removal_commands.proofs.GcTurn.{quiet_between, untaken_at}
 use Rattle.removal_commands.proofs.GcGoes.{on_leaves, moved_stands}
 use Rattle.removal_commands.proofs.GcArrived.{moved_by}

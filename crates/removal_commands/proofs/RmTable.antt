@@ -1,6 +1,5 @@
 -- Where nobody else steps, `rm` is refused exactly for what the state before asks for.
 use Rattle.std.proofs.Common.{◌≡◌, inl, inr, ◌&&◌, ℕ, Bool, true, false, not, ◌==◌, cond, codes, Option, Some, None, is_some, List, ◌++◌, refl, sym, ap, subst, ◌∙◌}
-use Rattle.std.specs.List.{list_any}
 use Rattle.dir_model.specs.declared.area.Area.{Area}
 use Rattle.dir_model.specs.declared.area.Area.TheVariants as area
 use Rattle.dir_model.specs.declared.area.Phase.{Phase}
@@ -12,7 +11,7 @@ use Rattle.dir_model.specs.declared.spot.Mode.{Mode}
 use Rattle.dir_model.specs.declared.spot.Mode.TheVariants.{Shared, Exclusive}
 use Rattle.dir_model.specs.declared.spot.Which.{Which}
 use Rattle.dir_model.specs.declared.spot.Which.TheVariants.{Own, Claim}
-use Rattle.dir_model.specs.Areas.{rank, is_stage, phase_in}
+use Rattle.dir_model.specs.Areas.{is_stage, phase_in}
 use Rattle.dir_model.specs.Calls.{is_begin, Extends}
 use Rattle.dir_model.specs.Locks.{is_folder, opposes}
 use Rattle.dir_model.specs.Quiet.{Quiet, OwnsNothing}
@@ -24,7 +23,7 @@ use Rattle.dir_model.proofs.Moments.{at_grown}
 use Rattle.lifecycle.specs.Executions.{IsConforming}
 use Rattle.lifecycle.proofs.Draws.{conforming_left}
 use Rattle.phase_read.specs.declared.found.Found.{Found}
-use Rattle.phase_read.specs.declared.found.Found.TheVariants.{At, Gone}
+use Rattle.phase_read.specs.declared.found.Found.TheVariants.{At}
 use Rattle.phase_read.specs.Read.{pod_spot}
 use Rattle.phase_read.specs.Sequential.{sequential_read, found_in}
 use Rattle.pod_claim.specs.Causes.{LacksManifest, is_lock}

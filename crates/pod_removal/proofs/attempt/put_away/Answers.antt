@@ -14,12 +14,11 @@ use Rattle.dir_model.specs.declared.request.Reply.TheVariants.{Done}
 use Rattle.dir_model.specs.declared.request.Request.TheVariants.{MoveFolder}
 use Rattle.dir_trait.specs.DirCalls.{ExtendsBy}
 use Rattle.phase_read.specs.Read.{pod_spot}
-use Rattle.pod_steps.specs.declared.setback.Setback.{Setback}
 use Rattle.pod_steps.specs.declared.setback.Setback.TheVariants as stop
 use Rattle.pod_steps.specs.Causes.{Stopped, IsAbsentAt, BusyElsewhere, Did, FreeWhere}
 use Rattle.pod_steps.specs.Taking.{TakesNothing}
 use Rattle.pod_removal.specs.Requests.{place_of, puts_aside}
-use Rattle.pod_removal.specs.Found.{PutAway, PutWhere, MissedHere, RefusedHere}
+use Rattle.pod_removal.specs.Found.{PutWhere, MissedHere, RefusedHere}
 use Rattle.pod_removal.proofs.Stages.{err_both}
 use Rattle.pod_removal.proofs.Finding.{ok_both, put_aborted, put_exited, put_prepared, put_still, missed_here, refused_own, refused_waiting}
 use Rattle.pod_removal.proofs.Rounds.{found_here, found_waiting, busy_at, busy_waiting, ready_here, ready_any, ready_waiting, may_discard}

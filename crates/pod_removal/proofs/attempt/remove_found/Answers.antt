@@ -18,7 +18,7 @@ use Rattle.pod_removal.proofs.Rounds.{garbage_stage, aside_place, found_aside, f
 use Rattle.dir_model.specs.declared.spot.Which.{Which}
 use Rattle.dir_model.specs.declared.spot.Which.TheVariants.{Own}
 use Rattle.pod_steps.specs.declared.setback.Setback.TheVariants as stop
-use Rattle.pod_removal.specs.Found.{PutWhere, TakenWhere, MissedHere, MissedWhere, RefusedHere, RefusedWhere}
+use Rattle.pod_removal.specs.Found.{TakenWhere, MissedHere, MissedWhere, RefusedHere, RefusedWhere}
 use Rattle.pod_removal.proofs.Finding.{taken_by, missed_aside, refused_aside}
 use Rattle.pod_removal.proofs.attempt.remove_found.Goals as goal
 
