@@ -1,4 +1,7 @@
 -- What a listing tells of an entry.
+use Rattle.std.specs.Prelude.{ℕ, Bool, ◌&&◌, cond, nat_le, length, Option, Some, None, List, filter_map}
+use Rattle.std.specs.List.{list_all}
+use Rattle.dir_model.specs.Names.{is_name_byte}
 use Rattle.dir_model.specs.declared.item.Item.{Item}
 use Rattle.dir_model.specs.declared.item.ItemKind.{ItemKind}
 use Rattle.dir_model.specs.declared.item.ItemKind.TheVariants as item
@@ -15,3 +18,18 @@ shown_kind Other = item.Other
 
 abbrev pub shown_item : BundleItem → Item
 shown_item entry = record { name = entry.name; kind = shown_kind entry.kind }
+
+-- the text is a folder's name
+abbrev pub is_name : List ℕ → Bool
+is_name text = nat_le 1 (length text) && (nat_le (length text) 71 && list_all is_name_byte text)
+
+-- a directory with such a name is a folder of the area, and nothing else is
+abbrev pub folder_of_kind : BundleKind → List ℕ → Option (List ℕ)
+folder_of_kind Dir name = cond (is_name name) (Some name) None
+folder_of_kind kind name = None
+
+abbrev pub folder_name : BundleItem → Option (List ℕ)
+folder_name entry = folder_of_kind entry.kind entry.name
+
+abbrev pub folder_names : List BundleItem → List (List ℕ)
+folder_names entries = filter_map folder_name entries

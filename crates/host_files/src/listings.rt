@@ -6,23 +6,20 @@ ghost use Rattle.std.specs.List.Sorted.{IsStrictlySortedBy};
 ghost use Rattle.dir_model.specs.Listings.{item_names};
 ghost use Rattle.dir_model.specs.Replies.{is_fault};
 ghost use Rattle.dir_trait.specs.Bundles.{IsListing};
-ghost use Rattle.host_files.specs.Places.{inner_path, has_dots};
-ghost use Rattle.host_files.specs.Shown.{shown_item};
+ghost use Rattle.host_files.specs.Places.{has_dots};
+ghost use Rattle.host_files.specs.Shown.{shown_item, folder_name, folder_names};
 
-use crate::asks::look_at;
 use crate::files::list_folder;
 use crate::inside::open_dir;
 use crate::looks::Reached;
-use crate::place::{path_inside, path_of_area};
+use crate::place::path_of_area;
 use crate::refusals::short;
 use dir_trait::{
     Area, BundleError, BundleItem, BundleItems, BundleKind, DirError, Item, ItemKind, Items, Name,
     Names, Sequence, Spot,
 };
 use std::alloc::{AllocError, Global};
-use std::collections::BTreeSet;
 use std::fs::File;
-use std::os::unix::fs::MetadataExt;
 use std::os::unix::io::AsRawFd;
 use std::rt::Files;
 
@@ -71,7 +68,7 @@ fn shown_listing(alloc: Global, listing: &BundleItems) -> Result<Items, DirError
 
 /// The entries of an open directory, which is read through its descriptor: so they are told also where
 /// the folder is moved meanwhile.
-fn list_by_descriptor<R: Files + AllocGlobal + Clone + Drop>(
+fn list_opened<R: Files + AllocGlobal + Clone + Drop>(
     rt: &R,
     alloc: Global,
     directory: &File,
@@ -82,46 +79,6 @@ fn list_by_descriptor<R: Files + AllocGlobal + Clone + Drop>(
     let number = directory.as_raw_fd();
     let path = format!(in alloc; "/proc/self/fd/{number}").map_err(short)?;
     list_folder(rt, alloc, path.as_str()).map_err(unlisted)
-}
-
-/// Whether the path leads to the open directory, and not by a link.
-fn leads_to<R: Files>(
-    rt: &R,
-    directory: &File,
-    path: &str,
-    root: &str,
-    spot: &Spot,
-    inner: &str,
-) -> bool
-    requires { path.now ≡ inner_path root.now spot.now inner.now }
-{
-    match (directory.metadata(), look_at(rt, path, root, spot, inner)) {
-        (Ok(opened), Ok(found)) => found.dev() == opened.dev() && found.ino() == opened.ino(),
-        _ => false,
-    }
-}
-
-/// The entries of an open directory. The system tells them faster by its path, which is as good where
-/// the path still leads to it afterwards.
-fn list_opened<R: Files<File = File> + AllocGlobal + Clone + Drop>(
-    rt: &R,
-    alloc: Global,
-    directory: &File,
-    path: &str,
-    root: &str,
-    spot: &Spot,
-    inner: &str,
-) -> Result<BundleItems, DirError>
-    requires { path.now ≡ inner_path root.now spot.now inner.now }
-    ensures ordered { IfOk result IsListing }
-    ensures refusals { IfErr result (λ e. is_fault e ≡ true) }
-{
-    if let Ok(items) = list_folder(rt, alloc, path) {
-        if leads_to(rt, directory, path, root, spot, inner) {
-            return Ok(items);
-        }
-    }
-    list_by_descriptor(rt, alloc, directory)
 }
 
 /// What stands in a directory of a folder.
@@ -138,26 +95,41 @@ pub fn list_inside<R: Files<File = File> + AllocGlobal + Clone + Drop>(
     ensures refusals { IfErr result (λ e. (e ≡ DirError.Missing) ⊎ (is_fault e ≡ true)) }
 {
     let directory = open_dir(rt, alloc, root, reached, spot, inner)?;
-    let path = path_inside(alloc, root, spot, inner).map_err(short)?;
-    let listing = list_opened(rt, alloc, &directory, path.as_str(), root, spot, inner)?;
+    let listing = list_opened(rt, alloc, &directory)?;
     shown_listing(alloc, &listing)
 }
 
-/// The names of directories among the entries of an area.
-fn folder_names(alloc: Global, items: &BundleItems) -> Result<BTreeSet<Name>, DirError>
-    ensures { IfErr result (λ e. e ≡ DirError.NoMemory) }
+/// The name of a folder, where the entry of an area is one: a directory with a name.
+fn folder_name(item: &BundleItem) -> Option<Name>
+    ensures { result ≡ folder_name item.now }
 {
-    let mut names = BTreeSet::new(alloc);
-    for item in items.as_slice() {
-        if item.kind == BundleKind::Dir {
-            if let Some(name) = Name::of(item.name.as_str()) {
-                if names.insert(name).is_err() {
-                    return Err(DirError::NoMemory);
-                }
-            }
-        }
+    match item.kind {
+        BundleKind::Dir => Name::of(item.name.as_str()),
+        BundleKind::File | BundleKind::Link | BundleKind::Other => None,
     }
-    Ok(names)
+}
+
+fn folder_names(alloc: Global, items: &BundleItems) -> Result<Vec<Name>, AllocError>
+    ensures { IfOk result (λ names. names.items ≡ folder_names items.now) }
+{
+    items
+        .as_slice()
+        .iter()
+        .filter_map(folder_name)
+        .collect(alloc)
+}
+
+/// The folders among the entries of an area, in the same order.
+fn shown_folders(alloc: Global, listing: &BundleItems) -> Result<Names, DirError>
+    requires { IsListing listing.now }
+    ensures names { IfOk result (λ names. names ≡ folder_names listing.now) }
+    ensures ordered { IfOk result (λ names. IsStrictlySortedBy (slice_cmp nat_cmp) names) }
+    ensures refusals { IfErr result (λ e. e ≡ DirError.NoMemory) }
+{
+    match folder_names(alloc, listing) {
+        Ok(names) => Ok(Sequence::from_vec(names)),
+        Err(error) => Err(short(error)),
+    }
 }
 
 /// The names of the folders in an area.
@@ -171,8 +143,6 @@ pub fn list_area<R: Files + AllocGlobal + Clone + Drop>(
     ensures refusals { IfErr result (λ e. is_fault e ≡ true) }
 {
     let path = path_of_area(alloc, root, area).map_err(short)?;
-    let items = list_folder(rt, alloc, path.as_str()).map_err(unlisted)?;
-    let names = folder_names(alloc, &items)?;
-    let names = names.iter().copied().collect(alloc).map_err(short)?;
-    Ok(Sequence::from_vec(names))
+    let listing = list_folder(rt, alloc, path.as_str()).map_err(unlisted)?;
+    shown_folders(alloc, &listing)
 }
