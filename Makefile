@@ -3,15 +3,16 @@
 #   make                            proves and builds build/rkt
 #   make run WORDS="status UUID"    runs it on these words, on the data folder RKT_DIR (build/data where that is unset)
 #   make test                       the whole gate: proves, tests and runs everything, with the scripts of tests/host
+#   make scenario                   plays crates/scenarios/stdin, and shows each line of it that came otherwise
 #   make install PREFIX=/usr/local  copies it to PREFIX/bin
 
 PREFIX ?= /usr/local
 WORDS ?= --help
 RKT_DIR ?= build/data
 
-SOURCES := crates.txt $(shell find crates -name out -prune -o -type f -print)
+SOURCES := crates.txt $(shell find crates -name out -prune -o -type f ! -name stdin ! -name stdout -print)
 
-.PHONY: all run test install clean
+.PHONY: all run test scenario install clean
 
 all: build/rkt
 
@@ -25,6 +26,14 @@ run: build/rkt
 
 test:
 	bash .ci/run
+
+build/scenarios: $(SOURCES)
+	cd crates/scenarios && rt run < /dev/null
+	mkdir -p build
+	cp crates/scenarios/out/scenarios $@
+
+scenario: build/scenarios
+	@build/scenarios < crates/scenarios/stdin > build/scenarios.came; diff crates/scenarios/stdin build/scenarios.came && echo "all came as the script says"
 
 install: build/rkt
 	install -d "$(DESTDIR)$(PREFIX)/bin"

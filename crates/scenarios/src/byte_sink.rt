@@ -4,13 +4,15 @@ ghost use Rattle.std.specs.Prelude.{◌≡◌};
 use dir_trait::{Sink, SinkError};
 use std::alloc::Global;
 
+/// The bytes that came, how many writes failed and were refused by memory, how many there were, and the
+/// number of the one that fails, or 0.
 #[derive(Drop)]
 pub struct ByteSink {
     pub bytes: Vec<u8>,
-    pub faults: u64,
-    pub shortages: u64,
-    pub writes: u64,
-    pub failing: u64,
+    faults: u64,
+    shortages: u64,
+    writes: u64,
+    failing: u64,
 }
 
 impl ByteSink {

@@ -1,0 +1,6 @@
+use Rattle.std.proofs.Common.{◌≡◌}
+use Rattle.dir_model.specs.Local.{nothing_local}
+use Rattle.buildings.proofs.steps.with_steps.Given as goal
+
+abbrev pub invariant-lines : goal.invariant-lines
+invariant-lines l = l.dir.local ≡ nothing_local

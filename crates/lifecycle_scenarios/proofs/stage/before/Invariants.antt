@@ -1,6 +1,0 @@
-use Rattle.std.proofs.Common.{◌≡◌}
-use Rattle.dir_model.specs.Local.{nothing_local}
-use Rattle.lifecycle_scenarios.proofs.stage.before.Given as goal
-
-abbrev pub invariant-steps : goal.invariant-steps
-invariant-steps l = l.dir.local ≡ nothing_local

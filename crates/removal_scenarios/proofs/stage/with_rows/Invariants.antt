@@ -1,6 +1,0 @@
-use Rattle.std.proofs.Common.{◌≡◌}
-use Rattle.dir_model.specs.Local.{nothing_local}
-use Rattle.removal_scenarios.proofs.stage.with_rows.Given as goal
-
-abbrev pub invariant-rows : goal.invariant-rows
-invariant-rows l = l.dir.local ≡ nothing_local

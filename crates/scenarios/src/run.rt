@@ -1,0 +1,232 @@
+// A command in a scenario.
+ghost use Rattle.std.specs.Prelude.{◌≡◌, IfOk, IfSome};
+ghost use Rattle.dir_trait.specs.Local.{nothing_local};
+
+use crate::bundles::{Put, bundle_of};
+use crate::byte_sink::ByteSink;
+use crate::changing::ChangingBundle;
+use crate::plan::{End, Faults, Interlude, Plan};
+use crate::stage::Stage;
+use dir_memory::MemoryDir;
+use dir_trait::{Draw, NoMemory, PodId};
+use memory_spawner::MemorySpawner;
+use rkt_cli::rkt;
+use scripts::{Line, Refusal, ShortNames, Unread, pod_of, unfolded};
+use std::alloc::Global;
+use std::mem;
+
+/// When a command runs, what it draws, and its words.
+#[derive(Drop)]
+pub struct Command {
+    pub now: u64,
+    pub pod: PodId,
+    pub words: Vec<String>,
+}
+
+/// How a command ended, what it wrote, and what it asked of the spawner.
+#[derive(Drop)]
+pub struct Ended {
+    pub status: u8,
+    pub out: ByteSink,
+    pub err: ByteSink,
+    pub spawner: MemorySpawner,
+}
+
+fn draw(pod: PodId) -> Draw {
+    Draw {
+        uuid: pod,
+        token: [0x11; 16],
+        key: [0; 64],
+    }
+}
+
+// `''` is the empty word.
+fn words_of(alloc: Global, names: &ShortNames, text: &str) -> Result<Vec<String>, Refusal> {
+    let mut words = Vec::new(alloc);
+    for word in text.split(' ') {
+        let word = if word == "''" { "" } else { word };
+        words.push(unfolded(alloc, names.long(word))?)?;
+    }
+    Ok(words)
+}
+
+/// The command of the rest of a line `at NOW [draw POD]: WORDS`, of which `at` was read. Without `draw`,
+/// what is drawn is the pod of the short name `U1`. Refused where it has no such form.
+pub fn command_of(alloc: Global, names: &ShortNames, line: &mut Line) -> Result<Command, Refusal> {
+    let Some((head, text)) = line.rest().split_once(": ") else {
+        return Err(Refusal::Unread(Unread::Missing));
+    };
+    let mut head = Line::of(head);
+    let now = head.number()?;
+    let pod = match head.word() {
+        "draw" => pod_of(names.long(head.word()))?,
+        _ => pod_of(names.long("U1"))?,
+    };
+    let words = words_of(alloc, names, text)?;
+    Ok(Command { now, pod, words })
+}
+
+// The folder with one step more of another process.
+fn with_step(alloc: Global, dir: MemoryDir, step: Interlude) -> Result<MemoryDir, NoMemory>
+    requires { dir.local ≡ nothing_local }
+    ensures { IfOk result (λ dir. dir.local ≡ nothing_local) }
+{
+    if step.inside {
+        dir.inside(alloc, step.call, step.process, step.request)
+    } else {
+        dir.schedule(alloc, step.call, step.process, step.request)
+    }
+}
+
+fn with_steps(alloc: Global, dir: MemoryDir, steps: Vec<Interlude>) -> Result<MemoryDir, NoMemory>
+    requires { dir.local ≡ nothing_local }
+    ensures { IfOk result (λ dir. dir.local ≡ nothing_local) }
+{
+    let mut dir = dir;
+    'steps: for step in steps {
+        dir = with_step(alloc, dir, step)?;
+    }
+    Ok(dir)
+}
+
+// The folder in which a call fails, or the process is killed before one. A begin never fails.
+fn with_faults(alloc: Global, dir: MemoryDir, faults: Faults) -> Result<MemoryDir, NoMemory>
+    requires { dir.local ≡ nothing_local }
+    ensures { IfOk result (λ dir. dir.local ≡ nothing_local) }
+{
+    if faults.dir >= 2 {
+        return dir.fail(alloc, faults.dir);
+    }
+    if faults.stop >= 2 {
+        return Ok(dir.stop(faults.stop));
+    }
+    Ok(dir)
+}
+
+/// The folder for a process that never began. None where it has.
+pub fn next(dir: MemoryDir, process: u32) -> Option<MemoryDir>
+    ensures { IfSome result (λ dir. dir.local ≡ nothing_local) }
+{
+    if dir.has_begun(process) {
+        return None;
+    }
+    Some(dir.next_process(process))
+}
+
+fn ending(alloc: Global, spawner: MemorySpawner, ends: &[End]) -> Result<MemorySpawner, NoMemory> {
+    let mut spawner = spawner;
+    for end in ends {
+        spawner = spawner.ends(alloc, end.start, end.status)?;
+    }
+    Ok(spawner)
+}
+
+fn spawner_for(alloc: Global, plan: &Plan) -> Result<MemorySpawner, NoMemory> {
+    let spawner = ending(alloc, MemorySpawner::new(alloc), plan.ends.as_slice())?;
+    if plan.faults.spawner == 0 {
+        return Ok(spawner);
+    }
+    spawner.fail(alloc, plan.faults.spawner)
+}
+
+// The outputs and the spawner before the command.
+fn ready(alloc: Global, plan: &Plan) -> Result<Ended, NoMemory> {
+    Ok(Ended {
+        status: 0,
+        out: ByteSink::new(alloc, plan.faults.out),
+        err: ByteSink::new(alloc, plan.faults.err),
+        spawner: spawner_for(alloc, plan)?,
+    })
+}
+
+fn run_in(
+    alloc: Global,
+    command: &Command,
+    dir: &mut MemoryDir,
+    bundle: &mut ChangingBundle,
+    ended: &mut Ended,
+)
+    requires { dir.old.local ≡ nothing_local }
+{
+    ended.status = rkt(
+        alloc,
+        command.words.as_slice(),
+        command.now,
+        &draw(command.pod),
+        dir,
+        bundle,
+        &mut ended.spawner,
+        &mut ended.out,
+        &mut ended.err,
+    );
+}
+
+// The folder as the command meets it.
+fn met(alloc: Global, dir: MemoryDir, plan: Plan) -> Result<MemoryDir, NoMemory>
+    requires { dir.local ≡ nothing_local }
+    ensures { IfOk result (λ dir. dir.local ≡ nothing_local) }
+{
+    let dir = with_steps(alloc, dir, plan.steps)?;
+    with_faults(alloc, dir, plan.faults)
+}
+
+// Runs the command in a folder for a process that never began, and answers the folder after it, and how it
+// ended.
+fn run_planned(
+    alloc: Global,
+    dir: MemoryDir,
+    puts: &[Put],
+    plan: Plan,
+    command: &Command,
+) -> Result<(MemoryDir, Ended), NoMemory>
+    requires { dir.local ≡ nothing_local }
+{
+    let mut bundle = bundle_of(alloc, puts, &plan.faults)?;
+    let mut ended = ready(alloc, &plan)?;
+    let mut dir = met(alloc, dir, plan)?;
+    run_in(alloc, command, &mut dir, &mut bundle, &mut ended);
+    Ok((dir, ended))
+}
+
+/// A number that no process has had yet, from this one on.
+pub fn free_number(dir: &MemoryDir, from: u32) -> u32 {
+    for number in from..u32::MAX {
+        if !dir.has_begun(number) {
+            return number;
+        }
+    }
+    from
+}
+
+/// Runs the command as a process that never began, of the first free number from there on, and answers how it
+/// ended and that number.
+pub fn run(
+    alloc: Global,
+    stage: &mut Stage,
+    from: u32,
+    command: &Command,
+) -> Result<(Ended, u32), Refusal> {
+    let Some(dir) = stage.dir.take() else {
+        return Err(Refusal::NoMemory);
+    };
+    let number = free_number(&dir, from);
+    let Some(dir) = next(dir, number) else {
+        return Err(Refusal::Unread(Unread::Process));
+    };
+    let plan = mem::replace(&mut stage.plan, Plan::new(alloc));
+    let (dir, ended) = run_planned(alloc, dir, stage.puts.as_slice(), plan, command)?;
+    stage.dir = Some(dir);
+    Ok((ended, number))
+}
+
+/// Runs the command as the next process.
+pub fn run_next(
+    alloc: Global,
+    stage: &mut Stage,
+    command: &Command,
+) -> Result<(Ended, u32), Refusal> {
+    let from = stage.next;
+    let (ended, number) = run(alloc, stage, from, command)?;
+    stage.next = number.saturating_add(1);
+    Ok((ended, number))
+}

@@ -1,0 +1,64 @@
+// A script that is played line by line and printed again.
+use crate::refusal::Refusal;
+use std::io::{BufRead, BufReader};
+use std::process::ExitCode;
+
+/// What the lines of a script are played on.
+pub trait Player {
+    /// Plays the line at a place of the script, which is printed already, and prints what came below it,
+    /// each line after two spaces. Refused where the line says something that isn't known.
+    fn play(&mut self, rt: &HostRuntime, lines: &[String], place: usize) -> Result<(), Refusal>;
+}
+
+fn read_lines(rt: &HostRuntime) -> Result<Vec<String>, Refusal> {
+    let mut lines = Vec::new(rt.alloc());
+    for line in BufReader::new(rt.alloc(), rt.reader())?.lines(rt.alloc()) {
+        lines.push(line?)?;
+    }
+    Ok(lines)
+}
+
+// What the script expects is passed over, and printed anew as it comes.
+fn play_line<P: Player>(
+    rt: &HostRuntime,
+    player: &mut P,
+    lines: &[String],
+    place: usize,
+) -> Result<(), Refusal> {
+    let Some(line) = lines.get(place) else {
+        return Ok(());
+    };
+    if line.starts_with("  ") {
+        return Ok(());
+    }
+    println!(rt; "{line}")?;
+    player.play(rt, lines, place)
+}
+
+// The place of the line that ended the script, counted from 1, and why; 0 where it wasn't read.
+fn play_lines<P: Player>(rt: &HostRuntime, player: &mut P) -> Result<(), (usize, Refusal)> {
+    let lines = match read_lines(rt) {
+        Ok(lines) => lines,
+        Err(refusal) => return Err((0, refusal)),
+    };
+    for place in 0..lines.len() {
+        if let Err(refusal) = play_line(rt, player, lines.as_slice(), place) {
+            return Err((place.saturating_add(1), refusal));
+        }
+    }
+    Ok(())
+}
+
+/// Plays the script on standard input. Each line that doesn't begin with two spaces is printed again, and
+/// what it says is done; those that do are what the script expects, and what comes is printed in their
+/// place. So a script that expects what comes is printed as it stands. A line that can't be read ends the
+/// script with the status 2, and `line N: ` and what it is.
+pub fn play_all<P: Player>(rt: &HostRuntime, player: &mut P) -> ExitCode {
+    match play_lines(rt, player) {
+        Ok(()) => ExitCode::SUCCESS,
+        Err((number, refusal)) => {
+            let _printed = println!(rt; "line {number}: {refusal}");
+            ExitCode::from(2)
+        }
+    }
+}

@@ -1,0 +1,52 @@
+//! Plays a script of single calls of the libraries of names, manifests, paths, trees and bundles: prints each
+//! line again, and below it what the call really answers. A script that says what comes is its own
+//! expectation.
+#![tactic(auto)]
+
+mod answers;
+mod bundles;
+mod documents;
+mod fields;
+mod listings;
+mod maps;
+mod names;
+mod parts;
+mod paths;
+mod sections;
+mod sequences;
+mod wide;
+
+use crate::answers::answer;
+use scripts::{Player, Refusal, play_all};
+use short_texts::{TextNames, print_answer};
+use std::process::ExitCode;
+
+/// The names that the script has given so far.
+#[derive(Drop)]
+struct Vectors {
+    names: TextNames,
+}
+
+impl Player for Vectors {
+    fn play(&mut self, rt: &HostRuntime, lines: &[String], place: usize) -> Result<(), Refusal> {
+        let line = match lines.get(place) {
+            Some(line) => line.as_str(),
+            None => "",
+        };
+        if line.is_empty() || line.starts_with('#') {
+            return Ok(());
+        }
+        if let Some(rest) = line.strip_prefix("let ") {
+            return Ok(self.names.define(rt.alloc(), rest)?);
+        }
+        let answer = answer(rt.alloc(), &self.names, line)?;
+        print_answer(rt, &self.names, answer.as_str())
+    }
+}
+
+fn main(rt: HostRuntime) -> ExitCode {
+    let mut vectors = Vectors {
+        names: TextNames::new(rt.alloc()),
+    };
+    play_all(&rt, &mut vectors)
+}
