@@ -3,7 +3,6 @@
 //! expects what comes is printed as it stands.
 #![tactic(auto)]
 
-mod blocks;
 mod imports;
 mod played;
 mod prepares;

@@ -1,12 +1,11 @@
 // The lines of a script of buildings.
-use crate::blocks::{block_above, end, says};
 use crate::imports::{Break, print_told, told_where};
 use crate::prepares::{prepared, print_prepared};
 use crate::rows::{Row, plan_of, row_of, rows_of};
 use crate::steps::check_step;
 use crate::sweeps::print_swept;
 use crate::trees::print_tree;
-use scripts::{Line, Player, Refusal, ShortNames, Unread};
+use scripts::{Line, Player, Refusal, ShortNames, Unread, block_above, says};
 use std::alloc::Global;
 
 /// A script of buildings, of which nothing is kept from line to line but the short names.
@@ -49,7 +48,7 @@ fn print_imports(
     let first = line.number()?;
     let to = line.word();
     let last = line.number()?;
-    end(line)?;
+    line.end()?;
     if to != "to" {
         return Err(Refusal::Unread(Unread::Word));
     }

@@ -1,5 +1,4 @@
 // Which pods a process was asked to remove.
-use crate::blocks::end;
 use crate::steps::begin_of;
 use conformance::is_removal_requested;
 use dir_model::{Intent, Name, Sequence};
@@ -47,7 +46,7 @@ fn mark_of(names: &ShortNames, text: &str) -> Result<Created, Refusal> {
     let mut line = Line::of(text);
     let name = name_of(names.long(line.word()))?;
     let moment = line.number()?;
-    end(&line)?;
+    line.end()?;
     Ok(Created { name, moment })
 }
 

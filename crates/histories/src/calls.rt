@@ -4,7 +4,6 @@ ghost use Rattle.dir_model.specs.Paths.{is_path};
 ghost use Rattle.dir_trait.specs.Local.{IsActive};
 ghost use Rattle.folder_removal.specs.Removal.{is_removal_area};
 
-use crate::blocks::end;
 use crate::steps::whole_request;
 use dir_files::{ReadError, items_of, names_of, read_file};
 use dir_model::is_path;
@@ -273,7 +272,7 @@ fn look_line<D: Dir>(
 {
     let spot = spot(names, line)?;
     let which = which_of(line.word())?;
-    end(line)?;
+    line.end()?;
     Ok(look(alloc, dir, spot, which))
 }
 
@@ -289,7 +288,7 @@ fn hold_line<D: Dir>(
     let spot = spot(names, line)?;
     let which = which_of(line.word())?;
     let mode = mode_of(line.word())?;
-    end(line)?;
+    line.end()?;
     Ok(hold(alloc, dir, spot, which, mode))
 }
 
@@ -299,7 +298,7 @@ fn hold_area_line<D: Dir>(alloc: Global, dir: &mut D, line: &mut Line) -> Result
 {
     let area = area_of(line.word())?;
     let mode = mode_of(line.word())?;
-    end(line)?;
+    line.end()?;
     Ok(hold_area(alloc, dir, area, mode))
 }
 
@@ -315,7 +314,7 @@ fn front_line<D: Dir>(
     let spot = spot(names, line)?;
     let path = names.long(line.word());
     let most = line.short_number()?;
-    end(line)?;
+    line.end()?;
     front_at(alloc, dir, spot, path, most)
 }
 
@@ -329,7 +328,7 @@ fn delete_line<D: Dir>(
     ensures { IsActive (D.shown dir.new).local }
 {
     let spot = spot(names, line)?;
-    end(line)?;
+    line.end()?;
     match delete(alloc, dir, spot) {
         Some(answer) => Ok(answer),
         None => Err(Refusal::Unread(Unread::Word)),

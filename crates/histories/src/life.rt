@@ -1,5 +1,5 @@
 // Lives of a pod: its phase and its owner after each step.
-use crate::blocks::add_definition;
+use crate::definitions::add_definition;
 use crate::performed::{Told, print_last_answer, told_after};
 use crate::steps::process_of;
 use dir_trait::PodId;

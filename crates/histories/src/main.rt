@@ -4,8 +4,8 @@
 #![tactic(auto)]
 
 mod asked;
-mod blocks;
 mod calls;
+mod definitions;
 mod life;
 mod meeting;
 mod performed;

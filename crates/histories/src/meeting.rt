@@ -2,7 +2,7 @@
 ghost use Rattle.std.specs.Prelude.{◌≡◌, IfOk};
 ghost use Rattle.dir_trait.specs.Local.{nothing_local, IsActive};
 
-use crate::blocks::{add_definition, most_of};
+use crate::definitions::{add_definition, most_of};
 use crate::calls::{Answer, answer_to};
 use crate::life::print_told;
 use crate::performed::{phase_found, reading, told_of, with_step};

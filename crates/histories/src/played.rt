@@ -1,6 +1,6 @@
 // The lines of a script of histories.
 use crate::asked::is_asked;
-use crate::blocks::{block_above, definition, end, says};
+use crate::definitions::definition;
 use crate::calls::print_answer;
 use crate::life::{killed_of, print_killed, print_last, show};
 use crate::meeting::{areas_of, find, is_met, last_call, met};
@@ -8,7 +8,7 @@ use crate::steps::{event_of, steps_of};
 use crate::told::{keeps, may};
 use crate::walk::{walk_of, walked};
 use dir_trait::PodId;
-use scripts::{Line, Player, Refusal, ShortNames, Unread, pod_of};
+use scripts::{Line, Player, Refusal, ShortNames, Unread, block_above, pod_of, says};
 use std::alloc::Global;
 
 /// A script of histories, of which nothing is kept from line to line but the short names.
@@ -56,7 +56,7 @@ fn print_keeps<'a>(
     line: &mut Line,
 ) -> Result<(), Refusal> {
     let process = line.short_number()?;
-    end(line)?;
+    line.end()?;
     let steps = steps_of(rt.alloc(), lines, block)?;
     let kept = keeps(rt.alloc(), names, steps.as_slice(), process)?;
     println!(rt; "  {}", yes_or_no(kept))?;
@@ -233,9 +233,9 @@ fn first_line(
         }
         "life" => {
             let _pod = pod(names, &mut line)?;
-            end(&line)
+            line.end()
         }
-        "calls" => end(&line),
+        "calls" => line.end(),
         "asked" => print_asked(rt, names, line.rest()),
         _ => Err(Refusal::Unread(Unread::Line)),
     }

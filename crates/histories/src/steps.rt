@@ -1,5 +1,5 @@
 // Steps of processes, as lines say them: `PROCESS: REQUEST -> REPLY`.
-use crate::blocks::{add_definition, most_of};
+use crate::definitions::{add_definition, most_of};
 use dir_trait::{Event, Intent, Request};
 use scripts::{Line, Refusal, ShortNames, Unread, reply_of, request_of};
 use std::alloc::Global;

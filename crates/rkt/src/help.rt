@@ -50,7 +50,8 @@ several images that match the one that was imported last counts.
 rkt run-prepared UUID runs a prepared pod: it starts the program of each app in the app's
 root, waits until all have ended, and prints a line app-NAME=STATUS for each, in the
 order of the pod's manifest. A program that was killed counts as 255. rkt run IMAGE...
-makes such a pod and runs it at once; it prints the uuid first.
+makes such a pod and runs it at once; when all apps have ended it prints the pod's uuid and
+those lines.
 
 rkt rm UUID removes a pod that nobody makes, runs or deletes, and prints a line removed
 UUID. rkt gc sweeps pods, and prints a line UUID DEED for each: pods whose making was

@@ -2,6 +2,7 @@
 //! the words for areas, requests and replies.
 #![tactic(auto)]
 
+mod blocks;
 mod line;
 mod names;
 mod player;
@@ -11,6 +12,7 @@ mod requests;
 mod texts;
 mod words;
 
+pub use blocks::{block_above, says};
 pub use line::Line;
 pub use names::ShortNames;
 pub use player::{Player, play_all};

@@ -40,4 +40,13 @@ impl<'a> Line<'a> {
             Err(_) => Err(Refusal::Unread(Unread::Number)),
         }
     }
+
+    /// Refused where words are left.
+    pub fn end(&self) -> Result<(), Refusal> {
+        if self.rest.is_empty() {
+            Ok(())
+        } else {
+            Err(Refusal::Unread(Unread::TooMuch))
+        }
+    }
 }

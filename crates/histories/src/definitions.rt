@@ -1,48 +1,6 @@
-// The blocks of a script: lines between two empty ones, and definitions among them.
-use scripts::{Line, Refusal, Unread};
+// Lines of a script that are read at several places of it: `define NAME`, and what is said below.
+use scripts::{Line, Refusal, Unread, says};
 use std::alloc::Global;
-
-/// Whether something is said by the line: it is neither a comment nor an answer nor empty.
-pub fn says(line: &str) -> bool {
-    !line.is_empty() && !line.starts_with('#') && !line.starts_with("  ")
-}
-
-fn is_empty_at(lines: &[String], place: usize) -> bool {
-    match lines.get(place) {
-        Some(line) => line.is_empty(),
-        None => true,
-    }
-}
-
-// Where the block begins to which the line at a place belongs.
-fn start_of(lines: &[String], place: usize) -> usize {
-    let mut start = place;
-    for _ in 0..place {
-        let above = start.saturating_sub(1);
-        if is_empty_at(lines, above) {
-            break;
-        }
-        start = above;
-    }
-    start
-}
-
-/// What is said above a place in its block.
-pub fn block_above<'a>(
-    alloc: Global,
-    lines: &'a [String],
-    place: usize,
-) -> Result<Vec<&'a str>, Refusal> {
-    let start = start_of(lines, place);
-    let count = place.saturating_sub(start);
-    let mut block = Vec::new(alloc);
-    for line in lines.iter().skip(start).take(count) {
-        if says(line.as_str()) {
-            block.push(line.as_str())?;
-        }
-    }
-    Ok(block)
-}
 
 fn is_definition(line: &str, name: &str) -> bool {
     line.strip_prefix("define ") == Some(name)
@@ -96,13 +54,4 @@ pub fn most_of(line: &mut Line) -> Result<u64, Refusal> {
         return Ok(u64::MAX);
     }
     line.number()
-}
-
-/// Refused where words are left in the line.
-pub fn end(line: &Line) -> Result<(), Refusal> {
-    if line.rest().is_empty() {
-        Ok(())
-    } else {
-        Err(Refusal::Unread(Unread::TooMuch))
-    }
 }

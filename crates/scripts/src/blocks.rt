@@ -1,5 +1,5 @@
 // The blocks of a script: lines between two empty ones.
-use scripts::{Line, Refusal, Unread};
+use crate::refusal::Refusal;
 use std::alloc::Global;
 
 /// Whether something is said by the line: it is neither a comment nor an answer nor empty.
@@ -42,13 +42,4 @@ pub fn block_above<'a>(
         }
     }
     Ok(block)
-}
-
-/// Refused where words are left in the line.
-pub fn end(line: &Line) -> Result<(), Refusal> {
-    if line.rest().is_empty() {
-        Ok(())
-    } else {
-        Err(Refusal::Unread(Unread::TooMuch))
-    }
 }
