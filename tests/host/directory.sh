@@ -203,6 +203,8 @@ calls 'a long path' "dir $segment|ok" "list run $pod $long"
 calls 'a path past the limit of the system' 'failed|failed|failed' "list run $pod $long/$segment/$segment" \
     "make-dir run $pod $long/$segment/$segment/d" "remove-dir run $pod $long/$segment/$segment"
 (cd "$inside" && rm -r "$segment")
+# The data folder is its owner's alone: here the other user may enter it.
+chmod 755 "$RKT_DIR"
 as_user=()
 if [ "$(id -u)" -eq 0 ]; then
     as_user=(setpriv --reuid=65534 --regid=65534 --clear-groups)
@@ -272,6 +274,13 @@ trace_host() {
     made 'a lock that can not be had' 'failed|failed' '' flock:error=ENOLCK "lock shared own run $pod" 'lock exclusive area run'
     made 'a folder that has gone before its move' missing '' rename:error=ENOENT "move run $pod garbage $pod"
     made 'a folder that came before the move' exists '' rename:error=ENOTEMPTY "move run $pod garbage $pod"
+    timeout 60 strace -qq -o "$tmp/trace" -P "$RKT_DIR/pods/garbage/$pod" -e trace=newfstatat,statx,lstat \
+        -e inject=newfstatat,statx,lstat:delay_enter=2000000 "$check" "move run $pod garbage $pod" >"$tmp/out" 2>&1 </dev/null &
+    sleep 0.5
+    mv "$RKT_DIR/pods/run/$pod" "$RKT_DIR/pods/garbage/$pod"
+    wait $!
+    same 'a folder that another moved there meanwhile' missing "$(cat "$tmp/out")"
+    mv "$RKT_DIR/pods/garbage/$pod" "$RKT_DIR/pods/run/$pod"
     made 'a move to another disk' failed '' rename:error=EXDEV "move run $pod garbage $pod"
     made 'a sync that fails' 'failed|failed|failed' '' fsync:error=EIO "sync run $pod f" "sync run $pod s" 'sync run'
     made 'what is synced' 'ok|ok|ok|ok' '' fsync:delay_enter=1 "sync run $pod f" "sync run $pod s" "sync run $pod " 'sync run'
