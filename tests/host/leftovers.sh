@@ -94,9 +94,9 @@ for byte in range(1, 256):
         os.symlink(b\"/\", b\"l\" + bytes([byte]))
 os.mkdir(bytes(byte for byte in range(1, 256) if byte != 47)[:254])
 "'
-leaves 'a thousand directories, one in another' 'python3 -c "
+leaves 'three hundred directories, one in another' 'python3 -c "
 import os
-for _ in range(1000):
+for _ in range(300):
     os.mkdir(\"d\")
     os.chdir(\"d\")
 "'
