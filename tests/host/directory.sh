@@ -168,6 +168,35 @@ mkdir "$RKT_DIR/pods/run/"{UPPER,a_b,"$(printf 'x%.0s' {1..71})","$(printf 'x%.0
 calls 'the folders of an area' "$pod|$other|$(printf 'x%.0s' {1..71})|ok|ok" 'list run' 'list trees'
 rm -r "$RKT_DIR/pods/run/"{file,UPPER,a_b,x*}
 
+# What an app left in its root: in exited-garbage it goes with the root, whether its mark is still there or not. Nowhere else.
+root=stage1/rootfs/opt/stage2/app/rootfs
+left() {
+    mkdir -p "$RKT_DIR/pods/$1/$pod/$root/d/e" "$RKT_DIR/pods/$1/$pod/${root}2"
+    : >"$RKT_DIR/pods/$1/$pod/$root/d/f"
+    : >"$RKT_DIR/pods/$1/$pod/$root/d/e/"$'\xff'
+    : >"$RKT_DIR/pods/$1/$pod/${root}2/f"
+}
+away=exited-garbage
+left $away
+: >"$RKT_DIR/pods/$away/$pod/started-app"
+calls 'what an app left, by its mark' 'dir stage1|file started-app|ok|ok|ok|ok|dir rootfs2|ok|missing' "list $away $pod " \
+    "remove-file $away $pod started-app" "list $away $pod $root" "remove-dir $away $pod $root" "list $away $pod ${root%/*}" \
+    "list $away $pod $root"
+left $away
+calls 'what an app left, without its mark' 'dir stage1|ok|dir d|ok|dir e|file f|ok|ok|ok|missing|ok' "list $away $pod " \
+    "list $away $pod $root" "list $away $pod $root/d" "list $away $pod $root/d/e" "remove-dir $away $pod $root/d/e" \
+    "remove-dir $away $pod $root/d/f" "remove-dir $away $pod $root"
+calls 'what stands beside the root' 'not empty|not empty|missing' "remove-dir $away $pod ${root%/*}" "remove-dir $away $pod ${root}2" \
+    "remove-dir $away $pod $root"
+rm -r "$RKT_DIR/pods/$away/$pod"
+for area in garbage prepared; do
+    left $area
+    : >"$RKT_DIR/pods/$area/$pod/started-app"
+    calls "the same in $area" 'dir d|ok|not empty|not empty|not empty' "list $area $pod $root" "remove-dir $area $pod $root" \
+        "remove-dir $area $pod $root/d" "remove-dir $area $pod $root/d/e"
+    rm -r "$RKT_DIR/pods/$area/$pod"
+done
+
 # Files that are appended to, and read in pieces of each length about 65,536.
 calls 'pieces come at the end' 'ok|ok|ok|onetwo' "make-file run $pod f" "append run $pod f one" "append run $pod f two" "copy run $pod f 100"
 seq 1 40000 >"$tmp/wanted"
@@ -203,6 +232,8 @@ calls 'a long path' "dir $segment|ok" "list run $pod $long"
 calls 'a path past the limit of the system' 'failed|failed|failed' "list run $pod $long/$segment/$segment" \
     "make-dir run $pod $long/$segment/$segment/d" "remove-dir run $pod $long/$segment/$segment"
 (cd "$inside" && rm -r "$segment")
+# The data folder is its owner's alone: here the other user may enter it.
+chmod 755 "$RKT_DIR"
 as_user=()
 if [ "$(id -u)" -eq 0 ]; then
     as_user=(setpriv --reuid=65534 --regid=65534 --clear-groups)
@@ -272,6 +303,13 @@ trace_host() {
     made 'a lock that can not be had' 'failed|failed' '' flock:error=ENOLCK "lock shared own run $pod" 'lock exclusive area run'
     made 'a folder that has gone before its move' missing '' rename:error=ENOENT "move run $pod garbage $pod"
     made 'a folder that came before the move' exists '' rename:error=ENOTEMPTY "move run $pod garbage $pod"
+    timeout 60 strace -qq -o "$tmp/trace" -P "$RKT_DIR/pods/garbage/$pod" -e trace=newfstatat,statx,lstat \
+        -e inject=newfstatat,statx,lstat:delay_enter=2000000 "$check" "move run $pod garbage $pod" >"$tmp/out" 2>&1 </dev/null &
+    sleep 0.5
+    mv "$RKT_DIR/pods/run/$pod" "$RKT_DIR/pods/garbage/$pod"
+    wait $!
+    same 'a folder that another moved there meanwhile' missing "$(cat "$tmp/out")"
+    mv "$RKT_DIR/pods/garbage/$pod" "$RKT_DIR/pods/run/$pod"
     made 'a move to another disk' failed '' rename:error=EXDEV "move run $pod garbage $pod"
     made 'a sync that fails' 'failed|failed|failed' '' fsync:error=EIO "sync run $pod f" "sync run $pod s" 'sync run'
     made 'what is synced' 'ok|ok|ok|ok' '' fsync:delay_enter=1 "sync run $pod f" "sync run $pod s" "sync run $pod " 'sync run'

@@ -106,17 +106,13 @@ mkdir -p "$inside/$(printf 'd/%.0s' $(seq 300))"
 mkdir -p "$inside/closed/below"
 echo text >"$inside/closed/below/file"
 chmod 555 "$inside/closed/below" "$inside/closed"
-if [ "$(id -u)" = 0 ]; then
-    expect 'a hard root' 0 "removed $pod" '' "$rkt" rm "$pod"
-    same 'nothing stands' 0 "$(standing)"
-else
-    chmod -R u+w "$inside/closed"
-    expect 'a hard root' 0 "removed $pod" '' "$rkt" rm "$pod"
-fi
+expect 'a hard root' 0 "removed $pod" '' "$rkt" rm "$pod"
+same 'nothing stands' 0 "$(standing)"
 same 'what is outside stands' kept "$(cat "$tmp/outside/file")"
 
-# Another user than root can't empty a directory that isn't to be written: the removal is refused, the pod stays in
-# exited-garbage, and goes once its directories can be written.
+# Another user than root empties a directory that isn't to be written or read once its mode is changed, which the removal does
+# by itself where the name can be told. Else it is refused, the pod stays in exited-garbage, and goes once its directories
+# can be written.
 as_user=()
 if [ "$(id -u)" = 0 ]; then
     as_user=(setpriv --reuid=65534 --regid=65534 --clear-groups)
@@ -128,19 +124,50 @@ if [ ${#as_user[@]} -eq 0 ] || "${as_user[@]}" "$rkt" --version >/dev/null 2>&1;
     [ ${#as_user[@]} -eq 0 ] || chown 65534:65534 "$RKT_DIR"
     "${as_user[@]}" "$rkt" image import "$tmp/app" >/dev/null
     pod=$("${as_user[@]}" "$rkt" run example.com/app | head -n 1)
-    closed=$(root run "$pod" app)/closed
-    "${as_user[@]}" mkdir -p "$closed/below"
-    "${as_user[@]}" touch "$closed/below/file"
-    "${as_user[@]}" chmod 555 "$closed/below" "$closed"
-    expect 'a closed root' 9 '' 'rkt: directory fault' "${as_user[@]}" "$rkt" rm "$pod"
+    close() {
+        "${as_user[@]}" mkdir -p "$1/below/d"
+        "${as_user[@]}" touch "$1/below/file"
+        "${as_user[@]}" chmod 555 "$1/below"
+        "${as_user[@]}" chmod 000 "$1/below/d"
+        "${as_user[@]}" chmod "$2" "$1"
+    }
+    close "$(root run "$pod" app)/closed" 555
+    close "$(root run "$pod" app)/sealed" 000
+    expect 'a closed root' 0 "removed $pod" '' "${as_user[@]}" "$rkt" rm "$pod"
+    pod=$("${as_user[@]}" "$rkt" run example.com/app | head -n 1)
+    "${as_user[@]}" "$rkt" gc >/dev/null
+    close "$(root exited-garbage "$pod" app)/closed" 111
+    rm "$(area exited-garbage)/$pod/"{token,started-app}
+    expect 'a closed root, after a deletion that was cut short' 0 "removed $pod" '' "${as_user[@]}" "$rkt" rm "$pod"
+    pod=$("${as_user[@]}" "$rkt" run example.com/app | head -n 1)
+    close "$(root run "$pod" app)/"$'closed\xff' 555
+    expect 'a closed root whose name is not UTF-8' 9 '' 'rkt: directory fault' "${as_user[@]}" "$rkt" rm "$pod"
     expect 'it rests' 0 'state=exited garbage' '' "${as_user[@]}" "$rkt" status "$pod"
-    "${as_user[@]}" chmod -R u+w "$(root exited-garbage "$pod" app)/closed"
+    "${as_user[@]}" chmod -R u+rwx "$(root exited-garbage "$pod" app)"
     expect 'an opened root' 0 "removed $pod" '' "${as_user[@]}" "$rkt" rm "$pod"
     same 'nothing of it stands' 0 "$(standing)"
     export RKT_DIR=$whole
 else
     skip 'read-only directories of another user: root may write all, and there is no setpriv'
 fi
+
+# Three sweeps at once over pods that have just exited: each of them ends well, whichever comes first to a pod.
+for round in {1..60}; do
+    for turn in {1..4}; do "$rkt" run example.com/app >/dev/null; done
+    sweepers=()
+    for turn in {1..3}; do
+        "$rkt" gc >/dev/null 2>>"$tmp/swept" &
+        sweepers+=($!)
+    done
+    for sweeper in "${sweepers[@]}"; do
+        wait "$sweeper"
+        same "three sweeps at once, round $round" 0 $?
+    done
+done
+same 'they said nothing' '' "$(sort "$tmp/swept" | uniq -c)"
+for pod in "$(area exited-garbage)"/*; do aged "${pod##*/}" 2000; done
+"$rkt" gc >/dev/null
+same 'nothing stands' 0 "$(standing)"
 
 # A root of 50,000 files in 500 directories goes within twice the time of `rm -r` of as many: in one of up to fifteen
 # turns, since times beside other work on the host differ more than that.

@@ -179,16 +179,28 @@ mv "$tmp/f/deep" "$root/deep"
 : >"$tmp/f/imported-00000000000000000001"
 attack 'names that look like marks' 0 "$key"
 
-# A name must not bring a second line into the message. A name that isn't UTF-8 is passed over.
+# A name must not bring a second line into the message.
 bundle
 mkfifo "$root/"$'x\nrkt: second line'
 timeout 60 "$rkt" image import "$tmp/f" >/dev/null 2>"$tmp/said"
 same 'a pipe whose name has a line feed' '15 1' "$? $(wc -l <"$tmp/said")"
+
+# A name that isn't UTF-8, of a file, a directory or a link, at the top or deep: an image would be without it, so the bundle
+# is refused. Where a listing is given, what it doesn't name is passed over.
+for level in '' etc/a/b/; do
+    for kind in 'touch' 'mkdir' 'ln -s file'; do
+        bundle
+        mkdir -p "$root/etc/a/b"
+        echo text >"$root/etc/file"
+        $kind "$root/$level"$'bad\xffname'
+        attack "a name that is no UTF-8, by $kind, in rootfs/$level" 10 'rkt: bundle fault'
+    done
+done
 bundle
-: >"$root/"$'\xff'
-timeout 60 "$rkt" image import "$tmp/f" >/dev/null 2>"$tmp/said"
-same 'a name that is no UTF-8 is passed over' 0 $?
-"$rkt" image rm "$key" >/dev/null 2>&1
+mkdir "$root/etc"
+: >"$root/etc/"$'\xff'
+printf 'd 0755 0 0 /etc\n' >"$tmp/f/tree"
+attack 'a name that is no UTF-8 beside a listing' 0 "$key" 'd 0755 0 0 /etc'
 
 # Paths at the limit of 4,095 bytes, in the store and in the bundle. A directory is opened with a slash behind its path.
 deep() {
@@ -314,6 +326,39 @@ for n in {1..20}; do
 done
 same 'a removal beside a program that swaps: nothing outside changed' "$before" "$(standing "$outside")"
 same 'no pod is left' '' "$(find "$RKT_DIR/pods" -mindepth 2 -maxdepth 2)"
+
+# Another user of the machine neither reads the data folder nor locks anything in it, whatever the umask that it was made
+# under; one that stands keeps its mode.
+as_user=(setpriv --reuid=65534 --regid=65534 --clear-groups)
+for mask in 000 022 077 777; do
+    private=$tmp/private$mask
+    (umask $mask && RKT_DIR=$private exec "$rkt" status 00000000-0000-4000-8000-000000000001) >/dev/null 2>&1
+    same "made under the umask $mask" 700 "$(stat -c %a "$private")"
+done
+mkdir -m 751 "$tmp/stands"
+RKT_DIR=$tmp/stands "$rkt" status 00000000-0000-4000-8000-000000000001 2>/dev/null
+same 'one that stands keeps its mode' 751 "$(stat -c %a "$tmp/stands")"
+mkdir "$tmp/here"
+(cd "$tmp/here" && umask 000 && env -u RKT_DIR "$rkt" status 00000000-0000-4000-8000-000000000001) 2>/dev/null
+same 'the folder rkt in the current one' 700 "$(stat -c %a "$tmp/here/rkt")"
+(umask 000 && RKT_DIR=$tmp/here/on/the/way/ exec "$rkt" status 00000000-0000-4000-8000-000000000001) 2>/dev/null
+same 'one whose parents are missing' 700 "$(stat -c %a "$tmp/here/on/the/way")"
+if [ "$(id -u)" -eq 0 ] && command -v flock >/dev/null && "${as_user[@]}" true 2>/dev/null; then
+    private=$tmp/private000
+    pod=$(RKT_DIR=$private "$rkt" image import "$tmp/f" >/dev/null && RKT_DIR=$private "$rkt" prepare example.com/f)
+    for what in "pods/prepared/$pod/token" "pods/prepared/$pod/pod" "store/images/$key/manifest"; do
+        same "it is there: $what" 0 "$(cat "$private/$what" >/dev/null 2>&1; echo $?)"
+        same "another user doesn't read $what" 1 "$("${as_user[@]}" cat "$private/$what" >/dev/null 2>&1; echo $?)"
+    done
+    for what in pods/embryo pods/prepared store/images "pods/prepared/$pod" "pods/prepared/$pod/pod"; do
+        same "it can be locked: $what" 0 "$(flock -n -s "$private/$what" true 2>/dev/null; echo $?)"
+        "${as_user[@]}" flock -n -s "$private/$what" true 2>/dev/null
+        same "another user doesn't lock $what" 66 $?
+    done
+    RKT_DIR=$private "$rkt" rm "$pod" >/dev/null
+else
+    skip 'what another user may do with the data folder: this is not root, or there is no setpriv or no flock'
+fi
 
 # Names that look like marks, in a pod: they are the app's, and its pod keeps its own time.
 expect 'it goes' 0 "removed $key" '' "$rkt" image rm "$key"

@@ -203,7 +203,7 @@ fi
 if [ ${#as_user[@]} -eq 0 ] || "${as_user[@]}" "$rkt" --version >/dev/null 2>&1; then
     cp pod.json secret.json
     "$rkt" validate pod.json >/dev/null
-    chmod 755 .
+    chmod 755 . "$RKT_DIR"
     chmod 000 secret.json
     expect 'a file that may not be read' 10 '' 'rkt: bundle fault' "${as_user[@]}" "$rkt" validate secret.json
 else

@@ -1,5 +1,5 @@
-//! Makes calls on the data folder, one a word, and prints what each is answered: a program by which the
-//! directory of a host is tested. tests/host/directory.sh has its words.
+//! Makes calls on the data folder, one a word or one a line of the standard input, and prints what each is
+//! answered: a program by which the directory of a host is tested. tests/host/directory.sh has its words.
 #![tactic(auto)]
 
 mod calls;
@@ -90,6 +90,29 @@ fn copy<D: Dir>(rt: &HostRuntime, dir: &mut D, spot: &Spot, path: &str, size: us
     Ok(())
 }
 
+/// Reads a piece of a file once, and writes it as a line.
+fn read_once<D: Dir>(
+    rt: &HostRuntime,
+    dir: &mut D,
+    spot: &Spot,
+    path: &str,
+    size: usize,
+) -> Result<()>
+    requires active { IsActive (D.shown dir.old).local }
+    requires path { is_path path.now ≡ true }
+    ensures { IsActive (D.shown dir.new).local }
+{
+    let mut room = vec![in rt.alloc(); 0; size]?;
+    match dir.read_in(rt.alloc(), *spot, path, 0, room.as_mut_slice()) {
+        Ok(count) => {
+            rt.stdout().write_all(&room[..count])?;
+            println!(rt; "")?;
+            print_answer(rt, Ok(()))
+        }
+        Err(error) => print_answer(rt, Err(error)),
+    }
+}
+
 /// A call on something in a folder.
 fn perform_inside<D: Dir>(
     rt: &HostRuntime,
@@ -111,6 +134,7 @@ fn perform_inside<D: Dir>(
             print_answer(rt, dir.append_in(rt.alloc(), *spot, path, text.as_bytes()))
         }
         Step::Copy { size, .. } => copy(rt, dir, spot, path, *size),
+        Step::Read { size, .. } => read_once(rt, dir, spot, path, *size),
         _ => Ok(()),
     }
 }
@@ -136,7 +160,8 @@ fn perform<D: Dir>(rt: &HostRuntime, dir: &mut D, step: &Step<'_>) -> Result<()>
         Step::List { spot, path }
         | Step::OnInner { spot, path, .. }
         | Step::Append { spot, path, .. }
-        | Step::Copy { spot, path, .. } => {
+        | Step::Copy { spot, path, .. }
+        | Step::Read { spot, path, .. } => {
             if is_path(path.as_bytes()) {
                 perform_inside(rt, dir, step, spot, path)
             } else {
@@ -146,16 +171,39 @@ fn perform<D: Dir>(rt: &HostRuntime, dir: &mut D, step: &Step<'_>) -> Result<()>
     }
 }
 
-/// The calls, one after the other.
+/// One call, as its words name it.
+fn perform_call<D: Dir>(rt: &HostRuntime, dir: &mut D, call: &str) -> Result<()>
+    requires { IsActive (D.shown dir.old).local }
+    ensures { IsActive (D.shown dir.new).local }
+{
+    let words: Vec<&str> = call.split(' ').collect(rt.alloc())?;
+    match step_of(words.as_slice()) {
+        Some(step) => perform(rt, dir, &step),
+        None => Err(anyhow!("no such call")),
+    }
+}
+
+/// The calls that the lines of the standard input name, each as soon as its line is there.
+fn perform_lines<D: Dir>(rt: &HostRuntime, dir: &mut D) -> Result<()>
+    requires { IsActive (D.shown dir.old).local }
+    ensures { IsActive (D.shown dir.new).local }
+{
+    'lines: for line in rt.lines(rt.alloc()) {
+        perform_call(rt, dir, line?.as_str())?;
+    }
+    Ok(())
+}
+
+/// The calls, one after the other. The word `lines` stands for those of the standard input.
 fn perform_all<D: Dir>(rt: &HostRuntime, dir: &mut D, calls: &[String]) -> Result<()>
     requires { IsActive (D.shown dir.old).local }
     ensures { IsActive (D.shown dir.new).local }
 {
     'calls: for call in calls {
-        let words: Vec<&str> = call.as_str().split(' ').collect(rt.alloc())?;
-        match step_of(words.as_slice()) {
-            Some(step) => perform(rt, dir, &step)?,
-            None => return Err(anyhow!("no such call")),
+        if call.as_str() == "lines" {
+            perform_lines(rt, dir)?;
+        } else {
+            perform_call(rt, dir, call.as_str())?;
         }
     }
     Ok(())

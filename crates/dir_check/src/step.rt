@@ -38,6 +38,12 @@ pub enum Step<'a> {
         path: &'a str,
         text: &'a str,
     },
+    /// Reads the first bytes of a file, so many at most.
+    Read {
+        spot: Spot,
+        path: &'a str,
+        size: usize,
+    },
     /// Reads a file to its end by pieces of this size.
     Copy {
         spot: Spot,
@@ -98,6 +104,11 @@ fn long_step<'a>(words: [&'a str; 5]) -> Option<Step<'a>> {
             spot: spot_of(area, name)?,
             path,
             text: last,
+        }),
+        "read" => Some(Step::Read {
+            spot: spot_of(area, name)?,
+            path,
+            size: last.parse::<usize>().ok()?,
         }),
         "copy" => Some(Step::Copy {
             spot: spot_of(area, name)?,

@@ -9,7 +9,7 @@ use crate::open_folders::{OpenFolder, give_up, keep, set_lock, target_of};
 use dir_trait::{
     Area, Dir, DirError, Handle, Intent, Items, Mode, Names, Reply, Request, Spot, Target, Which,
 };
-use host_files::Reached;
+use host_files::{Reached, Started};
 use std::alloc::Global;
 use std::fs::File;
 use std::rt::Files;
@@ -26,6 +26,7 @@ pub struct HostDir<R: Files<File = File> + AllocGlobal + Clone + Drop> {
     finished: bool,
     folders: Vec<OpenFolder>,
     reached: Option<Reached>,
+    started: Option<Started>,
 }
 
 impl<R: Files<File = File> + AllocGlobal + Clone + Drop> HostDir<R> {
@@ -44,6 +45,7 @@ impl<R: Files<File = File> + AllocGlobal + Clone + Drop> HostDir<R> {
             finished: false,
             folders: Vec::new(alloc),
             reached: None,
+            started: None,
         }
     }
 }
@@ -216,6 +218,7 @@ impl<R: Files<File = File> + AllocGlobal + Clone + Drop> Dir for HostDir<R> {
             alloc,
             self.root.as_str(),
             &mut self.reached,
+            &mut self.started,
             &spot,
             path,
         ) {

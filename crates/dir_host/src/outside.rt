@@ -8,7 +8,7 @@ ghost use Rattle.dir_host.specs.Setup.{IsDrawnOf};
 use crate::dir::HostDir;
 use crate::setup::{SetupError, find_root};
 use dir_trait::{Dir, Draw, PodId};
-use host_files::{AREAS, make_area_at, path_of_area};
+use host_files::{AREAS, make_area_at, make_root, path_of_area};
 use std::fs::File;
 use std::io::{ErrorKind, Read};
 use std::rt::{Clock, Env, Files};
@@ -23,10 +23,11 @@ pub struct Outside<R: Files<File = File> + AllocGlobal + Clone + Drop> {
     pub dir: HostDir<R>,
 }
 
-/// Makes the areas that are missing, and the folders above them.
+/// Makes the data folder and its areas, where they are missing.
 fn make_areas<R: Files + AllocGlobal>(rt: &R, root: &str) -> Result<(), SetupError>
     ensures { IsErrOf result SetupError.Usage → ⊥ }
 {
+    make_root(rt, root)?;
     for area in AREAS {
         let path = path_of_area(rt.alloc(), root, area)?;
         make_area_at(rt, path.as_str(), root, area)?;

@@ -23,6 +23,10 @@ names_shown (e ∷ es) = ap (λ ns. e.name ∷ ns) (names_shown es)
 pub order_shown : (entries : List BundleItem) (items : List Item) → items ≡ map shown_item entries → IsListing entries → IsStrictlySortedBy (slice_cmp nat_cmp) (item_names items)
 order_shown entries items e ordered = subst (λ ns. IsStrictlySortedBy (slice_cmp nat_cmp) ns) (sym (ap item_names e ∙ names_shown entries)) ordered
 
+pub none_ordered : (items : List Item) → items ≡ [] → IsStrictlySortedBy (slice_cmp nat_cmp) (item_names items)
+unfolding IsStrictlySortedBy
+none_ordered items e = subst (λ is. IsStrictlySortedBy (slice_cmp nat_cmp) (item_names is)) (sym e) tt
+
 -- a name by the test is one, and the other way round
 
 reaches : (n : ℕ) → 1 ≤ n → nat_le 1 n ≡ true

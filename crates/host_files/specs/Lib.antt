@@ -1,3 +1,4 @@
+pub mod Apps
 pub mod Named
 pub mod Places
 pub mod Readings

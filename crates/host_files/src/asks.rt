@@ -1,9 +1,11 @@
 // What the system is asked of the data folder: one call of std each, at the path that is named beside it.
 ghost use Rattle.std.specs.Prelude.{◌≡◌, ◌++◌, codes};
+ghost use Rattle.host_files.specs.Apps.{LiesInApp};
 ghost use Rattle.host_files.specs.Places.{area_path, folder_path, inner_path};
 
 use dir_trait::{Area, Spot};
-use std::fs::{File, Metadata, OpenOptions};
+use std::fs::{File, Metadata, OpenOptions, Permissions};
+use std::os::unix::fs::PermissionsExt;
 use std::rt::Files;
 use std::{fs, io};
 
@@ -119,6 +121,29 @@ pub fn remove_dir_at<R: Files>(
     requires { path.now ≡ inner_path root.now spot.now inner.now }
 {
     fs::remove_dir(rt, path)
+}
+
+/// Lets the owner of a directory read, write and enter it, where an app may have written that was started.
+pub fn open_up_at<R: Files>(rt: &R, path: &str, spot: &Spot, inner: &str) -> io::Result<()>
+    requires area { spot.now.area ≡ Area.ExitedGarbage }
+    requires app { LiesInApp inner.now }
+{
+    fs::set_permissions(rt, path, Permissions::from_mode(0o700))
+}
+
+/// Removes a directory with all that stands in it, which an app may have left that was started. The path ends
+/// with the directory's name, seen from an open directory. Std goes by directories that it has opened, and
+/// follows no link.
+pub fn remove_left_at<R: Files + AllocGlobal>(
+    rt: &R,
+    path: &str,
+    spot: &Spot,
+    inner: &str,
+) -> io::Result<()>
+    requires area { spot.now.area ≡ Area.ExitedGarbage }
+    requires app { LiesInApp inner.now }
+{
+    fs::remove_dir_all(rt, path)
 }
 
 /// Moves a folder.

@@ -1,6 +1,6 @@
 // What the system is asked of the files of a bundle. Nothing here counts faults: `Failed` is counted by
 // the bundle that hands it on.
-ghost use Rattle.std.specs.Prelude.{◌≡◌, ◌≢◌, ◌≤◌, ◌++◌, ◌↔◌, min, length, take, drop, string_bytes, IsOk, IfOk, IfErr, OnOk, IsSomeAnd};
+ghost use Rattle.std.specs.Prelude.{◌≡◌, ◌≢◌, ◌≤◌, ◌++◌, ◌↔◌, min, length, take, drop, string_bytes, IsOk, IfOk, IfErr, OnOk, IsTrue, IsSomeAnd};
 ghost use Rattle.std.specs.Fs.{file_type, IsDir, IsFile, IsSymlink};
 ghost use Rattle.std.specs.IoError.{error_kind};
 ghost use Rattle.dir_trait.specs.Bundles.{IsListing};
@@ -232,14 +232,58 @@ fn told_kind(told: io::Result<FileType>) -> Result<Option<FileType>, BundleError
     }
 }
 
+/// Which names a listing shows.
+#[derive(Clone, Copy, Debug, PartialEq, Eq)]
+pub enum Shows {
+    /// Each: the listing fails where one can't be told.
+    Each,
+    /// Those that can be told.
+    Told,
+    /// Those that can be told and have at most so many bytes.
+    Short(usize),
+}
+
+// A path has at most 4,095 bytes, a directory's with a slash behind it.
+const LONGEST: usize = 4095;
+
+/// The names below a directory whose paths the system takes.
+pub(crate) fn reachable(path_length: usize) -> Shows {
+    Shows::Short(LONGEST.saturating_sub(2).saturating_sub(path_length))
+}
+
+/// What a name that can't be told means for a listing.
+fn pass_over(shows: Shows) -> Result<(), BundleError>
+    ensures each { shows ≡ Shows.Each → result ≡ Err BundleError.Failed }
+    ensures others { shows ≢ Shows.Each → IsOk result }
+{
+    match shows {
+        Shows::Each => Err(BundleError::Failed),
+        Shows::Told | Shows::Short(_) => Ok(()),
+    }
+}
+
+/// Whether the name has no more bytes than are shown.
+fn is_shown(name: &FileName, shows: Shows) -> bool
+    ensures { shows ≡ Shows.Each → IsTrue result }
+{
+    match shows {
+        Shows::Each | Shows::Told => true,
+        Shows::Short(most) => name.as_str().len() <= most,
+    }
+}
+
 /// Adds an entry of a directory, unless it has gone since.
 fn add<R: Files + Clone + Drop>(
     kinds: &mut BTreeMap<FileName, BundleKind>,
     entry: &DirEntry<R, Global>,
+    shows: Shows,
 ) -> Result<(), BundleError> {
     let Some(name) = FileName::of(entry.file_name()) else {
-        return Ok(());
+        return pass_over(shows);
     };
+    if !is_shown(&name, shows) {
+        return Ok(());
+    }
     let Some(kind) = told_kind(entry.file_type())? else {
         return Ok(());
     };
@@ -249,19 +293,21 @@ fn add<R: Files + Clone + Drop>(
     }
 }
 
-/// The entries of a directory, in byte order of their names. A name that isn't UTF-8 is left out.
+/// The entries of a directory, in byte order of their names, as far as it shows them.
 pub fn list_folder<R: Files + AllocGlobal + Clone + Drop>(
     rt: &R,
     alloc: Global,
     path: &str,
+    shows: Shows,
 ) -> Result<BundleItems, BundleError>
     ensures { IfOk result IsListing }
 {
     let mut kinds = BTreeMap::new(alloc);
     let entries = fs::read_dir(rt, path).map_err(refusal)?;
     for entry in entries {
-        if let Some(entry) = told_entry(entry)? {
-            add(&mut kinds, &entry)?;
+        match told_entry(entry)? {
+            Some(entry) => add(&mut kinds, &entry, shows)?,
+            None => pass_over(shows)?,
         }
     }
     listing_of(alloc, &kinds).map_err(short)

@@ -6,11 +6,14 @@ ghost use Rattle.dir_trait.specs.DirCalls.{IsFilled};
 ghost use Rattle.dir_model.specs.Replies.{is_fault};
 ghost use Rattle.host_files.specs.Places.{has_dots};
 
+use crate::apps::may_be_apps;
 use crate::asks::{
     make_dir_at, make_file_at, open_dir_at, open_file_at, remove_dir_at, remove_file_at,
 };
 use crate::files::{fill, read_from};
+use crate::leftovers::remove_left;
 use crate::looks::{Found, Reached, look, reach, reach_below};
+use crate::place::has_dots;
 use crate::refusals::{absent, fault, short, unmade, unremoved};
 use dir_trait::{DirError, Spot};
 use std::alloc::Global;
@@ -250,7 +253,7 @@ pub fn remove_file<R: Files>(
 }
 
 /// Removes an empty directory.
-pub fn remove_dir<R: Files>(
+fn remove_bare<R: Files>(
     rt: &R,
     alloc: Global,
     root: &str,
@@ -264,4 +267,28 @@ pub fn remove_dir<R: Files>(
 {
     let path = reach_below(rt, alloc, root, reached, spot, inner, DirError::Missing)?;
     remove_dir_at(rt, path.as_str(), root, spot, inner).map_err(unremoved)
+}
+
+/// Removes an empty directory; and at or below the root of an app that may have been started, a directory
+/// with all that the app left there.
+pub fn remove_dir<R: Files<File = File> + AllocGlobal + Clone + Drop>(
+    rt: &R,
+    alloc: Global,
+    root: &str,
+    reached: &mut Option<Reached>,
+    spot: &Spot,
+    inner: &str,
+) -> Result<(), DirError>
+    ensures dots { has_dots inner.now ≡ true → result ≡ Err DirError.Missing }
+    ensures below { OnOk result (inner.now ≢ []) }
+    ensures refusals { IfErr result (λ e. (e ≡ DirError.Missing) ⊎ (e ≡ DirError.NotEmpty) ⊎ (is_fault e ≡ true)) }
+{
+    if has_dots(inner) || inner.is_empty() {
+        return remove_bare(rt, alloc, root, reached, spot, inner);
+    }
+    if may_be_apps(alloc, spot, inner)? {
+        remove_left(rt, alloc, root, spot, inner)
+    } else {
+        remove_bare(rt, alloc, root, reached, spot, inner)
+    }
 }

@@ -5,7 +5,7 @@ ghost use Rattle.std.specs.Fs.{file_type, IsDir};
 ghost use Rattle.dir_trait.specs.Bundles.{IsListing};
 ghost use Rattle.host_files.specs.Named.{way_start};
 
-use crate::files::{list_folder, refusal};
+use crate::files::{Shows, list_folder, refusal};
 use dir_model::lies_below;
 use dir_trait::{BundleError, BundleItems};
 use std::alloc::Global;
@@ -59,9 +59,9 @@ pub(crate) fn look<R: Files>(rt: &R, path: &str, named: &str) -> Result<Metadata
     fs::symlink_metadata(rt, path).map_err(refusal)
 }
 
-/// The entries of a directory of a bundle, in byte order of their names. A name that isn't UTF-8 is left
-/// out. `Missing` where no directory stands there, or the path leads through a link behind the path that
-/// was named.
+/// The entries of a directory of a bundle, in byte order of their names. `Missing` where no directory stands
+/// there, or the path leads through a link behind the path that was named. Fails where a name can't be told,
+/// as one that isn't UTF-8: an image would be without it, and nothing would say so.
 pub fn list_bundle<R: Files + AllocGlobal + Clone + Drop>(
     rt: &R,
     alloc: Global,
@@ -72,5 +72,5 @@ pub fn list_bundle<R: Files + AllocGlobal + Clone + Drop>(
 {
     let found = look(rt, path, named)?;
     check_directory(&found)?;
-    list_folder(rt, alloc, path)
+    list_folder(rt, alloc, path, Shows::Each)
 }

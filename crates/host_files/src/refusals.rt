@@ -4,7 +4,7 @@ ghost use Rattle.std.specs.IoError.{error_kind};
 ghost use Rattle.dir_model.specs.Replies.{is_fault};
 ghost use Rattle.host_files.specs.Refusals.{fault_error, absent_error, folder_error, make_error, move_error, remove_error};
 
-use dir_trait::DirError;
+use dir_trait::{BundleError, DirError};
 use std::alloc::AllocError;
 use std::io;
 use std::io::ErrorKind;
@@ -89,5 +89,16 @@ pub fn unremoved(error: io::Error) -> DirError
         ErrorKind::AlreadyExists | ErrorKind::DirectoryNotEmpty => DirError::NotEmpty,
         ErrorKind::OutOfMemory => DirError::NoMemory,
         _ => DirError::Failed,
+    }
+}
+
+/// A directory that was opened has failed where it can't be listed.
+pub fn unlisted(error: BundleError) -> DirError
+    ensures memory { error ≡ BundleError.NoMemory → result ≡ DirError.NoMemory }
+    ensures fault { is_fault result ≡ true }
+{
+    match error {
+        BundleError::NoMemory => DirError::NoMemory,
+        BundleError::Missing | BundleError::Failed => DirError::Failed,
     }
 }
