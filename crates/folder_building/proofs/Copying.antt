@@ -12,7 +12,7 @@ use Rattle.dir_trait.specs.DirCalls.{DirAt}
 use Rattle.tree_digest.specs.declared.file_check.FileCheck.{FileCheck}
 use Rattle.tree_digest.specs.FileChecks.{HasTaken}
 use Rattle.folder_building.specs.Work.{Worked, EndsStray, builds_at, either}
-use Rattle.folder_building.specs.Sources.{SourceAt, Same, ReadsOn, Reads, IsLonger, IsUnlike, UnlikeContent}
+use Rattle.folder_building.specs.Sources.{SourceAt, Same, ReadsOn, Reads, IsLonger, IsUnlike, UnlikeContent, IsLike, LikeContent}
 use Rattle.folder_building.specs.declared.plan.Origin.{Origin}
 use Rattle.folder_building.specs.declared.plan.Content.{Content}
 use Rattle.folder_building.specs.declared.plan.Content.TheVariants.{Directory, Given, Copied}
@@ -112,6 +112,10 @@ pub err_more : {T E : Type 0} (P Q : E → Type 0) (r : Result T E) → ((e : E)
 err_more P Q (Ok x) f h = h
 err_more P Q (Err e) f h = f e h
 
+pub ok_any : {T E : Type 0} {P : Type 0} (r : Result T E) → P → IfOk r (λ x. P)
+ok_any (Ok x) h = h
+ok_any (Err e) h = tt
+
 pub err_any : {T E : Type 0} (P : Type 0) (r : Result T E) → P → IfErr r (λ e. P)
 err_any P (Ok x) h = tt
 err_any P (Err e) h = h
@@ -179,6 +183,17 @@ ended_unlike source origin more check size sha at matches over front says never 
     let found : matches ≡ true = (says size sha bytes whole).1 (long, hashed) in
     let clash : true ≡ false = sym found ∙ never in
     cc
+
+-- but one whose bytes were all taken, and match, is
+pub ended_like : (source : SourceAt) (origin : Origin) (more : Bool) (check : FileCheck) (size : ℕ) (sha : List ℕ) (at : ℕ) (matches : Bool) → more ≡ false → Front source origin more check size sha at → ((k : ℕ) (s message : List ℕ) → HasTaken check k s message → (IsTrue matches ↔ ((length message ≡ k) × (sha512 message ≡ s)))) → IsTrue matches → IsLike source origin size sha
+ended_like source origin more check size sha at matches over front says fits t bytes is =
+    let f = front t bytes is in
+    (says size sha bytes (subst (λ (xs : List ℕ). HasTaken check size sha xs) (ap (λ n. take n bytes) (f.ended over) ∙ take-length bytes) f.taken)).0 fits
+
+pub like_same : (source next : SourceAt) (content : Content) → Same source next → LikeContent next content → LikeContent source content
+like_same source next Directory same h = h
+like_same source next (Given bytes) same h = h
+like_same source next (Copied origin size sha) same h = λ t bytes is. h (told_same same t) bytes (file_same same t is)
 
 pub unlike_same : (source next : SourceAt) (origin : Origin) (size : ℕ) (sha : List ℕ) → Same source next → IsUnlike next origin size sha → IsUnlike source origin size sha
 unlike_same source next origin size sha same unlike t bytes is long hashed = unlike (told_same same t) bytes (file_same same t is) long hashed

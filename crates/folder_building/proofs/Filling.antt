@@ -15,12 +15,12 @@ use Rattle.folder_building.specs.declared.plan.PlanEntry.{PlanEntry}
 use Rattle.folder_building.specs.declared.plan.Content.{Content}
 use Rattle.folder_building.specs.declared.plan.Content.TheVariants.{Directory, Given, Copied}
 use Rattle.folder_building.specs.Plans.{is_file, has_origin, outline, follows, is_plan, is_in_turn, are_in_turn, piece_at, directory_at, pieces_at, file_at, AreMade, is_among, is_owed}
-use Rattle.folder_building.specs.Sources.{SourceAt, Same, UnlikeContent, UnlikeAt}
+use Rattle.folder_building.specs.Sources.{SourceAt, Same, UnlikeContent, UnlikeAt, LikeContent, AreLike}
 use Rattle.folder_building.specs.Making.{inner_at, with_making, Grown, with_pieces, IsSpoilt, HasAdded, Adds, Tries, IsFresh, IsFilled, FillsWith, HasBegun, Begins, built, CarriesOut}
 use Rattle.folder_building.specs.Changes.{with_new, Makes, Syncs, Unsyncs, Gives, Takes, SyncsAll, UnsyncsAll, SyncedTo}
 use Rattle.folder_building.proofs.Steps.{site_kept}
 use Rattle.folder_building.proofs.Pieces.{pieces_spot, pieces_clean, pieces_entries, pieces_owed, may_same}
-use Rattle.folder_building.proofs.Copying.{content_same}
+use Rattle.folder_building.proofs.Copying.{content_same, like_same}
 use Rattle.folder_building.proofs.Entries.{made_more, new_outline, turn_outline, follows_at, turn_at, among_at, path_made, owed_more, owed_path, owed_parent, all_wider, owed_less, owed_none}
 
 -- an entry that was made
@@ -259,3 +259,11 @@ unlike_at source next plan i e within is n at same unlike = record {
   place = length-take-le i plan (omega (arith, within)) ∙ sym at;
   unlike = content_same source next e.content same unlike;
 }
+
+-- one more is what the plan asks for
+like_push : (source : SourceAt) (xs : List PlanEntry) (e : PlanEntry) → AreLike source xs → LikeContent source e.content → AreLike source (xs ++ e ∷ [])
+like_push source [] e are is = (is, tt)
+like_push source (x ∷ xs) e are is = (are.0, like_push source xs e are.1 is)
+
+pub like_next : (source next : SourceAt) (plan : List PlanEntry) (i : ℕ) (e : PlanEntry) → i < length plan → e ≡ get_or plan i e → Same source next → AreLike source (take i plan) → LikeContent next e.content → AreLike source (take (i + 1) plan)
+like_next source next plan i e within is same are like = subst (λ (xs : List PlanEntry). AreLike source xs) (sym (take_more plan i e within ∙ ap (λ (x : PlanEntry). take i plan ++ x ∷ []) (sym is))) (like_push source (take i plan) e are (like_same source next e.content same like))

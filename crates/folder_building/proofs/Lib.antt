@@ -6,3 +6,4 @@ pub mod Copying
 pub mod Entries
 pub mod Filling
 pub mod Reading
+pub mod Stored

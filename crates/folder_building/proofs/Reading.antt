@@ -15,7 +15,7 @@ use Rattle.folder_building.specs.Work.{Worked}
 use Rattle.folder_building.specs.Sources.{reads_images, may_read_images}
 use Rattle.folder_building.proofs.Working.{worked_call}
 
-abbrev image_path : List ℕ → List ℕ → Inner
+abbrev pub image_path : List ℕ → List ℕ → Inner
 image_path name path = record { spot = record { area = Images; name = name }; path = path }
 
 read_local : (m : Local) (inner : Inner) (at size : ℕ) (room : List ℕ) (r : Result ℕ DirError) → local_replied m (ReadIn inner at size) (read_reply room r) ≡ m

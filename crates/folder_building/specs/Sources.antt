@@ -1,8 +1,10 @@
 -- What files are copied from, at a moment.
 use Rattle.std.specs.Prelude.{◌≡◌, ◌≤◌, ℕ, ◌-◌, min, Bool, true, false, ◌||◌, Option, Some, None, List, ◌∷◌, ◌++◌, length, take, drop}
 use Rattle.std.specs.Borrow.{GName}
+use Rattle.std.specs.List.{AllByRecursion}
 use Rattle.sha2.specs.Sha512.{sha512}
 use Rattle.dir_model.specs.declared.area.Area.TheVariants.{Images}
+use Rattle.dir_model.specs.declared.item.Inner.{Inner}
 use Rattle.dir_model.specs.declared.request.Request.{Request}
 use Rattle.dir_model.specs.declared.request.Request.TheVariants.{ReadIn}
 use Rattle.dir_rules.specs.declared.standing.Standing.{Standing}
@@ -59,7 +61,19 @@ IsLonger source origin size = source.told ≡ true → (bytes : List ℕ) → so
 abbrev pub IsUnlike : SourceAt → Origin → ℕ → List ℕ → Type 0
 IsUnlike source origin size sha = source.told ≡ true → (bytes : List ℕ) → source.file origin ≡ Some bytes → length bytes ≡ size → sha512 bytes ≡ sha → ⊥
 
--- an entry's file is not what the plan asks for
+-- a file that stands there has this size and SHA-512
+abbrev pub IsLike : SourceAt → Origin → ℕ → List ℕ → Type 0
+IsLike source origin size sha = source.told ≡ true → (bytes : List ℕ) → source.file origin ≡ Some bytes → (length bytes ≡ size) × (sha512 bytes ≡ sha)
+
+-- an entry's file is what the plan asks for
+abbrev pub LikeContent : SourceAt → Content → Type 0
+LikeContent source (Copied origin size sha) = IsLike source origin size sha
+LikeContent source content = Unit {0}
+
+abbrev pub AreLike : SourceAt → List PlanEntry → Type 0
+AreLike source plan = AllByRecursion (λ e. LikeContent source e.content) plan
+
+-- or it isn't
 abbrev pub UnlikeContent : SourceAt → Content → Type 0
 UnlikeContent source Directory = ⊥
 UnlikeContent source (Given bytes) = ⊥
@@ -77,6 +91,14 @@ pub record UnlikeAt (source : SourceAt) (plan : List PlanEntry) (n : ℕ) : Type
 -- under those locks a process knows after it what it knew
 abbrev pub ReadsOn : SourceAt → DirAt → DirAt → Type 0
 ReadsOn source old new = (s : Seen) → source.may s.standing ≡ true → Knows old s → Knows new s
+
+-- the file of an image: the origin names its folder, and the path there
+abbrev pub in_image : List ℕ → Option (List ℕ) → Option Inner
+in_image path None = None
+in_image path (Some folder) = Some (record { spot = record { area = Images; name = folder }; path = path })
+
+abbrev pub in_images : Origin → Option Inner
+in_images origin = in_image origin.path origin.folder
 
 -- reads in images, under their lock
 abbrev pub reads_images : Request → Bool

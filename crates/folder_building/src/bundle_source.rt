@@ -48,9 +48,11 @@ fn joined(alloc: Global, root: &str, path: &str) -> Result<String, SourceError>
 }
 
 impl<'a, B: Bundle> Source for BundleSource<'a, B> {
-    ghost use Rattle.std.specs.Prelude.{false, true, Some};
+    ghost use Rattle.std.specs.Prelude.{false, true, Some, None};
     ghost use Rattle.dir_trait.specs.Bundles.{child_path, file_bytes};
     ghost use Rattle.folder_building.specs.Sources.{SourceAt};
+
+    ghost stored = { λ o. None };
 
     ghost shown = { λ s. record {
       faults = (B.shown s.bundle.now).faults;

@@ -5,7 +5,8 @@ ghost use Rattle.dir_trait.specs.Paths.{is_path};
 ghost use Rattle.dir_trait.specs.Local.{IsActive};
 ghost use Rattle.folder_building.specs.Work.{Worked, EndsStray, builds_at, either};
 ghost use Rattle.tree_digest.specs.FileChecks.{HasTaken};
-ghost use Rattle.folder_building.specs.Sources.{Same, ReadsOn, Reads, IsLonger, IsUnlike};
+ghost use Rattle.folder_building.specs.Sources.{Same, ReadsOn, Reads, IsLonger, IsUnlike, IsLike};
+ghost use Rattle.folder_building.specs.Stored.{Sees, EndsCopy, WasUnlike};
 ghost use Rattle.folder_building.specs.Making.{Appends, Writes, CopiesOn, Copies, Spoils, SpoilsUnder};
 
 use crate::error::{BuildError, build_error};
@@ -112,7 +113,9 @@ fn take_piece<D: Dir, S: Source>(
     ensures known { D.observed ≡ true → ReadsOn (S.shown source.old) (D.shown dir.old) (D.shown dir.new) }
     ensures room { length room.new ≡ length room.old }
     ensures unlike { (n : ℕ) → IsErrOf result (BuildError.Unlike n) → (n ≡ place) × IsLonger (S.shown source.old) origin.now (at + left) }
+    ensures lacks { (n : ℕ) → IsErrOf result (BuildError.Unlike n) → D.observed ≡ true → EndsCopy (S.stored origin.now) at left (D.shown dir.old) (D.shown dir.new) }
     ensures read { IfOk result (λ count. Reads (S.shown source.old) origin.now at (length room.old) count room.new) }
+    ensures sees { IfOk result (λ count. D.observed ≡ true → Sees (S.stored origin.now) at (length room.old) (take count room.new) (D.shown dir.old) (D.shown dir.new)) }
     ensures most { IfOk result (λ count. count ≤ length room.new) }
     ensures left { IfOk result (λ count. count ≤ left) }
     ensures taken { IfOk result (λ count. (size : ℕ) (sha message : List ℕ)
@@ -154,7 +157,9 @@ fn copy_piece<D: Dir, S: Source>(
         → EndsStray (either (builds_at spot.now) (S.shown source.old).asks) (D.shown dir.old) (D.shown dir.new) }
     ensures room { length room.new ≡ length room.old }
     ensures unlike { (n : ℕ) → IsErrOf result (BuildError.Unlike n) → (n ≡ place) × IsLonger (S.shown source.old) origin.now (at + left) }
+    ensures lacks { (n : ℕ) → IsErrOf result (BuildError.Unlike n) → D.observed ≡ true → EndsCopy (S.stored origin.now) at left (D.shown dir.old) (D.shown dir.new) }
     ensures read { IfOk result (λ count. Reads (S.shown source.old) origin.now at (length room.old) count room.new) }
+    ensures sees { IfOk result (λ count. D.observed ≡ true → Sees (S.stored origin.now) at (length room.old) (take count room.new) (D.shown dir.old) (D.shown dir.new)) }
     ensures most { IfOk result (λ count. count ≤ length room.new) }
     ensures left { IfOk result (λ count. count ≤ left) }
     ensures taken { IfOk result (λ count. (size : ℕ) (sha message : List ℕ)
@@ -188,10 +193,12 @@ pub fn copy<D: Dir, S: Source>(
     ensures fault { IsErrOf result BuildError.DirFault → Rose (D.shown dir.old).faults (D.shown dir.new).faults }
     ensures source { IsErrOf result BuildError.SourceFault → Rose (S.shown source.old).faults (S.shown source.new).faults }
     ensures unlike { (n : ℕ) → IsErrOf result (BuildError.Unlike n) → (n ≡ place) × IsUnlike (S.shown source.old) origin.now size sha }
+    ensures lacks { (n : ℕ) → IsErrOf result (BuildError.Unlike n) → D.observed ≡ true → WasUnlike (S.stored origin.now) size sha (D.shown dir.old) (D.shown dir.new) }
     ensures same { Same (S.shown source.old) (S.shown source.new) }
     ensures worked { Worked D.observed (either (builds_at spot.now) (S.shown source.old).asks) (D.shown dir.old) (D.shown dir.new) }
     ensures stray { IsErrOf result BuildError.Stray → D.observed ≡ true
         → EndsStray (either (builds_at spot.now) (S.shown source.old).asks) (D.shown dir.old) (D.shown dir.new) }
+    ensures like { IfOk result (λ done. IsLike (S.shown source.old) origin.now size sha) }
     ensures done { IfOk result (λ done. Copies D.observed (S.shown source.old) spot.now path.now size sha (D.shown dir.old) (D.shown dir.new)) }
     ensures refused { IfErr result (λ e. D.observed ≡ true → SpoilsUnder (S.shown source.old) spot.now path.now (D.shown dir.old) (D.shown dir.new)) }
 {

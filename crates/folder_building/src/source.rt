@@ -1,10 +1,11 @@
 // What files are copied from.
-ghost use Rattle.std.specs.Prelude.{◌≡◌, ◌≤◌, true, length, IfOk, IsErrOf};
+ghost use Rattle.std.specs.Prelude.{◌≡◌, ◌≤◌, true, length, take, IfOk, IsErrOf};
 ghost use Rattle.dir_trait.specs.Causes.{Rose};
 ghost use Rattle.dir_trait.specs.Paths.{is_path};
 ghost use Rattle.dir_trait.specs.Local.{IsActive};
 ghost use Rattle.folder_building.specs.Work.{Worked};
 ghost use Rattle.folder_building.specs.Sources.{Same, ReadsOn, IsMissing, Reads};
+ghost use Rattle.folder_building.specs.Stored.{WasGone, Sees};
 
 use crate::plan::Origin;
 use dir_trait::Dir;
@@ -25,14 +26,22 @@ pub enum SourceError {
 
 /// Files that can be read in pieces, some of them in the data folder itself.
 pub trait Source {
+    ghost use Rattle.std.specs.Prelude.{Option};
+    ghost use Rattle.dir_model.specs.declared.item.Inner.{Inner};
+    ghost use Rattle.folder_building.specs.declared.plan.Origin.{Origin};
     ghost use Rattle.folder_building.specs.Sources.{SourceAt};
+
+    /// The file of the data folder that it reads for an origin, if it reads one.
+    ghost stored: { Origin → Option Inner };
 
     /// What it shows at a moment: how often it failed, what it asks the data folder for and under which
     /// locks it may, and where it tells them the bytes of its files.
     ghost shown: { Self → SourceAt };
 
     /// Fills the room with the bytes of a file, from byte `at` on, and answers how many it filled: fewer
-    /// than the room has only at the file's end. `Missing` where no file stands there.
+    /// than the room has only at the file's end. `Missing` where no file stands there, and only then;
+    /// `Failed` where the source failed, `DirFault` where the directory did, `NoMemory` where memory
+    /// ran out.
     fn read<D: Dir>(
         &mut self,
         alloc: Global,
@@ -48,6 +57,8 @@ pub trait Source {
         ensures most { IfOk result (λ n. n ≤ length room.old) }
         ensures missing { IsErrOf result SourceError.Missing → IsMissing (shown self.old) origin.now }
         ensures read { IfOk result (λ n. Reads (shown self.old) origin.now at (length room.old) n room.new) }
+        ensures gone { IsErrOf result SourceError.Missing → D.observed ≡ true → WasGone (stored origin.now) (D.shown dir.old) (D.shown dir.new) }
+        ensures sees { IfOk result (λ n. D.observed ≡ true → Sees (stored origin.now) at (length room.old) (take n room.new) (D.shown dir.old) (D.shown dir.new)) }
         ensures same { Same (shown self.old) (shown self.new) }
         ensures worked { Worked D.observed (shown self.old).asks (D.shown dir.old) (D.shown dir.new) }
         ensures known { D.observed ≡ true → ReadsOn (shown self.old) (D.shown dir.old) (D.shown dir.new) };

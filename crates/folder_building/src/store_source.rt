@@ -1,5 +1,6 @@
 // Files of the images in the data folder.
-ghost use Rattle.std.specs.Prelude.{◌≡◌};
+ghost use Rattle.std.specs.Prelude.{◌≡◌, false};
+ghost use Rattle.dir_model.specs.Replies.{is_fault};
 
 use crate::plan::Origin;
 use crate::source::{Source, SourceError};
@@ -14,6 +15,7 @@ pub struct StoreSource;
 fn store_error(error: DirError) -> SourceError
     ensures fault { result ≡ SourceError.DirFault → error ≡ DirError.Failed }
     ensures never { result ≡ SourceError.Failed → ⊥ }
+    ensures missing { result ≡ SourceError.Missing → is_fault error ≡ false }
 {
     match error {
         DirError::Failed => SourceError::DirFault,
@@ -25,7 +27,9 @@ fn store_error(error: DirError) -> SourceError
 impl Source for StoreSource {
     ghost use Rattle.folder_building.specs.Sources.{SourceAt};
     ghost use Rattle.std.specs.Prelude.{false, None};
-    ghost use Rattle.folder_building.specs.Sources.{reads_images, may_read_images};
+    ghost use Rattle.folder_building.specs.Sources.{reads_images, may_read_images, in_images};
+
+    ghost stored = { in_images };
 
     ghost shown = { λ s. record { faults = 0; asks = reads_images; may = may_read_images; told = false; file = λ o. None; reference = None } };
 
@@ -44,7 +48,9 @@ impl Source for StoreSource {
             area: Area::Images,
             name,
         };
-        dir.read_in(alloc, spot, origin.path.as_str(), at, room)
-            .map_err(store_error)
+        match dir.read_in(alloc, spot, origin.path.as_str(), at, room) {
+            Ok(count) => Ok(count),
+            Err(error) => Err(store_error(error)),
+        }
     }
 }

@@ -11,7 +11,7 @@ use Rattle.pod_launches.specs.Places.{root_of}
 use Rattle.pod_launches.specs.Starts.{IsStart, IsPlacedIn, AddsStart, AreStarts}
 use Rattle.pod_launches.specs.declared.error.LoadError.{LoadError}
 use Rattle.pod_launches.specs.declared.error.LoadError.TheVariants.{NoProgram, NoMemory}
-use Rattle.pod_launches.specs.Refusals.{AreMissing, SomeLacks, IsMissingAmong}
+use Rattle.pod_launches.specs.Refusals.{AreMissing, FirstLacks, IsMissingAmong}
 
 pub push_start : (pod : PodId) (address token : List ℕ) (apps : List RuntimeApp) (roots : List Root) (starts : List AppStart) (app : RuntimeApp) (root : Root) (start : AppStart) → AreStarts pod address token apps roots starts → IsStart pod address token app root start
     → AreStarts pod address token (apps ++ app ∷ []) (roots ++ root ∷ []) (starts ++ start ∷ [])
@@ -20,10 +20,10 @@ push_start pod address token (a ∷ apps) (r ∷ roots) (s ∷ starts) app root 
 push_start pod address token _ _ _ app root start are is = absurd are
 
 -- the app that lacks a program stands behind others
-pub some_lacks_behind : (apps : List RuntimeApp) (roots : List Root) (starts : List AppStart) (pod : PodId) (address token : List ℕ) (later : List RuntimeApp) (others : List Root) (name word : List ℕ) → AreStarts pod address token apps roots starts → SomeLacks later others name word → SomeLacks (apps ++ later) (roots ++ others) name word
-some_lacks_behind [] [] [] pod address token later others name word are lacks = lacks
-some_lacks_behind (a ∷ apps) (r ∷ roots) (s ∷ starts) pod address token later others name word are lacks = inr (some_lacks_behind apps roots starts pod address token later others name word are.1 lacks)
-some_lacks_behind _ _ _ pod address token later others name word are lacks = absurd are
+pub lacks_behind : (apps : List RuntimeApp) (roots : List Root) (starts : List AppStart) (pod : PodId) (address token : List ℕ) (later : List RuntimeApp) (others : List Root) (name word : List ℕ) → AreStarts pod address token apps roots starts → FirstLacks later others name word → FirstLacks (apps ++ later) (roots ++ others) name word
+lacks_behind [] [] [] pod address token later others name word are lacks = lacks
+lacks_behind (a ∷ apps) (r ∷ roots) (s ∷ starts) pod address token later others name word are lacks = inr (are.0.startable, lacks_behind apps roots starts pod address token later others name word are.1 lacks)
+lacks_behind _ _ _ pod address token later others name word are lacks = absurd are
 
 -- the next element of a list of which some are left
 next_taken : {A : Type 0} (xs : List A) (i : ℕ) (x : A) (left : List A) → i < length xs → drop i xs ≡ x ∷ left → take (i + 1) xs ≡ take i xs ++ x ∷ []
@@ -50,10 +50,10 @@ module _ (pod : PodId) (address token : List ℕ) (apps : List RuntimeApp) (root
   -- the first that lacks a program
   pub missing_next : (e : LoadError) → AreMissing app root e → IsMissingAmong apps roots e
   missing_next (NoProgram name word) lacks =
-      let behind : SomeLacks (take i apps ++ drop i apps) (take i roots ++ drop i roots) name word = some_lacks_behind (take i apps) (take i roots) starts pod address token (drop i apps) (drop i roots) name word are
-      (subst (λ (l : List RuntimeApp). SomeLacks l (drop i roots) name word) (sym (next_item apps i app h is))
-      (subst (λ (l : List Root). SomeLacks (app ∷ drop (i + 1) apps) l name word) (sym rest) (inl lacks))) in
-      subst (λ (l : List RuntimeApp). SomeLacks l roots name word) (take-append-drop i apps) (subst (λ (l : List Root). SomeLacks (take i apps ++ drop i apps) l name word) (take-append-drop i roots) behind)
+      let behind : FirstLacks (take i apps ++ drop i apps) (take i roots ++ drop i roots) name word = lacks_behind (take i apps) (take i roots) starts pod address token (drop i apps) (drop i roots) name word are
+      (subst (λ (l : List RuntimeApp). FirstLacks l (drop i roots) name word) (sym (next_item apps i app h is))
+      (subst (λ (l : List Root). FirstLacks (app ∷ drop (i + 1) apps) l name word) (sym rest) (inl lacks))) in
+      subst (λ (l : List RuntimeApp). FirstLacks l roots name word) (take-append-drop i apps) (subst (λ (l : List Root). FirstLacks (take i apps ++ drop i apps) l name word) (take-append-drop i roots) behind)
   missing_next NoMemory lacks = tt
   missing_next e lacks = absurd lacks
 

@@ -1,21 +1,17 @@
 -- What a refusal rests on, carried on.
-use Rattle.std.proofs.Common.{◌≡◌, inl, inr, ℕ, Bool, true, List, map}
+use Rattle.std.proofs.Common.{◌≡◌, inl, inr, ℕ, Bool, true, List, ◌∷◌, ◌++◌, map}
 use Rattle.manifests.specs.declared.pod_manifest.PodManifest.{PodManifest}
 use Rattle.manifests.specs.declared.runtime_app.RuntimeApp.{RuntimeApp}
 use Rattle.manifests.specs.PodData.{pod_data}
-use Rattle.std.specs.Prelude.{Contains}
 use Rattle.dir_model.specs.declared.pod.PodId.{PodId}
 use Rattle.dir_trait.specs.DirCalls.{DirAt}
-use Rattle.image_reading.specs.Files.{most_of_tree}
-use Rattle.image_reading.proofs.Widths.{lack_after}
 use Rattle.pod_launches.specs.declared.error.LoadError.{LoadError}
 use Rattle.pod_launches.specs.declared.error.LoadError.TheVariants.{NoManifest, Damaged, NoProgram, DirFault, NoMemory}
 use Rattle.pod_launches.specs.declared.root.Root.{Root}
-use Rattle.pod_launches.specs.Places.{pod_file, token_name, tree_path}
+use Rattle.pod_launches.specs.Places.{token_name, tree_path, told_path}
 use Rattle.pod_launches.specs.Looks.{OnlyReadsPod}
-use Rattle.pod_launches.specs.Files.{IsNoListing, IsNoToken, most_of_token, ReadsManifest, LacksManifest, LacksToken, LacksRoot, AreRoots}
-use Rattle.pod_launches.specs.Refusals.{IsOutside, IsLack, IsDamageFor, IsDamage, IsRootsLack, IsMissingAmong, LacksStarts, LoadCause}
-use Rattle.pod_launches.proofs.Rooted.{roots_after}
+use Rattle.pod_launches.specs.Files.{ReadsManifest, LacksManifest, ReadsToken, LacksToken, LacksRoot, AreRoots}
+use Rattle.pod_launches.specs.Refusals.{InTurn, IsOutside, IsLack, IsDamageFor, IsDamage, IsRootsLack, IsMissingAmong, LacksStarts, LacksSome, LoadCause}
 
 pub lack_why : (Why More : Type 0) (e : LoadError) → (Why → More) → IsLack Why e → IsLack More e
 lack_why Why More NoManifest f is = f is
@@ -40,27 +36,39 @@ damage_for at Why NoMemory why is = tt
 damage_for at Why e why is = absurd is
 
 module _ {observed : Bool} (t : observed ≡ true) (pod : PodId) where
-  -- one of the apps' listings is damaged
-  pub lacks_one : (apps : List (List ℕ)) (app : List ℕ) (e : LoadError) {a b : DirAt} (c : DirAt) → Contains apps app → OnlyReadsPod observed pod a b → IsDamageFor (tree_path app) (observed ≡ true → LacksRoot pod app b c) e → IsRootsLack pod apps e a c
-  lacks_one apps app (Damaged path) c among ab is = record { app = app; among = among; stands = is.0; lacks = lack_after t (pod_file pod (tree_path app)) most_of_tree IsNoListing c ab (is.1 t) }
-  lacks_one apps app DirFault c among ab is = tt
-  lacks_one apps app NoMemory c among ab is = tt
-  lacks_one apps app e c among ab is = absurd is
+  -- one after the other
+  pub in_turn : (First Later : DirAt → DirAt → Type 0) {a b : DirAt} (c : DirAt) → OnlyReadsPod observed pod a b → First a b → Later b c → InTurn First Later a c
+  in_turn First Later {a} {b} c only first later = record { between = b; earlier = (only.extends t).more; same = only.same; begins = (only.extends t).grown; first = first; later = later }
 
-  -- in a part of the time
-  pub starts_lack_after : (apps : List RuntimeApp) (e : LoadError) {a b : DirAt} (c : DirAt) → OnlyReadsPod observed pod a b → LacksStarts pod apps e b c → LacksStarts pod apps e a c
-  starts_lack_after apps NoManifest c ab is = is
-  starts_lack_after apps (Damaged path) c ab is = record { app = is.app; among = is.among; stands = is.stands; lacks = lack_after t (pod_file pod (tree_path is.app)) most_of_tree IsNoListing c ab is.lacks }
-  starts_lack_after apps (NoProgram name word) c ab is = record { roots = is.roots; read = roots_after t pod (map (λ a. a.name) apps) is.roots c ab is.read; lacks = is.lacks }
-  starts_lack_after apps DirFault c ab is = tt
-  starts_lack_after apps NoMemory c ab is = tt
+  -- the listing of the next app is damaged
+  pub lacks_one : {apps : List (List ℕ)} (before : List (List ℕ)) (app : List ℕ) (after : List (List ℕ)) (roots : List Root) (e : LoadError) {a b : DirAt} (c : DirAt) → apps ≡ before ++ app ∷ after → OnlyReadsPod observed pod a b → AreRoots pod before roots a b → IsDamageFor (told_path pod (tree_path app)) (observed ≡ true → LacksRoot pod app b c) e → IsRootsLack pod apps e a c
+  lacks_one before app after roots (Damaged path) c are ab read is = record { before = before; app = app; after = after; roots = roots; are = are; stands = is.0; lacks = in_turn (AreRoots pod before roots) (LacksRoot pod app) c ab read (is.1 t) }
+  lacks_one before app after roots DirFault c are ab read is = tt
+  lacks_one before app after roots NoMemory c are ab read is = tt
+  lacks_one before app after roots e c are ab read is = absurd is
 
   -- the token is damaged
-  pub token_cause : (e : LoadError) {a b : DirAt} (c : DirAt) → OnlyReadsPod observed pod a b → IsDamageFor token_name (observed ≡ true → LacksToken pod b c) e → LoadCause pod e a c
-  token_cause (Damaged path) c ab is = inl (is.0, lack_after t (pod_file pod token_name) most_of_token IsNoToken c ab (is.1 t))
-  token_cause DirFault c ab is = tt
-  token_cause NoMemory c ab is = tt
-  token_cause e c ab is = absurd is
+  pub token_cause : (manifest : PodManifest) (e : LoadError) {a b : DirAt} (c : DirAt) → OnlyReadsPod observed pod a b → ReadsManifest pod (pod_data manifest) a b → IsDamageFor (told_path pod token_name) (observed ≡ true → LacksToken pod b c) e → LoadCause pod e a c
+  token_cause manifest (Damaged path) c ab read is = inl (record { manifest = manifest; stands = is.0; lacks = in_turn (ReadsManifest pod (pod_data manifest)) (LacksToken pod) c ab read (is.1 t) })
+  token_cause manifest DirFault c ab read is = tt
+  token_cause manifest NoMemory c ab read is = tt
+  token_cause manifest e c ab read is = absurd is
+
+  some : (manifest : PodManifest) (token : List ℕ) (e : LoadError) {a b c : DirAt} (d : DirAt) → OnlyReadsPod observed pod a b → OnlyReadsPod observed pod b c → ReadsManifest pod (pod_data manifest) a b → ReadsToken pod token b c → LacksStarts pod manifest.apps e c d → LacksSome pod e a d
+  some manifest token e d ab bc read told is = record {
+    manifest = manifest;
+    token = token;
+    lacks = in_turn (ReadsManifest pod (pod_data manifest)) (InTurn (ReadsToken pod token) (LacksStarts pod manifest.apps e)) d ab read
+        (in_turn (ReadsToken pod token) (LacksStarts pod manifest.apps e) d bc told is);
+  }
+
+  -- it isn't known of the apps
+  pub starts_cause : (manifest : PodManifest) (token : List ℕ) (e : LoadError) {a b c : DirAt} (d : DirAt) → OnlyReadsPod observed pod a b → OnlyReadsPod observed pod b c → ReadsManifest pod (pod_data manifest) a b → ReadsToken pod token b c → LacksStarts pod manifest.apps e c d → LoadCause pod e a d
+  starts_cause manifest token NoManifest d ab bc read told is = absurd is
+  starts_cause manifest token (Damaged path) d ab bc read told is = inr (some manifest token (Damaged path) d ab bc read told is)
+  starts_cause manifest token (NoProgram name word) d ab bc read told is = some manifest token (NoProgram name word) d ab bc read told is
+  starts_cause manifest token DirFault d ab bc read told is = tt
+  starts_cause manifest token NoMemory d ab bc read told is = tt
 
 -- the listings of the apps' roots
 pub roots_cause : (pod : PodId) (apps : List RuntimeApp) (old new : DirAt) (e : LoadError) → IsRootsLack pod (map (λ a. a.name) apps) e old new → LacksStarts pod apps e old new
@@ -81,10 +89,3 @@ manifest_cause pod old new NoManifest is = is
 manifest_cause pod old new DirFault is = tt
 manifest_cause pod old new NoMemory is = tt
 manifest_cause pod old new e is = absurd is
-
-pub starts_cause : (pod : PodId) (manifest : PodManifest) (e : LoadError) {old new : DirAt} → ReadsManifest pod (pod_data manifest) old new → LacksStarts pod manifest.apps e old new → LoadCause pod e old new
-starts_cause pod manifest NoManifest read is = absurd is
-starts_cause pod manifest (Damaged path) read is = inr (record { manifest = manifest; read = read; lacks = is })
-starts_cause pod manifest (NoProgram name word) read is = record { manifest = manifest; read = read; lacks = is }
-starts_cause pod manifest DirFault read is = tt
-starts_cause pod manifest NoMemory read is = tt

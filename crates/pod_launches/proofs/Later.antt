@@ -1,6 +1,7 @@
 -- Why it isn't known with what the apps of a pod start, said of a longer time.
-use Rattle.std.proofs.Common.{◌≡◌, inl, inr, ℕ, Bool, List, [], ◌∷◌, map}
+use Rattle.std.proofs.Common.{◌≡◌, inl, inr, ℕ, Bool, List, [], ◌∷◌, map, sym, ◌∙◌}
 use Rattle.manifests.specs.declared.runtime_app.RuntimeApp.{RuntimeApp}
+use Rattle.manifests.specs.PodData.{pod_data}
 use Rattle.dir_model.specs.declared.pod.PodId.{PodId}
 use Rattle.dir_model.specs.declared.item.Inner.{Inner}
 use Rattle.dir_model.specs.declared.request.Request.{Request}
@@ -12,8 +13,8 @@ use Rattle.image_reading.proofs.Widths.{within_before}
 use Rattle.pod_launches.specs.declared.error.LoadError.{LoadError}
 use Rattle.pod_launches.specs.declared.error.LoadError.TheVariants.{NoManifest, Damaged, NoProgram, DirFault, NoMemory}
 use Rattle.pod_launches.specs.declared.root.Root.{Root}
-use Rattle.pod_launches.specs.Files.{AreRoots}
-use Rattle.pod_launches.specs.Refusals.{LacksStarts, LoadCause}
+use Rattle.pod_launches.specs.Files.{ReadsManifest, ReadsToken, LacksToken, LacksRoot, AreRoots}
+use Rattle.pod_launches.specs.Refusals.{InTurn, LacksStarts, LacksSome, LoadCause}
 
 module _ {asks : Request → Bool} (b c : DirAt) (more : Extends asks b.process b.trace c.trace) where
   file_later : {inner : Inner} {most : ℕ} {P : List ℕ → Type 0} {a : DirAt} → ReadsFile inner most P a b → ReadsFile inner most P a c
@@ -25,22 +26,33 @@ module _ {asks : Request → Bool} (b c : DirAt) (more : Extends asks b.process 
   roots_later pod a (app ∷ apps) [] are = absurd are
   roots_later pod a (app ∷ apps) (root ∷ roots) are = (file_later are.0, roots_later pod a apps roots are.1)
 
+  lack_later : {inner : Inner} {most : ℕ} {P : List ℕ → Type 0} (a : DirAt) → b.process ≡ a.process → LacksFile inner most P a b → LacksFile inner most P a c
+  lack_later a same (inl missing) = inl (at_before missing same more)
+  lack_later a same (inr read) = inr (file_later read)
+
+  turn_later : (First Later : DirAt → DirAt → Type 0) (a : DirAt) → b.process ≡ a.process → ((m : DirAt) → b.process ≡ m.process → Later m b → Later m c) → InTurn First Later a b → InTurn First Later a c
+  turn_later First Later a same f w = record { between = w.between; earlier = w.earlier; same = w.same; begins = w.begins; first = w.first; later = f w.between (same ∙ sym w.same) w.later }
+
+  starts_later : (pod : PodId) (apps : List RuntimeApp) (e : LoadError) (a : DirAt) → b.process ≡ a.process → LacksStarts pod apps e a b → LacksStarts pod apps e a c
+  starts_later pod apps NoManifest a same is = is
+  starts_later pod apps (Damaged path) a same is = record { before = is.before; app = is.app; after = is.after; roots = is.roots; are = is.are; stands = is.stands; lacks = turn_later (AreRoots pod is.before is.roots) (LacksRoot pod is.app) a same (λ m s l. lack_later m s l) is.lacks }
+  starts_later pod apps (NoProgram name word) a same is = record { roots = is.roots; read = roots_later pod a (map (λ x. x.name) apps) is.roots is.read; lacks = is.lacks }
+  starts_later pod apps DirFault a same is = tt
+  starts_later pod apps NoMemory a same is = tt
+
+  some_later : (pod : PodId) (e : LoadError) (a : DirAt) → b.process ≡ a.process → LacksSome pod e a b → LacksSome pod e a c
+  some_later pod e a same some = record {
+    manifest = some.manifest;
+    token = some.token;
+    lacks = turn_later (ReadsManifest pod (pod_data some.manifest)) (InTurn (ReadsToken pod some.token) (LacksStarts pod some.manifest.apps e)) a same (λ m s w.
+        turn_later (ReadsToken pod some.token) (LacksStarts pod some.manifest.apps e) m s (λ n s' l. starts_later pod some.manifest.apps e n s' l) w) some.lacks;
+  }
+
   module _ (a : DirAt) (same : b.process ≡ a.process) where
-    lack_later : {inner : Inner} {most : ℕ} {P : List ℕ → Type 0} → LacksFile inner most P a b → LacksFile inner most P a c
-    lack_later (inl missing) = inl (at_before missing same more)
-    lack_later (inr read) = inr (file_later read)
-
-    starts_later : (pod : PodId) (apps : List RuntimeApp) (e : LoadError) → LacksStarts pod apps e a b → LacksStarts pod apps e a c
-    starts_later pod apps NoManifest is = is
-    starts_later pod apps (Damaged path) is = record { app = is.app; among = is.among; stands = is.stands; lacks = lack_later is.lacks }
-    starts_later pod apps (NoProgram name word) is = record { roots = is.roots; read = roots_later pod a (map (λ x. x.name) apps) is.roots is.read; lacks = is.lacks }
-    starts_later pod apps DirFault is = tt
-    starts_later pod apps NoMemory is = tt
-
     pub load_later : (pod : PodId) (e : LoadError) → LoadCause pod e a b → LoadCause pod e a c
-    load_later pod NoManifest is = lack_later is
-    load_later pod (Damaged path) (inl token) = inl (token.0, lack_later token.1)
-    load_later pod (Damaged path) (inr some) = inr (record { manifest = some.manifest; read = file_later some.read; lacks = starts_later pod some.manifest.apps (Damaged path) some.lacks })
-    load_later pod (NoProgram name word) some = record { manifest = some.manifest; read = file_later some.read; lacks = starts_later pod some.manifest.apps (NoProgram name word) some.lacks }
+    load_later pod NoManifest is = lack_later a same is
+    load_later pod (Damaged path) (inl token) = inl (record { manifest = token.manifest; stands = token.stands; lacks = turn_later (ReadsManifest pod (pod_data token.manifest)) (LacksToken pod) a same (λ m s l. lack_later m s l) token.lacks })
+    load_later pod (Damaged path) (inr some) = inr (some_later pod (Damaged path) a same some)
+    load_later pod (NoProgram name word) some = some_later pod (NoProgram name word) a same some
     load_later pod DirFault is = tt
     load_later pod NoMemory is = tt

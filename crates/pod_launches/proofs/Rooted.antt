@@ -1,8 +1,6 @@
 -- The roots of the apps, read one after the other.
-use Rattle.std.proofs.Common.{◌≡◌, ◌<◌, ◌+◌, ℕ, Bool, true, List, [], ◌∷◌, ◌++◌, length, take, map, get_or, sym, ap, subst, ◌∙◌}
-use Rattle.std.specs.Prelude.{Contains}
-use Rattle.std.proofs.Math.ListN.{get_or-map}
-use Rattle.std.proofs.lemmas.List.{take_more, length-map}
+use Rattle.std.proofs.Common.{◌≡◌, ◌<◌, ◌+◌, ℕ, Bool, true, List, [], ◌∷◌, ◌++◌, length, take, drop, map, get_or, refl, sym, ap, subst, ◌∙◌}
+use Rattle.std.proofs.lemmas.List.{take_more, drop_more, take-append-drop}
 use Rattle.manifests.specs.declared.runtime_app.RuntimeApp.{RuntimeApp}
 use Rattle.dir_model.proofs.Lists.{map_push}
 use Rattle.dir_model.specs.declared.pod.PodId.{PodId}
@@ -18,17 +16,18 @@ use Rattle.pod_launches.specs.Starts.{FindsStarts}
 abbrev pub names : List RuntimeApp → List (List ℕ)
 names apps = map (λ a. a.name) apps
 
+names_append : (xs ys : List RuntimeApp) → names (xs ++ ys) ≡ names xs ++ names ys
+names_append [] ys = refl
+names_append (x ∷ xs) ys = ap (λ (l : List (List ℕ)). x.name ∷ l) (names_append xs ys)
+
 names_more : (apps : List RuntimeApp) (i : ℕ) (app : RuntimeApp) → i < length apps → app ≡ get_or apps i app → names (take (i + 1) apps) ≡ names (take i apps) ++ app.name ∷ []
 names_more apps i app h is = ap names (take_more apps i app h ∙ ap (λ (a : RuntimeApp). take i apps ++ a ∷ []) (sym is)) ∙ map_push (λ a. a.name) (take i apps) app
 
-pub named : (apps : List RuntimeApp) (i : ℕ) (app : RuntimeApp) → i < length apps → app ≡ get_or apps i app → Contains (names apps) app.name
-named apps i app h is = (i, length_so, at)
-  where
-    length_so : i < length (names apps)
-    length_so = subst (λ (n : ℕ). i < n) (sym (length-map apps (λ (a : RuntimeApp). a.name))) h
-
-    at : get_or (names apps) i app.name ≡ app.name
-    at = get_or-map (λ (a : RuntimeApp). a.name) apps i app ∙ ap (λ (a : RuntimeApp). a.name) (sym is)
+-- one of them, the ones before it and those behind
+pub names_around : (apps : List RuntimeApp) (i : ℕ) (app : RuntimeApp) → i < length apps → app ≡ get_or apps i app → names apps ≡ names (take i apps) ++ app.name ∷ names (drop (i + 1) apps)
+names_around apps i app h is =
+    ap names (sym (take-append-drop i apps) ∙ ap (λ (l : List RuntimeApp). take i apps ++ l) (drop_more apps i app h ∙ ap (λ (a : RuntimeApp). a ∷ drop (i + 1) apps) (sym is)))
+    ∙ names_append (take i apps) (app ∷ drop (i + 1) apps)
 
 module _ {observed : Bool} (t : observed ≡ true) (pod : PodId) where
   -- in a part of the time

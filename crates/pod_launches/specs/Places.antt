@@ -25,6 +25,10 @@ token_name = codes "token"
 abbrev pub tree_path : List ℕ → List ℕ
 tree_path app = codes "stage1/rootfs/opt/stage2/" ++ (app ++ codes "/tree")
 
+-- a path in the pod's folder as it is told: behind the pod's uuid
+abbrev pub told_path : PodId → List ℕ → List ℕ
+told_path pod path = pod_text pod.bytes ++ (codes "/" ++ path)
+
 -- the root of an app
 abbrev pub root_of : PodId → List ℕ → RootPlace
 root_of pod app = record { spot = run_spot pod; app = app }

@@ -1,18 +1,19 @@
 -- Why it isn't known with what the apps of a pod start.
-use Rattle.std.specs.Prelude.{◌≡◌, ◌⊎◌, ℕ, Some, option_map, List, ◌∷◌, map, Contains}
+use Rattle.std.specs.Prelude.{◌≡◌, ◌⊎◌, ℕ, Some, None, option_map, List, ◌∷◌, ◌++◌, map}
 use Rattle.app_section.specs.AppData.{app_data}
 use Rattle.path_map.specs.Entries.{entry_at}
 use Rattle.manifests.specs.declared.pod_manifest.PodManifest.{PodManifest}
 use Rattle.manifests.specs.declared.runtime_app.RuntimeApp.{RuntimeApp}
 use Rattle.manifests.specs.PodData.{pod_data}
 use Rattle.launch.specs.Launches.{missing_word}
+use Rattle.dir_model.specs.declared.event.Event.{Event}
 use Rattle.dir_model.specs.declared.pod.PodId.{PodId}
 use Rattle.dir_trait.specs.DirCalls.{DirAt}
 use Rattle.pod_launches.specs.declared.error.LoadError.{LoadError}
 use Rattle.pod_launches.specs.declared.error.LoadError.TheVariants.{NoManifest, Damaged, NoProgram, DirFault, NoMemory}
 use Rattle.pod_launches.specs.declared.root.Root.{Root}
-use Rattle.pod_launches.specs.Places.{token_name, tree_path}
-use Rattle.pod_launches.specs.Files.{ReadsManifest, LacksManifest, LacksToken, LacksRoot, AreRoots}
+use Rattle.pod_launches.specs.Places.{token_name, tree_path, told_path}
+use Rattle.pod_launches.specs.Files.{ReadsManifest, LacksManifest, ReadsToken, LacksToken, LacksRoot, AreRoots}
 
 -- the directory failed, or memory ran out
 abbrev pub IsOutside : LoadError → Type 0
@@ -36,12 +37,24 @@ IsDamage at (Damaged path) = path ≡ at
 IsDamage at NoMemory = Unit {0}
 IsDamage at error = ⊥
 
--- the listing of one of the apps' roots is damaged
+-- this came about, and after it that
+pub record InTurn (First Later : DirAt → DirAt → Type 0) (old new : DirAt) : Type 0 where
+  pub between : DirAt
+  pub earlier : List Event
+  pub same : between.process ≡ old.process
+  pub begins : between.trace ≡ old.trace ++ earlier
+  pub first : First old between
+  pub later : Later between new
+
+-- the roots of the apps before this one were read, and then its listing was damaged
 pub record LacksListing (pod : PodId) (apps : List (List ℕ)) (path : List ℕ) (old new : DirAt) : Type 0 where
+  pub before : List (List ℕ)
   pub app : List ℕ
-  pub among : Contains apps app
-  pub stands : path ≡ tree_path app
-  pub lacks : LacksRoot pod app old new
+  pub after : List (List ℕ)
+  pub roots : List Root
+  pub are : apps ≡ before ++ app ∷ after
+  pub stands : path ≡ told_path pod (tree_path app)
+  pub lacks : InTurn (AreRoots pod before roots) (LacksRoot pod app) old new
 
 abbrev pub IsRootsLack : PodId → List (List ℕ) → LoadError → DirAt → DirAt → Type 0
 IsRootsLack pod apps (Damaged path) old new = LacksListing pod apps path old new
@@ -63,21 +76,25 @@ AreMissing app root (NoProgram name word) = Lacks app root name word
 AreMissing app root NoMemory = Unit {0}
 AreMissing app root error = ⊥
 
--- one of the apps has none
-abbrev pub SomeLacks : List RuntimeApp → List Root → List ℕ → List ℕ → Type 0
-SomeLacks (app ∷ apps) (root ∷ roots) name word = Lacks app root name word ⊎ SomeLacks apps roots name word
-SomeLacks _ _ name word = ⊥
+-- it has one for each
+abbrev pub HasAll : RuntimeApp → Root → Type 0
+HasAll app root = missing_word (option_map app_data app.app) (entry_at root.tree) ≡ None
+
+-- the first app that lacks one lacks this
+abbrev pub FirstLacks : List RuntimeApp → List Root → List ℕ → List ℕ → Type 0
+FirstLacks (app ∷ apps) (root ∷ roots) name word = Lacks app root name word ⊎ (HasAll app root × FirstLacks apps roots name word)
+FirstLacks _ _ name word = ⊥
 
 abbrev pub IsMissingAmong : List RuntimeApp → List Root → LoadError → Type 0
-IsMissingAmong apps roots (NoProgram name word) = SomeLacks apps roots name word
+IsMissingAmong apps roots (NoProgram name word) = FirstLacks apps roots name word
 IsMissingAmong apps roots NoMemory = Unit {0}
 IsMissingAmong apps roots error = ⊥
 
--- by the roots that were read, one of the apps has no program for this word
+-- by the roots that were read, this is the first app that has no program for a word, and its first such word
 pub record LacksProgram (pod : PodId) (apps : List RuntimeApp) (name word : List ℕ) (old new : DirAt) : Type 0 where
   pub roots : List Root
   pub read : AreRoots pod (map (λ a. a.name) apps) roots old new
-  pub lacks : SomeLacks apps roots name word
+  pub lacks : FirstLacks apps roots name word
 
 -- why it isn't known of these apps
 abbrev pub LacksStarts : PodId → List RuntimeApp → LoadError → DirAt → DirAt → Type 0
@@ -86,15 +103,21 @@ LacksStarts pod apps (Damaged path) old new = LacksListing pod (map (λ a. a.nam
 LacksStarts pod apps (NoProgram name word) old new = LacksProgram pod apps name word old new
 LacksStarts pod apps error old new = Unit {0}
 
--- the pod's manifest was read, and it isn't known of its apps
+-- the pod's manifest was read, and then its token was damaged
+pub record LacksTokenOf (pod : PodId) (path : List ℕ) (old new : DirAt) : Type 0 where
+  pub manifest : PodManifest
+  pub stands : path ≡ told_path pod token_name
+  pub lacks : InTurn (ReadsManifest pod (pod_data manifest)) (LacksToken pod) old new
+
+-- the pod's manifest was read, then its token, and then it wasn't known of its apps
 pub record LacksSome (pod : PodId) (error : LoadError) (old new : DirAt) : Type 0 where
   pub manifest : PodManifest
-  pub read : ReadsManifest pod (pod_data manifest) old new
-  pub lacks : LacksStarts pod manifest.apps error old new
+  pub token : List ℕ
+  pub lacks : InTurn (ReadsManifest pod (pod_data manifest)) (InTurn (ReadsToken pod token) (LacksStarts pod manifest.apps error)) old new
 
 -- why it isn't known of the pod
 abbrev pub LoadCause : PodId → LoadError → DirAt → DirAt → Type 0
 LoadCause pod NoManifest old new = LacksManifest pod old new
-LoadCause pod (Damaged path) old new = ((path ≡ token_name) × LacksToken pod old new) ⊎ LacksSome pod (Damaged path) old new
+LoadCause pod (Damaged path) old new = LacksTokenOf pod path old new ⊎ LacksSome pod (Damaged path) old new
 LoadCause pod (NoProgram name word) old new = LacksSome pod (NoProgram name word) old new
 LoadCause pod error old new = Unit {0}

@@ -1,9 +1,12 @@
 // Why it isn't known with what the apps of a pod start.
 ghost use Rattle.std.specs.Prelude.{◌≡◌};
+ghost use Rattle.pod_launches.specs.Places.{told_path};
 ghost use Rattle.pod_launches.specs.Refusals.{IsOutside, IsDamage};
 
+use crate::place::told_path;
 use ac_types::{AcName, NoMemory, Text};
 use dir_files::ReadError;
+use dir_trait::PodId;
 use std::alloc::{AllocError, AllocFailed, Global};
 
 /// Why it isn't known with what the apps of a pod start.
@@ -11,8 +14,8 @@ use std::alloc::{AllocError, AllocFailed, Global};
 pub enum LoadError {
     /// The file `pod` is missing or is no pod manifest.
     NoManifest,
-    /// The file at the path in the pod's folder is missing or has no reading: the token, or an app's
-    /// listing.
+    /// The file at the path, which begins with the pod's uuid, is missing or has no reading: the token, or
+    /// an app's listing.
     Damaged(Text),
     /// The app's root has no program for this word, which is empty where the app has none.
     NoProgram(AcName, Text),
@@ -51,12 +54,12 @@ pub(crate) fn read_error(error: ReadError) -> LoadError
     }
 }
 
-/// The refusal where the file at the path is damaged.
-pub(crate) fn damaged(alloc: Global, path: &str) -> LoadError
-    ensures damage { IsDamage path.now result }
+/// The refusal where the file at the path in the pod's folder is damaged.
+pub(crate) fn damaged(alloc: Global, pod: PodId, path: &str) -> LoadError
+    ensures damage { IsDamage (told_path pod path.now) result }
     ensures calm { result ≡ LoadError.DirFault → ⊥ }
 {
-    match Text::of(alloc, path) {
+    match told_path(alloc, pod, path) {
         Ok(path) => LoadError::Damaged(path),
         Err(error) => no_memory(error),
     }

@@ -43,9 +43,10 @@ fn starts_with<D: Dir>(
 /// metadata service. It only looks, and has found every program when it answers.
 ///
 /// Refused in this order. `NoManifest` where the file `pod` is missing or is no pod manifest. `Damaged`
-/// with its path where the file `token` is missing or isn't 32 lower-case hex digits, or the listing of an
-/// app's root is missing or is none. `NoProgram` where an app's root has no file and no link for one of
-/// its program words. `DirFault` where the directory failed, `NoMemory` where memory ran out.
+/// with its path, which begins with the pod's uuid, where the file `token` is missing or isn't 32
+/// lower-case hex digits, or else of the first app's root of which the listing is missing or is none.
+/// `NoProgram` with the first app whose root has no file and no link for one of its program words, and the
+/// first such word. `DirFault` where the directory failed, `NoMemory` where memory ran out.
 pub fn pod_launches<D: Dir>(
     alloc: Global,
     dir: &mut D,

@@ -1,8 +1,8 @@
 // Where a pod in run stands, and the paths of its files.
 ghost use Rattle.std.specs.Prelude.{◌≡◌, IfOk, string_bytes};
-ghost use Rattle.pod_launches.specs.Places.{run_spot, tree_path, root_of};
+ghost use Rattle.pod_launches.specs.Places.{run_spot, tree_path, told_path, root_of};
 
-use ac_types::{AcName, NoMemory};
+use ac_types::{AcName, NoMemory, Text};
 use dir_trait::{Area, FileName, PodId, Spot};
 use spawner::RootPlace;
 use std::alloc::Global;
@@ -25,6 +25,17 @@ pub(crate) fn tree_path(alloc: Global, app: &str) -> Result<String, NoMemory>
     path.push_str(app)?;
     path.push_str("/tree")?;
     Ok(path)
+}
+
+/// A path in the pod's folder as it is told: behind the pod's uuid.
+pub(crate) fn told_path(alloc: Global, pod: PodId, path: &str) -> Result<Text, NoMemory>
+    ensures { IfOk result (λ text. text ≡ told_path pod path.now) }
+{
+    let mut room = [0; 36];
+    let mut text = String::from_str(alloc, pod.text(&mut room))?;
+    text.push_str("/")?;
+    text.push_str(path)?;
+    Text::of(alloc, text.as_str())
 }
 
 /// The root of an app. An app's name is a file name.

@@ -2,7 +2,7 @@
 ghost use Rattle.std.specs.Prelude.{◌≡◌, ◌+◌, length, true, map, IfOk, IfErr, IsErrOf};
 ghost use Rattle.dir_model.specs.Causes.{Rose};
 ghost use Rattle.dir_model.specs.Local.{IsActive};
-ghost use Rattle.pod_launches.specs.Places.{tree_path};
+ghost use Rattle.pod_launches.specs.Places.{tree_path, told_path};
 ghost use Rattle.pod_launches.specs.Looks.{OnlyReadsPod};
 ghost use Rattle.pod_launches.specs.Files.{IsRootOf, IsNoListing, ReadsRoot, LacksRoot, AddsRoot, AreRoots};
 ghost use Rattle.pod_launches.specs.Refusals.{IsDamageFor, IsRootsLack};
@@ -28,9 +28,9 @@ pub(crate) struct Root {
 }
 
 // The root of which the bytes are the listing.
-fn root_with(alloc: Global, path: &str, bytes: Vec<u8>) -> Result<Root, LoadError>
+fn root_with(alloc: Global, pod: PodId, path: &str, bytes: Vec<u8>) -> Result<Root, LoadError>
     ensures ok { IfOk result (IsRootOf bytes.items) }
-    ensures fault { IfErr result (IsDamageFor path.now (IsNoListing bytes.items)) }
+    ensures fault { IfErr result (IsDamageFor (told_path pod path.now) (IsNoListing bytes.items)) }
     ensures calm { IsErrOf result LoadError.DirFault → ⊥ }
 {
     match Listing::read(alloc, &bytes) {
@@ -42,7 +42,7 @@ fn root_with(alloc: Global, path: &str, bytes: Vec<u8>) -> Result<Root, LoadErro
             })
         }
         Err(ListingError::NoMemory) => Err(LoadError::NoMemory),
-        Err(_) => Err(damaged(alloc, path)),
+        Err(_) => Err(damaged(alloc, pod, path)),
     }
 }
 
@@ -59,12 +59,12 @@ fn root_at<D: Dir>(
     ensures cause { IsErrOf result LoadError.DirFault → Rose (D.shown dir.old).faults (D.shown dir.new).faults }
     ensures only { OnlyReadsPod D.observed pod (D.shown dir.old) (D.shown dir.new) }
     ensures read { IfOk result (λ root. D.observed ≡ true → ReadsRoot pod app.now root (D.shown dir.old) (D.shown dir.new)) }
-    ensures lacks { IfErr result (IsDamageFor path.now (D.observed ≡ true → LacksRoot pod app.now (D.shown dir.old) (D.shown dir.new))) }
+    ensures lacks { IfErr result (IsDamageFor (told_path pod path.now) (D.observed ≡ true → LacksRoot pod app.now (D.shown dir.old) (D.shown dir.new))) }
 {
     let _name = app.as_str();
     match read_part(alloc, dir, pod, path, MOST_OF_TREE) {
-        Ok(Some(bytes)) => root_with(alloc, path, bytes),
-        Ok(None) => Err(damaged(alloc, path)),
+        Ok(Some(bytes)) => root_with(alloc, pod, path, bytes),
+        Ok(None) => Err(damaged(alloc, pod, path)),
         Err(error) => Err(error),
     }
 }
@@ -80,7 +80,7 @@ fn read_root<D: Dir>(
     ensures cause { IsErrOf result LoadError.DirFault → Rose (D.shown dir.old).faults (D.shown dir.new).faults }
     ensures only { OnlyReadsPod D.observed pod (D.shown dir.old) (D.shown dir.new) }
     ensures read { IfOk result (λ root. D.observed ≡ true → ReadsRoot pod app.now root (D.shown dir.old) (D.shown dir.new)) }
-    ensures lacks { IfErr result (IsDamageFor (tree_path app.now) (D.observed ≡ true → LacksRoot pod app.now (D.shown dir.old) (D.shown dir.new))) }
+    ensures lacks { IfErr result (IsDamageFor (told_path pod (tree_path app.now)) (D.observed ≡ true → LacksRoot pod app.now (D.shown dir.old) (D.shown dir.new))) }
 {
     match tree_path(alloc, app.as_str()) {
         Ok(path) => root_at(alloc, dir, pod, app, path.as_str()),
@@ -101,7 +101,7 @@ fn add_root<D: Dir>(
     ensures only { OnlyReadsPod D.observed pod (D.shown dir.old) (D.shown dir.new) }
     ensures one { IfOk result (λ done. length roots.new.items ≡ length roots.old.items + 1) }
     ensures added { IfOk result (λ done. D.observed ≡ true → AddsRoot pod app.now roots.old.items roots.new.items (D.shown dir.old) (D.shown dir.new)) }
-    ensures lacks { IfErr result (IsDamageFor (tree_path app.now) (D.observed ≡ true → LacksRoot pod app.now (D.shown dir.old) (D.shown dir.new))) }
+    ensures lacks { IfErr result (IsDamageFor (told_path pod (tree_path app.now)) (D.observed ≡ true → LacksRoot pod app.now (D.shown dir.old) (D.shown dir.new))) }
 {
     let root = read_root(alloc, dir, pod, app)?;
     match roots.push(root) {

@@ -3,7 +3,7 @@ ghost use Rattle.std.specs.Prelude.{◌≡◌, true, IfOk, IfErr, IsErrOf};
 ghost use Rattle.std.specs.List.{list_all};
 ghost use Rattle.dir_model.specs.Causes.{Rose};
 ghost use Rattle.dir_model.specs.Local.{IsActive};
-ghost use Rattle.pod_launches.specs.Places.{token_name};
+ghost use Rattle.pod_launches.specs.Places.{token_name, told_path};
 ghost use Rattle.pod_launches.specs.Looks.{OnlyReadsPod};
 ghost use Rattle.pod_launches.specs.Files.{is_digit, is_token, IsTokenOf, IsNoToken, ReadsToken, LacksToken};
 ghost use Rattle.pod_launches.specs.Refusals.{IsDamageFor};
@@ -38,13 +38,13 @@ fn is_token(bytes: &[u8]) -> bool
 }
 
 // The token that the bytes are.
-fn token_of(alloc: Global, bytes: &[u8]) -> Result<Text, LoadError>
+fn token_of(alloc: Global, pod: PodId, bytes: &[u8]) -> Result<Text, LoadError>
     ensures ok { IfOk result (λ token. IsTokenOf token bytes.now) }
-    ensures fault { IfErr result (IsDamageFor token_name (IsNoToken bytes.now)) }
+    ensures fault { IfErr result (IsDamageFor (told_path pod token_name) (IsNoToken bytes.now)) }
     ensures calm { IsErrOf result LoadError.DirFault → ⊥ }
 {
     if !is_token(bytes) {
-        return Err(damaged(alloc, "token"));
+        return Err(damaged(alloc, pod, "token"));
     }
     match str::from_utf8(bytes) {
         Ok(text) => Text::of(alloc, text).map_err(no_memory),
@@ -59,11 +59,11 @@ pub(crate) fn read_token<D: Dir>(alloc: Global, dir: &mut D, pod: PodId) -> Resu
     ensures cause { IsErrOf result LoadError.DirFault → Rose (D.shown dir.old).faults (D.shown dir.new).faults }
     ensures only { OnlyReadsPod D.observed pod (D.shown dir.old) (D.shown dir.new) }
     ensures read { IfOk result (λ token. D.observed ≡ true → ReadsToken pod token (D.shown dir.old) (D.shown dir.new)) }
-    ensures lacks { IfErr result (IsDamageFor token_name (D.observed ≡ true → LacksToken pod (D.shown dir.old) (D.shown dir.new))) }
+    ensures lacks { IfErr result (IsDamageFor (told_path pod token_name) (D.observed ≡ true → LacksToken pod (D.shown dir.old) (D.shown dir.new))) }
 {
     match read_part(alloc, dir, pod, "token", MOST_OF_TOKEN) {
-        Ok(Some(bytes)) => token_of(alloc, &bytes),
-        Ok(None) => Err(damaged(alloc, "token")),
+        Ok(Some(bytes)) => token_of(alloc, pod, &bytes),
+        Ok(None) => Err(damaged(alloc, pod, "token")),
         Err(error) => Err(error),
     }
 }

@@ -34,13 +34,15 @@ use Rattle.folder_building.specs.declared.plan.PlanEntry.{PlanEntry}
 use Rattle.folder_building.specs.declared.plan.Content.{Content}
 use Rattle.folder_building.specs.declared.plan.Content.TheVariants.{Directory, Given, Copied}
 use Rattle.folder_building.specs.Sources.{SourceAt, UnlikeContent, UnlikeAt}
-use Rattle.folder_building.specs.Work.{Worked, EndsStray, is_stray}
+use Rattle.folder_building.specs.Sources.{in_images, reads_images}
+use Rattle.folder_building.specs.Stored.{LacksAt}
+use Rattle.folder_building.specs.Work.{Worked, EndsStray, is_stray, builds_at, either}
 use Rattle.folder_building.proofs.Working.{worked_call, at_spot}
 use Rattle.pod_making.specs.declared.error.MakeError.TheVariants.{Busy, Taken, Unlike, DirFault, Stray}
 use Rattle.pod_making.specs.Refusals.{change_refusal, lock_refusal, make_refusal, build_refusal}
-use Rattle.pod_making.specs.Requests.{pod_at, begins_pod, hands_pod, is_stray_making, is_taken}
+use Rattle.pod_making.specs.Requests.{pod_at, begins_pod, hands_pod, fills_pod, shows_taken, shows_changed, is_taken}
 use Rattle.pod_making.specs.Progress.{holding}
-use Rattle.pod_making.specs.Causes.{WasStrayBetween, is_copied, IsCopiedAt, WorkCause, MakeCause}
+use Rattle.pod_making.specs.Causes.{ShowsTaken, LosesPod, is_copied, IsCopiedAt, WorkCause, MakeCause}
 use Rattle.pod_making.specs.Makings.{HasMoved}
 use Rattle.dir_model.proofs.Chains.{nothing_yet, and_call}
 use Rattle.pod_making.proofs.Times.{Follows, answered_self}
@@ -98,81 +100,92 @@ change_fault dir.NoMemory is = cc
 change_fault e is = cc
 
 -- a call on what this process has made was refused
-pub change_cause : {observed : Bool} {draw : PodId} {old new : DirAt} (request : Request) (e : DirError) → (change_refusal e ≡ Stray → is_stray_making request (Refused e 0) ≡ true) → (e ≡ Failed → Rose old.faults new.faults)
-    → DirCall observed old request (Refused e 0) new → WorkCause observed draw [] (change_refusal e) old new
-change_cause {observed} {draw} {old} {new} request e stray fault c = record {
+pub change_cause : {observed : Bool} {draw : PodId} {old new : DirAt} (e : DirError) → (e ≡ Failed → Rose old.faults new.faults) → WorkCause observed draw [] (change_refusal e) old new
+change_cause {observed} {draw} {old} {new} e fault = record {
   calm = change_calm e;
   fault = λ is. fault (change_fault e is);
   taken = λ is. absurd (change_untaken e is);
   unlike = λ place is. absurd (change_like e place is);
-  stray = λ is t. answered_self is_stray_making (stray is) (c.step t);
+  lacks = λ place is. absurd (change_like e place is);
 }
 
-pub stray_move : (from to : Spot) (e : DirError) → may_refuse (MoveFolder from to) e ≡ true → change_refusal e ≡ Stray → is_stray_making (MoveFolder from to) (Refused e 0) ≡ true
-stray_move from to Missing may is = refl
-stray_move from to Exists may is = refl
-stray_move from to Failed may is = cc
-stray_move from to dir.NoMemory may is = cc
-stray_move from to e may is = cc
+-- the answer shows that another took the folder in embryo
+pub shows_call : {draw : PodId} {me : ℕ} {old new : List Event} (request : Request) (reply : Reply) → shows_taken draw request reply ≡ true → CallStep me old request reply new → ShowsTaken draw me old new
+shows_call {draw} {me} {old} {new} request reply shows step = record { before = old; after = new; later = []; request = request; reply = reply; since = nothing_yet; shows = shows; step = step; ends = sym (append-nil new) }
 
-pub stray_open : (spot : Spot) (e : DirError) → may_refuse (Open spot which.Own) e ≡ true → change_refusal e ≡ Stray → is_stray_making (Open spot which.Own) (Refused e 0) ≡ true
-stray_open spot Missing may is = refl
-stray_open spot Failed may is = cc
-stray_open spot dir.NoMemory may is = cc
-stray_open spot e may is = cc
+pub taken_move : (draw : PodId) (to : Spot) (e : DirError) → may_refuse (MoveFolder (pod_at Embryo draw) to) e ≡ true → change_refusal e ≡ Stray → shows_taken draw (MoveFolder (pod_at Embryo draw) to) (Refused e 0) ≡ true
+taken_move draw to Missing may is = at_spot (pod_at Embryo draw)
+taken_move draw to Exists may is = at_spot (pod_at Embryo draw)
+taken_move draw to Failed may is = cc
+taken_move draw to dir.NoMemory may is = cc
+taken_move draw to e may is = cc
 
-pub stray_lock : (h : Handle) (e : DirError) → may_refuse (TryLock h Exclusive) e ≡ true → change_refusal e ≡ Stray → is_stray_making (TryLock h Exclusive) (Refused e 0) ≡ true
-stray_lock h Locked may is = refl
-stray_lock h Failed may is = cc
-stray_lock h dir.NoMemory may is = cc
-stray_lock h e may is = cc
+-- or moved it from prepare, or has its place
+pub changed_move : (draw : PodId) (to : Spot) (e : DirError) → may_refuse (MoveFolder (pod_at Prepare draw) to) e ≡ true → change_refusal e ≡ Stray → shows_changed draw (MoveFolder (pod_at Prepare draw) to) (Refused e 0) ≡ true
+changed_move draw to Missing may is = at_spot (pod_at Prepare draw)
+changed_move draw to Exists may is = at_spot (pod_at Prepare draw)
+changed_move draw to Failed may is = cc
+changed_move draw to dir.NoMemory may is = cc
+changed_move draw to e may is = cc
+
+pub taken_open : (draw : PodId) (e : DirError) → may_refuse (Open (pod_at Embryo draw) which.Own) e ≡ true → change_refusal e ≡ Stray → shows_taken draw (Open (pod_at Embryo draw) which.Own) (Refused e 0) ≡ true
+taken_open draw Missing may is = at_spot (pod_at Embryo draw)
+taken_open draw Failed may is = cc
+taken_open draw dir.NoMemory may is = cc
+taken_open draw e may is = cc
+
+pub taken_lock : (draw : PodId) (h : Handle) (e : DirError) → may_refuse (TryLock h Exclusive) e ≡ true → change_refusal e ≡ Stray → shows_taken draw (TryLock h Exclusive) (Refused e 0) ≡ true
+taken_lock draw h Locked may is = refl
+taken_lock draw h Failed may is = cc
+taken_lock draw h dir.NoMemory may is = cc
+taken_lock draw h e may is = cc
 
 -- the making of the folder was refused
-none_stray : (spot : Spot) (e : DirError) → may_refuse (MakeFolder spot) e ≡ true → (e ≡ Exists → ⊥) → change_refusal e ≡ Stray → is_stray_making (MakeFolder spot) (Refused e 0) ≡ true
-none_stray spot Exists may other is = absurd (other refl)
-none_stray spot Failed may other is = cc
-none_stray spot dir.NoMemory may other is = cc
-none_stray spot e may other is = cc
+pub make_plain : (spot : Spot) (e : DirError) → may_refuse (MakeFolder spot) e ≡ true → make_refusal e ≡ Stray → ⊥
+make_plain spot Exists may is = cc
+make_plain spot Failed may is = cc
+make_plain spot dir.NoMemory may is = cc
+make_plain spot e may is = cc
 
 module _ (observed : Bool) (draw : PodId) (old new : DirAt) where
   abbrev Refusal : DirError → Type 0
   Refusal e = DirCall observed old (MakeFolder (pod_at Embryo draw)) (Refused e 0) new
 
-  pub make_cause : (e : DirError) → may_refuse (MakeFolder (pod_at Embryo draw)) e ≡ true → (e ≡ Failed → Rose old.faults new.faults) → Refusal e → WorkCause observed draw [] (make_refusal e) old new
-  make_cause Exists may fault c = record { calm = λ is. cc; fault = λ is. cc; taken = λ is t. answered_self (is_taken draw) (at_spot (pod_at Embryo draw)) (c.step t); unlike = λ place is. cc; stray = λ is. cc }
-  make_cause Missing may fault c = change_cause (MakeFolder (pod_at Embryo draw)) Missing (none_stray (pod_at Embryo draw) Missing may (λ is. cc)) fault c
-  make_cause NotEmpty may fault c = change_cause (MakeFolder (pod_at Embryo draw)) NotEmpty (none_stray (pod_at Embryo draw) NotEmpty may (λ is. cc)) fault c
-  make_cause Locked may fault c = change_cause (MakeFolder (pod_at Embryo draw)) Locked (none_stray (pod_at Embryo draw) Locked may (λ is. cc)) fault c
-  make_cause Failed may fault c = change_cause (MakeFolder (pod_at Embryo draw)) Failed (none_stray (pod_at Embryo draw) Failed may (λ is. cc)) fault c
-  make_cause dir.NoMemory may fault c = change_cause (MakeFolder (pod_at Embryo draw)) dir.NoMemory (none_stray (pod_at Embryo draw) dir.NoMemory may (λ is. cc)) fault c
+  pub make_cause : (e : DirError) → (e ≡ Failed → Rose old.faults new.faults) → Refusal e → WorkCause observed draw [] (make_refusal e) old new
+  make_cause Exists fault c = record { calm = λ is. cc; fault = λ is. cc; taken = λ is t. answered_self (is_taken draw) (at_spot (pod_at Embryo draw)) (c.step t); unlike = λ place is. cc; lacks = λ place is. cc }
+  make_cause Missing fault c = change_cause Missing fault
+  make_cause NotEmpty fault c = change_cause NotEmpty fault
+  make_cause Locked fault c = change_cause Locked fault
+  make_cause Failed fault c = change_cause Failed fault
+  make_cause dir.NoMemory fault c = change_cause dir.NoMemory fault
 
 -- the lock of embryo was refused
 pub lock_cause : {observed : Bool} {draw : PodId} {old new : DirAt} (e : LockError) → (e ≡ lock.Busy → observed ≡ true → HeldBetween old new (IsBusy Embryo Shared)) → (e ≡ lock.DirFault → Rose old.faults new.faults)
     → MakeCause observed draw [] (lock_refusal e) old new
-lock_cause lock.Busy busy fault = record { busy = λ is. busy refl; fault = λ is. cc; taken = λ is. cc; unlike = λ place is. cc; stray = λ is. cc }
-lock_cause lock.DirFault busy fault = record { busy = λ is. cc; fault = λ is. fault refl; taken = λ is. cc; unlike = λ place is. cc; stray = λ is. cc }
-lock_cause lock.NoMemory busy fault = record { busy = λ is. cc; fault = λ is. cc; taken = λ is. cc; unlike = λ place is. cc; stray = λ is. cc }
+lock_cause lock.Busy busy fault = record { busy = λ is. busy refl; fault = λ is. cc; taken = λ is. cc; unlike = λ place is. cc; lacks = λ place is. cc; stray = λ is. cc }
+lock_cause lock.DirFault busy fault = record { busy = λ is. cc; fault = λ is. fault refl; taken = λ is. cc; unlike = λ place is. cc; lacks = λ place is. cc; stray = λ is. cc }
+lock_cause lock.NoMemory busy fault = record { busy = λ is. cc; fault = λ is. cc; taken = λ is. cc; unlike = λ place is. cc; lacks = λ place is. cc; stray = λ is. cc }
 
 -- the folder wasn't filled
-stray_more : (request : Request) (reply : Reply) → is_stray request reply ≡ true → is_stray_making request reply ≡ true
-stray_more (Open spot which.Own) reply is = cc
-stray_more (TryLock handle Exclusive) reply is = cc
-stray_more (MoveFolder from to) reply is = cc
-stray_more request reply is = is
+changed_more : (draw : PodId) (request : Request) (reply : Reply) → fills_pod draw request ≡ true → is_stray request reply ≡ true → shows_changed draw request reply ≡ true
+changed_more draw (MoveFolder from to) reply asked is = cc
+changed_more draw request reply asked is = and_both _ _ asked is
 
-was_stray : {asks : Request → Bool} (old new : DirAt) → EndsStray asks old new → WasStrayBetween old new
-was_stray {asks} old new w = record {
-  before = w.before;
-  after = new.trace;
-  earlier = w.first.more;
-  later = [];
-  request = w.request;
-  reply = w.reply;
-  answered = stray_more w.request w.reply w.stray;
-  begins = w.first.grown;
-  step = w.last;
-  ends = sym (append-nil new.trace);
-}
+pub pod_changed : (draw : PodId) (spot : Spot) (old new : DirAt) → spot ≡ pod_at Prepare draw → EndsStray (either (builds_at spot) reads_images) old new → LosesPod draw old new
+pod_changed draw spot old new is ends =
+    let w = subst (λ (s : Spot). EndsStray (either (builds_at s) reads_images) old new) is ends in
+    record {
+      before = w.before;
+      after = new.trace;
+      earlier = w.first.more;
+      later = [];
+      request = w.request;
+      reply = w.reply;
+      answered = changed_more draw w.request w.reply w.asked w.stray;
+      begins = w.first.grown;
+      step = w.last;
+      ends = sym (append-nil new.trace);
+    }
 
 copied_as : (source : SourceAt) (content : Content) → UnlikeContent source content → is_copied content ≡ true
 copied_as source Directory u = absurd u
@@ -210,7 +223,7 @@ build_like build.DirFault place is = cc
 build_like build.Stray place is = cc
 build_like build.NoMemory place is = cc
 
-build_stray : (e : BuildError) → build_refusal e ≡ Stray → e ≡ build.Stray
+pub build_stray : (e : BuildError) → build_refusal e ≡ Stray → e ≡ build.Stray
 build_stray (build.Unlike place) is = cc
 build_stray build.SourceFault is = cc
 build_stray build.DirFault is = cc
@@ -221,14 +234,14 @@ build_stray build.NoMemory is = cc
 never_rose : Rose 0 0 → ⊥
 never_rose r = omega (arith, r)
 
-pub fill_cause : {observed : Bool} {draw : PodId} {old new : DirAt} {asks : Request → Bool} (plan : List PlanEntry) (source : SourceAt) (e : BuildError) → (e ≡ build.DirFault → Rose old.faults new.faults) → (e ≡ build.SourceFault → Rose 0 0)
-    → ((place : ℕ) → e ≡ build.Unlike place → UnlikeAt source plan place) → (e ≡ build.Stray → observed ≡ true → EndsStray asks old new) → WorkCause observed draw plan (build_refusal e) old new
-fill_cause {observed} {draw} {old} {new} plan source e fault failed unlike stray = record {
+pub fill_cause : {observed : Bool} {draw : PodId} {old new : DirAt} (plan : List PlanEntry) (source : SourceAt) (e : BuildError) → (e ≡ build.DirFault → Rose old.faults new.faults) → (e ≡ build.SourceFault → Rose 0 0)
+    → ((place : ℕ) → e ≡ build.Unlike place → UnlikeAt source plan place) → ((place : ℕ) → e ≡ build.Unlike place → observed ≡ true → LacksAt in_images plan place old new) → WorkCause observed draw plan (build_refusal e) old new
+fill_cause {observed} {draw} {old} {new} plan source e fault failed unlike lacks = record {
   calm = build_calm e;
   fault = λ is. by (build_fault e is);
   taken = λ is. absurd (build_untaken e is);
   unlike = λ place is. copied_at (unlike place (build_like e place is));
-  stray = λ is t. was_stray old new (stray (build_stray e is) t);
+  lacks = λ place is. lacks place (build_like e place is);
 }
   where
     by : (e ≡ build.SourceFault) ⊎ (e ≡ build.DirFault) → Rose old.faults new.faults

@@ -140,6 +140,10 @@ pub apart_from : {b : Local} (a : Local) (g own : Handle) → b ≡ and_lock a g
 apart_from a g own is h = other_number a g own Embryo (subst (λ (m : Local). IsUnopened m own) is h)
 
 -- the same error in another answer
+pub err_with : {X E : Type 0} (P Q : E → Type 0) (r : Result X E) → ((e : E) → r ≡ Err e → P e → Q e) → IfErr r P → IfErr r Q
+err_with P Q (Ok x) f p = p
+err_with P Q (Err e) f p = f e refl p
+
 pub err_same : {A B E : Type 0} (Q : E → Type 0) (r : Result A E) (other : Result B E) → ((e : E) → other ≡ Err e → r ≡ Err e) → IfErr r Q → IfErr other Q
 err_same Q r (Ok b) f h = tt
 err_same Q r (Err e) f h = subst (λ x. IfErr x Q) (f e refl) h

@@ -1,5 +1,5 @@
 -- What came about in a part of a time came about in the whole.
-use Rattle.std.proofs.Common.{◌≡◌, ◌≤◌, ℕ, Bool, true, List, [], ◌∷◌, ◌++◌, refl, sym, ap, subst, ◌∙◌, append-nil, append_assoc, arith}
+use Rattle.std.proofs.Common.{◌≡◌, ◌⊎◌, inl, inr, ◌≤◌, ℕ, Bool, true, List, [], ◌∷◌, ◌++◌, refl, sym, ap, subst, ◌∙◌, append-nil, append_assoc, arith}
 use Rattle.dir_model.specs.declared.event.Event.{Event}
 use Rattle.dir_model.specs.declared.intent.Intent.{Intent}
 use Rattle.dir_model.specs.declared.pod.PodId.{PodId}
@@ -17,9 +17,13 @@ use Rattle.dir_trait.specs.DirCalls.{DirAt, ExtendsBy}
 use Rattle.folder_building.specs.declared.plan.PlanEntry.{PlanEntry}
 use Rattle.folder_building.specs.Work.{Worked}
 use Rattle.pod_making.specs.declared.error.MakeError.{MakeError}
-use Rattle.pod_making.specs.Requests.{is_stray_making, is_taken}
+use Rattle.pod_making.specs.declared.error.MakeError.TheVariants.{Stray}
+use Rattle.folder_building.specs.Sources.{in_images}
+use Rattle.folder_building.specs.Stored.{LacksAt}
+use Rattle.folder_building.proofs.Stored.{lacks_after, lacks_before}
+use Rattle.pod_making.specs.Requests.{locks_own, is_taken, is_brought, shows_changed}
 use Rattle.pod_making.specs.Work.{Went}
-use Rattle.pod_making.specs.Causes.{WasAnswered, IsCopiedAt, WorkCause, MakeCause}
+use Rattle.pod_making.specs.Causes.{WasAnswered, IsCopiedAt, WorkCause, MakeCause, ShowsTaken, LosesEmbryo, WasTakenMade, WasThenAnswered, MakesEmbryo, BringsPod, LosesPod, LosesOwn}
 use Rattle.pod_making.specs.Makings.{HasMoved}
 
 -- calls, whatever they leave open
@@ -85,7 +89,7 @@ cause_after {observed} {draw} {plan} {e} {a} {b} {c} ab w = record {
   fault = λ is. rose_later a.faults b.faults c.faults ab.faults (w.fault is);
   taken = λ is t. answered_after (is_taken draw) (ab.extends t) ab.same (w.taken is t);
   unlike = w.unlike;
-  stray = λ is t. answered_after is_stray_making (ab.extends t) ab.same (w.stray is t);
+  lacks = λ place is t. lacks_after a b (ab.extends t) ab.same c (w.lacks place is t);
 }
 
 pub cause_before : {observed : Bool} {draw : PodId} {plan : List PlanEntry} {e : MakeError} {a b c : DirAt} → b.process ≡ a.process → WorkCause observed draw plan e a b → Follows observed b c → WorkCause observed draw plan e a c
@@ -94,8 +98,62 @@ cause_before {observed} {draw} {plan} {e} {a} {b} {c} same w bc = record {
   fault = λ is. rose_still a.faults b.faults c.faults (w.fault is) bc.faults;
   taken = λ is t. answered_before (is_taken draw) (w.taken is t) (bc.extends t);
   unlike = w.unlike;
-  stray = λ is t. answered_before is_stray_making (w.stray is t) (bc.extends t);
+  lacks = λ place is t. lacks_before b c (bc.extends t) same (w.lacks place is t);
 }
+
+-- what shows that another had the folder
+pub taken_after : {draw : PodId} {me other : ℕ} {a b c : List Event} → Extends (locks_own draw) me a b → other ≡ me → ShowsTaken draw other b c → ShowsTaken draw me a c
+taken_after {draw} {me} {other} {a} {b} {c} ab same w =
+    let v = subst (λ (p : ℕ). ShowsTaken draw p b c) same w in
+    record { before = v.before; after = v.after; later = v.later; request = v.request; reply = v.reply; since = and_more ab refl v.since; shows = v.shows; step = v.step; ends = v.ends }
+
+pub taken_before : {draw : PodId} {asks : Request → Bool} {me other : ℕ} {a b c : List Event} → ShowsTaken draw me a b → Extends asks other b c → ShowsTaken draw me a c
+taken_before w bc = record {
+  before = w.before;
+  after = w.after;
+  later = w.later ++ bc.more;
+  request = w.request;
+  reply = w.reply;
+  since = w.since;
+  shows = w.shows;
+  step = w.step;
+  ends = bc.grown ∙ (ap (λ h. h ++ bc.more) w.ends ∙ append_assoc w.after w.later bc.more);
+}
+
+-- after the own making
+pub made_taken : {draw : PodId} (a b c : DirAt) → MakesEmbryo draw a b → b.process ≡ a.process → LosesEmbryo draw b c → LosesOwn draw a c
+made_taken {draw} a b c makes same w = inl (record {
+  before = a.trace;
+  made = b.trace;
+  earlier = [];
+  begins = sym (append-nil a.trace);
+  makes = makes;
+  loses = subst (λ (p : ℕ). ShowsTaken draw p b.trace c.trace) same w;
+})
+
+-- after it was brought to prepare
+pub brought_changed : {draw : PodId} (a b c : DirAt) → BringsPod draw a b → b.process ≡ a.process → LosesPod draw b c → LosesOwn draw a c
+brought_changed {draw} a b c brings same w = inr (record { between = b.trace; earlier = brings; later = subst (λ (p : ℕ). WasAnswered (shows_changed draw) p b.trace c.trace) same w })
+
+-- of longer times
+pub own_after : {draw : PodId} {asks : Request → Bool} (a b c : DirAt) → ExtendsBy asks a b → b.process ≡ a.process → LosesOwn draw b c → LosesOwn draw a c
+own_after {draw} {asks} a b c ab same (inl w) =
+    let v = subst (λ (p : ℕ). WasTakenMade draw p b.trace c.trace) same w in
+    inl (record {
+      before = v.before;
+      made = v.made;
+      earlier = ab.more ++ v.earlier;
+      begins = v.begins ∙ (ap (λ h. h ++ v.earlier) ab.grown ∙ append_assoc a.trace ab.more v.earlier);
+      makes = v.makes;
+      loses = v.loses;
+    })
+own_after {draw} {asks} a b c ab same (inr w) =
+    let v = subst (λ (p : ℕ). WasThenAnswered (is_brought draw) (shows_changed draw) p b.trace c.trace) same w in
+    inr (record { between = v.between; earlier = answered_after (is_brought draw) ab refl v.earlier; later = v.later })
+
+pub own_before : {draw : PodId} {asks : Request → Bool} {other : ℕ} (a b c : DirAt) → LosesOwn draw a b → Extends asks other b.trace c.trace → LosesOwn draw a c
+own_before a b c (inl w) bc = inl (record { before = w.before; made = w.made; earlier = w.earlier; begins = w.begins; makes = w.makes; loses = taken_before w.loses bc })
+own_before {draw} a b c (inr w) bc = inr (record { between = w.between; earlier = w.earlier; later = answered_before (shows_changed draw) w.later bc })
 
 -- a plan of nothing copies nothing
 none_copied : (place : ℕ) → IsCopiedAt [] place → ⊥
@@ -105,14 +163,21 @@ none_copied place u = by u.before u.is
     by [] is = cc
     by (x ∷ xs) is = cc
 
+none_lacking : {a b : DirAt} (place : ℕ) → LacksAt in_images [] place a b → ⊥
+none_lacking place u = by u.before u.is
+  where
+    by : (before : List PlanEntry) → [] ≡ before ++ u.entry ∷ u.rest → ⊥
+    by [] is = cc
+    by (x ∷ xs) is = cc
+
 pub cause_planned : {observed : Bool} {draw : PodId} {e : MakeError} {a b : DirAt} (plan : List PlanEntry) → WorkCause observed draw [] e a b → WorkCause observed draw plan e a b
-cause_planned plan w = record { calm = w.calm; fault = w.fault; taken = w.taken; unlike = λ place is. absurd (none_copied place (w.unlike place is)); stray = w.stray }
+cause_planned plan w = record { calm = w.calm; fault = w.fault; taken = w.taken; unlike = λ place is. absurd (none_copied place (w.unlike place is)); lacks = λ place is t. absurd (none_lacking place (w.lacks place is t)) }
 
 pub make_planned : {observed : Bool} {draw : PodId} {e : MakeError} {a b : DirAt} (plan : List PlanEntry) → MakeCause observed draw [] e a b → MakeCause observed draw plan e a b
-make_planned plan w = record { busy = w.busy; fault = w.fault; taken = w.taken; unlike = λ place is. absurd (none_copied place (w.unlike place is)); stray = w.stray }
+make_planned plan w = record { busy = w.busy; fault = w.fault; taken = w.taken; unlike = λ place is. absurd (none_copied place (w.unlike place is)); lacks = λ place is t. absurd (none_lacking place (w.lacks place is t)); stray = w.stray }
 
-pub calm_cause : {observed : Bool} {draw : PodId} {plan : List PlanEntry} {e : MakeError} {a b : DirAt} → WorkCause observed draw plan e a b → MakeCause observed draw plan e a b
-calm_cause w = record { busy = λ is. absurd (w.calm is); fault = w.fault; taken = w.taken; unlike = w.unlike; stray = w.stray }
+pub calm_cause : {observed : Bool} {draw : PodId} {plan : List PlanEntry} {e : MakeError} {a b : DirAt} → (e ≡ Stray → observed ≡ true → LosesOwn draw a b) → WorkCause observed draw plan e a b → MakeCause observed draw plan e a b
+calm_cause stray w = record { busy = λ is. absurd (w.calm is); fault = w.fault; taken = w.taken; unlike = w.unlike; lacks = w.lacks; stray = stray }
 
 -- work after work, and what is open then
 pub went_after : {observed : Bool} {asks : Request → Bool} {a b c : DirAt} (after : Local → Local) → Worked observed asks a b → Went observed asks (after b.local) b c → Went observed asks (after a.local) a c

@@ -1,12 +1,14 @@
 -- Why a pod isn't made.
-use Rattle.std.specs.Prelude.{◌≡◌, ℕ, Bool, true, false, List, ◌∷◌, ◌++◌, length}
+use Rattle.std.specs.Prelude.{◌≡◌, ◌⊎◌, ℕ, Bool, true, false, List, ◌∷◌, ◌++◌, length}
 use Rattle.dir_model.specs.declared.area.Area.TheVariants.{Embryo}
 use Rattle.dir_model.specs.declared.event.Event.{Event}
 use Rattle.dir_model.specs.declared.pod.PodId.{PodId}
 use Rattle.dir_model.specs.declared.spot.Mode.TheVariants.{Shared}
 use Rattle.dir_model.specs.declared.request.Reply.{Reply}
+use Rattle.dir_model.specs.declared.request.Reply.TheVariants.{Done}
 use Rattle.dir_model.specs.declared.request.Request.{Request}
-use Rattle.dir_model.specs.Calls.{CallStep}
+use Rattle.dir_model.specs.declared.request.Request.TheVariants.{MakeFolder}
+use Rattle.dir_model.specs.Calls.{CallStep, Extends}
 use Rattle.dir_model.specs.Causes.{Rose}
 use Rattle.dir_trait.specs.DirCalls.{DirAt, HeldBetween}
 use Rattle.area_locks.specs.AreaLocks.{IsBusy, IsBusyElsewhere}
@@ -15,7 +17,9 @@ use Rattle.folder_building.specs.declared.plan.Content.{Content}
 use Rattle.folder_building.specs.declared.plan.Content.TheVariants.{Copied}
 use Rattle.pod_making.specs.declared.error.MakeError.{MakeError}
 use Rattle.pod_making.specs.declared.error.MakeError.TheVariants.{Busy, Taken, Unlike, DirFault, Stray}
-use Rattle.pod_making.specs.Requests.{is_stray_making, is_taken}
+use Rattle.folder_building.specs.Sources.{in_images}
+use Rattle.folder_building.specs.Stored.{LacksAt}
+use Rattle.pod_making.specs.Requests.{pod_at, locks_own, shows_taken, is_brought, shows_changed, is_taken}
 
 -- an own step was answered in this manner
 pub record WasAnswered (answers : Request → Reply → Bool) (me : ℕ) (old new : List Event) : Type 0 where
@@ -30,9 +34,51 @@ pub record WasAnswered (answers : Request → Reply → Bool) (me : ℕ) (old ne
   pub step : CallStep me before request reply after
   pub ends : new ≡ after ++ later
 
--- as the process's own making doesn't explain
-abbrev pub WasStrayBetween : DirAt → DirAt → Type 0
-WasStrayBetween old new = WasAnswered is_stray_making old.process old.trace new.trace
+-- its own making of the folder was answered Ok
+abbrev pub MakesEmbryo : PodId → DirAt → DirAt → Type 0
+MakesEmbryo draw old new = CallStep old.process old.trace (MakeFolder (pod_at Embryo draw)) Done new.trace
+
+-- nothing but its own lock was asked for, and then an answer showed that another took the folder in embryo
+pub record ShowsTaken (draw : PodId) (me : ℕ) (old new : List Event) : Type 0 where
+  pub before : List Event
+  pub after : List Event
+  pub later : List Event
+  pub request : Request
+  pub reply : Reply
+  pub since : Extends (locks_own draw) me old before
+  pub shows : shows_taken draw request reply ≡ true
+  pub step : CallStep me before request reply after
+  pub ends : new ≡ after ++ later
+
+abbrev pub LosesEmbryo : PodId → DirAt → DirAt → Type 0
+LosesEmbryo draw old new = ShowsTaken draw old.process old.trace new.trace
+
+-- the folder was made, and another took it in embryo
+pub record WasTakenMade (draw : PodId) (me : ℕ) (old new : List Event) : Type 0 where
+  pub before : List Event
+  pub made : List Event
+  pub earlier : List Event
+  pub begins : before ≡ old ++ earlier
+  pub makes : CallStep me before (MakeFolder (pod_at Embryo draw)) Done made
+  pub loses : ShowsTaken draw me made new
+
+-- an own step was answered so, and a later one in that manner
+pub record WasThenAnswered (first then : Request → Reply → Bool) (me : ℕ) (old new : List Event) : Type 0 where
+  pub between : List Event
+  pub earlier : WasAnswered first me old between
+  pub later : WasAnswered then me between new
+
+-- the folder was brought to prepare
+abbrev pub BringsPod : PodId → DirAt → DirAt → Type 0
+BringsPod draw old new = WasAnswered (is_brought draw) old.process old.trace new.trace
+
+-- another changed what stands in prepare, or moved it
+abbrev pub LosesPod : PodId → DirAt → DirAt → Type 0
+LosesPod draw old new = WasAnswered (shows_changed draw) old.process old.trace new.trace
+
+-- the process made the folder, and another took it in embryo or changed it in prepare
+abbrev pub LosesOwn : PodId → DirAt → DirAt → Type 0
+LosesOwn draw old new = WasTakenMade draw old.process old.trace new.trace ⊎ WasThenAnswered (is_brought draw) (shows_changed draw) old.process old.trace new.trace
 
 -- its own making of the folder was refused, since one stood there
 abbrev pub WasTaken : PodId → DirAt → DirAt → Type 0
@@ -57,7 +103,7 @@ pub record WorkCause (observed : Bool) (draw : PodId) (plan : List PlanEntry) (e
   pub fault : error ≡ DirFault → Rose old.faults new.faults
   pub taken : error ≡ Taken → observed ≡ true → WasTaken draw old new
   pub unlike : (place : ℕ) → error ≡ Unlike place → IsCopiedAt plan place
-  pub stray : error ≡ Stray → observed ≡ true → WasStrayBetween old new
+  pub lacks : (place : ℕ) → error ≡ Unlike place → observed ≡ true → LacksAt in_images plan place old new
 
 -- a pod isn't made for one of these causes
 pub record MakeCause (observed : Bool) (draw : PodId) (plan : List PlanEntry) (error : MakeError) (old new : DirAt) : Type 0 where
@@ -65,7 +111,8 @@ pub record MakeCause (observed : Bool) (draw : PodId) (plan : List PlanEntry) (e
   pub fault : error ≡ DirFault → Rose old.faults new.faults
   pub taken : error ≡ Taken → observed ≡ true → WasTaken draw old new
   pub unlike : (place : ℕ) → error ≡ Unlike place → IsCopiedAt plan place
-  pub stray : error ≡ Stray → observed ≡ true → WasStrayBetween old new
+  pub lacks : (place : ℕ) → error ≡ Unlike place → observed ≡ true → LacksAt in_images plan place old new
+  pub stray : error ≡ Stray → observed ≡ true → LosesOwn draw old new
 
 -- where the lock of embryo was refused, a handle of another process held it
 abbrev pub BusyElsewhere : MakeError → DirAt → DirAt → Type 0

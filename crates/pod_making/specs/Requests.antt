@@ -8,7 +8,7 @@ use Rattle.dir_model.specs.declared.spot.Spot.{Spot}
 use Rattle.dir_model.specs.declared.spot.Which.TheVariants as which
 use Rattle.dir_model.specs.declared.request.DirError.TheVariants.{Missing, Exists, Locked}
 use Rattle.dir_model.specs.declared.request.Reply.{Reply}
-use Rattle.dir_model.specs.declared.request.Reply.TheVariants.{Refused}
+use Rattle.dir_model.specs.declared.request.Reply.TheVariants.{Done, Refused}
 use Rattle.dir_model.specs.declared.request.Request.{Request}
 use Rattle.dir_model.specs.declared.request.Request.TheVariants.{OpenArea, Open, TryLock, Close, MakeFolder, MoveFolder}
 use Rattle.dir_model.specs.Pods.{pod_text}
@@ -47,14 +47,31 @@ finishes_pod draw to = either (hands_pod draw to) (fills_pod draw)
 abbrev pub makes_pod : PodId → Area → Request → Bool
 makes_pod draw to = either (begins_pod draw) (finishes_pod draw to)
 
--- an answer that the process's own making doesn't explain: under the lock of embryo nobody else moves the folder there or
--- locks it, and a folder that a process makes nobody else moves
-abbrev pub is_stray_making : Request → Reply → Bool
-is_stray_making (Open spot which.Own) (Refused Missing left) = true
-is_stray_making (TryLock handle Exclusive) (Refused Locked left) = true
-is_stray_making (MoveFolder from to) (Refused Missing left) = true
-is_stray_making (MoveFolder from to) (Refused Exists left) = true
-is_stray_making request reply = is_stray request reply
+-- the own lock of the folder in embryo
+abbrev pub locks_own : PodId → Request → Bool
+locks_own draw (Open spot which.Own) = spot_eq spot (pod_at Embryo draw)
+locks_own draw (TryLock handle mode) = true
+locks_own draw request = false
+
+-- an answer that shows that another took the folder that was just made: under the lock of embryo nobody else moves it or locks
+-- it
+abbrev pub shows_taken : PodId → Request → Reply → Bool
+shows_taken draw (Open spot which.Own) (Refused Missing left) = spot_eq spot (pod_at Embryo draw)
+shows_taken draw (TryLock handle Exclusive) (Refused Locked left) = true
+shows_taken draw (MoveFolder from to) (Refused Missing left) = spot_eq from (pod_at Embryo draw)
+shows_taken draw (MoveFolder from to) (Refused Exists left) = spot_eq from (pod_at Embryo draw)
+shows_taken draw request reply = false
+
+-- the move of the folder to prepare
+abbrev pub is_brought : PodId → Request → Reply → Bool
+is_brought draw (MoveFolder from to) Done = spot_eq from (pod_at Embryo draw) && spot_eq to (pod_at Prepare draw)
+is_brought draw request reply = false
+
+-- an answer that shows that another changed it there, or moved it, or that its place is taken
+abbrev pub shows_changed : PodId → Request → Reply → Bool
+shows_changed draw (MoveFolder from to) (Refused Missing left) = spot_eq from (pod_at Prepare draw)
+shows_changed draw (MoveFolder from to) (Refused Exists left) = spot_eq from (pod_at Prepare draw)
+shows_changed draw request reply = fills_pod draw request && is_stray request reply
 
 -- the making of the folder in embryo, refused since a folder stands there
 abbrev pub is_taken : PodId → Request → Reply → Bool

@@ -1,12 +1,13 @@
 // A pod's folder, made in embryo and brought to prepare with its own lock held.
-ghost use Rattle.std.specs.Prelude.{◌≡◌, Some, [], ◌∷◌, IfOk, IfErr, true};
+ghost use Rattle.std.specs.Prelude.{◌≡◌, Some, [], ◌∷◌, IfOk, IfErr, IsErrOf, true};
 ghost use Rattle.dir_trait.specs.Local.{IsActive, IsUnopened};
 ghost use Rattle.dir_trait.specs.Knowledge.{Knows};
 ghost use Rattle.folder_building.specs.Work.{Worked};
-ghost use Rattle.pod_making.specs.Requests.{begins_pod};
+ghost use Rattle.dir_trait.specs.DirCalls.{ExtendsBy};
+ghost use Rattle.pod_making.specs.Requests.{begins_pod, locks_own};
 ghost use Rattle.pod_making.specs.Progress.{at_work, nothing_made, in_embryo, in_prepare, own_held, with_own};
 ghost use Rattle.pod_making.specs.Work.{IsMaker, UnderImages, UnderBoth, Owns, From, HasOwnFolder, Went};
-ghost use Rattle.pod_making.specs.Causes.{WorkCause, MakeCause, BusyElsewhere};
+ghost use Rattle.pod_making.specs.Causes.{WorkCause, MakeCause, BusyElsewhere, MakesEmbryo, LosesEmbryo, BringsPod, LosesOwn};
 
 use crate::error::{MakeError, change_refusal, lock_refusal, make_refusal};
 use crate::place::pod_at;
@@ -19,6 +20,8 @@ fn make_embryo<D: Dir>(alloc: Global, dir: &mut D, draw: PodId) -> Result<(), Ma
     requires active { IsActive (D.shown dir.old).local }
     ensures worked { Worked D.observed (begins_pod draw) (D.shown dir.old) (D.shown dir.new) }
     ensures cause { IfErr result (λ e. WorkCause D.observed draw [] e (D.shown dir.old) (D.shown dir.new)) }
+    ensures plain { IsErrOf result MakeError.Stray → ⊥ }
+    ensures makes { IfOk result (λ done. D.observed ≡ true → MakesEmbryo draw (D.shown dir.old) (D.shown dir.new)) }
     ensures made { IfOk result (λ done. D.observed ≡ true → From (IsMaker draw) (UnderBoth draw) nothing_made (D.shown dir.old)
         (λ intent hs. Knows (D.shown dir.new) (at_work intent hs (in_embryo draw)))) }
     ensures left { IfErr result (λ e. D.observed ≡ true → From (IsMaker draw) (UnderBoth draw) nothing_made (D.shown dir.old)
@@ -37,6 +40,8 @@ fn lock_own<D: Dir>(alloc: Global, dir: &mut D, draw: PodId) -> Result<Handle, M
     ensures went { Went D.observed (begins_pod draw) (with_own (D.shown dir.old).local draw result) (D.shown dir.old) (D.shown dir.new) }
     ensures unopened { IfOk result (λ own. IsUnopened (D.shown dir.old).local own) }
     ensures cause { IfErr result (λ e. WorkCause D.observed draw [] e (D.shown dir.old) (D.shown dir.new)) }
+    ensures stray { IsErrOf result MakeError.Stray → D.observed ≡ true → LosesEmbryo draw (D.shown dir.old) (D.shown dir.new) }
+    ensures locks { IfOk result (λ own. D.observed ≡ true → ExtendsBy (locks_own draw) (D.shown dir.old) (D.shown dir.new)) }
     ensures held { IfOk result (λ own. D.observed ≡ true → From (IsMaker draw) (UnderBoth draw) (in_embryo draw) (D.shown dir.old)
         (λ intent hs. Knows (D.shown dir.new) (at_work intent (own_held draw own (Some Mode.Exclusive) ∷ hs) (in_embryo draw)))) }
     ensures left { IfErr result (λ e. D.observed ≡ true → From (IsMaker draw) (UnderBoth draw) (in_embryo draw) (D.shown dir.old)
@@ -60,6 +65,8 @@ fn leave_embryo<D: Dir>(alloc: Global, dir: &mut D, draw: PodId) -> Result<(), M
     requires active { IsActive (D.shown dir.old).local }
     ensures worked { Worked D.observed (begins_pod draw) (D.shown dir.old) (D.shown dir.new) }
     ensures cause { IfErr result (λ e. WorkCause D.observed draw [] e (D.shown dir.old) (D.shown dir.new)) }
+    ensures stray { IsErrOf result MakeError.Stray → D.observed ≡ true → LosesEmbryo draw (D.shown dir.old) (D.shown dir.new) }
+    ensures brings { IfOk result (λ done. D.observed ≡ true → BringsPod draw (D.shown dir.old) (D.shown dir.new)) }
     ensures moved { IfOk result (λ done. D.observed ≡ true → From (IsMaker draw) (Owns draw) (in_embryo draw) (D.shown dir.old)
         (λ intent hs. Knows (D.shown dir.new) (at_work intent hs (in_prepare draw [])))) }
     ensures left { IfErr result (λ e. D.observed ≡ true → From (IsMaker draw) (Owns draw) (in_embryo draw) (D.shown dir.old)
@@ -79,6 +86,8 @@ fn take_out<D: Dir>(alloc: Global, dir: &mut D, draw: PodId) -> Result<Handle, M
     ensures went { Went D.observed (begins_pod draw) (with_own (D.shown dir.old).local draw result) (D.shown dir.old) (D.shown dir.new) }
     ensures unopened { IfOk result (λ own. IsUnopened (D.shown dir.old).local own) }
     ensures cause { IfErr result (λ e. WorkCause D.observed draw [] e (D.shown dir.old) (D.shown dir.new)) }
+    ensures stray { IsErrOf result MakeError.Stray → D.observed ≡ true → LosesEmbryo draw (D.shown dir.old) (D.shown dir.new) }
+    ensures brings { IfOk result (λ own. D.observed ≡ true → BringsPod draw (D.shown dir.old) (D.shown dir.new)) }
     ensures held { IfOk result (λ own. D.observed ≡ true → From (IsMaker draw) (UnderBoth draw) (in_embryo draw) (D.shown dir.old)
         (λ intent hs. Knows (D.shown dir.new) (at_work intent (own_held draw own (Some Mode.Exclusive) ∷ hs) (in_prepare draw [])))) }
     ensures left { IfErr result (λ e. D.observed ≡ true → From (IsMaker draw) (UnderBoth draw) (in_embryo draw) (D.shown dir.old)
@@ -100,6 +109,8 @@ fn make_and_take_out<D: Dir>(alloc: Global, dir: &mut D, draw: PodId) -> Result<
     ensures went { Went D.observed (begins_pod draw) (with_own (D.shown dir.old).local draw result) (D.shown dir.old) (D.shown dir.new) }
     ensures unopened { IfOk result (λ own. IsUnopened (D.shown dir.old).local own) }
     ensures cause { IfErr result (λ e. WorkCause D.observed draw [] e (D.shown dir.old) (D.shown dir.new)) }
+    ensures stray { IsErrOf result MakeError.Stray → D.observed ≡ true → LosesOwn draw (D.shown dir.old) (D.shown dir.new) }
+    ensures brings { IfOk result (λ own. D.observed ≡ true → BringsPod draw (D.shown dir.old) (D.shown dir.new)) }
     ensures held { IfOk result (λ own. D.observed ≡ true → From (IsMaker draw) (UnderBoth draw) nothing_made (D.shown dir.old)
         (λ intent hs. Knows (D.shown dir.new) (at_work intent (own_held draw own (Some Mode.Exclusive) ∷ hs) (in_prepare draw [])))) }
     ensures left { IfErr result (λ e. D.observed ≡ true → From (IsMaker draw) (UnderBoth draw) nothing_made (D.shown dir.old)
@@ -120,6 +131,7 @@ pub(crate) fn begin_pod<D: Dir>(
     ensures went { Went D.observed (begins_pod draw) (with_own (D.shown dir.old).local draw result) (D.shown dir.old) (D.shown dir.new) }
     ensures unopened { IfOk result (λ own. IsUnopened (D.shown dir.old).local own) }
     ensures cause { IfErr result (λ e. MakeCause D.observed draw [] e (D.shown dir.old) (D.shown dir.new)) }
+    ensures brings { IfOk result (λ own. D.observed ≡ true → BringsPod draw (D.shown dir.old) (D.shown dir.new)) }
     ensures another { IfErr result (λ e. D.observed ≡ true → From (IsMaker draw) (UnderImages draw) nothing_made (D.shown dir.old)
         (λ intent hs. BusyElsewhere e (D.shown dir.old) (D.shown dir.new))) }
     ensures held { IfOk result (λ own. D.observed ≡ true → From (IsMaker draw) (UnderImages draw) nothing_made (D.shown dir.old)

@@ -1,5 +1,5 @@
 // The folder in prepare is filled, and moved on.
-ghost use Rattle.std.specs.Prelude.{◌≡◌, [], List, IfOk, IfErr, true};
+ghost use Rattle.std.specs.Prelude.{◌≡◌, [], List, IfOk, IfErr, IsErrOf, true};
 ghost use Rattle.dir_trait.specs.Local.{IsActive};
 ghost use Rattle.dir_trait.specs.Knowledge.{Knows};
 ghost use Rattle.folder_building.specs.declared.plan.PlanEntry.{PlanEntry};
@@ -8,7 +8,7 @@ ghost use Rattle.folder_building.specs.Work.{Worked};
 ghost use Rattle.pod_making.specs.Requests.{fills_pod, hands_pod, finishes_pod};
 ghost use Rattle.pod_making.specs.Progress.{at_work, in_prepare};
 ghost use Rattle.pod_making.specs.Work.{MayMake, Owns, From, HasOwnFolder};
-ghost use Rattle.pod_making.specs.Causes.{WorkCause};
+ghost use Rattle.pod_making.specs.Causes.{WorkCause, LosesPod};
 ghost use Rattle.pod_making.specs.Makings.{HasFilled, FromFilled, IsHanded, HasMade};
 ghost use Rattle.pod_making.specs.Handovers.{HandsOverMade};
 
@@ -29,6 +29,7 @@ fn fill<D: Dir>(
     requires plan { is_plan plan.now ≡ true }
     ensures worked { Worked D.observed (fills_pod draw) (D.shown dir.old) (D.shown dir.new) }
     ensures cause { IfErr result (λ e. WorkCause D.observed draw plan.now e (D.shown dir.old) (D.shown dir.new)) }
+    ensures stray { IsErrOf result MakeError.Stray → D.observed ≡ true → LosesPod draw (D.shown dir.old) (D.shown dir.new) }
     ensures filled { IfOk result (λ done. D.observed ≡ true → (to : Area) → From (MayMake to plan.now draw) (Owns draw) (in_prepare draw []) (D.shown dir.old)
         (λ intent hs. HasFilled plan.now draw intent hs (D.shown dir.new))) }
     ensures left { IfErr result (λ e. D.observed ≡ true → (to : Area) → From (MayMake to plan.now draw) (Owns draw) (in_prepare draw []) (D.shown dir.old)
@@ -47,6 +48,7 @@ fn hand_over<D: Dir>(alloc: Global, dir: &mut D, draw: PodId, to: Area) -> Resul
     requires active { IsActive (D.shown dir.old).local }
     ensures worked { Worked D.observed (hands_pod draw to) (D.shown dir.old) (D.shown dir.new) }
     ensures cause { IfErr result (λ e. WorkCause D.observed draw [] e (D.shown dir.old) (D.shown dir.new)) }
+    ensures stray { IsErrOf result MakeError.Stray → D.observed ≡ true → LosesPod draw (D.shown dir.old) (D.shown dir.new) }
     ensures handed { IfOk result (λ done. D.observed ≡ true → (plan : List PlanEntry) → FromFilled to plan draw (D.shown dir.old)
         (λ intent hs entries. IsHanded draw to intent hs entries (D.shown dir.old) (D.shown dir.new))) }
     ensures whole { D.observed ≡ true → (plan : List PlanEntry) → FromFilled to plan draw (D.shown dir.old)
@@ -74,6 +76,7 @@ pub(crate) fn finish_pod<D: Dir>(
     requires plan { is_plan plan.now ≡ true }
     ensures worked { Worked D.observed (finishes_pod draw to) (D.shown dir.old) (D.shown dir.new) }
     ensures cause { IfErr result (λ e. WorkCause D.observed draw plan.now e (D.shown dir.old) (D.shown dir.new)) }
+    ensures stray { IsErrOf result MakeError.Stray → D.observed ≡ true → LosesPod draw (D.shown dir.old) (D.shown dir.new) }
     ensures made { IfOk result (λ done. D.observed ≡ true → From (MayMake to plan.now draw) (Owns draw) (in_prepare draw []) (D.shown dir.old)
         (λ intent hs. HasMade draw to plan.now intent hs (D.shown dir.old) (D.shown dir.new))) }
     ensures whole { D.observed ≡ true → From (MayMake to plan.now draw) (Owns draw) (in_prepare draw []) (D.shown dir.old)

@@ -26,10 +26,10 @@ use std::alloc::Global;
 ///
 /// Refused in this order. `Busy` where another process holds the lock of embryo exclusively. `Taken`
 /// where a folder with the pod's name stands in embryo. `Unlike` with the number of an entry of the
-/// plan whose file in images is missing or isn't what the plan asks for. `DirFault` and `NoMemory`
-/// where the directory failed or memory ran out, and `Stray` where the directory's answers contradict
-/// what this process made. A refused call holds no lock, and leaves nothing, or its folder in embryo
-/// or in prepare.
+/// plan whose file in images was missing at a read, or of which what was read isn't what the plan asks
+/// for. `DirFault` and `NoMemory` where the directory failed or memory ran out, and `Stray` where an
+/// answer showed that another process took the folder that this one had made in embryo, or changed it in
+/// prepare. A refused call holds no lock, and leaves nothing, or its folder in embryo or in prepare.
 pub fn make_prepared<D: Dir>(
     alloc: Global,
     dir: &mut D,

@@ -1,8 +1,8 @@
 // Why a pod wasn't run to its end.
-ghost use Rattle.std.specs.Prelude.{◌≡◌};
+ghost use Rattle.std.specs.Prelude.{◌≡◌, IfOk};
 ghost use Rattle.stage1.specs.Refusals.{spawn_fault, change_fault, load_refusal, fault_refusal};
 
-use ac_types::{AcName, NoMemory, Text};
+use ac_types::{AcName, NoMemory, Text, memory};
 use dir_trait::DirError;
 use pod_launches::LoadError;
 use spawner::SpawnError;
@@ -13,8 +13,8 @@ use std::alloc::AllocError;
 pub enum RunError {
     /// The file `pod` is missing or is no pod manifest.
     NoManifest,
-    /// The file at the path in the pod's folder is missing or has no reading: the token, or the listing of
-    /// an app's root.
+    /// The file at the path, which begins with the pod's uuid, is missing or has no reading: the token, or
+    /// the listing of an app's root.
     Damaged(Text),
     /// The app's root has no program for this word, which is empty where the app has none.
     NoProgram(AcName, Text),
@@ -26,6 +26,23 @@ pub enum RunError {
     Stray,
     /// Memory ran out.
     NoMemory,
+}
+
+impl RunError {
+    /// An equal error. `NoMemory` where memory ran out.
+    pub fn copy(&self) -> Result<RunError, memory::NoMemory>
+        ensures { IfOk result (λ copy. copy ≡ self.now) }
+    {
+        match self {
+            RunError::NoManifest => Ok(RunError::NoManifest),
+            RunError::Damaged(path) => Ok(RunError::Damaged(path.copy()?)),
+            RunError::NoProgram(app, word) => Ok(RunError::NoProgram(app.copy()?, word.copy()?)),
+            RunError::SpawnFault => Ok(RunError::SpawnFault),
+            RunError::DirFault => Ok(RunError::DirFault),
+            RunError::Stray => Ok(RunError::Stray),
+            RunError::NoMemory => Ok(RunError::NoMemory),
+        }
+    }
 }
 
 /// What stops the run of a pod whose programs were found.

@@ -1,7 +1,8 @@
 use Rattle.std.proofs.Common.{◌≡◌, true, false}
+use Rattle.folder_building.specs.Sources.{IsLike, LikeContent}
 use Rattle.folder_building.specs.Making.{Adds}
 use Rattle.folder_building.specs.Changes.{Makes, Gives, Takes}
-use Rattle.folder_building.proofs.Copying.{worked_here, stray_here, ok_more}
+use Rattle.folder_building.proofs.Copying.{worked_here, stray_here, ok_more, ok_any}
 use Rattle.folder_building.proofs.Filling.{dir_adds, given_adds, copied_adds, adds_as}
 use Rattle.folder_building.proofs.build.add.Goals as goal
 
@@ -49,3 +50,17 @@ pub returns-in-Copied-clause-unlike : goal.returns-in-Copied-clause-unlike
 returns-in-Copied-clause-unlike g c n h =
     let why = c.add_copied.ensures.unlike n h in
     (why.0, rw c.in-Copied.is why.1)
+
+pub returns-in-Copied-clause-lacks : goal.returns-in-Copied-clause-lacks
+returns-in-Copied-clause-lacks g c n h t = rw c.in-Copied.is (c.add_copied.ensures.lacks n h t)
+
+pub returns-in-Copied-clause-like : goal.returns-in-Copied-clause-like
+returns-in-Copied-clause-like g c =
+    let S = g.S.Source in
+    ok_more (λ done. IsLike (S.shown c.args.source.now) c.in-Copied.origin c.in-Copied.size c.in-Copied.sha) (λ done. LikeContent (S.shown c.args.source.now) c.args.entry.now.content) c.add_copied.result (λ done f. rw c.in-Copied.is f) c.add_copied.ensures.like
+
+pub returns-in-Directory-clause-like : goal.returns-in-Directory-clause-like
+returns-in-Directory-clause-like g c = ok_any c.make_dir.result (rw c.in-Directory.is tt)
+
+pub returns-in-Given-clause-like : goal.returns-in-Given-clause-like
+returns-in-Given-clause-like g c = ok_any c.add_given.result (rw c.in-Given.is tt)

@@ -1,6 +1,6 @@
 use Rattle.std.proofs.Common.{◌≡◌, take}
 use Rattle.folder_building.specs.Work.{Worked, builds_at, either}
-use Rattle.folder_building.specs.Sources.{Same}
+use Rattle.folder_building.specs.Sources.{Same, AreLike}
 use Rattle.folder_building.specs.Making.{FillsWith}
 use Rattle.folder_building.proofs.build.add_all.Given as goal
 
@@ -11,6 +11,7 @@ invariant-entries g l =
     record {
       place : l.place ≡ l.entry-index;
       same : Same (S.shown l.fn.source) (S.shown l.source);
+      like : AreLike (S.shown l.fn.source) (take l.entry-index l.plan);
       worked : Worked D.observed (either (builds_at l.spot) (S.shown l.fn.source).asks) (D.shown l.fn.dir) (D.shown l.dir);
       filled : FillsWith D.observed (S.shown l.fn.source) l.spot l.plan (take l.entry-index l.plan) (D.shown l.fn.dir) (D.shown l.dir);
     }

@@ -6,6 +6,7 @@ use Rattle.folder_building.proofs.Working.{worked_more}
 use Rattle.folder_building.proofs.Strays.{stray_after}
 use Rattle.folder_building.proofs.Pieces.{file_spoilt}
 use Rattle.folder_building.proofs.Copying.{worked_here, stray_here, ok_more, err_more, takes_file}
+use Rattle.folder_building.proofs.Stored.{unlike_after}
 use Rattle.folder_building.proofs.build.add_copied.Goals as goal
 
 pub returns-in_err-make_file-clause-worked : goal.returns-in_err-make_file-clause-worked
@@ -44,3 +45,6 @@ returns-clause-refused g c =
     let mid = D.shown c.make_file.new.dir in
     let new = D.shown c.copy.new.dir in
     err_more (λ e. D.observed ≡ true → SpoilsUnder source spot path mid new) (λ e. D.observed ≡ true → TriesUnder source spot path old new) c.copy.result (λ e f t. file_spoilt spot path source old mid new (c.in_ok-make_file.ensures.done t) (f t)) c.copy.ensures.refused
+
+pub returns-clause-lacks : goal.returns-clause-lacks
+returns-clause-lacks g c n h t = unlike_after (g.D.Dir.shown c.args.dir.now) (g.D.Dir.shown c.make_file.new.dir) (c.make_file.ensures.worked.extends t) c.make_file.ensures.worked.same (g.D.Dir.shown c.copy.new.dir) (c.copy.ensures.lacks n h t)

@@ -1,10 +1,11 @@
-use Rattle.std.proofs.Common.{◌≡◌, [], length, IsErrOf, rules, arith}
+use Rattle.std.proofs.Common.{◌≡◌, ◌==◌, [], length, IsErrOf, rules, arith}
 use Rattle.std.specs.List.{concat}
 use Rattle.folder_building.specs.declared.error.BuildError.TheVariants.{Stray, Unlike}
 use Rattle.folder_building.proofs.Working.{worked_none, worked_more}
 use Rattle.folder_building.proofs.Strays.{stray_after}
 use Rattle.folder_building.proofs.Pieces.{under_spoils, under_given_up}
-use Rattle.folder_building.proofs.Copying.{same_none, same_more, worked_same, stray_same, copies_none, copies_more, copies_all, err_any, front_none, front_more, longer_unlike, ended_unlike, short}
+use Rattle.folder_building.proofs.Copying.{same_none, same_more, worked_same, stray_same, copies_none, copies_more, copies_all, err_any, front_none, front_more, longer_unlike, ended_unlike, ended_like, short}
+use Rattle.folder_building.proofs.Stored.{seen_none, seen_more, unlike_past, unlike_ended}
 use Rattle.folder_building.proofs.copy.copy.Goals as goal
 
 pub pieces-init : goal.pieces-init
@@ -14,6 +15,7 @@ pieces-init g c = record {
   within = omega arith;
   room = search rules;
   front = front_none (g.S.Source.shown c.args.source.now) c.args.origin.now c.new-check.result c.args.size c.args.sha c.new-check.ensures;
+  seen = λ t. seen_none c.new-check.ensures;
   copied = copies_none;
 }
 
@@ -44,6 +46,7 @@ pieces-preserved g c =
       within = omega (arith, i.within, c.in_ok-count.ensures.left);
       room = search rules;
       front = front_more (g.S.Source.shown c.args.source.now) (g.S.Source.shown c.pieces.source) c.args.origin.now c.pieces.more c.pieces.check c.copy_piece.new.check c.args.size c.args.sha c.pieces.at c.in_ok-count.count _ _ _ i.same i.front c.in_ok-count.ensures.read c.in_ok-count.ensures.taken (λ e. short c.in_ok-count.count (length c.deref_mut.result.now) (omega (arith, c.in_ok-count.ensures.most, c.in_ok-count.ensures.left)) long e);
+      seen = λ t. seen_more c.in_ok-count.count c.copy_piece.new.room (c.in_ok-count.count == 65536) (i.seen t) i.worked.same (c.in_ok-count.ensures.sees t) c.in_ok-count.ensures.most c.in_ok-count.ensures.taken (λ e. short c.in_ok-count.count (length c.deref_mut.result.now) (omega (arith, c.in_ok-count.ensures.most, c.in_ok-count.ensures.left)) long e);
       copied = copies_more i.same i.copied c.in_ok-count.ensures.done;
     }
 
@@ -71,3 +74,14 @@ pub returns-clause-unlike : goal.returns-clause-unlike
 returns-clause-unlike g c n h =
     let is : n ≡ c.args.place = cc in
     (is, ended_unlike (g.S.Source.shown c.args.source.now) c.args.origin.now c.pieces.more c.pieces.check c.args.size c.args.sha c.pieces.at c.matches.result c.pieces-test.false c.pieces.invariant.front c.matches.ensures c.if-matches.false)
+
+pub returns-in_err-count-clause-lacks : goal.returns-in_err-count-clause-lacks
+returns-in_err-count-clause-lacks g c n h t =
+    let k : IsErrOf c.copy_piece.result (Unlike n) = search (rules, h, c.from_residual-in_err-count.ensures, c.in_err-count.is) in
+    unlike_past t c.pieces.invariant.worked c.pieces.invariant.within (c.pieces.invariant.seen t) (c.copy_piece.ensures.lacks n k t)
+
+pub returns-clause-lacks : goal.returns-clause-lacks
+returns-clause-lacks g c n h t = unlike_ended c.matches.result c.pieces-test.false (c.pieces.invariant.seen t) c.matches.ensures c.if-matches.false
+
+pub returns-then-matches-clause-like : goal.returns-then-matches-clause-like
+returns-then-matches-clause-like g c = ended_like (g.S.Source.shown c.args.source.now) c.args.origin.now c.pieces.more c.pieces.check c.args.size c.args.sha c.pieces.at c.matches.result c.pieces-test.false c.pieces.invariant.front c.matches.ensures c.if-matches.true

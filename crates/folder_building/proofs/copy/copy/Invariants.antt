@@ -1,8 +1,9 @@
-use Rattle.std.proofs.Common.{◌≡◌, ◌≤◌, ◌+◌, ◌-◌, cond, vec_len}
+use Rattle.std.proofs.Common.{◌≡◌, true, ◌≤◌, ◌+◌, ◌-◌, cond, vec_len}
 use Rattle.folder_building.specs.Work.{Worked, builds_at, either}
 use Rattle.folder_building.specs.Sources.{Same}
 use Rattle.folder_building.specs.Making.{CopiesOn}
 use Rattle.folder_building.proofs.Copying.{Front}
+use Rattle.folder_building.proofs.Stored.{SeenSoFar}
 use Rattle.folder_building.proofs.copy.copy.Given as goal
 
 abbrev pub invariant-pieces : goal.invariant-pieces
@@ -15,6 +16,7 @@ invariant-pieces g l =
       within : l.at ≤ l.size;
       room : vec_len l.room ≡ 65536;
       front : Front (S.shown l.fn.source) l.origin l.more l.check l.size l.fn.sha l.at;
+      seen : D.observed ≡ true → SeenSoFar (S.stored l.origin) l.more l.check l.size l.fn.sha l.at (D.shown l.fn.dir) (D.shown l.dir);
       copied : CopiesOn D.observed (S.shown l.fn.source) l.spot l.path l.at l.initial.check l.check (D.shown l.fn.dir) (D.shown l.dir);
     }
 

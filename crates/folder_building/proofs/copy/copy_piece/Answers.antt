@@ -1,5 +1,6 @@
 use Rattle.std.proofs.Common.{◌≡◌, IsErrOf, rules, take, arith, ap}
 use Rattle.std.proofs.lemmas.List.{length-take-le}
+use Rattle.dir_model.proofs.Moments.{at_before}
 use Rattle.folder_building.specs.declared.error.BuildError.TheVariants.{Stray}
 use Rattle.folder_building.proofs.Working.{worked_more}
 use Rattle.folder_building.proofs.Strays.{stray_after}
@@ -30,3 +31,6 @@ pub returns-else-count-gt0-clause-done : goal.returns-else-count-gt0-clause-done
 returns-else-count-gt0-clause-done g c =
     let none : c.in_ok-count.count ≡ 0 = omega (arith, c.if-count-gt0.false) in
     rw none (copies_end (take c.in_ok-count.count c.take_piece.new.room) (ap (λ n. take n c.take_piece.new.room) none) c.in_ok-count.ensures.taken c.take_piece.ensures.known)
+
+pub returns-in_ok-append-clause-sees : goal.returns-in_ok-append-clause-sees
+returns-in_ok-append-clause-sees g c t inner is = at_before (c.in_ok-count.ensures.sees t inner is) c.take_piece.ensures.worked.same (c.append.ensures.worked.extends t)

@@ -7,7 +7,7 @@ use Rattle.pod_launches.specs.Starts.{FindsStarts, ReadsStarts}
 use Rattle.pod_launches.specs.Refusals.{IsLack, LacksStarts, LoadCause}
 use Rattle.pod_launches.proofs.Reading.{reads_more}
 use Rattle.pod_launches.proofs.Rooted.{finds_after}
-use Rattle.pod_launches.proofs.Lacking.{lack_why, manifest_cause, token_cause, starts_cause, starts_lack_after}
+use Rattle.pod_launches.proofs.Lacking.{lack_why, manifest_cause, token_cause, starts_cause}
 use Rattle.pod_launches.proofs.launches.pod_launches.Goals as goal
 
 pub returns-in_err-manifest-clause-lacks : goal.returns-in_err-manifest-clause-lacks
@@ -57,11 +57,10 @@ returns-in-Ok-clause-lacks g c =
     let mid = D.shown c.read_token.new.dir in
     let new = D.shown c.starts_with.new.dir in
     let manifest = c.in_ok-manifest.manifest in
-    let first = reads_more pod c.read_manifest.ensures.only c.read_token.ensures.only in
     if_err (λ e. D.observed ≡ true → LacksStarts pod c.as_slice.result.now e mid new) (λ e. D.observed ≡ true → LoadCause pod e old new) c.starts_with.result
-    (λ e lacks t. starts_cause pod manifest e (file_before t (c.in_ok-manifest.ensures.read t) (reads_more pod c.read_token.ensures.only c.starts_with.ensures.only))
-    (starts_lack_after t pod manifest.apps e new first (subst (λ (x : List RuntimeApp). LacksStarts pod x e mid new) (search rules) (lacks t))))
+    (λ e lacks t. starts_cause t pod manifest c.in-Ok.token e new c.read_manifest.ensures.only c.read_token.ensures.only (c.in_ok-manifest.ensures.read t) (c.in-Ok.ensures.read t)
+    (subst (λ (x : List RuntimeApp). LacksStarts pod x e mid new) (search rules) (lacks t)))
     c.starts_with.ensures.lacks
 
 pub returns-clause-lacks : goal.returns-clause-lacks
-returns-clause-lacks g c t = token_cause t c.args.pod c.in-Err.error (g.D.Dir.shown c.read_token.new.dir) c.read_manifest.ensures.only c.in-Err.ensures.lacks
+returns-clause-lacks g c t = token_cause t c.args.pod c.in_ok-manifest.manifest c.in-Err.error (g.D.Dir.shown c.read_token.new.dir) c.read_manifest.ensures.only (c.in_ok-manifest.ensures.read t) c.in-Err.ensures.lacks

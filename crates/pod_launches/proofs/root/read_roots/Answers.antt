@@ -1,12 +1,12 @@
-use Rattle.std.proofs.Common.{rules, arith, ◌≡◌, true, List, [], refl, subst}
+use Rattle.std.proofs.Common.{rules, arith, ◌≡◌, ◌+◌, true, List, [], take, drop, refl, subst}
 use Rattle.std.proofs.lemmas.List.{take_all}
 use Rattle.image_reading.proofs.Results.{if_err, err_same}
 use Rattle.manifests.specs.declared.runtime_app.RuntimeApp.{RuntimeApp}
-use Rattle.pod_launches.specs.Places.{tree_path}
+use Rattle.pod_launches.specs.Places.{tree_path, told_path}
 use Rattle.pod_launches.specs.Files.{LacksRoot, AreRoots}
 use Rattle.pod_launches.specs.Refusals.{IsDamageFor, IsRootsLack}
 use Rattle.pod_launches.proofs.Reading.{reads_none, reads_more}
-use Rattle.pod_launches.proofs.Rooted.{names, named, roots_none, roots_next}
+use Rattle.pod_launches.proofs.Rooted.{names, names_around, roots_none, roots_next}
 use Rattle.pod_launches.proofs.Lacking.{lacks_one}
 use Rattle.pod_launches.proofs.root.read_roots.Goals as goal
 
@@ -35,8 +35,8 @@ returns-in_err-add_root-clause-lacks g c =
     let apps = c.args.apps.now in
     let app = c.app-item.result in
     err_same (λ e. D.observed ≡ true → IsRootsLack pod (names apps) e old new) c.add_root.result c.from_residual.result (λ e h. search (rules, h, c.from_residual.ensures, c.in_err-add_root.is))
-    (if_err (IsDamageFor (tree_path app.name) (D.observed ≡ true → LacksRoot pod app.name mid new)) (λ e. D.observed ≡ true → IsRootsLack pod (names apps) e old new) c.add_root.result
-    (λ e is t. lacks_one t pod (names apps) app.name e new (named apps c.apps.app-index app c.apps-test.true c.app-item.is) c.apps.invariant.only is) c.add_root.ensures.lacks)
+    (if_err (IsDamageFor (told_path pod (tree_path app.name)) (D.observed ≡ true → LacksRoot pod app.name mid new)) (λ e. D.observed ≡ true → IsRootsLack pod (names apps) e old new) c.add_root.result
+    (λ e is t. lacks_one t pod (names (take c.apps.app-index apps)) app.name (names (drop (c.apps.app-index + 1) apps)) c.apps.roots.items e new (names_around apps c.apps.app-index app c.apps-test.true c.app-item.is) c.apps.invariant.only (c.apps.invariant.read t) is) c.add_root.ensures.lacks)
 
 pub returns-clause-read : goal.returns-clause-read
 returns-clause-read g c t =

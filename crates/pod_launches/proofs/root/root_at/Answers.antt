@@ -1,7 +1,7 @@
 use Rattle.std.proofs.Common.{◌≡◌, inl, true, refl}
 use Rattle.image_reading.specs.Files.{most_of_tree}
 use Rattle.image_reading.proofs.Results.{if_ok, if_err}
-use Rattle.pod_launches.specs.Places.{pod_file, tree_path}
+use Rattle.pod_launches.specs.Places.{pod_file, tree_path, told_path}
 use Rattle.pod_launches.specs.Files.{IsRootOf, IsNoListing, ReadsRoot, LacksRoot}
 use Rattle.pod_launches.specs.Refusals.{IsDamageFor}
 use Rattle.pod_launches.proofs.Names.{tree_form}
@@ -28,17 +28,17 @@ returns-in-Ok-Some-clause-lacks g c =
     let old = D.shown c.args.dir.now in
     let new = D.shown c.read_part.new.dir in
     let bytes = c.in-Ok-Some.bytes.items in
-    if_err (IsDamageFor c.args.path.now (IsNoListing bytes)) (IsDamageFor c.args.path.now (D.observed ≡ true → LacksRoot c.args.pod c.args.app.now old new)) c.root_with.result
-    (λ e' is. damage_why c.args.path.now (IsNoListing bytes) (D.observed ≡ true → LacksRoot c.args.pod c.args.app.now old new) e' (λ none. not_taken (pod_file c.args.pod (tree_path c.args.app.now)) most_of_tree bytes bytes refl e.most e.read IsNoListing none) is)
+    if_err (IsDamageFor (told_path c.args.pod c.args.path.now) (IsNoListing bytes)) (IsDamageFor (told_path c.args.pod c.args.path.now) (D.observed ≡ true → LacksRoot c.args.pod c.args.app.now old new)) c.root_with.result
+    (λ e' is. damage_why (told_path c.args.pod c.args.path.now) (IsNoListing bytes) (D.observed ≡ true → LacksRoot c.args.pod c.args.app.now old new) e' (λ none. not_taken (pod_file c.args.pod (tree_path c.args.app.now)) most_of_tree bytes bytes refl e.most e.read IsNoListing none) is)
     c.root_with.ensures.fault
 
 pub returns-in-Ok-None-clause-lacks : goal.returns-in-Ok-None-clause-lacks
 returns-in-Ok-None-clause-lacks g c =
     let D = g.D.Dir in
     let e = rw c.requires.path at (rw c.in-Ok-None.field-0-is at c.in-Ok-None.ensures) in
-    damage_for c.args.path.now (D.observed ≡ true → LacksRoot c.args.pod c.args.app.now (D.shown c.args.dir.now) (D.shown c.read_part.new.dir)) c.damaged.result (λ t. inl (e.read t)) c.damaged.ensures.damage
+    damage_for (told_path c.args.pod c.args.path.now) (D.observed ≡ true → LacksRoot c.args.pod c.args.app.now (D.shown c.args.dir.now) (D.shown c.read_part.new.dir)) c.damaged.result (λ t. inl (e.read t)) c.damaged.ensures.damage
 
 pub returns-in-Err-clause-lacks : goal.returns-in-Err-clause-lacks
 returns-in-Err-clause-lacks g c =
     let D = g.D.Dir in
-    damage_outside c.args.path.now (D.observed ≡ true → LacksRoot c.args.pod c.args.app.now (D.shown c.args.dir.now) (D.shown c.read_part.new.dir)) c.in-Err.error c.in-Err.ensures.refusals
+    damage_outside (told_path c.args.pod c.args.path.now) (D.observed ≡ true → LacksRoot c.args.pod c.args.app.now (D.shown c.args.dir.now) (D.shown c.read_part.new.dir)) c.in-Err.error c.in-Err.ensures.refusals

@@ -1,6 +1,6 @@
 use Rattle.std.proofs.Common.{◌≡◌, inl, true}
 use Rattle.image_reading.proofs.Results.{if_ok, if_err}
-use Rattle.pod_launches.specs.Places.{pod_file, token_name}
+use Rattle.pod_launches.specs.Places.{pod_file, token_name, told_path}
 use Rattle.pod_launches.specs.Files.{IsTokenOf, IsNoToken, ReadsToken, LacksToken, most_of_token}
 use Rattle.pod_launches.specs.Refusals.{IsDamageFor}
 use Rattle.pod_launches.proofs.Names.{token_form}
@@ -26,17 +26,17 @@ returns-in-Ok-Some-clause-lacks g c =
     let e = rw c.in-Ok-Some.field-0-is at c.in-Ok-Some.ensures in
     let old = D.shown c.args.dir.now in
     let new = D.shown c.read_part.new.dir in
-    if_err (IsDamageFor token_name (IsNoToken c.deref.result.now)) (IsDamageFor token_name (D.observed ≡ true → LacksToken c.args.pod old new)) c.token_of.result
-    (λ e' is. damage_why token_name (IsNoToken c.deref.result.now) (D.observed ≡ true → LacksToken c.args.pod old new) e' (λ none. not_taken (pod_file c.args.pod token_name) most_of_token c.in-Ok-Some.bytes.items c.deref.result.now c.deref.ensures.value e.most e.read IsNoToken none) is)
+    if_err (IsDamageFor (told_path c.args.pod token_name) (IsNoToken c.deref.result.now)) (IsDamageFor (told_path c.args.pod token_name) (D.observed ≡ true → LacksToken c.args.pod old new)) c.token_of.result
+    (λ e' is. damage_why (told_path c.args.pod token_name) (IsNoToken c.deref.result.now) (D.observed ≡ true → LacksToken c.args.pod old new) e' (λ none. not_taken (pod_file c.args.pod token_name) most_of_token c.in-Ok-Some.bytes.items c.deref.result.now c.deref.ensures.value e.most e.read IsNoToken none) is)
     c.token_of.ensures.fault
 
 pub returns-in-Ok-None-clause-lacks : goal.returns-in-Ok-None-clause-lacks
 returns-in-Ok-None-clause-lacks g c =
     let D = g.D.Dir in
     let e = rw c.in-Ok-None.field-0-is at c.in-Ok-None.ensures in
-    damage_for token_name (D.observed ≡ true → LacksToken c.args.pod (D.shown c.args.dir.now) (D.shown c.read_part.new.dir)) c.damaged.result (λ t. inl (e.read t)) c.damaged.ensures.damage
+    damage_for (told_path c.args.pod token_name) (D.observed ≡ true → LacksToken c.args.pod (D.shown c.args.dir.now) (D.shown c.read_part.new.dir)) c.damaged.result (λ t. inl (e.read t)) c.damaged.ensures.damage
 
 pub returns-in-Err-clause-lacks : goal.returns-in-Err-clause-lacks
 returns-in-Err-clause-lacks g c =
     let D = g.D.Dir in
-    damage_outside token_name (D.observed ≡ true → LacksToken c.args.pod (D.shown c.args.dir.now) (D.shown c.read_part.new.dir)) c.in-Err.error c.in-Err.ensures.refusals
+    damage_outside (told_path c.args.pod token_name) (D.observed ≡ true → LacksToken c.args.pod (D.shown c.args.dir.now) (D.shown c.read_part.new.dir)) c.in-Err.error c.in-Err.ensures.refusals

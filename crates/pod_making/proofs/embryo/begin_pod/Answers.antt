@@ -1,4 +1,4 @@
-use Rattle.std.proofs.Common.{◌≡◌, true, Some, Err, [], ◌∷◌, sym, ap, subst}
+use Rattle.std.proofs.Common.{◌≡◌, true, Some, Err, [], ◌∷◌, sym, ap, subst, ◌∙◌, arith}
 use Rattle.dir_model.specs.declared.area.Area.TheVariants.{Embryo}
 use Rattle.dir_model.specs.declared.spot.Handle.{Handle}
 use Rattle.dir_model.specs.declared.spot.Mode.TheVariants.{Shared, Exclusive}
@@ -6,14 +6,16 @@ use Rattle.dir_model.specs.Local.{IsUnopened}
 use Rattle.dir_trait.specs.Knowledge.{Knows}
 use Rattle.area_locks.specs.AreaLocks.{on_gate}
 use Rattle.area_locks.proofs.Locking.{number_is_new}
-use Rattle.folder_building.proofs.Copying.{err_more}
+use Rattle.folder_building.proofs.Copying.{ok_more, err_more}
 use Rattle.pod_making.specs.Progress.{at_work, nothing_made, in_prepare, own_held}
 use Rattle.pod_making.specs.Work.{IsMaker, UnderImages, UnderBoth, From, HasOwnFolder}
 use Rattle.pod_making.specs.declared.error.MakeError.{MakeError}
-use Rattle.pod_making.specs.Causes.{MakeCause}
+use Rattle.pod_making.specs.Requests.{is_brought}
+use Rattle.pod_making.specs.Causes.{WorkCause, MakeCause, BringsPod}
+use Rattle.pod_making.proofs.Times.{Follows, cause_after, cause_before, calm_cause, own_after, own_before, answered_after, answered_before}
 use Rattle.pod_making.proofs.Calls.{lock_cause}
 use Rattle.pod_making.proofs.Knowing.{has_nothing, under_both, may_lock, gate_back, gate_back_after}
-use Rattle.pod_making.proofs.Outcomes.{Shares, GivesBack, went_refused, went_under, ok_both, apart_from}
+use Rattle.pod_making.proofs.Outcomes.{Shares, GivesBack, went_refused, went_under, ok_both, err_with, apart_from}
 use Rattle.pod_making.proofs.embryo.begin_pod.Goals as goal
 
 pub returns-in-Ok-clause-went : goal.returns-in-Ok-clause-went
@@ -63,3 +65,26 @@ returns-in-Err-clause-cause g c =
     let D = g.D.Dir in
     subst (λ (x : MakeError). MakeCause D.observed c.args.draw [] x (D.shown c.args.dir.now) (D.shown c.lock_area.new.dir)) (sym c.lock_refusal.ensures)
     (lock_cause c.in-Err.error (λ is. c.in-Err.ensures.busy (ap Err is)) (λ is. c.in-Err.ensures.cause (ap Err is)))
+
+pub returns-in-Ok-clause-cause : goal.returns-in-Ok-clause-cause
+returns-in-Ok-clause-cause g c =
+    let D = g.D.Dir in
+    let draw = c.args.draw in
+    let old = D.shown c.args.dir.now in
+    let mid = D.shown c.lock_area.new.dir in
+    let late = D.shown c.make_and_take_out-result.new.dir in
+    let new = D.shown c.unlock_area.new.dir in
+    let still = c.unlock_area.ensures.faultless in
+    let locks : Follows D.observed old mid = record { same = c.lock_area.ensures.same; faults = c.lock_area.ensures.faults; asks = _; extends = c.lock_area.ensures.extends } in
+    let gives : Follows D.observed late new = record { same = c.unlock_area.ensures.same; faults = omega (arith, still); asks = _; extends = c.unlock_area.ensures.extends } in
+    err_with (λ e. WorkCause D.observed draw [] e mid late) (λ e. MakeCause D.observed draw [] e old new) c.make_and_take_out-result.result
+    (λ e was x. calm_cause (λ is t. own_before old late new (own_after old mid late (locks.extends t) locks.same (c.make_and_take_out-result.ensures.stray (was ∙ ap Err is) t)) (gives.extends t))
+    (cause_before (c.make_and_take_out-result.ensures.went.same ∙ locks.same) (cause_after locks x) gives))
+    c.make_and_take_out-result.ensures.cause
+
+pub returns-in-Ok-clause-brings : goal.returns-in-Ok-clause-brings
+returns-in-Ok-clause-brings g c =
+    let D = g.D.Dir in
+    let draw = c.args.draw in
+    ok_more (λ (own : Handle). D.observed ≡ true → BringsPod draw (D.shown c.lock_area.new.dir) (D.shown c.make_and_take_out-result.new.dir)) (λ (own : Handle). D.observed ≡ true → BringsPod draw (D.shown c.args.dir.now) (D.shown c.unlock_area.new.dir)) c.make_and_take_out-result.result
+    (λ own f t. answered_before (is_brought draw) (answered_after (is_brought draw) (c.lock_area.ensures.extends t) c.lock_area.ensures.same (f t)) (c.unlock_area.ensures.extends t)) c.make_and_take_out-result.ensures.brings

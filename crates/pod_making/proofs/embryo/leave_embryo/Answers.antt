@@ -1,8 +1,17 @@
-use Rattle.std.proofs.Common.{Ok, Err, ap, sym, subst}
+use Rattle.std.proofs.Common.{◌≡◌, true, Ok, Err, ap, sym, subst, ◌∙◌}
+use Rattle.dir_model.specs.declared.area.Area.TheVariants.{Embryo, Prepare}
+use Rattle.dir_model.specs.declared.request.Reply.TheVariants.{Refused}
+use Rattle.dir_model.specs.declared.spot.Spot.{Spot}
+use Rattle.dir_model.specs.Replies.{may_refuse}
+use Rattle.dir_model.proofs.Lists.{and_both}
+use Rattle.folder_building.proofs.Working.{at_spot}
+use Rattle.pod_making.specs.declared.error.MakeError.TheVariants.{Stray}
+use Rattle.pod_making.specs.Requests.{pod_at, is_brought}
 use Rattle.dir_model.specs.declared.request.Request.TheVariants.{MoveFolder}
 use Rattle.pod_making.specs.declared.error.MakeError.{MakeError}
 use Rattle.pod_making.specs.Causes.{WorkCause}
-use Rattle.pod_making.proofs.Calls.{with_spots, worked_leave, change_cause, stray_move}
+use Rattle.pod_making.proofs.Calls.{with_spots, worked_leave, change_cause, shows_call, taken_move}
+use Rattle.pod_making.proofs.Times.{answered_self}
 use Rattle.pod_making.proofs.Knowing.{knows_left, knows_unleft}
 use Rattle.pod_making.proofs.embryo.leave_embryo.Goals as goal
 
@@ -20,7 +29,18 @@ returns-in-Err-clause-cause g c =
     let D = g.D.Dir in
     let e = c.in-Err.error in
     subst (λ (x : MakeError). WorkCause D.observed c.args.draw _ x (D.shown c.args.dir.now) (D.shown c.move_folder.new.self)) (sym c.change_refusal.ensures)
-    (change_cause {draw = c.args.draw} (MoveFolder c.pod_at-from.result c.pod_at-to.result) e (stray_move c.pod_at-from.result c.pod_at-to.result e c.in-Err.ensures.refusals) (λ is. c.in-Err.ensures.cause (ap Err is)) c.in-Err.ensures.called)
+    (change_cause {draw = c.args.draw} e (λ is. c.in-Err.ensures.cause (ap Err is)))
 
 pub returns-in-Err-clause-left : goal.returns-in-Err-clause-left
 returns-in-Err-clause-left g c t = knows_unleft {draw = c.args.draw} t c.in-Err.error (with_spots c.pod_at-from.ensures c.pod_at-to.ensures c.in-Err.ensures.called)
+
+pub returns-in-Ok-clause-brings : goal.returns-in-Ok-clause-brings
+returns-in-Ok-clause-brings g c t = answered_self (is_brought c.args.draw) (and_both _ _ (at_spot (pod_at Embryo c.args.draw)) (at_spot (pod_at Prepare c.args.draw))) ((with_spots c.pod_at-from.ensures c.pod_at-to.ensures c.in-Ok.ensures.called).step t)
+
+pub returns-in-Err-clause-stray : goal.returns-in-Err-clause-stray
+returns-in-Err-clause-stray g c h t =
+    let e = c.in-Err.error in
+    let is : c.change_refusal.result ≡ Stray = cc in
+    let may = subst (λ (s : Spot). may_refuse (MoveFolder s c.pod_at-to.result) e ≡ true) c.pod_at-from.ensures c.in-Err.ensures.refusals in
+    let asks = subst (λ (s : Spot). may_refuse (MoveFolder (pod_at Embryo c.args.draw) s) e ≡ true) c.pod_at-to.ensures may in
+    shows_call (MoveFolder (pod_at Embryo c.args.draw) (pod_at Prepare c.args.draw)) (Refused e 0) (taken_move c.args.draw (pod_at Prepare c.args.draw) e asks (sym c.change_refusal.ensures ∙ is)) ((with_spots c.pod_at-from.ensures c.pod_at-to.ensures c.in-Err.ensures.called).step t)

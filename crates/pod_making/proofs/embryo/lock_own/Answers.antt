@@ -1,4 +1,12 @@
-use Rattle.std.proofs.Common.{Err, ap, sym, subst, ◌∙◌}
+use Rattle.std.proofs.Common.{◌≡◌, true, Err, refl, ap, sym, subst, ◌∙◌}
+use Rattle.dir_model.specs.declared.area.Area.TheVariants.{Embryo}
+use Rattle.dir_model.specs.declared.request.Reply.TheVariants.{Refused}
+use Rattle.dir_model.specs.declared.spot.Spot.{Spot}
+use Rattle.dir_model.specs.Replies.{may_refuse}
+use Rattle.dir_model.proofs.Chains.{nothing_yet, and_call}
+use Rattle.folder_building.proofs.Working.{at_spot}
+use Rattle.pod_making.specs.declared.error.MakeError.TheVariants.{Stray}
+use Rattle.pod_making.specs.Requests.{pod_at}
 use Rattle.dir_model.specs.declared.opening.Target.TheVariants.{Own}
 use Rattle.dir_model.specs.declared.request.Request.TheVariants.{Open, TryLock}
 use Rattle.dir_model.specs.declared.spot.Which.TheVariants as which
@@ -6,10 +14,10 @@ use Rattle.dir_model.specs.Local.{Local, IsUnlocked}
 use Rattle.dir_model.proofs.Holdings.{unlocked_new}
 use Rattle.pod_making.specs.declared.error.MakeError.{MakeError}
 use Rattle.pod_making.specs.Causes.{WorkCause}
-use Rattle.pod_making.proofs.Calls.{with_spot, change_cause, stray_open, stray_lock, follows_call}
+use Rattle.pod_making.proofs.Calls.{with_spot, change_cause, shows_call, taken_open, taken_lock, follows_call}
 use Rattle.pod_making.proofs.Knowing.{knows_locked, knows_unlocked, knows_unopened}
 use Rattle.pod_making.proofs.Outcomes.{follows_close, went_locked, went_unlocked, went_unopened}
-use Rattle.pod_making.proofs.Times.{cause_after, cause_before}
+use Rattle.pod_making.proofs.Times.{cause_after, cause_before, taken_after, taken_before}
 use Rattle.pod_making.proofs.embryo.lock_own.Goals as goal
 
 pub try_lock-requires-clause-unlocked : goal.try_lock-requires-clause-unlocked
@@ -38,7 +46,7 @@ returns-in-Err-try_lock-clause-cause g c =
     subst (λ (x : MakeError). WorkCause D.observed c.args.draw _ x (D.shown c.args.dir.now) (D.shown c.close.new.self)) (sym c.change_refusal.ensures)
     (cause_before (asks.called.same ∙ c.in-Ok.ensures.called.same)
     (cause_after (follows_call c.in-Ok.ensures.called)
-    (change_cause {draw = c.args.draw} (TryLock c.in-Ok.own _) e (stray_lock c.in-Ok.own e asks.refusals) (λ is. asks.cause (ap Err is)) asks.called))
+    (change_cause {draw = c.args.draw} e (λ is. asks.cause (ap Err is))))
     (follows_close c.close.ensures.faultless c.close.ensures.called))
 
 pub returns-in-Err-try_lock-clause-left : goal.returns-in-Err-try_lock-clause-left
@@ -53,7 +61,30 @@ returns-in-Err-clause-cause g c =
     let D = g.D.Dir in
     let e = c.in-Err.error in
     subst (λ (x : MakeError). WorkCause D.observed c.args.draw _ x (D.shown c.args.dir.now) (D.shown c.«open».new.self)) (sym c.change_refusal-in-Err.ensures)
-    (change_cause {draw = c.args.draw} (Open c.pod_at-spot.result which.Own) e (stray_open c.pod_at-spot.result e c.in-Err.ensures.refusals) (λ is. c.in-Err.ensures.cause (ap Err is)) c.in-Err.ensures.called)
+    (change_cause {draw = c.args.draw} e (λ is. c.in-Err.ensures.cause (ap Err is)))
 
 pub returns-in-Err-clause-left : goal.returns-in-Err-clause-left
 returns-in-Err-clause-left g c t = knows_unopened {draw = c.args.draw} c.in-Err.error t (with_spot (λ s. Open s which.Own) c.pod_at-spot.ensures c.in-Err.ensures.called)
+
+pub returns-in-Ok-try_lock-clause-locks : goal.returns-in-Ok-try_lock-clause-locks
+returns-in-Ok-try_lock-clause-locks g c t =
+    let opens = with_spot (λ s. Open s which.Own) c.pod_at-spot.ensures c.in-Ok.ensures.called in
+    and_call (and_call nothing_yet refl (at_spot (pod_at Embryo c.args.draw)) (opens.step t)) opens.same refl (c.in-Ok-try_lock.ensures.called.step t)
+
+pub returns-in-Err-try_lock-clause-stray : goal.returns-in-Err-try_lock-clause-stray
+returns-in-Err-try_lock-clause-stray g c h t =
+    let e = c.in-Err-try_lock.error in
+    let is : c.change_refusal.result ≡ Stray = cc in
+    let opens = with_spot (λ s. Open s which.Own) c.pod_at-spot.ensures c.in-Ok.ensures.called in
+    let asks = c.in-Err-try_lock.ensures in
+    taken_before (taken_after (and_call nothing_yet refl (at_spot (pod_at Embryo c.args.draw)) (opens.step t)) opens.same
+    (shows_call (TryLock c.in-Ok.own _) (Refused e 0) (taken_lock c.args.draw c.in-Ok.own e asks.refusals (sym c.change_refusal.ensures ∙ is)) (asks.called.step t)))
+    ((follows_close c.close.ensures.faultless c.close.ensures.called).extends t)
+
+pub returns-in-Err-clause-stray : goal.returns-in-Err-clause-stray
+returns-in-Err-clause-stray g c h t =
+    let e = c.in-Err.error in
+    let is : c.change_refusal-in-Err.result ≡ Stray = cc in
+    shows_call (Open (pod_at Embryo c.args.draw) which.Own) (Refused e 0)
+    (taken_open c.args.draw e (subst (λ (s : Spot). may_refuse (Open s which.Own) e ≡ true) c.pod_at-spot.ensures c.in-Err.ensures.refusals) (sym c.change_refusal-in-Err.ensures ∙ is))
+    ((with_spot (λ s. Open s which.Own) c.pod_at-spot.ensures c.in-Err.ensures.called).step t)

@@ -1,10 +1,9 @@
-use Rattle.std.proofs.Common.{◌≡◌, true, Ok, Err, ap, sym, subst}
+use Rattle.std.proofs.Common.{◌≡◌, Ok, Err, ap, sym, subst, ◌∙◌}
 use Rattle.dir_model.specs.declared.request.Request.TheVariants.{MakeFolder}
-use Rattle.dir_model.specs.declared.spot.Spot.{Spot}
-use Rattle.dir_model.specs.Replies.{may_refuse}
 use Rattle.pod_making.specs.declared.error.MakeError.{MakeError}
+use Rattle.pod_making.specs.declared.error.MakeError.TheVariants.{Stray}
 use Rattle.pod_making.specs.Causes.{WorkCause}
-use Rattle.pod_making.proofs.Calls.{with_spot, worked_make, make_cause}
+use Rattle.pod_making.proofs.Calls.{with_spot, worked_make, make_cause, make_plain}
 use Rattle.pod_making.proofs.Knowing.{knows_made, knows_unmade}
 use Rattle.pod_making.proofs.embryo.make_embryo.Goals as goal
 
@@ -22,7 +21,13 @@ returns-in-Err-clause-cause g c =
     let D = g.D.Dir in
     let e = c.in-Err.error in
     subst (λ (x : MakeError). WorkCause D.observed c.args.draw _ x (D.shown c.args.dir.now) (D.shown c.make_folder.new.self)) (sym c.make_refusal.ensures)
-    (make_cause D.observed c.args.draw (D.shown c.args.dir.now) (D.shown c.make_folder.new.self) e (subst (λ (s : Spot). may_refuse (MakeFolder s) e ≡ true) c.pod_at-spot.ensures c.in-Err.ensures.refusals) (λ is. c.in-Err.ensures.cause (ap Err is)) (with_spot MakeFolder c.pod_at-spot.ensures c.in-Err.ensures.called))
+    (make_cause D.observed c.args.draw (D.shown c.args.dir.now) (D.shown c.make_folder.new.self) e (λ is. c.in-Err.ensures.cause (ap Err is)) (with_spot MakeFolder c.pod_at-spot.ensures c.in-Err.ensures.called))
 
 pub returns-in-Err-clause-left : goal.returns-in-Err-clause-left
 returns-in-Err-clause-left g c t = knows_unmade {draw = c.args.draw} c.in-Err.error t (with_spot MakeFolder c.pod_at-spot.ensures c.in-Err.ensures.called)
+
+pub returns-in-Ok-clause-makes : goal.returns-in-Ok-clause-makes
+returns-in-Ok-clause-makes g c t = (with_spot MakeFolder c.pod_at-spot.ensures c.in-Ok.ensures.called).step t
+
+pub returns-in-Err-clause-plain : goal.returns-in-Err-clause-plain
+returns-in-Err-clause-plain g c h = let is : c.make_refusal.result ≡ Stray = cc in make_plain c.pod_at-spot.result c.in-Err.error c.in-Err.ensures.refusals (sym c.make_refusal.ensures ∙ is)

@@ -1,10 +1,12 @@
-use Rattle.std.proofs.Common.{◌≡◌, rules, Some, Ok, refl, ◌∷◌, ◌∙◌}
+use Rattle.pod_making.specs.declared.error.MakeError.TheVariants.{Stray}
+use Rattle.pod_making.specs.Requests.{is_brought}
+use Rattle.std.proofs.Common.{◌≡◌, IsErrOf, rules, Some, Err, ap, Ok, refl, ◌∷◌, ◌∙◌}
 use Rattle.dir_model.specs.declared.spot.Mode.TheVariants.{Exclusive}
 use Rattle.area_locks.proofs.Locking.{number_is_new}
 use Rattle.pod_making.specs.Progress.{own_held}
 use Rattle.pod_making.proofs.Knowing.{has_embryo, own_back, owns_both}
 use Rattle.pod_making.proofs.Outcomes.{held_is, follows_close, went_worked, went_closed, went_as}
-use Rattle.pod_making.proofs.Times.{follows_went, cause_after, cause_before}
+use Rattle.pod_making.proofs.Times.{follows_went, cause_after, cause_before, answered_after, taken_after, taken_before}
 use Rattle.pod_making.proofs.embryo.take_out.Goals as goal
 
 pub returns-in-Ok-clause-went : goal.returns-in-Ok-clause-went
@@ -28,3 +30,16 @@ returns-in-Err-clause-left g c t intent hs maker under k =
     let own = c.in_ok-own.own in
     own_back t (number_is_new own k c.in_ok-own.ensures.unopened) c.close.ensures.called
     (has_embryo (c.in-Err.ensures.left t intent (own_held c.args.draw own (Some Exclusive) ∷ hs) maker (owns_both own under) (c.in_ok-own.ensures.held t intent hs maker under k)))
+
+pub returns-in_err-own-clause-stray : goal.returns-in_err-own-clause-stray
+returns-in_err-own-clause-stray g c h t =
+    let k : IsErrOf c.lock_own.result Stray = search (rules, h, c.from_residual.ensures, c.in_err-own.is) in
+    c.lock_own.ensures.stray k t
+
+pub returns-in-Ok-clause-brings : goal.returns-in-Ok-clause-brings
+returns-in-Ok-clause-brings g c t = answered_after (is_brought c.args.draw) (c.lock_own.ensures.went.extends t) c.lock_own.ensures.went.same (c.in-Ok.ensures.brings t)
+
+pub returns-in-Err-clause-stray : goal.returns-in-Err-clause-stray
+returns-in-Err-clause-stray g c h t =
+    let is : c.in-Err.error ≡ Stray = cc in
+    taken_before (taken_after (c.in_ok-own.ensures.locks t) c.lock_own.ensures.went.same (c.in-Err.ensures.stray (ap Err is) t)) ((follows_close c.close.ensures.faultless c.close.ensures.called).extends t)

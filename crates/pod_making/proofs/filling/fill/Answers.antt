@@ -1,10 +1,11 @@
-use Rattle.std.proofs.Common.{Err, ap, refl, sym, subst}
+use Rattle.std.proofs.Common.{◌≡◌, Err, ap, refl, sym, subst, ◌∙◌}
+use Rattle.pod_making.specs.declared.error.MakeError.TheVariants.{Stray}
 use Rattle.dir_model.specs.declared.spot.Spot.{Spot}
 use Rattle.folder_building.specs.Sources.{reads_images}
 use Rattle.folder_building.specs.Work.{Worked, builds_at, either}
 use Rattle.pod_making.specs.declared.error.MakeError.{MakeError}
 use Rattle.pod_making.specs.Causes.{WorkCause}
-use Rattle.pod_making.proofs.Calls.{fill_cause}
+use Rattle.pod_making.proofs.Calls.{fill_cause, pod_changed, build_stray}
 use Rattle.pod_making.proofs.Knowing.{has_filled, has_begun}
 use Rattle.pod_making.proofs.filling.fill.Goals as goal
 
@@ -29,4 +30,10 @@ returns-in-Err-clause-cause g c =
     let D = g.D.Dir in
     let e = c.in-Err.error in
     subst (λ (x : MakeError). WorkCause D.observed c.args.draw c.args.plan.now x (D.shown c.args.dir.now) (D.shown c.carry_out.new.dir)) (sym c.build_refusal.ensures)
-    (fill_cause c.args.plan.now _ e (λ is. c.in-Err.ensures.fault (ap Err is)) (λ is. c.in-Err.ensures.source (ap Err is)) (λ place is. c.in-Err.ensures.unlike place (ap Err is)) (λ is. c.in-Err.ensures.stray (ap Err is)))
+    (fill_cause c.args.plan.now _ e (λ is. c.in-Err.ensures.fault (ap Err is)) (λ is. c.in-Err.ensures.source (ap Err is)) (λ place is. c.in-Err.ensures.unlike place (ap Err is)) (λ place is t. c.in-Err.ensures.lacks place (ap Err is) t))
+
+pub returns-in-Err-clause-stray : goal.returns-in-Err-clause-stray
+returns-in-Err-clause-stray g c h t =
+    let D = g.D.Dir in
+    let is : c.build_refusal.result ≡ Stray = cc in
+    pod_changed c.args.draw c.pod_at-spot.result (D.shown c.args.dir.now) (D.shown c.carry_out.new.dir) c.pod_at-spot.ensures (c.in-Err.ensures.stray (ap Err (build_stray c.in-Err.error (sym c.build_refusal.ensures ∙ is))) t)

@@ -1,4 +1,4 @@
-use Rattle.std.proofs.Common.{◌≡◌, true, [], List, rules}
+use Rattle.std.proofs.Common.{◌≡◌, true, [], List, IsErrOf, rules}
 use Rattle.folder_building.specs.declared.plan.PlanEntry.{PlanEntry}
 use Rattle.dir_model.specs.declared.area.Area.{Area}
 use Rattle.dir_trait.specs.Knowledge.{Knows}
@@ -11,7 +11,9 @@ use Rattle.pod_making.specs.Causes.{WorkCause}
 use Rattle.pod_making.specs.Makings.{FromFilled, IsHanded, HasMade}
 use Rattle.pod_making.proofs.Knowing.{has_prepare, handed_made}
 use Rattle.pod_making.proofs.Outcomes.{err_same, fills_finishes, hands_finishes}
-use Rattle.pod_making.proofs.Times.{follows_work, nothing_follows, cause_after, cause_planned}
+use Rattle.pod_making.proofs.Times.{follows_work, nothing_follows, cause_after, cause_planned, answered_after}
+use Rattle.pod_making.specs.declared.error.MakeError.TheVariants.{Stray}
+use Rattle.pod_making.specs.Requests.{shows_changed}
 use Rattle.pod_making.proofs.Handing.{none_handed, handed_after, fills_hand_none}
 use Rattle.pod_making.proofs.filling.finish_pod.Goals as goal
 
@@ -79,3 +81,11 @@ returns-clause-whole g c t intent hs may owns k =
     let plan = c.args.plan.now in
     let x = c.in_ok-fill.ensures.filled t c.args.to intent hs may owns k in
     handed_after (λ me. KnewMade me draw plan intent) (fills_hand_none draw) (c.fill.ensures.worked.extends t) c.fill.ensures.worked.same (c.hand_over.ensures.worked.extends t) (c.hand_over.ensures.whole t plan intent hs x.entries may owns x.made x.knows)
+
+pub returns-in_err-fill-clause-stray : goal.returns-in_err-fill-clause-stray
+returns-in_err-fill-clause-stray g c h t =
+    let k : IsErrOf c.fill.result Stray = search (rules, h, c.from_residual.ensures, c.in_err-fill.is) in
+    c.fill.ensures.stray k t
+
+pub returns-clause-stray : goal.returns-clause-stray
+returns-clause-stray g c h t = answered_after (shows_changed c.args.draw) (c.fill.ensures.worked.extends t) c.fill.ensures.worked.same (c.hand_over.ensures.stray h t)

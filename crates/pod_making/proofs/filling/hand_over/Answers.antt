@@ -1,8 +1,14 @@
-use Rattle.std.proofs.Common.{Ok, Err, ap, sym, subst}
+use Rattle.std.proofs.Common.{◌≡◌, true, Ok, Err, ap, sym, subst, ◌∙◌}
+use Rattle.dir_model.specs.declared.area.Area.TheVariants.{Prepare}
+use Rattle.dir_model.specs.declared.spot.Spot.{Spot}
+use Rattle.dir_model.specs.Replies.{may_refuse}
+use Rattle.pod_making.specs.declared.error.MakeError.TheVariants.{Stray}
+use Rattle.pod_making.specs.Requests.{pod_at, shows_changed}
 use Rattle.dir_model.specs.declared.request.Request.TheVariants.{MoveFolder}
 use Rattle.pod_making.specs.declared.error.MakeError.{MakeError}
 use Rattle.pod_making.specs.Causes.{WorkCause}
-use Rattle.pod_making.proofs.Calls.{with_spots, worked_hand, change_cause, stray_move}
+use Rattle.pod_making.proofs.Calls.{with_spots, worked_hand, change_cause, changed_move}
+use Rattle.pod_making.proofs.Times.{answered_self}
 use Rattle.pod_making.proofs.Knowing.{knows_handed, knows_unhanded}
 use Rattle.pod_making.proofs.Handing.{hands_made}
 use Rattle.pod_making.proofs.filling.hand_over.Goals as goal
@@ -21,7 +27,7 @@ returns-in-Err-clause-cause g c =
     let D = g.D.Dir in
     let e = c.in-Err.error in
     subst (λ (x : MakeError). WorkCause D.observed c.args.draw _ x (D.shown c.args.dir.now) (D.shown c.move_folder.new.self)) (sym c.change_refusal.ensures)
-    (change_cause {draw = c.args.draw} (MoveFolder c.pod_at-from.result c.pod_at-there.result) e (stray_move c.pod_at-from.result c.pod_at-there.result e c.in-Err.ensures.refusals) (λ is. c.in-Err.ensures.cause (ap Err is)) c.in-Err.ensures.called)
+    (change_cause {draw = c.args.draw} e (λ is. c.in-Err.ensures.cause (ap Err is)))
 
 pub returns-in-Err-clause-left : goal.returns-in-Err-clause-left
 returns-in-Err-clause-left g c t plan = knows_unhanded {draw = c.args.draw} t c.args.to plan c.in-Err.error (with_spots c.pod_at-from.ensures c.pod_at-there.ensures c.in-Err.ensures.called)
@@ -31,3 +37,11 @@ returns-in-Ok-clause-whole g c t plan = hands_made {draw = c.args.draw} t c.args
 
 pub returns-in-Err-clause-whole : goal.returns-in-Err-clause-whole
 returns-in-Err-clause-whole g c t plan = hands_made {draw = c.args.draw} t c.args.to plan c.in-Err.ensures.called
+
+pub returns-in-Err-clause-stray : goal.returns-in-Err-clause-stray
+returns-in-Err-clause-stray g c h t =
+    let e = c.in-Err.error in
+    let is : c.change_refusal.result ≡ Stray = cc in
+    let may = subst (λ (s : Spot). may_refuse (MoveFolder s c.pod_at-there.result) e ≡ true) c.pod_at-from.ensures c.in-Err.ensures.refusals in
+    let asks = subst (λ (s : Spot). may_refuse (MoveFolder (pod_at Prepare c.args.draw) s) e ≡ true) c.pod_at-there.ensures may in
+    answered_self (shows_changed c.args.draw) (changed_move c.args.draw (pod_at c.args.to c.args.draw) e asks (sym c.change_refusal.ensures ∙ is)) ((with_spots c.pod_at-from.ensures c.pod_at-there.ensures c.in-Err.ensures.called).step t)

@@ -1,4 +1,4 @@
-use Rattle.std.proofs.Common.{◌≡◌, true, Some, Ok, [], ◌∷◌, refl, rules, ◌∙◌}
+use Rattle.std.proofs.Common.{◌≡◌, true, Some, Err, ap, Ok, [], ◌∷◌, refl, rules, ◌∙◌}
 use Rattle.dir_model.specs.declared.area.Area.TheVariants.{Prepared}
 use Rattle.dir_model.specs.declared.spot.Mode.TheVariants.{Exclusive}
 use Rattle.area_locks.proofs.Locking.{number_is_new}
@@ -11,8 +11,8 @@ use Rattle.pod_making.specs.Makings.{HasMade}
 use Rattle.pod_making.specs.Handovers.{KnewMade}
 use Rattle.pod_making.proofs.Steps.{is_maker_of}
 use Rattle.pod_making.proofs.Knowing.{owns_images, own_back, made_free}
-use Rattle.pod_making.proofs.Outcomes.{err_same, held_is, follows_close, went_worked, went_closed, begins_makes, finishes_makes, worked_residual}
-use Rattle.pod_making.proofs.Times.{follows_went, calm_cause, cause_after, cause_before, make_planned, went_wider, worked_went}
+use Rattle.pod_making.proofs.Outcomes.{err_same, err_with, held_is, follows_close, went_worked, went_closed, begins_makes, finishes_makes, worked_residual}
+use Rattle.pod_making.proofs.Times.{follows_went, calm_cause, cause_after, cause_before, brought_changed, own_before, make_planned, went_wider, worked_went}
 use Rattle.pod_making.proofs.Handing.{none_handed, handed_after, handed_close, follow_on, begins_hand_none}
 use Rattle.pod_making.proofs.making.make_prepared.Goals as goal
 
@@ -41,8 +41,9 @@ returns-clause-cause g c =
     let plan = c.args.plan.now in
     let mid = D.shown c.begin_pod.new.dir in
     let late = D.shown c.finish_pod-result.new.dir in
-    err_more (λ e. WorkCause D.observed c.args.draw plan e mid late) (λ e. MakeCause D.observed c.args.draw plan e (D.shown c.args.dir.now) (D.shown c.close.new.self)) c.finish_pod-result.result
-    (λ e x. calm_cause (cause_before (c.finish_pod-result.ensures.worked.same ∙ c.begin_pod.ensures.went.same) (cause_after (follows_went c.begin_pod.ensures.went) x) (follows_close c.close.ensures.faultless c.close.ensures.called)))
+    let closes = follows_close c.close.ensures.faultless c.close.ensures.called in
+    err_with (λ e. WorkCause D.observed c.args.draw plan e mid late) (λ e. MakeCause D.observed c.args.draw plan e (D.shown c.args.dir.now) (D.shown c.close.new.self)) c.finish_pod-result.result
+    (λ e was x. calm_cause (λ is t. own_before (D.shown c.args.dir.now) late (D.shown c.close.new.self) (brought_changed (D.shown c.args.dir.now) mid late (c.in_ok-own.ensures.brings t) c.begin_pod.ensures.went.same (c.finish_pod-result.ensures.stray (was ∙ ap Err is) t)) (closes.extends t)) (cause_before (c.finish_pod-result.ensures.worked.same ∙ c.begin_pod.ensures.went.same) (cause_after (follows_went c.begin_pod.ensures.went) x) (follows_close c.close.ensures.faultless c.close.ensures.called)))
     c.finish_pod-result.ensures.cause
 
 pub returns-clause-made : goal.returns-clause-made

@@ -1,4 +1,4 @@
-use Rattle.std.proofs.Common.{◌≡◌, Some, Ok, [], ◌∷◌, refl, rules, ◌∙◌}
+use Rattle.std.proofs.Common.{◌≡◌, Some, Err, ap, Ok, [], ◌∷◌, refl, rules, ◌∙◌}
 use Rattle.dir_model.specs.declared.area.Area.TheVariants.{Run}
 use Rattle.dir_model.specs.declared.spot.Mode.TheVariants.{Exclusive}
 use Rattle.area_locks.proofs.Locking.{number_is_new}
@@ -10,7 +10,7 @@ use Rattle.pod_making.specs.Handovers.{KnewMade}
 use Rattle.pod_making.proofs.Steps.{is_maker_of}
 use Rattle.pod_making.proofs.Knowing.{owns_images, own_back, made_kept, runs_pod}
 use Rattle.pod_making.proofs.Outcomes.{err_same, held_is, follows_close, went_worked, went_closed, went_as, went_residual, begins_makes, finishes_makes, worked_residual}
-use Rattle.pod_making.proofs.Times.{follows_went, nothing_follows, calm_cause, cause_after, cause_before, make_planned, went_wider}
+use Rattle.pod_making.proofs.Times.{follows_went, nothing_follows, calm_cause, cause_after, cause_before, brought_changed, own_before, make_planned, went_wider}
 use Rattle.pod_making.proofs.Handing.{none_handed, handed_after, handed_close, follow_on, begins_hand_none}
 use Rattle.pod_making.proofs.making.make_running.Goals as goal
 
@@ -59,7 +59,9 @@ returns-in-Err-clause-went g c =
 
 pub returns-in-Err-clause-cause : goal.returns-in-Err-clause-cause
 returns-in-Err-clause-cause g c =
-    calm_cause (cause_before (c.finish_pod.ensures.worked.same ∙ c.begin_pod.ensures.went.same) (cause_after (follows_went c.begin_pod.ensures.went) c.in-Err.ensures.cause) (follows_close c.close.ensures.faultless c.close.ensures.called))
+    let D = g.D.Dir in
+    let closes = follows_close c.close.ensures.faultless c.close.ensures.called in
+    calm_cause (λ is t. own_before (D.shown c.args.dir.now) (D.shown c.finish_pod.new.dir) (D.shown c.close.new.self) (brought_changed (D.shown c.args.dir.now) (D.shown c.begin_pod.new.dir) (D.shown c.finish_pod.new.dir) (c.in_ok-own.ensures.brings t) c.begin_pod.ensures.went.same (c.in-Err.ensures.stray (ap Err is) t)) (closes.extends t)) (cause_before (c.finish_pod.ensures.worked.same ∙ c.begin_pod.ensures.went.same) (cause_after (follows_went c.begin_pod.ensures.went) c.in-Err.ensures.cause) (follows_close c.close.ensures.faultless c.close.ensures.called))
 
 pub returns-in-Err-clause-left : goal.returns-in-Err-clause-left
 returns-in-Err-clause-left g c t intent hs may under k =
