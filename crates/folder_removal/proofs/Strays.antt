@@ -12,19 +12,20 @@ use Rattle.dir_model.specs.declared.request.Request.{Request}
 use Rattle.dir_model.specs.declared.request.Request.TheVariants.{ListIn, RemoveFolder}
 use Rattle.dir_model.specs.declared.request.Reply.{Reply}
 use Rattle.dir_model.specs.declared.request.Reply.TheVariants.{Items, Refused}
-use Rattle.dir_model.specs.Calls.{CallStep, ListStep, TookPlace, LeftNothing, Extends, event}
-use Rattle.dir_model.specs.State.{spot_eq}
+use Rattle.dir_model.specs.Calls.{CallStep, ListStep, TookPlace, LeftNothing, Extends, AtOwnStep, event}
+use Rattle.dir_model.specs.State.{spot_eq, stands}
 use Rattle.dir_model.specs.Replies.{is_fault, may_refuse, is_late_reply}
 use Rattle.dir_model.specs.declared.item.Item.{Item}
 use Rattle.dir_model.proofs.Lists.{and_false, and_left, and_both, or_last, same_self, all_weaker, all_left, all_right, all_both, all_push}
 use Rattle.dir_model.proofs.Spots.{spot_self}
+use Rattle.dir_model.proofs.Moments.{at_within}
 use Rattle.dir_trait.specs.DirCalls.{DirAt}
 use Rattle.dir_rules.specs.Marks.{path_in}
 use Rattle.dir_rules.specs.Rules.{root_of}
 use Rattle.dir_model.proofs.Chains.{nothing_yet, step_extends, and_more}
 use Rattle.folder_removal.specs.declared.task.Task.{Task}
 use Rattle.folder_removal.specs.Tasks.{task_of, with_listed, is_dir_item}
-use Rattle.folder_removal.specs.Removal.{deletes_at, inner_at, task_inner, removal_by, removal_of, is_stray, is_dir_named, WasShown, IsCalledFor, ListsStray, WasStray, StrayTurn, WasTaskShown, AreShown, ShownThen, StrayAfter}
+use Rattle.folder_removal.specs.Removal.{deletes_at, inner_at, task_inner, removal_by, removal_of, is_stray, is_dir_named, WasShown, IsCalledFor, WasCalledFor, ListsStray, WasStray, StrayTurn, WasTaskShown, AreShown, ShownThen, StrayAfter}
 use Rattle.folder_removal.proofs.Nested.{or_left, same_bytes}
 
 -- a refusal that is no fault
@@ -205,3 +206,27 @@ module _ (spot : Spot) (a b c : DirAt) (same : b.process ≡ a.process) (ab : Ex
   stray_emptied tasks shown stray =
       subst (λ (p : ℕ). WasStray spot p a.trace c.trace) same
       (stray a.trace (subst (λ (p : ℕ). Extends (deletes_at spot) p a.trace b.trace) (sym same) ab) (subst (λ (p : ℕ). AreShown spot tasks p a.trace b.trace) (sym same) shown))
+
+-- that a listing was called for is known of longer times too
+pub called_within : (request : Request) (reply : Reply) (me : ℕ) (a b c d more rest : List Event) → b ≡ a ++ more → d ≡ c ++ rest → WasCalledFor request reply me b c → WasCalledFor request reply me a d
+called_within (ListIn inner) (Refused Missing left) me a b c d more rest ab cd (inl root) = inl (root.0, at_within more rest ab cd root.1)
+called_within (ListIn inner) (Refused Missing left) me a b c d more rest ab cd (inr shown) = inr (shown_within more rest ab cd shown)
+called_within (ListIn inner) (Refused error left) me a b c d more rest ab cd called = tt
+called_within (ListIn inner) reply me a b c d more rest ab cd called = tt
+called_within request reply me a b c d more rest ab cd called = tt
+
+-- where the folder stood there before
+module _ (spot : Spot) (me : ℕ) (old mid before new first rest : List Event) (begins : mid ≡ old ++ first) (ends : new ≡ before ++ rest) (stood : AtOwnStep me old new (λ s. stands s.namespace spot ≡ true)) where
+  stood_called : (request : Request) (reply : Reply) → IsCalledFor spot request reply me mid before → WasCalledFor request reply me old new
+  stood_called (ListIn inner) (Refused Missing left) (inl root) =
+      let at : inner.spot ≡ spot = ap (λ (i : Inner). i.spot) root in
+      inl (root ∙ ap root_of (sym at), subst (λ (x : Spot). AtOwnStep me old new (λ s. stands s.namespace x ≡ true)) (sym at) stood)
+  stood_called (ListIn inner) (Refused Missing left) (inr shown) = inr (shown_within first rest begins ends shown)
+  stood_called (ListIn inner) (Refused error left) called = tt
+  stood_called (ListIn inner) reply called = tt
+  stood_called request reply called = tt
+
+pub stray_called : {spot : Spot} {me : ℕ} {mid new : List Event} (old first : List Event) → mid ≡ old ++ first → AtOwnStep me old new (λ s. stands s.namespace spot ≡ true) → (w : WasStray spot me mid new) → WasCalledFor w.request w.reply me old new
+stray_called {spot} {me} {mid} {new} old first begins stood w =
+    let last = step_extends (λ r. true) me w.before w.request w.reply new refl w.last in
+    stood_called spot me old mid w.before new first last.more begins last.grown stood w.request w.reply w.called

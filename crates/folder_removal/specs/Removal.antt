@@ -14,8 +14,8 @@ use Rattle.dir_model.specs.declared.request.Request.TheVariants.{ListIn, RemoveF
 use Rattle.dir_model.specs.declared.request.DirError.TheVariants.{Missing, NotEmpty}
 use Rattle.dir_model.specs.declared.request.Reply.{Reply}
 use Rattle.dir_model.specs.declared.request.Reply.TheVariants.{Done, Items, Refused}
-use Rattle.dir_trait.specs.State.{spot_eq}
-use Rattle.dir_trait.specs.Calls.{CallStep, Extends, is_foreign}
+use Rattle.dir_trait.specs.State.{spot_eq, stands}
+use Rattle.dir_trait.specs.Calls.{CallStep, Extends, AtOwnStep, is_foreign}
 use Rattle.dir_rules.specs.Marks.{path_in}
 use Rattle.dir_rules.specs.Rules.{root_of}
 use Rattle.dir_trait.specs.DirCalls.{DirAt}
@@ -94,6 +94,11 @@ pub record WasShown (inner : Inner) (me : ℕ) (old new : List Event) : Type 0 w
 abbrev pub IsCalledFor : Spot → Request → Reply → ℕ → List Event → List Event → Type 0
 IsCalledFor spot (ListIn inner) (Refused Missing left) me old new = (inner ≡ root_of spot) ⊎ WasShown inner me old new
 IsCalledFor spot request reply me old new = Unit {0}
+
+-- that, and the folder itself had stood there at an own step
+abbrev pub WasCalledFor : Request → Reply → ℕ → List Event → List Event → Type 0
+WasCalledFor (ListIn inner) (Refused Missing left) me old new = ((inner ≡ root_of inner.spot) × AtOwnStep me old new (λ s. stands s.namespace inner.spot ≡ true)) ⊎ WasShown inner me old new
+WasCalledFor request reply me old new = Unit {0}
 
 -- its last step was a listing of this directory that was answered so
 pub record ListsStray (inner : Inner) (me : ℕ) (old new : List Event) : Type 0 where
