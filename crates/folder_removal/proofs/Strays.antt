@@ -22,10 +22,11 @@ use Rattle.dir_model.proofs.Moments.{at_within}
 use Rattle.dir_trait.specs.DirCalls.{DirAt}
 use Rattle.dir_rules.specs.Marks.{path_in}
 use Rattle.dir_rules.specs.Rules.{root_of}
-use Rattle.dir_model.proofs.Chains.{nothing_yet, step_extends, and_more}
+use Rattle.dir_model.proofs.Chains.{step_extends, extends_wider, and_more}
 use Rattle.folder_removal.specs.declared.task.Task.{Task}
 use Rattle.folder_removal.specs.Tasks.{task_of, with_listed, is_dir_item}
-use Rattle.folder_removal.specs.Removal.{deletes_at, inner_at, task_inner, removal_by, removal_of, is_stray, is_dir_named, WasShown, IsCalledFor, WasCalledFor, ListsStray, WasStray, StrayTurn, WasTaskShown, AreShown, ShownThen, StrayAfter}
+use Rattle.folder_removal.specs.Removal.{deletes_at, inner_at, task_inner, removal_by, removal_of, is_stray, is_dir_named, WasShown, IsCalledFor, WasCalledFor, ListsStray, WasStray, WentUnasked, StrayTurn, spares_folders, lists_at, WasTaskShown, AreShown, ShownThen, StrayAfter}
+use Rattle.folder_removal.proofs.Steps.{asks_removal}
 use Rattle.folder_removal.proofs.Nested.{or_left, same_bytes}
 
 -- a refusal that is no fault
@@ -54,9 +55,18 @@ stray_folder spot Missing may fault = refl
 stray_folder spot NotEmpty may fault = refl
 stray_folder spot _ may fault = cc
 
--- the call that was answered so
-pub stray_call : {spot : Spot} {me : ℕ} {old new : List Event} (request : Request) (reply : Reply) → deletes_at spot request ≡ true → is_stray request reply ≡ true → IsCalledFor spot request reply me old old → CallStep me old request reply new → WasStray spot me old new
-stray_call {spot} {me} {old} {new} request reply asked stray called s = record { before = old; request = request; reply = reply; first = nothing_yet; asked = asked; stray = stray; called = called; last = s }
+-- the folder's own removal was answered so after other calls
+pub folder_stray : {spot : Spot} {me other : ℕ} {a b c : List Event} (e : DirError) → is_stray (RemoveFolder spot) (Refused e 0) ≡ true → Extends (deletes_at spot) me a b → other ≡ me → CallStep other b (RemoveFolder spot) (Refused e 0) c → WasStray spot me a c
+folder_stray {spot} {me} {other} {a} {b} {c} e stray first same last = record {
+  before = b;
+  request = RemoveFolder spot;
+  reply = Refused e 0;
+  first = first;
+  asked = spot_self spot;
+  stray = stray;
+  called = tt;
+  last = subst (λ (p : ℕ). CallStep p b (RemoveFolder spot) (Refused e 0) c) same last;
+}
 
 in_time : (inner : Inner) (reply : Reply) → is_late_reply (ListIn inner) reply ≡ true → is_stray (ListIn inner) reply ≡ true → ⊥
 in_time inner (Items items) late stray = cc
@@ -66,7 +76,7 @@ in_time inner _ late stray = cc
 
 pub stray_list : {me : ℕ} {old new : List Event} (inner : Inner) (reply : Reply) → is_stray (ListIn inner) reply ≡ true → ListStep me old (ListIn inner) reply new → ListsStray inner me old new
 stray_list {me} {old} {new} inner reply stray (inl l) =
-    record { before = l.between; reply = reply; first = step_extends (deletes_at inner.spot) me old (ListIn inner) _ l.between (spot_self inner.spot) l.begins; stray = stray; last = l.ends }
+    record { before = l.between; reply = reply; first = step_extends (lists_at inner.spot) me old (ListIn inner) _ l.between (spot_self inner.spot) l.begins; stray = stray; last = l.ends }
 stray_list {me} {old} {new} inner reply stray (inr u) = absurd (in_time inner reply u.late.late stray)
 
 -- no other removal asks that something was shown
@@ -78,10 +88,18 @@ removal_called spot t reply me old new = by t.kind
     by item.File = tt
     by item.Other = tt
 
-list_called : (spot : Spot) (inner : Inner) (reply : Reply) (me : ℕ) (old new : List Event) → (inner ≡ root_of spot) ⊎ WasShown inner me old new → IsCalledFor spot (ListIn inner) reply me old new
+list_called : (spot : Spot) (inner : Inner) (reply : Reply) (me : ℕ) (old new : List Event) → ((inner ≡ root_of spot) × Extends spares_folders me old new) ⊎ WasShown inner me old new → IsCalledFor spot (ListIn inner) reply me old new
 list_called spot inner (Refused Missing left) me old new c = c
 list_called spot inner (Refused error left) me old new c = tt
 list_called spot inner reply me old new c = tt
+
+listing_deletes : (spot : Spot) (r : Request) → lists_at spot r ≡ true → deletes_at spot r ≡ true
+listing_deletes spot (ListIn inner) is = is
+listing_deletes spot r is = cc
+
+listing_spares : (spot : Spot) (r : Request) → lists_at spot r ≡ true → spares_folders r ≡ true
+listing_spares spot (RemoveFolder at) is = cc
+listing_spares spot r is = refl
 
 -- what was shown in a part of a time was shown in the whole
 pub shown_within : {inner : Inner} {me : ℕ} {a b c d : List Event} (more rest : List Event) → b ≡ a ++ more → d ≡ c ++ rest → WasShown inner me b c → WasShown inner me a d
@@ -103,36 +121,24 @@ shown_before : {asks : Request → Bool} {inner : Inner} {me : ℕ} {a b c : Lis
 shown_before {asks} {inner} {me} {a} {b} {c} ab w = shown_within ab.more [] ab.grown (sym (append-nil c)) w
 
 -- a listing that was called for was answered so
-pub listing_stray : {inner : Inner} {spot : Spot} {me : ℕ} {start old new : List Event} → inner.spot ≡ spot → Extends (deletes_at spot) me start old → (inner ≡ root_of spot) ⊎ WasShown inner me start old → ListsStray inner me old new → WasStray spot me start new
+pub listing_stray : {inner : Inner} {spot : Spot} {me : ℕ} {start old new : List Event} → inner.spot ≡ spot → Extends (deletes_at spot) me start old → ((inner ≡ root_of spot) × Extends spares_folders me start old) ⊎ WasShown inner me start old
+    → ListsStray inner me old new → WasStray spot me start new
 listing_stray {inner} {spot} {me} {start} {old} {new} at first called l =
-    let then : Extends (deletes_at spot) me old l.before = subst (λ (x : Spot). Extends (deletes_at x) me old l.before) at l.first in
+    let lists : Extends (lists_at spot) me old l.before = subst (λ (x : Spot). Extends (lists_at x) me old l.before) at l.first in
     record {
       before = l.before;
       request = ListIn inner;
       reply = l.reply;
-      first = and_more first refl then;
+      first = and_more first refl (extends_wider (listing_deletes spot) lists);
       asked = subst (λ (x : Spot). spot_eq inner.spot x ≡ true) at (spot_self inner.spot);
       stray = l.stray;
       called = list_called spot inner l.reply me start l.before (by called);
       last = l.last;
     }
   where
-    by : (inner ≡ root_of spot) ⊎ WasShown inner me start old → (inner ≡ root_of spot) ⊎ WasShown inner me start l.before
-    by (inl root) = inl root
+    by : ((inner ≡ root_of spot) × Extends spares_folders me start old) ⊎ WasShown inner me start old → ((inner ≡ root_of spot) × Extends spares_folders me start l.before) ⊎ WasShown inner me start l.before
+    by (inl root) = inl (root.0, and_more root.1 refl (extends_wider (listing_spares inner.spot) l.first))
     by (inr w) = inr (shown_later w l.first)
-
-called_after : (spot : Spot) (request : Request) (reply : Reply) (me : ℕ) (a b c : List Event) → Extends (deletes_at spot) me a b → IsCalledFor spot request reply me b c → IsCalledFor spot request reply me a c
-called_after spot (ListIn inner) (Refused Missing left) me a b c ab (inl root) = inl root
-called_after spot (ListIn inner) (Refused Missing left) me a b c ab (inr w) = inr (shown_before ab w)
-called_after spot (ListIn inner) (Refused error left) me a b c ab called = tt
-called_after spot (ListIn inner) reply me a b c ab called = tt
-called_after spot request reply me a b c ab called = tt
-
--- after other calls
-pub stray_after : {spot : Spot} {me other : ℕ} {a b c : List Event} → Extends (deletes_at spot) me a b → other ≡ me → WasStray spot other b c → WasStray spot me a c
-stray_after {spot} {me} {other} {a} {b} {c} ab same w =
-    let v = subst (λ (p : ℕ). WasStray spot p b c) same w in
-    record { before = v.before; request = v.request; reply = v.reply; first = and_more ab refl v.first; asked = v.asked; stray = v.stray; called = called_after spot v.request v.reply me a b v.before ab v.called; last = v.last }
 
 -- the tasks that a listing of their directory is
 module _ (spot : Spot) (path : List ℕ) (items : List Item) {me : ℕ} {old new : List Event} where
@@ -200,7 +206,16 @@ module _ (spot : Spot) (a b c : DirAt) (same : b.process ≡ a.process) (ab : Ex
 
       by : StrayTurn spot t a.process b.trace c.trace → WasStray spot a.process start c.trace
       by (inl x) = listing_stray refl (and_more first refl ab) (inr (shown.0 x.0)) x.1
-      by (inr w) = stray_after (and_more first refl ab) refl w
+      by (inr w) = record {
+        before = b.trace;
+        request = removal_of spot t;
+        reply = w.reply;
+        first = and_more first refl ab;
+        asked = asks_removal spot t;
+        stray = w.stray;
+        called = removal_called spot t w.reply a.process start b.trace;
+        last = w.last;
+      }
 
   pub stray_emptied : (tasks : List Task) → AreShown spot tasks a.process a.trace b.trace → StrayAfter spot tasks b c → WasStray spot a.process a.trace c.trace
   stray_emptied tasks shown stray =
@@ -208,25 +223,52 @@ module _ (spot : Spot) (a b c : DirAt) (same : b.process ≡ a.process) (ab : Ex
       (stray a.trace (subst (λ (p : ℕ). Extends (deletes_at spot) p a.trace b.trace) (sym same) ab) (subst (λ (p : ℕ). AreShown spot tasks p a.trace b.trace) (sym same) shown))
 
 -- that a listing was called for is known of longer times too
+went_within : {spot : Spot} {me : ℕ} {a b c d : List Event} (more rest : List Event) → b ≡ a ++ more → d ≡ c ++ rest → WentUnasked spot me b c → WentUnasked spot me a d
+went_within {spot} {me} {a} {b} {c} {d} more rest ab cd w = record {
+  between = w.between;
+  before = w.before;
+  after = w.after;
+  rest = w.rest ++ rest;
+  left = w.left;
+  stood = at_within more [] ab (sym (append-nil w.between)) w.stood;
+  spared = w.spared;
+  missed = w.missed;
+  ends = cd ∙ ap (λ (h : List Event). h ++ rest) w.ends ∙ append_assoc w.after w.rest rest;
+}
+
 pub called_within : (request : Request) (reply : Reply) (me : ℕ) (a b c d more rest : List Event) → b ≡ a ++ more → d ≡ c ++ rest → WasCalledFor request reply me b c → WasCalledFor request reply me a d
-called_within (ListIn inner) (Refused Missing left) me a b c d more rest ab cd (inl root) = inl (root.0, at_within more rest ab cd root.1)
+called_within (ListIn inner) (Refused Missing left) me a b c d more rest ab cd (inl root) = inl (root.0, went_within more rest ab cd root.1)
 called_within (ListIn inner) (Refused Missing left) me a b c d more rest ab cd (inr shown) = inr (shown_within more rest ab cd shown)
 called_within (ListIn inner) (Refused error left) me a b c d more rest ab cd called = tt
 called_within (ListIn inner) reply me a b c d more rest ab cd called = tt
 called_within request reply me a b c d more rest ab cd called = tt
 
 -- where the folder stood there before
-module _ (spot : Spot) (me : ℕ) (old mid before new first rest : List Event) (begins : mid ≡ old ++ first) (ends : new ≡ before ++ rest) (stood : AtOwnStep me old new (λ s. stands s.namespace spot ≡ true)) where
-  stood_called : (request : Request) (reply : Reply) → IsCalledFor spot request reply me mid before → WasCalledFor request reply me old new
-  stood_called (ListIn inner) (Refused Missing left) (inl root) =
-      let at : inner.spot ≡ spot = ap (λ (i : Inner). i.spot) root in
-      inl (root ∙ ap root_of (sym at), subst (λ (x : Spot). AtOwnStep me old new (λ s. stands s.namespace x ≡ true)) (sym at) stood)
-  stood_called (ListIn inner) (Refused Missing left) (inr shown) = inr (shown_within first rest begins ends shown)
-  stood_called (ListIn inner) (Refused error left) called = tt
-  stood_called (ListIn inner) reply called = tt
-  stood_called request reply called = tt
+module _ (spot : Spot) (me : ℕ) (old mid before new first : List Event) (begins : mid ≡ old ++ first) (stood : AtOwnStep me old mid (λ s. stands s.namespace spot ≡ true)) where
+  stood_called : (request : Request) (reply : Reply) → IsCalledFor spot request reply me mid before → CallStep me before request reply new → WasCalledFor request reply me old new
+  stood_called (ListIn inner) (Refused Missing left) (inl root) last =
+      let at : inner.spot ≡ spot = ap (λ (i : Inner). i.spot) root.0 in
+      let whole : inner ≡ root_of inner.spot = root.0 ∙ ap root_of (sym at) in
+      inl (
+        whole,
+        record {
+          between = mid;
+          before = before;
+          after = new;
+          rest = [];
+          left = left;
+          stood = subst (λ (x : Spot). AtOwnStep me old mid (λ s. stands s.namespace x ≡ true)) (sym at) stood;
+          spared = root.1;
+          missed = subst (λ (i : Inner). CallStep me before (ListIn i) (Refused Missing left) new) whole last;
+          ends = sym (append-nil new);
+        },
+      )
+  stood_called (ListIn inner) (Refused Missing left) (inr shown) last =
+      let grown = step_extends (λ r. true) me before (ListIn inner) (Refused Missing left) new refl last in
+      inr (shown_within first grown.more begins grown.grown shown)
+  stood_called (ListIn inner) (Refused error left) called last = tt
+  stood_called (ListIn inner) reply called last = tt
+  stood_called request reply called last = tt
 
-pub stray_called : {spot : Spot} {me : ℕ} {mid new : List Event} (old first : List Event) → mid ≡ old ++ first → AtOwnStep me old new (λ s. stands s.namespace spot ≡ true) → (w : WasStray spot me mid new) → WasCalledFor w.request w.reply me old new
-stray_called {spot} {me} {mid} {new} old first begins stood w =
-    let last = step_extends (λ r. true) me w.before w.request w.reply new refl w.last in
-    stood_called spot me old mid w.before new first last.more begins last.grown stood w.request w.reply w.called
+pub stray_called : {spot : Spot} {me : ℕ} {mid new : List Event} (old first : List Event) → mid ≡ old ++ first → AtOwnStep me old mid (λ s. stands s.namespace spot ≡ true) → (w : WasStray spot me mid new) → WasCalledFor w.request w.reply me old new
+stray_called {spot} {me} {mid} {new} old first begins stood w = stood_called spot me old mid w.before new first begins stood w.request w.reply w.called w.last

@@ -90,21 +90,44 @@ pub record WasShown (inner : Inner) (me : ℕ) (old new : List Event) : Type 0 w
   pub own : is_foreign me step ≡ false
   pub showed : shows_dir inner step.request step.reply ≡ true
 
--- a directory that was missing when it was listed is the folder itself, or a listing had shown it
+-- no folder is removed
+abbrev pub spares_folders : Request → Bool
+spares_folders (RemoveFolder spot) = false
+spares_folders request = true
+
+-- a directory that was missing when it was listed is the folder itself, which this process hadn't removed, or a listing had
+-- shown it
 abbrev pub IsCalledFor : Spot → Request → Reply → ℕ → List Event → List Event → Type 0
-IsCalledFor spot (ListIn inner) (Refused Missing left) me old new = (inner ≡ root_of spot) ⊎ WasShown inner me old new
+IsCalledFor spot (ListIn inner) (Refused Missing left) me old new = ((inner ≡ root_of spot) × Extends spares_folders me old new) ⊎ WasShown inner me old new
 IsCalledFor spot request reply me old new = Unit {0}
 
--- that, and the folder itself had stood there at an own step
+-- a folder stood there at an own step, and after that this process asked for no removal of a folder, until it was missing
+pub record WentUnasked (spot : Spot) (me : ℕ) (old new : List Event) : Type 0 where
+  pub between : List Event
+  pub before : List Event
+  pub after : List Event
+  pub rest : List Event
+  pub left : ℕ
+  pub stood : AtOwnStep me old between (λ s. stands s.namespace spot ≡ true)
+  pub spared : Extends spares_folders me between before
+  pub missed : CallStep me before (ListIn (root_of spot)) (Refused Missing left) after
+  pub ends : new ≡ after ++ rest
+
+-- it is so of a listing of what was missing
 abbrev pub WasCalledFor : Request → Reply → ℕ → List Event → List Event → Type 0
-WasCalledFor (ListIn inner) (Refused Missing left) me old new = ((inner ≡ root_of inner.spot) × AtOwnStep me old new (λ s. stands s.namespace inner.spot ≡ true)) ⊎ WasShown inner me old new
+WasCalledFor (ListIn inner) (Refused Missing left) me old new = ((inner ≡ root_of inner.spot) × WentUnasked inner.spot me old new) ⊎ WasShown inner me old new
 WasCalledFor request reply me old new = Unit {0}
+
+-- listings at this spot
+abbrev pub lists_at : Spot → Request → Bool
+lists_at spot (ListIn inner) = spot_eq inner.spot spot
+lists_at spot request = false
 
 -- its last step was a listing of this directory that was answered so
 pub record ListsStray (inner : Inner) (me : ℕ) (old new : List Event) : Type 0 where
   pub before : List Event
   pub reply : Reply
-  pub first : Extends (deletes_at inner.spot) me old before
+  pub first : Extends (lists_at inner.spot) me old before
   pub stray : is_stray (ListIn inner) reply ≡ true
   pub last : CallStep me before (ListIn inner) reply new
 
@@ -119,9 +142,15 @@ pub record WasStray (spot : Spot) (me : ℕ) (old new : List Event) : Type 0 whe
   pub called : IsCalledFor spot request reply me old before
   pub last : CallStep me before request reply new
 
+-- its one step was the task's removal, which was answered so
+pub record RemovesStray (spot : Spot) (t : Task) (me : ℕ) (old new : List Event) : Type 0 where
+  pub reply : Reply
+  pub stray : is_stray (removal_of spot t) reply ≡ true
+  pub last : CallStep me old (removal_of spot t) reply new
+
 -- of a task's turn: it was listed, or removed
 abbrev pub StrayTurn : Spot → Task → ℕ → List Event → List Event → Type 0
-StrayTurn spot t me old new = ((is_unlisted t ≡ true) × ListsStray (task_inner spot t) me old new) ⊎ WasStray spot me old new
+StrayTurn spot t me old new = ((is_unlisted t ≡ true) × ListsStray (task_inner spot t) me old new) ⊎ RemovesStray spot t me old new
 
 -- each task that is a directory to be listed was shown between these moments
 abbrev pub WasTaskShown : Spot → ℕ → List Event → List Event → Task → Type 0

@@ -8,7 +8,7 @@ ghost use Rattle.dir_trait.specs.DirCalls.{DirCall, ExtendsBy};
 ghost use Rattle.dir_model.specs.declared.request.Reply.TheVariants.{Done};
 ghost use Rattle.folder_removal.specs.Tasks.{HasChildren};
 ghost use Rattle.folder_removal.specs.Weights.{weigh};
-ghost use Rattle.folder_removal.specs.Removal.{is_removal_area, deletes_at, inner_at, removal_of, ListsStray, StrayTurn, AreShown, ShownThen, StrayAfter, EndsStray, EndsRemoved};
+ghost use Rattle.folder_removal.specs.Removal.{is_removal_area, deletes_at, inner_at, removal_of, ListsStray, RemovesStray, StrayTurn, AreShown, ShownThen, StrayAfter, EndsStray, EndsRemoved};
 ghost use Rattle.folder_removal.specs.Known.{Learns, IsListed, OnlyLists, OnlyRemoves, OnlyWorks, WorksOff, OnlyTries, Deletes};
 
 use crate::error::{DeleteError, delete_error};
@@ -68,7 +68,7 @@ fn remove<D: Dir>(alloc: Global, dir: &mut D, spot: &Spot, task: &Task) -> Resul
     ensures cause { IsErrOf result DeleteError.DirFault → Rose (D.shown dir.old).faults (D.shown dir.new).faults }
     ensures local { (D.shown dir.new).local ≡ (D.shown dir.old).local }
     ensures extends { D.observed ≡ true → ExtendsBy (deletes_at spot.now) (D.shown dir.old) (D.shown dir.new) }
-    ensures stray { IsErrOf result DeleteError.Stray → D.observed ≡ true → EndsStray spot.now (D.shown dir.old) (D.shown dir.new) }
+    ensures stray { IsErrOf result DeleteError.Stray → D.observed ≡ true → RemovesStray spot.now task.now (D.shown dir.old).process (D.shown dir.old).trace (D.shown dir.new).trace }
     ensures known { D.observed ≡ true → OnlyRemoves spot.now task.now (D.shown dir.old) (D.shown dir.new) }
     ensures removed { IfOk result (λ done. D.observed ≡ true → Learns (removal_of spot.now task.now) Done (D.shown dir.old) (D.shown dir.new)) }
 {

@@ -46,8 +46,7 @@ use Rattle.phase_read.specs.Read.{pod_spot}
 use Rattle.pod_claim.specs.Holding.{is_on_folder}
 use Rattle.pod_claim.proofs.Seen.{off}
 use Rattle.pod_claim.specs.Work.{Grew}
-use Rattle.pod_claim.proofs.Times.{at_part}
-use Rattle.pod_claim.proofs.Traces.{grown_none, grown_by, deeds_after, one_deed}
+use Rattle.pod_claim.proofs.Traces.{grown_by, deeds_after, one_deed}
 use Rattle.pod_steps.specs.declared.setback.Setback.{Setback}
 use Rattle.pod_steps.specs.declared.setback.Setback.TheVariants as stop
 use Rattle.pod_steps.specs.Setbacks.{delete_setback}
@@ -145,12 +144,11 @@ stood_stops {observed} {pod} {Missed} {spot} {s} {old} {mid} {new} same faults g
   manifest = λ is. apart stop.NoManifest is refl;
   stray = λ is t.
       let w = subst (λ (p : ℕ). removal.WasStray spot p mid.trace new.trace) same (x.stray is t) in
-      let all : Grew mid.trace new.trace = grown_by (and_call {asks = λ r. true} (extends_wider (λ r h. refl) w.first) refl refl w.last) in
       record {
         request = w.request;
         reply = w.reply;
         stray = stray_is w.request w.reply w.stray;
-        called = stray_called old.trace (grown t).more (grown t).grown (at_part grown_none refl all (stood t)) w;
+        called = stray_called old.trace (grown t).more (grown t).grown (stood t) w;
         did = deeds_after (grown t) (deeds_after (grown_by w.first) (one_deed w.last));
       };
 }
