@@ -7,6 +7,7 @@ use Rattle.dir_model.specs.declared.spot.Mode.TheVariants.{Shared}
 use Rattle.dir_model.specs.Areas.{rank}
 use Rattle.dir_model.specs.Causes.{Rose}
 use Rattle.dir_model.proofs.Lists.{same_self}
+use Rattle.dir_rules.specs.Standing.{is_in}
 use Rattle.dir_trait.specs.DirCalls.{DirAt, HeldBetween}
 use Rattle.ac_types.specs.declared.store_key.StoreKey.{StoreKey}
 use Rattle.tree_digest.specs.declared.line.ListingLine.{ListingLine}
