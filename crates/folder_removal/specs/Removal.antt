@@ -1,10 +1,11 @@
 -- What deleting a folder asks for.
-use Rattle.std.specs.Prelude.{◌≡◌, ℕ, Bool, true, false, List}
-use Rattle.std.specs.List.{list_any}
+use Rattle.std.specs.Prelude.{◌≡◌, ◌⊎◌, ℕ, Bool, true, false, ◌&&◌, bytes_eq, List, [], ◌∷◌, ◌++◌}
+use Rattle.std.specs.List.{list_any, AllByRecursion}
 use Rattle.dir_model.specs.declared.area.Area.{Area}
 use Rattle.dir_model.specs.declared.area.Area.TheVariants.{ExitedGarbage, Garbage, Removed}
 use Rattle.dir_model.specs.declared.event.Event.{Event}
 use Rattle.dir_model.specs.declared.item.Inner.{Inner}
+use Rattle.dir_model.specs.declared.item.Item.{Item}
 use Rattle.dir_model.specs.declared.item.ItemKind.{ItemKind}
 use Rattle.dir_model.specs.declared.item.ItemKind.TheVariants as item
 use Rattle.dir_model.specs.declared.spot.Spot.{Spot}
@@ -13,11 +14,13 @@ use Rattle.dir_model.specs.declared.request.Request.TheVariants.{ListIn, RemoveF
 use Rattle.dir_model.specs.declared.request.DirError.TheVariants.{Missing, NotEmpty}
 use Rattle.dir_model.specs.declared.request.Reply.{Reply}
 use Rattle.dir_model.specs.declared.request.Reply.TheVariants.{Done, Items, Refused}
-use Rattle.dir_trait.specs.State.{spot_eq}
-use Rattle.dir_trait.specs.Calls.{CallStep, Extends}
+use Rattle.dir_trait.specs.State.{spot_eq, stands}
+use Rattle.dir_trait.specs.Calls.{CallStep, Extends, AtOwnStep, is_foreign}
+use Rattle.dir_rules.specs.Marks.{path_in}
+use Rattle.dir_rules.specs.Rules.{root_of}
 use Rattle.dir_trait.specs.DirCalls.{DirAt}
 use Rattle.folder_removal.specs.declared.task.Task.{Task}
-use Rattle.folder_removal.specs.Tasks.{is_too_long}
+use Rattle.folder_removal.specs.Tasks.{is_too_long, is_dir_item, is_unlisted}
 
 -- where folders are deleted
 abbrev pub is_removal_area : Area → Bool
@@ -34,8 +37,11 @@ deletes_at spot (RemoveDirIn inner) = spot_eq inner.spot spot
 deletes_at spot (RemoveFolder at) = spot_eq at spot
 deletes_at spot _ = false
 
+abbrev pub inner_at : Spot → List ℕ → Inner
+inner_at spot path = record { spot = spot; path = path }
+
 abbrev pub task_inner : Spot → Task → Inner
-task_inner spot t = record { spot = spot; path = t.path }
+task_inner spot t = inner_at spot t.path
 
 -- the call for its kind
 abbrev pub removal_by : ItemKind → Inner → Request
@@ -65,7 +71,67 @@ is_stray (RemoveFolder spot) (Refused Missing left) = true
 is_stray (RemoveFolder spot) (Refused NotEmpty left) = true
 is_stray _ _ = false
 
--- its last step was answered so
+-- a listing of its directory showed a directory at this path
+abbrev pub is_dir_named : List ℕ → List ℕ → Item → Bool
+is_dir_named directory path i = is_dir_item i.kind && bytes_eq (path_in directory i.name) path
+
+abbrev pub shows_dir : Inner → Request → Reply → Bool
+shows_dir inner (ListIn at) (Items items) = spot_eq at.spot inner.spot && list_any (is_dir_named at.path inner.path) items
+shows_dir inner request reply = false
+
+-- an own listing between these moments showed it
+pub record WasShown (inner : Inner) (me : ℕ) (old new : List Event) : Type 0 where
+  pub before : List Event
+  pub step : Event
+  pub later : List Event
+  pub rest : List Event
+  pub begins : before ≡ old ++ later
+  pub ends : new ≡ (before ++ step ∷ []) ++ rest
+  pub own : is_foreign me step ≡ false
+  pub showed : shows_dir inner step.request step.reply ≡ true
+
+-- no folder is removed
+abbrev pub spares_folders : Request → Bool
+spares_folders (RemoveFolder spot) = false
+spares_folders request = true
+
+-- a directory that was missing when it was listed is the folder itself, which this process hadn't removed, or a listing had
+-- shown it
+abbrev pub IsCalledFor : Spot → Request → Reply → ℕ → List Event → List Event → Type 0
+IsCalledFor spot (ListIn inner) (Refused Missing left) me old new = ((inner ≡ root_of spot) × Extends spares_folders me old new) ⊎ WasShown inner me old new
+IsCalledFor spot request reply me old new = Unit {0}
+
+-- a folder stood there at an own step, and after that this process asked for no removal of a folder, until it was missing
+pub record WentUnasked (spot : Spot) (me : ℕ) (old new : List Event) : Type 0 where
+  pub between : List Event
+  pub before : List Event
+  pub after : List Event
+  pub rest : List Event
+  pub left : ℕ
+  pub stood : AtOwnStep me old between (λ s. stands s.namespace spot ≡ true)
+  pub spared : Extends spares_folders me between before
+  pub missed : CallStep me before (ListIn (root_of spot)) (Refused Missing left) after
+  pub ends : new ≡ after ++ rest
+
+-- it is so of a listing of what was missing
+abbrev pub WasCalledFor : Request → Reply → ℕ → List Event → List Event → Type 0
+WasCalledFor (ListIn inner) (Refused Missing left) me old new = ((inner ≡ root_of inner.spot) × WentUnasked inner.spot me old new) ⊎ WasShown inner me old new
+WasCalledFor request reply me old new = Unit {0}
+
+-- listings at this spot
+abbrev pub lists_at : Spot → Request → Bool
+lists_at spot (ListIn inner) = spot_eq inner.spot spot
+lists_at spot request = false
+
+-- its last step was a listing of this directory that was answered so
+pub record ListsStray (inner : Inner) (me : ℕ) (old new : List Event) : Type 0 where
+  pub before : List Event
+  pub reply : Reply
+  pub first : Extends (lists_at inner.spot) me old before
+  pub stray : is_stray (ListIn inner) reply ≡ true
+  pub last : CallStep me before (ListIn inner) reply new
+
+-- its last step was answered so, and no directory was listed that none had shown
 pub record WasStray (spot : Spot) (me : ℕ) (old new : List Event) : Type 0 where
   pub before : List Event
   pub request : Request
@@ -73,7 +139,33 @@ pub record WasStray (spot : Spot) (me : ℕ) (old new : List Event) : Type 0 whe
   pub first : Extends (deletes_at spot) me old before
   pub asked : deletes_at spot request ≡ true
   pub stray : is_stray request reply ≡ true
+  pub called : IsCalledFor spot request reply me old before
   pub last : CallStep me before request reply new
+
+-- its one step was the task's removal, which was answered so
+pub record RemovesStray (spot : Spot) (t : Task) (me : ℕ) (old new : List Event) : Type 0 where
+  pub reply : Reply
+  pub stray : is_stray (removal_of spot t) reply ≡ true
+  pub last : CallStep me old (removal_of spot t) reply new
+
+-- of a task's turn: it was listed, or removed
+abbrev pub StrayTurn : Spot → Task → ℕ → List Event → List Event → Type 0
+StrayTurn spot t me old new = ((is_unlisted t ≡ true) × ListsStray (task_inner spot t) me old new) ⊎ RemovesStray spot t me old new
+
+-- each task that is a directory to be listed was shown between these moments
+abbrev pub WasTaskShown : Spot → ℕ → List Event → List Event → Task → Type 0
+WasTaskShown spot me old new t = is_unlisted t ≡ true → WasShown (task_inner spot t) me old new
+
+abbrev pub AreShown : Spot → List Task → ℕ → List Event → List Event → Type 0
+AreShown spot tasks me old new = AllByRecursion (WasTaskShown spot me old new) tasks
+
+-- where the tasks were shown since some moment, its last step was answered so after that
+abbrev pub StrayAfter : Spot → List Task → DirAt → DirAt → Type 0
+StrayAfter spot tasks old new = (start : List Event) → Extends (deletes_at spot) old.process start old.trace → AreShown spot tasks old.process start old.trace → WasStray spot old.process start new.trace
+
+-- where some tasks were shown since some moment, these are then
+abbrev pub ShownThen : Spot → List Task → List Task → DirAt → DirAt → Type 0
+ShownThen spot tasks left old new = (start : List Event) → Extends (deletes_at spot) old.process start old.trace → AreShown spot tasks old.process start old.trace → AreShown spot left old.process start new.trace
 
 abbrev pub EndsStray : Spot → DirAt → DirAt → Type 0
 EndsStray spot old new = WasStray spot old.process old.trace new.trace

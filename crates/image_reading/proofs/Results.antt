@@ -2,8 +2,10 @@
 use Rattle.std.proofs.Common.{◌≡◌, ℕ, List, Result, Ok, Err, refl, sym, subst}
 use Rattle.std.specs.Prelude.{IfOk, IfErr, MatchResult}
 use Rattle.image_reading.specs.declared.error.StoreError.{StoreError}
-use Rattle.image_reading.specs.declared.error.StoreError.TheVariants.{Damaged, DirFault, NoMemory}
-use Rattle.image_reading.specs.Refusals.{IsOutside, IsReadRefusal, IsDamage, IsDamaged}
+use Rattle.image_reading.specs.declared.error.StoreError.TheVariants.{Damaged, NoImage, DirFault, NoMemory}
+use Rattle.ac_types.specs.declared.store_key.StoreKey.{StoreKey}
+use Rattle.image_reading.specs.Places.{stored_path, tree_name}
+use Rattle.image_reading.specs.Refusals.{IsOutside, IsReadRefusal, IsDamage, IsDamaged, IsTreeRefusal}
 
 pub if_ok : {A E : Type 0} (P Q : A → Type 0) (r : Result A E) → ((a : A) → P a → Q a) → IfOk r P → IfOk r Q
 if_ok P Q (Ok a) f h = f a h
@@ -61,3 +63,14 @@ err_same Q r (Err e) f h = subst (λ x. IfErr x Q) (f e refl) h
 pub err_both : {A E : Type 0} (P Q R : E → Type 0) (r : Result A E) → ((e : E) → P e → Q e → R e) → IfErr r P → IfErr r Q → IfErr r R
 err_both P Q R (Ok a) f p q = tt
 err_both P Q R (Err e) f p q = f e p q
+
+-- a read of an image's listing is refused so where a folder of the image stands there
+pub read_tree_refusal : (key : StoreKey) (e : StoreError) → IsReadRefusal (λ path. path ≡ stored_path key tree_name) e → IsTreeRefusal key e
+read_tree_refusal key (Damaged path) is = is
+read_tree_refusal key DirFault is = tt
+read_tree_refusal key NoMemory is = tt
+read_tree_refusal key e is = absurd is
+
+pub no_tree_missing : {A : Type 0} (key other : StoreKey) (r : Result A StoreError) → r ≡ Err (NoImage other) → IfErr r (IsReadRefusal (λ path. path ≡ stored_path key tree_name)) → ⊥
+no_tree_missing key other (Ok a) is h = cc
+no_tree_missing key other (Err e) is h = let same : e ≡ NoImage other = cc in subst (λ (x : StoreError). IsReadRefusal (λ path. path ≡ stored_path key tree_name) x) same h

@@ -11,7 +11,7 @@ use Rattle.image_reading.specs.Places.{key_of, keys_among}
 use Rattle.image_reading.specs.declared.error.StoreError.{StoreError}
 use Rattle.image_reading.specs.Looks.{OnlyReadsImages}
 use Rattle.image_reading.specs.Images.{ReadsImage}
-use Rattle.image_reading.specs.Store.{keys, AddsImage, AreRead, LacksStore}
+use Rattle.image_reading.specs.Store.{keys, AddsImage, AreRead, LacksNamed, LacksFirst}
 use Rattle.image_reading.proofs.Images.{image_after, image_before, image_lack_after}
 
 pub are_start : (names : List (List ℕ)) (images : List Stored) {d : DirAt} → names ≡ [] → images ≡ [] → AreRead names images d d
@@ -45,5 +45,30 @@ module _ {observed : Bool} (t : observed ≡ true) (names : List (List ℕ)) (im
       each = subst (λ (xs : List Stored). AllByRecursion (λ x. ReadsImage x a c) xs) (sym added.1) (all_both (λ x. ReadsImage x a c) images (added.0 ∷ []) each_later (image_after t ab added.3, tt));
     }
 
-pub store_lack_after : {observed : Bool} (e : StoreError) {a b : DirAt} (c : DirAt) → observed ≡ true → OnlyReadsImages observed a b → LacksStore e b c → LacksStore e a c
-store_lack_after e c t ab l = λ damaged. let x = l damaged in (x.0, image_lack_after t x.0 e c ab x.1)
+module _ {observed : Bool} (t : observed ≡ true) {a b c : DirAt} (ab : OnlyReadsImages observed a b) where
+  -- those before it were read, and the next one isn't whole
+  pub lacks_next : (names done rest : List (List ℕ)) (name : List ℕ) (images : List Stored) → names ≡ done ++ name ∷ rest → AreRead done images a b → OnlyReadsImages observed b c
+      → (o : Option StoreKey) → o ≡ key_of name → (e : StoreError) → LacksNamed o e b c → LacksFirst names e a c
+  lacks_next names done rest name images grown r bc None is e l = absurd l
+  lacks_next names done rest name images grown r bc (Some key) is e l = record {
+    before = images;
+    key = key;
+    after = keys_among rest;
+    is =
+        ap keys_among grown
+        ∙ (filter_map-append key_of done (name ∷ rest)
+        ∙ (ap (λ (ks : List StoreKey). ks ++ keys_among (name ∷ rest)) (sym r.of_names)
+        ∙ ap (λ (o : Option StoreKey). keys images ++ cons_option o (keys_among rest)) (sym is)));
+    earlier = all_weaker (λ x. ReadsImage x a b) (λ x. ReadsImage x a c) (λ x h. image_before t h bc) images r.each;
+    lacks = image_lack_after t key e c ab l;
+  }
+
+  pub first_after : (names : List (List ℕ)) (e : StoreError) → LacksFirst names e b c → LacksFirst names e a c
+  first_after names e l = record {
+    before = l.before;
+    key = l.key;
+    after = l.after;
+    is = l.is;
+    earlier = all_weaker (λ x. ReadsImage x b c) (λ x. ReadsImage x a c) (λ x h. image_after t ab h) l.before l.earlier;
+    lacks = image_lack_after t l.key e c ab l.lacks;
+  }

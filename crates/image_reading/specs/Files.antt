@@ -17,7 +17,7 @@ use Rattle.dir_files.specs.Reads.{ReadsUp, WasMissing}
 use Rattle.dir_files.specs.Listed.{ShowsDirectoryBetween}
 use Rattle.image_reading.specs.declared.file.KeptManifest.{KeptManifest}
 use Rattle.image_reading.specs.Within.{Within}
-use Rattle.image_reading.specs.Places.{image_inner, manifest_name, id_name, tree_name, IsAbsent}
+use Rattle.image_reading.specs.Places.{image_inner, manifest_name, id_name, tree_name, IsAbsent, IsPresent}
 use Rattle.image_reading.specs.Marks.{imported_moments, IsGreatest}
 
 -- the bytes are those of the manifest
@@ -95,6 +95,10 @@ ReadsTree key lines old new = ReadsFile (image_inner key tree_name) most_of_tree
 
 abbrev pub LacksTree : StoreKey → DirAt → DirAt → Type 0
 LacksTree key old new = LacksFile (image_inner key tree_name) most_of_tree IsNoListing old new
+
+-- and a folder of the image stood there
+abbrev pub LacksStoredTree : StoreKey → DirAt → DirAt → Type 0
+LacksStoredTree key old new = HeldBetween old new (IsPresent key) × LacksTree key old new
 
 -- the folder was listed, and this holds of the moments of the marks that it showed
 pub record ShowsMarks (key : StoreKey) (P : List ℕ → Type 0) (old new : DirAt) : Type 0 where

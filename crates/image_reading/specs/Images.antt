@@ -10,6 +10,7 @@ use Rattle.image_reading.specs.declared.error.StoreError.{StoreError}
 use Rattle.image_reading.specs.declared.error.StoreError.TheVariants.{Damaged}
 use Rattle.image_reading.specs.declared.file.KeptManifest.{KeptManifest}
 use Rattle.image_reading.specs.Places.{stored_path, manifest_name, id_name, tree_name, mark_name, IsPresent}
+use Rattle.image_reading.specs.Refusals.{IsDamaged}
 use Rattle.image_reading.specs.Files.{ReadsKept, LacksManifest, ReadsManifest, ReadsId, LacksId, ReadsTree, LacksTree, ReadsMoment, LacksMoment}
 
 -- its files say what the image has
@@ -43,6 +44,10 @@ LacksImage key error old new = IsFirstLack key mark_name (LacksMoment key) error
 -- of what its digest is taken of, the third is its listing
 abbrev pub LacksDigest : StoreKey → StoreError → DirAt → DirAt → Type 0
 LacksDigest key error old new = IsFirstLack key tree_name (LacksTree key) error old new
+
+-- and a folder of the image stood there
+abbrev pub LacksStored : StoreKey → StoreError → DirAt → DirAt → Type 0
+LacksStored key error old new = IsDamaged error → HeldBetween old new (IsPresent key) × LacksDigest key error old new
 
 -- the digest is that of what the files hold
 pub record ReadsParts (key : StoreKey) (digest : List ℕ) (old new : DirAt) : Type 0 where

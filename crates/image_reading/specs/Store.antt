@@ -39,6 +39,27 @@ pub record ReadsStore (images : List Stored) (old new : DirAt) : Type 0 where
 abbrev pub IsStorePath : List ℕ → Type 0
 IsStorePath path = (key : StoreKey) × IsImagePath key path
 
--- where the error says that a file is damaged, some image lacks it
+-- the image of the key lacks what the error says; of no key nothing does
+abbrev pub LacksNamed : Option StoreKey → StoreError → DirAt → DirAt → Type 0
+LacksNamed None error old new = ⊥
+LacksNamed (Some key) error old new = LacksImage key error old new
+
+-- one of the images of the names lacks it, and it is the first: each of those before was read
+pub record LacksFirst (names : List (List ℕ)) (error : StoreError) (old new : DirAt) : Type 0 where
+  pub before : List Stored
+  pub key : StoreKey
+  pub after : List StoreKey
+  pub is : keys_among names ≡ keys before ++ key ∷ after
+  pub earlier : AllByRecursion (λ image. ReadsImage image old new) before
+  pub lacks : LacksImage key error old new
+
+-- the area was listed, its names in byte order, and the first image among them that isn't whole lacks it
+pub record LacksListed (error : StoreError) (old new : DirAt) : Type 0 where
+  pub names : List (List ℕ)
+  pub ordered : IsStrictlySortedBy (slice_cmp nat_cmp) names
+  pub shown : Within (λ first last. ShowsAreaBetween first last Images names) old new
+  pub first : LacksFirst names error old new
+
+-- where the error says that a file is damaged, it is so
 abbrev pub LacksStore : StoreError → DirAt → DirAt → Type 0
-LacksStore error old new = IsDamaged error → (key : StoreKey) × LacksImage key error old new
+LacksStore error old new = IsDamaged error → LacksListed error old new

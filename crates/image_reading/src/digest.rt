@@ -6,7 +6,7 @@ ghost use Rattle.dir_trait.specs.DirCalls.{HeldBetween};
 ghost use Rattle.image_reading.specs.Places.{IsAbsent};
 ghost use Rattle.image_reading.specs.Looks.{OnlyReadsImage};
 ghost use Rattle.image_reading.specs.Refusals.{IsReadRefusal, IsDigestPath};
-ghost use Rattle.image_reading.specs.Images.{ReadsParts, HasDigest, LacksDigest};
+ghost use Rattle.image_reading.specs.Images.{ReadsParts, HasDigest, LacksDigest, LacksStored};
 
 use crate::error::{StoreError, out_of_memory};
 use crate::file::{read_id, read_listing, read_manifest};
@@ -34,8 +34,8 @@ fn digest_of<D: Dir>(alloc: Global, dir: &mut D, key: StoreKey) -> Result<[u8; 6
 }
 
 /// The digest of an image of the store; none where no folder of that image stands there. `Damaged` where
-/// one of its files is missing or has no reading, in this order: its manifest, its ID, its listing;
-/// `DirFault` where the directory failed, `NoMemory` where memory ran out.
+/// one stands there, and one of its files is missing or has no reading, in this order: its manifest, its
+/// ID, its listing; `DirFault` where the directory failed, `NoMemory` where memory ran out.
 pub fn stored_digest<D: Dir>(
     alloc: Global,
     dir: &mut D,
@@ -47,7 +47,7 @@ pub fn stored_digest<D: Dir>(
     ensures refusals { IfErr result (IsReadRefusal (IsDigestPath key)) }
     ensures absent { result ≡ Ok None → D.observed ≡ true → HeldBetween (D.shown dir.old) (D.shown dir.new) (IsAbsent key) }
     ensures there { IfOk result (λ found. IfSome found (λ digest. D.observed ≡ true → HasDigest key digest (D.shown dir.old) (D.shown dir.new))) }
-    ensures damaged { IfErr result (λ e. D.observed ≡ true → LacksDigest key e (D.shown dir.old) (D.shown dir.new)) }
+    ensures damaged { IfErr result (λ e. D.observed ≡ true → LacksStored key e (D.shown dir.old) (D.shown dir.new)) }
 {
     if !is_there(alloc, dir, key)? {
         return Ok(None);

@@ -1,5 +1,5 @@
 // Why the store gives no answer.
-ghost use Rattle.std.specs.Prelude.{◌≡◌, true};
+ghost use Rattle.std.specs.Prelude.{◌≡◌, true, IfOk};
 ghost use Rattle.dir_model.specs.Replies.{is_fault};
 ghost use Rattle.image_reading.specs.Refusals.{IsOutside};
 
@@ -39,6 +39,29 @@ pub enum StoreError {
     NoMemory,
     /// The directory answered a change as if the folder weren't this process's own.
     Stray,
+}
+
+impl StoreError {
+    /// An equal error.
+    pub fn copy(&self) -> Result<StoreError, NoMemory>
+        ensures { IfOk result (λ copy. copy ≡ self.now) }
+    {
+        Ok(match self {
+            StoreError::NoFile(path) => StoreError::NoFile(path.copy()?),
+            StoreError::Fault(fault) => StoreError::Fault(fault.copy()?),
+            StoreError::BadId => StoreError::BadId,
+            StoreError::ListingError(error) => StoreError::ListingError(*error),
+            StoreError::BadKind(path) => StoreError::BadKind(path.copy()?),
+            StoreError::Busy(area) => StoreError::Busy(*area),
+            StoreError::Damaged(path) => StoreError::Damaged(path.copy()?),
+            StoreError::IdConflict(key, stored, new) => StoreError::IdConflict(*key, *stored, *new),
+            StoreError::NoImage(key) => StoreError::NoImage(*key),
+            StoreError::BundleFault => StoreError::BundleFault,
+            StoreError::DirFault => StoreError::DirFault,
+            StoreError::NoMemory => StoreError::NoMemory,
+            StoreError::Stray => StoreError::Stray,
+        })
+    }
 }
 
 pub(crate) fn out_of_memory(_error: NoMemory) -> StoreError

@@ -26,7 +26,7 @@ const MOST_OF_MANIFEST: usize = 1_048_577;
 const MOST_OF_ID: usize = 137;
 
 // One byte more than a listing may have.
-pub(crate) const MOST_OF_TREE: usize = 33_554_433;
+const MOST_OF_TREE: usize = 33_554_433;
 
 /// A manifest, and the bytes that it was read from.
 #[derive(Drop)]

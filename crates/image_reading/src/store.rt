@@ -7,15 +7,14 @@ ghost use Rattle.dir_trait.specs.DirCalls.{HeldBetween};
 ghost use Rattle.image_reading.specs.Places.{IsAbsent, key_of};
 ghost use Rattle.image_reading.specs.Looks.{OnlyReadsImage, OnlyReadsImages, HoldsImages, KnowsStill, KnowsStillNamed};
 ghost use Rattle.image_reading.specs.Refusals.{IsReadRefusal, IsTreeRefusal, IsDamaged};
-ghost use Rattle.image_reading.specs.Files.{ReadsTree, LacksTree};
-ghost use Rattle.image_reading.specs.Store.{AddsImage, AreRead, ReadsStore, IsStorePath, LacksStore};
+ghost use Rattle.image_reading.specs.Files.{ReadsTree, LacksStoredTree};
+ghost use Rattle.image_reading.specs.Store.{AddsImage, AreRead, ReadsStore, IsStorePath, LacksNamed, LacksFirst, LacksStore};
 
 use crate::error::{StoreError, fault_error, short_of_memory};
-use crate::file::{MOST_OF_TREE, read_part};
+use crate::file::read_listing;
 use crate::image::read_image;
 use crate::moment::is_there;
-use crate::place::{damaged, key_of};
-use crate::value::listing_of;
+use crate::place::key_of;
 use ac_types::StoreKey;
 use dep_match::Stored;
 use dir_files::names_of;
@@ -35,7 +34,7 @@ fn read_next<D: Dir>(
     ensures only { OnlyReadsImages D.observed (D.shown dir.old) (D.shown dir.new) }
     ensures refusals { IfErr result (IsReadRefusal IsStorePath) }
     ensures read { IfOk result (λ done. D.observed ≡ true → AddsImage (key_of name.now) images.old.items images.new.items (D.shown dir.old) (D.shown dir.new)) }
-    ensures damaged { IfErr result (λ e. D.observed ≡ true → LacksStore e (D.shown dir.old) (D.shown dir.new)) }
+    ensures damaged { IfErr result (λ e. IsDamaged e → D.observed ≡ true → LacksNamed (key_of name.now) e (D.shown dir.old) (D.shown dir.new)) }
 {
     let Some(key) = key_of(name) else {
         return Ok(());
@@ -53,7 +52,7 @@ fn read_each<D: Dir>(alloc: Global, dir: &mut D, names: &[Name]) -> Result<Vec<S
     ensures only { OnlyReadsImages D.observed (D.shown dir.old) (D.shown dir.new) }
     ensures refusals { IfErr result (IsReadRefusal IsStorePath) }
     ensures read { IfOk result (λ images. D.observed ≡ true → AreRead names.now images.items (D.shown dir.old) (D.shown dir.new)) }
-    ensures damaged { IfErr result (λ e. D.observed ≡ true → LacksStore e (D.shown dir.old) (D.shown dir.new)) }
+    ensures damaged { IfErr result (λ e. IsDamaged e → D.observed ≡ true → LacksFirst names.now e (D.shown dir.old) (D.shown dir.new)) }
 {
     let mut images = Vec::new(alloc);
     'names: for name in names {
@@ -63,8 +62,8 @@ fn read_each<D: Dir>(alloc: Global, dir: &mut D, names: &[Name]) -> Result<Vec<S
 }
 
 /// The images of the store, in the byte order of their keys: each of which a name in the area is the key's
-/// text. The handle holds the lock of the area. `Damaged` at the first image of which a part is missing or
-/// has no reading; `DirFault` where the directory failed, `NoMemory` where memory ran out.
+/// text. The handle holds the lock of the area. `Damaged` at the first image of those that the area's
+/// listing showed of which a part is missing or has no reading; `DirFault` where the directory failed, `NoMemory` where memory ran out.
 pub fn stored<D: Dir>(alloc: Global, dir: &mut D, gate: Handle) -> Result<Vec<Stored>, StoreError>
     requires active { IsActive (D.shown dir.old).local }
     requires held { HoldsImages (D.shown dir.old).local gate }
@@ -82,24 +81,9 @@ pub fn stored<D: Dir>(alloc: Global, dir: &mut D, gate: Handle) -> Result<Vec<St
     }
 }
 
-/// Why the listing of an image wasn't found.
-fn no_tree<D: Dir>(alloc: Global, dir: &mut D, key: StoreKey) -> StoreError
-    requires active { IsActive (D.shown dir.old).local }
-    ensures cause { result ≡ StoreError.DirFault → Rose (D.shown dir.old).faults (D.shown dir.new).faults }
-    ensures only { OnlyReadsImage D.observed key (D.shown dir.old) (D.shown dir.new) }
-    ensures refusals { IsTreeRefusal key result }
-    ensures absent { (other : StoreKey) → result ≡ StoreError.NoImage other → D.observed ≡ true → HeldBetween (D.shown dir.old) (D.shown dir.new) (IsAbsent key) }
-{
-    match is_there(alloc, dir, key) {
-        Ok(true) => damaged(alloc, key, "tree"),
-        Ok(false) => StoreError::NoImage(key),
-        Err(error) => error,
-    }
-}
-
-/// The listing of an image of the store. The handle holds the lock of the area. `NoImage` where the file
-/// `tree` is missing and no folder of that image stands there, `Damaged` where only the file is missing or
-/// where it is no listing; `DirFault` where the directory failed, `NoMemory` where memory ran out.
+/// The listing of an image of the store. The handle holds the lock of the area. `NoImage` where no folder
+/// of that image stands there; `Damaged` where one does, and its file `tree` is missing or is no listing;
+/// `DirFault` where the directory failed, `NoMemory` where memory ran out.
 pub fn read_tree<D: Dir>(
     alloc: Global,
     dir: &mut D,
@@ -113,13 +97,13 @@ pub fn read_tree<D: Dir>(
     ensures known { D.observed ≡ true → KnowsStill (D.shown dir.old) (D.shown dir.new) }
     ensures refusals { IfErr result (IsTreeRefusal key) }
     ensures read { IfOk result (λ lines. D.observed ≡ true → ReadsTree key lines (D.shown dir.old) (D.shown dir.new)) }
-    ensures damaged { IfErr result (λ e. IsDamaged e → D.observed ≡ true → LacksTree key (D.shown dir.old) (D.shown dir.new)) }
+    ensures damaged { IfErr result (λ e. IsDamaged e → D.observed ≡ true → LacksStoredTree key (D.shown dir.old) (D.shown dir.new)) }
     ensures absent { (other : StoreKey) → IsErrOf result (StoreError.NoImage other) → D.observed ≡ true → HeldBetween (D.shown dir.old) (D.shown dir.new) (IsAbsent key) }
 {
     let _gate = gate;
-    match read_part(alloc, dir, key, "tree", MOST_OF_TREE) {
-        Ok(Some(bytes)) => listing_of(alloc, key, &bytes),
-        Ok(None) => Err(no_tree(alloc, dir, key)),
+    match is_there(alloc, dir, key) {
+        Ok(true) => read_listing(alloc, dir, key),
+        Ok(false) => Err(StoreError::NoImage(key)),
         Err(error) => Err(error),
     }
 }

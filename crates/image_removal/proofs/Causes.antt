@@ -1,5 +1,5 @@
 -- What the refusals of the parts rest on.
-use Rattle.std.proofs.Common.{◌≡◌, ◌≤◌, ℕ, Bool, true, false, cond, Option, Some, None, is_some, List, Ok, IfOk, IfErr, refl, sym, ap, subst, ◌∙◌}
+use Rattle.std.proofs.Common.{◌≡◌, ◌≤◌, inl, inr, ℕ, Bool, true, false, cond, Option, Some, None, is_some, List, Ok, IfOk, IfErr, refl, sym, ap, subst, ◌∙◌}
 use Rattle.ac_types.specs.declared.store_key.StoreKey.{StoreKey}
 use Rattle.dir_model.specs.declared.area.Area.{Area}
 use Rattle.dir_model.specs.declared.area.Area.TheVariants.{Images}
@@ -14,12 +14,13 @@ use Rattle.dir_model.specs.declared.request.DirError.TheVariants as dir
 use Rattle.dir_model.specs.declared.request.Request.{Request}
 use Rattle.dir_model.specs.declared.request.Request.TheVariants.{MoveFolder, Open, ListArea}
 use Rattle.dir_model.specs.declared.request.Reply.{Reply}
-use Rattle.dir_model.specs.declared.request.Reply.TheVariants.{Refused}
+use Rattle.dir_model.specs.declared.request.Reply.TheVariants.{Done, Refused}
 use Rattle.dir_model.specs.Causes.{Rose}
 use Rattle.dir_model.specs.State.{folder_at, stands}
 use Rattle.dir_model.specs.Replies.{may_refuse, is_error}
 use Rattle.dir_model.specs.Calls.{CallStep, Extends}
 use Rattle.dir_model.proofs.Allowed.{allowed_reply}
+use Rattle.dir_model.proofs.Chains.{step_extends}
 use Rattle.dir_model.proofs.Moments.{missed, step_at}
 use Rattle.dir_trait.specs.DirCalls.{DirAt, DirCall, HeldBetween, ExtendsBy}
 use Rattle.area_locks.specs.declared.error.LockError.{LockError}
@@ -33,8 +34,9 @@ use Rattle.image_reading.specs.declared.error.StoreError.TheVariants.{Busy, NoIm
 use Rattle.image_reading.specs.Places.{image_spot, IsAbsent}
 use Rattle.image_removal.specs.Requests.{incoming_spot, removed_spot, away_spot, puts_away, is_stray_answer}
 use Rattle.image_removal.specs.Causes.{lock_refusal, lock_free, change_refusal, look_answer, move_refusal, delete_refusal, is_work_refusal}
-use Rattle.image_removal.specs.Causes.{is_fault_refusal, is_move_refusal, is_remove_refusal, WorkCause, WasTold, MoveCause, RemoveCause, BusyElsewhere}
-use Rattle.image_removal.proofs.Times.{Follows, rose_later, rose_still, called_self, called_after, stray_after, stray_before}
+use Rattle.image_removal.specs.Causes.{is_fault_refusal, is_move_refusal, is_remove_refusal, WasStray, WorkCause, WasTold, MoveCause, RemoveCause, BusyElsewhere}
+use Rattle.image_removal.specs.Calls.{Called}
+use Rattle.image_removal.proofs.Times.{Follows, rose_later, rose_still, called_self, called_after, called_before, due_of}
 
 -- a lock that wasn't had
 pub lock_removing : {observed : Bool} {key : StoreKey} {draw : PodId} {old new : DirAt} (e : LockError) → (e ≡ lock.DirFault → Rose old.faults new.faults)
@@ -109,7 +111,7 @@ module _ (name : List ℕ) where
   sweep_cause e may fault c = record {
     kind = work_kind e;
     fault = λ is. fault (work_fault e is);
-    stray = λ is t. record { request = Sweeps; reply = Refused e 0; stray = sweep_stray e may is; called = called_self (c.step t) };
+    stray = λ is t. record { request = Sweeps; reply = Refused e 0; stray = sweep_stray e may is; due = tt; called = called_self (c.step t) };
   }
 
 -- a listing of an area that was refused
@@ -161,7 +163,7 @@ module _ (key : StoreKey) (draw : PodId) where
   move_absent Locked other is = cc
   move_absent dir.NoMemory other is = cc
 
-  move_stray : (e : DirError) → may_refuse (puts_away key draw) e ≡ true → move_refusal key e ≡ Stray → is_stray_answer (puts_away key draw) (Refused e 0) ≡ true
+  move_stray : (e : DirError) → may_refuse (puts_away key draw) e ≡ true → move_refusal key e ≡ Stray → e ≡ Exists
   move_stray Exists may is = refl
   move_stray Missing may is = cc
   move_stray Failed may is = cc
@@ -177,7 +179,7 @@ module _ (key : StoreKey) (draw : PodId) where
     absent = λ other is.
         let b = move_absent e other is in
         (b.1, λ t. told_none (subst (λ (x : DirError). CallStep old.process old.trace (puts_away key draw) (Refused x 0) new.trace) b.0 (c.step t)));
-    stray = λ is t. record { request = puts_away key draw; reply = Refused e 0; stray = move_stray e may is; called = called_self (c.step t) };
+    stray = λ is t. called_self (subst (λ (x : DirError). CallStep old.process old.trace (puts_away key draw) (Refused x 0) new.trace) (move_stray e may is) (c.step t));
   }
 
   pub memory_cause : {observed : Bool} {old : DirAt} (e : StoreError) → e ≡ NoMemory → MoveCause observed key draw e old old
@@ -202,7 +204,7 @@ module _ (key : StoreKey) (draw : PodId) where
         last = subst (λ (me : ℕ). Extends (takes Images Exclusive) me c.trace d.trace) (bc_same ∙ ab_same) (cd t);
       },
     );
-    stray = λ is t. stray_after (ab t) ab_same (stray_before (m.stray is t) (cd t));
+    stray = λ is t. inl (called_after (ab t) ab_same (called_before (m.stray is t) (cd t)));
   }
     where
       kind : (e : StoreError) → is_move_refusal e ≡ true → is_remove_refusal e ≡ true
@@ -214,13 +216,13 @@ module _ (key : StoreKey) (draw : PodId) where
       kind e h = cc
 
   -- what came after the move
-  pub work_removing : {observed : Bool} {a b c : DirAt} (e : StoreError) → Follows observed a b → WorkCause observed e b c → RemoveCause observed key draw e a c
-  work_removing {observed} {a} {b} {c} e ab w = record {
+  pub work_removing : {observed : Bool} {a b c : DirAt} (e : StoreError) → Follows observed a b → (observed ≡ true → Called (puts_away key draw) Done a.process a.trace b.trace) → WorkCause observed e b c → RemoveCause observed key draw e a c
+  work_removing {observed} {a} {b} {c} e ab moved w = record {
     kind = kind e w.kind;
     fault = λ is. rose_later a.faults b.faults c.faults ab.faults (w.fault is);
     busy = λ area is. let clash : false ≡ true = sym (ap is_work_refusal is) ∙ w.kind in cc;
     absent = λ other is. let clash : false ≡ true = sym (ap is_work_refusal is) ∙ w.kind in cc;
-    stray = λ is t. stray_after (ab.extends t) ab.same (w.stray is t);
+    stray = λ is t. inr (record { between = b.trace; moved = moved t; stray = subst (λ (p : ℕ). WasStray p b.trace c.trace) ab.same (w.stray is t) });
   }
     where
       kind : (e : StoreError) → is_work_refusal e ≡ true → is_remove_refusal e ≡ true
@@ -243,7 +245,8 @@ delete_cause {observed} {old} {new} spot delete.Stray fault stray = record {
   fault = λ is. cc;
   stray = λ is t.
       let w = stray refl t in
-      record { request = w.request; reply = w.reply; stray = stray_more w.request w.reply w.stray; called = called_after w.first refl (called_self w.last) };
+      let last = step_extends (λ r. true) old.process w.before w.request w.reply new.trace refl w.last in
+      record { request = w.request; reply = w.reply; stray = stray_more w.request w.reply w.stray; due = due_of spot w.request w.reply old.process old.trace w.before new.trace last.more last.grown w.called; called = called_after w.first refl (called_self w.last) };
 }
 
 -- a look that found nothing

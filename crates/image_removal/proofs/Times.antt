@@ -1,15 +1,23 @@
 -- What came about in a part of a time came about in the whole.
-use Rattle.std.proofs.Common.{◌≡◌, ◌≤◌, ℕ, Bool, true, List, [], ◌++◌, sym, ap, subst, ◌∙◌, append-nil, append_assoc, arith}
+use Rattle.std.proofs.Common.{◌≡◌, ◌≤◌, inl, inr, ℕ, Bool, true, List, [], ◌++◌, sym, ap, subst, ◌∙◌, append-nil, append_assoc, arith}
 use Rattle.dir_model.specs.declared.event.Event.{Event}
 use Rattle.dir_model.specs.declared.request.Request.{Request}
+use Rattle.dir_model.specs.declared.request.Request.TheVariants.{ListIn}
+use Rattle.dir_model.specs.declared.request.DirError.TheVariants.{Missing}
 use Rattle.dir_model.specs.declared.request.Reply.{Reply}
+use Rattle.dir_model.specs.declared.request.Reply.TheVariants.{Refused}
+use Rattle.dir_model.specs.declared.item.Inner.{Inner}
+use Rattle.dir_model.specs.declared.spot.Spot.{Spot}
+use Rattle.dir_rules.specs.Rules.{root_of}
 use Rattle.dir_model.specs.Causes.{Rose}
 use Rattle.dir_model.specs.Calls.{CallStep, Extends}
 use Rattle.dir_trait.specs.DirCalls.{DirAt, ExtendsBy}
 use Rattle.folder_building.specs.Work.{Worked}
+use Rattle.folder_removal.specs.Removal.{IsCalledFor}
+use Rattle.folder_removal.proofs.Strays.{shown_within}
 use Rattle.image_reading.specs.declared.error.StoreError.{StoreError}
 use Rattle.image_removal.specs.Calls.{Called}
-use Rattle.image_removal.specs.Causes.{WasStray, WorkCause}
+use Rattle.image_removal.specs.Causes.{IsDue, WasStray, WorkCause}
 
 -- calls, whatever they leave open
 pub record Follows (observed : Bool) (old new : DirAt) : Type 0 where
@@ -57,12 +65,31 @@ called_before {asks} {request} {reply} {me} {other} {a} {b} {c} w bc = record {
   ends = bc.grown ∙ (ap (λ h. h ++ bc.more) w.ends ∙ append_assoc w.after w.later bc.more);
 }
 
+-- what a listing had shown before
+pub due_within : (request : Request) (reply : Reply) (me : ℕ) (a b c d more rest : List Event) → b ≡ a ++ more → d ≡ c ++ rest → IsDue request reply me b c → IsDue request reply me a d
+due_within (ListIn inner) (Refused Missing left) me a b c d more rest ab cd (inl root) = inl root
+due_within (ListIn inner) (Refused Missing left) me a b c d more rest ab cd (inr shown) = inr (shown_within more rest ab cd shown)
+due_within (ListIn inner) (Refused error left) me a b c d more rest ab cd due = tt
+due_within (ListIn inner) reply me a b c d more rest ab cd due = tt
+due_within request reply me a b c d more rest ab cd due = tt
+
+-- of a deletion's last step
+pub due_of : (spot : Spot) (request : Request) (reply : Reply) (me : ℕ) (old before new rest : List Event) → new ≡ before ++ rest → IsCalledFor spot request reply me old before → IsDue request reply me old new
+due_of spot (ListIn inner) (Refused Missing left) me old before new rest grown (inl root) = inl (root.0 ∙ ap root_of (sym (ap (λ (i : Inner). i.spot) root.0)))
+due_of spot (ListIn inner) (Refused Missing left) me old before new rest grown (inr shown) = inr (shown_within [] rest (sym (append-nil old)) grown shown)
+due_of spot (ListIn inner) (Refused error left) me old before new rest grown called = tt
+due_of spot (ListIn inner) reply me old before new rest grown called = tt
+due_of spot request reply me old before new rest grown called = tt
+
 -- a stray answer
 pub stray_after : {asks : Request → Bool} {me other : ℕ} {a b c : List Event} → Extends asks me a b → other ≡ me → WasStray other b c → WasStray me a c
-stray_after ab same w = record { request = w.request; reply = w.reply; stray = w.stray; called = called_after ab same w.called }
+stray_after {asks} {me} {other} {a} {b} {c} ab same w =
+    let due = subst (λ (p : ℕ). IsDue w.request w.reply p b c) same w.due in
+    record { request = w.request; reply = w.reply; stray = w.stray; due = due_within w.request w.reply me a b c c ab.more [] ab.grown (sym (append-nil c)) due; called = called_after ab same w.called }
 
 pub stray_before : {asks : Request → Bool} {me other : ℕ} {a b c : List Event} → WasStray me a b → Extends asks other b c → WasStray me a c
-stray_before w bc = record { request = w.request; reply = w.reply; stray = w.stray; called = called_before w.called bc }
+stray_before {asks} {me} {other} {a} {b} {c} w bc =
+    record { request = w.request; reply = w.reply; stray = w.stray; due = due_within w.request w.reply me a a b c [] bc.more (sym (append-nil a)) bc.grown w.due; called = called_before w.called bc }
 
 -- the cause of a refusal
 pub work_after : {observed : Bool} {e : StoreError} {a b c : DirAt} → Follows observed a b → WorkCause observed e b c → WorkCause observed e a c

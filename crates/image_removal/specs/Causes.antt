@@ -1,5 +1,5 @@
 -- Why an image isn't removed, or a sweep ends early.
-use Rattle.std.specs.Prelude.{◌≡◌, ℕ, Bool, true, false, List, Result, Ok, Err}
+use Rattle.std.specs.Prelude.{◌≡◌, ◌⊎◌, ℕ, Bool, true, false, List, Result, Ok, Err}
 use Rattle.ac_types.specs.declared.store_key.StoreKey.{StoreKey}
 use Rattle.dir_model.specs.declared.area.Area.{Area}
 use Rattle.dir_model.specs.declared.area.Area.TheVariants.{Images}
@@ -9,16 +9,19 @@ use Rattle.dir_model.specs.declared.spot.Mode.TheVariants.{Exclusive}
 use Rattle.dir_model.specs.declared.request.DirError.{DirError}
 use Rattle.dir_model.specs.declared.request.DirError.TheVariants as dir
 use Rattle.dir_model.specs.declared.request.Reply.{Reply}
-use Rattle.dir_model.specs.declared.request.Reply.TheVariants.{Refused}
+use Rattle.dir_model.specs.declared.request.Reply.TheVariants.{Done, Refused}
 use Rattle.dir_model.specs.declared.request.Request.{Request}
+use Rattle.dir_model.specs.declared.request.Request.TheVariants.{ListIn}
 use Rattle.dir_model.specs.Causes.{Rose}
 use Rattle.dir_model.specs.Calls.{CallStep, Extends, AtOwnStep}
+use Rattle.dir_rules.specs.Rules.{root_of}
 use Rattle.dir_trait.specs.DirCalls.{DirAt, HeldBetween, ExtendsBy}
 use Rattle.area_locks.specs.declared.error.LockError.{LockError}
 use Rattle.area_locks.specs.declared.error.LockError.TheVariants as lock
 use Rattle.area_locks.specs.AreaLocks.{takes, IsBusy, IsBusyElsewhere}
 use Rattle.folder_removal.specs.declared.error.DeleteError.{DeleteError}
 use Rattle.folder_removal.specs.declared.error.DeleteError.TheVariants as delete
+use Rattle.folder_removal.specs.Removal.{WasShown}
 use Rattle.image_reading.specs.declared.error.StoreError.{StoreError}
 use Rattle.image_reading.specs.declared.error.StoreError.TheVariants.{Busy, NoImage, DirFault, NoMemory, Stray}
 use Rattle.image_reading.specs.Places.{IsAbsent}
@@ -79,11 +82,17 @@ abbrev pub is_remove_refusal : StoreError → Bool
 is_remove_refusal (Busy area) = true
 is_remove_refusal error = is_move_refusal error
 
+-- where it was a listing of what was missing, it was one of the folder itself, or of a directory that a listing had shown
+abbrev pub IsDue : Request → Reply → ℕ → List Event → List Event → Type 0
+IsDue (ListIn inner) (Refused dir.Missing left) me old new = (inner ≡ root_of inner.spot) ⊎ WasShown inner me old new
+IsDue request reply me old new = Unit {0}
+
 -- an own step was answered as what the locks keep doesn't explain
 pub record WasStray (me : ℕ) (old new : List Event) : Type 0 where
   pub request : Request
   pub reply : Reply
   pub stray : is_stray_answer request reply ≡ true
+  pub due : IsDue request reply me old new
   pub called : Called request reply me old new
 
 abbrev pub WasStrayBetween : DirAt → DirAt → Type 0
@@ -100,12 +109,25 @@ pub record WasTold (key : StoreKey) (draw : PodId) (me : ℕ) (old new : List Ev
   pub told : CallStep me old (puts_away key draw) (Refused dir.Missing 0) new
   pub absent : AtOwnStep me old new (IsAbsent key)
 
+-- its own move met another folder
+abbrev pub MetAnother : StoreKey → PodId → ℕ → List Event → List Event → Type 0
+MetAnother key draw me old new = Called (puts_away key draw) (Refused dir.Exists 0) me old new
+
+-- or the move was answered Ok, and a step after it so
+pub record MovedThenStray (key : StoreKey) (draw : PodId) (me : ℕ) (old new : List Event) : Type 0 where
+  pub between : List Event
+  pub moved : Called (puts_away key draw) Done me old between
+  pub stray : WasStray me between new
+
+abbrev pub StrayRemoval : StoreKey → PodId → ℕ → List Event → List Event → Type 0
+StrayRemoval key draw me old new = MetAnother key draw me old new ⊎ MovedThenStray key draw me old new
+
 -- why an image wasn't moved
 pub record MoveCause (observed : Bool) (key : StoreKey) (draw : PodId) (error : StoreError) (old new : DirAt) : Type 0 where
   pub kind : is_move_refusal error ≡ true
   pub fault : error ≡ DirFault → Rose old.faults new.faults
   pub absent : (other : StoreKey) → error ≡ NoImage other → (other ≡ key) × (observed ≡ true → WasTold key draw old.process old.trace new.trace)
-  pub stray : error ≡ Stray → observed ≡ true → WasStrayBetween old new
+  pub stray : error ≡ Stray → observed ≡ true → MetAnother key draw old.process old.trace new.trace
 
 -- some handle held the lock of images at an own step, and nothing but that lock was asked for
 pub record WasBusy (old new : DirAt) : Type 0 where
@@ -129,7 +151,7 @@ pub record RemoveCause (observed : Bool) (key : StoreKey) (draw : PodId) (error 
   pub fault : error ≡ DirFault → Rose old.faults new.faults
   pub busy : (area : Area) → error ≡ Busy area → (area ≡ Images) × (observed ≡ true → WasBusy old new)
   pub absent : (other : StoreKey) → error ≡ NoImage other → (other ≡ key) × (observed ≡ true → FoundNoneBetween key draw old new)
-  pub stray : error ≡ Stray → observed ≡ true → WasStrayBetween old new
+  pub stray : error ≡ Stray → observed ≡ true → StrayRemoval key draw old.process old.trace new.trace
 
 -- where the lock of an area was refused, a handle of another process held it
 abbrev pub BusyElsewhere : StoreError → DirAt → DirAt → Type 0

@@ -2,16 +2,20 @@
 use Rattle.std.proofs.Common.{◌≡◌, ◌≢◌, inl, inr, ℕ, Bool, true, false, Option, List, refl, sym, ap, subst, ◌∙◌}
 use Rattle.std.specs.Borrow.{GName}
 use Rattle.dir_model.specs.declared.area.Area.{Area}
+use Rattle.dir_model.specs.declared.area.Area.TheVariants.{Images, Incoming}
 use Rattle.dir_model.specs.declared.spot.Mode.TheVariants.{Shared}
 use Rattle.dir_model.specs.Areas.{rank}
 use Rattle.dir_model.specs.Causes.{Rose}
 use Rattle.dir_model.proofs.Lists.{same_self}
+use Rattle.dir_rules.specs.Standing.{is_in}
 use Rattle.dir_trait.specs.DirCalls.{DirAt, HeldBetween}
 use Rattle.ac_types.specs.declared.store_key.StoreKey.{StoreKey}
 use Rattle.tree_digest.specs.declared.line.ListingLine.{ListingLine}
 use Rattle.area_locks.specs.declared.error.LockError.{LockError}
 use Rattle.area_locks.specs.declared.error.LockError.TheVariants as lock
 use Rattle.area_locks.specs.AreaLocks.{IsBusy, IsBusyElsewhere}
+use Rattle.bundle_image.specs.declared.refusal.BundleRefusal.{BundleRefusal}
+use Rattle.bundle_image.specs.declared.refusal.BundleRefusal.TheVariants as bundle
 use Rattle.folder_building.specs.declared.error.BuildError.{BuildError}
 use Rattle.folder_building.specs.declared.error.BuildError.TheVariants as failure
 use Rattle.folder_building.specs.declared.plan.PlanEntry.{PlanEntry}
@@ -19,14 +23,13 @@ use Rattle.folder_building.specs.Sources.{UnlikeAt}
 use Rattle.folder_plans.specs.ImagePlans.{image_entries}
 use Rattle.image_reading.specs.declared.error.StoreError.{StoreError}
 use Rattle.image_reading.specs.declared.error.StoreError.TheVariants.{Busy, Damaged, IdConflict, BundleFault, DirFault, NoMemory, Stray}
-use Rattle.image_reading.specs.Places.{tree_name, IsAbsent}
+use Rattle.image_reading.specs.Places.{IsAbsent}
 use Rattle.image_reading.specs.Refusals.{IsReadRefusal, IsDigestPath}
-use Rattle.image_reading.specs.Files.{LacksTree}
-use Rattle.image_reading.specs.Images.{HasDigest, LacksDigest, LacksInTurn}
+use Rattle.image_reading.specs.Images.{HasDigest, LacksStored}
 use Rattle.image_reading.proofs.Widths.{within_self}
-use Rattle.image_store.specs.Refusals.{lock_refusal, is_lock_refusal, is_look_refusal, is_change_refusal, is_fill_refusal, is_place_refusal, is_work_refusal, is_import_refusal}
+use Rattle.image_store.specs.Refusals.{lock_refusal, is_lock_refusal, is_look_refusal, is_change_refusal, is_fill_refusal, is_place_refusal, is_work_refusal, is_import_area, is_import_refusal, bundle_refusal}
 use Rattle.image_store.specs.Plans.{IsUnlikeRefusal, IsBuildRefusal}
-use Rattle.image_store.specs.Causes.{LockCause, BusyElsewhere, LookCause, ChangeCause, FillCause, BuildCause, CompareCause, PlaceCause, ImportCause, WasStray, WasTaken, Source, UnlikePlanned}
+use Rattle.image_store.specs.Causes.{LockCause, BusyElsewhere, LookCause, ChangeCause, FillCause, BuildCause, CompareCause, PlaceCause, ImportCause, WasStray, WasTaken, Source, UnlikePlanned, LacksThere, is_late}
 use Rattle.image_store.proofs.Unlikes.{files_of, unlike_planned, unlike_listed}
 use Rattle.image_store.proofs.Widths.{Follows, fault_after, told_after, conflict_after}
 
@@ -67,13 +70,13 @@ read_kind key DirFault r = refl
 read_kind key NoMemory r = refl
 read_kind key e r = absurd r
 
-lacks_part : (key : StoreKey) (path : List ℕ) (e : StoreError) {old new : DirAt} → e ≡ Damaged path → LacksDigest key e old new → LacksInTurn key tree_name (LacksTree key) path old new
-lacks_part key path e {old} {new} is l = subst (λ (x : StoreError). LacksDigest key x old new) is l
+lacks_part : (key : StoreKey) (path : List ℕ) (e : StoreError) {old new : DirAt} → e ≡ Damaged path → LacksStored key e old new → LacksThere key path old new
+lacks_part key path e {old} {new} is l = subst (λ (x : StoreError). LacksStored key x old new) is l tt
 
 no_conflict : (key other : StoreKey) (stored fresh : List ℕ) (e : StoreError) → IsReadRefusal (IsDigestPath key) e → e ≡ IdConflict other stored fresh → ⊥
 no_conflict key other stored fresh e r is = subst (λ (x : StoreError). IsReadRefusal (IsDigestPath key) x) is r
 
-pub look_cause : {observed : Bool} {old new : DirAt} (key : StoreKey) (digest : List ℕ) (e : StoreError) → IsReadRefusal (IsDigestPath key) e → (e ≡ DirFault → Rose old.faults new.faults) → (observed ≡ true → LacksDigest key e old new) → LookCause observed key digest e old new
+pub look_cause : {observed : Bool} {old new : DirAt} (key : StoreKey) (digest : List ℕ) (e : StoreError) → IsReadRefusal (IsDigestPath key) e → (e ≡ DirFault → Rose old.faults new.faults) → (observed ≡ true → LacksStored key e old new) → LookCause observed key digest e old new
 look_cause key digest e r fault lacks = record {
   kind = read_kind key e r;
   fault = fault;
@@ -226,14 +229,43 @@ look_import NoMemory h = refl
 look_import e h = cc
 
 work_import : (e : StoreError) → is_work_refusal e ≡ true → is_import_refusal e ≡ true
-work_import (Busy area) h = refl
+work_import (Busy area) h = cc
 work_import e h = h
 
-lock_import : (area : Area) (e : StoreError) → is_lock_refusal area e ≡ true → is_import_refusal e ≡ true
-lock_import area (Busy here) h = refl
-lock_import area DirFault h = refl
-lock_import area NoMemory h = refl
-lock_import area e h = cc
+import_area : (area here : Area) → is_import_area area ≡ true → is_in area here ≡ true → is_import_area here ≡ true
+import_area Images Images of h = refl
+import_area Images Incoming of h = refl
+import_area Images _ of h = cc
+import_area Incoming Images of h = refl
+import_area Incoming Incoming of h = refl
+import_area Incoming _ of h = cc
+import_area _ _ of h = cc
+
+lock_import : (area : Area) (e : StoreError) → is_import_area area ≡ true → is_lock_refusal area e ≡ true → is_import_refusal e ≡ true
+lock_import area (Busy here) of h = import_area area here of h
+lock_import area DirFault of h = refl
+lock_import area NoMemory of h = refl
+lock_import area e of h = cc
+
+-- what comes only once no image was found
+pub look_early : (e : StoreError) → is_look_refusal e ≡ true → is_late e ≡ true → ⊥
+look_early Stray h late = cc
+look_early (Busy area) h late = cc
+look_early e h late = cc
+
+pub lock_early : (e : StoreError) → is_lock_refusal Images e ≡ true → is_late e ≡ true → ⊥
+lock_early (Busy Incoming) h late = cc
+lock_early (Busy area) h late = cc
+lock_early e h late = cc
+
+pub bundle_early : (refusal : BundleRefusal) → is_late (bundle_refusal refusal) ≡ true → ⊥
+bundle_early (bundle.NoFile path) late = cc
+bundle_early (bundle.Manifest fault) late = cc
+bundle_early (bundle.Id bad) late = cc
+bundle_early (bundle.Listing error) late = cc
+bundle_early (bundle.BadKind path) late = cc
+bundle_early bundle.BundleFault late = cc
+bundle_early bundle.NoMemory late = cc
 
 -- what a kind of refusal isn't
 apart_by : (may : StoreError → Bool) (e x : StoreError) → may e ≡ true → may x ≡ false → e ≡ x → ⊥
@@ -273,9 +305,9 @@ module _ {observed : Bool} {source : Source} {key : StoreKey} {digest : List ℕ
     stray = λ is t. absurd (apart_by is_look_refusal e Stray x.kind refl is);
   }
 
-  pub lock_importing : (area : Area) (e : StoreError) → LockCause observed area e old new → ImportCause is_import_refusal observed source key digest lines e old new
-  lock_importing area e x = record {
-    kind = lock_import area e x.kind;
+  pub lock_importing : (area : Area) (e : StoreError) → is_import_area area ≡ true → LockCause observed area e old new → ImportCause is_import_refusal observed source key digest lines e old new
+  lock_importing area e of x = record {
+    kind = lock_import area e of x.kind;
     fault = x.fault;
     busy = x.busy;
     damaged = λ path is. absurd (apart_by (is_lock_refusal area) e (Damaged path) x.kind refl is);

@@ -3,6 +3,7 @@ use Rattle.std.specs.Prelude.{◌≡◌, ◌≢◌, ◌⊎◌, ℕ, Bool, true, 
 use Rattle.sha2.specs.Sha512.{sha512}
 use Rattle.ac_types.specs.declared.store_key.StoreKey.{StoreKey}
 use Rattle.dir_model.specs.declared.area.Area.{Area}
+use Rattle.dir_model.specs.declared.area.Area.TheVariants.{Incoming}
 use Rattle.dir_model.specs.declared.spot.Mode.TheVariants.{Shared}
 use Rattle.dir_model.specs.declared.request.DirError.TheVariants.{Exists}
 use Rattle.dir_model.specs.declared.request.Request.{Request}
@@ -23,7 +24,7 @@ use Rattle.folder_building.specs.declared.plan.Content.TheVariants.{Copied}
 use Rattle.area_locks.specs.AreaLocks.{IsBusy, IsBusyElsewhere}
 use Rattle.image_reading.specs.declared.error.StoreError.{StoreError}
 use Rattle.image_reading.specs.declared.error.StoreError.TheVariants.{Busy, Damaged, IdConflict, DirFault, Stray}
-use Rattle.image_reading.specs.Places.{image_spot, tree_name, IsAbsent}
+use Rattle.image_reading.specs.Places.{image_spot, tree_name, IsAbsent, IsPresent}
 use Rattle.image_reading.specs.Within.{Within}
 use Rattle.image_reading.specs.Files.{LacksTree}
 use Rattle.image_reading.specs.Images.{HasDigest, LacksInTurn}
@@ -52,9 +53,12 @@ pub record Conflicts (observed : Bool) (key other : StoreKey) (digest stored new
   pub differ : stored ≢ digest
   pub there : observed ≡ true → WasThere key stored old new
 
--- a file of the image that stands there is missing or has no reading
+-- a folder of the image stood there, and the path is of the first of its files that is missing or has no reading
+abbrev pub LacksThere : StoreKey → List ℕ → DirAt → DirAt → Type 0
+LacksThere key path old new = HeldBetween old new (IsPresent key) × LacksInTurn key tree_name (LacksTree key) path old new
+
 abbrev pub LacksPart : Bool → StoreKey → List ℕ → DirAt → DirAt → Type 0
-LacksPart observed key path old new = observed ≡ true → Within (LacksInTurn key tree_name (LacksTree key) path) old new
+LacksPart observed key path old new = observed ≡ true → Within (LacksThere key path) old new
 
 -- the image that stands there is damaged, or is another
 pub record LookCause (observed : Bool) (key : StoreKey) (digest : List ℕ) (error : StoreError) (old new : DirAt) : Type 0 where
@@ -158,6 +162,15 @@ pub record Vanished (key : StoreKey) (old new : DirAt) : Type 0 where
 -- an answer came that the process's own folder doesn't explain, or the image vanished
 abbrev pub StrayCause : StoreKey → DirAt → DirAt → Type 0
 StrayCause key old new = WasStray old new ⊎ Vanished key old new
+
+-- what comes only once no image with this key was found there
+abbrev pub is_late : StoreError → Bool
+is_late (Busy Incoming) = true
+is_late Stray = true
+is_late error = false
+
+abbrev pub FoundAbsent : Bool → StoreKey → StoreError → DirAt → DirAt → Type 0
+FoundAbsent observed key error old new = is_late error ≡ true → observed ≡ true → HeldBetween old new (IsAbsent key)
 
 -- the folder didn't come into images
 pub record PlaceCause (observed : Bool) (key : StoreKey) (digest : List ℕ) (error : StoreError) (old new : DirAt) : Type 0 where

@@ -2,6 +2,7 @@
 use Rattle.std.specs.Prelude.{Bool, true, false, Result, Ok, Err}
 use Rattle.dir_rules.specs.Standing.{is_in}
 use Rattle.dir_model.specs.declared.area.Area.{Area}
+use Rattle.dir_model.specs.declared.area.Area.TheVariants.{Images, Incoming}
 use Rattle.dir_model.specs.declared.request.DirError.{DirError}
 use Rattle.dir_model.specs.declared.request.DirError.TheVariants.{Failed, Exists}
 use Rattle.dir_model.specs.declared.request.DirError.TheVariants as dir
@@ -70,6 +71,12 @@ abbrev pub is_work_refusal : StoreError → Bool
 is_work_refusal BundleFault = true
 is_work_refusal error = is_place_refusal error
 
+-- the areas whose locks an import takes
+abbrev pub is_import_area : Area → Bool
+is_import_area Images = true
+is_import_area Incoming = true
+is_import_area area = false
+
 abbrev pub is_import_refusal : StoreError → Bool
-is_import_refusal (Busy area) = true
+is_import_refusal (Busy area) = is_import_area area
 is_import_refusal error = is_work_refusal error

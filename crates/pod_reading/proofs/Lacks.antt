@@ -27,9 +27,12 @@ module _ {observed : Bool} {asks : Request → Bool} {Keeps : DirAt → DirAt �
   pub tree_before : (key : StoreKey) (map : Entries) {a b c : DirAt} → HasTree key map a b → OnlyAsks observed asks Keeps b c → HasTree key map a c
   tree_before key map h bc = (h.0, file_before t h.1 bc, h.2)
 
+  pub manifest_lack_after : (key : StoreKey) {a b : DirAt} (c : DirAt) → OnlyAsks observed asks Keeps a b → LacksManifest key b c → LacksManifest key a c
+  manifest_lack_after key c ab l = lack_after t (image_inner key manifest_name) most_of_manifest IsNoManifest c ab l
+
   pub own_lack_after : (key : StoreKey) (path : List ℕ) {a b : DirAt} (c : DirAt) → OnlyAsks observed asks Keeps a b → LacksOwn key path b c → LacksOwn key path a c
   own_lack_after key path c ab (inl x) = inl (x.0, tree_lack_after t key c ab x.1)
-  own_lack_after key path c ab (inr x) = inr (x.0, lack_after t (image_inner key manifest_name) most_of_manifest IsNoManifest c ab x.1)
+  own_lack_after key path c ab (inr x) = inr (x.0, (x.1.0, tree_after key x.1.0 ab x.1.1), manifest_lack_after key c ab x.2)
 
 module _ {observed : Bool} (key : StoreKey) {a b : DirAt} where
   pub tree_lack : (e : StoreError) → IsReadRefusal (λ path. path ≡ stored_path key tree_name) e → (IsDamaged e → observed ≡ true → LacksTree key a b) → IsLack observed (λ path. LacksTreeAt key path a b) e
@@ -38,11 +41,11 @@ module _ {observed : Bool} (key : StoreKey) {a b : DirAt} where
   tree_lack NoMemory at lacks = tt
   tree_lack e at lacks = absurd at
 
-  pub manifest_lack : (e : StoreError) → IsReadRefusal (λ path. path ≡ stored_path key manifest_name) e → (IsDamaged e → observed ≡ true → LacksManifest key a b) → IsLack observed (λ path. LacksOwn key path a b) e
-  manifest_lack (Damaged path) at lacks = λ t. inr (at, lacks tt t)
-  manifest_lack DirFault at lacks = tt
-  manifest_lack NoMemory at lacks = tt
-  manifest_lack e at lacks = absurd at
+  pub manifest_lack : (map : Entries) (e : StoreError) → (observed ≡ true → HasTree key map a b) → IsReadRefusal (λ path. path ≡ stored_path key manifest_name) e → (IsDamaged e → observed ≡ true → LacksManifest key a b) → IsLack observed (λ path. LacksOwn key path a b) e
+  manifest_lack map (Damaged path) tree at lacks = λ t. inr (at, (map, tree t), lacks tt t)
+  manifest_lack map DirFault tree at lacks = tt
+  manifest_lack map NoMemory tree at lacks = tt
+  manifest_lack map e tree at lacks = absurd at
 
 -- an image couldn't be listed
 pub listing_lack : {observed : Bool} (a b : DirAt) (e : StoreError) → IsReadRefusal IsStorePath e → (observed ≡ true → LacksStore e a b) → IsLack observed (λ path. LacksPart path a b) e

@@ -10,8 +10,7 @@ use Rattle.image_reading.specs.declared.error.StoreError.{StoreError}
 use Rattle.image_reading.specs.declared.error.StoreError.TheVariants as store
 use Rattle.image_reading.specs.Places.{stored_path, manifest_name, tree_name}
 use Rattle.image_reading.specs.Files.{LacksManifest, LacksTree}
-use Rattle.image_reading.specs.Images.{LacksImage}
-use Rattle.image_reading.specs.Store.{ReadsStore}
+use Rattle.image_reading.specs.Store.{ReadsStore, LacksListed}
 use Rattle.pod_manifest.specs.Wishes.{Wishes}
 use Rattle.pod_choice.specs.declared.error.ChoiceError.{ChoiceError}
 use Rattle.pod_choice.specs.declared.error.ChoiceError.TheVariants as choice
@@ -48,9 +47,10 @@ IsLack observed Lacks error = ⊥
 abbrev pub LacksTreeAt : StoreKey → List ℕ → DirAt → DirAt → Type 0
 LacksTreeAt key path old new = (path ≡ stored_path key tree_name) × LacksTree key old new
 
--- the path is that of an image's listing, or of its manifest, and it isn't there or has no reading
+-- the path is that of an image's listing, or its listing was read and the path is that of its manifest, and it isn't there
+-- or has no reading
 abbrev pub LacksOwn : StoreKey → List ℕ → DirAt → DirAt → Type 0
-LacksOwn key path old new = LacksTreeAt key path old new ⊎ ((path ≡ stored_path key manifest_name) × LacksManifest key old new)
+LacksOwn key path old new = LacksTreeAt key path old new ⊎ ((path ≡ stored_path key manifest_name) × ((map : Entries) × HasTree key map old new) × LacksManifest key old new)
 
 -- one of the images lacks one of these, and it is the first: the trees of those before were read
 pub record LacksAmong (images : List Stored) (path : List ℕ) (old new : DirAt) : Type 0 where
@@ -61,10 +61,11 @@ pub record LacksAmong (images : List Stored) (path : List ℕ) (old new : DirAt)
   pub earlier : AllByRecursion (λ (i : Stored). (map : Entries) × HasTree i.key map old new) before
   pub lacks : LacksOwn image.key path old new
 
--- an image couldn't be listed, or all were and one of them lacks its listing or its manifest
+-- the first image that isn't whole, of those that the area's listing showed, lacks it; or all were read and one of them
+-- lacks its listing or its manifest
 abbrev pub LacksPart : List ℕ → DirAt → DirAt → Type 0
 LacksPart path old new =
-    ((key : StoreKey) × LacksImage key (store.Damaged path) old new) ⊎ ((images : List Stored) × ReadsStore images old new × LacksAmong images path old new)
+    LacksListed (store.Damaged path) old new ⊎ ((images : List Stored) × ReadsStore images old new × LacksAmong images path old new)
 
 -- some images with these trees make no pod for the references
 pub record IsNoChoice (images : List Stored) (maps : List Entries) (refs : List ImageRef) (options : Wishes) (error : PlanError) : Type 0 where

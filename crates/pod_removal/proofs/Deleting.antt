@@ -19,7 +19,7 @@ use Rattle.dir_model.specs.Areas.{rank}
 use Rattle.dir_model.specs.Causes.{Rose}
 use Rattle.dir_model.specs.Local.{IsUnopened}
 use Rattle.dir_model.specs.Replies.{refused_in, open_refusal}
-use Rattle.dir_model.specs.State.{DirState, spot_eq, folder_at}
+use Rattle.dir_model.specs.State.{DirState, spot_eq, folder_at, stands}
 use Rattle.dir_model.proofs.Chains.{and_call, and_more, extends_wider}
 use Rattle.dir_model.proofs.Lists.{or_last, any_fewer, same_self}
 use Rattle.dir_model.proofs.Moments.{at_weaker}
@@ -31,18 +31,21 @@ use Rattle.dir_rules.specs.Standing.{is_garbage, is_in, is_number, gives_up, beg
 use Rattle.dir_rules.specs.LockRules.{is_removal_held, may_lock_own}
 use Rattle.dir_rules.specs.Seen.{forget_items}
 use Rattle.dir_rules.specs.Conforms.{seen_replied, Looked}
-use Rattle.dir_trait.specs.DirCalls.{DirAt, DirCall, ExtendsBy}
+use Rattle.dir_trait.specs.DirCalls.{DirAt, DirCall, ExtendsBy, HeldBetween}
 use Rattle.dir_trait.specs.Knowledge.{Knows, OnlyLooks}
 use Rattle.dir_trait.proofs.Knowing.{knows_call}
 use Rattle.folder_building.specs.Work.{Worked}
 use Rattle.folder_contents.proofs.Spots.{one_location}
 use Rattle.folder_removal.specs.declared.error.DeleteError.{DeleteError}
 use Rattle.folder_removal.specs.declared.error.DeleteError.TheVariants as delete
+use Rattle.folder_removal.specs.Removal as removal
 use Rattle.folder_removal.specs.Removal.{is_removal_area, deletes_at, is_stray, EndsStray, EndsRemoved}
+use Rattle.folder_removal.proofs.Strays.{stray_called}
 use Rattle.folder_removal.specs.Known.{is_there, MayDelete, KnowsBut, KnowsDeleted, Deletes, OnlyTries}
 use Rattle.phase_read.specs.Read.{pod_spot}
 use Rattle.pod_claim.specs.Holding.{is_on_folder}
 use Rattle.pod_claim.proofs.Seen.{off}
+use Rattle.pod_claim.specs.Work.{Grew}
 use Rattle.pod_claim.proofs.Traces.{grown_by, deeds_after, one_deed}
 use Rattle.pod_steps.specs.declared.setback.Setback.{Setback}
 use Rattle.pod_steps.specs.declared.setback.Setback.TheVariants as stop
@@ -50,11 +53,11 @@ use Rattle.pod_steps.specs.Setbacks.{delete_setback}
 use Rattle.pod_steps.specs.Requests.{looks_at}
 use Rattle.pod_steps.specs.Holding.{Went, and_lock, on_lock, with_lock, is_in_garbage, IsBare, MayTake, Keeps, KeepsReady, Stays}
 use Rattle.pod_steps.specs.Causes.{Stopped, IsAbsentAt, CannotOpenAt, Did, is_stray_answer}
-use Rattle.pod_steps.proofs.Calls.{lock_closed}
+use Rattle.pod_steps.proofs.Calls.{rose_later, lock_closed}
 use Rattle.pod_steps.proofs.Knowing.{new_number}
 use Rattle.pod_steps.proofs.Seen.{none_of_filter}
 use Rattle.pod_removal.specs.Requests.{is_garbage_place, deletes_in, removes}
-use Rattle.pod_removal.specs.Causes.{is_missing}
+use Rattle.pod_removal.specs.Causes.{is_missing, StoppedDeleting}
 use Rattle.pod_removal.specs.Holding.{MayRemove, HasOwn, KeepsBut}
 use Rattle.pod_removal.proofs.CallKinds.{looks_remove}
 use Rattle.pod_removal.proofs.Closing.{given_holdings, given_kept}
@@ -126,26 +129,37 @@ stray_is : (r : Request) (y : Reply) → is_stray r y ≡ true → is_stray_answ
 stray_is (MoveFolder from to) y is = cc
 stray_is r y is = is
 
-pub delete_stops : {observed : Bool} {pod : PodId} {Missed : DirState → Type 0} {spot : Spot} {old new : DirAt} (e : DeleteError) → (e ≡ delete.DirFault → Rose old.faults new.faults) → (e ≡ delete.Stray → observed ≡ true → EndsStray spot old new)
-    → Stopped observed pod Missed (delete_setback e) old new
-delete_stops delete.DirFault rose stray = record { fault = λ is. rose refl; missing = λ is. cc; manifest = λ is. cc; stray = λ is. cc }
-delete_stops delete.NoMemory rose stray = record { fault = λ is. cc; missing = λ is. cc; manifest = λ is. cc; stray = λ is. cc }
-delete_stops delete.Stray rose stray = record {
-  fault = λ is. cc;
-  missing = λ is. cc;
-  manifest = λ is. cc;
-  stray = λ is t. let w = stray refl t in record { request = w.request; reply = w.reply; stray = stray_is w.request w.reply w.stray; did = deeds_after (grown_by w.first) (one_deed w.last) };
+pub delete_stops : {observed : Bool} {spot : Spot} {old new : DirAt} (e : DeleteError) → (e ≡ delete.DirFault → Rose old.faults new.faults) → (e ≡ delete.Stray → observed ≡ true → EndsStray spot old new)
+    → StoppedDeleting observed spot (delete_setback e) old new
+delete_stops delete.DirFault rose stray = record { fault = λ is. rose refl; there = refl; stray = λ is. cc }
+delete_stops delete.NoMemory rose stray = record { fault = λ is. cc; there = refl; stray = λ is. cc }
+delete_stops delete.Stray rose stray = record { fault = λ is. cc; there = refl; stray = λ is t. stray refl t }
+
+-- it had stood there
+pub stood_stops : {observed : Bool} {pod : PodId} {Missed : DirState → Type 0} {spot : Spot} {s : Setback} {old mid new : DirAt} → mid.process ≡ old.process → old.faults ≤ mid.faults → (observed ≡ true → Grew old.trace mid.trace)
+    → (observed ≡ true → HeldBetween old mid (λ x. stands x.namespace spot ≡ true)) → StoppedDeleting observed spot s mid new → Stopped observed pod Missed s old new
+stood_stops {observed} {pod} {Missed} {spot} {s} {old} {mid} {new} same faults grown stood x = record {
+  fault = λ is. rose_later old.faults mid.faults new.faults faults (x.fault is);
+  missing = λ is t. absurd (apart stop.Missing is refl);
+  manifest = λ is. apart stop.NoManifest is refl;
+  stray = λ is t.
+      let w = subst (λ (p : ℕ). removal.WasStray spot p mid.trace new.trace) same (x.stray is t) in
+      record {
+        request = w.request;
+        reply = w.reply;
+        stray = stray_is w.request w.reply w.stray;
+        called = stray_called old.trace (grown t).more (grown t).grown (stood t) w;
+        did = deeds_after (grown t) (deeds_after (grown_by w.first) (one_deed w.last));
+      };
 }
+  where
+    apart : (y : Setback) → s ≡ y → is_missing y ≡ true → ⊥
+    apart y is missing = let clash : true ≡ false = sym missing ∙ (ap is_missing (sym is) ∙ x.there) in cc
 
 pub delete_calm : (e : DeleteError) (which : Which) → delete_setback e ≡ stop.Busy which → ⊥
 delete_calm delete.DirFault which is = cc
 delete_calm delete.Stray which is = cc
 delete_calm delete.NoMemory which is = cc
-
-pub delete_there : (e : DeleteError) → is_missing (delete_setback e) ≡ false
-delete_there delete.DirFault = refl
-delete_there delete.Stray = refl
-delete_there delete.NoMemory = refl
 
 pub deed_removed : {spot : Spot} (pod : PodId) (a : Area) (old new : DirAt) → spot ≡ pod_spot pod a → EndsRemoved spot old new → Did (RemoveFolder (pod_spot pod a)) Done old.process old.trace new.trace
 deed_removed {spot} pod a old new is w = subst (λ (s : Spot). Did (RemoveFolder s) Done old.process old.trace new.trace) is (deeds_after (grown_by w.first) (one_deed w.last))

@@ -8,6 +8,7 @@ use Rattle.dir_model.specs.declared.event.Event.{Event}
 use Rattle.dir_model.specs.declared.pod.PodId.{PodId}
 use Rattle.dir_model.specs.declared.spot.Mode.{Mode}
 use Rattle.dir_model.specs.declared.spot.Mode.TheVariants.{Shared, Exclusive}
+use Rattle.dir_model.specs.declared.spot.Spot.{Spot}
 use Rattle.dir_model.specs.declared.spot.Which.{Which}
 use Rattle.dir_model.specs.declared.spot.Which.TheVariants.{Own, Claim}
 use Rattle.dir_model.specs.declared.request.Reply.TheVariants.{Done}
@@ -19,6 +20,7 @@ use Rattle.dir_model.specs.State.{DirState, folder_at, stands}
 use Rattle.dir_model.specs.Trees.{has_any}
 use Rattle.dir_rules.specs.Marks.{marked_mark}
 use Rattle.dir_trait.specs.DirCalls.{DirAt, ExtendsBy, HeldBetween}
+use Rattle.folder_removal.specs.Removal.{EndsStray}
 use Rattle.phase_read.specs.Read.{pod_spot}
 use Rattle.pod_steps.specs.declared.setback.Setback.{Setback}
 use Rattle.pod_steps.specs.declared.setback.Setback.TheVariants.{Missing, NoManifest, Busy, DirFault, Stray, NoMemory}
@@ -43,6 +45,18 @@ is_look_setback NoManifest = true
 is_look_setback DirFault = true
 is_look_setback NoMemory = true
 is_look_setback _ = false
+
+-- the pod was missing, or its manifest was
+abbrev pub is_missing : Setback → Bool
+is_missing Missing = true
+is_missing NoManifest = true
+is_missing _ = false
+
+-- why a folder that stands there wasn't deleted
+pub record StoppedDeleting (observed : Bool) (spot : Spot) (stop : Setback) (old new : DirAt) : Type 0 where
+  pub fault : stop ≡ DirFault → Rose old.faults new.faults
+  pub there : is_missing stop ≡ false
+  pub stray : stop ≡ Stray → observed ≡ true → EndsStray spot old new
 
 -- the folder stands in prepared, or it doesn't: where Claim couldn't be opened
 pub record StopsAlone (observed : Bool) (pod : PodId) (stop : Setback) (old new : DirAt) : Type 0 where
@@ -106,12 +120,6 @@ pub record MarkedFirst (pod : PodId) (now : ℕ) (me : ℕ) (old new : List Even
   pub between : List Event
   pub marked : AtOwnStep me old between (IsMarkedIn pod now folder)
   pub only : Extends (moves pod Run ExitedGarbage) me between new
-
--- the pod was missing, or its manifest was
-abbrev pub is_missing : Setback → Bool
-is_missing Missing = true
-is_missing NoManifest = true
-is_missing _ = false
 
 -- where it was so, nothing was moved or removed
 abbrev pub MissedUntaken : Bool → Setback → DirAt → DirAt → Type 0

@@ -14,7 +14,7 @@ ghost use Rattle.pod_removal.specs.Requests.{is_garbage_place, deletes_in, remov
 ghost use Rattle.pod_steps.specs.Holding.{KeepsReady, Stays};
 ghost use Rattle.pod_removal.specs.Holding.{MayRemove, HasOwn, KeepsBut};
 ghost use Rattle.pod_steps.specs.Causes.{Stopped, IsAbsentAt, BusyElsewhere, FreeWhere, Did};
-ghost use Rattle.pod_removal.specs.Causes.{BusyByLooks, is_missing, MissedUntaken};
+ghost use Rattle.pod_removal.specs.Causes.{BusyByLooks, StoppedDeleting, MissedUntaken};
 
 use dir_trait::{Area, Dir, PodId, Which};
 use folder_removal::delete_folder;
@@ -32,9 +32,8 @@ fn delete_standing<D: Dir>(
     requires active { IsActive (D.shown dir.old).local }
     requires garbage { is_garbage_place area ≡ true }
     ensures worked { Worked D.observed (deletes_in pod area) (D.shown dir.old) (D.shown dir.new) }
-    ensures stopped { IfErr result (λ e. Stopped D.observed pod (IsAbsentAt pod area) e (D.shown dir.old) (D.shown dir.new)) }
+    ensures stopped { IfErr result (λ e. StoppedDeleting D.observed (pod_spot pod area) e (D.shown dir.old) (D.shown dir.new)) }
     ensures calm { IfErr result (λ e. (which : Which) → e ≡ Setback.Busy which → ⊥) }
-    ensures there { IfErr result (λ e. is_missing e ≡ false) }
     ensures done { IfOk result (λ done. D.observed ≡ true
         → Did (RemoveFolder (pod_spot pod area)) Done (D.shown dir.old).process (D.shown dir.old).trace (D.shown dir.new).trace) }
     ensures known { D.observed ≡ true → Stays (HasOwn pod area) (D.shown dir.old) (λ s. KeepsBut pod area s (D.shown dir.new)) }

@@ -1,5 +1,5 @@
 -- Single calls at a pod: what they leave open, and what their refusals rest on.
-use Rattle.std.proofs.Common.{◌≡◌, ◌≤◌, ◌||◌, ℕ, Bool, true, false, cond, Option, Some, None, Result, Ok, Err, List, [], ◌∷◌, ◌++◌, map, refl, sym, ap, ◌∙◌, append-nil, arith}
+use Rattle.std.proofs.Common.{◌≡◌, ◌≤◌, ◌||◌, ℕ, Bool, true, false, cond, Option, Some, None, Result, Ok, Err, List, [], ◌∷◌, ◌++◌, map, refl, sym, ap, ◌∙◌, append-nil, arith, subst}
 use Rattle.dir_model.specs.declared.area.Area.{Area}
 use Rattle.dir_model.specs.declared.event.Event.{Event}
 use Rattle.dir_model.specs.declared.pod.PodId.{PodId}
@@ -39,6 +39,8 @@ use Rattle.pod_steps.specs.declared.setback.Setback.{Setback}
 use Rattle.pod_steps.specs.Setbacks.{set_back, lock_setback}
 use Rattle.pod_steps.specs.Requests.{looks_at, peeks_at, moves}
 use Rattle.pod_steps.specs.Holding.{Went, and_lock}
+use Rattle.folder_removal.specs.Removal.{WasCalledFor}
+use Rattle.folder_removal.proofs.Strays.{called_within}
 use Rattle.pod_steps.specs.Causes.{Stopped, IsAbsentAt, CannotOpenAt, WasStray}
 
 -- the calls are of their kind
@@ -184,7 +186,7 @@ move_stops {observed} {pod} {from} {to} Exists may rose x = record {
   fault = λ is. cc;
   missing = λ is. cc;
   manifest = λ is. cc;
-  stray = λ is t. record { request = MoveFolder (pod_spot pod from) (pod_spot pod to); reply = Refused Exists 0; stray = refl; did = one_deed (x.step t) };
+  stray = λ is t. record { request = MoveFolder (pod_spot pod from) (pod_spot pod to); reply = Refused Exists 0; stray = refl; called = tt; did = one_deed (x.step t) };
 }
 move_stops Failed may rose x = record { fault = λ is. rose refl; missing = λ is. cc; manifest = λ is. cc; stray = λ is. cc }
 move_stops dir.NoMemory may rose x = record { fault = λ is. cc; missing = λ is. cc; manifest = λ is. cc; stray = λ is. cc }
@@ -216,7 +218,9 @@ pub rose_still : (a b c : ℕ) → Rose a b → b ≤ c → Rose a c
 rose_still a b c rose after = omega arith
 
 pub stray_part : {me other : ℕ} {a b c d : List Event} → Grew a b → other ≡ me → Grew c d → WasStray other b c → WasStray me a d
-stray_part ab same cd w = record { request = w.request; reply = w.reply; stray = w.stray; did = deeds_part ab same cd w.did }
+stray_part {me} {other} {a} {b} {c} {d} ab same cd w =
+    let called = subst (λ (p : ℕ). WasCalledFor w.request w.reply p b c) same w.called in
+    record { request = w.request; reply = w.reply; stray = w.stray; called = called_within w.request w.reply me a b c d ab.more cd.more ab.grown cd.grown called; did = deeds_part ab same cd w.did }
 
 -- what stops a part stops the whole
 pub stops_part : {observed : Bool} {pod : PodId} {Missed : DirState → Type 0} {s : Setback} {a b c d : DirAt} → Follows observed a b → Follows observed c d → Stopped observed pod Missed s b c → Stopped observed pod Missed s a d

@@ -18,7 +18,7 @@ use Rattle.dir_model.specs.Locks.{is_folder, opposes}
 use Rattle.dir_model.specs.Replies.{refused_in, open_refusal}
 use Rattle.dir_model.specs.State.{DirState, folder_at, stands}
 use Rattle.dir_trait.specs.DirCalls.{DirAt, HeldBetween}
-use Rattle.folder_removal.specs.Removal.{is_stray}
+use Rattle.folder_removal.specs.Removal.{is_stray, WasCalledFor}
 use Rattle.phase_read.specs.Read.{pod_spot}
 use Rattle.pod_claim.specs.Causes.{is_lock}
 use Rattle.pod_claim.specs.Work.{InOrder}
@@ -46,10 +46,13 @@ abbrev pub is_stray_answer : Request → Reply → Bool
 is_stray_answer (MoveFolder from to) (Refused dir.Exists left) = true
 is_stray_answer request reply = is_stray request reply
 
+-- and where it was a listing of what was missing: of the folder itself, which had stood there, or of a directory that a
+-- listing had shown
 pub record WasStray (me : ℕ) (old new : List Event) : Type 0 where
   pub request : Request
   pub reply : Reply
   pub stray : is_stray_answer request reply ≡ true
+  pub called : WasCalledFor request reply me old new
   pub did : Did request reply me old new
 
 -- why a step wasn't done

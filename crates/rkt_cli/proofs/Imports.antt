@@ -21,7 +21,7 @@ use Rattle.bundle_image.specs.Refusals.{IsOutside}
 use Rattle.image_reading.specs.declared.error.StoreError.{StoreError}
 use Rattle.image_reading.specs.declared.error.StoreError.TheVariants as store_error
 use Rattle.image_store.specs.Causes.{ImportCause, StrayCause}
-use Rattle.image_store.specs.Imports.{key_of, digest_of, OfBundle, IsRefused}
+use Rattle.image_store.specs.Imports.{key_of, digest_of, OfBundle, IsRefused, ComesInTurn}
 use Rattle.image_store.specs.Refusals.{bundle_refusal, is_import_refusal}
 use Rattle.rkt_cli.specs.declared.line.Line.TheVariants.{ImageImport}
 use Rattle.command_outcomes.specs.declared.refusal.Refusal.{Refusal}
@@ -33,7 +33,7 @@ use Rattle.store_commands.specs.ImageImport.{import_refusal, listing_refusal, so
 use Rattle.rkt_cli.specs.Runs.{InProcess, Performs, Complained}
 use Rattle.rkt_cli.specs.Statuses.{IsBadBundle, IsImportDamage, IsConflict}
 use Rattle.store_commands.proofs.Parts.{within_wider, held_wider}
-use Rattle.store_commands.proofs.ImportParts.{Span, refused_wider, imported_wider}
+use Rattle.store_commands.proofs.ImportParts.{Span, refused_wider, turn_wider, imported_wider}
 use Rattle.rkt_cli.proofs.Listed.{process_part}
 use Rattle.rkt_cli.proofs.Sessions.{any_call, finish_part}
 use Rattle.rkt_cli.proofs.Conforming.{begun_knows}
@@ -54,6 +54,9 @@ module _ {path : List ℕ} {now : ℕ} {draw : Draw} {intent : Intent} {old new 
     cause = refused_wider process_span (source_of path old.bundle) x.error
         (subst (λ (b : BundleSeen). IsRefused old.dir.observed (source_of path b) x.error (shown_at s.begun.dir) (shown_at s.ended.dir)) s.bundle_before
         (subst (λ (told : Bool). IsRefused told (source_of path s.begun.bundle) x.error (shown_at s.begun.dir) (shown_at s.ended.dir)) s.told x.cause));
+    turn = turn_wider process_span (source_of path old.bundle) x.error
+        (subst (λ (b : BundleSeen). ComesInTurn old.dir.observed (source_of path b) x.error (shown_at s.begun.dir) (shown_at s.ended.dir)) s.bundle_before
+        (subst (λ (told : Bool). ComesInTurn told (source_of path s.begun.bundle) x.error (shown_at s.begun.dir) (shown_at s.ended.dir)) s.told x.turn));
   }
 
   stored_wider : old.dir.observed ≡ true → (image : BundleImage) → IsStored image now draw.uuid s.begun.dir s.ended.dir → IsStored image now draw.uuid old.dir new.dir

@@ -14,7 +14,7 @@ use Rattle.command_outcomes.specs.Moments.{Outside, Outcome}
 use Rattle.command_outcomes.specs.Conforming.{shown_at, begun}
 use Rattle.store_commands.specs.ImageList.{ListsStore, LacksPart, IsHeldElsewhere}
 use Rattle.rkt_cli.specs.Runs.{InProcess, Performs}
-use Rattle.store_commands.proofs.Parts.{Part, held_wider, store_wider, image_lack_wider}
+use Rattle.store_commands.proofs.Parts.{Part, held_wider, store_wider, lacks_wider}
 use Rattle.rkt_cli.proofs.Sessions.{any_call, begin_part, finish_part}
 use Rattle.rkt_cli.proofs.Conforming.{begun_knows}
 
@@ -29,7 +29,7 @@ module _ {line : Line} {now : ℕ} {draw : Draw} {intent : Intent} {old new : Ou
   listed_in_process says = record { images = says.images; told = λ t. store_wider (process_part t) says.images (says.told (s.told ∙ t)); is = says.is }
 
   pub lacked_in_process : {path : List ℕ} → LacksPart path s.begun.dir s.ended.dir → LacksPart path old.dir new.dir
-  lacked_in_process {path} says = record { place = says.place; told = λ t. let x = says.told (s.told ∙ t) in (x.0, image_lack_wider (process_part t) x.0 path x.1) }
+  lacked_in_process {path} says = record { place = says.place; told = λ t. lacks_wider (process_part t) path (says.told (s.told ∙ t)) }
 
 -- what was printed, or wasn't
 pub list_printed : (now : ℕ) (draw : Draw) (intent : Option Intent) (old new : Outside) (text : List ℕ) → Performs ImageList now draw intent old new (Ok text) → ListsStore old.dir new.dir text

@@ -9,7 +9,7 @@ use Rattle.dir_model.specs.declared.intent.Intent.{Intent}
 use Rattle.dir_model.specs.declared.intent.Kind.TheVariants as kind
 use Rattle.dir_model.specs.Calls.{is_begin, is_finish}
 use Rattle.image_removal.specs.declared.pass.SweepLine.{SweepLine}
-use Rattle.image_removal.specs.Causes.{WasStray, FoundNone}
+use Rattle.image_removal.specs.Causes.{StrayRemoval, FoundNone}
 use Rattle.image_removal.proofs.Begun.{begun_removes, begun_sweeps}
 use Rattle.rkt_cli.specs.declared.line.Line.{Line}
 use Rattle.rkt_cli.specs.declared.line.Line.TheVariants.{ImageRm, ImageGc}
@@ -68,8 +68,8 @@ removal_none key now draw (Some intent) old new named (inl s) t = meanwhile (Fou
 removal_none key now draw (Some intent) old new named (inr n) t = let e = n.is in cc
 removal_none key now draw None old new named p t = let clash : true ≡ false = p.apart in cc
 
-pub removal_stray : (key : StoreKey) (now : ℕ) (draw : Draw) (intent : Option Intent) (old new : Outside) → Performs (ImageRm key) now draw intent old new (Err Stray) → old.dir.observed ≡ true → HasMetStray old.dir new.dir
-removal_stray key now draw (Some intent) old new (inl s) t = meanwhile WasStray s t (s.ran.says (s.told ∙ t))
+pub removal_stray : (key : StoreKey) (now : ℕ) (draw : Draw) (intent : Option Intent) (old new : Outside) → Performs (ImageRm key) now draw intent old new (Err Stray) → old.dir.observed ≡ true → HasMetStray key draw.uuid old.dir new.dir
+removal_stray key now draw (Some intent) old new (inl s) t = meanwhile (StrayRemoval key draw.uuid) s t (s.ran.says (s.told ∙ t))
 removal_stray key now draw (Some intent) old new (inr n) t = let e = n.is in cc
 removal_stray key now draw None old new p t = let clash : true ≡ false = p.apart in cc
 

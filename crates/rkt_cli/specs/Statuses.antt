@@ -231,7 +231,7 @@ IsNoImage _ now draw before after old new = ⊥
 abbrev pub IsStray : Option Line → ℕ → Draw → Outside → Outside → Type 0
 IsStray (Some (ImageImport path)) now draw before after =
     OfBundle (source_of path before.bundle) (λ image. before.dir.observed ≡ true → StrayCause (key_of image) (shown_at before.dir) (shown_at after.dir))
-IsStray (Some (ImageRm key)) now draw before after = before.dir.observed ≡ true → HasMetStray before.dir after.dir
+IsStray (Some (ImageRm key)) now draw before after = before.dir.observed ≡ true → HasMetStray key draw.uuid before.dir after.dir
 IsStray (Some ImageGc) now draw before after = before.dir.observed ≡ true → HasMetStrayInSweep before.dir after.dir
 IsStray (Some (Prepare words)) now draw before after = RefusesPod words now draw before.dir after.dir Stray
 IsStray (Some (Rm pod)) now draw before after = before.dir.observed ≡ true → rm.HasMetStrayAtPod pod before.dir after.dir

@@ -19,7 +19,7 @@ use Rattle.image_reading.specs.declared.error.StoreError.TheVariants as store_er
 use Rattle.image_reading.specs.Places.{image_spot}
 use Rattle.image_store.specs.declared.importing.Imported.{Imported}
 use Rattle.image_store.specs.Causes.{Source, WasThere, BusyElsewhere}
-use Rattle.image_store.specs.Imports.{key_of, digest_of, IsOf, OfBundle, IsRefused, IsImported, Leaves, LeavesAtEnd}
+use Rattle.image_store.specs.Imports.{key_of, digest_of, IsOf, OfBundle, IsRefused, ComesInTurn, IsImported, Leaves, LeavesAtEnd}
 use Rattle.image_store.specs.Refusals.{bundle_refusal, is_import_refusal}
 use Rattle.image_store.specs.Requests.{building_spot}
 use Rattle.image_store.specs.Work.{IsImport, IsAlone, From, at_work}
@@ -30,7 +30,7 @@ use Rattle.command_outcomes.specs.Conforming.{shown_at, begun, KeepsRules}
 use Rattle.store_commands.specs.ImageImport.{key_line, image_import_refusal, listing_refusal, is_import_error, import_refusal, IsSaidOf, source_of, StoresImage, IsHeldFrom, RefusesImage, ImageImportSays}
 use Rattle.command_outcomes.proofs.Seen.{seen_at, beside}
 use Rattle.store_commands.proofs.Parts.{within_wider}
-use Rattle.store_commands.proofs.ImportParts.{Span, refused_wider}
+use Rattle.store_commands.proofs.ImportParts.{Span, refused_wider, turn_wider}
 
 -- which refusals an import has
 bundle_error : (r : BundleRefusal) → is_import_error (bundle_refusal r) ≡ true
@@ -44,6 +44,7 @@ bundle_error bundle.NoMemory = refl
 
 store_error_known : (e : StoreError) → is_import_refusal e ≡ true → is_import_error e ≡ true
 store_error_known (store_error.NoImage key) kind = kind
+store_error_known (store_error.Busy area) kind = kind
 store_error_known e kind = refl
 
 pub import_error : {observed : Bool} {source : Source} {e : StoreError} {a b : DirAt} → IsRefused observed source e a b → is_import_error e ≡ true
@@ -60,6 +61,7 @@ listing_allowed listing.NoMemory = refl
 
 error_allowed : (e : StoreError) → is_import_error e ≡ true → image_import_refusal (import_refusal e) ≡ true
 error_allowed (store_error.NoImage key) known = known
+error_allowed (store_error.Busy area) known = known
 error_allowed (store_error.ListingError e) known = listing_allowed e
 error_allowed e known = refl
 
@@ -209,9 +211,9 @@ module _ (observed : Bool) (a b : DirAt) where
     refusal_says NoMemory x = tt
     refusal_says r x = x
 
-    pub refused_says : (e : StoreError) (r : Refusal) → IsSaidOf e r → IsRefused observed source e a b → (observed ≡ true → From draw IsAlone false None a (λ intent hs. BusyElsewhere e a b)) → Says (Err r)
-    refused_says e r (inr is) refused another = subst (λ (x : Refusal). Says (Err x)) (sym is) tt
-    refused_says e r (inl is) refused another = refusal_says r (
-      record { error = e; is = is; cause = refused_wider seen_span source e refused },
+    pub refused_says : (e : StoreError) (r : Refusal) → IsSaidOf e r → IsRefused observed source e a b → ComesInTurn observed source e a b → (observed ≡ true → From draw IsAlone false None a (λ intent hs. BusyElsewhere e a b)) → Says (Err r)
+    refused_says e r (inr is) refused turn another = subst (λ (x : Refusal). Says (Err x)) (sym is) tt
+    refused_says e r (inl is) refused turn another = refusal_says r (
+      record { error = e; is = is; cause = refused_wider seen_span source e refused; turn = turn_wider seen_span source e turn },
       λ area busy t intent import k. another t intent [] import refl (at_begin intent k) area (busy_of e area (sym is ∙ busy)),
     )

@@ -33,7 +33,7 @@ use Rattle.command_outcomes.specs.Moments.{Outcome}
 use Rattle.command_outcomes.specs.Conforming.{shown_at}
 use Rattle.store_commands.specs.ImageList.{images_text, image_list_refusal, lists_images, lock_refusal, store_refusal, ImageListSays}
 use Rattle.command_outcomes.proofs.Seen.{seen_at}
-use Rattle.store_commands.proofs.Parts.{Part, store_wider, image_lack_wider}
+use Rattle.store_commands.proofs.Parts.{Part, store_wider, lacks_wider}
 
 -- the lock that was had is open and held
 pub holds_lock : {b : Local} (m : Local) (gate : Handle) → b ≡ and_lock m gate Images Shared → HoldsImages b gate
@@ -110,7 +110,7 @@ module _ {V : Type 0} (items : V → List Stored) (observed : Bool) (a b c d : D
   list_says (Ok v) (inl e) refuses at part read lacks = subst Says (sym e) (record { images = items v; told = λ t. store_wider (shown_part observed (part t)) (items v) (read t); is = refl })
   list_says (Ok v) (inr e) refuses at part read lacks = subst Says (sym e) tt
   list_says (Err (Damaged path)) lists e at part read lacks =
-      subst Says (sym e) (record { place = at; told = λ t. let x = lacks t tt in (x.0, image_lack_wider (shown_part observed (part t)) x.0 path x.1) })
+      subst Says (sym e) (record { place = at; told = λ t. lacks_wider (shown_part observed (part t)) path (lacks t tt) })
   list_says (Err error) lists e at part read lacks = subst Says (sym e) tt
 
   pub list_refusals : (found : Result V StoreError) → Lists found → Refuses found → IfErr o (λ r. image_list_refusal r ≡ true)

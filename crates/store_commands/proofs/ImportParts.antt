@@ -15,7 +15,7 @@ use Rattle.tree_digest.specs.declared.line.ListingLine.{ListingLine}
 use Rattle.image_reading.specs.declared.error.StoreError.{StoreError}
 use Rattle.image_reading.specs.Places.{IsAbsent}
 use Rattle.image_store.specs.Causes.{Source, LacksPart, UnlikeListed, Conflicts, Vanished, StrayCause, ImportCause}
-use Rattle.image_store.specs.Imports.{IsRefused, IsImported}
+use Rattle.image_store.specs.Imports.{key_of, IsRefused, ComesInTurn, IsImported}
 use Rattle.store_commands.proofs.Parts.{Part, within_wider, held_wider}
 
 -- the time between the inner two moments is a part of that between the outer two, and the count of faults never fell
@@ -77,3 +77,6 @@ module _ {observed : Bool} {old first last new : DirAt} (s : Span observed old f
   pub refused_wider : (source : Source) (e : StoreError) → IsRefused observed source e first last → IsRefused observed source e old new
   refused_wider source e (inl x) = inl x
   refused_wider source e (inr x) = inr (x.0, x.1, cause_wider x.2)
+
+  pub turn_wider : (source : Source) (e : StoreError) → ComesInTurn observed source e first last → ComesInTurn observed source e old new
+  turn_wider source e turn late = let x = turn late in (x.0, x.1, λ t. held_wider (s.part t) (IsAbsent (key_of x.0)) (x.2 t))

@@ -14,7 +14,7 @@ use Rattle.image_reading.specs.Within.{Within}
 use Rattle.image_reading.specs.Places.{image_inner, manifest_name, id_name, IsAbsent}
 use Rattle.image_reading.specs.Files.{ReadsFile, LacksFile, ShowsMarks, LacksMoment, IsNoManifest, IsNoId, most_of_manifest, most_of_id}
 use Rattle.image_reading.specs.Images.{ReadsImage, LacksImage}
-use Rattle.image_reading.specs.Store.{ReadsStore}
+use Rattle.image_reading.specs.Store.{ReadsStore, LacksListed}
 
 -- the time between the inner two moments is a part of that between the outer two
 pub record Part (old first last new : DirAt) : Type 0 where
@@ -57,7 +57,7 @@ module _ {old first last new : DirAt} (p : Part old first last new) where
   image_wider : (image : Stored) → ReadsImage image first last → ReadsImage image old new
   image_wider image r = record { manifest = file_wider r.manifest; id = file_wider r.id; moment = marks_wider r.moment }
 
-  pub image_lack_wider : (key : StoreKey) (path : List ℕ) → LacksImage key (Damaged path) first last → LacksImage key (Damaged path) old new
+  image_lack_wider : (key : StoreKey) (path : List ℕ) → LacksImage key (Damaged path) first last → LacksImage key (Damaged path) old new
   image_lack_wider key path (inl x) = inl (x.0, lack_wider (image_inner key manifest_name) most_of_manifest IsNoManifest x.1)
   image_lack_wider key path (inr (inl x)) = inr (inl (x.0, (x.1.0, file_wider x.1.1), lack_wider (image_inner key id_name) most_of_id (IsNoId key) x.2))
   image_lack_wider key path (inr (inr x)) = inr (inr (x.0, (x.1.0, file_wider x.1.1), (x.2.0, file_wider x.2.1), moment_wider key x.3))
@@ -68,4 +68,19 @@ module _ {old first last new : DirAt} (p : Part old first last new) where
     ordered = r.ordered;
     shown = within_wider r.shown;
     read = record { of_names = r.read.of_names; each = all_weaker (λ x. ReadsImage x first last) (λ x. ReadsImage x old new) image_wider images r.read.each };
+  }
+
+  pub lacks_wider : (path : List ℕ) → LacksListed (Damaged path) first last → LacksListed (Damaged path) old new
+  lacks_wider path l = record {
+    names = l.names;
+    ordered = l.ordered;
+    shown = within_wider l.shown;
+    first = record {
+      before = l.first.before;
+      key = l.first.key;
+      after = l.first.after;
+      is = l.first.is;
+      earlier = all_weaker (λ x. ReadsImage x first last) (λ x. ReadsImage x old new) image_wider l.first.before l.first.earlier;
+      lacks = image_lack_wider l.first.key path l.first.lacks;
+    };
   }

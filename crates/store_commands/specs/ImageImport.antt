@@ -25,7 +25,8 @@ use Rattle.image_reading.specs.declared.error.StoreError.{StoreError}
 use Rattle.image_reading.specs.declared.error.StoreError.TheVariants as store_error
 use Rattle.image_reading.specs.Places.{image_spot}
 use Rattle.image_store.specs.Causes.{Source, source_at, WasThere}
-use Rattle.image_store.specs.Imports.{key_of, digest_of, IsOf, OfBundle, IsRefused, IsImported}
+use Rattle.image_store.specs.Imports.{key_of, digest_of, IsOf, OfBundle, IsRefused, ComesInTurn, IsImported}
+use Rattle.image_store.specs.Refusals.{is_import_area}
 use Rattle.image_store.specs.Requests.{building_spot}
 use Rattle.image_store.specs.Work.{IsImport}
 use Rattle.command_outcomes.specs.declared.refusal.Refusal.{Refusal}
@@ -40,7 +41,7 @@ key_line key = id_text key.bytes ++ codes "\n"
 
 -- the refusals that it may have
 abbrev pub image_import_refusal : Refusal → Bool
-image_import_refusal (Busy area) = true
+image_import_refusal (Busy area) = is_import_area area
 image_import_refusal (BadManifest path number) = true
 image_import_refusal (Limit number) = true
 image_import_refusal BundleFault = true
@@ -60,8 +61,9 @@ listing_refusal (listing.TooMany limit) = Limit limit
 listing_refusal (listing.FileTooLong n) = Limit MAX_FILE
 listing_refusal listing.NoMemory = NoMemory
 
--- what an import is refused with: never that there is no image of a key
+-- what an import is refused with: never that there is no image of a key, nor for the lock of another area
 abbrev pub is_import_error : StoreError → Bool
+is_import_error (store_error.Busy area) = is_import_area area
 is_import_error (store_error.NoImage key) = false
 is_import_error error = true
 
@@ -113,11 +115,12 @@ pub record ImportsImage (path : List ℕ) (now : ℕ) (draw : PodId) (old new : 
   pub key : PrintsKey path old.bundle text
   pub stores : old.dir.observed ≡ true → IsConforming new.dir.trace → WhereBegun draw old.dir (StoresImage path now draw old new text)
 
--- why it imported nothing, and that this is what is said
+-- why it imported nothing, which came in its turn, and that this is what is said
 pub record RefusesImage (path : List ℕ) (old new : Outside) (refusal : Refusal) : Type 0 where
   pub error : StoreError
   pub is : refusal ≡ import_refusal error
   pub cause : IsRefused old.dir.observed (source_of path old.bundle) error (shown_at old.dir) (shown_at new.dir)
+  pub turn : ComesInTurn old.dir.observed (source_of path old.bundle) error (shown_at old.dir) (shown_at new.dir)
 
 -- where a lock was refused, another process held it exclusively at an own step
 abbrev pub IsAreaHeld : Area → DirSeen → DirSeen → Type 0

@@ -18,8 +18,7 @@ use Rattle.area_locks.specs.declared.error.LockError.TheVariants as lock_error
 use Rattle.image_reading.specs.declared.error.StoreError.{StoreError}
 use Rattle.image_reading.specs.declared.error.StoreError.TheVariants as store_error
 use Rattle.image_reading.specs.Looks.{reads_images}
-use Rattle.image_reading.specs.Images.{LacksImage}
-use Rattle.image_reading.specs.Store.{ReadsStore, IsStorePath}
+use Rattle.image_reading.specs.Store.{ReadsStore, LacksListed, IsStorePath}
 use Rattle.command_outcomes.specs.declared.refusal.Refusal.{Refusal}
 use Rattle.command_outcomes.specs.declared.refusal.Refusal.TheVariants.{Busy, DirFault, NoMemory, Damaged}
 use Rattle.command_outcomes.specs.Moments.{DirSeen, Outcome}
@@ -65,10 +64,11 @@ pub record ListsStore (old new : DirSeen) (text : List ℕ) : Type 0 where
 abbrev pub IsHeldElsewhere : DirSeen → DirSeen → Type 0
 IsHeldElsewhere old new = HeldBetween (shown_at old) (shown_at new) (IsBusyElsewhere old.process Images Shared)
 
--- the path is of a part of an image that wasn't there or had no reading, and that was the first of that image
+-- the path is of a part that wasn't there or had no reading, the first of its image, which is the first that isn't whole of
+-- those that the listing of the area showed
 pub record LacksPart (path : List ℕ) (old new : DirSeen) : Type 0 where
   pub place : IsStorePath path
-  pub told : old.observed ≡ true → (key : StoreKey) × LacksImage key (store_error.Damaged path) (shown_at old) (shown_at new)
+  pub told : old.observed ≡ true → LacksListed (store_error.Damaged path) (shown_at old) (shown_at new)
 
 -- what was told of the images, or of their lock, by a process that knows that it has no handle open on that lock
 abbrev pub ImageListSays : DirSeen → DirSeen → Outcome → Type 0

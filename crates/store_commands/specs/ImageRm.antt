@@ -16,7 +16,7 @@ use Rattle.area_locks.specs.AreaLocks.{takes, IsBusyElsewhere}
 use Rattle.image_reading.specs.declared.error.StoreError.{StoreError}
 use Rattle.image_reading.specs.declared.error.StoreError.TheVariants as store_error
 use Rattle.image_reading.specs.Places.{image_spot, IsAbsent}
-use Rattle.image_removal.specs.Causes.{WasStray, FoundNone}
+use Rattle.image_removal.specs.Causes.{StrayRemoval, FoundNone}
 use Rattle.image_removal.specs.Requests.{away_spot}
 use Rattle.image_removal.specs.Removals.{IsRemoved}
 use Rattle.image_removal.specs.Work.{MayRemove}
@@ -79,7 +79,7 @@ abbrev pub ImageRmSays : StoreKey → PodId → DirSeen → DirSeen → Outcome 
 ImageRmSays key draw old new (Ok text) = RemovesImage key draw old new text
 ImageRmSays key draw old new (Err (Busy area)) = WhereRemoving draw old (FindsBusy old.process old.trace new.trace)
 ImageRmSays key draw old new (Err (NoImage named)) = FindsNoImage key draw old new named
-ImageRmSays key draw old new (Err Stray) = old.observed ≡ true → WasStray old.process old.trace new.trace
+ImageRmSays key draw old new (Err Stray) = old.observed ≡ true → StrayRemoval key draw old.process old.trace new.trace
 ImageRmSays key draw old new (Err refusal) = Unit {0}
 
 -- of a whole process: that it removed the image, that it found none, that it met an answer which the locks don't explain
@@ -89,8 +89,8 @@ HasRemoved key draw old new = Meanwhile (Removes key draw) old.process old.trace
 abbrev pub HasFoundNone : StoreKey → PodId → DirSeen → DirSeen → Type 0
 HasFoundNone key draw old new = Meanwhile (FoundNone key draw) old.process old.trace new.trace
 
-abbrev pub HasMetStray : DirSeen → DirSeen → Type 0
-HasMetStray old new = Meanwhile WasStray old.process old.trace new.trace
+abbrev pub HasMetStray : StoreKey → PodId → DirSeen → DirSeen → Type 0
+HasMetStray key draw old new = Meanwhile (StrayRemoval key draw) old.process old.trace new.trace
 
 -- no image has the key any more, and its folder is gone, unless another process held the lock of removed before
 pub record LeavesNone (key : StoreKey) (draw : PodId) (old new : DirSeen) : Type 0 where
@@ -103,7 +103,7 @@ abbrev pub RemovesQuietly : StoreKey → PodId → DirSeen → DirSeen → Outco
 RemovesQuietly key draw old new (Ok text) = (text ≡ removed_text key) × HasRemoved key draw old new × LeavesNone key draw old new
 RemovesQuietly key draw old new (Err (Busy area)) = (area ≡ Images) × IsBusyElsewhere old.process Images Exclusive (state_after old.trace)
 RemovesQuietly key draw old new (Err (NoImage named)) = (named ≡ id_text key.bytes) × HasFoundNone key draw old new × IsAbsent key (state_after old.trace)
-RemovesQuietly key draw old new (Err Stray) = HasMetStray old new
+RemovesQuietly key draw old new (Err Stray) = HasMetStray key draw old new
 RemovesQuietly key draw old new (Err refusal) = ⊥
 
 -- where it moves and removes folders: the image's place, and its own in removed

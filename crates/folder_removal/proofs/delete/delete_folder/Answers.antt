@@ -1,14 +1,14 @@
-use Rattle.std.proofs.Common.{◌≡◌, true, arith, IsErrOf, ℕ, subst, ◌∙◌}
+use Rattle.std.proofs.Common.{◌≡◌, true, arith, inl, IsErrOf, ℕ, refl, subst, ◌∙◌}
 use Rattle.std.proofs.lemmas.Grind.{common_steps}
 use Rattle.dir_model.specs.declared.request.Request.TheVariants.{RemoveFolder}
-use Rattle.dir_model.specs.declared.request.Reply.TheVariants.{Done, Refused}
+use Rattle.dir_model.specs.declared.request.Reply.TheVariants.{Done}
 use Rattle.dir_model.specs.Calls.{CallStep}
-use Rattle.dir_model.proofs.Chains.{and_call, and_more}
+use Rattle.dir_model.proofs.Chains.{nothing_yet, and_call, and_more}
 use Rattle.dir_model.proofs.Spots.{spot_self}
 use Rattle.folder_removal.specs.declared.error.DeleteError.TheVariants.{Stray}
 use Rattle.folder_removal.specs.Known.{OnlyTries}
 use Rattle.folder_removal.proofs.Steps.{err_any}
-use Rattle.folder_removal.proofs.Strays.{stray_after, stray_call, stray_folder}
+use Rattle.folder_removal.proofs.Strays.{folder_stray, stray_folder, listing_stray, stray_emptied}
 use Rattle.folder_removal.proofs.Knowing.{tries_tasks, tries_folder, deletes}
 use Rattle.folder_removal.proofs.delete.delete_folder.Goals as goal
 
@@ -47,13 +47,18 @@ returns-in_err-empty-clause-refused g c =
 pub returns-in-Err-clause-refused : goal.returns-in-Err-clause-refused
 returns-in-Err-clause-refused g c t = tries_folder c.args.spot c.in_ok-tasks.tasks.items c.requires.area (c.in_ok-tasks.ensures.listed t) c.in-Err.error (c.in_ok-empty.ensures.work t) t c.in-Err.ensures.called
 
+pub returns-in_err-tasks-clause-stray : goal.returns-in_err-tasks-clause-stray
+returns-in_err-tasks-clause-stray g c h t =
+    let k : IsErrOf c.list.result Stray = grind (arith, common_steps, h, c.from_residual.ensures, c.in_err-tasks.is) in
+    listing_stray refl nothing_yet (inl (refl, nothing_yet)) (c.list.ensures.stray k t)
+
 pub returns-in_err-empty-clause-stray : goal.returns-in_err-empty-clause-stray
 returns-in_err-empty-clause-stray g c h t =
     let k : IsErrOf c.empty.result Stray = grind (arith, common_steps, h, c.from_residual-in_err-empty.ensures, c.in_err-empty.is) in
-    stray_after (c.list.ensures.extends t) c.list.ensures.same (c.empty.ensures.stray k t)
+    stray_emptied c.args.spot (g.D.Dir.shown c.args.dir.now) (g.D.Dir.shown c.list.new.dir) (g.D.Dir.shown c.empty.new.dir) c.list.ensures.same (c.list.ensures.extends t) c.in_ok-tasks.tasks.items (c.in_ok-tasks.ensures.shown t) (c.empty.ensures.stray k t)
 
 pub returns-in-Err-clause-stray : goal.returns-in-Err-clause-stray
 returns-in-Err-clause-stray g c h t =
     let is : c.delete_error.result ≡ Stray = cc in
-    stray_after (and_more (c.list.ensures.extends t) c.list.ensures.same (c.empty.ensures.extends t)) (c.empty.ensures.same ∙ c.list.ensures.same)
-    (stray_call (RemoveFolder c.args.spot) (Refused c.in-Err.error 0) (spot_self c.args.spot) (stray_folder c.args.spot c.in-Err.error c.in-Err.ensures.refusals (c.delete_error.ensures.stray is)) (c.in-Err.ensures.called.step t))
+    folder_stray c.in-Err.error (stray_folder c.args.spot c.in-Err.error c.in-Err.ensures.refusals (c.delete_error.ensures.stray is))
+    (and_more (c.list.ensures.extends t) c.list.ensures.same (c.empty.ensures.extends t)) (c.empty.ensures.same ∙ c.list.ensures.same) (c.in-Err.ensures.called.step t)

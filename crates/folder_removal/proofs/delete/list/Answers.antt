@@ -1,13 +1,15 @@
-use Rattle.std.proofs.Common.{◌≡◌, true, Ok}
+use Rattle.std.proofs.Common.{◌≡◌, true, Ok, List, sym, subst}
 use Rattle.dir_model.specs.declared.item.Inner.{Inner}
 use Rattle.dir_model.specs.declared.request.Reply.TheVariants.{Items, Refused}
 use Rattle.folder_removal.specs.declared.error.DeleteError.TheVariants.{Stray}
 use Rattle.folder_removal.specs.Tasks.{AreChildren}
+use Rattle.folder_removal.specs.declared.task.Task.{Task}
+use Rattle.folder_removal.specs.Removal.{inner_at, AreShown}
 use Rattle.folder_removal.specs.Known.{IsListed}
 use Rattle.folder_removal.proofs.Nested.{distinct}
 use Rattle.folder_removal.proofs.Calls.{list_extends, knows_list}
 use Rattle.folder_removal.proofs.Steps.{asks_listing, ok_more}
-use Rattle.folder_removal.proofs.Strays.{stray_list, stray_listing}
+use Rattle.folder_removal.proofs.Strays.{stray_list, stray_listing, listing_shown}
 use Rattle.folder_removal.proofs.Knowing.{lists_only}
 use Rattle.folder_removal.proofs.delete.list.Goals as goal
 
@@ -24,7 +26,7 @@ pub returns-in-Err-clause-known : goal.returns-in-Err-clause-known
 returns-in-Err-clause-known g c t = lists_only c.args.spot.now c.args.path.now c.list_in.result c.requires.area t c.list_in.ensures.called
 
 pub returns-in-Ok-clause-stray : goal.returns-in-Ok-clause-stray
-returns-in-Ok-clause-stray g c h t = stray_list (record { spot = c.args.spot.now; path = c.args.path.now }) (Items c.in-Ok.items) (asks_listing c.args.spot.now c.args.path.now) (rw c.as_slice.ensures at (c.children.ensures.stray h)) (c.in-Ok.ensures.called.step t)
+returns-in-Ok-clause-stray g c h t = stray_list (inner_at c.args.spot.now c.args.path.now) (Items c.in-Ok.items) (rw c.as_slice.ensures at (c.children.ensures.stray h)) (c.in-Ok.ensures.called.step t)
 
 pub returns-in-Ok-clause-listed : goal.returns-in-Ok-clause-listed
 returns-in-Ok-clause-listed g c =
@@ -39,8 +41,19 @@ returns-in-Ok-clause-listed g c =
     record { items = items; are = those.are; plain = those.plain; once = distinct items c.in-Ok.ensures.ordered; knows = λ s k. knows_list at (Ok items) t k c.in-Ok.ensures.called })
     c.children.ensures.are
 
+pub returns-in-Ok-clause-shown : goal.returns-in-Ok-clause-shown
+returns-in-Ok-clause-shown g c =
+    let D = g.D.Dir in
+    let spot = c.args.spot.now in
+    let path = c.args.path.now in
+    let old = D.shown c.args.dir.now in
+    let new = D.shown c.list_in.new.self in
+    ok_more (λ tasks. AreChildren path c.as_slice.result.now tasks.items) (λ tasks. D.observed ≡ true → AreShown spot tasks.items old.process old.trace new.trace) c.children.result
+    (λ tasks are t. subst (λ (l : List Task). AreShown spot l old.process old.trace new.trace) (sym (rw c.as_slice.ensures at are).are) (listing_shown spot path c.in-Ok.items (c.in-Ok.ensures.called.step t)))
+    c.children.ensures.are
+
 pub returns-in-Err-clause-stray : goal.returns-in-Err-clause-stray
 returns-in-Err-clause-stray g c h t =
-    let at : Inner = record { spot = c.args.spot.now; path = c.args.path.now } in
+    let at : Inner = inner_at c.args.spot.now c.args.path.now in
     let is : c.delete_error.result ≡ Stray = cc in
-    stray_list at (Refused c.in-Err.error 0) (asks_listing c.args.spot.now c.args.path.now) (stray_listing at c.in-Err.error c.in-Err.ensures.refusals (c.delete_error.ensures.stray is)) (c.in-Err.ensures.called.step t)
+    stray_list at (Refused c.in-Err.error 0) (stray_listing at c.in-Err.error c.in-Err.ensures.refusals (c.delete_error.ensures.stray is)) (c.in-Err.ensures.called.step t)

@@ -2,9 +2,8 @@ use Rattle.std.proofs.Common.{◌≡◌, refl}
 use Rattle.dir_model.specs.declared.request.Reply.TheVariants.{Refused}
 use Rattle.dir_model.proofs.Chains.{nothing_yet, and_call}
 use Rattle.folder_removal.specs.declared.error.DeleteError.TheVariants.{Stray}
-use Rattle.folder_removal.specs.Removal.{removal_of}
 use Rattle.folder_removal.proofs.Steps.{asks_removal}
-use Rattle.folder_removal.proofs.Strays.{stray_removal, stray_call}
+use Rattle.folder_removal.proofs.Strays.{stray_removal}
 use Rattle.folder_removal.proofs.Knowing.{removal_done, removes_only}
 use Rattle.folder_removal.proofs.delete.remove.Goals as goal
 
@@ -25,7 +24,5 @@ returns-in-Ok-clause-removed g c t = removal_done c.args.spot.now c.args.task.no
 
 pub returns-in-Err-clause-stray : goal.returns-in-Err-clause-stray
 returns-in-Err-clause-stray g c h t =
-    let spot = c.args.spot.now in
-    let task = c.args.task.now in
     let is : c.delete_error.result ≡ Stray = cc in
-    stray_call (removal_of spot task) (Refused c.in-Err.error 0) (asks_removal spot task) (stray_removal spot task c.in-Err.error c.in-Err.ensures.refusals (c.delete_error.ensures.stray is)) (c.in-Err.ensures.called.step t)
+    record { reply = Refused c.in-Err.error 0; stray = stray_removal c.args.spot.now c.args.task.now c.in-Err.error c.in-Err.ensures.refusals (c.delete_error.ensures.stray is); last = c.in-Err.ensures.called.step t }

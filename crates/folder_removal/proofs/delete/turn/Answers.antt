@@ -1,11 +1,13 @@
-use Rattle.std.proofs.Common.{◌≡◌, ◌<◌, ◌++◌, ◌∷◌, [], List, true, sym, subst}
+use Rattle.std.proofs.Common.{◌≡◌, ◌<◌, ◌++◌, ◌∷◌, [], List, true, inl, inr, sym, subst, rules, IsErrOf}
 use Rattle.dir_model.specs.declared.request.Reply.TheVariants.{Done}
 use Rattle.folder_removal.specs.declared.task.Task.{Task}
+use Rattle.folder_removal.specs.declared.error.DeleteError.TheVariants.{Stray}
 use Rattle.folder_removal.specs.Tasks.{with_listed}
 use Rattle.folder_removal.specs.Weights.{weigh}
-use Rattle.folder_removal.specs.Removal.{removal_of}
+use Rattle.folder_removal.specs.Removal.{removal_of, ShownThen}
 use Rattle.folder_removal.specs.Known.{Learns, WorksOff}
 use Rattle.folder_removal.proofs.Steps.{ok_more, ok_any}
+use Rattle.folder_removal.proofs.Strays.{turn_listed, turn_removed}
 use Rattle.folder_removal.proofs.Weights.{listed_less, removed_less}
 use Rattle.folder_removal.proofs.Knowing.{lists_off, removes_off, tries_removal}
 use Rattle.folder_removal.proofs.delete.turn.Goals as goal
@@ -18,6 +20,36 @@ returns-in_err-children-clause-known g c t s k w = c.list.ensures.known t s k
 
 pub returns-else-is_unlisted-clause-known : goal.returns-else-is_unlisted-clause-known
 returns-else-is_unlisted-clause-known g c t = tries_removal c.args.spot.now c.args.tasks.now.items c.args.task (sym c.if-is_unlisted.ensures) (c.remove.ensures.known t)
+
+pub returns-in_err-children-clause-stray : goal.returns-in_err-children-clause-stray
+returns-in_err-children-clause-stray g c h t =
+    let k : IsErrOf c.list.result Stray = search (rules, h, c.from_residual.ensures, c.in_err-children.is) in
+    inl (sym c.if-is_unlisted.ensures, rw c.as_str.ensures.text at (c.list.ensures.stray k t))
+
+pub returns-else-is_unlisted-clause-stray : goal.returns-else-is_unlisted-clause-stray
+returns-else-is_unlisted-clause-stray g c h t = inr (c.remove.ensures.stray h t)
+
+pub returns-in_ok-children-clause-shown : goal.returns-in_ok-children-clause-shown
+returns-in_ok-children-clause-shown g c =
+    let D = g.D.Dir in
+    let spot = c.args.spot.now in
+    let xs = c.args.tasks.now.items in
+    let t = c.args.task in
+    let children = c.in_ok-children.children.items in
+    let old = D.shown c.args.dir.now in
+    let new = D.shown c.list.new.dir in
+    ok_more (λ done. c.add.new.tasks.items ≡ (xs ++ with_listed t ∷ []) ++ children) (λ done. D.observed ≡ true → ShownThen spot (xs ++ t ∷ []) c.add.new.tasks.items old new) c.add.result
+    (λ done is o. subst (λ (l : List Task). ShownThen spot (xs ++ t ∷ []) l old new) (sym is) (turn_listed spot xs t old new (c.list.ensures.extends o) children (c.in_ok-children.ensures.shown o)))
+    c.add.ensures.items
+
+pub returns-else-is_unlisted-clause-shown : goal.returns-else-is_unlisted-clause-shown
+returns-else-is_unlisted-clause-shown g c =
+    let D = g.D.Dir in
+    let spot = c.args.spot.now in
+    let xs = c.args.tasks.now.items in
+    let old = D.shown c.args.dir.now in
+    let new = D.shown c.remove.new.dir in
+    ok_any (λ done. D.observed ≡ true → ShownThen spot (xs ++ c.args.task ∷ []) xs old new) c.remove.result (λ done o. turn_removed spot xs c.args.task old new (c.remove.ensures.extends o))
 
 pub returns-in_ok-children-clause-work : goal.returns-in_ok-children-clause-work
 returns-in_ok-children-clause-work g c =

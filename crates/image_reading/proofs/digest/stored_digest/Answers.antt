@@ -15,4 +15,6 @@ returns-in-Ok-clause-there g c t =
     record { there = held_before t (g.D.Dir.shown c.args.dir.now) c.is_there.ensures.only.same (e.there t) c.digest_of.ensures.only; parts = parts_after t c.is_there.ensures.only (c.in-Ok.ensures.read t) }
 
 pub returns-in-Err-clause-damaged : goal.returns-in-Err-clause-damaged
-returns-in-Err-clause-damaged g c t = digest_lack_after t c.args.key c.in-Err.error (g.D.Dir.shown c.digest_of.new.dir) c.is_there.ensures.only (c.in-Err.ensures.damaged t)
+returns-in-Err-clause-damaged g c t damaged =
+    let e = rw c.if-not-branch.false at c.in_ok-is_there.ensures in
+    (held_before t (g.D.Dir.shown c.args.dir.now) c.is_there.ensures.only.same (e.there t) c.digest_of.ensures.only, digest_lack_after t c.args.key c.in-Err.error (g.D.Dir.shown c.digest_of.new.dir) c.is_there.ensures.only (c.in-Err.ensures.damaged t))

@@ -1,10 +1,11 @@
 use Rattle.std.proofs.Common.{◌≡◌, true, ℕ, List, subst}
-use Rattle.image_reading.specs.Store.{AreRead, ReadsStore, LacksStore}
+use Rattle.image_reading.specs.Refusals.{IsDamaged}
+use Rattle.image_reading.specs.Store.{AreRead, ReadsStore, LacksFirst, LacksStore}
 use Rattle.image_reading.proofs.Results.{if_ok, if_err, not_outside}
 use Rattle.image_reading.proofs.Asking.{images_more, images_names}
 use Rattle.image_reading.proofs.Holding.{knows_images}
 use Rattle.image_reading.proofs.Widths.{within_self, told_before}
-use Rattle.image_reading.proofs.Stores.{are_after, store_lack_after}
+use Rattle.image_reading.proofs.Stores.{are_after, first_after}
 use Rattle.image_reading.proofs.store.stored.Goals as goal
 
 pub returns-in-Ok-clause-only : goal.returns-in-Ok-clause-only
@@ -35,8 +36,14 @@ returns-in-Ok-clause-damaged g c =
     let old = D.shown c.args.dir.now in
     let mid = D.shown c.names_of.new.dir in
     let new = D.shown c.read_each.new.dir in
-    if_err (λ e. D.observed ≡ true → LacksStore e mid new) (λ e. D.observed ≡ true → LacksStore e old new) c.read_each.result
-    (λ e lacks t. store_lack_after e new t (images_names c.names_of.result c.names_of.ensures.called) (lacks t)) c.read_each.ensures.damaged
+    if_err (λ e. IsDamaged e → D.observed ≡ true → LacksFirst c.as_slice.result.now e mid new) (λ e. D.observed ≡ true → LacksStore e old new) c.read_each.result
+    (λ e lacks t damaged. record {
+      names = c.in-Ok.names;
+      ordered = c.in-Ok.ensures.ordered;
+      shown = told_before t (within_self (c.in-Ok.ensures.shows t)) c.read_each.ensures.only;
+      first = first_after t (images_names c.names_of.result c.names_of.ensures.called) c.in-Ok.names e (subst (λ (ns : List (List ℕ)). LacksFirst ns e mid new) c.as_slice.ensures (lacks damaged t));
+    })
+    c.read_each.ensures.damaged
 
 pub returns-in-Err-clause-damaged : goal.returns-in-Err-clause-damaged
 returns-in-Err-clause-damaged g c t damaged = absurd (not_outside c.fault_error.result c.fault_error.ensures.outside damaged)

@@ -49,7 +49,7 @@ returns-clause-cause g c =
     let mid = D.shown c.put_away_locked.new.dir in
     let new = D.shown c.delete_if_free.new.dir in
     err_more (λ e. WorkCause D.observed e mid new) (λ e. RemoveCause D.observed c.args.key c.args.draw e old new) c.delete_if_free.result
-    (λ e w. work_removing c.args.key c.args.draw e (follows_work c.put_away_locked.ensures.worked) w) c.delete_if_free.ensures.cause
+    (λ e w. work_removing c.args.key c.args.draw e (follows_work c.put_away_locked.ensures.worked) c.in_ok-put_away_locked.ensures.moved w) c.delete_if_free.ensures.cause
 
 pub returns-clause-another : goal.returns-clause-another
 returns-clause-another g c =

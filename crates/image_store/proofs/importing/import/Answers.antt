@@ -1,9 +1,11 @@
-use Rattle.std.proofs.Common.{inr, rules}
+use Rattle.std.proofs.Common.{◌≡◌, true, inr, rules, subst}
 use Rattle.folder_building.proofs.Copying.{err_more}
+use Rattle.image_reading.specs.declared.error.StoreError.{StoreError}
 use Rattle.image_reading.proofs.Results.{err_same}
 use Rattle.image_store.specs.Refusals.{is_import_refusal}
-use Rattle.image_store.specs.Causes.{source_at, ImportCause}
-use Rattle.image_store.specs.Imports.{key_of, digest_of, IsRefused}
+use Rattle.image_store.specs.Causes.{source_at, is_late, FoundAbsent, ImportCause}
+use Rattle.image_store.specs.Imports.{key_of, digest_of, IsRefused, ComesInTurn}
+use Rattle.image_store.proofs.Refusals.{bundle_early}
 use Rattle.image_store.proofs.Placings.{same_key}
 use Rattle.image_store.proofs.Ends.{cause_before_reads, brought_is_imported}
 use Rattle.image_store.proofs.importing.import.Goals as goal
@@ -21,6 +23,20 @@ returns-in_err-there-in-Ok-clause-refused g c =
     err_same (λ e. IsRefused D.observed first e old new) c.import_image.result c.from_residual.result (λ e h. search (rules, h, c.from_residual.ensures, c.in_err-there-in-Ok.is))
     (err_more (λ e. ImportCause is_import_refusal D.observed read (key_of image) (digest_of image) image.listing e old new) (λ e. IsRefused D.observed first e old new) c.import_image.result
     (λ e x. inr (image, c.in-Ok.ensures.ok, cause_before_reads c.read_bundle.ensures.reads.same x)) c.import_image.ensures.cause)
+
+pub returns-in_err-there-in-Ok-clause-turn : goal.returns-in_err-there-in-Ok-clause-turn
+returns-in_err-there-in-Ok-clause-turn g c =
+    let D = g.D.Dir in
+    let B = g.B.Bundle in
+    let first = source_at B.observed (B.shown c.args.bundle.now).tree c.args.path.now in
+    let old = D.shown c.args.dir.now in
+    let new = D.shown c.import_image.new.dir in
+    let image = c.in-Ok.image in
+    err_same (λ e. ComesInTurn D.observed first e old new) c.import_image.result c.from_residual.result (λ e h. search (rules, h, c.from_residual.ensures, c.in_err-there-in-Ok.is))
+    (err_more (λ e. FoundAbsent D.observed (key_of image) e old new) (λ e. ComesInTurn D.observed first e old new) c.import_image.result (λ e x late. (image, c.in-Ok.ensures.ok, x late)) c.import_image.ensures.turn)
+
+pub returns-in-Err-clause-turn : goal.returns-in-Err-clause-turn
+returns-in-Err-clause-turn g c late = absurd (bundle_early c.in-Err.refusal (subst (λ (x : StoreError). is_late x ≡ true) c.bundle_refusal.ensures late))
 
 pub returns-in_ok-there-in-Ok-clause-imported : goal.returns-in_ok-there-in-Ok-clause-imported
 returns-in_ok-there-in-Ok-clause-imported g c fresh t conforms intent hs imports alone k =

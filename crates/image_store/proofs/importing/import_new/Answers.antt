@@ -27,7 +27,7 @@ returns-in_err-gate-clause-cause g c =
     let new = D.shown c.share.new.dir in
     let image = c.args.image.now in
     err_same (λ e. ImportCause is_import_refusal D.observed source (key_of image) c.args.digest.now image.listing e old new) c.share.result c.from_residual.result (λ e h. search (rules, h, c.from_residual.ensures, c.in_err-gate.is))
-    (err_more (λ e. LockCause D.observed Incoming e old new) (λ e. ImportCause is_import_refusal D.observed source (key_of image) c.args.digest.now image.listing e old new) c.share.result (λ e x. lock_importing Incoming e x) c.share.ensures.cause)
+    (err_more (λ e. LockCause D.observed Incoming e old new) (λ e. ImportCause is_import_refusal D.observed source (key_of image) c.args.digest.now image.listing e old new) c.share.result (λ e x. lock_importing Incoming e refl x) c.share.ensures.cause)
 
 pub returns-clause-worked : goal.returns-clause-worked
 returns-clause-worked g c =

@@ -3,7 +3,7 @@ use Rattle.image_reading.proofs.Asking.{image_more, images_one}
 use Rattle.pod_reading.specs.Refusals.{IsLack, LacksTreeAt, LacksOwn}
 use Rattle.pod_reading.specs.Readings.{with_manifest, Adds, ReadsNext}
 use Rattle.pod_reading.proofs.Results.{if_ok, ok_same, passed_on, lack_wider}
-use Rattle.pod_reading.proofs.Lacks.{tree_before, own_lack_after, manifest_lack}
+use Rattle.pod_reading.proofs.Lacks.{tree_before, manifest_lack_after, manifest_lack}
 use Rattle.pod_reading.proofs.Again.{kept_manifest}
 use Rattle.image_reading.proofs.Widths.{file_after}
 use Rattle.pod_reading.proofs.images.read_next.Goals as goal
@@ -52,8 +52,7 @@ pub returns-in-Err-clause-lacks : goal.returns-in-Err-clause-lacks
 returns-in-Err-clause-lacks g c =
     let D = g.D.Dir in
     let key = c.args.listed.now.key in
-    let old = D.shown c.args.dir.now in
-    let mid = D.shown c.read_map.new.dir in
     let new = D.shown c.read_manifest.new.dir in
-    lack_wider D.observed (λ path. LacksOwn key path mid new) (λ path. LacksOwn key path old new) c.in-Err.error (λ t path lacks. own_lack_after t key path new c.read_map.ensures.only lacks)
-    (manifest_lack key c.in-Err.error c.in-Err.ensures.refusals c.in-Err.ensures.damaged)
+    let map = c.in_ok-map.map in
+    manifest_lack key map c.in-Err.error (λ t. tree_before t key map (c.in_ok-map.ensures.read t) c.read_manifest.ensures.only) c.in-Err.ensures.refusals
+    (λ damaged t. manifest_lack_after t key new c.read_map.ensures.only (c.in-Err.ensures.damaged damaged t))

@@ -8,13 +8,13 @@ use Rattle.pod_claim.proofs.Times.{deeds_part, at_part}
 use Rattle.pod_claim.proofs.Traces.{grown_none}
 use Rattle.pod_steps.specs.declared.setback.Setback.{Setback}
 use Rattle.pod_steps.specs.Causes.{Stopped, IsAbsentAt, Did}
-use Rattle.pod_steps.proofs.Calls.{follows_none, follows_work, stops_part}
+use Rattle.pod_steps.proofs.Calls.{follows_work}
 use Rattle.dir_model.specs.State.{DirState, stands}
 use Rattle.dir_model.specs.declared.spot.Spot.{Spot}
 use Rattle.dir_trait.specs.DirCalls.{HeldBetween}
 use Rattle.pod_removal.proofs.Looking.{worked_look, missing_stops, failed_stops, look_calm, look_no_stray}
-use Rattle.pod_removal.proofs.Deleting.{look_kinds, known_later, known_looked}
-use Rattle.pod_removal.specs.Causes.{is_missing, MissedUntaken}
+use Rattle.pod_removal.proofs.Deleting.{look_kinds, stood_stops, known_later, known_looked}
+use Rattle.pod_removal.specs.Causes.{StoppedDeleting, MissedUntaken}
 use Rattle.pod_steps.proofs.Taking.{took_looks}
 use Rattle.pod_removal.proofs.deletion.delete_if_there.Goals as goal
 
@@ -30,8 +30,11 @@ returns-in-Ok-true-clause-stopped g c =
     let old = D.shown c.args.dir.now in
     let mid = D.shown c.look.new.dir in
     let new = D.shown c.delete_standing.new.dir in
-    err_more (λ e. Stopped D.observed c.args.pod (IsAbsentAt c.args.pod c.args.area) e mid new) (λ e. Stopped D.observed c.args.pod (IsAbsentAt c.args.pod c.args.area) e old new) c.delete_standing.result
-    (λ e x. stops_part (follows_work (worked_look c.args.pod c.args.area old mid c.pod_spot.ensures l.same l.faults l.local l.extends)) follows_none x) c.delete_standing.ensures.stopped
+    let told = rw c.in-Ok-true.field-0-test at c.in-Ok-true.ensures in
+    let w = worked_look c.args.pod c.args.area old mid c.pod_spot.ensures l.same l.faults l.local l.extends in
+    err_more (λ e. StoppedDeleting D.observed (pod_spot c.args.pod c.args.area) e mid new) (λ e. Stopped D.observed c.args.pod (IsAbsentAt c.args.pod c.args.area) e old new) c.delete_standing.result
+    (λ e x. stood_stops w.same w.faults (follows_work w).grown
+    (λ t. subst (λ (spot : Spot). HeldBetween old mid (λ (s : DirState). stands s.namespace spot ≡ true)) c.pod_spot.ensures (told.there t)) x) c.delete_standing.ensures.stopped
 
 pub returns-in-Ok-true-clause-done : goal.returns-in-Ok-true-clause-done
 returns-in-Ok-true-clause-done g c =
@@ -81,8 +84,8 @@ returns-in-Err-clause-known g c t = known_looked (c.look.ensures.known t)
 pub returns-in-Ok-true-clause-still : goal.returns-in-Ok-true-clause-still
 returns-in-Ok-true-clause-still g c =
     let D = g.D.Dir in
-    err_more (λ e. is_missing e ≡ false) (λ e. MissedUntaken D.observed e (D.shown c.args.dir.now) (D.shown c.delete_standing.new.dir)) c.delete_standing.result
-    (λ e there is t. let clash : true ≡ false = sym is ∙ there in cc) c.delete_standing.ensures.there
+    err_more (λ e. StoppedDeleting D.observed (pod_spot c.args.pod c.args.area) e (D.shown c.look.new.dir) (D.shown c.delete_standing.new.dir)) (λ e. MissedUntaken D.observed e (D.shown c.args.dir.now) (D.shown c.delete_standing.new.dir)) c.delete_standing.result
+    (λ e x is t. let clash : true ≡ false = sym is ∙ x.there in cc) c.delete_standing.ensures.stopped
 
 pub returns-in-Ok-false-clause-still : goal.returns-in-Ok-false-clause-still
 returns-in-Ok-false-clause-still g c is t =
@@ -103,10 +106,10 @@ returns-in-Ok-true-clause-stood g c =
     let mid = D.shown c.look.new.dir in
     let new = D.shown c.delete_standing.new.dir in
     let told = rw c.in-Ok-true.field-0-test at c.in-Ok-true.ensures in
-    err_more (λ e. is_missing e ≡ false)
+    err_more (λ e. StoppedDeleting D.observed (pod_spot c.args.pod c.args.area) e mid new)
     (λ e. e ≡ Setback.Stray → D.observed ≡ true → HeldBetween old new (λ s. stands s.namespace (pod_spot c.args.pod c.args.area) ≡ true)) c.delete_standing.result
-    (λ e there is t. at_part grown_none refl ((follows_work c.delete_standing.ensures.worked).grown t)
-    (subst (λ (spot : Spot). HeldBetween old mid (λ (s : DirState). stands s.namespace spot ≡ true)) c.pod_spot.ensures (told.there t))) c.delete_standing.ensures.there
+    (λ e x is t. at_part grown_none refl ((follows_work c.delete_standing.ensures.worked).grown t)
+    (subst (λ (spot : Spot). HeldBetween old mid (λ (s : DirState). stands s.namespace spot ≡ true)) c.pod_spot.ensures (told.there t))) c.delete_standing.ensures.stopped
 
 pub returns-in-Err-clause-stood : goal.returns-in-Err-clause-stood
 returns-in-Err-clause-stood g c is = absurd (look_no_stray c.in-Err.error (sym c.look_setback.ensures ∙ is))

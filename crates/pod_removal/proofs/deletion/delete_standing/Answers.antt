@@ -2,10 +2,10 @@ use Rattle.std.proofs.Common.{◌≡◌, true, Err, sym, ap, subst, ◌∙◌}
 use Rattle.dir_model.specs.declared.spot.Spot.{Spot}
 use Rattle.folder_removal.specs.Removal.{is_removal_area}
 use Rattle.pod_steps.specs.declared.setback.Setback.{Setback}
-use Rattle.pod_steps.specs.Causes.{Stopped, IsAbsentAt}
+use Rattle.phase_read.specs.Read.{pod_spot}
+use Rattle.pod_steps.specs.Setbacks.{delete_setback}
 use Rattle.pod_removal.proofs.Deleting.{place_deletes, worked_delete, delete_stops, delete_calm, deed_removed, known_deleted, known_tried}
-use Rattle.pod_removal.specs.Causes.{is_missing}
-use Rattle.pod_removal.proofs.Deleting.{delete_there}
+use Rattle.pod_removal.specs.Causes.{StoppedDeleting}
 use Rattle.pod_removal.proofs.deletion.delete_standing.Goals as goal
 
 pub delete_folder-requires-clause-area : goal.delete_folder-requires-clause-area
@@ -30,14 +30,14 @@ returns-in-Err-clause-worked g c =
 pub returns-in-Err-clause-stopped : goal.returns-in-Err-clause-stopped
 returns-in-Err-clause-stopped g c =
     let D = g.D.Dir in
-    subst (λ (x : Setback). Stopped D.observed c.args.pod (IsAbsentAt c.args.pod c.args.area) x (D.shown c.args.dir.now) (D.shown c.delete_folder.new.dir)) (sym c.delete_setback.ensures)
-    (delete_stops c.in-Err.error (λ is. c.delete_folder.ensures.cause (c.in-Err.is ∙ ap Err is)) (λ is t. c.delete_folder.ensures.stray (c.in-Err.is ∙ ap Err is) t))
+    let old = D.shown c.args.dir.now in
+    let new = D.shown c.delete_folder.new.dir in
+    subst (λ (x : Setback). StoppedDeleting D.observed (pod_spot c.args.pod c.args.area) x old new) (sym c.delete_setback.ensures)
+    (subst (λ (s : Spot). StoppedDeleting D.observed s (delete_setback c.in-Err.error) old new) c.pod_spot.ensures
+    (delete_stops c.in-Err.error (λ is. c.delete_folder.ensures.cause (c.in-Err.is ∙ ap Err is)) (λ is t. c.delete_folder.ensures.stray (c.in-Err.is ∙ ap Err is) t)))
 
 pub returns-in-Err-clause-calm : goal.returns-in-Err-clause-calm
 returns-in-Err-clause-calm g c which is = delete_calm c.in-Err.error which (sym c.delete_setback.ensures ∙ is)
 
 pub returns-in-Err-clause-known : goal.returns-in-Err-clause-known
 returns-in-Err-clause-known g c t = known_tried c.pod_spot.ensures c.requires.garbage (c.in-Err.ensures.refused t)
-
-pub returns-in-Err-clause-there : goal.returns-in-Err-clause-there
-returns-in-Err-clause-there g c = ap is_missing c.delete_setback.ensures ∙ delete_there c.in-Err.error
