@@ -175,7 +175,10 @@ fn asked(
     reply_at(alloc, resource, pod, &request.body, key)
 }
 
-/// The reply to a request that was read. The pod is the one that the target's token names, or none.
+/// The reply to a request that was read: 403 where it doesn't say that it is for an App Container; 404 where
+/// its target has no token, no pod was found, or nothing stands at the path; 405 where that is asked for by
+/// another method; 400 where a form is missing or unreadable; else what was asked for. The pod is the one that
+/// the target's token names, or none. `NoMemory` where memory ran out.
 pub fn answer(
     alloc: Global,
     request: &Request,
