@@ -1,5 +1,5 @@
 //! An image manifest as it is written.
-ghost use Rattle.std.specs.Prelude.{◌≡◌, IfOk};
+ghost use Rattle.std.specs.Prelude.{◌≡◌, IfOk, IsUtf8};
 ghost use Rattle.serde_json.specs.Data.{no_members};
 ghost use Rattle.serde_json.specs.View.{view};
 ghost use Rattle.serde_json.specs.Written.{compact_text};
@@ -26,6 +26,7 @@ pub fn image_bytes(alloc: Global, manifest: &ImageManifest) -> Result<Vec<u8>, N
     ensures text { IfOk result (λ bytes. IsCompactText (image_object (image_data manifest.now)) bytes.items) }
     ensures text_of_manifest { IfOk result (λ bytes. IsImageManifest (image_data manifest.now)
         → bytes.items ≡ compact_text (image_object (image_data manifest.now))) }
+    ensures utf8 { IfOk result (λ bytes. IsUtf8 bytes.items) }
     ensures reads_back { IfOk result (λ bytes. IsImageManifest (image_data manifest.now)
         → KeepsLimits (image_object (image_data manifest.now)) bytes.items
         → image_manifest bytes.items ≡ reads (image_data manifest.now)) }

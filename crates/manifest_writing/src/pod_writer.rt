@@ -1,5 +1,5 @@
 //! A pod manifest as it is written.
-ghost use Rattle.std.specs.Prelude.{◌≡◌, IfOk};
+ghost use Rattle.std.specs.Prelude.{◌≡◌, IfOk, IsUtf8};
 ghost use Rattle.serde_json.specs.Data.{no_members};
 ghost use Rattle.serde_json.specs.View.{view};
 ghost use Rattle.serde_json.specs.Written.{compact_text};
@@ -25,6 +25,7 @@ pub fn pod_bytes(alloc: Global, manifest: &PodManifest) -> Result<Vec<u8>, NoMem
     ensures text { IfOk result (λ bytes. IsCompactText (pod_object (pod_data manifest.now)) bytes.items) }
     ensures text_of_manifest { IfOk result (λ bytes. IsPodManifest (pod_data manifest.now)
         → bytes.items ≡ compact_text (pod_object (pod_data manifest.now))) }
+    ensures utf8 { IfOk result (λ bytes. IsUtf8 bytes.items) }
     ensures reads_back { IfOk result (λ bytes. IsPodManifest (pod_data manifest.now)
         → KeepsLimits (pod_object (pod_data manifest.now)) bytes.items
         → pod_manifest bytes.items ≡ reads (pod_data manifest.now)) }
