@@ -4,11 +4,10 @@
 // delete such roots, and nowhere else.
 //
 // A deletion takes the mark of an app before its root, so the mark doesn't tell which apps were started where
-// a deletion was cut off. The area does: each pod in exited-garbage has been in run, where apps are started,
-// and no pod in garbage has. So a root in exited-garbage is that of a started app; or its pod was never run to
-// that app, and then nobody has written there but the pod's maker. A listing shows all that a maker has
-// made, and whoever keeps the rules removes what a listing showed before it removes the directory: so where
-// the app wasn't started nothing is left that a removal could take along.
+// a deletion was cut short. The area does: each pod in exited-garbage has been in run, where apps are started,
+// and no pod in garbage has. Where an app of such a pod wasn't started, nobody but the pod's maker has written
+// in its root: a listing shows all of that, and whoever keeps the rules removes what a listing showed before
+// it removes the directory, so nothing is left that a removal could take along.
 ghost use Rattle.std.specs.Prelude.{◌≡◌, true, string_bytes, IfOk, IfErr};
 ghost use Rattle.dir_model.specs.Trees.{app_root, is_within};
 ghost use Rattle.host_files.specs.Apps.{LiesInApp};
