@@ -1,9 +1,9 @@
 // Why a pod wasn't prepared.
-ghost use Rattle.std.specs.Prelude.{◌≡◌, ◌<◌, ℕ, length};
+ghost use Rattle.std.specs.Prelude.{◌≡◌, ◌<◌, ℕ, length, IfOk};
 ghost use Rattle.pod_build.specs.Refusals.{gate_refusal, plan_refusal, IsMakeRefusal};
 
 use crate::origin::damaged;
-use ac_types::Text;
+use ac_types::{Text, memory};
 use area_locks::LockError;
 use dep_match::DepError;
 use dir_trait::{Area, PodId};
@@ -41,6 +41,27 @@ pub enum BuildError {
     Stray,
     /// Memory ran out.
     NoMemory,
+}
+
+impl BuildError {
+    /// An equal error. `NoMemory` where memory ran out.
+    pub fn copy(&self) -> Result<BuildError, memory::NoMemory>
+        ensures { IfOk result (λ copy. copy ≡ self.now) }
+    {
+        match self {
+            BuildError::Busy(area) => Ok(BuildError::Busy(*area)),
+            BuildError::Damaged(path) => Ok(BuildError::Damaged(path.copy()?)),
+            BuildError::NoMatch(place) => Ok(BuildError::NoMatch(*place)),
+            BuildError::DepError(fault) => Ok(BuildError::DepError(fault.copy()?)),
+            BuildError::GenError(refusal) => Ok(BuildError::GenError(refusal.copy()?)),
+            BuildError::RenderError(refusal) => Ok(BuildError::RenderError(*refusal)),
+            BuildError::ListingError(refusal) => Ok(BuildError::ListingError(*refusal)),
+            BuildError::Taken(pod) => Ok(BuildError::Taken(*pod)),
+            BuildError::DirFault => Ok(BuildError::DirFault),
+            BuildError::Stray => Ok(BuildError::Stray),
+            BuildError::NoMemory => Ok(BuildError::NoMemory),
+        }
+    }
 }
 
 /// The refusal where the lock of images wasn't had.

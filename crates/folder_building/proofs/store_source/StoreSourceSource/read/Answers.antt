@@ -1,5 +1,4 @@
-use Rattle.std.proofs.Common.{◌≡◌, List, ℕ, length, take, true, false, Ok, Err, refl, rules, sym, ap, subst, ◌∙◌}
-use Rattle.dir_model.specs.Replies.{is_fault}
+use Rattle.std.proofs.Common.{◌≡◌, List, ℕ, length, take, Ok, Err, refl, subst}
 use Rattle.folder_building.specs.declared.source.SourceError.TheVariants.{Missing}
 use Rattle.folder_building.specs.Stored.{WasGone, Sees}
 use Rattle.folder_building.specs.Sources.{in_image}
