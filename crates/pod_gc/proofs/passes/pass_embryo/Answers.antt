@@ -1,7 +1,9 @@
-use Rattle.std.proofs.Common.{◌≡◌, ◌∷◌, [], ◌++◌, rules, inr, true, None, Err, sym, ap, subst, ◌∙◌}
+use Rattle.std.proofs.Common.{◌≡◌, ◌∷◌, [], ◌++◌, rules, inr, true, None, Err, sym, ap, subst, ◌∙◌, arith}
 use Rattle.dir_model.specs.declared.area.Area.TheVariants.{Embryo}
 use Rattle.area_locks.specs.declared.error.LockError.TheVariants as lock
 use Rattle.folder_building.proofs.Copying.{ok_more, err_more}
+use Rattle.pod_claim.proofs.Traces.{grown_by}
+use Rattle.pod_steps.proofs.Calls.{stray_part}
 use Rattle.pod_gc.specs.declared.error.GcError.{GcError}
 use Rattle.pod_gc.specs.declared.line.Deed.TheVariants.{BusyGate}
 use Rattle.pod_gc.specs.Causes.{GcCause}
@@ -16,6 +18,22 @@ returns-in-Ok-clause-worked g c =
     let l = c.lock_area.ensures in
     let u = c.unlock_area.ensures in
     worked_gate c.args.times.now c.in-Ok.gate c.in-Ok.ensures.unopened l.same l.faults c.in-Ok.ensures.held l.extends c.pass_listed-result.ensures.worked u.same u.faultless u.local u.extends
+
+pub returns-in-Ok-clause-cause : goal.returns-in-Ok-clause-cause
+returns-in-Ok-clause-cause g c =
+    let D = g.D.Dir in
+    let l = c.lock_area.ensures in
+    let u = c.unlock_area.ensures in
+    let old = D.shown c.args.dir.now in
+    let mid = D.shown c.lock_area.new.dir in
+    let late = D.shown c.pass_listed-result.new.dir in
+    let new = D.shown c.unlock_area.new.dir in
+    err_more (λ e. GcCause D.observed e mid late) (λ e. GcCause D.observed e old new) c.pass_listed-result.result
+    (λ e x. record {
+      fault = λ is. let rose = x.fault is in omega (arith, rose, l.faults, u.faultless);
+      stray = λ is t. stray_part (grown_by (l.extends t)) l.same (grown_by (u.extends t)) (x.stray is t);
+    })
+    c.pass_listed-result.ensures.cause
 
 pub returns-in-Ok-clause-ready : goal.returns-in-Ok-clause-ready
 returns-in-Ok-clause-ready g c t =
