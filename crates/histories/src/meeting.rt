@@ -2,8 +2,8 @@
 ghost use Rattle.std.specs.Prelude.{◌≡◌, IfOk};
 ghost use Rattle.dir_trait.specs.Local.{nothing_local, IsActive};
 
-use crate::definitions::{add_definition, most_of};
 use crate::calls::{Answer, answer_to};
+use crate::definitions::{add_definition, most_of};
 use crate::life::print_told;
 use crate::performed::{phase_found, reading, told_of, with_step};
 use crate::steps::begin_of;

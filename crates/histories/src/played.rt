@@ -1,7 +1,7 @@
 // The lines of a script of histories.
 use crate::asked::is_asked;
-use crate::definitions::definition;
 use crate::calls::print_answer;
+use crate::definitions::definition;
 use crate::life::{killed_of, print_killed, print_last, show};
 use crate::meeting::{areas_of, find, is_met, last_call, met};
 use crate::steps::{event_of, steps_of};
