@@ -179,4 +179,13 @@ touch "$(root "$pod" rests)/go"
 sleep 0.3
 expect 'then it is removed' 0 "removed $pod" '' "$rkt" rm "$pod"
 
+# A part of a pod that is missing or has no reading is told by its path behind the pod's uuid, and nothing is started.
+image parts "$plain" '#!/bin/sh'
+pod=$("$rkt" prepare example.com/parts)
+echo 11 >"$(area prepared)/$pod/token"
+expect 'a token that is none' 15 '' "rkt: damaged: $pod/token" "$rkt" run-prepared "$pod"
+pod=$("$rkt" prepare example.com/parts)
+rm "$(area prepared)/$pod/stage1/rootfs/opt/stage2/parts/tree"
+expect 'a listing that is missing' 15 '' "rkt: damaged: $pod/stage1/rootfs/opt/stage2/parts/tree" "$rkt" run-prepared "$pod"
+
 finish
