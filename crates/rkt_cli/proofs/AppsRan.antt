@@ -9,11 +9,11 @@ use Rattle.command_outcomes.specs.declared.refusal.Refusal.TheVariants.{Usage, S
 use Rattle.command_outcomes.specs.declared.told.Told.{Told}
 use Rattle.command_outcomes.specs.Moments.{Inside, Outside, SpawnerSeen, Moment, Answer, outcome_of, is_well}
 use Rattle.command_outcomes.specs.Texts.{status_of}
-use Rattle.pod_commands.specs.Prepare.{pod_line}
-use Rattle.run_commands.specs.Ends.{app_lines}
-use Rattle.run_commands.specs.RunPrepared.{RunPreparedSays}
-use Rattle.run_commands.specs.Refusals.{claim_refusal}
-use Rattle.run_commands.specs.Run.{NewRunSays, RunIsTold}
+use Rattle.commands.specs.Prepare.{pod_line}
+use Rattle.commands.specs.AppEnds.{app_lines}
+use Rattle.commands.specs.RunPrepared.{RunPreparedSays}
+use Rattle.commands.specs.RunRefusals.{claim_refusal}
+use Rattle.commands.specs.Run.{NewRunSays, RunIsTold}
 use Rattle.rkt_cli.specs.declared.line.Line.{Line}
 use Rattle.rkt_cli.specs.declared.line.Line.TheVariants.{RunPrepared, Run}
 use Rattle.rkt_cli.specs.Commands.{runs_apps, intent_of}

@@ -21,13 +21,13 @@ use Rattle.command_outcomes.specs.Texts.{status_of}
 use Rattle.command_outcomes.specs.Conforming.{begun, shown_at}
 use Rattle.command_outcomes.specs.Conforming.{begun as just_begun}
 use Rattle.command_outcomes.specs.Moments.{Moment, Inside, Answer, Outcome, SinkSeen, outcome_of}
-use Rattle.run_commands.specs.Refusals.{claim_refusal, run_refusal, IsRunSaid}
-use Rattle.run_commands.specs.RunPrepared.{ClaimsAndRuns, IsUnclaimed}
-use Rattle.run_commands.specs.Runs.{RunSays}
-use Rattle.run_commands.proofs.Claimed.{may_begin}
-use Rattle.run_commands.proofs.RunRefused.{same_refusal}
-use Rattle.removal_commands.specs.Rm.{rm_refusal, is_failure}
-use Rattle.removal_commands.proofs.Unhindered.{rm_complete, fails_alone}
+use Rattle.commands.specs.RunRefusals.{claim_refusal, run_refusal, IsRunSaid}
+use Rattle.commands.specs.RunPrepared.{ClaimsAndRuns, IsUnclaimed}
+use Rattle.commands.specs.AppRuns.{RunSays}
+use Rattle.commands.proofs.Claimed.{may_begin}
+use Rattle.commands.proofs.RunRefused.{same_refusal}
+use Rattle.commands.specs.Rm.{rm_refusal, is_failure}
+use Rattle.commands.proofs.Unhindered.{rm_complete, fails_alone}
 use Rattle.rkt_cli.specs.declared.line.Line.{Line}
 use Rattle.rkt_cli.specs.declared.line.Line.TheVariants.{RunPrepared, Rm}
 use Rattle.rkt_cli.specs.Commands.{may, intent_for, intent_of}

@@ -15,7 +15,7 @@ use Rattle.command_outcomes.specs.declared.refusal.Refusal.TheVariants.{DirFault
 use Rattle.command_outcomes.specs.Moments.{DirSeen, BundleSeen, Outcome}
 use Rattle.command_outcomes.proofs.Seen.{beside}
 use Rattle.command_outcomes.specs.Ends.{is_own_end}
-use Rattle.rkt_cli.specs.Validate.{ValidateSays, ReadsFile, IsRefusalOf, validate_refusal, manifest_outcome, most_read}
+use Rattle.commands.specs.Validate.{ValidateSays, ReadsFile, IsRefusalOf, validate_refusal, manifest_outcome, most_read}
 use Rattle.rkt_cli.specs.Commands.{may}
 use Rattle.rkt_cli.specs.Runs.{CommandRan}
 

@@ -13,14 +13,14 @@ use Rattle.phase_read.proofs.Exact.{was_within}
 use Rattle.rkt_cli.specs.declared.line.Line.{Line}
 use Rattle.rkt_cli.specs.declared.line.Line.TheVariants.{Status, Validate, ImageList, ImageImport, ImageRm, ImageGc, Prepare, RunPrepared, Run, Rm, Gc}
 use Rattle.command_outcomes.specs.declared.refusal.Refusal.TheVariants.{NoPod}
-use Rattle.rkt_cli.specs.Texts.{state_text}
+use Rattle.commands.specs.Texts.{state_text}
 use Rattle.command_outcomes.specs.Moments.{Outside, Moment, Outcome}
 use Rattle.command_outcomes.specs.Ends.{is_own_end}
-use Rattle.rkt_cli.specs.Status.{read_outcome}
+use Rattle.commands.specs.Status.{read_outcome}
 use Rattle.rkt_cli.specs.Commands.{intent_of, grace_time, expire_time}
-use Rattle.removal_commands.specs.Gc.{times_of}
-use Rattle.removal_commands.proofs.RmQuiet.{rm_removed}
-use Rattle.removal_commands.proofs.GcFrom.{gc_deleted}
+use Rattle.commands.specs.Gc.{times_of}
+use Rattle.commands.proofs.RmQuiet.{rm_removed}
+use Rattle.commands.proofs.GcFrom.{gc_deleted}
 use Rattle.rkt_cli.specs.Runs.{Performs, RunOfLine, RunOf, RunIs}
 use Rattle.rkt_cli.specs.Histories.{TellsPhase, WritesOf, TellsHistory, TellsDeed}
 use Rattle.rkt_cli.proofs.Ends.{absurd_number, end_at, from_command}

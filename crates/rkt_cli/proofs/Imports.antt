@@ -29,16 +29,16 @@ use Rattle.command_outcomes.specs.declared.refusal.Refusal.TheVariants.{Busy, Ba
 use Rattle.command_outcomes.specs.Moments.{BundleSeen, SinkSeen, Outside, Outcome}
 use Rattle.command_outcomes.specs.Conforming.{shown_at}
 use Rattle.rkt_cli.specs.Commands.{intent_for, intent_of}
-use Rattle.store_commands.specs.ImageImport.{import_refusal, listing_refusal, source_of, IsStored, PrintsKey, StoresImage, IsAreaHeld, IsHeldFrom, RefusesImage, ImageImportSays}
+use Rattle.commands.specs.ImageImport.{import_refusal, listing_refusal, source_of, IsStored, PrintsKey, StoresImage, IsAreaHeld, IsHeldFrom, RefusesImage, ImageImportSays}
 use Rattle.rkt_cli.specs.Runs.{InProcess, Performs, Complained}
 use Rattle.rkt_cli.specs.Statuses.{IsBadBundle, IsImportDamage, IsConflict}
-use Rattle.store_commands.proofs.Parts.{within_wider, held_wider}
-use Rattle.store_commands.proofs.ImportParts.{Span, refused_wider, turn_wider, imported_wider}
+use Rattle.commands.proofs.Parts.{within_wider, held_wider}
+use Rattle.commands.proofs.ImportParts.{Span, refused_wider, turn_wider, imported_wider}
 use Rattle.rkt_cli.proofs.Listed.{process_part}
 use Rattle.rkt_cli.proofs.Sessions.{any_call, finish_part}
 use Rattle.rkt_cli.proofs.Conforming.{begun_knows}
 use Rattle.rkt_cli.proofs.StoreRan.{imports}
-use Rattle.store_commands.proofs.ImageImports.{is_memory}
+use Rattle.commands.proofs.ImageImports.{is_memory}
 
 still : (a b : ℕ) → b ≡ a → a ≤ b
 still a b same = omega arith

@@ -14,11 +14,11 @@ use Rattle.rkt_cli.specs.declared.line.Line.TheVariants.{Validate}
 use Rattle.command_outcomes.specs.declared.refusal.Refusal.{Refusal}
 use Rattle.command_outcomes.specs.declared.refusal.Refusal.TheVariants.{BadManifest, DirFault, BundleFault, NoMemory, NoFile}
 use Rattle.command_outcomes.specs.Texts.{status_of}
-use Rattle.rkt_cli.specs.Texts.{valid_text}
+use Rattle.commands.specs.Texts.{valid_text}
 use Rattle.command_outcomes.specs.Moments.{Outside, Moment, BundleSeen, SinkSeen, Outcome}
 use Rattle.command_outcomes.proofs.Seen.{rose_wider}
 use Rattle.command_outcomes.specs.Ends.{is_own_end}
-use Rattle.rkt_cli.specs.Validate.{ValidateSays, file_outcome, manifest_outcome, most_read, sequential_validate}
+use Rattle.commands.specs.Validate.{ValidateSays, file_outcome, manifest_outcome, most_read, sequential_validate}
 use Rattle.rkt_cli.specs.Commands.{may}
 use Rattle.rkt_cli.specs.Runs.{Performs, Complained, End, Unwritten, Printed, Reported, end_status}
 use Rattle.rkt_cli.specs.Statuses.{IsUnreadable, IsAnswer}

@@ -12,8 +12,8 @@ use Rattle.command_outcomes.specs.declared.refusal.Refusal.{Refusal}
 use Rattle.command_outcomes.specs.declared.refusal.Refusal.TheVariants.{NoPod, DirFault, OutFault, NoMemory}
 use Rattle.command_outcomes.specs.Texts.{status_of}
 use Rattle.command_outcomes.specs.Moments.{Outside, Moment, SinkSeen, Outcome}
-use Rattle.pod_commands.specs.Prepare.{HasBrought, HasKeptFolder}
-use Rattle.removal_commands.specs.Gc.{times_of}
+use Rattle.commands.specs.Prepare.{HasBrought, HasKeptFolder}
+use Rattle.commands.specs.Gc.{times_of}
 use Rattle.rkt_cli.specs.Commands.{intent_of, grace_time, expire_time, may, runs_apps_in}
 use Rattle.rkt_cli.specs.Runs.{Performs, End, Unwritten, Printed, end_status, RunOf, RunIs}
 use Rattle.rkt_cli.specs.Histories.{LeavesPod, LeavesSwept, TellsLeft}

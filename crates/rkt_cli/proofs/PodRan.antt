@@ -25,8 +25,8 @@ use Rattle.lifecycle.proofs.Draws.{conforming_left}
 use Rattle.pod_build.specs.Preparations.{Began}
 use Rattle.pod_making.specs.Progress.{at_work, handed}
 use Rattle.pod_making.specs.Requests.{pod_at}
-use Rattle.pod_commands.specs.Quiet.{is_pod_place}
-use Rattle.store_commands.proofs.RemovalQuiet.{ChangesAt}
+use Rattle.commands.specs.PrepareQuiet.{is_pod_place}
+use Rattle.commands.proofs.RemovalQuiet.{ChangesAt}
 use Rattle.rkt_cli.specs.declared.line.Line.{Line}
 use Rattle.rkt_cli.specs.declared.line.Line.TheVariants.{Prepare}
 use Rattle.command_outcomes.specs.declared.refusal.Refusal.{Refusal}
@@ -34,10 +34,10 @@ use Rattle.command_outcomes.specs.declared.refusal.Refusal.TheVariants.{Busy, Di
 use Rattle.command_outcomes.specs.Conforming.{shown_at}
 use Rattle.command_outcomes.specs.Moments.{BundleSeen, Outside, Outcome}
 use Rattle.command_outcomes.proofs.Seen.{seen_at, beside}
-use Rattle.pod_commands.specs.Refusals.{prepare_refusal}
-use Rattle.pod_commands.specs.Prepare.{pod_line, prepares_pod, IsFaithful, BringsPod, LeavesFolder, RefusesPod, IsAreaHeld, IsHeldFrom, Syncs, HasBrought, HasSynced, KeepsFolder, HasKeptFolder, PrepareSays}
-use Rattle.pod_commands.proofs.Whole.{refuses_whole, faithful_wider}
-use Rattle.store_commands.proofs.Parts.{held_wider}
+use Rattle.commands.specs.PrepareRefusals.{prepare_refusal}
+use Rattle.commands.specs.Prepare.{pod_line, prepares_pod, IsFaithful, BringsPod, LeavesFolder, RefusesPod, IsAreaHeld, IsHeldFrom, Syncs, HasBrought, HasSynced, KeepsFolder, HasKeptFolder, PrepareSays}
+use Rattle.commands.proofs.Whole.{refuses_whole, faithful_wider}
+use Rattle.commands.proofs.Parts.{held_wider}
 use Rattle.rkt_cli.specs.Commands.{intent_for, intent_of, may}
 use Rattle.rkt_cli.specs.Runs.{CommandRan, InProcess, Performs}
 use Rattle.rkt_cli.proofs.Listed.{process_part}

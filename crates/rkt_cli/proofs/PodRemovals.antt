@@ -29,8 +29,8 @@ use Rattle.pod_gc.specs.Sweeping.{MaySweepAll}
 use Rattle.command_outcomes.specs.declared.refusal.Refusal.TheVariants.{NoPod, WrongPhase, PodBusy, NoManifest, DirFault, Stray, NoMemory}
 use Rattle.command_outcomes.specs.Moments.{DirSeen, Outside, BundleSeen, Outcome, dir_seen}
 use Rattle.command_outcomes.specs.Conforming.{begun, StaysConforming}
-use Rattle.removal_commands.specs.Rm.{rm_refusal, RmSays, removed_text, Removes, FindsPodBusy, WasSo, WasOwned, HadNoManifest, MeetsStray, HasRemovedPod, HasFoundNoPod, HasFoundWrong, HasFoundNoManifest, HasFoundBusy, HasMetStrayAtPod}
-use Rattle.removal_commands.specs.Gc.{gc_refusal, GcSays, times_of, lines_text, Sweeps, SweepsUntold, SweepsInPart, HasSweptPods, HasMadePasses, HasSweptInPart, HasMetStrayInPods}
+use Rattle.commands.specs.Rm.{rm_refusal, RmSays, removed_text, Removes, FindsPodBusy, WasSo, WasOwned, HadNoManifest, MeetsStray, HasRemovedPod, HasFoundNoPod, HasFoundWrong, HasFoundNoManifest, HasFoundBusy, HasMetStrayAtPod}
+use Rattle.commands.specs.Gc.{gc_refusal, GcSays, times_of, lines_text, Sweeps, SweepsUntold, SweepsInPart, HasSweptPods, HasMadePasses, HasSweptInPart, HasMetStrayInPods}
 use Rattle.rkt_cli.specs.declared.line.Line.TheVariants.{Rm, Gc}
 use Rattle.rkt_cli.specs.Commands.{intent_for, gc_intent, intent_of, may, grace_time, expire_time}
 use Rattle.rkt_cli.specs.Runs.{CommandRan, Performs}

@@ -31,11 +31,11 @@ use Rattle.rkt_cli.specs.declared.line.Line.TheVariants.{Status, Validate, Image
 use Rattle.command_outcomes.specs.declared.refusal.Refusal.TheVariants.{Usage, Busy, NoImage, NoPod, WrongPhase, NoManifest, PodBusy, DirFault, BundleFault, NoMemory, Damaged, Stray}
 use Rattle.command_outcomes.specs.Moments.{BundleSeen, Outside, Moment, SinkSeen, Outcome}
 use Rattle.command_outcomes.specs.Ends.{is_own_end, IsUnchanged, StaysBeside}
-use Rattle.rkt_cli.specs.Status.{read_outcome, sequential_status}
-use Rattle.store_commands.specs.ImageList.{image_list_refusal, ListsQuietly}
-use Rattle.store_commands.specs.ImageImport.{IsAreaHeld, LeavesImages, ImportsQuietly, LeavesOthers}
-use Rattle.store_commands.specs.ImageRm.{image_rm_refusal, is_removal_place, FindsBusy, RemovesQuietly}
-use Rattle.store_commands.specs.ImageGc.{is_swept_place, SweepsQuietly}
+use Rattle.commands.specs.Status.{read_outcome, sequential_status}
+use Rattle.commands.specs.ImageList.{image_list_refusal, ListsQuietly}
+use Rattle.commands.specs.ImageImport.{IsAreaHeld, LeavesImages, ImportsQuietly, LeavesOthers}
+use Rattle.commands.specs.ImageRm.{image_rm_refusal, is_removal_place, FindsBusy, RemovesQuietly}
+use Rattle.commands.specs.ImageGc.{is_swept_place, SweepsQuietly}
 use Rattle.command_outcomes.specs.Conforming.{begun}
 use Rattle.rkt_cli.specs.Commands.{uses_dir, runs_apps, intent_for, intent_of, gc_intent, grace_time, expire_time, asks, ComesQuietly, RunsQuietly, LeavesQuietly}
 use Rattle.rkt_cli.specs.Runs.{CommandRan, Performs, InProcess, Apart, Printed, RunOf, RunOfLine, RunIs, end_status, inside_in}
@@ -46,29 +46,29 @@ use Rattle.command_outcomes.proofs.Seen.{rose_wider}
 use Rattle.rkt_cli.proofs.Outcomes.{rose_between, answered, WasAnswered}
 use Rattle.rkt_cli.proofs.Conforming.{begun_knows}
 use Rattle.rkt_cli.proofs.Listed.{listed_in_process, lacked_in_process}
-use Rattle.store_commands.proofs.StoreQuiet.{is_tame, lists_is_tame, at_tame, end_tame}
+use Rattle.commands.proofs.StoreQuiet.{is_tame, lists_is_tame, at_tame, end_tame}
 use Rattle.rkt_cli.proofs.StoreRan.{imports}
 use Rattle.rkt_cli.proofs.Imports.{import_printed, stored_in_process, import_refused}
-use Rattle.store_commands.proofs.ImagesKept.{images_kept, image_held}
-use Rattle.store_commands.proofs.PlacesKept.{places_kept}
-use Rattle.pod_commands.specs.Prepare.{prepares_pod, IsAreaHeld as IsPodAreaHeld}
-use Rattle.pod_commands.specs.Quiet.{PreparesQuietly, is_pod_place}
+use Rattle.commands.proofs.ImagesKept.{images_kept, image_held}
+use Rattle.commands.proofs.PlacesKept.{places_kept}
+use Rattle.commands.specs.Prepare.{prepares_pod, IsAreaHeld as IsPodAreaHeld}
+use Rattle.commands.specs.PrepareQuiet.{PreparesQuietly, is_pod_place}
 use Rattle.rkt_cli.proofs.PodKept.{pod_stands}
 use Rattle.rkt_cli.proofs.PodRan.{prepare_intent, began, prepare_faithful, prepare_refused, prepare_changes}
 use Rattle.rkt_cli.proofs.Removals.{removal_done, removal_none, removal_stray, sweep_done, sweep_stray}
-use Rattle.store_commands.proofs.RemovalEnds.{removal_ends, none_before}
-use Rattle.store_commands.proofs.SweepEnds.{incoming_left, removed_left}
-use Rattle.store_commands.proofs.RemovalQuiet.{in_process, asks_in_process, places_beside, removal_changes, sweep_changes, held_before}
-use Rattle.store_commands.proofs.ImportQuiet.{is_modest, imports_is_modest, at_modest, end_modest}
+use Rattle.commands.proofs.RemovalEnds.{removal_ends, none_before}
+use Rattle.commands.proofs.SweepEnds.{incoming_left, removed_left}
+use Rattle.commands.proofs.RemovalQuiet.{in_process, asks_in_process, places_beside, removal_changes, sweep_changes, held_before}
+use Rattle.commands.proofs.ImportQuiet.{is_modest, imports_is_modest, at_modest, end_modest}
 use Rattle.pod_removal.specs.Requests.{removes}
 use Rattle.pod_gc.specs.Requests.{sweeps as sweeps_pods}
-use Rattle.removal_commands.specs.Gc.{times_of}
-use Rattle.removal_commands.specs.Quiet.{RemovesPodQuietly, SweepsPodsQuietly, is_pods_place}
-use Rattle.removal_commands.proofs.LateTurns.{rm_moves, rm_removes, gc_moves, gc_removes}
-use Rattle.removal_commands.proofs.Quietly.{rm_removed_quietly, rm_none_quietly, rm_wrong_quietly, rm_lacking_quietly, rm_busy_quietly, gc_swept_quietly}
+use Rattle.commands.specs.Gc.{times_of}
+use Rattle.commands.specs.RemovalQuiet.{RemovesPodQuietly, SweepsPodsQuietly, is_pods_place}
+use Rattle.commands.proofs.LateTurns.{rm_moves, rm_removes, gc_moves, gc_removes}
+use Rattle.commands.proofs.RemovedQuietly.{rm_removed_quietly, rm_none_quietly, rm_wrong_quietly, rm_lacking_quietly, rm_busy_quietly, gc_swept_quietly}
 use Rattle.rkt_cli.proofs.PodRemovals.{rm_intent, rm_printed, rm_done, rm_none, rm_wrong, rm_bare, rm_busy, rm_stray, gc_done, gc_stray}
-use Rattle.run_commands.specs.RunPrepared.{runs_prepared}
-use Rattle.run_commands.specs.Run.{makes_and_runs}
+use Rattle.commands.specs.RunPrepared.{runs_prepared}
+use Rattle.commands.specs.Run.{makes_and_runs}
 use Rattle.rkt_cli.proofs.RunsQuiet.{claim_changes, run_changes, runs_quietly}
 use Rattle.rkt_cli.proofs.Sessions.{all_parts, quiet_act, state_begun, idle}
 

@@ -18,8 +18,8 @@ use Rattle.command_outcomes.specs.Moments.{Outside, Outcome}
 use Rattle.command_outcomes.specs.Conforming.{begun}
 use Rattle.rkt_cli.specs.Commands.{intent_for, intent_of}
 use Rattle.command_outcomes.specs.Meanwhile.{Meanwhile}
-use Rattle.store_commands.specs.ImageRm.{removed_text, Removes, FindsBusy, HasRemoved, HasFoundNone, HasMetStray}
-use Rattle.store_commands.specs.ImageGc.{sweep_texts, Sweeps, StrayInSweep, HasSwept, HasMetStrayInSweep}
+use Rattle.commands.specs.ImageRm.{removed_text, Removes, FindsBusy, HasRemoved, HasFoundNone, HasMetStray}
+use Rattle.commands.specs.ImageGc.{sweep_texts, Sweeps, StrayInSweep, HasSwept, HasMetStrayInSweep}
 use Rattle.rkt_cli.specs.Runs.{InProcess, Performs}
 use Rattle.rkt_cli.proofs.Sessions.{begin_part, finish_part}
 use Rattle.rkt_cli.proofs.Conforming.{begun_knows}

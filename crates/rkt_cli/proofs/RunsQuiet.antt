@@ -35,19 +35,19 @@ use Rattle.command_outcomes.specs.declared.told.Told.{Told}
 use Rattle.command_outcomes.specs.Conforming.{shown_at}
 use Rattle.command_outcomes.specs.Conforming.{begun as just_begun}
 use Rattle.command_outcomes.specs.Moments.{DirSeen, Inside, Answer, outcome_of, dir_seen}
-use Rattle.removal_commands.proofs.LateTurns.{or_false}
-use Rattle.run_commands.specs.Refusals.{claim_refusal}
+use Rattle.commands.proofs.LateTurns.{or_false}
+use Rattle.commands.specs.RunRefusals.{claim_refusal}
 use Rattle.lifecycle.specs.Executions.{IsConforming}
 use Rattle.pod_build.specs.Preparations.{Began}
 use Rattle.pod_making.specs.Progress.{at_work, nothing_made}
-use Rattle.run_commands.specs.RunPrepared.{runs_prepared, ClaimsAndRuns, IsUnclaimed}
-use Rattle.run_commands.specs.Run.{makes_and_runs, MakesAndRuns, NewRunSays}
-use Rattle.run_commands.specs.Quiet.{HasPassed, HasMadeAndLeft, TellsItsEnds, UnclaimedFor, IsRunRefusal, IsUnmadeFor}
-use Rattle.run_commands.proofs.Claimed.{may_begin}
-use Rattle.run_commands.proofs.ClaimBefore.{RefusedClaim}
-use Rattle.run_commands.proofs.RunRefused.{same_refusal, claimed_refusal, made_refusal, unmade_refusal}
-use Rattle.run_commands.proofs.Quietly.{run_prepared_passed, run_prepared_unclaimed, run_prepared_ends, run_made_left, run_ends}
-use Rattle.store_commands.proofs.RemovalQuiet.{ChangesAt, in_process, asks_in_process}
+use Rattle.commands.specs.RunPrepared.{runs_prepared, ClaimsAndRuns, IsUnclaimed}
+use Rattle.commands.specs.Run.{makes_and_runs, MakesAndRuns, NewRunSays}
+use Rattle.commands.specs.RunQuiet.{HasPassed, HasMadeAndLeft, TellsItsEnds, UnclaimedFor, IsRunRefusal, IsUnmadeFor}
+use Rattle.commands.proofs.Claimed.{may_begin}
+use Rattle.commands.proofs.ClaimBefore.{RefusedClaim}
+use Rattle.commands.proofs.RunRefused.{same_refusal, claimed_refusal, made_refusal, unmade_refusal}
+use Rattle.commands.proofs.RanQuietly.{run_prepared_passed, run_prepared_unclaimed, run_prepared_ends, run_made_left, run_ends}
+use Rattle.commands.proofs.RemovalQuiet.{ChangesAt, in_process, asks_in_process}
 use Rattle.rkt_cli.specs.declared.line.Line.{Line}
 use Rattle.rkt_cli.specs.declared.line.Line.TheVariants.{RunPrepared, Run}
 use Rattle.rkt_cli.specs.Commands.{asks, runs_apps, intent_for, intent_of, PassesQuietly, LeavesMade, RunsQuietly}

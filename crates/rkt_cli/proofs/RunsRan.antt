@@ -23,10 +23,10 @@ use Rattle.command_outcomes.specs.declared.told.Told.{Told}
 use Rattle.command_outcomes.specs.Conforming.{begun}
 use Rattle.command_outcomes.specs.Moments.{BundleSeen, Answer, outcome_of, dir_seen}
 use Rattle.command_outcomes.proofs.Seen.{beside}
-use Rattle.run_commands.specs.Refusals.{run_prepared_refusal, new_run_refusal}
-use Rattle.run_commands.specs.RunPrepared.{runs_prepared, CanClaim}
-use Rattle.run_commands.specs.Run.{makes_and_runs, CanRun}
-use Rattle.run_commands.proofs.Claimed.{may_begin}
+use Rattle.commands.specs.RunRefusals.{run_prepared_refusal, new_run_refusal}
+use Rattle.commands.specs.RunPrepared.{runs_prepared, CanClaim}
+use Rattle.commands.specs.Run.{makes_and_runs, CanRun}
+use Rattle.commands.proofs.Claimed.{may_begin}
 use Rattle.rkt_cli.specs.declared.line.Line.{Line}
 use Rattle.rkt_cli.specs.declared.line.Line.TheVariants.{RunPrepared, Run}
 use Rattle.rkt_cli.specs.Commands.{intent_for, intent_of, may}

@@ -25,11 +25,11 @@ use Rattle.rkt_cli.specs.declared.line.Line.TheVariants.{Status, Validate, Image
 use Rattle.command_outcomes.specs.declared.refusal.Refusal.{Refusal}
 use Rattle.command_outcomes.specs.declared.refusal.Refusal.TheVariants.{Usage, NoPod, Busy, BadManifest, NoImage, Limit, DirFault, BundleFault, OutFault, NoMemory, NoFile, Conflict, Damaged, BadKind, Stray, NoDependency, Cycle, Taken, WrongPhase, PodBusy, NoManifest, NoProgram, SpawnFault}
 use Rattle.command_outcomes.specs.Texts.{status_of}
-use Rattle.rkt_cli.specs.Texts.{state_text}
+use Rattle.commands.specs.Texts.{state_text}
 use Rattle.command_outcomes.specs.Moments.{DirSeen, BundleSeen, Outside, Inside, SinkSeen, Moment, Outcome, Answer, outcome_of}
 use Rattle.command_outcomes.specs.Ends.{is_own_end}
-use Rattle.rkt_cli.specs.Status.{read_outcome}
-use Rattle.rkt_cli.specs.Validate.{ReadsFile, most_read}
+use Rattle.commands.specs.Status.{read_outcome}
+use Rattle.commands.specs.Validate.{ReadsFile, most_read}
 use Rattle.rkt_cli.specs.Commands.{intent_of, runs_apps, runs_apps_in, asks, may, ReadsOnly}
 use Rattle.rkt_cli.specs.Spawns.{CameBetween}
 use Rattle.rkt_cli.specs.Runs.{Performs, End, Unwritten, Printed, Reported, Complained, end_status, inside_in, RunOf, RunIs}
@@ -40,7 +40,7 @@ use Rattle.rkt_cli.proofs.PodRemovals.{rm_none, rm_stray, rm_busy, rm_wrong, rm_
 use Rattle.rkt_cli.proofs.AppsRan.{run_prepared_printed, run_printed}
 use Rattle.rkt_cli.proofs.Outcomes.{fault_cause, bundle_cause, refusals_of, answered, does_validate, validate_told, file_prints, unreadable, no_such_file}
 use Rattle.rkt_cli.proofs.Listed.{list_printed, list_lacked, list_busy}
-use Rattle.pod_commands.proofs.Sayings.{taken_own}
+use Rattle.commands.proofs.Sayings.{taken_own}
 use Rattle.rkt_cli.proofs.PodRan.{prepare_printed, prepare_refused, prepare_busy}
 use Rattle.rkt_cli.proofs.Imports.{import_printed, import_refused, import_busy, bad_bundle, damage_said, conflict_said, stray_said}
 use Rattle.rkt_cli.proofs.BundleJudged.{import_judged}

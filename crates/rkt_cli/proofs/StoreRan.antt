@@ -19,9 +19,9 @@ use Rattle.command_outcomes.specs.declared.refusal.Refusal.TheVariants.{DirFault
 use Rattle.command_outcomes.specs.Moments.{BundleSeen, Outcome}
 use Rattle.command_outcomes.specs.Conforming.{begun, StaysConforming}
 use Rattle.command_outcomes.proofs.Seen.{seen_at, beside}
-use Rattle.store_commands.specs.ImageImport.{image_import_refusal, ImageImportSays}
-use Rattle.store_commands.specs.ImageRm.{image_rm_refusal, ImageRmSays}
-use Rattle.store_commands.specs.ImageGc.{image_gc_refusal, ImageGcSays}
+use Rattle.commands.specs.ImageImport.{image_import_refusal, ImageImportSays}
+use Rattle.commands.specs.ImageRm.{image_rm_refusal, ImageRmSays}
+use Rattle.commands.specs.ImageGc.{image_gc_refusal, ImageGcSays}
 use Rattle.rkt_cli.specs.declared.line.Line.{Line}
 use Rattle.rkt_cli.proofs.Ran.{ran}
 use Rattle.rkt_cli.specs.declared.line.Line.TheVariants.{ImageImport, ImageRm, ImageGc}

@@ -21,26 +21,26 @@ use Rattle.command_outcomes.specs.declared.refusal.Refusal.{Refusal}
 use Rattle.command_outcomes.specs.declared.refusal.Refusal.TheVariants.{Usage, DirFault, BundleFault, OutFault, NoMemory}
 use Rattle.command_outcomes.specs.Moments.{BundleSeen, DirSeen, Outside, Outcome}
 use Rattle.command_outcomes.specs.Ends.{is_own_end, IsUnchanged, StaysBeside}
-use Rattle.rkt_cli.specs.Status.{status_refusal, StatusSays, sequential_status}
-use Rattle.store_commands.specs.ImageList.{image_list_refusal, lists_images, ImageListSays, ListsQuietly}
-use Rattle.store_commands.specs.ImageImport.{image_import_refusal, ImageImportSays, ImportsQuietly, LeavesOthers}
-use Rattle.store_commands.specs.ImageRm.{image_rm_refusal, ImageRmSays, RemovesQuietly, is_removal_place}
-use Rattle.store_commands.specs.ImageGc.{image_gc_refusal, ImageGcSays, SweepsQuietly, is_swept_place}
-use Rattle.pod_commands.specs.Refusals.{prepare_refusal}
-use Rattle.pod_commands.specs.Prepare.{prepares_pod, pod_line, PrepareSays}
-use Rattle.pod_commands.specs.Quiet.{PreparesQuietly, is_pod_place}
+use Rattle.commands.specs.Status.{status_refusal, StatusSays, sequential_status}
+use Rattle.commands.specs.ImageList.{image_list_refusal, lists_images, ImageListSays, ListsQuietly}
+use Rattle.commands.specs.ImageImport.{image_import_refusal, ImageImportSays, ImportsQuietly, LeavesOthers}
+use Rattle.commands.specs.ImageRm.{image_rm_refusal, ImageRmSays, RemovesQuietly, is_removal_place}
+use Rattle.commands.specs.ImageGc.{image_gc_refusal, ImageGcSays, SweepsQuietly, is_swept_place}
+use Rattle.commands.specs.PrepareRefusals.{prepare_refusal}
+use Rattle.commands.specs.Prepare.{prepares_pod, pod_line, PrepareSays}
+use Rattle.commands.specs.PrepareQuiet.{PreparesQuietly, is_pod_place}
 use Rattle.lifecycle.specs.Executions.{IsConforming}
 use Rattle.pod_claim.specs.declared.error.ClaimError.{ClaimError}
-use Rattle.run_commands.specs.Quiet.{HasPassed, HasMadeAndLeft, TellsItsEnds, UnclaimedFor, IsRunRefusal, IsUnmadeFor}
-use Rattle.run_commands.specs.Refusals.{run_prepared_refusal, new_run_refusal, claim_refusal}
-use Rattle.run_commands.specs.RunPrepared.{runs_prepared}
-use Rattle.run_commands.specs.Run.{makes_and_runs}
-use Rattle.removal_commands.specs.Rm.{rm_refusal, RmSays}
-use Rattle.removal_commands.specs.Gc.{times_of, gc_refusal, GcSays}
-use Rattle.removal_commands.specs.Quiet.{RemovesPodQuietly, SweepsPodsQuietly, is_pods_place}
+use Rattle.commands.specs.RunQuiet.{HasPassed, HasMadeAndLeft, TellsItsEnds, UnclaimedFor, IsRunRefusal, IsUnmadeFor}
+use Rattle.commands.specs.RunRefusals.{run_prepared_refusal, new_run_refusal, claim_refusal}
+use Rattle.commands.specs.RunPrepared.{runs_prepared}
+use Rattle.commands.specs.Run.{makes_and_runs}
+use Rattle.commands.specs.Rm.{rm_refusal, RmSays}
+use Rattle.commands.specs.Gc.{times_of, gc_refusal, GcSays}
+use Rattle.commands.specs.RemovalQuiet.{RemovesPodQuietly, SweepsPodsQuietly, is_pods_place}
 use Rattle.pod_removal.specs.Requests.{removes}
 use Rattle.pod_gc.specs.Requests.{sweeps as sweeps_pods}
-use Rattle.rkt_cli.specs.Validate.{validate_refusal, ValidateSays, ReadsFile, sequential_validate}
+use Rattle.commands.specs.Validate.{validate_refusal, ValidateSays, ReadsFile, sequential_validate}
 
 -- whether it works on the directory, and whether it reads the bundle
 abbrev pub uses_dir : Line → Bool

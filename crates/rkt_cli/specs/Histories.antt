@@ -21,16 +21,16 @@ use Rattle.pod_gc.specs.declared.ages.Times.{Times}
 use Rattle.phase_read.specs.Exact.{AtOwnEvent, IsInPhase, IsNowhere}
 use Rattle.rkt_cli.specs.declared.line.Line.{Line}
 use Rattle.rkt_cli.specs.declared.line.Line.TheVariants.{Status, ImageList, ImageImport, ImageRm, ImageGc, Prepare, RunPrepared, Rm, Gc}
-use Rattle.rkt_cli.specs.Texts.{state_text}
-use Rattle.store_commands.specs.ImageImport.{StoresImage}
-use Rattle.store_commands.specs.ImageList.{ListsStore}
-use Rattle.store_commands.specs.ImageRm.{removed_text, HasRemoved}
-use Rattle.store_commands.specs.ImageGc.{HasSwept}
-use Rattle.removal_commands.specs.Rm as rm
-use Rattle.removal_commands.specs.Gc as gc
-use Rattle.removal_commands.specs.History.{IsRemovedBetween, SweepsForGood}
+use Rattle.commands.specs.Texts.{state_text}
+use Rattle.commands.specs.ImageImport.{StoresImage}
+use Rattle.commands.specs.ImageList.{ListsStore}
+use Rattle.commands.specs.ImageRm.{removed_text, HasRemoved}
+use Rattle.commands.specs.ImageGc.{HasSwept}
+use Rattle.commands.specs.Rm as rm
+use Rattle.commands.specs.Gc as gc
+use Rattle.commands.specs.RemovalHistory.{IsRemovedBetween, SweepsForGood}
 use Rattle.rkt_cli.specs.Commands.{intent_of, grace_time, expire_time}
-use Rattle.pod_commands.specs.Prepare.{pod_line, IsFaithful, HasBrought, HasSynced, HasKeptFolder}
+use Rattle.commands.specs.Prepare.{pod_line, IsFaithful, HasBrought, HasSynced, HasKeptFolder}
 use Rattle.command_outcomes.specs.Moments.{DirSeen, Outside, SinkSeen}
 
 -- the text names the phase that the pod had by its history at one own event

@@ -1,7 +1,4 @@
-pub mod Texts
 pub mod Lines
-pub mod Status
-pub mod Validate
 pub mod Commands
 pub mod Spawns
 pub mod Runs

@@ -13,8 +13,8 @@ use Rattle.command_outcomes.specs.Moments.{DirSeen, SpawnerSeen, Inside, Answer,
 use Rattle.command_outcomes.specs.Conforming.{shown_at}
 use Rattle.command_outcomes.specs.Conforming.{begun as just_begun}
 use Rattle.rkt_cli.specs.Commands.{asks}
-use Rattle.run_commands.specs.RunPrepared.{RunPreparedSays}
-use Rattle.run_commands.specs.Run.{RunIsTold}
+use Rattle.commands.specs.RunPrepared.{RunPreparedSays}
+use Rattle.commands.specs.Run.{RunIsTold}
 
 -- what it told of a pod and its apps. Any other command runs none, and all is well
 abbrev pub Came : Line → ℕ → Draw → Inside → Inside → Answer → Type 0

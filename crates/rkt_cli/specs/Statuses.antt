@@ -36,19 +36,19 @@ use Rattle.rkt_cli.specs.declared.line.Line.TheVariants.{Status, Validate, Image
 use Rattle.command_outcomes.specs.declared.refusal.Refusal.{Refusal}
 use Rattle.command_outcomes.specs.declared.refusal.Refusal.TheVariants.{Usage, WrongPhase, PodBusy, NoManifest, Busy, BadManifest, NoImage, Limit, NoFile, Conflict, Damaged, Taken, Stray}
 use Rattle.command_outcomes.specs.Texts.{status_of}
-use Rattle.rkt_cli.specs.Texts.{state_text, valid_text}
+use Rattle.commands.specs.Texts.{state_text, valid_text}
 use Rattle.command_outcomes.specs.Moments.{DirSeen, BundleSeen, SinkSeen, Outside, Moment, Outcome}
 use Rattle.rkt_cli.specs.Commands.{uses_dir, reads_bundle, intent_of, asks, ReadsOnly, ComesQuietly, LeavesQuietly, runs_apps_in}
-use Rattle.rkt_cli.specs.Validate.{sequential_validate}
-use Rattle.store_commands.specs.ImageList.{images_text, LacksPart, IsHeldElsewhere}
-use Rattle.store_commands.specs.ImageImport.{import_refusal, source_of, PrintsKey, IsAreaHeld}
+use Rattle.commands.specs.Validate.{sequential_validate}
+use Rattle.commands.specs.ImageList.{images_text, LacksPart, IsHeldElsewhere}
+use Rattle.commands.specs.ImageImport.{import_refusal, source_of, PrintsKey, IsAreaHeld}
 use Rattle.command_outcomes.specs.Meanwhile.{Meanwhile}
-use Rattle.store_commands.specs.ImageRm.{removed_text, FindsBusy, HasFoundNone, HasMetStray}
-use Rattle.store_commands.specs.ImageGc.{sweep_texts, HasMetStrayInSweep}
-use Rattle.pod_commands.specs.Prepare.{pod_line, RefusesPod}
-use Rattle.removal_commands.specs.Rm as rm
-use Rattle.removal_commands.specs.Gc as gc
-use Rattle.run_commands.specs.Ends.{app_lines}
+use Rattle.commands.specs.ImageRm.{removed_text, FindsBusy, HasFoundNone, HasMetStray}
+use Rattle.commands.specs.ImageGc.{sweep_texts, HasMetStrayInSweep}
+use Rattle.commands.specs.Prepare.{pod_line, RefusesPod}
+use Rattle.commands.specs.Rm as rm
+use Rattle.commands.specs.Gc as gc
+use Rattle.commands.specs.AppEnds.{app_lines}
 use Rattle.stage1.specs.declared.end.AppEnd.{AppEnd}
 use Rattle.pod_gc.specs.declared.line.GcLine.{GcLine}
 use Rattle.dir_model.specs.declared.pod.PodId.{PodId}

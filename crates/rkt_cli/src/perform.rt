@@ -12,21 +12,21 @@ ghost use Rattle.rkt_cli.specs.Spawns.{Came, CameBetween};
 ghost use Rattle.rkt_cli.specs.Histories.{HandsOver, WhereKnown};
 
 use crate::line::Line;
-use crate::status::pod_status;
-use crate::validate::validate;
 use command_outcomes::{Output, Refusal, Told};
+use commands::gc::gc_pods;
+use commands::image_gc::image_gc;
+use commands::image_import::image_import;
+use commands::image_list::image_list;
+use commands::image_rm::image_rm;
+use commands::prepare::prepare_pod;
+use commands::rm::rm;
+use commands::run::run;
+use commands::run_prepared::run_prepared;
+use commands::status::pod_status;
+use commands::validate::validate;
 use dir_trait::{Bundle, Dir, Draw, Intent, Kind, PodPrefix};
-use pod_commands::prepare::prepare_pod;
-use removal_commands::gc::gc_pods;
-use removal_commands::rm::rm;
-use run_commands::run::run;
-use run_commands::run_prepared::run_prepared;
 use spawner::Spawner;
 use std::alloc::Global;
-use store_commands::image_gc::image_gc;
-use store_commands::image_import::image_import;
-use store_commands::image_list::image_list;
-use store_commands::image_rm::image_rm;
 
 // How long an exited pod rests since it was marked, and a prepared one since it was made, in seconds: half an hour, a day.
 const GRACE: u64 = 1_800;
