@@ -1,9 +1,11 @@
+pub mod Changes
 pub mod ClaimBefore
 pub mod ClaimQuiet
 pub mod ClaimRefusals
 pub mod Claimed
 pub mod EndsQuiet
 pub mod EndsStand
+mod Files
 pub mod FolderItems
 pub mod GcAged
 pub mod GcArrived
@@ -42,6 +44,7 @@ pub mod MarkMoments
 pub mod MarkTimes
 pub mod NewRunQuiet
 pub mod NewRuns
+pub mod NextState
 pub mod NotesStand
 pub mod OneNumber
 pub mod Openings

@@ -11,7 +11,7 @@ use Rattle.dir_model.specs.declared.pod.PodId.{PodId}
 use Rattle.dir_model.specs.declared.spot.Handle.{Handle}
 use Rattle.dir_model.specs.declared.spot.Spot.{Spot}
 use Rattle.dir_model.specs.declared.request.Request.{Request}
-use Rattle.dir_model.specs.declared.request.Request.TheVariants.{MakeFolder, MoveFolder, Open, OpenArea, TryLock, Close, RemoveFolder, Finish, Kill}
+use Rattle.dir_model.specs.declared.request.Request.TheVariants.{MakeFolder, MoveFolder, Open, OpenArea, TryLock, Close, RemoveFolder, Finish, Kill, MakeDirIn, MakeFileIn, AppendIn, RemoveFileIn, RemoveDirIn}
 use Rattle.dir_model.specs.declared.request.Reply.{Reply}
 use Rattle.dir_model.specs.declared.request.Reply.TheVariants.{Done, Opened}
 use Rattle.dir_model.specs.Locks.{is_handle}
@@ -32,10 +32,20 @@ use Rattle.commands.specs.ImageGc.{is_swept_place}
 use Rattle.commands.proofs.StoreQuiet.{elsewhere, fewer, mine_only}
 use Rattle.commands.proofs.PlacesKept.{same_folders, IsPlace}
 
--- it moves folders from these locations, and removes folders there, and from nowhere else
+-- the location of the folder in which a request changes something
+abbrev pub changed_in : Request → Option Spot
+changed_in (MakeDirIn inner) = Some inner.spot
+changed_in (MakeFileIn inner) = Some inner.spot
+changed_in (AppendIn inner piece) = Some inner.spot
+changed_in (RemoveFileIn inner) = Some inner.spot
+changed_in (RemoveDirIn inner) = Some inner.spot
+changed_in request = None
+
+-- it moves folders from these locations, and removes folders and changes what stands in them there, and nowhere else
 pub record ChangesAt (touched : Spot → Bool) (asks : Request → Bool) : Type 0 where
   pub moves : (from to : Spot) → asks (MoveFolder from to) ≡ true → touched from ≡ true
   pub removes : (spot : Spot) → asks (RemoveFolder spot) ≡ true → touched spot ≡ true
+  pub fills : (request : Request) (spot : Spot) → changed_in request ≡ Some spot → asks request ≡ true → touched spot ≡ true
 
 abbrev pub in_process : (Request → Bool) → Request → Bool
 in_process asks request = is_begin request || (asks request || is_finish request)
@@ -47,20 +57,20 @@ asks_in_process asks r h = or_last (is_begin r) (asks r || is_finish r) (by (ask
     by true k = refl
     by false k = cc
 
-or_false : (b : Bool) → (b || false) ≡ true → b ≡ true
+pub or_false : (b : Bool) → (b || false) ≡ true → b ≡ true
 or_false true h = refl
 or_false false h = cc
 
 module _ (touched : Spot → Bool) (asks : Request → Bool) (c : ChangesAt touched asks) where
   -- another location
-  elsewhere_from : (from place : Spot) → touched from ≡ true → touched place ≡ false → spot_eq place from ≡ false
+  pub elsewhere_from : (from place : Spot) → touched from ≡ true → touched place ≡ false → spot_eq place from ≡ false
   elsewhere_from from place there other = by (spot_eq place from) refl
     where
       by : (b : Bool) → spot_eq place from ≡ b → spot_eq place from ≡ false
       by true same = let clash : true ≡ false = sym there ∙ (ap touched (sym (one_location place from same)) ∙ other) in cc
       by false apart = apart
 
-  place_step : (p : ℕ) (w : Namespace) (request : Request) (reply : Reply) (folder : ℕ) (place : Spot) → (is_kill request || in_process asks request) ≡ true → IsPlace folder place w → touched place ≡ false →
+  pub place_step : (p : ℕ) (w : Namespace) (request : Request) (reply : Reply) (folder : ℕ) (place : Spot) → (is_kill request || in_process asks request) ≡ true → IsPlace folder place w → touched place ≡ false →
       IsPlace folder place (namespace_replied w p request reply)
   place_step p w (MakeFolder here) Done folder place h at other = get_pushed w.folders (Some here) (Some place) folder at
   place_step p w (MakeFolder here) reply folder place h at other = at
@@ -74,7 +84,7 @@ module _ (touched : Spot → Bool) (asks : Request → Bool) (c : ChangesAt touc
   place_step p w (RemoveFolder gone) reply folder place h at other = at
   place_step p w request reply folder place h at other = ap (λ (fs : List (Option Spot)). slice_get fs folder) (same_folders p w request reply refl (λ handle. refl)) ∙ at
 
-  own_asked : (me : ℕ) (e : Event) → e.process ≡ me → (is_foreign me e || in_process asks e.request) ≡ true → (is_kill e.request || in_process asks e.request) ≡ true
+  pub own_asked : (me : ℕ) (e : Event) → e.process ≡ me → (is_foreign me e || in_process asks e.request) ≡ true → (is_kill e.request || in_process asks e.request) ≡ true
   own_asked me e mine asked =
       ap (λ b. (not b || is_kill e.request) || in_process asks e.request) (sym (same_self me))
       ∙ (ap (λ (q : ℕ). (not (q == me) || is_kill e.request) || in_process asks e.request) (sym mine) ∙ asked)
@@ -91,25 +101,8 @@ module _ (touched : Spot → Bool) (asks : Request → Bool) (c : ChangesAt touc
       let here : state_after new ≡ states_next (state_after old) ext.more = ap state_after ext.grown ∙ states_next-append empty_state old ext.more in
       subst (λ (s : DirState). StaysBeside touched (state_after old) s) (sym here) (places_all me (state_after old) ext.more own ext.asked)
 
--- a removal of an image, and a sweep
-or_first : (a b : Bool) → a ≡ true → (a || b) ≡ true
-or_first true b h = refl
-or_first false b h = cc
-
-pub removal_changes : (key : StoreKey) (draw : PodId) → ChangesAt (is_removal_place key draw) (removes_at key draw)
-removal_changes key draw = record {
-  moves = λ from to h. or_first (spot_eq from (image_spot key)) (spot_eq from (away_spot draw)) (and_left (spot_eq from (image_spot key)) (spot_eq to (away_spot draw)) (or_false _ h));
-  removes = λ spot h. or_last (spot_eq spot (image_spot key)) (spot_eq spot (away_spot draw)) h;
-}
-
-pub sweep_changes : ChangesAt is_swept_place sweeps
-sweep_changes = record {
-  moves = λ from to h. or_first (is_in from.area Incoming) (is_in from.area Removed) (and_left (is_in from.area Incoming) (is_in to.area Removed) h);
-  removes = λ spot h. or_last (is_in spot.area Incoming) (is_in spot.area Removed) h;
-}
-
 -- no own step adds to what others have open
-same_openings : (p : ℕ) (w : Namespace) (request : Request) (reply : Reply) → (namespace_done w p request).openings ≡ w.openings → ((handle : Handle) → (namespace_opened w p request handle).openings ≡ w.openings) →
+pub same_openings : (p : ℕ) (w : Namespace) (request : Request) (reply : Reply) → (namespace_done w p request).openings ≡ w.openings → ((handle : Handle) → (namespace_opened w p request handle).openings ≡ w.openings) →
     (namespace_replied w p request reply).openings ≡ w.openings
 same_openings p w request Done done opened = done
 same_openings p w request (Opened handle) done opened = opened handle

@@ -34,6 +34,7 @@ use Rattle.command_outcomes.specs.declared.refusal.Refusal.TheVariants.{Busy, Ba
 use Rattle.command_outcomes.specs.Moments.{DirSeen, BundleSeen, Outside, Outcome}
 use Rattle.command_outcomes.specs.Conforming.{shown_at, begun}
 use Rattle.command_outcomes.specs.Ends.{is_common}
+use Rattle.commands.specs.NextState.{LeavesBeside}
 
 -- the line that it prints: the image's key
 abbrev pub key_line : StoreKey → List ℕ
@@ -167,13 +168,11 @@ ImportsQuietly path now draw old new (Err DirFault) = ⊥
 ImportsQuietly path now draw old new (Err BundleFault) = ⊥
 ImportsQuietly path now draw old new (Err refusal) = RefusesImage path old new refusal × LeavesImages old.dir new.dir
 
--- each folder that stood elsewhere than at this location stands there still
-abbrev pub StaysElsewhere : Spot → DirState → DirState → Type 0
-StaysElsewhere spot old new =
-    (folder : ℕ) (place : Spot) → slice_get old.namespace.folders folder ≡ Some (Some place) → spot_eq place spot ≡ false →
-    slice_get new.namespace.folders folder ≡ Some (Some place)
+-- where it makes a folder and whence it moves it
+abbrev pub is_building_place : PodId → Spot → Bool
+is_building_place draw place = spot_eq place (building_spot draw)
 
--- it leaves each folder but its own where it stands, and it is as before whose lock is held exclusively
-pub record LeavesOthers (draw : PodId) (old new : DirState) : Type 0 where
-  pub places : StaysElsewhere (building_spot draw) old new
+-- it leaves all but its own folder as it was, and it is as before whose lock is held exclusively
+pub record LeavesOthers (draw : PodId) (me : ℕ) (old new : DirState) : Type 0 where
+  pub beside : LeavesBeside (is_building_place draw) me old new
   pub owned : (folder : ℕ) → is_owned new.namespace folder ≡ is_owned old.namespace folder

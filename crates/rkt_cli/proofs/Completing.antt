@@ -18,8 +18,7 @@ use Rattle.pod_removal.specs.Hindrances.{IsUnhinderedThroughout}
 use Rattle.command_outcomes.specs.declared.refusal.Refusal.{Refusal}
 use Rattle.command_outcomes.specs.declared.refusal.Refusal.TheVariants.{Usage, DirFault, BundleFault, OutFault, NoMemory, Stray}
 use Rattle.command_outcomes.specs.Texts.{status_of}
-use Rattle.command_outcomes.specs.Conforming.{begun, shown_at}
-use Rattle.command_outcomes.specs.Conforming.{begun as just_begun}
+use Rattle.command_outcomes.specs.Conforming.{begun, shown_at, begun as just_begun}
 use Rattle.command_outcomes.specs.Moments.{Moment, Inside, Answer, Outcome, SinkSeen, outcome_of}
 use Rattle.commands.specs.RunRefusals.{claim_refusal, run_refusal, IsRunSaid}
 use Rattle.commands.specs.RunPrepared.{ClaimsAndRuns, IsUnclaimed}
@@ -30,11 +29,14 @@ use Rattle.commands.specs.Rm.{rm_refusal, is_failure}
 use Rattle.commands.proofs.Unhindered.{rm_complete, fails_alone}
 use Rattle.rkt_cli.specs.declared.line.Line.{Line}
 use Rattle.rkt_cli.specs.declared.line.Line.TheVariants.{RunPrepared, Rm}
-use Rattle.rkt_cli.specs.Commands.{may, intent_for, intent_of}
+use Rattle.commands.specs.Answers.{inside_in}
+use Rattle.commands.specs.Command.{intent_for}
+use Rattle.commands.specs.RmCommand.{is_removal_end}
+use Rattle.commands.specs.RunPreparedCommand.{is_unfree_status}
+use Rattle.rkt_cli.specs.Commands.{may, intent_of}
+use Rattle.rkt_cli.specs.Runs.{End, InProcess, Performs, Printed, Unwritten, Graded, RunIs, RunOf, end_status}
 use Rattle.rkt_cli.specs.Spawns.{CameBetween}
 use Rattle.rkt_cli.proofs.RunsQuiet.{finish_ext, seen, me_is, first, to_is, knows_there}
-use Rattle.rkt_cli.specs.Runs.{End, InProcess, Performs, Printed, Unwritten, Graded, RunIs, RunOf, end_status, inside_in}
-use Rattle.rkt_cli.specs.Histories.{is_removal_end, is_unfree_status, IsComplete}
 use Rattle.rkt_cli.proofs.Conforming.{begun_knows}
 use Rattle.rkt_cli.proofs.Grades.{unhurt}
 use Rattle.rkt_cli.proofs.PodRemovals.{rm_intent, begun_removes}
@@ -75,9 +77,9 @@ module _ (pod : PodId) (now : ℕ) (draw : Draw) (old new : Moment) (t : old.out
   ended (Err r) end (inl s) printed = ap (λ (e : End). is_removal_end (end_status e)) printed.refused.0 ∙ failed r (refused r s)
   ended (Err r) end (inr n) printed = ap (λ (e : End). is_removal_end (end_status e)) printed.refused.0 ∙ (let same : r ≡ NoMemory = (let e : ◌≡◌ {A = Outcome} (Err r) (Err NoMemory) = n.is in cc) in ap (λ (e : Refusal). is_removal_end (status_of e)) same)
 
-  plainly : (plain : ℕ) → RunOf (Some (Rm pod)) now draw old new plain → is_removal_end plain ≡ true
-  plainly plain (inl r) = ap is_removal_end r.is ∙ ended r.outcome r.end r.performs r.printed
-  plainly plain (inr n) = ap is_removal_end n.is
+  pub rm_ends : (plain : ℕ) → RunOf (Some (Rm pod)) now draw old new plain → is_removal_end plain ≡ true
+  rm_ends plain (inl r) = ap is_removal_end r.is ∙ ended r.outcome r.end r.performs r.printed
+  rm_ends plain (inr n) = ap is_removal_end n.is
 
 -- a claim of a pod that is free throughout isn't refused but by a failure
 claim_apart : (pod : PodId) (error : ClaimError) → IsFailure error → is_unfree_status (status_of (claim_refusal pod error)) ≡ false
@@ -156,8 +158,6 @@ module _ (pod : PodId) (now : ℕ) (draw : Draw) (old new : Moment) (t : old.out
   graded_apart plain status (inl same) apart = ap is_unfree_status same ∙ apart
   graded_apart plain status (inr x) apart = ap is_unfree_status x.0
 
-pub completes : (l : Option Line) (now : ℕ) (draw : Draw) (old new : Moment) (status : ℕ) → RunIs l now draw old new status → old.outside.dir.observed ≡ true → IsComplete l status old.outside.dir new.outside.dir
-completes None now draw old new status run t = tt
-completes (Some (Rm pod)) now draw old new status run t = λ conforms free. ap is_removal_end (unhurt (Some (Rm pod)) run.plain status run.is refl) ∙ plainly pod now draw old new t conforms free run.plain run.ran
-completes (Some (RunPrepared pod)) now draw old new status run t = λ conforms free. graded_apart pod now draw old new t conforms free run.plain status run.is (run_plainly pod now draw old new t conforms free run.plain run.ran)
-completes (Some line) now draw old new status run t = tt
+pub claim_ends : (pod : PodId) (now : ℕ) (draw : Draw) (old new : Moment) → old.outside.dir.observed ≡ true → IsConforming new.outside.dir.trace → IsFreeThroughout pod (shown_at old.outside.dir) (shown_at new.outside.dir) →
+    (plain status : ℕ) → Graded (Some (RunPrepared pod)) plain status → RunOf (Some (RunPrepared pod)) now draw old new plain → is_unfree_status status ≡ false
+claim_ends pod now draw old new t conforms free plain status graded ran = graded_apart pod now draw old new t conforms free plain status graded (run_plainly pod now draw old new t conforms free plain ran)

@@ -38,7 +38,8 @@ use Rattle.commands.proofs.LateTurns.{or_false, or_either}
 use Rattle.commands.specs.RunPrepared.{runs_prepared}
 use Rattle.rkt_cli.specs.declared.line.Line.{Line}
 use Rattle.rkt_cli.specs.declared.line.Line.TheVariants.{Prepare as PrepareLine, Run as RunLine}
-use Rattle.rkt_cli.specs.Commands.{intent_for, intent_of}
+use Rattle.commands.specs.Command.{intent_for}
+use Rattle.rkt_cli.specs.Commands.{intent_of}
 use Rattle.rkt_cli.specs.Histories.{HandsOver, WhereKnown}
 use Rattle.rkt_cli.proofs.PodRan.{prepares}
 

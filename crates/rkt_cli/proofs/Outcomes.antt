@@ -19,9 +19,9 @@ use Rattle.command_outcomes.specs.Moments.{Outside, Moment, BundleSeen, SinkSeen
 use Rattle.command_outcomes.proofs.Seen.{rose_wider}
 use Rattle.command_outcomes.specs.Ends.{is_own_end}
 use Rattle.commands.specs.Validate.{ValidateSays, file_outcome, manifest_outcome, most_read, sequential_validate}
+use Rattle.commands.specs.Answers.{Complained, IsAnswer}
 use Rattle.rkt_cli.specs.Commands.{may}
-use Rattle.rkt_cli.specs.Runs.{Performs, Complained, End, Unwritten, Printed, Reported, end_status}
-use Rattle.rkt_cli.specs.Statuses.{IsUnreadable, IsAnswer}
+use Rattle.rkt_cli.specs.Runs.{Performs, End, Unwritten, Printed, Reported, end_status}
 use Rattle.rkt_cli.proofs.Judged.{judged_so, judged_whole}
 
 pub rose_between : (a b c d : ℕ) → b ≡ a → Rose b c → d ≡ c → Rose a d
@@ -78,41 +78,3 @@ manifest_prints (fails path kind) text is = cc
 pub file_prints : (path : List ℕ) (found : Option (List ℕ)) (text : List ℕ) → Ok text ≡ file_outcome path found → (manifest : DocumentData) × (text ≡ valid_text manifest)
 file_prints path None text is = cc
 file_prints path (Some bytes) text is = manifest_prints (any_manifest bytes) text is
-
-fault_of : (judged : reading.Outcome DocumentData) (path : List ℕ) (number : ℕ) → Err (BadManifest path number) ≡ manifest_outcome judged → (kind : FaultKind) × (judged ≡ fails path kind) × (number ≡ number_of kind)
-fault_of (reads manifest) path number is = cc
-fault_of (fails at kind) path number is =
-    (kind, let e : at ≡ path = cc in ap (λ (p : List ℕ). fails p kind) e, let e : number ≡ number_of kind = cc in e)
-
-whole_file : (bytes : List ℕ) (file : Option (List ℕ)) → Some bytes ≡ option_map (take most_read) file → (whole : List ℕ) × (file ≡ Some whole) × (any_manifest whole ≡ any_manifest bytes)
-whole_file bytes None is = cc
-whole_file bytes (Some whole) is = (whole, refl, let e : bytes ≡ take most_read whole = cc in sym (ap any_manifest e ∙ judged_so whole))
-
-pub unreadable : (path at : List ℕ) (number : ℕ) (bundle : BundleSeen) (old new : SinkSeen) → ValidateSays path bundle (Err (BadManifest at number)) → Complained (BadManifest at number) old new → IsUnreadable path bundle old new
-unreadable path at number bundle old new d said = by d.found d.told d.is
-  where
-    by : (found : Option (List ℕ)) → (bundle.observed ≡ true → found ≡ option_map (take most_read) (file_bytes (bundle.tree path))) → Err (BadManifest at number) ≡ file_outcome path found → IsUnreadable path bundle old new
-    by None told is = cc
-    by (Some bytes) told is =
-        let f = fault_of (any_manifest bytes) at number is in
-        record {
-          at = at;
-          kind = f.0;
-          file = λ t. let w = whole_file bytes (file_bytes (bundle.tree path)) (told t) in (w.0, w.1, w.2 ∙ f.1);
-          said = subst (λ (n : ℕ). Complained (BadManifest at n) old new) f.2 said;
-        }
-
-no_judgement : (judged : reading.Outcome DocumentData) (path : List ℕ) {X : Type 0} → Err (NoFile path) ≡ manifest_outcome judged → X
-no_judgement (reads manifest) path is = cc
-no_judgement (fails at kind) path is = cc
-
-none_there : (file : Option (List ℕ)) → None ≡ option_map (take most_read) file → file ≡ None
-none_there None is = refl
-none_there (Some bytes) is = cc
-
-pub no_such_file : (path named : List ℕ) (bundle : BundleSeen) (old new : SinkSeen) → ValidateSays path bundle (Err (NoFile named)) → Complained (NoFile named) old new → (bundle.observed ≡ true → file_bytes (bundle.tree path) ≡ None) × Complained (NoFile path) old new
-no_such_file path named bundle old new d said = by d.found d.told d.is
-  where
-    by : (found : Option (List ℕ)) → (bundle.observed ≡ true → found ≡ option_map (take most_read) (file_bytes (bundle.tree path))) → Err (NoFile named) ≡ file_outcome path found → (bundle.observed ≡ true → file_bytes (bundle.tree path) ≡ None) × Complained (NoFile path) old new
-    by None told is = (λ t. none_there (file_bytes (bundle.tree path)) (told t), let e : named ≡ path = cc in subst (λ (p : List ℕ). Complained (NoFile p) old new) e said)
-    by (Some bytes) told is = no_judgement (any_manifest bytes) named is

@@ -32,7 +32,9 @@ use Rattle.command_outcomes.specs.Conforming.{begun, StaysConforming}
 use Rattle.commands.specs.Rm.{rm_refusal, RmSays, removed_text, Removes, FindsPodBusy, WasSo, WasOwned, HadNoManifest, MeetsStray, HasRemovedPod, HasFoundNoPod, HasFoundWrong, HasFoundNoManifest, HasFoundBusy, HasMetStrayAtPod}
 use Rattle.commands.specs.Gc.{gc_refusal, GcSays, times_of, lines_text, Sweeps, SweepsUntold, SweepsInPart, HasSweptPods, HasMadePasses, HasSweptInPart, HasMetStrayInPods}
 use Rattle.rkt_cli.specs.declared.line.Line.TheVariants.{Rm, Gc}
-use Rattle.rkt_cli.specs.Commands.{intent_for, gc_intent, intent_of, may, grace_time, expire_time}
+use Rattle.commands.specs.Command.{intent_for}
+use Rattle.commands.specs.GcCommand.{gc_intent, grace_time, expire_time}
+use Rattle.rkt_cli.specs.Commands.{intent_of, may}
 use Rattle.rkt_cli.specs.Runs.{CommandRan, Performs}
 use Rattle.rkt_cli.proofs.Removals.{meanwhile}
 use Rattle.rkt_cli.proofs.Conforming.{begun_knows}
@@ -171,8 +173,8 @@ gc_may r known = known
 
 pub rm_ran : (line : Line) (now : ℕ) (draw : Draw) (pod : PodId) (observed : Bool) (a b : DirAt) (bundle : BundleSeen) (o : Outcome) → line ≡ Rm pod → Worked observed (removes pod now) a b → (IsErrOf o DirFault → Rose a.faults b.faults) →
     IfErr o (λ r. rm_refusal r ≡ true) → RmSays pod now (dir_seen observed a) (dir_seen observed b) o → CommandRan line now draw (beside (dir_seen observed a) bundle) (beside (dir_seen observed b) bundle) o
-rm_ran line now draw pod observed a b bundle o is worked cause known says = ran (Rm pod) rm_refusal refl (rm_may pod) line now draw observed a b bundle o is tt worked cause known says
+rm_ran line now draw pod observed a b bundle o is worked cause known says = ran (Rm pod) rm_refusal refl (rm_may pod) line now draw observed a b bundle o is refl worked cause known says
 
 pub gc_ran : (line : Line) (now : ℕ) (draw : Draw) (observed : Bool) (a b : DirAt) (bundle : BundleSeen) (o : Outcome) → line ≡ Gc → Worked observed (sweeps now) a b → (IsErrOf o DirFault → Rose a.faults b.faults) →
     IfErr o (λ r. gc_refusal r ≡ true) → GcSays (times_of now grace_time expire_time) (dir_seen observed a) (dir_seen observed b) o → CommandRan line now draw (beside (dir_seen observed a) bundle) (beside (dir_seen observed b) bundle) o
-gc_ran line now draw observed a b bundle o is worked cause known says = ran Gc gc_refusal refl gc_may line now draw observed a b bundle o is tt worked cause known says
+gc_ran line now draw observed a b bundle o is worked cause known says = ran Gc gc_refusal refl gc_may line now draw observed a b bundle o is refl worked cause known says

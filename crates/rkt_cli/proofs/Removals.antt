@@ -16,11 +16,12 @@ use Rattle.rkt_cli.specs.declared.line.Line.TheVariants.{ImageRm, ImageGc}
 use Rattle.command_outcomes.specs.declared.refusal.Refusal.TheVariants.{Busy, NoImage, Stray}
 use Rattle.command_outcomes.specs.Moments.{Outside, Outcome}
 use Rattle.command_outcomes.specs.Conforming.{begun}
-use Rattle.rkt_cli.specs.Commands.{intent_for, intent_of}
+use Rattle.commands.specs.Command.{intent_for}
+use Rattle.rkt_cli.specs.Commands.{intent_of}
+use Rattle.rkt_cli.specs.Runs.{InProcess, Performs}
 use Rattle.command_outcomes.specs.Meanwhile.{Meanwhile}
 use Rattle.commands.specs.ImageRm.{removed_text, Removes, FindsBusy, HasRemoved, HasFoundNone, HasMetStray}
 use Rattle.commands.specs.ImageGc.{sweep_texts, Sweeps, StrayInSweep, HasSwept, HasMetStrayInSweep}
-use Rattle.rkt_cli.specs.Runs.{InProcess, Performs}
 use Rattle.rkt_cli.proofs.Sessions.{begin_part, finish_part}
 use Rattle.rkt_cli.proofs.Conforming.{begun_knows}
 

@@ -3,5 +3,5 @@ pub mod Commands
 pub mod Spawns
 pub mod Runs
 pub mod Histories
-pub mod Statuses
+pub mod Promises
 pub mod Between

@@ -1,12 +1,14 @@
 // What a command line does to the directory, the bundle and the spawner.
-ghost use Rattle.std.specs.Prelude.{◌≡◌, ◌⊎◌, true, false, Some, None, IsSome, IsNone, IsErrOf};
+ghost use Rattle.std.specs.Prelude.{◌≡◌, ◌⊎◌, true, false, Some, None, IsSome, IsNone, IsErrOf, []};
 ghost use Rattle.dir_model.specs.Causes.{Rose};
 ghost use Rattle.dir_model.specs.declared.intent.Intent.{Intent};
 ghost use Rattle.dir_trait.specs.Knowledge.{Knows};
 ghost use Rattle.dir_trait.specs.Local.{IsActive, nothing_local};
 ghost use Rattle.command_outcomes.specs.Moments.{dir_at, outside_at, inside_at, outcome_of, is_well};
 ghost use Rattle.command_outcomes.specs.Conforming.{begun, StaysConforming};
-ghost use Rattle.rkt_cli.specs.Commands.{uses_dir, reads_bundle, runs_apps, intent_for, gc_intent, intent_of, IsReady};
+ghost use Rattle.commands.specs.Command.{intent_for};
+ghost use Rattle.commands.specs.GcCommand.{gc_intent};
+ghost use Rattle.rkt_cli.specs.Commands.{uses_dir, reads_bundle, runs_apps, intent_of};
 ghost use Rattle.rkt_cli.specs.Runs.{CommandRan, Performs};
 ghost use Rattle.rkt_cli.specs.Spawns.{Came, CameBetween};
 ghost use Rattle.rkt_cli.specs.Histories.{HandsOver, WhereKnown};
@@ -97,7 +99,7 @@ fn act_alone<D: Dir, B: Bundle>(
     bundle: &mut B,
 ) -> Result<Output, Refusal>
     requires active { uses_dir line.now ≡ true → IsActive (D.shown dir.old).local }
-    requires ready { IsReady line.now (D.shown dir.old).local }
+    requires ready { (D.shown dir.old).local.holdings ≡ [] }
     requires alone { runs_apps line.now ≡ false }
     ensures local { (D.shown dir.new).local ≡ (D.shown dir.old).local }
     ensures apart { uses_dir line.now ≡ false → dir.new ≡ dir.old }
@@ -143,7 +145,7 @@ fn act<D: Dir, B: Bundle, S: Spawner>(
     spawner: &mut S,
 ) -> Result<Told, Refusal>
     requires active { uses_dir line.now ≡ true → IsActive (D.shown dir.old).local }
-    requires ready { IsReady line.now (D.shown dir.old).local }
+    requires ready { (D.shown dir.old).local.holdings ≡ [] }
     requires known { D.observed ≡ true → (intent : Intent) → intent_of line.now now draw.now ≡ Some intent → Knows (D.shown dir.old) (begun intent) }
     ensures local { (D.shown dir.new).local ≡ (D.shown dir.old).local }
     ensures apart { uses_dir line.now ≡ false → dir.new ≡ dir.old }

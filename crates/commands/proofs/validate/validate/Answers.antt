@@ -1,5 +1,5 @@
 use Rattle.std.proofs.Common.{Err, ap}
-use Rattle.rkt_cli.proofs.Files.{was_read, was_refused}
+use Rattle.commands.proofs.Files.{was_read, was_refused}
 use Rattle.commands.proofs.validate.validate.Goals as goal
 
 pub returns-in-Ok-clause-says : goal.returns-in-Ok-clause-says

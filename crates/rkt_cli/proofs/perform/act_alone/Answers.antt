@@ -4,7 +4,7 @@ use Rattle.rkt_cli.specs.Commands.{uses_dir, intent_of}
 use Rattle.command_outcomes.specs.Moments.{dir_at}
 use Rattle.rkt_cli.proofs.Conforming.{looks_conforming, apart_conforming, list_conforming}
 use Rattle.rkt_cli.proofs.StoreRan.{imports, import_ran, removal_conforming, sweep_conforming, removal_ran, sweep_ran}
-use Rattle.rkt_cli.proofs.Files.{validate_ran}
+use Rattle.rkt_cli.proofs.ValidateRan.{validate_ran}
 use Rattle.rkt_cli.proofs.PodRan.{prepares, prepare_ran}
 use Rattle.rkt_cli.proofs.PodRemovals.{rm_conforming, gc_conforming, rm_ran, gc_ran}
 use Rattle.rkt_cli.proofs.Makers.{looks_none, lists_none, imports_none, image_removes_none, image_sweeps_none, removes_none, sweeps_none, prepare_hands}
