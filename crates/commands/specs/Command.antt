@@ -14,14 +14,19 @@ pub data Saying : Type 1 where
   alone : (ℕ → Draw → Outside → Outside → Outcome → Type 0) → Saying
   running : (ℕ → Draw → Inside → Inside → Answer → Type 0) → Saying
 
+-- nothing is read of the bundle, or so much
+pub data Reading : Type 1 where
+  nothing : Reading
+  reading : (BundleSeen → BundleSeen → Type 0) → Reading
+
 -- a command, of a moment and a draw
 pub record Command : Type 1 where
   -- what its process says when it begins. None: it works on no directory
   pub begins : Option (ℕ → Draw → Intent)
   -- what it asks of the directory between its begin and its finish
   pub asks : ℕ → Draw → Request → Bool
-  -- what it reads of the bundle. None: nothing
-  pub reads : Option (BundleSeen → BundleSeen → Type 0)
+  -- what it reads of the bundle
+  pub reads : Reading
   -- the texts that it prints
   pub prints : Draw → BundleSeen → List ℕ → Type 0
   -- the refusals of its own
@@ -42,9 +47,9 @@ abbrev pub begins_any : Option (ℕ → Draw → Intent) → Bool
 begins_any None = false
 begins_any (Some intent) = true
 
-abbrev pub reads_any : Option (BundleSeen → BundleSeen → Type 0) → Bool
-reads_any None = false
-reads_any (Some reads) = true
+abbrev pub reads_any : Reading → Bool
+reads_any nothing = false
+reads_any (reading reads) = true
 
 -- whether it starts apps
 abbrev pub starts_any : Saying → Bool
@@ -52,9 +57,9 @@ starts_any (alone says) = false
 starts_any (running says) = true
 
 -- what is read of the bundle
-abbrev pub IsRead : Option (BundleSeen → BundleSeen → Type 0) → BundleSeen → BundleSeen → Type 0
-IsRead None old new = new ≡ old
-IsRead (Some reads) old new = reads old new
+abbrev pub IsRead : Reading → BundleSeen → BundleSeen → Type 0
+IsRead nothing old new = new ≡ old
+IsRead (reading reads) old new = reads old new
 
 -- what a process says when it begins that has no times of its own
 abbrev pub intent_for : Kind → List ℕ → ℕ → Draw → Intent

@@ -11,7 +11,7 @@ use Rattle.command_outcomes.specs.declared.refusal.Refusal.{Refusal}
 use Rattle.command_outcomes.specs.declared.refusal.Refusal.TheVariants.{Stray}
 use Rattle.command_outcomes.specs.Moments.{DirSeen, Moment}
 use Rattle.commands.specs.Answers.{WritesOf}
-use Rattle.commands.specs.Command.{Command, alone, WhereObserved, WhereAllKeepRules}
+use Rattle.commands.specs.Command.{Command, nothing, alone, WhereObserved, WhereAllKeepRules}
 use Rattle.commands.specs.Gc.{times_of, gc_refusal, lines_text, GcSays, HasMadePasses, HasMetStrayInPods, HasSweptInPart, HasSweptPods}
 use Rattle.commands.specs.RemovalHistory.{SweepsForGood}
 use Rattle.commands.specs.RemovalQuiet.{SweepsPodsQuietly, is_pods_place}
@@ -58,7 +58,7 @@ abbrev pub gc_command : Command
 gc_command = record {
   begins = Some gc_intent;
   asks = λ now draw. sweeps now;
-  reads = None;
+  reads = nothing;
   prints = λ draw bundle text. (lines : List GcLine) × (text ≡ lines_text lines);
   refusals = gc_refusal;
   refused_for = λ now draw refusal old new. RefusesGc refusal old.outside.dir new.outside.dir;

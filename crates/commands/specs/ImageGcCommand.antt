@@ -7,7 +7,7 @@ use Rattle.command_outcomes.specs.declared.refusal.Refusal.{Refusal}
 use Rattle.command_outcomes.specs.declared.refusal.Refusal.TheVariants.{Stray}
 use Rattle.command_outcomes.specs.Moments.{DirSeen, Moment}
 use Rattle.commands.specs.Answers.{WritesOf}
-use Rattle.commands.specs.Command.{Command, alone, intent_for, WhereObserved}
+use Rattle.commands.specs.Command.{Command, nothing, alone, intent_for, WhereObserved}
 use Rattle.commands.specs.ImageGc.{image_gc_refusal, sweep_texts, is_swept_place, HasMetStrayInSweep, HasSwept, ImageGcSays, SweepsQuietly}
 use Rattle.commands.specs.NextState.{LeavesBeside}
 
@@ -25,7 +25,7 @@ abbrev pub image_gc_command : Command
 image_gc_command = record {
   begins = Some (intent_for kind.ImageGc []);
   asks = λ now draw. sweeps;
-  reads = None;
+  reads = nothing;
   prints = λ draw bundle text. (lines : List SweepLine) × (text ≡ sweep_texts lines);
   refusals = image_gc_refusal;
   refused_for = λ now draw refusal old new. RefusesImageGc refusal old.outside.dir new.outside.dir;

@@ -12,7 +12,7 @@ use Rattle.command_outcomes.specs.declared.refusal.Refusal.{Refusal}
 use Rattle.command_outcomes.specs.declared.refusal.Refusal.TheVariants.{Busy}
 use Rattle.command_outcomes.specs.Moments.{Outside, Moment}
 use Rattle.commands.specs.Answers.{IsAnswer, WritesOf}
-use Rattle.commands.specs.Command.{Command, alone, intent_for, WhereAllKeepRules}
+use Rattle.commands.specs.Command.{Command, reading, alone, intent_for, WhereAllKeepRules}
 use Rattle.commands.specs.ImageImport.{image_import_refusal, import_refusal, ImageImportSays, ImportsQuietly, IsAreaHeld, LeavesOthers, PrintsKey, RefusesImage, StoresImage}
 
 -- the bundle's first fault, or what the store has or lacks, in its turn; and where a lock was refused, another process held it
@@ -40,7 +40,7 @@ abbrev pub image_import_command : List ℕ → Command
 image_import_command path = record {
   begins = Some (intent_for kind.ImageImport []);
   asks = λ now draw. imports_at (building_spot draw.uuid);
-  reads = Some (λ old new. old.faults ≤ new.faults);
+  reads = reading (λ old new. old.faults ≤ new.faults);
   prints = λ draw bundle text. PrintsKey path bundle text;
   refusals = image_import_refusal;
   refused_for = λ now draw refusal old new. RefusesImport path refusal old.outside new.outside;

@@ -7,7 +7,7 @@ use Rattle.command_outcomes.specs.declared.refusal.Refusal.{Refusal}
 use Rattle.command_outcomes.specs.declared.refusal.Refusal.TheVariants.{Busy, Damaged}
 use Rattle.command_outcomes.specs.Moments.{DirSeen, Moment}
 use Rattle.commands.specs.Answers.{WritesOf}
-use Rattle.commands.specs.Command.{Command, alone, intent_for, WhereObserved}
+use Rattle.commands.specs.Command.{Command, nothing, alone, intent_for, WhereObserved}
 use Rattle.commands.specs.ImageList.{image_list_refusal, lists_images, images_text, LacksPart, IsHeldElsewhere, ListsStore, ImageListSays, ListsQuietly}
 use Rattle.commands.specs.NextState.{LeavesAll}
 
@@ -26,7 +26,7 @@ abbrev pub image_list_command : Command
 image_list_command = record {
   begins = Some (intent_for kind.ImageList []);
   asks = λ now draw. lists_images;
-  reads = None;
+  reads = nothing;
   prints = λ draw bundle text. (images : List Stored) × (text ≡ images_text images);
   refusals = image_list_refusal;
   refused_for = λ now draw refusal old new. RefusesImageList refusal old.outside.dir new.outside.dir;

@@ -11,7 +11,7 @@ use Rattle.command_outcomes.specs.declared.refusal.Refusal.TheVariants.{Busy, No
 use Rattle.command_outcomes.specs.Meanwhile.{Meanwhile}
 use Rattle.command_outcomes.specs.Moments.{DirSeen, Moment}
 use Rattle.commands.specs.Answers.{WritesOf}
-use Rattle.commands.specs.Command.{Command, alone, intent_for, WhereObserved}
+use Rattle.commands.specs.Command.{Command, nothing, alone, intent_for, WhereObserved}
 use Rattle.commands.specs.ImageRm.{image_rm_refusal, removed_text, is_removal_place, FindsBusy, HasFoundNone, HasMetStray, HasRemoved, ImageRmSays, RemovesQuietly}
 use Rattle.commands.specs.NextState.{LeavesBeside}
 
@@ -33,7 +33,7 @@ abbrev pub image_rm_command : StoreKey → Command
 image_rm_command key = record {
   begins = Some (intent_for kind.ImageRm []);
   asks = λ now draw. removes_at key draw.uuid;
-  reads = None;
+  reads = nothing;
   prints = λ draw bundle text. text ≡ removed_text key;
   refusals = image_rm_refusal;
   refused_for = λ now draw refusal old new. RefusesImageRm key draw refusal old.outside.dir new.outside.dir;

@@ -10,7 +10,7 @@ use Rattle.command_outcomes.specs.declared.refusal.Refusal.{Refusal}
 use Rattle.command_outcomes.specs.declared.refusal.Refusal.TheVariants.{Busy}
 use Rattle.command_outcomes.specs.Moments.{DirSeen, Moment}
 use Rattle.commands.specs.Answers.{WritesOf}
-use Rattle.commands.specs.Command.{Command, alone, intent_for, WhereObserved, WhereAllKeepRules}
+use Rattle.commands.specs.Command.{Command, nothing, alone, intent_for, WhereObserved, WhereAllKeepRules}
 use Rattle.commands.specs.Prepare.{pod_line, prepares_pod, HasBrought, HasKeptFolder, HasSynced, IsAreaHeld, IsFaithful, PrepareSays, RefusesPod}
 use Rattle.commands.specs.PrepareQuiet.{PreparesQuietly, is_pod_place}
 use Rattle.commands.specs.PrepareRefusals.{prepare_refusal}
@@ -45,7 +45,7 @@ abbrev pub prepare_command : List (List ℕ) → Command
 prepare_command words = record {
   begins = Some (intent_for kind.Prepare []);
   asks = λ now draw. prepares_pod draw.uuid;
-  reads = None;
+  reads = nothing;
   prints = λ draw bundle text. text ≡ pod_line draw.uuid;
   refusals = prepare_refusal;
   refused_for = λ now draw refusal old new. RefusesPrepare words now draw refusal old.outside.dir new.outside.dir;

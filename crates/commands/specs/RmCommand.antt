@@ -11,7 +11,7 @@ use Rattle.command_outcomes.specs.declared.refusal.Refusal.{Refusal}
 use Rattle.command_outcomes.specs.declared.refusal.Refusal.TheVariants.{NoPod, WrongPhase, NoManifest, PodBusy, Stray}
 use Rattle.command_outcomes.specs.Moments.{DirSeen, Moment}
 use Rattle.commands.specs.Answers.{WritesOf}
-use Rattle.commands.specs.Command.{Command, alone, intent_for, WhereObserved, WhereAllKeepRules}
+use Rattle.commands.specs.Command.{Command, nothing, alone, intent_for, WhereObserved, WhereAllKeepRules}
 use Rattle.commands.specs.RemovalHistory.{IsRemovedBetween}
 use Rattle.commands.specs.RemovalQuiet.{RemovesPodQuietly}
 use Rattle.commands.specs.Rm.{rm_refusal, removed_text, HasFoundBusy, HasFoundNoManifest, HasFoundNoPod, HasFoundWrong, HasMetStrayAtPod, HasRemovedPod, RmSays}
@@ -46,7 +46,7 @@ abbrev pub rm_command : PodId → Command
 rm_command pod = record {
   begins = Some (intent_for kind.Rm (pod_text pod.bytes));
   asks = λ now draw. removes pod now;
-  reads = None;
+  reads = nothing;
   prints = λ draw bundle text. text ≡ removed_text pod;
   refusals = rm_refusal;
   refused_for = λ now draw refusal old new. RefusesRm pod refusal old.outside.dir new.outside.dir;

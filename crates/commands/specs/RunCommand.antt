@@ -12,7 +12,7 @@ use Rattle.command_outcomes.specs.Moments.{DirSeen, Moment, Outcome}
 use Rattle.commands.specs.Answers.{inside_in}
 use Rattle.commands.specs.AppEnds.{app_lines}
 use Rattle.commands.specs.AppsTold.{WithinProcess, CameSo, TellsApps}
-use Rattle.commands.specs.Command.{Command, running, intent_for}
+use Rattle.commands.specs.Command.{Command, nothing, running, intent_for}
 use Rattle.commands.specs.Prepare.{pod_line}
 use Rattle.commands.specs.Run.{makes_and_runs, RunIsTold}
 use Rattle.commands.specs.RunQuiet.{HasMadeAndLeft, IsRunRefusal, IsUnmadeFor, TellsItsEnds}
@@ -44,7 +44,7 @@ abbrev pub run_command : List (List ℕ) → Command
 run_command words = record {
   begins = Some (intent_for kind.Run []);
   asks = λ now draw. makes_and_runs draw.uuid;
-  reads = None;
+  reads = nothing;
   prints = λ draw bundle text. (ends : List AppEnd) × (text ≡ pod_line draw.uuid ++ app_lines ends);
   refusals = new_run_refusal;
   refused_for = λ now draw refusal old new. RefusesNewRun words now draw refusal old new;

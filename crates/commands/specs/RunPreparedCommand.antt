@@ -17,7 +17,7 @@ use Rattle.command_outcomes.specs.Moments.{DirSeen, Moment, Outcome}
 use Rattle.commands.specs.Answers.{inside_in}
 use Rattle.commands.specs.AppEnds.{app_lines}
 use Rattle.commands.specs.AppsTold.{WithinProcess, CameSo, TellsApps}
-use Rattle.commands.specs.Command.{Command, running, intent_for, WhereAllKeepRules}
+use Rattle.commands.specs.Command.{Command, nothing, running, intent_for, WhereAllKeepRules}
 use Rattle.commands.specs.RunPrepared.{runs_prepared, RunPreparedSays}
 use Rattle.commands.specs.RunQuiet.{HasPassed, IsRunRefusal, TellsItsEnds, UnclaimedFor}
 use Rattle.commands.specs.RunRefusals.{run_prepared_refusal, claim_refusal}
@@ -53,7 +53,7 @@ abbrev pub run_prepared_command : PodId → Command
 run_prepared_command pod = record {
   begins = Some (intent_for kind.RunPrepared (pod_text pod.bytes));
   asks = λ now draw. runs_prepared pod;
-  reads = None;
+  reads = nothing;
   prints = λ draw bundle text. (ends : List AppEnd) × (text ≡ app_lines ends);
   refusals = run_prepared_refusal;
   refused_for = λ now draw refusal old new. RefusesRun pod now draw refusal old new;

@@ -15,7 +15,7 @@ use Rattle.command_outcomes.specs.declared.refusal.Refusal.TheVariants.{NoPod}
 use Rattle.command_outcomes.specs.Ends.{is_own_end}
 use Rattle.command_outcomes.specs.Moments.{DirSeen, Moment}
 use Rattle.commands.specs.Answers.{WritesOf}
-use Rattle.commands.specs.Command.{Command, alone, intent_for, WhereAllKeepRules}
+use Rattle.commands.specs.Command.{Command, nothing, alone, intent_for, WhereAllKeepRules}
 use Rattle.commands.specs.Status.{status_refusal, StatusSays, sequential_status}
 use Rattle.commands.specs.Texts.{state_text}
 use Rattle.commands.specs.NextState.{LeavesAll}
@@ -42,7 +42,7 @@ abbrev pub status_command : PodId → Command
 status_command pod = record {
   begins = Some (intent_for kind.Status (pod_text pod.bytes));
   asks = λ now draw. is_look_at (is_pod_spot pod);
-  reads = None;
+  reads = nothing;
   prints = λ draw bundle text. (phase : Phase) × (text ≡ state_text phase);
   refusals = status_refusal;
   refused_for = λ now draw refusal old new. RefusesStatus pod refusal old.outside.dir new.outside.dir;

@@ -5,7 +5,7 @@ use Rattle.command_outcomes.specs.declared.refusal.Refusal.{Refusal}
 use Rattle.command_outcomes.specs.Ends.{is_own_end}
 use Rattle.command_outcomes.specs.Moments.{Moment}
 use Rattle.commands.specs.Answers.{IsAnswer}
-use Rattle.commands.specs.Command.{Command, alone}
+use Rattle.commands.specs.Command.{Command, reading, alone}
 use Rattle.commands.specs.Texts.{valid_text}
 use Rattle.commands.specs.Validate.{validate_refusal, ValidateSays, ReadsFile, sequential_validate}
 
@@ -23,7 +23,7 @@ abbrev pub validate_command : List ℕ → Command
 validate_command path = record {
   begins = None;
   asks = λ now draw request. false;
-  reads = Some (ReadsFile path);
+  reads = reading (ReadsFile path);
   prints = λ draw bundle text. (manifest : DocumentData) × (text ≡ valid_text manifest);
   refusals = validate_refusal;
   refused_for = λ now draw refusal old new. (validate_refusal refusal ≡ true) × ValidateSays path old.outside.bundle (Err refusal);
