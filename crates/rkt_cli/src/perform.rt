@@ -8,9 +8,9 @@ ghost use Rattle.command_outcomes.specs.Moments.{dir_at, outside_at, inside_at, 
 ghost use Rattle.command_outcomes.specs.Conforming.{begun, StaysConforming};
 ghost use Rattle.commands.specs.Command.{intent_for};
 ghost use Rattle.commands.specs.GcCommand.{gc_intent};
-ghost use Rattle.rkt_cli.specs.Commands.{uses_dir, reads_bundle, runs_apps, intent_of};
+ghost use Rattle.rkt_cli.specs.Commands.{uses_dir, reads_bundle, runs_apps, intent_of, Came};
 ghost use Rattle.rkt_cli.specs.Runs.{CommandRan, Performs};
-ghost use Rattle.rkt_cli.specs.Spawns.{Came, CameBetween};
+ghost use Rattle.rkt_cli.specs.Spawns.{CameBetween};
 ghost use Rattle.rkt_cli.specs.Histories.{HandsOver, WhereKnown};
 
 use crate::line::Line;
