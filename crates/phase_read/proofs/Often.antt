@@ -1,5 +1,5 @@
 -- How often something is asked for, from call to call.
-use Rattle.std.proofs.Common.{◌≡◌, ◌⊎◌, inl, inr, ◌≤◌, ◌+◌, ◌-◌, ◌==◌, ◌||◌, ◌&&◌, ℕ, zero, suc, Bool, true, false, not, cond, bytes_eq, List, [], ◌∷◌, ◌++◌, refl, sym, ap, subst, ◌∙◌, append_assoc, arith}
+use Rattle.std.proofs.Common.{◌≡◌, ◌⊎◌, inl, inr, ◌≤◌, ◌+◌, ◌-◌, ◌==◌, ◌||◌, ◌&&◌, ℕ, zero, suc, Bool, true, false, not, bytes_eq, List, [], ◌∷◌, ◌++◌, refl, sym, ap, subst, ◌∙◌, append_assoc, arith}
 use Rattle.std.specs.List.{AllByRecursion}
 use Rattle.std.proofs.lemmas.Bool.Decides.{nat_tests}
 use Rattle.dir_model.specs.declared.area.Area.{Area}
@@ -18,15 +18,15 @@ use Rattle.dir_model.specs.Replies.{is_look_at}
 use Rattle.dir_model.specs.State.{spot_eq}
 use Rattle.dir_model.proofs.Lists.{and_left}
 use Rattle.phase_read.specs.Read.{pod_spot}
-use Rattle.phase_read.specs.Often.{asked_times, AsksAtMost, opens_own, begins_read}
+use Rattle.phase_read.specs.Often.{one_if, asked_times, AsksAtMost, opens_own, begins_read}
 
 times_append : (asks : Request → Bool) (me : ℕ) (xs ys : List Event) → asked_times asks me (xs ++ ys) ≡ asked_times asks me xs + asked_times asks me ys
-times_append asks me [] ys = refl
+times_append asks me [] ys = omega arith
 times_append asks me (e ∷ es) ys =
     let rest = times_append asks me es ys in
     omega (arith, rest)
 
-none_one : (a b c : Bool) → (a || b) ≡ true → (b ≡ true → c ≡ false) → cond (not a && c) 1 0 ≡ 0
+none_one : (a b c : Bool) → (a || b) ≡ true → (b ≡ true → c ≡ false) → one_if (not a && c) ≡ 0
 none_one true b c is f = refl
 none_one false b c is f = rw (f is) refl
 
@@ -40,15 +40,15 @@ none_times asks kind me f (e ∷ es) all =
 others_times : (asks : Request → Bool) (me : ℕ) (es : List Event) → AllByRecursion (λ e. is_foreign me e ≡ true) es → asked_times asks me es ≡ 0
 others_times asks me [] all = refl
 others_times asks me (e ∷ es) all =
-    let here : cond (not (is_foreign me e) && asks e.request) 1 0 ≡ 0 = rw all.0 refl in
+    let here : one_if (not (is_foreign me e) && asks e.request) ≡ 0 = rw all.0 refl in
     let rest = others_times asks me es all.1 in
     omega (arith, here, rest)
 
-one_times : (b : Bool) → cond b 1 0 ≤ 1
+one_times : (b : Bool) → one_if b ≤ 1
 one_times true = omega arith
 one_times false = omega arith
 
-not_times : (a b : Bool) → b ≡ false → cond (a && b) 1 0 ≤ 0
+not_times : (a b : Bool) → b ≡ false → one_if (a && b) ≤ 0
 not_times true b is = rw is (omega arith)
 not_times false b is = omega arith
 
@@ -59,7 +59,7 @@ asks_none {asks} {kind} {me} f e =
     record { more = e.more; grown = e.grown; counted = omega (arith, none) }
 
 -- one call, which asks for it at most so often
-asks_by : {asks : Request → Bool} {me : ℕ} {request : Request} {reply : Reply} {a b : List Event} (n : ℕ) → cond (not (is_foreign me (event me request reply)) && asks request) 1 0 ≤ n → CallStep me a request reply b → AsksAtMost n asks me a b
+asks_by : {asks : Request → Bool} {me : ℕ} {request : Request} {reply : Reply} {a b : List Event} (n : ℕ) → one_if (not (is_foreign me (event me request reply)) && asks request) ≤ n → CallStep me a request reply b → AsksAtMost n asks me a b
 asks_by {asks} {me} {request} {reply} {a} {b} n one s = from s.own
   where
     before : asked_times asks me s.meanwhile.others ≡ 0

@@ -1,5 +1,5 @@
 -- How often a process asks for something, and so how often it reads a phase.
-use Rattle.std.specs.Prelude.{◌≡◌, ◌≤◌, ◌+◌, ◌&&◌, ℕ, Bool, true, false, not, cond, List, [], ◌∷◌, ◌++◌}
+use Rattle.std.specs.Prelude.{◌≡◌, ◌≤◌, ◌+◌, ◌&&◌, ℕ, Bool, true, false, not, List, [], ◌∷◌, ◌++◌}
 use Rattle.dir_model.specs.declared.area.Area.TheVariants.{Embryo}
 use Rattle.dir_model.specs.declared.event.Event.{Event}
 use Rattle.dir_model.specs.declared.pod.PodId.{PodId}
@@ -12,10 +12,14 @@ use Rattle.dir_trait.specs.DirCalls.{DirAt}
 use Rattle.dir_trait.specs.State.{spot_eq}
 use Rattle.phase_read.specs.Read.{pod_spot}
 
+abbrev pub one_if : Bool → ℕ
+one_if true = 1
+one_if false = 0
+
 -- how many of these events are requests of this kind by this process
 abbrev pub asked_times : (Request → Bool) → ℕ → List Event → ℕ
 asked_times asks me [] = 0
-asked_times asks me (e ∷ es) = cond (not (is_foreign me e) && asks e.request) 1 0 + asked_times asks me es
+asked_times asks me (e ∷ es) = one_if (not (is_foreign me e) && asks e.request) + asked_times asks me es
 
 -- between these two moments at most so many were
 pub record AsksAtMost (n : ℕ) (asks : Request → Bool) (me : ℕ) (old new : List Event) : Type 0 where
