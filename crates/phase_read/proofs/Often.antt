@@ -1,5 +1,5 @@
 -- How often something is asked for, from call to call.
-use Rattle.std.proofs.Common.{◌≡◌, ◌⊎◌, inl, inr, ◌≤◌, ◌+◌, ◌-◌, ◌==◌, ◌||◌, ◌&&◌, ℕ, zero, suc, Bool, true, false, not, bytes_eq, List, [], ◌∷◌, ◌++◌, refl, sym, ap, subst, ◌∙◌, append_assoc, arith}
+use Rattle.std.proofs.Common.{◌≡◌, ◌⊎◌, inl, inr, ◌≤◌, ◌+◌, ◌-◌, ◌==◌, ◌||◌, ◌&&◌, ℕ, zero, suc, Bool, true, false, not, bytes_eq, List, [], ◌∷◌, ◌++◌, refl, ap, subst, ◌∙◌, append_assoc, arith}
 use Rattle.std.specs.List.{AllByRecursion}
 use Rattle.std.proofs.lemmas.Bool.Decides.{nat_tests}
 use Rattle.dir_model.specs.declared.area.Area.{Area}
@@ -10,6 +10,7 @@ use Rattle.dir_model.specs.declared.request.Request.{Request}
 use Rattle.dir_model.specs.declared.request.Request.TheVariants.{Open}
 use Rattle.dir_model.specs.declared.request.Reply.{Reply}
 use Rattle.dir_model.specs.declared.spot.Spot.{Spot}
+use Rattle.dir_model.specs.declared.spot.Which.{Which}
 use Rattle.dir_model.specs.declared.spot.Which.TheVariants.{Own, Claim}
 use Rattle.dir_model.specs.Areas.{rank}
 use Rattle.dir_model.specs.Calls.{CallStep, TookPlace, LeftNothing, Extends, is_foreign, event}
@@ -17,8 +18,9 @@ use Rattle.dir_model.specs.Pods.{pod_text}
 use Rattle.dir_model.specs.Replies.{is_look_at}
 use Rattle.dir_model.specs.State.{spot_eq}
 use Rattle.dir_model.proofs.Lists.{and_left}
+use Rattle.dir_trait.specs.DirCalls.{DirAt, DirCall, ExtendsBy}
 use Rattle.phase_read.specs.Read.{pod_spot}
-use Rattle.phase_read.specs.Often.{one_if, asked_times, AsksAtMost, opens_own, begins_read}
+use Rattle.phase_read.specs.Often.{one_if, asked_times, AsksAtMost, opens_own, begins_read, ReadsAtMost}
 
 times_append : (asks : Request → Bool) (me : ℕ) (xs ys : List Event) → asked_times asks me (xs ++ ys) ≡ asked_times asks me xs + asked_times asks me ys
 times_append asks me [] ys = omega arith
@@ -125,3 +127,23 @@ module _ (pod : PodId) (area : Area) (text : List ℕ) where
           pod_named : List ℕ → Spot
           pod_named t = record { area = Embryo; name = t }
       by (suc n) is = asks_within (1 - suc n) (omega arith) (asks_none (not_begins n is) looks)
+
+-- how often the phase is read
+pub reads_more : {observed : Bool} {pod : PodId} {n m : ℕ} {a b c : DirAt} (k : ℕ) → n + m ≤ k → ReadsAtMost n observed pod a b → b.process ≡ a.process → ReadsAtMost m observed pod b c → ReadsAtMost k observed pod a c
+reads_more k within ab same bc = record { reads = λ t. asks_more k within (ab.reads t) same (bc.reads t) }
+
+pub unread_call : {observed : Bool} {pod : PodId} {request : Request} {reply : Reply} {a b : DirAt} → begins_read pod request ≡ false → DirCall observed a request reply b → ReadsAtMost 0 observed pod a b
+unread_call is c = record { reads = λ t. asks_never is (c.step t) }
+
+pub unread_by : {observed : Bool} {kind : Request → Bool} {pod : PodId} {a b : DirAt} → ((r : Request) → kind r ≡ true → begins_read pod r ≡ false) → (observed ≡ true → ExtendsBy kind a b) → ReadsAtMost 0 observed pod a b
+unread_by f extends = record { reads = λ t. asks_none f (extends t) }
+
+-- a lock that is opened at a later place of the pod
+pub opens_past : (pod : PodId) (area : Area) (n : ℕ) → rank area ≡ suc n → (spot : Spot) → spot_eq (pod_spot pod area) spot ≡ true → (which : Which) → begins_read pod (Open spot which) ≡ false
+opens_past pod area n is spot same Own =
+    let other = elsewhere n (rank spot.area) (subst (λ (k : ℕ). (k == rank spot.area) ≡ true) is (and_left (rank area == rank spot.area) (bytes_eq (pod_text pod.bytes) spot.name) same)) in
+    rw other refl
+opens_past pod area n is spot same Claim = refl
+
+pub reads_within : {observed : Bool} {pod : PodId} {n : ℕ} {a b : DirAt} (k : ℕ) → n ≤ k → ReadsAtMost n observed pod a b → ReadsAtMost k observed pod a b
+reads_within k within x = record { reads = λ t. asks_within k within (x.reads t) }

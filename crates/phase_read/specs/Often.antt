@@ -36,9 +36,9 @@ opens_own spot request = false
 abbrev pub begins_read : PodId → Request → Bool
 begins_read pod request = opens_own (pod_spot pod Embryo) request
 
--- where the trace is observed, the pod's phase was read at most so often
-abbrev pub ReadsAtMost : ℕ → Bool → PodId → DirAt → DirAt → Type 0
-ReadsAtMost n observed pod old new = observed ≡ true → AsksAtMost n (begins_read pod) old.process old.trace new.trace
+-- the pod's phase was read at most so often, where the trace is observed
+pub record ReadsAtMost (n : ℕ) (observed : Bool) (pod : PodId) (old new : DirAt) : Type 0 where
+  pub reads : observed ≡ true → AsksAtMost n (begins_read pod) old.process old.trace new.trace
 
 -- and the own lock there opened at most once
 abbrev pub OpensOnce : Bool → Spot → DirAt → DirAt → Type 0

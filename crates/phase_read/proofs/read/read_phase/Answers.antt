@@ -105,16 +105,16 @@ returns-in-None-clause-exact g c t conforming =
     gone_exactly c.args.pod (shown c.args.dir.now).process (shown c.args.dir.now).trace (shown c.read_at.new.dir).trace conforming (returns-in-None-clause-read g c t)
 
 pub returns-in_err-phase-clause-reads : goal.returns-in_err-phase-clause-reads
-returns-in_err-phase-clause-reads g c t =
+returns-in_err-phase-clause-reads g c =
     let i = c.places.invariant in
-    asks_more 1 (omega (arith, i.below)) (i.reads t) i.same (reads_area c.args.pod c.places.area c.name-name.result c.name-name.ensures.text (λ is. c.read_at.ensures.once is t) (c.read_at.ensures.extends t))
+    record { reads = λ t. asks_more 1 (omega (arith, i.below)) (i.reads t) i.same (reads_area c.args.pod c.places.area c.name-name.result c.name-name.ensures.text (λ is. c.read_at.ensures.once is t) (c.read_at.ensures.extends t)) }
 
 pub returns-in-Some-clause-reads : goal.returns-in-Some-clause-reads
-returns-in-Some-clause-reads g c t =
+returns-in-Some-clause-reads g c =
     let i = c.places.invariant in
-    asks_more 1 (omega (arith, i.below)) (i.reads t) i.same (reads_area c.args.pod c.places.area c.name-name.result c.name-name.ensures.text (λ is. c.read_at.ensures.once is t) (c.read_at.ensures.extends t))
+    record { reads = λ t. asks_more 1 (omega (arith, i.below)) (i.reads t) i.same (reads_area c.args.pod c.places.area c.name-name.result c.name-name.ensures.text (λ is. c.read_at.ensures.once is t) (c.read_at.ensures.extends t)) }
 
 pub returns-in-None-clause-reads : goal.returns-in-None-clause-reads
-returns-in-None-clause-reads g c t =
+returns-in-None-clause-reads g c =
     let i = c.places.invariant in
-    asks_more 1 (omega (arith, i.below)) (i.reads t) i.same (reads_area c.args.pod c.places.area c.name-name.result c.name-name.ensures.text (λ is. c.read_at.ensures.once is t) (c.read_at.ensures.extends t))
+    record { reads = λ t. asks_more 1 (omega (arith, i.below)) (i.reads t) i.same (reads_area c.args.pod c.places.area c.name-name.result c.name-name.ensures.text (λ is. c.read_at.ensures.once is t) (c.read_at.ensures.extends t)) }
