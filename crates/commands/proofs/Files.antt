@@ -1,19 +1,15 @@
 -- A file that `validate` read, or couldn't.
-use Rattle.std.proofs.Common.{arith, ◌≡◌, ◌⊎◌, inl, inr, ◌≤◌, ℕ, true, false, List, take, Option, Some, None, option_map, IsSomeAnd, Ok, Err, IsErrOf, IfErr, refl, sym, ap, subst, ◌∙◌}
-use Rattle.dir_model.specs.declared.intent.Draw.{Draw}
-use Rattle.dir_model.specs.Causes.{Rose}
-use Rattle.dir_model.proofs.Chains.{nothing_yet}
+use Rattle.std.proofs.Common.{◌≡◌, ◌⊎◌, inl, inr, ℕ, true, false, List, take, Option, Some, None, option_map, IsSomeAnd, Err, refl, sym, ap, ◌∙◌}
 use Rattle.dir_trait.specs.Bundles.{file_bytes}
 use Rattle.dir_trait.specs.declared.bundle.BundleError.{BundleError}
 use Rattle.dir_trait.specs.declared.bundle.BundleError.TheVariants.{Missing, Failed}
 use Rattle.dir_trait.specs.declared.bundle.BundleError.TheVariants as bundle_error
 use Rattle.manifests.specs.DocumentData.{any_manifest}
 use Rattle.command_outcomes.specs.declared.refusal.Refusal.{Refusal}
-use Rattle.command_outcomes.specs.declared.refusal.Refusal.TheVariants.{DirFault, BundleFault, NoMemory}
-use Rattle.command_outcomes.specs.Moments.{DirSeen, BundleSeen, Outcome}
-use Rattle.command_outcomes.proofs.Seen.{beside}
+use Rattle.command_outcomes.specs.declared.refusal.Refusal.TheVariants.{BundleFault, NoMemory}
+use Rattle.command_outcomes.specs.Moments.{BundleSeen, Outcome}
 use Rattle.command_outcomes.specs.Ends.{is_own_end}
-use Rattle.commands.specs.Validate.{ValidateSays, ReadsFile, IsRefusalOf, validate_refusal, manifest_outcome, most_read}
+use Rattle.commands.specs.Validate.{ValidateSays, IsRefusalOf, manifest_outcome, most_read}
 
 front_of : (bytes : List ℕ) (file : Option (List ℕ)) → IsSomeAnd file (λ f. bytes ≡ take most_read f) → Some bytes ≡ option_map (take most_read) file
 front_of bytes None read = absurd read

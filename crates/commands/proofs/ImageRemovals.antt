@@ -21,7 +21,8 @@ use Rattle.command_outcomes.specs.declared.refusal.Refusal.TheVariants.{NoMemory
 use Rattle.command_outcomes.specs.Moments.{Outcome}
 use Rattle.command_outcomes.specs.Conforming.{shown_at}
 use Rattle.commands.specs.ImageRm.{removal_refusal, IsRemovalSaid, FindsBusy, ImageRmSays}
-use Rattle.commands.specs.ImageGc.{sweep_texts, ImageGcSays}
+use Rattle.commands.specs.ImageGc.{sweep_texts, ImageGcSays, EndsEarly}
+use Rattle.image_removal.specs.Ended.{EndsSweepBetween}
 use Rattle.command_outcomes.proofs.Seen.{seen_at}
 
 -- why an image wasn't removed, and what is said of it
@@ -61,11 +62,11 @@ module _ (observed : Bool) (a b : DirAt) where
   swept_says lines o (inr e) swept = subst SweepSays (sym e) tt
   swept_says lines o (inl e) swept = subst SweepSays (sym e) (record { lines = lines; is = refl; swept = λ t s k may. swept t s (record { tied = k.tied; handles = k.handles }) may })
 
-  early : (e : StoreError) → WorkCause observed e a b → (observed ≡ true → HasTriedBetween a b) → SweepSays (Err (removal_refusal e))
-  early store_error.DirFault cause tried = tried
-  early store_error.NoMemory cause tried = tt
-  early store_error.Stray cause tried = λ t. record { stray = cause.stray refl t; tried = tried t }
-  early e cause tried = let clash : false ≡ true = cause.kind in cc
+  early : (e : StoreError) → WorkCause observed e a b → (observed ≡ true → EndsEarly a.process a.trace b.trace) → SweepSays (Err (removal_refusal e))
+  early store_error.DirFault cause ends = ends
+  early store_error.NoMemory cause ends = tt
+  early store_error.Stray cause ends = λ t. record { stray = cause.stray refl t; early = ends t }
+  early e cause ends = let clash : false ≡ true = cause.kind in cc
 
-  pub early_says : (e : StoreError) (r : Refusal) → r ≡ removal_refusal e → WorkCause observed e a b → (observed ≡ true → HasTriedBetween a b) → SweepSays (Err r)
-  early_says e r is cause tried = subst (λ (x : Refusal). SweepSays (Err x)) (sym is) (early e cause tried)
+  pub early_says : (e : StoreError) (r : Refusal) → r ≡ removal_refusal e → WorkCause observed e a b → (observed ≡ true → HasTriedBetween a b) → (observed ≡ true → EndsSweepBetween a b) → SweepSays (Err r)
+  early_says e r is cause tried ended = subst (λ (x : Refusal). SweepSays (Err x)) (sym is) (early e cause (λ t. record { tried = tried t; ended = ended t }))

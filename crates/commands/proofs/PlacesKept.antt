@@ -1,5 +1,5 @@
 -- A folder at its place, and requests that move none.
-use Rattle.std.proofs.Common.{◌≡◌, ℕ, Some, slice_get, refl, ap}
+use Rattle.std.proofs.Common.{◌≡◌, ℕ, Some, slice_get, refl}
 use Rattle.dir_model.specs.declared.spot.Handle.{Handle}
 use Rattle.dir_model.specs.declared.spot.Spot.{Spot}
 use Rattle.dir_model.specs.declared.request.Request.{Request}

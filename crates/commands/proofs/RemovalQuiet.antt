@@ -3,11 +3,8 @@
 use Rattle.std.proofs.Common.{◌≡◌, ℕ, Bool, true, false, not, ◌&&◌, ◌||◌, ◌==◌, cond, Option, Some, None, option_map, List, [], ◌∷◌, ◌++◌, slice_get, refl, sym, ap, subst, ◌∙◌, append_assoc}
 use Rattle.std.specs.List.{list_any, AllByRecursion}
 use Rattle.std.proofs.lemmas.Option.{slice_get-map}
-use Rattle.ac_types.specs.declared.store_key.StoreKey.{StoreKey}
-use Rattle.dir_model.specs.declared.area.Area.TheVariants.{Incoming, Removed}
 use Rattle.dir_model.specs.declared.event.Event.{Event}
 use Rattle.dir_model.specs.declared.opening.Opening.{Opening}
-use Rattle.dir_model.specs.declared.pod.PodId.{PodId}
 use Rattle.dir_model.specs.declared.spot.Handle.{Handle}
 use Rattle.dir_model.specs.declared.spot.Spot.{Spot}
 use Rattle.dir_model.specs.declared.request.Request.{Request}
@@ -19,16 +16,11 @@ use Rattle.dir_model.specs.State.{Namespace, DirState, empty_state, spot_eq}
 use Rattle.dir_model.specs.Trace.{state_after, state_next, states_next, moved, removed, namespace_replied, namespace_done, namespace_opened, locked, opened, opened_gate}
 use Rattle.dir_model.specs.Calls.{is_begin, is_finish, is_foreign, is_kill, Extends, AtOwnStep}
 use Rattle.dir_model.specs.Quiet.{Quiet}
-use Rattle.dir_model.proofs.Lists.{and_left, or_last, same_rest, same_self, all_left, any_map, any_last_not}
+use Rattle.dir_model.proofs.Lists.{or_last, same_rest, same_self, all_left, any_map, any_last_not}
 use Rattle.dir_model.proofs.Chains.{states_next-append}
-use Rattle.dir_rules.specs.Standing.{is_in}
 use Rattle.folder_contents.proofs.Spots.{one_location}
 use Rattle.folder_contents.proofs.StaysWhole.{get_pushed}
-use Rattle.image_reading.specs.Places.{image_spot}
-use Rattle.image_removal.specs.Requests.{away_spot, removes_at, sweeps}
 use Rattle.command_outcomes.specs.Ends.{StaysBeside}
-use Rattle.commands.specs.ImageRm.{is_removal_place}
-use Rattle.commands.specs.ImageGc.{is_swept_place}
 use Rattle.commands.proofs.StoreQuiet.{elsewhere, fewer, mine_only}
 use Rattle.commands.proofs.PlacesKept.{same_folders, IsPlace}
 

@@ -10,7 +10,7 @@ use Rattle.command_outcomes.specs.declared.refusal.Refusal.{Refusal}
 use Rattle.command_outcomes.specs.declared.refusal.Refusal.TheVariants.{NoMemory}
 use Rattle.command_outcomes.specs.declared.told.Told.{Told}
 use Rattle.command_outcomes.specs.Texts.{status_of}
-use Rattle.command_outcomes.specs.Moments.{DirSeen, SpawnerSeen, SinkSeen, Inside, Moment, Answer}
+use Rattle.command_outcomes.specs.Moments.{DirSeen, SpawnerSeen, Inside, Moment, Answer}
 use Rattle.command_outcomes.specs.Conforming.{shown_at}
 use Rattle.command_outcomes.specs.Conforming.{begun as just_begun}
 use Rattle.commands.specs.Answers.{Complained, inside_in}

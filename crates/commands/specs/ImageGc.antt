@@ -16,7 +16,8 @@ use Rattle.image_removal.specs.declared.pass.SweepLine.{SweepLine}
 use Rattle.image_removal.specs.declared.pass.SweepLine.TheVariants.{Moved, Deleted, BusyGate}
 use Rattle.image_removal.specs.Causes.{WasStray}
 use Rattle.image_removal.specs.Passes.{is_uuid}
-use Rattle.image_removal.specs.Sweeps.{IsSwept, HasTried, BusyApart}
+use Rattle.image_removal.specs.Ended.{EndsSweep}
+use Rattle.image_removal.specs.Sweeps.{IsSwept, HasTried, BusyApart, BusyNow}
 use Rattle.image_removal.specs.Work.{MaySweep}
 use Rattle.command_outcomes.specs.declared.refusal.Refusal.{Refusal}
 use Rattle.command_outcomes.specs.declared.refusal.Refusal.TheVariants.{DirFault, Stray}
@@ -44,10 +45,15 @@ image_gc_refusal refusal = is_common refusal
 abbrev pub Sweeps : List SweepLine → ℕ → List Event → List Event → Type 0
 Sweeps lines me old new = IsSwept (BusyApart me) lines me old new
 
--- a step was answered as what the locks keep doesn't explain, and each request so far was about what its own listings showed
+-- the sweep ended early: each request so far was about what its own listings showed, and the pass that failed is the last
+pub record EndsEarly (me : ℕ) (old new : List Event) : Type 0 where
+  pub tried : HasTried me old new
+  pub ended : EndsSweep BusyNow me old new
+
+-- a step was answered as what the locks keep doesn't explain, and the sweep ended there
 pub record StrayInSweep (me : ℕ) (old new : List Event) : Type 0 where
   pub stray : WasStray me old new
-  pub tried : HasTried me old new
+  pub early : EndsEarly me old new
 
 -- it printed the lines of what it did, where the process has begun to sweep
 pub record SweepsStore (old new : DirSeen) (text : List ℕ) : Type 0 where
@@ -59,7 +65,7 @@ pub record SweepsStore (old new : DirSeen) (text : List ℕ) : Type 0 where
 abbrev pub ImageGcSays : DirSeen → DirSeen → Outcome → Type 0
 ImageGcSays old new (Ok text) = SweepsStore old new text
 ImageGcSays old new (Err Stray) = old.observed ≡ true → StrayInSweep old.process old.trace new.trace
-ImageGcSays old new (Err DirFault) = old.observed ≡ true → HasTried old.process old.trace new.trace
+ImageGcSays old new (Err DirFault) = old.observed ≡ true → EndsEarly old.process old.trace new.trace
 ImageGcSays old new (Err refusal) = Unit {0}
 
 -- of a whole process: it printed the lines of what it did
@@ -67,6 +73,9 @@ pub record HasSwept (old new : DirSeen) (text : List ℕ) : Type 0 where
   pub lines : List SweepLine
   pub is : text ≡ sweep_texts lines
   pub swept : Meanwhile (Sweeps lines) old.process old.trace new.trace
+
+abbrev pub HasEndedEarly : DirSeen → DirSeen → Type 0
+HasEndedEarly old new = Meanwhile EndsEarly old.process old.trace new.trace
 
 abbrev pub HasMetStrayInSweep : DirSeen → DirSeen → Type 0
 HasMetStrayInSweep old new = Meanwhile StrayInSweep old.process old.trace new.trace

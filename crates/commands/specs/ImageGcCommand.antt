@@ -1,5 +1,5 @@
 -- `image gc`, as a whole process of it.
-use Rattle.std.specs.Prelude.{◌≡◌, ℕ, true, false, List, [], Some, None}
+use Rattle.std.specs.Prelude.{◌≡◌, ℕ, true, List, [], Some}
 use Rattle.dir_model.specs.declared.intent.Kind.TheVariants as kind
 use Rattle.image_removal.specs.declared.pass.SweepLine.{SweepLine}
 use Rattle.image_removal.specs.Requests.{sweeps}
@@ -8,7 +8,7 @@ use Rattle.command_outcomes.specs.declared.refusal.Refusal.TheVariants.{Stray}
 use Rattle.command_outcomes.specs.Moments.{DirSeen, Moment}
 use Rattle.commands.specs.Answers.{WritesOf}
 use Rattle.commands.specs.Command.{Command, nothing, alone, intent_for, WhereObserved}
-use Rattle.commands.specs.ImageGc.{image_gc_refusal, sweep_texts, is_swept_place, HasMetStrayInSweep, HasSwept, ImageGcSays, SweepsQuietly}
+use Rattle.commands.specs.ImageGc.{image_gc_refusal, sweep_texts, is_swept_place, HasEndedEarly, HasMetStrayInSweep, HasSwept, ImageGcSays, SweepsQuietly}
 use Rattle.commands.specs.NextState.{LeavesBeside}
 
 -- an answer came that what the locks keep doesn't explain
@@ -16,9 +16,10 @@ abbrev pub RefusesImageGc : Refusal → DirSeen → DirSeen → Type 0
 RefusesImageGc Stray old new = old.observed ≡ true → HasMetStrayInSweep old new
 RefusesImageGc refusal old new = ⊥
 
--- with status 0 it wrote the lines of what it did
-abbrev pub TellsImageGc : ℕ → Moment → Moment → Type 0
-TellsImageGc status old new = WhereObserved old (status ≡ 0 → WritesOf (HasSwept old.outside.dir new.outside.dir) old new)
+-- with status 0 it wrote the lines of what it did; with 9 it ended early, and did nothing after the pass that failed
+pub record TellsImageGc (status : ℕ) (old new : Moment) : Type 0 where
+  pub swept : WhereObserved old (status ≡ 0 → WritesOf (HasSwept old.outside.dir new.outside.dir) old new)
+  pub early : WhereObserved old (status ≡ 9 → HasEndedEarly old.outside.dir new.outside.dir)
 
 -- it asks for the locks and listings of incoming and removed, for moves from the first to the second and for deletions there
 abbrev pub image_gc_command : Command

@@ -1,5 +1,5 @@
 -- The command `image import`.
-use Rattle.std.specs.Prelude.{◌≡◌, ◌⊎◌, ℕ, Bool, true, false, List, ◌++◌, codes, Some, slice_get, Ok, Err}
+use Rattle.std.specs.Prelude.{◌≡◌, ◌⊎◌, ℕ, Bool, true, false, List, ◌++◌, codes, Some, Ok, Err}
 use Rattle.hex.specs.Hex.{encode_lower}
 use Rattle.ac_types.specs.FaultNumbers.{number_of}
 use Rattle.ac_types.specs.Ids.{id_text}

@@ -1,5 +1,5 @@
 -- `image import PATH`, as a whole process of it.
-use Rattle.std.specs.Prelude.{◌≡◌, ◌⊎◌, ◌≤◌, ℕ, true, false, List, [], Some, Err}
+use Rattle.std.specs.Prelude.{◌≡◌, ◌⊎◌, ◌≤◌, ℕ, true, List, [], Some, Err}
 use Rattle.bundle_image.specs.declared.image.BundleImage.{BundleImage}
 use Rattle.bundle_image.specs.declared.refusal.BundleRefusal.{BundleRefusal}
 use Rattle.bundle_image.specs.Images.{IsImage, FailsBundle}

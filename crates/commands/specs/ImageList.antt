@@ -3,7 +3,6 @@ use Rattle.std.specs.Prelude.{◌≡◌, ℕ, Bool, true, ◌||◌, List, ◌++�
 use Rattle.std.specs.Fmt.{decimal}
 use Rattle.std.specs.List.{flat_map}
 use Rattle.ac_types.specs.Ids.{id_text}
-use Rattle.ac_types.specs.declared.store_key.StoreKey.{StoreKey}
 use Rattle.dep_match.specs.declared.stored.Stored.{Stored}
 use Rattle.dir_model.specs.declared.area.Area.TheVariants.{Images}
 use Rattle.dir_model.specs.declared.request.Request.{Request}

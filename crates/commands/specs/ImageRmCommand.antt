@@ -1,5 +1,5 @@
 -- `image rm KEY`, as a whole process of it.
-use Rattle.std.specs.Prelude.{◌≡◌, ℕ, true, false, List, [], Some, None}
+use Rattle.std.specs.Prelude.{◌≡◌, ℕ, true, [], Some}
 use Rattle.ac_types.specs.Ids.{id_text}
 use Rattle.ac_types.specs.declared.store_key.StoreKey.{StoreKey}
 use Rattle.dir_model.specs.declared.area.Area.TheVariants.{Images}
@@ -11,6 +11,7 @@ use Rattle.command_outcomes.specs.declared.refusal.Refusal.TheVariants.{Busy, No
 use Rattle.command_outcomes.specs.Meanwhile.{Meanwhile}
 use Rattle.command_outcomes.specs.Moments.{DirSeen, Moment}
 use Rattle.commands.specs.Answers.{WritesOf}
+use Rattle.commands.specs.Kept.{KeepsRefused, RemovesNoneUnlessDone}
 use Rattle.commands.specs.Command.{Command, nothing, alone, intent_for, WhereObserved}
 use Rattle.commands.specs.ImageRm.{image_rm_refusal, removed_text, is_removal_place, FindsBusy, HasFoundNone, HasMetStray, HasRemoved, ImageRmSays, RemovesQuietly}
 use Rattle.commands.specs.NextState.{LeavesBeside}
@@ -23,10 +24,10 @@ RefusesImageRm key draw (NoImage named) old new = (named ≡ id_text key.bytes) 
 RefusesImageRm key draw Stray old new = old.observed ≡ true → HasMetStray key draw.uuid old new
 RefusesImageRm key draw refusal old new = ⊥
 
--- with status 0 it wrote that the image is removed, and removed it
-abbrev pub TellsImageRm : StoreKey → Draw → ℕ → Moment → Moment → Type 0
-TellsImageRm key draw status old new =
-    WhereObserved old (status ≡ 0 → WritesOf (λ text. (text ≡ removed_text key) × HasRemoved key draw.uuid old.outside.dir new.outside.dir) old new)
+-- with status 0 it wrote that the image is removed, and removed it. Where it isn't done, it removed no folder
+pub record TellsImageRm (key : StoreKey) (draw : Draw) (status : ℕ) (old new : Moment) : Type 0 where
+  pub removed : WhereObserved old (status ≡ 0 → WritesOf (λ text. (text ≡ removed_text key) × HasRemoved key draw.uuid old.outside.dir new.outside.dir) old new)
+  pub kept : WhereObserved old (RemovesNoneUnlessDone status old new)
 
 -- it asks for the locks of images and removed, for its image's move and for the deletion of what was moved
 abbrev pub image_rm_command : StoreKey → Command
@@ -40,5 +41,5 @@ image_rm_command key = record {
   tells = λ now draw status old new. TellsImageRm key draw status old new;
   quiet = λ now draw old new o. RemovesQuietly key draw.uuid old.dir new.dir o;
   leaves = λ me draw old new. LeavesBeside (is_removal_place key draw.uuid) me old new;
-  says = alone (λ now draw old new o. ImageRmSays key draw.uuid old.dir new.dir o);
+  says = alone (λ now draw old new o. ImageRmSays key draw.uuid old.dir new.dir o × KeepsRefused old.dir new.dir o);
 }

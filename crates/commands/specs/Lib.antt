@@ -14,6 +14,7 @@ pub mod ImageList
 pub mod ImageListCommand
 pub mod ImageRm
 pub mod ImageRmCommand
+pub mod Kept
 pub mod NextState
 pub mod Prepare
 pub mod PrepareCommand

@@ -1,5 +1,5 @@
 -- The command `rm`.
-use Rattle.std.specs.Prelude.{◌≡◌, ◌⊎◌, ℕ, Bool, true, false, List, codes, Ok, Err}
+use Rattle.std.specs.Prelude.{◌≡◌, ◌⊎◌, ℕ, Bool, true, List, codes, Ok, Err}
 use Rattle.dir_model.specs.declared.area.Area.{Area}
 use Rattle.dir_model.specs.declared.area.Phase.{Phase}
 use Rattle.dir_model.specs.declared.event.Event.{Event}
@@ -101,16 +101,16 @@ RmSays pod now old new (Err (PodBusy other which)) = (other ≡ pod) × WhereRem
 RmSays pod now old new (Err Stray) = old.observed ≡ true → MeetsStray pod old.process old.trace new.trace
 RmSays pod now old new (Err refusal) = Unit {0}
 
--- the directory failed or gave an answer that the locks don't explain, or memory ran out
-abbrev pub is_failure : Refusal → Bool
-is_failure DirFault = true
-is_failure Stray = true
-is_failure NoMemory = true
-is_failure refusal = false
+-- the directory failed, memory ran out, or an own answer was one that what the locks keep doesn't explain
+abbrev pub FailsFor : Refusal → ℕ → List Event → List Event → Type 0
+FailsFor DirFault me old new = Unit {0}
+FailsFor NoMemory me old new = Unit {0}
+FailsFor Stray me old new = WasStray me old new
+FailsFor refusal me old new = ⊥
 
 -- in a conforming execution in which nothing hinders the pod's removal, only a failure refuses it
 abbrev pub FailsAlone : PodId → DirSeen → DirSeen → Refusal → Type 0
-FailsAlone pod old new refusal = IsConforming new.trace → IsUnhinderedThroughout pod old.process old.trace new.trace → is_failure refusal ≡ true
+FailsAlone pod old new refusal = IsConforming new.trace → IsUnhinderedThroughout pod old.process old.trace new.trace → FailsFor refusal old.process old.trace new.trace
 
 -- of a whole process: that it removed the pod, that it found none, that it found it in such a phase or without its manifest, that
 -- another process held its lock, that it met an answer which the locks don't explain

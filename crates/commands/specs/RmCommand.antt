@@ -1,5 +1,5 @@
 -- `rm POD`, as a whole process of it.
-use Rattle.std.specs.Prelude.{◌≡◌, ◌==◌, ℕ, Bool, true, false, List, [], ◌∷◌, Some, None}
+use Rattle.std.specs.Prelude.{◌≡◌, ◌⊎◌, ◌==◌, ℕ, Bool, true, [], ◌∷◌, Some}
 use Rattle.std.specs.List.{list_any}
 use Rattle.dir_model.specs.declared.intent.Kind.TheVariants as kind
 use Rattle.dir_model.specs.declared.pod.PodId.{PodId}
@@ -11,6 +11,9 @@ use Rattle.command_outcomes.specs.declared.refusal.Refusal.{Refusal}
 use Rattle.command_outcomes.specs.declared.refusal.Refusal.TheVariants.{NoPod, WrongPhase, NoManifest, PodBusy, Stray}
 use Rattle.command_outcomes.specs.Moments.{DirSeen, Moment}
 use Rattle.commands.specs.Answers.{WritesOf}
+use Rattle.pod_steps.specs.Causes.{WasStray}
+use Rattle.command_outcomes.specs.Meanwhile.{Meanwhile}
+use Rattle.commands.specs.Kept.{KeepsRefused, RemovesNoneUnlessDone}
 use Rattle.commands.specs.Command.{Command, nothing, alone, intent_for, WhereObserved, WhereAllKeepRules}
 use Rattle.commands.specs.RemovalHistory.{IsRemovedBetween}
 use Rattle.commands.specs.RemovalQuiet.{RemovesPodQuietly}
@@ -28,18 +31,22 @@ RefusesRm pod (PodBusy other which) old new = (other ≡ pod) × (old.observed �
 RefusesRm pod Stray old new = old.observed ≡ true → HasMetStrayAtPod pod old new
 RefusesRm pod refusal old new = ⊥
 
--- how a removal of a pod ends that nothing hinders: it is done, or the directory failed, its line wasn't written, memory ran out, or a reply
--- came that the locks don't explain
+-- how a removal of a pod ends that nothing hinders: it is done, or the directory failed, its line wasn't written or memory ran out; or an
+-- own answer was one that what the locks keep doesn't explain
 abbrev pub is_removal_end : ℕ → Bool
-is_removal_end status = list_any (λ n. n == status) (0 ∷ 9 ∷ 12 ∷ 14 ∷ 20 ∷ [])
+is_removal_end status = list_any (λ n. n == status) (0 ∷ 9 ∷ 12 ∷ 14 ∷ [])
+
+abbrev pub EndsUnhindered : ℕ → DirSeen → DirSeen → Type 0
+EndsUnhindered status old new = (is_removal_end status ≡ true) ⊎ ((status ≡ 20) × Meanwhile WasStray old.process old.trace new.trace)
 
 -- with status 0 it wrote that the pod is removed, and removed it, or found it gone after it had been there. Where every process keeps the
 -- local rules, the pod existed then at a moment of the call, and is gone at its end, for good; and if nothing hinders its removal after any
--- own step, it ends so
+-- own step, it ends so. Where it isn't done, it removed no folder
 pub record TellsRm (pod : PodId) (status : ℕ) (old new : Moment) : Type 0 where
   pub removed : WhereObserved old (status ≡ 0 → WritesOf (λ text. (text ≡ removed_text pod) × HasRemovedPod pod old.outside.dir new.outside.dir) old new)
   pub gone : WhereAllKeepRules old new (status ≡ 0 → WritesOf (λ text. (text ≡ removed_text pod) × IsRemovedBetween pod old.outside.dir.trace new.outside.dir.trace) old new)
-  pub complete : WhereAllKeepRules old new (IsUnhinderedThroughout pod old.outside.dir.process old.outside.dir.trace new.outside.dir.trace → is_removal_end status ≡ true)
+  pub complete : WhereAllKeepRules old new (IsUnhinderedThroughout pod old.outside.dir.process old.outside.dir.trace new.outside.dir.trace → EndsUnhindered status old.outside.dir new.outside.dir)
+  pub kept : WhereObserved old (RemovesNoneUnlessDone status old new)
 
 -- it looks for the pod, asks for its locks, its mark and its moves to a garbage place, and for its deletion there
 abbrev pub rm_command : PodId → Command
@@ -53,5 +60,5 @@ rm_command pod = record {
   tells = λ now draw status old new. TellsRm pod status old new;
   quiet = λ now draw old new o. RemovesPodQuietly pod old.dir new.dir o;
   leaves = λ me draw old new. LeavesBeside (is_pod_spot pod) me old new;
-  says = alone (λ now draw old new o. RmSays pod now old.dir new.dir o);
+  says = alone (λ now draw old new o. RmSays pod now old.dir new.dir o × KeepsRefused old.dir new.dir o);
 }

@@ -1,7 +1,6 @@
 -- `validate FILE`, as a whole run of it.
-use Rattle.std.specs.Prelude.{◌≡◌, ◌⊎◌, ℕ, true, false, List, Some, None, Err, IsOk}
+use Rattle.std.specs.Prelude.{◌≡◌, ◌⊎◌, ℕ, true, false, List, None, Err, IsOk}
 use Rattle.manifests.specs.DocumentData.{DocumentData}
-use Rattle.command_outcomes.specs.declared.refusal.Refusal.{Refusal}
 use Rattle.command_outcomes.specs.Ends.{is_own_end}
 use Rattle.command_outcomes.specs.Moments.{Moment}
 use Rattle.commands.specs.Answers.{IsAnswer}

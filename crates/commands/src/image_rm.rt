@@ -7,6 +7,7 @@ ghost use Rattle.folder_building.specs.Work.{Worked};
 ghost use Rattle.image_removal.specs.Causes.{is_remove_refusal};
 ghost use Rattle.image_removal.specs.Requests.{removes_at};
 ghost use Rattle.image_removal.specs.Work.{MayRemove, StaysConforming, Stays};
+ghost use Rattle.commands.specs.Kept.{KeepsRefused};
 ghost use Rattle.commands.specs.ImageRm.{removed_text, image_rm_refusal, IsRemovalSaid, ImageRmSays};
 ghost use Rattle.command_outcomes.specs.Moments.{dir_at};
 
@@ -64,6 +65,7 @@ fn remove_saying<D: Dir>(
     ensures refusals { IfErr result (λ r. image_rm_refusal r ≡ true) }
     ensures conforms { D.observed ≡ true → Stays (MayRemove draw) StaysConforming (D.shown dir.old) (D.shown dir.new) }
     ensures says { ImageRmSays key draw (dir_at D.Dir dir.old) (dir_at D.Dir dir.new) result }
+    ensures kept { KeepsRefused (dir_at D.Dir dir.old) (dir_at D.Dir dir.new) result }
 {
     match remove(alloc, dir, key, draw) {
         Ok(()) => Ok(line),
@@ -88,6 +90,7 @@ pub fn image_rm<D: Dir>(
     ensures refusals { IfErr result (λ r. image_rm_refusal r ≡ true) }
     ensures conforms { D.observed ≡ true → Stays (MayRemove draw) StaysConforming (D.shown dir.old) (D.shown dir.new) }
     ensures says { ImageRmSays key draw (dir_at D.Dir dir.old) (dir_at D.Dir dir.new) result }
+    ensures kept { KeepsRefused (dir_at D.Dir dir.old) (dir_at D.Dir dir.new) result }
 {
     // Made first: an image that is gone can't be said to be removed where there is no memory for the line.
     match removed_line(alloc, key) {

@@ -8,6 +8,7 @@ ghost use Rattle.pod_steps.specs.Holding.{KeepsReady, Stays};
 ghost use Rattle.pod_removal.specs.Holding.{MayRemovePod};
 ghost use Rattle.pod_removal.specs.Requests.{removes};
 ghost use Rattle.command_outcomes.specs.Moments.{dir_at};
+ghost use Rattle.commands.specs.Kept.{KeepsRefused};
 ghost use Rattle.commands.specs.Rm.{removed_text, remove_refusal, rm_refusal, RmSays, WhereRemoving, FailsAlone};
 
 use ac_types::NoMemory;
@@ -56,6 +57,7 @@ fn remove_saying<D: Dir>(
     ensures refusals { IfErr result (λ r. rm_refusal r ≡ true) }
     ensures ready { D.observed ≡ true → Stays (MayRemovePod pod now) (D.shown dir.old) (λ s. KeepsReady s (D.shown dir.new)) }
     ensures says { RmSays pod now (dir_at D.Dir dir.old) (dir_at D.Dir dir.new) result }
+    ensures kept { KeepsRefused (dir_at D.Dir dir.old) (dir_at D.Dir dir.new) result }
 {
     match remove_pod(alloc, dir, pod, now) {
         Ok(()) => Ok(line),
@@ -69,7 +71,8 @@ fn remove_saying<D: Dir>(
 /// `NoPod` where there is none. `WrongPhase` where it is an embryo, or another process makes, runs or deletes it.
 /// `NoManifest` where it stands in prepared without the file `pod`. `PodBusy` where another process holds one of its
 /// locks. `Stray` where the directory's answers contradict each other or what a lock keeps, as where a program that
-/// outlived its pod still writes there; `DirFault` where it failed. Then the pod is whole or in a garbage place.
+/// outlived its pod still writes there; `DirFault` where it failed. Then the pod is whole or in a garbage place, and no
+/// folder was removed.
 pub fn rm<D: Dir>(alloc: Global, pod: PodId, now: u64, dir: &mut D) -> Result<Output, Refusal>
     requires active { IsActive (D.shown dir.old).local }
     requires alone { has_own_open (D.shown dir.old).local (pod_text pod.bytes) ≡ false }
@@ -78,6 +81,7 @@ pub fn rm<D: Dir>(alloc: Global, pod: PodId, now: u64, dir: &mut D) -> Result<Ou
     ensures refusals { IfErr result (λ r. rm_refusal r ≡ true) }
     ensures ready { D.observed ≡ true → Stays (MayRemovePod pod now) (D.shown dir.old) (λ s. KeepsReady s (D.shown dir.new)) }
     ensures says { RmSays pod now (dir_at D.Dir dir.old) (dir_at D.Dir dir.new) result }
+    ensures kept { KeepsRefused (dir_at D.Dir dir.old) (dir_at D.Dir dir.new) result }
     ensures complete { IfErr result (λ r. WhereRemoving pod now (dir_at D.Dir dir.old) (FailsAlone pod (dir_at D.Dir dir.old) (dir_at D.Dir dir.new) r)) }
 {
     // Made first: a pod that is gone can't be said to be removed where there is no memory for the line.

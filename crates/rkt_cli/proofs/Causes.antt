@@ -1,24 +1,20 @@
 -- Each refusal has its cause, command by command.
-use Rattle.std.proofs.Common.{◌≡◌, ◌⊎◌, inl, inr, ℕ, Bool, true, false, List, Option, Some, None, Ok, Err, refl, sym, ap, subst, ◌∙◌}
+use Rattle.std.proofs.Common.{◌≡◌, ◌⊎◌, inl, inr, ℕ, Bool, true, false, List, Ok, Err, refl, sym, ap, subst, ◌∙◌}
 use Rattle.ac_types.specs.declared.store_key.StoreKey.{StoreKey}
-use Rattle.dir_model.specs.declared.area.Area.{Area}
 use Rattle.dir_model.specs.declared.area.Area.TheVariants.{Images}
 use Rattle.dir_model.specs.declared.event.Event.{Event}
 use Rattle.dir_model.specs.declared.intent.Draw.{Draw}
 use Rattle.dir_model.specs.declared.pod.PodId.{PodId}
-use Rattle.dir_model.specs.Calls.{is_begin, is_finish}
 use Rattle.dir_model.specs.Causes.{Rose}
 use Rattle.phase_read.specs.declared.found.Found.{Found}
 use Rattle.phase_read.specs.declared.found.Found.TheVariants.{At, Gone}
 use Rattle.phase_read.specs.Read.{IsReading, LeftOut, stages}
 use Rattle.phase_read.proofs.InTurn.{left_out_after, left_out_before}
 use Rattle.command_outcomes.specs.declared.refusal.Refusal.{Refusal}
-use Rattle.command_outcomes.specs.declared.refusal.Refusal.TheVariants.{Usage, NoPod, Busy, BadManifest, NoImage, NoFile, WrongPhase, PodBusy, NoManifest, Damaged, DirFault, BundleFault, SpawnFault, OutFault, NoMemory, Stray}
-use Rattle.command_outcomes.specs.declared.told.Told.{Told}
+use Rattle.command_outcomes.specs.declared.refusal.Refusal.TheVariants.{Usage, NoPod, Busy, NoImage, WrongPhase, PodBusy, NoManifest, Damaged, DirFault, BundleFault, SpawnFault, OutFault, NoMemory, Stray}
 use Rattle.command_outcomes.specs.Ends.{is_own_end}
-use Rattle.command_outcomes.specs.Moments.{Outside, Moment, SinkSeen, Answer, outcome_of, Outcome}
+use Rattle.command_outcomes.specs.Moments.{Outside, Moment, Answer, outcome_of, Outcome}
 use Rattle.commands.specs.Answers.{inside_in}
-use Rattle.commands.specs.Command.{starts_any}
 use Rattle.commands.specs.ImageGcCommand.{RefusesImageGc}
 use Rattle.commands.specs.ImageImport.{image_import_refusal}
 use Rattle.commands.specs.ImageImportCommand.{RefusesImport}
@@ -37,7 +33,7 @@ use Rattle.rkt_cli.specs.declared.line.Line.{Line}
 use Rattle.rkt_cli.specs.declared.line.Line.TheVariants.{Status, Validate, ImageList, ImageImport, ImageRm, ImageGc, Prepare, RunPrepared, Run, Rm, Gc}
 use Rattle.rkt_cli.specs.Commands.{command_in, intent_of, may}
 use Rattle.rkt_cli.specs.Promises.{RefusedFor}
-use Rattle.rkt_cli.specs.Runs.{Performs, RunOfLine, Unwritten, end_status}
+use Rattle.rkt_cli.specs.Runs.{Performs, RunOfLine, Unwritten}
 use Rattle.rkt_cli.specs.Spawns.{CameBetween}
 use Rattle.rkt_cli.proofs.Ends.{from_end}
 use Rattle.rkt_cli.proofs.Imports.{import_refused, import_busy}

@@ -1,8 +1,5 @@
 -- What `image import` tells of the whole run.
-use Rattle.std.proofs.Common.{arith, ◌≡◌, ◌⊎◌, inl, inr, ◌≤◌, ℕ, Bool, true, false, List, [], Option, Some, None, Ok, Err, refl, sym, ap, subst, ◌∙◌}
-use Rattle.hex.specs.Hex.{encode_lower}
-use Rattle.ac_types.specs.Ids.{id_text}
-use Rattle.ac_types.specs.declared.store_key.StoreKey.{StoreKey}
+use Rattle.std.proofs.Common.{arith, ◌≡◌, inl, inr, ◌≤◌, ℕ, Bool, true, false, List, [], Option, Some, None, Ok, Err, refl, sym, ap, subst, ◌∙◌}
 use Rattle.dir_model.specs.declared.area.Area.{Area}
 use Rattle.dir_model.specs.declared.intent.Draw.{Draw}
 use Rattle.dir_model.specs.declared.intent.Intent.{Intent}
@@ -12,27 +9,20 @@ use Rattle.dir_trait.specs.DirCalls.{HeldBetween}
 use Rattle.area_locks.specs.AreaLocks.{IsBusyElsewhere}
 use Rattle.lifecycle.specs.Executions.{IsConforming}
 use Rattle.lifecycle.proofs.Draws.{conforming_left}
-use Rattle.tree_digest.specs.declared.listing_error.ListingError.{ListingError}
 use Rattle.tree_digest.specs.declared.listing_error.ListingError.TheVariants as listing
 use Rattle.bundle_image.specs.declared.image.BundleImage.{BundleImage}
-use Rattle.bundle_image.specs.declared.refusal.BundleRefusal.{BundleRefusal}
 use Rattle.bundle_image.specs.declared.refusal.BundleRefusal.TheVariants as bundle
-use Rattle.bundle_image.specs.Refusals.{IsOutside}
-use Rattle.image_reading.specs.declared.error.StoreError.{StoreError}
 use Rattle.image_reading.specs.declared.error.StoreError.TheVariants as store_error
-use Rattle.image_store.specs.Causes.{ImportCause, StrayCause}
-use Rattle.image_store.specs.Imports.{key_of, digest_of, OfBundle, IsRefused, ComesInTurn}
-use Rattle.image_store.specs.Refusals.{bundle_refusal, is_import_refusal}
+use Rattle.image_store.specs.Imports.{IsRefused, ComesInTurn}
 use Rattle.rkt_cli.specs.declared.line.Line.TheVariants.{ImageImport}
 use Rattle.command_outcomes.specs.declared.refusal.Refusal.{Refusal}
-use Rattle.command_outcomes.specs.declared.refusal.Refusal.TheVariants.{Busy, BadManifest, Limit, NoMemory, NoFile, Conflict, Damaged, BadKind, Stray}
-use Rattle.command_outcomes.specs.Moments.{BundleSeen, SinkSeen, Outside, Outcome}
+use Rattle.command_outcomes.specs.declared.refusal.Refusal.TheVariants.{Busy, NoMemory}
+use Rattle.command_outcomes.specs.Moments.{BundleSeen, Outside, Outcome}
 use Rattle.command_outcomes.specs.Conforming.{shown_at}
-use Rattle.commands.specs.Answers.{Complained}
 use Rattle.commands.specs.Command.{intent_for}
 use Rattle.rkt_cli.specs.Commands.{intent_of}
 use Rattle.rkt_cli.specs.Runs.{InProcess, Performs}
-use Rattle.commands.specs.ImageImport.{import_refusal, listing_refusal, source_of, IsStored, PrintsKey, StoresImage, IsAreaHeld, IsHeldFrom, RefusesImage, ImageImportSays}
+use Rattle.commands.specs.ImageImport.{source_of, IsStored, PrintsKey, StoresImage, IsAreaHeld, IsHeldFrom, RefusesImage, ImageImportSays}
 use Rattle.commands.proofs.Parts.{within_wider, held_wider}
 use Rattle.commands.proofs.ImportParts.{Span, refused_wider, turn_wider, imported_wider}
 use Rattle.rkt_cli.proofs.Listed.{process_part}

@@ -1,28 +1,26 @@
 -- What a command came to, whatever it is.
-use Rattle.std.proofs.Common.{arith, ◌≡◌, ◌⊎◌, inl, inr, ℕ, true, false, List, ◌++◌, take, Option, Some, None, option_map, Ok, Err, IsOk, IsErrOf, IfErr, refl, sym, ap, subst, ◌∙◌}
+use Rattle.std.proofs.Common.{arith, ◌≡◌, ◌⊎◌, inl, inr, ℕ, true, false, List, ◌++◌, Option, Some, None, Ok, Err, IsOk, IsErrOf, IfErr, refl, sym, ap, subst, ◌∙◌}
 use Rattle.dir_model.specs.declared.intent.Draw.{Draw}
 use Rattle.dir_model.specs.declared.intent.Intent.{Intent}
 use Rattle.dir_model.specs.Causes.{Rose}
 use Rattle.dir_trait.specs.Bundles.{file_bytes}
-use Rattle.ac_types.specs.FaultNumbers.{number_of}
-use Rattle.ac_types.specs.declared.fault.FaultKind.{FaultKind}
 use Rattle.ac_types.specs.Outcomes.{reads, fails}
 use Rattle.ac_types.specs.Outcomes as reading
 use Rattle.manifests.specs.DocumentData.{DocumentData, any_manifest}
 use Rattle.rkt_cli.specs.declared.line.Line.{Line}
 use Rattle.rkt_cli.specs.declared.line.Line.TheVariants.{Validate}
 use Rattle.command_outcomes.specs.declared.refusal.Refusal.{Refusal}
-use Rattle.command_outcomes.specs.declared.refusal.Refusal.TheVariants.{BadManifest, DirFault, BundleFault, NoMemory, NoFile}
+use Rattle.command_outcomes.specs.declared.refusal.Refusal.TheVariants.{DirFault, BundleFault, NoMemory}
 use Rattle.command_outcomes.specs.Texts.{status_of}
 use Rattle.commands.specs.Texts.{valid_text}
-use Rattle.command_outcomes.specs.Moments.{Outside, Moment, BundleSeen, SinkSeen, Outcome}
+use Rattle.command_outcomes.specs.Moments.{Outside, Moment, BundleSeen, Outcome}
 use Rattle.command_outcomes.proofs.Seen.{rose_wider}
 use Rattle.command_outcomes.specs.Ends.{is_own_end}
-use Rattle.commands.specs.Validate.{ValidateSays, file_outcome, manifest_outcome, most_read, sequential_validate}
-use Rattle.commands.specs.Answers.{Complained, IsAnswer}
+use Rattle.commands.specs.Validate.{ValidateSays, file_outcome, manifest_outcome, sequential_validate}
+use Rattle.commands.specs.Answers.{IsAnswer}
 use Rattle.rkt_cli.specs.Commands.{may}
 use Rattle.rkt_cli.specs.Runs.{Performs, End, Unwritten, Printed, Reported, end_status}
-use Rattle.rkt_cli.proofs.Judged.{judged_so, judged_whole}
+use Rattle.rkt_cli.proofs.Judged.{judged_whole}
 
 pub rose_between : (a b c d : ℕ) → b ≡ a → Rose b c → d ≡ c → Rose a d
 rose_between a b c d ba rose dc = omega arith

@@ -1,13 +1,11 @@
 -- What `prepare` left and `gc` did, by their own answers and status.
-use Rattle.std.proofs.Common.{◌≡◌, ◌⊎◌, inl, inr, ℕ, true, false, ◌||◌, ◌==◌, List, Option, Some, None, Ok, Err, refl, sym, ap, subst, ◌∙◌}
+use Rattle.std.proofs.Common.{◌≡◌, ◌⊎◌, inl, inr, ℕ, true, false, ◌||◌, ◌==◌, List, Some, Ok, Err, refl, sym, ap, subst, ◌∙◌}
 use Rattle.dir_model.specs.declared.intent.Draw.{Draw}
 use Rattle.dir_model.specs.declared.request.DirError.TheVariants as dir
 use Rattle.dir_model.specs.declared.request.Reply.TheVariants.{Refused}
 use Rattle.dir_model.specs.Calls.{Extends, is_begin}
 use Rattle.dir_model.proofs.Chains.{nothing_yet, step_extends}
-use Rattle.rkt_cli.proofs.Grades.{unhurt}
-use Rattle.rkt_cli.specs.declared.line.Line.{Line}
-use Rattle.rkt_cli.specs.declared.line.Line.TheVariants.{Status, Validate, ImageList, ImageImport, ImageRm, ImageGc, Prepare, RunPrepared, Run, Rm, Gc}
+use Rattle.rkt_cli.specs.declared.line.Line.TheVariants.{Prepare, Gc}
 use Rattle.command_outcomes.specs.declared.refusal.Refusal.{Refusal}
 use Rattle.command_outcomes.specs.declared.refusal.Refusal.TheVariants.{NoPod, DirFault, OutFault, NoMemory}
 use Rattle.command_outcomes.specs.Texts.{status_of}
@@ -16,8 +14,8 @@ use Rattle.commands.specs.Prepare.{HasBrought, HasKeptFolder}
 use Rattle.commands.specs.Gc.{times_of}
 use Rattle.commands.specs.GcCommand.{grace_time, expire_time, LeavesSwept}
 use Rattle.commands.specs.PrepareCommand.{LeavesPod}
-use Rattle.rkt_cli.specs.Commands.{intent_of, may, runs_apps_in}
-use Rattle.rkt_cli.specs.Runs.{Performs, End, Unwritten, Printed, end_status, RunOf, RunIs}
+use Rattle.rkt_cli.specs.Commands.{intent_of, may}
+use Rattle.rkt_cli.specs.Runs.{Performs, End, Unwritten, Printed, end_status, RunOf}
 use Rattle.rkt_cli.proofs.Outcomes.{refusals_of}
 use Rattle.rkt_cli.proofs.PodRan.{began, prepare_synced, brought_in_process, kept_in_process}
 use Rattle.rkt_cli.proofs.PodRemovals.{SweptBy, gc_passes, gc_swept}

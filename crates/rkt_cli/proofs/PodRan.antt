@@ -1,17 +1,14 @@
 -- What `prepare` owes between its begin and its finish, and what it tells of the whole run.
-use Rattle.std.proofs.Common.{◌≡◌, inl, inr, ℕ, Bool, true, false, ◌&&◌, ◌||◌, List, [], append-nil, Option, Some, None, Ok, Err, IfErr, IsErrOf, refl, sym, ap, subst, ◌∙◌}
+use Rattle.std.proofs.Common.{◌≡◌, inl, inr, ℕ, Bool, true, false, List, [], append-nil, Option, Some, None, Ok, Err, IfErr, IsErrOf, refl, sym, ap, subst, ◌∙◌}
 use Rattle.dir_model.specs.declared.area.Area.{Area}
-use Rattle.dir_model.specs.declared.area.Area.TheVariants.{Embryo, Prepared}
+use Rattle.dir_model.specs.declared.area.Area.TheVariants.{Prepared}
 use Rattle.dir_model.specs.declared.area.Area.TheVariants as area
 use Rattle.dir_model.specs.declared.intent.Draw.{Draw}
 use Rattle.dir_model.specs.declared.intent.Intent.{Intent}
 use Rattle.dir_model.specs.declared.intent.Kind.TheVariants as kind
 use Rattle.dir_model.specs.declared.request.Reply.{Reply}
 use Rattle.dir_model.specs.declared.request.Reply.TheVariants.{Done}
-use Rattle.dir_model.specs.declared.pod.PodId.{PodId}
-use Rattle.dir_model.specs.declared.request.Request.TheVariants.{MoveFolder, SyncArea, Finish}
-use Rattle.dir_model.specs.declared.spot.Spot.{Spot}
-use Rattle.dir_model.specs.State.{spot_eq}
+use Rattle.dir_model.specs.declared.request.Request.TheVariants.{SyncArea, Finish}
 use Rattle.dir_model.specs.declared.spot.Mode.TheVariants.{Shared}
 use Rattle.dir_model.specs.Calls.{Extends}
 use Rattle.dir_model.specs.Causes.{Rose}
@@ -24,9 +21,6 @@ use Rattle.lifecycle.specs.Executions.{IsConforming}
 use Rattle.lifecycle.proofs.Draws.{conforming_left}
 use Rattle.pod_build.specs.Preparations.{Began}
 use Rattle.pod_making.specs.Progress.{at_work, handed}
-use Rattle.pod_making.specs.Requests.{pod_at}
-use Rattle.commands.specs.PrepareQuiet.{is_pod_place}
-use Rattle.commands.proofs.RemovalQuiet.{ChangesAt}
 use Rattle.rkt_cli.specs.declared.line.Line.{Line}
 use Rattle.rkt_cli.specs.declared.line.Line.TheVariants.{Prepare}
 use Rattle.command_outcomes.specs.declared.refusal.Refusal.{Refusal}

@@ -11,7 +11,6 @@ use Rattle.dir_trait.specs.Sinks.{WritesPart}
 use Rattle.dir_trait.proofs.Askings.{asks_nothing}
 use Rattle.phase_read.specs.declared.found.Found.{Found}
 use Rattle.phase_read.specs.declared.found.Found.TheVariants.{At, Gone}
-use Rattle.command_outcomes.specs.declared.refusal.Refusal.{Refusal}
 use Rattle.command_outcomes.specs.declared.refusal.Refusal.TheVariants.{Usage, NoMemory}
 use Rattle.command_outcomes.specs.Texts.{status_of}
 use Rattle.command_outcomes.specs.Moments.{DirSeen, BundleSeen, Outside, Inside, SinkSeen, Moment, Outcome, Answer, outcome_of}
@@ -24,10 +23,10 @@ use Rattle.rkt_cli.specs.declared.line.Line.TheVariants.{Status, Validate, Image
 use Rattle.rkt_cli.specs.Commands.{intent_of, asks, ReadsOnly}
 use Rattle.rkt_cli.specs.Spawns.{CameBetween}
 use Rattle.rkt_cli.specs.Runs.{Performs, End, Unwritten, Printed, Reported, end_status, RunOf, RunIs}
-use Rattle.rkt_cli.specs.Promises.{IsStatus, asks_in, Prints, IsOutput, IsCauseOf, IsRefused, IsEnded, IsOver, EndsAs, ReadsIn}
+use Rattle.rkt_cli.specs.Promises.{IsStatus, asks_in, Prints, IsOutput, IsRefused, IsEnded, IsOver, EndsAs, ReadsIn}
 use Rattle.rkt_cli.proofs.AppsRan.{run_prepared_printed, run_printed}
 use Rattle.rkt_cli.proofs.Causes.{cause_of}
-use Rattle.rkt_cli.proofs.Ends.{absurd_number, end_at, refusal_end, is_of_output, output_known, refusal_known, refusal_status, refusal_plain, from_end, from_command}
+use Rattle.rkt_cli.proofs.Ends.{absurd_number, end_at, is_of_output, output_known, refusal_known, refusal_status, refusal_plain, from_end, from_command}
 use Rattle.rkt_cli.proofs.Grades.{plain_at, graded_known, graded_none, graded_same, either_false}
 use Rattle.rkt_cli.proofs.Imports.{import_printed}
 use Rattle.rkt_cli.proofs.Listed.{list_printed}
@@ -35,7 +34,7 @@ use Rattle.rkt_cli.proofs.Outcomes.{refusals_of, does_validate, file_prints}
 use Rattle.rkt_cli.proofs.PodRan.{prepare_printed}
 use Rattle.rkt_cli.proofs.PodRemovals.{rm_printed, gc_printed}
 use Rattle.rkt_cli.proofs.Removals.{removal_printed, sweep_printed}
-use Rattle.rkt_cli.proofs.Sessions.{any_call, begin_part, finish_part, all_parts}
+use Rattle.rkt_cli.proofs.Sessions.{all_parts}
 
 or_left : (a b : Bool) → a ≡ true → (a || b) ≡ true
 or_left true b h = refl

@@ -73,8 +73,6 @@ use Rattle.commands.specs.Gc.{times_of}
 use Rattle.commands.specs.RemovalQuiet.{RemovesPodQuietly, SweepsPodsQuietly, is_pods_place}
 use Rattle.commands.proofs.RemovedQuietly.{rm_removed_quietly, rm_none_quietly, rm_wrong_quietly, rm_lacking_quietly, rm_busy_quietly, gc_swept_quietly}
 use Rattle.rkt_cli.proofs.PodRemovals.{rm_intent, rm_printed, rm_done, rm_none, rm_wrong, rm_bare, rm_busy, rm_stray, gc_done, gc_stray}
-use Rattle.commands.specs.RunPrepared.{runs_prepared}
-use Rattle.commands.specs.Run.{makes_and_runs}
 use Rattle.rkt_cli.proofs.RunsQuiet.{RunsQuietly, runs_quietly}
 use Rattle.rkt_cli.proofs.Sessions.{all_parts, quiet_act, state_begun, idle}
 
@@ -224,7 +222,7 @@ removal_held key now draw old new area s u =
     let me = s.begun.dir.process in
     let o : Outcome = Err (Busy area) in
     let intent = removal_intent now draw in
-    let found : FindsBusy me s.begun.dir.trace s.ended.dir.trace = s.ran.says (s.told ∙ t) (begun intent) (begun_knows s t) (begun_removes intent draw.uuid refl refl) in
+    let found : FindsBusy me s.begun.dir.trace s.ended.dir.trace = s.ran.says.0 (s.told ∙ t) (begun intent) (begun_knows s t) (begun_removes intent draw.uuid refl refl) in
     let first : IsBusyElsewhere me Images Exclusive (state_after s.begun.dir.trace) = held_before (is_against Images Exclusive) found.held (quiet_between (ImageRm key) now draw intent old new o s u) in
     subst (λ (p : ℕ). IsBusyElsewhere p Images Exclusive (state_after old.dir.trace)) s.me
     (subst (λ (x : DirState). IsBusyElsewhere me Images Exclusive x) (state (ImageRm key) now draw intent old new o s u) first)
@@ -238,11 +236,11 @@ removal_quiet : (key : StoreKey) (now : ℕ) (draw : Draw) (old new : Outside) (
 removal_quiet key now draw old new (Ok text) s u own =
     let done = removal_done key now draw old new text (inl s) (u.observed refl) in
     let ends = removal_ends key draw.uuid (removal_extends key now draw (removal_intent now draw) old new (Ok text) s u) (u.alone refl) done in
-    (s.ran.says.is, done, record { absent = ends.0; gone = ends.1 })
+    (s.ran.says.0.is, done, record { absent = ends.0; gone = ends.1 })
 removal_quiet key now draw old new (Err (Busy area)) s u own = (removal_area area s.ran.refusals, removal_held key now draw old new area s u)
 removal_quiet key now draw old new (Err (NoImage named)) s u own =
     let found = removal_none key now draw (Some (removal_intent now draw)) old new named (inl s) (u.observed refl) in
-    (s.ran.says.is, found, none_before key draw.uuid (u.alone refl) found)
+    (s.ran.says.0.is, found, none_before key draw.uuid (u.alone refl) found)
 removal_quiet key now draw old new (Err Stray) s u own = removal_stray key now draw (Some (removal_intent now draw)) old new (inl s) (u.observed refl)
 removal_quiet key now draw old new (Err NoMemory) s u own = let clash : false ≡ true = own in cc
 removal_quiet key now draw old new (Err DirFault) s u own = let clash : false ≡ true = own in cc

@@ -1,40 +1,29 @@
 -- Where nobody else steps: what a run of apps comes to, and that it leaves each folder where it was, but its pod's.
-use Rattle.std.proofs.Common.{◌≡◌, ◌⊎◌, inl, inr, ℕ, Bool, true, false, ◌&&◌, ◌||◌, bytes_eq, Some, List, [], Ok, Err, refl, sym, ap, subst, ◌∙◌}
-use Rattle.dir_model.specs.declared.area.Area.{Area}
-use Rattle.dir_model.specs.declared.area.Area.TheVariants.{Embryo, Prepare, Prepared}
+use Rattle.std.proofs.Common.{◌≡◌, ◌⊎◌, inl, inr, ℕ, Bool, true, Some, List, [], Ok, Err, refl, sym, ap, subst, ◌∙◌}
 use Rattle.dir_model.specs.declared.area.Area.TheVariants as area
 use Rattle.dir_model.specs.declared.event.Event.{Event}
 use Rattle.dir_model.specs.declared.intent.Draw.{Draw}
 use Rattle.dir_model.specs.declared.intent.Intent.{Intent}
 use Rattle.dir_model.specs.declared.intent.Kind.TheVariants as kind
 use Rattle.dir_model.specs.declared.pod.PodId.{PodId}
-use Rattle.dir_model.specs.declared.spot.Spot.{Spot}
 use Rattle.dir_model.specs.declared.request.Request.{Request}
-use Rattle.dir_model.specs.declared.request.Request.TheVariants.{Begin, MoveFolder, Finish}
+use Rattle.dir_model.specs.declared.request.Request.TheVariants.{Begin, Finish}
 use Rattle.dir_model.specs.declared.request.Reply.TheVariants.{Done}
-use Rattle.dir_model.specs.Areas.{is_stage}
 use Rattle.dir_model.specs.Calls.{CallStep, Extends, is_begin, is_finish}
 use Rattle.dir_model.specs.Pods.{pod_text}
 use Rattle.dir_model.specs.Quiet.{Quiet, OwnsNothing}
-use Rattle.dir_model.specs.State.{spot_eq}
 use Rattle.dir_model.specs.Trace.{state_after}
 use Rattle.dir_model.proofs.Chains.{and_more, extends_wider, step_extends}
-use Rattle.dir_model.proofs.Lists.{and_left, or_last}
-use Rattle.dir_rules.proofs.Looks.{same_bytes}
+use Rattle.dir_model.proofs.Lists.{or_last}
 use Rattle.dir_trait.specs.DirCalls.{DirAt}
 use Rattle.dir_trait.specs.Knowledge.{Knows}
-use Rattle.folder_contents.proofs.Spots.{one_location}
-use Rattle.phase_read.specs.Read.{pod_spot, is_pod_spot}
 use Rattle.pod_claim.specs.declared.error.ClaimError.{ClaimError}
-use Rattle.pod_claim.specs.Requests.{in_prepared, in_run}
 use Rattle.pod_claim.specs.Work.{Grew}
-use Rattle.pod_making.specs.Requests.{pod_at}
 use Rattle.command_outcomes.specs.declared.refusal.Refusal.{Refusal}
 use Rattle.command_outcomes.specs.declared.refusal.Refusal.TheVariants.{NoMemory}
 use Rattle.command_outcomes.specs.declared.told.Told.{Told}
 use Rattle.command_outcomes.specs.Conforming.{shown_at, begun as just_begun}
 use Rattle.command_outcomes.specs.Moments.{DirSeen, Inside, Answer, Outcome, outcome_of, dir_seen}
-use Rattle.commands.proofs.LateTurns.{or_false}
 use Rattle.commands.specs.RunRefusals.{claim_refusal}
 use Rattle.lifecycle.specs.Executions.{IsConforming}
 use Rattle.pod_build.specs.Preparations.{Began}
@@ -47,7 +36,7 @@ use Rattle.commands.proofs.Claimed.{may_begin}
 use Rattle.commands.proofs.ClaimBefore.{RefusedClaim}
 use Rattle.commands.proofs.RunRefused.{same_refusal, claimed_refusal, made_refusal, unmade_refusal}
 use Rattle.commands.proofs.RanQuietly.{run_prepared_passed, run_prepared_unclaimed, run_prepared_ends, run_made_left, run_ends}
-use Rattle.commands.proofs.RemovalQuiet.{ChangesAt, in_process, asks_in_process}
+use Rattle.commands.proofs.RemovalQuiet.{in_process, asks_in_process}
 use Rattle.rkt_cli.specs.declared.line.Line.{Line}
 use Rattle.rkt_cli.specs.declared.line.Line.TheVariants.{RunPrepared, Run}
 use Rattle.commands.specs.Command.{intent_for}

@@ -1,5 +1,5 @@
 -- What a run tells with its status, command by command.
-use Rattle.std.proofs.Common.{◌≡◌, ◌⊎◌, inl, inr, ℕ, true, false, List, ◌++◌, Option, Some, None, Ok, Err, IsOk, refl, sym, ap, subst, ◌∙◌}
+use Rattle.std.proofs.Common.{◌≡◌, ◌⊎◌, inl, inr, ℕ, true, false, List, [], append-nil, Option, Some, None, Ok, Err, IsOk, refl, sym, ap, subst, ◌∙◌}
 use Rattle.ac_types.specs.declared.store_key.StoreKey.{StoreKey}
 use Rattle.dir_model.specs.declared.event.Event.{Event}
 use Rattle.dir_model.specs.declared.intent.Draw.{Draw}
@@ -10,7 +10,12 @@ use Rattle.phase_read.specs.declared.found.Found.TheVariants.{At, Gone}
 use Rattle.phase_read.specs.Exact.{AtOwnEvent, IsNowhere, WasSo}
 use Rattle.command_outcomes.specs.declared.refusal.Refusal.TheVariants.{BadManifest, BundleFault, DirFault, NoFile, NoMemory, NoPod}
 use Rattle.command_outcomes.specs.Ends.{is_own_end}
-use Rattle.command_outcomes.specs.Moments.{Outside, Moment, Outcome}
+use Rattle.command_outcomes.specs.Moments.{DirSeen, Outside, Moment, Outcome}
+use Rattle.command_outcomes.specs.Texts.{status_of}
+use Rattle.command_outcomes.specs.declared.refusal.Refusal.{Refusal}
+use Rattle.folder_removal.specs.Removal.{KeptFolders}
+use Rattle.folder_removal.proofs.Keeping.{kept_call, kept_more}
+use Rattle.commands.specs.Kept.{KeepsRefused, RemovesNoneUnlessDone}
 use Rattle.lifecycle.specs.Executions.{IsConforming}
 use Rattle.commands.specs.Answers.{IsAnswer, WritesOf}
 use Rattle.commands.specs.GcCommand.{its_times, TellsGc}
@@ -20,8 +25,6 @@ use Rattle.commands.specs.ImageListCommand.{TellsImages}
 use Rattle.commands.specs.ImageRmCommand.{TellsImageRm}
 use Rattle.commands.specs.PrepareCommand.{TellsPrepare}
 use Rattle.commands.specs.RmCommand.{TellsRm}
-use Rattle.commands.specs.RunCommand.{TellsNewRun}
-use Rattle.commands.specs.RunPreparedCommand.{TellsRunPrepared}
 use Rattle.commands.specs.Status.{read_outcome}
 use Rattle.commands.specs.StatusCommand.{TellsPhase, TellsStatus}
 use Rattle.commands.specs.Texts.{state_text}
@@ -31,10 +34,10 @@ use Rattle.rkt_cli.specs.declared.line.Line.{Line}
 use Rattle.rkt_cli.specs.declared.line.Line.TheVariants.{Status, Validate, ImageList, ImageImport, ImageRm, ImageGc, Prepare, RunPrepared, Run, Rm, Gc}
 use Rattle.rkt_cli.specs.Commands.{command_in, intent_of, runs_apps}
 use Rattle.rkt_cli.specs.Promises.{TellsIn}
-use Rattle.rkt_cli.specs.Runs.{Performs, Printed, Reported, End, end_status, RunOf, RunOfLine, RunIs}
+use Rattle.rkt_cli.specs.Runs.{InProcess, Performs, Printed, Reported, End, Unwritten, end_status, RunOf, RunOfLine, RunIs}
 use Rattle.rkt_cli.proofs.BundleJudged.{import_judged}
 use Rattle.rkt_cli.proofs.Completing.{rm_ends, claim_ends}
-use Rattle.rkt_cli.proofs.Ends.{absurd_number, end_at, from_command}
+use Rattle.rkt_cli.proofs.Ends.{absurd_number, end_at, from_command, from_end}
 use Rattle.rkt_cli.proofs.Grades.{unhurt}
 use Rattle.rkt_cli.proofs.Imports.{import_stored}
 use Rattle.rkt_cli.proofs.Listed.{list_printed}
@@ -42,11 +45,12 @@ use Rattle.rkt_cli.proofs.Outcomes.{answered, does_validate, refusals_of, valida
 use Rattle.rkt_cli.proofs.PodLeft.{pod_left, sweep_left}
 use Rattle.rkt_cli.proofs.PodRan.{prepare_faithful, prepare_printed, prepare_synced}
 use Rattle.rkt_cli.proofs.PodRemovals.{gc_done, rm_done, rm_printed}
-use Rattle.rkt_cli.proofs.Removals.{removal_done, removal_printed, sweep_done}
+use Rattle.commands.specs.ImageGc.{HasEndedEarly}
+use Rattle.commands.specs.ImageRm.{removed_text, HasRemoved}
+use Rattle.rkt_cli.proofs.Removals.{removal_done, removal_printed, sweep_done, sweep_failed}
 use Rattle.rkt_cli.proofs.Sessions.{any_call, begin_part, finish_part}
 use Rattle.lifecycle.proofs.Draws.{conforming_left}
 use Rattle.phase_read.proofs.Exact.{was_within}
-use Rattle.commands.specs.Gc.{times_of}
 use Rattle.commands.proofs.RmQuiet.{rm_removed}
 use Rattle.commands.proofs.GcFrom.{gc_deleted}
 
@@ -116,6 +120,30 @@ module _ (now : ℕ) (draw : Draw) (old new : Moment) (status : ℕ) where
   abbrev me : ℕ
   me = old.outside.dir.process
 
+  -- a removal that wasn't done
+  abbrev Keeps : Line → Type 0
+  Keeps line = (intent : Intent) (o : Outcome) (s : InProcess line now draw intent old.outside new.outside o) → KeepsRefused s.begun.dir s.ended.dir o
+
+  kept_refused : (line : Line) → Keeps line → old.outside.dir.observed ≡ true → (intent : Option Intent) (r : Refusal) → Performs line now draw intent old.outside new.outside (Err r) → KeptFolders me old.outside.dir.trace new.outside.dir.trace
+  kept_refused line keeps t (Some intent) r (inl s) = kept_more (kept_call refl (s.begins t)) s.me (kept_more (keeps intent (Err r) s (s.told ∙ t)) s.ran.same (kept_call refl (s.finishes t)))
+  kept_refused line keeps t (Some intent) r (inr n) = kept_call refl (n.step t)
+  kept_refused line keeps t None r p = subst (λ (d : DirSeen). KeptFolders me old.outside.dir.trace d.trace) (sym p.dir) (record { more = []; grown = sym (append-nil _); kept = tt })
+
+  kept_told : (line : Line) → Keeps line → old.outside.dir.observed ≡ true → Ran line → RemovesNoneUnlessDone status old new
+  kept_told line keeps t (inr n) = inr (inr (inr (subst (λ (x : Outside). KeptFolders me old.outside.dir.trace x.dir.trace) (sym n.outside) (record { more = []; grown = sym (append-nil _); kept = tt }))))
+  kept_told line keeps t (inl r) = by r.end refl
+    where
+      unwritten : (q : Refusal) → status ≡ status_of q → Unwritten q old.out new.out → RemovesNoneUnlessDone status old new
+      unwritten q is (inl x) = inr (inl (is ∙ ap status_of x.0))
+      unwritten q is (inr x) = inr (inr (inl (is ∙ ap status_of x.0, x.1)))
+
+      by : (end : End) → r.end ≡ end → RemovesNoneUnlessDone status old new
+      by (Ok done) same = inl (r.is ∙ ap end_status same)
+      by (Err q) same = elim (from_end r.outcome old.out new.out r.end q r.printed same) [
+        | inl e ↦ inr (inr (inr (kept_refused line keeps t (intent_of line now draw) q (subst (λ (o : Outcome). Performs line now draw (intent_of line now draw) old.outside new.outside o) e r.performs))))
+        | inr x ↦ unwritten q (r.is ∙ ap end_status same) x
+      ]
+
   was_read : (pod : PodId) (r : RunOfLine (Status pod) now draw (intent_of (Status pod) now draw) old new status) (o : Outcome) → r.outcome ≡ o → is_own_end o ≡ true → old.outside.dir.observed ≡ true → IsConforming new.outside.dir.trace → WasRead pod me old.outside.dir.trace new.outside.dir.trace o
   was_read pod r o is own t conforming = status_read pod now draw old.outside new.outside t conforming (intent_of (Status pod) now draw) o own (subst (λ (o : Outcome). Performs (Status pod) now draw (intent_of (Status pod) now draw) old.outside new.outside o) is r.performs)
 
@@ -150,11 +178,20 @@ module _ (now : ℕ) (draw : Draw) (old new : Moment) (status : ℕ) where
       by (inr n) t = inr (inl n.is)
       by (inl r) t = import_judged path now draw r.outcome old new r.end status t r.performs r.printed r.reported r.is
 
+  removal_told : (key : StoreKey) → Ran (ImageRm key) → old.outside.dir.observed ≡ true → status ≡ 0 → WritesOf (λ text. (text ≡ removed_text key) × HasRemoved key draw.uuid old.outside.dir new.outside.dir) old new
+  removal_told key r t = wrote (ImageRm key) _ (λ text p. (removal_printed key now draw (intent_of (ImageRm key) now draw) old.outside new.outside text p, removal_done key now draw old.outside new.outside text p t)) r
+
   removal_tells : (key : StoreKey) → Ran (ImageRm key) → TellsImageRm key draw status old new
-  removal_tells key r t = wrote (ImageRm key) _ (λ text p. (removal_printed key now draw (intent_of (ImageRm key) now draw) old.outside new.outside text p, removal_done key now draw old.outside new.outside text p t)) r
+  removal_tells key r = record { removed = λ t. removal_told key r t; kept = λ t. kept_told (ImageRm key) (λ intent o s. s.ran.says.1) t r }
+
+  sweep_early : Ran ImageGc → old.outside.dir.observed ≡ true → status ≡ 9 → HasEndedEarly old.outside.dir new.outside.dir
+  sweep_early (inr n) t nine = absurd_number 9 14 (sym nine ∙ n.is) refl
+  sweep_early (inl r) t nine =
+      let e : r.outcome ≡ Err DirFault = from_command r.outcome old.out new.out r.end DirFault r.printed (end_at r.end status 9 r.is nine refl) refl in
+      sweep_failed now draw (intent_of ImageGc now draw) old.outside new.outside (subst (λ (o : Outcome). Performs ImageGc now draw (intent_of ImageGc now draw) old.outside new.outside o) e r.performs) t
 
   sweep_tells : Ran ImageGc → TellsImageGc status old new
-  sweep_tells r t = wrote ImageGc _ (λ text p. sweep_done now draw old.outside new.outside text p t) r
+  sweep_tells r = record { swept = λ t. wrote ImageGc _ (λ text p. sweep_done now draw old.outside new.outside text p t) r; early = λ t. sweep_early r t }
 
   prepare_tells : (words : List (List ℕ)) → Ran (Prepare words) → TellsPrepare words draw status old new
   prepare_tells words r = record {
@@ -168,6 +205,7 @@ module _ (now : ℕ) (draw : Draw) (old new : Moment) (status : ℕ) where
     removed = λ t. wrote (Rm pod) _ (λ text p. (rm_printed pod now draw (intent_of (Rm pod) now draw) old.outside new.outside text p, rm_done pod now draw (intent_of (Rm pod) now draw) old.outside new.outside text p t)) r;
     gone = λ t conforming. wrote (Rm pod) _ (λ text p. (rm_printed pod now draw (intent_of (Rm pod) now draw) old.outside new.outside text p, rm_removed pod (rm_done pod now draw (intent_of (Rm pod) now draw) old.outside new.outside text p t) conforming)) r;
     complete = λ t conforming free. rm_ends pod now draw old new t conforming free status r;
+    kept = λ t. kept_told (Rm pod) (λ intent o s. s.ran.says.1) t r;
   }
 
   gc_tells : Ran Gc → TellsGc now status old new

@@ -1,13 +1,9 @@
 -- What `validate` owes.
-use Rattle.std.proofs.Common.{arith, ◌≡◌, ◌⊎◌, inl, inr, ◌≤◌, ℕ, true, false, List, take, Option, Some, None, option_map, IsSomeAnd, Ok, Err, IsErrOf, IfErr, refl, sym, ap, subst, ◌∙◌}
+use Rattle.std.proofs.Common.{arith, ◌≡◌, ◌≤◌, ℕ, true, false, List, Ok, Err, IsErrOf, IfErr, refl, sym, ap, subst, ◌∙◌}
 use Rattle.dir_model.specs.declared.intent.Draw.{Draw}
 use Rattle.dir_model.specs.Causes.{Rose}
 use Rattle.dir_model.proofs.Chains.{nothing_yet}
-use Rattle.dir_trait.specs.Bundles.{file_bytes}
-use Rattle.dir_trait.specs.declared.bundle.BundleError.{BundleError}
-use Rattle.dir_trait.specs.declared.bundle.BundleError.TheVariants.{Missing, Failed}
 use Rattle.dir_trait.specs.declared.bundle.BundleError.TheVariants as bundle_error
-use Rattle.manifests.specs.DocumentData.{any_manifest}
 use Rattle.rkt_cli.specs.declared.line.Line.{Line}
 use Rattle.rkt_cli.specs.declared.line.Line.TheVariants.{Validate}
 use Rattle.command_outcomes.specs.declared.refusal.Refusal.{Refusal}
@@ -15,7 +11,7 @@ use Rattle.command_outcomes.specs.declared.refusal.Refusal.TheVariants.{DirFault
 use Rattle.command_outcomes.specs.Moments.{DirSeen, BundleSeen, Outcome}
 use Rattle.command_outcomes.proofs.Seen.{beside}
 use Rattle.command_outcomes.specs.Ends.{is_own_end}
-use Rattle.commands.specs.Validate.{ValidateSays, ReadsFile, IsRefusalOf, validate_refusal, manifest_outcome, most_read}
+use Rattle.commands.specs.Validate.{ValidateSays, ReadsFile, validate_refusal}
 use Rattle.rkt_cli.specs.Commands.{may}
 use Rattle.rkt_cli.specs.Runs.{CommandRan}
 

@@ -14,7 +14,7 @@ use Rattle.command_outcomes.specs.declared.refusal.Refusal.{Refusal}
 use Rattle.command_outcomes.specs.declared.refusal.Refusal.TheVariants.{Usage, DirFault, BundleFault, SpawnFault, OutFault, NoMemory}
 use Rattle.command_outcomes.specs.Texts.{status_of}
 use Rattle.command_outcomes.specs.Conforming.{StaysConforming}
-use Rattle.command_outcomes.specs.Moments.{Outside, Inside, Moment, SinkSeen, Outcome, Answer, outcome_of}
+use Rattle.command_outcomes.specs.Moments.{Outside, Moment, SinkSeen, Outcome, Answer, outcome_of}
 use Rattle.commands.specs.Answers.{inside_in, Complained}
 use Rattle.commands.specs.AppsTold.{TellsApps}
 use Rattle.commands.specs.Command.{Saying, alone, running}

@@ -20,3 +20,6 @@ returns-in-Err-clause-says g c =
 
 pub returns-in-Ok-clause-says : goal.returns-in-Ok-clause-says
 returns-in-Ok-clause-says g c = (c.requires.line, λ t. record { did = c.in-Ok.ensures.removed t; first = c.in-Ok.ensures.first t })
+
+pub returns-in-Err-clause-kept : goal.returns-in-Err-clause-kept
+returns-in-Err-clause-kept g c t = c.in-Err.ensures.kept t

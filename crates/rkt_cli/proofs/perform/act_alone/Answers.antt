@@ -40,7 +40,7 @@ returns-in-ImageRm-clause-keeps g c t intent said =
 pub returns-in-ImageRm-clause-ran : goal.returns-in-ImageRm-clause-ran
 returns-in-ImageRm-clause-ran g c =
     let D = g.D.Dir in
-    removal_ran _ _ _ c.in-ImageRm.key D.observed (D.shown c.args.dir.now) (D.shown c.image_rm.new.dir) _ _ c.in-ImageRm.is c.image_rm.ensures.worked c.image_rm.ensures.cause c.image_rm.ensures.refusals c.image_rm.ensures.says
+    removal_ran _ _ _ c.in-ImageRm.key D.observed (D.shown c.args.dir.now) (D.shown c.image_rm.new.dir) _ _ c.in-ImageRm.is c.image_rm.ensures.worked c.image_rm.ensures.cause c.image_rm.ensures.refusals c.image_rm.ensures.says c.image_rm.ensures.kept
 
 pub returns-in-ImageGc-clause-keeps : goal.returns-in-ImageGc-clause-keeps
 returns-in-ImageGc-clause-keeps g c t intent said =
@@ -67,7 +67,7 @@ returns-in-Rm-clause-keeps g c t intent said =
 pub returns-in-Rm-clause-ran : goal.returns-in-Rm-clause-ran
 returns-in-Rm-clause-ran g c =
     let D = g.D.Dir in
-    rm_ran _ _ _ c.in-Rm.pod D.observed (D.shown c.args.dir.now) (D.shown c.rm.new.dir) _ _ c.in-Rm.is c.rm.ensures.worked c.rm.ensures.cause c.rm.ensures.refusals c.rm.ensures.says
+    rm_ran _ _ _ c.in-Rm.pod D.observed (D.shown c.args.dir.now) (D.shown c.rm.new.dir) _ _ c.in-Rm.is c.rm.ensures.worked c.rm.ensures.cause c.rm.ensures.refusals c.rm.ensures.says c.rm.ensures.kept
 
 pub returns-in-Gc-clause-keeps : goal.returns-in-Gc-clause-keeps
 returns-in-Gc-clause-keeps g c t intent said =
