@@ -6,3 +6,4 @@ pub mod Calls
 pub mod Strays
 pub mod Knowing
 pub mod After
+pub mod Keeping

@@ -1,5 +1,5 @@
 -- What deleting a folder asks for.
-use Rattle.std.specs.Prelude.{◌≡◌, ◌⊎◌, ℕ, Bool, true, false, ◌&&◌, bytes_eq, List, [], ◌∷◌, ◌++◌}
+use Rattle.std.specs.Prelude.{◌≡◌, ◌⊎◌, ℕ, Bool, true, false, not, ◌&&◌, ◌||◌, bytes_eq, List, [], ◌∷◌, ◌++◌}
 use Rattle.std.specs.List.{list_any, AllByRecursion}
 use Rattle.dir_model.specs.declared.area.Area.{Area}
 use Rattle.dir_model.specs.declared.area.Area.TheVariants.{ExitedGarbage, Garbage, Removed}
@@ -94,6 +94,20 @@ pub record WasShown (inner : Inner) (me : ℕ) (old new : List Event) : Type 0 w
 abbrev pub spares_folders : Request → Bool
 spares_folders (RemoveFolder spot) = false
 spares_folders request = true
+
+-- a folder was removed
+abbrev pub removes_folder : Request → Reply → Bool
+removes_folder (RemoveFolder spot) Done = true
+removes_folder request reply = false
+
+-- no own removal of a folder was answered Ok between these two moments
+pub record KeptFolders (me : ℕ) (old new : List Event) : Type 0 where
+  pub more : List Event
+  pub grown : new ≡ old ++ more
+  pub kept : AllByRecursion (λ e. (is_foreign me e || not (removes_folder e.request e.reply)) ≡ true) more
+
+abbrev pub KeepsFolders : DirAt → DirAt → Type 0
+KeepsFolders old new = KeptFolders old.process old.trace new.trace
 
 -- a directory that was missing when it was listed is the folder itself, which this process hadn't removed, or a listing had
 -- shown it

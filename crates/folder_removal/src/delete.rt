@@ -8,7 +8,7 @@ ghost use Rattle.dir_trait.specs.DirCalls.{DirCall, ExtendsBy};
 ghost use Rattle.dir_model.specs.declared.request.Reply.TheVariants.{Done};
 ghost use Rattle.folder_removal.specs.Tasks.{HasChildren};
 ghost use Rattle.folder_removal.specs.Weights.{weigh};
-ghost use Rattle.folder_removal.specs.Removal.{is_removal_area, deletes_at, inner_at, removal_of, ListsStray, RemovesStray, StrayTurn, AreShown, ShownThen, StrayAfter, EndsStray, EndsRemoved};
+ghost use Rattle.folder_removal.specs.Removal.{is_removal_area, deletes_at, spares_folders, KeepsFolders, inner_at, removal_of, ListsStray, RemovesStray, StrayTurn, AreShown, ShownThen, StrayAfter, EndsStray, EndsRemoved};
 ghost use Rattle.folder_removal.specs.Known.{Learns, IsListed, OnlyLists, OnlyRemoves, OnlyWorks, WorksOff, OnlyTries, Deletes};
 
 use crate::error::{DeleteError, delete_error};
@@ -31,6 +31,7 @@ fn list<D: Dir>(
     ensures cause { IsErrOf result DeleteError.DirFault → Rose (D.shown dir.old).faults (D.shown dir.new).faults }
     ensures local { (D.shown dir.new).local ≡ (D.shown dir.old).local }
     ensures extends { D.observed ≡ true → ExtendsBy (deletes_at spot.now) (D.shown dir.old) (D.shown dir.new) }
+    ensures spares { D.observed ≡ true → ExtendsBy spares_folders (D.shown dir.old) (D.shown dir.new) }
     ensures stray { IsErrOf result DeleteError.Stray → D.observed ≡ true → ListsStray (inner_at spot.now path.now) (D.shown dir.old).process (D.shown dir.old).trace (D.shown dir.new).trace }
     ensures known { D.observed ≡ true → OnlyLists spot.now (D.shown dir.old) (D.shown dir.new) }
     ensures shown { IfOk result (λ tasks. D.observed ≡ true → AreShown spot.now tasks.items (D.shown dir.old).process (D.shown dir.old).trace (D.shown dir.new).trace) }
@@ -68,6 +69,7 @@ fn remove<D: Dir>(alloc: Global, dir: &mut D, spot: &Spot, task: &Task) -> Resul
     ensures cause { IsErrOf result DeleteError.DirFault → Rose (D.shown dir.old).faults (D.shown dir.new).faults }
     ensures local { (D.shown dir.new).local ≡ (D.shown dir.old).local }
     ensures extends { D.observed ≡ true → ExtendsBy (deletes_at spot.now) (D.shown dir.old) (D.shown dir.new) }
+    ensures spares { D.observed ≡ true → ExtendsBy spares_folders (D.shown dir.old) (D.shown dir.new) }
     ensures stray { IsErrOf result DeleteError.Stray → D.observed ≡ true → RemovesStray spot.now task.now (D.shown dir.old).process (D.shown dir.old).trace (D.shown dir.new).trace }
     ensures known { D.observed ≡ true → OnlyRemoves spot.now task.now (D.shown dir.old) (D.shown dir.new) }
     ensures removed { IfOk result (λ done. D.observed ≡ true → Learns (removal_of spot.now task.now) Done (D.shown dir.old) (D.shown dir.new)) }
@@ -93,6 +95,7 @@ fn turn<D: Dir>(
     ensures cause { IsErrOf result DeleteError.DirFault → Rose (D.shown dir.old).faults (D.shown dir.new).faults }
     ensures local { (D.shown dir.new).local ≡ (D.shown dir.old).local }
     ensures extends { D.observed ≡ true → ExtendsBy (deletes_at spot.now) (D.shown dir.old) (D.shown dir.new) }
+    ensures spares { D.observed ≡ true → ExtendsBy spares_folders (D.shown dir.old) (D.shown dir.new) }
     ensures stray { IsErrOf result DeleteError.Stray → D.observed ≡ true → StrayTurn spot.now task (D.shown dir.old).process (D.shown dir.old).trace (D.shown dir.new).trace }
     ensures shown { IfOk result (λ done. D.observed ≡ true → ShownThen spot.now (tasks.old.items ++ task ∷ []) tasks.new.items (D.shown dir.old) (D.shown dir.new)) }
     ensures known { D.observed ≡ true → OnlyWorks spot.now (tasks.old.items ++ task ∷ []) (D.shown dir.old) (D.shown dir.new) }
@@ -121,6 +124,7 @@ fn empty<D: Dir>(
     ensures cause { IsErrOf result DeleteError.DirFault → Rose (D.shown dir.old).faults (D.shown dir.new).faults }
     ensures local { (D.shown dir.new).local ≡ (D.shown dir.old).local }
     ensures extends { D.observed ≡ true → ExtendsBy (deletes_at spot.now) (D.shown dir.old) (D.shown dir.new) }
+    ensures spares { D.observed ≡ true → ExtendsBy spares_folders (D.shown dir.old) (D.shown dir.new) }
     ensures stray { IsErrOf result DeleteError.Stray → D.observed ≡ true → StrayAfter spot.now tasks.items (D.shown dir.old) (D.shown dir.new) }
     ensures known { D.observed ≡ true → OnlyWorks spot.now tasks.items (D.shown dir.old) (D.shown dir.new) }
     ensures work { IfOk result (λ done. D.observed ≡ true → WorksOff spot.now tasks.items [] (D.shown dir.old) (D.shown dir.new)) }
@@ -135,7 +139,8 @@ fn empty<D: Dir>(
 /// empty, and at last the folder. The process holds the lock that a removal there needs, and has
 /// listed nothing under it that is still there. `Stray` where something stood in a directory that
 /// was emptied, or was gone before it was removed, or where a path is longer than 8,192 bytes; and where
-/// the folder itself or a directory that was shown was missing when it was listed.
+/// the folder itself or a directory that was shown was missing when it was listed. Where it is refused,
+/// the folder wasn't removed.
 pub fn delete_folder<D: Dir>(alloc: Global, dir: &mut D, spot: Spot) -> Result<(), DeleteError>
     requires active { IsActive (D.shown dir.old).local }
     requires area { is_removal_area spot.area ≡ true }
@@ -146,6 +151,7 @@ pub fn delete_folder<D: Dir>(alloc: Global, dir: &mut D, spot: Spot) -> Result<(
     ensures extends { D.observed ≡ true → ExtendsBy (deletes_at spot) (D.shown dir.old) (D.shown dir.new) }
     ensures stray { IsErrOf result DeleteError.Stray → D.observed ≡ true → EndsStray spot (D.shown dir.old) (D.shown dir.new) }
     ensures refused { IfErr result (λ error. D.observed ≡ true → OnlyTries spot (D.shown dir.old) (D.shown dir.new)) }
+    ensures kept { IfErr result (λ error. D.observed ≡ true → KeepsFolders (D.shown dir.old) (D.shown dir.new)) }
     ensures deleted { IfOk result (λ done. D.observed ≡ true → Deletes spot (D.shown dir.old) (D.shown dir.new)) }
     ensures gone { IfOk result (λ done. D.observed ≡ true → EndsRemoved spot (D.shown dir.old) (D.shown dir.new)) }
 {

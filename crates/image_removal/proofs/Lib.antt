@@ -7,3 +7,4 @@ pub mod Names
 pub mod Ends
 pub mod Passing
 pub mod Begun
+pub mod Keeping

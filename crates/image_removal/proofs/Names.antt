@@ -90,6 +90,16 @@ some_among pass before rest name request is =
     ap (list_any t) (uuids_append (before ++ name ∷ []) rest ∙ ap (λ (l : List (List ℕ)). l ++ uuids rest) (uuids_append before (name ∷ [])))
     ∙ any_left t (uuids before ++ uuids (name ∷ [])) (uuids rest) (any_right t (uuids before) (uuids (name ∷ [])) is)
 
+pub some_left : (pass : Pass) (before rest : List (List ℕ)) (request : Request) → deals_with_some pass before request ≡ true → deals_with_some pass (before ++ rest) request ≡ true
+some_left pass before rest request is =
+    let t : List ℕ → Bool = λ n. deals_with pass n request in
+    ap (list_any t) (uuids_append before rest) ∙ any_left t (uuids before) (uuids rest) is
+
+pub some_right : (pass : Pass) (before rest : List (List ℕ)) (request : Request) → deals_with_some pass rest request ≡ true → deals_with_some pass (before ++ rest) request ≡ true
+some_right pass before rest request is =
+    let t : List ℕ → Bool = λ n. deals_with pass n request in
+    ap (list_any t) (uuids_append before rest) ∙ any_right t (uuids before) (uuids rest) is
+
 -- one name
 pub alone_uuid : (pass : Pass) (name : List ℕ) → is_uuid name ≡ true → (request : Request) → deals_with pass name request ≡ true → deals_with_some pass (name ∷ []) request ≡ true
 alone_uuid pass name uuid request is = ap (λ b. list_any (λ n. deals_with pass n request) (cond b (name ∷ []) [])) uuid ∙ ap (λ b. b || false) is

@@ -5,3 +5,4 @@ pub mod Causes
 pub mod Work
 pub mod Removals
 pub mod Sweeps
+pub mod Ended

@@ -4,7 +4,7 @@ ghost use Rattle.dir_model.specs.declared.request.Request.TheVariants.{RemoveFol
 ghost use Rattle.dir_model.specs.declared.request.Reply.TheVariants.{Done};
 ghost use Rattle.dir_trait.specs.Local.{IsActive};
 ghost use Rattle.folder_building.specs.Work.{Worked, either};
-ghost use Rattle.folder_removal.specs.Removal.{deletes_at};
+ghost use Rattle.folder_removal.specs.Removal.{deletes_at, KeepsFolders};
 ghost use Rattle.image_removal.specs.Requests.{removed_spot, looks_at};
 ghost use Rattle.image_removal.specs.Calls.{Called};
 ghost use Rattle.image_removal.specs.Causes.{WorkCause};
@@ -26,6 +26,7 @@ pub(crate) fn delete<D: Dir>(alloc: Global, dir: &mut D, name: Name) -> Result<(
     requires active { IsActive (D.shown dir.old).local }
     ensures worked { Worked D.observed (deletes_at (removed_spot name)) (D.shown dir.old) (D.shown dir.new) }
     ensures cause { IfErr result (λ e. WorkCause D.observed e (D.shown dir.old) (D.shown dir.new)) }
+    ensures kept { IfErr result (λ e. D.observed ≡ true → KeepsFolders (D.shown dir.old) (D.shown dir.new)) }
     ensures deleted { IfOk result (λ done. D.observed ≡ true
         → Called (RemoveFolder (removed_spot name)) Done (D.shown dir.old).process (D.shown dir.old).trace (D.shown dir.new).trace) }
     ensures stays { IfOk result (λ done. D.observed ≡ true → Stays (HoldsArea Area.Removed) StaysBare (D.shown dir.old) (D.shown dir.new)) }
@@ -46,6 +47,7 @@ pub(crate) fn delete_if_there<D: Dir>(
     requires active { IsActive (D.shown dir.old).local }
     ensures worked { Worked D.observed (either (looks_at (removed_spot name)) (deletes_at (removed_spot name))) (D.shown dir.old) (D.shown dir.new) }
     ensures cause { IfErr result (λ e. WorkCause D.observed e (D.shown dir.old) (D.shown dir.new)) }
+    ensures kept { IfErr result (λ e. D.observed ≡ true → KeepsFolders (D.shown dir.old) (D.shown dir.new)) }
     ensures gone { IfOk result (λ done. D.observed ≡ true
         → IsGone (removed_spot name) (D.shown dir.old).process (D.shown dir.old).trace (D.shown dir.new).trace) }
     ensures stays { D.observed ≡ true → Stays (HoldsArea Area.Removed) StaysConforming (D.shown dir.old) (D.shown dir.new) }

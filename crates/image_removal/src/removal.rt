@@ -5,6 +5,7 @@ ghost use Rattle.dir_trait.specs.Local.{IsActive};
 ghost use Rattle.dir_trait.specs.Knowledge.{Knows};
 ghost use Rattle.area_locks.specs.AreaLocks.{is_free_of, IsBusy, IsBusyElsewhere};
 ghost use Rattle.folder_building.specs.Work.{Worked};
+ghost use Rattle.folder_removal.specs.Removal.{KeepsFolders};
 ghost use Rattle.image_removal.specs.Requests.{away_spot, puts_away, deletes_away, removes_at};
 ghost use Rattle.image_removal.specs.Calls.{Called};
 ghost use Rattle.image_removal.specs.Causes.{lock_free, WorkCause, RemoveCause, BusyElsewhere};
@@ -31,6 +32,7 @@ fn put_away_locked<D: Dir>(
     requires active { IsActive (D.shown dir.old).local }
     ensures worked { Worked D.observed (removes_at key draw) (D.shown dir.old) (D.shown dir.new) }
     ensures cause { IfErr result (λ e. RemoveCause D.observed key draw e (D.shown dir.old) (D.shown dir.new)) }
+    ensures kept { D.observed ≡ true → KeepsFolders (D.shown dir.old) (D.shown dir.new) }
     ensures another { IfErr result (λ e. D.observed ≡ true → (s : Seen) → Knows (D.shown dir.old) s → is_free_of Area.Images s ≡ true
         → BusyElsewhere e (D.shown dir.old) (D.shown dir.new)) }
     ensures moved { IfOk result (λ done. D.observed ≡ true
@@ -63,6 +65,7 @@ fn delete_if_free<D: Dir>(alloc: Global, dir: &mut D, draw: PodId) -> Result<(),
     requires active { IsActive (D.shown dir.old).local }
     ensures worked { Worked D.observed (deletes_away draw) (D.shown dir.old) (D.shown dir.new) }
     ensures cause { IfErr result (λ e. WorkCause D.observed e (D.shown dir.old) (D.shown dir.new)) }
+    ensures kept { IfErr result (λ e. D.observed ≡ true → KeepsFolders (D.shown dir.old) (D.shown dir.new)) }
     ensures gone { IfOk result (λ done. D.observed ≡ true
         → IsGoneUnless (IsBusy Area.Removed Mode.Exclusive) (away_spot draw)
         (D.shown dir.old).process (D.shown dir.old).trace (D.shown dir.new).trace) }
@@ -87,7 +90,8 @@ fn delete_if_free<D: Dir>(alloc: Global, dir: &mut D, draw: PodId) -> Result<(),
 ///
 /// `Busy` with images, where another process holds that area's lock; `NoImage`, where no image has this
 /// key: in both the store is as it was. `Stray`, where the directory's answers contradict what the locks
-/// keep; `DirFault`, where it failed; `NoMemory`, where memory ran out. No lock is held afterwards.
+/// keep; `DirFault`, where it failed; `NoMemory`, where memory ran out. No lock is held afterwards. Where it
+/// is refused, no folder was deleted.
 pub fn remove<D: Dir>(
     alloc: Global,
     dir: &mut D,
@@ -97,6 +101,7 @@ pub fn remove<D: Dir>(
     requires active { IsActive (D.shown dir.old).local }
     ensures worked { Worked D.observed (removes_at key draw) (D.shown dir.old) (D.shown dir.new) }
     ensures cause { IfErr result (λ e. RemoveCause D.observed key draw e (D.shown dir.old) (D.shown dir.new)) }
+    ensures kept { IfErr result (λ e. D.observed ≡ true → KeepsFolders (D.shown dir.old) (D.shown dir.new)) }
     ensures another { IfErr result (λ e. D.observed ≡ true → (s : Seen) → Knows (D.shown dir.old) s → MayRemove draw s
         → BusyElsewhere e (D.shown dir.old) (D.shown dir.new)) }
     ensures removed { IfOk result (λ done. D.observed ≡ true

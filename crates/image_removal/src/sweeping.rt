@@ -10,6 +10,7 @@ ghost use Rattle.image_removal.specs.Requests.{sweeps};
 ghost use Rattle.image_removal.specs.Passes.{area_of, line_of, deed_of, deals_with, deals_with_some};
 ghost use Rattle.image_removal.specs.Calls.{Called};
 ghost use Rattle.image_removal.specs.Causes.{is_fault_refusal, WorkCause};
+ghost use Rattle.image_removal.specs.Ended.{EndsAtBetween, EndsAmongBetween, EndsListingBetween, EndsPassBetween, EndsSweepBetween};
 ghost use Rattle.image_removal.specs.Sweeps.{Adds, AddsLines, SweepsBetween, TriesBetween, PassedBetween, TriedBetween, IsSweptBetween, HasTriedBetween, BusyNow, BusyApart};
 ghost use Rattle.image_removal.specs.Work.{HoldsArea, MayPass, MaySweep, StaysConforming, StaysBare, Stays};
 
@@ -62,6 +63,7 @@ fn sweep_next<D: Dir>(
     ensures worked { Worked D.observed (deals_with_some pass (name.now ∷ [])) (D.shown dir.old) (D.shown dir.new) }
     ensures cause { IfErr result (λ e. WorkCause D.observed e (D.shown dir.old) (D.shown dir.new)) }
     ensures swept { IfOk result (λ done. AddsLines D.observed pass (name.now ∷ []) lines.old.items lines.new.items (D.shown dir.old) (D.shown dir.new)) }
+    ensures ended { IfErr result (λ e. D.observed ≡ true → EndsAtBetween pass name.now (D.shown dir.old) (D.shown dir.new)) }
     ensures stays { IfOk result (λ done. D.observed ≡ true → Stays (HoldsArea (area_of pass)) StaysBare (D.shown dir.old) (D.shown dir.new)) }
     ensures left { IfErr result (λ e. D.observed ≡ true → Stays (HoldsArea (area_of pass)) StaysConforming (D.shown dir.old) (D.shown dir.new)) }
 {
@@ -85,6 +87,7 @@ fn sweep_each<D: Dir>(
     ensures worked { Worked D.observed (deals_with_some pass names.now) (D.shown dir.old) (D.shown dir.new) }
     ensures cause { IfErr result (λ e. WorkCause D.observed e (D.shown dir.old) (D.shown dir.new)) }
     ensures swept { IfOk result (λ done. AddsLines D.observed pass names.now lines.old.items lines.new.items (D.shown dir.old) (D.shown dir.new)) }
+    ensures ended { IfErr result (λ e. D.observed ≡ true → EndsAmongBetween pass names.now (D.shown dir.old) (D.shown dir.new)) }
     ensures stays { IfOk result (λ done. D.observed ≡ true → Stays (HoldsArea (area_of pass)) StaysBare (D.shown dir.old) (D.shown dir.new)) }
     ensures left { IfErr result (λ e. D.observed ≡ true → Stays (HoldsArea (area_of pass)) StaysConforming (D.shown dir.old) (D.shown dir.new)) }
 {
@@ -106,6 +109,7 @@ fn sweep_listed<D: Dir>(
     ensures cause { IfErr result (λ e. WorkCause D.observed e (D.shown dir.old) (D.shown dir.new)) }
     ensures swept { IfOk result (λ done. D.observed ≡ true → Adds (SweepsBetween pass (D.shown dir.old) (D.shown dir.new)) lines.old.items lines.new.items) }
     ensures tried { IfErr result (λ e. D.observed ≡ true → TriesBetween pass (D.shown dir.old) (D.shown dir.new)) }
+    ensures ended { IfErr result (λ e. D.observed ≡ true → EndsListingBetween pass (D.shown dir.old) (D.shown dir.new)) }
     ensures stays { IfOk result (λ done. D.observed ≡ true → Stays (HoldsArea (area_of pass)) StaysBare (D.shown dir.old) (D.shown dir.new)) }
     ensures left { IfErr result (λ e. D.observed ≡ true → Stays (HoldsArea (area_of pass)) StaysConforming (D.shown dir.old) (D.shown dir.new)) }
 {
@@ -143,6 +147,7 @@ fn sweep_area<D: Dir>(
     ensures another { IfOk result (λ done. D.observed ≡ true → (s : Seen) → Knows (D.shown dir.old) s → is_free_of (area_of pass) s ≡ true
         → Adds (PassedBetween (BusyApart (D.shown dir.old).process) pass (D.shown dir.old) (D.shown dir.new)) lines.old.items lines.new.items) }
     ensures tried { IfErr result (λ e. D.observed ≡ true → TriedBetween pass (D.shown dir.old) (D.shown dir.new)) }
+    ensures ended { IfErr result (λ e. D.observed ≡ true → EndsPassBetween pass (D.shown dir.old) (D.shown dir.new)) }
     ensures stays { IfOk result (λ done. D.observed ≡ true → Stays (MayPass (area_of pass)) StaysBare (D.shown dir.old) (D.shown dir.new)) }
     ensures left { IfErr result (λ e. D.observed ≡ true → Stays (MayPass (area_of pass)) StaysConforming (D.shown dir.old) (D.shown dir.new)) }
 {
@@ -170,6 +175,7 @@ fn sweep_both<D: Dir>(
     ensures swept_unless_another { IfOk result (λ done. D.observed ≡ true → (s : Seen) → Knows (D.shown dir.old) s → MaySweep s
         → Adds (IsSweptBetween (BusyApart (D.shown dir.old).process) (D.shown dir.old) (D.shown dir.new)) lines.old.items lines.new.items) }
     ensures tried { IfErr result (λ e. D.observed ≡ true → HasTriedBetween (D.shown dir.old) (D.shown dir.new)) }
+    ensures ended { IfErr result (λ e. D.observed ≡ true → EndsSweepBetween (D.shown dir.old) (D.shown dir.new)) }
     ensures conforms { D.observed ≡ true → Stays MaySweep StaysConforming (D.shown dir.old) (D.shown dir.new) }
 {
     sweep_area(alloc, dir, Pass::PutAway, lines)?;
@@ -182,7 +188,8 @@ fn sweep_both<D: Dir>(
 /// isn't a uuid is passed over.
 ///
 /// `Stray`, where the directory's answers contradict what the locks keep; `DirFault`, where it failed;
-/// `NoMemory`, where memory ran out. No lock is held afterwards.
+/// `NoMemory`, where memory ran out: then the sweep ends in the turn of the folder at which it failed. No
+/// lock is held afterwards.
 pub fn sweep<D: Dir>(alloc: Global, dir: &mut D) -> Result<Vec<SweepLine>, StoreError>
     requires active { IsActive (D.shown dir.old).local }
     ensures worked { Worked D.observed sweeps (D.shown dir.old) (D.shown dir.new) }
@@ -192,6 +199,7 @@ pub fn sweep<D: Dir>(alloc: Global, dir: &mut D) -> Result<Vec<SweepLine>, Store
     ensures swept_unless_another { IfOk result (λ lines. D.observed ≡ true → (s : Seen) → Knows (D.shown dir.old) s → MaySweep s
         → IsSweptBetween (BusyApart (D.shown dir.old).process) (D.shown dir.old) (D.shown dir.new) lines.items) }
     ensures tried { IfErr result (λ e. D.observed ≡ true → HasTriedBetween (D.shown dir.old) (D.shown dir.new)) }
+    ensures ended { IfErr result (λ e. D.observed ≡ true → EndsSweepBetween (D.shown dir.old) (D.shown dir.new)) }
     ensures conforms { D.observed ≡ true → Stays MaySweep StaysConforming (D.shown dir.old) (D.shown dir.new) }
 {
     let mut lines = Vec::new(alloc);

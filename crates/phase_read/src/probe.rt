@@ -7,6 +7,7 @@ ghost use Rattle.dir_trait.specs.DirCalls.{ExtendsBy, HeldBetween, LockToldBetwe
 ghost use Rattle.dir_trait.specs.State.{spot_eq, stands};
 ghost use Rattle.dir_trait.specs.Replies.{is_look_at};
 ghost use Rattle.dir_trait.specs.Local.{IsActive, has_own_open};
+ghost use Rattle.phase_read.specs.Often.{OpensOnce};
 
 use crate::found::{LookError, look_error};
 use dir_trait::{Dir, DirError, Mode, Spot, Which};
@@ -23,6 +24,7 @@ pub fn look<D: Dir>(alloc: Global, dir: &mut D, spot: Spot) -> Result<bool, Look
     ensures local { (D.shown dir.new).local ≡ (D.shown dir.old).local }
     ensures known { D.observed ≡ true → OnlyLooks (D.shown dir.old) (D.shown dir.new) }
     ensures extends { D.observed ≡ true → ExtendsBy (is_look_at (spot_eq spot)) (D.shown dir.old) (D.shown dir.new) }
+    ensures once { OpensOnce D.observed spot (D.shown dir.old) (D.shown dir.new) }
     ensures there { IfOk result (λ there. D.observed ≡ true
         → HeldBetween (D.shown dir.old) (D.shown dir.new) (λ s. stands s.namespace spot ≡ there)) }
 {

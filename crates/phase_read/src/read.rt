@@ -10,6 +10,7 @@ ghost use Rattle.dir_trait.specs.Between.{StaysBetween};
 ghost use Rattle.dir_trait.specs.Replies.{is_look_at};
 ghost use Rattle.dir_trait.specs.Local.{IsActive, has_own_open};
 ghost use Rattle.phase_read.specs.Exact.{IsExactly};
+ghost use Rattle.phase_read.specs.Often.{OpensOnce, ReadsAtMost};
 ghost use Rattle.phase_read.specs.Read.{IsRead, HasPhase, FoundBetween, is_pod_spot};
 
 use crate::found::{Found, LookError};
@@ -44,6 +45,7 @@ fn read_at<D: Dir>(alloc: Global, dir: &mut D, spot: Spot) -> Result<Option<Phas
     ensures local { (D.shown dir.new).local ≡ (D.shown dir.old).local }
     ensures known { D.observed ≡ true → OnlyLooks (D.shown dir.old) (D.shown dir.new) }
     ensures extends { D.observed ≡ true → ExtendsBy (is_look_at (spot_eq spot)) (D.shown dir.old) (D.shown dir.new) }
+    ensures once { spot.area ≡ Area.Embryo → OpensOnce D.observed spot (D.shown dir.old) (D.shown dir.new) }
     ensures there { IfOk result (λ found. D.observed ≡ true
         → HeldBetween (D.shown dir.old) (D.shown dir.new) (λ s. stands s.namespace spot ≡ is_some found)) }
     ensures found { IfOk result (λ found. IfSome found (λ phase. D.observed ≡ true
@@ -90,6 +92,7 @@ pub fn read_phase<D: Dir>(alloc: Global, dir: &mut D, pod: PodId) -> Result<Foun
     ensures local { (D.shown dir.new).local ≡ (D.shown dir.old).local }
     ensures known { D.observed ≡ true → OnlyLooks (D.shown dir.old) (D.shown dir.new) }
     ensures extends { D.observed ≡ true → ExtendsBy (is_look_at (is_pod_spot pod)) (D.shown dir.old) (D.shown dir.new) }
+    ensures reads { ReadsAtMost 1 D.observed pod (D.shown dir.old) (D.shown dir.new) }
     ensures read { IfOk result (λ found. D.observed ≡ true → IsRead (D.shown dir.old) (D.shown dir.new) pod found) }
     ensures exact { IfOk result (λ found. D.observed ≡ true → IsExactly (D.shown dir.old) (D.shown dir.new) pod found) }
 {

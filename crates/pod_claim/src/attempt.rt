@@ -7,6 +7,7 @@ ghost use Rattle.dir_model.specs.declared.spot.Which.TheVariants as lock;
 ghost use Rattle.dir_trait.specs.Local.{IsActive, IsUnopened, has_own_open};
 ghost use Rattle.dir_trait.specs.Knowledge.{OnlyLooks, LookedInto};
 ghost use Rattle.dir_trait.specs.Pods.{pod_text};
+ghost use Rattle.phase_read.specs.Often.{ReadsAtMost};
 ghost use Rattle.phase_read.specs.Read.{IsRead};
 ghost use Rattle.phase_read.specs.declared.found.Found.TheVariants as found;
 ghost use Rattle.pod_claim.specs.Holding.{MayClaim, and_locked};
@@ -37,6 +38,7 @@ fn find_prepared<D: Dir>(alloc: Global, dir: &mut D, pod: PodId) -> Result<(), C
     requires active { IsActive (D.shown dir.old).local }
     requires alone { has_own_open (D.shown dir.old).local (pod_text pod.bytes) ≡ false }
     ensures went { Went D.observed 24 pod (D.shown dir.old).local (D.shown dir.old) (D.shown dir.new) }
+    ensures reads { ReadsAtMost 1 D.observed pod (D.shown dir.old) (D.shown dir.new) }
     ensures still { D.observed ≡ true → MovedNothing (D.shown dir.old).process (D.shown dir.old).trace (D.shown dir.new).trace }
     ensures found { IfOk result (λ done. D.observed ≡ true
         → IsRead (D.shown dir.old) (D.shown dir.new) pod (found.At phase.Prepared area.Prepared)) }
@@ -65,6 +67,7 @@ pub(crate) fn attempt<D: Dir>(alloc: Global, dir: &mut D, pod: PodId) -> Result<
     requires active { IsActive (D.shown dir.old).local }
     requires alone { has_own_open (D.shown dir.old).local (pod_text pod.bytes) ≡ false }
     ensures went { Went D.observed 33 pod (and_locked (D.shown dir.old).local pod lock.Own result) (D.shown dir.old) (D.shown dir.new) }
+    ensures reads { ReadsAtMost 1 D.observed pod (D.shown dir.old) (D.shown dir.new) }
     ensures unopened { IfOk result (λ own. IsUnopened (D.shown dir.old).local own) }
     ensures order { IfOk result (λ own. D.observed ≡ true
         → TookBoth pod own (D.shown dir.old).process (D.shown dir.old).trace (D.shown dir.new).trace) }

@@ -4,6 +4,7 @@ ghost use Rattle.dir_trait.specs.Local.{IsActive, has_own_open};
 ghost use Rattle.dir_trait.specs.Knowledge.{LookedInto};
 ghost use Rattle.dir_trait.specs.Pods.{pod_text};
 ghost use Rattle.lifecycle.specs.Executions.{IsConforming};
+ghost use Rattle.phase_read.specs.Often.{ReadsAtMost};
 ghost use Rattle.pod_claim.specs.Holding.{MayClaim};
 ghost use Rattle.pod_claim.specs.Work.{Went, MovedNothing, TookBoth, Leaves};
 ghost use Rattle.pod_claim.specs.Causes.{ClaimCause};
@@ -42,6 +43,7 @@ pub fn claim<D: Dir>(alloc: Global, dir: &mut D, pod: PodId) -> Result<Owned, Cl
     requires alone { has_own_open (D.shown dir.old).local (pod_text pod.bytes) ≡ false }
     ensures owned { IfOk result (λ owned. IsOwned pod (D.shown dir.old).local owned) }
     ensures went { Went D.observed 66 pod (and_owned (D.shown dir.old).local pod result) (D.shown dir.old) (D.shown dir.new) }
+    ensures reads { ReadsAtMost 2 D.observed pod (D.shown dir.old) (D.shown dir.new) }
     ensures cause { IfErr result (λ e. ClaimCause D.observed pod e (D.shown dir.old) (D.shown dir.new)) }
     ensures another { IfErr result (λ e. Leaves D.observed MayClaim (D.shown dir.old)
         (λ s. RefusedByAnother pod e (D.shown dir.old) (D.shown dir.new))) }

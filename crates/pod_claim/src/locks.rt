@@ -3,6 +3,7 @@ ghost use Rattle.std.specs.Prelude.{◌≡◌, [], true, IfOk, IfErr};
 ghost use Rattle.dir_model.specs.declared.spot.Which.TheVariants as lock;
 ghost use Rattle.dir_trait.specs.Local.{IsActive, IsUnopened};
 ghost use Rattle.dir_trait.specs.Knowledge.{Knows, OnlyLooks, LookedInto};
+ghost use Rattle.phase_read.specs.Often.{ReadsAtMost};
 ghost use Rattle.pod_claim.specs.Holding.{MayTake, MayClaim, HasClaim, and_locked, with_lock, with_pod};
 ghost use Rattle.pod_claim.specs.Work.{Went, InOrder, MovedNothing, takes, moves_on, TookBoth, Leaves};
 ghost use Rattle.pod_claim.specs.Causes.{Stopped, StopsAlone, IsAbsent, CannotOpen, BusyElsewhere};
@@ -19,6 +20,7 @@ use std::alloc::Global;
 fn take<D: Dir>(alloc: Global, dir: &mut D, pod: PodId, which: Which) -> Result<Handle, Setback>
     requires active { IsActive (D.shown dir.old).local }
     ensures went { Went D.observed 3 pod (and_locked (D.shown dir.old).local pod which result) (D.shown dir.old) (D.shown dir.new) }
+    ensures reads { ReadsAtMost 0 D.observed pod (D.shown dir.old) (D.shown dir.new) }
     ensures unopened { IfOk result (λ handle. IsUnopened (D.shown dir.old).local handle) }
     ensures order { IfOk result (λ handle. D.observed ≡ true
         → InOrder (D.shown dir.old).process (D.shown dir.old).trace (D.shown dir.new).trace (takes pod which handle [])) }
@@ -49,6 +51,7 @@ fn take<D: Dir>(alloc: Global, dir: &mut D, pod: PodId, which: Which) -> Result<
 fn run_under_claim<D: Dir>(alloc: Global, dir: &mut D, pod: PodId) -> Result<Handle, Setback>
     requires active { IsActive (D.shown dir.old).local }
     ensures went { Went D.observed 5 pod (and_locked (D.shown dir.old).local pod lock.Own result) (D.shown dir.old) (D.shown dir.new) }
+    ensures reads { ReadsAtMost 0 D.observed pod (D.shown dir.old) (D.shown dir.new) }
     ensures unopened { IfOk result (λ own. IsUnopened (D.shown dir.old).local own) }
     ensures order { IfOk result (λ own. D.observed ≡ true
         → InOrder (D.shown dir.old).process (D.shown dir.old).trace (D.shown dir.new).trace (takes pod lock.Own own (moves_on pod))) }
@@ -75,6 +78,7 @@ fn run_under_claim<D: Dir>(alloc: Global, dir: &mut D, pod: PodId) -> Result<Han
 fn without_claim<D: Dir>(alloc: Global, dir: &mut D, pod: PodId) -> Setback
     requires active { IsActive (D.shown dir.old).local }
     ensures went { Went D.observed 2 pod (D.shown dir.old).local (D.shown dir.old) (D.shown dir.new) }
+    ensures reads { ReadsAtMost 0 D.observed pod (D.shown dir.old) (D.shown dir.new) }
     ensures stopped { StopsAlone D.observed pod result (D.shown dir.old) (D.shown dir.new) }
     ensures left { D.observed ≡ true → OnlyLooks (D.shown dir.old) (D.shown dir.new) }
 {
@@ -93,6 +97,7 @@ pub(crate) fn take_and_run<D: Dir>(
 ) -> Result<Handle, Setback>
     requires active { IsActive (D.shown dir.old).local }
     ensures went { Went D.observed 9 pod (and_locked (D.shown dir.old).local pod lock.Own result) (D.shown dir.old) (D.shown dir.new) }
+    ensures reads { ReadsAtMost 0 D.observed pod (D.shown dir.old) (D.shown dir.new) }
     ensures unopened { IfOk result (λ own. IsUnopened (D.shown dir.old).local own) }
     ensures order { IfOk result (λ own. D.observed ≡ true
         → TookBoth pod own (D.shown dir.old).process (D.shown dir.old).trace (D.shown dir.new).trace) }

@@ -23,15 +23,16 @@ use Rattle.pod_claim.specs.Elsewhere.{is_owned_phase, IsOwnedElsewhere}
 use Rattle.pod_claim.specs.Work.{Grew}
 use Rattle.pod_claim.proofs.Times.{at_part}
 use Rattle.pod_claim.proofs.Traces.{grown_none}
-use Rattle.pod_steps.specs.Causes.{is_held_against}
+use Rattle.pod_steps.specs.Causes.{is_held_against, WasStray}
 use Rattle.pod_steps.specs.Holding.{Stays}
 use Rattle.pod_removal.specs.declared.error.RemoveError.{RemoveError}
 use Rattle.pod_removal.specs.declared.error.RemoveError.TheVariants as error
 use Rattle.pod_removal.specs.Requests.{is_removable}
 use Rattle.pod_removal.specs.Holding.{MayRemovePod}
 use Rattle.pod_removal.specs.Causes.{IsBusyAt}
-use Rattle.pod_removal.specs.Removals.{WasWrong, RemoveCause, RefusedByAnother}
+use Rattle.pod_removal.specs.Removals.{MissedTimes, WasWrong, RemoveCause, RefusedByAnother}
 use Rattle.pod_removal.specs.Hindrances.{IsRemovable, IsDeletedBy, IsUnhindered, IsUnhinderedThroughout, IsFailure}
+use Rattle.pod_removal.proofs.Onward.{never_missed}
 
 -- a lock that opposes some mode is held
 opposing : (mode : Mode) (lock : Option Mode) → opposes mode lock ≡ true → is_some lock ≡ true
@@ -107,18 +108,22 @@ module _ (pod : PodId) (me : ℕ) (a c : List Event) (free : IsUnhinderedThrough
 
 -- then only a failure refuses it
 pub only_failures : {observed : Bool} {pod : PodId} {a c : DirAt} (e : RemoveError) → observed ≡ true → RemoveCause observed pod e a c → RefusedByAnother pod e a c → IsConforming c.trace → IsUnhinderedThroughout pod a.process a.trace c.trace
-    → IsFailure e
+    → IsFailure e a.process a.trace c.trace
 only_failures {observed} {pod} {a} {c} error.NoPod t x another conforming free = absurd (never_gone pod a.process a.trace c.trace free ((x.nowhere refl t).nowhere conforming))
 only_failures {observed} {pod} {a} {c} (error.WrongPhase p) t x another conforming free = absurd (never_wrong pod a.process a.trace c.trace free p (x.phase p refl t conforming) (λ owned. another.owner conforming p refl owned))
 only_failures {observed} {pod} {a} {c} error.NoManifest t x another conforming free = absurd (never_lacking pod a.process a.trace c.trace free (x.manifest refl t conforming))
 only_failures {observed} {pod} {a} {c} (error.Busy other which) t x another conforming free =
     absurd (never_held pod a.process a.trace c.trace free which (another.busy which (ap (λ (p : PodId). error.Busy p which) (x.named other which refl))))
 only_failures error.DirFault t x another conforming free = inl refl
-only_failures error.Stray t x another conforming free = inr (inl refl)
-only_failures error.NoMemory t x another conforming free = inr (inr refl)
+only_failures {observed} {pod} {a} {c} error.Stray t x another conforming free = by (x.stray refl t)
+  where
+    by : WasStray a.process a.trace c.trace ⊎ MissedTimes 6 pod a.process a.trace c.trace → IsFailure error.Stray a.process a.trace c.trace
+    by (inl stray) = inr (inr (refl, stray))
+    by (inr missed) = absurd (never_missed pod a.process a.trace c.trace conforming free missed)
+only_failures error.NoMemory t x another conforming free = inr (inl refl)
 
 pub refused_so : (observed : Bool) (pod : PodId) (now : ℕ) (a c : DirAt) (r : Result (Unit {0}) RemoveError) → IfErr r (λ e. RemoveCause observed pod e a c)
     → IfErr r (λ e. observed ≡ true → Stays (MayRemovePod pod now) a (λ s. RefusedByAnother pod e a c))
-    → IfErr r (λ e. observed ≡ true → Stays (MayRemovePod pod now) a (λ s. IsConforming c.trace → IsUnhinderedThroughout pod a.process a.trace c.trace → IsFailure e))
+    → IfErr r (λ e. observed ≡ true → Stays (MayRemovePod pod now) a (λ s. IsConforming c.trace → IsUnhinderedThroughout pod a.process a.trace c.trace → IsFailure e a.process a.trace c.trace))
 refused_so observed pod now a c (Ok done) cause another = tt
 refused_so observed pod now a c (Err e) cause another = λ t s k m conforming free. only_failures e t cause (another t s k m) conforming free

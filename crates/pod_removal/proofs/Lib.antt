@@ -9,3 +9,5 @@ pub mod Deleting
 pub mod Rounds
 pub mod Finding
 pub mod Hindrances
+pub mod Unread
+pub mod Onward

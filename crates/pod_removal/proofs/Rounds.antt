@@ -35,6 +35,8 @@ use Rattle.phase_read.specs.declared.found.Found.TheVariants.{At}
 use Rattle.phase_read.specs.declared.found.LookError.{LookError}
 use Rattle.phase_read.specs.declared.found.LookError.TheVariants as look
 use Rattle.phase_read.specs.Read.{pod_spot, is_pod_spot, IsReading}
+use Rattle.folder_removal.specs.Removal.{KeepsFolders}
+use Rattle.phase_read.specs.Often.{ReadsAtMost}
 use Rattle.phase_read.specs.Exact.{AtOwnEvent, IsInPhase}
 use Rattle.pod_claim.specs.Causes.{is_prepared, OpensOwnAlone}
 use Rattle.pod_claim.specs.Holding.{is_on_folder}
@@ -60,7 +62,8 @@ use Rattle.pod_removal.specs.Requests.{is_garbage_place, is_removable, aside, pl
 use Rattle.pod_removal.specs.Setbacks.{refusal}
 use Rattle.pod_removal.specs.Holding.{MayRemove, MayRemovePod, MayDiscard}
 use Rattle.pod_removal.specs.Causes.{MissedOnTheWay, IsDeleted, StoppedAlone, StoppedFound, BusyInPrepared, asked_mode, IsBusyAt, BusyAny}
-use Rattle.pod_removal.specs.Removals.{round_of, FoundThenMissed, MissedTimes, FoundNone, WentRound, IsEnded, RemovedLater, RemovedBetween, WasWrong, RoundCause, LaterCause, RemoveCause, RefusedByAnother}
+use Rattle.pod_removal.specs.Found.{WasMissed, MissedWhere}
+use Rattle.pod_removal.specs.Removals.{round_of, MissedOnItsWay, FoundThenMissed, MissedTimes, FoundNone, WentRound, IsEnded, RemovedLater, RemovedBetween, WasWrong, RoundCause, LaterCause, RemoveCause, RefusedByAnother}
 
 -- a look for the pod is among the calls of its removal
 look_removes : (pod : PodId) (now : ℕ) (r : Request) → is_look_at (is_pod_spot pod) r ≡ true → removes pod now r ≡ true
@@ -205,19 +208,24 @@ another_ready e c t ab cc' ready busy s k m = let x = ready s k m in busy_part e
 
 -- one round
 
+on_its_way : (pod : PodId) (p : Phase) {me : ℕ} {a b : List Event} → WasMissed pod p me a b → MissedOnItsWay pod p me a b
+on_its_way pod p (inl here) = inl here.absent
+on_its_way pod p (inr there) = inr (there.0, there.1, there.2.absent)
+
 module _ {observed : Bool} (pod : PodId) (p : Phase) (area : Area) (old mid new : DirAt) (looks : Follows observed old mid) (removable : is_removable p ≡ true) (read : observed ≡ true → IsReading old.process old.trace mid.trace pod (At p area)) where
   pub went_round : (r : Result (Unit {0}) Setback) → IfOk r (λ done. observed ≡ true → IsDeleted pod mid.process mid.trace new.trace) → IfErr r (λ e. StoppedFound observed pod p e mid new)
-      → IfOk (round_of pod r) (λ x. observed ≡ true → WentRound pod x old new)
-  went_round (Ok done) deleted stopped = λ t. deleted_part pod (looks.grown t) looks.same grown_none (deleted t)
-  went_round (Err stop.Missing) deleted stopped = λ t. record {
+      → IfErr r (λ e. MissedWhere observed pod p e mid new) → IfOk (round_of pod r) (λ x. observed ≡ true → WentRound pod x old new)
+  went_round (Ok done) deleted stopped missed = λ t. deleted_part pod (looks.grown t) looks.same grown_none (deleted t)
+  went_round (Err stop.Missing) deleted stopped missed = λ t. record {
     between = mid.trace;
     phase = p;
     area = area;
     removable = removable;
     read = read t;
     missed = at_part grown_none looks.same grown_none (stopped.missing refl t);
+    way = subst (λ (me : ℕ). MissedOnItsWay pod p me mid.trace new.trace) looks.same (on_its_way pod p (missed refl t));
   }
-  went_round (Err _) deleted stopped = tt
+  went_round (Err _) deleted stopped missed = tt
 
   pub round_cause : (r : Result (Unit {0}) Setback) → IfErr r (λ e. StoppedFound observed pod p e mid new) → IfErr (round_of pod r) (λ e. RoundCause observed pod e old new)
   round_cause (Ok done) x = tt
@@ -289,8 +297,12 @@ wrong_elsewhere pod now old new p area extends exact t s k m = record {
 
 -- the rounds one after the other
 
+way_longer : (pod : PodId) (p : Phase) {me : ℕ} {a b c : List Event} → Grew b c → MissedOnItsWay pod p me a b → MissedOnItsWay pod p me a c
+way_longer pod p bc (inl at) = inl (at_part grown_none refl bc at)
+way_longer pod p bc (inr x) = inr (x.0, x.1, at_part grown_none refl bc x.2)
+
 missed_longer : {pod : PodId} {me : ℕ} {a b c : List Event} → FoundThenMissed pod me a b → Grew b c → FoundThenMissed pod me a c
-missed_longer f bc = record { between = f.between; phase = f.phase; area = f.area; removable = f.removable; read = f.read; missed = at_part grown_none refl bc f.missed }
+missed_longer {pod} f bc = record { between = f.between; phase = f.phase; area = f.area; removable = f.removable; read = f.read; missed = at_part grown_none refl bc f.missed; way = way_longer pod f.phase bc f.way }
 
 missed_first : (pod : PodId) (me : ℕ) (a b c : List Event) (n : ℕ) → FoundThenMissed pod me a b → MissedTimes n pod me b c → MissedTimes (suc n) pod me a c
 missed_first pod me a b c zero f m = (a, grown_none, missed_longer f m)
@@ -370,4 +382,6 @@ refused_later {observed} {now} {pod} {a} {b} e c t ab ready busy s k m =
 pub record Rounds (observed : Bool) (n : ℕ) (pod : PodId) (now : ℕ) (old new : DirAt) : Type 0 where
   pub worked : Worked observed (removes pod now) old new
   pub missed : observed ≡ true → MissedTimes n pod old.process old.trace new.trace
+  pub reads : ReadsAtMost n observed pod old new
+  pub kept : observed ≡ true → KeepsFolders old new
   pub ready : observed ≡ true → Stays (MayRemovePod pod now) old (λ s. KeepsReady s new)

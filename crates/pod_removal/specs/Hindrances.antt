@@ -16,6 +16,7 @@ use Rattle.dir_model.specs.Trees.{has_file}
 use Rattle.lifecycle.specs.PodMachine.{pod_phase, pod_owner}
 use Rattle.phase_read.specs.Read.{pod_spot}
 use Rattle.pod_claim.specs.Causes.{is_held_elsewhere}
+use Rattle.pod_steps.specs.Causes.{WasStray}
 use Rattle.pod_removal.specs.declared.error.RemoveError.{RemoveError}
 use Rattle.pod_removal.specs.declared.error.RemoveError.TheVariants.{DirFault, Stray, NoMemory}
 use Rattle.pod_removal.specs.Requests.{is_removable}
@@ -46,6 +47,6 @@ abbrev pub IsUnhinderedThroughout : PodId → ℕ → List Event → List Event 
 IsUnhinderedThroughout pod me old new = (before later rest : List Event) (step : Event) → before ≡ old ++ later → new ≡ (before ++ step ∷ []) ++ rest
     → is_foreign me step ≡ false → IsUnhindered pod me old (before ++ step ∷ [])
 
--- the directory failed or gave an answer that the locks don't explain, or memory ran out
-abbrev pub IsFailure : RemoveError → Type 0
-IsFailure error = (error ≡ DirFault) ⊎ ((error ≡ Stray) ⊎ (error ≡ NoMemory))
+-- the directory failed, memory ran out, or an own answer was one that what the locks keep doesn't explain
+abbrev pub IsFailure : RemoveError → ℕ → List Event → List Event → Type 0
+IsFailure error me old new = (error ≡ DirFault) ⊎ ((error ≡ NoMemory) ⊎ ((error ≡ Stray) × WasStray me old new))

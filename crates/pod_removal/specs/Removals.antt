@@ -22,9 +22,10 @@ use Rattle.pod_removal.specs.declared.error.RemoveError.{RemoveError}
 use Rattle.pod_removal.specs.declared.error.RemoveError.TheVariants.{NoPod, WrongPhase, NoManifest, Busy, DirFault, Stray}
 use Rattle.pod_steps.specs.declared.setback.Setback.{Setback}
 use Rattle.pod_steps.specs.declared.setback.Setback.TheVariants as setback
-use Rattle.pod_removal.specs.Requests.{is_removable}
+use Rattle.pod_removal.specs.Requests.{is_removable, aside, place_of}
+use Rattle.pod_removal.specs.Found.{PutAway}
 use Rattle.pod_removal.specs.Setbacks.{refusal}
-use Rattle.pod_steps.specs.Causes.{WasStray}
+use Rattle.pod_steps.specs.Causes.{IsAbsentAt, WasStray}
 use Rattle.pod_removal.specs.Causes.{MissedOnTheWay, IsDeleted, IsBusyAt}
 
 -- a place that is empty ends the round, and everything else that sets it back the removal
@@ -32,6 +33,11 @@ abbrev pub round_of : PodId → Result (Unit {0}) Setback → Result Round Remov
 round_of pod (Ok done) = Ok round.Removed
 round_of pod (Err setback.Missing) = Ok round.Missed
 round_of pod (Err stop) = Err (refusal pod stop)
+
+-- it was missing where it stood, or after it had been put aside there
+abbrev pub MissedOnItsWay : PodId → Phase → ℕ → List Event → List Event → Type 0
+MissedOnItsWay pod phase me old new =
+    AtOwnStep me old new (IsAbsentAt pod (place_of phase)) ⊎ ((moved : List Event) × PutAway pod phase me old moved × AtOwnStep me moved new (IsAbsentAt pod (aside phase)))
 
 -- a read found the pod in a phase that allows its removal, and later it was missing where it stood or was put aside
 pub record FoundThenMissed (pod : PodId) (me : ℕ) (old new : List Event) : Type 0 where
@@ -41,6 +47,7 @@ pub record FoundThenMissed (pod : PodId) (me : ℕ) (old new : List Event) : Typ
   pub removable : is_removable phase ≡ true
   pub read : IsReading me old between pod (At phase area)
   pub missed : AtOwnStep me between new (MissedOnTheWay pod phase)
+  pub way : MissedOnItsWay pod phase me between new
 
 -- that so often, one after the other
 abbrev pub MissedTimes : ℕ → PodId → ℕ → List Event → List Event → Type 0

@@ -3,6 +3,8 @@ ghost use Rattle.std.specs.Prelude.{◌≡◌, true, false, IfOk, IfErr};
 ghost use Rattle.dir_trait.specs.Local.{IsActive, has_own_open};
 ghost use Rattle.dir_trait.specs.Pods.{pod_text};
 ghost use Rattle.folder_building.specs.Work.{Worked};
+ghost use Rattle.folder_removal.specs.Removal.{KeepsFolders};
+ghost use Rattle.phase_read.specs.Often.{ReadsAtMost};
 ghost use Rattle.pod_removal.specs.Requests.{is_removable, aside, removes};
 ghost use Rattle.pod_steps.specs.Holding.{KeepsReady, Stays};
 ghost use Rattle.pod_removal.specs.Holding.{MayRemovePod};
@@ -65,6 +67,7 @@ fn put_away<D: Dir>(
 ) -> Result<(), Setback>
     requires active { IsActive (D.shown dir.old).local }
     ensures worked { Worked D.observed (removes pod now) (D.shown dir.old) (D.shown dir.new) }
+    ensures reads { ReadsAtMost 0 D.observed pod (D.shown dir.old) (D.shown dir.new) }
     ensures stopped { IfErr result (λ e. StoppedFound D.observed pod phase e (D.shown dir.old) (D.shown dir.new)) }
     ensures another { IfErr result (λ e. D.observed ≡ true → Stays (MayRemovePod pod now) (D.shown dir.old)
         (λ s. BusyAny pod e (D.shown dir.old) (D.shown dir.new))) }
@@ -72,6 +75,7 @@ fn put_away<D: Dir>(
     ensures missed { IfErr result (λ e. MissedHere D.observed pod phase e (D.shown dir.old) (D.shown dir.new)) }
     ensures refused { IfErr result (λ e. D.observed ≡ true → Stays (MayRemovePod pod now) (D.shown dir.old)
         (λ s. RefusedHere pod phase e (D.shown dir.old) (D.shown dir.new))) }
+    ensures kept { IfErr result (λ e. D.observed ≡ true → KeepsFolders (D.shown dir.old) (D.shown dir.new)) }
     ensures ready { D.observed ≡ true → Stays (MayRemovePod pod now) (D.shown dir.old) (λ s. KeepsReady s (D.shown dir.new)) }
 {
     match phase {
@@ -92,6 +96,7 @@ fn remove_found<D: Dir>(
 ) -> Result<(), Setback>
     requires active { IsActive (D.shown dir.old).local }
     ensures worked { Worked D.observed (removes pod now) (D.shown dir.old) (D.shown dir.new) }
+    ensures reads { ReadsAtMost 0 D.observed pod (D.shown dir.old) (D.shown dir.new) }
     ensures stopped { IfErr result (λ e. StoppedFound D.observed pod phase e (D.shown dir.old) (D.shown dir.new)) }
     ensures another { IfErr result (λ e. D.observed ≡ true → Stays (MayRemovePod pod now) (D.shown dir.old)
         (λ s. BusyAny pod e (D.shown dir.old) (D.shown dir.new))) }
@@ -101,6 +106,7 @@ fn remove_found<D: Dir>(
     ensures missed { IfErr result (λ e. MissedWhere D.observed pod phase e (D.shown dir.old) (D.shown dir.new)) }
     ensures refused { IfErr result (λ e. D.observed ≡ true → Stays (MayRemovePod pod now) (D.shown dir.old)
         (λ s. RefusedWhere pod phase e (D.shown dir.old) (D.shown dir.new))) }
+    ensures kept { IfErr result (λ e. D.observed ≡ true → KeepsFolders (D.shown dir.old) (D.shown dir.new)) }
     ensures ready { D.observed ≡ true → Stays (MayRemovePod pod now) (D.shown dir.old) (λ s. KeepsReady s (D.shown dir.new)) }
 {
     put_away(alloc, dir, pod, phase, now)?;
@@ -128,11 +134,13 @@ pub(crate) fn attempt<D: Dir>(
     requires active { IsActive (D.shown dir.old).local }
     requires alone { has_own_open (D.shown dir.old).local (pod_text pod.bytes) ≡ false }
     ensures worked { Worked D.observed (removes pod now) (D.shown dir.old) (D.shown dir.new) }
+    ensures reads { ReadsAtMost 1 D.observed pod (D.shown dir.old) (D.shown dir.new) }
     ensures went { IfOk result (λ round. D.observed ≡ true → WentRound pod round (D.shown dir.old) (D.shown dir.new)) }
     ensures cause { IfErr result (λ e. RoundCause D.observed pod e (D.shown dir.old) (D.shown dir.new)) }
     ensures another { IfErr result (λ e. D.observed ≡ true → Stays (MayRemovePod pod now) (D.shown dir.old) (λ s. RefusedByAnother pod e (D.shown dir.old) (D.shown dir.new))) }
     ensures round { IfOk result (λ round. D.observed ≡ true → RoundWent pod round (D.shown dir.old) (D.shown dir.new)) }
     ensures refused { IfErr result (λ e. D.observed ≡ true → Stays (MayRemovePod pod now) (D.shown dir.old) (λ s. RoundRefused pod e (D.shown dir.old) (D.shown dir.new))) }
+    ensures kept { IfErr result (λ e. D.observed ≡ true → KeepsFolders (D.shown dir.old) (D.shown dir.new)) }
     ensures ready { D.observed ≡ true → Stays (MayRemovePod pod now) (D.shown dir.old) (λ s. KeepsReady s (D.shown dir.new)) }
 {
     match read_phase(alloc, dir, pod) {

@@ -9,6 +9,8 @@ ghost use Rattle.dir_model.specs.State.{stands};
 ghost use Rattle.dir_trait.specs.DirCalls.{HeldBetween};
 ghost use Rattle.dir_trait.specs.Local.{IsActive};
 ghost use Rattle.folder_building.specs.Work.{Worked};
+ghost use Rattle.folder_removal.specs.Removal.{KeepsFolders};
+ghost use Rattle.phase_read.specs.Often.{ReadsAtMost};
 ghost use Rattle.phase_read.specs.Read.{pod_spot};
 ghost use Rattle.pod_removal.specs.Requests.{is_garbage_place, deletes_in, removes};
 ghost use Rattle.pod_steps.specs.Holding.{KeepsReady, Stays};
@@ -36,6 +38,7 @@ fn delete_standing<D: Dir>(
     ensures calm { IfErr result (λ e. (which : Which) → e ≡ Setback.Busy which → ⊥) }
     ensures done { IfOk result (λ done. D.observed ≡ true
         → Did (RemoveFolder (pod_spot pod area)) Done (D.shown dir.old).process (D.shown dir.old).trace (D.shown dir.new).trace) }
+    ensures kept { IfErr result (λ e. D.observed ≡ true → KeepsFolders (D.shown dir.old) (D.shown dir.new)) }
     ensures known { D.observed ≡ true → Stays (HasOwn pod area) (D.shown dir.old) (λ s. KeepsBut pod area s (D.shown dir.new)) }
 {
     match delete_folder(alloc, dir, pod_spot(pod, area)) {
@@ -62,6 +65,7 @@ fn delete_if_there<D: Dir>(
         → HeldBetween (D.shown dir.old) (D.shown dir.new) (λ s. stands s.namespace (pod_spot pod area) ≡ true)) }
     ensures done { IfOk result (λ done. D.observed ≡ true
         → Did (RemoveFolder (pod_spot pod area)) Done (D.shown dir.old).process (D.shown dir.old).trace (D.shown dir.new).trace) }
+    ensures kept { IfErr result (λ e. D.observed ≡ true → KeepsFolders (D.shown dir.old) (D.shown dir.new)) }
     ensures known { D.observed ≡ true → Stays (HasOwn pod area) (D.shown dir.old) (λ s. KeepsBut pod area s (D.shown dir.new)) }
 {
     match look(alloc, dir, pod_spot(pod, area)) {
@@ -85,6 +89,7 @@ pub fn delete_at<D: Dir>(
     requires active { IsActive (D.shown dir.old).local }
     requires garbage { is_garbage_place area ≡ true }
     ensures worked { Worked D.observed (removes pod now) (D.shown dir.old) (D.shown dir.new) }
+    ensures reads { ReadsAtMost 0 D.observed pod (D.shown dir.old) (D.shown dir.new) }
     ensures stopped { IfErr result (λ e. Stopped D.observed pod (IsAbsentAt pod area) e (D.shown dir.old) (D.shown dir.new)) }
     ensures another { IfErr result (λ e. D.observed ≡ true → Stays (MayRemove now) (D.shown dir.old)
         (λ s. BusyElsewhere pod area mode.Exclusive e (D.shown dir.old) (D.shown dir.new))) }
@@ -94,6 +99,7 @@ pub fn delete_at<D: Dir>(
     ensures free { IfOk result (λ done. FreeWhere D.observed pod area Own mode.Exclusive (D.shown dir.old) (D.shown dir.new)) }
     ensures looks { IfErr result (λ e. BusyByLooks D.observed pod area e (D.shown dir.old) (D.shown dir.new)) }
     ensures still { IfErr result (λ e. MissedUntaken D.observed e (D.shown dir.old) (D.shown dir.new)) }
+    ensures kept { IfErr result (λ e. D.observed ≡ true → KeepsFolders (D.shown dir.old) (D.shown dir.new)) }
     ensures ready { D.observed ≡ true → Stays (MayRemove now) (D.shown dir.old) (λ s. KeepsReady s (D.shown dir.new)) }
 {
     let own = take(alloc, dir, pod, area, Which::Own)?;

@@ -9,6 +9,7 @@ ghost use Rattle.dir_trait.specs.DirCalls.{ExtendsBy, LockToldBetween};
 ghost use Rattle.dir_trait.specs.Local.{IsActive};
 ghost use Rattle.dir_trait.specs.Knowledge.{OnlyLooks};
 ghost use Rattle.folder_building.specs.Work.{Worked};
+ghost use Rattle.phase_read.specs.Often.{ReadsAtMost};
 ghost use Rattle.phase_read.specs.Read.{pod_spot};
 ghost use Rattle.pod_steps.specs.Requests.{looks_at};
 ghost use Rattle.pod_removal.specs.Requests.{removes, puts_aside};
@@ -33,6 +34,7 @@ fn discard_under_claim<D: Dir>(
 ) -> Result<(), Setback>
     requires active { IsActive (D.shown dir.old).local }
     ensures worked { Worked D.observed (removes pod now) (D.shown dir.old) (D.shown dir.new) }
+    ensures reads { ReadsAtMost 0 D.observed pod (D.shown dir.old) (D.shown dir.new) }
     ensures stopped { IfErr result (λ e. Stopped D.observed pod (IsAbsentAt pod area.Prepared) e (D.shown dir.old) (D.shown dir.new)) }
     ensures another { IfErr result (λ e. D.observed ≡ true → Stays (UnderClaim pod now) (D.shown dir.old)
         (λ s. BusyInPrepared pod e (D.shown dir.old) (D.shown dir.new))) }
@@ -75,6 +77,7 @@ pub fn discard_prepared<D: Dir>(
 ) -> Result<(), Setback>
     requires active { IsActive (D.shown dir.old).local }
     ensures worked { Worked D.observed (removes pod now) (D.shown dir.old) (D.shown dir.new) }
+    ensures reads { ReadsAtMost 0 D.observed pod (D.shown dir.old) (D.shown dir.new) }
     ensures stopped { IfErr result (λ e. StoppedAlone D.observed pod e (D.shown dir.old) (D.shown dir.new)) }
     ensures another { IfErr result (λ e. D.observed ≡ true → Stays (MayDiscard pod now) (D.shown dir.old)
         (λ s. BusyInPrepared pod e (D.shown dir.old) (D.shown dir.new))) }

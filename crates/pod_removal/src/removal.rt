@@ -3,6 +3,8 @@ ghost use Rattle.std.specs.Prelude.{◌≡◌, true, false, IfOk, IfErr};
 ghost use Rattle.dir_trait.specs.Local.{IsActive, has_own_open};
 ghost use Rattle.dir_trait.specs.Pods.{pod_text};
 ghost use Rattle.folder_building.specs.Work.{Worked};
+ghost use Rattle.folder_removal.specs.Removal.{KeepsFolders};
+ghost use Rattle.phase_read.specs.Often.{ReadsAtMost};
 ghost use Rattle.pod_removal.specs.Requests.{removes};
 ghost use Rattle.pod_steps.specs.Holding.{KeepsReady, Stays};
 ghost use Rattle.pod_removal.specs.Holding.{MayRemovePod};
@@ -22,9 +24,11 @@ fn remove_later<D: Dir>(alloc: Global, dir: &mut D, pod: PodId, now: u64) -> Res
     requires active { IsActive (D.shown dir.old).local }
     requires alone { has_own_open (D.shown dir.old).local (pod_text pod.bytes) ≡ false }
     ensures worked { Worked D.observed (removes pod now) (D.shown dir.old) (D.shown dir.new) }
+    ensures reads { ReadsAtMost 5 D.observed pod (D.shown dir.old) (D.shown dir.new) }
     ensures removed { IfOk result (λ done. D.observed ≡ true → RemovedLater pod (D.shown dir.old) (D.shown dir.new)) }
     ensures cause { IfErr result (λ e. LaterCause D.observed pod e (D.shown dir.old) (D.shown dir.new)) }
     ensures another { IfErr result (λ e. D.observed ≡ true → Stays (MayRemovePod pod now) (D.shown dir.old) (λ s. RefusedByAnother pod e (D.shown dir.old) (D.shown dir.new))) }
+    ensures kept { IfErr result (λ e. D.observed ≡ true → KeepsFolders (D.shown dir.old) (D.shown dir.new)) }
     ensures ready { D.observed ≡ true → Stays (MayRemovePod pod now) (D.shown dir.old) (λ s. KeepsReady s (D.shown dir.new)) }
 {
     'rounds: for _round in 0..5u8 {
@@ -42,7 +46,7 @@ fn remove_later<D: Dir>(alloc: Global, dir: &mut D, pod: PodId, now: u64) -> Res
 /// read again, six times at most; a pod that was there at the first read and is gone at a later one is
 /// removed.
 ///
-/// Refused in this order, and then the pod is whole or in a garbage place. `NoPod` where there is none.
+/// Refused in this order, and then the pod is whole or in a garbage place, and no folder was deleted. `NoPod` where there is none.
 /// `WrongPhase` where it is an embryo, or another process makes, runs or deletes it. `NoManifest` where it stands in
 /// prepared without the file `pod`. `Busy` where another process holds its activation lock or its own.
 /// `Stray` where the directory's answers contradict each other or what a lock keeps. `DirFault` and
@@ -56,14 +60,17 @@ pub fn remove_pod<D: Dir>(
     requires active { IsActive (D.shown dir.old).local }
     requires alone { has_own_open (D.shown dir.old).local (pod_text pod.bytes) ≡ false }
     ensures worked { Worked D.observed (removes pod now) (D.shown dir.old) (D.shown dir.new) }
+    ensures reads { ReadsAtMost 6 D.observed pod (D.shown dir.old) (D.shown dir.new) }
     ensures removed { IfOk result (λ done. D.observed ≡ true → RemovedBetween pod (D.shown dir.old) (D.shown dir.new)) }
     ensures cause { IfErr result (λ e. RemoveCause D.observed pod e (D.shown dir.old) (D.shown dir.new)) }
     ensures another { IfErr result (λ e. D.observed ≡ true → Stays (MayRemovePod pod now) (D.shown dir.old) (λ s. RefusedByAnother pod e (D.shown dir.old) (D.shown dir.new))) }
     ensures first { IfOk result (λ done. D.observed ≡ true → RemovedFirst pod (D.shown dir.old) (D.shown dir.new)) }
     ensures refused { IfErr result (λ e. D.observed ≡ true → Stays (MayRemovePod pod now) (D.shown dir.old) (λ s. RefusedFirst pod e (D.shown dir.old) (D.shown dir.new))) }
+    ensures kept { IfErr result (λ e. D.observed ≡ true → KeepsFolders (D.shown dir.old) (D.shown dir.new)) }
     ensures ready { D.observed ≡ true → Stays (MayRemovePod pod now) (D.shown dir.old) (λ s. KeepsReady s (D.shown dir.new)) }
     ensures complete { IfErr result (λ e. D.observed ≡ true → Stays (MayRemovePod pod now) (D.shown dir.old) (λ s. IsConforming (D.shown dir.new).trace
-        → IsUnhinderedThroughout pod (D.shown dir.old).process (D.shown dir.old).trace (D.shown dir.new).trace → IsFailure e)) }
+        → IsUnhinderedThroughout pod (D.shown dir.old).process (D.shown dir.old).trace (D.shown dir.new).trace
+        → IsFailure e (D.shown dir.old).process (D.shown dir.old).trace (D.shown dir.new).trace)) }
 {
     match attempt(alloc, dir, pod, now)? {
         Round::Gone => Err(RemoveError::NoPod),

@@ -9,16 +9,18 @@ use Rattle.command_outcomes.specs.declared.refusal.Refusal.TheVariants.{Usage, S
 use Rattle.command_outcomes.specs.declared.told.Told.{Told}
 use Rattle.command_outcomes.specs.Moments.{Inside, Outside, SpawnerSeen, Moment, Answer, outcome_of, is_well}
 use Rattle.command_outcomes.specs.Texts.{status_of}
-use Rattle.pod_commands.specs.Prepare.{pod_line}
-use Rattle.run_commands.specs.Ends.{app_lines}
-use Rattle.run_commands.specs.RunPrepared.{RunPreparedSays}
-use Rattle.run_commands.specs.Refusals.{claim_refusal}
-use Rattle.run_commands.specs.Run.{NewRunSays, RunIsTold}
+use Rattle.commands.specs.Prepare.{pod_line}
+use Rattle.commands.specs.AppEnds.{app_lines}
+use Rattle.commands.specs.RunPrepared.{RunPreparedSays}
+use Rattle.commands.specs.RunRefusals.{claim_refusal}
+use Rattle.commands.specs.Run.{NewRunSays, RunIsTold}
 use Rattle.rkt_cli.specs.declared.line.Line.{Line}
 use Rattle.rkt_cli.specs.declared.line.Line.TheVariants.{RunPrepared, Run}
+use Rattle.commands.specs.Answers.{Complained, inside_in}
+use Rattle.commands.specs.AppsTold.{well_status, TellsApps}
 use Rattle.rkt_cli.specs.Commands.{runs_apps, intent_of}
+use Rattle.rkt_cli.specs.Runs.{AppsIn, End, Unwritten, Printed, Reported, end_status, end_of_writing, status_at, RunOfLine, RunOfNothing, RunOf, RunIs}
 use Rattle.rkt_cli.specs.Spawns.{CameBetween}
-use Rattle.rkt_cli.specs.Runs.{End, Unwritten, Printed, Reported, Complained, end_status, end_of_writing, status_at, well_status, TellsRun, TellsApps, RunOfLine, RunOfNothing, RunOf, RunIs, inside_in}
 use Rattle.rkt_cli.proofs.Ends.{absurd_number, refusal_plain}
 use Rattle.rkt_cli.proofs.Grades.{unhurt_line}
 
@@ -69,7 +71,7 @@ never_sixteen (Some line) now draw old new plain {X} (inl r) is = by r.end (sym 
 -- what a command told that starts apps
 module _ (line : Line) (now : ℕ) (draw : Draw) (old new : Moment) where
   abbrev Tells : ℕ → Type 0
-  Tells status = TellsRun line now draw status (inside_in old) (inside_in new) old.out new.out old.err new.err
+  Tells status = TellsApps (CameBetween line now draw (intent_of line now draw) (inside_in old) (inside_in new)) status old new
 
   abbrev Comes : Answer → Type 0
   Comes answer = CameBetween line now draw (intent_of line now draw) (inside_in old) (inside_in new) answer
@@ -114,7 +116,7 @@ spawns (Ok told) is = cc
 spawns (Err r) is = let same : r ≡ SpawnFault = cc in subst (λ (x : Refusal). IsErrOf {T = Told} (Err x) SpawnFault) (sym same) refl
 
 abbrev Apps : Option Line → ℕ → Draw → Moment → Moment → ℕ → Type 0
-Apps l now draw old new status = TellsApps l now draw status (inside_in old) (inside_in new) old.out new.out old.err new.err
+Apps l now draw old new status = AppsIn l now draw status old new
 
 -- the status that a writing ends with, which is 16 only where apps ran
 graded_end : (runs : Bool) (answer : Answer) (end : Result Bool Refusal) → (runs ≡ false → is_well answer ≡ true) → IfOk end (λ well. well ≡ is_well answer) → (status_at end ≡ end_status (end_of_writing end)) ⊎ ((status_at end ≡ 16) × (end_status (end_of_writing end) ≡ 0) × (runs ≡ true))

@@ -12,11 +12,12 @@ use Rattle.command_outcomes.specs.declared.refusal.Refusal.TheVariants.{NoMemory
 use Rattle.command_outcomes.specs.Texts.{status_of}
 use Rattle.command_outcomes.specs.Moments.{Moment, Outcome}
 use Rattle.command_outcomes.specs.Conforming.{shown_at}
-use Rattle.store_commands.specs.ImageImport.{import_refusal, source_of, RefusesImage}
+use Rattle.commands.specs.ImageImport.{import_refusal, source_of, RefusesImage}
+use Rattle.commands.specs.Answers.{IsAnswer}
+use Rattle.commands.specs.ImageImportCommand.{IsBundleJudgement}
 use Rattle.rkt_cli.specs.Commands.{intent_of}
 use Rattle.rkt_cli.specs.Runs.{Performs, End, Printed, Reported, end_status}
-use Rattle.rkt_cli.specs.Statuses.{IsAnswer, IsBundleJudgement}
-use Rattle.store_commands.proofs.ImageImports.{is_memory}
+use Rattle.commands.proofs.ImageImports.{is_memory}
 use Rattle.rkt_cli.proofs.Imports.{import_printed, import_refused}
 
 memory_is : (r : Refusal) → is_memory r ≡ true → r ≡ NoMemory

@@ -1,5 +1,5 @@
 -- A removal that nothing hinders is done, or something failed; and a pod that is free is claimed, unless something fails.
-use Rattle.std.proofs.Common.{◌≡◌, ◌⊎◌, inl, inr, ℕ, true, false, Option, Some, None, List, [], ◌∷◌, ◌++◌, Ok, Err, refl, sym, ap, subst, ◌∙◌, append_assoc}
+use Rattle.std.proofs.Common.{◌≡◌, ◌⊎◌, inl, inr, ℕ, true, false, Some, List, [], ◌∷◌, ◌++◌, Ok, Err, refl, sym, ap, subst, ◌∙◌, append_assoc}
 use Rattle.dir_model.specs.declared.intent.Draw.{Draw}
 use Rattle.dir_model.specs.declared.event.Event.{Event}
 use Rattle.dir_model.specs.declared.intent.Intent.{Intent}
@@ -18,25 +18,27 @@ use Rattle.pod_removal.specs.Hindrances.{IsUnhinderedThroughout}
 use Rattle.command_outcomes.specs.declared.refusal.Refusal.{Refusal}
 use Rattle.command_outcomes.specs.declared.refusal.Refusal.TheVariants.{Usage, DirFault, BundleFault, OutFault, NoMemory, Stray}
 use Rattle.command_outcomes.specs.Texts.{status_of}
-use Rattle.command_outcomes.specs.Conforming.{begun, shown_at}
-use Rattle.command_outcomes.specs.Conforming.{begun as just_begun}
+use Rattle.command_outcomes.specs.Conforming.{begun, shown_at, begun as just_begun}
 use Rattle.command_outcomes.specs.Moments.{Moment, Inside, Answer, Outcome, SinkSeen, outcome_of}
-use Rattle.run_commands.specs.Refusals.{claim_refusal, run_refusal, IsRunSaid}
-use Rattle.run_commands.specs.RunPrepared.{ClaimsAndRuns, IsUnclaimed}
-use Rattle.run_commands.specs.Runs.{RunSays}
-use Rattle.run_commands.proofs.Claimed.{may_begin}
-use Rattle.run_commands.proofs.RunRefused.{same_refusal}
-use Rattle.removal_commands.specs.Rm.{rm_refusal, is_failure}
-use Rattle.removal_commands.proofs.Unhindered.{rm_complete, fails_alone}
-use Rattle.rkt_cli.specs.declared.line.Line.{Line}
+use Rattle.commands.specs.RunRefusals.{claim_refusal, run_refusal, IsRunSaid}
+use Rattle.commands.specs.RunPrepared.{ClaimsAndRuns, IsUnclaimed}
+use Rattle.commands.specs.AppRuns.{RunSays}
+use Rattle.commands.proofs.Claimed.{may_begin}
+use Rattle.commands.proofs.RunRefused.{same_refusal}
+use Rattle.commands.specs.Rm.{rm_refusal, FailsFor}
+use Rattle.commands.proofs.Unhindered.{rm_complete, fails_alone}
 use Rattle.rkt_cli.specs.declared.line.Line.TheVariants.{RunPrepared, Rm}
-use Rattle.rkt_cli.specs.Commands.{may, intent_for, intent_of}
+use Rattle.commands.specs.Answers.{inside_in}
+use Rattle.commands.specs.Command.{intent_for}
+use Rattle.commands.specs.RmCommand.{is_removal_end, EndsUnhindered}
+use Rattle.pod_steps.specs.Causes.{WasStray}
+use Rattle.rkt_cli.proofs.Removals.{meanwhile}
+use Rattle.commands.specs.RunPreparedCommand.{is_unfree_status}
+use Rattle.rkt_cli.specs.Commands.{may, intent_of}
+use Rattle.rkt_cli.specs.Runs.{End, InProcess, Performs, Printed, Unwritten, Graded, RunOf, end_status}
 use Rattle.rkt_cli.specs.Spawns.{CameBetween}
 use Rattle.rkt_cli.proofs.RunsQuiet.{finish_ext, seen, me_is, first, to_is, knows_there}
-use Rattle.rkt_cli.specs.Runs.{End, InProcess, Performs, Printed, Unwritten, Graded, RunIs, RunOf, end_status, inside_in}
-use Rattle.rkt_cli.specs.Histories.{is_removal_end, is_unfree_status, IsComplete}
 use Rattle.rkt_cli.proofs.Conforming.{begun_knows}
-use Rattle.rkt_cli.proofs.Grades.{unhurt}
 use Rattle.rkt_cli.proofs.PodRemovals.{rm_intent, begun_removes}
 use Rattle.rkt_cli.proofs.Sessions.{begin_part, finish_part}
 
@@ -49,35 +51,38 @@ rm_known pod Usage known = cc
 rm_known pod OutFault known = cc
 rm_known pod r known = known
 
-failed : (r : Refusal) → is_failure r ≡ true → is_removal_end (status_of r) ≡ true
-failed DirFault is = refl
-failed Stray is = refl
-failed NoMemory is = refl
-failed r is = cc
-
 unwritten : (r : Refusal) (old new : SinkSeen) → Unwritten r old new → is_removal_end (status_of r) ≡ true
 unwritten r old new (inl x) = ap (λ (e : Refusal). is_removal_end (status_of e)) x.0
 unwritten r old new (inr x) = ap (λ (e : Refusal). is_removal_end (status_of e)) x.0
 
 module _ (pod : PodId) (now : ℕ) (draw : Draw) (old new : Moment) (t : old.outside.dir.observed ≡ true) (conforms : IsConforming new.outside.dir.trace)
     (free : IsUnhinderedThroughout pod old.outside.dir.process old.outside.dir.trace new.outside.dir.trace) where
-  refused : (r : Refusal) → InProcess (Rm pod) now draw (rm_intent pod now draw) old.outside new.outside (Err r) → is_failure r ≡ true
+  abbrev Ends : ℕ → Type 0
+  Ends status = EndsUnhindered status old.outside.dir new.outside.dir
+
+  refused : (r : Refusal) (s : InProcess (Rm pod) now draw (rm_intent pod now draw) old.outside new.outside (Err r)) → FailsFor r s.begun.dir.process s.begun.dir.trace s.ended.dir.trace
   refused r s =
       let me = s.begun.dir.process in
       let first : Extends is_begin me old.outside.dir.trace s.begun.dir.trace = subst (λ (p : ℕ). Extends is_begin p old.outside.dir.trace s.begun.dir.trace) (sym s.me) (begin_part s t is_begin refl) in
       let last : Extends is_finish me s.ended.dir.trace new.outside.dir.trace = subst (λ (p : ℕ). Extends is_finish p s.ended.dir.trace new.outside.dir.trace) (sym s.me) (finish_part s t is_finish refl) in
-      let alone = rm_complete pod now s.begun.dir s.ended.dir r (rm_known pod r s.ran.refusals) s.ran.says (s.told ∙ t) (begun (rm_intent pod now draw)) (begun_knows s t) (begun_removes pod now draw) in
+      let alone = rm_complete pod now s.begun.dir s.ended.dir r (rm_known pod r s.ran.refusals) s.ran.says.0 (s.told ∙ t) (begun (rm_intent pod now draw)) (begun_knows s t) (begun_removes pod now draw) in
       fails_alone pod r old.outside.dir s.begun.dir s.ended.dir new.outside.dir first last s.me alone conforms free
 
-  ended : (o : Outcome) (end : End) → Performs (Rm pod) now draw (intent_of (Rm pod) now draw) old.outside new.outside o → Printed o old.out new.out end → is_removal_end (end_status end) ≡ true
-  ended (Ok text) (Ok done) performs printed = refl
-  ended (Ok text) (Err r) performs printed = unwritten r old.out new.out (printed.cause text refl)
-  ended (Err r) end (inl s) printed = ap (λ (e : End). is_removal_end (end_status e)) printed.refused.0 ∙ failed r (refused r s)
-  ended (Err r) end (inr n) printed = ap (λ (e : End). is_removal_end (end_status e)) printed.refused.0 ∙ (let same : r ≡ NoMemory = (let e : ◌≡◌ {A = Outcome} (Err r) (Err NoMemory) = n.is in cc) in ap (λ (e : Refusal). is_removal_end (status_of e)) same)
+  failed : (r : Refusal) (s : InProcess (Rm pod) now draw (rm_intent pod now draw) old.outside new.outside (Err r)) → FailsFor r s.begun.dir.process s.begun.dir.trace s.ended.dir.trace → Ends (status_of r)
+  failed DirFault s is = inl refl
+  failed NoMemory s is = inl refl
+  failed Stray s is = inr (refl, meanwhile WasStray s t is)
+  failed r s is = absurd is
 
-  plainly : (plain : ℕ) → RunOf (Some (Rm pod)) now draw old new plain → is_removal_end plain ≡ true
-  plainly plain (inl r) = ap is_removal_end r.is ∙ ended r.outcome r.end r.performs r.printed
-  plainly plain (inr n) = ap is_removal_end n.is
+  ended : (o : Outcome) (end : End) → Performs (Rm pod) now draw (intent_of (Rm pod) now draw) old.outside new.outside o → Printed o old.out new.out end → Ends (end_status end)
+  ended (Ok text) (Ok done) performs printed = inl refl
+  ended (Ok text) (Err r) performs printed = inl (unwritten r old.out new.out (printed.cause text refl))
+  ended (Err r) end (inl s) printed = subst (λ (e : End). Ends (end_status e)) (sym printed.refused.0) (failed r s (refused r s))
+  ended (Err r) end (inr n) printed = subst (λ (e : End). Ends (end_status e)) (sym printed.refused.0) (let same : r ≡ NoMemory = (let e : ◌≡◌ {A = Outcome} (Err r) (Err NoMemory) = n.is in cc) in subst (λ (e : Refusal). Ends (status_of e)) (sym same) (inl refl))
+
+  pub rm_ends : (plain : ℕ) → RunOf (Some (Rm pod)) now draw old new plain → Ends plain
+  rm_ends plain (inl r) = subst Ends (sym r.is) (ended r.outcome r.end r.performs r.printed)
+  rm_ends plain (inr n) = subst Ends (sym n.is) (inl refl)
 
 -- a claim of a pod that is free throughout isn't refused but by a failure
 claim_apart : (pod : PodId) (error : ClaimError) → IsFailure error → is_unfree_status (status_of (claim_refusal pod error)) ≡ false
@@ -156,8 +161,6 @@ module _ (pod : PodId) (now : ℕ) (draw : Draw) (old new : Moment) (t : old.out
   graded_apart plain status (inl same) apart = ap is_unfree_status same ∙ apart
   graded_apart plain status (inr x) apart = ap is_unfree_status x.0
 
-pub completes : (l : Option Line) (now : ℕ) (draw : Draw) (old new : Moment) (status : ℕ) → RunIs l now draw old new status → old.outside.dir.observed ≡ true → IsComplete l status old.outside.dir new.outside.dir
-completes None now draw old new status run t = tt
-completes (Some (Rm pod)) now draw old new status run t = λ conforms free. ap is_removal_end (unhurt (Some (Rm pod)) run.plain status run.is refl) ∙ plainly pod now draw old new t conforms free run.plain run.ran
-completes (Some (RunPrepared pod)) now draw old new status run t = λ conforms free. graded_apart pod now draw old new t conforms free run.plain status run.is (run_plainly pod now draw old new t conforms free run.plain run.ran)
-completes (Some line) now draw old new status run t = tt
+pub claim_ends : (pod : PodId) (now : ℕ) (draw : Draw) (old new : Moment) → old.outside.dir.observed ≡ true → IsConforming new.outside.dir.trace → IsFreeThroughout pod (shown_at old.outside.dir) (shown_at new.outside.dir) →
+    (plain status : ℕ) → Graded (Some (RunPrepared pod)) plain status → RunOf (Some (RunPrepared pod)) now draw old new plain → is_unfree_status status ≡ false
+claim_ends pod now draw old new t conforms free plain status graded ran = graded_apart pod now draw old new t conforms free plain status graded (run_plainly pod now draw old new t conforms free plain ran)

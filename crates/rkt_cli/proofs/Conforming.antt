@@ -53,7 +53,7 @@ module _ (line : Line) (now : ℕ) (draw : Draw) (old new : Outside) (o : Outcom
   never_keeps : (intent : Intent) → NeverBegan intent old new o → KeepsConforming old.dir new.dir
   never_keeps intent n before = ap (λ (f : Seen). f.kept) (refused_unseen (n.step t)) ∙ before
 
-  performed_keeps : (i : Option Intent) → Performs line now draw i old new o → KeepsConforming old.dir new.dir
+  pub performed_keeps : (i : Option Intent) → Performs line now draw i old new o → KeepsConforming old.dir new.dir
   performed_keeps None p before = subst (λ (d : DirSeen). Conforms old.dir.process d.trace) (sym p.dir) before
   performed_keeps (Some intent) (inl s) before = begun_keeps intent s before
   performed_keeps (Some intent) (inr n) before = never_keeps intent n before

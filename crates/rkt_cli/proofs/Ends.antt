@@ -11,8 +11,8 @@ use Rattle.command_outcomes.specs.declared.refusal.Refusal.TheVariants.{Usage, N
 use Rattle.command_outcomes.specs.Texts.{status_of}
 use Rattle.command_outcomes.specs.Moments.{SinkSeen, Outcome}
 use Rattle.rkt_cli.specs.Commands.{may}
+use Rattle.rkt_cli.specs.Promises.{IsStatus}
 use Rattle.rkt_cli.specs.Runs.{End, Unwritten, Printed, end_status}
-use Rattle.rkt_cli.specs.Statuses.{IsStatus}
 
 pub absurd_number : {X : Type 0} → (m n : ℕ) → m ≡ n → (m == n) ≡ false → X
 absurd_number m n h apart = absurd (grind (arith, nat_tests))

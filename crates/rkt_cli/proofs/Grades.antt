@@ -6,9 +6,9 @@ use Rattle.rkt_cli.specs.declared.line.Line.{Line}
 use Rattle.rkt_cli.specs.declared.line.Line.TheVariants.{RunPrepared, Run}
 use Rattle.command_outcomes.specs.Moments.{Inside, Answer, is_well}
 use Rattle.rkt_cli.specs.Commands.{runs_apps, runs_apps_in}
-use Rattle.rkt_cli.specs.Spawns.{CameBetween}
+use Rattle.rkt_cli.specs.Promises.{IsStatus, IsDone}
 use Rattle.rkt_cli.specs.Runs.{Graded}
-use Rattle.rkt_cli.specs.Statuses.{IsStatus, IsDone}
+use Rattle.rkt_cli.specs.Spawns.{CameBetween}
 use Rattle.rkt_cli.proofs.Ends.{absurd_number}
 
 module _ (l : Option Line) (plain status : ℕ) where

@@ -6,7 +6,7 @@ use Rattle.ac_types.specs.declared.fault.FaultKind.TheVariants.{TooLong}
 use Rattle.ac_types.specs.Outcomes.{fails}
 use Rattle.manifests.specs.DocumentData.{any_manifest}
 use Rattle.manifest_parts.specs.DocumentForm.{document}
-use Rattle.rkt_cli.specs.Validate.{file_outcome, manifest_outcome, most_read}
+use Rattle.commands.specs.Validate.{file_outcome, manifest_outcome, most_read}
 
 too_long : (bytes : List ℕ) → nat_le (length bytes) 1048576 ≡ false → any_manifest bytes ≡ fails (codes "$") TooLong
 unfolding any_manifest document

@@ -1,6 +1,5 @@
 pub mod Words
 pub mod Judged
-pub mod Files
 pub mod Ends
 pub mod Sessions
 pub mod Outcomes
@@ -11,7 +10,11 @@ pub mod Makers
 pub mod RunsQuiet
 pub mod PodRemovals
 pub mod AppsRan
-pub mod Statuses
+pub mod Promises
+pub mod Causes
+pub mod Lawful
+pub mod Tellings
+pub mod ValidateRan
 pub mod QuietRun
 pub mod Completing
 pub mod Conforming
@@ -22,5 +25,4 @@ pub mod PodKept
 pub mod PodLeft
 pub mod Imports
 pub mod BundleJudged
-pub mod Histories
 pub mod Removals

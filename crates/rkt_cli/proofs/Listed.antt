@@ -12,9 +12,9 @@ use Rattle.rkt_cli.specs.declared.line.Line.TheVariants.{ImageList}
 use Rattle.command_outcomes.specs.declared.refusal.Refusal.TheVariants.{Busy, Damaged}
 use Rattle.command_outcomes.specs.Moments.{Outside, Outcome}
 use Rattle.command_outcomes.specs.Conforming.{shown_at, begun}
-use Rattle.store_commands.specs.ImageList.{ListsStore, LacksPart, IsHeldElsewhere}
+use Rattle.commands.specs.ImageList.{ListsStore, LacksPart, IsHeldElsewhere}
 use Rattle.rkt_cli.specs.Runs.{InProcess, Performs}
-use Rattle.store_commands.proofs.Parts.{Part, held_wider, store_wider, lacks_wider}
+use Rattle.commands.proofs.Parts.{Part, held_wider, store_wider, lacks_wider}
 use Rattle.rkt_cli.proofs.Sessions.{any_call, begin_part, finish_part}
 use Rattle.rkt_cli.proofs.Conforming.{begun_knows}
 

@@ -33,12 +33,13 @@ use Rattle.pod_making.specs.Handovers.{is_handed_to, hands_over, BeforeHandingOv
 use Rattle.pod_making.proofs.Handing.{HandsNothingOver, none_handed, nothing_handed, handed_after, handed_before, follow_on, run_until}
 use Rattle.pod_build.specs.FaithfulBuild.{IsFaithfulBuild, HandsOverFaithfully}
 use Rattle.pod_build.specs.Preparations.{Began, MakesFaithfully}
-use Rattle.store_commands.specs.ImageList.{lists_images}
-use Rattle.removal_commands.proofs.LateTurns.{or_false, or_either}
-use Rattle.run_commands.specs.RunPrepared.{runs_prepared}
+use Rattle.commands.specs.ImageList.{lists_images}
+use Rattle.commands.proofs.LateTurns.{or_false, or_either}
+use Rattle.commands.specs.RunPrepared.{runs_prepared}
 use Rattle.rkt_cli.specs.declared.line.Line.{Line}
 use Rattle.rkt_cli.specs.declared.line.Line.TheVariants.{Prepare as PrepareLine, Run as RunLine}
-use Rattle.rkt_cli.specs.Commands.{intent_for, intent_of}
+use Rattle.commands.specs.Command.{intent_for}
+use Rattle.rkt_cli.specs.Commands.{intent_of}
 use Rattle.rkt_cli.specs.Histories.{HandsOver, WhereKnown}
 use Rattle.rkt_cli.proofs.PodRan.{prepares}
 

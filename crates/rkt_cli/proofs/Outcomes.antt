@@ -1,28 +1,26 @@
 -- What a command came to, whatever it is.
-use Rattle.std.proofs.Common.{arith, ◌≡◌, ◌⊎◌, inl, inr, ℕ, true, false, List, ◌++◌, take, Option, Some, None, option_map, Ok, Err, IsOk, IsErrOf, IfErr, refl, sym, ap, subst, ◌∙◌}
+use Rattle.std.proofs.Common.{arith, ◌≡◌, ◌⊎◌, inl, inr, ℕ, true, false, List, ◌++◌, Option, Some, None, Ok, Err, IsOk, IsErrOf, IfErr, refl, sym, ap, subst, ◌∙◌}
 use Rattle.dir_model.specs.declared.intent.Draw.{Draw}
 use Rattle.dir_model.specs.declared.intent.Intent.{Intent}
 use Rattle.dir_model.specs.Causes.{Rose}
 use Rattle.dir_trait.specs.Bundles.{file_bytes}
-use Rattle.ac_types.specs.FaultNumbers.{number_of}
-use Rattle.ac_types.specs.declared.fault.FaultKind.{FaultKind}
 use Rattle.ac_types.specs.Outcomes.{reads, fails}
 use Rattle.ac_types.specs.Outcomes as reading
 use Rattle.manifests.specs.DocumentData.{DocumentData, any_manifest}
 use Rattle.rkt_cli.specs.declared.line.Line.{Line}
 use Rattle.rkt_cli.specs.declared.line.Line.TheVariants.{Validate}
 use Rattle.command_outcomes.specs.declared.refusal.Refusal.{Refusal}
-use Rattle.command_outcomes.specs.declared.refusal.Refusal.TheVariants.{BadManifest, DirFault, BundleFault, NoMemory, NoFile}
+use Rattle.command_outcomes.specs.declared.refusal.Refusal.TheVariants.{DirFault, BundleFault, NoMemory}
 use Rattle.command_outcomes.specs.Texts.{status_of}
-use Rattle.rkt_cli.specs.Texts.{valid_text}
-use Rattle.command_outcomes.specs.Moments.{Outside, Moment, BundleSeen, SinkSeen, Outcome}
+use Rattle.commands.specs.Texts.{valid_text}
+use Rattle.command_outcomes.specs.Moments.{Outside, Moment, BundleSeen, Outcome}
 use Rattle.command_outcomes.proofs.Seen.{rose_wider}
 use Rattle.command_outcomes.specs.Ends.{is_own_end}
-use Rattle.rkt_cli.specs.Validate.{ValidateSays, file_outcome, manifest_outcome, most_read, sequential_validate}
+use Rattle.commands.specs.Validate.{ValidateSays, file_outcome, manifest_outcome, sequential_validate}
+use Rattle.commands.specs.Answers.{IsAnswer}
 use Rattle.rkt_cli.specs.Commands.{may}
-use Rattle.rkt_cli.specs.Runs.{Performs, Complained, End, Unwritten, Printed, Reported, end_status}
-use Rattle.rkt_cli.specs.Statuses.{IsUnreadable, IsAnswer}
-use Rattle.rkt_cli.proofs.Judged.{judged_so, judged_whole}
+use Rattle.rkt_cli.specs.Runs.{Performs, End, Unwritten, Printed, Reported, end_status}
+use Rattle.rkt_cli.proofs.Judged.{judged_whole}
 
 pub rose_between : (a b c d : ℕ) → b ≡ a → Rose b c → d ≡ c → Rose a d
 rose_between a b c d ba rose dc = omega arith
@@ -78,41 +76,3 @@ manifest_prints (fails path kind) text is = cc
 pub file_prints : (path : List ℕ) (found : Option (List ℕ)) (text : List ℕ) → Ok text ≡ file_outcome path found → (manifest : DocumentData) × (text ≡ valid_text manifest)
 file_prints path None text is = cc
 file_prints path (Some bytes) text is = manifest_prints (any_manifest bytes) text is
-
-fault_of : (judged : reading.Outcome DocumentData) (path : List ℕ) (number : ℕ) → Err (BadManifest path number) ≡ manifest_outcome judged → (kind : FaultKind) × (judged ≡ fails path kind) × (number ≡ number_of kind)
-fault_of (reads manifest) path number is = cc
-fault_of (fails at kind) path number is =
-    (kind, let e : at ≡ path = cc in ap (λ (p : List ℕ). fails p kind) e, let e : number ≡ number_of kind = cc in e)
-
-whole_file : (bytes : List ℕ) (file : Option (List ℕ)) → Some bytes ≡ option_map (take most_read) file → (whole : List ℕ) × (file ≡ Some whole) × (any_manifest whole ≡ any_manifest bytes)
-whole_file bytes None is = cc
-whole_file bytes (Some whole) is = (whole, refl, let e : bytes ≡ take most_read whole = cc in sym (ap any_manifest e ∙ judged_so whole))
-
-pub unreadable : (path at : List ℕ) (number : ℕ) (bundle : BundleSeen) (old new : SinkSeen) → ValidateSays path bundle (Err (BadManifest at number)) → Complained (BadManifest at number) old new → IsUnreadable path bundle old new
-unreadable path at number bundle old new d said = by d.found d.told d.is
-  where
-    by : (found : Option (List ℕ)) → (bundle.observed ≡ true → found ≡ option_map (take most_read) (file_bytes (bundle.tree path))) → Err (BadManifest at number) ≡ file_outcome path found → IsUnreadable path bundle old new
-    by None told is = cc
-    by (Some bytes) told is =
-        let f = fault_of (any_manifest bytes) at number is in
-        record {
-          at = at;
-          kind = f.0;
-          file = λ t. let w = whole_file bytes (file_bytes (bundle.tree path)) (told t) in (w.0, w.1, w.2 ∙ f.1);
-          said = subst (λ (n : ℕ). Complained (BadManifest at n) old new) f.2 said;
-        }
-
-no_judgement : (judged : reading.Outcome DocumentData) (path : List ℕ) {X : Type 0} → Err (NoFile path) ≡ manifest_outcome judged → X
-no_judgement (reads manifest) path is = cc
-no_judgement (fails at kind) path is = cc
-
-none_there : (file : Option (List ℕ)) → None ≡ option_map (take most_read) file → file ≡ None
-none_there None is = refl
-none_there (Some bytes) is = cc
-
-pub no_such_file : (path named : List ℕ) (bundle : BundleSeen) (old new : SinkSeen) → ValidateSays path bundle (Err (NoFile named)) → Complained (NoFile named) old new → (bundle.observed ≡ true → file_bytes (bundle.tree path) ≡ None) × Complained (NoFile path) old new
-no_such_file path named bundle old new d said = by d.found d.told d.is
-  where
-    by : (found : Option (List ℕ)) → (bundle.observed ≡ true → found ≡ option_map (take most_read) (file_bytes (bundle.tree path))) → Err (NoFile named) ≡ file_outcome path found → (bundle.observed ≡ true → file_bytes (bundle.tree path) ≡ None) × Complained (NoFile path) old new
-    by None told is = (λ t. none_there (file_bytes (bundle.tree path)) (told t), let e : named ≡ path = cc in subst (λ (p : List ℕ). Complained (NoFile p) old new) e said)
-    by (Some bytes) told is = no_judgement (any_manifest bytes) named is

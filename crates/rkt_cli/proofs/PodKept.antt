@@ -25,9 +25,9 @@ use Rattle.folder_contents.proofs.Spots.{one_location}
 use Rattle.folder_contents.proofs.Unmoved.{unmoved}
 use Rattle.pod_making.specs.Requests.{pod_at}
 use Rattle.pod_build.specs.Preparations.{IsPrepared}
-use Rattle.pod_commands.specs.Prepare.{prepares_pod, no_wishes}
-use Rattle.pod_commands.specs.Quiet.{StandsPrepared}
-use Rattle.store_commands.proofs.RemovalQuiet.{in_process}
+use Rattle.commands.specs.Prepare.{prepares_pod, no_wishes}
+use Rattle.commands.specs.PrepareQuiet.{StandsPrepared}
+use Rattle.commands.proofs.RemovalQuiet.{in_process}
 
 module _ (draw : PodId) where
   abbrev spot : Spot

@@ -1,22 +1,21 @@
 -- What `prepare` left and `gc` did, by their own answers and status.
-use Rattle.std.proofs.Common.{◌≡◌, ◌⊎◌, inl, inr, ℕ, true, false, ◌||◌, ◌==◌, List, Option, Some, None, Ok, Err, refl, sym, ap, subst, ◌∙◌}
+use Rattle.std.proofs.Common.{◌≡◌, ◌⊎◌, inl, inr, ℕ, true, false, ◌||◌, ◌==◌, List, Some, Ok, Err, refl, sym, ap, subst, ◌∙◌}
 use Rattle.dir_model.specs.declared.intent.Draw.{Draw}
 use Rattle.dir_model.specs.declared.request.DirError.TheVariants as dir
 use Rattle.dir_model.specs.declared.request.Reply.TheVariants.{Refused}
 use Rattle.dir_model.specs.Calls.{Extends, is_begin}
 use Rattle.dir_model.proofs.Chains.{nothing_yet, step_extends}
-use Rattle.rkt_cli.proofs.Grades.{unhurt}
-use Rattle.rkt_cli.specs.declared.line.Line.{Line}
-use Rattle.rkt_cli.specs.declared.line.Line.TheVariants.{Status, Validate, ImageList, ImageImport, ImageRm, ImageGc, Prepare, RunPrepared, Run, Rm, Gc}
+use Rattle.rkt_cli.specs.declared.line.Line.TheVariants.{Prepare, Gc}
 use Rattle.command_outcomes.specs.declared.refusal.Refusal.{Refusal}
 use Rattle.command_outcomes.specs.declared.refusal.Refusal.TheVariants.{NoPod, DirFault, OutFault, NoMemory}
 use Rattle.command_outcomes.specs.Texts.{status_of}
 use Rattle.command_outcomes.specs.Moments.{Outside, Moment, SinkSeen, Outcome}
-use Rattle.pod_commands.specs.Prepare.{HasBrought, HasKeptFolder}
-use Rattle.removal_commands.specs.Gc.{times_of}
-use Rattle.rkt_cli.specs.Commands.{intent_of, grace_time, expire_time, may, runs_apps_in}
-use Rattle.rkt_cli.specs.Runs.{Performs, End, Unwritten, Printed, end_status, RunOf, RunIs}
-use Rattle.rkt_cli.specs.Histories.{LeavesPod, LeavesSwept, TellsLeft}
+use Rattle.commands.specs.Prepare.{HasBrought, HasKeptFolder}
+use Rattle.commands.specs.Gc.{times_of}
+use Rattle.commands.specs.GcCommand.{grace_time, expire_time, LeavesSwept}
+use Rattle.commands.specs.PrepareCommand.{LeavesPod}
+use Rattle.rkt_cli.specs.Commands.{intent_of, may}
+use Rattle.rkt_cli.specs.Runs.{Performs, End, Unwritten, Printed, end_status, RunOf}
 use Rattle.rkt_cli.proofs.Outcomes.{refusals_of}
 use Rattle.rkt_cli.proofs.PodRan.{began, prepare_synced, brought_in_process, kept_in_process}
 use Rattle.rkt_cli.proofs.PodRemovals.{SweptBy, gc_passes, gc_swept}
@@ -100,34 +99,11 @@ module _ (now : ℕ) (draw : Draw) (before after : Outside) (t : before.dir.obse
       swept_early r status (is ∙ ap end_status printed.refused.0) (refusals_of Gc now draw (intent_of Gc now draw) before after (Err r) r p refl) (gc_swept now draw before after r p t)
 
 module _ (now : ℕ) (draw : Draw) (old new : Moment) (status : ℕ) (t : old.outside.dir.observed ≡ true) where
-  sweep_left : RunOf (Some Gc) now draw old new status → LeavesSwept (times_of now grace_time expire_time) status old.outside.dir new.outside.dir
+  pub sweep_left : RunOf (Some Gc) now draw old new status → LeavesSwept (times_of now grace_time expire_time) status old.outside.dir new.outside.dir
   sweep_left (inl r) = swept now draw old.outside new.outside t r.outcome old.out new.out r.end status r.performs r.printed r.is
   sweep_left (inr n) = inr (inr (n.is, subst (λ (x : Outside). Extends is_begin old.outside.dir.process old.outside.dir.trace x.dir.trace) (sym n.outside) nothing_yet))
 
-  pod_left : (words : List (List ℕ)) → RunOf (Some (Prepare words)) now draw old new status → LeavesPod draw.uuid status old.outside.dir new.outside.dir
+  pub pod_left : (words : List (List ℕ)) → RunOf (Some (Prepare words)) now draw old new status → LeavesPod draw.uuid status old.outside.dir new.outside.dir
   pod_left words (inl r) = ended words now draw old.outside new.outside t r.outcome old.out new.out r.end status r.performs r.printed r.is
   pod_left words (inr n) =
       inr (inr (inr (ap (λ (x : ℕ). (x == 0) || (x == 12)) n.is, inl (subst (λ (x : Outside). Extends is_begin old.outside.dir.process old.outside.dir.trace x.dir.trace) (sym n.outside) nothing_yet))))
-
-  left_of : (l : Option Line) → RunOf l now draw old new status → TellsLeft l now draw status old.outside.dir new.outside.dir
-  left_of None r = tt
-  left_of (Some (Status pod)) r = tt
-  left_of (Some (Validate path)) r = tt
-  left_of (Some ImageList) r = tt
-  left_of (Some (ImageImport path)) r = tt
-  left_of (Some (ImageRm key)) r = tt
-  left_of (Some ImageGc) r = tt
-  left_of (Some Gc) r = sweep_left r
-  left_of (Some (Rm pod)) r = tt
-  left_of (Some (Run words)) r = tt
-  left_of (Some (RunPrepared pod)) r = tt
-  left_of (Some (Prepare words)) r = pod_left words r
-
-pub run_left : {l : Option Line} {now : ℕ} {draw : Draw} {old new : Moment} {status : ℕ} → RunIs l now draw old new status → old.outside.dir.observed ≡ true → TellsLeft l now draw status old.outside.dir new.outside.dir
-run_left {l} {now} {draw} {old} {new} {status} run t = by l (left_of now draw old new run.plain t l run.ran) (unhurt l run.plain status run.is)
-  where
-    by : (k : Option Line) → TellsLeft k now draw run.plain old.outside.dir new.outside.dir → (runs_apps_in k ≡ false → status ≡ run.plain) → TellsLeft k now draw status old.outside.dir new.outside.dir
-    by (Some (Prepare words)) x same = subst (λ (n : ℕ). LeavesPod draw.uuid n old.outside.dir new.outside.dir) (sym (same refl)) x
-    by (Some Gc) x same = subst (λ (n : ℕ). LeavesSwept (times_of now grace_time expire_time) n old.outside.dir new.outside.dir) (sym (same refl)) x
-    by None x same = tt
-    by (Some line) x same = tt

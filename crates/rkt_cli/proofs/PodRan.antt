@@ -1,17 +1,14 @@
 -- What `prepare` owes between its begin and its finish, and what it tells of the whole run.
-use Rattle.std.proofs.Common.{◌≡◌, inl, inr, ℕ, Bool, true, false, ◌&&◌, ◌||◌, List, [], append-nil, Option, Some, None, Ok, Err, IfErr, IsErrOf, refl, sym, ap, subst, ◌∙◌}
+use Rattle.std.proofs.Common.{◌≡◌, inl, inr, ℕ, Bool, true, false, List, [], append-nil, Option, Some, None, Ok, Err, IfErr, IsErrOf, refl, sym, ap, subst, ◌∙◌}
 use Rattle.dir_model.specs.declared.area.Area.{Area}
-use Rattle.dir_model.specs.declared.area.Area.TheVariants.{Embryo, Prepared}
+use Rattle.dir_model.specs.declared.area.Area.TheVariants.{Prepared}
 use Rattle.dir_model.specs.declared.area.Area.TheVariants as area
 use Rattle.dir_model.specs.declared.intent.Draw.{Draw}
 use Rattle.dir_model.specs.declared.intent.Intent.{Intent}
 use Rattle.dir_model.specs.declared.intent.Kind.TheVariants as kind
 use Rattle.dir_model.specs.declared.request.Reply.{Reply}
 use Rattle.dir_model.specs.declared.request.Reply.TheVariants.{Done}
-use Rattle.dir_model.specs.declared.pod.PodId.{PodId}
-use Rattle.dir_model.specs.declared.request.Request.TheVariants.{MoveFolder, SyncArea, Finish}
-use Rattle.dir_model.specs.declared.spot.Spot.{Spot}
-use Rattle.dir_model.specs.State.{spot_eq}
+use Rattle.dir_model.specs.declared.request.Request.TheVariants.{SyncArea, Finish}
 use Rattle.dir_model.specs.declared.spot.Mode.TheVariants.{Shared}
 use Rattle.dir_model.specs.Calls.{Extends}
 use Rattle.dir_model.specs.Causes.{Rose}
@@ -24,9 +21,6 @@ use Rattle.lifecycle.specs.Executions.{IsConforming}
 use Rattle.lifecycle.proofs.Draws.{conforming_left}
 use Rattle.pod_build.specs.Preparations.{Began}
 use Rattle.pod_making.specs.Progress.{at_work, handed}
-use Rattle.pod_making.specs.Requests.{pod_at}
-use Rattle.pod_commands.specs.Quiet.{is_pod_place}
-use Rattle.store_commands.proofs.RemovalQuiet.{ChangesAt}
 use Rattle.rkt_cli.specs.declared.line.Line.{Line}
 use Rattle.rkt_cli.specs.declared.line.Line.TheVariants.{Prepare}
 use Rattle.command_outcomes.specs.declared.refusal.Refusal.{Refusal}
@@ -34,11 +28,12 @@ use Rattle.command_outcomes.specs.declared.refusal.Refusal.TheVariants.{Busy, Di
 use Rattle.command_outcomes.specs.Conforming.{shown_at}
 use Rattle.command_outcomes.specs.Moments.{BundleSeen, Outside, Outcome}
 use Rattle.command_outcomes.proofs.Seen.{seen_at, beside}
-use Rattle.pod_commands.specs.Refusals.{prepare_refusal}
-use Rattle.pod_commands.specs.Prepare.{pod_line, prepares_pod, IsFaithful, BringsPod, LeavesFolder, RefusesPod, IsAreaHeld, IsHeldFrom, Syncs, HasBrought, HasSynced, KeepsFolder, HasKeptFolder, PrepareSays}
-use Rattle.pod_commands.proofs.Whole.{refuses_whole, faithful_wider}
-use Rattle.store_commands.proofs.Parts.{held_wider}
-use Rattle.rkt_cli.specs.Commands.{intent_for, intent_of, may}
+use Rattle.commands.specs.PrepareRefusals.{prepare_refusal}
+use Rattle.commands.specs.Prepare.{pod_line, prepares_pod, IsFaithful, BringsPod, LeavesFolder, RefusesPod, IsAreaHeld, IsHeldFrom, Syncs, HasBrought, HasSynced, KeepsFolder, HasKeptFolder, PrepareSays}
+use Rattle.commands.proofs.Whole.{refuses_whole, faithful_wider}
+use Rattle.commands.proofs.Parts.{held_wider}
+use Rattle.commands.specs.Command.{intent_for}
+use Rattle.rkt_cli.specs.Commands.{intent_of, may}
 use Rattle.rkt_cli.specs.Runs.{CommandRan, InProcess, Performs}
 use Rattle.rkt_cli.proofs.Listed.{process_part}
 use Rattle.rkt_cli.proofs.Sessions.{any_call, begin_part, finish_part}
@@ -65,7 +60,7 @@ prepare_may words r known = known
 pub prepare_ran : (line : Line) (now : ℕ) (draw : Draw) (words : List (List ℕ)) (observed : Bool) (a b : DirAt) (bundle : BundleSeen) (o : Outcome) → line ≡ Prepare words → Worked observed (prepares_pod draw.uuid) a b →
     (IsErrOf o DirFault → Rose a.faults b.faults) → IfErr o (λ r. prepare_refusal r ≡ true) → PrepareSays words now draw (seen_at observed a) (seen_at observed b) o →
     CommandRan line now draw (beside (seen_at observed a) bundle) (beside (seen_at observed b) bundle) o
-prepare_ran line now draw words observed a b bundle o is worked cause known says = ran (Prepare words) prepare_refusal refl (prepare_may words) line now draw observed a b bundle o is tt worked cause known says
+prepare_ran line now draw words observed a b bundle o is worked cause known says = ran (Prepare words) prepare_refusal refl (prepare_may words) line now draw observed a b bundle o is refl worked cause known says
 
 -- the refusals that may come with the pod in prepared
 abbrev pub is_fault : Refusal → Bool
@@ -147,15 +142,3 @@ prepare_busy words now draw old new area (inl s) t =
     (subst (λ (me : ℕ). HeldBetween (shown_at s.begun.dir) (shown_at s.ended.dir) (IsBusyElsewhere me area Shared)) s.me
     (s.ran.says.2 area refl (s.told ∙ t) (prepare_intent now draw) (began now draw) (begun_knows s t)))
 prepare_busy words now draw old new area (inr n) t = let e = n.is in cc
-
--- it moves its own folder alone, and removes none
-pub prepare_changes : (draw : PodId) → ChangesAt (is_pod_place draw) (prepares_pod draw)
-prepare_changes draw = record { moves = λ from to h. moved from to h; removes = λ spot h. let clash : false ≡ true = h in cc }
-  where
-    moved : (from to : Spot) → prepares_pod draw (MoveFolder from to) ≡ true → is_pod_place draw from ≡ true
-    moved from to h = by (spot_eq from (pod_at Embryo draw)) (spot_eq to (pod_at area.Prepare draw)) (spot_eq from (pod_at area.Prepare draw)) (spot_eq to (pod_at Prepared draw)) (spot_eq from (pod_at Prepared draw)) h
-      where
-        by : (a b c d e : Bool) → (((a && b) || ((c && d) || false)) || false) ≡ true → (a || (c || e)) ≡ true
-        by true b c d e h = refl
-        by false b true d e h = refl
-        by false b false d e h = cc

@@ -29,10 +29,13 @@ use Rattle.pod_gc.specs.Sweeping.{MaySweepAll}
 use Rattle.command_outcomes.specs.declared.refusal.Refusal.TheVariants.{NoPod, WrongPhase, PodBusy, NoManifest, DirFault, Stray, NoMemory}
 use Rattle.command_outcomes.specs.Moments.{DirSeen, Outside, BundleSeen, Outcome, dir_seen}
 use Rattle.command_outcomes.specs.Conforming.{begun, StaysConforming}
-use Rattle.removal_commands.specs.Rm.{rm_refusal, RmSays, removed_text, Removes, FindsPodBusy, WasSo, WasOwned, HadNoManifest, MeetsStray, HasRemovedPod, HasFoundNoPod, HasFoundWrong, HasFoundNoManifest, HasFoundBusy, HasMetStrayAtPod}
-use Rattle.removal_commands.specs.Gc.{gc_refusal, GcSays, times_of, lines_text, Sweeps, SweepsUntold, SweepsInPart, HasSweptPods, HasMadePasses, HasSweptInPart, HasMetStrayInPods}
+use Rattle.commands.specs.Kept.{KeepsRefused}
+use Rattle.commands.specs.Rm.{rm_refusal, RmSays, removed_text, Removes, FindsPodBusy, WasSo, WasOwned, HadNoManifest, MeetsStray, HasRemovedPod, HasFoundNoPod, HasFoundWrong, HasFoundNoManifest, HasFoundBusy, HasMetStrayAtPod}
+use Rattle.commands.specs.Gc.{gc_refusal, GcSays, times_of, lines_text, Sweeps, SweepsUntold, SweepsInPart, HasSweptPods, HasMadePasses, HasSweptInPart, HasMetStrayInPods}
 use Rattle.rkt_cli.specs.declared.line.Line.TheVariants.{Rm, Gc}
-use Rattle.rkt_cli.specs.Commands.{intent_for, gc_intent, intent_of, may, grace_time, expire_time}
+use Rattle.commands.specs.Command.{intent_for}
+use Rattle.commands.specs.GcCommand.{gc_intent, grace_time, expire_time}
+use Rattle.rkt_cli.specs.Commands.{intent_of, may}
 use Rattle.rkt_cli.specs.Runs.{CommandRan, Performs}
 use Rattle.rkt_cli.proofs.Removals.{meanwhile}
 use Rattle.rkt_cli.proofs.Conforming.{begun_knows}
@@ -67,40 +70,40 @@ unused clash = cc
 
 -- `rm`: what was printed, and done
 pub rm_printed : (pod : PodId) (now : ℕ) (draw : Draw) (intent : Option Intent) (old new : Outside) (text : List ℕ) → Performs (Rm pod) now draw intent old new (Ok text) → text ≡ removed_text pod
-rm_printed pod now draw (Some intent) old new text (inl s) = s.ran.says.0
+rm_printed pod now draw (Some intent) old new text (inl s) = s.ran.says.0.0
 rm_printed pod now draw (Some intent) old new text (inr n) = untold text n.is
 rm_printed pod now draw None old new text p = unused p.apart
 
 pub rm_done : (pod : PodId) (now : ℕ) (draw : Draw) (intent : Option Intent) (old new : Outside) (text : List ℕ) → Performs (Rm pod) now draw intent old new (Ok text) → old.dir.observed ≡ true → HasRemovedPod pod old.dir new.dir
-rm_done pod now draw (Some intent) old new text (inl s) t = meanwhile (Removes pod) s t (s.ran.says.1 (s.told ∙ t))
+rm_done pod now draw (Some intent) old new text (inl s) t = meanwhile (Removes pod) s t (s.ran.says.0.1 (s.told ∙ t))
 rm_done pod now draw (Some intent) old new text (inr n) t = untold text n.is
 rm_done pod now draw None old new text p t = unused p.apart
 
 -- or why not
 pub rm_none : (pod : PodId) (now : ℕ) (draw : Draw) (intent : Option Intent) (old new : Outside) → old.dir.observed ≡ true → Performs (Rm pod) now draw intent old new (Err NoPod) → HasFoundNoPod pod old.dir new.dir
-rm_none pod now draw (Some intent) old new t (inl s) = meanwhile (FoundNone pod) s t (s.ran.says (s.told ∙ t))
+rm_none pod now draw (Some intent) old new t (inl s) = meanwhile (FoundNone pod) s t (s.ran.says.0 (s.told ∙ t))
 rm_none pod now draw (Some intent) old new t (inr n) = unbegun NoPod refl n.is
 rm_none pod now draw None old new t p = unused p.apart
 
 pub rm_stray : (pod : PodId) (now : ℕ) (draw : Draw) (intent : Option Intent) (old new : Outside) → Performs (Rm pod) now draw intent old new (Err Stray) → old.dir.observed ≡ true → HasMetStrayAtPod pod old.dir new.dir
-rm_stray pod now draw (Some intent) old new (inl s) t = meanwhile (MeetsStray pod) s t (s.ran.says (s.told ∙ t))
+rm_stray pod now draw (Some intent) old new (inl s) t = meanwhile (MeetsStray pod) s t (s.ran.says.0 (s.told ∙ t))
 rm_stray pod now draw (Some intent) old new (inr n) t = unbegun Stray refl n.is
 rm_stray pod now draw None old new p t = unused p.apart
 
 pub rm_bare : (pod : PodId) (now : ℕ) (draw : Draw) (intent : Option Intent) (old new : Outside) (bare : PodId) → Performs (Rm pod) now draw intent old new (Err (NoManifest bare)) → (bare ≡ pod) × (old.dir.observed ≡ true → HasFoundNoManifest pod old.dir new.dir)
-rm_bare pod now draw (Some intent) old new bare (inl s) = (s.ran.says.0, λ t. meanwhile (HadNoManifest pod) s t (s.ran.says.1 (s.told ∙ t)))
+rm_bare pod now draw (Some intent) old new bare (inl s) = (s.ran.says.0.0, λ t. meanwhile (HadNoManifest pod) s t (s.ran.says.0.1 (s.told ∙ t)))
 rm_bare pod now draw (Some intent) old new bare (inr n) = unbegun (NoManifest bare) refl n.is
 rm_bare pod now draw None old new bare p = unused p.apart
 
 pub rm_busy : (pod : PodId) (now : ℕ) (draw : Draw) (old new : Outside) (busy : PodId) (which : Which) → Performs (Rm pod) now draw (intent_of (Rm pod) now draw) old new (Err (PodBusy busy which)) →
     (busy ≡ pod) × (old.dir.observed ≡ true → HasFoundBusy pod which old.dir new.dir)
-rm_busy pod now draw old new busy which (inl s) = (s.ran.says.0, λ t. meanwhile (FindsPodBusy pod which) s t (s.ran.says.1 (s.told ∙ t) (begun (rm_intent pod now draw)) (begun_knows s t) (begun_removes pod now draw)))
+rm_busy pod now draw old new busy which (inl s) = (s.ran.says.0.0, λ t. meanwhile (FindsPodBusy pod which) s t (s.ran.says.0.1 (s.told ∙ t) (begun (rm_intent pod now draw)) (begun_knows s t) (begun_removes pod now draw)))
 rm_busy pod now draw old new busy which (inr n) = unbegun (PodBusy busy which) refl n.is
 
 pub rm_wrong : (pod : PodId) (now : ℕ) (draw : Draw) (old new : Outside) (phase : Phase) → Performs (Rm pod) now draw (intent_of (Rm pod) now draw) old new (Err (WrongPhase phase)) → old.dir.observed ≡ true → HasFoundWrong pod phase old.dir new.dir
 rm_wrong pod now draw old new phase (inl s) t = record {
-  was = meanwhile (WasSo pod phase) s t (s.ran.says.was (s.told ∙ t));
-  owner = meanwhile (WasOwned pod phase) s t (s.ran.says.owner (s.told ∙ t) (begun (rm_intent pod now draw)) (begun_knows s t) (begun_removes pod now draw));
+  was = meanwhile (WasSo pod phase) s t (s.ran.says.0.was (s.told ∙ t));
+  owner = meanwhile (WasOwned pod phase) s t (s.ran.says.0.owner (s.told ∙ t) (begun (rm_intent pod now draw)) (begun_knows s t) (begun_removes pod now draw));
 }
 rm_wrong pod now draw old new phase (inr n) t = unbegun (WrongPhase phase) refl n.is
 
@@ -170,9 +173,9 @@ gc_may DirFault known = known
 gc_may r known = known
 
 pub rm_ran : (line : Line) (now : ℕ) (draw : Draw) (pod : PodId) (observed : Bool) (a b : DirAt) (bundle : BundleSeen) (o : Outcome) → line ≡ Rm pod → Worked observed (removes pod now) a b → (IsErrOf o DirFault → Rose a.faults b.faults) →
-    IfErr o (λ r. rm_refusal r ≡ true) → RmSays pod now (dir_seen observed a) (dir_seen observed b) o → CommandRan line now draw (beside (dir_seen observed a) bundle) (beside (dir_seen observed b) bundle) o
-rm_ran line now draw pod observed a b bundle o is worked cause known says = ran (Rm pod) rm_refusal refl (rm_may pod) line now draw observed a b bundle o is tt worked cause known says
+    IfErr o (λ r. rm_refusal r ≡ true) → RmSays pod now (dir_seen observed a) (dir_seen observed b) o → KeepsRefused (dir_seen observed a) (dir_seen observed b) o → CommandRan line now draw (beside (dir_seen observed a) bundle) (beside (dir_seen observed b) bundle) o
+rm_ran line now draw pod observed a b bundle o is worked cause known says kept = ran (Rm pod) rm_refusal refl (rm_may pod) line now draw observed a b bundle o is refl worked cause known (says, kept)
 
 pub gc_ran : (line : Line) (now : ℕ) (draw : Draw) (observed : Bool) (a b : DirAt) (bundle : BundleSeen) (o : Outcome) → line ≡ Gc → Worked observed (sweeps now) a b → (IsErrOf o DirFault → Rose a.faults b.faults) →
     IfErr o (λ r. gc_refusal r ≡ true) → GcSays (times_of now grace_time expire_time) (dir_seen observed a) (dir_seen observed b) o → CommandRan line now draw (beside (dir_seen observed a) bundle) (beside (dir_seen observed b) bundle) o
-gc_ran line now draw observed a b bundle o is worked cause known says = ran Gc gc_refusal refl gc_may line now draw observed a b bundle o is tt worked cause known says
+gc_ran line now draw observed a b bundle o is worked cause known says = ran Gc gc_refusal refl gc_may line now draw observed a b bundle o is refl worked cause known says

@@ -10,9 +10,11 @@ use Rattle.dir_model.specs.declared.intent.Intent.{Intent}
 use Rattle.dir_model.specs.declared.intent.Kind.TheVariants as kind
 use Rattle.dir_model.specs.declared.pod.PodId.{PodId}
 use Rattle.dir_model.specs.declared.request.Request.{Request}
-use Rattle.dir_model.specs.declared.request.Request.TheVariants.{Begin}
+use Rattle.dir_model.specs.declared.request.Request.TheVariants.{Begin, Finish}
+use Rattle.dir_model.specs.declared.spot.Spot.{Spot}
 use Rattle.dir_model.specs.declared.request.Reply.TheVariants.{Done}
-use Rattle.dir_model.specs.State.{DirState}
+use Rattle.dir_model.specs.State.{DirState, is_owned}
+use Rattle.dir_model.proofs.Lists.{or_last}
 use Rattle.dir_model.specs.Trace.{state_after, state_next}
 use Rattle.dir_model.specs.Calls.{event, Extends}
 use Rattle.dir_model.specs.Quiet.{Quiet, OwnsNothing}
@@ -29,47 +31,49 @@ use Rattle.phase_read.proofs.Quiet.{read_quiet}
 use Rattle.rkt_cli.specs.declared.line.Line.{Line}
 use Rattle.rkt_cli.specs.declared.line.Line.TheVariants.{Status, Validate, ImageList, ImageImport, ImageRm, ImageGc, Prepare, RunPrepared, Run, Rm, Gc}
 use Rattle.command_outcomes.specs.declared.refusal.Refusal.TheVariants.{Usage, Busy, NoImage, NoPod, WrongPhase, NoManifest, PodBusy, DirFault, BundleFault, NoMemory, Damaged, Stray}
-use Rattle.command_outcomes.specs.Moments.{BundleSeen, Outside, Moment, SinkSeen, Outcome}
-use Rattle.command_outcomes.specs.Ends.{is_own_end, IsUnchanged, StaysBeside}
-use Rattle.rkt_cli.specs.Status.{read_outcome, sequential_status}
-use Rattle.store_commands.specs.ImageList.{image_list_refusal, ListsQuietly}
-use Rattle.store_commands.specs.ImageImport.{IsAreaHeld, LeavesImages, ImportsQuietly, LeavesOthers}
-use Rattle.store_commands.specs.ImageRm.{image_rm_refusal, is_removal_place, FindsBusy, RemovesQuietly}
-use Rattle.store_commands.specs.ImageGc.{is_swept_place, SweepsQuietly}
+use Rattle.command_outcomes.specs.Moments.{BundleSeen, DirSeen, Outside, Moment, SinkSeen, Outcome}
+use Rattle.command_outcomes.specs.Ends.{is_own_end, IsUnchanged}
+use Rattle.commands.specs.Status.{read_outcome, sequential_status}
+use Rattle.commands.specs.ImageList.{image_list_refusal, ListsQuietly}
+use Rattle.commands.specs.ImageImport.{IsAreaHeld, LeavesImages, ImportsQuietly, is_building_place}
+use Rattle.commands.specs.NextState.{LeavesBeside, is_nowhere}
+use Rattle.commands.specs.ImageRm.{image_rm_refusal, is_removal_place, FindsBusy, RemovesQuietly}
+use Rattle.commands.specs.ImageGc.{is_swept_place, SweepsQuietly}
 use Rattle.command_outcomes.specs.Conforming.{begun}
-use Rattle.rkt_cli.specs.Commands.{uses_dir, runs_apps, intent_for, intent_of, gc_intent, grace_time, expire_time, asks, ComesQuietly, RunsQuietly, LeavesQuietly}
-use Rattle.rkt_cli.specs.Runs.{CommandRan, Performs, InProcess, Apart, Printed, RunOf, RunOfLine, RunIs, end_status, inside_in}
-use Rattle.rkt_cli.specs.Statuses.{IsAnswer, IsUndisturbed, Works, IsPlainAnswer, IsQuietAnswer}
+use Rattle.commands.specs.Answers.{inside_in, IsAnswer}
+use Rattle.commands.specs.Command.{intent_for}
+use Rattle.commands.specs.GcCommand.{gc_intent, grace_time, expire_time}
+use Rattle.rkt_cli.specs.Commands.{uses_dir, runs_apps, intent_of, asks, ComesQuietly, LeavesQuietly}
+use Rattle.rkt_cli.specs.Promises.{IsUndisturbed, Works, IsPlainAnswer, IsQuietAnswer}
+use Rattle.rkt_cli.specs.Runs.{CommandRan, Performs, InProcess, Apart, Printed, RunOf, RunOfLine, RunIs, end_status}
 use Rattle.rkt_cli.proofs.Grades.{graded_same}
 use Rattle.rkt_cli.proofs.Judged.{judged_whole}
 use Rattle.command_outcomes.proofs.Seen.{rose_wider}
 use Rattle.rkt_cli.proofs.Outcomes.{rose_between, answered, WasAnswered}
 use Rattle.rkt_cli.proofs.Conforming.{begun_knows}
 use Rattle.rkt_cli.proofs.Listed.{listed_in_process, lacked_in_process}
-use Rattle.store_commands.proofs.StoreQuiet.{is_tame, lists_is_tame, at_tame, end_tame}
+use Rattle.commands.proofs.StoreQuiet.{is_tame, lists_is_tame, at_tame, end_tame}
 use Rattle.rkt_cli.proofs.StoreRan.{imports}
 use Rattle.rkt_cli.proofs.Imports.{import_printed, stored_in_process, import_refused}
-use Rattle.store_commands.proofs.ImagesKept.{images_kept, image_held}
-use Rattle.store_commands.proofs.PlacesKept.{places_kept}
-use Rattle.pod_commands.specs.Prepare.{prepares_pod, IsAreaHeld as IsPodAreaHeld}
-use Rattle.pod_commands.specs.Quiet.{PreparesQuietly, is_pod_place}
+use Rattle.commands.proofs.ImagesKept.{images_kept, image_held}
+use Rattle.commands.specs.Prepare.{prepares_pod, IsAreaHeld as IsPodAreaHeld}
+use Rattle.commands.specs.PrepareQuiet.{PreparesQuietly, is_pod_place}
 use Rattle.rkt_cli.proofs.PodKept.{pod_stands}
-use Rattle.rkt_cli.proofs.PodRan.{prepare_intent, began, prepare_faithful, prepare_refused, prepare_changes}
+use Rattle.rkt_cli.proofs.PodRan.{prepare_intent, began, prepare_faithful, prepare_refused}
 use Rattle.rkt_cli.proofs.Removals.{removal_done, removal_none, removal_stray, sweep_done, sweep_stray}
-use Rattle.store_commands.proofs.RemovalEnds.{removal_ends, none_before}
-use Rattle.store_commands.proofs.SweepEnds.{incoming_left, removed_left}
-use Rattle.store_commands.proofs.RemovalQuiet.{in_process, asks_in_process, places_beside, removal_changes, sweep_changes, held_before}
-use Rattle.store_commands.proofs.ImportQuiet.{is_modest, imports_is_modest, at_modest, end_modest}
+use Rattle.commands.proofs.RemovalEnds.{removal_ends, none_before}
+use Rattle.commands.proofs.SweepEnds.{incoming_left, removed_left}
+use Rattle.commands.proofs.Changes.{claim_changes, gc_changes, import_changes, list_changes, looks_change, prepare_changes, removal_changes, rm_changes, run_changes, sweep_changes}
+use Rattle.commands.proofs.NextState.{leaves_beside}
+use Rattle.commands.proofs.RemovalQuiet.{ChangesAt, in_process, asks_in_process, held_before}
+use Rattle.commands.proofs.ImportQuiet.{is_modest, imports_is_modest, at_modest, end_modest}
 use Rattle.pod_removal.specs.Requests.{removes}
 use Rattle.pod_gc.specs.Requests.{sweeps as sweeps_pods}
-use Rattle.removal_commands.specs.Gc.{times_of}
-use Rattle.removal_commands.specs.Quiet.{RemovesPodQuietly, SweepsPodsQuietly, is_pods_place}
-use Rattle.removal_commands.proofs.LateTurns.{rm_moves, rm_removes, gc_moves, gc_removes}
-use Rattle.removal_commands.proofs.Quietly.{rm_removed_quietly, rm_none_quietly, rm_wrong_quietly, rm_lacking_quietly, rm_busy_quietly, gc_swept_quietly}
+use Rattle.commands.specs.Gc.{times_of}
+use Rattle.commands.specs.RemovalQuiet.{RemovesPodQuietly, SweepsPodsQuietly, is_pods_place}
+use Rattle.commands.proofs.RemovedQuietly.{rm_removed_quietly, rm_none_quietly, rm_wrong_quietly, rm_lacking_quietly, rm_busy_quietly, gc_swept_quietly}
 use Rattle.rkt_cli.proofs.PodRemovals.{rm_intent, rm_printed, rm_done, rm_none, rm_wrong, rm_bare, rm_busy, rm_stray, gc_done, gc_stray}
-use Rattle.run_commands.specs.RunPrepared.{runs_prepared}
-use Rattle.run_commands.specs.Run.{makes_and_runs}
-use Rattle.rkt_cli.proofs.RunsQuiet.{claim_changes, run_changes, runs_quietly}
+use Rattle.rkt_cli.proofs.RunsQuiet.{RunsQuietly, runs_quietly}
 use Rattle.rkt_cli.proofs.Sessions.{all_parts, quiet_act, state_begun, idle}
 
 -- undisturbed it came to an end of its own, or memory ran out
@@ -120,6 +124,10 @@ module _ (line : Line) (now : ℕ) (draw : Draw) (intent : Intent) (old new : Ou
       let q = u.alone s.uses in
       let end = end_tame (all_parts s t is_tame refl tame refl) q (idle s t q) in
       record { folders = end.same.folders; owned = end.same.owned }
+
+  -- what isn't touched is as it was
+  beside : (touched : Spot → Bool) → ChangesAt touched (asks line now draw) → LeavesBeside touched old.dir.process (state_after old.dir.trace) (state_after new.dir.trace)
+  beside touched c = leaves_beside touched (asks line now draw) c (all_parts s t (in_process (asks line now draw)) refl (asks_in_process (asks line now draw)) (or_last (asks line now draw Finish) true refl)) (u.alone s.uses)
 
 -- what `status` comes to. That this process has begun makes no difference to it
 status_quiet : (pod : PodId) (now : ℕ) (draw : Draw) (intent : Intent) (old new : Outside) (o : Outcome) → InProcess (Status pod) now draw intent old new o → IsUndisturbed (Some (Status pod)) old new → is_own_end o ≡ true → o ≡ sequential_status pod (state_after old.dir.trace)
@@ -195,15 +203,9 @@ import_quiet path now draw intent old new (Err DirFault) said s u own = let clas
 import_quiet path now draw intent old new (Err BundleFault) said s u own = let clash : false ≡ true = own in cc
 import_quiet path now draw intent old new (Err r) said s u own = (import_refused path now draw (Some intent) old new r refl (inl s), import_keeps_images path now draw intent old new (Err r) s u)
 
-import_leaves : (path : List ℕ) (now : ℕ) (draw : Draw) (intent : Intent) (old new : Outside) (o : Outcome) → InProcess (ImageImport path) now draw intent old new o → IsUndisturbed (Some (ImageImport path)) old new →
-    LeavesOthers draw.uuid (state_after old.dir.trace) (state_after new.dir.trace)
-import_leaves path now draw intent old new o s u =
-    let q = u.alone refl in
-    let ext = import_extends path now draw intent old new o s u in
-    record {
-      places = places_kept (building_spot draw.uuid) ext q;
-      owned = (end_modest (building_spot draw.uuid) ext q (idle s (u.observed refl) q)).owned;
-    }
+import_owned : (path : List ℕ) (now : ℕ) (draw : Draw) (intent : Intent) (old new : Outside) (o : Outcome) → InProcess (ImageImport path) now draw intent old new o → IsUndisturbed (Some (ImageImport path)) old new →
+    (folder : ℕ) → is_owned (state_after new.dir.trace).namespace folder ≡ is_owned (state_after old.dir.trace).namespace folder
+import_owned path now draw intent old new o s u = (end_modest (building_spot draw.uuid) (import_extends path now draw intent old new o s u) (u.alone refl) (idle s (u.observed refl) (u.alone refl))).owned
 
 -- and `image rm`
 removal_area : (area : Area) → image_rm_refusal (Busy area) ≡ true → area ≡ Images
@@ -220,7 +222,7 @@ removal_held key now draw old new area s u =
     let me = s.begun.dir.process in
     let o : Outcome = Err (Busy area) in
     let intent = removal_intent now draw in
-    let found : FindsBusy me s.begun.dir.trace s.ended.dir.trace = s.ran.says (s.told ∙ t) (begun intent) (begun_knows s t) (begun_removes intent draw.uuid refl refl) in
+    let found : FindsBusy me s.begun.dir.trace s.ended.dir.trace = s.ran.says.0 (s.told ∙ t) (begun intent) (begun_knows s t) (begun_removes intent draw.uuid refl refl) in
     let first : IsBusyElsewhere me Images Exclusive (state_after s.begun.dir.trace) = held_before (is_against Images Exclusive) found.held (quiet_between (ImageRm key) now draw intent old new o s u) in
     subst (λ (p : ℕ). IsBusyElsewhere p Images Exclusive (state_after old.dir.trace)) s.me
     (subst (λ (x : DirState). IsBusyElsewhere me Images Exclusive x) (state (ImageRm key) now draw intent old new o s u) first)
@@ -234,11 +236,11 @@ removal_quiet : (key : StoreKey) (now : ℕ) (draw : Draw) (old new : Outside) (
 removal_quiet key now draw old new (Ok text) s u own =
     let done = removal_done key now draw old new text (inl s) (u.observed refl) in
     let ends = removal_ends key draw.uuid (removal_extends key now draw (removal_intent now draw) old new (Ok text) s u) (u.alone refl) done in
-    (s.ran.says.is, done, record { absent = ends.0; gone = ends.1 })
+    (s.ran.says.0.is, done, record { absent = ends.0; gone = ends.1 })
 removal_quiet key now draw old new (Err (Busy area)) s u own = (removal_area area s.ran.refusals, removal_held key now draw old new area s u)
 removal_quiet key now draw old new (Err (NoImage named)) s u own =
     let found = removal_none key now draw (Some (removal_intent now draw)) old new named (inl s) (u.observed refl) in
-    (s.ran.says.is, found, none_before key draw.uuid (u.alone refl) found)
+    (s.ran.says.0.is, found, none_before key draw.uuid (u.alone refl) found)
 removal_quiet key now draw old new (Err Stray) s u own = removal_stray key now draw (Some (removal_intent now draw)) old new (inl s) (u.observed refl)
 removal_quiet key now draw old new (Err NoMemory) s u own = let clash : false ≡ true = own in cc
 removal_quiet key now draw old new (Err DirFault) s u own = let clash : false ≡ true = own in cc
@@ -257,15 +259,6 @@ sweep_quiet now draw old new (Err NoMemory) s u own = let clash : false ≡ true
 sweep_quiet now draw old new (Err DirFault) s u own = let clash : false ≡ true = own in cc
 sweep_quiet now draw old new (Err BundleFault) s u own = let clash : false ≡ true = own in cc
 sweep_quiet now draw old new (Err r) s u own = let clash : false ≡ true = s.ran.refusals in cc
-
-removal_leaves : (key : StoreKey) (now : ℕ) (draw : Draw) (intent : Intent) (old new : Outside) (o : Outcome) → InProcess (ImageRm key) now draw intent old new o → IsUndisturbed (Some (ImageRm key)) old new →
-    StaysBeside (is_removal_place key draw.uuid) (state_after old.dir.trace) (state_after new.dir.trace)
-removal_leaves key now draw intent old new o s u =
-    places_beside (is_removal_place key draw.uuid) (removes_at key draw.uuid) (removal_changes key draw.uuid) (removal_extends key now draw intent old new o s u) (u.alone refl)
-
-sweep_leaves : (now : ℕ) (draw : Draw) (intent : Intent) (old new : Outside) (o : Outcome) → InProcess ImageGc now draw intent old new o → IsUndisturbed (Some ImageGc) old new →
-    StaysBeside is_swept_place (state_after old.dir.trace) (state_after new.dir.trace)
-sweep_leaves now draw intent old new o s u = places_beside is_swept_place sweeps sweep_changes (all_parts s (u.observed refl) (in_process sweeps) refl (asks_in_process sweeps) refl) (u.alone refl)
 
 -- and `prepare`
 abbrev prepare_asks : Draw → Request → Bool
@@ -301,11 +294,6 @@ prepare_quiet words now draw old new (Err NoMemory) s u own = let clash : false 
 prepare_quiet words now draw old new (Err DirFault) s u own = let clash : false ≡ true = own in cc
 prepare_quiet words now draw old new (Err BundleFault) s u own = let clash : false ≡ true = own in cc
 prepare_quiet words now draw old new (Err r) s u own = prepare_refused words now draw (Some (prepare_intent now draw)) old new r refl (inl s)
-
-prepare_leaves : (words : List (List ℕ)) (now : ℕ) (draw : Draw) (intent : Intent) (old new : Outside) (o : Outcome) → InProcess (Prepare words) now draw intent old new o → IsUndisturbed (Some (Prepare words)) old new →
-    StaysBeside (is_pod_place draw.uuid) (state_after old.dir.trace) (state_after new.dir.trace)
-prepare_leaves words now draw intent old new o s u =
-    places_beside (is_pod_place draw.uuid) (prepare_asks draw) (prepare_changes draw.uuid) (prepare_extends words now draw intent old new o s u) (u.alone refl)
 
 -- `rm` and `gc`
 rm_quiet : (pod : PodId) (now : ℕ) (draw : Draw) (old new : Outside) (o : Outcome) → InProcess (Rm pod) now draw (rm_intent pod now draw) old new o → IsUndisturbed (Some (Rm pod)) old new → is_own_end o ≡ true → RemovesPodQuietly pod old.dir new.dir o
@@ -382,26 +370,31 @@ comes_apart (Rm pod) now draw old new o p u own = let clash : true ≡ false = p
 comes_apart Gc now draw old new o p u own = let clash : true ≡ false = p.apart in cc
 
 -- what each command leaves
-leaves_quietly : (line : Line) (now : ℕ) (draw : Draw) (intent : Intent) (old new : Outside) (o : Outcome) → InProcess line now draw intent old new o → IsUndisturbed (Some line) old new → LeavesQuietly line now draw old.bundle.tree (state_after old.dir.trace) (state_after new.dir.trace)
-leaves_quietly (Status pod) now draw intent old new o s u = unchanged (Status pod) now draw intent old new o s u (λ r h. look_is_harmless r (pod_look pod r h))
-leaves_quietly (Validate path) now draw intent old new o s u = tt
-leaves_quietly ImageList now draw intent old new o s u = tame_unchanged ImageList now draw intent old new o s u lists_is_tame
-leaves_quietly (ImageImport path) now draw intent old new o s u = import_leaves path now draw intent old new o s u
-leaves_quietly (ImageRm key) now draw intent old new o s u = removal_leaves key now draw intent old new o s u
-leaves_quietly ImageGc now draw intent old new o s u = sweep_leaves now draw intent old new o s u
-leaves_quietly (Prepare words) now draw intent old new o s u = prepare_leaves words now draw intent old new o s u
-leaves_quietly (RunPrepared pod) now draw intent old new o s u =
-    places_beside (is_pod_spot pod) (runs_prepared pod) (claim_changes pod) (all_parts s (u.observed refl) (in_process (runs_prepared pod)) refl (asks_in_process (runs_prepared pod)) refl) (u.alone refl)
-leaves_quietly (Run words) now draw intent old new o s u =
-    places_beside (is_pod_spot draw.uuid) (makes_and_runs draw.uuid) (run_changes draw.uuid) (all_parts s (u.observed refl) (in_process (makes_and_runs draw.uuid)) refl (asks_in_process (makes_and_runs draw.uuid)) refl) (u.alone refl)
-leaves_quietly (Rm pod) now draw intent old new o s u =
-    places_beside (is_pod_spot pod) (removes pod now) (record { moves = rm_moves pod now; removes = rm_removes pod now }) (all_parts s (u.observed refl) (in_process (removes pod now)) refl (asks_in_process (removes pod now)) refl) (u.alone refl)
-leaves_quietly Gc now draw intent old new o s u =
-    places_beside is_pods_place (sweeps_pods now) (record { moves = gc_moves now; removes = gc_removes now }) (all_parts s (u.observed refl) (in_process (sweeps_pods now)) refl (asks_in_process (sweeps_pods now)) refl) (u.alone refl)
+leaves_quietly : (line : Line) (now : ℕ) (draw : Draw) (intent : Intent) (old new : Outside) (o : Outcome) → InProcess line now draw intent old new o → IsUndisturbed (Some line) old new → LeavesQuietly line old.dir.process draw (state_after old.dir.trace) (state_after new.dir.trace)
+leaves_quietly (Status pod) now draw intent old new o s u = record {
+  same = unchanged (Status pod) now draw intent old new o s u (λ r h. look_is_harmless r (pod_look pod r h));
+  beside = beside (Status pod) now draw intent old new o s u is_nowhere (looks_change (is_pod_spot pod));
+}
+leaves_quietly (Validate path) now draw intent old new o s u = let clash : false ≡ true = s.uses in cc
+leaves_quietly ImageList now draw intent old new o s u = record {
+  same = tame_unchanged ImageList now draw intent old new o s u lists_is_tame;
+  beside = beside ImageList now draw intent old new o s u is_nowhere list_changes;
+}
+leaves_quietly (ImageImport path) now draw intent old new o s u = record {
+  beside = beside (ImageImport path) now draw intent old new o s u (is_building_place draw.uuid) (import_changes draw.uuid);
+  owned = import_owned path now draw intent old new o s u;
+}
+leaves_quietly (ImageRm key) now draw intent old new o s u = beside (ImageRm key) now draw intent old new o s u (is_removal_place key draw.uuid) (removal_changes key draw.uuid)
+leaves_quietly ImageGc now draw intent old new o s u = beside ImageGc now draw intent old new o s u is_swept_place sweep_changes
+leaves_quietly (Prepare words) now draw intent old new o s u = beside (Prepare words) now draw intent old new o s u (is_pod_place draw.uuid) (prepare_changes draw.uuid)
+leaves_quietly (RunPrepared pod) now draw intent old new o s u = beside (RunPrepared pod) now draw intent old new o s u (is_pod_spot pod) (claim_changes pod)
+leaves_quietly (Run words) now draw intent old new o s u = beside (Run words) now draw intent old new o s u (is_pod_spot draw.uuid) (run_changes draw.uuid)
+leaves_quietly (Rm pod) now draw intent old new o s u = beside (Rm pod) now draw intent old new o s u (is_pod_spot pod) (rm_changes pod now)
+leaves_quietly Gc now draw intent old new o s u = beside Gc now draw intent old new o s u is_pods_place (gc_changes now)
 
-leaves_apart : (line : Line) (now : ℕ) (draw : Draw) (old new : Outside) (o : Outcome) → Apart line now draw old new o → LeavesQuietly line now draw old.bundle.tree (state_after old.dir.trace) (state_after new.dir.trace)
+leaves_apart : (line : Line) (now : ℕ) (draw : Draw) (old new : Outside) (o : Outcome) → Apart line now draw old new o → LeavesQuietly line old.dir.process draw (state_after old.dir.trace) (state_after new.dir.trace)
 leaves_apart (Status pod) now draw old new o p = let clash : true ≡ false = p.apart in cc
-leaves_apart (Validate path) now draw old new o p = tt
+leaves_apart (Validate path) now draw old new o p = ap (λ (d : DirSeen). state_after d.trace) p.dir
 leaves_apart ImageList now draw old new o p = let clash : true ≡ false = p.apart in cc
 leaves_apart (ImageImport path) now draw old new o p = let clash : true ≡ false = p.apart in cc
 leaves_apart (ImageRm key) now draw old new o p = let clash : true ≡ false = p.apart in cc
@@ -415,7 +408,7 @@ leaves_apart Gc now draw old new o p = let clash : true ≡ false = p.apart in c
 abbrev IsQuiet : Line → ℕ → Draw → Outside → Outside → Outcome → Type 0
 IsQuiet line now draw old new o =
     (o ≡ Err NoMemory)
-    ⊎ (ComesQuietly line now draw old new o × LeavesQuietly line now draw old.bundle.tree (state_after old.dir.trace) (state_after new.dir.trace))
+    ⊎ (ComesQuietly line now draw old new o × LeavesQuietly line old.dir.process draw (state_after old.dir.trace) (state_after new.dir.trace))
 
 performs_quiet : (line : Line) (now : ℕ) (draw : Draw) (intent : Option Intent) (old new : Outside) (o : Outcome) → intent_of line now draw ≡ intent → Performs line now draw intent old new o → IsUndisturbed (Some line) old new → ((OwnsNothing old.dir.process (state_after old.dir.trace).namespace) → RunsQuietly line now draw old.dir new.dir o) → IsQuiet line now draw old new o
 performs_quiet line now draw (Some intent) old new o said (inr n) u ran = inl n.is
@@ -443,7 +436,7 @@ module _ (now : ℕ) (draw : Draw) (old new : Moment) (status : ℕ) where
       (runs_quietly line now draw (inside_in old) (inside_in new) r.answer (λ runs. u.observed (runs_use line runs)) (λ runs. u.alone (runs_use line runs)) (λ runs. idle) r.came)
 
   quiet_of : (l : Option Line) → RunOf l now draw old new status → IsUndisturbed l old.outside new.outside → Works old.out new.out → (status ≡ 14) ⊎ IsPlainAnswer l now draw status old new
-  quiet_of None r u works = inr (Err Usage, refl, (r.is, λ t. ap (λ (s : SinkSeen). s.bytes) r.out, r.reported), tt)
+  quiet_of None r u works = inr (Err Usage, refl, (r.is, λ t. ap (λ (s : SinkSeen). s.bytes) r.out, r.reported), ap (λ (x : Outside). state_after x.dir.trace) r.outside)
   quiet_of (Some line) (inr n) u works = inl n.is
   quiet_of (Some line) (inl r) u works = by (performs_quiet line now draw (intent_of line now draw) old.outside new.outside r.outcome refl r.performs u (ran_quietly line r u))
     where

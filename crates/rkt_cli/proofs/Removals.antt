@@ -13,14 +13,15 @@ use Rattle.image_removal.specs.Causes.{StrayRemoval, FoundNone}
 use Rattle.image_removal.proofs.Begun.{begun_removes, begun_sweeps}
 use Rattle.rkt_cli.specs.declared.line.Line.{Line}
 use Rattle.rkt_cli.specs.declared.line.Line.TheVariants.{ImageRm, ImageGc}
-use Rattle.command_outcomes.specs.declared.refusal.Refusal.TheVariants.{Busy, NoImage, Stray}
+use Rattle.command_outcomes.specs.declared.refusal.Refusal.TheVariants.{Busy, NoImage, Stray, DirFault}
 use Rattle.command_outcomes.specs.Moments.{Outside, Outcome}
 use Rattle.command_outcomes.specs.Conforming.{begun}
-use Rattle.rkt_cli.specs.Commands.{intent_for, intent_of}
-use Rattle.command_outcomes.specs.Meanwhile.{Meanwhile}
-use Rattle.store_commands.specs.ImageRm.{removed_text, Removes, FindsBusy, HasRemoved, HasFoundNone, HasMetStray}
-use Rattle.store_commands.specs.ImageGc.{sweep_texts, Sweeps, StrayInSweep, HasSwept, HasMetStrayInSweep}
+use Rattle.commands.specs.Command.{intent_for}
+use Rattle.rkt_cli.specs.Commands.{intent_of}
 use Rattle.rkt_cli.specs.Runs.{InProcess, Performs}
+use Rattle.command_outcomes.specs.Meanwhile.{Meanwhile}
+use Rattle.commands.specs.ImageRm.{removed_text, Removes, FindsBusy, HasRemoved, HasFoundNone, HasMetStray}
+use Rattle.commands.specs.ImageGc.{sweep_texts, Sweeps, StrayInSweep, HasSwept, HasMetStrayInSweep, EndsEarly, HasEndedEarly}
 use Rattle.rkt_cli.proofs.Sessions.{begin_part, finish_part}
 use Rattle.rkt_cli.proofs.Conforming.{begun_knows}
 
@@ -37,7 +38,7 @@ meanwhile P s t so = record {
 
 -- `image rm`: what was printed
 pub removal_printed : (key : StoreKey) (now : ℕ) (draw : Draw) (intent : Option Intent) (old new : Outside) (text : List ℕ) → Performs (ImageRm key) now draw intent old new (Ok text) → text ≡ removed_text key
-removal_printed key now draw (Some intent) old new text (inl s) = s.ran.says.is
+removal_printed key now draw (Some intent) old new text (inl s) = s.ran.says.0.is
 removal_printed key now draw (Some intent) old new text (inr n) = let e = n.is in cc
 removal_printed key now draw None old new text p = let clash : true ≡ false = p.apart in cc
 
@@ -46,7 +47,7 @@ pub removal_done : (key : StoreKey) (now : ℕ) (draw : Draw) (old new : Outside
     HasRemoved key draw.uuid old.dir new.dir
 removal_done key now draw old new text (inl s) t =
     let intent = intent_for kind.ImageRm [] now draw in
-    meanwhile (Removes key draw.uuid) s t (s.ran.says.removed (s.told ∙ t) (begun intent) (begun_knows s t) (begun_removes intent draw.uuid refl refl))
+    meanwhile (Removes key draw.uuid) s t (s.ran.says.0.removed (s.told ∙ t) (begun intent) (begun_knows s t) (begun_removes intent draw.uuid refl refl))
 removal_done key now draw old new text (inr n) t = let e = n.is in cc
 
 -- or why not
@@ -54,22 +55,22 @@ pub removal_busy : (key : StoreKey) (now : ℕ) (draw : Draw) (old new : Outside
     Meanwhile FindsBusy old.dir.process old.dir.trace new.dir.trace
 removal_busy key now draw old new area (inl s) t =
     let intent = intent_for kind.ImageRm [] now draw in
-    meanwhile FindsBusy s t (s.ran.says (s.told ∙ t) (begun intent) (begun_knows s t) (begun_removes intent draw.uuid refl refl))
+    meanwhile FindsBusy s t (s.ran.says.0 (s.told ∙ t) (begun intent) (begun_knows s t) (begun_removes intent draw.uuid refl refl))
 removal_busy key now draw old new area (inr n) t = let e = n.is in cc
 
 pub removal_unnamed : (key : StoreKey) (now : ℕ) (draw : Draw) (intent : Option Intent) (old new : Outside) (named : List ℕ) → Performs (ImageRm key) now draw intent old new (Err (NoImage named)) → named ≡ id_text key.bytes
-removal_unnamed key now draw (Some intent) old new named (inl s) = s.ran.says.is
+removal_unnamed key now draw (Some intent) old new named (inl s) = s.ran.says.0.is
 removal_unnamed key now draw (Some intent) old new named (inr n) = let e = n.is in cc
 removal_unnamed key now draw None old new named p = let clash : true ≡ false = p.apart in cc
 
 pub removal_none : (key : StoreKey) (now : ℕ) (draw : Draw) (intent : Option Intent) (old new : Outside) (named : List ℕ) → Performs (ImageRm key) now draw intent old new (Err (NoImage named)) → old.dir.observed ≡ true →
     HasFoundNone key draw.uuid old.dir new.dir
-removal_none key now draw (Some intent) old new named (inl s) t = meanwhile (FoundNone key draw.uuid) s t (s.ran.says.found (s.told ∙ t))
+removal_none key now draw (Some intent) old new named (inl s) t = meanwhile (FoundNone key draw.uuid) s t (s.ran.says.0.found (s.told ∙ t))
 removal_none key now draw (Some intent) old new named (inr n) t = let e = n.is in cc
 removal_none key now draw None old new named p t = let clash : true ≡ false = p.apart in cc
 
 pub removal_stray : (key : StoreKey) (now : ℕ) (draw : Draw) (intent : Option Intent) (old new : Outside) → Performs (ImageRm key) now draw intent old new (Err Stray) → old.dir.observed ≡ true → HasMetStray key draw.uuid old.dir new.dir
-removal_stray key now draw (Some intent) old new (inl s) t = meanwhile (StrayRemoval key draw.uuid) s t (s.ran.says (s.told ∙ t))
+removal_stray key now draw (Some intent) old new (inl s) t = meanwhile (StrayRemoval key draw.uuid) s t (s.ran.says.0 (s.told ∙ t))
 removal_stray key now draw (Some intent) old new (inr n) t = let e = n.is in cc
 removal_stray key now draw None old new p t = let clash : true ≡ false = p.apart in cc
 
@@ -94,3 +95,9 @@ pub sweep_stray : (now : ℕ) (draw : Draw) (intent : Option Intent) (old new : 
 sweep_stray now draw (Some intent) old new (inl s) t = meanwhile StrayInSweep s t (s.ran.says (s.told ∙ t))
 sweep_stray now draw (Some intent) old new (inr n) t = let e = n.is in cc
 sweep_stray now draw None old new p t = let clash : true ≡ false = p.apart in cc
+
+-- a sweep whose directory failed ended early
+pub sweep_failed : (now : ℕ) (draw : Draw) (intent : Option Intent) (old new : Outside) → Performs ImageGc now draw intent old new (Err DirFault) → old.dir.observed ≡ true → HasEndedEarly old.dir new.dir
+sweep_failed now draw (Some intent) old new (inl s) t = meanwhile EndsEarly s t (s.ran.says (s.told ∙ t))
+sweep_failed now draw (Some intent) old new (inr n) t = let e = n.is in cc
+sweep_failed now draw None old new p t = let clash : true ≡ false = p.apart in cc

@@ -1,82 +1,49 @@
 -- Where nobody else steps: what a run of apps comes to, and that it leaves each folder where it was, but its pod's.
-use Rattle.std.proofs.Common.{◌≡◌, ◌⊎◌, inl, inr, ℕ, Bool, true, false, ◌&&◌, ◌||◌, bytes_eq, Some, List, [], Ok, Err, refl, sym, ap, subst, ◌∙◌}
-use Rattle.dir_model.specs.declared.area.Area.{Area}
-use Rattle.dir_model.specs.declared.area.Area.TheVariants.{Embryo, Prepare, Prepared}
+use Rattle.std.proofs.Common.{◌≡◌, ◌⊎◌, inl, inr, ℕ, Bool, true, Some, List, [], Ok, Err, refl, sym, ap, subst, ◌∙◌}
 use Rattle.dir_model.specs.declared.area.Area.TheVariants as area
 use Rattle.dir_model.specs.declared.event.Event.{Event}
 use Rattle.dir_model.specs.declared.intent.Draw.{Draw}
 use Rattle.dir_model.specs.declared.intent.Intent.{Intent}
 use Rattle.dir_model.specs.declared.intent.Kind.TheVariants as kind
 use Rattle.dir_model.specs.declared.pod.PodId.{PodId}
-use Rattle.dir_model.specs.declared.spot.Spot.{Spot}
 use Rattle.dir_model.specs.declared.request.Request.{Request}
-use Rattle.dir_model.specs.declared.request.Request.TheVariants.{Begin, MoveFolder, Finish}
+use Rattle.dir_model.specs.declared.request.Request.TheVariants.{Begin, Finish}
 use Rattle.dir_model.specs.declared.request.Reply.TheVariants.{Done}
-use Rattle.dir_model.specs.Areas.{is_stage}
 use Rattle.dir_model.specs.Calls.{CallStep, Extends, is_begin, is_finish}
 use Rattle.dir_model.specs.Pods.{pod_text}
 use Rattle.dir_model.specs.Quiet.{Quiet, OwnsNothing}
-use Rattle.dir_model.specs.State.{spot_eq}
 use Rattle.dir_model.specs.Trace.{state_after}
 use Rattle.dir_model.proofs.Chains.{and_more, extends_wider, step_extends}
-use Rattle.dir_model.proofs.Lists.{and_left, or_last}
-use Rattle.dir_rules.proofs.Looks.{same_bytes}
+use Rattle.dir_model.proofs.Lists.{or_last}
 use Rattle.dir_trait.specs.DirCalls.{DirAt}
 use Rattle.dir_trait.specs.Knowledge.{Knows}
-use Rattle.folder_contents.proofs.Spots.{one_location}
-use Rattle.phase_read.specs.Read.{pod_spot, is_pod_spot}
 use Rattle.pod_claim.specs.declared.error.ClaimError.{ClaimError}
-use Rattle.pod_claim.specs.Requests.{in_prepared, in_run}
 use Rattle.pod_claim.specs.Work.{Grew}
-use Rattle.pod_making.specs.Requests.{pod_at}
 use Rattle.command_outcomes.specs.declared.refusal.Refusal.{Refusal}
 use Rattle.command_outcomes.specs.declared.refusal.Refusal.TheVariants.{NoMemory}
 use Rattle.command_outcomes.specs.declared.told.Told.{Told}
-use Rattle.command_outcomes.specs.Conforming.{shown_at}
-use Rattle.command_outcomes.specs.Conforming.{begun as just_begun}
-use Rattle.command_outcomes.specs.Moments.{DirSeen, Inside, Answer, outcome_of, dir_seen}
-use Rattle.removal_commands.proofs.LateTurns.{or_false}
-use Rattle.run_commands.specs.Refusals.{claim_refusal}
+use Rattle.command_outcomes.specs.Conforming.{shown_at, begun as just_begun}
+use Rattle.command_outcomes.specs.Moments.{DirSeen, Inside, Answer, Outcome, outcome_of, dir_seen}
+use Rattle.commands.specs.RunRefusals.{claim_refusal}
 use Rattle.lifecycle.specs.Executions.{IsConforming}
 use Rattle.pod_build.specs.Preparations.{Began}
 use Rattle.pod_making.specs.Progress.{at_work, nothing_made}
-use Rattle.run_commands.specs.RunPrepared.{runs_prepared, ClaimsAndRuns, IsUnclaimed}
-use Rattle.run_commands.specs.Run.{makes_and_runs, MakesAndRuns, NewRunSays}
-use Rattle.run_commands.specs.Quiet.{HasPassed, HasMadeAndLeft, TellsItsEnds, UnclaimedFor, IsRunRefusal, IsUnmadeFor}
-use Rattle.run_commands.proofs.Claimed.{may_begin}
-use Rattle.run_commands.proofs.ClaimBefore.{RefusedClaim}
-use Rattle.run_commands.proofs.RunRefused.{same_refusal, claimed_refusal, made_refusal, unmade_refusal}
-use Rattle.run_commands.proofs.Quietly.{run_prepared_passed, run_prepared_unclaimed, run_prepared_ends, run_made_left, run_ends}
-use Rattle.store_commands.proofs.RemovalQuiet.{ChangesAt, in_process, asks_in_process}
+use Rattle.commands.specs.AppsTold.{WithinProcess}
+use Rattle.commands.specs.RunPrepared.{runs_prepared, ClaimsAndRuns, IsUnclaimed, RunPreparedSays}
+use Rattle.commands.specs.Run.{makes_and_runs, MakesAndRuns, NewRunSays, RunIsTold}
+use Rattle.commands.specs.RunQuiet.{HasPassed, HasMadeAndLeft, TellsItsEnds, UnclaimedFor, IsRunRefusal, IsUnmadeFor}
+use Rattle.commands.proofs.Claimed.{may_begin}
+use Rattle.commands.proofs.ClaimBefore.{RefusedClaim}
+use Rattle.commands.proofs.RunRefused.{same_refusal, claimed_refusal, made_refusal, unmade_refusal}
+use Rattle.commands.proofs.RanQuietly.{run_prepared_passed, run_prepared_unclaimed, run_prepared_ends, run_made_left, run_ends}
+use Rattle.commands.proofs.RemovalQuiet.{in_process, asks_in_process}
 use Rattle.rkt_cli.specs.declared.line.Line.{Line}
 use Rattle.rkt_cli.specs.declared.line.Line.TheVariants.{RunPrepared, Run}
-use Rattle.rkt_cli.specs.Commands.{asks, runs_apps, intent_for, intent_of, PassesQuietly, LeavesMade, RunsQuietly}
-use Rattle.rkt_cli.specs.Spawns.{CameInProcess, CameBetween}
-
--- a place of the pod
-its_place : (pod : PodId) (area : Area) (place : Spot) → is_stage area ≡ true → place ≡ pod_spot pod area → is_pod_spot pod place ≡ true
-its_place pod area place stage is = ap (is_pod_spot pod) is ∙ (ap (λ b. b && bytes_eq (pod_text pod.bytes) (pod_text pod.bytes)) stage ∙ same_bytes (pod_text pod.bytes))
-
-pub claim_changes : (pod : PodId) → ChangesAt (is_pod_spot pod) (runs_prepared pod)
-claim_changes pod = record {
-  moves = λ from to h. its_place pod Prepared from refl (sym (one_location (in_prepared pod) from (and_left (spot_eq (in_prepared pod) from) (spot_eq (in_run pod) to) (or_false _ h))));
-  removes = λ spot h. cc;
-}
-
-pub run_changes : (draw : PodId) → ChangesAt (is_pod_spot draw) (makes_and_runs draw)
-run_changes draw = record { moves = λ from to h. moved from to h; removes = λ spot h. cc }
-  where
-    or_parts : (a b c d : Bool) → (((a && b) || ((c && d) || false)) || false) ≡ true → (a ≡ true) ⊎ (c ≡ true)
-    or_parts true b c d h = inl refl
-    or_parts false b true d h = inr refl
-    or_parts false b false d h = cc
-
-    place : (from : Spot) → (spot_eq from (pod_at Embryo draw) ≡ true) ⊎ (spot_eq from (pod_at Prepare draw) ≡ true) → is_pod_spot draw from ≡ true
-    place from (inl x) = its_place draw Embryo from refl (one_location from (pod_at Embryo draw) x)
-    place from (inr x) = its_place draw Prepare from refl (one_location from (pod_at Prepare draw) x)
-
-    moved : (from to : Spot) → makes_and_runs draw (MoveFolder from to) ≡ true → is_pod_spot draw from ≡ true
-    moved from to h = place from (or_parts (spot_eq from (pod_at Embryo draw)) (spot_eq to (pod_at Prepare draw)) (spot_eq from (pod_at Prepare draw)) (spot_eq to (pod_at area.Run draw)) h)
+use Rattle.commands.specs.Command.{intent_for}
+use Rattle.commands.specs.RunCommand.{LeavesMade}
+use Rattle.commands.specs.RunPreparedCommand.{PassesQuietly}
+use Rattle.rkt_cli.specs.Commands.{asks, runs_apps, intent_of}
+use Rattle.rkt_cli.specs.Spawns.{CameBetween}
 
 -- what is told of a run of apps where nobody else steps, by what came between its begin and its finish
 passed_refused : (pod : PodId) (old new : DirSeen) (r : Refusal) → HasPassed pod old.trace new.trace → (r ≡ NoMemory) ⊎ IsRunRefusal pod r → PassesQuietly pod old new (Err r)
@@ -93,15 +60,15 @@ of_refused : (pod : PodId) (old new : DirSeen) (r : Refusal) (error : ClaimError
 of_refused pod old new NoMemory error is u = tt
 of_refused pod old new r error is u = inr (error, is, u)
 
-module _ {line : Line} {now : ℕ} {draw : Draw} {intent : Intent} {a b : Inside} {answer : Answer} (x : CameInProcess line now draw intent a b answer) (t : a.dir.observed ≡ true) where
+module _ {asks : Request → Bool} {P : Inside → Inside → Type 0} {intent : Intent} {a b : Inside} (x : WithinProcess asks P intent a b) (t : a.dir.observed ≡ true) where
   abbrev me : ℕ
   me = a.dir.process
 
   begin_ext : (asked : Request → Bool) → asked (Begin intent) ≡ true → Extends asked me a.dir.trace x.begun.trace
   begin_ext asked is = step_extends asked me a.dir.trace (Begin intent) Done x.begun.trace is (x.begins t)
 
-  act_ext : Extends (asks line now draw) me x.begun.trace x.ended.trace
-  act_ext = subst (λ (p : ℕ). Extends (asks line now draw) p x.begun.trace x.ended.trace) x.me (x.extends t)
+  act_ext : Extends asks me x.begun.trace x.ended.trace
+  act_ext = subst (λ (p : ℕ). Extends asks p x.begun.trace x.ended.trace) x.me (x.extends t)
 
   finish_call : CallStep me x.ended.trace Finish Done b.dir.trace
   finish_call = subst (λ (p : ℕ). CallStep p x.ended.trace Finish Done b.dir.trace) (x.same ∙ x.me) (x.finishes t)
@@ -109,8 +76,8 @@ module _ {line : Line} {now : ℕ} {draw : Draw} {intent : Intent} {a b : Inside
   pub finish_ext : (asked : Request → Bool) → asked Finish ≡ true → Extends asked me x.ended.trace b.dir.trace
   finish_ext asked is = step_extends asked me x.ended.trace Finish Done b.dir.trace is finish_call
 
-  whole_ext : Extends (in_process (asks line now draw)) me a.dir.trace b.dir.trace
-  whole_ext = and_more (and_more (begin_ext (in_process (asks line now draw)) refl) refl (extends_wider (asks_in_process (asks line now draw)) act_ext)) refl (finish_ext (in_process (asks line now draw)) (or_last (asks line now draw Finish) true refl))
+  whole_ext : Extends (in_process asks) me a.dir.trace b.dir.trace
+  whole_ext = and_more (and_more (begin_ext (in_process asks) refl) refl (extends_wider (asks_in_process asks) act_ext)) refl (finish_ext (in_process asks) (or_last (asks Finish) true refl))
 
   -- by a directory that shows so at these two moments
   module _ (d d' : DirAt) (begins : dir_seen x.begun.observed d ≡ x.begun) (ends : dir_seen x.ended.observed d' ≡ x.ended) where
@@ -126,8 +93,8 @@ module _ {line : Line} {now : ℕ} {draw : Draw} {intent : Intent} {a b : Inside
     pub to_is : x.ended.trace ≡ d'.trace
     to_is = sym (ap (λ (z : DirSeen). z.trace) ends)
 
-    ext : Extends (in_process (asks line now draw)) d.process a.dir.trace b.dir.trace
-    ext = subst (λ (p : ℕ). Extends (in_process (asks line now draw)) p a.dir.trace b.dir.trace) me_is whole_ext
+    ext : Extends (in_process asks) d.process a.dir.trace b.dir.trace
+    ext = subst (λ (p : ℕ). Extends (in_process asks) p a.dir.trace b.dir.trace) me_is whole_ext
 
     alone : Quiet me a.dir.trace b.dir.trace → Quiet d.process a.dir.trace b.dir.trace
     alone q = subst (λ (p : ℕ). Quiet p a.dir.trace b.dir.trace) me_is q
@@ -151,7 +118,7 @@ module _ (pod : PodId) (now : ℕ) (draw : Draw) (a b : Inside) (answer : Answer
   abbrev its_intent : Intent
   its_intent = intent_for kind.RunPrepared (pod_text pod.bytes) now draw
 
-  passed_in : CameInProcess (RunPrepared pod) now draw its_intent a b answer → PassesQuietly pod a.dir b.dir (outcome_of answer)
+  passed_in : WithinProcess (runs_prepared pod) (λ p q. RunPreparedSays pod p q answer) its_intent a b → PassesQuietly pod a.dir b.dir (outcome_of answer)
   passed_in x = by x.came.so
     where
       d : DirAt
@@ -197,8 +164,11 @@ module _ (words : List (List ℕ)) (now : ℕ) (draw : Draw) (a b : Inside) (t :
   abbrev new_intent : Intent
   new_intent = intent_for kind.Run [] now draw
 
+  abbrev MadeIn : Answer → Type 0
+  MadeIn answer = WithinProcess (makes_and_runs draw.uuid) (λ p q. RunIsTold words now draw p q answer) new_intent a b
+
   -- the pod of a run, whatever came of it
-  module _ {answer : Answer} (x : CameInProcess (Run words) now draw new_intent a b answer) where
+  module _ {answer : Answer} (x : MadeIn answer) where
     abbrev d : DirAt
     d = x.came.from
 
@@ -231,7 +201,7 @@ module _ (words : List (List ℕ)) (now : ℕ) (draw : Draw) (a b : Inside) (t :
     ends : Extends is_finish a.dir.process d'.trace b.dir.trace
     ends = subst (λ (h : List Event). Extends is_finish a.dir.process h b.dir.trace) (to_is x t d d' x.came.begins x.came.ends) (finish_ext x t is_finish refl)
 
-  made_in : (told : Told) → CameInProcess (Run words) now draw new_intent a b (Ok told) → LeavesMade words now draw a.dir b.dir (Ok told.text)
+  made_in : (told : Told) → MadeIn (Ok told) → LeavesMade words now draw a.dir b.dir (Ok told.text)
   made_in told x = by x.came.so
     where
       by : NewRunSays x.begun.observed a.spawner.observed words now draw (d x) (d' x) a.spawner.shown b.spawner.shown (Ok told) → LeavesMade words now draw a.dir b.dir (Ok told.text)
@@ -253,7 +223,7 @@ module _ (words : List (List ℕ)) (now : ℕ) (draw : Draw) (a b : Inside) (t :
   of_why r (inl is) = cc
   of_why r (inr why) = why
 
-  refused_in : (r : Refusal) → CameInProcess (Run words) now draw new_intent a b (Err r) → (r ≡ NoMemory) ⊎ IsWhy r
+  refused_in : (r : Refusal) → MadeIn (Err r) → (r ≡ NoMemory) ⊎ IsWhy r
   refused_in r x = by x.came.so
     where
       by : NewRunSays x.begun.observed a.spawner.observed words now draw (d x) (d' x) a.spawner.shown b.spawner.shown (Err r) → (r ≡ NoMemory) ⊎ IsWhy r
@@ -266,6 +236,12 @@ module _ (words : List (List ℕ)) (now : ℕ) (draw : Draw) (a b : Inside) (t :
   made (Ok told) (inr x) = ok_not_err told NoMemory x.0
   made (Err r) (inl x) = of_why r (refused_in r x)
   made (Err r) (inr x) = of_why r (inl (same_refusal r NoMemory x.0))
+
+-- what a command that starts apps comes to
+abbrev pub RunsQuietly : Line → ℕ → Draw → DirSeen → DirSeen → Outcome → Type 0
+RunsQuietly (RunPrepared pod) now draw old new o = PassesQuietly pod old new o
+RunsQuietly (Run words) now draw old new o = LeavesMade words now draw old new o
+RunsQuietly line now draw old new o = Unit {0}
 
 -- of each command
 pub runs_quietly : (line : Line) (now : ℕ) (draw : Draw) (a b : Inside) (answer : Answer) → (runs_apps line ≡ true → a.dir.observed ≡ true) → (runs_apps line ≡ true → Quiet a.dir.process a.dir.trace b.dir.trace) →

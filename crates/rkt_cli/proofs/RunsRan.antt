@@ -23,13 +23,14 @@ use Rattle.command_outcomes.specs.declared.told.Told.{Told}
 use Rattle.command_outcomes.specs.Conforming.{begun}
 use Rattle.command_outcomes.specs.Moments.{BundleSeen, Answer, outcome_of, dir_seen}
 use Rattle.command_outcomes.proofs.Seen.{beside}
-use Rattle.run_commands.specs.Refusals.{run_prepared_refusal, new_run_refusal}
-use Rattle.run_commands.specs.RunPrepared.{runs_prepared, CanClaim}
-use Rattle.run_commands.specs.Run.{makes_and_runs, CanRun}
-use Rattle.run_commands.proofs.Claimed.{may_begin}
+use Rattle.commands.specs.RunRefusals.{run_prepared_refusal, new_run_refusal}
+use Rattle.commands.specs.RunPrepared.{runs_prepared, CanClaim}
+use Rattle.commands.specs.Run.{makes_and_runs, CanRun}
+use Rattle.commands.proofs.Claimed.{may_begin}
 use Rattle.rkt_cli.specs.declared.line.Line.{Line}
 use Rattle.rkt_cli.specs.declared.line.Line.TheVariants.{RunPrepared, Run}
-use Rattle.rkt_cli.specs.Commands.{intent_for, intent_of, may}
+use Rattle.commands.specs.Command.{intent_for}
+use Rattle.rkt_cli.specs.Commands.{intent_of, may}
 use Rattle.rkt_cli.specs.Runs.{CommandRan}
 use Rattle.rkt_cli.proofs.Ran.{ran}
 
@@ -81,8 +82,8 @@ module _ (line : Line) (now : ℕ) (draw : Draw) (observed : Bool) (a b : DirAt)
 
   pub prepared_ran : (pod : PodId) → line ≡ RunPrepared pod → Worked observed (runs_prepared pod) a b → (IsErrOf answer DirFault → Rose a.faults b.faults) → IfErr answer (λ r. run_prepared_refusal r ≡ true) → Ran line
   prepared_ran pod is worked cause known =
-      ran (RunPrepared pod) run_prepared_refusal refl (prepared_may pod) line now draw observed a b bundle (outcome_of answer) is tt worked (λ fault. cause (fault_of answer fault)) (as_outcome run_prepared_refusal answer known) tt
+      ran (RunPrepared pod) run_prepared_refusal refl (prepared_may pod) line now draw observed a b bundle (outcome_of answer) is refl worked (λ fault. cause (fault_of answer fault)) (as_outcome run_prepared_refusal answer known) tt
 
   pub made_ran : (words : List (List ℕ)) → line ≡ Run words → Worked observed (makes_and_runs draw.uuid) a b → (IsErrOf answer DirFault → Rose a.faults b.faults) → IfErr answer (λ r. new_run_refusal r ≡ true) → Ran line
   made_ran words is worked cause known =
-      ran (Run words) new_run_refusal refl (made_may words) line now draw observed a b bundle (outcome_of answer) is tt worked (λ fault. cause (fault_of answer fault)) (as_outcome new_run_refusal answer known) tt
+      ran (Run words) new_run_refusal refl (made_may words) line now draw observed a b bundle (outcome_of answer) is refl worked (λ fault. cause (fault_of answer fault)) (as_outcome new_run_refusal answer known) tt

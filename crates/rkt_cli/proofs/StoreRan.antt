@@ -19,13 +19,15 @@ use Rattle.command_outcomes.specs.declared.refusal.Refusal.TheVariants.{DirFault
 use Rattle.command_outcomes.specs.Moments.{BundleSeen, Outcome}
 use Rattle.command_outcomes.specs.Conforming.{begun, StaysConforming}
 use Rattle.command_outcomes.proofs.Seen.{seen_at, beside}
-use Rattle.store_commands.specs.ImageImport.{image_import_refusal, ImageImportSays}
-use Rattle.store_commands.specs.ImageRm.{image_rm_refusal, ImageRmSays}
-use Rattle.store_commands.specs.ImageGc.{image_gc_refusal, ImageGcSays}
+use Rattle.commands.specs.Kept.{KeepsRefused}
+use Rattle.commands.specs.ImageImport.{image_import_refusal, ImageImportSays}
+use Rattle.commands.specs.ImageRm.{image_rm_refusal, ImageRmSays}
+use Rattle.commands.specs.ImageGc.{image_gc_refusal, ImageGcSays}
 use Rattle.rkt_cli.specs.declared.line.Line.{Line}
 use Rattle.rkt_cli.proofs.Ran.{ran}
 use Rattle.rkt_cli.specs.declared.line.Line.TheVariants.{ImageImport, ImageRm, ImageGc}
-use Rattle.rkt_cli.specs.Commands.{intent_for, intent_of, may}
+use Rattle.commands.specs.Command.{intent_for}
+use Rattle.rkt_cli.specs.Commands.{intent_of, may}
 use Rattle.rkt_cli.specs.Runs.{CommandRan}
 
 -- a process that imports began so
@@ -60,7 +62,7 @@ import_ran line now draw path observed a b before after o is worked cause faults
       bundle_cause = bundle_cause;
       refusals = import_end path o known;
       extends = worked.extends;
-      reads = tt;
+      reads = faults;
       says = says;
     }
 
@@ -97,11 +99,11 @@ sweep_may DirFault known = known
 sweep_may r known = known
 
 pub removal_ran : (line : Line) (now : ℕ) (draw : Draw) (key : StoreKey) (observed : Bool) (a b : DirAt) (bundle : BundleSeen) (o : Outcome) → line ≡ ImageRm key → Worked observed (removes_at key draw.uuid) a b →
-    (IsErrOf o DirFault → Rose a.faults b.faults) → IfErr o (λ r. image_rm_refusal r ≡ true) → ImageRmSays key draw.uuid (seen_at observed a) (seen_at observed b) o →
+    (IsErrOf o DirFault → Rose a.faults b.faults) → IfErr o (λ r. image_rm_refusal r ≡ true) → ImageRmSays key draw.uuid (seen_at observed a) (seen_at observed b) o → KeepsRefused (seen_at observed a) (seen_at observed b) o →
     CommandRan line now draw (beside (seen_at observed a) bundle) (beside (seen_at observed b) bundle) o
-removal_ran line now draw key observed a b bundle o is worked cause known says = ran (ImageRm key) image_rm_refusal refl (removal_may key) line now draw observed a b bundle o is tt worked cause known says
+removal_ran line now draw key observed a b bundle o is worked cause known says kept = ran (ImageRm key) image_rm_refusal refl (removal_may key) line now draw observed a b bundle o is refl worked cause known (says, kept)
 
 pub sweep_ran : (line : Line) (now : ℕ) (draw : Draw) (observed : Bool) (a b : DirAt) (bundle : BundleSeen) (o : Outcome) → line ≡ ImageGc → Worked observed sweeps a b →
     (IsErrOf o DirFault → Rose a.faults b.faults) → IfErr o (λ r. image_gc_refusal r ≡ true) → ImageGcSays (seen_at observed a) (seen_at observed b) o →
     CommandRan line now draw (beside (seen_at observed a) bundle) (beside (seen_at observed b) bundle) o
-sweep_ran line now draw observed a b bundle o is worked cause known says = ran ImageGc image_gc_refusal refl sweep_may line now draw observed a b bundle o is tt worked cause known says
+sweep_ran line now draw observed a b bundle o is worked cause known says = ran ImageGc image_gc_refusal refl sweep_may line now draw observed a b bundle o is refl worked cause known says

@@ -2,8 +2,8 @@
 use Rattle.std.proofs.Common.{arith, ◌≡◌, ℕ, Bool, true, false, cond, ◌<◌, ◌≤◌, Option, Some, None, option_map, Err, List, [], ◌∷◌, length, map, nat_eq, String, string_bytes, refl, sym, ap, ◌∙◌}
 use Rattle.std.specs.Global.{Global}
 use Rattle.std.specs.List.{list_all}
-use Rattle.pod_commands.specs.References.{is_reference}
-use Rattle.pod_commands.proofs.Words.{all_words}
+use Rattle.commands.specs.References.{is_reference}
+use Rattle.commands.proofs.Words.{all_words}
 use Rattle.rkt_cli.specs.declared.line.Line.{Line}
 use Rattle.rkt_cli.specs.declared.line.WordsError.{WordsError}
 use Rattle.rkt_cli.specs.declared.line.WordsError.TheVariants.{Usage, NoMemory}

@@ -1,10 +1,7 @@
-pub mod Texts
 pub mod Lines
-pub mod Status
-pub mod Validate
 pub mod Commands
 pub mod Spawns
 pub mod Runs
 pub mod Histories
-pub mod Statuses
+pub mod Promises
 pub mod Between

@@ -5,7 +5,7 @@ use Rattle.ac_types.specs.Ids.{key_read}
 use Rattle.dir_model.specs.declared.pod.PodId.{PodId}
 use Rattle.dir_trait.specs.Pods.{pod_of}
 use Rattle.rkt_cli.specs.declared.line.Line.{Line}
-use Rattle.pod_commands.specs.References.{are_references}
+use Rattle.commands.specs.References.{are_references}
 use Rattle.rkt_cli.specs.declared.line.Line.TheVariants.{Status, Validate, ImageList, ImageImport, ImageRm, ImageGc, Prepare, RunPrepared, Run, Rm, Gc}
 use Rattle.rkt_cli.specs.declared.line.WordsError.{WordsError}
 use Rattle.rkt_cli.specs.declared.line.WordsError.TheVariants.{Usage, NoMemory}

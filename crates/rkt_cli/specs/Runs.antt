@@ -10,15 +10,16 @@ use Rattle.dir_trait.specs.Calls.{Extends, CallStep}
 use Rattle.dir_trait.specs.Local.{Local}
 use Rattle.dir_trait.specs.Sinks.{WritesPart}
 use Rattle.rkt_cli.specs.declared.line.Line.{Line}
-use Rattle.rkt_cli.specs.declared.line.Line.TheVariants.{RunPrepared, Run}
-use Rattle.command_outcomes.specs.declared.told.Told.{Told}
 use Rattle.command_outcomes.specs.declared.refusal.Refusal.{Refusal}
 use Rattle.command_outcomes.specs.declared.refusal.Refusal.TheVariants.{Usage, DirFault, BundleFault, SpawnFault, OutFault, NoMemory}
-use Rattle.command_outcomes.specs.Texts.{status_of, message, is_made}
+use Rattle.command_outcomes.specs.Texts.{status_of}
 use Rattle.command_outcomes.specs.Conforming.{StaysConforming}
-use Rattle.command_outcomes.specs.Moments.{Outside, Inside, Moment, SinkSeen, Outcome, Answer, outcome_of}
+use Rattle.command_outcomes.specs.Moments.{Outside, Moment, SinkSeen, Outcome, Answer, outcome_of}
+use Rattle.commands.specs.Answers.{inside_in, Complained}
+use Rattle.commands.specs.AppsTold.{TellsApps}
+use Rattle.commands.specs.Command.{Saying, alone, running}
 use Rattle.rkt_cli.specs.Spawns.{CameBetween}
-use Rattle.rkt_cli.specs.Commands.{uses_dir, runs_apps_in, intent_of, asks, may, CommandSays, ReadsOnly}
+use Rattle.rkt_cli.specs.Commands.{command_in, uses_dir, runs_apps_in, intent_of, asks, may, CommandSays, ReadsOnly}
 
 -- what a command leaves and answers, whichever it is
 pub record CommandRan (line : Line) (now : ℕ) (draw : Draw) (old new : Outside) (o : Outcome) : Type 0 where
@@ -108,24 +109,10 @@ pub record Printed (o : Outcome) (old new : SinkSeen) (end : End) : Type 0 where
   pub part : (text : List ℕ) → o ≡ Ok text → old.observed ≡ true → WritesPart old.bytes text new.bytes
   pub cause : (text : List ℕ) → o ≡ Ok text → IfErr end (λ r. Unwritten r old new)
 
--- the sink refused a piece
-abbrev pub HasRefused : SinkSeen → SinkSeen → Type 0
-HasRefused old new = Rose old.faults new.faults ⊎ Rose old.shortages new.shortages
-
--- the refusal's message was written to the error output: whole, or a part of it from its start where the error output
--- refused, or nothing where the message takes memory and the program had none
-pub record Complained (refusal : Refusal) (old new : SinkSeen) : Type 0 where
-  pub part : old.observed ≡ true → WritesPart old.bytes (message refusal) new.bytes
-  pub whole : (old.observed ≡ true → new.bytes ≡ old.bytes ++ message refusal) ⊎ HasRefused old new ⊎ ((is_made refusal ≡ true) × (new ≡ old))
-
 -- nothing is said of a command that was done
 abbrev pub Reported : End → SinkSeen → SinkSeen → Type 0
 Reported (Ok done) old new = new ≡ old
 Reported (Err refusal) old new = Complained refusal old new
-
--- the directory and the spawner at a moment
-abbrev pub inside_in : Moment → Inside
-inside_in m = record { dir = m.outside.dir; spawner = m.spawner }
 
 -- the words are a command, and it ran
 pub record RunOfLine (line : Line) (now : ℕ) (draw : Draw) (intent : Option Intent) (old new : Moment) (status : ℕ) : Type 0 where
@@ -153,25 +140,14 @@ abbrev pub RunOf : Option Line → ℕ → Draw → Moment → Moment → ℕ �
 RunOf None now draw old new status = RunOfNothing Usage old new status
 RunOf (Some line) now draw old new status = RunOfLine line now draw (intent_of line now draw) old new status ⊎ RunOfNothing NoMemory old new status
 
--- 0 where all apps ended with 0, and else 16
-abbrev pub well_status : Bool → ℕ
-well_status true = 0
-well_status false = 16
+-- how the apps ran of a command that starts some. No other has status 16
+abbrev pub AppsOf : Saying → (Answer → Type 0) → ℕ → Moment → Moment → Type 0
+AppsOf (alone says) came status old new = status ≢ 16
+AppsOf (running says) came status old new = TellsApps came status old new
 
--- of a command that starts apps: what was told of the pod and its apps was written, and with status 0 each app ended with 0, with 16
--- some didn't; with 12 and 14 it may not have been written; or this refusal was said. Each with what it rests on. Or nothing was called
-abbrev pub TellsRun : Line → ℕ → Draw → ℕ → Inside → Inside → SinkSeen → SinkSeen → SinkSeen → SinkSeen → Type 0
-TellsRun line now draw status old new out out' err err' =
-    ((told : Told) × (status ≡ well_status told.well) × CameBetween line now draw (intent_of line now draw) old new (Ok told) × (out.observed ≡ true → out'.bytes ≡ out.bytes ++ told.text))
-    ⊎ ((told : Told) × ((status ≡ 12) ⊎ (status ≡ 14)) × CameBetween line now draw (intent_of line now draw) old new (Ok told))
-    ⊎ ((refusal : Refusal) × (status ≡ status_of refusal) × CameBetween line now draw (intent_of line now draw) old new (Err refusal) × Complained refusal err err')
-    ⊎ ((status ≡ 14) × (new ≡ old))
-
--- no other command has status 16
-abbrev pub TellsApps : Option Line → ℕ → Draw → ℕ → Inside → Inside → SinkSeen → SinkSeen → SinkSeen → SinkSeen → Type 0
-TellsApps (Some (RunPrepared pod)) now draw status old new out out' err err' = TellsRun (RunPrepared pod) now draw status old new out out' err err'
-TellsApps (Some (Run words)) now draw status old new out out' err err' = TellsRun (Run words) now draw status old new out out' err err'
-TellsApps _ now draw status old new out out' err err' = status ≢ 16
+abbrev pub AppsIn : Option Line → ℕ → Draw → ℕ → Moment → Moment → Type 0
+AppsIn None now draw status old new = status ≢ 16
+AppsIn (Some line) now draw status old new = AppsOf (command_in line).says (CameBetween line now draw (intent_of line now draw) (inside_in old) (inside_in new)) status old new
 
 -- the status of the run as if all apps had ended with 0, and then its own
 abbrev pub Graded : Option Line → ℕ → ℕ → Type 0
@@ -182,4 +158,4 @@ pub record RunIs (line : Option Line) (now : ℕ) (draw : Draw) (old new : Momen
   pub plain : ℕ
   pub ran : RunOf line now draw old new plain
   pub is : Graded line plain status
-  pub apps : TellsApps line now draw status (inside_in old) (inside_in new) old.out new.out old.err new.err
+  pub apps : AppsIn line now draw status old new

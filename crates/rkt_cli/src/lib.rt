@@ -4,9 +4,7 @@
 mod line;
 mod perform;
 mod print;
-mod status;
 mod top;
-mod validate;
 
 pub use line::{Line, WordsError, read_line};
 pub use print::refuse;

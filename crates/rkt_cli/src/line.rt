@@ -3,8 +3,8 @@ ghost use Rattle.std.specs.Prelude.{◌≡◌, Some, map, string_bytes};
 ghost use Rattle.rkt_cli.specs.Lines.{is_file_word, single_of, is_pod_command, pod_command_of, other_command_of, command_of, removal_of, long_command_of, images_of, prepare_of, run_of, short_line_of, begins_with, line_in, IsReading, IsImages};
 
 use ac_types::{StoreKey, Text};
+use commands::{Wanted, are_references};
 use dir_trait::PodId;
-use pod_commands::{Wanted, are_references};
 use std::alloc::Global;
 
 /// A command with its words.

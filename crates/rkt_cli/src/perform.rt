@@ -1,32 +1,34 @@
 // What a command line does to the directory, the bundle and the spawner.
-ghost use Rattle.std.specs.Prelude.{◌≡◌, ◌⊎◌, true, false, Some, None, IsSome, IsNone, IsErrOf};
+ghost use Rattle.std.specs.Prelude.{◌≡◌, ◌⊎◌, true, false, Some, None, IsSome, IsNone, IsErrOf, []};
 ghost use Rattle.dir_model.specs.Causes.{Rose};
 ghost use Rattle.dir_model.specs.declared.intent.Intent.{Intent};
 ghost use Rattle.dir_trait.specs.Knowledge.{Knows};
 ghost use Rattle.dir_trait.specs.Local.{IsActive, nothing_local};
 ghost use Rattle.command_outcomes.specs.Moments.{dir_at, outside_at, inside_at, outcome_of, is_well};
 ghost use Rattle.command_outcomes.specs.Conforming.{begun, StaysConforming};
-ghost use Rattle.rkt_cli.specs.Commands.{uses_dir, reads_bundle, runs_apps, intent_for, gc_intent, intent_of, IsReady};
+ghost use Rattle.commands.specs.Command.{intent_for};
+ghost use Rattle.commands.specs.GcCommand.{gc_intent};
+ghost use Rattle.rkt_cli.specs.Commands.{uses_dir, reads_bundle, runs_apps, intent_of, Came};
 ghost use Rattle.rkt_cli.specs.Runs.{CommandRan, Performs};
-ghost use Rattle.rkt_cli.specs.Spawns.{Came, CameBetween};
+ghost use Rattle.rkt_cli.specs.Spawns.{CameBetween};
 ghost use Rattle.rkt_cli.specs.Histories.{HandsOver, WhereKnown};
 
 use crate::line::Line;
-use crate::status::pod_status;
-use crate::validate::validate;
 use command_outcomes::{Output, Refusal, Told};
+use commands::gc::gc_pods;
+use commands::image_gc::image_gc;
+use commands::image_import::image_import;
+use commands::image_list::image_list;
+use commands::image_rm::image_rm;
+use commands::prepare::prepare_pod;
+use commands::rm::rm;
+use commands::run::run;
+use commands::run_prepared::run_prepared;
+use commands::status::pod_status;
+use commands::validate::validate;
 use dir_trait::{Bundle, Dir, Draw, Intent, Kind, PodPrefix};
-use pod_commands::prepare::prepare_pod;
-use removal_commands::gc::gc_pods;
-use removal_commands::rm::rm;
-use run_commands::run::run;
-use run_commands::run_prepared::run_prepared;
 use spawner::Spawner;
 use std::alloc::Global;
-use store_commands::image_gc::image_gc;
-use store_commands::image_import::image_import;
-use store_commands::image_list::image_list;
-use store_commands::image_rm::image_rm;
 
 // How long an exited pod rests since it was marked, and a prepared one since it was made, in seconds: half an hour, a day.
 const GRACE: u64 = 1_800;
@@ -97,7 +99,7 @@ fn act_alone<D: Dir, B: Bundle>(
     bundle: &mut B,
 ) -> Result<Output, Refusal>
     requires active { uses_dir line.now ≡ true → IsActive (D.shown dir.old).local }
-    requires ready { IsReady line.now (D.shown dir.old).local }
+    requires ready { (D.shown dir.old).local.holdings ≡ [] }
     requires alone { runs_apps line.now ≡ false }
     ensures local { (D.shown dir.new).local ≡ (D.shown dir.old).local }
     ensures apart { uses_dir line.now ≡ false → dir.new ≡ dir.old }
@@ -143,7 +145,7 @@ fn act<D: Dir, B: Bundle, S: Spawner>(
     spawner: &mut S,
 ) -> Result<Told, Refusal>
     requires active { uses_dir line.now ≡ true → IsActive (D.shown dir.old).local }
-    requires ready { IsReady line.now (D.shown dir.old).local }
+    requires ready { (D.shown dir.old).local.holdings ≡ [] }
     requires known { D.observed ≡ true → (intent : Intent) → intent_of line.now now draw.now ≡ Some intent → Knows (D.shown dir.old) (begun intent) }
     ensures local { (D.shown dir.new).local ≡ (D.shown dir.old).local }
     ensures apart { uses_dir line.now ≡ false → dir.new ≡ dir.old }

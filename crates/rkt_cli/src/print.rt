@@ -2,7 +2,8 @@
 ghost use Rattle.std.specs.Prelude.{◌≡◌, IfOk};
 ghost use Rattle.command_outcomes.specs.Texts.{status_of};
 ghost use Rattle.command_outcomes.specs.Moments.{sink_at, outcome_of, is_well};
-ghost use Rattle.rkt_cli.specs.Runs.{Printed, Complained, Reported, end_of_writing, status_at};
+ghost use Rattle.commands.specs.Answers.{Complained};
+ghost use Rattle.rkt_cli.specs.Runs.{Printed, Reported, end_of_writing, status_at};
 
 use command_outcomes::{Refusal, Told};
 use dir_trait::{Sink, SinkError, write_whole};

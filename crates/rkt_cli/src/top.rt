@@ -1,20 +1,16 @@
 // The top call.
 ghost use Rattle.std.specs.Prelude.{◌≡◌, ◌↔◌, true, false, None};
-ghost use Rattle.dir_trait.specs.Causes.{Rose};
+ghost use Rattle.command_outcomes.specs.Conforming.{KeepsConforming};
+ghost use Rattle.command_outcomes.specs.Moments.{dir_at, bundle_at};
 ghost use Rattle.dir_trait.specs.DirCalls.{ExtendsBy};
 ghost use Rattle.dir_trait.specs.Local.{nothing_local};
-ghost use Rattle.rkt_cli.specs.Lines.{line_in};
-ghost use Rattle.lifecycle.specs.Executions.{IsConforming};
-ghost use Rattle.rkt_cli.specs.Histories.{TellsHistory, TellsDeed, TellsLeft, HandsOver, IsComplete};
 ghost use Rattle.pod_build.specs.LegalExecutions.{IsLegal};
 ghost use Rattle.pod_roots.specs.Roots.{AppsStartFaithfully, PodsReadAsMade};
-ghost use Rattle.command_outcomes.specs.Conforming.{KeepsConforming};
-ghost use Rattle.command_outcomes.specs.Moments.{dir_at, bundle_at, outside_at, inside_at, sink_at};
-ghost use Rattle.rkt_cli.specs.Between.{RunBetween, JudgedBetween, QuietBetween};
-ghost use Rattle.rkt_cli.specs.Commands.{runs_apps_in};
-ghost use Rattle.rkt_cli.specs.Runs.{TellsApps};
-ghost use Rattle.rkt_cli.specs.Statuses.{uses_dir_in, reads_bundle_in, IsMissing, IsWrongPhase, IsWithoutManifest, IsBadManifest, IsLimit, IsLacking, IsTaken, IsLockBusy};
-ghost use Rattle.rkt_cli.specs.Statuses.{IsNoImage, IsStray, asks_in, IsStatus, IsOutput, IsComplaint, IsOver, ReadsIn};
+ghost use Rattle.rkt_cli.specs.Between.{EndedBetween, ToldBetween, QuietBetween, RunBetween};
+ghost use Rattle.rkt_cli.specs.Commands.{uses_dir_in, reads_bundle_in, runs_apps_in};
+ghost use Rattle.rkt_cli.specs.Histories.{HandsOver, StaysLawful};
+ghost use Rattle.rkt_cli.specs.Lines.{line_in};
+ghost use Rattle.rkt_cli.specs.Promises.{asks_in, IsStatus, IsOutput, IsOver, ReadsIn};
 
 use crate::line::{WordsError, read_line};
 use crate::perform::perform;
@@ -74,52 +70,22 @@ pub fn rkt<D: Dir, B: Bundle, S: Spawner, O: Sink, E: Sink>(
     requires fresh { (D.shown dir.old).local ≡ nothing_local }
     ensures statuses { IsStatus result }
     ensures usage { (result ≡ 1) ↔ (line_in words.now ≡ None) }
+    ensures ended { EndedBetween D.Dir B.Bundle S.Spawner O.Sink E.Sink (line_in words.now) now draw.now result
+        (dir.old, bundle.old, spawner.old, out.old, err.old) (dir.new, bundle.new, spawner.new, out.new, err.new) }
+    ensures tells { ToldBetween D.Dir B.Bundle S.Spawner O.Sink E.Sink (line_in words.now) now draw.now result
+        (dir.old, bundle.old, spawner.old, out.old, err.old) (dir.new, bundle.new, spawner.new, out.new, err.new) }
+    ensures out { O.observed ≡ true → IsOutput (line_in words.now) draw.now (bundle_at B.Bundle bundle.old) result (O.shown out.old).bytes (O.shown out.new).bytes }
     ensures apart { uses_dir_in (line_in words.now) ≡ false → dir.new ≡ dir.old }
     ensures unread { reads_bundle_in (line_in words.now) ≡ false → bundle.new ≡ bundle.old }
     ensures unasked { runs_apps_in (line_in words.now) ≡ false → spawner.new ≡ spawner.old }
-    ensures no_pod { result ≡ 2 → D.observed ≡ true → IsMissing (line_in words.now) (dir_at D.Dir dir.old) (dir_at D.Dir dir.new) }
-    ensures wrong_phase { result ≡ 4 → IsWrongPhase (line_in words.now) (dir_at D.Dir dir.old) (dir_at D.Dir dir.new)
-        (sink_at E.Sink err.old) (sink_at E.Sink err.new) }
-    ensures no_manifest { result ≡ 18 → IsWithoutManifest (line_in words.now) (dir_at D.Dir dir.old) (dir_at D.Dir dir.new)
-        (sink_at E.Sink err.old) (sink_at E.Sink err.new) }
-    ensures no_program { result ≡ 19 → runs_apps_in (line_in words.now) ≡ true }
-    ensures bad_manifest { result ≡ 6
-        → IsBadManifest (line_in words.now) now draw.now (outside_at D.Dir B.Bundle dir.old bundle.old) (outside_at D.Dir B.Bundle dir.new bundle.new)
-        (sink_at E.Sink err.old) (sink_at E.Sink err.new) }
-    ensures limit { result ≡ 8 → IsLimit (line_in words.now) now draw.now (outside_at D.Dir B.Bundle dir.old bundle.old) (outside_at D.Dir B.Bundle dir.new bundle.new)
-        (sink_at E.Sink err.old) (sink_at E.Sink err.new) }
-    ensures no_image { result ≡ 7 → IsNoImage (line_in words.now) now draw.now (outside_at D.Dir B.Bundle dir.old bundle.old) (outside_at D.Dir B.Bundle dir.new bundle.new)
-        (sink_at E.Sink err.old) (sink_at E.Sink err.new) }
-    ensures taken { result ≡ 17 → IsTaken (line_in words.now) now draw.now (outside_at D.Dir B.Bundle dir.old bundle.old) (outside_at D.Dir B.Bundle dir.new bundle.new)
-        (sink_at E.Sink err.old) (sink_at E.Sink err.new) }
-    ensures stray { result ≡ 20 → IsStray (line_in words.now) now draw.now (outside_at D.Dir B.Bundle dir.old bundle.old) (outside_at D.Dir B.Bundle dir.new bundle.new) }
-    ensures dir_fault { result ≡ 9 → Rose (D.shown dir.old).faults (D.shown dir.new).faults }
-    ensures bundle_fault { result ≡ 10 → Rose (B.shown bundle.old).faults (B.shown bundle.new).faults }
-    ensures spawn_fault { result ≡ 11 → Rose (S.shown spawner.old).faults (S.shown spawner.new).faults }
-    ensures out_fault { result ≡ 12 → Rose (O.shown out.old).faults (O.shown out.new).faults }
-    ensures busy { result ≡ 5 → IsLockBusy (line_in words.now) (dir_at D.Dir dir.old) (dir_at D.Dir dir.new)
-        (sink_at E.Sink err.old) (sink_at E.Sink err.new) }
-    ensures lacking { result ≡ 15 → IsLacking (line_in words.now) now draw.now (outside_at D.Dir B.Bundle dir.old bundle.old)
-        (outside_at D.Dir B.Bundle dir.new bundle.new) (sink_at E.Sink err.old) (sink_at E.Sink err.new) }
-    ensures judged { B.observed ≡ true → JudgedBetween D.Dir B.Bundle S.Spawner O.Sink E.Sink (line_in words.now) result
-        (dir.old, bundle.old, spawner.old, out.old, err.old) (dir.new, bundle.new, spawner.new, out.new, err.new) }
-    ensures over { IsOver (line_in words.now) now draw.now result (D.shown dir.old).local (D.shown dir.new).local }
     ensures reads { ReadsIn (line_in words.now) (bundle_at B.Bundle bundle.old) (bundle_at B.Bundle bundle.new) }
+    ensures over { IsOver (line_in words.now) now draw.now result (D.shown dir.old).local (D.shown dir.new).local }
     ensures extends { D.observed ≡ true → ExtendsBy (asks_in (line_in words.now) now draw.now) (D.shown dir.old) (D.shown dir.new) }
     ensures conforms { D.observed ≡ true → KeepsConforming (dir_at D.Dir dir.old) (dir_at D.Dir dir.new) }
+    ensures lawful { D.observed ≡ true → StaysLawful draw.now (dir_at D.Dir dir.old) (dir_at D.Dir dir.new) }
     ensures makers { D.observed ≡ true → HandsOver (D.shown dir.old) (D.shown dir.new) }
     ensures starts { D.observed ≡ true → IsLegal (D.shown dir.new).trace → AppsStartFaithfully (D.shown dir.new).trace }
     ensures as_made { D.observed ≡ true → IsLegal (D.shown dir.new).trace → PodsReadAsMade (D.shown dir.new).trace }
-    ensures deed { D.observed ≡ true → TellsDeed (line_in words.now) now draw.now result (dir_at D.Dir dir.old) (dir_at D.Dir dir.new)
-        (sink_at O.Sink out.old) (sink_at O.Sink out.new) }
-    ensures left { D.observed ≡ true → TellsLeft (line_in words.now) now draw.now result (dir_at D.Dir dir.old) (dir_at D.Dir dir.new) }
-    ensures history { D.observed ≡ true → IsConforming (D.shown dir.new).trace → TellsHistory (line_in words.now) now draw.now result
-        (outside_at D.Dir B.Bundle dir.old bundle.old) (outside_at D.Dir B.Bundle dir.new bundle.new) (sink_at O.Sink out.old) (sink_at O.Sink out.new) }
-    ensures complete { D.observed ≡ true → IsComplete (line_in words.now) result (dir_at D.Dir dir.old) (dir_at D.Dir dir.new) }
-    ensures apps { TellsApps (line_in words.now) now draw.now result (inside_at D.Dir S.Spawner dir.old spawner.old) (inside_at D.Dir S.Spawner dir.new spawner.new)
-        (sink_at O.Sink out.old) (sink_at O.Sink out.new) (sink_at E.Sink err.old) (sink_at E.Sink err.new) }
-    ensures out { O.observed ≡ true → IsOutput (line_in words.now) draw.now (bundle_at B.Bundle bundle.old) result (O.shown out.old).bytes (O.shown out.new).bytes }
-    ensures err { IsComplaint (line_in words.now) result (sink_at E.Sink err.old) (sink_at E.Sink err.new) }
     ensures quiet { QuietBetween D.Dir B.Bundle S.Spawner O.Sink E.Sink (line_in words.now) now draw.now result
         (dir.old, bundle.old, spawner.old, out.old, err.old) (dir.new, bundle.new, spawner.new, out.new, err.new) }
     ensures ran { RunBetween D.Dir B.Bundle S.Spawner O.Sink E.Sink (line_in words.now) now draw.now result

@@ -7,6 +7,8 @@ use Rattle.dir_model.proofs.Chains.{nothing_yet, and_call, and_more}
 use Rattle.dir_model.proofs.Spots.{spot_self}
 use Rattle.folder_removal.specs.declared.error.DeleteError.TheVariants.{Stray}
 use Rattle.folder_removal.specs.Known.{OnlyTries}
+use Rattle.folder_removal.specs.Removal.{KeepsFolders}
+use Rattle.folder_removal.proofs.Keeping.{kept_spared, kept_more, kept_call}
 use Rattle.folder_removal.proofs.Steps.{err_any}
 use Rattle.folder_removal.proofs.Strays.{folder_stray, stray_folder, listing_stray, stray_emptied}
 use Rattle.folder_removal.proofs.Knowing.{tries_tasks, tries_folder, deletes}
@@ -62,3 +64,18 @@ returns-in-Err-clause-stray g c h t =
     let is : c.delete_error.result ≡ Stray = cc in
     folder_stray c.in-Err.error (stray_folder c.args.spot c.in-Err.error c.in-Err.ensures.refusals (c.delete_error.ensures.stray is))
     (and_more (c.list.ensures.extends t) c.list.ensures.same (c.empty.ensures.extends t)) (c.empty.ensures.same ∙ c.list.ensures.same) (c.in-Err.ensures.called.step t)
+
+pub returns-in_err-tasks-clause-kept : goal.returns-in_err-tasks-clause-kept
+returns-in_err-tasks-clause-kept g c =
+    let D = g.D.Dir in
+    err_any (λ error. D.observed ≡ true → KeepsFolders (D.shown c.args.dir.now) (D.shown c.list.new.dir)) c.from_residual.result (λ error t. kept_spared (c.list.ensures.spares t))
+
+pub returns-in_err-empty-clause-kept : goal.returns-in_err-empty-clause-kept
+returns-in_err-empty-clause-kept g c =
+    let D = g.D.Dir in
+    err_any (λ error. D.observed ≡ true → KeepsFolders (D.shown c.args.dir.now) (D.shown c.empty.new.dir)) c.from_residual-in_err-empty.result
+    (λ error t. kept_spared (and_more (c.list.ensures.spares t) c.list.ensures.same (c.empty.ensures.spares t)))
+
+pub returns-in-Err-clause-kept : goal.returns-in-Err-clause-kept
+returns-in-Err-clause-kept g c t =
+    kept_more (kept_spared (and_more (c.list.ensures.spares t) c.list.ensures.same (c.empty.ensures.spares t))) (c.empty.ensures.same ∙ c.list.ensures.same) (kept_call refl (c.in-Err.ensures.called.step t))

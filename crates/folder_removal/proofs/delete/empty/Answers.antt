@@ -14,6 +14,7 @@ tasks-init g c = record {
   faults = omega arith;
   local = refl;
   extends = λ t. nothing_yet;
+  spares = λ t. nothing_yet;
   shown = λ t start first all. all;
   known = λ t. works_none;
 }
@@ -27,6 +28,7 @@ tasks-preserved g c =
       faults = omega (arith, c.turn.ensures.faults, i.faults);
       local = c.turn.ensures.local ∙ i.local;
       extends = λ t. and_more (i.extends t) i.same (c.turn.ensures.extends t);
+      spares = λ t. and_more (i.spares t) i.same (c.turn.ensures.spares t);
       shown = λ t. shown_more c.args.spot.now (D.shown c.args.dir.now) (D.shown c.tasks.dir) (D.shown c.turn.new.dir) i.same (i.extends t) c.args.tasks.items _ c.turn.new.tasks.items (rw c.in-Some.ensures.items at (i.shown t)) (c.in_ok-turn.ensures.shown t);
       known = λ t. works_more (rw c.in-Some.ensures.items at (i.known t)) (c.in_ok-turn.ensures.work t);
     }
@@ -51,3 +53,6 @@ returns-clause-work g c t =
     let D = g.D.Dir in
     let none : c.tasks.tasks.items ≡ [] = first_of (search (rules, c.in_default.ensures.items, c.in_default.ensures.cases), grind (arith, common_steps, c.in_default.ensures.items, c.in_default.ensures.cases, c.in_default.ensures.rest)) in
     subst (λ (l : List Task). WorksOff c.args.spot.now c.args.tasks.items l (D.shown c.args.dir.now) (D.shown c.tasks.dir)) none (c.tasks.invariant.known t)
+
+pub returns-in_err-turn-clause-spares : goal.returns-in_err-turn-clause-spares
+returns-in_err-turn-clause-spares g c t = and_more (c.tasks.invariant.spares t) c.tasks.invariant.same (c.turn.ensures.spares t)

@@ -1,4 +1,4 @@
-use Rattle.std.proofs.Common.{◌≡◌, true, Ok, List, sym, subst}
+use Rattle.std.proofs.Common.{◌≡◌, true, Ok, List, refl, sym, subst}
 use Rattle.dir_model.specs.declared.item.Inner.{Inner}
 use Rattle.dir_model.specs.declared.request.Reply.TheVariants.{Items, Refused}
 use Rattle.folder_removal.specs.declared.error.DeleteError.TheVariants.{Stray}
@@ -57,3 +57,9 @@ returns-in-Err-clause-stray g c h t =
     let at : Inner = inner_at c.args.spot.now c.args.path.now in
     let is : c.delete_error.result ≡ Stray = cc in
     stray_list at (Refused c.in-Err.error 0) (stray_listing at c.in-Err.error c.in-Err.ensures.refusals (c.delete_error.ensures.stray is)) (c.in-Err.ensures.called.step t)
+
+pub returns-in-Ok-clause-spares : goal.returns-in-Ok-clause-spares
+returns-in-Ok-clause-spares g c t = list_extends refl (c.list_in.ensures.called.step t)
+
+pub returns-in-Err-clause-spares : goal.returns-in-Err-clause-spares
+returns-in-Err-clause-spares g c t = list_extends refl (c.list_in.ensures.called.step t)

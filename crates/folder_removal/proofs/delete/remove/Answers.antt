@@ -3,6 +3,7 @@ use Rattle.dir_model.specs.declared.request.Reply.TheVariants.{Refused}
 use Rattle.dir_model.proofs.Chains.{nothing_yet, and_call}
 use Rattle.folder_removal.specs.declared.error.DeleteError.TheVariants.{Stray}
 use Rattle.folder_removal.proofs.Steps.{asks_removal}
+use Rattle.folder_removal.proofs.Keeping.{spares_removal}
 use Rattle.folder_removal.proofs.Strays.{stray_removal}
 use Rattle.folder_removal.proofs.Knowing.{removal_done, removes_only}
 use Rattle.folder_removal.proofs.delete.remove.Goals as goal
@@ -26,3 +27,9 @@ pub returns-in-Err-clause-stray : goal.returns-in-Err-clause-stray
 returns-in-Err-clause-stray g c h t =
     let is : c.delete_error.result ≡ Stray = cc in
     record { reply = Refused c.in-Err.error 0; stray = stray_removal c.args.spot.now c.args.task.now c.in-Err.error c.in-Err.ensures.refusals (c.delete_error.ensures.stray is); last = c.in-Err.ensures.called.step t }
+
+pub returns-in-Ok-clause-spares : goal.returns-in-Ok-clause-spares
+returns-in-Ok-clause-spares g c t = and_call nothing_yet refl (spares_removal c.args.spot.now c.args.task.now) (c.ask.ensures.called.step t)
+
+pub returns-in-Err-clause-spares : goal.returns-in-Err-clause-spares
+returns-in-Err-clause-spares g c t = and_call nothing_yet refl (spares_removal c.args.spot.now c.args.task.now) (c.ask.ensures.called.step t)

@@ -1,4 +1,4 @@
-use Rattle.std.proofs.Common.{◌≡◌, false, inr, Ok, ap, subst}
+use Rattle.std.proofs.Common.{◌≡◌, false, inr, Ok, ap, subst, true}
 use Rattle.dir_model.specs.declared.spot.Spot.{Spot}
 use Rattle.dir_model.specs.State.{stands}
 use Rattle.dir_trait.specs.DirCalls.{HeldBetween}
@@ -9,6 +9,10 @@ use Rattle.folder_removal.specs.Removal.{deletes_at}
 use Rattle.image_removal.specs.Requests.{removed_spot, looks_at}
 use Rattle.image_removal.specs.Causes.{WorkCause}
 use Rattle.image_removal.proofs.Times.{follows_work, work_after}
+use Rattle.folder_removal.specs.Removal.{KeepsFolders}
+use Rattle.folder_removal.proofs.Keeping.{kept_more}
+use Rattle.folder_removal.proofs.Steps.{err_any}
+use Rattle.image_removal.proofs.Keeping.{kept_looking}
 use Rattle.image_removal.proofs.deletion.delete_if_there.Goals as goal
 
 pub returns-in_err-is_there-clause-worked : goal.returns-in_err-is_there-clause-worked
@@ -47,3 +51,14 @@ returns-else-branch-clause-gone g c t =
     let D = g.D.Dir in
     inr (subst (λ (spot : Spot). HeldBetween (D.shown c.args.dir.now) (D.shown c.is_there.new.dir) (λ s. stands s.namespace spot ≡ false)) c.removed_spot.ensures
     (c.in_ok-is_there.ensures.absent (ap Ok c.if-branch.false) t))
+
+pub returns-in_err-is_there-clause-kept : goal.returns-in_err-is_there-clause-kept
+returns-in_err-is_there-clause-kept g c =
+    let D = g.D.Dir in
+    err_any (λ e. D.observed ≡ true → KeepsFolders (D.shown c.args.dir.now) (D.shown c.is_there.new.dir)) c.from_residual.result (λ e t. kept_looking c.removed_spot.result (c.is_there.ensures.worked.extends t))
+
+pub returns-then-branch-clause-kept : goal.returns-then-branch-clause-kept
+returns-then-branch-clause-kept g c =
+    let D = g.D.Dir in
+    err_more (λ e. D.observed ≡ true → KeepsFolders (D.shown c.is_there.new.dir) (D.shown c.delete.new.dir)) (λ e. D.observed ≡ true → KeepsFolders (D.shown c.args.dir.now) (D.shown c.delete.new.dir)) c.delete.result
+    (λ e kept t. kept_more (kept_looking c.removed_spot.result (c.is_there.ensures.worked.extends t)) c.is_there.ensures.worked.same (kept t)) c.delete.ensures.kept

@@ -1,4 +1,4 @@
-use Rattle.std.proofs.Common.{◌≡◌, ℕ, List, true, inl, inr, Err, IfOk, IfErr, Result, ap, sym, subst}
+use Rattle.std.proofs.Common.{◌≡◌, ℕ, List, true, inl, inr, Err, IfOk, IfErr, Result, ap, sym, subst, ◌∙◌}
 use Rattle.dir_model.specs.declared.area.Area.TheVariants.{Removed}
 use Rattle.dir_model.specs.declared.spot.Mode.TheVariants.{Exclusive}
 use Rattle.dir_rules.specs.declared.seen.Seen.{Seen}
@@ -17,6 +17,10 @@ use Rattle.image_removal.proofs.Times.{work_after, work_before}
 use Rattle.image_removal.proofs.Causes.{free_cause, free_busy}
 use Rattle.image_removal.proofs.Locked.{Takes, GivesBack, follows_take, follows_back, worked_refused, worked_under, may_lock_removed, holds_now, back_conforms, same_conforms}
 use Rattle.image_removal.proofs.Ends.{lock_away, work_away, gone_after, gone_before}
+use Rattle.folder_removal.specs.Removal.{KeepsFolders}
+use Rattle.folder_removal.proofs.Keeping.{kept_more}
+use Rattle.folder_removal.proofs.Steps.{err_any}
+use Rattle.image_removal.proofs.Keeping.{kept_taking, kept_closing}
 use Rattle.image_removal.proofs.removal.delete_if_free.Goals as goal
 
 pub returns-in-Ok-clause-worked : goal.returns-in-Ok-clause-worked
@@ -128,3 +132,15 @@ returns-in-Err-clause-another g c =
 
 pub returns-in-Err-clause-stays : goal.returns-in-Err-clause-stays
 returns-in-Err-clause-stays g c t s k may = same_conforms (c.in-Err.ensures.left t s k (may_lock_removed may))
+
+pub returns-in-Ok-clause-kept : goal.returns-in-Ok-clause-kept
+returns-in-Ok-clause-kept g c =
+    let D = g.D.Dir in
+    err_more (λ e. D.observed ≡ true → KeepsFolders (D.shown c.lock_area.new.dir) (D.shown c.delete_if_there-result.new.dir)) (λ e. D.observed ≡ true → KeepsFolders (D.shown c.args.dir.now) (D.shown c.unlock_area.new.dir)) c.delete_if_there-result.result
+    (λ e kept t. kept_more (kept_more (kept_taking Removed Exclusive (c.lock_area.ensures.extends t)) c.lock_area.ensures.same (kept t)) (c.delete_if_there-result.ensures.worked.same ∙ c.lock_area.ensures.same) (kept_closing c.in-Ok.gate (c.unlock_area.ensures.extends t)))
+    c.delete_if_there-result.ensures.kept
+
+pub returns-in-Err-clause-kept : goal.returns-in-Err-clause-kept
+returns-in-Err-clause-kept g c =
+    let D = g.D.Dir in
+    err_any (λ e. D.observed ≡ true → KeepsFolders (D.shown c.args.dir.now) (D.shown c.lock_area.new.dir)) c.lock_free.result (λ e t. kept_taking Removed Exclusive (c.lock_area.ensures.extends t))

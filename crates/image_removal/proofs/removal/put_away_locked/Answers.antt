@@ -1,4 +1,4 @@
-use Rattle.std.proofs.Common.{◌≡◌, true, Err, ap, sym, subst, arith}
+use Rattle.std.proofs.Common.{◌≡◌, true, Err, ap, sym, subst, arith, ◌∙◌}
 use Rattle.dir_model.specs.declared.area.Area.TheVariants.{Images}
 use Rattle.dir_model.specs.declared.request.Reply.TheVariants.{Done}
 use Rattle.dir_model.specs.Calls.{CallStep}
@@ -17,6 +17,11 @@ use Rattle.image_removal.proofs.Times.{called_self, called_after, called_before}
 use Rattle.image_removal.proofs.Causes.{lock_removing, lock_elsewhere, move_never_busy, move_removing}
 use Rattle.image_removal.proofs.Locked.{Takes, GivesBack, closes_taken, worked_refused, worked_under, may_lock_images, puts_now, back_bare, same_bare}
 use Rattle.image_removal.proofs.Ends.{images_remove, moves_remove}
+use Rattle.folder_removal.proofs.Keeping.{kept_more}
+use Rattle.image_removal.proofs.Keeping.{kept_taking, kept_moving, kept_closing}
+use Rattle.dir_model.specs.declared.spot.Mode.TheVariants.{Exclusive}
+use Rattle.image_reading.specs.Places.{image_spot}
+use Rattle.image_removal.specs.Requests.{away_spot}
 use Rattle.image_removal.proofs.removal.put_away_locked.Goals as goal
 
 pub returns-in-Ok-clause-worked : goal.returns-in-Ok-clause-worked
@@ -98,3 +103,12 @@ returns-in-Err-clause-another g c t s k free =
 
 pub returns-in-Err-clause-stays : goal.returns-in-Err-clause-stays
 returns-in-Err-clause-stays g c t s k may = same_bare may.bare (c.in-Err.ensures.left t s k (may_lock_images may))
+
+pub returns-in-Ok-clause-kept : goal.returns-in-Ok-clause-kept
+returns-in-Ok-clause-kept g c t =
+    kept_more (kept_more (kept_taking Images Exclusive (c.lock_area.ensures.extends t)) c.lock_area.ensures.same (kept_moving (image_spot c.args.key) (away_spot c.args.draw) (c.put_image_away-result.ensures.worked.extends t)))
+    (c.put_image_away-result.ensures.worked.same ∙ c.lock_area.ensures.same) (kept_closing c.in-Ok.gate (c.unlock_area.ensures.extends t))
+
+pub returns-in-Err-clause-kept : goal.returns-in-Err-clause-kept
+returns-in-Err-clause-kept g c t =
+    kept_taking Images Exclusive (c.lock_area.ensures.extends t)

@@ -17,6 +17,9 @@ use Rattle.image_removal.proofs.Causes.{work_never_busy, work_removing}
 use Rattle.image_removal.proofs.Knowing.{stays_conform, conforms_more}
 use Rattle.image_removal.proofs.Locked.{removal_pass, pass_still}
 use Rattle.image_removal.proofs.Ends.{away_remove, is_removed}
+use Rattle.folder_removal.specs.Removal.{KeepsFolders}
+use Rattle.folder_removal.proofs.Keeping.{kept_more}
+use Rattle.folder_removal.proofs.Steps.{err_any}
 use Rattle.image_removal.proofs.removal.remove.Goals as goal
 
 pub returns-in_err-put_away_locked-clause-cause : goal.returns-in_err-put_away_locked-clause-cause
@@ -95,3 +98,14 @@ pub returns-clause-conforms : goal.returns-clause-conforms
 returns-clause-conforms g c t s k may =
     let x = c.put_away_locked.ensures.stays t s k may in
     conforms_more x (c.delete_if_free.ensures.stays t x.known x.knows (pass_still (removal_pass may) x))
+
+pub returns-in_err-put_away_locked-clause-kept : goal.returns-in_err-put_away_locked-clause-kept
+returns-in_err-put_away_locked-clause-kept g c =
+    let D = g.D.Dir in
+    err_any (λ e. D.observed ≡ true → KeepsFolders (D.shown c.args.dir.now) (D.shown c.put_away_locked.new.dir)) c.from_residual.result (λ e t. c.put_away_locked.ensures.kept t)
+
+pub returns-clause-kept : goal.returns-clause-kept
+returns-clause-kept g c =
+    let D = g.D.Dir in
+    err_more (λ e. D.observed ≡ true → KeepsFolders (D.shown c.put_away_locked.new.dir) (D.shown c.delete_if_free.new.dir)) (λ e. D.observed ≡ true → KeepsFolders (D.shown c.args.dir.now) (D.shown c.delete_if_free.new.dir)) c.delete_if_free.result
+    (λ e kept t. kept_more (c.put_away_locked.ensures.kept t) c.put_away_locked.ensures.worked.same (kept t)) c.delete_if_free.ensures.kept

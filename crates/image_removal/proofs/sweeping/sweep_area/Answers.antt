@@ -19,6 +19,7 @@ use Rattle.image_removal.proofs.Locked.{Takes, GivesBack, follows_take, follows_
 use Rattle.image_removal.proofs.Names.{takes_sweep}
 use Rattle.image_removal.proofs.Ends.{ok_any, err_any}
 use Rattle.image_removal.proofs.Passing.{under_lock, line_cause}
+use Rattle.image_removal.specs.Ended.{EndsListing, EndsListingBetween, EndsPassBetween}
 use Rattle.image_removal.proofs.sweeping.sweep_area.Goals as goal
 
 pub returns-in-Ok-clause-worked : goal.returns-in-Ok-clause-worked
@@ -230,3 +231,25 @@ returns-in-Err-clause-left g c =
     let pass = c.args.pass in
     err_any (D.observed ≡ true → Stays (MayPass (area_of pass)) StaysConforming (D.shown c.args.dir.now) (D.shown c.lock_area.new.dir)) c.busy_line.result
     (λ t s k may. same_conforms (c.in-Err.ensures.left t s k (subst (λ (a : Area). MayLock s a Exclusive) (sym c.area.ensures) (may_lock_pass pass may))))
+
+pub returns-in-Ok-clause-ended : goal.returns-in-Ok-clause-ended
+returns-in-Ok-clause-ended g c =
+    let D = g.D.Dir in
+    let pass = c.args.pass in
+    let h = c.in-Ok.gate in
+    let old = D.shown c.args.dir.now in
+    let mid = D.shown c.lock_area.new.dir in
+    let late = D.shown c.sweep_listed-result.new.dir in
+    let new = D.shown c.unlock_area.new.dir in
+    err_more (λ e. D.observed ≡ true → EndsListingBetween pass mid late) (λ e. D.observed ≡ true → EndsPassBetween pass old new) c.sweep_listed-result.result
+    (λ e ends t. inl (under_lock (area_of pass) h (EndsListing pass) old mid late new c.lock_area.ensures.same c.sweep_listed-result.ensures.worked.same
+    (subst (λ (a : Area). Extends (takes a Exclusive) old.process old.trace mid.trace) c.area.ensures (c.lock_area.ensures.extends t)) (ends t) (c.unlock_area.ensures.extends t)))
+    c.sweep_listed-result.ensures.ended
+
+pub returns-in-Err-clause-ended : goal.returns-in-Err-clause-ended
+returns-in-Err-clause-ended g c =
+    let D = g.D.Dir in
+    let old = D.shown c.args.dir.now in
+    let new = D.shown c.lock_area.new.dir in
+    err_any (D.observed ≡ true → EndsPassBetween c.args.pass old new) c.busy_line.result
+    (λ t. inr (subst (λ (a : Area). Extends (takes a Exclusive) old.process old.trace new.trace) c.area.ensures (c.lock_area.ensures.extends t)))

@@ -1,4 +1,4 @@
-use Rattle.std.proofs.Common.{◌≡◌, ℕ, true, subst}
+use Rattle.std.proofs.Common.{◌≡◌, ℕ, true, subst, inl, inr, rules}
 use Rattle.dir_model.specs.declared.area.Area.TheVariants.{Removed}
 use Rattle.dir_rules.specs.declared.seen.Seen.{Seen}
 use Rattle.dir_trait.specs.Knowledge.{Knows}
@@ -11,7 +11,9 @@ use Rattle.image_removal.specs.Work.{MayPass, MaySweep}
 use Rattle.image_removal.proofs.Times.{follows_work, work_after}
 use Rattle.image_removal.proofs.Knowing.{conforms_more}
 use Rattle.image_removal.proofs.Locked.{first_pass, second_pass, pass_still}
-use Rattle.image_removal.proofs.Passing.{passed_tried, adds_both, either_conforms}
+use Rattle.image_removal.proofs.Passing.{tried_none, passed_tried, adds_both, either_conforms}
+use Rattle.image_removal.specs.Ended.{EndsPass, EndsPassBetween, EndsSweepBetween}
+use Rattle.image_reading.proofs.Results.{err_same}
 use Rattle.image_removal.proofs.sweeping.sweep_both.Goals as goal
 
 pub returns-clause-cause : goal.returns-clause-cause
@@ -77,3 +79,32 @@ returns-clause-conforms g c t s k may =
     conforms_more x (either_conforms (MayPass Removed) D.observed (D.shown c.sweep_area.new.dir) (D.shown c.sweep_area-2.new.dir) c.sweep_area-2.result c.sweep_area-2.ensures.stays
     c.sweep_area-2.ensures.left t
     x.known x.knows (pass_still (second_pass may) x))
+
+pub returns-in_err-sweep_area-clause-ended : goal.returns-in_err-sweep_area-clause-ended
+returns-in_err-sweep_area-clause-ended g c =
+    let D = g.D.Dir in
+    let old = D.shown c.args.dir.now in
+    let new = D.shown c.sweep_area.new.dir in
+    err_same (λ e. D.observed ≡ true → EndsSweepBetween old new) c.sweep_area.result c.from_residual.result (λ e h. search (rules, h, c.from_residual.ensures, c.in_err-sweep_area.is))
+    (err_more (λ e. D.observed ≡ true → EndsPassBetween PutAway old new) (λ e. D.observed ≡ true → EndsSweepBetween old new) c.sweep_area.result (λ e ends t. inl (ends t)) c.sweep_area.ensures.ended)
+
+pub returns-clause-ended : goal.returns-clause-ended
+returns-clause-ended g c =
+    let D = g.D.Dir in
+    let old = D.shown c.args.dir.now in
+    let mid = D.shown c.sweep_area.new.dir in
+    let new = D.shown c.sweep_area-2.new.dir in
+    err_more (λ e. D.observed ≡ true → EndsPassBetween Delete mid new) (λ e. D.observed ≡ true → EndsSweepBetween old new) c.sweep_area-2.result
+    (λ e ends t.
+    let x = c.in_ok-sweep_area.ensures.passed t in
+    inr (record { between = mid.trace; moved = x.0; puts_away = x.2; ends = subst (λ (me : ℕ). EndsPass Delete me mid.trace new.trace) c.sweep_area.ensures.worked.same (ends t) }))
+    c.sweep_area-2.ensures.ended
+
+pub returns-in_err-sweep_area-clause-tried : goal.returns-in_err-sweep_area-clause-tried
+returns-in_err-sweep_area-clause-tried g c =
+    let D = g.D.Dir in
+    let old = D.shown c.args.dir.now in
+    let new = D.shown c.sweep_area.new.dir in
+    err_same (λ e. D.observed ≡ true → HasTriedBetween old new) c.sweep_area.result c.from_residual.result (λ e h. search (rules, h, c.from_residual.ensures, c.in_err-sweep_area.is))
+    (err_more (λ e. D.observed ≡ true → TriedBetween PutAway old new) (λ e. D.observed ≡ true → HasTriedBetween old new) c.sweep_area.result
+    (λ e tried t. record { between = new.trace; puts_away = tried t; deletes = tried_none Delete old.process new.trace }) c.sweep_area.ensures.tried)

@@ -1,4 +1,5 @@
 use Rattle.std.proofs.Common.{◌≡◌, true, take}
+use Rattle.dir_trait.specs.DirCalls.{ExtendsBy}
 use Rattle.folder_building.specs.Work.{Worked}
 use Rattle.image_removal.specs.Passes.{area_of, deals_with_some}
 use Rattle.image_removal.specs.Sweeps.{AddsLines}
@@ -10,6 +11,7 @@ invariant-names g l =
     let D = g.D.Dir in
     record {
       worked : Worked D.observed (deals_with_some l.pass l.names) (D.shown l.initial.dir) (D.shown l.dir);
+      so_far : D.observed ≡ true → ExtendsBy (deals_with_some l.pass (take l.name-index l.names)) (D.shown l.initial.dir) (D.shown l.dir);
       swept : AddsLines D.observed l.pass (take l.name-index l.names) l.initial.lines.items l.lines.items (D.shown l.initial.dir) (D.shown l.dir);
       stays : D.observed ≡ true → Stays (HoldsArea (area_of l.pass)) StaysBare (D.shown l.initial.dir) (D.shown l.dir);
     }

@@ -19,6 +19,7 @@ use Rattle.image_removal.proofs.Listings.{list_stays, only_lists, worked_list}
 use Rattle.image_removal.proofs.Names.{lists_sweep, some_sweep}
 use Rattle.image_removal.proofs.Ends.{err_any}
 use Rattle.image_removal.proofs.Passing.{works_at_shown, adds_swept}
+use Rattle.image_removal.specs.Ended.{EndsAmong, EndsAmongBetween, EndsListingBetween}
 use Rattle.image_removal.proofs.sweeping.sweep_listed.Goals as goal
 
 pub returns-in-Ok-clause-worked : goal.returns-in-Ok-clause-worked
@@ -122,3 +123,29 @@ returns-in-Err-clause-left g c t =
     let D = g.D.Dir in
     let listing = subst (λ (a : Area). ListCall D.observed (D.shown c.args.dir.now) (ListArea a) (Refused c.in-Err.error 0) (D.shown c.names_of.new.dir)) c.area.ensures c.in-Err.ensures.called in
     stays_conform (list_stays c.args.pass (Err c.in-Err.error) t listing)
+
+pub returns-in-Ok-clause-ended : goal.returns-in-Ok-clause-ended
+returns-in-Ok-clause-ended g c =
+    let D = g.D.Dir in
+    let pass = c.args.pass in
+    let names = c.in-Ok.names in
+    let old = D.shown c.args.dir.now in
+    let mid = D.shown c.names_of.new.dir in
+    let new = D.shown c.sweep_each.new.dir in
+    let listing = subst (λ (a : Area). ListCall D.observed old (ListArea a) (Names names) mid) c.area.ensures c.in-Ok.ensures.called in
+    let shown = λ (t : D.observed ≡ true). subst (λ (a : Area). ShowsAreaBetween old mid a names) c.area.ensures (c.in-Ok.ensures.shows t) in
+    err_more (λ e. D.observed ≡ true → EndsAmongBetween pass c.as_slice.result.now mid new) (λ e. D.observed ≡ true → EndsListingBetween pass old new) c.sweep_each.result
+    (λ e ends t. inl (record {
+      names = names;
+      listed = mid.trace;
+      only_lists = only_lists (area_of pass) (listing.step t);
+      shows = shown t;
+      ends = subst (λ (me : ℕ). EndsAmong pass names me mid.trace new.trace) listing.same (subst (λ (ns : List (List ℕ)). EndsAmongBetween pass ns mid new) c.as_slice.ensures (ends t));
+    }))
+    c.sweep_each.ensures.ended
+
+pub returns-in-Err-clause-ended : goal.returns-in-Err-clause-ended
+returns-in-Err-clause-ended g c t =
+    let D = g.D.Dir in
+    let listing = subst (λ (a : Area). ListCall D.observed (D.shown c.args.dir.now) (ListArea a) (Refused c.in-Err.error 0) (D.shown c.names_of.new.dir)) c.area.ensures c.in-Err.ensures.called in
+    inr (only_lists (area_of c.args.pass) (listing.step t))

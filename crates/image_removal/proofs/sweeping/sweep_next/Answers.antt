@@ -6,6 +6,7 @@ use Rattle.image_removal.specs.Work.{HoldsArea, StaysConforming, StaysBare, Stay
 use Rattle.image_removal.proofs.Knowing.{stays_conform}
 use Rattle.image_removal.proofs.Ends.{ok_any, err_any}
 use Rattle.image_removal.proofs.Names.{alone_uuid}
+use Rattle.image_removal.specs.Ended.{EndsAtBetween}
 use Rattle.image_removal.proofs.sweeping.sweep_next.Goals as goal
 
 pub returns-in_err-deal-clause-worked : goal.returns-in_err-deal-clause-worked
@@ -30,3 +31,15 @@ returns-in_ok-deal-clause-left g c =
     let D = g.D.Dir in
     err_any (D.observed ≡ true → Stays (HoldsArea (area_of c.args.pass)) StaysConforming (D.shown c.args.dir.now) (D.shown c.deal.new.dir)) c.push.result
     (λ t. stays_conform (c.in_ok-deal.ensures.stays t))
+
+pub returns-in_err-deal-clause-ended : goal.returns-in_err-deal-clause-ended
+returns-in_err-deal-clause-ended g c =
+    let D = g.D.Dir in
+    err_any (D.observed ≡ true → EndsAtBetween c.args.pass c.args.name.now (D.shown c.args.dir.now) (D.shown c.deal.new.dir)) c.from_residual.result
+    (λ t. record { uuid = sym c.is_uuid.ensures ∙ c.if-is_uuid.true; turn = c.deal.ensures.worked.extends t })
+
+pub returns-in_ok-deal-clause-ended : goal.returns-in_ok-deal-clause-ended
+returns-in_ok-deal-clause-ended g c =
+    let D = g.D.Dir in
+    err_any (D.observed ≡ true → EndsAtBetween c.args.pass c.args.name.now (D.shown c.args.dir.now) (D.shown c.deal.new.dir)) c.push.result
+    (λ t. record { uuid = sym c.is_uuid.ensures ∙ c.if-is_uuid.true; turn = c.deal.ensures.worked.extends t })

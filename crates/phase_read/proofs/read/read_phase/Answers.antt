@@ -1,4 +1,4 @@
-use Rattle.std.proofs.Common.{◌≡◌, ◌∙◌, ℕ, List, false, arith, sym, ap, subst, Ok}
+use Rattle.std.proofs.Common.{◌≡◌, ◌∙◌, min, ℕ, List, false, arith, sym, ap, subst, Ok}
 use Rattle.dir_model.specs.State.{spot_eq, stands}
 use Rattle.dir_model.specs.Calls.{AtOwnStep}
 use Rattle.dir_model.specs.declared.spot.Spot.{Spot}
@@ -12,6 +12,8 @@ use Rattle.dir_trait.proofs.Looking.{looks_more}
 use Rattle.dir_model.proofs.Moments.{at_after}
 use Rattle.lifecycle.proofs.Stays.{stays_between}
 use Rattle.phase_read.proofs.Exact.{found_exactly, gone_exactly}
+use Rattle.dir_model.specs.Areas.{rank}
+use Rattle.phase_read.proofs.Often.{reads_area, asks_more}
 use Rattle.phase_read.proofs.read.read_phase.Goals as goal
 
 pub returns-in-None-clause-read : goal.returns-in-None-clause-read
@@ -45,6 +47,7 @@ places-preserved g c =
       local = c.read_at.ensures.local ∙ i.local;
       extends = λ t. and_more (i.extends t) i.same (extends_wider (look_wider (spot_eq (record { area = c.places.area; name = c.name-name.result })) (is_pod_spot c.args.pod) (λ here is. pod_spot_only c.args.pod (record { area = c.places.area; name = c.name-name.result }) here i.below c.name-name.ensures.text is)) (c.read_at.ensures.extends t));
       known = λ t. looks_more (i.known t) (c.read_at.ensures.known t);
+      reads = λ t. asks_more (min 1 (rank c.in-Some-next.next)) (omega (arith, next)) (i.reads t) i.same (reads_area c.args.pod c.places.area c.name-name.result c.name-name.ensures.text (λ is. c.read_at.ensures.once is t) (c.read_at.ensures.extends t));
       empty = λ t.
           subst (λ (areas : List Area). LeftOut me old new c.args.pod areas) (sym (next_before c.places.area c.in-Some-next.next c.in-Some-next.ensures))
           (and_left_out c.args.pod me (shown c.places.dir).process old now new c.places.area (stages_before c.places.area) (i.empty t) i.same (subst named c.name-name.ensures.text (rw c.in_default.is at (c.in_ok-phase.ensures.there t))));
@@ -100,3 +103,18 @@ pub returns-in-None-clause-exact : goal.returns-in-None-clause-exact
 returns-in-None-clause-exact g c t conforming =
     let shown = g.D.Dir.shown in
     gone_exactly c.args.pod (shown c.args.dir.now).process (shown c.args.dir.now).trace (shown c.read_at.new.dir).trace conforming (returns-in-None-clause-read g c t)
+
+pub returns-in_err-phase-clause-reads : goal.returns-in_err-phase-clause-reads
+returns-in_err-phase-clause-reads g c =
+    let i = c.places.invariant in
+    record { reads = λ t. asks_more 1 (omega (arith, i.below)) (i.reads t) i.same (reads_area c.args.pod c.places.area c.name-name.result c.name-name.ensures.text (λ is. c.read_at.ensures.once is t) (c.read_at.ensures.extends t)) }
+
+pub returns-in-Some-clause-reads : goal.returns-in-Some-clause-reads
+returns-in-Some-clause-reads g c =
+    let i = c.places.invariant in
+    record { reads = λ t. asks_more 1 (omega (arith, i.below)) (i.reads t) i.same (reads_area c.args.pod c.places.area c.name-name.result c.name-name.ensures.text (λ is. c.read_at.ensures.once is t) (c.read_at.ensures.extends t)) }
+
+pub returns-in-None-clause-reads : goal.returns-in-None-clause-reads
+returns-in-None-clause-reads g c =
+    let i = c.places.invariant in
+    record { reads = λ t. asks_more 1 (omega (arith, i.below)) (i.reads t) i.same (reads_area c.args.pod c.places.area c.name-name.result c.name-name.ensures.text (λ is. c.read_at.ensures.once is t) (c.read_at.ensures.extends t)) }

@@ -4,6 +4,7 @@ use Rattle.dir_model.specs.Replies.{is_look_at}
 use Rattle.dir_trait.specs.DirCalls.{ExtendsBy}
 use Rattle.dir_trait.specs.Knowledge.{OnlyLooks}
 use Rattle.phase_read.specs.Read.{LeftOut, is_pod_spot, stages_before}
+use Rattle.phase_read.specs.Often.{AsksAtMost, begins_read}
 use Rattle.phase_read.proofs.read.read_phase.Given as goal
 
 abbrev pub invariant-places : goal.invariant-places
@@ -17,6 +18,7 @@ invariant-places g l =
       local : (shown l.dir).local ≡ (shown l.fn.dir).local;
       extends : g.D.Dir.observed ≡ true → ExtendsBy (is_look_at (is_pod_spot l.fn.pod)) (shown l.fn.dir) (shown l.dir);
       known : g.D.Dir.observed ≡ true → OnlyLooks (shown l.fn.dir) (shown l.dir);
+      reads : g.D.Dir.observed ≡ true → AsksAtMost (min 1 (rank l.area)) (begins_read l.fn.pod) (shown l.fn.dir).process (shown l.fn.dir).trace (shown l.dir).trace;
       empty : g.D.Dir.observed ≡ true → LeftOut (shown l.fn.dir).process (shown l.fn.dir).trace (shown l.dir).trace l.fn.pod (stages_before l.area);
     }
 

@@ -12,6 +12,7 @@ use Rattle.pod_claim.proofs.Parts.{went_as, went_wider, went_more}
 use Rattle.pod_claim.proofs.Reading.{set_back_after, took_after, another_after, held_after, left_after, ok_more, err_more, refused_first}
 use Rattle.pod_claim.specs.Elsewhere.{MetOwnerThen}
 use Rattle.pod_claim.proofs.Elsewhere.{met_never, met_first}
+use Rattle.phase_read.proofs.Often.{reads_more}
 use Rattle.pod_claim.proofs.attempt.attempt.Goals as goal
 
 pub returns-in-Ok-clause-went : goal.returns-in-Ok-clause-went
@@ -93,3 +94,6 @@ returns-in-Ok-clause-owned_elsewhere g c =
 
 pub returns-in-Err-clause-owned_elsewhere : goal.returns-in-Err-clause-owned_elsewhere
 returns-in-Err-clause-owned_elsewhere g c = met_first c.args.pod (g.D.Dir.shown c.args.dir.now) (g.D.Dir.shown c.find_prepared.new.dir) c.in-Err.error c.in-Err.ensures.owned_elsewhere
+
+pub returns-in-Ok-clause-reads : goal.returns-in-Ok-clause-reads
+returns-in-Ok-clause-reads g c = reads_more 1 (omega arith) c.find_prepared.ensures.reads c.find_prepared.ensures.went.same c.take_and_run.ensures.reads

@@ -11,6 +11,7 @@ use Rattle.pod_claim.proofs.Parts.{went_as, went_wider}
 use Rattle.pod_claim.proofs.Outcomes.{took_part, last_cause, last_still, left_twice, held_twice, another_twice, another_once, runs_it, went_twice, owned_twice, only_failures}
 use Rattle.pod_claim.specs.Elsewhere.{MetOwner}
 use Rattle.pod_claim.proofs.Elsewhere.{met_once, met_twice}
+use Rattle.phase_read.proofs.Often.{reads_more, reads_within}
 use Rattle.pod_claim.proofs.claiming.claim.Goals as goal
 
 -- the first attempt
@@ -142,3 +143,15 @@ returns-in-Err-clause-owned_elsewhere g c =
     let d = D.shown c.attempt-in-Err-Missing.new.dir in
     let e = rw c.in-Err-Missing.field-0-is at c.in-Err-Missing.ensures in
     subst (λ (x : ClaimError). Leaves D.observed MayClaim a (λ s. MetOwner c.args.pod x a d)) (sym c.last_refusal.ensures) (met_twice e.went e.left d c.in-Err.stop c.in-Err.ensures.owned_elsewhere)
+
+pub returns-in-Ok-clause-reads : goal.returns-in-Ok-clause-reads
+returns-in-Ok-clause-reads g c = reads_within 2 (omega arith) c.attempt.ensures.reads
+
+pub returns-in-Err-Refused-clause-reads : goal.returns-in-Err-Refused-clause-reads
+returns-in-Err-Refused-clause-reads g c = reads_within 2 (omega arith) c.attempt.ensures.reads
+
+pub returns-in-Ok-attempt-clause-reads : goal.returns-in-Ok-attempt-clause-reads
+returns-in-Ok-attempt-clause-reads g c = reads_more 2 (omega arith) c.attempt.ensures.reads c.attempt.ensures.went.same c.attempt-in-Err-Missing.ensures.reads
+
+pub returns-in-Err-clause-reads : goal.returns-in-Err-clause-reads
+returns-in-Err-clause-reads g c = reads_more 2 (omega arith) c.attempt.ensures.reads c.attempt.ensures.went.same c.attempt-in-Err-Missing.ensures.reads

@@ -1,4 +1,4 @@
-use Rattle.std.proofs.Common.{◌≡◌, rules, Ok, Err, refl, sym, ap, subst}
+use Rattle.std.proofs.Common.{◌≡◌, rules, Ok, Err, refl, sym, ap, subst, arith, ◌∙◌}
 use Rattle.dir_model.specs.declared.spot.Which.TheVariants.{Own}
 use Rattle.pod_claim.specs.declared.setback.Setback.{Setback}
 use Rattle.pod_claim.specs.Causes.{Stopped, IsAbsent}
@@ -7,6 +7,7 @@ use Rattle.pod_claim.proofs.Knowing.{knows_moved, knows_unmoved}
 use Rattle.pod_claim.proofs.Parts.{went_as, went_run, went_unrun, locked_ok, follows_taken}
 use Rattle.pod_claim.proofs.Times.{follows_call, stops_part}
 use Rattle.pod_claim.proofs.Traces.{deeds_then, one_deed, still_call}
+use Rattle.phase_read.proofs.Often.{reads_more, unread_call}
 use Rattle.pod_claim.proofs.locks.run_under_claim.Goals as goal
 
 pub returns-in-Ok-clause-went : goal.returns-in-Ok-clause-went
@@ -38,3 +39,9 @@ returns-in-Err-clause-stopped g c =
 
 pub returns-in-Err-clause-left : goal.returns-in-Err-clause-left
 returns-in-Err-clause-left g c = knows_unmoved c.in_ok-own.ensures.unopened c.in_ok-own.ensures.held c.in-Err.error (with_spots c.pod_spot-from.ensures c.pod_spot-to.ensures c.in-Err.ensures.called) c.close.ensures.called
+
+pub returns-in-Ok-clause-reads : goal.returns-in-Ok-clause-reads
+returns-in-Ok-clause-reads g c = reads_more 0 (omega arith) c.take.ensures.reads c.take.ensures.went.same (unread_call refl c.move_folder.ensures.called)
+
+pub returns-in-Err-clause-reads : goal.returns-in-Err-clause-reads
+returns-in-Err-clause-reads g c = reads_more 0 (omega arith) (reads_more 0 (omega arith) c.take.ensures.reads c.take.ensures.went.same (unread_call refl c.move_folder.ensures.called)) (c.move_folder.ensures.called.same ∙ c.take.ensures.went.same) (unread_call refl c.close.ensures.called)

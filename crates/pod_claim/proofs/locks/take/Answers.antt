@@ -1,4 +1,4 @@
-use Rattle.std.proofs.Common.{Err, refl, sym, ap, subst, ◌∙◌}
+use Rattle.std.proofs.Common.{Err, refl, sym, ap, subst, ◌∙◌, ◌≡◌, true, arith}
 use Rattle.dir_model.specs.declared.request.Request.TheVariants.{Open}
 use Rattle.dir_model.specs.Local.{Local, IsUnlocked}
 use Rattle.dir_model.specs.Locks.{target_of}
@@ -9,6 +9,12 @@ use Rattle.pod_claim.proofs.Calls.{with_spot, went_taken, went_untaken, went_uno
 use Rattle.pod_claim.proofs.Knowing.{busy_elsewhere, knows_taken, knows_untaken, knows_unopened}
 use Rattle.pod_claim.proofs.Times.{follows_call, stops_part}
 use Rattle.pod_claim.proofs.Traces.{deeds_then, one_deed, still_call, still_more}
+use Rattle.phase_read.proofs.Often.{reads_more, unread_call, opens_past}
+use Rattle.dir_model.specs.declared.area.Area.TheVariants.{Prepared}
+use Rattle.dir_model.specs.declared.spot.Spot.{Spot}
+use Rattle.dir_model.specs.State.{spot_eq}
+use Rattle.dir_model.proofs.Spots.{spot_self}
+use Rattle.pod_claim.specs.Requests.{in_prepared}
 use Rattle.pod_claim.proofs.locks.take.Goals as goal
 
 pub try_lock-requires-clause-unlocked : goal.try_lock-requires-clause-unlocked
@@ -64,3 +70,12 @@ returns-in-Ok-try_lock-clause-still g c t = still_more (still_call refl (c.in-Ok
 pub returns-in-Err-try_lock-clause-another : goal.returns-in-Err-try_lock-clause-another
 returns-in-Err-try_lock-clause-another g c t s may k which is =
     busy_elsewhere c.args.pod c.args.which c.in-Err-try_lock.error (with_spot (λ s. Open s c.args.which) c.pod_spot-prepared.ensures c.in-Ok.ensures.called) c.in-Err-try_lock.ensures.called c.close.ensures.called t s may k which (sym c.lock_setback.ensures ∙ is)
+
+pub returns-in-Ok-try_lock-clause-reads : goal.returns-in-Ok-try_lock-clause-reads
+returns-in-Ok-try_lock-clause-reads g c = reads_more 0 (omega arith) (unread_call (opens_past c.args.pod Prepared 1 refl c.pod_spot-prepared.result (subst (λ (s : Spot). spot_eq (in_prepared c.args.pod) s ≡ true) (sym c.pod_spot-prepared.ensures) (spot_self (in_prepared c.args.pod))) c.args.which) c.«open».ensures.called) c.«open».ensures.called.same (unread_call refl c.try_lock.ensures.called)
+
+pub returns-in-Err-try_lock-clause-reads : goal.returns-in-Err-try_lock-clause-reads
+returns-in-Err-try_lock-clause-reads g c = reads_more 0 (omega arith) (reads_more 0 (omega arith) (unread_call (opens_past c.args.pod Prepared 1 refl c.pod_spot-prepared.result (subst (λ (s : Spot). spot_eq (in_prepared c.args.pod) s ≡ true) (sym c.pod_spot-prepared.ensures) (spot_self (in_prepared c.args.pod))) c.args.which) c.«open».ensures.called) c.«open».ensures.called.same (unread_call refl c.try_lock.ensures.called)) (c.try_lock.ensures.called.same ∙ c.«open».ensures.called.same) (unread_call refl c.close.ensures.called)
+
+pub returns-in-Err-clause-reads : goal.returns-in-Err-clause-reads
+returns-in-Err-clause-reads g c = unread_call (opens_past c.args.pod Prepared 1 refl c.pod_spot-prepared.result (subst (λ (s : Spot). spot_eq (in_prepared c.args.pod) s ≡ true) (sym c.pod_spot-prepared.ensures) (spot_self (in_prepared c.args.pod))) c.args.which) c.«open».ensures.called

@@ -1,9 +1,10 @@
-use Rattle.std.proofs.Common.{refl, ap, arith}
+use Rattle.std.proofs.Common.{refl, ap, arith, ◌∙◌}
 use Rattle.dir_model.specs.declared.spot.Which.TheVariants.{Claim}
 use Rattle.pod_claim.specs.Holding.{and_locked}
 use Rattle.pod_claim.proofs.Parts.{went_as, went_wider, went_more, locked_ok, follows_taken, went_under, fresh_under, order_under, stopped_under, another_under, held_under, left_under, alone_stops}
 use Rattle.pod_claim.proofs.Times.{follows_call}
 use Rattle.pod_claim.proofs.Traces.{grown_by}
+use Rattle.phase_read.proofs.Often.{reads_more, unread_call}
 use Rattle.pod_claim.proofs.locks.take_and_run.Goals as goal
 
 pub returns-in-Ok-clause-went : goal.returns-in-Ok-clause-went
@@ -50,3 +51,9 @@ pub returns-in-Err-Missing-clause-stopped : goal.returns-in-Err-Missing-clause-s
 returns-in-Err-Missing-clause-stopped g c =
     let e = rw c.in-Err-Missing.field-0-is at c.in-Err-Missing.ensures in
     alone_stops e.stopped c.take.ensures.went.same c.take.ensures.went.faults (λ t. grown_by (c.take.ensures.went.extends t)) c.without_claim.ensures.stopped
+
+pub returns-in-Ok-clause-reads : goal.returns-in-Ok-clause-reads
+returns-in-Ok-clause-reads g c = reads_more 0 (omega arith) (reads_more 0 (omega arith) c.take.ensures.reads c.take.ensures.went.same c.run_under_claim-result.ensures.reads) (c.run_under_claim-result.ensures.went.same ∙ c.take.ensures.went.same) (unread_call refl c.close.ensures.called)
+
+pub returns-in-Err-Missing-clause-reads : goal.returns-in-Err-Missing-clause-reads
+returns-in-Err-Missing-clause-reads g c = reads_more 0 (omega arith) c.take.ensures.reads c.take.ensures.went.same c.without_claim.ensures.reads

@@ -1,4 +1,4 @@
-use Rattle.std.proofs.Common.{◌≡◌, Err, sym, ap, subst, ◌∙◌, true, false}
+use Rattle.std.proofs.Common.{◌≡◌, Err, sym, ap, subst, ◌∙◌, true, false, refl}
 use Rattle.dir_model.specs.declared.spot.Spot.{Spot}
 use Rattle.dir_model.specs.State.{stands}
 use Rattle.dir_trait.specs.DirCalls.{HeldBetween}
@@ -6,6 +6,12 @@ use Rattle.pod_claim.specs.declared.setback.Setback.TheVariants as setback
 use Rattle.pod_claim.specs.declared.error.ClaimError.{ClaimError}
 use Rattle.pod_claim.specs.Causes.{StopsAlone}
 use Rattle.pod_claim.proofs.Reading.{went_looked, looks_there, alone_there, alone_missing, alone_failed}
+use Rattle.phase_read.proofs.Often.{reads_area}
+use Rattle.dir_model.specs.declared.area.Area.TheVariants.{Prepared}
+use Rattle.dir_model.specs.Pods.{pod_text}
+use Rattle.dir_model.specs.Replies.{is_look_at}
+use Rattle.dir_model.specs.State.{spot_eq}
+use Rattle.dir_trait.specs.DirCalls.{ExtendsBy}
 use Rattle.pod_claim.proofs.locks.without_claim.Goals as goal
 
 pub returns-in-Ok-true-clause-went : goal.returns-in-Ok-true-clause-went
@@ -36,3 +42,12 @@ returns-in-Err-clause-stopped g c =
     let D = g.D.Dir in
     subst (λ (x : ClaimError). StopsAlone D.observed c.args.pod (setback.Refused x) (D.shown c.args.dir.now) (D.shown c.look.new.dir)) (sym c.look_refusal.ensures)
     (alone_failed (looks_there c.args.pod (g.D.Dir.shown c.args.dir.now) (g.D.Dir.shown c.look.new.dir) c.pod_spot.ensures c.look.ensures.extends) c.in-Err.error (λ is. c.look.ensures.cause (c.in-Err.is ∙ ap Err is)))
+
+pub returns-in-Ok-true-clause-reads : goal.returns-in-Ok-true-clause-reads
+returns-in-Ok-true-clause-reads g c = record { reads = λ t. reads_area c.args.pod Prepared (pod_text c.args.pod.bytes) refl (λ is. cc) (subst (λ (s : Spot). ExtendsBy (is_look_at (spot_eq s)) (g.D.Dir.shown c.args.dir.now) (g.D.Dir.shown c.look.new.dir)) c.pod_spot.ensures (c.look.ensures.extends t)) }
+
+pub returns-in-Ok-false-clause-reads : goal.returns-in-Ok-false-clause-reads
+returns-in-Ok-false-clause-reads g c = record { reads = λ t. reads_area c.args.pod Prepared (pod_text c.args.pod.bytes) refl (λ is. cc) (subst (λ (s : Spot). ExtendsBy (is_look_at (spot_eq s)) (g.D.Dir.shown c.args.dir.now) (g.D.Dir.shown c.look.new.dir)) c.pod_spot.ensures (c.look.ensures.extends t)) }
+
+pub returns-in-Err-clause-reads : goal.returns-in-Err-clause-reads
+returns-in-Err-clause-reads g c = record { reads = λ t. reads_area c.args.pod Prepared (pod_text c.args.pod.bytes) refl (λ is. cc) (subst (λ (s : Spot). ExtendsBy (is_look_at (spot_eq s)) (g.D.Dir.shown c.args.dir.now) (g.D.Dir.shown c.look.new.dir)) c.pod_spot.ensures (c.look.ensures.extends t)) }

@@ -23,6 +23,8 @@ use Rattle.pod_removal.proofs.CallKinds.{looks_remove, first_remove, put_aside}
 use Rattle.pod_removal.proofs.Stages.{err_same, looks_aborted, same_ready, ready_aborted, ok_all, err_all}
 use Rattle.pod_steps.specs.Taking.{TakesNothing}
 use Rattle.pod_steps.proofs.Taking.{took_looks, took_more}
+use Rattle.phase_read.proofs.Often.{reads_more}
+use Rattle.pod_removal.proofs.Unread.{unread_looks, unread_move}
 use Rattle.pod_removal.proofs.aside.discard_aborted.Goals as goal
 
 pub returns-in_err-probe-clause-worked : goal.returns-in_err-probe-clause-worked
@@ -138,3 +140,9 @@ returns-clause-free g c =
     let D = g.D.Dir in
     ok_all (λ done. D.observed ≡ true → LockToldBetween (D.shown c.args.dir.now) (D.shown c.put_aside.new.dir) (pod_spot c.args.pod Prepare) false) c.put_aside.result
     (λ done t. told_within grown_none refl ((follows_work c.put_aside.ensures.worked).grown t) (c.in_ok-probe.ensures.told t))
+
+pub returns-in_err-probe-clause-reads : goal.returns-in_err-probe-clause-reads
+returns-in_err-probe-clause-reads g c = unread_looks c.args.pod Prepare 0 refl c.probe.ensures.worked
+
+pub returns-clause-reads : goal.returns-clause-reads
+returns-clause-reads g c = reads_more 0 (omega arith) (unread_looks c.args.pod Prepare 0 refl c.probe.ensures.worked) c.probe.ensures.worked.same (unread_move c.args.pod Prepare Garbage c.put_aside.ensures.worked)

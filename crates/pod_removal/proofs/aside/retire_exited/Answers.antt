@@ -1,4 +1,4 @@
-use Rattle.std.proofs.Common.{◌≡◌, rules, true, false, refl, arith}
+use Rattle.std.proofs.Common.{◌≡◌, rules, true, false, refl, arith, ◌∙◌}
 use Rattle.dir_model.specs.declared.area.Area.TheVariants.{Run, ExitedGarbage}
 use Rattle.dir_model.specs.declared.spot.Mode.TheVariants.{Shared}
 use Rattle.dir_model.specs.declared.spot.Which.{Which}
@@ -25,6 +25,8 @@ use Rattle.pod_removal.proofs.Marking.{ready_exited, ready_unmarked, marked_firs
 use Rattle.pod_steps.specs.Taking.{TakesNothing}
 use Rattle.pod_steps.proofs.Taking.{took_looks, took_more}
 use Rattle.pod_removal.proofs.CallKinds.{took_marks}
+use Rattle.phase_read.proofs.Often.{reads_more}
+use Rattle.pod_removal.proofs.Unread.{unread_looks, unread_mark, unread_move}
 use Rattle.pod_removal.proofs.aside.retire_exited.Goals as goal
 
 pub returns-in_err-probe-clause-worked : goal.returns-in_err-probe-clause-worked
@@ -212,3 +214,12 @@ returns-clause-noted g c =
     let old = D.shown c.args.dir.now in
     ok_all (λ done. D.observed ≡ true → MarkedFirst c.args.pod c.args.now old.process old.trace (D.shown c.put_aside.new.dir).trace) c.put_aside.result
     (λ done t. marked_first c.args.pod c.args.now t (follows_work c.probe.ensures.worked) (c.in_ok-mark.ensures.noted t) c.mark.ensures.worked.same c.put_aside.ensures.worked)
+
+pub returns-in_err-probe-clause-reads : goal.returns-in_err-probe-clause-reads
+returns-in_err-probe-clause-reads g c = unread_looks c.args.pod Run 2 refl c.probe.ensures.worked
+
+pub returns-in_err-mark-clause-reads : goal.returns-in_err-mark-clause-reads
+returns-in_err-mark-clause-reads g c = reads_more 0 (omega arith) (unread_looks c.args.pod Run 2 refl c.probe.ensures.worked) c.probe.ensures.worked.same (unread_mark c.args.pod c.args.now c.mark.ensures.worked)
+
+pub returns-clause-reads : goal.returns-clause-reads
+returns-clause-reads g c = reads_more 0 (omega arith) (reads_more 0 (omega arith) (unread_looks c.args.pod Run 2 refl c.probe.ensures.worked) c.probe.ensures.worked.same (unread_mark c.args.pod c.args.now c.mark.ensures.worked)) (c.mark.ensures.worked.same ∙ c.probe.ensures.worked.same) (unread_move c.args.pod Run ExitedGarbage c.put_aside.ensures.worked)

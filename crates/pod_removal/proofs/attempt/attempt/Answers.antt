@@ -1,4 +1,4 @@
-use Rattle.std.proofs.Common.{◌≡◌, true, Err, Result, IfOk, IfErr, sym, ap, subst, ◌∙◌}
+use Rattle.std.proofs.Common.{◌≡◌, true, Err, Result, IfOk, IfErr, sym, ap, subst, ◌∙◌, arith}
 use Rattle.folder_building.proofs.Working.{worked_more}
 use Rattle.pod_steps.specs.declared.setback.Setback.{Setback}
 use Rattle.pod_steps.specs.Holding.{Stays}
@@ -11,6 +11,9 @@ use Rattle.pod_removal.specs.Removals.{WentRound, RoundCause, RefusedByAnother}
 use Rattle.pod_removal.proofs.Rounds.{worked_read, went_round, round_cause, round_another, cause_wrong, cause_failed, look_alone, wrong_elsewhere, ready_looks, ready_more}
 use Rattle.pod_removal.specs.Found.{RoundWent, RoundRefused}
 use Rattle.pod_removal.proofs.Finding.{round_went, round_refused, look_unrefused}
+use Rattle.phase_read.proofs.Often.{reads_more}
+use Rattle.folder_removal.specs.Removal.{KeepsFolders}
+use Rattle.pod_removal.proofs.Unread.{kept_read, kept_round}
 use Rattle.pod_removal.proofs.attempt.attempt.Goals as goal
 
 pub returns-then-is_removable-clause-worked : goal.returns-then-is_removable-clause-worked
@@ -28,7 +31,7 @@ returns-then-is_removable-clause-went g c =
     let new = D.shown c.remove_found.new.dir in
     subst (λ (x : Result Round RemoveError). IfOk x (λ y. D.observed ≡ true → WentRound c.args.pod y old new)) (sym c.round_of.ensures)
     (went_round c.args.pod c.in-Ok-At.phase c.in-Ok-At.field-0-1 old mid new (follows_work (worked_read c.args.pod c.args.now old mid r.same r.faults r.local r.extends)) (sym c.is_removable.ensures ∙ c.if-is_removable.true) (λ t. e.read t)
-    c.remove_found.result c.remove_found.ensures.removed c.remove_found.ensures.stopped)
+    c.remove_found.result c.remove_found.ensures.removed c.remove_found.ensures.stopped c.remove_found.ensures.missed)
 
 pub returns-then-is_removable-clause-cause : goal.returns-then-is_removable-clause-cause
 returns-then-is_removable-clause-cause g c =
@@ -135,3 +138,23 @@ returns-in-Err-clause-refused g c t s k m =
     let old = D.shown c.args.dir.now in
     let new = D.shown c.read_phase.new.dir in
     subst (λ (e : RemoveError). RoundRefused c.args.pod e old new) (sym (c.refusal.ensures ∙ ap (λ (x : Setback). refusal c.args.pod x) c.look_setback.ensures)) (look_unrefused c.args.pod c.in-Err.error old new)
+
+pub returns-then-is_removable-clause-reads : goal.returns-then-is_removable-clause-reads
+returns-then-is_removable-clause-reads g c = reads_more 1 (omega arith) c.read_phase.ensures.reads c.read_phase.ensures.same c.remove_found.ensures.reads
+
+pub returns-then-is_removable-clause-kept : goal.returns-then-is_removable-clause-kept
+returns-then-is_removable-clause-kept g c =
+    let D = g.D.Dir in
+    let old = D.shown c.args.dir.now in
+    let mid = D.shown c.read_phase.new.dir in
+    let new = D.shown c.remove_found.new.dir in
+    subst (λ (x : Result Round RemoveError). IfErr x (λ y. D.observed ≡ true → KeepsFolders old new)) (sym c.round_of.ensures)
+    (kept_round c.args.pod old mid new (λ t. c.read_phase.ensures.extends t) c.read_phase.ensures.same c.remove_found.result c.remove_found.ensures.kept)
+
+pub returns-else-is_removable-clause-kept : goal.returns-else-is_removable-clause-kept
+returns-else-is_removable-clause-kept g c t =
+    kept_read c.args.pod (c.read_phase.ensures.extends t)
+
+pub returns-in-Err-clause-kept : goal.returns-in-Err-clause-kept
+returns-in-Err-clause-kept g c t =
+    kept_read c.args.pod (c.read_phase.ensures.extends t)

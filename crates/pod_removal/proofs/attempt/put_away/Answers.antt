@@ -22,6 +22,9 @@ use Rattle.pod_removal.specs.Found.{PutWhere, MissedHere, RefusedHere}
 use Rattle.pod_removal.proofs.Stages.{err_both}
 use Rattle.pod_removal.proofs.Finding.{ok_both, put_aborted, put_exited, put_prepared, put_still, missed_here, refused_own, refused_waiting}
 use Rattle.pod_removal.proofs.Rounds.{found_here, found_waiting, busy_at, busy_waiting, ready_here, ready_any, ready_waiting, may_discard}
+use Rattle.pod_removal.proofs.Unread.{unread_here}
+use Rattle.folder_removal.specs.Removal.{KeepsFolders}
+use Rattle.pod_removal.proofs.Unread.{kept_untaken}
 use Rattle.pod_removal.proofs.attempt.put_away.Goals as goal
 
 pub returns-in-AbortedPrepare-clause-stopped : goal.returns-in-AbortedPrepare-clause-stopped
@@ -168,3 +171,21 @@ pub returns-in_default-clause-put : goal.returns-in_default-clause-put
 returns-in_default-clause-put g c t =
     let old = g.D.Dir.shown c.args.dir.now in
     put_still c.args.pod old.process old.trace old.trace c.args.phase (λ is. c.in_default.not-AbortedPrepare is) (λ is. c.in_default.not-Prepared is) (λ is. c.in_default.not-Exited is) refl
+
+pub returns-in_default-clause-reads : goal.returns-in_default-clause-reads
+returns-in_default-clause-reads g c = unread_here c.args.pod (g.D.Dir.shown c.args.dir.now)
+
+pub returns-in-AbortedPrepare-clause-kept : goal.returns-in-AbortedPrepare-clause-kept
+returns-in-AbortedPrepare-clause-kept g c =
+    let D = g.D.Dir in
+    err_more (λ e. TakesNothing D.observed (D.shown c.args.dir.now) (D.shown c.discard_aborted.new.dir)) (λ e. D.observed ≡ true → KeepsFolders (D.shown c.args.dir.now) (D.shown c.discard_aborted.new.dir)) c.discard_aborted.result (λ e still t. kept_untaken (still t)) c.discard_aborted.ensures.still
+
+pub returns-in-Prepared-clause-kept : goal.returns-in-Prepared-clause-kept
+returns-in-Prepared-clause-kept g c =
+    let D = g.D.Dir in
+    err_more (λ e. TakesNothing D.observed (D.shown c.args.dir.now) (D.shown c.discard_prepared.new.dir)) (λ e. D.observed ≡ true → KeepsFolders (D.shown c.args.dir.now) (D.shown c.discard_prepared.new.dir)) c.discard_prepared.result (λ e still t. kept_untaken (still t)) c.discard_prepared.ensures.still
+
+pub returns-in-Exited-clause-kept : goal.returns-in-Exited-clause-kept
+returns-in-Exited-clause-kept g c =
+    let D = g.D.Dir in
+    err_more (λ e. TakesNothing D.observed (D.shown c.args.dir.now) (D.shown c.retire_exited.new.dir)) (λ e. D.observed ≡ true → KeepsFolders (D.shown c.args.dir.now) (D.shown c.retire_exited.new.dir)) c.retire_exited.result (λ e still t. kept_untaken (still t)) c.retire_exited.ensures.still

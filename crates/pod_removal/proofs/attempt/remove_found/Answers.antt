@@ -1,4 +1,4 @@
-use Rattle.std.proofs.Common.{◌≡◌, inl, rules, true, sym, ap, subst}
+use Rattle.std.proofs.Common.{◌≡◌, inl, rules, true, sym, ap, subst, arith}
 use Rattle.dir_model.specs.declared.area.Area.{Area}
 use Rattle.dir_model.specs.declared.spot.Mode.TheVariants.{Exclusive}
 use Rattle.dir_model.specs.declared.request.Request.TheVariants.{RemoveFolder}
@@ -20,6 +20,10 @@ use Rattle.dir_model.specs.declared.spot.Which.TheVariants.{Own}
 use Rattle.pod_steps.specs.declared.setback.Setback.TheVariants as stop
 use Rattle.pod_removal.specs.Found.{TakenWhere, MissedHere, MissedWhere, RefusedHere, RefusedWhere}
 use Rattle.pod_removal.proofs.Finding.{taken_by, missed_aside, refused_aside}
+use Rattle.phase_read.proofs.Often.{reads_more}
+use Rattle.folder_removal.specs.Removal.{KeepsFolders}
+use Rattle.folder_removal.proofs.Keeping.{kept_more}
+use Rattle.pod_removal.proofs.Unread.{kept_aside}
 use Rattle.pod_removal.proofs.attempt.remove_found.Goals as goal
 
 pub delete_at-requires-clause-garbage : goal.delete_at-requires-clause-garbage
@@ -120,3 +124,17 @@ returns-clause-refused g c =
     (λ e named busy t s k m.
     let x = c.put_away.ensures.ready t s k m in
     refused_aside old mid new c.args.phase c.aside.result c.aside.ensures c.put_away.ensures.worked.same c.in_ok-put_away.ensures.put t named (busy t x.known x.knows (may_pod_kept x.keeps m).may)) c.delete_at.ensures.named c.delete_at.ensures.another
+
+pub returns-clause-reads : goal.returns-clause-reads
+returns-clause-reads g c = reads_more 0 (omega arith) c.put_away.ensures.reads c.put_away.ensures.worked.same c.delete_at.ensures.reads
+
+pub returns-in_err-put_away-clause-kept : goal.returns-in_err-put_away-clause-kept
+returns-in_err-put_away-clause-kept g c =
+    let D = g.D.Dir in
+    err_same (λ e. D.observed ≡ true → KeepsFolders (D.shown c.args.dir.now) (D.shown c.put_away.new.dir)) c.put_away.result c.from_residual.result (λ e h. search (rules, h, c.from_residual.ensures, c.in_err-put_away.is)) c.put_away.ensures.kept
+
+pub returns-clause-kept : goal.returns-clause-kept
+returns-clause-kept g c =
+    let D = g.D.Dir in
+    err_more (λ e. D.observed ≡ true → KeepsFolders (D.shown c.put_away.new.dir) (D.shown c.delete_at.new.dir)) (λ e. D.observed ≡ true → KeepsFolders (D.shown c.args.dir.now) (D.shown c.delete_at.new.dir)) c.delete_at.result
+    (λ e kept t. kept_more (kept_aside c.args.pod c.args.phase (c.in_ok-put_away.ensures.put t)) c.put_away.ensures.worked.same (kept t)) c.delete_at.ensures.kept

@@ -1,4 +1,4 @@
-use Rattle.std.proofs.Common.{◌≡◌, rules, true, refl, ap, subst}
+use Rattle.std.proofs.Common.{◌≡◌, rules, true, refl, ap, subst, arith, ◌∙◌}
 use Rattle.dir_model.specs.declared.spot.Mode.TheVariants.{Exclusive}
 use Rattle.dir_model.specs.declared.spot.Which.{Which}
 use Rattle.dir_model.specs.declared.spot.Which.TheVariants.{Own}
@@ -21,6 +21,12 @@ use Rattle.pod_removal.proofs.Stages.{err_same, err_all, ok_all}
 use Rattle.pod_removal.proofs.Deleting.{own_stopped, takes_own, ready_owned, ready_unowned, worked_owned, worked_unowned}
 use Rattle.pod_removal.specs.Causes.{MissedUntaken}
 use Rattle.pod_steps.proofs.Taking.{took_looks, took_closed}
+use Rattle.phase_read.proofs.Often.{reads_more}
+use Rattle.phase_read.proofs.Often.{unread_call}
+use Rattle.pod_removal.proofs.Unread.{unread_took, unread_delete, garbage_rank}
+use Rattle.folder_removal.specs.Removal.{KeepsFolders}
+use Rattle.folder_removal.proofs.Keeping.{kept_more, kept_call}
+use Rattle.pod_removal.proofs.Unread.{kept_looks}
 use Rattle.pod_removal.proofs.deletion.delete_at.Goals as goal
 
 pub returns-in_err-own-clause-worked : goal.returns-in_err-own-clause-worked
@@ -131,3 +137,21 @@ returns-in_err-own-clause-named g c =
 pub returns-clause-named : goal.returns-clause-named
 returns-clause-named g c =
     err_more (λ e. (which : Which) → e ≡ stop.Busy which → ⊥) (λ e. (which : Which) → e ≡ stop.Busy which → which ≡ Own) c.delete_if_there-result.result (λ e calm which is. absurd (calm which is)) c.delete_if_there-result.ensures.calm
+
+pub returns-in_err-own-clause-reads : goal.returns-in_err-own-clause-reads
+returns-in_err-own-clause-reads g c = unread_took c.args.pod c.args.area (garbage_rank c.args.area c.requires.garbage).0 (garbage_rank c.args.area c.requires.garbage).1 c.take.ensures.went
+
+pub returns-clause-reads : goal.returns-clause-reads
+returns-clause-reads g c = reads_more 0 (omega arith) (reads_more 0 (omega arith) (unread_took c.args.pod c.args.area (garbage_rank c.args.area c.requires.garbage).0 (garbage_rank c.args.area c.requires.garbage).1 c.take.ensures.went) c.take.ensures.went.same (unread_delete c.args.pod c.args.area (garbage_rank c.args.area c.requires.garbage).0 (garbage_rank c.args.area c.requires.garbage).1 c.delete_if_there-result.ensures.worked)) (c.delete_if_there-result.ensures.worked.same ∙ c.take.ensures.went.same) (unread_call refl c.close.ensures.called)
+
+pub returns-in_err-own-clause-kept : goal.returns-in_err-own-clause-kept
+returns-in_err-own-clause-kept g c =
+    let D = g.D.Dir in
+    err_all (λ e. D.observed ≡ true → KeepsFolders (D.shown c.args.dir.now) (D.shown c.take.new.dir)) c.from_residual.result (λ e t. kept_looks c.args.pod c.args.area (c.take.ensures.went.extends t))
+
+pub returns-clause-kept : goal.returns-clause-kept
+returns-clause-kept g c =
+    let D = g.D.Dir in
+    err_more (λ e. D.observed ≡ true → KeepsFolders (D.shown c.take.new.dir) (D.shown c.delete_if_there-result.new.dir)) (λ e. D.observed ≡ true → KeepsFolders (D.shown c.args.dir.now) (D.shown c.close.new.self)) c.delete_if_there-result.result
+    (λ e kept t. kept_more (kept_more (kept_looks c.args.pod c.args.area (c.take.ensures.went.extends t)) c.take.ensures.went.same (kept t)) (c.delete_if_there-result.ensures.worked.same ∙ c.take.ensures.went.same) (kept_call refl (c.close.ensures.called.step t)))
+    c.delete_if_there-result.ensures.kept

@@ -16,6 +16,9 @@ use Rattle.pod_removal.proofs.Looking.{worked_look, missing_stops, failed_stops,
 use Rattle.pod_removal.proofs.Deleting.{look_kinds, stood_stops, known_later, known_looked}
 use Rattle.pod_removal.specs.Causes.{StoppedDeleting, MissedUntaken}
 use Rattle.pod_steps.proofs.Taking.{took_looks}
+use Rattle.folder_removal.specs.Removal.{KeepsFolders}
+use Rattle.folder_removal.proofs.Keeping.{kept_more}
+use Rattle.pod_removal.proofs.Unread.{kept_looks}
 use Rattle.pod_removal.proofs.deletion.delete_if_there.Goals as goal
 
 pub returns-in-Ok-true-clause-worked : goal.returns-in-Ok-true-clause-worked
@@ -113,3 +116,25 @@ returns-in-Ok-true-clause-stood g c =
 
 pub returns-in-Err-clause-stood : goal.returns-in-Err-clause-stood
 returns-in-Err-clause-stood g c is = absurd (look_no_stray c.in-Err.error (sym c.look_setback.ensures ∙ is))
+
+pub returns-in-Ok-true-clause-kept : goal.returns-in-Ok-true-clause-kept
+returns-in-Ok-true-clause-kept g c =
+    let D = g.D.Dir in
+    let l = c.look.ensures in
+    let w = worked_look c.args.pod c.args.area (D.shown c.args.dir.now) (D.shown c.look.new.dir) c.pod_spot.ensures l.same l.faults l.local l.extends in
+    err_more (λ e. D.observed ≡ true → KeepsFolders (D.shown c.look.new.dir) (D.shown c.delete_standing.new.dir)) (λ e. D.observed ≡ true → KeepsFolders (D.shown c.args.dir.now) (D.shown c.delete_standing.new.dir)) c.delete_standing.result
+    (λ e kept t. kept_more (kept_looks c.args.pod c.args.area (w.extends t)) w.same (kept t)) c.delete_standing.ensures.kept
+
+pub returns-in-Ok-false-clause-kept : goal.returns-in-Ok-false-clause-kept
+returns-in-Ok-false-clause-kept g c t =
+    let D = g.D.Dir in
+    let l = c.look.ensures in
+    let w = worked_look c.args.pod c.args.area (D.shown c.args.dir.now) (D.shown c.look.new.dir) c.pod_spot.ensures l.same l.faults l.local l.extends in
+    kept_looks c.args.pod c.args.area (w.extends t)
+
+pub returns-in-Err-clause-kept : goal.returns-in-Err-clause-kept
+returns-in-Err-clause-kept g c t =
+    let D = g.D.Dir in
+    let l = c.look.ensures in
+    let w = worked_look c.args.pod c.args.area (D.shown c.args.dir.now) (D.shown c.look.new.dir) c.pod_spot.ensures l.same l.faults l.local l.extends in
+    kept_looks c.args.pod c.args.area (w.extends t)

@@ -1,4 +1,4 @@
-use Rattle.std.proofs.Common.{◌≡◌, rules, true, false, refl, ap, subst}
+use Rattle.std.proofs.Common.{◌≡◌, rules, true, false, refl, ap, subst, arith, ◌∙◌}
 use Rattle.dir_model.specs.declared.area.Area.TheVariants.{Prepared, Garbage}
 use Rattle.dir_model.specs.declared.spot.Mode.TheVariants.{Exclusive}
 use Rattle.dir_model.specs.declared.spot.Which.TheVariants.{Own, Claim}
@@ -24,6 +24,9 @@ use Rattle.pod_removal.proofs.CallKinds.{put_locked}
 use Rattle.pod_removal.proofs.Discarding.{takes_claim, discards_under, busy_within, worked_claimed, worked_alone, alone_stops, alone_busy, ready_claimed, ready_looked, ready_left, busy_claim, worked_untaken, stops_else, stops_alone, looks_alone, looks_claimed, alone_calm, claim_calm}
 use Rattle.pod_steps.specs.Taking.{TakesNothing}
 use Rattle.pod_steps.proofs.Taking.{took_looks, took_more, took_closed}
+use Rattle.phase_read.proofs.Often.{reads_more}
+use Rattle.phase_read.proofs.Often.{unread_call}
+use Rattle.pod_removal.proofs.Unread.{unread_took, unread_looks}
 use Rattle.pod_removal.proofs.prepared.discard_prepared.Goals as goal
 
 pub returns-in-Ok-clause-worked : goal.returns-in-Ok-clause-worked
@@ -162,3 +165,12 @@ returns-in-Err-Missing-clause-under_claim g c is = absurd (alone_calm c.without_
 
 pub returns-in-Err-clause-under_claim : goal.returns-in-Err-clause-under_claim
 returns-in-Err-clause-under_claim g c is = absurd (claim_calm (c.in-Err.ensures.named Own is))
+
+pub returns-in-Ok-clause-reads : goal.returns-in-Ok-clause-reads
+returns-in-Ok-clause-reads g c = reads_more 0 (omega arith) (reads_more 0 (omega arith) (unread_took c.args.pod Prepared 1 refl c.take.ensures.went) c.take.ensures.went.same c.discard_under_claim-result.ensures.reads) (c.discard_under_claim-result.ensures.worked.same ∙ c.take.ensures.went.same) (unread_call refl c.close.ensures.called)
+
+pub returns-in-Err-Missing-clause-reads : goal.returns-in-Err-Missing-clause-reads
+returns-in-Err-Missing-clause-reads g c = reads_more 0 (omega arith) (unread_took c.args.pod Prepared 1 refl c.take.ensures.went) c.take.ensures.went.same (unread_looks c.args.pod Prepared 1 refl c.without_claim.ensures.worked)
+
+pub returns-in-Err-clause-reads : goal.returns-in-Err-clause-reads
+returns-in-Err-clause-reads g c = unread_took c.args.pod Prepared 1 refl c.take.ensures.went

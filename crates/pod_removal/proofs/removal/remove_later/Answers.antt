@@ -1,4 +1,4 @@
-use Rattle.std.proofs.Common.{◌≡◌, rules, false, true, ℕ, sym, subst, ◌∙◌, arith}
+use Rattle.std.proofs.Common.{[], append-nil, ◌+◌, ◌≡◌, rules, false, true, ℕ, sym, subst, ◌∙◌, arith}
 use Rattle.dir_model.specs.Local.{Local, IsActive, has_own_open}
 use Rattle.dir_model.specs.Pods.{pod_text}
 use Rattle.folder_building.proofs.Copying.{err_more}
@@ -12,10 +12,16 @@ use Rattle.pod_removal.specs.Holding.{MayRemovePod}
 use Rattle.pod_removal.specs.Removals.{MissedTimes, WentRound, RoundCause, LaterCause, RefusedByAnother}
 use Rattle.pod_removal.proofs.Stages.{err_same}
 use Rattle.pod_removal.proofs.Rounds.{missed_next, ended_at, cause_later, cause_last, refused_later, ready_here, ready_more}
+use Rattle.phase_read.proofs.Often.{reads_more, reads_within}
+use Rattle.pod_removal.proofs.Unread.{unread_here}
+use Rattle.folder_removal.specs.Removal.{KeepsFolders}
+use Rattle.folder_removal.proofs.Keeping.{kept_more}
+use Rattle.pod_removal.proofs.Unread.{kept_missed}
+use Rattle.pod_removal.specs.Found.{RoundWent}
 use Rattle.pod_removal.proofs.removal.remove_later.Goals as goal
 
 pub rounds-init : goal.rounds-init
-rounds-init g c = record { worked = worked_none; missed = λ t. grown_none; ready = λ t. ready_here }
+rounds-init g c = record { worked = worked_none; missed = λ t. grown_none; reads = unread_here c.args.pod (g.D.Dir.shown c.args.dir.now); kept = λ t. record { more = []; grown = sym (append-nil (g.D.Dir.shown c.args.dir.now).trace); kept = tt }; ready = λ t. ready_here }
 
 pub attempt-requires-clause-active : goal.attempt-requires-clause-active
 attempt-requires-clause-active g c = subst IsActive (sym c.rounds.invariant.worked.local) c.requires.active
@@ -83,6 +89,8 @@ rounds-preserved g c =
       worked = worked_more so_far.worked c.attempt.ensures.worked;
       missed = λ t. missed_next c.args.pod old.trace mid.trace new.trace c.rounds._round (so_far.missed t) so_far.worked.same
           (subst (λ (x : Round). WentRound c.args.pod x mid new) c.in-Missed.is (c.in_ok-attempt.ensures.went t));
+      reads = reads_more (c.rounds._round + 1) (omega arith) so_far.reads so_far.worked.same c.attempt.ensures.reads;
+      kept = λ t. kept_more (so_far.kept t) so_far.worked.same (kept_missed c.args.pod (subst (λ (x : Round). RoundWent c.args.pod x mid new) c.in-Missed.is (c.in_ok-attempt.ensures.round t)));
       ready = λ t. ready_more (so_far.ready t) (c.attempt.ensures.ready t);
     }
 
@@ -99,3 +107,26 @@ returns-clause-cause g c =
 
 pub returns-clause-ready : goal.returns-clause-ready
 returns-clause-ready g c t = c.rounds.invariant.ready t
+
+pub returns-in_err-attempt-clause-reads : goal.returns-in_err-attempt-clause-reads
+returns-in_err-attempt-clause-reads g c = reads_more 5 (omega (arith, c.rounds-test.true)) c.rounds.invariant.reads c.rounds.invariant.worked.same c.attempt.ensures.reads
+
+pub returns-in-Gone-clause-reads : goal.returns-in-Gone-clause-reads
+returns-in-Gone-clause-reads g c = reads_more 5 (omega (arith, c.rounds-test.true)) c.rounds.invariant.reads c.rounds.invariant.worked.same c.attempt.ensures.reads
+
+pub returns-in-Removed-clause-reads : goal.returns-in-Removed-clause-reads
+returns-in-Removed-clause-reads g c = reads_more 5 (omega (arith, c.rounds-test.true)) c.rounds.invariant.reads c.rounds.invariant.worked.same c.attempt.ensures.reads
+
+pub returns-clause-reads : goal.returns-clause-reads
+returns-clause-reads g c = reads_within 5 (omega (arith, c.rounds.auto._round-end)) c.rounds.invariant.reads
+
+pub returns-in_err-attempt-clause-kept : goal.returns-in_err-attempt-clause-kept
+returns-in_err-attempt-clause-kept g c =
+    let D = g.D.Dir in
+    err_same (λ e. D.observed ≡ true → KeepsFolders (D.shown c.args.dir.now) (D.shown c.attempt.new.dir)) c.attempt.result c.from_residual.result (λ e h. search (rules, h, c.from_residual.ensures, c.in_err-attempt.is))
+    (err_more (λ e. D.observed ≡ true → KeepsFolders (D.shown c.rounds.dir) (D.shown c.attempt.new.dir)) (λ e. D.observed ≡ true → KeepsFolders (D.shown c.args.dir.now) (D.shown c.attempt.new.dir)) c.attempt.result
+    (λ e kept t. kept_more (c.rounds.invariant.kept t) c.rounds.invariant.worked.same (kept t)) c.attempt.ensures.kept)
+
+pub returns-clause-kept : goal.returns-clause-kept
+returns-clause-kept g c t =
+    c.rounds.invariant.kept t

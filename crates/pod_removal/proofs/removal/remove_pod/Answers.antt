@@ -1,4 +1,4 @@
-use Rattle.std.proofs.Common.{◌≡◌, rules, true, subst}
+use Rattle.std.proofs.Common.{◌≡◌, rules, true, subst, arith}
 use Rattle.folder_building.proofs.Copying.{ok_more, err_more}
 use Rattle.folder_building.proofs.Working.{worked_more}
 use Rattle.pod_steps.specs.Holding.{Stays}
@@ -11,6 +11,10 @@ use Rattle.pod_removal.proofs.Rounds.{cause_first, cause_then, removed_then, ref
 use Rattle.pod_removal.proofs.Hindrances.{never_gone, refused_so}
 use Rattle.pod_removal.specs.Found.{RoundWent, RoundRefused, RemovedFirst, RefusedFirst}
 use Rattle.pod_removal.proofs.Finding.{removed_later, removed_once, refused_then, refused_once}
+use Rattle.phase_read.proofs.Often.{reads_more, reads_within}
+use Rattle.folder_removal.specs.Removal.{KeepsFolders}
+use Rattle.folder_removal.proofs.Keeping.{kept_more}
+use Rattle.pod_removal.proofs.Unread.{kept_read, kept_missed}
 use Rattle.pod_removal.proofs.removal.remove_pod.Goals as goal
 
 pub returns-in_err-attempt-clause-cause : goal.returns-in_err-attempt-clause-cause
@@ -118,3 +122,35 @@ returns-in-Missed-clause-refused g c =
     let new = D.shown c.remove_later.new.dir in
     err_all (λ e. D.observed ≡ true → Stays (MayRemovePod c.args.pod c.args.now) old (λ s. RefusedFirst c.args.pod e old new)) c.remove_later.result
     (λ e t s k m. refused_then old mid new ((follows_work c.remove_later.ensures.worked).grown t) (subst (λ (y : Round). RoundWent c.args.pod y old mid) c.in-Missed.is (c.in_ok-attempt.ensures.round t)) e)
+
+pub returns-in_err-attempt-clause-reads : goal.returns-in_err-attempt-clause-reads
+returns-in_err-attempt-clause-reads g c = reads_within 6 (omega arith) c.attempt.ensures.reads
+
+pub returns-in-Gone-clause-reads : goal.returns-in-Gone-clause-reads
+returns-in-Gone-clause-reads g c = reads_within 6 (omega arith) c.attempt.ensures.reads
+
+pub returns-in-Removed-clause-reads : goal.returns-in-Removed-clause-reads
+returns-in-Removed-clause-reads g c = reads_within 6 (omega arith) c.attempt.ensures.reads
+
+pub returns-in-Missed-clause-reads : goal.returns-in-Missed-clause-reads
+returns-in-Missed-clause-reads g c = reads_more 6 (omega arith) c.attempt.ensures.reads c.attempt.ensures.worked.same c.remove_later.ensures.reads
+
+pub returns-in_err-attempt-clause-kept : goal.returns-in_err-attempt-clause-kept
+returns-in_err-attempt-clause-kept g c =
+    let D = g.D.Dir in
+    err_same (λ e. D.observed ≡ true → KeepsFolders (D.shown c.args.dir.now) (D.shown c.attempt.new.dir)) c.attempt.result c.from_residual.result (λ e h. search (rules, h, c.from_residual.ensures, c.in_err-attempt.is)) c.attempt.ensures.kept
+
+pub returns-in-Gone-clause-kept : goal.returns-in-Gone-clause-kept
+returns-in-Gone-clause-kept g c t =
+    let D = g.D.Dir in
+    let old = D.shown c.args.dir.now in
+    let new = D.shown c.attempt.new.dir in
+    kept_read c.args.pod (subst (λ (y : Round). WentRound c.args.pod y old new) c.in-Gone.is (c.in_ok-attempt.ensures.went t)).only
+
+pub returns-in-Missed-clause-kept : goal.returns-in-Missed-clause-kept
+returns-in-Missed-clause-kept g c =
+    let D = g.D.Dir in
+    let old = D.shown c.args.dir.now in
+    let mid = D.shown c.attempt.new.dir in
+    err_more (λ e. D.observed ≡ true → KeepsFolders (D.shown c.attempt.new.dir) (D.shown c.remove_later.new.dir)) (λ e. D.observed ≡ true → KeepsFolders (D.shown c.args.dir.now) (D.shown c.remove_later.new.dir)) c.remove_later.result
+    (λ e kept t. kept_more (kept_missed c.args.pod (subst (λ (y : Round). RoundWent c.args.pod y old mid) c.in-Missed.is (c.in_ok-attempt.ensures.round t))) c.attempt.ensures.worked.same (kept t)) c.remove_later.ensures.kept

@@ -4,7 +4,7 @@ use Rattle.rkt_cli.specs.Commands.{uses_dir, intent_of}
 use Rattle.command_outcomes.specs.Moments.{dir_at}
 use Rattle.rkt_cli.proofs.Conforming.{looks_conforming, apart_conforming, list_conforming}
 use Rattle.rkt_cli.proofs.StoreRan.{imports, import_ran, removal_conforming, sweep_conforming, removal_ran, sweep_ran}
-use Rattle.rkt_cli.proofs.Files.{validate_ran}
+use Rattle.rkt_cli.proofs.ValidateRan.{validate_ran}
 use Rattle.rkt_cli.proofs.PodRan.{prepares, prepare_ran}
 use Rattle.rkt_cli.proofs.PodRemovals.{rm_conforming, gc_conforming, rm_ran, gc_ran}
 use Rattle.rkt_cli.proofs.Makers.{looks_none, lists_none, imports_none, image_removes_none, image_sweeps_none, removes_none, sweeps_none, prepare_hands}
@@ -40,7 +40,7 @@ returns-in-ImageRm-clause-keeps g c t intent said =
 pub returns-in-ImageRm-clause-ran : goal.returns-in-ImageRm-clause-ran
 returns-in-ImageRm-clause-ran g c =
     let D = g.D.Dir in
-    removal_ran _ _ _ c.in-ImageRm.key D.observed (D.shown c.args.dir.now) (D.shown c.image_rm.new.dir) _ _ c.in-ImageRm.is c.image_rm.ensures.worked c.image_rm.ensures.cause c.image_rm.ensures.refusals c.image_rm.ensures.says
+    removal_ran _ _ _ c.in-ImageRm.key D.observed (D.shown c.args.dir.now) (D.shown c.image_rm.new.dir) _ _ c.in-ImageRm.is c.image_rm.ensures.worked c.image_rm.ensures.cause c.image_rm.ensures.refusals c.image_rm.ensures.says c.image_rm.ensures.kept
 
 pub returns-in-ImageGc-clause-keeps : goal.returns-in-ImageGc-clause-keeps
 returns-in-ImageGc-clause-keeps g c t intent said =
@@ -67,7 +67,7 @@ returns-in-Rm-clause-keeps g c t intent said =
 pub returns-in-Rm-clause-ran : goal.returns-in-Rm-clause-ran
 returns-in-Rm-clause-ran g c =
     let D = g.D.Dir in
-    rm_ran _ _ _ c.in-Rm.pod D.observed (D.shown c.args.dir.now) (D.shown c.rm.new.dir) _ _ c.in-Rm.is c.rm.ensures.worked c.rm.ensures.cause c.rm.ensures.refusals c.rm.ensures.says
+    rm_ran _ _ _ c.in-Rm.pod D.observed (D.shown c.args.dir.now) (D.shown c.rm.new.dir) _ _ c.in-Rm.is c.rm.ensures.worked c.rm.ensures.cause c.rm.ensures.refusals c.rm.ensures.says c.rm.ensures.kept
 
 pub returns-in-Gc-clause-keeps : goal.returns-in-Gc-clause-keeps
 returns-in-Gc-clause-keeps g c t intent said =

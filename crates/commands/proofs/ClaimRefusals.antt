@@ -1,0 +1,65 @@
+-- The command `run-prepared`: from the claim and the run to what is told.
+use Rattle.std.proofs.Common.{◌≡◌, inl, inr, Bool, true, [], Ok, Err, IfErr, refl}
+use Rattle.dir_model.specs.declared.pod.PodId.{PodId}
+use Rattle.dir_trait.specs.DirCalls.{DirAt, ExtendsBy}
+use Rattle.spawner.specs.Calls.{SpawnerAt}
+use Rattle.pod_ownership.specs.declared.owned.Owned.{Owned}
+use Rattle.pod_ownership.specs.Running.{IsOwned}
+use Rattle.pod_claim.specs.declared.error.ClaimError.{ClaimError}
+use Rattle.pod_claim.specs.declared.error.ClaimError.TheVariants as claim
+use Rattle.pod_claim.specs.Causes.{ClaimCause}
+use Rattle.lifecycle.specs.Executions.{IsConforming}
+use Rattle.pod_claim.specs.Claims.{RefusedByAnother, IsFreeThroughout, IsFailure}
+use Rattle.pod_claim.specs.Elsewhere.{MetOwner}
+use Rattle.pod_claim.specs.Holding.{MayClaim}
+use Rattle.pod_claim.specs.Requests.{claims}
+use Rattle.pod_claim.specs.Work.{Grew, Leaves, MovedNothing, TookBoth}
+use Rattle.command_outcomes.specs.declared.refusal.Refusal.{Refusal}
+use Rattle.command_outcomes.specs.declared.refusal.Refusal.TheVariants.{NoPod, WrongPhase, PodBusy, DirFault, SpawnFault}
+use Rattle.command_outcomes.specs.Moments.{Answer, Inside, dir_seen, SpawnerSeen}
+use Rattle.commands.specs.RunRefusals.{claim_refusal, apps_refusal, run_prepared_refusal}
+use Rattle.commands.specs.AppRuns.{RunSays}
+use Rattle.commands.specs.RunPrepared.{RunPreparedSays}
+
+pub claim_fault : (pod : PodId) (e : ClaimError) → claim_refusal pod e ≡ DirFault → e ≡ claim.DirFault
+claim_fault pod claim.DirFault is = refl
+claim_fault pod e is = cc
+
+pub claim_no_spawn : (pod : PodId) (e : ClaimError) {X : Type 0} → claim_refusal pod e ≡ SpawnFault → X
+claim_no_spawn pod claim.NoPod is = cc
+claim_no_spawn pod e is = cc
+
+pub claim_allowed : (pod : PodId) (e : ClaimError) → run_prepared_refusal (claim_refusal pod e) ≡ true
+claim_allowed pod claim.NoPod = refl
+claim_allowed pod e = refl
+
+-- a refusal of a run is one of the command
+apps_in : (r : Refusal) → apps_refusal r ≡ true → run_prepared_refusal r ≡ true
+apps_in NoPod is = refl
+apps_in (WrongPhase phase) is = refl
+apps_in (PodBusy pod which) is = refl
+apps_in r is = is
+
+pub run_in : (a : Answer) → IfErr a (λ r. apps_refusal r ≡ true) → IfErr a (λ r. run_prepared_refusal r ≡ true)
+run_in (Ok told) h = tt
+run_in (Err r) h = apps_in r h
+
+-- at a moment
+abbrev pub spawner_seen : Bool → SpawnerAt → SpawnerSeen
+spawner_seen observed s = record { observed = observed; shown = s }
+
+abbrev pub inside_of : Bool → Bool → DirAt → SpawnerAt → Inside
+inside_of seen observed d s = record { dir = dir_seen seen d; spawner = spawner_seen observed s }
+
+-- what is told
+module _ (seen observed : Bool) (pod : PodId) (a c : DirAt) (s s' : SpawnerAt) (answer : Answer) where
+  abbrev Says : Type 0
+  Says = RunPreparedSays pod (inside_of seen observed a s) (inside_of seen observed c s') answer
+
+  pub claimed_says : (b : DirAt) (owned : Owned) → IsOwned pod a.local owned → b.process ≡ a.process → (seen ≡ true → ExtendsBy (claims pod) a b) → (seen ≡ true → TookBoth pod owned.own a.process a.trace b.trace) → (seen ≡ true → Grew b.trace c.trace) → RunSays seen observed owned [] b c s s' answer → Says
+  claimed_says b owned is same asked took then says = record { from = a; to = c; begins = refl; ends = refl; so = inl (record { claimed = b; owned = owned; is_owned = is; same = same; asked = asked; took = took; then = then; says = says }) }
+
+  pub unclaimed_says : (e : ClaimError) → answer ≡ Err (claim_refusal pod e) → ClaimCause seen pod e a c → (seen ≡ true → MovedNothing a.process a.trace c.trace) → Leaves seen MayClaim a (λ known. RefusedByAnother pod e a c) → Leaves seen MayClaim a (λ known. MetOwner pod e a c) →
+      Leaves seen MayClaim a (λ known. IsConforming c.trace → IsFreeThroughout pod a c → IsFailure e) → s' ≡ s → Says
+  unclaimed_says e is cause still another owner complete unasked =
+      record { from = a; to = c; begins = refl; ends = refl; so = inr (record { error = e; is = is; cause = cause; still = still; another = another; owner = owner; complete = complete; unasked = unasked }) }

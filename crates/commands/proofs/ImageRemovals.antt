@@ -1,0 +1,72 @@
+-- The commands `image rm` and `image gc`, each between its begin and its finish.
+use Rattle.std.proofs.Common.{◌≡◌, ◌⊎◌, inl, inr, Bool, true, false, List, Ok, Err, refl, sym, ap, subst}
+use Rattle.ac_types.specs.Ids.{id_text}
+use Rattle.ac_types.specs.declared.store_key.StoreKey.{StoreKey}
+use Rattle.dir_model.specs.declared.area.Area.{Area}
+use Rattle.dir_model.specs.declared.area.Area.TheVariants.{Images}
+use Rattle.dir_model.specs.declared.spot.Mode.TheVariants.{Exclusive}
+use Rattle.dir_model.specs.declared.pod.PodId.{PodId}
+use Rattle.dir_rules.specs.declared.seen.Seen.{Seen}
+use Rattle.dir_trait.specs.DirCalls.{DirAt, HeldBetween}
+use Rattle.dir_trait.specs.Knowledge.{Knows}
+use Rattle.area_locks.specs.AreaLocks.{IsBusyElsewhere}
+use Rattle.image_reading.specs.declared.error.StoreError.{StoreError}
+use Rattle.image_reading.specs.declared.error.StoreError.TheVariants as store_error
+use Rattle.image_removal.specs.declared.pass.SweepLine.{SweepLine}
+use Rattle.image_removal.specs.Causes.{RemoveCause, WorkCause, WasBusy, BusyElsewhere}
+use Rattle.image_removal.specs.Sweeps.{BusyApart, IsSweptBetween, HasTriedBetween}
+use Rattle.image_removal.specs.Work.{MayRemove, MaySweep}
+use Rattle.command_outcomes.specs.declared.refusal.Refusal.{Refusal}
+use Rattle.command_outcomes.specs.declared.refusal.Refusal.TheVariants.{NoMemory}
+use Rattle.command_outcomes.specs.Moments.{Outcome}
+use Rattle.command_outcomes.specs.Conforming.{shown_at}
+use Rattle.commands.specs.ImageRm.{removal_refusal, IsRemovalSaid, FindsBusy, ImageRmSays}
+use Rattle.commands.specs.ImageGc.{sweep_texts, ImageGcSays, EndsEarly}
+use Rattle.image_removal.specs.Ended.{EndsSweepBetween}
+use Rattle.command_outcomes.proofs.Seen.{seen_at}
+
+-- why an image wasn't removed, and what is said of it
+module _ (observed : Bool) (a b : DirAt) (key : StoreKey) (draw : PodId) where
+  abbrev Says : Outcome → Type 0
+  Says o = ImageRmSays key draw (seen_at observed a) (seen_at observed b) o
+
+  abbrev Another : StoreError → Type 0
+  Another e = observed ≡ true → (s : Seen) → Knows a s → MayRemove draw s → BusyElsewhere e a b
+
+  said : (e : StoreError) → RemoveCause observed key draw e a b → Another e → Says (Err (removal_refusal e))
+  said (store_error.Busy area) cause another = λ t s k may. by area (cause.busy area refl) t s k may another
+    where
+      by : (here : Area) → (here ≡ Images) × (observed ≡ true → WasBusy a b) → observed ≡ true → (s : Seen) → Knows (shown_at (seen_at observed a)) s → MayRemove draw s → Another (store_error.Busy here) →
+          FindsBusy a.process a.trace b.trace
+      by here x t s k may another = record {
+        held = subst (λ (q : Area). HeldBetween a b (IsBusyElsewhere a.process q Exclusive)) x.0 (another t s (record { tied = k.tied; handles = k.handles }) may here refl);
+        only = (x.1 t).only;
+      }
+  said (store_error.NoImage other) cause another = let f = cause.absent other refl in record { is = ap (λ (q : StoreKey). id_text q.bytes) f.0; found = f.1 }
+  said store_error.DirFault cause another = tt
+  said store_error.NoMemory cause another = tt
+  said store_error.Stray cause another = λ t. cause.stray refl t
+  said e cause another = let clash : false ≡ true = cause.kind in cc
+
+  pub refused_says : (e : StoreError) (r : Refusal) → IsRemovalSaid e r → RemoveCause observed key draw e a b → Another e → Says (Err r)
+  refused_says e r (inr is) cause another = subst (λ (x : Refusal). Says (Err x)) (sym is) tt
+  refused_says e r (inl is) cause another = subst (λ (x : Refusal). Says (Err x)) (sym is) (said e cause another)
+
+-- what a sweep printed, or why it ended early
+module _ (observed : Bool) (a b : DirAt) where
+  abbrev SweepSays : Outcome → Type 0
+  SweepSays o = ImageGcSays (seen_at observed a) (seen_at observed b) o
+
+  pub swept_says : (lines : List SweepLine) (o : Outcome) → (o ≡ Ok (sweep_texts lines)) ⊎ (o ≡ Err NoMemory) →
+      (observed ≡ true → (s : Seen) → Knows a s → MaySweep s → IsSweptBetween (BusyApart a.process) a b lines) → SweepSays o
+  swept_says lines o (inr e) swept = subst SweepSays (sym e) tt
+  swept_says lines o (inl e) swept = subst SweepSays (sym e) (record { lines = lines; is = refl; swept = λ t s k may. swept t s (record { tied = k.tied; handles = k.handles }) may })
+
+  early : (e : StoreError) → WorkCause observed e a b → (observed ≡ true → EndsEarly a.process a.trace b.trace) → SweepSays (Err (removal_refusal e))
+  early store_error.DirFault cause ends = ends
+  early store_error.NoMemory cause ends = tt
+  early store_error.Stray cause ends = λ t. record { stray = cause.stray refl t; early = ends t }
+  early e cause ends = let clash : false ≡ true = cause.kind in cc
+
+  pub early_says : (e : StoreError) (r : Refusal) → r ≡ removal_refusal e → WorkCause observed e a b → (observed ≡ true → HasTriedBetween a b) → (observed ≡ true → EndsSweepBetween a b) → SweepSays (Err r)
+  early_says e r is cause tried ended = subst (λ (x : Refusal). SweepSays (Err x)) (sym is) (early e cause (λ t. record { tried = tried t; ended = ended t }))

@@ -1,0 +1,52 @@
+-- The command `rm`: from the removal to what is told of it.
+use Rattle.std.proofs.Common.{◌≡◌, Bool, true, Err, ℕ, refl, sym, ap, subst}
+use Rattle.dir_model.specs.declared.pod.PodId.{PodId}
+use Rattle.dir_trait.specs.DirCalls.{DirAt}
+use Rattle.pod_steps.specs.Holding.{Stays}
+use Rattle.pod_removal.specs.declared.error.RemoveError.{RemoveError}
+use Rattle.pod_removal.specs.declared.error.RemoveError.TheVariants as error
+use Rattle.pod_removal.specs.Holding.{MayRemovePod}
+use Rattle.pod_removal.specs.Removals.{RemoveCause, RefusedByAnother}
+use Rattle.pod_removal.specs.Found.{RefusedFirst}
+use Rattle.command_outcomes.specs.declared.refusal.Refusal.{Refusal}
+use Rattle.command_outcomes.specs.declared.refusal.Refusal.TheVariants.{DirFault}
+use Rattle.command_outcomes.specs.Moments.{Outcome}
+use Rattle.command_outcomes.proofs.Seen.{seen_at}
+use Rattle.commands.specs.Rm.{remove_refusal, rm_refusal, RmSays}
+
+pub said_fault : (pod : PodId) (e : RemoveError) → remove_refusal pod e ≡ DirFault → e ≡ error.DirFault
+said_fault pod error.DirFault is = refl
+said_fault pod e is = cc
+
+pub allowed : (pod : PodId) (e : RemoveError) → rm_refusal (remove_refusal pod e) ≡ true
+allowed pod error.NoPod = refl
+allowed pod e = refl
+
+-- why the pod wasn't removed, and what is said of it
+module _ (observed : Bool) (a b : DirAt) (pod : PodId) (now : ℕ) where
+  abbrev Says : Outcome → Type 0
+  Says o = RmSays pod now (seen_at observed a) (seen_at observed b) o
+
+  abbrev Another : RemoveError → Type 0
+  Another e = observed ≡ true → Stays (MayRemovePod pod now) a (λ s. RefusedByAnother pod e a b)
+
+  abbrev First : RemoveError → Type 0
+  First e = observed ≡ true → Stays (MayRemovePod pod now) a (λ s. RefusedFirst pod e a b)
+
+  said : (e : RemoveError) → RemoveCause observed pod e a b → Another e → First e → Says (Err (remove_refusal pod e))
+  said error.NoPod cause another first = λ t. cause.nowhere refl t
+  said (error.WrongPhase phase) cause another first = record {
+    was = λ t conforming. cause.phase phase refl t conforming;
+    owner = λ t s k may conforming. (another t s (record { tied = k.tied; handles = k.handles }) may).owner conforming phase refl;
+  }
+  said error.NoManifest cause another first = (refl, λ t conforming. cause.manifest refl t conforming)
+  said (error.Busy other which) cause another first =
+      let same : other ≡ pod = cause.named other which refl in
+      let named : error.Busy other which ≡ error.Busy pod which = ap (λ (p : PodId). error.Busy p which) same in
+      (same, λ t s k may. record { busy = (another t s (record { tied = k.tied; handles = k.handles }) may).busy which named; first = first t s (record { tied = k.tied; handles = k.handles }) may which named })
+  said error.DirFault cause another first = tt
+  said error.Stray cause another first = λ t. cause.stray refl t
+  said error.NoMemory cause another first = tt
+
+  pub refused_says : (e : RemoveError) (r : Refusal) → r ≡ remove_refusal pod e → RemoveCause observed pod e a b → Another e → First e → Says (Err r)
+  refused_says e r is cause another first = subst (λ (x : Refusal). Says (Err x)) (sym is) (said e cause another first)

@@ -1,0 +1,71 @@
+-- What came about between a process's begin and its finish came about in the whole.
+use Rattle.std.proofs.Common.{◌≡◌, inl, inr, ℕ, Bool, true, List, ◌∷◌, ◌++◌, ap, subst, ◌∙◌, append_assoc}
+use Rattle.ac_types.specs.declared.image_ref.ImageRef.{ImageRef}
+use Rattle.dir_model.specs.declared.area.Area.{Area}
+use Rattle.dir_model.specs.declared.area.Area.TheVariants.{Prepare, Prepared}
+use Rattle.dir_model.specs.declared.event.Event.{Event}
+use Rattle.dir_model.specs.declared.intent.Draw.{Draw}
+use Rattle.dir_model.specs.declared.pod.PodId.{PodId}
+use Rattle.dir_model.specs.declared.request.Request.{Request}
+use Rattle.dir_model.specs.declared.request.Request.TheVariants.{MoveFolder}
+use Rattle.dir_model.specs.declared.request.Reply.TheVariants.{Done}
+use Rattle.dir_model.specs.Calls.{event, Extends}
+use Rattle.dir_model.proofs.Moments.{at_after, at_before}
+use Rattle.dir_trait.specs.DirCalls.{DirAt, ExtendsBy}
+use Rattle.pod_manifest.specs.Wishes.{Wishes}
+use Rattle.pod_making.specs.Requests.{pod_at}
+use Rattle.pod_build.specs.declared.error.BuildError.{BuildError}
+use Rattle.pod_build.specs.Causes.{IsPartOf, IsRefused}
+use Rattle.pod_build.specs.Preparations.{IsPrepared}
+use Rattle.command_outcomes.specs.declared.refusal.Refusal.{Refusal}
+use Rattle.command_outcomes.specs.Moments.{DirSeen}
+use Rattle.command_outcomes.specs.Conforming.{shown_at}
+use Rattle.commands.specs.Prepare.{no_wishes, IsFaithful, RefusesPod}
+
+part_whole : {s e a b c d : DirAt} {early late : Request → Bool} → b.process ≡ a.process → ExtendsBy early a b → ExtendsBy late c d → IsPartOf s e b c → IsPartOf s e a d
+part_whole {s} {e} {a} {b} {c} {d} same x y p = record {
+  same = p.same ∙ same;
+  before = x.more ++ p.before;
+  begins = p.begins ∙ (ap (λ h. h ++ p.before) x.grown ∙ append_assoc a.trace x.more p.before);
+  after = p.after ++ y.more;
+  ends = y.grown ∙ (ap (λ h. h ++ y.more) p.ends ∙ append_assoc e.trace p.after y.more);
+}
+
+pub refused_whole : {observed : Bool} {refs : List ImageRef} {options : Wishes} (draw : Draw) {now : ℕ} {e : BuildError} {a b c d : DirAt} {early late : Request → Bool} → b.process ≡ a.process → c.process ≡ b.process → (observed ≡ true → ExtendsBy early a b)
+    → (observed ≡ true → ExtendsBy late c d) → IsRefused observed refs options draw now e b c → IsRefused observed refs options draw now e a d
+refused_whole draw me same ab cd (inl x) = inl (x.0, x.1, λ is t. at_before (at_after (ab t) me (x.2 is t)) (same ∙ me) (cd t))
+refused_whole draw me same ab cd (inr (inl x)) = inr (inl (x.0, x.1, λ t. part_whole me (ab t) (cd t) (x.2 t), x.3))
+refused_whole draw me same ab cd (inr (inr x)) = inr (inr (x.0, (x.1.0, x.1.1, λ t. part_whole me (ab t) (cd t) (x.1.2 t), x.1.3), (x.2.0, x.2.1, λ t. part_whole me (ab t) (cd t) (x.2.2 t), x.2.3)))
+
+-- why the pod wasn't prepared
+pub refuses_whole : {words : List (List ℕ)} {now : ℕ} {draw : Draw} {r : Refusal} {a b c d : DirSeen} (asks : Request → Bool) → b.observed ≡ a.observed → b.process ≡ a.process → c.process ≡ b.process
+    → (a.observed ≡ true → Extends asks a.process a.trace b.trace) → (a.observed ≡ true → Extends asks c.process c.trace d.trace)
+    → RefusesPod words now draw b c r → RefusesPod words now draw a d r
+refuses_whole {words} {now} {draw} {r} {a} {b} {c} {d} asks told ab same begins ends x = record {
+  error = x.error;
+  is = x.is;
+  cause = (x.cause.0, x.cause.1, refused_whole draw ab same begins ends (subst (λ (o : Bool). IsRefused o x.cause.0 no_wishes draw now x.error (shown_at b) (shown_at c)) told x.cause.2));
+}
+
+-- that the pod was prepared
+pub prepared_wider : {refs : List ImageRef} {options : Wishes} {me : ℕ} {draw : PodId} {to : Area} {a b c d : List Event} (earlier rest : List Event) → b ≡ a ++ earlier → d ≡ c ++ rest → IsPrepared refs options me draw to b c → IsPrepared refs options me draw to a d
+prepared_wider {refs} {options} {me} {draw} {to} {a} {b} {c} {d} earlier rest begins ends x = record {
+  before = x.before;
+  later = x.later ++ rest;
+  meanwhile = earlier ++ x.meanwhile;
+  begins = x.begins ∙ (ap (λ (h : List Event). h ++ x.meanwhile) begins ∙ append_assoc a earlier x.meanwhile);
+  moved = ends ∙ (ap (λ (h : List Event). h ++ rest) x.moved ∙ append_assoc x.before (event me (MoveFolder (pod_at Prepare draw) (pod_at to draw)) Done ∷ x.later) rest);
+  faithful = x.faithful;
+  maps = x.maps;
+  trees = x.trees;
+  choice = x.choice;
+  chosen = x.chosen;
+  manifest = x.manifest;
+  folder = x.folder;
+  stands = x.stands;
+  holds = x.holds;
+}
+
+pub faithful_wider : (words : List (List ℕ)) (draw : PodId) (a b c d : DirSeen) (earlier rest : List Event) → b.process ≡ a.process → b.trace ≡ a.trace ++ earlier → d.trace ≡ c.trace ++ rest → IsFaithful words draw b c → IsFaithful words draw a d
+faithful_wider words draw a b c d earlier rest same begins ends x =
+    (x.0, x.1, prepared_wider earlier rest begins ends (subst (λ (me : ℕ). IsPrepared x.0 no_wishes me draw Prepared b.trace c.trace) same x.2))

@@ -1,0 +1,84 @@
+-- The command `image list`.
+use Rattle.std.specs.Prelude.{◌≡◌, ℕ, Bool, true, ◌||◌, List, ◌++◌, codes, Ok, Err}
+use Rattle.std.specs.Fmt.{decimal}
+use Rattle.std.specs.List.{flat_map}
+use Rattle.ac_types.specs.Ids.{id_text}
+use Rattle.dep_match.specs.declared.stored.Stored.{Stored}
+use Rattle.dir_model.specs.declared.area.Area.TheVariants.{Images}
+use Rattle.dir_model.specs.declared.request.Request.{Request}
+use Rattle.dir_model.specs.declared.spot.Mode.TheVariants.{Shared}
+use Rattle.dir_rules.specs.declared.seen.Seen.{Seen}
+use Rattle.dir_trait.specs.Trace.{state_after}
+use Rattle.dir_trait.specs.DirCalls.{HeldBetween}
+use Rattle.dir_trait.specs.Knowledge.{Knows}
+use Rattle.area_locks.specs.AreaLocks.{takes, is_free_of, IsBusyElsewhere}
+use Rattle.area_locks.specs.declared.error.LockError.{LockError}
+use Rattle.area_locks.specs.declared.error.LockError.TheVariants as lock_error
+use Rattle.image_reading.specs.declared.error.StoreError.{StoreError}
+use Rattle.image_reading.specs.declared.error.StoreError.TheVariants as store_error
+use Rattle.image_reading.specs.Looks.{reads_images}
+use Rattle.image_reading.specs.Store.{ReadsStore, LacksListed, IsStorePath}
+use Rattle.command_outcomes.specs.declared.refusal.Refusal.{Refusal}
+use Rattle.command_outcomes.specs.declared.refusal.Refusal.TheVariants.{Busy, DirFault, NoMemory, Damaged}
+use Rattle.command_outcomes.specs.Moments.{DirSeen, Outcome}
+use Rattle.command_outcomes.specs.Conforming.{shown_at}
+use Rattle.command_outcomes.specs.Ends.{is_common}
+
+-- the line that it prints of an image: its key, the name in its manifest, and the moment of its import
+abbrev pub image_text : Stored → List ℕ
+image_text image = ((((id_text image.key.bytes ++ codes " ") ++ image.manifest.name) ++ codes " ") ++ decimal image.moment) ++ codes "\n"
+
+abbrev pub images_text : List Stored → List ℕ
+images_text images = flat_map image_text images
+
+-- the refusals that it may have: of the locks it takes that of the images
+abbrev pub image_list_refusal : Refusal → Bool
+image_list_refusal (Busy Images) = true
+image_list_refusal (Damaged path) = true
+image_list_refusal refusal = is_common refusal
+
+-- what it asks of the directory: the lock of the images shared, reads and listings of images, and to give the lock back
+abbrev pub lists_images : Request → Bool
+lists_images request = takes Images Shared request || reads_images request
+
+-- the refusal where the lock wasn't had
+abbrev pub lock_refusal : LockError → Refusal
+lock_refusal lock_error.Busy = Busy Images
+lock_refusal lock_error.DirFault = DirFault
+lock_refusal lock_error.NoMemory = NoMemory
+
+-- the refusal of a read of the images
+abbrev pub store_refusal : StoreError → Refusal
+store_refusal (store_error.Damaged path) = Damaged path
+store_refusal store_error.DirFault = DirFault
+store_refusal error = NoMemory
+
+-- it printed the images that it read
+pub record ListsStore (old new : DirSeen) (text : List ℕ) : Type 0 where
+  pub images : List Stored
+  pub told : old.observed ≡ true → ReadsStore images (shown_at old) (shown_at new)
+  pub is : text ≡ images_text images
+
+-- another process held the lock of the images exclusively at an own step
+abbrev pub IsHeldElsewhere : DirSeen → DirSeen → Type 0
+IsHeldElsewhere old new = HeldBetween (shown_at old) (shown_at new) (IsBusyElsewhere old.process Images Shared)
+
+-- the path is of a part that wasn't there or had no reading, the first of its image, which is the first that isn't whole of
+-- those that the listing of the area showed
+pub record LacksPart (path : List ℕ) (old new : DirSeen) : Type 0 where
+  pub place : IsStorePath path
+  pub told : old.observed ≡ true → LacksListed (store_error.Damaged path) (shown_at old) (shown_at new)
+
+-- what was told of the images, or of their lock, by a process that knows that it has no handle open on that lock
+abbrev pub ImageListSays : DirSeen → DirSeen → Outcome → Type 0
+ImageListSays old new (Ok text) = ListsStore old new text
+ImageListSays old new (Err (Busy area)) = old.observed ≡ true → (s : Seen) → Knows (shown_at old) s → is_free_of Images s ≡ true → IsHeldElsewhere old new
+ImageListSays old new (Err (Damaged path)) = LacksPart path old new
+ImageListSays old new (Err refusal) = Unit {0}
+
+-- what it comes to where nobody else steps: by its own reads, or by the lock as it was held before
+abbrev pub ListsQuietly : DirSeen → DirSeen → Outcome → Type 0
+ListsQuietly old new (Ok text) = ListsStore old new text
+ListsQuietly old new (Err (Busy area)) = (area ≡ Images) × IsBusyElsewhere old.process Images Shared (state_after old.trace)
+ListsQuietly old new (Err (Damaged path)) = LacksPart path old new
+ListsQuietly old new (Err refusal) = ⊥

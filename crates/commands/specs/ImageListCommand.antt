@@ -1,0 +1,37 @@
+-- `image list`, as a whole process of it.
+use Rattle.std.specs.Prelude.{◌≡◌, ℕ, true, List, [], Some}
+use Rattle.dep_match.specs.declared.stored.Stored.{Stored}
+use Rattle.dir_model.specs.declared.area.Area.TheVariants.{Images}
+use Rattle.dir_model.specs.declared.intent.Kind.TheVariants as kind
+use Rattle.command_outcomes.specs.declared.refusal.Refusal.{Refusal}
+use Rattle.command_outcomes.specs.declared.refusal.Refusal.TheVariants.{Busy, Damaged}
+use Rattle.command_outcomes.specs.Moments.{DirSeen, Moment}
+use Rattle.commands.specs.Answers.{WritesOf}
+use Rattle.commands.specs.Command.{Command, nothing, alone, intent_for, WhereObserved}
+use Rattle.commands.specs.ImageList.{image_list_refusal, lists_images, images_text, LacksPart, IsHeldElsewhere, ListsStore, ImageListSays, ListsQuietly}
+use Rattle.commands.specs.NextState.{LeavesAll}
+
+-- another process held the lock of the images exclusively at an own step; or a part of an image wasn't there or had no reading
+abbrev pub RefusesImageList : Refusal → DirSeen → DirSeen → Type 0
+RefusesImageList (Busy Images) old new = old.observed ≡ true → IsHeldElsewhere old new
+RefusesImageList (Damaged path) old new = LacksPart path old new
+RefusesImageList refusal old new = ⊥
+
+-- with status 0 it wrote the lines of the images that it read
+abbrev pub TellsImages : ℕ → Moment → Moment → Type 0
+TellsImages status old new = WhereObserved old (status ≡ 0 → WritesOf (ListsStore old.outside.dir new.outside.dir) old new)
+
+-- it asks for images and their lock
+abbrev pub image_list_command : Command
+image_list_command = record {
+  begins = Some (intent_for kind.ImageList []);
+  asks = λ now draw. lists_images;
+  reads = nothing;
+  prints = λ draw bundle text. (images : List Stored) × (text ≡ images_text images);
+  refusals = image_list_refusal;
+  refused_for = λ now draw refusal old new. RefusesImageList refusal old.outside.dir new.outside.dir;
+  tells = λ now draw status old new. TellsImages status old new;
+  quiet = λ now draw old new o. ListsQuietly old.dir new.dir o;
+  leaves = λ me draw old new. LeavesAll me old new;
+  says = alone (λ now draw old new o. ImageListSays old.dir new.dir o);
+}

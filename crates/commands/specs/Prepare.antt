@@ -1,0 +1,135 @@
+-- The command `prepare`.
+use Rattle.std.specs.Prelude.{◌≡◌, ◌⊎◌, ℕ, Bool, true, false, List, [], ◌++◌, codes, Ok, Err}
+use Rattle.dir_model.specs.declared.area.Area.{Area}
+use Rattle.dir_model.specs.declared.area.Area.TheVariants as area
+use Rattle.dir_model.specs.declared.event.Event.{Event}
+use Rattle.dir_model.specs.declared.intent.Draw.{Draw}
+use Rattle.dir_model.specs.declared.intent.Intent.{Intent}
+use Rattle.dir_model.specs.declared.pod.PodId.{PodId}
+use Rattle.dir_model.specs.declared.request.DirError.{DirError}
+use Rattle.dir_model.specs.declared.request.DirError.TheVariants as dir
+use Rattle.dir_model.specs.declared.request.Reply.{Reply}
+use Rattle.dir_model.specs.declared.request.Reply.TheVariants.{Done, Refused}
+use Rattle.dir_model.specs.declared.request.Request.{Request}
+use Rattle.dir_model.specs.declared.request.Request.TheVariants.{SyncArea}
+use Rattle.dir_model.specs.declared.spot.Mode.TheVariants.{Shared}
+use Rattle.dir_model.specs.Calls.{CallStep, Extends, is_begin}
+use Rattle.dir_model.specs.Pods.{pod_text}
+use Rattle.dir_rules.specs.declared.seen.Entry.{Entry}
+use Rattle.dir_rules.specs.Conforms.{IsTied}
+use Rattle.dir_rules.specs.Standing.{is_in}
+use Rattle.dir_trait.specs.DirCalls.{DirAt, DirCall, HeldBetween}
+use Rattle.dir_trait.specs.Knowledge.{Knows}
+use Rattle.area_locks.specs.AreaLocks.{IsBusyElsewhere}
+use Rattle.folder_building.specs.Work.{either}
+use Rattle.lifecycle.specs.Executions.{IsConforming}
+use Rattle.pod_manifest.specs.Wishes.{Wishes}
+use Rattle.pod_making.specs.Progress.{Progress, at_work, handed}
+use Rattle.pod_making.specs.Work.{IsOwnFolder, HasOwnFolder}
+use Rattle.pod_build.specs.declared.error.BuildError.{BuildError}
+use Rattle.pod_build.specs.Requests.{prepares}
+use Rattle.pod_build.specs.Causes.{IsRefused}
+use Rattle.pod_build.specs.Preparations.{Began, KnowsPrepared, IsPrepared}
+use Rattle.command_outcomes.specs.declared.refusal.Refusal.{Refusal}
+use Rattle.command_outcomes.specs.declared.refusal.Refusal.TheVariants.{Busy, DirFault, NoMemory}
+use Rattle.command_outcomes.specs.Moments.{DirSeen, Outcome}
+use Rattle.command_outcomes.specs.Conforming.{shown_at, begun}
+use Rattle.command_outcomes.specs.Meanwhile.{Meanwhile}
+use Rattle.commands.specs.References.{OfReferences}
+use Rattle.commands.specs.PrepareRefusals.{build_refusal}
+
+-- the line that it prints: the pod's name
+abbrev pub pod_line : PodId → List ℕ
+pod_line pod = pod_text pod.bytes ++ codes "\n"
+
+-- no volume and no mount is asked for
+abbrev pub no_wishes : Wishes
+no_wishes = record { volumes = []; mounts = [] }
+
+-- what it asks of the directory: what a prepare asks for, and that the names in prepared are brought to the disk
+abbrev pub syncs : Area → Request → Bool
+syncs area (SyncArea here) = is_in area here
+syncs area request = false
+
+abbrev pub prepares_pod : PodId → Request → Bool
+prepares_pod draw = either (prepares draw area.Prepared) (syncs area.Prepared)
+
+-- what is said where the area couldn't be synced, and what a sync then comes to: this line, or that
+abbrev pub sync_refusal : DirError → Refusal
+sync_refusal dir.Failed = DirFault
+sync_refusal error = NoMemory
+
+abbrev pub SyncSays : List ℕ → Bool → DirAt → DirAt → Outcome → Type 0
+SyncSays line observed old new (Ok text) = (text ≡ line) × DirCall observed old (SyncArea area.Prepared) Done new
+SyncSays line observed old new (Err NoMemory) = DirCall observed old (SyncArea area.Prepared) (Refused dir.NoMemory 0) new
+SyncSays line observed old new (Err DirFault) = DirCall observed old (SyncArea area.Prepared) (Refused dir.Failed 0) new
+SyncSays line observed old new (Err refusal) = ⊥
+
+-- it is so where this process has just begun to prepare with that draw
+abbrev pub WhereBegun : Draw → ℕ → DirSeen → (Intent → Type 0) → Type 0
+WhereBegun draw now old P = (intent : Intent) → Began area.Prepared draw now intent → Knows (shown_at old) (begun intent) → P intent
+
+-- the pod of these words was prepared faithfully, by an own Ok move
+abbrev pub IsFaithful : List (List ℕ) → PodId → DirSeen → DirSeen → Type 0
+IsFaithful words draw old new = OfReferences words (λ refs. IsPrepared refs no_wishes old.process draw area.Prepared old.trace new.trace)
+
+-- by its own answers it brought the pod to prepared; and where every process keeps the local rules, the pod was prepared
+-- faithfully. Then it asked that the area be synced, which was answered so
+pub record BringsPod (words : List (List ℕ)) (now : ℕ) (draw : Draw) (reply : Reply) (old new : DirSeen) : Type 0 where
+  pub brought : DirSeen
+  pub same : brought.process ≡ old.process
+  pub extends : old.observed ≡ true → Extends (prepares draw.uuid area.Prepared) old.process old.trace brought.trace
+  pub knows : old.observed ≡ true → WhereBegun draw now old (λ intent. KnowsPrepared draw.uuid area.Prepared intent [] (shown_at brought))
+  pub faithful : old.observed ≡ true → IsConforming brought.trace → WhereBegun draw now old (λ intent. IsFaithful words draw.uuid old brought)
+  pub synced : old.observed ≡ true → CallStep old.process brought.trace (SyncArea area.Prepared) reply new.trace
+
+-- by its own answers it knew the pod in prepared and held nothing, and then its sync of that area was answered so
+pub record Syncs (draw : PodId) (reply : Reply) (me : ℕ) (old new : List Event) : Type 0 where
+  pub intent : Intent
+  pub entries : List Entry
+  pub mid : List Event
+  pub prepares : Extends (prepares draw area.Prepared) me old mid
+  pub knew : IsTied me mid (at_work intent [] (handed draw area.Prepared entries))
+  pub synced : CallStep me mid (SyncArea area.Prepared) reply new
+
+-- a whole process did so, where the sync was answered so, or Ok
+abbrev pub HasBrought : PodId → Reply → DirSeen → DirSeen → Type 0
+HasBrought draw reply old new = Meanwhile (Syncs draw reply) old.process old.trace new.trace
+
+abbrev pub HasSynced : PodId → DirSeen → DirSeen → Type 0
+HasSynced draw old new = HasBrought draw Done old new
+
+-- by its own answers it holds nothing, and has made no folder, or one that stands in embryo or in prepare
+pub record KeepsFolder (draw : PodId) (me : ℕ) (old new : List Event) : Type 0 where
+  pub intent : Intent
+  pub progress : Progress
+  pub own : IsOwnFolder draw progress.making
+  pub knew : IsTied me new (at_work intent [] progress)
+
+-- a whole process left it so, or asked for no more than to begin
+abbrev pub HasKeptFolder : PodId → DirSeen → DirSeen → Type 0
+HasKeptFolder draw old new = Extends is_begin old.process old.trace new.trace ⊎ Meanwhile (KeepsFolder draw) old.process old.trace new.trace
+
+-- it leaves nothing, or its own folder in embryo or in prepare, and no lock
+abbrev pub LeavesFolder : ℕ → Draw → DirSeen → DirSeen → Type 0
+LeavesFolder now draw old new = old.observed ≡ true → WhereBegun draw now old (λ intent. HasOwnFolder draw.uuid intent [] (shown_at new))
+
+-- why the pod wasn't prepared, and that this is what is said
+pub record RefusesPod (words : List (List ℕ)) (now : ℕ) (draw : Draw) (old new : DirSeen) (refusal : Refusal) : Type 0 where
+  pub error : BuildError
+  pub is : refusal ≡ build_refusal words error
+  pub cause : OfReferences words (λ refs. IsRefused old.observed refs no_wishes draw now error (shown_at old) (shown_at new))
+
+-- where a lock was refused, another process held it exclusively at an own step
+abbrev pub IsAreaHeld : Area → DirSeen → DirSeen → Type 0
+IsAreaHeld area old new = HeldBetween (shown_at old) (shown_at new) (IsBusyElsewhere old.process area Shared)
+
+abbrev pub IsHeldFrom : ℕ → Draw → Refusal → DirSeen → DirSeen → Type 0
+IsHeldFrom now draw refusal old new = (area : Area) → refusal ≡ Busy area → old.observed ≡ true → WhereBegun draw now old (λ intent. IsAreaHeld area old new)
+
+-- what was told of the pod. Only where the area wasn't synced the pod stands in prepared, and its name isn't printed
+abbrev pub PrepareSays : List (List ℕ) → ℕ → Draw → DirSeen → DirSeen → Outcome → Type 0
+PrepareSays words now draw old new (Ok text) = (text ≡ pod_line draw.uuid) × BringsPod words now draw Done old new
+PrepareSays words now draw old new (Err NoMemory) = LeavesFolder now draw old new ⊎ BringsPod words now draw (Refused dir.NoMemory 0) old new
+PrepareSays words now draw old new (Err DirFault) = LeavesFolder now draw old new ⊎ BringsPod words now draw (Refused dir.Failed 0) old new
+PrepareSays words now draw old new (Err refusal) = LeavesFolder now draw old new × RefusesPod words now draw old new refusal × IsHeldFrom now draw refusal old new

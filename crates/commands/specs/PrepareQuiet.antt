@@ -1,0 +1,42 @@
+-- What `prepare` comes to, and leaves, where nobody else steps.
+use Rattle.std.specs.Prelude.{◌≡◌, ℕ, Bool, ◌||◌, List, Ok, Err, Some}
+use Rattle.dir_model.specs.declared.area.Area.TheVariants.{Embryo, Prepare, Prepared}
+use Rattle.dir_model.specs.declared.intent.Draw.{Draw}
+use Rattle.dir_model.specs.declared.pod.PodId.{PodId}
+use Rattle.dir_model.specs.declared.spot.Mode.TheVariants.{Shared}
+use Rattle.dir_model.specs.declared.spot.Spot.{Spot}
+use Rattle.ac_types.specs.declared.image_ref.ImageRef.{ImageRef}
+use Rattle.dir_model.specs.declared.event.Event.{Event}
+use Rattle.dir_trait.specs.State.{DirState, folder_at, spot_eq}
+use Rattle.folder_contents.specs.Entries.{entries_in}
+use Rattle.dir_trait.specs.Trace.{state_after}
+use Rattle.area_locks.specs.AreaLocks.{IsBusyElsewhere}
+use Rattle.lifecycle.specs.Executions.{IsConforming}
+use Rattle.pod_making.specs.Requests.{pod_at}
+use Rattle.command_outcomes.specs.declared.refusal.Refusal.TheVariants.{Busy, DirFault, NoMemory}
+use Rattle.command_outcomes.specs.Moments.{DirSeen, Outcome}
+use Rattle.pod_build.specs.Preparations.{IsPrepared}
+use Rattle.commands.specs.References.{OfReferences}
+use Rattle.commands.specs.Prepare.{pod_line, no_wishes, RefusesPod}
+
+-- a pod that was prepared so stands there still, with what its maker made
+pub record StandsPrepared {refs : List ImageRef} {me : ℕ} {draw : PodId} {old new : List Event} (x : IsPrepared refs no_wishes me draw Prepared old new) (s : DirState) : Type 0 where
+  pub stands : folder_at s.namespace (pod_at Prepared draw) ≡ Some x.folder
+  pub holds : entries_in x.folder s.entries ≡ x.faithful.built.making.entries
+
+-- of some references that these words are, the pod was prepared faithfully, and stands in the end as it was made
+abbrev pub HasPrepared : List (List ℕ) → PodId → DirSeen → DirSeen → Type 0
+HasPrepared words draw old new =
+    OfReferences words (λ refs. (x : IsPrepared refs no_wishes old.process draw Prepared old.trace new.trace) × StandsPrepared x (state_after new.trace))
+
+-- by its own reads, or by a lock as it was held before
+abbrev pub PreparesQuietly : List (List ℕ) → ℕ → Draw → DirSeen → DirSeen → Outcome → Type 0
+PreparesQuietly words now draw old new (Ok text) = (text ≡ pod_line draw.uuid) × (IsConforming new.trace → HasPrepared words draw.uuid old new)
+PreparesQuietly words now draw old new (Err (Busy area)) = RefusesPod words now draw old new (Busy area) × IsBusyElsewhere old.process area Shared (state_after old.trace)
+PreparesQuietly words now draw old new (Err NoMemory) = ⊥
+PreparesQuietly words now draw old new (Err DirFault) = ⊥
+PreparesQuietly words now draw old new (Err refusal) = RefusesPod words now draw old new refusal
+
+-- where it makes and moves folders
+abbrev pub is_pod_place : PodId → Spot → Bool
+is_pod_place draw place = spot_eq place (pod_at Embryo draw) || (spot_eq place (pod_at Prepare draw) || spot_eq place (pod_at Prepared draw))

@@ -1,0 +1,102 @@
+-- What `run-prepared` and `run` come to, and leave, where nobody else steps.
+use Rattle.std.specs.Prelude.{◌≡◌, ℕ, true, false, Some, List, ◌++◌}
+use Rattle.std.specs.List.{AllByRecursion, list_any}
+use Rattle.dir_model.specs.declared.area.Area.{Area}
+use Rattle.dir_model.specs.declared.area.Area.TheVariants as area
+use Rattle.dir_model.specs.declared.area.Phase.{Phase}
+use Rattle.dir_model.specs.declared.area.Phase.TheVariants as phase
+use Rattle.dir_model.specs.declared.event.Event.{Event}
+use Rattle.dir_model.specs.declared.intent.Draw.{Draw}
+use Rattle.dir_model.specs.declared.pod.PodId.{PodId}
+use Rattle.dir_model.specs.declared.spot.Mode.TheVariants.{Shared}
+use Rattle.dir_model.specs.declared.spot.Which.{Which}
+use Rattle.dir_model.specs.Trees.{content, has_file}
+use Rattle.dir_trait.specs.State.{DirState, folder_at, is_owned}
+use Rattle.dir_trait.specs.Trace.{state_after}
+use Rattle.lifecycle.specs.Executions.{IsConforming}
+use Rattle.phase_read.specs.declared.found.Found.TheVariants.{At}
+use Rattle.phase_read.specs.Exact.{IsInPhase}
+use Rattle.phase_read.specs.Sequential.{sequential_read}
+use Rattle.area_locks.specs.AreaLocks.{IsBusyElsewhere}
+use Rattle.command_outcomes.specs.declared.refusal.Refusal.{Refusal}
+use Rattle.command_outcomes.specs.declared.refusal.Refusal.TheVariants.{Busy}
+use Rattle.command_outcomes.specs.Moments.{DirSeen}
+use Rattle.pod_build.specs.Preparations.{IsPrepared}
+use Rattle.pod_claim.specs.declared.error.ClaimError.{ClaimError}
+use Rattle.pod_claim.specs.declared.error.ClaimError.TheVariants as claim
+use Rattle.pod_claim.specs.Causes.{LacksManifest, is_held_elsewhere}
+use Rattle.pod_claim.specs.Requests.{in_prepared, in_run}
+use Rattle.commands.specs.References.{OfReferences}
+use Rattle.commands.specs.Prepare.{no_wishes, RefusesPod, HasKeptFolder}
+use Rattle.commands.specs.RemovalQuiet.{StandsNowhere, HasPhaseNow}
+use Rattle.spawner.specs.Conditions.{start_mark}
+use Rattle.stage1.specs.declared.end.AppEnd.{AppEnd}
+use Rattle.stage1.specs.declared.error.RunError.{RunError}
+use Rattle.stage1.specs.Notes.{status_path, status_text}
+use Rattle.commands.specs.AppEnds.{app_lines}
+use Rattle.commands.specs.RunRefusals.{run_refusal}
+
+-- the pod stands in this area and has this phase: by its history, and by the first area in which it stands and its lock there
+pub record IsPhaseAt (pod : PodId) (phase : Phase) (area : Area) (trace : List Event) : Type 0 where
+  pub is : IsInPhase pod phase area trace
+  pub reads : sequential_read (state_after trace) pod ≡ At phase area
+
+-- the pod's folder stands in run. In a conforming execution nobody owns it
+pub record IsLeftInRun (pod : PodId) (folder : ℕ) (trace : List Event) : Type 0 where
+  pub there : folder_at (state_after trace).namespace (in_run pod) ≡ Some folder
+  pub exited : IsConforming trace → IsPhaseAt pod phase.Exited area.Run trace
+  pub unowned : IsConforming trace → is_owned (state_after trace).namespace folder ≡ false
+
+-- a pod that was claimed waited in prepared before, and its folder is left in run
+pub record HasPassed (pod : PodId) (old new : List Event) : Type 0 where
+  pub folder : ℕ
+  pub stood : folder_at (state_after old).namespace (in_prepared pod) ≡ Some folder
+  pub waited : IsConforming old → IsPhaseAt pod phase.Prepared area.Prepared old
+  pub left : IsLeftInRun pod folder new
+
+-- a folder of the pod stands in prepared, and another process holds this lock of it
+pub record IsClaimHeld (pod : PodId) (which : Which) (me : ℕ) (s : DirState) : Type 0 where
+  pub folder : ℕ
+  pub there : folder_at s.namespace (in_prepared pod) ≡ Some folder
+  pub held : list_any (is_held_elsewhere me which folder) s.namespace.openings ≡ true
+
+-- a pod that was made for this process was made faithfully, and its folder is left in run
+abbrev pub HasMadeAndLeft : List (List ℕ) → ℕ → PodId → List Event → List Event → Type 0
+HasMadeAndLeft words me draw old new = OfReferences words (λ refs. (x : IsPrepared refs no_wishes me draw area.Run old new) × IsLeftInRun draw x.folder new)
+
+-- the mark of an app stands in the folder with this number, and the file of its status with that alone
+pub record HasEnded (folder : ℕ) (s : DirState) (end : AppEnd) : Type 0 where
+  pub marked : has_file s.entries folder (start_mark end.app) ≡ true
+  pub noted : has_file s.entries folder (status_path end.app) ≡ true
+  pub status : content s.entries folder (status_path end.app) ≡ status_text end.status
+
+-- the pod's folder in run has those of each app
+pub record HasItsEnds (pod : PodId) (ends : List AppEnd) (trace : List Event) : Type 0 where
+  pub folder : ℕ
+  pub there : folder_at (state_after trace).namespace (in_run pod) ≡ Some folder
+  pub each : AllByRecursion (HasEnded folder (state_after trace)) ends
+
+-- each app's line is told after this text, and the pod has them
+pub record TellsItsEnds (pod : PodId) (front : List ℕ) (trace : List Event) (text : List ℕ) : Type 0 where
+  pub ends : List AppEnd
+  pub is : text ≡ front ++ app_lines ends
+  pub stand : HasItsEnds pod ends trace
+
+-- why a pod isn't claimed, by the state before
+abbrev pub UnclaimedFor : PodId → ClaimError → ℕ → List Event → List Event → Type 0
+UnclaimedFor pod claim.NoPod me old new = IsConforming new → StandsNowhere pod (state_after old)
+UnclaimedFor pod (claim.WrongPhase phase) me old new = IsConforming new → HasPhaseNow pod phase old
+UnclaimedFor pod claim.NoManifest me old new = IsConforming new → LacksManifest pod (state_after old)
+UnclaimedFor pod (claim.Busy other which) me old new = (other ≡ pod) × IsClaimHeld pod which me (state_after old)
+UnclaimedFor pod error me old new = Unit {0}
+
+-- this refusal is one of the run of this pod
+abbrev pub IsRunRefusal : PodId → Refusal → Type 0
+IsRunRefusal pod refusal = (error : RunError) × (refusal ≡ run_refusal pod error)
+
+-- a pod wasn't made for its run, for this cause, by the reads of its process, or by a lock as another process held it before. By its own
+-- answers the process left at most its own folder, in embryo or in prepare, without a lock
+pub record IsUnmadeFor (words : List (List ℕ)) (now : ℕ) (draw : Draw) (old new : DirSeen) (refusal : Refusal) : Type 0 where
+  pub why : RefusesPod words now draw old new refusal
+  pub held : (area : Area) → refusal ≡ Busy area → IsBusyElsewhere old.process area Shared (state_after old.trace)
+  pub left : HasKeptFolder draw.uuid old new

@@ -1,0 +1,47 @@
+// What is told of the apps of a pod.
+ghost use Rattle.std.specs.Prelude.{◌≡◌, ◌⊎◌, ◌++◌, ◌==◌, Ok, Err, OnOk};
+ghost use Rattle.std.specs.List.{list_all};
+ghost use Rattle.commands.specs.AppEnds.{app_line, app_lines, all_well, told_of};
+
+use ac_types::NoMemory;
+use command_outcomes::{Output, Refusal, Told};
+use stage1::AppEnd;
+use std::alloc::Global;
+
+fn add_end(alloc: Global, text: &mut Output, end: &AppEnd) -> Result<(), NoMemory>
+    ensures { OnOk result (text.new ≡ text.old ++ app_line end.now) }
+{
+    text.push("app-")?;
+    text.push(end.app.as_str())?;
+    text.push("=")?;
+    text.push_number(alloc, u64::from(end.status))?;
+    text.push("\n")?;
+    Ok(())
+}
+
+fn add_ends(alloc: Global, text: &mut Output, ends: &[AppEnd]) -> Result<(), NoMemory>
+    ensures { OnOk result (text.new ≡ text.old ++ app_lines ends.now) }
+{
+    'ends: for end in ends {
+        add_end(alloc, text, end)?;
+    }
+    Ok(())
+}
+
+fn all_well(ends: &[AppEnd]) -> bool
+    ensures { result ≡ all_well ends.now }
+{
+    ends.iter().all(|end| end.status == 0)
+}
+
+/// The text with the line of each app after it, and whether each ended with 0.
+pub(crate) fn tell(alloc: Global, text: Output, ends: &[AppEnd]) -> Result<Told, Refusal>
+    ensures { (result ≡ Ok (told_of text ends.now)) ⊎ (result ≡ Err Refusal.NoMemory) }
+{
+    let mut text = text;
+    let well = all_well(ends);
+    match add_ends(alloc, &mut text, ends) {
+        Ok(()) => Ok(Told { text, well }),
+        Err(_) => Err(Refusal::NoMemory),
+    }
+}

@@ -1,4 +1,0 @@
-pub mod References
-pub mod Refusals
-pub mod Prepare
-pub mod Quiet

@@ -1,6 +1,0 @@
-use Rattle.std.proofs.Common.{◌≡◌, take}
-use Rattle.removal_commands.specs.Gc.{lines_text}
-use Rattle.removal_commands.proofs.gc.lines_text.Given as goal
-
-abbrev pub invariant-lines : goal.invariant-lines
-invariant-lines l = l.text ≡ lines_text (take l.line-index l.lines)

@@ -1,6 +1,0 @@
-use Rattle.std.proofs.Common.{◌≡◌, take}
-use Rattle.store_commands.specs.ImageList.{images_text}
-use Rattle.store_commands.proofs.image_list.image_lines.Given as goal
-
-abbrev pub invariant-images : goal.invariant-images
-invariant-images l = l.text ≡ images_text (take l.image-index l.images)

@@ -1,4 +1,0 @@
-pub mod ImageList
-pub mod ImageImport
-pub mod ImageRm
-pub mod ImageGc
