@@ -215,7 +215,8 @@ fn set_modes<S: System>(
     ensures told { OnOk result (S.observed ≡ true → S.facts system.new ≡ S.facts system.old ++ flat_map (closing root.now) (reverse lines.now)) }
 {
     'lines: for behind in 0..lines.len() {
-        let line = &lines[lines.len() - 1 - behind];
+        let place = lines.len() - 1 - behind;
+        let line = &lines[place];
         close_line(system, alloc, root, line)?;
     }
     Ok(())
