@@ -19,11 +19,14 @@ pod=6ba7b810-9dad-11d1-80b4-00c04fd430c8
 root=$RKT_DIR/pods/run/$pod/stage1/rootfs/opt/stage2/web/rootfs
 sha=$(printf 'a%.0s' {1..128})
 
+# By what the program is run as another user.
+user=()
+
 # says NAME WANTED LINES..: the answers are printed a line each, parted by `|` here.
 says() {
     local name=$1 wanted=$2
     shift 2
-    same "$name" "$wanted" "$(printf '%s\n' "$@" | timeout 60 "$check" "$pod" web 2>&1 | paste -sd'|')"
+    same "$name" "$wanted" "$(printf '%s\n' "$@" | timeout 60 "${user[@]}" "$check" "$pod" web 2>&1 | paste -sd'|')"
 }
 
 # A root with a program, as prepare leaves it: no links, and modes as they come.
@@ -147,5 +150,29 @@ refused 'a file that is missing'
 swap
 printf 'd 0755 0 0 /bin' >"$tmp/listing"
 refused 'a text that is no listing'
+
+# A directory that is closed to its owner gets its mode after what stands in it. Root is barred by no mode.
+fresh
+mkdir -p "$root/closed/inner"
+printf 'text\n' >"$root/closed/inner/text"
+cat >"$tmp/listing" <<EOF
+d 0000 0 0 /closed
+d 0750 0 0 /closed/inner
+f 0640 0 0 5 $sha /closed/inner/text
+l 0777 0 0 text /closed/link
+EOF
+if [ "$(id -u)" = 0 ]; then
+    chown -R 65534:65534 "$RKT_DIR"
+    user=(setpriv --reuid=65534 --regid=65534 --clear-groups)
+fi
+if "${user[@]}" true 2>/dev/null; then
+    says 'a directory that is closed to its owner' 'ready|ready|faults 0' "l $tmp/listing" "l $tmp/listing"
+    same 'it is closed' 0 "$(stat -c %a "$root/closed")"
+    chmod 700 "$root/closed"
+    same 'what stands in it has the modes of the listing' 'inner d 750|inner/text f 640|link l 777' \
+        "$(cd "$root/closed" && find . -mindepth 1 -printf '%P %y %m\n' | sort | paste -sd'|')"
+else
+    skip 'a directory that is closed to its owner: no other user to run as'
+fi
 
 finish

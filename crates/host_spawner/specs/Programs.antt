@@ -1,7 +1,9 @@
 -- What a program is started with.
-use Rattle.std.specs.Prelude.{◌≡◌, ℕ, ◌==◌, Bool, cond, bytes_eq, fold, Option, Some, None, List, slice_index}
+use Rattle.std.specs.Prelude.{◌≡◌, ℕ, ◌==◌, Bool, true, cond, bytes_eq, fold, drop, Option, Some, None, List, [], ◌∷◌, ◌++◌, slice_index}
 use Rattle.std.specs.List.{slice_get, before_first, after_first}
-use Rattle.host_spawner.specs.Roots.{below_root}
+use Rattle.host_spawner.specs.Facts.{Start, Fact, starts}
+use Rattle.host_spawner.specs.Roots.{root_path, below_root}
+use Rattle.spawner.specs.declared.call.RootPlace.{RootPlace}
 
 -- the path begins with a slash
 abbrev pub is_absolute : List ℕ → Bool
@@ -27,3 +29,18 @@ with_text name said text = cond (bytes_eq (name_of text) name) (Some (Some (valu
 -- what the texts say of a variable: the last that names it decides
 abbrev pub variable_of : List (List ℕ) → List ℕ → Option (Option (List ℕ))
 variable_of env name = fold (with_text name) None env
+
+-- the program that the first word names in the root, with the further words, these variables and no others, and this
+-- working directory in the root
+pub record IsStart (root : List ℕ) (argv env : List (List ℕ)) (cwd : List ℕ) (start : Start) : Type 0 where
+  pub program : IsProgram root argv start.program
+  pub args : start.args ≡ drop 1 argv
+  pub alone : start.alone ≡ true
+  pub vars : (name : List ℕ) → start.vars name ≡ variable_of env name
+  pub dir : start.dir ≡ Some (below_root root cwd)
+
+-- that program of the app was started, once, and nothing else was done
+pub record Starts (base : List ℕ) (root : RootPlace) (argv env : List (List ℕ)) (cwd : List ℕ) (old new : List Fact) : Type 0 where
+  pub start : Start
+  pub is : IsStart (root_path base root) argv env cwd start
+  pub told : new ≡ old ++ starts start ∷ []

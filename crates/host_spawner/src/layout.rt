@@ -1,102 +1,120 @@
 // The links and the modes of a listing, in a root where its directories and files stand. Behind the
 // pod's folder no link is followed: each directory is looked at before what stands in it.
-ghost use Rattle.std.specs.Prelude.{◌≡◌, ◌↔◌, IsOk, IfErr};
-ghost use Rattle.std.specs.Fs.{file_type, IsDir, IsFile};
+ghost use Rattle.std.specs.Prelude.{◌≡◌, ◌<◌, ◌≤◌, ◌++◌, ◌∷◌, [], true, get_or, take, length, reverse, OnOk};
+ghost use Rattle.std.specs.List.{flat_map};
+ghost use Rattle.host_spawner.specs.Facts.{stands, links, has_mode};
+ghost use Rattle.host_spawner.specs.Layout.{opened, opening, linking, closing, laying, step_at, way, IsReady};
 ghost use Rattle.host_spawner.specs.Roots.{below_root};
 
-use crate::asks::{link_at, look_at, set_mode_at, target_at};
 use crate::place::{path_below, path_of_pod, path_of_root};
 use crate::refusals::{no_listing, refusal, short};
+use crate::standing::Standing;
+use crate::system::System;
 use path_map::{AbsPath, Entry, Meta};
 use spawner::{RootPlace, SpawnError};
 use std::alloc::Global;
-use std::fs;
-use std::fs::Metadata;
 use std::io::ErrorKind;
-use std::rt::Files;
 use tree_digest::{Listing, ListingLine};
 
 /// The bits of its mode by which a directory's owner may look into it and change it.
 const OPEN: u32 = 0o700;
 
-fn check_directory(found: &Metadata) -> Result<(), SpawnError>
-    ensures directory { IsOk result ↔ IsDir (file_type found.now) }
-    ensures failed { IfErr result (λ e. e ≡ SpawnError.Failed) }
+/// Fails where something else stands at a path.
+fn check_standing<S: System>(system: &mut S, path: &str, wanted: Standing) -> Result<(), SpawnError>
+    ensures told { OnOk result (S.observed ≡ true → S.facts system.new ≡ S.facts system.old ++ stands path.now wanted ∷ []) }
 {
-    if found.is_dir() {
+    let found = system.look(path).map_err(refusal)?;
+    if found == wanted {
         Ok(())
     } else {
         Err(SpawnError::Failed)
     }
 }
 
-fn check_file(found: &Metadata) -> Result<(), SpawnError>
-    ensures file { IsOk result ↔ IsFile (file_type found.now) }
-    ensures failed { IfErr result (λ e. e ≡ SpawnError.Failed) }
+/// Fails where a path ends at a slash and no directory stands there.
+fn check_step<S: System>(system: &mut S, path: &str, end: usize) -> Result<(), SpawnError>
+    requires { end < length path.now }
+    ensures told { OnOk result (S.observed ≡ true → S.facts system.new ≡ S.facts system.old ++ step_at (take end path.now) (get_or path.now end 0)) }
 {
-    if found.is_file() {
-        Ok(())
+    if path.as_bytes()[end] == b'/' {
+        let (above, _) = path.split_at(end);
+        check_standing(system, above, Standing::Directory)
     } else {
-        Err(SpawnError::Failed)
+        Ok(())
     }
 }
 
 /// Fails where a name on the way to a path, from a byte of it on, isn't a directory's own.
-fn check_way<R: Files>(rt: &R, path: &str, start: usize) -> Result<(), SpawnError> {
-    let bytes = path.as_bytes();
-    'way: for end in start..bytes.len() {
-        if bytes[end] == b'/' {
-            let (above, _) = path.split_at(end);
-            let found = fs::symlink_metadata(rt, above).map_err(refusal)?;
-            check_directory(&found)?;
-        }
+fn check_way<S: System>(system: &mut S, path: &str, start: usize) -> Result<(), SpawnError>
+    requires { start ≤ length path.now }
+    ensures told { OnOk result (S.observed ≡ true → S.facts system.new ≡ S.facts system.old ++ way path.now start) }
+{
+    'way: for end in start..path.len() {
+        check_step(system, path, end)?;
     }
-    let found = fs::symlink_metadata(rt, path).map_err(refusal)?;
-    check_directory(&found)
+    check_standing(system, path, Standing::Directory)
+}
+
+/// A mode with all bits for the owner.
+fn opened(mode: u32) -> u32
+    ensures { result ≡ opened mode }
+{
+    mode | OPEN
 }
 
 /// A directory is the root's own, and its owner may change it from here on.
-fn open_directory<R: Files>(
-    rt: &R,
+fn open_directory<S: System>(
+    system: &mut S,
     alloc: Global,
     root: &str,
     named: &AbsPath,
     meta: &Meta,
-) -> Result<(), SpawnError> {
+) -> Result<(), SpawnError>
+    ensures told { OnOk result (S.observed ≡ true → S.facts system.new ≡ S.facts system.old
+        ++ stands (below_root root.now named.now) Standing.Directory ∷ has_mode (below_root root.now named.now) (opened meta.now.mode) ∷ []) }
+{
     let path = path_below(alloc, root, named.as_str()).map_err(short)?;
-    let found = look_at(rt, path.as_str(), root, named).map_err(refusal)?;
-    check_directory(&found)?;
-    let mode = u32::from(meta.mode) | OPEN;
-    set_mode_at(rt, path.as_str(), root, named, mode).map_err(refusal)
+    check_standing(system, path.as_str(), Standing::Directory)?;
+    let mode = opened(u32::from(meta.mode));
+    system.set_mode(path.as_str(), mode).map_err(refusal)
+}
+
+/// Opens the directory of a line to its owner. Fails where it isn't the root's own.
+fn open_line<S: System>(
+    system: &mut S,
+    alloc: Global,
+    root: &str,
+    line: &ListingLine,
+) -> Result<(), SpawnError>
+    ensures told { OnOk result (S.observed ≡ true → S.facts system.new ≡ S.facts system.old ++ opening root.now line.now) }
+{
+    match &line.entry {
+        Entry::Dir(meta) => open_directory(system, alloc, root, &line.path, meta),
+        _ => Ok(()),
+    }
 }
 
 /// Fails where a directory of the listing isn't the root's own, and opens each to its owner. A directory
 /// comes before what stands in it.
-fn open_directories<R: Files>(
-    rt: &R,
+fn open_directories<S: System>(
+    system: &mut S,
     alloc: Global,
     root: &str,
     lines: &[ListingLine],
-) -> Result<(), SpawnError> {
+) -> Result<(), SpawnError>
+    ensures told { OnOk result (S.observed ≡ true → S.facts system.new ≡ S.facts system.old ++ flat_map (opening root.now) lines.now) }
+{
     'lines: for line in lines {
-        if let Entry::Dir(meta) = &line.entry {
-            open_directory(rt, alloc, root, &line.path, meta)?;
-        }
+        open_line(system, alloc, root, line)?;
     }
     Ok(())
 }
 
 /// Fails where something else stands at a path than a link to that target.
-fn check_link<R: Files + AllocGlobal>(
-    rt: &R,
-    path: &str,
-    root: &str,
-    named: &AbsPath,
-    target: &str,
-) -> Result<(), SpawnError>
-    requires { path.now ≡ below_root root.now named.now }
+fn check_link<S: System>(system: &mut S, path: &str, target: &str) -> Result<(), SpawnError>
+    ensures told { OnOk result (S.observed ≡ true → S.facts system.new ≡ S.facts system.old ++ links path.now target.now ∷ []) }
 {
-    let found = target_at(rt, path, root, named).map_err(refusal)?;
+    let found = system.target(path).map_err(refusal)?;
     if found.as_str() == target {
         Ok(())
     } else {
@@ -105,119 +123,135 @@ fn check_link<R: Files + AllocGlobal>(
 }
 
 /// Makes a link, or finds it.
-fn make_link<R: Files + AllocGlobal>(
-    rt: &R,
+fn make_link<S: System>(
+    system: &mut S,
     alloc: Global,
     root: &str,
     named: &AbsPath,
     target: &str,
-) -> Result<(), SpawnError> {
+) -> Result<(), SpawnError>
+    ensures told { OnOk result (S.observed ≡ true → S.facts system.new ≡ S.facts system.old ++ links (below_root root.now named.now) target.now ∷ []) }
+{
     let path = path_below(alloc, root, named.as_str()).map_err(short)?;
-    match link_at(rt, path.as_str(), root, named, target) {
+    match system.link(path.as_str(), target) {
         Ok(()) => Ok(()),
         Err(error) if error.kind() == ErrorKind::AlreadyExists => {
-            check_link(rt, path.as_str(), root, named, target)
+            check_link(system, path.as_str(), target)
         }
         Err(error) => Err(refusal(error)),
     }
 }
 
+/// Makes the link of a line, or finds it.
+fn link_line<S: System>(
+    system: &mut S,
+    alloc: Global,
+    root: &str,
+    line: &ListingLine,
+) -> Result<(), SpawnError>
+    ensures told { OnOk result (S.observed ≡ true → S.facts system.new ≡ S.facts system.old ++ linking root.now line.now) }
+{
+    match &line.entry {
+        Entry::Link { target, .. } => make_link(system, alloc, root, &line.path, target.as_str()),
+        _ => Ok(()),
+    }
+}
+
 /// Makes each link of the listing that doesn't stand there.
-fn make_links<R: Files + AllocGlobal>(
-    rt: &R,
+fn make_links<S: System>(
+    system: &mut S,
     alloc: Global,
     root: &str,
     lines: &[ListingLine],
-) -> Result<(), SpawnError> {
+) -> Result<(), SpawnError>
+    ensures told { OnOk result (S.observed ≡ true → S.facts system.new ≡ S.facts system.old ++ flat_map (linking root.now) lines.now) }
+{
     'lines: for line in lines {
-        if let Entry::Link { target, .. } = &line.entry {
-            make_link(rt, alloc, root, &line.path, target.as_str())?;
-        }
+        link_line(system, alloc, root, line)?;
     }
     Ok(())
 }
 
 /// Sets the mode of a file that is the root's own.
-fn set_file_mode<R: Files>(
-    rt: &R,
-    alloc: Global,
-    root: &str,
-    named: &AbsPath,
-    meta: &Meta,
-) -> Result<(), SpawnError> {
-    let path = path_below(alloc, root, named.as_str()).map_err(short)?;
-    let found = look_at(rt, path.as_str(), root, named).map_err(refusal)?;
-    check_file(&found)?;
-    set_mode_at(rt, path.as_str(), root, named, u32::from(meta.mode)).map_err(refusal)
+fn set_file_mode<S: System>(system: &mut S, path: &str, meta: &Meta) -> Result<(), SpawnError>
+    ensures told { OnOk result (S.observed ≡ true → S.facts system.new ≡ S.facts system.old ++ stands path.now Standing.File ∷ has_mode path.now meta.now.mode ∷ []) }
+{
+    check_standing(system, path, Standing::File)?;
+    system.set_mode(path, u32::from(meta.mode)).map_err(refusal)
 }
 
 /// Sets the mode of a directory that was looked at before.
-fn set_directory_mode<R: Files>(
-    rt: &R,
-    alloc: Global,
-    root: &str,
-    named: &AbsPath,
-    meta: &Meta,
-) -> Result<(), SpawnError> {
-    let path = path_below(alloc, root, named.as_str()).map_err(short)?;
-    set_mode_at(rt, path.as_str(), root, named, u32::from(meta.mode)).map_err(refusal)
+fn set_directory_mode<S: System>(system: &mut S, path: &str, meta: &Meta) -> Result<(), SpawnError>
+    ensures told { OnOk result (S.observed ≡ true → S.facts system.new ≡ S.facts system.old ++ has_mode path.now meta.now.mode ∷ []) }
+{
+    system.set_mode(path, u32::from(meta.mode)).map_err(refusal)
 }
 
 /// Sets the mode of what a line names. A link has none of its own.
-fn set_mode<R: Files>(
-    rt: &R,
+fn close_line<S: System>(
+    system: &mut S,
     alloc: Global,
     root: &str,
     line: &ListingLine,
-) -> Result<(), SpawnError> {
+) -> Result<(), SpawnError>
+    ensures told { OnOk result (S.observed ≡ true → S.facts system.new ≡ S.facts system.old ++ closing root.now line.now) }
+{
+    let path = path_below(alloc, root, line.path.as_str()).map_err(short)?;
     match &line.entry {
-        Entry::Dir(meta) => set_directory_mode(rt, alloc, root, &line.path, meta),
-        Entry::File { meta, .. } => set_file_mode(rt, alloc, root, &line.path, meta),
+        Entry::Dir(meta) => set_directory_mode(system, path.as_str(), meta),
+        Entry::File { meta, .. } => set_file_mode(system, path.as_str(), meta),
         Entry::Link { .. } => Ok(()),
     }
 }
 
 /// Sets the modes of the listing, what stands in a directory before the directory: so one that is closed
 /// to its owner closes nothing that comes later.
-fn set_modes<R: Files>(
-    rt: &R,
+fn set_modes<S: System>(
+    system: &mut S,
     alloc: Global,
     root: &str,
     lines: &[ListingLine],
-) -> Result<(), SpawnError> {
-    'lines: for line in lines.iter().rev() {
-        set_mode(rt, alloc, root, line)?;
+) -> Result<(), SpawnError>
+    ensures told { OnOk result (S.observed ≡ true → S.facts system.new ≡ S.facts system.old ++ flat_map (closing root.now) (reverse lines.now)) }
+{
+    'lines: for behind in 0..lines.len() {
+        let place = lines.len() - 1 - behind;
+        let line = &lines[place];
+        close_line(system, alloc, root, line)?;
     }
     Ok(())
 }
 
 /// Makes the links of a listing and sets its modes.
-fn lay_out<R: Files + AllocGlobal>(
-    rt: &R,
+fn lay_out<S: System>(
+    system: &mut S,
     alloc: Global,
     root: &str,
-    listing: &Listing,
-) -> Result<(), SpawnError> {
-    let lines = listing.as_slice();
-    open_directories(rt, alloc, root, lines)?;
-    make_links(rt, alloc, root, lines)?;
-    set_modes(rt, alloc, root, lines)
+    lines: &[ListingLine],
+) -> Result<(), SpawnError>
+    ensures told { OnOk result (S.observed ≡ true → S.facts system.new ≡ S.facts system.old ++ laying root.now lines.now) }
+{
+    open_directories(system, alloc, root, lines)?;
+    make_links(system, alloc, root, lines)?;
+    set_modes(system, alloc, root, lines)
 }
 
 /// Makes the links of a listing's text and sets its modes in an app's root. Fails where the text is no
 /// listing, where a directory or file of it doesn't stand there, where a link stands on the way to the
 /// root or in place of a directory or file, where something else stands in place of a link, and where
 /// the system fails.
-pub fn make_ready<R: Files + AllocGlobal>(
-    rt: &R,
+pub fn make_ready<S: System>(
+    system: &mut S,
     alloc: Global,
     base: &str,
     root: &RootPlace,
     listing: &[u8],
-) -> Result<(), SpawnError> {
+) -> Result<(), SpawnError>
+    ensures told { OnOk result (S.observed ≡ true → IsReady listing.now base.now root.now (S.facts system.old) (S.facts system.new)) }
+{
     let listing = Listing::read(alloc, listing).map_err(no_listing)?;
     let pod = path_of_pod(alloc, base, &root.spot).map_err(short)?;
     let path = path_of_root(alloc, base, root).map_err(short)?;
-    check_way(rt, path.as_str(), pod.len())?;
-    lay_out(rt, alloc, path.as_str(), &listing)
+    check_way(system, path.as_str(), pod.len())?;
+    lay_out(system, alloc, path.as_str(), listing.as_slice())
 }
