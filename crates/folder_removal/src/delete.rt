@@ -8,7 +8,8 @@ ghost use Rattle.dir_trait.specs.DirCalls.{DirCall, ExtendsBy};
 ghost use Rattle.dir_model.specs.declared.request.Reply.TheVariants.{Done};
 ghost use Rattle.folder_removal.specs.Tasks.{HasChildren};
 ghost use Rattle.folder_removal.specs.Weights.{weigh};
-ghost use Rattle.folder_removal.specs.Removal.{is_removal_area, deletes_at, spares_folders, KeepsFolders, inner_at, removal_of, ListsStray, RemovesStray, StrayTurn, AreShown, ShownThen, StrayAfter, EndsStray, EndsRemoved};
+ghost use Rattle.folder_removal.specs.Removal.{is_removal_area, deletes_at, spares_folders, KeepsFolders};
+ghost use Rattle.folder_removal.specs.Removal.{inner_at, removal_of, ListsStray, RemovesStray, StrayTurn, AreShown, ShownThen, StrayAfter, EndsStray, EndsRemoved};
 ghost use Rattle.folder_removal.specs.Known.{Learns, IsListed, OnlyLists, OnlyRemoves, OnlyWorks, WorksOff, OnlyTries, Deletes};
 
 use crate::error::{DeleteError, delete_error};

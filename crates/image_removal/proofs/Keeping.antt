@@ -1,5 +1,5 @@
 -- Calls that remove no folder.
-use Rattle.std.proofs.Common.{◌≡◌, Bool, true, not, List, refl, ℕ}
+use Rattle.std.proofs.Common.{◌≡◌, true, not, List, refl, ℕ}
 use Rattle.dir_model.specs.declared.area.Area.{Area}
 use Rattle.dir_model.specs.declared.event.Event.{Event}
 use Rattle.dir_model.specs.declared.request.Request.{Request}
