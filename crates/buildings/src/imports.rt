@@ -1,6 +1,6 @@
 // A folder in incoming that is filled by a plan: as a whole, and where a call fails, the process is killed
 // before one, or the bundle fails.
-ghost use Rattle.std.specs.Prelude.{◌≡◌, ◌≤◌};
+ghost use Rattle.std.specs.Prelude.{◌≡◌, IfOk};
 ghost use Rattle.dir_trait.specs.Local.{nothing_local, IsActive};
 
 use crate::rows::{Row, bundle_of, plan_of};
@@ -10,9 +10,9 @@ use crate::stage::{
 };
 use crate::stands::standing;
 use dir_memory::{MemoryBundle, MemoryDir};
-use dir_trait::{Area, Bundle, Dir, Kind, Mode, Name, Spot};
+use dir_trait::{Area, Bundle, Dir, Kind, Mode, Name, NoMemory, Spot};
 use folder_building::PlanEntry;
-use scripts::{Refusal, ShortNames, Unread};
+use scripts::{Page, ShortNames, Unread};
 use std::alloc::Global;
 
 const KEY: &str = "sha512-aaaaaaaaaaaaaaaaaaaaaaaaaaaaaaaaaaaaaaaaaaaaaaaaaaaaaaaaaaaaaaaa";
@@ -67,26 +67,27 @@ fn bring<D: Dir>(alloc: Global, dir: &mut D) -> bool
 
 // What comes of the plan, carried out by an importer.
 fn told_of(
-    alloc: Global,
-    dir: &mut MemoryDir,
+    page: &mut Page,
+    dir: MemoryDir,
     bundle: &mut MemoryBundle,
     plan: &[PlanEntry],
     rows: &[Row],
-) -> Result<Told, Refusal>
-    requires { dir.old.local ≡ nothing_local }
+) -> Option<Told>
+    requires { dir.local ≡ nothing_local }
 {
-    let Ok(gate) = begin_import(alloc, dir) else {
-        return Err(Refusal::Unread(Unread::Process));
+    let mut dir = dir;
+    let Ok(gate) = begin_import(page.alloc(), &mut dir) else {
+        return None;
     };
-    let built = fill_from(alloc, dir, bundle, plan);
+    let built = fill_from(page.alloc(), &mut dir, bundle, plan);
     let faults = dir.fault_count();
-    let whole = standing(alloc, dir, spot(Area::Incoming), rows)?;
-    let kept = are_kept(alloc, dir)?;
-    let moved = bring(alloc, dir);
-    let brought = moved && are_kept(alloc, dir)?;
+    let whole = standing(page, &mut dir, spot(Area::Incoming), rows);
+    let kept = are_kept(page, &dir);
+    let moved = bring(page.alloc(), &mut dir);
+    let brought = moved && are_kept(page, &dir);
     dir.close(gate);
-    let freed = gate_is_free(alloc, dir);
-    Ok(Told {
+    let freed = gate_is_free(page.alloc(), &mut dir);
+    Some(Told {
         built,
         whole,
         faults,
@@ -96,157 +97,144 @@ fn told_of(
     })
 }
 
-// What the next process finds.
-fn found<D: Dir>(alloc: Global, dir: &mut D, rows: &[Row]) -> Result<(bool, Option<usize>), Refusal>
-    requires { (D.shown dir.old).local ≡ nothing_local }
-{
-    let begun = dir.begin(alloc, intent(Kind::ImageGc, NEXT));
-    if begun.is_err() {
-        return Err(Refusal::NoMemory);
-    }
-    let freed = gate_is_free(alloc, dir);
-    let whole = standing(alloc, dir, spot(Area::Incoming), rows)?;
-    Ok((freed, whole))
-}
-
 // What the next process finds that an importer left, which is killed if it wasn't before.
-fn told_by_next(
-    alloc: Global,
-    dir: MemoryDir,
-    rows: &[Row],
-    built: Built,
-) -> Result<Told, Refusal> {
+fn told_by_next(page: &mut Page, dir: MemoryDir, rows: &[Row], built: Built) -> Option<Told> {
     if dir.has_begun(2) {
-        return Err(Refusal::Unread(Unread::Process));
+        return None;
     }
     let mut dir = dir.next_process(2);
-    let (freed, whole) = found(alloc, &mut dir, rows)?;
-    let kept = are_kept(alloc, &dir)?;
-    Ok(Told {
+    let Ok(()) = dir.begin(page.alloc(), intent(Kind::ImageGc, NEXT)) else {
+        return None;
+    };
+    let freed = gate_is_free(page.alloc(), &mut dir);
+    let whole = standing(page, &mut dir, spot(Area::Incoming), rows);
+    Some(Told {
         built,
         whole,
         faults: 0,
-        kept,
+        kept: are_kept(page, &dir),
         brought: false,
         freed,
     })
 }
 
 fn told_of_killed(
-    alloc: Global,
+    page: &mut Page,
     dir: MemoryDir,
     bundle: &mut MemoryBundle,
     plan: &[PlanEntry],
     rows: &[Row],
-) -> Result<Told, Refusal>
+) -> Option<Told>
     requires { dir.local ≡ nothing_local }
 {
     let mut dir = dir;
-    let begun = begin_import(alloc, &mut dir);
-    if begun.is_err() {
-        return Err(Refusal::Unread(Unread::Process));
+    let Ok(_gate) = begin_import(page.alloc(), &mut dir) else {
+        return None;
+    };
+    let built = fill_from(page.alloc(), &mut dir, bundle, plan);
+    told_by_next(page, dir, rows, built)
+}
+
+// The folder of process 1 in which a call fails, or before which that is killed.
+fn broken_dir(alloc: Global, breaks: Break) -> Result<MemoryDir, NoMemory>
+    ensures { IfOk result (λ dir. dir.local ≡ nothing_local) }
+{
+    let dir = MemoryDir::new(alloc, 1)?;
+    match breaks {
+        Break::Call(call) if call >= 2 => dir.fail(alloc, call),
+        Break::Kill(call) if call >= 2 => Ok(dir.stop(call)),
+        _ => Ok(dir),
     }
-    let built = fill_from(alloc, &mut dir, bundle, plan);
-    told_by_next(alloc, dir, rows, built)
 }
 
-fn told_with(
-    alloc: Global,
-    dir: MemoryDir,
+// Prints what comes of the plan with that bundle.
+fn print_import_of(
+    page: &mut Page,
     bundle: MemoryBundle,
     plan: &[PlanEntry],
     rows: &[Row],
-) -> Result<(Told, u64), Refusal>
-    requires { dir.local ≡ nothing_local }
-{
-    let mut dir = dir;
+    breaks: Break,
+) {
     let mut bundle = bundle;
-    let told = told_of(alloc, &mut dir, &mut bundle, plan, rows)?;
-    Ok((told, bundle.faults()))
+    let Ok(dir) = broken_dir(page.alloc(), breaks) else {
+        return page.no_memory();
+    };
+    let killed = matches!(breaks, Break::Kill(_));
+    let told = if killed {
+        told_of_killed(page, dir, &mut bundle, plan, rows)
+    } else {
+        told_of(page, dir, &mut bundle, plan, rows)
+    };
+    match told {
+        Some(told) if killed => print_told(page, &told, 0),
+        Some(told) => print_told(page, &told, bundle.faults()),
+        None => page.unread(Unread::Process),
+    }
 }
 
-fn told_failing(
-    alloc: Global,
-    bundle: MemoryBundle,
-    plan: &[PlanEntry],
-    rows: &[Row],
-    call: u64,
-) -> Result<(Told, u64), Refusal>
-    requires { 2 ≤ call }
-{
-    let dir = MemoryDir::new(alloc, 1)?.fail(alloc, call)?;
-    told_with(alloc, dir, bundle, plan, rows)
+// The bundle of the lines, of which a read fails.
+fn broken_bundle(page: &mut Page, block: &[&str], breaks: Break) -> Option<MemoryBundle> {
+    let bundle = bundle_of(page, block)?;
+    match breaks {
+        Break::Read(read) => page.made(bundle.fail(page.alloc(), read)),
+        _ => Some(bundle),
+    }
 }
 
-fn told_killed(
-    alloc: Global,
-    bundle: MemoryBundle,
-    plan: &[PlanEntry],
-    rows: &[Row],
-    call: u64,
-) -> Result<(Told, u64), Refusal>
-    requires { 2 ≤ call }
-{
-    let dir = MemoryDir::new(alloc, 1)?.stop(call);
-    let mut bundle = bundle;
-    let told = told_of_killed(alloc, dir, &mut bundle, plan, rows)?;
-    Ok((told, 0))
-}
-
-/// What comes of the plan of the rows with the files of the lines, and how often the bundle failed.
-pub fn told_where(
-    alloc: Global,
+/// Prints what comes of the plan of the rows with the files of the lines.
+pub fn print_import(
+    page: &mut Page,
     names: &ShortNames,
     block: &[&str],
     rows: &[Row],
     breaks: Break,
-) -> Result<(Told, u64), Refusal> {
-    let plan = plan_of(alloc, names, rows)?;
-    let plan = plan.as_slice();
-    let bundle = bundle_of(alloc, block)?;
-    match breaks {
-        Break::Call(call) if call >= 2 => told_failing(alloc, bundle, plan, rows, call),
-        Break::Kill(call) if call >= 2 => told_killed(alloc, bundle, plan, rows, call),
-        Break::Read(read) => {
-            let bundle = bundle.fail(alloc, read)?;
-            told_with(alloc, MemoryDir::new(alloc, 1)?, bundle, plan, rows)
-        }
-        Break::Nothing => told_with(alloc, MemoryDir::new(alloc, 1)?, bundle, plan, rows),
-        _ => Err(Refusal::Unread(Unread::Number)),
+) {
+    if matches!(breaks, Break::Call(0 | 1) | Break::Kill(0 | 1)) {
+        page.unread(Unread::Number);
+    }
+    let plan = plan_of(page, names, rows);
+    if let Some(bundle) = broken_bundle(page, block, breaks) {
+        print_import_of(page, bundle, plan.as_slice(), rows, breaks);
     }
 }
 
 /// Prints what came of a plan, and how many of its entries stand.
-pub fn print_built(rt: &HostRuntime, built: Built, whole: Option<usize>) -> Result<(), Refusal> {
-    print!(rt; "{}", built_text(built))?;
+pub fn print_built(page: &mut Page, built: Built, whole: Option<usize>) {
+    page.put(built_text(built));
     if let Some(place) = unlike_place(built) {
-        print!(rt; " {place}")?;
+        page.put(" ");
+        page.tell(&place);
     }
     match whole {
-        Some(count) => print!(rt; ": {count} stand")?,
-        None => print!(rt; ": something else stands")?,
+        Some(count) => {
+            page.put(": ");
+            page.tell(&count);
+            page.put(" stand");
+        }
+        None => page.put(": something else stands"),
     }
-    Ok(())
 }
 
-/// Prints what came of an import.
-pub fn print_told(rt: &HostRuntime, told: &Told, bundle_faults: u64) -> Result<(), Refusal> {
-    print_built(rt, told.built, told.whole)?;
-    if told.faults > 0 {
-        print!(rt; ", faults: {}", told.faults)?;
+fn print_count(page: &mut Page, title: &str, count: u64) {
+    if count > 0 {
+        page.put(title);
+        page.tell(&count);
     }
-    if bundle_faults > 0 {
-        print!(rt; ", faults of the bundle: {bundle_faults}")?;
-    }
+}
+
+// Prints what came of an import, and how often the bundle failed.
+fn print_told(page: &mut Page, told: &Told, bundle_faults: u64) {
+    print_built(page, told.built, told.whole);
+    print_count(page, ", faults: ", told.faults);
+    print_count(page, ", faults of the bundle: ", bundle_faults);
     if told.brought {
-        print!(rt; ", moved to images")?;
+        page.put(", moved to images");
     }
     if !told.kept {
-        print!(rt; ", a rule is broken")?;
+        page.put(", a rule is broken");
     }
     if !told.freed {
-        print!(rt; ", the gate is held")?;
+        page.put(", the gate is held");
     }
-    println!(rt; "")?;
-    Ok(())
+    page.put("\n");
 }

@@ -1,11 +1,11 @@
 // The lines of a script of buildings.
-use crate::imports::{Break, print_told, told_where};
-use crate::prepares::{prepared, print_prepared};
+use crate::imports::{Break, print_import};
+use crate::prepares::print_prepared;
 use crate::rows::{Row, plan_of, row_of, rows_of};
 use crate::steps::check_step;
 use crate::sweeps::print_swept;
 use crate::trees::print_tree;
-use scripts::{Line, Player, Refusal, ShortNames, Unread, block_above, says};
+use scripts::{Line, Page, Player, ShortNames, Unread, block_above, says};
 use std::alloc::Global;
 
 /// A script of buildings, of which nothing is kept from line to line but the short names.
@@ -14,116 +14,83 @@ pub struct Buildings {
     names: ShortNames,
 }
 
-fn broken(what: &str, call: u64) -> Result<Break, Refusal> {
+fn broken(page: &mut Page, what: &str, call: u64) -> Break {
     match what {
-        "fail" => Ok(Break::Call(call)),
-        "kill" => Ok(Break::Kill(call)),
-        "read" => Ok(Break::Read(call)),
-        _ => Err(Refusal::Unread(Unread::Word)),
+        "fail" => return Break::Call(call),
+        "kill" => return Break::Kill(call),
+        "read" => return Break::Read(call),
+        _ => page.unread(Unread::Word),
     }
-}
-
-fn print_import(
-    rt: &HostRuntime,
-    names: &ShortNames,
-    block: &[&str],
-    rows: &[Row],
-    what: &str,
-    call: u64,
-) -> Result<(), Refusal> {
-    let (told, faults) = told_where(rt.alloc(), names, block, rows, broken(what, call)?)?;
-    print!(rt; "  {call}: ")?;
-    print_told(rt, &told, faults)
+    Break::Nothing
 }
 
 // `import WHAT FIRST to LAST`
 fn print_imports(
-    rt: &HostRuntime,
+    page: &mut Page,
     names: &ShortNames,
     block: &[&str],
     rows: &[Row],
     line: &mut Line,
-) -> Result<(), Refusal> {
+) {
     let what = line.word();
-    let first = line.number()?;
+    let first = line.number(page);
     let to = line.word();
-    let last = line.number()?;
-    line.end()?;
+    let last = line.number(page);
+    line.end(page);
     if to != "to" {
-        return Err(Refusal::Unread(Unread::Word));
+        page.unread(Unread::Word);
     }
     for call in first..last.saturating_add(1) {
-        print_import(rt, names, block, rows, what, call)?;
+        page.put("  ");
+        page.tell(&call);
+        page.put(": ");
+        let breaks = broken(page, what, call);
+        print_import(page, names, block, rows, breaks);
     }
-    Ok(())
 }
 
-fn import_line(
-    rt: &HostRuntime,
-    names: &ShortNames,
-    block: &[&str],
-    rows: &[Row],
-    line: &mut Line,
-) -> Result<(), Refusal> {
+fn import_line(page: &mut Page, names: &ShortNames, block: &[&str], rows: &[Row], line: &mut Line) {
     if !line.rest().is_empty() {
-        return print_imports(rt, names, block, rows, line);
+        return print_imports(page, names, block, rows, line);
     }
-    let (told, faults) = told_where(rt.alloc(), names, block, rows, Break::Nothing)?;
-    print!(rt; "  ")?;
-    print_told(rt, &told, faults)
+    page.put("  ");
+    print_import(page, names, block, rows, Break::Nothing);
 }
 
-fn prepare_line(
-    rt: &HostRuntime,
-    names: &ShortNames,
-    block: &[&str],
-    rows: &[Row],
-    how: &str,
-) -> Result<(), Refusal> {
-    let gated = match how {
-        "under the gate of images" => true,
-        "without the gate of images" => false,
-        _ => return Err(Refusal::Unread(Unread::Line)),
-    };
-    let told = prepared(rt.alloc(), names, block, rows, gated)?;
-    print_prepared(rt, &told)
+fn prepare_line(page: &mut Page, names: &ShortNames, block: &[&str], rows: &[Row], how: &str) {
+    match how {
+        "under the gate of images" => print_prepared(page, names, block, rows, true),
+        "without the gate of images" => print_prepared(page, names, block, rows, false),
+        _ => page.unread(Unread::Line),
+    }
 }
 
 // A line that says what is to be done with the lines above it.
-fn deed_line(
-    rt: &HostRuntime,
-    names: &ShortNames,
-    block: &[&str],
-    line: &mut Line,
-) -> Result<(), Refusal> {
-    let rows = rows_of(rt.alloc(), block)?;
+fn deed_line(page: &mut Page, names: &ShortNames, block: &[&str], line: &mut Line) {
+    let rows = rows_of(page, block);
     let rows = rows.as_slice();
     match line.word() {
-        "import" => import_line(rt, names, block, rows, line),
-        "prepare" => prepare_line(rt, names, block, rows, line.rest()),
-        "sweep" => print_swept(rt, names, block, rows),
-        "tree" => print_tree(rt, names, block, rows, line.rest()),
-        _ => Err(Refusal::Unread(Unread::Line)),
+        "import" => import_line(page, names, block, rows, line),
+        "prepare" => prepare_line(page, names, block, rows, line.rest()),
+        "sweep" => print_swept(page, names, block, rows),
+        "tree" => print_tree(page, names, block, rows, line.rest()),
+        _ => page.unread(Unread::Line),
     }
 }
 
 // Refused where the line is no entry of a plan.
-fn check_row(alloc: Global, names: &ShortNames, row: Row) -> Result<(), Refusal> {
-    let _plan = plan_of(alloc, names, &[row])?;
-    Ok(())
+fn check_row(page: &mut Page, names: &ShortNames, row: Row) {
+    let _plan = plan_of(page, names, &[row]);
 }
 
-fn said(rt: &HostRuntime, names: &ShortNames, block: &[&str], text: &str) -> Result<(), Refusal> {
+fn said(page: &mut Page, names: &ShortNames, block: &[&str], text: &str) {
     if let Some(row) = row_of(text) {
-        return check_row(rt.alloc(), names, row);
+        check_row(page, names, row);
+    } else if let Some(step) = text.strip_prefix("before ") {
+        check_step(page, names, step);
+    } else if !text.starts_with("file ") && !text.starts_with("line ") {
+        deed_line(page, names, block, &mut Line::of(text));
     }
-    if let Some(step) = text.strip_prefix("before ") {
-        return check_step(rt.alloc(), names, step);
-    }
-    if text.starts_with("file ") || text.starts_with("line ") {
-        return Ok(());
-    }
-    deed_line(rt, names, block, &mut Line::of(text))
 }
 
 impl Buildings {
@@ -136,18 +103,18 @@ impl Buildings {
 }
 
 impl Player for Buildings {
-    fn play(&mut self, rt: &HostRuntime, lines: &[String], place: usize) -> Result<(), Refusal> {
+    fn play(&mut self, page: &mut Page, lines: &[String], place: usize) {
         let Some(text) = lines.get(place) else {
-            return Ok(());
+            return;
         };
         let text = text.as_str();
         if !says(text) {
-            return Ok(());
+            return;
         }
         if text.contains(" = ") {
-            return self.names.define(rt.alloc(), text);
+            return self.names.define(page, text);
         }
-        let block = block_above(rt.alloc(), lines, place)?;
-        said(rt, &self.names, block.as_slice(), text)
+        let block = block_above(page, lines, place);
+        said(page, &self.names, block.as_slice(), text);
     }
 }

@@ -6,11 +6,11 @@ use crate::imports::print_built;
 use crate::rows::{Row, plan_of};
 use crate::stage::{Built, DRAW, are_kept, fill, intent, lock_gate, lock_own, spot};
 use crate::stands::standing;
-use crate::steps::with_steps;
+use crate::steps::new_with_steps;
 use dir_memory::MemoryDir;
 use dir_trait::{Area, Dir, DirError, Kind, Mode};
 use folder_building::{PlanEntry, StoreSource};
-use scripts::{Refusal, ShortNames, Unread};
+use scripts::{Page, ShortNames, Unread};
 use std::alloc::Global;
 
 // Makes the pod's folder, with its lock, and moves it to prepare.
@@ -39,66 +39,41 @@ fn fill_pod<D: Dir>(alloc: Global, dir: &mut D, plan: &[PlanEntry], gated: bool)
     built
 }
 
-/// What came of a plan for a pod.
-#[derive(Clone, Copy)]
-pub struct Told {
-    built: Built,
-    whole: Option<usize>,
-    /// Whether the pod was then moved to prepared.
-    moved: bool,
-    kept: bool,
-}
-
-fn told_of(
-    alloc: Global,
-    dir: MemoryDir,
-    plan: &[PlanEntry],
-    rows: &[Row],
-    gated: bool,
-) -> Result<Told, Refusal>
+// What comes of a plan for a pod, and whether it was then moved to prepared.
+fn print_told(page: &mut Page, dir: MemoryDir, plan: &[PlanEntry], rows: &[Row], gated: bool)
     requires { dir.local ≡ nothing_local }
 {
     let mut dir = dir;
-    if begin_prepare(alloc, &mut dir).is_err() {
-        return Err(Refusal::Unread(Unread::Process));
+    if begin_prepare(page.alloc(), &mut dir).is_err() {
+        return page.unread(Unread::Process);
     }
-    let built = fill_pod(alloc, &mut dir, plan, gated);
-    let whole = standing(alloc, &mut dir, spot(Area::Prepare), rows)?;
+    let built = fill_pod(page.alloc(), &mut dir, plan, gated);
+    let whole = standing(page, &mut dir, spot(Area::Prepare), rows);
     let moved = dir
-        .move_folder(alloc, spot(Area::Prepare), spot(Area::Prepared))
+        .move_folder(page.alloc(), spot(Area::Prepare), spot(Area::Prepared))
         .is_ok();
-    let kept = are_kept(alloc, &dir)?;
-    Ok(Told {
-        built,
-        whole,
-        moved,
-        kept,
-    })
+    page.put("  ");
+    print_built(page, built, whole);
+    if moved {
+        page.put(", moved to prepared");
+    }
+    if !are_kept(page, &dir) {
+        page.put(", a rule is broken");
+    }
+    page.put("\n");
 }
 
-/// What comes of a pod of these rows, among the steps of the lines.
-pub fn prepared(
-    alloc: Global,
+/// Prints what comes of a pod of these rows, among the steps of the lines.
+pub fn print_prepared(
+    page: &mut Page,
     names: &ShortNames,
     block: &[&str],
     rows: &[Row],
     gated: bool,
-) -> Result<Told, Refusal> {
-    let plan = plan_of(alloc, names, rows)?;
-    let dir = with_steps(alloc, names, MemoryDir::new(alloc, 1)?, block)?;
-    told_of(alloc, dir, plan.as_slice(), rows, gated)
-}
-
-/// Prints what came of a pod.
-pub fn print_prepared(rt: &HostRuntime, told: &Told) -> Result<(), Refusal> {
-    print!(rt; "  ")?;
-    print_built(rt, told.built, told.whole)?;
-    if told.moved {
-        print!(rt; ", moved to prepared")?;
+) {
+    let plan = plan_of(page, names, rows);
+    match new_with_steps(page, names, block) {
+        Ok(dir) => print_told(page, dir, plan.as_slice(), rows, gated),
+        Err(_) => page.no_memory(),
     }
-    if !told.kept {
-        print!(rt; ", a rule is broken")?;
-    }
-    println!(rt; "")?;
-    Ok(())
 }

@@ -1,10 +1,9 @@
 // Plans and bundles as lines.
 use ac_types::Text;
 use dir_memory::MemoryBundle;
-use dir_trait::{Bytes, Name, NoMemory};
+use dir_trait::{Bytes, Name};
 use folder_building::{Content, Origin, PlanEntry};
-use scripts::{Line, Refusal, ShortNames, Unread, unfolded};
-use std::alloc::Global;
+use scripts::{Line, Page, ShortNames, Unread, unfolded};
 
 /// What an entry of a plan is.
 #[derive(Clone, Copy, PartialEq, Eq)]
@@ -68,85 +67,80 @@ pub fn row_of(text: &str) -> Option<Row<'_>> {
 }
 
 /// The entries of a plan among the lines.
-pub fn rows_of<'a>(alloc: Global, block: &[&'a str]) -> Result<Vec<Row<'a>>, Refusal> {
-    let mut rows = Vec::new(alloc);
+pub fn rows_of<'a>(page: &mut Page, block: &[&'a str]) -> Vec<Row<'a>> {
+    let mut rows = Vec::new(page.alloc());
     for text in block {
         if let Some(row) = row_of(text) {
-            rows.push(row)?;
+            page.push(&mut rows, row);
         }
     }
-    Ok(rows)
+    rows
 }
 
 /// The bytes of a file that a line says.
-pub fn bytes_of(alloc: Global, text: &str) -> Result<Bytes, Refusal> {
-    let text = unfolded(alloc, text)?;
-    Ok(Bytes::of(alloc, text.as_bytes())?)
+pub fn bytes_of(page: &mut Page, text: &str) -> Bytes {
+    let text = unfolded(page, text);
+    page.bytes(text.as_bytes())
 }
 
-fn text_of(alloc: Global, text: &str) -> Result<Text, NoMemory> {
-    let copy = String::from_str(alloc, text)?;
-    Ok(Text::from_string(copy))
-}
-
-fn sha_of(digits: &str) -> Result<[u8; 64], Refusal> {
+fn sha_of(page: &mut Page, digits: &str) -> [u8; 64] {
     let mut sha = [0; 64];
-    match hex::decode_to_slice(digits, &mut sha) {
-        Ok(()) => Ok(sha),
-        Err(_) => Err(Refusal::Unread(Unread::Text)),
+    if hex::decode_to_slice(digits, &mut sha).is_err() {
+        page.unread(Unread::Text);
     }
+    sha
 }
 
-fn copied_of(alloc: Global, names: &ShortNames, row: &Row) -> Result<Content, Refusal> {
-    let sha = sha_of(names.long(row.sha))?;
-    let size = bytes_of(alloc, row.text)?.as_slice().len() as u64;
+fn copied_of(page: &mut Page, names: &ShortNames, row: &Row) -> Content {
+    let sha = sha_of(page, names.long(row.sha));
+    let size = bytes_of(page, row.text).as_slice().len() as u64;
     let origin = Origin {
         folder: Name::of(names.long(row.image)),
-        path: text_of(alloc, row.from)?,
+        path: Text::from_string(page.text(row.from)),
     };
-    Ok(Content::Copied { origin, size, sha })
+    Content::Copied { origin, size, sha }
 }
 
-fn content_of(alloc: Global, names: &ShortNames, row: &Row) -> Result<Content, Refusal> {
+fn content_of(page: &mut Page, names: &ShortNames, row: &Row) -> Content {
     match row.kind {
-        RowKind::Directory => Ok(Content::Directory),
-        RowKind::Given => Ok(Content::Given(bytes_of(alloc, row.text)?)),
-        RowKind::Copied => copied_of(alloc, names, row),
+        RowKind::Directory => Content::Directory,
+        RowKind::Given => Content::Given(bytes_of(page, row.text)),
+        RowKind::Copied => copied_of(page, names, row),
     }
 }
 
-fn entry_of(alloc: Global, names: &ShortNames, row: &Row) -> Result<PlanEntry, Refusal> {
-    let content = content_of(alloc, names, row)?;
-    match text_of(alloc, row.path) {
-        Ok(path) => Ok(PlanEntry { path, content }),
-        Err(_) => Err(Refusal::NoMemory),
+fn entry_of(page: &mut Page, names: &ShortNames, row: &Row) -> PlanEntry {
+    PlanEntry {
+        path: Text::from_string(page.text(row.path)),
+        content: content_of(page, names, row),
     }
 }
 
 /// The plan of the rows.
-pub fn plan_of(alloc: Global, names: &ShortNames, rows: &[Row]) -> Result<Vec<PlanEntry>, Refusal> {
-    let mut plan = Vec::new(alloc);
+pub fn plan_of(page: &mut Page, names: &ShortNames, rows: &[Row]) -> Vec<PlanEntry> {
+    let mut plan = Vec::new(page.alloc());
     for row in rows {
-        plan.push(entry_of(alloc, names, row)?)?;
+        let entry = entry_of(page, names, row);
+        page.push(&mut plan, entry);
     }
-    Ok(plan)
+    plan
 }
 
 // `PATH TEXT`
-fn with_file(alloc: Global, bundle: MemoryBundle, text: &str) -> Result<MemoryBundle, Refusal> {
+fn with_file(page: &mut Page, bundle: MemoryBundle, text: &str) -> Option<MemoryBundle> {
     let mut line = Line::of(text);
     let path = line.word();
-    let bytes = bytes_of(alloc, line.rest())?;
-    Ok(bundle.file(alloc, path, bytes.as_slice())?)
+    let bytes = bytes_of(page, line.rest());
+    page.made(bundle.file(page.alloc(), path, bytes.as_slice()))
 }
 
-/// The bundle with the files of the lines `file PATH TEXT`.
-pub fn bundle_of(alloc: Global, block: &[&str]) -> Result<MemoryBundle, Refusal> {
-    let mut bundle = MemoryBundle::new(alloc);
+/// The bundle with the files of the lines `file PATH TEXT`. None where memory ran out.
+pub fn bundle_of(page: &mut Page, block: &[&str]) -> Option<MemoryBundle> {
+    let mut bundle = MemoryBundle::new(page.alloc());
     for text in block {
         if let Some(file) = text.strip_prefix("file ") {
-            bundle = with_file(alloc, bundle, file)?;
+            bundle = with_file(page, bundle, file)?;
         }
     }
-    Ok(bundle)
+    Some(bundle)
 }

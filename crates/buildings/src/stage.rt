@@ -5,11 +5,11 @@ ghost use Rattle.dir_trait.specs.Local.{nothing_local, IsActive, IsOpen, IsUnloc
 use conformance::keeps_rules;
 use dir_memory::MemoryDir;
 use dir_trait::{
-    Area, Bundle, Dir, DirError, Handle, Intent, Kind, Mode, NoMemory, PodId, PodPrefix, Spot,
-    Which,
+    Area, Bundle, Dir, DirError, Handle, Intent, Kind, Mode, PodId, PodPrefix, Spot, Which,
 };
 use folder_building::{BuildError, BundleSource, PlanEntry, Source, carry_out};
 use plan_check::is_plan;
+use scripts::Page;
 use std::alloc::Global;
 
 /// What process 1 draws, which fills a folder.
@@ -143,13 +143,13 @@ pub fn fill_from<D: Dir, B: Bundle>(
 }
 
 /// Whether each of the processes kept the rules.
-pub fn are_kept(alloc: Global, dir: &MemoryDir) -> Result<bool, NoMemory> {
+pub fn are_kept(page: &mut Page, dir: &MemoryDir) -> bool {
     let mut kept = true;
     'processes: for process in 1..4 {
-        let keeps = keeps_rules(alloc, dir.history(), process)?;
-        kept = kept && keeps;
+        let keeps = page.made(keeps_rules(page.alloc(), dir.history(), process));
+        kept = kept && keeps.unwrap_or(false);
     }
-    Ok(kept)
+    kept
 }
 
 /// What came of a plan, in words.

@@ -7,7 +7,7 @@ use crate::rows::{Row, RowKind, bytes_of};
 use dir_files::items_of;
 use dir_model::is_path;
 use dir_trait::{Dir, DirError, Spot};
-use scripts::Refusal;
+use scripts::Page;
 use std::alloc::Global;
 
 /// What stands where an entry of a plan belongs.
@@ -70,15 +70,36 @@ fn read<D: Dir>(
     }
 }
 
-fn file_stand<D: Dir>(alloc: Global, dir: &mut D, spot: Spot, row: &Row) -> Result<Stand, Refusal>
+fn read_at<D: Dir>(
+    alloc: Global,
+    dir: &mut D,
+    spot: Spot,
+    row: &Row,
+    room: Vec<u8>,
+    wanted: &[u8],
+) -> Stand
     requires { IsActive (D.shown dir.old).local }
     ensures { (D.shown dir.new).local ≡ (D.shown dir.old).local }
 {
-    let wanted = bytes_of(alloc, row.text)?;
-    let mut room = vec![in alloc; 0; wanted.as_slice().len().saturating_add(1)]?;
+    let mut room = room;
     match path_of(row.path) {
-        Some(path) => Ok(read(alloc, dir, spot, path, &mut room, wanted.as_slice())),
-        None => Ok(Stand::Other),
+        Some(path) => read(alloc, dir, spot, path, &mut room, wanted),
+        None => Stand::Other,
+    }
+}
+
+fn file_stand<D: Dir>(page: &mut Page, dir: &mut D, spot: Spot, row: &Row) -> Stand
+    requires { IsActive (D.shown dir.old).local }
+    ensures { (D.shown dir.new).local ≡ (D.shown dir.old).local }
+{
+    let wanted = bytes_of(page, row.text);
+    let length = wanted.as_slice().len().saturating_add(1);
+    match vec![in page.alloc(); 0; length] {
+        Ok(room) => read_at(page.alloc(), dir, spot, row, room, wanted.as_slice()),
+        Err(_) => {
+            page.no_memory();
+            Stand::Other
+        }
     }
 }
 
@@ -106,41 +127,29 @@ fn add(tally: &mut Tally, stand: Stand, items: usize) {
     }
 }
 
-fn look<D: Dir>(
-    alloc: Global,
-    dir: &mut D,
-    spot: Spot,
-    row: &Row,
-    tally: &mut Tally,
-) -> Result<(), Refusal>
+fn look<D: Dir>(page: &mut Page, dir: &mut D, spot: Spot, row: &Row, tally: &mut Tally)
     requires { IsActive (D.shown dir.old).local }
     ensures { (D.shown dir.new).local ≡ (D.shown dir.old).local }
 {
     if row.kind != RowKind::Directory {
-        let stand = file_stand(alloc, dir, spot, row)?;
-        add(tally, stand, 0);
-        return Ok(());
+        let stand = file_stand(page, dir, spot, row);
+        return add(tally, stand, 0);
     }
-    match count_in(alloc, dir, spot, row.path) {
+    match count_in(page.alloc(), dir, spot, row.path) {
         Some(items) => add(tally, Stand::Whole, items),
         None => add(tally, Stand::Absent, 0),
     }
-    Ok(())
 }
 
 /// How many entries of the plan stand, where the first ones do, with at most the next begun, and nothing
 /// else stands in the folder.
-pub fn standing<D: Dir>(
-    alloc: Global,
-    dir: &mut D,
-    spot: Spot,
-    rows: &[Row],
-) -> Result<Option<usize>, Refusal>
+pub fn standing<D: Dir>(page: &mut Page, dir: &mut D, spot: Spot, rows: &[Row]) -> Option<usize>
     requires { IsActive (D.shown dir.old).local }
     ensures { (D.shown dir.new).local ≡ (D.shown dir.old).local }
 {
-    let Some(listed) = count_in(alloc, dir, spot, "") else {
-        return Ok(None);
+    let spot = &spot;
+    let Some(listed) = count_in(page.alloc(), dir, *spot, "") else {
+        return None;
     };
     let mut tally = Tally {
         whole: 0,
@@ -150,12 +159,12 @@ pub fn standing<D: Dir>(
         so: true,
     };
     'rows: for row in rows {
-        look(alloc, dir, spot, row, &mut tally)?;
+        look(page, dir, *spot, row, &mut tally);
     }
     let only = tally.listed == tally.standing;
-    Ok(if tally.so && only {
+    if tally.so && only {
         Some(tally.whole)
     } else {
         None
-    })
+    }
 }

@@ -3,8 +3,8 @@ ghost use Rattle.std.specs.Prelude.{◌≡◌, IfOk};
 ghost use Rattle.dir_trait.specs.Local.{nothing_local};
 
 use dir_memory::MemoryDir;
-use scripts::{Line, Refusal, ShortNames, Unread, request_of};
-use std::alloc::Global;
+use dir_trait::NoMemory;
+use scripts::{Line, Page, ShortNames, Unread, number_of, request_of};
 
 /// A step of another process.
 #[derive(Clone, Copy, Drop)]
@@ -14,58 +14,74 @@ struct Planned<'a> {
     asked: &'a str,
 }
 
+// What stands before a sign, and behind it. Refused where the sign lacks.
+fn parted<'a>(page: &mut Page, text: &'a str, sign: &str) -> (&'a str, &'a str) {
+    if let Some(parts) = text.split_once(sign) {
+        return parts;
+    }
+    page.unread(Unread::Missing);
+    (text, "")
+}
+
 // `CALL, PROCESS: REQUEST`
-fn planned_of(text: &str) -> Result<Planned<'_>, Refusal> {
-    let Some((call, step)) = text.split_once(", ") else {
-        return Err(Refusal::Unread(Unread::Missing));
-    };
-    let Some((process, asked)) = step.split_once(": ") else {
-        return Err(Refusal::Unread(Unread::Missing));
-    };
-    Ok(Planned {
-        call: Line::of(call).number()?,
-        process: Line::of(process).short_number()?,
+fn planned_of<'a>(page: &mut Page, text: &'a str) -> Planned<'a> {
+    let (call, step) = parted(page, text, ", ");
+    let (process, asked) = parted(page, step, ": ");
+    Planned {
+        call: number_of(page, call),
+        process: Line::of(process).short_number(page),
         asked,
-    })
+    }
 }
 
 /// The folder with the step of a line more.
 fn with_step(
-    alloc: Global,
+    page: &mut Page,
     names: &ShortNames,
     dir: MemoryDir,
     text: &str,
-) -> Result<MemoryDir, Refusal>
+) -> Result<MemoryDir, NoMemory>
     requires { dir.local ≡ nothing_local }
     ensures { IfOk result (λ dir. dir.local ≡ nothing_local) }
 {
-    let planned = planned_of(text)?;
-    let request = request_of(alloc, names, &mut Line::of(planned.asked))?;
-    Ok(dir.schedule(alloc, planned.call, planned.process, request)?)
+    let planned = planned_of(page, text);
+    let request = request_of(page, names, &mut Line::of(planned.asked));
+    dir.schedule(page.alloc(), planned.call, planned.process, request)
 }
 
 /// The folder with the steps of the lines.
 pub fn with_steps(
-    alloc: Global,
+    page: &mut Page,
     names: &ShortNames,
     dir: MemoryDir,
     block: &[&str],
-) -> Result<MemoryDir, Refusal>
+) -> Result<MemoryDir, NoMemory>
     requires { dir.local ≡ nothing_local }
     ensures { IfOk result (λ dir. dir.local ≡ nothing_local) }
 {
     let mut dir = dir;
     'lines: for text in block {
         if let Some(step) = text.strip_prefix("before ") {
-            dir = with_step(alloc, names, dir, step)?;
+            dir = with_step(page, names, dir, step)?;
         }
     }
     Ok(dir)
 }
 
+/// The folder for process 1 with the steps of the lines.
+pub fn new_with_steps(
+    page: &mut Page,
+    names: &ShortNames,
+    block: &[&str],
+) -> Result<MemoryDir, NoMemory>
+    ensures { IfOk result (λ dir. dir.local ≡ nothing_local) }
+{
+    let dir = MemoryDir::new(page.alloc(), 1)?;
+    with_steps(page, names, dir, block)
+}
+
 /// Refused where the line says no step.
-pub fn check_step(alloc: Global, names: &ShortNames, text: &str) -> Result<(), Refusal> {
-    let planned = planned_of(text)?;
-    let _request = request_of(alloc, names, &mut Line::of(planned.asked))?;
-    Ok(())
+pub fn check_step(page: &mut Page, names: &ShortNames, text: &str) {
+    let planned = planned_of(page, text);
+    let _request = request_of(page, names, &mut Line::of(planned.asked));
 }

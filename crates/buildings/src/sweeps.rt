@@ -9,22 +9,25 @@ use dir_memory::{MemoryBundle, MemoryDir};
 use dir_trait::{Area, Dir, DirError, Handle, Kind, Mode};
 use folder_building::PlanEntry;
 use folder_removal::delete_folder;
-use scripts::{Refusal, ShortNames, Unread, print_reply};
+use scripts::{Page, ShortNames, Unread, print_reply};
 use std::alloc::Global;
 
 // The folder after an import that was killed once it was filled, for process 2.
-fn left(alloc: Global, bundle: &mut MemoryBundle, plan: &[PlanEntry]) -> Result<MemoryDir, Refusal>
-    ensures { IfOk result (λ dir. dir.local ≡ nothing_local) }
+fn left(page: &mut Page, bundle: &mut MemoryBundle, plan: &[PlanEntry]) -> Option<MemoryDir>
+    ensures { IfSome result (λ dir. dir.local ≡ nothing_local) }
 {
-    let mut dir = MemoryDir::new(alloc, 1)?;
-    if begin_import(alloc, &mut dir).is_err() {
-        return Err(Refusal::Unread(Unread::Process));
-    }
-    let built = fill_from(alloc, &mut dir, bundle, plan);
+    let Ok(dir) = MemoryDir::new(page.alloc(), 1) else {
+        return None;
+    };
+    let mut dir = dir;
+    let Ok(_gate) = begin_import(page.alloc(), &mut dir) else {
+        return None;
+    };
+    let built = fill_from(page.alloc(), &mut dir, bundle, plan);
     if built != Some(Ok(())) || dir.has_begun(2) {
-        return Err(Refusal::Unread(Unread::Line));
+        return None;
     }
-    Ok(dir.next_process(2))
+    Some(dir.next_process(2))
 }
 
 // Moves the folder from incoming to removed, under both gates. Answers that of removed.
@@ -51,47 +54,58 @@ fn sweep<D: Dir>(alloc: Global, dir: &mut D) -> Option<usize>
     Some(names.as_slice().len())
 }
 
-fn print_answers(
-    rt: &HostRuntime,
-    names: &ShortNames,
-    dir: &MemoryDir,
-    process: u32,
-) -> Result<(), Refusal> {
+fn print_answers(page: &mut Page, names: &ShortNames, dir: &MemoryDir, process: u32) {
     for event in dir.history().as_slice() {
         if event.process == process {
-            print!(rt; "  process {process}: ")?;
-            print_reply(rt, names, &event.reply)?;
-            println!(rt; "")?;
+            page.put("  process ");
+            page.tell(&process);
+            page.put(": ");
+            print_reply(page, names, &event.reply);
+            page.put("\n");
         }
     }
-    Ok(())
 }
 
-fn print_sweep(rt: &HostRuntime, names: &ShortNames, dir: MemoryDir) -> Result<(), Refusal>
+fn print_count(page: &mut Page, swept: Option<usize>) {
+    match swept {
+        Some(count) => {
+            page.put("  swept: ");
+            page.tell(&count);
+            page.put(" folders stand in removed\n");
+        }
+        None => page.put("  not swept\n"),
+    }
+}
+
+fn print_sweep(page: &mut Page, names: &ShortNames, dir: MemoryDir)
     requires { dir.local ≡ nothing_local }
 {
     let mut dir = dir;
-    match sweep(rt.alloc(), &mut dir) {
-        Some(count) => println!(rt; "  swept: {count} folders stand in removed")?,
-        None => println!(rt; "  not swept")?,
+    let swept = sweep(page.alloc(), &mut dir);
+    print_count(page, swept);
+    print_answers(page, names, &dir, 3);
+    if !are_kept(page, &dir) {
+        page.put("  a rule is broken\n");
     }
-    print_answers(rt, names, &dir, 3)?;
-    if !are_kept(rt.alloc(), &dir)? {
-        println!(rt; "  a rule is broken")?;
+}
+
+// The folder with what an importer left, and the steps of the lines.
+fn met(page: &mut Page, names: &ShortNames, block: &[&str], plan: &[PlanEntry]) -> Option<MemoryDir>
+    ensures { IfSome result (λ dir. dir.local ≡ nothing_local) }
+{
+    let mut bundle = bundle_of(page, block)?;
+    let dir = left(page, &mut bundle, plan)?;
+    match with_steps(page, names, dir, block) {
+        Ok(dir) => Some(dir),
+        Err(_) => None,
     }
-    Ok(())
 }
 
 /// Prints what comes of a sweep by process 2 of what process 1 left, and what process 3 is answered.
-pub fn print_swept(
-    rt: &HostRuntime,
-    names: &ShortNames,
-    block: &[&str],
-    rows: &[Row],
-) -> Result<(), Refusal> {
-    let plan = plan_of(rt.alloc(), names, rows)?;
-    let mut bundle = bundle_of(rt.alloc(), block)?;
-    let dir = left(rt.alloc(), &mut bundle, plan.as_slice())?;
-    let dir = with_steps(rt.alloc(), names, dir, block)?;
-    print_sweep(rt, names, dir)
+pub fn print_swept(page: &mut Page, names: &ShortNames, block: &[&str], rows: &[Row]) {
+    let plan = plan_of(page, names, rows);
+    match met(page, names, block, plan.as_slice()) {
+        Some(dir) => print_sweep(page, names, dir),
+        None => page.unread(Unread::Process),
+    }
 }

@@ -1,9 +1,9 @@
 // Which pods a process was asked to remove.
-use crate::steps::begin_of;
+use crate::steps::{begin_of, parted};
 use conformance::is_removal_requested;
-use dir_model::{Intent, Name, Sequence};
+use dir_model::{Intent, Sequence};
 use dir_rules::{Created, Seen, Standing};
-use scripts::{Line, Refusal, ShortNames, Unread};
+use scripts::{Line, Page, ShortNames, name_of};
 use std::alloc::Global;
 
 fn standing(alloc: Global, intent: Intent) -> Standing {
@@ -34,34 +34,28 @@ fn seen(alloc: Global, intent: Intent, created: Sequence<Created>) -> Seen {
     }
 }
 
-fn name_of(text: &str) -> Result<Name, Refusal> {
-    match Name::of(text) {
-        Some(name) => Ok(name),
-        None => Err(Refusal::Unread(Unread::Name)),
-    }
-}
-
 // `POD MOMENT`
-fn mark_of(names: &ShortNames, text: &str) -> Result<Created, Refusal> {
+fn mark_of(page: &mut Page, names: &ShortNames, text: &str) -> Created {
     let mut line = Line::of(text);
-    let name = name_of(names.long(line.word()))?;
-    let moment = line.number()?;
-    line.end()?;
-    Ok(Created { name, moment })
+    let name = name_of(page, names.long(line.word()));
+    let moment = line.number(page);
+    line.end(page);
+    Created { name, moment }
 }
 
 /// Whether a process that began so, and saw one mark of when a pod was made, is asked to remove a pod:
 /// `POD, created POD MOMENT, BEGIN`.
-pub fn is_asked(alloc: Global, names: &ShortNames, text: &str) -> Result<bool, Refusal> {
-    let Some((pod, rest)) = text.split_once(", created ") else {
-        return Err(Refusal::Unread(Unread::Missing));
-    };
-    let Some((mark, begin)) = rest.split_once(", ") else {
-        return Err(Refusal::Unread(Unread::Missing));
-    };
-    let pod = name_of(names.long(pod))?;
-    let mark = mark_of(names, mark)?;
-    let intent = begin_of(alloc, names, begin)?;
-    let created = Sequence::of(alloc, &[mark])?;
-    Ok(is_removal_requested(&seen(alloc, intent, created), &pod))
+pub fn is_asked(page: &mut Page, names: &ShortNames, text: &str) -> bool {
+    let (pod, rest) = parted(page, text, ", created ");
+    let (mark, begin) = parted(page, rest, ", ");
+    let pod = name_of(page, names.long(pod));
+    let mark = mark_of(page, names, mark);
+    let intent = begin_of(page, names, begin);
+    match Sequence::of(page.alloc(), &[mark]) {
+        Ok(created) => is_removal_requested(&seen(page.alloc(), intent, created), &pod),
+        Err(_) => {
+            page.no_memory();
+            false
+        }
+    }
 }

@@ -11,9 +11,7 @@ use dir_trait::{
     Area, Bytes, Dir, DirError, Inner, Items, Mode, Names, Reply, Request, Spot, Which,
 };
 use folder_removal::{DeleteError, delete_folder};
-use scripts::{
-    Line, Refusal, ShortNames, Unread, area_of, mode_of, print_reply, spot_of, which_of,
-};
+use scripts::{Line, Page, ShortNames, Unread, area_of, mode_of, print_reply, spot_of, which_of};
 use std::alloc::Global;
 use std::str;
 
@@ -79,74 +77,89 @@ fn path_of(bytes: &[u8]) -> Option<&str>
     }
 }
 
-fn read<D: Dir>(
+// What isn't done, since the line can't be read.
+fn unread(page: &mut Page, what: Unread) -> Reply {
+    page.unread(what);
+    Reply::Done
+}
+
+fn read_into<D: Dir>(
     alloc: Global,
     dir: &mut D,
     spot: Spot,
     path: &str,
     at: u64,
-    room: u64,
-) -> Result<Reply, Refusal>
+    room: Vec<u8>,
+) -> Reply
     requires active { IsActive (D.shown dir.old).local }
     requires path { is_path path.now ≡ true }
     ensures { IsActive (D.shown dir.new).local }
 {
-    let mut bytes = vec![in alloc; 0; room.min(1000) as usize]?;
+    let mut bytes = room;
     match dir.read_in(alloc, spot, path, at, &mut bytes) {
         Ok(count) => {
             bytes.truncate(count);
-            Ok(Reply::Read(Bytes::from_vec(bytes)))
+            Reply::Read(Bytes::from_vec(bytes))
         }
-        Err(error) => Ok(refused(error)),
+        Err(error) => refused(error),
+    }
+}
+
+fn read<D: Dir>(page: &mut Page, dir: &mut D, spot: Spot, path: &str, at: u64, room: u64) -> Reply
+    requires active { IsActive (D.shown dir.old).local }
+    requires path { is_path path.now ≡ true }
+    ensures { IsActive (D.shown dir.new).local }
+{
+    match vec![in page.alloc(); 0; room.min(1000) as usize] {
+        Ok(room) => read_into(page.alloc(), dir, spot, path, at, room),
+        Err(_) => {
+            page.no_memory();
+            Reply::Done
+        }
     }
 }
 
 // A call that has a path. A listing and a look at bytes are told, all else is only done.
-fn call_at<D: Dir>(
-    alloc: Global,
-    dir: &mut D,
-    request: &Request,
-    spot: Spot,
-    path: &str,
-) -> Result<Reply, Refusal>
+fn call_at<D: Dir>(page: &mut Page, dir: &mut D, request: &Request, spot: Spot, path: &str) -> Reply
     requires active { IsActive (D.shown dir.old).local }
     requires path { is_path path.now ≡ true }
     ensures { IsActive (D.shown dir.new).local }
 {
+    let alloc = page.alloc();
     match request {
-        Request::ListIn(_) => Ok(itemized(items_of(alloc, dir, spot, path))),
-        Request::MakeDirIn(_) => Ok(done(dir.make_dir_in(alloc, spot, path))),
-        Request::MakeFileIn(_) => Ok(done(dir.make_file_in(alloc, spot, path))),
+        Request::ListIn(_) => itemized(items_of(alloc, dir, spot, path)),
+        Request::MakeDirIn(_) => done(dir.make_dir_in(alloc, spot, path)),
+        Request::MakeFileIn(_) => done(dir.make_file_in(alloc, spot, path)),
         Request::AppendIn { piece, .. } => {
-            Ok(done(dir.append_in(alloc, spot, path, piece.as_slice())))
+            done(dir.append_in(alloc, spot, path, piece.as_slice()))
         }
-        Request::ReadIn { at, room, .. } => read(alloc, dir, spot, path, *at, *room),
-        Request::SyncIn(_) => Ok(done(dir.sync_in(alloc, spot, path))),
-        Request::RemoveFileIn(_) => Ok(done(dir.remove_file_in(alloc, spot, path))),
-        _ => Ok(done(dir.remove_dir_in(alloc, spot, path))),
+        Request::ReadIn { at, room, .. } => read(page, dir, spot, path, *at, *room),
+        Request::SyncIn(_) => done(dir.sync_in(alloc, spot, path)),
+        Request::RemoveFileIn(_) => done(dir.remove_file_in(alloc, spot, path)),
+        _ => done(dir.remove_dir_in(alloc, spot, path)),
     }
 }
 
-fn inner_call<D: Dir>(alloc: Global, dir: &mut D, request: &Request) -> Result<Reply, Refusal>
+fn inner_call<D: Dir>(page: &mut Page, dir: &mut D, request: &Request) -> Reply
     requires { IsActive (D.shown dir.old).local }
     ensures { IsActive (D.shown dir.new).local }
 {
     let Some(inner) = inner_of(request) else {
-        return Err(Refusal::Unread(Unread::Line));
+        return unread(page, Unread::Line);
     };
     match path_of(inner.path.as_slice()) {
-        Some(path) => call_at(alloc, dir, request, inner.spot, path),
-        None => Err(Refusal::Unread(Unread::Text)),
+        Some(path) => call_at(page, dir, request, inner.spot, path),
+        None => unread(page, Unread::Text),
     }
 }
 
-fn call<D: Dir>(alloc: Global, dir: &mut D, request: &Request) -> Result<Reply, Refusal>
+fn call<D: Dir>(page: &mut Page, dir: &mut D, request: &Request) -> Reply
     requires { IsActive (D.shown dir.old).local }
     ensures { IsActive (D.shown dir.new).local }
 {
-    match plain_call(alloc, dir, request) {
-        Some(reply) => Ok(reply),
-        None => inner_call(alloc, dir, request),
+    match plain_call(page.alloc(), dir, request) {
+        Some(reply) => reply,
+        None => inner_call(page, dir, request),
     }
 }
 
@@ -218,173 +231,116 @@ fn delete<D: Dir>(alloc: Global, dir: &mut D, spot: Spot) -> Option<Answer>
 }
 
 // Reads a file from its start, at most so many bytes of it.
-fn read_front<D: Dir>(
-    alloc: Global,
-    dir: &mut D,
-    spot: Spot,
-    path: &str,
-    most: usize,
-) -> Result<Reply, Refusal>
+fn read_front<D: Dir>(page: &mut Page, dir: &mut D, spot: Spot, path: &str, most: usize) -> Reply
     requires active { IsActive (D.shown dir.old).local }
     requires path { is_path path.now ≡ true }
     ensures { IsActive (D.shown dir.new).local }
 {
     if most == 0 {
-        return Err(Refusal::Unread(Unread::Number));
+        return unread(page, Unread::Number);
     }
-    match read_file(alloc, dir, spot, path, most) {
-        Ok(Some(bytes)) => Ok(Reply::Read(Bytes::from_vec(bytes))),
-        Ok(None) => Ok(refused(DirError::Missing)),
-        Err(ReadError::DirFault) => Ok(refused(DirError::Failed)),
-        Err(ReadError::NoMemory) => Ok(refused(DirError::NoMemory)),
-    }
-}
-
-fn front_at<D: Dir>(
-    alloc: Global,
-    dir: &mut D,
-    spot: Spot,
-    path: &str,
-    most: u32,
-) -> Result<Reply, Refusal>
-    requires { IsActive (D.shown dir.old).local }
-    ensures { IsActive (D.shown dir.new).local }
-{
-    match path_of(path.as_bytes()) {
-        Some(path) => read_front(alloc, dir, spot, path, most as usize),
-        None => Err(Refusal::Unread(Unread::Text)),
+    match read_file(page.alloc(), dir, spot, path, most) {
+        Ok(Some(bytes)) => Reply::Read(Bytes::from_vec(bytes)),
+        Ok(None) => refused(DirError::Missing),
+        Err(ReadError::DirFault) => refused(DirError::Failed),
+        Err(ReadError::NoMemory) => refused(DirError::NoMemory),
     }
 }
 
-fn spot(names: &ShortNames, line: &mut Line) -> Result<Spot, Refusal> {
+fn spot(page: &mut Page, names: &ShortNames, line: &mut Line) -> Spot {
     let area = line.word();
-    spot_of(area, names.long(line.word()))
+    spot_of(page, area, names.long(line.word()))
 }
 
-fn look_line<D: Dir>(
-    alloc: Global,
-    names: &ShortNames,
-    dir: &mut D,
-    line: &mut Line,
-) -> Result<Reply, Refusal>
+fn look_line<D: Dir>(page: &mut Page, names: &ShortNames, dir: &mut D, line: &mut Line) -> Reply
     requires { IsActive (D.shown dir.old).local }
     ensures { IsActive (D.shown dir.new).local }
 {
-    let spot = spot(names, line)?;
-    let which = which_of(line.word())?;
-    line.end()?;
-    Ok(look(alloc, dir, spot, which))
+    let spot = spot(page, names, line);
+    let which = which_of(page, line.word());
+    line.end(page);
+    look(page.alloc(), dir, spot, which)
 }
 
-fn hold_line<D: Dir>(
-    alloc: Global,
-    names: &ShortNames,
-    dir: &mut D,
-    line: &mut Line,
-) -> Result<Reply, Refusal>
+fn hold_line<D: Dir>(page: &mut Page, names: &ShortNames, dir: &mut D, line: &mut Line) -> Reply
     requires { IsActive (D.shown dir.old).local }
     ensures { IsActive (D.shown dir.new).local }
 {
-    let spot = spot(names, line)?;
-    let which = which_of(line.word())?;
-    let mode = mode_of(line.word())?;
-    line.end()?;
-    Ok(hold(alloc, dir, spot, which, mode))
+    let spot = spot(page, names, line);
+    let which = which_of(page, line.word());
+    let mode = mode_of(page, line.word());
+    line.end(page);
+    hold(page.alloc(), dir, spot, which, mode)
 }
 
-fn hold_area_line<D: Dir>(alloc: Global, dir: &mut D, line: &mut Line) -> Result<Reply, Refusal>
+fn hold_area_line<D: Dir>(page: &mut Page, dir: &mut D, line: &mut Line) -> Reply
     requires { IsActive (D.shown dir.old).local }
     ensures { IsActive (D.shown dir.new).local }
 {
-    let area = area_of(line.word())?;
-    let mode = mode_of(line.word())?;
-    line.end()?;
-    Ok(hold_area(alloc, dir, area, mode))
+    let area = area_of(page, line.word());
+    let mode = mode_of(page, line.word());
+    line.end(page);
+    hold_area(page.alloc(), dir, area, mode)
 }
 
-fn front_line<D: Dir>(
-    alloc: Global,
-    names: &ShortNames,
-    dir: &mut D,
-    line: &mut Line,
-) -> Result<Reply, Refusal>
+fn front_line<D: Dir>(page: &mut Page, names: &ShortNames, dir: &mut D, line: &mut Line) -> Reply
     requires { IsActive (D.shown dir.old).local }
     ensures { IsActive (D.shown dir.new).local }
 {
-    let spot = spot(names, line)?;
+    let spot = spot(page, names, line);
     let path = names.long(line.word());
-    let most = line.short_number()?;
-    line.end()?;
-    front_at(alloc, dir, spot, path, most)
-}
-
-fn delete_line<D: Dir>(
-    alloc: Global,
-    names: &ShortNames,
-    dir: &mut D,
-    line: &mut Line,
-) -> Result<Answer, Refusal>
-    requires { IsActive (D.shown dir.old).local }
-    ensures { IsActive (D.shown dir.new).local }
-{
-    let spot = spot(names, line)?;
-    line.end()?;
-    match delete(alloc, dir, spot) {
-        Some(answer) => Ok(answer),
-        None => Err(Refusal::Unread(Unread::Word)),
+    let most = line.short_number(page);
+    line.end(page);
+    match path_of(path.as_bytes()) {
+        Some(path) => read_front(page, dir, spot, path, most as usize),
+        None => unread(page, Unread::Text),
     }
 }
 
-fn replied(reply: Result<Reply, Refusal>) -> Result<Answer, Refusal> {
-    match reply {
-        Ok(reply) => Ok(Answer::Replied(reply)),
-        Err(refusal) => Err(refusal),
-    }
-}
-
-fn request_line<D: Dir>(
-    alloc: Global,
-    names: &ShortNames,
-    dir: &mut D,
-    text: &str,
-) -> Result<Reply, Refusal>
+fn delete_line<D: Dir>(page: &mut Page, names: &ShortNames, dir: &mut D, line: &mut Line) -> Answer
     requires { IsActive (D.shown dir.old).local }
     ensures { IsActive (D.shown dir.new).local }
 {
-    let request = whole_request(alloc, names, text)?;
-    call(alloc, dir, &request)
+    let spot = spot(page, names, line);
+    line.end(page);
+    match delete(page.alloc(), dir, spot) {
+        Some(answer) => answer,
+        None => Answer::Replied(unread(page, Unread::Word)),
+    }
+}
+
+fn request_line<D: Dir>(page: &mut Page, names: &ShortNames, dir: &mut D, text: &str) -> Reply
+    requires { IsActive (D.shown dir.old).local }
+    ensures { IsActive (D.shown dir.new).local }
+{
+    let request = whole_request(page, names, text);
+    call(page, dir, &request)
 }
 
 /// What a call is answered: one of the requests on folders, areas and paths, or
 /// `look AREA NAME own|claim`, `hold AREA NAME own|claim shared|exclusive`, `hold-area AREA MODE`,
 /// `read-file AREA NAME PATH MOST` or `delete AREA NAME`.
-pub fn answer_to<D: Dir>(
-    alloc: Global,
-    names: &ShortNames,
-    dir: &mut D,
-    text: &str,
-) -> Result<Answer, Refusal>
+pub fn answer_to<D: Dir>(page: &mut Page, names: &ShortNames, dir: &mut D, text: &str) -> Answer
     requires { IsActive (D.shown dir.old).local }
     ensures { IsActive (D.shown dir.new).local }
 {
     let mut line = Line::of(text);
     match line.word() {
-        "look" => replied(look_line(alloc, names, dir, &mut line)),
-        "hold" => replied(hold_line(alloc, names, dir, &mut line)),
-        "hold-area" => replied(hold_area_line(alloc, dir, &mut line)),
-        "read-file" => replied(front_line(alloc, names, dir, &mut line)),
-        "delete" => delete_line(alloc, names, dir, &mut line),
-        _ => replied(request_line(alloc, names, dir, text)),
+        "look" => Answer::Replied(look_line(page, names, dir, &mut line)),
+        "hold" => Answer::Replied(hold_line(page, names, dir, &mut line)),
+        "hold-area" => Answer::Replied(hold_area_line(page, dir, &mut line)),
+        "read-file" => Answer::Replied(front_line(page, names, dir, &mut line)),
+        "delete" => delete_line(page, names, dir, &mut line),
+        _ => Answer::Replied(request_line(page, names, dir, text)),
     }
 }
 
 /// Prints an answer on a line of its own.
-pub fn print_answer(rt: &HostRuntime, names: &ShortNames, answer: &Answer) -> Result<(), Refusal> {
-    print!(rt; "  ")?;
+pub fn print_answer(page: &mut Page, names: &ShortNames, answer: &Answer) {
+    page.put("  ");
     match answer {
-        Answer::Replied(reply) => print_reply(rt, names, reply)?,
-        Answer::Stray => print!(rt; "stray")?,
+        Answer::Replied(reply) => print_reply(page, names, reply),
+        Answer::Stray => page.put("stray"),
     }
-    println!(rt; "")?;
-    Ok(())
+    page.put("\n");
 }

@@ -1,74 +1,74 @@
 // Lives of a pod: its phase and its owner after each step.
 use crate::definitions::add_definition;
-use crate::performed::{Told, print_last_answer, told_after};
-use crate::steps::process_of;
+use crate::performed::{Told, after, of_others, print_last_reply, told_after, told_of};
+use crate::steps::{parted, process_of};
 use dir_trait::PodId;
-use scripts::{Line, Refusal, ShortNames, Unread, phase_text};
-use std::alloc::Global;
+use scripts::{Page, ShortNames, number_of, phase_text};
 
 // How many events the steps but the last came to.
-fn earlier_events(
-    alloc: Global,
-    names: &ShortNames,
-    steps: &[&str],
-    pod: PodId,
-) -> Result<usize, Refusal> {
-    let Some((_last, before)) = steps.split_last() else {
-        return Ok(0);
+fn earlier_events(page: &mut Page, names: &ShortNames, steps: &[&str], pod: PodId) -> usize {
+    let before = match steps.split_last() {
+        Some((_last, before)) => before,
+        None => return 0,
     };
-    let (_told, events) = told_after(alloc, names, before, pod)?;
-    Ok(events)
+    match after(page, names, before, pod) {
+        Some((dir, _found)) => of_others(&dir),
+        None => 0,
+    }
 }
 
 /// Prints the phase and the owner, and behind them what doesn't agree.
-pub fn print_told(rt: &HostRuntime, told: &Told) -> Result<(), Refusal> {
-    print!(rt; "{}", phase_text(told.phase))?;
+pub fn print_told(page: &mut Page, told: &Told) {
+    page.put(phase_text(told.phase));
     if let Some(owner) = told.owner {
-        print!(rt; " of {owner}")?;
+        page.put(" of ");
+        page.tell(&owner);
     }
     if told.found != told.phase {
-        print!(rt; ", but {} is read", phase_text(told.found))?;
+        page.put(", but ");
+        page.put(phase_text(told.found));
+        page.put(" is read");
     }
     if let Some(process) = told.broke {
-        print!(rt; ", and {process} broke a rule")?;
+        page.put(", and ");
+        page.tell(&process);
+        page.put(" broke a rule");
     }
-    Ok(())
 }
 
 /// Prints what the last of the steps is answered, and what is told of the pod after it. A step that isn't
 /// possible leaves no event.
-pub fn print_last(
-    rt: &HostRuntime,
-    names: &ShortNames,
-    steps: &[&str],
-    pod: PodId,
-) -> Result<(), Refusal> {
-    let (told, events) = told_after(rt.alloc(), names, steps, pod)?;
-    if events > earlier_events(rt.alloc(), names, steps, pod)? {
-        print_last_answer(rt, names, steps, pod)?;
+pub fn print_last(page: &mut Page, names: &ShortNames, steps: &[&str], pod: PodId) {
+    let earlier = earlier_events(page, names, steps, pod);
+    let Some((dir, found)) = after(page, names, steps, pod) else {
+        return;
+    };
+    if of_others(&dir) > earlier {
+        print_last_reply(page, names, &dir);
     } else {
-        print!(rt; "not possible")?;
+        page.put("not possible");
     }
-    print!(rt; ": ")?;
-    print_told(rt, &told)?;
-    println!(rt; "")?;
-    Ok(())
+    page.put(": ");
+    let told = told_of(page, &dir, pod, found);
+    print_told(page, &told);
+    page.put("\n");
 }
 
 /// Prints each step of a definition that follows these steps, as `print_last`.
 pub fn show<'a>(
-    rt: &HostRuntime,
+    page: &mut Page,
     names: &ShortNames,
     steps: &mut Vec<&'a str>,
     more: &[&'a str],
     pod: PodId,
-) -> Result<(), Refusal> {
+) {
     for step in more {
-        steps.push(*step)?;
-        print!(rt; "  {step} -> ")?;
-        print_last(rt, names, steps, pod)?;
+        page.push(steps, *step);
+        page.put("  ");
+        page.put(step);
+        page.put(" -> ");
+        print_last(page, names, steps, pod);
     }
-    Ok(())
 }
 
 /// The kill of a process after some of the steps of a definition, and who then comes.
@@ -82,61 +82,53 @@ pub struct Killed<'a> {
 }
 
 /// `KILL after FIRST to LAST of STEPS, then MORE`
-pub fn killed_of(text: &str) -> Result<Killed<'_>, Refusal> {
-    let Some((kill, rest)) = text.split_once(" after ") else {
-        return Err(Refusal::Unread(Unread::Missing));
-    };
-    let Some((range, rest)) = rest.split_once(" of ") else {
-        return Err(Refusal::Unread(Unread::Missing));
-    };
-    let Some((steps, then)) = rest.split_once(", then ") else {
-        return Err(Refusal::Unread(Unread::Missing));
-    };
-    let Some((first, last)) = range.split_once(" to ") else {
-        return Err(Refusal::Unread(Unread::Missing));
-    };
-    let _process = process_of(kill)?;
-    Ok(Killed {
+pub fn killed_of<'a>(page: &mut Page, text: &'a str) -> Killed<'a> {
+    let (kill, rest) = parted(page, text, " after ");
+    let (range, rest) = parted(page, rest, " of ");
+    let (steps, then) = parted(page, rest, ", then ");
+    let (first, last) = parted(page, range, " to ");
+    let _process = process_of(page, kill);
+    Killed {
         kill,
-        first: Line::of(first).number()?,
-        last: Line::of(last).number()?,
+        first: number_of(page, first),
+        last: number_of(page, last),
         steps,
         then,
-    })
+    }
 }
 
 fn print_left<'a>(
-    rt: &HostRuntime,
+    page: &mut Page,
     names: &ShortNames,
     lines: &'a [String],
     killed: &Killed<'a>,
     count: u64,
     pod: PodId,
-) -> Result<(), Refusal> {
-    let mut steps = Vec::new(rt.alloc());
-    add_definition(&mut steps, lines, killed.steps, count)?;
-    steps.push(killed.kill)?;
-    let (left, _events) = told_after(rt.alloc(), names, steps.as_slice(), pod)?;
-    add_definition(&mut steps, lines, killed.then, u64::MAX)?;
-    let (then, _events) = told_after(rt.alloc(), names, steps.as_slice(), pod)?;
-    print!(rt; "  {count}: ")?;
-    print_told(rt, &left)?;
-    print!(rt; ", then ")?;
-    print_told(rt, &then)?;
-    println!(rt; "")?;
-    Ok(())
+) {
+    let mut steps = Vec::new(page.alloc());
+    add_definition(page, &mut steps, lines, killed.steps, count);
+    page.push(&mut steps, killed.kill);
+    page.put("  ");
+    page.tell(&count);
+    page.put(": ");
+    let left = told_after(page, names, steps.as_slice(), pod);
+    print_told(page, &left);
+    add_definition(page, &mut steps, lines, killed.then, u64::MAX);
+    page.put(", then ");
+    let then = told_after(page, names, steps.as_slice(), pod);
+    print_told(page, &then);
+    page.put("\n");
 }
 
 /// Prints what is told of the pod after the kill and after those who then come, for each number of steps.
 pub fn print_killed<'a>(
-    rt: &HostRuntime,
+    page: &mut Page,
     names: &ShortNames,
     lines: &'a [String],
     killed: &Killed<'a>,
     pod: PodId,
-) -> Result<(), Refusal> {
+) {
     for count in killed.first..killed.last.saturating_add(1) {
-        print_left(rt, names, lines, killed, count, pod)?;
+        print_left(page, names, lines, killed, count, pod);
     }
-    Ok(())
 }

@@ -2,128 +2,130 @@
 ghost use Rattle.std.specs.Prelude.{◌≡◌, IfOk};
 ghost use Rattle.dir_trait.specs.Local.{nothing_local, IsActive};
 
-use crate::calls::{Answer, answer_to};
+use crate::calls::{Answer, answer_to, print_answer};
 use crate::definitions::{add_definition, most_of};
 use crate::life::print_told;
 use crate::performed::{phase_found, reading, told_of, with_step};
-use crate::steps::begin_of;
+use crate::steps::{begin_of, parted};
 use dir_memory::MemoryDir;
-use dir_trait::{Area, Dir, Phase, PodId, Reply};
+use dir_trait::{Area, Dir, NoMemory, Phase, PodId, Reply};
 use phase_read::read_phase;
-use scripts::{Line, Refusal, ShortNames, Unread, area_of, print_reply};
+use scripts::{Line, Page, ShortNames, Unread, area_of, number_of, print_reply};
 use std::alloc::Global;
 
 // `CALL, STEP`
-fn planned(text: &str) -> Result<(u64, &str), Refusal> {
-    let Some((call, step)) = text.split_once(", ") else {
-        return Err(Refusal::Unread(Unread::Missing));
-    };
-    Ok((Line::of(call).number()?, step))
-}
-
 fn with_planned(
-    alloc: Global,
+    page: &mut Page,
     names: &ShortNames,
     dir: MemoryDir,
     inside: bool,
     text: &str,
-) -> Result<MemoryDir, Refusal>
+) -> Result<MemoryDir, NoMemory>
     requires { dir.local ≡ nothing_local }
     ensures { IfOk result (λ dir. dir.local ≡ nothing_local) }
 {
-    let (call, step) = planned(text)?;
-    with_step(alloc, names, dir, call, inside, step)
+    let (call, step) = parted(page, text, ", ");
+    let call = number_of(page, call);
+    with_step(page, names, dir, call, inside, step)
 }
 
 fn with_steps(
-    alloc: Global,
+    page: &mut Page,
     names: &ShortNames,
     dir: MemoryDir,
     steps: &[&str],
-) -> Result<MemoryDir, Refusal>
+) -> Result<MemoryDir, NoMemory>
     requires { dir.local ≡ nothing_local }
     ensures { IfOk result (λ dir. dir.local ≡ nothing_local) }
 {
     let mut dir = dir;
     'steps: for step in steps {
-        dir = with_step(alloc, names, dir, 2, false, step)?;
+        dir = with_step(page, names, dir, 2, false, step)?;
     }
     Ok(dir)
 }
 
-// The steps of a definition before the second call: `NAME` or `NAME COUNT`.
+// The steps of a definition: `NAME` or `NAME COUNT`.
+fn steps_of<'a>(page: &mut Page, lines: &'a [String], text: &str) -> Vec<&'a str> {
+    let mut steps = Vec::new(page.alloc());
+    let mut line = Line::of(text);
+    let name = line.word();
+    let most = most_of(page, &mut line);
+    add_definition(page, &mut steps, lines, name, most);
+    steps
+}
+
+// The steps of a definition before the second call.
 fn with_definition(
-    alloc: Global,
+    page: &mut Page,
     names: &ShortNames,
     lines: &[String],
     dir: MemoryDir,
     text: &str,
-) -> Result<MemoryDir, Refusal>
+) -> Result<MemoryDir, NoMemory>
     requires { dir.local ≡ nothing_local }
     ensures { IfOk result (λ dir. dir.local ≡ nothing_local) }
 {
-    let mut steps = Vec::new(alloc);
-    let mut line = Line::of(text);
-    let name = line.word();
-    let most = most_of(&mut line)?;
-    add_definition(&mut steps, lines, name, most)?;
-    with_steps(alloc, names, dir, steps.as_slice())
+    let steps = steps_of(page, lines, text);
+    with_steps(page, names, dir, steps.as_slice())
 }
 
-fn with_failure(alloc: Global, dir: MemoryDir, call: u64) -> Result<MemoryDir, Refusal>
+// A call that fails, or before which the process is killed.
+fn with_break(
+    page: &mut Page,
+    dir: MemoryDir,
+    line: &mut Line,
+    fails: bool,
+) -> Result<MemoryDir, NoMemory>
     requires { dir.local ≡ nothing_local }
     ensures { IfOk result (λ dir. dir.local ≡ nothing_local) }
 {
+    let call = line.number(page);
     if call < 2 {
-        return Err(Refusal::Unread(Unread::Number));
+        page.unread(Unread::Number);
+        return Ok(dir);
     }
-    Ok(dir.fail(alloc, call)?)
-}
-
-fn with_stop(dir: MemoryDir, call: u64) -> Result<MemoryDir, Refusal>
-    requires { dir.local ≡ nothing_local }
-    ensures { IfOk result (λ dir. dir.local ≡ nothing_local) }
-{
-    if call < 2 {
-        return Err(Refusal::Unread(Unread::Number));
+    if fails {
+        dir.fail(page.alloc(), call)
+    } else {
+        Ok(dir.stop(call))
     }
-    Ok(dir.stop(call))
 }
 
 // The folder after a line that says what is met; any other line says nothing of it.
 fn with_line(
-    alloc: Global,
+    page: &mut Page,
     names: &ShortNames,
     lines: &[String],
     dir: MemoryDir,
     text: &str,
-) -> Result<MemoryDir, Refusal>
+) -> Result<MemoryDir, NoMemory>
     requires { dir.local ≡ nothing_local }
     ensures { IfOk result (λ dir. dir.local ≡ nothing_local) }
 {
     let mut line = Line::of(text);
     match line.word() {
-        "do" => with_definition(alloc, names, lines, dir, line.rest()),
-        "before" => with_planned(alloc, names, dir, false, line.rest()),
-        "inside" => with_planned(alloc, names, dir, true, line.rest()),
-        "fail" => with_failure(alloc, dir, line.number()?),
-        "stop" => with_stop(dir, line.number()?),
+        "do" => with_definition(page, names, lines, dir, line.rest()),
+        "before" => with_planned(page, names, dir, false, line.rest()),
+        "inside" => with_planned(page, names, dir, true, line.rest()),
+        "fail" => with_break(page, dir, &mut line, true),
+        "stop" => with_break(page, dir, &mut line, false),
         _ => Ok(dir),
     }
 }
 
-/// The folder that process 1 meets by these lines.
+/// The folder that process 1 meets by these lines. Refused only where memory ran out.
 pub fn met(
-    alloc: Global,
+    page: &mut Page,
     names: &ShortNames,
     lines: &[String],
     block: &[&str],
-) -> Result<MemoryDir, Refusal>
+) -> Result<MemoryDir, NoMemory>
     ensures { IfOk result (λ dir. dir.local ≡ nothing_local) }
 {
-    let mut dir = MemoryDir::new(alloc, 1)?;
+    let mut dir = MemoryDir::new(page.alloc(), 1)?;
     'lines: for text in block {
-        dir = with_line(alloc, names, lines, dir, text)?;
+        dir = with_line(page, names, lines, dir, text)?;
     }
     Ok(dir)
 }
@@ -137,49 +139,58 @@ pub fn is_met(text: &str) -> bool {
 }
 
 // What the last of the calls is answered.
-fn answers<D: Dir>(
-    alloc: Global,
-    names: &ShortNames,
-    dir: &mut D,
-    calls: &[&str],
-) -> Result<Answer, Refusal>
+fn answers<D: Dir>(page: &mut Page, names: &ShortNames, dir: &mut D, calls: &[&str]) -> Answer
     requires { IsActive (D.shown dir.old).local }
 {
     let mut last = Answer::Replied(Reply::Done);
     'calls: for text in calls {
-        last = answer_to(alloc, names, dir, text)?;
+        last = answer_to(page, names, dir, text);
     }
-    Ok(last)
+    last
 }
 
-/// What the last of these calls is answered, of which the first is the begin.
-pub fn last_call(
-    alloc: Global,
+// What the last of the calls behind the begin is answered, and prints it.
+fn print_in(page: &mut Page, names: &ShortNames, dir: MemoryDir, calls: &[&str])
+    requires { dir.local ≡ nothing_local }
+{
+    let mut dir = dir;
+    let Some((begin, calls)) = calls.split_first() else {
+        return page.unread(Unread::Process);
+    };
+    let intent = begin_of(page, names, begin);
+    match dir.begin(page.alloc(), intent) {
+        Ok(()) => {
+            let answer = answers(page, names, &mut dir, calls);
+            print_answer(page, names, &answer);
+        }
+        Err(_) => page.no_memory(),
+    }
+}
+
+/// Prints what the last of these calls is answered, of which the first is the begin.
+pub fn print_last_call(
+    page: &mut Page,
     names: &ShortNames,
     lines: &[String],
     block: &[&str],
     calls: &[&str],
-) -> Result<Answer, Refusal> {
-    let Some((begin, calls)) = calls.split_first() else {
-        return Err(Refusal::Unread(Unread::Process));
-    };
-    let intent = begin_of(alloc, names, begin)?;
-    let mut dir = met(alloc, names, lines, block)?;
-    match dir.begin(alloc, intent) {
-        Ok(()) => answers(alloc, names, &mut dir, calls),
-        Err(_) => Err(Refusal::NoMemory),
+) {
+    match met(page, names, lines, block) {
+        Ok(dir) => print_in(page, names, dir, calls),
+        Err(_) => page.no_memory(),
     }
 }
 
 /// The areas that the words name.
-pub fn areas_of(alloc: Global, text: &str) -> Result<Vec<Area>, Refusal> {
-    let mut areas = Vec::new(alloc);
+pub fn areas_of(page: &mut Page, text: &str) -> Vec<Area> {
+    let mut areas = Vec::new(page.alloc());
     for word in text.split(' ') {
         if !word.is_empty() {
-            areas.push(area_of(word)?)?;
+            let area = area_of(page, word);
+            page.push(&mut areas, area);
         }
     }
-    Ok(areas)
+    areas
 }
 
 // What a listing showed, the history tells.
@@ -215,33 +226,26 @@ fn found_after<D: Dir>(alloc: Global, dir: &mut D, areas: &[Area], pod: PodId) -
     }
 }
 
-fn print_answers(rt: &HostRuntime, names: &ShortNames, dir: &MemoryDir) -> Result<(), Refusal> {
+fn print_answers(page: &mut Page, names: &ShortNames, dir: &MemoryDir) {
     for event in dir.history().as_slice() {
         if event.process == 1 {
-            print!(rt; "  ")?;
-            print_reply(rt, names, &event.reply)?;
-            println!(rt; "")?;
+            page.put("  ");
+            print_reply(page, names, &event.reply);
+            page.put("\n");
         }
     }
-    Ok(())
 }
 
 /// Prints what a reader is answered that lists these areas and then looks for the pod, and what is told of
 /// the pod.
-pub fn find(
-    rt: &HostRuntime,
-    names: &ShortNames,
-    dir: &mut MemoryDir,
-    areas: &[Area],
-    pod: PodId,
-) -> Result<(), Refusal>
-    requires { dir.old.local ≡ nothing_local }
+pub fn find(page: &mut Page, names: &ShortNames, dir: MemoryDir, areas: &[Area], pod: PodId)
+    requires { dir.local ≡ nothing_local }
 {
-    let found = found_after(rt.alloc(), dir, areas, pod);
-    print_answers(rt, names, dir)?;
-    let told = told_of(rt.alloc(), dir, pod, found)?;
-    print!(rt; "  ")?;
-    print_told(rt, &told)?;
-    println!(rt; "")?;
-    Ok(())
+    let mut dir = dir;
+    let found = found_after(page.alloc(), &mut dir, areas, pod);
+    print_answers(page, names, &dir);
+    let told = told_of(page, &dir, pod, found);
+    page.put("  ");
+    print_told(page, &told);
+    page.put("\n");
 }

@@ -8,7 +8,7 @@ use dir_memory::MemoryDir;
 use dir_trait::{Dir, Event, Intent, Kind, NoMemory, Phase, PodId, PodPrefix, Reply, Request};
 use lifecycle::replay;
 use phase_read::{Found, LookError, read_phase};
-use scripts::{Refusal, ShortNames, Unread, print_reply};
+use scripts::{Page, ShortNames, Unread, print_reply};
 use std::alloc::Global;
 
 /// What a reader finds of a pod, what the history says of it, and which process broke a local rule.
@@ -20,42 +20,37 @@ pub struct Told {
     pub broke: Option<u32>,
 }
 
-// Which other process asks for what.
-fn asked_of(alloc: Global, names: &ShortNames, text: &str) -> Result<(u32, Request), Refusal> {
-    let (process, asked) = process_of(text)?;
-    if process == 1 {
-        return Err(Refusal::Unread(Unread::Process));
-    }
-    Ok((process, whole_request(alloc, names, asked)?))
-}
-
 /// The same folder with one step more of another process, before a call of this one or inside it.
 pub fn with_step(
-    alloc: Global,
+    page: &mut Page,
     names: &ShortNames,
     dir: MemoryDir,
     call: u64,
     inside: bool,
     text: &str,
-) -> Result<MemoryDir, Refusal>
+) -> Result<MemoryDir, NoMemory>
     requires { dir.local ≡ nothing_local }
     ensures { IfOk result (λ dir. dir.local ≡ nothing_local) }
 {
-    let (process, request) = asked_of(alloc, names, text)?;
+    let (process, asked) = process_of(page, text);
+    if process == 1 {
+        page.unread(Unread::Process);
+    }
+    let request = whole_request(page, names, asked);
     if inside {
-        Ok(dir.inside(alloc, call, process, request)?)
+        dir.inside(page.alloc(), call, process, request)
     } else {
-        Ok(dir.schedule(alloc, call, process, request)?)
+        dir.schedule(page.alloc(), call, process, request)
     }
 }
 
-/// The folder in which these steps come before the second call of process 1.
-pub fn folder(alloc: Global, names: &ShortNames, steps: &[&str]) -> Result<MemoryDir, Refusal>
+// The folder in which these steps come before the second call of process 1.
+fn folder(page: &mut Page, names: &ShortNames, steps: &[&str]) -> Result<MemoryDir, NoMemory>
     ensures { IfOk result (λ dir. dir.local ≡ nothing_local) }
 {
-    let mut dir = MemoryDir::new(alloc, 1)?;
+    let mut dir = MemoryDir::new(page.alloc(), 1)?;
     'steps: for step in steps {
-        dir = with_step(alloc, names, dir, 2, false, step)?;
+        dir = with_step(page, names, dir, 2, false, step)?;
     }
     Ok(dir)
 }
@@ -92,49 +87,74 @@ fn found<D: Dir>(alloc: Global, dir: &mut D, pod: PodId) -> Option<Phase>
 }
 
 // The first process that broke a rule.
-fn broken(alloc: Global, dir: &MemoryDir) -> Result<Option<u32>, NoMemory> {
+fn broken(page: &mut Page, dir: &MemoryDir) -> Option<u32> {
     let mut broke = None;
     'processes: for process in 1..9 {
-        let keeps = keeps_rules(alloc, dir.history(), process)?;
-        if !keeps && broke.is_none() {
+        let keeps = page.made(keeps_rules(page.alloc(), dir.history(), process));
+        if keeps == Some(false) && broke.is_none() {
             broke = Some(process);
         }
     }
-    Ok(broke)
+    broke
 }
 
 /// What is told of the pod where that was found of it.
-pub fn told_of(
-    alloc: Global,
-    dir: &MemoryDir,
-    pod: PodId,
-    found: Option<Phase>,
-) -> Result<Told, NoMemory> {
-    let broke = broken(alloc, dir)?;
-    let machine = replay(alloc, dir.history())?;
-    Ok(Told {
+pub fn told_of(page: &mut Page, dir: &MemoryDir, pod: PodId, found: Option<Phase>) -> Told {
+    let mut told = Told {
         found,
-        phase: machine.phase(pod),
-        owner: machine.owner(pod),
-        broke,
-    })
+        phase: None,
+        owner: None,
+        broke: broken(page, dir),
+    };
+    if let Some(machine) = page.made(replay(page.alloc(), dir.history())) {
+        told.phase = machine.phase(pod);
+        told.owner = machine.owner(pod);
+    }
+    told
 }
 
-/// What is told of the pod after these steps, and how many events they came to.
-pub fn told_after(
-    alloc: Global,
+/// The folder after these steps, and what a reader then found of the pod. None where memory ran out.
+pub fn after(
+    page: &mut Page,
     names: &ShortNames,
     steps: &[&str],
     pod: PodId,
-) -> Result<(Told, usize), Refusal> {
-    let mut dir = folder(alloc, names, steps)?;
-    let found = found(alloc, &mut dir, pod);
-    let told = told_of(alloc, &dir, pod, found)?;
-    Ok((told, of_others(dir.history().as_slice())))
+) -> Option<(MemoryDir, Option<Phase>)> {
+    match folder(page, names, steps) {
+        Ok(dir) => {
+            let mut dir = dir;
+            let found = found(page.alloc(), &mut dir, pod);
+            Some((dir, found))
+        }
+        Err(_) => {
+            page.no_memory();
+            None
+        }
+    }
 }
 
-fn of_others(events: &[Event]) -> usize {
-    events.iter().filter(|event| event.process != 1).count()
+/// What is told of the pod after these steps.
+pub fn told_after(page: &mut Page, names: &ShortNames, steps: &[&str], pod: PodId) -> Told {
+    match after(page, names, steps, pod) {
+        Some((dir, found)) => told_of(page, &dir, pod, found),
+        None => Told {
+            found: None,
+            phase: None,
+            owner: None,
+            broke: None,
+        },
+    }
+}
+
+/// How many events are of others than process 1.
+pub fn of_others(dir: &MemoryDir) -> usize {
+    let mut count: usize = 0;
+    for event in dir.history().as_slice() {
+        if event.process != 1 {
+            count = count.saturating_add(1);
+        }
+    }
+    count
 }
 
 fn last_reply(events: &[Event]) -> Option<&Reply> {
@@ -147,17 +167,9 @@ fn last_reply(events: &[Event]) -> Option<&Reply> {
     last
 }
 
-/// Prints what the last of these steps is answered.
-pub fn print_last_answer(
-    rt: &HostRuntime,
-    names: &ShortNames,
-    steps: &[&str],
-    pod: PodId,
-) -> Result<(), Refusal> {
-    let mut dir = folder(rt.alloc(), names, steps)?;
-    let _found = found(rt.alloc(), &mut dir, pod);
-    match last_reply(dir.history().as_slice()) {
-        Some(reply) => print_reply(rt, names, reply),
-        None => Ok(()),
+/// Prints what the last step of another process than 1 was answered.
+pub fn print_last_reply(page: &mut Page, names: &ShortNames, dir: &MemoryDir) {
+    if let Some(reply) = last_reply(dir.history().as_slice()) {
+        print_reply(page, names, reply);
     }
 }

@@ -1,14 +1,13 @@
 // The lines of a script of histories.
 use crate::asked::is_asked;
-use crate::calls::print_answer;
 use crate::definitions::definition;
 use crate::life::{killed_of, print_killed, print_last, show};
-use crate::meeting::{areas_of, find, is_met, last_call, met};
+use crate::meeting::{areas_of, find, is_met, met, print_last_call};
 use crate::steps::{event_of, steps_of};
 use crate::told::{keeps, may};
 use crate::walk::{walk_of, walked};
 use dir_trait::PodId;
-use scripts::{Line, Player, Refusal, ShortNames, Unread, block_above, pod_of, says};
+use scripts::{Line, Page, Player, ShortNames, Unread, block_above, pod_of, says};
 use std::alloc::Global;
 
 /// A script of histories, of which nothing is kept from line to line but the short names.
@@ -17,253 +16,242 @@ pub struct Histories {
     names: ShortNames,
 }
 
-fn yes_or_no(answer: bool) -> &'static str {
-    if answer { "yes" } else { "no" }
+// An answer on a line of its own.
+fn print_answer(page: &mut Page, answer: &str) {
+    page.put("  ");
+    page.put(answer);
+    page.put("\n");
 }
 
-fn pod(names: &ShortNames, line: &mut Line) -> Result<PodId, Refusal> {
-    pod_of(names.long(line.word()))
+fn print_yes_or_no(page: &mut Page, answer: bool) {
+    print_answer(page, if answer { "yes" } else { "no" });
+}
+
+fn pod(page: &mut Page, names: &ShortNames, line: &mut Line) -> PodId {
+    pod_of(page, names.long(line.word()))
 }
 
 // The pod of a block `life POD`.
-fn pod_of_life(names: &ShortNames, block: &[&str]) -> Result<PodId, Refusal> {
-    let Some(first) = block.first() else {
-        return Err(Refusal::Unread(Unread::Line));
+fn pod_of_life(page: &mut Page, names: &ShortNames, block: &[&str]) -> PodId {
+    let mut line = match block.first() {
+        Some(first) => Line::of(first),
+        None => Line::of(""),
     };
-    let mut line = Line::of(first);
     let _life = line.word();
-    pod(names, &mut line)
+    pod(page, names, &mut line)
 }
 
 fn print_may<'a>(
-    rt: &HostRuntime,
+    page: &mut Page,
     names: &ShortNames,
     lines: &'a [String],
     block: &[&'a str],
     asked: &'a str,
-) -> Result<(), Refusal> {
-    let mut steps = steps_of(rt.alloc(), lines, block)?;
-    let answer = may(rt.alloc(), names, &mut steps, asked)?;
-    println!(rt; "  {answer}")?;
-    Ok(())
+) {
+    let mut steps = steps_of(page, lines, block);
+    let answer = may(page, names, &mut steps, asked);
+    print_answer(page, answer);
 }
 
 fn print_keeps<'a>(
-    rt: &HostRuntime,
+    page: &mut Page,
     names: &ShortNames,
     lines: &'a [String],
     block: &[&'a str],
     line: &mut Line,
-) -> Result<(), Refusal> {
-    let process = line.short_number()?;
-    line.end()?;
-    let steps = steps_of(rt.alloc(), lines, block)?;
-    let kept = keeps(rt.alloc(), names, steps.as_slice(), process)?;
-    println!(rt; "  {}", yes_or_no(kept))?;
-    Ok(())
+) {
+    let process = line.short_number(page);
+    line.end(page);
+    let steps = steps_of(page, lines, block);
+    let kept = keeps(page, names, steps.as_slice(), process);
+    print_yes_or_no(page, kept);
+}
+
+// Refused where the line says no steps.
+fn check_steps<'a>(page: &mut Page, lines: &'a [String], text: &'a str) {
+    let _steps = steps_of(page, lines, &[text]);
 }
 
 // A line of a block that begins with `told`.
 fn told_line<'a>(
-    rt: &HostRuntime,
+    page: &mut Page,
     names: &ShortNames,
     lines: &'a [String],
     block: &[&'a str],
     text: &'a str,
-) -> Result<(), Refusal> {
+) {
     let mut line = Line::of(text);
     match line.word() {
-        "told" | "do" => {
-            let _steps = steps_of(rt.alloc(), lines, &[text])?;
-            Ok(())
-        }
-        "may" => print_may(rt, names, lines, block, line.rest()),
-        "keeps" => print_keeps(rt, names, lines, block, &mut line),
-        _ => event_line(rt, names, text),
+        "told" | "do" => check_steps(page, lines, text),
+        "may" => print_may(page, names, lines, block, line.rest()),
+        "keeps" => print_keeps(page, names, lines, block, &mut line),
+        _ => event_line(page, names, text),
     }
 }
 
 fn print_step<'a>(
-    rt: &HostRuntime,
+    page: &mut Page,
     names: &ShortNames,
     lines: &'a [String],
     block: &[&'a str],
     text: &'a str,
     pod: PodId,
-) -> Result<(), Refusal> {
-    event_line(rt, names, text)?;
-    let mut steps = steps_of(rt.alloc(), lines, block)?;
-    steps.push(text)?;
-    print!(rt; "  ")?;
-    print_last(rt, names, steps.as_slice(), pod)
+) {
+    event_line(page, names, text);
+    let mut steps = steps_of(page, lines, block);
+    page.push(&mut steps, text);
+    page.put("  ");
+    print_last(page, names, steps.as_slice(), pod);
 }
 
 fn print_shown<'a>(
-    rt: &HostRuntime,
+    page: &mut Page,
     names: &ShortNames,
     lines: &'a [String],
     block: &[&'a str],
     name: &str,
     pod: PodId,
-) -> Result<(), Refusal> {
-    let more = definition(rt.alloc(), lines, name)?;
-    let mut steps = steps_of(rt.alloc(), lines, block)?;
-    show(rt, names, &mut steps, more.as_slice(), pod)
+) {
+    let more = definition(page, lines, name);
+    let mut steps = steps_of(page, lines, block);
+    show(page, names, &mut steps, more.as_slice(), pod);
 }
 
 fn print_kills<'a>(
-    rt: &HostRuntime,
+    page: &mut Page,
     names: &ShortNames,
     lines: &'a [String],
     text: &'a str,
     pod: PodId,
-) -> Result<(), Refusal> {
-    let killed = killed_of(text)?;
-    print_killed(rt, names, lines, &killed, pod)
+) {
+    let killed = killed_of(page, text);
+    print_killed(page, names, lines, &killed, pod);
 }
 
 fn print_walk<'a>(
-    rt: &HostRuntime,
+    page: &mut Page,
     names: &ShortNames,
     lines: &'a [String],
     text: &'a str,
     pod: PodId,
-) -> Result<(), Refusal> {
-    let walk = walk_of(text)?;
-    let pool = definition(rt.alloc(), lines, walk.pool)?;
-    let answer = walked(rt.alloc(), names, &walk, pool.as_slice(), pod)?;
-    println!(rt; "  {answer}")?;
-    Ok(())
+) {
+    let walk = walk_of(page, text);
+    let pool = definition(page, lines, walk.pool);
+    let answer = walked(page, names, &walk, pool.as_slice(), pod);
+    print_answer(page, answer);
 }
 
 // A line of a block that begins with `life`.
 fn life_line<'a>(
-    rt: &HostRuntime,
+    page: &mut Page,
     names: &ShortNames,
     lines: &'a [String],
     block: &[&'a str],
     text: &'a str,
-) -> Result<(), Refusal> {
-    let pod = pod_of_life(names, block)?;
+) {
+    let pod = pod_of_life(page, names, block);
     let mut line = Line::of(text);
     match line.word() {
-        "do" => Ok(()),
-        "show" => print_shown(rt, names, lines, block, line.rest(), pod),
-        "killed" => print_kills(rt, names, lines, line.rest(), pod),
-        "walk" => print_walk(rt, names, lines, line.rest(), pod),
-        _ => print_step(rt, names, lines, block, text, pod),
+        "do" => (),
+        "show" => print_shown(page, names, lines, block, line.rest(), pod),
+        "killed" => print_kills(page, names, lines, line.rest(), pod),
+        "walk" => print_walk(page, names, lines, line.rest(), pod),
+        _ => print_step(page, names, lines, block, text, pod),
     }
 }
 
 fn print_found(
-    rt: &HostRuntime,
+    page: &mut Page,
     names: &ShortNames,
     lines: &[String],
     block: &[&str],
     line: &mut Line,
-) -> Result<(), Refusal> {
-    let pod = pod(names, line)?;
-    let areas = areas_of(rt.alloc(), line.rest())?;
-    let mut dir = met(rt.alloc(), names, lines, block)?;
-    find(rt, names, &mut dir, areas.as_slice(), pod)
+) {
+    let pod = pod(page, names, line);
+    let areas = areas_of(page, line.rest());
+    match met(page, names, lines, block) {
+        Ok(dir) => find(page, names, dir, areas.as_slice(), pod),
+        Err(_) => page.no_memory(),
+    }
 }
 
-// The calls of process 1 among the lines of a block, the begin first.
-fn calls_of<'a>(alloc: Global, block: &[&'a str]) -> Result<Vec<&'a str>, Refusal> {
-    let mut calls = Vec::new(alloc);
+// The calls of process 1 among the lines of a block, the begin first, and then that.
+fn calls_of<'a>(page: &mut Page, block: &[&'a str], last: &'a str) -> Vec<&'a str> {
+    let mut calls = Vec::new(page.alloc());
     for text in block.iter().skip(1) {
         if !is_met(text) {
-            calls.push(*text)?;
+            page.push(&mut calls, *text);
         }
     }
-    Ok(calls)
+    page.push(&mut calls, last);
+    calls
 }
 
-fn print_call<'a>(
-    rt: &HostRuntime,
-    names: &ShortNames,
-    lines: &'a [String],
-    block: &[&'a str],
-    text: &'a str,
-) -> Result<(), Refusal> {
-    let mut calls = calls_of(rt.alloc(), block)?;
-    calls.push(text)?;
-    let answer = last_call(rt.alloc(), names, lines, block, calls.as_slice())?;
-    print_answer(rt, names, &answer)
+// Refused where the line says nothing that may be met.
+fn check_met(page: &mut Page, names: &ShortNames, lines: &[String], text: &str) {
+    if met(page, names, lines, &[text]).is_err() {
+        page.no_memory();
+    }
 }
 
 // A line of a block that begins with `calls`.
 fn calls_line<'a>(
-    rt: &HostRuntime,
+    page: &mut Page,
     names: &ShortNames,
     lines: &'a [String],
     block: &[&'a str],
     text: &'a str,
-) -> Result<(), Refusal> {
-    if is_met(text) {
-        let _dir = met(rt.alloc(), names, lines, &[text])?;
-        return Ok(());
-    }
+) {
     let mut line = Line::of(text);
     match line.word() {
-        "find" => print_found(rt, names, lines, block, &mut line),
-        _ => print_call(rt, names, lines, block, text),
+        "find" => print_found(page, names, lines, block, &mut line),
+        _ if is_met(text) => check_met(page, names, lines, text),
+        _ => {
+            let calls = calls_of(page, block, text);
+            print_last_call(page, names, lines, block, calls.as_slice());
+        }
     }
 }
 
-fn print_asked(rt: &HostRuntime, names: &ShortNames, text: &str) -> Result<(), Refusal> {
-    let asked = is_asked(rt.alloc(), names, text)?;
-    println!(rt; "  {}", yes_or_no(asked))?;
-    Ok(())
+fn print_asked(page: &mut Page, names: &ShortNames, text: &str) {
+    let asked = is_asked(page, names, text);
+    print_yes_or_no(page, asked);
+}
+
+fn check_life(page: &mut Page, names: &ShortNames, line: &mut Line) {
+    let _pod = pod(page, names, line);
+    line.end(page);
 }
 
 // A line that begins a block.
-fn first_line(
-    rt: &HostRuntime,
-    names: &ShortNames,
-    lines: &[String],
-    text: &str,
-) -> Result<(), Refusal> {
+fn first_line(page: &mut Page, names: &ShortNames, lines: &[String], text: &str) {
     let mut line = Line::of(text);
     match line.word() {
-        "define" => Ok(()),
-        "told" => {
-            let _steps = steps_of(rt.alloc(), lines, &[text])?;
-            Ok(())
-        }
-        "life" => {
-            let _pod = pod(names, &mut line)?;
-            line.end()
-        }
-        "calls" => line.end(),
-        "asked" => print_asked(rt, names, line.rest()),
-        _ => Err(Refusal::Unread(Unread::Line)),
+        "define" => (),
+        "told" => check_steps(page, lines, text),
+        "life" => check_life(page, names, &mut line),
+        "calls" => line.end(page),
+        "asked" => print_asked(page, names, line.rest()),
+        _ => page.unread(Unread::Line),
     }
 }
 
-fn event_line(rt: &HostRuntime, names: &ShortNames, text: &str) -> Result<(), Refusal> {
-    let _event = event_of(rt.alloc(), names, text)?;
-    Ok(())
+fn event_line(page: &mut Page, names: &ShortNames, text: &str) {
+    let _event = event_of(page, names, text);
 }
 
-fn said<'a>(
-    rt: &HostRuntime,
-    names: &ShortNames,
-    lines: &'a [String],
-    place: usize,
-    text: &'a str,
-) -> Result<(), Refusal> {
-    let block = block_above(rt.alloc(), lines, place)?;
+fn said<'a>(page: &mut Page, names: &ShortNames, lines: &'a [String], place: usize, text: &'a str) {
+    let block = block_above(page, lines, place);
     let block = block.as_slice();
     let Some(first) = block.first() else {
-        return first_line(rt, names, lines, text);
+        return first_line(page, names, lines, text);
     };
     match Line::of(first).word() {
-        "define" => event_line(rt, names, text),
-        "told" => told_line(rt, names, lines, block, text),
-        "life" => life_line(rt, names, lines, block, text),
-        "calls" => calls_line(rt, names, lines, block, text),
-        _ => first_line(rt, names, lines, text),
+        "define" => event_line(page, names, text),
+        "told" => told_line(page, names, lines, block, text),
+        "life" => life_line(page, names, lines, block, text),
+        "calls" => calls_line(page, names, lines, block, text),
+        _ => first_line(page, names, lines, text),
     }
 }
 
@@ -277,17 +265,18 @@ impl Histories {
 }
 
 impl Player for Histories {
-    fn play(&mut self, rt: &HostRuntime, lines: &[String], place: usize) -> Result<(), Refusal> {
+    fn play(&mut self, page: &mut Page, lines: &[String], place: usize) {
         let Some(text) = lines.get(place) else {
-            return Ok(());
+            return;
         };
         let text = text.as_str();
         if !says(text) {
-            return Ok(());
+            return;
         }
         if text.contains(" = ") {
-            return self.names.define(rt.alloc(), text);
+            self.names.define(page, text);
+        } else {
+            said(page, &self.names, lines, place, text);
         }
-        said(rt, &self.names, lines, place, text)
     }
 }

@@ -9,11 +9,10 @@ mod replies;
 mod requests;
 mod signatures;
 
-use crate::answers::{answer, reply_answer};
+use crate::answers::answer;
 use crate::pods::{ServedPod, served_pod};
-use scripts::{Player, Refusal, play_all};
-use short_texts::{NoAnswer, TextNames, print_answer};
-use std::alloc::Global;
+use scripts::{Page, Player, play_all};
+use short_texts::{TextNames, print_answer};
 use std::process::ExitCode;
 
 /// The names that the script has given so far, and the pod of its block.
@@ -25,37 +24,29 @@ struct MetadataVectors {
 
 impl MetadataVectors {
     // What a line sets up; false where it is a call.
-    fn set_up(&mut self, alloc: Global, line: &str) -> Result<bool, NoAnswer> {
+    fn set_up(&mut self, page: &mut Page, line: &str) -> bool {
         match line.split_once(' ') {
             None if line.is_empty() => self.pod = None,
-            None => return Ok(line == "#"),
+            None => return line == "#",
             Some(("#", _)) => (),
-            Some(("let", rest)) => self.names.define(alloc, rest)?,
-            Some(("pod", rest)) => self.pod = Some(served_pod(alloc, &self.names, rest)?),
-            Some(_) => return Ok(false),
+            Some(("let", rest)) => self.names.define(page, rest),
+            Some(("pod", rest)) => self.pod = served_pod(page, &self.names, rest),
+            Some(_) => return false,
         }
-        Ok(true)
-    }
-
-    fn answer(&self, alloc: Global, line: &str) -> Result<String, NoAnswer> {
-        match line.split_once(' ') {
-            Some(("reply", rest)) => reply_answer(alloc, &self.names, &self.pod, rest),
-            _ => answer(alloc, &self.names, line),
-        }
+        true
     }
 }
 
 impl Player for MetadataVectors {
-    fn play(&mut self, rt: &HostRuntime, lines: &[String], place: usize) -> Result<(), Refusal> {
+    fn play(&mut self, page: &mut Page, lines: &[String], place: usize) {
         let line = match lines.get(place) {
             Some(line) => line.as_str(),
             None => "",
         };
-        if self.set_up(rt.alloc(), line)? {
-            return Ok(());
+        if !self.set_up(page, line) {
+            answer(page, &self.names, &self.pod, line);
+            print_answer(page, &self.names);
         }
-        let answer = self.answer(rt.alloc(), line)?;
-        print_answer(rt, &self.names, answer.as_str())
     }
 }
 

@@ -1,7 +1,6 @@
 // Images as lines of a script say them.
-use scripts::Unread;
-use short_texts::{NoAnswer, TextNames, add, add_all, copied};
-use std::alloc::Global;
+use scripts::{Page, Unread, number_of};
+use short_texts::TextNames;
 
 /// An image as texts: what its ID and its key are made of, when it was imported, its manifest, and its own
 /// entries, as letters and paths between commas or as a listing.
@@ -19,10 +18,13 @@ const KEYS: [&str; 7] = [
 ];
 
 fn is_known(word: &str) -> bool {
-    match word.split_once('=') {
-        Some((key, _)) => KEYS.iter().any(|known| *known == key),
-        None => false,
+    let (key, _) = word.split_once('=').unwrap_or(("", ""));
+    for known in KEYS {
+        if known == key {
+            return true;
+        }
     }
+    false
 }
 
 // The value of a key among words `KEY=VALUE`; the empty text where it isn't there.
@@ -37,149 +39,120 @@ fn value_of<'a>(words: &'a [String], key: &str) -> &'a str {
     ""
 }
 
-fn add_between(text: &mut String, item: &str, before: &str, behind: &str) -> Result<(), NoAnswer> {
-    add_all(text, &[before, item, behind])
-}
-
 // Each element of a list between two texts.
-fn each_between(alloc: Global, list: &str, before: &str, behind: &str) -> Result<String, NoAnswer> {
-    let mut text = String::new(alloc);
+fn put_each(page: &mut Page, list: &str, before: &str, behind: &str) {
     if list.is_empty() {
-        return Ok(text);
+        return;
     }
     for (place, item) in list.split(',').enumerate() {
-        if place > 0 {
-            text.push(',')?;
-        }
-        add_between(&mut text, item, before, behind)?;
+        page.put_all(&[if place > 0 { "," } else { "" }, before, item, behind]);
     }
-    Ok(text)
 }
 
 // The manifest of an image of that name, or the JSON that stands in place of it.
-fn manifest_text(alloc: Global, name: &str, words: &[String]) -> Result<String, NoAnswer> {
+fn manifest_text(page: &mut Page, name: &str, words: &[String]) -> String {
     if name.starts_with('{') {
-        return copied(alloc, name);
+        return page.text(name);
     }
+    page.put("{\"acKind\":\"ImageManifest\",\"acVersion\":\"0.8.0\",\"name\":\"");
+    page.put_all(&[name, "\",\"labels\":["]);
     let version = value_of(words, "version");
-    let labels = each_between(alloc, version, "{\"name\":\"version\",\"value\":\"", "\"}")?;
-    let needs = each_between(alloc, value_of(words, "needs"), "{\"imageName\":\"", "\"}")?;
-    let keeps = each_between(alloc, value_of(words, "keeps"), "\"", "\"")?;
-    Ok([
-        "{\"acKind\":\"ImageManifest\",\"acVersion\":\"0.8.0\",\"name\":\"",
-        name,
-        "\",\"labels\":[",
-        labels.as_str(),
-        "],\"dependencies\":[",
-        needs.as_str(),
-        "],\"pathWhitelist\":[",
-        keeps.as_str(),
-        "]}",
-    ]
-    .concat(alloc)?)
+    put_each(page, version, "{\"name\":\"version\",\"value\":\"", "\"}");
+    page.put("],\"dependencies\":[");
+    put_each(page, value_of(words, "needs"), "{\"imageName\":\"", "\"}");
+    page.put("],\"pathWhitelist\":[");
+    put_each(page, value_of(words, "keeps"), "\"", "\"");
+    page.put("]}");
+    page.take()
 }
 
 // So many files, numbered from 0.
-fn files_text(alloc: Global, count: u32) -> Result<String, NoAnswer> {
-    let mut text = String::new(alloc);
+fn files_text(page: &mut Page, count: u64) -> String {
     for number in 0..count {
-        add_all(&mut text, &[if number == 0 { "f/f" } else { ",f/f" }])?;
-        add(alloc, &mut text, &number)?;
+        page.put(if number == 0 { "f/f" } else { ",f/f" });
+        page.tell(&number);
     }
-    Ok(text)
+    page.take()
 }
 
-fn own_text(alloc: Global, words: &[String]) -> Result<String, NoAnswer> {
+fn own_text(page: &mut Page, words: &[String]) -> String {
     let files = value_of(words, "files");
     if files.is_empty() {
-        return copied(alloc, value_of(words, "own"));
+        return page.text(value_of(words, "own"));
     }
-    match files.parse::<u32>() {
-        Ok(count) => files_text(alloc, count),
-        Err(_) => Err(NoAnswer::Unread(Unread::Number)),
-    }
+    let count = number_of(page, files);
+    files_text(page, count)
 }
 
-fn moment_of(words: &[String]) -> Result<u64, NoAnswer> {
+fn moment_of(page: &mut Page, words: &[String]) -> u64 {
     let moment = value_of(words, "moment");
     if moment.is_empty() {
-        return Ok(0);
+        return 0;
     }
-    match moment.parse::<u64>() {
-        Ok(moment) => Ok(moment),
-        Err(_) => Err(NoAnswer::Unread(Unread::Number)),
+    number_of(page, moment)
+}
+
+fn check_words(page: &mut Page, words: &[String]) {
+    for word in words {
+        if !is_known(word.as_str()) {
+            page.unread(Unread::Word);
+        }
     }
 }
 
-fn image_of(alloc: Global, byte: u8, name: &str, words: &[String]) -> Result<ImageText, NoAnswer> {
-    if !words.iter().all(|word| is_known(word.as_str())) {
-        return Err(NoAnswer::Unread(Unread::Word));
-    }
-    let moment = moment_of(words)?;
-    let manifest = manifest_text(alloc, name, words)?;
-    let own = own_text(alloc, words)?;
-    let tree = String::from_str(alloc, value_of(words, "tree"))?;
-    Ok(ImageText {
+fn image_of(page: &mut Page, byte: u8, name: &str, words: &[String]) -> ImageText {
+    check_words(page, words);
+    ImageText {
         byte,
-        moment,
-        manifest,
-        own,
-        tree,
-    })
+        moment: moment_of(page, words),
+        manifest: manifest_text(page, name, words),
+        own: own_text(page, words),
+        tree: page.text(value_of(words, "tree")),
+    }
 }
 
 /// `image BYTE NAME|MANIFEST [version=V] [moment=N] [needs=NAME,..] [keeps=PATH,..] [own=ENTRY,..] [files=N]
 /// [tree=LISTING]`: one more image of the block, whose ID and key are that byte, of two hexadecimal digits,
 /// again and again.
-pub fn add_image(
-    alloc: Global,
-    names: &TextNames,
-    images: &mut Vec<ImageText>,
-    rest: &str,
-) -> Result<(), NoAnswer> {
-    let words = names.words_of(alloc, rest)?;
+pub fn add_image(page: &mut Page, names: &TextNames, images: &mut Vec<ImageText>, rest: &str) {
+    let words = names.words_of(page, rest);
     let [byte, name, parts @ ..] = words.as_slice() else {
-        return Err(NoAnswer::Unread(Unread::Missing));
+        return page.unread(Unread::Missing);
     };
-    match u8::from_str_radix(byte.as_str(), 16) {
-        Ok(byte) => Ok(images.push(image_of(alloc, byte, name.as_str(), parts)?)?),
-        Err(_) => Err(NoAnswer::Unread(Unread::Number)),
+    if let Some(byte) = page.read(u8::from_str_radix(byte.as_str(), 16), Unread::Number) {
+        let image = image_of(page, byte, name.as_str(), parts);
+        page.push(images, image);
     }
 }
 
-// The text, with a number in place of each `#`, and the next one in place of each `%`.
-fn numbered(alloc: Global, text: &str, number: u8) -> Result<String, NoAnswer> {
+// An image of the text, with a number in place of each `#`, and the next one in place of each `%` and as the
+// byte.
+fn numbered(page: &mut Page, text: &str, number: u8) -> String {
     let next = number.saturating_add(1);
-    let mut whole = String::new(alloc);
+    page.put_byte(next);
+    page.put(" ");
     for character in text.chars() {
         match character {
-            '#' => add(alloc, &mut whole, &number)?,
-            '%' => add(alloc, &mut whole, &next)?,
-            _ => whole.push(character)?,
+            '#' => page.tell(&number),
+            '%' => page.tell(&next),
+            _ => page.tell(&character),
         }
     }
-    Ok(whole)
+    page.take()
 }
 
 /// `images COUNT NAME|MANIFEST [PART ..]`: so many images, with a number from 0 on in place of `#`, the next one
 /// in place of `%`, and that next number as the byte of the ID.
 pub fn add_numbered_images(
-    alloc: Global,
+    page: &mut Page,
     names: &TextNames,
     images: &mut Vec<ImageText>,
     rest: &str,
-) -> Result<(), NoAnswer> {
-    let Some((count, image)) = rest.split_once(' ') else {
-        return Err(NoAnswer::Unread(Unread::Missing));
-    };
-    let Ok(count) = count.parse::<u8>() else {
-        return Err(NoAnswer::Unread(Unread::Number));
-    };
+) {
+    let (count, image) = rest.split_once(' ').unwrap_or(("", ""));
+    let count = page.read(count.parse::<u8>(), Unread::Number).unwrap_or(0);
     for number in 0..count {
-        let text = numbered(alloc, image, number)?;
-        let byte = number.saturating_add(1);
-        let line = format!(in alloc; "{byte:02x} {}", text.as_str())?;
-        add_image(alloc, names, images, line.as_str())?;
+        let line = numbered(page, image, number);
+        add_image(page, names, images, line.as_str());
     }
-    Ok(())
 }

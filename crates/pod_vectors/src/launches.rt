@@ -3,83 +3,74 @@ use crate::images::map_of_listing;
 use launch::{AppLaunch, LaunchError, app_launch};
 use manifests::{PodManifest, RuntimeApp, read_pod};
 use path_map::PathMap;
-use scripts::Unread;
-use short_texts::{NoAnswer, add_all, joined};
+use scripts::{Page, Unread};
 use spawner::Words;
-use std::alloc::Global;
 
 const ADDRESS: &str = "127.0.0.1:18112";
 
 const TOKEN: &str = "11111111111111111111111111111111";
 
-fn pod_of(alloc: Global, text: &str) -> Result<PodManifest, NoAnswer> {
-    match read_pod(alloc, text.as_bytes()) {
-        Ok(pod) => Ok(pod),
-        Err(_) => Err(NoAnswer::Unread(Unread::Text)),
-    }
+fn pod_of(page: &mut Page, text: &str) -> Option<PodManifest> {
+    page.read(read_pod(page.alloc(), text.as_bytes()), Unread::Text)
 }
 
-fn add_words(text: &mut String, title: &str, words: &Words) -> Result<(), NoAnswer> {
-    add_all(text, &[title])?;
+fn put_words(page: &mut Page, title: &str, words: &Words) {
+    page.put(title);
     for place in 0..words.len() {
-        add_all(text, &[" ", words.get(place).unwrap_or("")])?;
+        page.put_all(&[" ", words.get(place).unwrap_or("")]);
     }
-    add_all(text, &["\n"])
+    page.put("\n");
 }
 
-fn add_handler(text: &mut String, title: &str, words: &Option<Words>) -> Result<(), NoAnswer> {
-    match words {
-        Some(words) => add_words(text, title, words),
-        None => Ok(()),
+fn put_handler(page: &mut Page, title: &str, words: &Option<Words>) {
+    if let Some(words) = words {
+        put_words(page, title, words);
     }
 }
 
-fn programs_text(alloc: Global, launch: &AppLaunch) -> Result<String, NoAnswer> {
-    let mut text = String::new(alloc);
-    add_handler(&mut text, "before", &launch.pre_start)?;
-    add_words(&mut text, "app", &launch.main)?;
-    add_handler(&mut text, "after", &launch.post_stop)?;
-    add_all(&mut text, &["in ", launch.directory.as_str()])?;
-    Ok(text)
+fn put_programs(page: &mut Page, launch: &AppLaunch) {
+    put_handler(page, "before", &launch.pre_start);
+    put_words(page, "app", &launch.main);
+    put_handler(page, "after", &launch.post_stop);
+    page.put_all(&["in ", launch.directory.as_str()]);
 }
 
-fn variables_text(alloc: Global, launch: &AppLaunch) -> Result<String, NoAnswer> {
-    let mut text = String::new(alloc);
-    for place in 0..launch.environment.len() {
-        add_all(
-            &mut text,
-            &[launch.environment.get(place).unwrap_or(""), "\n"],
-        )?;
+fn put_variables(page: &mut Page, variables: &Words) {
+    for place in 0..variables.len() {
+        page.put_all(&[variables.get(place).unwrap_or(""), "\n"]);
     }
-    Ok(text)
 }
 
-fn app_answer(
-    alloc: Global,
-    app: &RuntimeApp,
-    tree: &PathMap,
-    variables: bool,
-) -> Result<String, NoAnswer> {
-    match app_launch(alloc, app, tree, ADDRESS, TOKEN) {
-        Ok(launch) if variables => variables_text(alloc, &launch),
-        Ok(launch) => programs_text(alloc, &launch),
+fn put_launch(page: &mut Page, launch: &AppLaunch, variables: bool) {
+    if variables {
+        put_variables(page, &launch.environment);
+    } else {
+        put_programs(page, launch);
+    }
+}
+
+fn app_answer(page: &mut Page, app: &RuntimeApp, tree: &PathMap, variables: bool) {
+    match app_launch(page.alloc(), app, tree, ADDRESS, TOKEN) {
+        Ok(launch) => put_launch(page, &launch, variables),
         Err(LaunchError::NoProgram(word)) => {
-            joined(alloc, &["no program \"", word.as_str(), "\""])
+            page.put_all(&["no program \"", word.as_str(), "\""]);
         }
-        Err(LaunchError::NoMemory) => Err(NoAnswer::NoMemory),
+        Err(LaunchError::NoMemory) => page.no_memory(),
     }
 }
 
 /// `launch ROOT POD`: the words that the programs of a pod's first app start with in the root of that listing,
 /// and its directory, or the word that names no program. `environment ROOT POD`: its variables.
-pub fn launch_answer(alloc: Global, words: &[String], variables: bool) -> Result<String, NoAnswer> {
+pub fn launch_answer(page: &mut Page, words: &[String], variables: bool) {
     let [root, pod] = words else {
-        return Err(NoAnswer::Unread(Unread::Missing));
+        return page.unread(Unread::Missing);
     };
-    let tree = map_of_listing(alloc, root.as_str())?;
-    let pod = pod_of(alloc, pod.as_str())?;
+    let Some(pod) = pod_of(page, pod.as_str()) else {
+        return;
+    };
+    let tree = map_of_listing(page, root.as_str());
     match pod.apps.as_slice().first() {
-        Some(app) => app_answer(alloc, app, &tree, variables),
-        None => Err(NoAnswer::Unread(Unread::Missing)),
+        Some(app) => app_answer(page, app, &tree, variables),
+        None => page.unread(Unread::Missing),
     }
 }

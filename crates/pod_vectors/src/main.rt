@@ -16,9 +16,8 @@ mod wishes;
 
 use crate::answers::answer;
 use crate::image_texts::{ImageText, add_image, add_numbered_images};
-use scripts::{Player, Refusal, play_all};
-use short_texts::{NoAnswer, TextNames, print_answer};
-use std::alloc::Global;
+use scripts::{Page, Player, play_all};
+use short_texts::{TextNames, print_answer};
 use std::process::ExitCode;
 
 /// The names that the script has given so far, and the images of its block.
@@ -30,33 +29,32 @@ struct PodVectors {
 
 impl PodVectors {
     // What a line sets up; false where it is a call.
-    fn set_up(&mut self, alloc: Global, line: &str) -> Result<bool, NoAnswer> {
+    fn set_up(&mut self, page: &mut Page, line: &str) -> bool {
         match line.split_once(' ') {
             None if line.is_empty() => self.images.clear(),
-            None => return Ok(line == "#"),
+            None => return line == "#",
             Some(("#", _)) => (),
-            Some(("let", rest)) => self.names.define(alloc, rest)?,
-            Some(("image", rest)) => add_image(alloc, &self.names, &mut self.images, rest)?,
+            Some(("let", rest)) => self.names.define(page, rest),
+            Some(("image", rest)) => add_image(page, &self.names, &mut self.images, rest),
             Some(("images", rest)) => {
-                add_numbered_images(alloc, &self.names, &mut self.images, rest)?;
+                add_numbered_images(page, &self.names, &mut self.images, rest);
             }
-            Some(_) => return Ok(false),
+            Some(_) => return false,
         }
-        Ok(true)
+        true
     }
 }
 
 impl Player for PodVectors {
-    fn play(&mut self, rt: &HostRuntime, lines: &[String], place: usize) -> Result<(), Refusal> {
+    fn play(&mut self, page: &mut Page, lines: &[String], place: usize) {
         let line = match lines.get(place) {
             Some(line) => line.as_str(),
             None => "",
         };
-        if self.set_up(rt.alloc(), line)? {
-            return Ok(());
+        if !self.set_up(page, line) {
+            answer(page, &self.names, self.images.as_slice(), line);
+            print_answer(page, &self.names);
         }
-        let answer = answer(rt.alloc(), &self.names, self.images.as_slice(), line)?;
-        print_answer(rt, &self.names, answer.as_str())
     }
 }
 

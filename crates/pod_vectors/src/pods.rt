@@ -7,7 +7,7 @@ use dep_match::Stored;
 use manifest_writing::pod_bytes;
 use manifests::PodManifest;
 use pod_manifest::{GenError, Options, generate};
-use short_texts::{NoAnswer, add_all, text_from, told_both};
+use scripts::Page;
 use std::alloc::Global;
 
 // What comes of the images at some places, by a copy of the wishes.
@@ -23,77 +23,58 @@ fn generated(
 }
 
 fn pod_of(
-    alloc: Global,
+    page: &mut Page,
     images: &[ImageText],
     words: &[String],
-) -> Result<Result<PodManifest, GenError>, NoAnswer> {
-    let picks = picks_of(alloc, words)?;
-    let options = options_of(alloc, words)?;
-    let list = stored_images(alloc, images)?;
-    Ok(generated(alloc, list.as_slice(), picks.as_slice(), &options))
+) -> Result<PodManifest, GenError> {
+    let Some(options) = options_of(page, words) else {
+        return Err(GenError::from(NoMemory));
+    };
+    let picks = picks_of(page, words);
+    let list = stored_images(page, images);
+    generated(page.alloc(), list.as_slice(), picks.as_slice(), &options)
 }
 
-fn error_text(alloc: Global, error: &GenError) -> Result<String, NoAnswer> {
-    let copy = error.copy()?;
-    let number = copy.number().unwrap_or(0);
-    told_both(alloc, &number, &copy)
+fn print_error(page: &mut Page, error: &GenError) {
+    if let Some(copy) = page.made(error.copy()) {
+        page.tell_both(&copy.number().unwrap_or(0), &copy);
+    }
 }
 
-fn written(alloc: Global, pod: &PodManifest) -> Result<String, NoAnswer> {
-    text_from(pod_bytes(alloc, pod)?)
+fn print_written(page: &mut Page, pod: &PodManifest) {
+    if let Some(bytes) = page.made(pod_bytes(page.alloc(), pod)) {
+        page.put_bytes(bytes.as_slice());
+    }
+}
+
+fn print_names(page: &mut Page, pod: &PodManifest) {
+    for app in pod.apps.as_slice() {
+        page.put_all(&["app ", app.name.as_str(), "\n"]);
+    }
+    for volume in pod.volumes.as_slice() {
+        page.put_all(&["volume ", volume.name.as_str(), "\n"]);
+    }
+}
+
+fn print_pod(page: &mut Page, call: &str, pod: &PodManifest) {
+    match call {
+        "pod-names" => print_names(page, pod),
+        "pod-size" => page.tell_both(&pod.apps.len(), &"apps"),
+        _ => print_written(page, pod),
+    }
 }
 
 /// `pod PLACE .. [volume:NAME[:SOURCE] ..] [mount:VOLUME:PATH ..]`: the bytes of the manifest of a pod of the
 /// images at these places, or the first reason why there is none. `3^65` is 65 times the place 3, and `0..64` are
-/// the places below 64.
-pub fn pod_answer(
-    alloc: Global,
-    images: &[ImageText],
-    words: &[String],
-) -> Result<String, NoAnswer> {
-    match pod_of(alloc, images, words)? {
-        Ok(pod) => written(alloc, &pod),
-        Err(error) => error_text(alloc, &error),
-    }
-}
-
-fn names_text(alloc: Global, pod: &PodManifest) -> Result<String, NoAnswer> {
-    let mut text = String::new(alloc);
-    for app in pod.apps.as_slice() {
-        add_all(&mut text, &["app ", app.name.as_str(), "\n"])?;
-    }
-    for volume in pod.volumes.as_slice() {
-        add_all(&mut text, &["volume ", volume.name.as_str(), "\n"])?;
-    }
-    Ok(text)
-}
-
-/// `pod-names`: the names of that pod's apps and volumes.
-pub fn names_answer(
-    alloc: Global,
-    images: &[ImageText],
-    words: &[String],
-) -> Result<String, NoAnswer> {
-    match pod_of(alloc, images, words)? {
-        Ok(pod) => names_text(alloc, &pod),
-        Err(error) => error_text(alloc, &error),
-    }
-}
-
-/// `pod-size`: how many apps that pod has.
-pub fn size_answer(
-    alloc: Global,
-    images: &[ImageText],
-    words: &[String],
-) -> Result<String, NoAnswer> {
-    match pod_of(alloc, images, words)? {
-        Ok(pod) => told_both(alloc, &pod.apps.len(), &"apps"),
-        Err(error) => error_text(alloc, &error),
+/// the places below 64. `pod-names`: the names of that pod's apps and volumes. `pod-size`: how many apps it has.
+pub fn pod_answer(page: &mut Page, images: &[ImageText], call: &str, words: &[String]) {
+    match pod_of(page, images, words) {
+        Ok(pod) => print_pod(page, call, &pod),
+        Err(error) => print_error(page, &error),
     }
 }
 
 /// The number of want of memory, which there is none.
-pub fn no_memory_number() -> Result<Option<u8>, NoAnswer> {
-    let copy = GenError::from(NoMemory).copy()?;
-    Ok(copy.number())
+pub fn no_memory_number() -> Option<u8> {
+    GenError::from(NoMemory).number()
 }

@@ -1,90 +1,84 @@
 // The tree of an image's dependencies, or why it has none.
 use crate::image_texts::ImageText;
 use crate::images::stored_images;
+use crate::pods::no_memory_number;
 use ac_types::Sequence;
 use dep_match::{DepError, DepNode, DepTree, Stored, closure};
 use render::RenderError;
-use scripts::Unread;
-use short_texts::{NoAnswer, add, add_all, joined, told_both};
-use std::alloc::Global;
+use scripts::{Page, Unread};
+
+fn add_copy(page: &mut Page, nodes: &mut Vec<DepNode>, node: &DepNode) {
+    if let Some(copy) = page.made(DepNode::copy(node)) {
+        page.push(nodes, copy);
+    }
+}
 
 // A tree of copied nodes, copied.
-fn copied_tree(alloc: Global, tree: &DepTree) -> Result<DepTree, NoAnswer> {
-    let copy = tree.copy()?;
-    let mut nodes = Vec::new(alloc);
+fn copied_tree(page: &mut Page, tree: &DepTree) -> Option<DepTree> {
+    let copy = page.made(tree.copy())?;
+    let mut nodes = Vec::new(page.alloc());
     for node in copy.nodes.as_slice() {
-        nodes.push(DepNode::copy(node)?)?;
+        add_copy(page, &mut nodes, node);
     }
-    Ok(DepTree {
+    Some(DepTree {
         nodes: Sequence::from_vec(nodes),
     })
 }
 
-fn add_node(
-    alloc: Global,
-    text: &mut String,
-    number: usize,
-    node: &DepNode,
-) -> Result<(), NoAnswer> {
-    add(alloc, text, &number)?;
-    add_all(text, &[": image "])?;
-    add(alloc, text, &node.image)?;
-    add_all(text, &[" needs"])?;
+fn print_node(page: &mut Page, number: usize, node: &DepNode) {
+    page.tell(&number);
+    page.put(": image ");
+    page.tell(&node.image);
+    page.put(" needs");
     for child in node.children.as_slice() {
-        add_all(text, &[" "])?;
-        add(alloc, text, child)?;
+        page.put(" ");
+        page.tell(child);
     }
-    add_all(text, &["\n"])
+    page.put("\n");
 }
 
-fn nodes_text(alloc: Global, tree: &DepTree) -> Result<String, NoAnswer> {
-    let mut text = String::new(alloc);
+fn print_nodes(page: &mut Page, tree: &DepTree) {
     for (number, node) in tree.nodes.as_slice().iter().enumerate() {
-        add_node(alloc, &mut text, number, node)?;
-    }
-    Ok(text)
-}
-
-fn size_text(alloc: Global, tree: &DepTree) -> Result<String, NoAnswer> {
-    told_both(alloc, &tree.nodes.len(), &"nodes")
-}
-
-fn tree_text(alloc: Global, tree: &DepTree, whole: bool) -> Result<String, NoAnswer> {
-    let tree = copied_tree(alloc, tree)?;
-    if whole {
-        nodes_text(alloc, &tree)
-    } else {
-        size_text(alloc, &tree)
+        print_node(page, number, node);
     }
 }
 
-fn with_byte(alloc: Global, text: &str, byte: u8) -> Result<String, NoAnswer> {
-    Ok(format!(in alloc; "{text}: {byte:02x}")?)
-}
-
-fn error_text(alloc: Global, error: &DepError) -> Result<String, NoAnswer> {
-    let copy = error.copy()?;
-    let text = told_both(alloc, &copy.number().unwrap_or(0), &copy)?;
-    match copy {
-        DepError::Cycle(key) => with_byte(alloc, text.as_str(), key.bytes[0]),
-        _ => Ok(text),
+fn print_tree(page: &mut Page, tree: &DepTree, whole: bool) {
+    match copied_tree(page, tree) {
+        Some(tree) if whole => print_nodes(page, &tree),
+        Some(tree) => page.tell_both(&tree.nodes.len(), &"nodes"),
+        None => (),
     }
 }
 
-fn first_tree(alloc: Global, list: &[Stored], whole: bool) -> Result<String, NoAnswer> {
+fn print_error(page: &mut Page, error: &DepError) {
+    page.tell_both(&error.number().unwrap_or(0), error);
+    if let DepError::Cycle(key) = error {
+        page.put(": ");
+        page.put_byte(key.bytes[0]);
+    }
+}
+
+fn print_copied_error(page: &mut Page, error: &DepError) {
+    if let Some(copy) = page.made(error.copy()) {
+        print_error(page, &copy);
+    }
+}
+
+fn first_tree(page: &mut Page, list: &[Stored], whole: bool) {
     if list.is_empty() {
-        return Err(NoAnswer::Unread(Unread::Missing));
+        return page.unread(Unread::Missing);
     }
-    match closure(alloc, list, 0) {
-        Ok(tree) => tree_text(alloc, &tree, whole),
-        Err(error) => error_text(alloc, &error),
+    match closure(page.alloc(), list, 0) {
+        Ok(tree) => print_tree(page, &tree, whole),
+        Err(error) => print_copied_error(page, &error),
     }
 }
 
 /// `tree`: the nodes of the first image's tree, or why it has none. `tree-size`: how many nodes.
-pub fn tree_answer(alloc: Global, images: &[ImageText], whole: bool) -> Result<String, NoAnswer> {
-    let list = stored_images(alloc, images)?;
-    first_tree(alloc, list.as_slice(), whole)
+pub fn tree_answer(page: &mut Page, images: &[ImageText], whole: bool) {
+    let list = stored_images(page, images);
+    first_tree(page, list.as_slice(), whole);
 }
 
 fn number_text(number: Option<u8>) -> &'static str {
@@ -92,19 +86,10 @@ fn number_text(number: Option<u8>) -> &'static str {
 }
 
 /// `numbers-of-no-memory`: whether want of memory has a number among trees, roots and pod manifests.
-pub fn no_memory_answer(alloc: Global, pod: Option<u8>) -> Result<String, NoAnswer> {
+pub fn no_memory_answer(page: &mut Page) {
     let tree = number_text(DepError::NoMemory.number());
     let root = number_text(RenderError::NoMemory.number());
-    let pod = number_text(pod);
-    joined(
-        alloc,
-        &[
-            "of a tree ",
-            tree,
-            ", of a root ",
-            root,
-            ", of a pod manifest ",
-            pod,
-        ],
-    )
+    let pod = number_text(no_memory_number());
+    page.put_all(&["of a tree ", tree, ", of a root ", root]);
+    page.put_all(&[", of a pod manifest ", pod]);
 }

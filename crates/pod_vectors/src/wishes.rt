@@ -7,8 +7,7 @@ ghost use Rattle.manifests.specs.PodData.{pod_data, runtime_app_data};
 use ac_types::{NoMemory, Sequence};
 use manifests::{Mounts, PodManifest, RuntimeApp, read_pod};
 use pod_manifest::Options;
-use scripts::Unread;
-use short_texts::{NoAnswer, add_all, joined};
+use scripts::{Page, Unread};
 use std::alloc::Global;
 
 /// What stands before the mounts of a pod's one app.
@@ -49,106 +48,89 @@ pub fn in_range(alloc: Global, places: &[usize], size: usize) -> Result<Vec<usiz
     Ok(inside)
 }
 
-// The text of a mount or a volume, after a comma where one came before.
-fn add_wish(list: &mut String, wish: &str) -> Result<(), NoAnswer> {
-    if !list.is_empty() {
-        list.push(',')?;
-    }
-    Ok(list.push_str(wish)?)
-}
-
-fn mount_text(alloc: Global, volume: &str, path: &str) -> Result<String, NoAnswer> {
-    joined(
-        alloc,
-        &["{\"volume\":\"", volume, "\",\"path\":\"", path, "\"}"],
-    )
-}
-
-fn empty_volume_text(alloc: Global, name: &str) -> Result<String, NoAnswer> {
-    joined(alloc, &["{\"name\":\"", name, "\",\"kind\":\"empty\"}"])
-}
-
-fn host_volume_text(alloc: Global, name: &str, source: &str) -> Result<String, NoAnswer> {
-    let front = joined(
-        alloc,
-        &["{\"name\":\"", name, "\",\"kind\":\"host\",\"source\":\""],
-    )?;
-    joined(alloc, &[front.as_str(), source, "\"}"])
-}
-
-fn wish_text(alloc: Global, word: &str) -> Result<String, NoAnswer> {
-    let parts: Vec<&str> = word.split(':').collect(alloc)?;
-    match parts.as_slice() {
-        ["mount", volume, path] => mount_text(alloc, volume, path),
-        ["volume", name] => empty_volume_text(alloc, name),
-        ["volume", name, source] => host_volume_text(alloc, name, source),
-        _ => Err(NoAnswer::Unread(Unread::Word)),
+// `mount:VOLUME:PATH`, `volume:NAME:SOURCE` or `volume:NAME`.
+fn put_wish(page: &mut Page, wish: &str) {
+    let (kind, rest) = wish.split_once(':').unwrap_or((wish, ""));
+    match (kind, rest.split_once(':')) {
+        ("mount", Some((volume, path))) => {
+            page.put_all(&["{\"volume\":\"", volume, "\",\"path\":\"", path, "\"}"]);
+        }
+        ("volume", Some((name, source))) => {
+            page.put_all(&["{\"name\":\"", name, "\",\"kind\":\"host\""]);
+            page.put_all(&[",\"source\":\"", source, "\"}"]);
+        }
+        ("volume", None) => {
+            page.put_all(&["{\"name\":\"", rest, "\",\"kind\":\"empty\"}"]);
+        }
+        _ => page.unread(Unread::Word),
     }
 }
 
 // The wishes of one kind among the words, between commas.
-fn wishes_text(alloc: Global, words: &[String], kind: &str) -> Result<String, NoAnswer> {
-    let mut list = String::new(alloc);
+fn put_wishes(page: &mut Page, words: &[String], kind: &str) {
+    let mut comma = "";
     for word in words {
         if word.starts_with(kind) {
-            let wish = wish_text(alloc, word.as_str())?;
-            add_wish(&mut list, wish.as_str())?;
+            page.put(comma);
+            put_wish(page, word.as_str());
+            comma = ",";
         }
     }
-    Ok(list)
 }
 
 /// What the words `volume:NAME[:SOURCE]` and `mount:VOLUME:PATH` ask for; a volume without a source is an empty
 /// one.
-pub fn options_of(alloc: Global, words: &[String]) -> Result<Options, NoAnswer> {
-    let mounts = wishes_text(alloc, words, "mount:")?;
-    let volumes = wishes_text(alloc, words, "volume:")?;
-    let text = [
-        POD,
-        mounts.as_str(),
-        "]}],\"volumes\":[",
-        volumes.as_str(),
-        "]}",
-    ]
-    .concat(alloc)?;
-    match read_pod(alloc, text.as_bytes()) {
-        Ok(pod) => Ok(asked(alloc, pod)?),
-        Err(_) => Err(NoAnswer::Unread(Unread::Text)),
+pub fn options_of(page: &mut Page, words: &[String]) -> Option<Options> {
+    page.put(POD);
+    put_wishes(page, words, "mount:");
+    page.put("]}],\"volumes\":[");
+    put_wishes(page, words, "volume:");
+    page.put("]}");
+    let text = page.take();
+    match read_pod(page.alloc(), text.as_bytes()) {
+        Ok(pod) => page.made(asked(page.alloc(), pod)),
+        Err(_) => {
+            page.unread(Unread::Text);
+            None
+        }
     }
 }
 
-fn number(text: &str) -> Result<usize, NoAnswer> {
-    match text.parse::<usize>() {
-        Ok(number) => Ok(number),
-        Err(_) => Err(NoAnswer::Unread(Unread::Number)),
+fn number(page: &mut Page, text: &str) -> usize {
+    page.read(text.parse::<usize>(), Unread::Number)
+        .unwrap_or(0)
+}
+
+fn add_range(page: &mut Page, places: &mut Vec<usize>, from: &str, end: &str) {
+    let from = number(page, from);
+    for place in from..number(page, end) {
+        page.push(places, place);
+    }
+}
+
+fn add_times(page: &mut Page, places: &mut Vec<usize>, place: &str, times: &str) {
+    let place = number(page, place);
+    for _ in 0..number(page, times) {
+        page.push(places, place);
     }
 }
 
 // The places of a word: `N`, `N^TIMES` or `FROM..END`.
-fn add_places(places: &mut Vec<usize>, word: &str) -> Result<(), NoAnswer> {
-    if let Some((from, end)) = word.split_once("..") {
-        for place in number(from)?..number(end)? {
-            places.push(place)?;
-        }
-        return Ok(());
+fn add_places(page: &mut Page, places: &mut Vec<usize>, word: &str) {
+    match (word.split_once(".."), word.split_once('^')) {
+        (Some((from, end)), _) => add_range(page, places, from, end),
+        (None, Some((place, times))) => add_times(page, places, place, times),
+        (None, None) => add_times(page, places, word, "1"),
     }
-    let (place, times) = match word.split_once('^') {
-        Some((place, times)) => (number(place)?, number(times)?),
-        None => (number(word)?, 1),
-    };
-    for _ in 0..times {
-        places.push(place)?;
-    }
-    Ok(())
 }
 
 /// The places that the words name which ask for nothing.
-pub fn picks_of(alloc: Global, words: &[String]) -> Result<Vec<usize>, NoAnswer> {
-    let mut places = Vec::new(alloc);
+pub fn picks_of(page: &mut Page, words: &[String]) -> Vec<usize> {
+    let mut places = Vec::new(page.alloc());
     for word in words {
         if !word.contains(':') {
-            add_places(&mut places, word.as_str())?;
+            add_places(page, &mut places, word.as_str());
         }
     }
-    Ok(places)
+    places
 }

@@ -3,7 +3,7 @@ use crate::changing::ChangingBundle;
 use crate::plan::Faults;
 use dir_memory::MemoryBundle;
 use dir_trait::NoMemory;
-use scripts::{Line, Refusal, ShortNames, unfolded};
+use scripts::{Line, Page, ShortNames, unfolded};
 use std::alloc::Global;
 
 /// What kind of thing is put there.
@@ -60,28 +60,31 @@ pub fn bundle_of(alloc: Global, puts: &[Put], faults: &Faults) -> Result<Changin
     })
 }
 
-/// Takes in a line that puts something into the bundle of the next commands: `file PATH TEXT`,
-/// `link PATH TARGET`, `dir PATH`, `other PATH`; and `bundle` empties it. Answers whether it is one. Refused
-/// only where memory ran out.
-pub fn put_in(
-    alloc: Global,
+fn add(
+    page: &mut Page,
     names: &ShortNames,
     puts: &mut Vec<Put>,
+    thing: Thing,
     line: &mut Line,
-) -> Result<bool, Refusal> {
-    let thing = match line.word() {
-        "file" => Thing::File,
-        "link" => Thing::Link,
-        "dir" => Thing::Dir,
-        "other" => Thing::Other,
+) -> bool {
+    let path = page.text(line.word());
+    let text = unfolded(page, names.long(line.rest()));
+    page.push(puts, Put { thing, path, text });
+    true
+}
+
+/// Takes in a line that puts something into the bundle of the next commands: `file PATH TEXT`,
+/// `link PATH TARGET`, `dir PATH`, `other PATH`; and `bundle` empties it. Answers whether it is one.
+pub fn put_in(page: &mut Page, names: &ShortNames, puts: &mut Vec<Put>, line: &mut Line) -> bool {
+    match line.word() {
+        "file" => add(page, names, puts, Thing::File, line),
+        "link" => add(page, names, puts, Thing::Link, line),
+        "dir" => add(page, names, puts, Thing::Dir, line),
+        "other" => add(page, names, puts, Thing::Other, line),
         "bundle" => {
             puts.clear();
-            return Ok(true);
+            true
         }
-        _ => return Ok(false),
-    };
-    let path = String::from_str(alloc, line.word())?;
-    let text = unfolded(alloc, names.long(line.rest()))?;
-    puts.push(Put { thing, path, text })?;
-    Ok(true)
+        _ => false,
+    }
 }

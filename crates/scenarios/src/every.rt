@@ -6,10 +6,8 @@ use crate::run::{Command, Ended, command_of, run_next};
 use crate::seen::see;
 use crate::stage::Stage;
 use conformance::keeps_rules;
-use dir_trait::{Area, Event, Reply, Request};
-use scripts::{Line, Refusal, ShortNames, Unread, area_text, phase_text, pod_of};
-use std::alloc::Global;
-use std::fmt::Write;
+use dir_trait::{Area, Event, PodId, Reply, Request};
+use scripts::{Line, Page, ShortNames, Unread, area_text, phase_text};
 use std::str;
 
 // The steps of others that have no call of their own come before that one.
@@ -22,7 +20,7 @@ fn place_steps(steps: &mut [Interlude], number: u64) {
 }
 
 // Which call breaks, and how.
-fn break_at(plan: &mut Plan, kind: &str, number: u64) -> Result<(), Refusal> {
+fn break_at(page: &mut Page, plan: &mut Plan, kind: &str, number: u64) {
     match kind {
         "call" => plan.faults.dir = number,
         "stop" => plan.faults.stop = number,
@@ -31,51 +29,35 @@ fn break_at(plan: &mut Plan, kind: &str, number: u64) -> Result<(), Refusal> {
         "write" => plan.faults.out = number,
         "complaint" => plan.faults.err = number,
         "before" => place_steps(plan.steps.as_mut_slice(), number),
-        _ => return Err(Refusal::Unread(Unread::Word)),
+        _ => page.unread(Unread::Word),
     }
-    Ok(())
 }
 
-fn add_lines(whole: &mut String, bytes: &[u8]) -> Result<(), Refusal> {
+fn add_lines(page: &mut Page, bytes: &[u8]) {
     for line in str::from_utf8(bytes).unwrap_or("no text").lines() {
-        whole.push_str(" | ")?;
-        whole.push_str(line)?;
+        page.put(" | ");
+        page.put(line);
     }
-    Ok(())
 }
 
-fn add_phase(
-    alloc: Global,
-    whole: &mut String,
-    stage: &Stage,
-    short: &str,
-    long: &str,
-) -> Result<(), Refusal> {
-    let Ok(pod) = pod_of(long) else {
-        return Ok(());
-    };
-    let (phase, _) = phase_of(alloc, stage, pod)?;
+fn add_phase(page: &mut Page, stage: &Stage, short: &str, pod: PodId) {
+    let (phase, _) = phase_of(page, stage, pod);
     if phase.is_some() {
-        whole.push_str(" | ")?;
-        whole.push_str(short)?;
-        whole.push(' ')?;
-        whole.push_str(phase_text(phase))?;
+        page.put(" | ");
+        page.put(short);
+        page.put(" ");
+        page.put(phase_text(phase));
     }
-    Ok(())
 }
 
-fn add_phases(
-    alloc: Global,
-    whole: &mut String,
-    names: &ShortNames,
-    stage: &Stage,
-) -> Result<(), Refusal> {
+fn add_phases(page: &mut Page, names: &ShortNames, stage: &Stage) {
     for place in 0..names.len() {
         if let Some((short, long)) = names.get(place) {
-            add_phase(alloc, whole, stage, short, long)?;
+            if let Some(pod) = PodId::parse(long) {
+                add_phase(page, stage, short, pod);
+            }
         }
     }
-    Ok(())
 }
 
 // Whether the process made a file there.
@@ -88,150 +70,164 @@ fn makes(event: &Event, process: u32, front: &[u8]) -> bool {
     }
 }
 
-fn count_made(events: &[Event], process: u32, front: &[u8]) -> usize {
-    events
-        .iter()
-        .filter(|event| makes(event, process, front))
-        .count()
+fn count_made(events: &[Event], process: u32, front: &[u8]) -> u64 {
+    let mut count: u64 = 0;
+    for event in events {
+        if makes(event, process, front) {
+            count = count.saturating_add(1);
+        }
+    }
+    count
+}
+
+fn add_count(page: &mut Page, title: &str, count: u64) {
+    page.put(" | ");
+    page.put(title);
+    page.put(" ");
+    page.tell(&count);
 }
 
 // What became of the apps: how many programs were started, apps marked, and statuses written.
-fn add_apps(whole: &mut String, stage: &Stage, starts: u64, process: u32) -> Result<(), Refusal> {
-    let Some(dir) = &stage.dir else {
-        return Ok(());
-    };
-    let events = dir.history().as_slice();
+fn add_apps(page: &mut Page, events: &[Event], starts: u64, process: u32) {
     let marks = count_made(events, process, b"started-");
     let statuses = count_made(events, process, b"stage1/rootfs/rkt/status/");
     if starts > 0 || marks > 0 {
-        write!(
-            whole,
-            " | starts {starts} | marks {marks} | statuses {statuses}"
-        )?;
+        add_count(page, "starts", starts);
+        add_count(page, "marks", marks);
+        add_count(page, "statuses", statuses);
     }
-    Ok(())
 }
 
 const STORE: [Area; 3] = [Area::Incoming, Area::Images, Area::Removed];
 
-// How many folders stand in each area of the store.
-fn add_counts(alloc: Global, whole: &mut String, stage: &mut Stage) -> Result<(), Refusal> {
-    for area in STORE {
-        if let Reply::Names(names) = &see(alloc, stage, Request::ListArea(area))?
-            && !names.as_slice().is_empty()
-        {
-            let count = names.as_slice().len();
-            write!(whole, " | {} {count}", area_text(area))?;
+fn add_folders(page: &mut Page, area: Area, reply: &Reply) {
+    if let Reply::Names(names) = reply {
+        let count = names.as_slice().len() as u64;
+        if count > 0 {
+            add_count(page, area_text(area), count);
         }
     }
-    Ok(())
+}
+
+// How many folders stand in each area of the store.
+fn add_store(page: &mut Page, stage: &mut Stage) {
+    for area in STORE {
+        let reply = see(page, stage, Request::ListArea(area));
+        add_folders(page, area, &reply);
+    }
 }
 
 // How a command ended, in one line: the status, what it wrote, its apps, the pods that exist then, and how many
 // folders the store has.
-fn add_summary(
-    alloc: Global,
-    names: &ShortNames,
-    stage: &mut Stage,
-    ended: &Ended,
-    number: u32,
-    whole: &mut String,
-) -> Result<(), Refusal> {
-    write!(whole, "{}", ended.status)?;
-    add_lines(whole, ended.out.bytes.as_slice())?;
-    add_lines(whole, ended.err.bytes.as_slice())?;
-    add_apps(whole, stage, ended.spawner.starts(), number)?;
-    add_phases(alloc, whole, names, stage)?;
-    add_counts(alloc, whole, stage)?;
-    if let Some(dir) = &stage.dir
-        && !keeps_rules(alloc, dir.history(), number)?
-    {
-        whole.push_str(" | broke a rule")?;
+fn add_summary(page: &mut Page, names: &ShortNames, stage: &mut Stage, ended: &Ended, number: u32) {
+    page.tell(&ended.status);
+    add_lines(page, ended.out.bytes.as_slice());
+    add_lines(page, ended.err.bytes.as_slice());
+    if let Some(dir) = &stage.dir {
+        let events = dir.history().as_slice();
+        add_apps(page, events, ended.spawner.starts(), number);
     }
-    Ok(())
+    add_phases(page, names, stage);
+    add_store(page, stage);
+    if let Some(dir) = &stage.dir {
+        if page.made(keeps_rules(page.alloc(), dir.history(), number)) == Some(false) {
+            page.put(" | broke a rule");
+        }
+    }
+}
+
+fn add_command(page: &mut Page, names: &ShortNames, commands: &mut Vec<Command>, text: &str) {
+    let mut line = Line::of(text);
+    if line.word() != "at" {
+        page.unread(Unread::Word);
+    }
+    let command = command_of(page, names, &mut line);
+    page.push(commands, command);
 }
 
 // The commands of a text `at NOW: WORDS ; at NOW: WORDS`.
-fn commands_of(alloc: Global, names: &ShortNames, text: &str) -> Result<Vec<Command>, Refusal> {
-    let mut commands = Vec::new(alloc);
+fn commands_of(page: &mut Page, names: &ShortNames, text: &str) -> Vec<Command> {
+    let mut commands = Vec::new(page.alloc());
     for part in text.split(" ; ") {
-        let mut line = Line::of(part);
-        if line.word() != "at" {
-            return Err(Refusal::Unread(Unread::Word));
-        }
-        commands.push(command_of(alloc, names, &mut line)?)?;
+        add_command(page, names, &mut commands, part);
     }
-    Ok(commands)
+    commands
 }
 
-// Runs one command, and adds to the text how it ended.
-fn add_command(
-    alloc: Global,
-    names: &ShortNames,
-    stage: &mut Stage,
-    command: &Command,
-    whole: &mut String,
-) -> Result<(), Refusal> {
-    let (ended, process) = run_next(alloc, stage, command)?;
-    if !whole.is_empty() {
-        whole.push_str(" ; ")?;
+// Runs the commands, and adds how they ended.
+fn add_commands(page: &mut Page, names: &ShortNames, stage: &mut Stage, commands: &[Command]) {
+    let mut between = "";
+    for command in commands {
+        page.put(between);
+        between = " ; ";
+        if let Some((ended, process)) = run_next(page, stage, command) {
+            add_summary(page, names, stage, &ended, process);
+        }
     }
-    add_summary(alloc, names, stage, &ended, process, whole)
 }
 
 // How the commands ended of which the first broke so.
 fn broken(
-    alloc: Global,
+    page: &mut Page,
     names: &ShortNames,
     before: &Before,
     commands: &[Command],
     kind: &str,
     number: u64,
-) -> Result<String, Refusal> {
-    let mut stage = before.stage(alloc, names)?;
-    break_at(&mut stage.plan, kind, number)?;
-    let mut whole = String::new(alloc);
-    for command in commands {
-        add_command(alloc, names, &mut stage, command, &mut whole)?;
+) -> String {
+    let mut told = Page::new(page.alloc());
+    if let Some(stage) = before.stage(&mut told, names) {
+        let mut stage = stage;
+        break_at(&mut told, &mut stage.plan, kind, number);
+        add_commands(&mut told, names, &mut stage, commands);
     }
-    Ok(whole)
+    if let Some(refusal) = told.refusal() {
+        page.refuse(refusal);
+    }
+    told.take()
 }
 
-fn print_calls(
-    rt: &HostRuntime,
+fn print_calls(page: &mut Page, names: &ShortNames, first: u64, last: u64, how: &str) {
+    page.put("  ");
+    page.tell(&first);
+    page.put("..");
+    page.tell(&last);
+    page.put(" = ");
+    names.print(page, how);
+    page.put("\n");
+}
+
+// A line for numbers in a row with which the commands ended in the same way.
+fn print_range(
+    page: &mut Page,
     names: &ShortNames,
-    first: u64,
-    last: u64,
-    how: &str,
-) -> Result<(), Refusal> {
-    print!(rt; "  {first}..{last} = ")?;
-    names.print(rt, how)?;
-    println!(rt; "")?;
-    Ok(())
+    before: &Before,
+    commands: &[Command],
+    kind: &str,
+    range: (u64, u64),
+) {
+    let (from, to) = range;
+    let mut first = from;
+    let mut how = broken(page, names, before, commands, kind, from);
+    for number in from.saturating_add(1)..=to {
+        let now = broken(page, names, before, commands, kind, number);
+        if now.as_str() != how.as_str() {
+            print_calls(page, names, first, number.saturating_sub(1), how.as_str());
+            first = number;
+            how = now;
+        }
+    }
+    print_calls(page, names, first, to, how.as_str());
 }
 
 /// Plays a line `each KIND FROM TO at NOW: WORDS`, of which `each` was read: the command after the lines, in
 /// a world of its own for each number, at which the call of that kind breaks, or before which the steps of
 /// others come that were planned before call 0; behind ` ; ` further commands that come then. Prints how
 /// they ended, a line for numbers in a row with which they ended in the same way.
-pub fn print_each(
-    rt: &HostRuntime,
-    names: &ShortNames,
-    before: &Before,
-    line: &mut Line,
-) -> Result<(), Refusal> {
+pub fn print_each(page: &mut Page, names: &ShortNames, before: &Before, line: &mut Line) {
     let kind = line.word();
-    let (from, to) = (line.number()?, line.number()?);
-    let commands = commands_of(rt.alloc(), names, line.rest())?;
-    let mut first = from;
-    let mut how = broken(rt.alloc(), names, before, commands.as_slice(), kind, from)?;
-    for number in from.saturating_add(1)..=to {
-        let now = broken(rt.alloc(), names, before, commands.as_slice(), kind, number)?;
-        if now.as_str() != how.as_str() {
-            print_calls(rt, names, first, number.saturating_sub(1), how.as_str())?;
-            first = number;
-            how = now;
-        }
-    }
-    print_calls(rt, names, first, to, how.as_str())
+    let from = line.number(page);
+    let to = line.number(page);
+    let commands = commands_of(page, names, line.rest());
+    print_range(page, names, before, commands.as_slice(), kind, (from, to));
 }

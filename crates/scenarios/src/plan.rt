@@ -1,6 +1,6 @@
 // What the next command meets: steps of others, failing calls, a kill, how programs end.
 use dir_trait::Request;
-use scripts::{Line, Refusal, ShortNames, Unread, request_of};
+use scripts::{Line, Page, ShortNames, Unread, request_of};
 use std::alloc::Global;
 
 /// A step of another process before a call of the next command, or inside it.
@@ -62,68 +62,65 @@ impl Plan {
 }
 
 // A number of a call that may fail: the first is the beginning.
-fn call(line: &mut Line) -> Result<u64, Refusal> {
-    match line.number()? {
-        0 | 1 => Err(Refusal::Unread(Unread::Number)),
-        number => Ok(number),
+fn call(page: &mut Page, line: &mut Line) -> u64 {
+    let number = line.number(page);
+    if number < 2 {
+        page.unread(Unread::Number);
     }
+    number
 }
 
-fn fault(faults: &mut Faults, line: &mut Line) -> Result<(), Refusal> {
+fn fault(page: &mut Page, faults: &mut Faults, line: &mut Line) {
     match line.word() {
-        "call" => faults.dir = call(line)?,
-        "read" => faults.bundle = line.number()?,
-        "spawn" => faults.spawner = line.number()?,
-        "write" => faults.out = line.number()?,
-        "complaint" => faults.err = line.number()?,
-        _ => return Err(Refusal::Unread(Unread::Word)),
+        "call" => faults.dir = call(page, line),
+        "read" => faults.bundle = line.number(page),
+        "spawn" => faults.spawner = line.number(page),
+        "write" => faults.out = line.number(page),
+        "complaint" => faults.err = line.number(page),
+        _ => page.unread(Unread::Word),
     }
-    Ok(())
 }
 
-fn end_of(line: &mut Line) -> Result<End, Refusal> {
-    let start = line.number()?;
+fn add_end(page: &mut Page, ends: &mut Vec<End>, line: &mut Line) {
+    let start = line.number(page);
     match line.word().parse::<u8>() {
-        Ok(status) => Ok(End { start, status }),
-        Err(_) => Err(Refusal::Unread(Unread::Number)),
+        Ok(status) => page.push(ends, End { start, status }),
+        Err(_) => page.unread(Unread::Number),
     }
 }
 
 // `CALL PROCESS REQUEST`
-fn interlude_of(
-    alloc: Global,
+fn add_step(
+    page: &mut Page,
     names: &ShortNames,
+    steps: &mut Vec<Interlude>,
     inside: bool,
     line: &mut Line,
-) -> Result<Interlude, Refusal> {
-    let call = line.number()?;
-    let process = line.short_number()?;
-    Ok(Interlude {
+) {
+    let call = line.number(page);
+    let process = line.short_number(page);
+    let request = request_of(page, names, line);
+    let step = Interlude {
         call,
         inside,
         process,
-        request: request_of(alloc, names, line)?,
-    })
+        request,
+    };
+    page.push(steps, step);
 }
 
 /// Takes in a line that says what the next command meets:
 /// `before CALL PROCESS REQUEST`, `inside CALL PROCESS REQUEST`, `fail call|read|spawn|write|complaint N`,
-/// `stop CALL`, `change READ`, `ends START STATUS`. Answers whether it is one. Refused where it can't be read,
-/// and where memory ran out.
-pub fn planned(
-    alloc: Global,
-    names: &ShortNames,
-    plan: &mut Plan,
-    line: &mut Line,
-) -> Result<bool, Refusal> {
+/// `stop CALL`, `change READ`, `ends START STATUS`. Answers whether it is one. Refused where it can't be read.
+pub fn planned(page: &mut Page, names: &ShortNames, plan: &mut Plan, line: &mut Line) -> bool {
     match line.word() {
-        "before" => plan.steps.push(interlude_of(alloc, names, false, line)?)?,
-        "inside" => plan.steps.push(interlude_of(alloc, names, true, line)?)?,
-        "fail" => fault(&mut plan.faults, line)?,
-        "stop" => plan.faults.stop = call(line)?,
-        "change" => plan.faults.change = line.number()?,
-        "ends" => plan.ends.push(end_of(line)?)?,
-        _ => return Ok(false),
+        "before" => add_step(page, names, &mut plan.steps, false, line),
+        "inside" => add_step(page, names, &mut plan.steps, true, line),
+        "fail" => fault(page, &mut plan.faults, line),
+        "stop" => plan.faults.stop = call(page, line),
+        "change" => plan.faults.change = line.number(page),
+        "ends" => add_end(page, &mut plan.ends, line),
+        _ => return false,
     }
-    Ok(true)
+    true
 }

@@ -6,193 +6,185 @@ use conformance::keeps_rules;
 use dir_trait::{Event, Phase, PodId};
 use lifecycle::replay;
 use memory_spawner::MemorySpawner;
-use scripts::{Refusal, ShortNames, phase_text, pod_of, print_reply, print_request};
+use scripts::{Page, ShortNames, phase_text, print_reply, print_request};
 use spawner::Words;
-use std::alloc::Global;
 use std::str;
 
 // The lines of a text, the first in the line of the status where nothing stands there yet. A text that
 // doesn't end with a line break was cut.
-fn print_text(
-    rt: &HostRuntime,
-    names: &ShortNames,
-    bytes: &[u8],
-    first: bool,
-) -> Result<(), Refusal> {
-    let Ok(text) = str::from_utf8(bytes) else {
-        print!(rt; " no text")?;
-        return Ok(());
-    };
+fn print_text(page: &mut Page, names: &ShortNames, text: &str, first: bool) {
     for (place, line) in text.lines().enumerate() {
-        let front = if first && place == 0 { " " } else { "\n    " };
-        print!(rt; "{front}")?;
-        names.print(rt, line)?;
+        let is_first = first && place == 0;
+        page.put(if is_first { " " } else { "\n    " });
+        names.print(page, line);
     }
     if !text.is_empty() && !text.ends_with('\n') {
-        print!(rt; " (cut)")?;
+        page.put(" (cut)");
     }
-    Ok(())
 }
 
-fn print_words(
-    rt: &HostRuntime,
-    names: &ShortNames,
-    title: &str,
-    words: Option<&Words>,
-) -> Result<(), Refusal> {
+fn print_bytes(page: &mut Page, names: &ShortNames, bytes: &[u8], first: bool) {
+    match str::from_utf8(bytes) {
+        Ok(text) => print_text(page, names, text, first),
+        Err(_) => page.put(" no text"),
+    }
+}
+
+fn print_words(page: &mut Page, names: &ShortNames, title: &str, words: Option<&Words>) {
     let Some(words) = words else {
-        return Ok(());
+        return;
     };
-    print!(rt; "{title}")?;
+    page.put(title);
     for place in 0..words.len() {
         if let Some(word) = words.get(place) {
-            print!(rt; " ")?;
-            names.print(rt, word)?;
+            page.put(" ");
+            names.print(page, word);
         }
     }
-    Ok(())
 }
 
 // What was started: its words, where, and in which environment.
-fn print_starts(
-    rt: &HostRuntime,
-    names: &ShortNames,
-    spawner: &MemorySpawner,
-) -> Result<(), Refusal> {
+fn print_starts(page: &mut Page, names: &ShortNames, spawner: &MemorySpawner) {
     for start in 0..spawner.starts() {
         let number = start.saturating_add(1);
-        print_words(rt, names, "  start", spawner.argv(number))?;
+        print_words(page, names, "  start", spawner.argv(number));
         if let Some(cwd) = spawner.cwd(number) {
-            print!(rt; " | in {cwd}")?;
+            page.put(" | in ");
+            page.put(cwd);
         }
-        print_words(rt, names, " | with", spawner.env(number))?;
-        println!(rt; "")?;
+        print_words(page, names, " | with", spawner.env(number));
+        page.put("\n");
     }
-    Ok(())
 }
 
 /// Prints how a command ended: the status, what it wrote, and what it started.
-pub fn print_ended(rt: &HostRuntime, names: &ShortNames, ended: &Ended) -> Result<(), Refusal> {
-    print!(rt; "  {}", ended.status)?;
+pub fn print_ended(page: &mut Page, names: &ShortNames, ended: &Ended) {
+    page.put("  ");
+    page.tell(&ended.status);
     let out = ended.out.bytes.as_slice();
-    print_text(rt, names, out, true)?;
-    print_text(rt, names, ended.err.bytes.as_slice(), out.is_empty())?;
-    println!(rt; "")?;
-    print_starts(rt, names, &ended.spawner)
+    print_bytes(page, names, out, true);
+    print_bytes(page, names, ended.err.bytes.as_slice(), out.is_empty());
+    page.put("\n");
+    print_starts(page, names, &ended.spawner);
+}
+
+fn print_event(page: &mut Page, names: &ShortNames, event: &Event) {
+    page.put("  ");
+    print_request(page, names, &event.request);
+    page.put(" : ");
+    print_reply(page, names, &event.reply);
+    page.put("\n");
 }
 
 /// Prints what a process asked for, and what it was answered.
-pub fn print_events(
-    rt: &HostRuntime,
-    names: &ShortNames,
-    events: &[Event],
-    process: u32,
-) -> Result<(), Refusal> {
+pub fn print_events(page: &mut Page, names: &ShortNames, events: &[Event], process: u32) {
     for event in events {
         if event.process == process {
-            print!(rt; "  ")?;
-            print_request(rt, names, &event.request)?;
-            print!(rt; " : ")?;
-            print_reply(rt, names, &event.reply)?;
-            println!(rt; "")?;
+            print_event(page, names, event);
         }
     }
-    Ok(())
 }
 
 /// Prints a line where the process broke a local rule.
-pub fn print_broken(rt: &HostRuntime, stage: &Stage, process: u32) -> Result<(), Refusal> {
+pub fn print_broken(page: &mut Page, stage: &Stage, process: u32) {
     let Some(dir) = &stage.dir else {
-        return Ok(());
+        return;
     };
-    if !keeps_rules(rt.alloc(), dir.history(), process)? {
-        println!(rt; "  process {process} broke a rule")?;
+    if page.made(keeps_rules(page.alloc(), dir.history(), process)) == Some(false) {
+        page.put("  process ");
+        page.tell(&process);
+        page.put(" broke a rule\n");
     }
-    Ok(())
 }
 
 /// The phase of a pod and its owner, by the history.
-pub fn phase_of(
-    alloc: Global,
-    stage: &Stage,
-    pod: PodId,
-) -> Result<(Option<Phase>, Option<u32>), Refusal> {
+pub fn phase_of(page: &mut Page, stage: &Stage, pod: PodId) -> (Option<Phase>, Option<u32>) {
     let Some(dir) = &stage.dir else {
-        return Ok((None, None));
+        return (None, None);
     };
-    let machine = replay(alloc, dir.history())?;
-    Ok((machine.phase(pod), machine.owner(pod)))
+    match page.made(replay(page.alloc(), dir.history())) {
+        Some(machine) => (machine.phase(pod), machine.owner(pod)),
+        None => (None, None),
+    }
 }
 
-fn print_phase(rt: &HostRuntime, stage: &Stage, name: &str, long: &str) -> Result<(), Refusal> {
-    let Ok(pod) = pod_of(long) else {
-        return Ok(());
-    };
-    match phase_of(rt.alloc(), stage, pod)? {
-        (None, _) => (),
-        (phase, None) => println!(rt; "  {name} {}", phase_text(phase))?,
-        (phase, Some(owner)) => println!(rt; "  {name} {} of {owner}", phase_text(phase))?,
+fn print_phase(page: &mut Page, stage: &Stage, name: &str, pod: PodId) {
+    let (phase, owner) = phase_of(page, stage, pod);
+    if phase.is_none() {
+        return;
     }
-    Ok(())
+    page.put("  ");
+    page.put(name);
+    page.put(" ");
+    page.put(phase_text(phase));
+    if let Some(owner) = owner {
+        page.put(" of ");
+        page.tell(&owner);
+    }
+    page.put("\n");
 }
 
 /// Prints the phase and the owner, by the history, of each pod that exists and has a short name.
-pub fn print_phases(rt: &HostRuntime, names: &ShortNames, stage: &Stage) -> Result<(), Refusal> {
+pub fn print_phases(page: &mut Page, names: &ShortNames, stage: &Stage) {
     for place in 0..names.len() {
         if let Some((short, long)) = names.get(place) {
-            print_phase(rt, stage, short, long)?;
+            if let Some(pod) = PodId::parse(long) {
+                print_phase(page, stage, short, pod);
+            }
         }
     }
-    Ok(())
 }
 
-// What `status` tells of a pod.
-fn told(alloc: Global, stage: &mut Stage, pod: &str) -> Result<String, Refusal> {
-    let mut words = Vec::new(alloc);
-    words.push(String::from_str(alloc, "status")?)?;
-    words.push(String::from_str(alloc, pod)?)?;
-    let command = Command {
+fn status_of(page: &mut Page, pod: &str) -> Command {
+    let mut words = Vec::new(page.alloc());
+    let status = page.text("status");
+    page.push(&mut words, status);
+    let pod = page.text(pod);
+    page.push(&mut words, pod);
+    Command {
         now: 0,
         pod: PodId { bytes: [0; 16] },
         words,
-    };
-    let (ended, _) = run(alloc, stage, LOOKERS, &command)?;
-    match str::from_utf8(ended.out.bytes.as_slice()) {
-        Ok(text) => Ok(String::from_str(alloc, text.trim_end())?),
-        Err(_) => Ok(String::new(alloc)),
     }
 }
 
-fn print_difference(
-    rt: &HostRuntime,
-    stage: &mut Stage,
-    short: &str,
-    long: &str,
-) -> Result<(), Refusal> {
-    let Ok(pod) = pod_of(long) else {
-        return Ok(());
+// What `status` tells of a pod.
+fn told(page: &mut Page, stage: &mut Stage, pod: &str) -> String {
+    let command = status_of(page, pod);
+    let text = match &run(page, stage, LOOKERS, &command) {
+        Some((ended, _)) => {
+            let text = str::from_utf8(ended.out.bytes.as_slice()).unwrap_or("");
+            page.text(text.trim_end())
+        }
+        None => String::new(page.alloc()),
     };
-    let told = told(rt.alloc(), stage, long)?;
-    let phase = match phase_of(rt.alloc(), stage, pod)? {
+    text
+}
+
+fn print_difference(page: &mut Page, stage: &mut Stage, short: &str, long: &str, pod: PodId) {
+    let told = told(page, stage, long);
+    let phase = match phase_of(page, stage, pod) {
         (None, _) => "",
         (phase, _) => phase_text(phase),
     };
     if told.as_str().strip_prefix("state=").unwrap_or("") != phase {
-        println!(rt; "  {short} is {phase} and told as {told}")?;
+        page.put("  ");
+        page.put(short);
+        page.put(" is ");
+        page.put(phase);
+        page.put(" and told as ");
+        page.put(told.as_str());
+        page.put("\n");
     }
-    Ok(())
 }
 
 /// Prints a line for each pod with a short name of which a reader tells another phase than the history.
-pub fn print_differences(
-    rt: &HostRuntime,
-    names: &ShortNames,
-    stage: &mut Stage,
-) -> Result<(), Refusal> {
+pub fn print_differences(page: &mut Page, names: &ShortNames, stage: &mut Stage) {
     for place in 0..names.len() {
         if let Some((short, long)) = names.get(place) {
-            print_difference(rt, stage, short, long)?;
+            if let Some(pod) = PodId::parse(long) {
+                print_difference(page, stage, short, long, pod);
+            }
         }
     }
-    Ok(())
 }

@@ -11,7 +11,7 @@ use dir_memory::MemoryDir;
 use dir_trait::{Draw, NoMemory, PodId};
 use memory_spawner::MemorySpawner;
 use rkt_cli::rkt;
-use scripts::{Line, Refusal, ShortNames, Unread, pod_of, unfolded};
+use scripts::{Line, Page, ShortNames, Unread, pod_of, unfolded};
 use std::alloc::Global;
 use std::mem;
 
@@ -41,29 +41,32 @@ fn draw(pod: PodId) -> Draw {
 }
 
 // `''` is the empty word.
-fn words_of(alloc: Global, names: &ShortNames, text: &str) -> Result<Vec<String>, Refusal> {
-    let mut words = Vec::new(alloc);
+fn words_of(page: &mut Page, names: &ShortNames, text: &str) -> Vec<String> {
+    let mut words = Vec::new(page.alloc());
     for word in text.split(' ') {
         let word = if word == "''" { "" } else { word };
-        words.push(unfolded(alloc, names.long(word))?)?;
+        let word = unfolded(page, names.long(word));
+        page.push(&mut words, word);
     }
-    Ok(words)
+    words
 }
 
 /// The command of the rest of a line `at NOW [draw POD]: WORDS`, of which `at` was read. Without `draw`,
 /// what is drawn is the pod of the short name `U1`. Refused where it has no such form.
-pub fn command_of(alloc: Global, names: &ShortNames, line: &mut Line) -> Result<Command, Refusal> {
-    let Some((head, text)) = line.rest().split_once(": ") else {
-        return Err(Refusal::Unread(Unread::Missing));
-    };
+pub fn command_of(page: &mut Page, names: &ShortNames, line: &mut Line) -> Command {
+    let (head, text) = line.rest().split_once(": ").unwrap_or(("", ""));
+    if head.is_empty() {
+        page.unread(Unread::Missing);
+    }
     let mut head = Line::of(head);
-    let now = head.number()?;
+    let now = head.number(page);
     let pod = match head.word() {
-        "draw" => pod_of(names.long(head.word()))?,
-        _ => pod_of(names.long("U1"))?,
+        "draw" => head.word(),
+        _ => "U1",
     };
-    let words = words_of(alloc, names, text)?;
-    Ok(Command { now, pod, words })
+    let pod = pod_of(page, names.long(pod));
+    let words = words_of(page, names, text);
+    Command { now, pod, words }
 }
 
 // The folder with one step more of another process.
@@ -198,35 +201,42 @@ pub fn free_number(dir: &MemoryDir, from: u32) -> u32 {
     from
 }
 
-/// Runs the command as a process that never began, of the first free number from there on, and answers how it
-/// ended and that number.
-pub fn run(
+fn run_from(
     alloc: Global,
     stage: &mut Stage,
     from: u32,
     command: &Command,
-) -> Result<(Ended, u32), Refusal> {
-    let Some(dir) = stage.dir.take() else {
-        return Err(Refusal::NoMemory);
-    };
+) -> Option<(Ended, u32)> {
+    let dir = stage.dir.take()?;
     let number = free_number(&dir, from);
     let Some(dir) = next(dir, number) else {
-        return Err(Refusal::Unread(Unread::Process));
+        return None;
     };
     let plan = mem::replace(&mut stage.plan, Plan::new(alloc));
-    let (dir, ended) = run_planned(alloc, dir, stage.puts.as_slice(), plan, command)?;
+    let (dir, ended) = run_planned(alloc, dir, stage.puts.as_slice(), plan, command).ok()?;
     stage.dir = Some(dir);
-    Ok((ended, number))
+    Some((ended, number))
+}
+
+/// Runs the command as a process that never began, of the first free number from there on, and answers how it
+/// ended and that number. None where memory ran out, which ends the script.
+pub fn run(
+    page: &mut Page,
+    stage: &mut Stage,
+    from: u32,
+    command: &Command,
+) -> Option<(Ended, u32)> {
+    let ended = run_from(page.alloc(), stage, from, command);
+    if ended.is_none() {
+        page.no_memory();
+    }
+    ended
 }
 
 /// Runs the command as the next process.
-pub fn run_next(
-    alloc: Global,
-    stage: &mut Stage,
-    command: &Command,
-) -> Result<(Ended, u32), Refusal> {
+pub fn run_next(page: &mut Page, stage: &mut Stage, command: &Command) -> Option<(Ended, u32)> {
     let from = stage.next;
-    let (ended, number) = run(alloc, stage, from, command)?;
+    let (ended, number) = run(page, stage, from, command)?;
     stage.next = number.saturating_add(1);
-    Ok((ended, number))
+    Some((ended, number))
 }

@@ -6,10 +6,10 @@ use crate::run::{free_number, next};
 use crate::stage::Stage;
 use dir_memory::MemoryDir;
 use dir_trait::{
-    Bytes, Dir, Event, Inner, Intent, ItemKind, Kind, NoMemory, PodId, PodPrefix, Reply, Request,
+    Dir, Event, Inner, Intent, Item, ItemKind, Kind, NoMemory, PodId, PodPrefix, Reply, Request,
     Spot,
 };
-use scripts::{Refusal, ShortNames, Unread, item_kind_text, print_bytes, print_reply};
+use scripts::{Page, ShortNames, item_kind_text, print_bytes, print_reply};
 use std::alloc::Global;
 
 /// The first of the numbers of processes that only look.
@@ -42,129 +42,129 @@ fn asked(
     Ok(dir)
 }
 
-// The last reply to that process.
-fn last_reply(events: &[Event], process: u32) -> Option<&Reply> {
-    let event = events.iter().rev().find(|event| event.process == process)?;
-    Some(&event.reply)
+// The last reply to that process. None where memory ran out.
+fn last_reply(events: &[Event], process: u32) -> Option<Reply> {
+    for event in events.iter().rev() {
+        if event.process == process {
+            return event.reply.copy().ok();
+        }
+    }
+    Some(Reply::Done)
+}
+
+fn reply_to(alloc: Global, stage: &mut Stage, request: Request) -> Option<Reply> {
+    let dir = stage.dir.take()?;
+    let looker = free_number(&dir, LOOKERS);
+    let Some(dir) = next(dir, looker) else {
+        return None;
+    };
+    let process = looker.saturating_add(1);
+    let dir = asked(alloc, dir, process, request).ok()?;
+    let reply = last_reply(dir.history().as_slice(), process);
+    stage.dir = Some(dir);
+    reply
 }
 
 /// A process that only looks asks that, and what it is answered.
-pub fn see(alloc: Global, stage: &mut Stage, request: Request) -> Result<Reply, Refusal> {
-    let Some(dir) = stage.dir.take() else {
-        return Err(Refusal::NoMemory);
-    };
-    let looker = free_number(&dir, LOOKERS);
-    let Some(dir) = next(dir, looker) else {
-        return Err(Refusal::Unread(Unread::Process));
-    };
-    let process = looker.saturating_add(1);
-    let dir = asked(alloc, dir, process, request)?;
-    let reply = match last_reply(dir.history().as_slice(), process) {
-        Some(reply) => reply.copy()?,
-        None => Reply::Done,
-    };
-    stage.dir = Some(dir);
-    Ok(reply)
-}
-
-fn inner(alloc: Global, spot: Spot, path: &str) -> Result<Inner, NoMemory> {
-    Ok(Inner {
-        spot,
-        path: Bytes::of(alloc, path.as_bytes())?,
-    })
-}
-
-fn joined(alloc: Global, path: &str, name: &str) -> Result<String, NoMemory> {
-    if path.is_empty() {
-        return Ok(String::from_str(alloc, name)?);
+pub fn see(page: &mut Page, stage: &mut Stage, request: Request) -> Reply {
+    if let Some(reply) = reply_to(page.alloc(), stage, request) {
+        return reply;
     }
-    Ok(format!(in alloc; "{path}/{name}")?)
+    page.no_memory();
+    Reply::Done
 }
 
-fn print_file(rt: &HostRuntime, stage: &mut Stage, spot: Spot, path: &str) -> Result<(), Refusal> {
+fn inner(page: &mut Page, spot: Spot, path: &str) -> Inner {
+    let path = page.bytes(path.as_bytes());
+    Inner { spot, path }
+}
+
+fn joined(page: &mut Page, path: &str, name: &str) -> String {
+    if path.is_empty() {
+        return page.text(name);
+    }
+    match format!(in page.alloc(); "{path}/{name}") {
+        Ok(text) => text,
+        Err(_) => {
+            page.no_memory();
+            String::new(page.alloc())
+        }
+    }
+}
+
+fn print_file(page: &mut Page, stage: &mut Stage, spot: Spot, path: &str) {
     let request = Request::ReadIn {
-        inner: inner(rt.alloc(), spot, path)?,
+        inner: inner(page, spot, path),
         at: 0,
         room: 1_000_000,
     };
-    if let Reply::Read(bytes) = &see(rt.alloc(), stage, request)?
+    if let Reply::Read(bytes) = &see(page, stage, request)
         && !bytes.as_slice().is_empty()
     {
-        print!(rt; " ")?;
-        print_bytes(rt, bytes.as_slice(), 600)?;
+        page.put(" ");
+        print_bytes(page, bytes.as_slice(), 600);
     }
-    Ok(())
 }
 
-fn print_item(
-    rt: &HostRuntime,
-    stage: &mut Stage,
-    spot: Spot,
-    kind: ItemKind,
-    path: &str,
-) -> Result<(), Refusal> {
-    print!(rt; "  {} {path}", item_kind_text(kind))?;
+fn print_item(page: &mut Page, stage: &mut Stage, spot: Spot, kind: ItemKind, path: &str) {
+    page.put("  ");
+    page.put(item_kind_text(kind));
+    page.put(" ");
+    page.put(path);
     if kind == ItemKind::File {
-        print_file(rt, stage, spot, path)?;
+        print_file(page, stage, spot, path);
     }
-    println!(rt; "")?;
-    Ok(())
+    page.put("\n");
 }
 
 // What stands in a directory of a folder. The directories among it go to the end of the list.
-fn print_directory(
-    rt: &HostRuntime,
-    names: &ShortNames,
+fn print_items(
+    page: &mut Page,
     stage: &mut Stage,
     spot: &Spot,
-    place: usize,
+    path: &str,
+    items: &[Item],
     paths: &mut Vec<String>,
-) -> Result<(), Refusal> {
-    let path = match paths.get(place) {
-        Some(path) => String::from_str(rt.alloc(), path.as_str())?,
-        None => return Ok(()),
-    };
-    let request = Request::ListIn(inner(rt.alloc(), *spot, path.as_str())?);
-    let reply = see(rt.alloc(), stage, request)?;
-    let Reply::Items(items) = &reply else {
-        print!(rt; "  ")?;
-        print_reply(rt, names, &reply)?;
-        println!(rt; "")?;
-        return Ok(());
-    };
-    for item in items.as_slice() {
-        let path = joined(rt.alloc(), path.as_str(), item.name.as_str())?;
-        print_item(rt, stage, *spot, item.kind, path.as_str())?;
+) {
+    for item in items {
+        let path = joined(page, path, item.name.as_str());
+        print_item(page, stage, *spot, item.kind, path.as_str());
         if item.kind == ItemKind::Dir {
-            paths.push(path)?;
+            page.push(paths, path);
         }
     }
-    Ok(())
 }
 
-// What stands in each directory of the list, which grows meanwhile.
-fn print_directories(
-    rt: &HostRuntime,
+fn print_directory(
+    page: &mut Page,
     names: &ShortNames,
     stage: &mut Stage,
     spot: &Spot,
+    path: &str,
     paths: &mut Vec<String>,
-) -> Result<(), Refusal> {
-    for place in 0..200 {
-        print_directory(rt, names, stage, spot, place, paths)?;
+) {
+    let request = Request::ListIn(inner(page, *spot, path));
+    let reply = see(page, stage, request);
+    if let Reply::Items(items) = &reply {
+        return print_items(page, stage, spot, path, items.as_slice(), paths);
     }
-    Ok(())
+    page.put("  ");
+    print_reply(page, names, &reply);
+    page.put("\n");
 }
 
 /// Prints what stands in a folder, one line each: its kind, its path, and of a file its text; at most 200
 /// directories.
-pub fn print_tree(
-    rt: &HostRuntime,
-    names: &ShortNames,
-    stage: &mut Stage,
-    spot: Spot,
-) -> Result<(), Refusal> {
-    let mut paths = Vec::new(rt.alloc());
-    paths.push(String::new(rt.alloc()))?;
-    print_directories(rt, names, stage, &spot, &mut paths)
+pub fn print_tree(page: &mut Page, names: &ShortNames, stage: &mut Stage, spot: Spot) {
+    let spot = &spot;
+    let mut paths = Vec::new(page.alloc());
+    let root = String::new(page.alloc());
+    page.push(&mut paths, root);
+    for place in 0..200 {
+        let path = match paths.get(place) {
+            Some(path) => page.text(path.as_str()),
+            None => break,
+        };
+        print_directory(page, names, stage, spot, path.as_str(), &mut paths);
+    }
 }

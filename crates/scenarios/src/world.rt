@@ -5,7 +5,7 @@ use crate::printed::{print_broken, print_differences, print_ended, print_events,
 use crate::run::{command_of, run_next};
 use crate::seen::{print_tree, see};
 use crate::stage::Stage;
-use scripts::{Line, Player, Refusal, ShortNames, Unread, print_reply, request_of, spot_of};
+use scripts::{Line, Page, Player, ShortNames, Unread, print_reply, request_of, spot_of};
 use std::alloc::Global;
 
 /// The short names, the scenario that is played, and the place of its first line.
@@ -16,76 +16,57 @@ pub struct World {
     start: usize,
 }
 
-fn print_command(
-    rt: &HostRuntime,
-    names: &ShortNames,
-    stage: &mut Stage,
-    line: &mut Line,
-) -> Result<(), Refusal> {
-    let command = command_of(rt.alloc(), names, line)?;
-    let (ended, number) = run_next(rt.alloc(), stage, &command)?;
-    print_ended(rt, names, &ended)?;
-    print_broken(rt, stage, number)?;
-    print_differences(rt, names, stage)
-}
-
-fn print_seen(
-    rt: &HostRuntime,
-    names: &ShortNames,
-    stage: &mut Stage,
-    line: &mut Line,
-) -> Result<(), Refusal> {
-    let request = request_of(rt.alloc(), names, line)?;
-    let reply = see(rt.alloc(), stage, request)?;
-    print!(rt; "  ")?;
-    print_reply(rt, names, &reply)?;
-    println!(rt; "")?;
-    Ok(())
-}
-
-fn print_calls(
-    rt: &HostRuntime,
-    names: &ShortNames,
-    stage: &Stage,
-    line: &mut Line,
-) -> Result<(), Refusal> {
-    let process = line.short_number()?;
-    match &stage.dir {
-        Some(dir) => print_events(rt, names, dir.history().as_slice(), process),
-        None => Ok(()),
+fn print_command(page: &mut Page, names: &ShortNames, stage: &mut Stage, line: &mut Line) {
+    let command = command_of(page, names, line);
+    if let Some((ended, number)) = run_next(page, stage, &command) {
+        print_ended(page, names, &ended);
+        print_broken(page, stage, number);
+        print_differences(page, names, stage);
     }
 }
 
-fn print_folder(
-    rt: &HostRuntime,
-    names: &ShortNames,
-    stage: &mut Stage,
-    line: &mut Line,
-) -> Result<(), Refusal> {
+fn print_seen(page: &mut Page, names: &ShortNames, stage: &mut Stage, line: &mut Line) {
+    let request = request_of(page, names, line);
+    let reply = see(page, stage, request);
+    page.put("  ");
+    print_reply(page, names, &reply);
+    page.put("\n");
+}
+
+fn print_calls(page: &mut Page, names: &ShortNames, stage: &Stage, line: &mut Line) {
+    let process = line.short_number(page);
+    if let Some(dir) = &stage.dir {
+        print_events(page, names, dir.history().as_slice(), process);
+    }
+}
+
+fn print_folder(page: &mut Page, names: &ShortNames, stage: &mut Stage, line: &mut Line) {
     let area = line.word();
-    let spot = spot_of(area, names.long(line.word()))?;
-    print_tree(rt, names, stage, spot)
+    let spot = spot_of(page, area, names.long(line.word()));
+    print_tree(page, names, stage, spot);
+}
+
+fn print_rules(page: &mut Page, stage: &Stage, line: &mut Line) {
+    let process = line.short_number(page);
+    print_broken(page, stage, process);
 }
 
 // A line that is no title and defines no name.
-fn play_line(
-    rt: &HostRuntime,
-    names: &ShortNames,
-    stage: &mut Stage,
-    before: &Before,
-    text: &str,
-) -> Result<(), Refusal> {
+fn play_line(page: &mut Page, names: &ShortNames, stage: &mut Stage, before: &Before, text: &str) {
     let mut line = Line::of(text);
     match line.word() {
-        "at" => print_command(rt, names, stage, &mut line),
-        "see" => print_seen(rt, names, stage, &mut line),
-        "tree" => print_folder(rt, names, stage, &mut line),
-        "phases" => print_phases(rt, names, stage),
-        "calls" => print_calls(rt, names, stage, &mut line),
-        "rules" => print_broken(rt, stage, line.short_number()?),
-        "each" => print_each(rt, names, before, &mut line),
-        _ if set(rt.alloc(), names, stage, text)? => Ok(()),
-        _ => Err(Refusal::Unread(Unread::Line)),
+        "at" => print_command(page, names, stage, &mut line),
+        "see" => print_seen(page, names, stage, &mut line),
+        "tree" => print_folder(page, names, stage, &mut line),
+        "phases" => print_phases(page, names, stage),
+        "calls" => print_calls(page, names, stage, &mut line),
+        "rules" => print_rules(page, stage, &mut line),
+        "each" => print_each(page, names, before, &mut line),
+        _ => {
+            if !set(page, names, stage, text) {
+                page.unread(Unread::Line);
+            }
+        }
     }
 }
 
@@ -100,51 +81,46 @@ impl World {
     }
 
     // A title begins a scenario, in an empty data folder; a comment inside of one doesn't.
-    fn begin(&mut self, alloc: Global, place: usize) -> Result<(), Refusal> {
+    fn begin(&mut self, page: &mut Page, place: usize) {
         if self.stage.is_none() {
-            self.stage = Some(Stage::new(alloc)?);
+            self.stage = page.made(Stage::new(page.alloc()));
             self.start = place.saturating_add(1);
         }
-        Ok(())
     }
 
     // The scenario goes on from where the block with that title ended.
-    fn follow(&mut self, alloc: Global, lines: &[String], title: &str) -> Result<(), Refusal> {
+    fn follow(&mut self, page: &mut Page, lines: &[String], title: &str) {
         match Before::block(lines, title) {
-            Some(before) => self.stage = Some(before.stage(alloc, &self.names)?),
-            None => return Err(Refusal::Unread(Unread::Name)),
+            Some(before) => self.stage = before.stage(page, &self.names),
+            None => page.unread(Unread::Name),
         }
-        Ok(())
+    }
+
+    fn play_in(&mut self, page: &mut Page, before: &Before, text: &str) {
+        match &mut self.stage {
+            Some(stage) => play_line(page, &self.names, stage, before, text),
+            None => page.unread(Unread::Line),
+        }
     }
 }
 
 impl Player for World {
-    fn play(&mut self, rt: &HostRuntime, lines: &[String], place: usize) -> Result<(), Refusal> {
+    fn play(&mut self, page: &mut Page, lines: &[String], place: usize) {
         let text = match lines.get(place) {
             Some(text) => text.as_str(),
-            None => return Ok(()),
+            None => return,
         };
-        if text.is_empty() {
-            self.stage = None;
-            return Ok(());
-        }
-        if text.starts_with("# ") {
-            return self.begin(rt.alloc(), place);
-        }
-        if let Some(definition) = text.strip_prefix("let ") {
-            return self.names.define(rt.alloc(), definition);
-        }
-        if let Some(title) = text.strip_prefix("after ") {
-            return self.follow(rt.alloc(), lines, title);
-        }
         let before = Before {
             lines,
             from: self.start,
             to: place,
         };
-        match &mut self.stage {
-            Some(stage) => play_line(rt, &self.names, stage, &before, text),
-            None => Err(Refusal::Unread(Unread::Line)),
+        match text.split_once(' ') {
+            None if text.is_empty() => self.stage = None,
+            Some(("#", _)) => self.begin(page, place),
+            Some(("let", definition)) => self.names.define(page, definition),
+            Some(("after", title)) => self.follow(page, lines, title),
+            _ => self.play_in(page, &before, text),
         }
     }
 }

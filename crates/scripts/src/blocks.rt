@@ -1,6 +1,5 @@
 // The blocks of a script: lines between two empty ones.
-use crate::refusal::Refusal;
-use std::alloc::Global;
+use crate::page::Page;
 
 /// Whether something is said by the line: it is neither a comment nor an answer nor empty.
 pub fn says(line: &str) -> bool {
@@ -28,18 +27,14 @@ fn start_of(lines: &[String], place: usize) -> usize {
 }
 
 /// What is said above a place in its block.
-pub fn block_above<'a>(
-    alloc: Global,
-    lines: &'a [String],
-    place: usize,
-) -> Result<Vec<&'a str>, Refusal> {
+pub fn block_above<'a>(page: &mut Page, lines: &'a [String], place: usize) -> Vec<&'a str> {
     let start = start_of(lines, place);
     let count = place.saturating_sub(start);
-    let mut block = Vec::new(alloc);
+    let mut block = Vec::new(page.alloc());
     for line in lines.iter().skip(start).take(count) {
         if says(line.as_str()) {
-            block.push(line.as_str())?;
+            page.push(&mut block, line.as_str());
         }
     }
-    Ok(block)
+    block
 }

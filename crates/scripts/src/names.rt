@@ -1,5 +1,6 @@
 // Short names of long texts.
-use crate::refusal::{Refusal, Unread};
+use crate::page::Page;
+use crate::refusal::Unread;
 use crate::texts::unfolded;
 use std::alloc::Global;
 
@@ -24,16 +25,16 @@ impl ShortNames {
         }
     }
 
-    /// Gives a text a short name, as a line `NAME = TEXT` says it. Refused where it has no such form, and
-    /// where memory ran out.
-    pub fn define(&mut self, alloc: Global, line: &str) -> Result<(), Refusal> {
-        let Some((short, text)) = line.split_once(" = ") else {
-            return Err(Refusal::Unread(Unread::Missing));
-        };
-        let short = String::from_str(alloc, short)?;
-        let long = unfolded(alloc, text)?;
-        self.rows.push(ShortName { short, long })?;
-        Ok(())
+    /// Gives a text a short name, as a line `NAME = TEXT` says it. Refused where it has no such form.
+    pub fn define(&mut self, page: &mut Page, line: &str) {
+        match line.split_once(" = ") {
+            Some((short, text)) => {
+                let short = page.text(short);
+                let long = unfolded(page, text);
+                page.push(&mut self.rows, ShortName { short, long });
+            }
+            None => page.unread(Unread::Missing),
+        }
     }
 
     /// How many there are.
@@ -68,24 +69,11 @@ impl ShortNames {
         ("", word)
     }
 
-    fn push_short(&self, whole: &mut String, text: &str) -> Result<(), Refusal> {
+    /// Prints the text, in which each word that begins with a long text begins with its name.
+    pub fn print(&self, page: &mut Page, text: &str) {
         for (place, word) in text.split(' ').enumerate() {
             let (short, rest) = self.short(word);
-            if place > 0 {
-                whole.push(' ')?;
-            }
-            whole.push_str(short)?;
-            whole.push_str(rest)?;
+            page.put_all(&[if place > 0 { " " } else { "" }, short, rest]);
         }
-        Ok(())
-    }
-
-    /// Prints the text, in which each word that begins with a long text begins with its name. Refused
-    /// only where memory ran out or the output took no more.
-    pub fn print(&self, rt: &HostRuntime, text: &str) -> Result<(), Refusal> {
-        let mut whole = String::new(rt.alloc());
-        self.push_short(&mut whole, text)?;
-        print!(rt; "{whole}")?;
-        Ok(())
     }
 }

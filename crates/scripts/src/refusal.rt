@@ -1,11 +1,9 @@
 // Why a script ends before its end.
-use dir_model::NoMemory;
-use std::alloc::{AllocError, AllocFailed};
-use std::error::Error;
+use std::alloc::AllocFailed;
 use std::{fmt, io};
 
 /// What a line of a script has that can't be read.
-#[derive(Clone, Copy, Debug, PartialEq, Eq)]
+#[derive(Clone, Copy)]
 pub enum Unread {
     /// The line says nothing that the program knows.
     Line,
@@ -26,7 +24,7 @@ pub enum Unread {
 }
 
 /// Why a script ends before its end.
-#[derive(Clone, Copy, Debug, PartialEq, Eq)]
+#[derive(Clone, Copy)]
 pub enum Refusal {
     /// The line can't be read.
     Unread(Unread),
@@ -54,20 +52,6 @@ fn what(refusal: Refusal) -> &'static str {
 impl fmt::Display for Refusal {
     fn fmt<W: fmt::Write>(&self, f: &mut fmt::Formatter<W>) -> fmt::Result {
         f.write_str(what(*self))
-    }
-}
-
-impl Error for Refusal {}
-
-impl From<NoMemory> for Refusal {
-    fn from(_error: NoMemory) -> Refusal {
-        Refusal::NoMemory
-    }
-}
-
-impl From<AllocError> for Refusal {
-    fn from(_error: AllocError) -> Refusal {
-        Refusal::NoMemory
     }
 }
 

@@ -1,109 +1,132 @@
 // What is answered, in words.
 use crate::line::Line;
 use crate::names::ShortNames;
-use crate::refusal::{Refusal, Unread};
+use crate::page::Page;
+use crate::refusal::Unread;
 use crate::texts::{print_bytes, unfolded};
-use crate::words::{error_of, error_text, item_kind_of, item_kind_text};
-use dir_model::{Bytes, DirError, FileName, Handle, Item, Items, Name, Names, Reply};
-use std::alloc::Global;
+use crate::words::{error_of, error_text, item_kind_of, item_kind_text, name_of};
+use dir_model::{DirError, FileName, Handle, Item, Items, Names, Reply};
 
-fn names_of(alloc: Global, short: &ShortNames, line: &mut Line) -> Result<Reply, Refusal> {
-    let mut names = Vec::new(alloc);
-    for word in line.rest().split(' ') {
-        match Name::of(short.long(word)) {
-            Some(name) => names.push(name)?,
-            None if word.is_empty() => (),
-            None => return Err(Refusal::Unread(Unread::Name)),
-        }
-    }
-    Ok(Reply::Names(Names::from_vec(names)))
-}
-
-fn item_of(word: &str) -> Result<Item, Refusal> {
-    let Some((kind, name)) = word.split_once(':') else {
-        return Err(Refusal::Unread(Unread::Missing));
-    };
-    let kind = item_kind_of(kind)?;
-    match FileName::of(name) {
-        Some(name) => Ok(Item { name, kind }),
-        None => Err(Refusal::Unread(Unread::Name)),
-    }
-}
-
-fn items_of(alloc: Global, line: &mut Line) -> Result<Reply, Refusal> {
-    let mut items = Vec::new(alloc);
+fn names_of(page: &mut Page, short: &ShortNames, line: &mut Line) -> Reply {
+    let mut names = Vec::new(page.alloc());
     for word in line.rest().split(' ') {
         if !word.is_empty() {
-            items.push(item_of(word)?)?;
+            let name = name_of(page, short.long(word));
+            page.push(&mut names, name);
         }
     }
-    Ok(Reply::Items(Items::from_vec(items)))
+    Reply::Names(Names::from_vec(names))
 }
 
-fn refused(error: DirError, line: &mut Line) -> Result<Reply, Refusal> {
-    match line.word() {
-        "left" => Ok(Reply::Refused {
-            error,
-            left: line.number()?,
-        }),
-        "" => Ok(Reply::Refused { error, left: 0 }),
-        _ => Err(Refusal::Unread(Unread::Word)),
+fn add_item(page: &mut Page, items: &mut Vec<Item>, word: &str) {
+    let Some((kind, name)) = word.split_once(':') else {
+        return page.unread(Unread::Missing);
+    };
+    let kind = item_kind_of(page, kind);
+    match FileName::of(name) {
+        Some(name) => page.push(items, Item { name, kind }),
+        None => page.unread(Unread::Name),
     }
+}
+
+fn items_of(page: &mut Page, line: &mut Line) -> Reply {
+    let mut items = Vec::new(page.alloc());
+    for word in line.rest().split(' ') {
+        if !word.is_empty() {
+            add_item(page, &mut items, word);
+        }
+    }
+    Reply::Items(Items::from_vec(items))
+}
+
+fn read(page: &mut Page, names: &ShortNames, line: &mut Line) -> Reply {
+    let text = unfolded(page, names.long(line.rest()));
+    Reply::Read(page.bytes(text.as_bytes()))
+}
+
+fn opened(page: &mut Page, line: &mut Line) -> Reply {
+    let number = line.short_number(page);
+    Reply::Opened(Handle { number })
+}
+
+// How many bytes were left: none where it isn't said.
+fn left_of(page: &mut Page, line: &mut Line) -> u64 {
+    match line.word() {
+        "left" => return line.number(page),
+        "" => (),
+        _ => page.unread(Unread::Word),
+    }
+    0
+}
+
+fn refused(page: &mut Page, verb: &str, line: &mut Line) -> Reply {
+    let error = error_of(page, verb);
+    let left = left_of(page, line);
+    Reply::Refused { error, left }
 }
 
 /// The reply that the words of the line name: `done`, `begun`, `opened HANDLE`, `names NAME..`,
 /// `items KIND:NAME..` with the kinds `dir`, `file` and `other`, `read TEXT`, or why it was refused:
 /// `missing`, `exists`, `not-empty`, `locked`, `failed` or `no-memory`, maybe with `left N`. Refused where
-/// the words name none, and where memory ran out.
-pub fn reply_of(alloc: Global, names: &ShortNames, line: &mut Line) -> Result<Reply, Refusal> {
+/// the words name none.
+pub fn reply_of(page: &mut Page, names: &ShortNames, line: &mut Line) -> Reply {
     let verb = line.word();
     match verb {
-        "done" => Ok(Reply::Done),
-        "begun" => Ok(Reply::Begun),
-        "opened" => Ok(Reply::Opened(Handle {
-            number: line.short_number()?,
-        })),
-        "names" => names_of(alloc, names, line),
-        "items" => items_of(alloc, line),
-        "read" => {
-            let text = unfolded(alloc, names.long(line.rest()))?;
-            Ok(Reply::Read(Bytes::of(alloc, text.as_bytes())?))
-        }
-        _ => refused(error_of(verb)?, line),
+        "done" => Reply::Done,
+        "begun" => Reply::Begun,
+        "opened" => opened(page, line),
+        "names" => names_of(page, names, line),
+        "items" => items_of(page, line),
+        "read" => read(page, names, line),
+        _ => refused(page, verb, line),
     }
 }
 
-fn print_names(rt: &HostRuntime, short: &ShortNames, names: &Names) -> Result<(), Refusal> {
-    print!(rt; "names")?;
+fn print_names(page: &mut Page, short: &ShortNames, names: &Names) {
+    page.put("names");
     for name in names.as_slice() {
-        print!(rt; " ")?;
-        short.print(rt, name.as_str())?;
+        page.put(" ");
+        short.print(page, name.as_str());
     }
-    Ok(())
 }
 
-fn print_items(rt: &HostRuntime, items: &Items) -> Result<(), Refusal> {
-    print!(rt; "items")?;
+fn print_items(page: &mut Page, items: &Items) {
+    page.put("items");
     for item in items.as_slice() {
-        print!(rt; " {}:{}", item_kind_text(item.kind), item.name.as_str())?;
+        page.put(" ");
+        page.put(item_kind_text(item.kind));
+        page.put(":");
+        page.put(item.name.as_str());
     }
-    Ok(())
 }
 
-/// Prints the words of a reply. Refused only where memory ran out or the output took no more.
-pub fn print_reply(rt: &HostRuntime, names: &ShortNames, reply: &Reply) -> Result<(), Refusal> {
-    match reply {
-        Reply::Done => print!(rt; "done")?,
-        Reply::Begun => print!(rt; "begun")?,
-        Reply::Opened(handle) => print!(rt; "opened {}", handle.number)?,
-        Reply::Names(told) => print_names(rt, names, told)?,
-        Reply::Items(items) => print_items(rt, items)?,
-        Reply::Read(bytes) => {
-            print!(rt; "read ")?;
-            print_bytes(rt, bytes.as_slice(), 1000)?;
-        }
-        Reply::Refused { error, left: 0 } => print!(rt; "{}", error_text(*error))?,
-        Reply::Refused { error, left } => print!(rt; "{} left {left}", error_text(*error))?,
+fn print_opened(page: &mut Page, handle: &Handle) {
+    page.put("opened ");
+    page.tell(&handle.number);
+}
+
+fn print_read(page: &mut Page, bytes: &[u8]) {
+    page.put("read ");
+    print_bytes(page, bytes, 1000);
+}
+
+fn print_refused(page: &mut Page, error: DirError, left: u64) {
+    page.put(error_text(error));
+    if left > 0 {
+        page.put(" left ");
+        page.tell(&left);
     }
-    Ok(())
+}
+
+/// Prints the words of a reply.
+pub fn print_reply(page: &mut Page, names: &ShortNames, reply: &Reply) {
+    match reply {
+        Reply::Done => page.put("done"),
+        Reply::Begun => page.put("begun"),
+        Reply::Opened(handle) => print_opened(page, handle),
+        Reply::Names(told) => print_names(page, names, told),
+        Reply::Items(items) => print_items(page, items),
+        Reply::Read(bytes) => print_read(page, bytes.as_slice()),
+        Reply::Refused { error, left } => print_refused(page, *error, *left),
+    }
 }

@@ -1,155 +1,137 @@
 // What is asked of the directory, in words.
 use crate::line::Line;
 use crate::names::ShortNames;
-use crate::refusal::{Refusal, Unread};
+use crate::page::Page;
+use crate::refusal::Unread;
 use crate::texts::{print_bytes, unfolded};
 use crate::words::{
     area_of, area_text, kind_of, kind_text, mode_of, mode_text, pod_of, spot_of, which_of,
     which_text,
 };
-use dir_model::{Bytes, Handle, Inner, Intent, PodId, PodPrefix, Request, Spot};
-use std::alloc::Global;
+use dir_model::{
+    Area, Bytes, Handle, Inner, Intent, Kind, Mode, PodId, PodPrefix, Request, Spot, Which,
+};
 
 // At the moment 5, with no time to wait and a draw of its own.
-fn plain_intent(kind: &str) -> Result<Intent, Refusal> {
-    Ok(Intent {
-        kind: kind_of(kind)?,
+fn plain_intent(kind: Kind) -> Intent {
+    Intent {
+        kind,
         word: PodPrefix::empty(),
         now: 5,
         grace: 0,
         expire: 0,
         draw: PodId { bytes: [1; 16] },
         token: [1; 16],
-    })
+    }
 }
 
-fn word_of(word: &str) -> Result<PodPrefix, Refusal> {
-    PodPrefix::parse(word).ok_or(Refusal::Unread(Unread::Name))
+fn word_of(page: &mut Page, word: &str) -> PodPrefix {
+    if let Some(prefix) = PodPrefix::parse(word) {
+        return prefix;
+    }
+    page.unread(Unread::Name);
+    PodPrefix::empty()
 }
 
-// The process's intent with one more thing said of it.
-fn noted(
-    names: &ShortNames,
-    intent: Intent,
-    key: &str,
-    line: &mut Line,
-) -> Result<Intent, Refusal> {
-    let mut intent = intent;
+// One more thing that is said of the process's intent.
+fn note(page: &mut Page, names: &ShortNames, intent: &mut Intent, key: &str, line: &mut Line) {
     match key {
-        "word" => intent.word = word_of(names.long(line.word()))?,
-        "now" => intent.now = line.number()?,
-        "grace" => intent.grace = line.number()?,
-        "expire" => intent.expire = line.number()?,
-        "draw" => intent.draw = pod_of(names.long(line.word()))?,
+        "word" => intent.word = word_of(page, names.long(line.word())),
+        "now" => intent.now = line.number(page),
+        "grace" => intent.grace = line.number(page),
+        "expire" => intent.expire = line.number(page),
+        "draw" => intent.draw = pod_of(page, names.long(line.word())),
         "token" => {
-            let token = pod_of(names.long(line.word()))?.bytes;
+            let token = pod_of(page, names.long(line.word())).bytes;
             intent.token = token;
         }
-        _ => return Err(Refusal::Unread(Unread::Word)),
+        _ => page.unread(Unread::Word),
     }
-    Ok(intent)
 }
 
-fn intent_of(names: &ShortNames, line: &mut Line) -> Result<Intent, Refusal> {
-    let mut intent = plain_intent(line.word())?;
+fn intent_of(page: &mut Page, names: &ShortNames, line: &mut Line) -> Intent {
+    let mut intent = plain_intent(kind_of(page, line.word()));
     for _ in 0..6 {
         let key = line.word();
         if key.is_empty() {
             break;
         }
-        intent = noted(names, intent, key, line)?;
+        note(page, names, &mut intent, key, line);
     }
-    Ok(intent)
+    intent
 }
 
-fn spot(names: &ShortNames, line: &mut Line) -> Result<Spot, Refusal> {
+fn spot(page: &mut Page, names: &ShortNames, line: &mut Line) -> Spot {
     let area = line.word();
-    spot_of(area, names.long(line.word()))
+    spot_of(page, area, names.long(line.word()))
 }
 
-fn handle(line: &mut Line) -> Result<Handle, Refusal> {
-    let number = line.short_number()?;
-    Ok(Handle { number })
+fn handle(page: &mut Page, line: &mut Line) -> Handle {
+    let number = line.short_number(page);
+    Handle { number }
 }
 
 // The path is `.` for the folder itself.
-fn inner(alloc: Global, names: &ShortNames, line: &mut Line) -> Result<Inner, Refusal> {
-    let spot = spot(names, line)?;
-    let path = unfolded(alloc, names.long(line.word()))?;
-    let path = if path.as_str() == "." {
-        ""
-    } else {
-        path.as_str()
+fn inner(page: &mut Page, names: &ShortNames, line: &mut Line) -> Inner {
+    let spot = spot(page, names, line);
+    let path = unfolded(page, names.long(line.word()));
+    let path = match path.as_str() {
+        "." => page.bytes(&[]),
+        path => page.bytes(path.as_bytes()),
     };
-    Ok(Inner {
-        spot,
-        path: Bytes::of(alloc, path.as_bytes())?,
-    })
+    Inner { spot, path }
 }
 
-fn moved(names: &ShortNames, line: &mut Line) -> Result<Request, Refusal> {
-    let from = spot(names, line)?;
-    let area = area_of(line.word())?;
+fn moved(page: &mut Page, names: &ShortNames, line: &mut Line) -> Request {
+    let from = spot(page, names, line);
+    let area = line.word();
     let to = match line.word() {
-        "" => Spot {
-            area,
-            name: from.name,
-        },
-        name => spot_of(area_text(area), names.long(name))?,
+        "" => spot_of(page, area, from.name.as_str()),
+        name => spot_of(page, area, names.long(name)),
     };
-    Ok(Request::MoveFolder { from, to })
+    Request::MoveFolder { from, to }
 }
 
-fn opened(names: &ShortNames, line: &mut Line) -> Result<Request, Refusal> {
-    let spot = spot(names, line)?;
-    let which = which_of(line.word())?;
-    Ok(Request::Open { spot, which })
+fn opened(page: &mut Page, names: &ShortNames, line: &mut Line) -> Request {
+    let spot = spot(page, names, line);
+    let which = which_of(page, line.word());
+    Request::Open { spot, which }
 }
 
-fn locked(line: &mut Line) -> Result<Request, Refusal> {
-    let handle = handle(line)?;
-    let mode = mode_of(line.word())?;
-    Ok(Request::TryLock { handle, mode })
+fn locked(page: &mut Page, line: &mut Line) -> Request {
+    let handle = handle(page, line);
+    let mode = mode_of(page, line.word());
+    Request::TryLock { handle, mode }
 }
 
-fn appended(alloc: Global, names: &ShortNames, line: &mut Line) -> Result<Request, Refusal> {
-    let text = {
-        let mut ahead = *line;
-        let _area = ahead.word();
-        let _name = ahead.word();
-        let _path = ahead.word();
-        unfolded(alloc, names.long(ahead.rest()))?
-    };
-    let piece = Bytes::of(alloc, text.as_bytes())?;
-    let inner = inner(alloc, names, line)?;
-    Ok(Request::AppendIn { inner, piece })
+fn appended(page: &mut Page, names: &ShortNames, line: &mut Line) -> Request {
+    let inner = inner(page, names, line);
+    let text = unfolded(page, names.long(line.rest()));
+    let piece = page.bytes(text.as_bytes());
+    Request::AppendIn { inner, piece }
 }
 
-fn read(alloc: Global, names: &ShortNames, line: &mut Line) -> Result<Request, Refusal> {
-    let inner = inner(alloc, names, line)?;
-    Ok(Request::ReadIn {
-        inner,
-        at: line.number()?,
-        room: line.number()?,
-    })
+fn read(page: &mut Page, names: &ShortNames, line: &mut Line) -> Request {
+    let inner = inner(page, names, line);
+    let at = line.number(page);
+    let room = line.number(page);
+    Request::ReadIn { inner, at, room }
 }
 
-fn request_in(
-    alloc: Global,
-    names: &ShortNames,
-    verb: &str,
-    line: &mut Line,
-) -> Result<Request, Refusal> {
+fn request_in(page: &mut Page, names: &ShortNames, verb: &str, line: &mut Line) -> Request {
     match verb {
-        "list-in" => Ok(Request::ListIn(inner(alloc, names, line)?)),
-        "make-dir" => Ok(Request::MakeDirIn(inner(alloc, names, line)?)),
-        "make-file" => Ok(Request::MakeFileIn(inner(alloc, names, line)?)),
-        "append" => appended(alloc, names, line),
-        "read" => read(alloc, names, line),
-        "sync" => Ok(Request::SyncIn(inner(alloc, names, line)?)),
-        "remove-file" => Ok(Request::RemoveFileIn(inner(alloc, names, line)?)),
-        "remove-dir" => Ok(Request::RemoveDirIn(inner(alloc, names, line)?)),
-        _ => Err(Refusal::Unread(Unread::Word)),
+        "list-in" => Request::ListIn(inner(page, names, line)),
+        "make-dir" => Request::MakeDirIn(inner(page, names, line)),
+        "make-file" => Request::MakeFileIn(inner(page, names, line)),
+        "append" => appended(page, names, line),
+        "read" => read(page, names, line),
+        "sync" => Request::SyncIn(inner(page, names, line)),
+        "remove-file" => Request::RemoveFileIn(inner(page, names, line)),
+        "remove-dir" => Request::RemoveDirIn(inner(page, names, line)),
+        _ => {
+            page.unread(Unread::Word);
+            Request::Finish
+        }
     }
 }
 
@@ -159,119 +141,121 @@ fn request_in(
 /// `open-area AREA`, `lock HANDLE shared|exclusive`, `close HANDLE`, `list AREA`, `sync-area AREA`,
 /// `list-in`, `make-dir`, `make-file`, `sync`, `remove-file` and `remove-dir AREA NAME PATH`,
 /// `append AREA NAME PATH TEXT`, `read AREA NAME PATH AT ROOM`. The path `.` is the folder itself.
-/// Refused where the words name none, and where memory ran out.
-pub fn request_of(alloc: Global, names: &ShortNames, line: &mut Line) -> Result<Request, Refusal> {
+/// Refused where the words name none.
+pub fn request_of(page: &mut Page, names: &ShortNames, line: &mut Line) -> Request {
     let verb = line.word();
     match verb {
-        "begin" => Ok(Request::Begin(intent_of(names, line)?)),
-        "finish" => Ok(Request::Finish),
-        "kill" => Ok(Request::Kill),
-        "make" => Ok(Request::MakeFolder(spot(names, line)?)),
-        "move" => moved(names, line),
-        "remove" => Ok(Request::RemoveFolder(spot(names, line)?)),
-        "open" => opened(names, line),
-        "open-area" => Ok(Request::OpenArea(area_of(line.word())?)),
-        "lock" => locked(line),
-        "close" => Ok(Request::Close(handle(line)?)),
-        "list" => Ok(Request::ListArea(area_of(line.word())?)),
-        "sync-area" => Ok(Request::SyncArea(area_of(line.word())?)),
-        _ => request_in(alloc, names, verb, line),
+        "begin" => Request::Begin(intent_of(page, names, line)),
+        "finish" => Request::Finish,
+        "kill" => Request::Kill,
+        "make" => Request::MakeFolder(spot(page, names, line)),
+        "move" => moved(page, names, line),
+        "remove" => Request::RemoveFolder(spot(page, names, line)),
+        "open" => opened(page, names, line),
+        "open-area" => Request::OpenArea(area_of(page, line.word())),
+        "lock" => locked(page, line),
+        "close" => Request::Close(handle(page, line)),
+        "list" => Request::ListArea(area_of(page, line.word())),
+        "sync-area" => Request::SyncArea(area_of(page, line.word())),
+        _ => request_in(page, names, verb, line),
     }
 }
 
-fn print_spot(
-    rt: &HostRuntime,
-    names: &ShortNames,
-    verb: &str,
-    spot: &Spot,
-) -> Result<(), Refusal> {
-    print!(rt; "{verb} {} ", area_text(spot.area))?;
-    names.print(rt, spot.name.as_str())
+fn print_area(page: &mut Page, verb: &str, area: Area) {
+    page.put(verb);
+    page.put(" ");
+    page.put(area_text(area));
 }
 
-fn print_inner(
-    rt: &HostRuntime,
-    names: &ShortNames,
-    verb: &str,
-    inner: &Inner,
-) -> Result<(), Refusal> {
-    print_spot(rt, names, verb, &inner.spot)?;
-    print!(rt; " ")?;
+fn print_spot(page: &mut Page, names: &ShortNames, verb: &str, spot: &Spot) {
+    print_area(page, verb, spot.area);
+    page.put(" ");
+    names.print(page, spot.name.as_str());
+}
+
+fn print_inner(page: &mut Page, names: &ShortNames, verb: &str, inner: &Inner) {
+    print_spot(page, names, verb, &inner.spot);
+    page.put(" ");
     match inner.path.as_slice() {
-        [] => print!(rt; ".")?,
-        path => print_bytes(rt, path, 100)?,
+        [] => page.put("."),
+        path => print_bytes(page, path, 100),
     }
-    Ok(())
 }
 
-fn print_move(rt: &HostRuntime, names: &ShortNames, from: &Spot, to: &Spot) -> Result<(), Refusal> {
-    print_spot(rt, names, "move", from)?;
-    print!(rt; " {}", area_text(to.area))?;
+fn print_move(page: &mut Page, names: &ShortNames, from: &Spot, to: &Spot) {
+    print_spot(page, names, "move", from);
+    print_area(page, "", to.area);
     if from.name != to.name {
-        print!(rt; " ")?;
-        names.print(rt, to.name.as_str())?;
+        page.put(" ");
+        names.print(page, to.name.as_str());
     }
-    Ok(())
 }
 
-fn print_append(
-    rt: &HostRuntime,
-    names: &ShortNames,
-    inner: &Inner,
-    piece: &Bytes,
-) -> Result<(), Refusal> {
-    print_inner(rt, names, "append", inner)?;
-    print!(rt; " ")?;
-    print_bytes(rt, piece.as_slice(), 100)
+fn print_append(page: &mut Page, names: &ShortNames, inner: &Inner, piece: &Bytes) {
+    print_inner(page, names, "append", inner);
+    page.put(" ");
+    print_bytes(page, piece.as_slice(), 100);
 }
 
-fn print_request_in(
-    rt: &HostRuntime,
-    names: &ShortNames,
-    request: &Request,
-) -> Result<(), Refusal> {
+fn print_read(page: &mut Page, names: &ShortNames, inner: &Inner, at: u64, room: u64) {
+    print_inner(page, names, "read", inner);
+    page.put(" ");
+    page.tell(&at);
+    page.put(" ");
+    page.tell(&room);
+}
+
+fn print_open(page: &mut Page, names: &ShortNames, spot: &Spot, which: Which) {
+    print_spot(page, names, "open", spot);
+    page.put(" ");
+    page.put(which_text(which));
+}
+
+fn print_lock(page: &mut Page, handle: Handle, mode: Mode) {
+    page.put("lock ");
+    page.tell(&handle.number);
+    page.put(" ");
+    page.put(mode_text(mode));
+}
+
+fn print_begin(page: &mut Page, kind: Kind) {
+    page.put("begin ");
+    page.put(kind_text(kind));
+}
+
+fn print_close(page: &mut Page, handle: Handle) {
+    page.put("close ");
+    page.tell(&handle.number);
+}
+
+fn print_request_in(page: &mut Page, names: &ShortNames, request: &Request) {
     match request {
-        Request::ListIn(inner) => print_inner(rt, names, "list-in", inner)?,
-        Request::MakeDirIn(inner) => print_inner(rt, names, "make-dir", inner)?,
-        Request::MakeFileIn(inner) => print_inner(rt, names, "make-file", inner)?,
-        Request::AppendIn { inner, piece } => print_append(rt, names, inner, piece)?,
-        Request::ReadIn { inner, at, room } => {
-            print_inner(rt, names, "read", inner)?;
-            print!(rt; " {at} {room}")?;
-        }
-        Request::SyncIn(inner) => print_inner(rt, names, "sync", inner)?,
-        Request::RemoveFileIn(inner) => print_inner(rt, names, "remove-file", inner)?,
-        Request::RemoveDirIn(inner) => print_inner(rt, names, "remove-dir", inner)?,
-        Request::Finish => print!(rt; "finish")?,
-        _ => print!(rt; "kill")?,
+        Request::ListIn(inner) => print_inner(page, names, "list-in", inner),
+        Request::MakeDirIn(inner) => print_inner(page, names, "make-dir", inner),
+        Request::MakeFileIn(inner) => print_inner(page, names, "make-file", inner),
+        Request::AppendIn { inner, piece } => print_append(page, names, inner, piece),
+        Request::ReadIn { inner, at, room } => print_read(page, names, inner, *at, *room),
+        Request::SyncIn(inner) => print_inner(page, names, "sync", inner),
+        Request::RemoveFileIn(inner) => print_inner(page, names, "remove-file", inner),
+        Request::RemoveDirIn(inner) => print_inner(page, names, "remove-dir", inner),
+        Request::Finish => page.put("finish"),
+        _ => page.put("kill"),
     }
-    Ok(())
 }
 
-/// Prints the words of a request, of a begin only what the process is for. Refused only where memory ran
-/// out or the output took no more.
-pub fn print_request(
-    rt: &HostRuntime,
-    names: &ShortNames,
-    request: &Request,
-) -> Result<(), Refusal> {
+/// Prints the words of a request, of a begin only what the process is for.
+pub fn print_request(page: &mut Page, names: &ShortNames, request: &Request) {
     match request {
-        Request::Begin(intent) => print!(rt; "begin {}", kind_text(intent.kind))?,
-        Request::MakeFolder(spot) => print_spot(rt, names, "make", spot)?,
-        Request::MoveFolder { from, to } => print_move(rt, names, from, to)?,
-        Request::RemoveFolder(spot) => print_spot(rt, names, "remove", spot)?,
-        Request::Open { spot, which } => {
-            print_spot(rt, names, "open", spot)?;
-            print!(rt; " {}", which_text(*which))?;
-        }
-        Request::OpenArea(area) => print!(rt; "open-area {}", area_text(*area))?,
-        Request::TryLock { handle, mode } => {
-            print!(rt; "lock {} {}", handle.number, mode_text(*mode))?;
-        }
-        Request::Close(handle) => print!(rt; "close {}", handle.number)?,
-        Request::ListArea(area) => print!(rt; "list {}", area_text(*area))?,
-        Request::SyncArea(area) => print!(rt; "sync-area {}", area_text(*area))?,
-        _ => print_request_in(rt, names, request)?,
+        Request::Begin(intent) => print_begin(page, intent.kind),
+        Request::MakeFolder(spot) => print_spot(page, names, "make", spot),
+        Request::MoveFolder { from, to } => print_move(page, names, from, to),
+        Request::RemoveFolder(spot) => print_spot(page, names, "remove", spot),
+        Request::Open { spot, which } => print_open(page, names, spot, *which),
+        Request::OpenArea(area) => print_area(page, "open-area", *area),
+        Request::TryLock { handle, mode } => print_lock(page, *handle, *mode),
+        Request::Close(handle) => print_close(page, *handle),
+        Request::ListArea(area) => print_area(page, "list", *area),
+        Request::SyncArea(area) => print_area(page, "sync-area", *area),
+        _ => print_request_in(page, names, request),
     }
-    Ok(())
 }

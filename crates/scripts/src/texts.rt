@@ -1,6 +1,5 @@
 // Texts as a script writes them.
-use crate::refusal::Refusal;
-use std::alloc::Global;
+use crate::page::Page;
 use std::str;
 
 // How often the character before a `^` stands there, and the text behind.
@@ -13,28 +12,40 @@ fn times(piece: &str) -> Option<(u64, &str)> {
     Some((number.parse::<u64>().ok()?, rest))
 }
 
-// The last character once more, so that it stands there that many times.
-fn repeat_last(text: &mut String, number: u64) -> Result<(), Refusal> {
-    let last = text.chars().last().unwrap_or(' ');
-    for _ in 1..number {
-        text.push(last)?;
+fn add(page: &mut Page, whole: &mut String, text: &str) {
+    if whole.push_str(text).is_err() {
+        page.no_memory();
     }
-    Ok(())
 }
 
-fn push_repeats(whole: &mut String, text: &str) -> Result<(), Refusal> {
-    for (place, piece) in text.split('^').enumerate() {
-        if place == 0 {
-            whole.push_str(piece)?;
-        } else if let Some((number, rest)) = times(piece) {
-            repeat_last(whole, number)?;
-            whole.push_str(rest)?;
-        } else {
-            whole.push('^')?;
-            whole.push_str(piece)?;
+fn add_character(page: &mut Page, whole: &mut String, character: char) {
+    if whole.push(character).is_err() {
+        page.no_memory();
+    }
+}
+
+// The last character once more, so that it stands there that many times.
+fn repeat_last(page: &mut Page, text: &mut String, number: u64) {
+    let last = text.chars().last().unwrap_or(' ');
+    for _ in 1..number {
+        if text.push(last).is_err() {
+            return page.no_memory();
         }
     }
-    Ok(())
+}
+
+fn add_repeats(page: &mut Page, whole: &mut String, text: &str) {
+    for (place, piece) in text.split('^').enumerate() {
+        if place == 0 {
+            add(page, whole, piece);
+        } else if let Some((number, rest)) = times(piece) {
+            repeat_last(page, whole, number);
+            add(page, whole, rest);
+        } else {
+            add(page, whole, "^");
+            add(page, whole, piece);
+        }
+    }
 }
 
 fn meant(escape: char) -> char {
@@ -47,63 +58,55 @@ fn meant(escape: char) -> char {
     }
 }
 
-fn push_meant(whole: &mut String, text: &str) -> Result<(), Refusal> {
+fn add_meant(page: &mut Page, whole: &mut String, text: &str) {
     let mut escaped = false;
     for character in text.chars() {
         if escaped {
-            whole.push(meant(character))?;
+            add_character(page, whole, meant(character));
             escaped = false;
         } else if character == '\\' {
             escaped = true;
         } else {
-            whole.push(character)?;
+            add_character(page, whole, character);
         }
     }
-    Ok(())
 }
 
 /// The text that a script writes so: `a^64` is 64 times the letter `a`, `\n` a line break, `\t` a tab,
-/// `\s` a space, `\0` the byte 0, and `\` before anything else that itself. Refused only where memory ran
-/// out.
-pub fn unfolded(alloc: Global, text: &str) -> Result<String, Refusal> {
-    let mut repeated = String::new(alloc);
-    push_repeats(&mut repeated, text)?;
-    let mut whole = String::new(alloc);
-    push_meant(&mut whole, repeated.as_str())?;
-    Ok(whole)
+/// `\s` a space, `\0` the byte 0, and `\` before anything else that itself.
+pub fn unfolded(page: &mut Page, text: &str) -> String {
+    let mut repeated = String::new(page.alloc());
+    add_repeats(page, &mut repeated, text);
+    let mut whole = String::new(page.alloc());
+    add_meant(page, &mut whole, repeated.as_str());
+    whole
 }
 
-fn push_shown(whole: &mut String, text: &str) -> Result<(), Refusal> {
+// A text on one line, as a script writes it.
+fn print_text(page: &mut Page, text: &str) {
     for character in text.chars() {
         match character {
-            '\n' => whole.push_str("\\n")?,
-            '\t' => whole.push_str("\\t")?,
-            '\0' => whole.push_str("\\0")?,
-            '\\' => whole.push_str("\\\\")?,
-            _ => whole.push(character)?,
+            '\n' => page.put("\\n"),
+            '\t' => page.put("\\t"),
+            '\0' => page.put("\\0"),
+            '\\' => page.put("\\\\"),
+            _ => page.tell(&character),
         }
     }
-    Ok(())
-}
-
-/// A text on one line, as a script writes it. Refused only where memory ran out.
-pub fn shown(alloc: Global, text: &str) -> Result<String, Refusal> {
-    let mut whole = String::new(alloc);
-    push_shown(&mut whole, text)?;
-    Ok(whole)
 }
 
 /// Prints bytes as a script writes them: a text on one line; of more than so many bytes, and of what is no
-/// text, the number, the first and the last byte. Refused only where memory ran out or the output took no
-/// more.
-pub fn print_bytes(rt: &HostRuntime, bytes: &[u8], most: usize) -> Result<(), Refusal> {
-    match (str::from_utf8(bytes), bytes) {
-        (Ok(text), _) if bytes.len() <= most => {
-            let shown = shown(rt.alloc(), text)?;
-            print!(rt; "{shown}")?;
-        }
-        (_, [first, .., last]) => print!(rt; "{} bytes {first}..{last}", bytes.len())?,
-        (_, _) => print!(rt; "{} bytes", bytes.len())?,
+/// text, the number, the first and the last byte.
+pub fn print_bytes(page: &mut Page, bytes: &[u8], most: usize) {
+    match str::from_utf8(bytes) {
+        Ok(text) if bytes.len() <= most => return print_text(page, text),
+        _ => page.tell(&bytes.len()),
     }
-    Ok(())
+    page.put(" bytes");
+    if let [first, .., last] = bytes {
+        page.put(" ");
+        page.tell(first);
+        page.put("..");
+        page.tell(last);
+    }
 }

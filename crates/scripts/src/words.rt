@@ -1,83 +1,102 @@
 // What single words name.
-use crate::refusal::{Refusal, Unread};
+use crate::page::Page;
+use crate::refusal::Unread;
 use dir_model::{Area, DirError, ItemKind, Kind, Mode, Name, Phase, PodId, Spot, Which};
 
-const AREAS: [(&str, Area); 10] = [
-    ("embryo", Area::Embryo),
-    ("prepare", Area::Prepare),
-    ("prepared", Area::Prepared),
-    ("run", Area::Run),
-    ("exited-garbage", Area::ExitedGarbage),
-    ("garbage", Area::Garbage),
-    ("incoming", Area::Incoming),
-    ("images", Area::Images),
-    ("trees", Area::Trees),
-    ("removed", Area::Removed),
+const AREAS: [Area; 10] = [
+    Area::Embryo,
+    Area::Prepare,
+    Area::Prepared,
+    Area::Run,
+    Area::ExitedGarbage,
+    Area::Garbage,
+    Area::Incoming,
+    Area::Images,
+    Area::Trees,
+    Area::Removed,
 ];
-
-/// An area by its word. Refused where the word names none.
-pub fn area_of(word: &str) -> Result<Area, Refusal> {
-    for (text, area) in AREAS {
-        if text == word {
-            return Ok(area);
-        }
-    }
-    Err(Refusal::Unread(Unread::Word))
-}
 
 /// The word of an area.
 pub fn area_text(area: Area) -> &'static str {
-    for (text, other) in AREAS {
-        if other == area {
-            return text;
-        }
+    match area {
+        Area::Embryo => "embryo",
+        Area::Prepare => "prepare",
+        Area::Prepared => "prepared",
+        Area::Run => "run",
+        Area::ExitedGarbage => "exited-garbage",
+        Area::Garbage => "garbage",
+        Area::Incoming => "incoming",
+        Area::Images => "images",
+        Area::Trees => "trees",
+        Area::Removed => "removed",
     }
-    ""
 }
 
-const KINDS: [(&str, Kind); 13] = [
-    ("status", Kind::Status),
-    ("list", Kind::List),
-    ("prepare", Kind::Prepare),
-    ("run", Kind::Run),
-    ("run-prepared", Kind::RunPrepared),
-    ("rm", Kind::Rm),
-    ("gc", Kind::Gc),
-    ("cat-manifest", Kind::CatManifest),
-    ("image-import", Kind::ImageImport),
-    ("image-list", Kind::ImageList),
-    ("image-rm", Kind::ImageRm),
-    ("image-gc", Kind::ImageGc),
-    ("metadata-service", Kind::Metadata),
+/// An area by its word. Refused where the word names none.
+pub fn area_of(page: &mut Page, word: &str) -> Area {
+    for area in AREAS {
+        if area_text(area) == word {
+            return area;
+        }
+    }
+    page.unread(Unread::Word);
+    Area::Embryo
+}
+
+const KINDS: [Kind; 13] = [
+    Kind::Status,
+    Kind::List,
+    Kind::Prepare,
+    Kind::Run,
+    Kind::RunPrepared,
+    Kind::Rm,
+    Kind::Gc,
+    Kind::CatManifest,
+    Kind::ImageImport,
+    Kind::ImageList,
+    Kind::ImageRm,
+    Kind::ImageGc,
+    Kind::Metadata,
 ];
-
-/// What a process is for, by the word of its command. Refused where the word names none.
-pub fn kind_of(word: &str) -> Result<Kind, Refusal> {
-    for (text, kind) in KINDS {
-        if text == word {
-            return Ok(kind);
-        }
-    }
-    Err(Refusal::Unread(Unread::Word))
-}
 
 /// The word of what a process is for.
 pub fn kind_text(kind: Kind) -> &'static str {
-    for (text, other) in KINDS {
-        if other == kind {
-            return text;
+    match kind {
+        Kind::Status => "status",
+        Kind::List => "list",
+        Kind::Prepare => "prepare",
+        Kind::Run => "run",
+        Kind::RunPrepared => "run-prepared",
+        Kind::Rm => "rm",
+        Kind::Gc => "gc",
+        Kind::CatManifest => "cat-manifest",
+        Kind::ImageImport => "image-import",
+        Kind::ImageList => "image-list",
+        Kind::ImageRm => "image-rm",
+        Kind::ImageGc => "image-gc",
+        Kind::Metadata => "metadata-service",
+    }
+}
+
+/// What a process is for, by the word of its command. Refused where the word names none.
+pub fn kind_of(page: &mut Page, word: &str) -> Kind {
+    for kind in KINDS {
+        if kind_text(kind) == word {
+            return kind;
         }
     }
-    ""
+    page.unread(Unread::Word);
+    Kind::Status
 }
 
 /// How a lock is asked for: `shared` or `exclusive`. Refused for any other word.
-pub fn mode_of(word: &str) -> Result<Mode, Refusal> {
+pub fn mode_of(page: &mut Page, word: &str) -> Mode {
     match word {
-        "shared" => Ok(Mode::Shared),
-        "exclusive" => Ok(Mode::Exclusive),
-        _ => Err(Refusal::Unread(Unread::Word)),
+        "shared" => return Mode::Shared,
+        "exclusive" => (),
+        _ => page.unread(Unread::Word),
     }
+    Mode::Exclusive
 }
 
 /// The word of how a lock is asked for.
@@ -89,12 +108,13 @@ pub fn mode_text(mode: Mode) -> &'static str {
 }
 
 /// Which lock of a folder: `own` or `claim`. Refused for any other word.
-pub fn which_of(word: &str) -> Result<Which, Refusal> {
+pub fn which_of(page: &mut Page, word: &str) -> Which {
     match word {
-        "own" => Ok(Which::Own),
-        "claim" => Ok(Which::Claim),
-        _ => Err(Refusal::Unread(Unread::Word)),
+        "own" => return Which::Own,
+        "claim" => (),
+        _ => page.unread(Unread::Word),
     }
+    Which::Claim
 }
 
 /// The word of a lock of a folder.
@@ -106,72 +126,79 @@ pub fn which_text(which: Which) -> &'static str {
 }
 
 /// A pod by its text. Refused where the word is none.
-pub fn pod_of(word: &str) -> Result<PodId, Refusal> {
-    PodId::parse(word).ok_or(Refusal::Unread(Unread::Name))
+pub fn pod_of(page: &mut Page, word: &str) -> PodId {
+    if let Some(pod) = PodId::parse(word) {
+        return pod;
+    }
+    page.unread(Unread::Name);
+    PodId { bytes: [0; 16] }
+}
+
+/// The name of a folder. Refused where the word is none.
+pub fn name_of(page: &mut Page, word: &str) -> Name {
+    if let Some(name) = Name::of(word) {
+        return name;
+    }
+    page.unread(Unread::Name);
+    PodId { bytes: [0; 16] }.name()
 }
 
 /// The folder of that name in an area. Refused where the words name none.
-pub fn spot_of(area: &str, name: &str) -> Result<Spot, Refusal> {
-    let area = area_of(area)?;
-    match Name::of(name) {
-        Some(name) => Ok(Spot { area, name }),
-        None => Err(Refusal::Unread(Unread::Name)),
-    }
+pub fn spot_of(page: &mut Page, area: &str, name: &str) -> Spot {
+    let area = area_of(page, area);
+    let name = name_of(page, name);
+    Spot { area, name }
 }
 
 /// A phase as it is printed; `none` where there is no pod.
 pub fn phase_text(phase: Option<Phase>) -> &'static str {
     match phase {
+        Some(phase) => phase.name(),
         None => "none",
-        Some(Phase::Embryo) => "embryo",
-        Some(Phase::Preparing) => "preparing",
-        Some(Phase::AbortedPrepare) => "aborted prepare",
-        Some(Phase::Prepared) => "prepared",
-        Some(Phase::Running) => "running",
-        Some(Phase::Exited) => "exited",
-        Some(Phase::ExitedGarbage) => "exited garbage",
-        Some(Phase::Garbage) => "garbage",
-        Some(Phase::Deleting) => "deleting",
     }
 }
 
-const ERRORS: [(&str, DirError); 6] = [
-    ("missing", DirError::Missing),
-    ("exists", DirError::Exists),
-    ("not-empty", DirError::NotEmpty),
-    ("locked", DirError::Locked),
-    ("failed", DirError::Failed),
-    ("no-memory", DirError::NoMemory),
+const ERRORS: [DirError; 6] = [
+    DirError::Missing,
+    DirError::Exists,
+    DirError::NotEmpty,
+    DirError::Locked,
+    DirError::Failed,
+    DirError::NoMemory,
 ];
-
-/// Why a call was refused, by its word. Refused where the word names no cause.
-pub fn error_of(word: &str) -> Result<DirError, Refusal> {
-    for (text, error) in ERRORS {
-        if text == word {
-            return Ok(error);
-        }
-    }
-    Err(Refusal::Unread(Unread::Word))
-}
 
 /// The word of why a call was refused.
 pub fn error_text(error: DirError) -> &'static str {
-    for (text, other) in ERRORS {
-        if other == error {
-            return text;
+    match error {
+        DirError::Missing => "missing",
+        DirError::Exists => "exists",
+        DirError::NotEmpty => "not-empty",
+        DirError::Locked => "locked",
+        DirError::Failed => "failed",
+        DirError::NoMemory => "no-memory",
+    }
+}
+
+/// Why a call was refused, by its word. Refused where the word names no cause.
+pub fn error_of(page: &mut Page, word: &str) -> DirError {
+    for error in ERRORS {
+        if error_text(error) == word {
+            return error;
         }
     }
-    ""
+    page.unread(Unread::Word);
+    DirError::Failed
 }
 
 /// What kind of thing stands somewhere: `dir`, `file` or `other`. Refused for any other word.
-pub fn item_kind_of(word: &str) -> Result<ItemKind, Refusal> {
+pub fn item_kind_of(page: &mut Page, word: &str) -> ItemKind {
     match word {
-        "dir" => Ok(ItemKind::Dir),
-        "file" => Ok(ItemKind::File),
-        "other" => Ok(ItemKind::Other),
-        _ => Err(Refusal::Unread(Unread::Word)),
+        "dir" => return ItemKind::Dir,
+        "file" => return ItemKind::File,
+        "other" => (),
+        _ => page.unread(Unread::Word),
     }
+    ItemKind::Other
 }
 
 /// The word of what kind of thing stands somewhere.

@@ -1,9 +1,7 @@
 // Paths, and entries of maps as letters.
-use crate::no_answer::NoAnswer;
 use ac_types::Text;
-use path_map::{AbsPath, Entry, Meta};
-use scripts::Unread;
-use std::alloc::Global;
+use path_map::{AbsPath, Entry, Meta, PathMap};
+use scripts::{Page, Unread};
 
 /// A given entry has mode 0700, so that directories that are made show.
 const GIVEN: Meta = Meta {
@@ -13,11 +11,8 @@ const GIVEN: Meta = Meta {
 };
 
 /// The path that a text is. Refused where it is none.
-pub fn path_of(alloc: Global, text: &str) -> Result<AbsPath, NoAnswer> {
-    match AbsPath::parse(alloc, text) {
-        Ok(path) => Ok(path),
-        Err(_) => Err(NoAnswer::Unread(Unread::Text)),
-    }
+pub fn path_of(page: &mut Page, text: &str) -> Option<AbsPath> {
+    page.read(AbsPath::parse(page.alloc(), text), Unread::Text)
 }
 
 fn file(size: u64, byte: u8) -> Entry {
@@ -28,27 +23,46 @@ fn file(size: u64, byte: u8) -> Entry {
     }
 }
 
-/// The entry that a letter stands for: `d` a directory, `f` an empty file, `F` another, `l` a link. Refused for
-/// any other.
-pub fn entry_of(alloc: Global, letter: &str) -> Result<Entry, NoAnswer> {
-    match letter {
-        "d" => Ok(Entry::Dir(GIVEN)),
-        "f" => Ok(file(0, 0)),
-        "F" => Ok(file(1, 1)),
-        "l" => Ok(Entry::Link {
-            meta: GIVEN,
-            target: Text::of(alloc, "x")?,
-        }),
-        _ => Err(NoAnswer::Unread(Unread::Word)),
+/// A link with that target.
+pub fn link_of(page: &mut Page, meta: Meta, target: &str) -> Entry {
+    Entry::Link {
+        meta,
+        target: Text::from_string(page.text(target)),
     }
 }
 
-/// The path and the entry of a letter and a path.
-pub fn place_of(alloc: Global, word: &str) -> Result<(AbsPath, Entry), NoAnswer> {
-    match word.split_at_checked(1) {
-        Some((letter, path)) => Ok((path_of(alloc, path)?, entry_of(alloc, letter)?)),
-        None => Err(NoAnswer::Unread(Unread::Text)),
+// The entry that a letter stands for: `d` a directory, `f` an empty file, `F` another, `l` a link. Refused for
+// any other.
+fn entry_of(page: &mut Page, letter: &str) -> Entry {
+    match letter {
+        "d" => return Entry::Dir(GIVEN),
+        "f" => return file(0, 0),
+        "F" => return file(1, 1),
+        "l" => (),
+        _ => page.unread(Unread::Word),
     }
+    link_of(page, GIVEN, "x")
+}
+
+/// The map with one entry more at a path.
+pub fn lay(page: &mut Page, map: PathMap, path: &str, entry: Entry) -> PathMap {
+    let Some(path) = path_of(page, path) else {
+        return map;
+    };
+    match map.overlay(page.alloc(), path, entry) {
+        Ok(map) => map,
+        Err(_) => {
+            page.no_memory();
+            PathMap::new(page.alloc())
+        }
+    }
+}
+
+/// The map with the entry of a letter more, at the path behind it.
+pub fn lay_letter(page: &mut Page, map: PathMap, word: &str) -> PathMap {
+    let (letter, path) = word.split_at_checked(1).unwrap_or(("", ""));
+    let entry = entry_of(page, letter);
+    lay(page, map, path, entry)
 }
 
 /// The letter of an entry; `m` for a made directory.

@@ -4,13 +4,9 @@
 
 mod entries;
 mod names;
-mod no_answer;
 mod pieces;
 mod printed;
-mod texts;
 
-pub use entries::{letter_of, path_of, place_of};
+pub use entries::{lay, lay_letter, letter_of, link_of, path_of};
 pub use names::{TextNames, text_from};
-pub use no_answer::NoAnswer;
 pub use printed::print_answer;
-pub use texts::{add, add_all, copied, joined, told, told_both};

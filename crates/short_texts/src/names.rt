@@ -1,12 +1,12 @@
 // Short names of long texts.
-use crate::no_answer::NoAnswer;
-use crate::pieces::{add_plain, name_length};
-use scripts::Unread;
+use crate::pieces::{add_bytes, add_plain, add_text, name_length};
+use scripts::{Page, Unread};
 use std::alloc::Global;
 
+/// A text with its name, behind a `$`.
 #[derive(Drop)]
 struct TextName {
-    name: String,
+    sign: String,
     text: String,
 }
 
@@ -19,33 +19,15 @@ pub struct TextNames {
     rows: Vec<TextName>,
 }
 
-// The text, in which the name stands in place of what is long.
-fn replaced(alloc: Global, text: &str, long: &str, name: &str) -> Result<String, NoAnswer> {
-    let mut whole = String::new(alloc);
-    for (place, piece) in text.split(long).enumerate() {
-        if place > 0 {
-            whole.push('$')?;
-            whole.push_str(name)?;
-        }
-        whole.push_str(piece)?;
-    }
-    Ok(whole)
-}
-
 /// The bytes as a text. Refused where they are none.
-pub fn text_from(bytes: Vec<u8>) -> Result<String, NoAnswer> {
+pub fn text_from(page: &mut Page, bytes: Vec<u8>) -> String {
     match String::from_utf8(bytes) {
-        Ok(text) => Ok(text),
-        Err(_) => Err(NoAnswer::Unread(Unread::Text)),
+        Ok(text) => text,
+        Err(_) => {
+            page.unread(Unread::Text);
+            String::new(page.alloc())
+        }
     }
-}
-
-// Adds the words of a list.
-fn add_words(alloc: Global, words: &mut Vec<String>, list: &str) -> Result<(), NoAnswer> {
-    for word in list.split(' ') {
-        words.push(String::from_str(alloc, word)?)?;
-    }
-    Ok(())
 }
 
 impl TextNames {
@@ -56,122 +38,145 @@ impl TextNames {
         }
     }
 
+    fn add(&mut self, page: &mut Page, name: &str, text: &str) {
+        let text = self.text_of(page, text);
+        let mut sign = page.text("$");
+        add_text(page, &mut sign, name);
+        page.push(&mut self.rows, TextName { sign, text });
+    }
+
     /// Gives a text a name, as `NAME = TEXT` says it. Refused where it has no such form, and for a name that
     /// came before.
-    pub fn define(&mut self, alloc: Global, line: &str) -> Result<(), NoAnswer> {
+    pub fn define(&mut self, page: &mut Page, line: &str) {
         let Some((name, text)) = line.split_once(" = ") else {
-            return Err(NoAnswer::Unread(Unread::Missing));
+            return page.unread(Unread::Missing);
         };
         if name_length(name) != name.len() || self.find(name).is_some() {
-            return Err(NoAnswer::Unread(Unread::Name));
+            return page.unread(Unread::Name);
         }
-        let text = self.text_of(alloc, text)?;
-        let name = String::from_str(alloc, name)?;
-        Ok(self.rows.push(TextName { name, text })?)
+        self.add(page, name, text);
     }
 
     fn find(&self, name: &str) -> Option<&str> {
         for row in self.rows.as_slice() {
-            if row.name.as_str() == name {
+            if row.sign.strip_prefix('$') == Some(name) {
                 return Some(row.text.as_str());
             }
         }
         None
     }
 
-    fn named(&self, name: &str) -> Result<&str, NoAnswer> {
-        match self.find(name) {
-            Some(text) => Ok(text),
-            None => Err(NoAnswer::Unread(Unread::Name)),
+    fn named(&self, page: &mut Page, name: &str) -> &str {
+        if let Some(text) = self.find(name) {
+            return text;
+        }
+        page.unread(Unread::Name);
+        ""
+    }
+
+    // A text or the text of a name, so many times: `x^64`.
+    fn add_times(&self, page: &mut Page, whole: &mut Vec<u8>, repeat: &str) {
+        let Some((once, times)) = repeat.split_once('^') else {
+            return page.unread(Unread::Text);
+        };
+        let is_named = once.starts_with(|letter: char| letter.is_ascii_uppercase());
+        let once = if is_named {
+            self.named(page, once)
+        } else {
+            once
+        };
+        let Some(times) = page.read(times.parse::<usize>(), Unread::Number) else {
+            return;
+        };
+        if let Some(repeated) = page.made(once.repeat(page.alloc(), times)) {
+            add_bytes(page, whole, repeated.as_bytes());
         }
     }
 
-    // A text or the text of a name, so many times: `x^64)` and what follows it.
-    fn add_repeated(
-        &self,
-        alloc: Global,
-        whole: &mut Vec<u8>,
-        piece: &str,
-    ) -> Result<(), NoAnswer> {
-        let Some((inside, rest)) = piece.split_once(')') else {
-            return Err(NoAnswer::Unread(Unread::Text));
-        };
-        let Some((once, times)) = inside.split_once('^') else {
-            return Err(NoAnswer::Unread(Unread::Text));
-        };
-        let Ok(times) = times.parse::<usize>() else {
-            return Err(NoAnswer::Unread(Unread::Number));
-        };
-        let is_named = once.starts_with(|letter: char| letter.is_ascii_uppercase());
-        let once = if is_named { self.named(once)? } else { once };
-        let repeated = once.repeat(alloc, times)?;
-        whole.extend_from_slice(repeated.as_bytes())?;
-        add_plain(whole, rest)
+    // The same and what follows it: `x^64)` and a text.
+    fn add_repeated(&self, page: &mut Page, whole: &mut Vec<u8>, piece: &str) {
+        match piece.split_once(')') {
+            Some((repeat, rest)) => {
+                self.add_times(page, whole, repeat);
+                add_plain(page, whole, rest);
+            }
+            None => page.unread(Unread::Text),
+        }
     }
 
     // The text of a name, and what follows it.
-    fn add_named(&self, whole: &mut Vec<u8>, piece: &str) -> Result<(), NoAnswer> {
-        let Some((name, rest)) = piece.split_at_checked(name_length(piece)) else {
-            return Err(NoAnswer::Unread(Unread::Name));
-        };
-        whole.extend_from_slice(self.named(name)?.as_bytes())?;
-        add_plain(whole, rest)
+    fn add_named(&self, page: &mut Page, whole: &mut Vec<u8>, piece: &str) {
+        match piece.split_at_checked(name_length(piece)) {
+            Some((name, rest)) => {
+                let text = self.named(page, name);
+                add_bytes(page, whole, text.as_bytes());
+                add_plain(page, whole, rest);
+            }
+            None => page.unread(Unread::Name),
+        }
     }
 
     /// The bytes that a script writes so: `$NAME` is the text of a name, `$(NAME^16)` sixteen times that text,
     /// `$(x^64)` sixty-four times the letter, and escapes are those of `add_plain`. Refused for a name that
     /// stands for nothing.
-    pub fn bytes_of(&self, alloc: Global, text: &str) -> Result<Vec<u8>, NoAnswer> {
-        let mut whole = Vec::new(alloc);
+    pub fn bytes_of(&self, page: &mut Page, text: &str) -> Vec<u8> {
+        let mut whole = Vec::new(page.alloc());
         for (place, piece) in text.split('$').enumerate() {
             if place == 0 {
-                add_plain(&mut whole, piece)?;
+                add_plain(page, &mut whole, piece);
             } else if let Some(repeat) = piece.strip_prefix('(') {
-                self.add_repeated(alloc, &mut whole, repeat)?;
+                self.add_repeated(page, &mut whole, repeat);
             } else {
-                self.add_named(&mut whole, piece)?;
+                self.add_named(page, &mut whole, piece);
             }
         }
-        Ok(whole)
+        whole
     }
 
     /// The same as a text. Refused where it is none.
-    pub fn text_of(&self, alloc: Global, text: &str) -> Result<String, NoAnswer> {
-        let bytes = self.bytes_of(alloc, text)?;
-        text_from(bytes)
+    pub fn text_of(&self, page: &mut Page, text: &str) -> String {
+        let bytes = self.bytes_of(page, text);
+        text_from(page, bytes)
     }
 
-    // Adds a word as it is written.
-    fn add_word(&self, alloc: Global, words: &mut Vec<String>, word: &str) -> Result<(), NoAnswer> {
-        if word == "\"\"" {
-            return Ok(words.push(String::new(alloc))?);
+    // Adds the words of the text of a name.
+    fn add_words(&self, page: &mut Page, words: &mut Vec<String>, name: &str) {
+        for word in self.named(page, name).split(' ') {
+            let word = page.text(word);
+            page.push(words, word);
         }
-        Ok(words.push(self.text_of(alloc, word)?)?)
+    }
+
+    // Adds a word as it is written, `""` as the empty one.
+    fn add_word(&self, page: &mut Page, words: &mut Vec<String>, word: &str) {
+        let text = self.text_of(page, if word == "\"\"" { "" } else { word });
+        page.push(words, text);
     }
 
     /// The words of a line, each read as a text by itself, `""` as the empty one. In place of `@NAME` come the
     /// words of the text of that name.
-    pub fn words_of(&self, alloc: Global, line: &str) -> Result<Vec<String>, NoAnswer> {
-        let mut words = Vec::new(alloc);
+    pub fn words_of(&self, page: &mut Page, line: &str) -> Vec<String> {
+        let mut words = Vec::new(page.alloc());
         for word in line.split(' ') {
             match word.strip_prefix('@') {
-                Some(name) => add_words(alloc, &mut words, self.named(name)?)?,
+                Some(name) => self.add_words(page, &mut words, name),
                 None if word.is_empty() => (),
-                None => self.add_word(alloc, &mut words, word)?,
+                None => self.add_word(page, &mut words, word),
             }
         }
-        Ok(words)
+        words
     }
 
     /// The text, in which each long text that has a name is shown by it.
-    pub fn shortened(&self, alloc: Global, text: &str) -> Result<String, NoAnswer> {
-        let mut whole = String::from_str(alloc, text)?;
+    pub fn shortened(&self, page: &mut Page, text: String) -> String {
+        let mut whole = text;
         for row in self.rows.as_slice() {
             let long = row.text.as_str();
             if long.len() >= LONG && whole.contains(long) {
-                whole = replaced(alloc, whole.as_str(), long, row.name.as_str())?;
+                let shown = whole.replace(page.alloc(), long, row.sign.as_str());
+                whole = page.made(shown).unwrap_or(String::new(page.alloc()));
             }
         }
-        Ok(whole)
+        whole
     }
 }

@@ -1,17 +1,16 @@
 // What is printed below a line.
 use crate::names::TextNames;
-use scripts::Refusal;
+use scripts::Page;
 
-/// Prints the lines of an answer, each after two spaces, in which long texts are shown by their names;
-/// `nothing` where the answer is empty.
-pub fn print_answer(rt: &HostRuntime, names: &TextNames, answer: &str) -> Result<(), Refusal> {
-    if answer.is_empty() {
-        println!(rt; "  nothing")?;
-        return Ok(());
+/// Lays out the answer that is on the page: each of its lines after two spaces, in which long texts are shown by
+/// their names; `nothing` where the answer is empty.
+pub fn print_answer(page: &mut Page, names: &TextNames) {
+    let answer = page.take();
+    let shown = names.shortened(page, answer);
+    if shown.is_empty() {
+        page.put("  nothing\n");
     }
-    let shown = names.shortened(rt.alloc(), answer)?;
     for line in shown.lines() {
-        println!(rt; "  {line}")?;
+        page.put_all(&["  ", line, "\n"]);
     }
-    Ok(())
 }

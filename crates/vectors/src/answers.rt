@@ -1,5 +1,5 @@
 // Which call a line makes.
-use crate::bundles::{bundle_answer, failing_answers, parts_answer};
+use crate::bundles::{Told, bundle_answer, failing_answers};
 use crate::documents::{document_answer, image_answer, pod_answer};
 use crate::fields::field_answer;
 use crate::listings::{
@@ -15,105 +15,84 @@ use crate::paths::{below_answer, listed_answer, parent_answer, path_answer};
 use crate::sections::{json_answer, section_answer, written_section_answer};
 use crate::sequences::{no_memory_answer, numbers_answer};
 use crate::wide::wide_answer;
-use scripts::Unread;
-use short_texts::{NoAnswer, TextNames};
-use std::alloc::Global;
+use scripts::{Page, Unread};
+use short_texts::TextNames;
 use std::str;
 
-// The calls of one text.
-fn text_answer(alloc: Global, call: &str, text: &str) -> Result<String, NoAnswer> {
+// The calls of bytes. False where the call is another.
+fn is_bytes_call(page: &mut Page, call: &str, bytes: &[u8]) -> bool {
     match call {
-        "name" => name_answer(alloc, text),
-        "identifier" => identifier_answer(alloc, text),
-        "reference" => reference_answer(alloc, text),
-        "id" => id_answer(alloc, text),
-        "key" => key_answer(alloc, text),
-        "json" => json_answer(alloc, text),
-        "section" => section_answer(alloc, text),
-        "section-again" => written_section_answer(alloc, text),
-        "path" => path_answer(alloc, text),
-        "parent" => parent_answer(alloc, text),
-        "listed" => listed_answer(alloc, text),
-        "line-length" => line_length_answer(alloc, text),
-        "numbers-of-no-memory" => no_memory_answer(alloc),
-        _ => Err(NoAnswer::Unread(Unread::Line)),
+        "image" => image_answer(page, bytes),
+        "pod" => pod_answer(page, bytes),
+        "document-again" => document_answer(page, bytes),
+        "image-parts" => image_parts_answer(page, bytes),
+        "pod-parts" => pod_parts_answer(page, bytes),
+        "listing" => listing_answer(page, bytes),
+        "listing-again" => written_listing_answer(page, bytes),
+        "listing-of-its-map" => map_of_listing_answer(page, bytes),
+        "digest" => digest_answer(page, bytes),
+        _ => return false,
     }
+    true
 }
 
-// The calls of bytes.
-fn bytes_answer(alloc: Global, call: &str, bytes: &[u8]) -> Result<String, NoAnswer> {
+// The calls of one text. False where the call is another.
+fn is_text_call(page: &mut Page, call: &str, text: &str) -> bool {
     match call {
-        "image" => image_answer(alloc, bytes),
-        "pod" => pod_answer(alloc, bytes),
-        "document-again" => document_answer(alloc, bytes),
-        "image-parts" => image_parts_answer(alloc, bytes),
-        "pod-parts" => pod_parts_answer(alloc, bytes),
-        "listing" => listing_answer(alloc, bytes),
-        "listing-again" => written_listing_answer(alloc, bytes),
-        "listing-of-its-map" => map_of_listing_answer(alloc, bytes),
-        "digest" => digest_answer(alloc, bytes),
-        _ => match str::from_utf8(bytes) {
-            Ok(text) => text_answer(alloc, call, text),
-            Err(_) => Err(NoAnswer::Unread(Unread::Text)),
-        },
+        "name" => name_answer(page, text),
+        "identifier" => identifier_answer(page, text),
+        "reference" => reference_answer(page, text),
+        "id" => id_answer(page, text),
+        "key" => key_answer(page, text),
+        "json" => json_answer(page, text),
+        "section" => section_answer(page, text),
+        "section-again" => written_section_answer(page, text),
+        "path" => path_answer(page, text),
+        "parent" => parent_answer(page, text),
+        "listed" => listed_answer(page, text),
+        "line-length" => line_length_answer(page, text),
+        "numbers-of-no-memory" => no_memory_answer(page),
+        _ => return false,
     }
+    true
 }
 
-// The calls of words, or none where the call is another.
-fn words_answer(alloc: Global, call: &str, words: &[String]) -> Result<String, NoAnswer> {
+// The calls of words.
+fn words_answer(page: &mut Page, call: &str, words: &[String]) {
     match call {
-        "labels" => labels_answer(alloc, words),
-        "field" => field_answer(alloc, words),
-        "numbers" => numbers_answer(alloc, words),
-        "below" => below_answer(alloc, words),
-        "lay" => lay_answer(alloc, words),
-        "count" => count_answer(alloc, words),
-        "keep" => keep_answer(alloc, words),
-        "look" => look_answer(alloc, words),
-        "map-listing" => map_listing_answer(alloc, words),
-        "line" => line_answer(alloc, words),
-        "image-digest" => image_digest_answer(alloc, words),
-        "file-check" => file_check_answer(alloc, words),
-        "bundle" => bundle_answer(alloc, words),
-        "bundle-parts" => parts_answer(alloc, words),
-        "each-failing-call-of-bundle" => failing_answers(alloc, words),
-        "wide-bundle" => wide_answer(alloc, words),
-        _ => Err(NoAnswer::Unread(Unread::Line)),
+        "labels" => labels_answer(page, words),
+        "field" => field_answer(page, words),
+        "numbers" => numbers_answer(page, words),
+        "below" => below_answer(page, words),
+        "lay" => lay_answer(page, words),
+        "count" => count_answer(page, words),
+        "keep" => keep_answer(page, words),
+        "look" => look_answer(page, words),
+        "map-listing" => map_listing_answer(page, words),
+        "line" => line_answer(page, words),
+        "image-digest" => image_digest_answer(page, words),
+        "file-check" => file_check_answer(page, words),
+        "bundle" => bundle_answer(page, words, Told::Listing),
+        "bundle-parts" => bundle_answer(page, words, Told::Parts),
+        "each-failing-call-of-bundle" => failing_answers(page, words),
+        "wide-bundle" => wide_answer(page, words),
+        _ => page.unread(Unread::Line),
     }
-}
-
-fn takes_words(call: &str) -> bool {
-    matches!(
-        call,
-        "labels"
-            | "field"
-            | "numbers"
-            | "below"
-            | "lay"
-            | "count"
-            | "keep"
-            | "look"
-            | "map-listing"
-            | "line"
-            | "image-digest"
-            | "file-check"
-            | "bundle"
-            | "bundle-parts"
-            | "each-failing-call-of-bundle"
-            | "wide-bundle"
-    )
 }
 
 /// What the call of a line answers. Refused where the line says something that isn't known.
-pub fn answer(alloc: Global, names: &TextNames, line: &str) -> Result<String, NoAnswer> {
-    let (call, rest) = match line.split_once(' ') {
-        Some(parts) => parts,
-        None => (line, ""),
-    };
-    if takes_words(call) {
-        let words = names.words_of(alloc, rest)?;
-        return words_answer(alloc, call, words.as_slice());
+pub fn answer(page: &mut Page, names: &TextNames, line: &str) {
+    let (call, rest) = line.split_once(' ').unwrap_or((line, ""));
+    let bytes = names.bytes_of(page, rest);
+    if is_bytes_call(page, call, bytes.as_slice()) {
+        return;
     }
-    let bytes = names.bytes_of(alloc, rest)?;
-    bytes_answer(alloc, call, bytes.as_slice())
+    match str::from_utf8(bytes.as_slice()) {
+        Ok(text) if is_text_call(page, call, text) => (),
+        Ok(_) => {
+            let words = names.words_of(page, rest);
+            words_answer(page, call, words.as_slice());
+        }
+        Err(_) => page.unread(Unread::Text),
+    }
 }

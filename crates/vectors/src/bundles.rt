@@ -1,130 +1,148 @@
 // Bundles in memory: their listings, or why they hold no image.
-use crate::listings::{digest_text, listing_error_text};
-use ac_types::Fault;
+use crate::listings::{print_digest, print_written};
 use bundle_image::{BundleImage, BundleRefusal, read_bundle};
 use dir_memory::MemoryBundle;
-use scripts::Unread;
-use short_texts::{NoAnswer, add_all, copied, joined, text_from, told, told_both};
-use std::alloc::Global;
-use std::str;
+use dir_trait::{Bundle, NoMemory};
+use scripts::{Page, Unread};
 
 /// Where the bundle stands.
 const PLACE: &str = "b";
 
-// The bundle with what a word puts into it: `file:PATH:TEXT`, `link:PATH:TARGET`, `dir:PATH`, `other:PATH`.
-fn with_put(alloc: Global, bundle: MemoryBundle, word: &str) -> Result<MemoryBundle, NoAnswer> {
-    let Some((kind, rest)) = word.split_once(':') else {
-        return Err(NoAnswer::Unread(Unread::Word));
-    };
-    let (path, text) = match rest.split_once(':') {
-        Some(parts) => parts,
-        None => (rest, ""),
-    };
+// What may be put into a bundle. None of a word that isn't known.
+fn with_put(
+    page: &mut Page,
+    bundle: MemoryBundle,
+    kind: &str,
+    path: &str,
+    text: &str,
+) -> Result<MemoryBundle, NoMemory> {
+    let alloc = page.alloc();
     match kind {
-        "file" => Ok(bundle.file(alloc, path, text.as_bytes())?),
-        "link" => Ok(bundle.link(alloc, path, text)?),
-        "dir" => Ok(bundle.dir(alloc, path)?),
-        "other" => Ok(bundle.other(alloc, path)?),
-        _ => Err(NoAnswer::Unread(Unread::Word)),
+        "file" => bundle.file(alloc, path, text.as_bytes()),
+        "link" => bundle.link(alloc, path, text),
+        "dir" => bundle.dir(alloc, path),
+        "other" => bundle.other(alloc, path),
+        _ => {
+            page.unread(Unread::Word);
+            Ok(bundle)
+        }
     }
 }
 
-fn bundle_of(alloc: Global, words: &[String]) -> Result<MemoryBundle, NoAnswer> {
-    let mut bundle = MemoryBundle::new(alloc);
+// The bundle with what a word puts into it: `file:PATH:TEXT`, `link:PATH:TARGET`, `dir:PATH`, `other:PATH`.
+fn with_word(page: &mut Page, bundle: MemoryBundle, word: &str) -> MemoryBundle {
+    let (kind, rest) = word.split_once(':').unwrap_or(("", ""));
+    let (path, text) = rest.split_once(':').unwrap_or((rest, ""));
+    match with_put(page, bundle, kind, path, text) {
+        Ok(bundle) => bundle,
+        Err(_) => {
+            page.no_memory();
+            MemoryBundle::new(page.alloc())
+        }
+    }
+}
+
+fn bundle_of(page: &mut Page, words: &[String]) -> MemoryBundle {
+    let mut bundle = MemoryBundle::new(page.alloc());
     for word in words {
-        bundle = with_put(alloc, bundle, word.as_str())?;
+        bundle = with_word(page, bundle, word.as_str());
     }
-    Ok(bundle)
+    bundle
 }
 
-fn manifest_fault(alloc: Global, fault: &Fault) -> Result<String, NoAnswer> {
-    let number = told(alloc, &fault.kind.number())?;
-    joined(
-        alloc,
-        &["manifest ", fault.path.as_str(), " ", number.as_str()],
-    )
-}
-
-/// Why a bundle holds no image.
-pub fn refusal_text(alloc: Global, refusal: &BundleRefusal) -> Result<String, NoAnswer> {
+// Why a bundle holds no image.
+fn print_refusal(page: &mut Page, refusal: &BundleRefusal) {
     match refusal {
-        BundleRefusal::NoFile(path) => joined(alloc, &["no file ", path.as_str()]),
-        BundleRefusal::Manifest(fault) => manifest_fault(alloc, fault),
-        BundleRefusal::Id(_) => copied(alloc, "bad id"),
-        BundleRefusal::Listing(error) => listing_error_text(alloc, *error),
-        BundleRefusal::BadKind(path) => joined(alloc, &["bad kind ", path.as_str()]),
-        BundleRefusal::BundleFault => copied(alloc, "bundle fault"),
-        BundleRefusal::NoMemory => copied(alloc, "out of memory"),
+        BundleRefusal::NoFile(path) => page.put_all(&["no file ", path.as_str()]),
+        BundleRefusal::Manifest(fault) => {
+            page.put_all(&["manifest ", fault.path.as_str(), " "]);
+            page.tell(&fault.kind.number());
+        }
+        BundleRefusal::Id(_) => page.put("bad id"),
+        BundleRefusal::Listing(error) => page.tell_both(&error.number().unwrap_or(0), error),
+        BundleRefusal::BadKind(path) => page.put_all(&["bad kind ", path.as_str()]),
+        BundleRefusal::BundleFault => page.put("bundle fault"),
+        BundleRefusal::NoMemory => page.put("out of memory"),
     }
 }
 
-// The listing of the bundle's image.
-fn listing_of(alloc: Global, bundle: &mut MemoryBundle) -> Result<String, NoAnswer> {
-    match read_bundle(alloc, bundle, PLACE) {
-        Ok(image) => text_from(image.listing.write(alloc)?),
-        Err(refusal) => refusal_text(alloc, &refusal),
+fn print_parts(page: &mut Page, image: &BundleImage) {
+    page.put(image.manifest.name.as_str());
+    page.put("\nid ");
+    print_digest(page, &image.id.bytes);
+    page.put(if image.listed {
+        "\nlisted\n"
+    } else {
+        "\nnot listed\n"
+    });
+    page.put_bytes(image.bytes.as_slice());
+}
+
+/// What is told of the image of a bundle.
+#[derive(Clone, Copy)]
+pub enum Told {
+    Listing,
+    Parts,
+    Length,
+}
+
+fn print_image(page: &mut Page, image: &BundleImage, told: Told) {
+    match told {
+        Told::Listing => print_written(page, &image.listing),
+        Told::Parts => print_parts(page, image),
+        Told::Length => page.tell_both(&image.listing.as_slice().len(), &"lines"),
     }
 }
 
-/// `bundle PUT ..`: the listing of the image of the bundle at `b`, or why it holds none.
-pub fn bundle_answer(alloc: Global, words: &[String]) -> Result<String, NoAnswer> {
-    let mut bundle = bundle_of(alloc, words)?;
-    listing_of(alloc, &mut bundle)
+/// Prints what is told of the image of the bundle at `b`, or why it holds none.
+pub fn print_bundle<B: Bundle>(page: &mut Page, bundle: &mut B, told: Told) {
+    match read_bundle(page.alloc(), bundle, PLACE) {
+        Ok(image) => print_image(page, &image, told),
+        Err(refusal) => print_refusal(page, &refusal),
+    }
 }
 
-// The same, with a call that fails.
-fn failing_answer(alloc: Global, words: &[String], call: u64) -> Result<String, NoAnswer> {
-    let bundle = bundle_of(alloc, words)?;
-    let mut bundle = bundle.fail(alloc, call)?;
-    listing_of(alloc, &mut bundle)
+/// `bundle PUT ..`: the listing of the image of the bundle at `b`, or why it holds none. `bundle-parts PUT ..`: the
+/// name, the ID and the manifest's bytes of the image, and whether a listing was given.
+pub fn bundle_answer(page: &mut Page, words: &[String], told: Told) {
+    let mut bundle = bundle_of(page, words);
+    print_bundle(page, &mut bundle, told);
 }
 
-fn add_line(alloc: Global, text: &mut String, call: u64, answer: &str) -> Result<(), NoAnswer> {
-    let line = told_both(alloc, &call, &answer)?;
-    add_all(text, &[line.as_str(), "\n"])
+// The listing, with a call that fails.
+fn failing_answer(page: &mut Page, words: &[String], call: u64) -> String {
+    let bundle = bundle_of(page, words);
+    match bundle.fail(page.alloc(), call) {
+        Ok(bundle) => {
+            let mut bundle = bundle;
+            print_bundle(page, &mut bundle, Told::Listing);
+        }
+        Err(_) => page.no_memory(),
+    }
+    page.take()
+}
+
+fn add_line(page: &mut Page, text: &mut String, call: u64, answer: &str) {
+    page.tell_both(&call, &answer);
+    page.put("\n");
+    let line = page.take();
+    if text.push_str(line.as_str()).is_err() {
+        page.no_memory();
+    }
 }
 
 /// `each-failing-call-of-bundle PUT ..`: what the bundle answers where each call on it fails in turn, up to the
 /// first that makes no difference.
-pub fn failing_answers(alloc: Global, words: &[String]) -> Result<String, NoAnswer> {
-    let whole = bundle_answer(alloc, words)?;
-    let mut text = String::new(alloc);
+pub fn failing_answers(page: &mut Page, words: &[String]) {
+    bundle_answer(page, words, Told::Listing);
+    let whole = page.take();
+    let mut text = String::new(page.alloc());
     for call in 1..1000 {
-        let answer = failing_answer(alloc, words, call)?;
+        let answer = failing_answer(page, words, call);
         if answer.as_str() == whole.as_str() {
             break;
         }
-        add_line(alloc, &mut text, call, answer.as_str())?;
+        add_line(page, &mut text, call, answer.as_str());
     }
-    Ok(text)
-}
-
-fn parts_text(alloc: Global, image: &BundleImage) -> Result<String, NoAnswer> {
-    let mut text = copied(alloc, image.manifest.name.as_str())?;
-    add_all(&mut text, &["\nid "])?;
-    let id = digest_text(alloc, &image.id.bytes)?;
-    add_all(&mut text, &[id.as_str()])?;
-    add_all(
-        &mut text,
-        &[if image.listed {
-            "\nlisted\n"
-        } else {
-            "\nnot listed\n"
-        }],
-    )?;
-    match str::from_utf8(image.bytes.as_slice()) {
-        Ok(manifest) => add_all(&mut text, &[manifest])?,
-        Err(_) => return Err(NoAnswer::Unread(Unread::Text)),
-    }
-    Ok(text)
-}
-
-/// `bundle-parts PUT ..`: the name, the ID and the manifest's bytes of the image, and whether a listing was
-/// given.
-pub fn parts_answer(alloc: Global, words: &[String]) -> Result<String, NoAnswer> {
-    let mut bundle = bundle_of(alloc, words)?;
-    match read_bundle(alloc, &mut bundle, PLACE) {
-        Ok(image) => parts_text(alloc, &image),
-        Err(refusal) => refusal_text(alloc, &refusal),
-    }
+    page.put(text.as_str());
 }

@@ -1,42 +1,48 @@
 // Manifests as bytes: read, refused, and written again.
-use crate::fields::fault_text;
+use crate::fields::print_fault;
+use ac_types::ReadError;
 use manifest_writing::{image_bytes, pod_bytes};
 use manifests::{Document, read_document, read_image, read_pod};
-use short_texts::{NoAnswer, copied, text_from};
-use std::alloc::Global;
+use scripts::Page;
+
+/// Prints whether something was taken, or the number and the path of its first fault.
+pub fn print_taken<T: Drop>(page: &mut Page, read: Result<T, ReadError>) {
+    match read {
+        Ok(_) => page.put("taken"),
+        Err(error) => print_fault(page, &error),
+    }
+}
 
 /// `image JSON`: whether an image manifest is taken, or its first fault.
-pub fn image_answer(alloc: Global, bytes: &[u8]) -> Result<String, NoAnswer> {
-    match read_image(alloc, bytes) {
-        Ok(_) => copied(alloc, "taken"),
-        Err(error) => fault_text(alloc, &error),
-    }
+pub fn image_answer(page: &mut Page, bytes: &[u8]) {
+    print_taken(page, read_image(page.alloc(), bytes));
 }
 
 /// `pod JSON`: the same of a pod manifest.
-pub fn pod_answer(alloc: Global, bytes: &[u8]) -> Result<String, NoAnswer> {
-    match read_pod(alloc, bytes) {
-        Ok(_) => copied(alloc, "taken"),
-        Err(error) => fault_text(alloc, &error),
+pub fn pod_answer(page: &mut Page, bytes: &[u8]) {
+    print_taken(page, read_pod(page.alloc(), bytes));
+}
+
+fn print_written(page: &mut Page, document: &Document) {
+    let written = match document {
+        Document::Image(manifest) => image_bytes(page.alloc(), manifest),
+        Document::Pod(manifest) => pod_bytes(page.alloc(), manifest),
+    };
+    if let Some(bytes) = page.made(written) {
+        page.put_bytes(bytes.as_slice());
     }
 }
 
-fn written(alloc: Global, document: &Document) -> Result<String, NoAnswer> {
-    match document {
-        Document::Image(manifest) => text_from(image_bytes(alloc, manifest)?),
-        Document::Pod(manifest) => text_from(pod_bytes(alloc, manifest)?),
+fn print_copy(page: &mut Page, document: &Document) {
+    if let Some(copy) = page.made(document.copy()) {
+        print_written(page, &copy);
     }
-}
-
-fn copy_written(alloc: Global, document: &Document) -> Result<String, NoAnswer> {
-    let copy = document.copy()?;
-    written(alloc, &copy)
 }
 
 /// `document-again JSON`: what is written of a copy of the manifest that was read.
-pub fn document_answer(alloc: Global, bytes: &[u8]) -> Result<String, NoAnswer> {
-    match read_document(alloc, bytes) {
-        Ok(document) => copy_written(alloc, &document),
-        Err(error) => fault_text(alloc, &error),
+pub fn document_answer(page: &mut Page, bytes: &[u8]) {
+    match read_document(page.alloc(), bytes) {
+        Ok(document) => print_copy(page, &document),
+        Err(error) => print_fault(page, &error),
     }
 }

@@ -1,115 +1,90 @@
 // Single fields of JSON.
 use ac_types::{
-    FaultKind, ReadError, Sequence, field, flag_field, list_field, read_named, required_identifier,
+    FaultKind, ReadError, field, flag_field, list_field, read_named, required_identifier,
     required_name, required_port, text_field, whole_field,
 };
 use app_section::Port;
-use scripts::Unread;
+use scripts::{Page, Unread, number_of};
 use serde_json::Value;
-use short_texts::{NoAnswer, copied, told, told_both};
-use std::alloc::Global;
+use std::fmt::Display;
 
-/// The number and the path of a fault.
-pub fn fault_text(alloc: Global, error: &ReadError) -> Result<String, NoAnswer> {
-    let copy = error.copy()?;
-    told(alloc, &copy)
-}
-
-fn there(alloc: Global, value: &Value, name: &str) -> Result<String, NoAnswer> {
-    let word = if field(value, name).is_some() {
-        "there"
-    } else {
-        "absent"
-    };
-    copied(alloc, word)
-}
-
-fn flag(alloc: Global, value: &Value, at: &str, name: &str) -> Result<String, NoAnswer> {
-    match flag_field(alloc, value, at, name) {
-        Ok(flag) => told(alloc, &flag),
-        Err(error) => fault_text(alloc, &error),
+/// Prints the number and the path of a fault.
+pub fn print_fault(page: &mut Page, error: &ReadError) {
+    if let Some(copy) = page.made(error.copy()) {
+        page.tell(&copy);
     }
 }
 
-fn text(alloc: Global, value: &Value, at: &str, name: &str) -> Result<String, NoAnswer> {
-    match text_field(alloc, value, at, name) {
-        Ok(text) => copied(alloc, text.unwrap_or("absent")),
-        Err(error) => fault_text(alloc, &error),
+// The value of a field, or the fault that it has.
+fn told<T: Display + Drop>(page: &mut Page, read: Result<T, ReadError>) {
+    match read {
+        Ok(value) => page.tell(&value),
+        Err(error) => print_fault(page, &error),
     }
 }
 
-fn port(alloc: Global, value: &Value, at: &str, name: &str) -> Result<String, NoAnswer> {
-    match required_port(alloc, value, at, name) {
-        Ok(port) => told(alloc, &port),
-        Err(error) => fault_text(alloc, &error),
+fn text(page: &mut Page, value: &Value, at: &str, name: &str) {
+    match text_field(page.alloc(), value, at, name) {
+        Ok(text) => page.put(text.unwrap_or("absent")),
+        Err(error) => print_fault(page, &error),
     }
 }
 
-fn whole(alloc: Global, value: &Value, at: &str, name: &str, max: u64) -> Result<String, NoAnswer> {
-    match whole_field(alloc, value, at, name, max) {
-        Ok(Some(number)) => told(alloc, &number),
-        Ok(None) => copied(alloc, "absent"),
-        Err(error) => fault_text(alloc, &error),
+fn whole(page: &mut Page, value: &Value, at: &str, name: &str, max: u64) {
+    match whole_field(page.alloc(), value, at, name, max) {
+        Ok(Some(number)) => page.tell(&number),
+        Ok(None) => page.put("absent"),
+        Err(error) => print_fault(page, &error),
     }
 }
 
-fn name_of(alloc: Global, value: &Value, at: &str, name: &str) -> Result<String, NoAnswer> {
-    match required_name(alloc, value, at, name) {
-        Ok(name) => copied(alloc, name.as_str()),
-        Err(error) => fault_text(alloc, &error),
+fn name_of(page: &mut Page, value: &Value, at: &str, name: &str) {
+    match required_name(page.alloc(), value, at, name) {
+        Ok(name) => page.put(name.as_str()),
+        Err(error) => print_fault(page, &error),
     }
 }
 
-fn identifier_of(alloc: Global, value: &Value, at: &str, name: &str) -> Result<String, NoAnswer> {
-    match required_identifier(alloc, value, at, name) {
-        Ok(name) => copied(alloc, name.as_str()),
-        Err(error) => fault_text(alloc, &error),
+fn identifier_of(page: &mut Page, value: &Value, at: &str, name: &str) {
+    match required_identifier(page.alloc(), value, at, name) {
+        Ok(name) => page.put(name.as_str()),
+        Err(error) => print_fault(page, &error),
+    }
+}
+
+fn print_ports(page: &mut Page, list: &[Value], name: &str) {
+    match read_named::<Port>(page.alloc(), list, name, FaultKind::NameTwice) {
+        Ok(ports) => page.tell_both(&ports.len(), &"ports"),
+        Err(error) => print_fault(page, &error),
     }
 }
 
 // The ports of a list, whose path is its name alone.
-fn ports_of(
-    alloc: Global,
-    value: &Value,
-    at: &str,
-    name: &str,
-) -> Result<Sequence<Port>, ReadError> {
-    match list_field(alloc, value, at, name) {
-        Ok(Some(list)) => read_named(alloc, list, name, FaultKind::NameTwice),
-        Ok(None) => Ok(Sequence::new(alloc)),
-        Err(error) => Err(error),
-    }
-}
-
-fn ports(alloc: Global, value: &Value, at: &str, name: &str) -> Result<String, NoAnswer> {
-    match ports_of(alloc, value, at, name) {
-        Ok(ports) => told_both(alloc, &ports.len(), &"ports"),
-        Err(error) => fault_text(alloc, &error),
+fn ports(page: &mut Page, value: &Value, at: &str, name: &str) {
+    match list_field(page.alloc(), value, at, name) {
+        Ok(Some(list)) => print_ports(page, list, name),
+        Ok(None) => page.put("0 ports"),
+        Err(error) => print_fault(page, &error),
     }
 }
 
 // The field of that kind of the object at a path.
-fn kind_answer(
-    alloc: Global,
-    value: &Value,
-    kind: &str,
-    at: &str,
-    name: &str,
-) -> Result<String, NoAnswer> {
+fn kind_answer(page: &mut Page, value: &Value, kind: &str, at: &str, name: &str) {
     match kind {
-        "any" => there(alloc, value, name),
-        "flag" => flag(alloc, value, at, name),
-        "text" => text(alloc, value, at, name),
-        "port" => port(alloc, value, at, name),
-        "name" => name_of(alloc, value, at, name),
-        "identifier" => identifier_of(alloc, value, at, name),
-        "ports" => ports(alloc, value, at, name),
+        "any" if field(value, name).is_some() => page.put("there"),
+        "any" => page.put("absent"),
+        "flag" => told(page, flag_field(page.alloc(), value, at, name)),
+        "text" => text(page, value, at, name),
+        "port" => told(page, required_port(page.alloc(), value, at, name)),
+        "name" => name_of(page, value, at, name),
+        "identifier" => identifier_of(page, value, at, name),
+        "ports" => ports(page, value, at, name),
         _ => match kind.strip_prefix("whole-to-") {
-            Some(max) => match max.parse::<u64>() {
-                Ok(max) => whole(alloc, value, at, name, max),
-                Err(_) => Err(NoAnswer::Unread(Unread::Number)),
-            },
-            None => Err(NoAnswer::Unread(Unread::Word)),
+            Some(max) => {
+                let max = number_of(page, max);
+                whole(page, value, at, name, max);
+            }
+            None => page.unread(Unread::Word),
         },
     }
 }
@@ -117,17 +92,15 @@ fn kind_answer(
 /// `field KIND at PATH NAME JSON`: the field of that name, read as one of that kind, in the object at a path,
 /// which may be `root`. Kinds are `any`, `flag`, `text`, `port`, `name`, `identifier`, `ports` and
 /// `whole-to-MAX`.
-pub fn field_answer(alloc: Global, words: &[String]) -> Result<String, NoAnswer> {
+pub fn field_answer(page: &mut Page, words: &[String]) {
     let [kind, _, path, name, json] = words else {
-        return Err(NoAnswer::Unread(Unread::Missing));
+        return page.unread(Unread::Missing);
     };
-    let path = if path.as_str() == "root" {
-        "$"
-    } else {
-        path.as_str()
+    let path = match path.as_str() {
+        "root" => "$",
+        path => path,
     };
-    match Value::from_str(alloc, json.as_str()) {
-        Ok(value) => kind_answer(alloc, &value, kind.as_str(), path, name.as_str()),
-        Err(_) => Err(NoAnswer::Unread(Unread::Text)),
+    if let Some(value) = page.read(Value::from_str(page.alloc(), json.as_str()), Unread::Text) {
+        kind_answer(page, &value, kind.as_str(), path, name.as_str());
     }
 }

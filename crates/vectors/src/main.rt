@@ -17,7 +17,7 @@ mod sequences;
 mod wide;
 
 use crate::answers::answer;
-use scripts::{Player, Refusal, play_all};
+use scripts::{Page, Player, play_all};
 use short_texts::{TextNames, print_answer};
 use std::process::ExitCode;
 
@@ -28,19 +28,21 @@ struct Vectors {
 }
 
 impl Player for Vectors {
-    fn play(&mut self, rt: &HostRuntime, lines: &[String], place: usize) -> Result<(), Refusal> {
+    fn play(&mut self, page: &mut Page, lines: &[String], place: usize) {
         let line = match lines.get(place) {
             Some(line) => line.as_str(),
             None => "",
         };
         if line.is_empty() || line.starts_with('#') {
-            return Ok(());
+            return;
         }
-        if let Some(rest) = line.strip_prefix("let ") {
-            return Ok(self.names.define(rt.alloc(), rest)?);
+        match line.strip_prefix("let ") {
+            Some(rest) => self.names.define(page, rest),
+            None => {
+                answer(page, &self.names, line);
+                print_answer(page, &self.names);
+            }
         }
-        let answer = answer(rt.alloc(), &self.names, line)?;
-        print_answer(rt, &self.names, answer.as_str())
     }
 }
 

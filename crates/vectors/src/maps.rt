@@ -1,154 +1,150 @@
 // Maps of entries: laid one over the other, kept by whitelists, looked up.
 use crate::paths::listed_of;
-use ac_types::Text;
 use path_map::{AbsPath, Entry, Listed, Meta, PathMap};
-use scripts::Unread;
-use short_texts::{NoAnswer, copied, joined, letter_of, path_of, place_of, told};
-use std::alloc::Global;
+use scripts::{Page, Unread, number_of};
+use short_texts::{lay, lay_letter, letter_of, link_of, path_of};
 
 // Owners 0:0.
-fn owned(mode: &str) -> Result<Meta, NoAnswer> {
-    match u16::from_str_radix(mode, 8) {
-        Ok(mode) => Ok(Meta {
-            mode,
-            uid: 0,
-            gid: 0,
-        }),
-        Err(_) => Err(NoAnswer::Unread(Unread::Number)),
+fn owned(page: &mut Page, mode: &str) -> Meta {
+    let mode = page.read(u16::from_str_radix(mode, 8), Unread::Number);
+    Meta {
+        mode: mode.unwrap_or(0),
+        uid: 0,
+        gid: 0,
     }
 }
 
 /// The bytes of a SHA-512 in hexadecimal digits.
-pub fn sum_of(digits: &str) -> Result<[u8; 64], NoAnswer> {
+pub fn sum_of(page: &mut Page, digits: &str) -> [u8; 64] {
     let mut bytes = [0; 64];
-    match hex::decode_to_slice(digits, &mut bytes) {
-        Ok(()) => Ok(bytes),
-        Err(_) => Err(NoAnswer::Unread(Unread::Text)),
+    if hex::decode_to_slice(digits, &mut bytes).is_err() {
+        page.unread(Unread::Text);
     }
+    bytes
 }
 
-fn file_of(mode: &str, size: &str, digits: &str) -> Result<Entry, NoAnswer> {
-    match size.parse::<u64>() {
-        Ok(size) => Ok(Entry::File {
-            meta: owned(mode)?,
-            size,
-            sha: sum_of(digits)?,
-        }),
-        Err(_) => Err(NoAnswer::Unread(Unread::Number)),
-    }
-}
-
-fn link_of(alloc: Global, mode: &str, target: &str) -> Result<Entry, NoAnswer> {
-    Ok(Entry::Link {
-        meta: owned(mode)?,
-        target: Text::of(alloc, target)?,
-    })
+// `SIZE:SHA512`
+fn file_of(page: &mut Page, meta: Meta, text: &str) -> Entry {
+    let (size, digits) = text.split_once(':').unwrap_or(("", ""));
+    let size = number_of(page, size);
+    let sha = sum_of(page, digits);
+    Entry::File { meta, size, sha }
 }
 
 // `d:MODE`, `f:MODE:SIZE:SHA512` or `l:MODE:TARGET`.
-fn long_entry(alloc: Global, word: &str) -> Result<Entry, NoAnswer> {
-    let parts: Vec<&str> = word.split(':').collect(alloc)?;
-    match parts.as_slice() {
-        ["d", mode] => Ok(Entry::Dir(owned(mode)?)),
-        ["f", mode, size, digits] => file_of(mode, size, digits),
-        ["l", mode, target] => link_of(alloc, mode, target),
-        _ => Err(NoAnswer::Unread(Unread::Text)),
+fn long_entry(page: &mut Page, word: &str) -> Entry {
+    let (kind, rest) = word.split_once(':').unwrap_or(("", ""));
+    let (mode, rest) = rest.split_once(':').unwrap_or((rest, ""));
+    let meta = owned(page, mode);
+    match kind {
+        "f" => return file_of(page, meta, rest),
+        "l" => return link_of(page, meta, rest),
+        "d" => (),
+        _ => page.unread(Unread::Text),
     }
+    Entry::Dir(meta)
 }
 
-// The path and the entry of a word: a letter and the path, or an entry, a colon and the path.
-fn word_place(alloc: Global, word: &str) -> Result<(AbsPath, Entry), NoAnswer> {
+// The map with what a word says more: a letter and the path, or an entry, a colon and the path.
+fn lay_word(page: &mut Page, map: PathMap, word: &str) -> PathMap {
     match word.rsplit_once(':') {
-        Some((entry, path)) => Ok((path_of(alloc, path)?, long_entry(alloc, entry)?)),
-        None => place_of(alloc, word),
+        Some((entry, path)) => {
+            let entry = long_entry(page, entry);
+            lay(page, map, path, entry)
+        }
+        None => lay_letter(page, map, word),
     }
 }
 
 /// The entries of the words laid in turn over the empty map.
-pub fn laid(alloc: Global, words: &[String]) -> Result<PathMap, NoAnswer> {
-    let mut map = PathMap::new(alloc);
+pub fn laid(page: &mut Page, words: &[String]) -> PathMap {
+    let mut map = PathMap::new(page.alloc());
     for word in words {
-        let (path, entry) = word_place(alloc, word.as_str())?;
-        map = map.overlay(alloc, path, entry)?;
+        map = lay_word(page, map, word.as_str());
     }
-    Ok(map)
+    map
 }
 
-fn add_entry(text: &mut String, path: &AbsPath, entry: &Entry) -> Result<(), NoAnswer> {
-    if !text.is_empty() {
-        text.push(' ')?;
-    }
-    text.push_str(letter_of(entry))?;
-    Ok(text.push_str(path.as_str())?)
-}
-
-fn shown(alloc: Global, map: &PathMap) -> Result<String, NoAnswer> {
-    let mut text = String::new(alloc);
+fn print_map(page: &mut Page, map: &PathMap) {
+    let mut is_first = true;
     for (path, entry) in map.iter() {
-        add_entry(&mut text, path, entry)?;
+        page.put(if is_first { "" } else { " " });
+        page.put(letter_of(entry));
+        page.put(path.as_str());
+        is_first = false;
     }
-    Ok(text)
 }
 
 /// `lay ENTRY ..`: a copy of the map of the entries, laid in turn one over the other.
-pub fn lay_answer(alloc: Global, words: &[String]) -> Result<String, NoAnswer> {
-    let map = laid(alloc, words)?;
-    shown(alloc, &map.copy()?)
+pub fn lay_answer(page: &mut Page, words: &[String]) {
+    let map = laid(page, words);
+    if let Some(copy) = page.made(map.copy()) {
+        print_map(page, &copy);
+    }
 }
 
 /// `count ENTRY ..`: how many entries that map has.
-pub fn count_answer(alloc: Global, words: &[String]) -> Result<String, NoAnswer> {
-    let map = laid(alloc, words)?;
-    told(alloc, &map.len())
+pub fn count_answer(page: &mut Page, words: &[String]) {
+    let map = laid(page, words);
+    page.tell(&map.len());
+}
+
+fn add_listed(page: &mut Page, list: &mut Vec<Listed>, path: &str) {
+    if let Some(listed) = listed_of(page, path) {
+        page.push(list, listed);
+    }
 }
 
 // The whitelist of a word: paths between commas, or `none`.
-fn whitelist(alloc: Global, word: &str) -> Result<Vec<Listed>, NoAnswer> {
-    let mut list = Vec::new(alloc);
-    if word != "none" {
-        for path in word.split(',') {
-            list.push(listed_of(alloc, path)?)?;
-        }
+fn whitelist(page: &mut Page, word: &str) -> Vec<Listed> {
+    let mut list = Vec::new(page.alloc());
+    if word == "none" {
+        return list;
     }
-    Ok(list)
-}
-
-fn kept(alloc: Global, word: &str, words: &[String]) -> Result<PathMap, NoAnswer> {
-    let map = laid(alloc, words)?;
-    let list = whitelist(alloc, word)?;
-    Ok(map.keep(alloc, list.as_slice())?)
+    for path in word.split(',') {
+        add_listed(page, &mut list, path);
+    }
+    list
 }
 
 /// `keep WHITELIST ENTRY ..`: what the whitelist keeps of the map of the entries.
-pub fn keep_answer(alloc: Global, words: &[String]) -> Result<String, NoAnswer> {
+pub fn keep_answer(page: &mut Page, words: &[String]) {
     let Some((list, words)) = words.split_first() else {
-        return Err(NoAnswer::Unread(Unread::Missing));
+        return page.unread(Unread::Missing);
     };
-    shown(alloc, &kept(alloc, list.as_str(), words)?)
+    let list = whitelist(page, list.as_str());
+    let map = laid(page, words);
+    match map.keep(page.alloc(), list.as_slice()) {
+        Ok(map) => print_map(page, &map),
+        Err(_) => page.no_memory(),
+    }
 }
 
-fn entry_text(alloc: Global, entry: &Entry) -> Result<String, NoAnswer> {
-    let kind = if entry.is_directory() {
+fn print_entry(page: &mut Page, entry: &Entry) {
+    if let Some(copy) = page.made(entry.copy()) {
+        page.put(letter_of(&copy));
+    }
+    page.put(if entry.is_directory() {
         ", a directory"
     } else {
         ", no directory"
-    };
-    let copy = entry.copy()?;
-    joined(alloc, &[letter_of(&copy), kind])
+    });
 }
 
-fn looked_up(alloc: Global, map: &PathMap, path: &AbsPath) -> Result<String, NoAnswer> {
+fn print_place(page: &mut Page, map: &PathMap, path: &AbsPath) {
     match map.get(path) {
-        Some(entry) => entry_text(alloc, entry),
-        None => copied(alloc, "nothing"),
+        Some(entry) => print_entry(page, entry),
+        None => page.put("nothing"),
     }
 }
 
 /// `look PATH ENTRY ..`: what stands at a path of the map of the entries.
-pub fn look_answer(alloc: Global, words: &[String]) -> Result<String, NoAnswer> {
+pub fn look_answer(page: &mut Page, words: &[String]) {
     let Some((path, words)) = words.split_first() else {
-        return Err(NoAnswer::Unread(Unread::Text));
+        return page.unread(Unread::Text);
     };
-    let path = path_of(alloc, path.as_str())?;
-    looked_up(alloc, &laid(alloc, words)?, &path)
+    if let Some(path) = path_of(page, path.as_str()) {
+        let map = laid(page, words);
+        print_place(page, &map, &path);
+    }
 }

@@ -1,161 +1,155 @@
 // Names, references, labels, IDs and keys.
 use ac_types::{AcIdentifier, AcName, ImageId, ImageRef, Label, Labels, Sequence, StoreKey, Text};
-use scripts::Unread;
-use short_texts::{NoAnswer, add_all, copied, joined, told, told_both};
-use std::alloc::Global;
-use std::str;
+use scripts::{Page, Unread};
 
-fn copied_name(alloc: Global, name: &AcName) -> Result<String, NoAnswer> {
-    let copy = name.copy()?;
-    copied(alloc, copy.as_str())
+fn print_name(page: &mut Page, name: &AcName) {
+    if let Some(copy) = page.made(name.copy()) {
+        page.put(copy.as_str());
+    }
 }
 
 /// `name TEXT`: the name, or why it is none.
-pub fn name_answer(alloc: Global, text: &str) -> Result<String, NoAnswer> {
-    match AcName::parse(alloc, text) {
-        Ok(name) => copied_name(alloc, &name),
-        Err(error) => told(alloc, &error),
+pub fn name_answer(page: &mut Page, text: &str) {
+    match AcName::parse(page.alloc(), text) {
+        Ok(name) => print_name(page, &name),
+        Err(error) => page.tell(&error),
     }
 }
 
-fn copied_identifier(alloc: Global, name: &AcIdentifier) -> Result<String, NoAnswer> {
-    let copy = name.copy()?;
-    copied(alloc, copy.as_str())
+fn print_identifier(page: &mut Page, name: &AcIdentifier) {
+    if let Some(copy) = page.made(name.copy()) {
+        page.put(copy.as_str());
+    }
 }
 
 /// `identifier TEXT`: the identifier, or why it is none.
-pub fn identifier_answer(alloc: Global, text: &str) -> Result<String, NoAnswer> {
-    match AcIdentifier::parse(alloc, text) {
-        Ok(name) => copied_identifier(alloc, &name),
-        Err(error) => told(alloc, &error),
+pub fn identifier_answer(page: &mut Page, text: &str) {
+    match AcIdentifier::parse(page.alloc(), text) {
+        Ok(name) => print_identifier(page, &name),
+        Err(error) => page.tell(&error),
     }
 }
 
-/// The labels behind a text, each `NAME=VALUE`.
-pub fn add_labels(text: &mut String, labels: &Labels) -> Result<(), NoAnswer> {
+/// Prints labels, each ` NAME=VALUE`.
+pub fn print_labels(page: &mut Page, labels: &Labels) {
     for label in labels.as_slice() {
-        let parts = [" ", label.name.as_str(), "=", label.value.as_str()];
-        add_all(text, &parts)?;
+        page.put_all(&[" ", label.name.as_str(), "=", label.value.as_str()]);
     }
-    Ok(())
 }
 
-fn named_text(alloc: Global, name: &AcIdentifier, labels: &Labels) -> Result<String, NoAnswer> {
-    let mut text = copied_identifier(alloc, name)?;
-    add_labels(&mut text, labels)?;
-    Ok(text)
-}
-
-// The digits, without the zeros behind them.
-fn digits_of(alloc: Global, digits: &[u8; 128]) -> Result<String, NoAnswer> {
-    let mut text = String::new(alloc);
+// How many digits, and which; behind them stand zeros.
+fn print_digits(page: &mut Page, digits: &[u8; 128], length: u8) {
+    page.tell(&length);
+    page.put(" ");
     for digit in digits {
         if *digit != 0 {
-            text.push(char::from(*digit))?;
+            page.tell(&char::from(*digit));
         }
     }
-    Ok(text)
 }
 
-fn digits_text(alloc: Global, digits: &[u8; 128], length: u8) -> Result<String, NoAnswer> {
-    let digits = digits_of(alloc, digits)?;
-    told_both(alloc, &length, &digits.as_str())
+fn print_reference(page: &mut Page, wanted: &ImageRef) {
+    match wanted {
+        ImageRef::Named { name, labels } => {
+            print_identifier(page, name);
+            print_labels(page, labels);
+        }
+        ImageRef::ById { digits, len } => print_digits(page, digits, *len),
+    }
 }
 
-fn copied_reference(alloc: Global, wanted: &ImageRef) -> Result<String, NoAnswer> {
-    match wanted.copy()? {
-        ImageRef::Named { name, labels } => named_text(alloc, &name, &labels),
-        ImageRef::ById { digits, len } => digits_text(alloc, &digits, len),
+fn print_copy(page: &mut Page, wanted: &ImageRef) {
+    if let Some(copy) = page.made(wanted.copy()) {
+        print_reference(page, &copy);
     }
 }
 
 /// `reference WORD`: the name and the labels, or how many digits of an ID and which, or where it stops to be a reference.
-pub fn reference_answer(alloc: Global, word: &str) -> Result<String, NoAnswer> {
-    match ImageRef::parse(alloc, word) {
-        Ok(wanted) => copied_reference(alloc, &wanted),
-        Err(error) => told(alloc, &error),
+pub fn reference_answer(page: &mut Page, word: &str) {
+    match ImageRef::parse(page.alloc(), word) {
+        Ok(wanted) => print_copy(page, &wanted),
+        Err(error) => page.tell(&error),
     }
 }
 
-fn identifier(alloc: Global, text: &str) -> Result<AcIdentifier, NoAnswer> {
-    match AcIdentifier::parse(alloc, text) {
-        Ok(name) => Ok(name),
-        Err(_) => Err(NoAnswer::Unread(Unread::Name)),
+fn add_label(page: &mut Page, list: &mut Vec<Label>, word: &str) {
+    let (name, value) = word.split_once('=').unwrap_or(("", ""));
+    if let Some(name) = page.read(AcIdentifier::parse(page.alloc(), name), Unread::Name) {
+        let value = Text::from_string(page.text(value));
+        page.push(list, Label { name, value });
     }
 }
 
-fn label(alloc: Global, word: &str) -> Result<Label, NoAnswer> {
-    let Some((name, value)) = word.split_once('=') else {
-        return Err(NoAnswer::Unread(Unread::Text));
-    };
-    let value = Text::of(alloc, value)?;
-    Ok(Label {
-        name: identifier(alloc, name)?,
-        value,
-    })
-}
-
-fn labels_of(alloc: Global, words: &[String]) -> Result<Labels, NoAnswer> {
-    let mut list = Vec::new(alloc);
+fn labels_of(page: &mut Page, words: &[String]) -> Labels {
+    let mut list = Vec::new(page.alloc());
     for word in words {
-        list.push(label(alloc, word.as_str())?)?;
+        add_label(page, &mut list, word.as_str());
     }
-    Ok(Sequence::from_vec(list))
+    Sequence::from_vec(list)
 }
 
-fn checked(alloc: Global, labels: &Labels) -> Result<String, NoAnswer> {
+// What the one test of labels says.
+fn checked(page: &mut Page, labels: &Labels) -> String {
     match labels.check() {
-        Ok(()) => copied(alloc, "taken"),
-        Err(fault) => told(alloc, &fault),
+        Ok(()) => page.put("taken"),
+        Err(fault) => page.tell(&fault),
     }
+    page.take()
 }
 
-fn first_fault(alloc: Global, labels: &Labels) -> Result<String, NoAnswer> {
-    match labels.first_fault(alloc)? {
-        None => copied(alloc, "taken"),
-        Some(fault) => told(alloc, &fault),
+// What the other says.
+fn first_fault(page: &mut Page, labels: &Labels) -> String {
+    match labels.first_fault(page.alloc()) {
+        Ok(None) => page.put("taken"),
+        Ok(Some(fault)) => page.tell(&fault),
+        Err(_) => page.no_memory(),
     }
+    page.take()
 }
 
 // What the two tests of labels say; they have to say the same.
-fn both(alloc: Global, labels: &Labels) -> Result<String, NoAnswer> {
-    let checked = checked(alloc, labels)?;
-    let first = first_fault(alloc, labels)?;
-    if checked.as_str() == first.as_str() {
-        return Ok(checked);
+fn print_both(page: &mut Page, labels: &Labels) {
+    let checked = checked(page, labels);
+    let first = first_fault(page, labels);
+    page.put(checked.as_str());
+    if checked.as_str() != first.as_str() {
+        page.put_all(&[", but first: ", first.as_str()]);
     }
-    joined(alloc, &[checked.as_str(), ", but first: ", first.as_str()])
 }
 
 /// `labels NAME=VALUE ..`: whether labels may stand together.
-pub fn labels_answer(alloc: Global, words: &[String]) -> Result<String, NoAnswer> {
-    let labels = labels_of(alloc, words)?;
-    both(alloc, &labels.copy()?)
-}
-
-fn id_text(alloc: Global, id: ImageId) -> Result<String, NoAnswer> {
-    let text = id.text(alloc)?;
-    copied(alloc, text.as_str())
-}
-
-/// `id TEXT`: the image ID as it is written.
-pub fn id_answer(alloc: Global, text: &str) -> Result<String, NoAnswer> {
-    match ImageId::parse(text) {
-        Ok(id) => id_text(alloc, id),
-        Err(error) => told(alloc, &error),
+pub fn labels_answer(page: &mut Page, words: &[String]) {
+    let labels = labels_of(page, words);
+    if let Some(copy) = page.made(labels.copy()) {
+        print_both(page, &copy);
     }
 }
 
-fn key_text(alloc: Global, key: StoreKey) -> Result<String, NoAnswer> {
-    let text = key.text(alloc)?;
-    copied(alloc, text.as_str())
+fn print_id(page: &mut Page, id: ImageId) {
+    if let Some(text) = page.made(id.text(page.alloc())) {
+        page.put(text.as_str());
+    }
+}
+
+/// `id TEXT`: the image ID as it is written.
+pub fn id_answer(page: &mut Page, text: &str) {
+    match ImageId::parse(text) {
+        Ok(id) => print_id(page, id),
+        Err(error) => page.tell(&error),
+    }
+}
+
+fn print_key(page: &mut Page, key: StoreKey) {
+    if let Some(text) = page.made(key.text(page.alloc())) {
+        page.put(text.as_str());
+    }
 }
 
 /// `key TEXT`: the key of the image ID, or which an image ID's beginning is.
-pub fn key_answer(alloc: Global, text: &str) -> Result<String, NoAnswer> {
+pub fn key_answer(page: &mut Page, text: &str) {
     match (StoreKey::parse(text), ImageId::parse(text)) {
-        (Ok(key), Ok(id)) if key != StoreKey::of(id) => copied(alloc, "two keys"),
-        (Ok(key), _) => key_text(alloc, key),
-        (Err(error), _) => told(alloc, &error),
+        (Ok(key), Ok(id)) if key != StoreKey::of(id) => page.put("two keys"),
+        (Ok(key), _) => print_key(page, key),
+        (Err(error), _) => page.tell(&error),
     }
 }

@@ -1,85 +1,76 @@
 // The parts of manifests that were read.
-use crate::fields::fault_text;
-use crate::names::add_labels;
+use crate::fields::print_fault;
+use crate::names::print_labels;
 use app_section::App;
 use manifests::{Dependency, ImageManifest, PodManifest, RuntimeApp, read_image, read_pod};
-use short_texts::{NoAnswer, add, add_all, copied};
-use std::alloc::Global;
+use scripts::Page;
 
-fn add_app(text: &mut String, app: &App) -> Result<(), NoAnswer> {
-    add_all(text, &["\nuser ", app.user.as_str(), "\nwords"])?;
+fn print_app(page: &mut Page, app: &App) {
+    page.put_all(&["\nuser ", app.user.as_str(), "\nwords"]);
     for word in app.exec.as_slice() {
-        add_all(text, &[" ", word.as_str()])?;
+        page.put_all(&[" ", word.as_str()]);
     }
-    Ok(())
 }
 
-fn add_dependencies(text: &mut String, dependencies: &[Dependency]) -> Result<(), NoAnswer> {
+fn print_dependencies(page: &mut Page, dependencies: &[Dependency]) {
     for dependency in dependencies {
-        add_all(text, &["\nneeds ", dependency.image_name.as_str()])?;
-        add_labels(text, &dependency.labels)?;
+        page.put_all(&["\nneeds ", dependency.image_name.as_str()]);
+        print_labels(page, &dependency.labels);
     }
-    Ok(())
 }
 
-fn image_parts(alloc: Global, manifest: &ImageManifest) -> Result<String, NoAnswer> {
-    let mut text = copied(alloc, manifest.name.as_str())?;
-    add_labels(&mut text, &manifest.labels)?;
+fn print_image(page: &mut Page, manifest: &ImageManifest) {
+    page.put(manifest.name.as_str());
+    print_labels(page, &manifest.labels);
     if let Some(app) = &manifest.app {
-        add_app(&mut text, app)?;
+        print_app(page, app);
     }
-    add_dependencies(&mut text, manifest.dependencies.as_slice())?;
-    Ok(text)
+    print_dependencies(page, manifest.dependencies.as_slice());
 }
 
 /// `image-parts JSON`: the name, the labels, the user, the words and the dependencies of an image.
-pub fn image_parts_answer(alloc: Global, bytes: &[u8]) -> Result<String, NoAnswer> {
-    match read_image(alloc, bytes) {
-        Ok(manifest) => image_parts(alloc, &manifest),
-        Err(error) => fault_text(alloc, &error),
+pub fn image_parts_answer(page: &mut Page, bytes: &[u8]) {
+    match read_image(page.alloc(), bytes) {
+        Ok(manifest) => print_image(page, &manifest),
+        Err(error) => print_fault(page, &error),
     }
 }
 
-fn add_image(alloc: Global, text: &mut String, app: &RuntimeApp) -> Result<(), NoAnswer> {
-    let id = app.image.id.text(alloc)?;
-    add_all(text, &["\nimage ", id.as_str()])?;
+fn print_id(page: &mut Page, app: &RuntimeApp) {
+    if let Some(id) = page.made(app.image.id.text(page.alloc())) {
+        page.put_all(&["\nimage ", id.as_str()]);
+    }
     if let Some(name) = &app.image.name {
-        add_all(text, &[" ", name.as_str()])?;
+        page.put_all(&[" ", name.as_str()]);
     }
-    add_labels(text, &app.image.labels)
+    print_labels(page, &app.image.labels);
 }
 
-fn add_mounts(alloc: Global, text: &mut String, app: &RuntimeApp) -> Result<(), NoAnswer> {
-    if app.read_only_root_fs {
-        add_all(text, &["\nread-only, mounts "])?;
+fn print_mounts(page: &mut Page, app: &RuntimeApp) {
+    page.put(if app.read_only_root_fs {
+        "\nread-only, mounts "
     } else {
-        add_all(text, &["\nwritable, mounts "])?;
-    }
-    add(alloc, text, &app.mounts.len())?;
-    add_all(text, &["\n"])
+        "\nwritable, mounts "
+    });
+    page.tell(&app.mounts.len());
+    page.put("\n");
 }
 
-fn add_runtime_app(alloc: Global, text: &mut String, app: &RuntimeApp) -> Result<(), NoAnswer> {
-    add_all(text, &[app.name.as_str()])?;
-    add_image(alloc, text, app)?;
-    if let Some(section) = &app.app {
-        add_app(text, section)?;
+fn print_apps(page: &mut Page, pod: &PodManifest) {
+    for app in pod.apps.as_slice() {
+        page.put(app.name.as_str());
+        print_id(page, app);
+        if let Some(section) = &app.app {
+            print_app(page, section);
+        }
+        print_mounts(page, app);
     }
-    add_mounts(alloc, text, app)
-}
-
-fn pod_parts(alloc: Global, manifest: &PodManifest) -> Result<String, NoAnswer> {
-    let mut text = String::new(alloc);
-    for app in manifest.apps.as_slice() {
-        add_runtime_app(alloc, &mut text, app)?;
-    }
-    Ok(text)
 }
 
 /// `pod-parts JSON`: of each app of a pod the name, the image, the user, the words, and how many mounts.
-pub fn pod_parts_answer(alloc: Global, bytes: &[u8]) -> Result<String, NoAnswer> {
-    match read_pod(alloc, bytes) {
-        Ok(manifest) => pod_parts(alloc, &manifest),
-        Err(error) => fault_text(alloc, &error),
+pub fn pod_parts_answer(page: &mut Page, bytes: &[u8]) {
+    match read_pod(page.alloc(), bytes) {
+        Ok(manifest) => print_apps(page, &manifest),
+        Err(error) => print_fault(page, &error),
     }
 }

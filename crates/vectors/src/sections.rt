@@ -1,16 +1,23 @@
 // Sections of apps.
-use crate::fields::fault_text;
+use crate::documents::print_taken;
+use crate::fields::print_fault;
 use ac_types::{FaultKind, ReadError, fault_at};
 use app_section::App;
+use scripts::Page;
 use serde_json::Value;
-use short_texts::{NoAnswer, copied};
 use std::alloc::Global;
 
+fn print_value(page: &mut Page, value: &Value) {
+    if let Some(text) = page.made(value.to_string(page.alloc())) {
+        page.put(text.as_str());
+    }
+}
+
 /// `json TEXT`: the text as JSON is written.
-pub fn json_answer(alloc: Global, text: &str) -> Result<String, NoAnswer> {
-    match Value::from_str(alloc, text) {
-        Ok(value) => Ok(value.to_string(alloc)?),
-        Err(_) => copied(alloc, "no JSON"),
+pub fn json_answer(page: &mut Page, text: &str) {
+    match Value::from_str(page.alloc(), text) {
+        Ok(value) => print_value(page, &value),
+        Err(_) => page.put("no JSON"),
     }
 }
 
@@ -23,27 +30,26 @@ fn app_of(alloc: Global, text: &str) -> Result<App, ReadError> {
 }
 
 /// `section JSON`: whether it is taken, or its first fault.
-pub fn section_answer(alloc: Global, text: &str) -> Result<String, NoAnswer> {
-    match app_of(alloc, text) {
-        Ok(_) => copied(alloc, "taken"),
-        Err(error) => fault_text(alloc, &error),
+pub fn section_answer(page: &mut Page, text: &str) {
+    print_taken(page, app_of(page.alloc(), text));
+}
+
+fn print_written(page: &mut Page, app: &App) {
+    if let Some(value) = page.made(app.value(page.alloc())) {
+        print_value(page, &value);
     }
 }
 
-fn written(alloc: Global, app: &App) -> Result<String, NoAnswer> {
-    let value = app.value(alloc)?;
-    Ok(value.to_string(alloc)?)
-}
-
-fn copy_written(alloc: Global, app: &App) -> Result<String, NoAnswer> {
-    let copy = app.copy()?;
-    written(alloc, &copy)
+fn print_copy(page: &mut Page, app: &App) {
+    if let Some(copy) = page.made(app.copy()) {
+        print_written(page, &copy);
+    }
 }
 
 /// `section-again JSON`: what is written of a copy of the section that was read.
-pub fn written_section_answer(alloc: Global, text: &str) -> Result<String, NoAnswer> {
-    match app_of(alloc, text) {
-        Ok(app) => copy_written(alloc, &app),
-        Err(error) => fault_text(alloc, &error),
+pub fn written_section_answer(page: &mut Page, text: &str) {
+    match app_of(page.alloc(), text) {
+        Ok(app) => print_copy(page, &app),
+        Err(error) => print_fault(page, &error),
     }
 }

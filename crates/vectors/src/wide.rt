@@ -2,11 +2,9 @@
 ghost use Rattle.std.specs.Prelude.{◌≤◌, length, IfOk};
 ghost use Rattle.dir_trait.specs.Bundles.{IsListing};
 
-use crate::bundles::refusal_text;
-use bundle_image::read_bundle;
+use crate::bundles::{Told, print_bundle};
 use dir_trait::{Bundle, BundleError, BundleItems, BundleKind, FileName, NoMemory, listing_of};
-use scripts::Unread;
-use short_texts::{NoAnswer, told_both};
+use scripts::{Page, Unread};
 use std::alloc::Global;
 use std::collections::BTreeMap;
 
@@ -95,16 +93,13 @@ impl Bundle for WideBundle {
 }
 
 /// `wide-bundle COUNT`: how many lines the listing of a bundle of so many directories has, or why it has none.
-pub fn wide_answer(alloc: Global, words: &[String]) -> Result<String, NoAnswer> {
+pub fn wide_answer(page: &mut Page, words: &[String]) {
     let [count] = words else {
-        return Err(NoAnswer::Unread(Unread::Number));
+        return page.unread(Unread::Number);
     };
     let Ok(entries) = count.parse::<usize>() else {
-        return Err(NoAnswer::Unread(Unread::Number));
+        return page.unread(Unread::Number);
     };
     let mut bundle = WideBundle { entries };
-    match read_bundle(alloc, &mut bundle, "b") {
-        Ok(image) => told_both(alloc, &image.listing.as_slice().len(), &"lines"),
-        Err(refusal) => refusal_text(alloc, &refusal),
-    }
+    print_bundle(page, &mut bundle, Told::Length);
 }
