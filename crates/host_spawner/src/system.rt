@@ -21,6 +21,7 @@ pub trait System {
     /// What it told so far, the oldest first.
     ghost facts: { Self → List Fact };
 
+    /// A program that was started.
     type Process: OpenProcess + Drop;
 
     /// Looks at what stands at a path. A link isn't followed.
