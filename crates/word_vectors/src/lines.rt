@@ -1,49 +1,63 @@
 // What words are read as, as a text.
-use crate::pods::with_asked;
-use ac_types::{StoreKey, Text};
-use rkt_words::{Line, WordsError, read_line};
-use scripts::Refusal;
-use std::alloc::Global;
+use crate::pods::print_asked;
+use ac_types::StoreKey;
+use rkt_words::{Asked, Line, WordsError, read_line};
+use scripts::Page;
 
-fn key_text(alloc: Global, key: &StoreKey) -> Result<Text, Refusal> {
-    match key.text(alloc) {
-        Ok(text) => Ok(text),
-        Err(_) => Err(Refusal::NoMemory),
+fn print_key(page: &mut Page, key: &StoreKey) {
+    let text = key.text(page.alloc());
+    if let Some(text) = page.made(text) {
+        page.put_all(&["image-rm ", text.as_str()]);
     }
 }
 
-fn line_text(alloc: Global, line: &Line) -> Result<String, Refusal> {
-    let text = match line {
-        Line::Status(pod) => format!(in alloc; "status {}", pod.as_str())?,
-        Line::List => format!(in alloc; "list")?,
-        Line::Prepare(asked) => with_asked(format!(in alloc; "prepare")?, asked)?,
-        Line::Run { asked, address } => {
-            with_asked(format!(in alloc; "run {}", address.as_str())?, asked)?
+fn print_run(page: &mut Page, asked: &Asked, address: &str) {
+    page.put_all(&["run ", address]);
+    print_asked(page, asked);
+}
+
+fn print_line(page: &mut Page, line: &Line) {
+    match line {
+        Line::Status(pod) => page.put_all(&["status ", pod.as_str()]),
+        Line::List => page.put("list"),
+        Line::Prepare(asked) => {
+            page.put("prepare");
+            print_asked(page, asked);
         }
+        Line::Run { asked, address } => print_run(page, asked, address.as_str()),
         Line::RunPrepared { pod, address } => {
-            format!(in alloc; "run-prepared {} {}", address.as_str(), pod.as_str())?
+            page.put_all(&["run-prepared ", address.as_str(), " ", pod.as_str()]);
         }
-        Line::Rm(pod) => format!(in alloc; "rm {}", pod.as_str())?,
-        Line::Gc { grace, expire } => format!(in alloc; "gc {grace} {expire}")?,
-        Line::CatManifest(pod) => format!(in alloc; "cat-manifest {}", pod.as_str())?,
-        Line::Validate(file) => format!(in alloc; "validate {}", file.as_str())?,
-        Line::ImageImport(path) => format!(in alloc; "import {}", path.as_str())?,
-        Line::ImageList => format!(in alloc; "images")?,
-        Line::ImageRm(key) => format!(in alloc; "image-rm {}", key_text(alloc, key)?.as_str())?,
-        Line::ImageGc => format!(in alloc; "image-gc")?,
+        Line::Rm(pod) => page.put_all(&["rm ", pod.as_str()]),
+        Line::Gc { grace, expire } => {
+            page.put("gc ");
+            page.tell_both(grace, expire);
+        }
+        Line::CatManifest(pod) => page.put_all(&["cat-manifest ", pod.as_str()]),
+        Line::Validate(file) => page.put_all(&["validate ", file.as_str()]),
+        Line::ImageImport(path) => page.put_all(&["import ", path.as_str()]),
+        Line::ImageList => page.put("images"),
+        Line::ImageRm(key) => print_key(page, key),
+        Line::ImageGc => page.put("image-gc"),
         Line::Metadata { address, count } => {
-            format!(in alloc; "metadata {} {count}", address.as_str())?
+            page.put_all(&["metadata ", address.as_str(), " "]);
+            page.tell(count);
         }
-        Line::Demo(images) => format!(in alloc; "demo {images}")?,
-    };
-    Ok(text)
+        Line::Demo(images) => {
+            page.put("demo ");
+            page.tell(images);
+        }
+    }
 }
 
 /// What the words are read as: the command with its values, or `usage` and the place of what is wrong.
-pub fn answer(alloc: Global, words: &[String]) -> Result<String, Refusal> {
-    match read_line(alloc, words) {
-        Ok(line) => line_text(alloc, &line),
-        Err(WordsError::Usage(place)) => Ok(format!(in alloc; "usage {place}")?),
-        Err(WordsError::NoMemory) => Err(Refusal::NoMemory),
+pub fn print_answer(page: &mut Page, words: &[String]) {
+    match read_line(page.alloc(), words) {
+        Ok(line) => print_line(page, &line),
+        Err(WordsError::Usage(place)) => {
+            page.put("usage ");
+            page.tell(&place);
+        }
+        Err(WordsError::NoMemory) => page.no_memory(),
     }
 }

@@ -6,32 +6,39 @@ mod lines;
 mod pods;
 mod words;
 
-use crate::lines::answer;
+use crate::lines::print_answer;
 use crate::words::words_of;
-use scripts::{Player, Refusal, Unread, play_all};
+use scripts::{Page, Player, Unread, play_all};
 use std::process::ExitCode;
 
 /// Command lines are read by themselves.
 #[derive(Drop)]
 struct WordVectors;
 
+// The words of a command line. None where the line is none.
+fn command_words(page: &mut Page, line: &str) -> Option<Vec<String>> {
+    match line.split_once(' ') {
+        None if line == "rkt" => Some(Vec::new(page.alloc())),
+        Some(("rkt", rest)) => Some(words_of(page, rest)),
+        _ => None,
+    }
+}
+
 impl Player for WordVectors {
-    fn play(&mut self, rt: &HostRuntime, lines: &[String], place: usize) -> Result<(), Refusal> {
+    fn play(&mut self, page: &mut Page, lines: &[String], place: usize) {
         let line = match lines.get(place) {
             Some(line) => line.as_str(),
             None => "",
         };
         if line.is_empty() || line.starts_with('#') {
-            return Ok(());
+            return;
         }
-        let words = match line.split_once(' ') {
-            None if line == "rkt" => Vec::new(rt.alloc()),
-            Some(("rkt", rest)) => words_of(rt.alloc(), rest)?,
-            _ => return Err(Refusal::Unread(Unread::Line)),
+        let Some(words) = command_words(page, line) else {
+            return page.unread(Unread::Line);
         };
-        let answer = answer(rt.alloc(), words.as_slice())?;
-        println!(rt; "  {answer}")?;
-        Ok(())
+        page.put("  ");
+        print_answer(page, words.as_slice());
+        page.put("\n");
     }
 }
 

@@ -1,14 +1,14 @@
 // The words of a line of the script.
-use scripts::{Refusal, unfolded};
-use std::alloc::Global;
+use scripts::{Page, unfolded};
 
 /// The words behind the name of the program, parted by single spaces: `""` is the empty word, `a^64` is 64
 /// times the letter `a`.
-pub fn words_of(alloc: Global, line: &str) -> Result<Vec<String>, Refusal> {
-    let mut words = Vec::new(alloc);
+pub fn words_of(page: &mut Page, line: &str) -> Vec<String> {
+    let mut words = Vec::new(page.alloc());
     for word in line.split(' ') {
         let word = if word == "\"\"" { "" } else { word };
-        words.push(unfolded(alloc, word)?)?;
+        let word = unfolded(page, word);
+        page.push(&mut words, word);
     }
-    Ok(words)
+    words
 }
