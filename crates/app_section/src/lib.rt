@@ -26,7 +26,7 @@ pub use handler::{Handler, HandlerKind, Handlers};
 pub use isolator::{Isolator, Isolators};
 pub use mount_point::{MountPoint, MountPoints};
 pub use object_builder::ObjectBuilder;
-pub use places::{optional_place, required_place};
+pub use places::{optional_place, place_text, required_place};
 pub use port::{Port, Ports};
 pub use to_json::{ToJson, json_of_each};
 pub use written_app::with_isolators;

@@ -63,9 +63,10 @@ pub(crate) fn program_text(alloc: Global, word: &str) -> Result<Option<Text>, No
     Ok(Some(Text::of(alloc, word)?))
 }
 
-/// The place that the text is, with its empty segments and those that are `.` left out.
+/// The place that the text is, with its empty segments and those that are `.` left out. None for a text
+/// that is no place.
 #[tactic(auto, unfolding(crate::specs::Places::place_text))]
-fn place_text(alloc: Global, text: &str) -> Result<Option<Text>, NoMemory>
+pub fn place_text(alloc: Global, text: &str) -> Result<Option<Text>, NoMemory>
     ensures { IfOk result (λ held. held ≡ place_text text.now) }
 {
     if !is_rooted(text) || has_nul(text) {

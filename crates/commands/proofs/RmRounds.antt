@@ -23,7 +23,7 @@ use Rattle.dir_model.proofs.Chains.{extends_wider}
 use Rattle.dir_model.proofs.Lists.{and_left, or_last}
 use Rattle.dir_model.proofs.Moments.{at_grown, some_number}
 use Rattle.dir_model.proofs.Spots.{look_wider}
-use Rattle.dir_model.proofs.Quiet.{is_harmless, look_is_harmless, end_quiet}
+use Rattle.dir_model.proofs.Quiet.{begin_is_harmless, look_is_harmless, end_quiet}
 use Rattle.lifecycle.specs.Executions.{IsConforming}
 use Rattle.phase_read.specs.declared.found.Found.{Found}
 use Rattle.phase_read.specs.declared.found.Found.TheVariants.{At, Gone}
@@ -155,9 +155,6 @@ read_says s pod p a read =
     read_in s pod p a area.Embryo _ read (λ r1. read_in s pod p a area.Prepare _ r1 (λ r2. read_in s pod p a area.Prepared _ r2 (λ r3. read_in s pod p a area.Run _ r3
     (λ r4. read_in s pod p a area.ExitedGarbage _ r4 (λ r5. read_in s pod p a area.Garbage Gone r5 (λ r6. cc))))))
 
-begin_harmless : (r : Request) → is_begin r ≡ true → is_harmless r ≡ true
-begin_harmless r is = ap (λ b. b || (is_look r || is_finish r)) is
-
 any_look : (pod : PodId) (r : Request) → is_look_at (is_pod_spot pod) r ≡ true → is_look r ≡ true
 any_look pod r is = look_wider (is_pod_spot pod) is_any_spot (λ spot its. refl) r is
 
@@ -175,7 +172,7 @@ module _ (pod : PodId) (now : ℕ) {me : ℕ} {old new : List Event} (ext : Exte
   -- the read of the first round, of the state before
   module _ (P : Phase → ℕ → List Event → List Event → Type 0) (x : List Event) (f : FoundAnd pod P me begun x) (upto : Grew f.between new) where
     first_same : SameNamespace me s.namespace (state_after begun).namespace
-    first_same = end_quiet (extends_wider begin_harmless begins) (quiet_between quiet grown_none to_begun (grown_more (grown_by f.looks) upto)) idle
+    first_same = end_quiet (extends_wider begin_is_harmless begins) (quiet_between quiet grown_none to_begun (grown_more (grown_by f.looks) upto)) idle
 
     quiet_read : Quiet me begun f.between
     quiet_read = quiet_between quiet to_begun (grown_by f.looks) upto

@@ -19,7 +19,7 @@ use Rattle.dir_model.specs.Calls.{event, is_foreign, is_begin, is_finish, is_kil
 use Rattle.dir_model.specs.Replies.{is_look}
 use Rattle.dir_model.specs.Quiet.{Quiet, OwnsNothing, SameNamespace}
 use Rattle.dir_model.proofs.Lists.{and_left, or_map, or_last, same_self, any_last_not, any_map, all_left, all_push, same_rest}
-use Rattle.dir_model.proofs.Quiet.{is_harmless, harmless_all}
+use Rattle.dir_model.proofs.Quiet.{is_harmless, harmless_all, begin_is_harmless, finish_is_harmless}
 use Rattle.dir_model.proofs.Chains.{states_next-append}
 use Rattle.commands.specs.ImageList.{lists_images}
 
@@ -154,11 +154,11 @@ tame_step me w request reply asked idle =
       where
         killed : is_kill request ≡ true → ((not (me == me) || is_kill request) || is_harmless request) ≡ true
         killed is = ap (λ b. (not b || is_kill request) || is_harmless request) (same_self me) ∙ ap (λ b. b || is_harmless request) is
-    by false true lists finish k b l f h = record { same = harmless (ap (λ x. x || (is_look request || is_finish request)) b); others = λ test any. begin_others me w request reply test b any }
+    by false true lists finish k b l f h = record { same = harmless (begin_is_harmless request b); others = λ test any. begin_others me w request reply test b any }
     by false false true finish k b l f h = lists_tame me w request reply l idle
     by false false false true k b l f h =
         record {
-          same = harmless (or_last (is_begin request) (is_look request || is_finish request) (or_last (is_look request) (is_finish request) f));
+          same = harmless (finish_is_harmless request f);
           others = λ test any.
               finish_others me w request reply test f any;
         }

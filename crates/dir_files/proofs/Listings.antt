@@ -109,6 +109,8 @@ module _ (me : ℕ) (old new : List Event) (request : Request) (reply : Reply) (
     earlier = l.begins.meanwhile.others ++ event me request Begun ∷ [];
     others = others;
     begins = began.grown ∙ (ap (λ h. h ++ event me request Begun ∷ []) l.begins.meanwhile.grown ∙ append_assoc old l.begins.meanwhile.others (event me request Begun ∷ []));
+    before = l.begins.meanwhile.others;
+    opens = began.grown ∙ ap (λ h. h ++ event me request Begun ∷ []) l.begins.meanwhile.grown;
     ends = ended.grown ∙ ap (λ h. h ++ event me request reply ∷ []) l.ends.meanwhile.grown;
   }
 

@@ -7,7 +7,7 @@ use Rattle.dir_model.specs.declared.item.Item.{Item}
 use Rattle.dir_model.specs.declared.request.Request.{Request}
 use Rattle.dir_model.specs.declared.request.Request.TheVariants.{ListArea, ListIn}
 use Rattle.dir_model.specs.declared.request.Reply.{Reply}
-use Rattle.dir_model.specs.declared.request.Reply.TheVariants.{Names, Items}
+use Rattle.dir_model.specs.declared.request.Reply.TheVariants.{Begun, Names, Items}
 use Rattle.dir_model.specs.State.{folder_at}
 use Rattle.dir_model.specs.Trace.{state_after}
 use Rattle.dir_model.specs.Trees.{has_dir}
@@ -24,6 +24,9 @@ pub record Stretch (me : ℕ) (old new : List Event) (request : Request) (reply 
   pub earlier : List Event
   pub others : List Event
   pub begins : begun ≡ old ++ earlier
+  -- its beginning is an own event, after these
+  pub before : List Event
+  pub opens : begun ≡ (old ++ before) ++ event me request Begun ∷ []
   pub ends : new ≡ (begun ++ others) ++ event me request reply ∷ []
 
 -- each name that stood in the area from the beginning to the end is shown, and only such as stood there at some moment

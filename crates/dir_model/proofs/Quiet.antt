@@ -7,12 +7,13 @@ use Rattle.dir_model.specs.declared.opening.Opening.{Opening}
 use Rattle.dir_model.specs.declared.spot.Handle.{Handle}
 use Rattle.dir_model.specs.declared.spot.Mode.TheVariants.{Shared}
 use Rattle.dir_model.specs.declared.request.Request.{Request}
-use Rattle.dir_model.specs.declared.request.Request.TheVariants.{Begin, Open, TryLock, Close, Finish, Kill}
+use Rattle.dir_model.specs.declared.request.Request.TheVariants.{Begin, Open, TryLock, Close, ListArea, ListIn, Finish, Kill}
 use Rattle.dir_model.specs.declared.request.Reply.{Reply}
 use Rattle.dir_model.specs.declared.request.Reply.TheVariants.{Done, Opened, Refused}
 use Rattle.dir_model.specs.Locks.{is_handle, is_exclusive, is_own, is_folder, owns}
 use Rattle.dir_model.specs.State.{Namespace, DirState, empty_state}
 use Rattle.dir_model.specs.Trace.{state_after, state_next, states_next, namespace_replied, without_process, locked, opened}
+use Rattle.dir_model.specs.Listings.{is_listing_request}
 use Rattle.dir_model.specs.Replies.{is_look}
 use Rattle.dir_model.specs.Calls.{is_foreign, is_begin, is_finish, is_kill, Extends, AtOwnStep}
 use Rattle.dir_model.specs.Quiet.{Quiet, OwnsNothing, SameNamespace}
@@ -102,25 +103,60 @@ begin_same me w (Begin intent) Done h idle = record { folders = refl; owned = λ
 begin_same me w (Begin intent) reply h idle = same_as_it_is me w idle
 begin_same me w _ reply h idle = cc
 
--- a process that only looks between its begin and its finish
+-- a listing changes nothing
+listing_same : (me : ℕ) (w : Namespace) (request : Request) (reply : Reply) → is_listing_request request ≡ true → OwnsNothing me w → SameNamespace me w (namespace_replied w me request reply)
+listing_same me w (ListArea area) Done h idle = same_as_it_is me w idle
+listing_same me w (ListIn inner) Done h idle = same_as_it_is me w idle
+listing_same me w _ Done h idle = cc
+listing_same me w (ListArea area) (Opened handle) h idle = same_as_it_is me w idle
+listing_same me w (ListIn inner) (Opened handle) h idle = same_as_it_is me w idle
+listing_same me w _ (Opened handle) h idle = cc
+listing_same me w request reply h idle = same_as_it_is me w idle
+
+-- a process that only looks and lists between its begin and its finish
 abbrev pub is_harmless : Request → Bool
-is_harmless request = is_begin request || (is_look request || is_finish request)
+is_harmless request = is_begin request || (is_look request || (is_listing_request request || is_finish request))
 
 harmless_same : (me : ℕ) (w : Namespace) (request : Request) (reply : Reply) → is_harmless request ≡ true → OwnsNothing me w → SameNamespace me w (namespace_replied w me request reply)
 harmless_same me w request reply h idle = by (is_begin request) (is_look request) refl refl h
   where
-    by : (begin look : Bool) → is_begin request ≡ begin → is_look request ≡ look → (begin || (look || is_finish request)) ≡ true → SameNamespace me w (namespace_replied w me request reply)
+    last : (listing : Bool) → is_listing_request request ≡ listing → (listing || is_finish request) ≡ true → SameNamespace me w (namespace_replied w me request reply)
+    last true l h = listing_same me w request reply l idle
+    last false l h = finish_same me w request reply h idle
+
+    by : (begin look : Bool) → is_begin request ≡ begin → is_look request ≡ look → (begin || (look || (is_listing_request request || is_finish request))) ≡ true → SameNamespace me w (namespace_replied w me request reply)
     by true look b l h = begin_same me w request reply b idle
     by false true b l h = look_same me w request reply l idle
-    by false false b l h = finish_same me w request reply h idle
+    by false false b l h = last (is_listing_request request) refl h
 
 pub look_is_harmless : (r : Request) → is_look r ≡ true → is_harmless r ≡ true
 look_is_harmless r h = by (is_begin r) (is_look r) h
   where
-    by : (begin look : Bool) → look ≡ true → (begin || (look || is_finish r)) ≡ true
+    by : (begin look : Bool) → look ≡ true → (begin || (look || (is_listing_request r || is_finish r))) ≡ true
     by true look h = refl
     by false true h = refl
     by false false h = cc
+
+pub begin_is_harmless : (r : Request) → is_begin r ≡ true → is_harmless r ≡ true
+begin_is_harmless r h = ap (λ b. b || (is_look r || (is_listing_request r || is_finish r))) h
+
+pub finish_is_harmless : (r : Request) → is_finish r ≡ true → is_harmless r ≡ true
+finish_is_harmless r h = by (is_begin r) (is_look r) (is_listing_request r) h
+  where
+    by : (begin look listing : Bool) → is_finish r ≡ true → (begin || (look || (listing || is_finish r))) ≡ true
+    by true look listing h = refl
+    by false true listing h = refl
+    by false false true h = refl
+    by false false false h = h
+
+pub listing_is_harmless : (r : Request) → is_listing_request r ≡ true → is_harmless r ≡ true
+listing_is_harmless r h = by (is_begin r) (is_look r) (is_listing_request r) h
+  where
+    by : (begin look listing : Bool) → listing ≡ true → (begin || (look || (listing || is_finish r))) ≡ true
+    by true look listing h = refl
+    by false true listing h = refl
+    by false false true h = refl
+    by false false false h = cc
 
 same_both : (me : ℕ) (a b c : Namespace) → SameNamespace me a b → SameNamespace me b c → SameNamespace me a c
 same_both me a b c x y = record { folders = y.folders ∙ x.folders; owned = λ k. y.owned k ∙ x.owned k; mine = y.mine }

@@ -23,7 +23,7 @@ use Rattle.lifecycle.proofs.Phases.{stands_in}
 use Rattle.lifecycle.proofs.Forward.{ages, age_out, between}
 use Rattle.lifecycle.proofs.Stays.{machine_append, owned_phase}
 
-at_most : (m n : ℕ) → (m ≤ n) ⊎ (n < m)
+pub at_most : (m n : ℕ) → (m ≤ n) ⊎ (n < m)
 at_most zero n = inl (omega arith)
 at_most (suc m) zero = inr (omega arith)
 at_most (suc m) (suc n) = by (at_most m n)
@@ -33,14 +33,14 @@ at_most (suc m) (suc n) = by (at_most m n)
     by (inr l) = inr (omega (arith, l))
 
 -- a pod that is far enough along for a place, and isn't there, is past it
-past : (a : Area) (s : PodState) → is_stage a ≡ true → age_in a ≤ age s → is_place a s ≡ false → age_out a < age s
+pub past : (a : Area) (s : PodState) → is_stage a ≡ true → age_in a ≤ age s → is_place a s ≡ false → age_out a < age s
 past a s pod l off = by (at_most (age s) (age_out a))
   where
     by : (age s ≤ age_out a) ⊎ (age_out a < age s) → age_out a < age s
     by (inl g) = clash (is_place a s) (between a s pod l g) off
     by (inr g) = g
 
-existing : (s : PodState) → exists s ≡ true → 1 ≤ age s
+pub existing : (s : PodState) → exists s ≡ true → 1 ≤ age s
 existing Absent e = cc
 existing Gone e = cc
 existing (Embryo m) e = omega arith
@@ -54,7 +54,7 @@ existing Garbage e = omega arith
 existing (Deleting o area.ExitedGarbage) e = omega arith
 existing (Deleting o f) e = omega arith
 
-ended_at : (s : PodState) → 8 < age s → exists s ≡ false
+pub ended_at : (s : PodState) → 8 < age s → exists s ≡ false
 ended_at Gone l = refl
 ended_at Absent l = absurd (omega (arith, l))
 ended_at (Embryo m) l = absurd (omega (arith, l))
@@ -68,12 +68,12 @@ ended_at Garbage l = absurd (omega (arith, l))
 ended_at (Deleting o area.ExitedGarbage) l = absurd (omega (arith, l))
 ended_at (Deleting o f) l = absurd (omega (arith, l))
 
-gone_phase : (s : PodState) → exists s ≡ false → phase_of_state s ≡ None
+pub gone_phase : (s : PodState) → exists s ≡ false → phase_of_state s ≡ None
 gone_phase Absent h = refl
 gone_phase Gone h = refl
 gone_phase s h = cc
 
-off_place : (u : List ℕ) (a : Area) (h : List Event) → is_stage a ≡ true → IsConforming h →
+pub off_place : (u : List ℕ) (a : Area) (h : List Event) → is_stage a ≡ true → IsConforming h →
     stands (state_after h).namespace (place_in u a) ≡ false → is_place a (pod_state u h) ≡ false
 off_place u a h stage conforming miss = by (is_place a (pod_state u h)) refl
   where
@@ -83,7 +83,7 @@ off_place u a h stage conforming miss = by (is_place a (pod_state u h)) refl
         (stands_in u (state_after h).namespace (pod_state u h) a (good u h conforming).inv.pod stage e) miss
 
 -- a pod only gets further along
-grows : (u : List ℕ) (h more : List Event) → age (pod_state u h) ≤ age (pod_state u (h ++ more))
+pub grows : (u : List ℕ) (h more : List Event) → age (pod_state u h) ≤ age (pod_state u (h ++ more))
 grows u h more = subst (λ (s : PodState). age (pod_state u h) ≤ age s)
     (sym (machine_append u h more empty_state Absent)) (ages u more (state_after h) (pod_state u h))
 

@@ -7,8 +7,8 @@ ghost use Rattle.rkt_words.specs.Volumes.{empty_kind, empty_parts, empty_volume,
 
 use crate::error::WordsError;
 use crate::name::{keyed, name};
-use crate::place::place_text;
 use ac_types::{AcName, NoMemory, Text};
+use app_section::place_text;
 use manifests::{Mount, Volume, VolumeKind};
 use std::alloc::{AllocError, Global};
 
