@@ -1,0 +1,46 @@
+-- The pod that a word means.
+use Rattle.std.specs.Prelude.{◌≡◌, ℕ, Bool, true, List, [], ◌∷◌, filter, take, length, bytes_eq, Result, Ok, Err, Option, Some, None}
+use Rattle.dir_model.specs.declared.pod.PodId.{PodId}
+use Rattle.dir_model.specs.Pods.{pod_text, pod_of}
+use Rattle.dir_model.specs.State.{DirState}
+use Rattle.pod_lookup.specs.declared.error.LookupError.{LookupError}
+use Rattle.pod_lookup.specs.declared.error.LookupError.TheVariants.{NoPod, Ambiguous, DirFault, NoMemory}
+use Rattle.pod_lookup.specs.Pods.{pods_standing}
+
+-- the text begins with the word
+abbrev pub begins : List ℕ → List ℕ → Bool
+begins word text = bytes_eq (take (length word) text) word
+
+-- the pod's uuid begins with the word
+abbrev pub is_meant : List ℕ → PodId → Bool
+is_meant word pod = begins word (pod_text pod.bytes)
+
+-- the only one, if there is just one; of several the first two
+abbrev pub the_only : List PodId → Result PodId LookupError
+the_only [] = Err NoPod
+the_only (pod ∷ []) = Ok pod
+the_only (a ∷ b ∷ more) = Err (Ambiguous a b)
+
+-- what a word means among some pods
+abbrev pub choice : List ℕ → List PodId → Result PodId LookupError
+choice word pods = the_only (filter (is_meant word) pods)
+
+-- it isn't a fault of the directory, nor want of memory
+abbrev pub IsChoice : Result PodId LookupError → Type 0
+IsChoice (Err DirFault) = ⊥
+IsChoice (Err NoMemory) = ⊥
+IsChoice result = Unit {0}
+
+-- this holds of the two pods of an answer that several are meant
+abbrev pub IfAmbiguous : Result PodId LookupError → (PodId → PodId → Type 0) → Type 0
+IfAmbiguous (Err (Ambiguous a b)) P = P a b
+IfAmbiguous result P = Unit {0}
+
+-- the pod of a whole uuid, and else what was chosen
+abbrev pub whole_or : Option PodId → Result PodId LookupError → Result PodId LookupError
+whole_or (Some pod) chosen = Ok pod
+whole_or None chosen = chosen
+
+-- what a word means where nobody else steps: a whole uuid its pod, there or not, and else the choice among the pods that stand
+abbrev pub sequential_resolve : DirState → List ℕ → Result PodId LookupError
+sequential_resolve s word = whole_or (pod_of word) (choice word (pods_standing s.namespace))

@@ -1,0 +1,97 @@
+// The pod that a word means.
+ghost use Rattle.std.specs.Prelude.{◌≡◌, ◌↔◌, true, IfOk, IfErr, IfSome, IsErrOf, IsOk, IsSome, length, filter};
+ghost use Rattle.dir_model.specs.Pods.{pod_of, pod_text};
+ghost use Rattle.dir_trait.specs.Causes.{Rose};
+ghost use Rattle.dir_trait.specs.Local.{IsActive};
+ghost use Rattle.pod_lookup.specs.Looks.{OnlyLooksFor, lists_stages};
+ghost use Rattle.pod_lookup.specs.Choice.{is_meant, the_only, choice, IsChoice, IfAmbiguous};
+ghost use Rattle.pod_lookup.specs.Resolved.{IsChosen, IsNoneOf, Existed, AreTheLeast, FindsTheOne, IsSequential};
+
+use crate::error::LookupError;
+use crate::listing::listed_pods;
+use dir_trait::{Dir, PodId, PodPrefix};
+use std::alloc::Global;
+
+// Whether the pod's uuid begins with the prefix.
+fn is_meant(prefix: PodPrefix, pod: PodId) -> bool
+    ensures { result ≡ is_meant prefix pod }
+{
+    prefix.begins(pod)
+}
+
+// The pods that begin so.
+fn meant(alloc: Global, prefix: PodPrefix, pods: &[PodId]) -> Result<Vec<PodId>, LookupError>
+    ensures meant { IfOk result (λ found. found.items ≡ filter (is_meant prefix) pods.now) }
+    ensures memory { IfErr result (λ e. e ≡ LookupError.NoMemory) }
+{
+    let found = pods
+        .iter()
+        .copied()
+        .filter(|pod| is_meant(prefix, *pod))
+        .collect(alloc);
+    match found {
+        Ok(found) => Ok(found),
+        Err(_) => Err(LookupError::NoMemory),
+    }
+}
+
+fn the_only(pods: &[PodId]) -> Result<PodId, LookupError>
+    ensures { result ≡ the_only pods.now }
+{
+    match pods {
+        [] => Err(LookupError::NoPod),
+        [pod] => Ok(*pod),
+        [first, second, ..] => Err(LookupError::Ambiguous(*first, *second)),
+    }
+}
+
+fn choose(alloc: Global, prefix: PodPrefix, pods: &[PodId]) -> Result<PodId, LookupError>
+    ensures chosen { IsChoice result → result ≡ choice prefix pods.now }
+    ensures calm { IsErrOf result LookupError.DirFault → ⊥ }
+{
+    let found = meant(alloc, prefix, pods)?;
+    the_only(&found)
+}
+
+// The pod, where the prefix is its whole uuid.
+fn whole(prefix: PodPrefix) -> Option<PodId>
+    ensures some { IsSome result ↔ (length prefix ≡ 36) }
+    ensures bytes { IfSome result (λ pod. pod_text pod.bytes ≡ prefix) }
+    ensures is { result ≡ pod_of prefix }
+{
+    PodId::parse(prefix.as_str())
+}
+
+/// The pod whose uuid begins with the prefix. A whole uuid is answered without a look, whether there is
+/// such a pod or not. Otherwise the six areas are listed in lifecycle order: `NoPod` where none that was
+/// listed begins so, and where every process keeps the local rules each such pod didn't exist at an own
+/// step; `Ambiguous` where several do, with the two least. `DirFault` where the directory failed,
+/// `NoMemory` where memory ran out.
+pub fn resolve<D: Dir>(alloc: Global, dir: &mut D, prefix: PodPrefix) -> Result<PodId, LookupError>
+    requires active { IsActive (D.shown dir.old).local }
+    ensures only { OnlyLooksFor D.observed lists_stages (D.shown dir.old) (D.shown dir.new) }
+    ensures cause { IsErrOf result LookupError.DirFault → Rose (D.shown dir.old).faults (D.shown dir.new).faults }
+    ensures whole { length prefix ≡ 36 → IsOk result }
+    ensures unseen { length prefix ≡ 36 → D.shown dir.new ≡ D.shown dir.old }
+    ensures same { length prefix ≡ 36 → IfOk result (λ pod. pod_text pod.bytes ≡ prefix) }
+    ensures chosen { (length prefix ≡ 36 → ⊥) → IsChoice result → D.observed ≡ true
+        → IsChosen prefix result (D.shown dir.old) (D.shown dir.new) }
+    ensures existed { (length prefix ≡ 36 → ⊥) → IfOk result (λ pod. D.observed ≡ true
+        → Existed pod (D.shown dir.old) (D.shown dir.new)) }
+    ensures none { IsErrOf result LookupError.NoPod → D.observed ≡ true
+        → IsNoneOf prefix (D.shown dir.old) (D.shown dir.new) }
+    ensures several { IfAmbiguous result (λ a b. D.observed ≡ true
+        → AreTheLeast prefix a b (D.shown dir.old) (D.shown dir.new)) }
+    ensures found { IsChoice result → D.observed ≡ true
+        → FindsTheOne prefix result (D.shown dir.old) (D.shown dir.new) }
+    ensures quiet { IsChoice result → D.observed ≡ true
+        → IsSequential prefix result (D.shown dir.old) (D.shown dir.new) }
+{
+    match whole(prefix) {
+        Some(pod) => Ok(pod),
+        None => {
+            let pods = listed_pods(alloc, dir)?;
+            choose(alloc, prefix, &pods)
+        }
+    }
+}
