@@ -1,0 +1,106 @@
+-- What the choice among the pods that listings showed tells of the pods.
+use Rattle.std.proofs.Common.{◌≡◌, ℕ, Bool, true, false, cond, take, length, Option, Some, None, option_map, is_some, List, [], ◌∷◌, filter, Result, Ok, Err, IfOk, IsOkAnd, refl, sym, ap, subst, ◌∙◌, arith}
+use Rattle.dir_model.specs.declared.event.Event.{Event}
+use Rattle.dir_model.specs.declared.pod.PodId.{PodId}
+use Rattle.dir_model.specs.Pods.{pod_text, pod_of, is_pod_text, IsPodText, bytes_read}
+use Rattle.dir_model.specs.Listings.{has_name}
+use Rattle.dir_model.specs.Trace.{state_after}
+use Rattle.dir_model.proofs.PodTexts.{passes_text}
+use Rattle.dir_trait.specs.DirCalls.{DirAt, ExtendsBy}
+use Rattle.lifecycle.specs.Executions.{IsConforming}
+use Rattle.pod_lookup.specs.declared.error.LookupError.{LookupError}
+use Rattle.pod_lookup.specs.declared.error.LookupError.TheVariants.{NoPod, Ambiguous, DirFault, NoMemory}
+use Rattle.pod_lookup.specs.Choice.{begins, is_meant, the_only, choice, whole_or, IsChoice, IfAmbiguous}
+use Rattle.pod_lookup.specs.Looks.{lists_stages}
+use Rattle.pod_lookup.specs.Pods.{is_pod_name, pods_named, pods_standing, FindsPodsBetween}
+use Rattle.pod_lookup.specs.Resolved.{IsNoneOf, Existed, IsShown, AreTheLeast, FindsTheOne, IsSequential}
+use Rattle.pod_lookup.proofs.InOrder.{same_name}
+use Rattle.pod_lookup.proofs.Names.{meant, IsMeant, none_meant, one_meant, several_meant, just_one}
+use Rattle.pod_lookup.proofs.Shown.{listings_tell_gone}
+use Rattle.pod_lookup.proofs.Existed.{shown_in_stages, shown_existed, never_gone}
+use Rattle.pod_lookup.proofs.Still.{finds_standing}
+use Rattle.pod_lookup.proofs.QuietLook.{listings_keep}
+
+module _ (word : List ℕ) (old new : DirAt) (pods : List PodId) (f : FindsPodsBetween old new pods) where
+  named : choice word pods ≡ the_only (meant word f.names)
+  named = ap (λ (ps : List PodId). the_only (filter (is_meant word) ps)) f.are
+
+  pub finds_none : Err NoPod ≡ choice word pods → IsNoneOf word old new
+  finds_none is conforming name pod so = listings_tell_gone new.trace conforming old.process old.trace f.names name f.listed (none_meant word f.names name pod so (sym (is ∙ named)))
+
+  was_shown : (pod : PodId) → IsMeant word f.names (pod_text pod.bytes) → IsShown word f.names old new pod
+  was_shown pod m =
+      let shown = shown_in_stages old.process old.trace new.trace (pod_text pod.bytes) f.names f.listed m.named in
+      record { meant = m.so; among = m.named; shown = shown; existed = λ conforming. shown_existed old.process old.trace new.trace (pod_text pod.bytes) shown conforming }
+
+  pub finds_one : (pod : PodId) → Ok pod ≡ choice word pods → Existed pod old new
+  finds_one pod is = (was_shown pod (one_meant word f.names pod (sym (is ∙ named)))).existed
+
+  pub finds_several : (a b : PodId) → Err (Ambiguous a b) ≡ choice word pods → AreTheLeast word a b old new
+  finds_several a b is =
+      let two = several_meant word f.names a b (sym (is ∙ named)) in
+      record {
+        names = f.names;
+        listed = f.listed;
+        first = was_shown a two.first;
+        second = was_shown b two.second;
+        rise = two.rise;
+        least = λ name pod so there less. two.least name (record { named = there; pod = pod; so = so }) less;
+      }
+
+  pub finds_the_one : FindsTheOne word (choice word pods) old new
+  finds_the_one conforming name pod so each = subst (λ (r : Result PodId LookupError). IsOkAnd r (λ p. pod_text p.bytes ≡ name)) (sym named)
+      (just_one word f.names name (record { named = there; pod = pod; so = so })
+      (λ other m.
+          let at = shown_existed old.process old.trace new.trace other (shown_in_stages old.process old.trace new.trace other f.names f.listed m.named) conforming in
+          (each at.later at.rest at.ends).alone other m.pod m.so at.holds))
+    where
+      there : has_name f.names name ≡ true
+      there = by (has_name f.names name) refl
+        where
+          by : (b : Bool) → has_name f.names name ≡ b → b ≡ true
+          by true is = refl
+          by false is = absurd (never_gone old.process old.trace new.trace name (λ later rest ends. (each later rest ends).there) (listings_tell_gone new.trace conforming old.process old.trace f.names name f.listed is))
+
+  pub finds_quietly : pod_of word ≡ None → ExtendsBy lists_stages old new → IsSequential word (choice word pods) old new
+  finds_quietly none ext quiet idle =
+      ap (choice word) (f.are ∙ finds_standing old new f.names f.listed (listings_keep ext quiet idle))
+      ∙ sym (ap (λ (o : Option PodId). whole_or o (choice word (pods_standing (state_after old.trace).namespace))) none)
+
+-- the answer is the choice, where it is one
+abbrev pub Chosen : Result PodId LookupError → List ℕ → List PodId → Type 0
+Chosen r word pods = IsChoice r → r ≡ choice word pods
+
+pub none_of : (observed : Bool) (word : List ℕ) (old new : DirAt) (pods : List PodId) (r : Result PodId LookupError) → (observed ≡ true → FindsPodsBetween old new pods) → Chosen r word pods → r ≡ Err NoPod → observed ≡ true → IsNoneOf word old new
+none_of observed word old new pods r f chosen is t = finds_none word old new pods (f t) (sym is ∙ chosen (subst IsChoice (sym is) tt))
+
+pub existed : (observed : Bool) (word : List ℕ) (old new : DirAt) (pods : List PodId) (r : Result PodId LookupError) → (observed ≡ true → FindsPodsBetween old new pods) → Chosen r word pods → IfOk r (λ pod. observed ≡ true → Existed pod old new)
+existed observed word old new pods (Ok pod) f chosen = λ t. finds_one word old new pods (f t) pod (chosen tt)
+existed observed word old new pods (Err e) f chosen = tt
+
+pub least_two : (observed : Bool) (word : List ℕ) (old new : DirAt) (pods : List PodId) (r : Result PodId LookupError) → (observed ≡ true → FindsPodsBetween old new pods) → Chosen r word pods → IfAmbiguous r (λ a b. observed ≡ true → AreTheLeast word a b old new)
+least_two observed word old new pods (Err (Ambiguous a b)) f chosen = λ t. finds_several word old new pods (f t) a b (chosen tt)
+least_two observed word old new pods (Err NoPod) f chosen = tt
+least_two observed word old new pods (Err DirFault) f chosen = tt
+least_two observed word old new pods (Err NoMemory) f chosen = tt
+least_two observed word old new pods (Ok pod) f chosen = tt
+
+-- a whole uuid begins that pod's name alone
+pub whole_begins : (word name : List ℕ) → length word ≡ 36 → is_pod_name name ≡ true → begins word name ≡ true → name ≡ word
+whole_begins word name long pod so =
+    let same : length word ≡ length name = long ∙ sym (text_long (is_pod_text name) refl pod) in
+    sym (take_all name) ∙ (ap (λ n. take n name) (sym same) ∙ same_name (take (length word) name) word so)
+  where
+    take_all : (xs : List ℕ) → take (length xs) xs ≡ xs
+    take_all [] = refl
+    take_all (x ∷ xs) = ap (λ l. x ∷ l) (take_all xs)
+
+    text_long : (b : Bool) → is_pod_text name ≡ b → is_some (cond b (option_map (λ bytes. let p : PodId = record { bytes = bytes } in p) (bytes_read name)) None) ≡ true → length name ≡ 36
+    text_long true text is = (passes_text name text).0
+    text_long false text is = cc
+
+pub whole_found : (word : List ℕ) (old new : DirAt) (pod : PodId) → length word ≡ 36 → pod_text pod.bytes ≡ word → FindsTheOne word (Ok pod) old new
+whole_found word old new pod long text conforming name is so each = text ∙ sym (whole_begins word name long is so)
+
+pub whole_quiet : (word : List ℕ) (old new : DirAt) (pod : PodId) → Some pod ≡ pod_of word → IsSequential word (Ok pod) old new
+whole_quiet word old new pod is quiet idle = ap (λ (o : Option PodId). whole_or o (choice word (pods_standing (state_after old.trace).namespace))) is
