@@ -32,10 +32,17 @@ use Rattle.pod_lookup.proofs.Still.{sometime_at}
 -- of names that listings showed, each was shown by one of them
 pub shown_by : (me : ℕ) (old new : List Event) (name : List ℕ) (areas : List Area) → AllByRecursion (λ a. is_stage a ≡ true) areas → (c : List Event) (names : List (List ℕ)) (more : List Event) → new ≡ c ++ more → AreListed me old c areas names → has_name names name ≡ true → WasShown me old new name
 shown_by me old new name [] pods c names more ends l there = let e : false ≡ true = sym (ap (λ ns. has_name ns name) l.1) ∙ there in cc
-shown_by me old new name (a ∷ areas) pods c names more ends (b, first, own, is, l, w) there = by (has_name own name) refl
+shown_by me old new name (a ∷ areas) pods c names more ends (b, first, own, is, l, w) there =
+    let g = listed_grown w in
+    by (has_name own name) refl (shown_by me old new name areas pods.1 b first (g.0 ++ more) (ends ∙ (ap (λ h. h ++ more) g.1 ∙ append_assoc b g.0 more)) l)
   where
-    by : (s : Bool) → has_name own name ≡ s → WasShown me old new name
-    by true s = record {
+    else_not : (p q : Bool) → q ≡ false → (p || q) ≡ true → p ≡ true
+    else_not true q off h = refl
+    else_not false true off h = cc
+    else_not false false off h = cc
+
+    by : (s : Bool) → has_name own name ≡ s → (has_name first name ≡ true → WasShown me old new name) → WasShown me old new name
+    by true s before = record {
       area = a;
       stage = pods.0;
       from = b;
@@ -48,16 +55,9 @@ shown_by me old new name (a ∷ areas) pods c names more ends (b, first, own, is
       listed = w;
       shown = s;
     }
-    by false s =
-        let g = listed_grown w in
+    by false s before =
         let all : (has_name first name || has_name own name) ≡ true = sym (any_parts (λ n. bytes_eq n name) first own) ∙ (ap (λ ns. has_name ns name) (sym is) ∙ there) in
-        let before : has_name first name ≡ true = else_not (has_name first name) (has_name own name) s all in
-        shown_by me old new name areas pods.1 b first (g.0 ++ more) (ends ∙ (ap (λ h. h ++ more) g.1 ∙ append_assoc b g.0 more)) l before
-      where
-        else_not : (p q : Bool) → q ≡ false → (p || q) ≡ true → p ≡ true
-        else_not true q off h = refl
-        else_not false true off h = cc
-        else_not false false off h = cc
+        before (else_not (has_name first name) (has_name own name) s all)
 
 pub shown_in_stages : (me : ℕ) (old new : List Event) (name : List ℕ) (names : List (List ℕ)) → AreListed me old new stages names → has_name names name ≡ true → WasShown me old new name
 shown_in_stages me old new name names l there = shown_by me old new name stages (refl, (refl, (refl, (refl, (refl, (refl, tt)))))) new names [] (sym (append-nil new)) l there

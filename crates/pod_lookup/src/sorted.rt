@@ -2,12 +2,12 @@
 ghost use Rattle.std.specs.Prelude.{◌≡◌, ℕ, List, IfOk, IfErr};
 ghost use Rattle.std.specs.Ordering.{nat_cmp};
 ghost use Rattle.std.specs.Cmp.Lexicographic.{slice_cmp};
+ghost use Rattle.std.specs.List.{filter_map};
 ghost use Rattle.std.specs.List.Sorted.{IsStrictlySortedBy};
 ghost use Rattle.std.specs.BTreeSet.{IsOrdered};
 ghost use Rattle.dir_model.specs.Listings.{has_name};
-ghost use Rattle.std.specs.List.{filter_map};
 ghost use Rattle.dir_model.specs.Pods.{pod_of};
-ghost use Rattle.pod_lookup.specs.Pods.{in_order, pods_named};
+ghost use Rattle.pod_lookup.specs.Pods.{pods_named};
 
 use crate::error::LookupError;
 use dir_trait::{Name, PodId};
@@ -31,7 +31,8 @@ fn gathered(alloc: Global, names: &[Name]) -> Result<BTreeSet<Name>, LookupError
 }
 
 fn sorted_names(alloc: Global, names: &[Name]) -> Result<Vec<Name>, LookupError>
-    ensures sorted { IfOk result (λ sorted. sorted.items ≡ in_order names.now) }
+    ensures has { IfOk result (λ sorted. (name : List ℕ) → has_name sorted.items name ≡ has_name names.now name) }
+    ensures ordered { IfOk result (λ sorted. IsStrictlySortedBy (slice_cmp nat_cmp) sorted.items) }
     ensures memory { IfErr result (λ e. e ≡ LookupError.NoMemory) }
 {
     let sorted = gathered(alloc, names)?;
