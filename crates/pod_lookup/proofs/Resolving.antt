@@ -1,21 +1,24 @@
 -- What the choice among the pods that listings showed tells of the pods.
-use Rattle.std.proofs.Common.{◌≡◌, ℕ, Bool, true, false, cond, take, length, Option, Some, None, option_map, is_some, List, [], ◌∷◌, filter, Result, Ok, Err, IfOk, IsOkAnd, refl, sym, ap, subst, ◌∙◌, arith}
-use Rattle.dir_model.specs.declared.event.Event.{Event}
+use Rattle.std.proofs.Common.{◌≡◌, ℕ, Bool, true, false, cond, bytes_eq, take, length, Option, Some, None, option_map, is_some, List, [], ◌∷◌, filter, Result, Ok, Err, IfOk, IsOkAnd, refl, sym, ap, subst, ◌∙◌, arith}
+use Rattle.std.specs.List.Sorted.{IsStrictlySortedBy}
+use Rattle.std.specs.Ordering.{nat_cmp}
+use Rattle.std.specs.Cmp.Lexicographic.{slice_cmp}
 use Rattle.dir_model.specs.declared.pod.PodId.{PodId}
 use Rattle.dir_model.specs.Pods.{pod_text, pod_of, is_pod_text, IsPodText, bytes_read}
 use Rattle.dir_model.specs.Listings.{has_name}
 use Rattle.dir_model.specs.Trace.{state_after}
 use Rattle.dir_model.proofs.PodTexts.{passes_text}
+use Rattle.dir_rules.proofs.Looks.{same_bytes}
 use Rattle.dir_trait.specs.DirCalls.{DirAt, ExtendsBy}
 use Rattle.lifecycle.specs.Executions.{IsConforming}
 use Rattle.pod_lookup.specs.declared.error.LookupError.{LookupError}
 use Rattle.pod_lookup.specs.declared.error.LookupError.TheVariants.{NoPod, Ambiguous, DirFault, NoMemory}
-use Rattle.pod_lookup.specs.Choice.{begins, is_meant, the_only, choice, whole_or, IsChoice, IfAmbiguous}
+use Rattle.pod_lookup.specs.Choice.{begins, is_meant, the_only, choice, whole_or, IsChoice, IfAmbiguous, NamesMeant}
 use Rattle.pod_lookup.specs.Looks.{lists_stages}
-use Rattle.pod_lookup.specs.Pods.{is_pod_name, pods_named, pods_standing, FindsPodsBetween}
+use Rattle.pod_lookup.specs.Pods.{is_pod_name, pod_names, pods_named, pods_standing, FindsPodsBetween}
 use Rattle.pod_lookup.specs.Resolved.{IsNoneOf, Existed, IsShown, AreTheLeast, FindsTheOne, IsSequential}
 use Rattle.pod_lookup.proofs.InOrder.{same_name}
-use Rattle.pod_lookup.proofs.Names.{meant, IsMeant, none_meant, one_meant, several_meant, just_one}
+use Rattle.pod_lookup.proofs.Names.{meant, IsMeant, choice_meant, none_meant, one_meant, several_meant, just_one}
 use Rattle.pod_lookup.proofs.Shown.{listings_tell_gone}
 use Rattle.pod_lookup.proofs.Existed.{shown_in_stages, shown_existed, never_gone}
 use Rattle.pod_lookup.proofs.Still.{finds_standing}
@@ -71,6 +74,19 @@ module _ (word : List ℕ) (old new : DirAt) (pods : List PodId) (f : FindsPodsB
 abbrev pub Chosen : Result PodId LookupError → List ℕ → List PodId → Type 0
 Chosen r word pods = IsChoice r → r ≡ choice word pods
 
+pub chosen_meant : (word : List ℕ) (pods : List PodId) (r : Result PodId LookupError) → IsStrictlySortedBy (slice_cmp nat_cmp) (pod_names pods) → Chosen r word pods → NamesMeant word r
+chosen_meant word pods r rise chosen = by r chosen
+  where
+    meant_one : (s : Result PodId LookupError) → s ≡ choice word pods → NamesMeant word s
+    meant_one s is = subst (NamesMeant word) (sym is) (choice_meant word pods rise)
+
+    by : (s : Result PodId LookupError) → Chosen s word pods → NamesMeant word s
+    by (Ok pod) is = meant_one (Ok pod) (is tt)
+    by (Err (Ambiguous a b)) is = meant_one (Err (Ambiguous a b)) (is tt)
+    by (Err NoPod) is = tt
+    by (Err DirFault) is = tt
+    by (Err NoMemory) is = tt
+
 pub none_of : (observed : Bool) (word : List ℕ) (old new : DirAt) (pods : List PodId) (r : Result PodId LookupError) → (observed ≡ true → FindsPodsBetween old new pods) → Chosen r word pods → r ≡ Err NoPod → observed ≡ true → IsNoneOf word old new
 none_of observed word old new pods r f chosen is t = finds_none word old new pods (f t) (sym is ∙ chosen (subst IsChoice (sym is) tt))
 
@@ -85,19 +101,22 @@ least_two observed word old new pods (Err DirFault) f chosen = tt
 least_two observed word old new pods (Err NoMemory) f chosen = tt
 least_two observed word old new pods (Ok pod) f chosen = tt
 
+take_all : (xs : List ℕ) → take (length xs) xs ≡ xs
+take_all [] = refl
+take_all (x ∷ xs) = ap (λ l. x ∷ l) (take_all xs)
+
 -- a whole uuid begins that pod's name alone
 pub whole_begins : (word name : List ℕ) → length word ≡ 36 → is_pod_name name ≡ true → begins word name ≡ true → name ≡ word
 whole_begins word name long pod so =
     let same : length word ≡ length name = long ∙ sym (text_long (is_pod_text name) refl pod) in
     sym (take_all name) ∙ (ap (λ n. take n name) (sym same) ∙ same_name (take (length word) name) word so)
   where
-    take_all : (xs : List ℕ) → take (length xs) xs ≡ xs
-    take_all [] = refl
-    take_all (x ∷ xs) = ap (λ l. x ∷ l) (take_all xs)
-
     text_long : (b : Bool) → is_pod_text name ≡ b → is_some (cond b (option_map (λ bytes. let p : PodId = record { bytes = bytes } in p) (bytes_read name)) None) ≡ true → length name ≡ 36
     text_long true text is = (passes_text name text).0
     text_long false text is = cc
+
+pub whole_meant : (word : List ℕ) (pod : PodId) → pod_text pod.bytes ≡ word → NamesMeant word (Ok pod)
+whole_meant word pod text = ap (begins word) text ∙ (ap (λ l. bytes_eq l word) (take_all word) ∙ same_bytes word)
 
 pub whole_found : (word : List ℕ) (old new : DirAt) (pod : PodId) → length word ≡ 36 → pod_text pod.bytes ≡ word → FindsTheOne word (Ok pod) old new
 whole_found word old new pod long text conforming name is so each = text ∙ sym (whole_begins word name long is so)

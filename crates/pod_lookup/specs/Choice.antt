@@ -1,5 +1,8 @@
 -- The pod that a word means.
 use Rattle.std.specs.Prelude.{◌≡◌, ℕ, Bool, true, List, [], ◌∷◌, filter, take, length, bytes_eq, Result, Ok, Err, Option, Some, None}
+use Rattle.std.specs.Ordering.{nat_cmp}
+use Rattle.std.specs.declared.cmp.Ordering.TheVariants.{Less}
+use Rattle.std.specs.Cmp.Lexicographic.{slice_cmp}
 use Rattle.dir_model.specs.declared.pod.PodId.{PodId}
 use Rattle.dir_model.specs.Pods.{pod_text, pod_of}
 use Rattle.dir_model.specs.State.{DirState}
@@ -35,6 +38,13 @@ IsChoice result = Unit {0}
 abbrev pub IfAmbiguous : Result PodId LookupError → (PodId → PodId → Type 0) → Type 0
 IfAmbiguous (Err (Ambiguous a b)) P = P a b
 IfAmbiguous result P = Unit {0}
+
+-- whatever pods the answer names, the word begins their uuids, and of two the first is less
+abbrev pub NamesMeant : List ℕ → Result PodId LookupError → Type 0
+NamesMeant word (Ok pod) = is_meant word pod ≡ true
+NamesMeant word (Err (Ambiguous a b)) =
+    (is_meant word a ≡ true) × (is_meant word b ≡ true) × (slice_cmp nat_cmp (pod_text a.bytes) (pod_text b.bytes) ≡ Less)
+NamesMeant word result = Unit {0}
 
 -- the pod of a whole uuid, and else what was chosen
 abbrev pub whole_or : Option PodId → Result PodId LookupError → Result PodId LookupError

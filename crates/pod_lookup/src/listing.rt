@@ -1,5 +1,8 @@
 // The pods that there are, by listings of the six areas.
 ghost use Rattle.std.specs.Prelude.{◌≡◌, ◌≤◌, ◌++◌, true, IfOk, IfErr, IsErrOf};
+ghost use Rattle.std.specs.Ordering.{nat_cmp};
+ghost use Rattle.std.specs.Cmp.Lexicographic.{slice_cmp};
+ghost use Rattle.std.specs.List.Sorted.{IsStrictlySortedBy};
 ghost use Rattle.dir_model.specs.Areas.{is_stage, rank};
 ghost use Rattle.dir_trait.specs.Causes.{Rose};
 ghost use Rattle.dir_trait.specs.Local.{IsActive};
@@ -8,7 +11,7 @@ ghost use Rattle.phase_read.specs.Read.{stages};
 ghost use Rattle.pod_lookup.specs.Faults.{IsFault};
 ghost use Rattle.pod_lookup.specs.Looks.{OnlyLooksFor, lists_stages};
 ghost use Rattle.pod_lookup.specs.AreaListings.{AreListedBetween, AddsListedBetween};
-ghost use Rattle.pod_lookup.specs.Pods.{FindsPodsBetween, FindsStanding, MissesGone};
+ghost use Rattle.pod_lookup.specs.Pods.{pod_names, FindsPodsBetween, FindsStanding, MissesGone};
 
 use crate::error::{LookupError, lookup_error};
 use crate::sorted::pods_among;
@@ -67,6 +70,7 @@ pub fn listed_pods<D: Dir>(alloc: Global, dir: &mut D) -> Result<Vec<PodId>, Loo
     ensures only { OnlyLooksFor D.observed lists_stages (D.shown dir.old) (D.shown dir.new) }
     ensures cause { IsErrOf result LookupError.DirFault → Rose (D.shown dir.old).faults (D.shown dir.new).faults }
     ensures kind { IfErr result IsFault }
+    ensures rise { IfOk result (λ pods. IsStrictlySortedBy (slice_cmp nat_cmp) (pod_names pods.items)) }
     ensures found { IfOk result (λ pods. D.observed ≡ true → FindsPodsBetween (D.shown dir.old) (D.shown dir.new) pods.items) }
     ensures still { IfOk result (λ pods. D.observed ≡ true → FindsStanding (D.shown dir.old) (D.shown dir.new) pods.items) }
     ensures gone { IfOk result (λ pods. D.observed ≡ true → IsConforming (D.shown dir.new).trace

@@ -4,7 +4,7 @@ ghost use Rattle.dir_model.specs.Pods.{pod_of, pod_text};
 ghost use Rattle.dir_trait.specs.Causes.{Rose};
 ghost use Rattle.dir_trait.specs.Local.{IsActive};
 ghost use Rattle.pod_lookup.specs.Looks.{OnlyLooksFor, lists_stages};
-ghost use Rattle.pod_lookup.specs.Choice.{is_meant, the_only, choice, IsChoice, IfAmbiguous};
+ghost use Rattle.pod_lookup.specs.Choice.{is_meant, the_only, choice, IsChoice, IfAmbiguous, NamesMeant};
 ghost use Rattle.pod_lookup.specs.Resolved.{IsChosen, IsNoneOf, Existed, AreTheLeast, FindsTheOne, IsSequential};
 
 use crate::error::LookupError;
@@ -74,6 +74,7 @@ pub fn resolve<D: Dir>(alloc: Global, dir: &mut D, prefix: PodPrefix) -> Result<
     ensures whole { length prefix ≡ 36 → IsOk result }
     ensures unseen { length prefix ≡ 36 → D.shown dir.new ≡ D.shown dir.old }
     ensures same { length prefix ≡ 36 → IfOk result (λ pod. pod_text pod.bytes ≡ prefix) }
+    ensures meant { NamesMeant prefix result }
     ensures chosen { (length prefix ≡ 36 → ⊥) → IsChoice result → D.observed ≡ true
         → IsChosen prefix result (D.shown dir.old) (D.shown dir.new) }
     ensures existed { (length prefix ≡ 36 → ⊥) → IfOk result (λ pod. D.observed ≡ true
