@@ -1,5 +1,5 @@
 -- A pod that a listing shows existed at some moment, and one that exists all the time exists at each own step.
-use Rattle.std.proofs.Common.{◌≡◌, ◌⊎◌, inl, inr, ℕ, Bool, true, false, ◌||◌, ◌&&◌, bytes_eq, Option, None, List, [], ◌∷◌, ◌++◌, refl, sym, ap, subst, ◌∙◌, append_assoc, append-nil}
+use Rattle.std.proofs.Common.{◌≡◌, ℕ, Bool, true, false, ◌||◌, bytes_eq, None, List, [], ◌∷◌, ◌++◌, refl, sym, ap, ◌∙◌, append_assoc, append-nil}
 use Rattle.std.specs.List.{AllByRecursion}
 use Rattle.dir_model.specs.declared.area.Area.{Area}
 use Rattle.dir_model.specs.declared.event.Event.{Event}
@@ -14,7 +14,6 @@ use Rattle.dir_model.proofs.Chains.{states_next-append}
 use Rattle.dir_model.proofs.Lists.{and_both}
 use Rattle.dir_rules.proofs.Looks.{same_bytes}
 use Rattle.dir_laws.specs.Stretches.{StandsInArea}
-use Rattle.dir_files.specs.Listed.{ShowsArea}
 use Rattle.lifecycle.specs.declared.machine.PodState.{PodState}
 use Rattle.lifecycle.specs.declared.machine.PodState.TheVariants.{Absent, Gone}
 use Rattle.lifecycle.specs.Executions.{IsConforming}

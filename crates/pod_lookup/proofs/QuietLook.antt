@@ -1,5 +1,5 @@
 -- Where nobody else steps, a look that only lists areas of pods keeps folders where they are.
-use Rattle.std.proofs.Common.{◌≡◌, ℕ, Bool, true, ◌||◌, is_some, List, ◌++◌, Option, refl, sym, ap, subst, ◌∙◌, append_assoc}
+use Rattle.std.proofs.Common.{◌≡◌, ℕ, true, ◌||◌, is_some, List, ◌++◌, Option, refl, sym, ap, subst, ◌∙◌, append_assoc}
 use Rattle.std.specs.Prelude.{position}
 use Rattle.std.specs.List.{AllByRecursion}
 use Rattle.dir_model.specs.declared.event.Event.{Event}
@@ -7,7 +7,6 @@ use Rattle.dir_model.specs.declared.request.Request.{Request}
 use Rattle.dir_model.specs.declared.request.Request.TheVariants.{ListArea}
 use Rattle.dir_model.specs.declared.spot.Spot.{Spot}
 use Rattle.dir_model.specs.Calls.{Extends, is_foreign}
-use Rattle.dir_model.specs.Listings.{is_listing_request}
 use Rattle.dir_model.specs.Quiet.{Quiet, OwnsNothing, SameNamespace}
 use Rattle.dir_model.specs.State.{is_at, empty_state}
 use Rattle.dir_model.specs.Trace.{state_after, states_next}

@@ -1,21 +1,20 @@
 -- What the choice among the pods that listings showed tells of the pods.
-use Rattle.std.proofs.Common.{◌≡◌, ℕ, Bool, true, false, cond, bytes_eq, take, length, Option, Some, None, option_map, is_some, List, [], ◌∷◌, filter, Result, Ok, Err, IfOk, IsOkAnd, refl, sym, ap, subst, ◌∙◌, arith}
+use Rattle.std.proofs.Common.{◌≡◌, ℕ, Bool, true, false, cond, bytes_eq, take, length, Option, Some, None, option_map, is_some, List, [], ◌∷◌, filter, Result, Ok, Err, IfOk, IsOkAnd, refl, sym, ap, subst, ◌∙◌}
 use Rattle.std.specs.List.Sorted.{IsStrictlySortedBy}
 use Rattle.std.specs.Ordering.{nat_cmp}
 use Rattle.std.specs.Cmp.Lexicographic.{slice_cmp}
 use Rattle.dir_model.specs.declared.pod.PodId.{PodId}
-use Rattle.dir_model.specs.Pods.{pod_text, pod_of, is_pod_text, IsPodText, bytes_read}
+use Rattle.dir_model.specs.Pods.{pod_text, pod_of, is_pod_text, bytes_read}
 use Rattle.dir_model.specs.Listings.{has_name}
 use Rattle.dir_model.specs.Trace.{state_after}
 use Rattle.dir_model.proofs.PodTexts.{passes_text}
 use Rattle.dir_rules.proofs.Looks.{same_bytes}
 use Rattle.dir_trait.specs.DirCalls.{DirAt, ExtendsBy}
-use Rattle.lifecycle.specs.Executions.{IsConforming}
 use Rattle.pod_lookup.specs.declared.error.LookupError.{LookupError}
 use Rattle.pod_lookup.specs.declared.error.LookupError.TheVariants.{NoPod, Ambiguous, DirFault, NoMemory}
 use Rattle.pod_lookup.specs.Choice.{begins, is_meant, the_only, choice, whole_or, IsChoice, IfAmbiguous, NamesMeant}
 use Rattle.pod_lookup.specs.Looks.{lists_stages}
-use Rattle.pod_lookup.specs.Pods.{is_pod_name, pod_names, pods_named, pods_standing, FindsPodsBetween}
+use Rattle.pod_lookup.specs.Pods.{is_pod_name, pod_names, pods_standing, FindsPodsBetween}
 use Rattle.pod_lookup.specs.Resolved.{IsNoneOf, Existed, IsShown, AreTheLeast, FindsTheOne, IsSequential}
 use Rattle.pod_lookup.proofs.InOrder.{same_name}
 use Rattle.pod_lookup.proofs.Names.{meant, IsMeant, choice_meant, none_meant, one_meant, several_meant, just_one}
@@ -55,8 +54,8 @@ module _ (word : List ℕ) (old new : DirAt) (pods : List PodId) (f : FindsPodsB
   finds_the_one conforming name pod so each = subst (λ (r : Result PodId LookupError). IsOkAnd r (λ p. pod_text p.bytes ≡ name)) (sym named)
       (just_one word f.names name (record { named = there; pod = pod; so = so })
       (λ other m.
-          let at = shown_existed old.process old.trace new.trace other (shown_in_stages old.process old.trace new.trace other f.names f.listed m.named) conforming in
-          (each at.later at.rest at.ends).alone other m.pod m.so at.holds))
+      let at = shown_existed old.process old.trace new.trace other (shown_in_stages old.process old.trace new.trace other f.names f.listed m.named) conforming in
+      (each at.later at.rest at.ends).alone other m.pod m.so at.holds))
     where
       there : has_name f.names name ≡ true
       there = by (has_name f.names name) refl

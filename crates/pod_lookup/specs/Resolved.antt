@@ -1,5 +1,5 @@
 -- What an answer to a word tells of the pods, among the events of other processes.
-use Rattle.std.specs.Prelude.{◌≡◌, ℕ, true, List, ◌∷◌, Result, IsOkAnd, None}
+use Rattle.std.specs.Prelude.{◌≡◌, ℕ, true, List, Result, IsOkAnd, None}
 use Rattle.std.specs.Ordering.{nat_cmp}
 use Rattle.std.specs.declared.cmp.Ordering.TheVariants.{Less}
 use Rattle.std.specs.Cmp.Lexicographic.{slice_cmp}
