@@ -8,11 +8,12 @@ use Rattle.dir_model.specs.Pods.{pod_text, pod_of, is_pod_text, bytes_read}
 use Rattle.dir_model.specs.Listings.{has_name}
 use Rattle.dir_model.specs.Trace.{state_after}
 use Rattle.dir_model.proofs.PodTexts.{passes_text}
+use Rattle.dir_rules.specs.Marks.{begins}
 use Rattle.dir_rules.proofs.Looks.{same_bytes}
 use Rattle.dir_trait.specs.DirCalls.{DirAt, ExtendsBy}
 use Rattle.pod_lookup.specs.declared.error.LookupError.{LookupError}
 use Rattle.pod_lookup.specs.declared.error.LookupError.TheVariants.{NoPod, Ambiguous, DirFault, NoMemory}
-use Rattle.pod_lookup.specs.Choice.{begins, is_meant, the_only, choice, whole_or, IsChoice, IfAmbiguous, NamesMeant}
+use Rattle.pod_lookup.specs.Choice.{is_meant, the_only, choice, whole_or, IsChoice, IfAmbiguous, NamesMeant}
 use Rattle.pod_lookup.specs.Looks.{lists_stages}
 use Rattle.pod_lookup.specs.Pods.{is_pod_name, pod_names, pods_standing, FindsPodsBetween}
 use Rattle.pod_lookup.specs.Resolved.{IsNoneOf, Existed, IsShown, AreTheLeast, FindsTheOne, IsSequential}
@@ -108,14 +109,14 @@ take_all (x ∷ xs) = ap (λ l. x ∷ l) (take_all xs)
 pub whole_begins : (word name : List ℕ) → length word ≡ 36 → is_pod_name name ≡ true → begins word name ≡ true → name ≡ word
 whole_begins word name long pod so =
     let same : length word ≡ length name = long ∙ sym (text_long (is_pod_text name) refl pod) in
-    sym (take_all name) ∙ (ap (λ n. take n name) (sym same) ∙ same_name (take (length word) name) word so)
+    sym (take_all name) ∙ (ap (λ n. take n name) (sym same) ∙ sym (same_name word (take (length word) name) so))
   where
     text_long : (b : Bool) → is_pod_text name ≡ b → is_some (cond b (option_map (λ bytes. let p : PodId = record { bytes = bytes } in p) (bytes_read name)) None) ≡ true → length name ≡ 36
     text_long true text is = (passes_text name text).0
     text_long false text is = cc
 
 pub whole_meant : (word : List ℕ) (pod : PodId) → pod_text pod.bytes ≡ word → NamesMeant word (Ok pod)
-whole_meant word pod text = ap (begins word) text ∙ (ap (λ l. bytes_eq l word) (take_all word) ∙ same_bytes word)
+whole_meant word pod text = ap (begins word) text ∙ (ap (λ l. bytes_eq word l) (take_all word) ∙ same_bytes word)
 
 pub whole_found : (word : List ℕ) (old new : DirAt) (pod : PodId) → length word ≡ 36 → pod_text pod.bytes ≡ word → FindsTheOne word (Ok pod) old new
 whole_found word old new pod long text conforming name is so each = text ∙ sym (whole_begins word name long is so)

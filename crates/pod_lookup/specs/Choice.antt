@@ -1,18 +1,15 @@
 -- The pod that a word means.
-use Rattle.std.specs.Prelude.{◌≡◌, ℕ, Bool, true, List, [], ◌∷◌, filter, take, length, bytes_eq, Result, Ok, Err, Option, Some, None}
+use Rattle.std.specs.Prelude.{◌≡◌, ℕ, Bool, true, List, [], ◌∷◌, filter, Result, Ok, Err, Option, Some, None}
 use Rattle.std.specs.Ordering.{nat_cmp}
 use Rattle.std.specs.declared.cmp.Ordering.TheVariants.{Less}
 use Rattle.std.specs.Cmp.Lexicographic.{slice_cmp}
 use Rattle.dir_model.specs.declared.pod.PodId.{PodId}
 use Rattle.dir_model.specs.Pods.{pod_text, pod_of}
 use Rattle.dir_model.specs.State.{DirState}
+use Rattle.dir_rules.specs.Marks.{begins}
 use Rattle.pod_lookup.specs.declared.error.LookupError.{LookupError}
 use Rattle.pod_lookup.specs.declared.error.LookupError.TheVariants.{NoPod, Ambiguous, DirFault, NoMemory}
 use Rattle.pod_lookup.specs.Pods.{pods_standing}
-
--- the text begins with the word
-abbrev pub begins : List ℕ → List ℕ → Bool
-begins word text = bytes_eq (take (length word) text) word
 
 -- the pod's uuid begins with the word
 abbrev pub is_meant : List ℕ → PodId → Bool

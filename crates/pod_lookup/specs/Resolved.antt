@@ -9,13 +9,14 @@ use Rattle.dir_model.specs.Listings.{has_name}
 use Rattle.dir_model.specs.Pods.{pod_text}
 use Rattle.dir_model.specs.Quiet.{Quiet, OwnsNothing}
 use Rattle.dir_model.specs.Trace.{state_after}
+use Rattle.dir_rules.specs.Marks.{begins}
 use Rattle.dir_trait.specs.DirCalls.{DirAt}
 use Rattle.lifecycle.specs.Executions.{IsConforming}
 use Rattle.lifecycle.specs.Readings.{WasPhase}
 use Rattle.phase_read.specs.Read.{stages}
 use Rattle.pod_lookup.specs.declared.error.LookupError.{LookupError}
 use Rattle.pod_lookup.specs.AreaListings.{AreListedBetween, WasShown}
-use Rattle.pod_lookup.specs.Choice.{begins, is_meant, choice, sequential_resolve}
+use Rattle.pod_lookup.specs.Choice.{is_meant, choice, sequential_resolve}
 use Rattle.pod_lookup.specs.Moments.{AtEachMoment, AtSomeMoment, Exists}
 use Rattle.pod_lookup.specs.Pods.{is_pod_name, FindsPodsBetween}
 
