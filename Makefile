@@ -3,6 +3,7 @@
 #   make                            proves and builds build/rkt
 #   make run WORDS="status UUID"    runs it on these words, on the data folder RKT_DIR (build/data where that is unset)
 #   make test                       the whole gate: proves, tests and runs everything, with the scripts of tests/host
+#   make words                      writes the help, the man page and the completions from docs/words.table
 #   make scenario                   plays crates/scenarios/stdin, and shows each line of it that came otherwise
 #   make install PREFIX=/usr/local  copies it to PREFIX/bin
 
@@ -12,7 +13,7 @@ RKT_DIR ?= build/data
 
 SOURCES := crates.txt $(shell find crates -name out -prune -o -type f ! -name stdin ! -name stdout -print)
 
-.PHONY: all run test scenario install clean
+.PHONY: all run test words scenario install clean
 
 all: build/rkt
 
@@ -26,6 +27,9 @@ run: build/rkt
 
 test:
 	bash .ci/run
+
+words:
+	python3 docs/words.py
 
 build/scenarios: $(SOURCES)
 	cd crates/scenarios && rt run < /dev/null

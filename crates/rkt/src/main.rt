@@ -2,6 +2,7 @@
 #![tactic(auto)]
 
 mod help;
+mod texts;
 
 ghost use Rattle.std.specs.Prelude.{◌≡◌, ◌⊎◌, ◌++◌, true};
 ghost use Rattle.dir_trait.specs.Causes.{Rose};
