@@ -5,7 +5,7 @@
 #   make test                       the whole gate: proves, tests and runs everything, with the scripts of tests/host
 #   make words                      writes the help, the man page and the completions from docs/words.table
 #   make scenario                   plays crates/scenarios/stdin, and shows each line of it that came otherwise
-#   make install PREFIX=/usr/local  copies it to PREFIX/bin
+#   make install PREFIX=/usr/local  copies it to PREFIX/bin, and its man page and completions to PREFIX/share
 
 PREFIX ?= /usr/local
 WORDS ?= --help
@@ -42,6 +42,9 @@ scenario: build/scenarios
 install: build/rkt
 	install -d "$(DESTDIR)$(PREFIX)/bin"
 	install -m 755 build/rkt "$(DESTDIR)$(PREFIX)/bin/rkt"
+	install -D -m 644 docs/rkt.1 "$(DESTDIR)$(PREFIX)/share/man/man1/rkt.1"
+	install -D -m 644 dist/completion/rkt.bash "$(DESTDIR)$(PREFIX)/share/bash-completion/completions/rkt"
+	install -D -m 644 dist/completion/_rkt "$(DESTDIR)$(PREFIX)/share/zsh/site-functions/_rkt"
 
 clean:
 	rm -rf build
