@@ -3,8 +3,9 @@
 #   make                            proves and builds build/rkt
 #   make run WORDS="status UUID"    runs it on these words, on the data folder RKT_DIR (build/data where that is unset)
 #   make test                       the whole gate: proves, tests and runs everything, with the scripts of tests/host
+#   make words                      writes the help, the man page and the completions from docs/words.table
 #   make scenario                   plays crates/scenarios/stdin, and shows each line of it that came otherwise
-#   make install PREFIX=/usr/local  copies it to PREFIX/bin
+#   make install PREFIX=/usr/local  copies it to PREFIX/bin, and its man page and completions to PREFIX/share
 
 PREFIX ?= /usr/local
 WORDS ?= --help
@@ -12,7 +13,7 @@ RKT_DIR ?= build/data
 
 SOURCES := crates.txt $(shell find crates -name out -prune -o -type f ! -name stdin ! -name stdout -print)
 
-.PHONY: all run test scenario install clean
+.PHONY: all run test words scenario install clean
 
 all: build/rkt
 
@@ -27,6 +28,9 @@ run: build/rkt
 test:
 	bash .ci/run
 
+words:
+	python3 docs/words.py
+
 build/scenarios: $(SOURCES)
 	cd crates/scenarios && rt run < /dev/null
 	mkdir -p build
@@ -38,6 +42,9 @@ scenario: build/scenarios
 install: build/rkt
 	install -d "$(DESTDIR)$(PREFIX)/bin"
 	install -m 755 build/rkt "$(DESTDIR)$(PREFIX)/bin/rkt"
+	install -D -m 644 docs/rkt.1 "$(DESTDIR)$(PREFIX)/share/man/man1/rkt.1"
+	install -D -m 644 dist/completion/rkt.bash "$(DESTDIR)$(PREFIX)/share/bash-completion/completions/rkt"
+	install -D -m 644 dist/completion/_rkt "$(DESTDIR)$(PREFIX)/share/zsh/site-functions/_rkt"
 
 clean:
 	rm -rf build

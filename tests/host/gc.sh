@@ -85,6 +85,27 @@ expect 'it expires' 0 "$pod moved garbage
 $pod deleted" '' "$rkt" gc
 same 'nothing stands' 0 "$(standing)"
 
+# Other times, by the options.
+pod=$("$rkt" run example.com/app | head -n 1)
+expect 'without a grace period it goes at once' 0 "$pod moved exited-garbage
+$pod deleted" '' "$rkt" gc --grace-period=0
+pod=$("$rkt" run example.com/app | head -n 1)
+"$rkt" gc >/dev/null
+aged "$pod" 3000
+expect 'fifty minutes are no hour' 0 "$pod kept exited garbage" '' "$rkt" gc --grace-period=1h
+expect 'the time of prepared pods is another' 0 "$pod kept exited garbage" '' "$rkt" gc --expire-prepared=0 --grace-period 51m
+expect 'they are more than forty-nine and a half' 0 "$pod deleted" '' "$rkt" gc --grace-period 49m30s
+pod=$("$rkt" prepare example.com/app)
+expect 'a prepared pod rests without a grace period' 0 "$pod kept prepared" '' "$rkt" gc --grace-period=0
+aged "$pod" 3000
+expect 'and for an hour' 0 "$pod kept prepared" '' "$rkt" gc --expire-prepared=1h
+expect 'and no longer than it may' 0 "$pod moved garbage
+$pod deleted" '' "$rkt" gc --expire-prepared=2400
+for time in '' 1h30 30m1h 01 -1 1d 1.5h 4294967296; do
+    expect "no time: '$time'" 1 '' 'rkt: usage' "$rkt" gc "--grace-period=$time"
+done
+same 'nothing stands' 0 "$(standing)"
+
 # What makings left that were killed, beside who holds the lock of embryo.
 dead=00000000-0000-4000-8000-000000000002
 mkdir "$(area embryo)/$dead"

@@ -101,6 +101,35 @@ expect 'is refused' 7 '' "rkt: cycle: $(key d)" "$rkt" prepare example.com/loop
 same 'still one pod' 1 "$(pods prepared)"
 same 'and nothing on the way' '0 0' "$(pods embryo) $(pods prepare)"
 
+# A volume and a mount of the command line stand in the pod's manifest, the mount in each app.
+whole=$RKT_DIR
+export RKT_DIR=$tmp/wishes
+bundle first e "$app"
+bundle second f "$app"
+expect 'a first app' 0 "$(key e)" '' "$rkt" image import "$tmp/first"
+expect 'a second one' 0 "$(key f)" '' "$rkt" image import "$tmp/second"
+wished() {
+    local uuid
+    uuid=$("$rkt" prepare "$@") || return
+    tr -d '\n' <"$(area prepared)/$uuid/pod" | grep -oE '"(mounts|volumes)":\[[^]]*\]' | tr '\n' ' '
+}
+mounts='"mounts":[{"path":"/data","volume":"data"}]'
+same 'a folder of the host' "$mounts \"volumes\":[{\"kind\":\"host\",\"name\":\"data\",\"source\":\"/srv/data\"}] " \
+    "$(wished --volume=data,kind=host,source=/srv//./data/ --mount=volume=data,target=/data example.com/first)"
+same 'one that is read only, in two apps' "$mounts $mounts \"volumes\":[{\"kind\":\"host\",\"name\":\"data\",\"readOnly\":true,\"source\":\"/srv\"}] " \
+    "$(wished example.com/first --volume data,kind=host,source=/srv,readOnly=true --mount volume=data,target=/data example.com/second)"
+same 'an empty one' '"volumes":[{"gid":0,"kind":"empty","mode":"0755","name":"data","uid":0}] ' \
+    "$(wished --volume=data,kind=empty -- example.com/first)"
+expect 'a mount without its volume' 6 '' 'rkt: bad manifest at other: refusal 94' \
+    "$rkt" prepare --volume=data,kind=empty --mount=volume=other,target=/data example.com/first
+for volume in data data,kind=host data,kind=host,source=srv data,kind=host,source=/a/../b data,kind=host,source=/a,readOnly=false kind=empty,data Data,kind=empty; do
+    expect "no volume: $volume" 1 '' 'rkt: usage' "$rkt" prepare "--volume=$volume" example.com/first
+done
+expect 'two volumes' 1 '' 'rkt: usage' "$rkt" prepare --volume=a,kind=empty --volume=b,kind=empty example.com/first
+expect 'an option of run' 1 '' 'rkt: usage' "$rkt" prepare --metadata=h:1 example.com/first
+same 'three pods' 3 "$(pods prepared)"
+export RKT_DIR=$whole
+
 # Locks of others, which this script holds.
 hold() {
     exec 9<"$1"

@@ -84,6 +84,11 @@ same 'its status' 0 "$(cat "$(area run)/$pod/stage1/rootfs/rkt/status/asks")"
 expect 'it is run once' 4 '' 'rkt: wrong phase: exited' "$rkt" run-prepared "$pod"
 expect 'it is removed' 0 "removed $pod" '' "$rkt" rm "$pod"
 expect 'and is gone' 2 '' 'rkt: no such pod' "$rkt" run-prepared "$pod"
+pod=$("$rkt" prepare example.com/asks)
+expect 'another is run by the beginning of its uuid' 0 app-asks=0 '' "$rkt" run-prepared --metadata=10.0.0.1:80 "${pod:0:13}"
+same 'and sees the address that was given' "AC_METADATA_URL=http://10.0.0.1:80/$(cat "$(area run)/$pod/token")" \
+    "$(grep '^AC_METADATA_URL' "$(root "$pod" asks)/seen")"
+expect 'it is removed, in capitals' 0 "removed $pod" '' "$rkt" rm "${pod^^}"
 
 # How apps end.
 image fails "$plain" '#!/bin/sh

@@ -72,6 +72,37 @@ else
     skip 'a pipe at a pod'"'"'s place: there is no mkfifo'
 fi
 
+# A beginning of a uuid, in either case, means the one pod whose uuid begins so, wherever it stands.
+one=0a000000-0000-4000-8000-00000000000b
+two=0a000000-0000-4000-8000-00000000000c
+three=0b000000-0000-4000-8000-00000000000a
+ambiguous() {
+    expect "$1" 3 '' "rkt: ambiguous: $2 $3" "$rkt" status "$4"
+}
+expect 'a beginning of none' 2 '' 'rkt: no such pod' "$rkt" status 0
+mkdir "$RKT_DIR/pods/run/$one"
+expect 'a beginning' 0 'state=exited' '' "$rkt" status 0
+expect 'a beginning in capitals' 0 'state=exited' '' "$rkt" status 0A
+expect 'the uuid in capitals' 0 'state=exited' '' "$rkt" status ${one^^}
+expect 'all of it but a digit' 0 'state=exited' '' "$rkt" status ${one%b}
+expect 'behind --' 0 'state=exited' '' "$rkt" status -- 0a
+expect 'another beginning' 2 '' 'rkt: no such pod' "$rkt" status 0b
+mkdir "$RKT_DIR/pods/run/0a" "$RKT_DIR/pods/run/0a000000-0000-4000-8000-00000000000" "$RKT_DIR/pods/run/x"
+expect 'beside names that are no uuids' 0 'state=exited' '' "$rkt" status 0a
+rmdir "$RKT_DIR/pods/run/0a" "$RKT_DIR/pods/run/0a000000-0000-4000-8000-00000000000" "$RKT_DIR/pods/run/x"
+mkdir "$RKT_DIR/pods/garbage/$three"
+ambiguous 'two pods' $one $three 0
+expect 'one of them' 0 'state=garbage' '' "$rkt" status 0b
+mkdir "$RKT_DIR/pods/embryo/$two"
+ambiguous 'the least two of three pods' $one $two 0
+ambiguous 'two that differ at the end' $one $two ${one%b}
+expect 'the whole uuid is never ambiguous' 0 'state=embryo' '' "$rkt" status $two
+expect 'a removal of two' 3 '' "rkt: ambiguous: $one $two" "$rkt" rm 0a
+expect 'a run of two' 3 '' "rkt: ambiguous: $one $two" "$rkt" run-prepared 0a
+expect 'the first stands' 0 'state=exited' '' "$rkt" status $one
+expect 'so does the second' 0 'state=embryo' '' "$rkt" status $two
+rmdir "$RKT_DIR/pods/run/$one" "$RKT_DIR/pods/embryo/$two" "$RKT_DIR/pods/garbage/$three"
+
 # It changes nothing.
 mkdir -p "$RKT_DIR/pods/prepared/$pod/stage1" "$RKT_DIR/pods/run/00000000-0000-4000-8000-000000000002"
 echo text >"$RKT_DIR/pods/prepared/$pod/pod"
@@ -95,11 +126,11 @@ usage 'an unknown word' frob
 usage 'an empty word' ''
 usage 'status alone' status
 usage 'too many words' status $pod $pod
-usage 'an option' status --help
-usage 'help with more' --help --version
-usage 'an upper-case uuid' status 00000000-0000-4000-8000-00000000000A
-usage 'a short uuid' status 00000000-0000-4000-8000-00000000000
-usage 'a part of a uuid' status 0000
+usage 'an option' status --pod=$pod
+usage 'an option that rkt has elsewhere' status --metadata=h:1 $pod
+usage 'a long uuid' status ${pod}0
+usage 'a hyphen at a wrong place' status 0000-
+usage 'no hexadecimal digit' status 0g
 usage 'a uuid without hyphens' status 00000000000040008000000000000001
 usage 'a uuid in braces' status "{$pod}"
 usage 'a word that is not UTF-8' $'\xff'
@@ -120,8 +151,6 @@ for word in --help --version; do
     same "$word makes nothing" '' "$(ls -A "$tmp/alone")"
 done
 same '--version: the text' 'rkt 0.1.0' "$(cat "$tmp/out--version")"
-same '--help: each form of words' $'rkt status UUID\nrkt validate FILE\nrkt image import PATH\nrkt image list\nrkt image rm KEY\nrkt image gc\nrkt prepare IMAGE...\nrkt run IMAGE...\nrkt run-prepared UUID\nrkt rm UUID\nrkt gc\nrkt --help\nrkt --version' \
-    "$(sed '/^$/,$d; s/^usage://; s/^ *//' "$tmp/out--help")"
 
 # Where the data folder is.
 mkdir "$tmp/here"

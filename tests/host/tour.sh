@@ -24,12 +24,14 @@ answers=(
     "$base_key example.com/base [0-9]+ $worker_key example.com/worker [0-9]+"
     ''
     'state=prepared'
+    'state=prepared'
     'appsinfo created-[0-9]{20} pod stage1 token'
     'hello app-worker=0'
     'state=exited'
     "removed $uuid_text"
     "hello $uuid_text app-worker=0"
     "$uuid_text moved exited-garbage $uuid_text kept exited garbage"
+    "$uuid_text kept exited garbage"
     "removed $base_key"
     'valid ImageManifest example.com/worker'
     'rkt: bad manifest at apps: refusal 9'

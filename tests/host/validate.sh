@@ -215,6 +215,15 @@ expect 'no file named' 1 '' 'rkt: usage' "$rkt" validate
 expect 'an empty word' 1 '' 'rkt: usage' "$rkt" validate ''
 expect 'two files' 1 '' 'rkt: usage' "$rkt" validate pod.json pod.json
 expect 'an option' 1 '' 'rkt: usage' "$rkt" validate --strict
+expect 'a name that begins with a hyphen' 1 '' 'rkt: usage' "$rkt" validate -m.json
+mkdir hyphens
+"$rkt" validate pod.json >valid
+cp pod.json ./-m.json
+cp pod.json hyphens/--help
+expect 'the same behind --' 0 "$(cat valid)" '' "$rkt" validate -- -m.json
+expect 'the same with its folder' 0 "$(cat valid)" '' "$rkt" validate ./-m.json
+expect 'no file named --help' 15 '' 'rkt: no file: --help' "$rkt" validate -- --help
+expect 'a file in a folder named --help' 0 "$(cat valid)" '' "$rkt" validate hyphens/--help
 to_full() { "$@" >/dev/full; }
 if [ -c /dev/full ]; then
     expect 'a full output' 12 '' 'rkt: output fault' to_full "$rkt" validate pod.json

@@ -2,6 +2,7 @@
 #![tactic(auto)]
 
 mod help;
+mod texts;
 
 ghost use Rattle.std.specs.Prelude.{◌≡◌, ◌⊎◌, ◌++◌, true};
 ghost use Rattle.dir_trait.specs.Causes.{Rose};
@@ -12,7 +13,7 @@ use command_outcomes::Refusal;
 use dir_host::{HostBundle, HostSink, Outside, SetupError, assemble, find_root, read_words};
 use dir_trait::{Sink, SinkError, write_whole};
 use host_spawner::HostSpawner;
-use rkt_cli::{refuse, rkt};
+use rkt_cli::{named_path, refuse, rkt};
 use std::alloc::{AllocError, Global};
 use std::process;
 use std::process::ExitCode;
@@ -44,10 +45,10 @@ fn refuse_setup<E: Sink>(alloc: Global, error: SetupError, err: &mut E) -> u8
     }
 }
 
-/// The last of the words: of the commands that read a bundle or a file, the path that was named.
-fn last_word(alloc: Global, words: &[String]) -> Result<String, AllocError> {
-    match words.last() {
-        Some(word) => word.clone(),
+/// The path of the file or of the bundle that the words name. Empty where they name none.
+fn path_of(alloc: Global, words: &[String]) -> Result<String, AllocError> {
+    match named_path(alloc, words) {
+        Some(path) => String::from_str(alloc, path.as_str()),
         None => Ok(String::new(alloc)),
     }
 }
@@ -61,7 +62,7 @@ fn run<O: Sink, E: Sink>(
 ) -> Result<u8, SetupError> {
     let Outside { now, draw, mut dir } = assemble(rt, process::id(rt.process()))?;
     let words = words?;
-    let mut bundle = HostBundle::new(rt, last_word(rt.alloc(), words.as_slice())?);
+    let mut bundle = HostBundle::new(rt, path_of(rt.alloc(), words.as_slice())?);
     let mut spawner = HostSpawner::new(rt.alloc(), rt, find_root(rt)?);
     Ok(rkt(
         rt.alloc(),
