@@ -11,12 +11,13 @@ use Rattle.dir_model.specs.declared.spot.Which.TheVariants.{Own, Claim}
 use Rattle.dir_model.specs.Pods.{pod_text}
 use Rattle.dir_model.specs.Areas.{phase_text}
 use Rattle.command_outcomes.specs.declared.refusal.Refusal.{Refusal}
-use Rattle.command_outcomes.specs.declared.refusal.Refusal.TheVariants.{Usage, NoPod, Busy, BadManifest, NoImage, NoDependency, Cycle, Limit, DirFault, BundleFault, OutFault, NoMemory, NoFile, Conflict, Damaged, BadKind, Taken, WrongPhase, PodBusy, NoManifest, NoProgram, SpawnFault, Stray}
+use Rattle.command_outcomes.specs.declared.refusal.Refusal.TheVariants.{Usage, NoPod, Ambiguous, Busy, BadManifest, NoImage, NoDependency, Cycle, Limit, DirFault, BundleFault, OutFault, NoMemory, NoFile, Conflict, Damaged, BadKind, Taken, WrongPhase, PodBusy, NoManifest, NoProgram, SpawnFault, Stray}
 
 -- the exit status of a refusal
 abbrev pub status_of : Refusal → ℕ
 status_of Usage = 1
 status_of NoPod = 2
+status_of (Ambiguous first second) = 3
 status_of (WrongPhase phase) = 4
 status_of (Busy area) = 5
 status_of (PodBusy pod which) = 5
@@ -73,6 +74,7 @@ shown path = flat_map shown_byte path
 abbrev pub message : Refusal → List ℕ
 message Usage = codes "rkt: usage\n"
 message NoPod = codes "rkt: no such pod\n"
+message (Ambiguous first second) = (((codes "rkt: ambiguous: " ++ pod_text first.bytes) ++ codes " ") ++ pod_text second.bytes) ++ codes "\n"
 message (Busy area) = named_line (codes "rkt: busy: gate ") (area_text area)
 message (BadManifest path number) = (((codes "rkt: bad manifest at " ++ path) ++ codes ": refusal ") ++ decimal number) ++ codes "\n"
 message (NoImage key) = named_line (codes "rkt: no image: ") key
@@ -97,6 +99,7 @@ message Stray = codes "rkt: stray reply\n"
 
 -- the message has a path, a key or a number in it, so that it takes memory
 abbrev pub is_made : Refusal → Bool
+is_made (Ambiguous first second) = true
 is_made (BadManifest path number) = true
 is_made (NoImage key) = true
 is_made (NoDependency name) = true

@@ -15,6 +15,8 @@ pub enum Refusal {
     Usage,
     /// There is no such pod.
     NoPod,
+    /// Several pods begin so; these two have the least uuids.
+    Ambiguous(PodId, PodId),
     /// Another process holds the lock of that area.
     Busy(Area),
     /// A manifest has a fault of that number at that path in it.
@@ -68,6 +70,7 @@ impl Refusal {
         match self {
             Refusal::Usage => 1,
             Refusal::NoPod => 2,
+            Refusal::Ambiguous(_, _) => 3,
             Refusal::WrongPhase(_) => 4,
             Refusal::Busy(_) => 5,
             Refusal::PodBusy(_, _) => 5,
@@ -107,7 +110,8 @@ impl Refusal {
             Refusal::OutFault => Some("rkt: output fault\n"),
             Refusal::NoMemory => Some("rkt: out of memory\n"),
             Refusal::Stray => Some("rkt: stray reply\n"),
-            Refusal::BadManifest { path: _, number: _ }
+            Refusal::Ambiguous(_, _)
+            | Refusal::BadManifest { path: _, number: _ }
             | Refusal::NoImage(_)
             | Refusal::NoDependency(_)
             | Refusal::Cycle(_)
@@ -130,6 +134,7 @@ impl Refusal {
         ensures { IfOk result (λ line. line ≡ message self.now) }
     {
         match self {
+            Refusal::Ambiguous(first, second) => ambiguous(alloc, *first, *second),
             Refusal::BadManifest { path, number } => bad_manifest(alloc, path, *number),
             Refusal::NoImage(key) => named(alloc, "rkt: no image: ", key),
             Refusal::NoDependency(name) => named(alloc, "rkt: no dependency: ", name),
@@ -155,6 +160,19 @@ fn path_named(alloc: Global, front: &str, path: &Text) -> Result<Output, AllocEr
 {
     let mut line = Output::of(alloc, front)?;
     line.push_shown(path.as_str())?;
+    line.push("\n")?;
+    Ok(line)
+}
+
+fn ambiguous(alloc: Global, first: PodId, second: PodId) -> Result<Output, AllocError>
+    ensures { IfOk result (λ line. line ≡ message (Refusal.Ambiguous first second)) }
+{
+    let first = first.name();
+    let second = second.name();
+    let mut line = Output::of(alloc, "rkt: ambiguous: ")?;
+    line.push(first.as_str())?;
+    line.push(" ")?;
+    line.push(second.as_str())?;
     line.push("\n")?;
     Ok(line)
 }

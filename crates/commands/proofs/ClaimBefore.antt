@@ -14,7 +14,7 @@ use Rattle.dir_model.specs.declared.request.Request.{Request}
 use Rattle.dir_model.specs.declared.request.Request.TheVariants.{MakeFolder, MoveFolder, RemoveFolder, RemoveFileIn, RemoveDirIn, TryLock, Close, Finish, Kill}
 use Rattle.dir_model.specs.declared.request.Reply.{Reply}
 use Rattle.dir_model.specs.declared.request.Reply.TheVariants.{Done}
-use Rattle.dir_model.specs.Calls.{event, is_begin, is_finish, is_foreign, is_kill, Extends, AtOwnStep}
+use Rattle.dir_model.specs.Calls.{event, is_finish, is_foreign, is_kill, Extends, AtOwnStep}
 use Rattle.dir_model.specs.Locks.{is_folder}
 use Rattle.dir_model.specs.Pods.{pod_text}
 use Rattle.dir_model.specs.Quiet.{Quiet, OwnsNothing}
@@ -42,6 +42,7 @@ use Rattle.pod_claim.specs.Work.{Grew, MovedNothing, is_ok_move}
 use Rattle.pod_claim.proofs.Times.{at_part}
 use Rattle.pod_claim.proofs.Traces.{grown_more, grown_by}
 use Rattle.commands.specs.RemovalQuiet.{StandsNowhere, HasPhaseNow}
+use Rattle.commands.specs.Opening.{opens}
 use Rattle.commands.proofs.OwnSteps.{in_process, own_asked, at_process, event_process, back_at, history_back, held_before}
 use Rattle.commands.proofs.RmBefore.{has_phase_now}
 use Rattle.commands.proofs.RmFrom.{owns_nothing}
@@ -145,7 +146,7 @@ calm_transition u n x me Finish Done h = calm_if _ turn.End refl
 calm_transition u n x me Kill Done h = calm_if _ turn.End refl
 calm_transition u n x me request reply h = refl
 
-begin_calm : (request : Request) (reply : Reply) → (is_kill request || is_begin request) ≡ true → is_calm_step request reply ≡ true
+begin_calm : (request : Request) (reply : Reply) → (is_kill request || opens request) ≡ true → is_calm_step request reply ≡ true
 begin_calm (MakeFolder spot) reply h = cc
 begin_calm (MoveFolder from to) reply h = cc
 begin_calm (RemoveFolder spot) reply h = cc
@@ -180,9 +181,9 @@ module _ (pod : PodId) (me : ℕ) where
       still_all before (state_next s e) (pod_state_next u s.namespace x e) es free own.1 calm.1
       (subst (λ (p : ℕ). Still me before (turned (transition u s.namespace x p e.request e.reply) p x)) (sym own.0) next)
 
-  begin_all : (es : List Event) → Mine es → AllByRecursion (λ e. (is_foreign me e || is_begin e.request) ≡ true) es → AreCalm es
+  begin_all : (es : List Event) → Mine es → AllByRecursion (λ e. (is_foreign me e || opens e.request) ≡ true) es → AreCalm es
   begin_all [] own asked = tt
-  begin_all (e ∷ es) own asked = (begin_calm e.request e.reply (own_asked is_begin me e own.0 asked.0), begin_all es own.1 asked.1)
+  begin_all (e ∷ es) own asked = (begin_calm e.request e.reply (own_asked opens me e own.0 asked.0), begin_all es own.1 asked.1)
 
   claim_all : (es : List Event) → Mine es → AllByRecursion (λ e. (is_foreign me e || runs_prepared pod e.request) ≡ true) es → AllByRecursion (λ e. (is_foreign me e || not (is_ok_move e.request e.reply)) ≡ true) es → AreCalm es
   claim_all [] own asked still = tt
@@ -201,7 +202,7 @@ module _ (pod : PodId) (me : ℕ) where
 
 -- the whole process: it began, then it was refused without a move, and it finished
 pub record RefusedClaim (pod : PodId) (me : ℕ) (old begun ended new : List Event) : Type 0 where
-  pub begins : Extends is_begin me old begun
+  pub begins : Extends opens me old begun
   pub works : Extends (runs_prepared pod) me begun ended
   pub finishes : Extends is_finish me ended new
   pub whole : Extends (in_process (runs_prepared pod)) me old new

@@ -1,5 +1,5 @@
 -- The command `run-prepared`: from the claim and the run to what is told.
-use Rattle.std.proofs.Common.{◌≡◌, inl, inr, Bool, true, [], Ok, Err, IfErr, refl}
+use Rattle.std.proofs.Common.{◌≡◌, inl, inr, ℕ, Bool, true, List, [], Ok, Err, IfErr, refl}
 use Rattle.dir_model.specs.declared.pod.PodId.{PodId}
 use Rattle.dir_trait.specs.DirCalls.{DirAt, ExtendsBy}
 use Rattle.spawner.specs.Calls.{SpawnerAt}
@@ -52,11 +52,11 @@ abbrev pub inside_of : Bool → Bool → DirAt → SpawnerAt → Inside
 inside_of seen observed d s = record { dir = dir_seen seen d; spawner = spawner_seen observed s }
 
 -- what is told
-module _ (seen observed : Bool) (pod : PodId) (a c : DirAt) (s s' : SpawnerAt) (answer : Answer) where
+module _ (seen observed : Bool) (pod : PodId) (address : List ℕ) (a c : DirAt) (s s' : SpawnerAt) (answer : Answer) where
   abbrev Says : Type 0
-  Says = RunPreparedSays pod (inside_of seen observed a s) (inside_of seen observed c s') answer
+  Says = RunPreparedSays pod address (inside_of seen observed a s) (inside_of seen observed c s') answer
 
-  pub claimed_says : (b : DirAt) (owned : Owned) → IsOwned pod a.local owned → b.process ≡ a.process → (seen ≡ true → ExtendsBy (claims pod) a b) → (seen ≡ true → TookBoth pod owned.own a.process a.trace b.trace) → (seen ≡ true → Grew b.trace c.trace) → RunSays seen observed owned [] b c s s' answer → Says
+  pub claimed_says : (b : DirAt) (owned : Owned) → IsOwned pod a.local owned → b.process ≡ a.process → (seen ≡ true → ExtendsBy (claims pod) a b) → (seen ≡ true → TookBoth pod owned.own a.process a.trace b.trace) → (seen ≡ true → Grew b.trace c.trace) → RunSays seen observed owned address [] b c s s' answer → Says
   claimed_says b owned is same asked took then says = record { from = a; to = c; begins = refl; ends = refl; so = inl (record { claimed = b; owned = owned; is_owned = is; same = same; asked = asked; took = took; then = then; says = says }) }
 
   pub unclaimed_says : (e : ClaimError) → answer ≡ Err (claim_refusal pod e) → ClaimCause seen pod e a c → (seen ≡ true → MovedNothing a.process a.trace c.trace) → Leaves seen MayClaim a (λ known. RefusedByAnother pod e a c) → Leaves seen MayClaim a (λ known. MetOwner pod e a c) →

@@ -9,14 +9,14 @@ use Rattle.dir_model.specs.declared.spot.Handle.{Handle}
 use Rattle.dir_model.specs.declared.request.Request.{Request}
 use Rattle.dir_model.specs.declared.request.Request.TheVariants.{Begin, MakeFileIn, Close, Finish}
 use Rattle.dir_model.specs.declared.request.Reply.TheVariants.{Done}
-use Rattle.dir_model.specs.Calls.{event, is_allowed, is_begin, is_foreign, is_run_from, Extends, IsRun, CallStep, TookPlace, LeftNothing}
+use Rattle.dir_model.specs.Calls.{event, is_allowed, is_foreign, is_run_from, Extends, IsRun, CallStep, TookPlace, LeftNothing}
 use Rattle.dir_model.specs.Paths.{is_well_formed}
 use Rattle.dir_model.specs.Quiet.{Quiet}
 use Rattle.dir_model.specs.State.{DirState, empty_state, folder_at, has_begun, has_ended, lives}
 use Rattle.dir_model.specs.Trace.{state_after, state_next}
 use Rattle.dir_model.proofs.Allowed.{allowed_step, begin_says}
 use Rattle.dir_model.proofs.Begun.{begun_stays}
-use Rattle.dir_model.proofs.Chains.{and_more, extends_wider, run-left, run_from-right, states_next-append, step_extends}
+use Rattle.dir_model.proofs.Chains.{and_more, extends_wider, run-left, run_from-right, states_next-append}
 use Rattle.dir_model.proofs.Lists.{all_right, and_left, and_right, or_last, same_rest, same_self}
 use Rattle.dir_trait.specs.DirCalls.{DirAt}
 use Rattle.folder_building.specs.Making.{inner_at}
@@ -31,10 +31,11 @@ use Rattle.stage1.specs.declared.end.AppEnd.{AppEnd}
 use Rattle.stage1.specs.Runs.{HasRun}
 use Rattle.stage1.proofs.Appends.{count, count_more, step_few}
 use Rattle.commands.specs.RunQuiet.{HasItsEnds}
-use Rattle.commands.specs.AppRuns.{metadata}
 use Rattle.commands.proofs.EndsStand.{in_either, are_placed, each_stands}
 use Rattle.commands.proofs.NotesStand.{RemovesNothing}
 use Rattle.commands.proofs.Passing.{Leaves}
+use Rattle.commands.specs.Opening.{Approach, Opens, opens}
+use Rattle.commands.proofs.Starts.{open_extends}
 
 -- a process that begins now had not begun before
 pub unborn_before : {me : ℕ} {old new : List Event} (intent : Intent) → CallStep me old (Begin intent) Done new → has_begun (state_after old).namespace me ≡ false
@@ -56,11 +57,11 @@ pub record MakesNoNote (pod : PodId) (early : Request → Bool) : Type 0 where
   pub none : (path : List ℕ) → early (MakeFileIn (inner_at (in_run pod) path)) ≡ false
 
 abbrev pub since_begin : (Request → Bool) → Request → Bool
-since_begin early = either is_begin early
+since_begin early = either opens early
 
-pub early_part : {early : Request → Bool} {me : ℕ} {old c : List Event} (d : DirAt) (intent : Intent) → d.process ≡ me → CallStep me old (Begin intent) Done d.trace → Extends early d.process d.trace c → Extends (since_begin early) me old c
-early_part {early} {me} {old} {c} d intent mine begins ext =
-    and_more (step_extends (since_begin early) me old (Begin intent) Done d.trace refl begins) mine (extends_wider (λ r is. or_last (is_begin r) (early r) is) ext)
+pub early_part : {early : Request → Bool} {me : ℕ} {old c : List Event} (d : DirAt) (approach : Approach) (intent : Intent) → d.process ≡ me → Opens approach intent me old d.trace → Extends early d.process d.trace c → Extends (since_begin early) me old c
+early_part {early} {me} {old} {c} d approach intent mine begins ext =
+    and_more (extends_wider (λ r is. ap (λ b. b || early r) is) (open_extends begins)) mine (extends_wider (λ r is. or_last (opens r) (early r) is) ext)
 
 module _ (pod : PodId) (asks early : Request → Bool) (l : Leaves (in_run pod) asks) (none : RemovesNothing asks) (e : MakesNoNote pod early) (me : ℕ) (old new : List Event)
     (ext : Extends (in_process asks) me old new) (quiet : Quiet me old new) (run : IsRun new) (unborn : has_begun (state_after old).namespace me ≡ false) where
@@ -88,9 +89,9 @@ module _ (pod : PodId) (asks early : Request → Bool) (l : Leaves (in_run pod) 
     unmade : c ≡ b ++ make ∷ a → ⊥
     unmade is = elim (in_either old first.more b make a (sym first.grown ∙ is)) [ inl x ↦ not_asked x.0 x.1 | inr x ↦ not_born x.0 x.1 ]
 
-  pub ran_ends : {seen observed : Bool} → seen ≡ true → (own : Handle) (ends : List AppEnd) (c d' : DirAt) (s s' : SpawnerAt) → c.process ≡ me → d'.process ≡ me → Extends (since_begin early) me old c.trace → Grew c.trace d'.trace →
-      CallStep me d'.trace Finish Done new → HasRun seen observed pod own metadata ends c d' s s' → (k : ℕ) → folder_at (state_after new).namespace (in_run pod) ≡ Some k → HasItsEnds pod ends new
-  ran_ends t own ends c d' s s' begins stays first then finish r k there =
+  pub ran_ends : {seen observed : Bool} → seen ≡ true → (own : Handle) (address : List ℕ) (ends : List AppEnd) (c d' : DirAt) (s s' : SpawnerAt) → c.process ≡ me → d'.process ≡ me → Extends (since_begin early) me old c.trace → Grew c.trace d'.trace →
+      CallStep me d'.trace Finish Done new → HasRun seen observed pod own address ends c d' s s' → (k : ℕ) → folder_at (state_after new).namespace (in_run pod) ≡ Some k → HasItsEnds pod ends new
+  ran_ends t own address ends c d' s s' begins stays first then finish r k there =
       let mine : r.before.process ≡ me = sym r.closed.same ∙ stays in
       let z = grown_more then (grown_call finish) in
       let later = grown_more (grown_call (r.closed.step t)) (grown_call finish) in
@@ -111,5 +112,5 @@ module _ (pod : PodId) (asks early : Request → Bool) (l : Leaves (in_run pod) 
         folder = k;
         there = there;
         each = each_stands pod asks l none me c.trace new z.more z.grown run its asked k there few (λ path b a is. unmade c.trace first path b a is) r.before mine later.more later.grown
-            r.ran.starts r.ran.ran.statuses ends (are_placed pod metadata read.token read.manifest.apps read.found.roots r.ran.starts read.found.are) r.ran.ran.are (r.ran.ran.marked t) (r.ran.ran.wrote t);
+            r.ran.starts r.ran.ran.statuses ends (are_placed pod address read.token read.manifest.apps read.found.roots r.ran.starts read.found.are) r.ran.ran.are (r.ran.ran.marked t) (r.ran.ran.wrote t);
       }

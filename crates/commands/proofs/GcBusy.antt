@@ -1,5 +1,5 @@
 -- Where nobody else steps, the lock of a pod that a sweep calls busy was held before.
-use Rattle.std.proofs.Common.{◌≡◌, inl, inr, ℕ, Bool, true, false, ◌&&◌, ◌||◌, bytes_eq, Some, List, [], ◌∷◌, refl, sym, ap, subst, ◌∙◌}
+use Rattle.std.proofs.Common.{◌≡◌, inl, inr, ℕ, Bool, true, false, ◌&&◌, bytes_eq, Some, List, [], ◌∷◌, refl, sym, ap, subst, ◌∙◌}
 use Rattle.std.specs.List.{list_any, AllByRecursion}
 use Rattle.dir_model.specs.declared.area.Area.{Area}
 use Rattle.dir_model.specs.declared.area.Area.TheVariants as area
@@ -10,12 +10,12 @@ use Rattle.dir_model.specs.declared.spot.Spot.{Spot}
 use Rattle.dir_model.specs.declared.request.Request.{Request}
 use Rattle.dir_model.specs.declared.request.Request.TheVariants.{MakeFolder, MoveFolder}
 use Rattle.dir_model.specs.Areas.{is_stage}
-use Rattle.dir_model.specs.Calls.{is_begin, is_finish, Extends}
+use Rattle.dir_model.specs.Calls.{Extends}
 use Rattle.dir_model.specs.Pods.{pod_text}
 use Rattle.dir_model.specs.Quiet.{Quiet}
 use Rattle.dir_model.specs.Trace.{state_after}
 use Rattle.dir_model.proofs.Chains.{nothing_yet, extends_more, extends_wider}
-use Rattle.dir_model.proofs.Lists.{and_left, and_right, and_both, or_last}
+use Rattle.dir_model.proofs.Lists.{and_left, and_right, and_both}
 use Rattle.dir_rules.proofs.Looks.{same_bytes}
 use Rattle.dir_rules.specs.Standing.{is_garbage}
 use Rattle.area_locks.specs.AreaLocks.{takes, closes}
@@ -33,7 +33,7 @@ use Rattle.pod_gc.proofs.Asking.{some_sweep}
 use Rattle.command_outcomes.specs.Meanwhile.{Meanwhile}
 use Rattle.commands.specs.Gc.{Sweeps}
 use Rattle.commands.specs.RemovalQuiet.{IsHeldNow, BusyAsBefore}
-use Rattle.commands.proofs.OwnSteps.{in_process}
+use Rattle.commands.proofs.OwnSteps.{in_process, begin_in_process, asks_in_process, finish_in_process}
 use Rattle.commands.proofs.LateTurns.{Late, or_either, sweeps_late, gc_moves}
 use Rattle.commands.proofs.Held.{was_held}
 use Rattle.commands.proofs.GcQuiet.{each_shown}
@@ -95,9 +95,9 @@ module _ (times : Times) (lines : List GcLine) {me : ℕ} {old new : List Event}
   named : Named old new
   named =
       let swept : Extends keeps_names me m.begun m.ended = passes_named (Knew (MaySweepAll times.now times.expire) m.so.from) times me places lines m.begun m.ended (refl, (refl, (refl, (refl, (refl, (refl, tt)))))) m.so.swept in
-      let first : Named old m.begun = extends_wider (λ r is. ap (λ b. b || (keeps_names r || is_finish r)) is) m.begins in
-      let then : Named m.begun m.ended = extends_wider (λ r is. or_last (is_begin r) _ (ap (λ b. b || is_finish r) is)) swept in
-      let last : Named m.ended new = extends_wider (λ r is. or_last (is_begin r) _ (or_last (keeps_names r) (is_finish r) is)) m.finishes in
+      let first : Named old m.begun = extends_wider (begin_in_process keeps_names) m.begins in
+      let then : Named m.begun m.ended = extends_wider (asks_in_process keeps_names) swept in
+      let last : Named m.ended new = extends_wider (finish_in_process keeps_names) m.finishes in
       extends_more (in_process keeps_names) me old m.begun new first (extends_more (in_process keeps_names) me m.begun m.ended new then last)
 
   -- what comes to a pod's place comes from one of its places

@@ -48,7 +48,6 @@ pub mod NextState
 pub mod NotesStand
 pub mod OneNumber
 pub mod Openings
-pub mod Options
 pub mod OwnSteps
 pub mod Parts
 pub mod Passing
@@ -66,7 +65,9 @@ pub mod RmQuiet
 pub mod RmRounds
 pub mod RmTable
 pub mod RunRefused
+pub mod SameReads
 pub mod Sayings
+pub mod Starts
 pub mod StoreQuiet
 pub mod SweepEnds
 pub mod Sweeps

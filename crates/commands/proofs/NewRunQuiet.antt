@@ -20,7 +20,6 @@ use Rattle.pod_claim.specs.Requests.{in_run}
 use Rattle.pod_claim.specs.Work.{Grew}
 use Rattle.pod_claim.proofs.Traces.{grown_more, grown_call}
 use Rattle.commands.proofs.Whole.{prepared_wider}
-use Rattle.commands.specs.Prepare.{no_wishes}
 use Rattle.commands.specs.References.{OfReferences}
 use Rattle.pod_making.specs.Requests.{pod_at}
 use Rattle.commands.proofs.OwnSteps.{in_process}
@@ -29,6 +28,8 @@ use Rattle.commands.specs.RunQuiet.{IsLeftInRun, HasMadeAndLeft}
 use Rattle.commands.proofs.EndsQuiet.{MakesNoNote}
 use Rattle.commands.proofs.NotesStand.{RemovesNothing}
 use Rattle.commands.proofs.Passing.{Leaves, is_unmarked, is_past, left_in_run, stood_before, moved_here}
+use Rattle.commands.specs.Wants.{Wants}
+use Rattle.pod_manifest.specs.Wishes.{Wishes}
 
 module _ (draw : PodId) where
   -- its moves begin in embryo or in prepare, and lead to prepare or to run
@@ -69,17 +70,17 @@ module _ (draw : PodId) where
   run_notes = record { none = λ path. refl }
 
   -- the pod that it made
-  pub made_left : {me : ℕ} {old ended new : List Event} {refs : List ImageRef} → Extends (in_process (makes_and_runs draw)) me old new → Quiet me old new → CallStep me ended Finish Done new → (x : IsPrepared refs no_wishes me draw Run old new) → IsLeftInRun draw x.folder new
-  made_left {me} {old} {ended} {new} {refs} ext quiet finish x =
+  pub made_left : {wishes : Wishes} {me : ℕ} {old ended new : List Event} {refs : List ImageRef} → Extends (in_process (makes_and_runs draw)) me old new → Quiet me old new → CallStep me ended Finish Done new → (x : IsPrepared refs wishes me draw Run old new) → IsLeftInRun draw x.folder new
+  made_left {wishes} {me} {old} {ended} {new} {refs} ext quiet finish x =
       let from = pod_at Prepare draw in
       let k = some_number (folder_at (state_after x.before).namespace from) (stood_before draw (makes_and_runs draw) run_leaves me old new x.before x.later from ext quiet x.meanwhile x.begins x.moved finish.run) in
       let same : Some x.folder ≡ Some k.0 = sym x.stands ∙ (moved_here draw (makes_and_runs draw) run_leaves me old new x.before x.later from ext quiet x.meanwhile x.begins x.moved finish.run ∙ k.1) in
       left_in_run draw (makes_and_runs draw) run_leaves me old new x.before x.later from ext quiet x.meanwhile x.begins x.moved finish.run x.folder (is_past finish) (k.1 ∙ sym same)
 
 -- and where it was made in a part of the process
-pub made_and_left : (words : List (List ℕ)) (draw : PodId) {me : ℕ} {old begun made ended new : List Event} → Extends (in_process (makes_and_runs draw)) me old new → Quiet me old new → Grew old begun → Grew made ended → CallStep me ended Finish Done new →
-    OfReferences words (λ refs. IsPrepared refs no_wishes me draw Run begun made) → HasMadeAndLeft words me draw old new
-made_and_left words draw {me} {old} {begun} {made} {ended} {new} ext quiet first after finish x =
+pub made_and_left : (wants : Wants) (draw : PodId) {me : ℕ} {old begun made ended new : List Event} → Extends (in_process (makes_and_runs draw)) me old new → Quiet me old new → Grew old begun → Grew made ended → CallStep me ended Finish Done new →
+    OfReferences wants.images (λ refs. IsPrepared refs wants.wishes me draw Run begun made) → HasMadeAndLeft wants me draw old new
+made_and_left wants draw {me} {old} {begun} {made} {ended} {new} ext quiet first after finish x =
     let last = grown_more after (grown_call finish) in
     let wide = prepared_wider first.more last.more first.grown last.grown x.2 in
     (x.0, x.1, (wide, made_left draw ext quiet finish wide))

@@ -44,12 +44,13 @@ use Rattle.command_outcomes.specs.Conforming.{begun, StaysConforming}
 use Rattle.command_outcomes.specs.Moments.{Answer, dir_seen}
 use Rattle.commands.specs.References.{AreReferences}
 use Rattle.commands.specs.PrepareRefusals.{IsSaid, prepare_refusal}
-use Rattle.commands.specs.Prepare.{pod_line, no_wishes}
+use Rattle.commands.specs.Prepare.{pod_line}
 use Rattle.commands.specs.RunRefusals.{apps_refusal, new_run_refusal}
 use Rattle.commands.specs.Run.{makes_and_runs, CanRun, NewRunSays, RunIsTold}
 use Rattle.commands.specs.AppRuns.{RunSays}
 use Rattle.commands.proofs.Claimed.{and_holding, given_back}
 use Rattle.commands.proofs.ClaimRefusals.{inside_of}
+use Rattle.commands.specs.Wants.{Wants}
 
 -- the pod is kept
 pub kept_pod : (draw : PodId) (m : Local) (made : Built) → IsAnswer true draw m made → (owned : Owned) × (made ≡ built.Running owned)
@@ -175,10 +176,10 @@ never_spawns SpawnFault known is = let clash : false ≡ true = known in cc
 never_spawns r known is = cc
 
 -- what is told
-module _ (seen observed : Bool) (words : List (List ℕ)) (now : ℕ) (draw : Draw) (a c : DirAt) (s s' : SpawnerAt) (answer : Answer) where
-  pub made_says : (refs : List ImageRef) (b : DirAt) (owned : Owned) → AreReferences words refs → IsOwned draw.uuid a.local owned → b.process ≡ a.process → (seen ≡ true → ExtendsBy (prepares draw.uuid area.Run) a b) → (seen ≡ true → KnowsMade draw now owned a b)
-      → (seen ≡ true → IsConforming b.trace → From (Began area.Run draw now) IsAlone nothing_made a (λ intent hs. IsPrepared refs no_wishes a.process draw.uuid area.Run a.trace b.trace))
-      → (seen ≡ true → Grew b.trace c.trace) → RunSays seen observed owned (pod_line draw.uuid) b c s s' answer → NewRunSays seen observed words now draw a c s s' answer
+module _ (seen observed : Bool) (wants : Wants) (address : List ℕ) (now : ℕ) (draw : Draw) (a c : DirAt) (s s' : SpawnerAt) (answer : Answer) where
+  pub made_says : (refs : List ImageRef) (b : DirAt) (owned : Owned) → AreReferences wants.images refs → IsOwned draw.uuid a.local owned → b.process ≡ a.process → (seen ≡ true → ExtendsBy (prepares draw.uuid area.Run) a b) → (seen ≡ true → KnowsMade draw now owned a b)
+      → (seen ≡ true → IsConforming b.trace → From (Began area.Run draw now) IsAlone nothing_made a (λ intent hs. IsPrepared refs wants.wishes a.process draw.uuid area.Run a.trace b.trace))
+      → (seen ≡ true → Grew b.trace c.trace) → RunSays seen observed owned address (pod_line draw.uuid) b c s s' answer → NewRunSays seen observed wants address now draw a c s s' answer
   made_says refs b owned are is same asked knows prepared then says = inl (record {
     made = b;
     owned = owned;
@@ -191,10 +192,10 @@ module _ (seen observed : Bool) (words : List (List ℕ)) (now : ℕ) (draw : Dr
     says = says;
   })
 
-  pub unmade_says : (refs : List ImageRef) (e : BuildError) (r : Refusal) → answer ≡ Err r → AreReferences words refs → IsSaid words e r → IsRefused seen refs no_wishes draw now e a c
+  pub unmade_says : (refs : List ImageRef) (e : BuildError) (r : Refusal) → answer ≡ Err r → AreReferences wants.images refs → IsSaid wants.images e r → IsRefused seen refs wants.wishes draw now e a c
       → (seen ≡ true → From (Began area.Run draw now) IsAlone nothing_made a (λ intent hs. IsHeldElsewhere e a c)) → (seen ≡ true → From (Began area.Run draw now) IsAlone nothing_made a (λ intent hs. HasOwnFolder draw.uuid intent hs c)) → s' ≡ s
-      → NewRunSays seen observed words now draw a c s s' answer
+      → NewRunSays seen observed wants address now draw a c s s' answer
   unmade_says refs e r is are said refused another left unasked = inr (inl (record { error = e; is = (r, is, said); cause = (refs, are, refused); another = another; left = left; unasked = unasked }))
 
-  pub told_between : NewRunSays seen observed words now draw a c s s' answer → RunIsTold words now draw (inside_of seen observed a s) (inside_of seen observed c s') answer
+  pub told_between : NewRunSays seen observed wants address now draw a c s s' answer → RunIsTold wants address now draw (inside_of seen observed a s) (inside_of seen observed c s') answer
   told_between so = record { from = a; to = c; begins = refl; ends = refl; so = so }

@@ -15,7 +15,7 @@ use Rattle.dir_model.specs.Trace.{state_after, state_next, states_next, namespac
 use Rattle.dir_model.specs.Calls.{event, is_begin, is_finish, is_foreign, is_kill, Extends, AtOwnStep}
 use Rattle.dir_model.specs.Quiet.{Quiet}
 use Rattle.dir_model.proofs.Lists.{and_left, or_map, or_last, same_rest, same_self, all_left, all_right, any_map, any_last_not}
-use Rattle.dir_model.proofs.Chains.{states_next-append}
+use Rattle.dir_model.proofs.Chains.{extends_more, extends_wider, states_next-append}
 use Rattle.dir_model.proofs.Moments.{at_within}
 use Rattle.lifecycle.specs.declared.machine.PodState.{PodState}
 use Rattle.lifecycle.specs.declared.machine.PodState.TheVariants.{Absent}
@@ -24,10 +24,36 @@ use Rattle.lifecycle.proofs.Stays.{machine_append}
 use Rattle.phase_read.specs.Exact.{AtOwnEvent}
 use Rattle.phase_read.proofs.Exact.{event_within}
 use Rattle.pod_claim.specs.Work.{Grew}
+use Rattle.pod_lookup.specs.Looks.{lists_stages}
+use Rattle.commands.specs.Opening.{opens}
 
--- the requests of a process, with its begin and its finish
+-- the requests of a process: a look for its pod, its begin, what it asks for then, and its finish
 abbrev pub in_process : (Request → Bool) → Request → Bool
-in_process asks request = is_begin request || (asks request || is_finish request)
+in_process asks request = lists_stages request || (is_begin request || (asks request || is_finish request))
+
+pub begin_in_process : (asks : Request → Bool) (r : Request) → is_begin r ≡ true → in_process asks r ≡ true
+begin_in_process asks r is = or_last (lists_stages r) _ (ap (λ b. b || (asks r || is_finish r)) is)
+
+pub asks_in_process : (asks : Request → Bool) (r : Request) → asks r ≡ true → in_process asks r ≡ true
+asks_in_process asks r is = or_last (lists_stages r) _ (or_last (is_begin r) _ (ap (λ b. b || is_finish r) is))
+
+pub finish_in_process : (asks : Request → Bool) (r : Request) → is_finish r ≡ true → in_process asks r ≡ true
+finish_in_process asks r is = or_last (lists_stages r) _ (or_last (is_begin r) _ (or_last (asks r) _ is))
+
+pub lists_in_process : (asks : Request → Bool) (r : Request) → lists_stages r ≡ true → in_process asks r ≡ true
+lists_in_process asks r is = ap (λ b. b || (is_begin r || (asks r || is_finish r))) is
+
+pub opens_in_process : (asks : Request → Bool) (r : Request) → opens r ≡ true → in_process asks r ≡ true
+opens_in_process asks r is = by (lists_stages r) is
+  where
+    by : (b : Bool) → (b || is_begin r) ≡ true → (b || (is_begin r || (asks r || is_finish r))) ≡ true
+    by true h = refl
+    by false h = ap (λ b. b || (asks r || is_finish r)) h
+
+-- its three parts
+pub whole_process : {asks : Request → Bool} {me : ℕ} {old begun ended new : List Event} → Extends opens me old begun → Extends asks me begun ended → Extends is_finish me ended new → Extends (in_process asks) me old new
+whole_process {asks} {me} {old} {begun} {ended} {new} b x f =
+    extends_more (in_process asks) me old ended new (extends_more (in_process asks) me old begun ended (extends_wider (opens_in_process asks) b) (extends_wider (asks_in_process asks) x)) (extends_wider (finish_in_process asks) f)
 
 pub own_asked : (asks : Request → Bool) (me : ℕ) (e : Event) → e.process ≡ me → (is_foreign me e || asks e.request) ≡ true → (is_kill e.request || asks e.request) ≡ true
 own_asked asks me e mine asked =

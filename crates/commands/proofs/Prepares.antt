@@ -40,8 +40,9 @@ use Rattle.command_outcomes.specs.Conforming.{shown_at, begun, StaysConforming}
 use Rattle.command_outcomes.proofs.Seen.{seen_at}
 use Rattle.commands.specs.References.{AreReferences}
 use Rattle.commands.specs.PrepareRefusals.{prepare_refusal, IsSaid}
-use Rattle.commands.specs.Prepare.{pod_line, no_wishes, syncs, prepares_pod, sync_refusal, SyncSays, BringsPod, LeavesFolder, RefusesPod, IsHeldFrom, PrepareSays}
+use Rattle.commands.specs.Prepare.{pod_line, syncs, prepares_pod, sync_refusal, SyncSays, BringsPod, LeavesFolder, RefusesPod, IsHeldFrom, PrepareSays}
 use Rattle.commands.proofs.Sayings.{busy_of}
+use Rattle.commands.specs.Wants.{Wants}
 
 -- a sync of the area hands nothing over
 pub syncs_hand_none : HandsNothingOver (syncs Prepared)
@@ -145,17 +146,17 @@ left_folder observed a b draw now left t intent began k =
     let x = left t intent [] began refl (at_begin observed intent k) in
     record { progress = x.progress; own = x.own; knows = knows_seen observed x.knows }
 
-pub nothing_says : (observed : Bool) (a : DirAt) (words : List (List ℕ)) (now : ℕ) (draw : Draw) → PrepareSays words now draw (seen_at observed a) (seen_at observed a) (Err NoMemory)
-nothing_says observed a words now draw = inl (λ t intent began k. record { progress = nothing_made; own = tt; knows = knows_seen observed (at_begin observed {a = a} intent k) })
+pub nothing_says : (observed : Bool) (a : DirAt) (wants : Wants) (now : ℕ) (draw : Draw) → PrepareSays wants now draw (seen_at observed a) (seen_at observed a) (Err NoMemory)
+nothing_says observed a wants now draw = inl (λ t intent began k. record { progress = nothing_made; own = tt; knows = knows_seen observed (at_begin observed {a = a} intent k) })
 
 -- what is told of a pod that was prepared, by what came of the sync
-pub synced_says : (observed : Bool) (a b c : DirAt) (words : List (List ℕ)) (refs : List ImageRef) (now : ℕ) (draw : Draw) (line : List ℕ) (made : Built) (o : Outcome) → b.process ≡ a.process → AreReferences words refs → IsAnswer false draw.uuid a.local made
+pub synced_says : (observed : Bool) (a b c : DirAt) (wants : Wants) (refs : List ImageRef) (now : ℕ) (draw : Draw) (line : List ℕ) (made : Built) (o : Outcome) → b.process ≡ a.process → AreReferences wants.images refs → IsAnswer false draw.uuid a.local made
     → (observed ≡ true → ExtendsBy (prepares draw.uuid Prepared) a b) → (observed ≡ true → KnowsMade draw now made a b)
-    → (observed ≡ true → IsConforming b.trace → From (Began Prepared draw now) IsAlone nothing_made a (λ intent hs. IsPrepared refs no_wishes a.process draw.uuid Prepared a.trace b.trace))
-    → line ≡ pod_line draw.uuid → SyncSays line observed b c o → PrepareSays words now draw (seen_at observed a) (seen_at observed c) o
-synced_says observed a b c words refs now draw line made o same are answer extends knows prepared line_is says = by o says
+    → (observed ≡ true → IsConforming b.trace → From (Began Prepared draw now) IsAlone nothing_made a (λ intent hs. IsPrepared refs wants.wishes a.process draw.uuid Prepared a.trace b.trace))
+    → line ≡ pod_line draw.uuid → SyncSays line observed b c o → PrepareSays wants now draw (seen_at observed a) (seen_at observed c) o
+synced_says observed a b c wants refs now draw line made o same are answer extends knows prepared line_is says = by o says
   where
-    brings : (reply : Reply) → DirCall observed b (SyncArea Prepared) reply c → BringsPod words now draw reply (seen_at observed a) (seen_at observed c)
+    brings : (reply : Reply) → DirCall observed b (SyncArea Prepared) reply c → BringsPod wants now draw reply (seen_at observed a) (seen_at observed c)
     brings reply call = record {
       brought = seen_at observed b;
       same = same;
@@ -165,23 +166,23 @@ synced_says observed a b c words refs now draw line made o same are answer exten
       synced = λ t. subst (λ (me : ℕ). CallStep me b.trace (SyncArea Prepared) reply c.trace) same (call.step t);
     }
 
-    by : (o : Outcome) → SyncSays line observed b c o → PrepareSays words now draw (seen_at observed a) (seen_at observed c) o
+    by : (o : Outcome) → SyncSays line observed b c o → PrepareSays wants now draw (seen_at observed a) (seen_at observed c) o
     by (Ok text) x = (x.0 ∙ line_is, brings Done x.1)
     by (Err NoMemory) x = inr (brings (Refused dir.NoMemory 0) x)
     by (Err DirFault) x = inr (brings (Refused dir.Failed 0) x)
     by (Err r) x = absurd x
 
 -- and of one that wasn't
-refusal_says : (old new : DirSeen) (words : List (List ℕ)) (now : ℕ) (draw : Draw) (r : Refusal) → LeavesFolder now draw old new → RefusesPod words now draw old new r × IsHeldFrom now draw r old new → PrepareSays words now draw old new (Err r)
-refusal_says old new words now draw NoMemory left x = inl left
-refusal_says old new words now draw DirFault left x = inl left
-refusal_says old new words now draw r left x = (left, x.0, x.1)
+refusal_says : (old new : DirSeen) (wants : Wants) (now : ℕ) (draw : Draw) (r : Refusal) → LeavesFolder now draw old new → RefusesPod wants now draw old new r × IsHeldFrom now draw r old new → PrepareSays wants now draw old new (Err r)
+refusal_says old new wants now draw NoMemory left x = inl left
+refusal_says old new wants now draw DirFault left x = inl left
+refusal_says old new wants now draw r left x = (left, x.0, x.1)
 
-pub refused_says : (observed : Bool) (a b : DirAt) (words : List (List ℕ)) (refs : List ImageRef) (now : ℕ) (draw : Draw) (e : BuildError) (r : Refusal) → AreReferences words refs → IsSaid words e r → IsRefused observed refs no_wishes draw now e a b
-    → (observed ≡ true → From (Began Prepared draw now) IsAlone nothing_made a (λ intent hs. IsHeldElsewhere e a b)) → (observed ≡ true → LeftFolder draw now a b) → PrepareSays words now draw (seen_at observed a) (seen_at observed b) (Err r)
-refused_says observed a b words refs now draw e r are (inr is) refused another left =
-    subst (λ (x : Refusal). PrepareSays words now draw (seen_at observed a) (seen_at observed b) (Err x)) (sym is) (inl (left_folder observed a b draw now left))
-refused_says observed a b words refs now draw e r are (inl is) refused another left = refusal_says (seen_at observed a) (seen_at observed b) words now draw r (left_folder observed a b draw now left) (
+pub refused_says : (observed : Bool) (a b : DirAt) (wants : Wants) (refs : List ImageRef) (now : ℕ) (draw : Draw) (e : BuildError) (r : Refusal) → AreReferences wants.images refs → IsSaid wants.images e r → IsRefused observed refs wants.wishes draw now e a b
+    → (observed ≡ true → From (Began Prepared draw now) IsAlone nothing_made a (λ intent hs. IsHeldElsewhere e a b)) → (observed ≡ true → LeftFolder draw now a b) → PrepareSays wants now draw (seen_at observed a) (seen_at observed b) (Err r)
+refused_says observed a b wants refs now draw e r are (inr is) refused another left =
+    subst (λ (x : Refusal). PrepareSays wants now draw (seen_at observed a) (seen_at observed b) (Err x)) (sym is) (inl (left_folder observed a b draw now left))
+refused_says observed a b wants refs now draw e r are (inl is) refused another left = refusal_says (seen_at observed a) (seen_at observed b) wants now draw r (left_folder observed a b draw now left) (
   record { error = e; is = is; cause = (refs, are, refused_seen observed draw refused) },
-  λ area busy t intent began k. another t intent [] began refl (at_begin observed intent k) area (busy_of words e area (sym is ∙ busy)),
+  λ area busy t intent began k. another t intent [] began refl (at_begin observed intent k) area (busy_of wants.images e area (sym is ∙ busy)),
 )

@@ -5,7 +5,7 @@ use Rattle.dir_model.specs.declared.event.Event.{Event}
 use Rattle.dir_model.specs.declared.intent.Draw.{Draw}
 use Rattle.dir_model.specs.declared.intent.Intent.{Intent}
 use Rattle.dir_model.specs.declared.pod.PodId.{PodId}
-use Rattle.dir_model.specs.declared.request.Request.TheVariants.{Begin, Finish}
+use Rattle.dir_model.specs.declared.request.Request.TheVariants.{Finish}
 use Rattle.dir_model.specs.declared.request.Reply.TheVariants.{Done}
 use Rattle.dir_model.specs.Calls.{Extends, CallStep}
 use Rattle.dir_model.specs.Quiet.{Quiet, OwnsNothing}
@@ -30,19 +30,20 @@ use Rattle.commands.proofs.OwnSteps.{in_process}
 use Rattle.commands.specs.RunPrepared.{runs_prepared, CanClaim, ClaimsAndRuns, IsUnclaimed}
 use Rattle.commands.specs.Run.{makes_and_runs, MakesAndRuns}
 use Rattle.commands.specs.RunQuiet.{HasPassed, HasMadeAndLeft, UnclaimedFor, TellsItsEnds}
-use Rattle.commands.specs.AppRuns.{metadata}
 use Rattle.stage1.specs.Runs.{HasRun}
 use Rattle.commands.proofs.EndsQuiet.{early_part, ran_ends, unborn_before}
 use Rattle.commands.proofs.ClaimQuiet.{claimed_passed, claim_leaves, claim_removes, claim_notes}
 use Rattle.commands.proofs.ClaimBefore.{RefusedClaim, none_before, wrong_before, lacked_before, lock_before}
 use Rattle.commands.proofs.NewRunQuiet.{made_and_left, run_leaves, run_removes, run_notes}
+use Rattle.commands.specs.Wants.{Wants}
+use Rattle.commands.specs.Opening.{Approach, Opens}
 
 conforming_at : {a b : List Event} → Grew a b → IsConforming b → IsConforming a
 conforming_at {a} {b} g conforming = conforming_left a g.more (subst IsConforming g.grown conforming)
 
-module _ (seen observed : Bool) (pod : PodId) (d d' : DirAt) (s s' : SpawnerAt) (answer : Answer) (t : seen ≡ true) (old new : List Event) where
+module _ (seen observed : Bool) (pod : PodId) (address : List ℕ) (d d' : DirAt) (s s' : SpawnerAt) (answer : Answer) (t : seen ≡ true) (old new : List Event) where
   -- a pod that was claimed, whatever came of its run
-  pub run_prepared_passed : Extends (in_process (runs_prepared pod)) d.process old new → Quiet d.process old new → Grew old d.trace → CallStep d.process d'.trace Finish Done new → (x : ClaimsAndRuns seen observed pod d d' s s' answer) → Grew x.claimed.trace d'.trace →
+  pub run_prepared_passed : Extends (in_process (runs_prepared pod)) d.process old new → Quiet d.process old new → Grew old d.trace → CallStep d.process d'.trace Finish Done new → (x : ClaimsAndRuns seen observed pod address d d' s s' answer) → Grew x.claimed.trace d'.trace →
       HasPassed pod old new
   run_prepared_passed ext quiet first finish x after = claimed_passed pod x.owned.own ext quiet first (x.took t) after finish
 
@@ -65,31 +66,31 @@ module _ (seen observed : Bool) (pod : PodId) (d d' : DirAt) (s s' : SpawnerAt) 
           (named, lock_before pod r which (x.another t can.0 can.2 can.1 which (is ∙ ap (λ (p : PodId). claim.Busy p which) named)))
       by e is = tt
 
-module _ (seen observed : Bool) (words : List (List ℕ)) (now : ℕ) (draw : Draw) (d d' : DirAt) (s s' : SpawnerAt) (answer : Answer) (t : seen ≡ true) (old new : List Event) where
+module _ (seen observed : Bool) (wants : Wants) (address : List ℕ) (now : ℕ) (draw : Draw) (d d' : DirAt) (s s' : SpawnerAt) (answer : Answer) (t : seen ≡ true) (old new : List Event) where
   -- a pod that was made for its run, whatever came of it
   pub run_made_left : Extends (in_process (makes_and_runs draw.uuid)) d.process old new → Quiet d.process old new → Grew old d.trace → CallStep d.process d'.trace Finish Done new → (intent : Intent) → Began Run draw now intent → Knows d (at_work intent [] nothing_made) →
-      (x : MakesAndRuns seen observed words now draw d d' s s' answer) → Grew x.made.trace d'.trace → IsConforming new → HasMadeAndLeft words d.process draw.uuid old new
+      (x : MakesAndRuns seen observed wants address now draw d d' s s' answer) → Grew x.made.trace d'.trace → IsConforming new → HasMadeAndLeft wants d.process draw.uuid old new
   run_made_left ext quiet first finish intent began knows x after conforming =
-      made_and_left words draw.uuid ext quiet first after finish (x.faithful t (conforming_at (grown_more after (grown_call finish)) conforming) intent [] began refl knows)
+      made_and_left wants draw.uuid ext quiet first after finish (x.faithful t (conforming_at (grown_more after (grown_call finish)) conforming) intent [] began refl knows)
 
 -- and what was told of a run to its end: the marks and the statuses stand in the pod
-module _ (seen observed : Bool) (d d' : DirAt) (s s' : SpawnerAt) (told : Told) (t : seen ≡ true) (old new : List Event) (quiet : Quiet d.process old new) (intent : Intent) (begins : CallStep d.process old (Begin intent) Done d.trace)
+module _ (seen observed : Bool) (d d' : DirAt) (s s' : SpawnerAt) (told : Told) (t : seen ≡ true) (old new : List Event) (quiet : Quiet d.process old new) (approach : Approach) (intent : Intent) (begins : Opens approach intent d.process old d.trace)
     (stays : d'.process ≡ d.process) (finish : CallStep d.process d'.trace Finish Done new) where
-  pub run_prepared_ends : (pod : PodId) → Extends (in_process (runs_prepared pod)) d.process old new → ClaimsAndRuns seen observed pod d d' s s' (Ok told) → HasPassed pod old new → TellsItsEnds pod [] new told.text
-  run_prepared_ends pod ext x passed = record {
+  pub run_prepared_ends : (pod : PodId) (address : List ℕ) → Extends (in_process (runs_prepared pod)) d.process old new → ClaimsAndRuns seen observed pod address d d' s s' (Ok told) → HasPassed pod old new → TellsItsEnds pod [] new told.text
+  run_prepared_ends pod address ext x passed = record {
     ends = x.says.ends;
     is = ap (λ (w : Told). w.text) x.says.is;
-    stand = ran_ends pod (runs_prepared pod) (claims pod) (claim_leaves pod) (claim_removes pod) (claim_notes pod) d.process old new ext quiet finish.run (unborn_before intent begins) t x.owned.own x.says.ends x.claimed d' s s' x.same stays
-        (early_part d intent refl begins (x.asked t)) (x.then t) finish (subst (λ (p : PodId). HasRun seen observed p x.owned.own metadata x.says.ends x.claimed d' s s') x.is_owned.is x.says.ran) passed.folder passed.left.there;
+    stand = ran_ends pod (runs_prepared pod) (claims pod) (claim_leaves pod) (claim_removes pod) (claim_notes pod) d.process old new ext quiet finish.run (unborn_before intent begins.begins) t x.owned.own address x.says.ends x.claimed d' s s' x.same stays
+        (early_part d approach intent refl begins (x.asked t)) (x.then t) finish (subst (λ (p : PodId). HasRun seen observed p x.owned.own address x.says.ends x.claimed d' s s') x.is_owned.is x.says.ran) passed.folder passed.left.there;
   }
 
-  pub run_ends : (words : List (List ℕ)) (now : ℕ) (draw : Draw) → Extends (in_process (makes_and_runs draw.uuid)) d.process old new → MakesAndRuns seen observed words now draw d d' s s' (Ok told) → HasMadeAndLeft words d.process draw.uuid old new →
+  pub run_ends : (wants : Wants) (address : List ℕ) (now : ℕ) (draw : Draw) → Extends (in_process (makes_and_runs draw.uuid)) d.process old new → MakesAndRuns seen observed wants address now draw d d' s s' (Ok told) → HasMadeAndLeft wants d.process draw.uuid old new →
       TellsItsEnds draw.uuid (pod_line draw.uuid) new told.text
-  run_ends words now draw ext x left =
+  run_ends wants address now draw ext x left =
       let pod = draw.uuid in
       record {
         ends = x.says.ends;
         is = ap (λ (w : Told). w.text) x.says.is;
-        stand = ran_ends pod (makes_and_runs pod) (prepares pod Run) (run_leaves pod) (run_removes pod) (run_notes pod) d.process old new ext quiet finish.run (unborn_before intent begins) t x.owned.own x.says.ends x.made d' s s' x.same stays
-            (early_part d intent refl begins (x.asked t)) (x.then t) finish (subst (λ (p : PodId). HasRun seen observed p x.owned.own metadata x.says.ends x.made d' s s') x.is_owned.is x.says.ran) left.2.0.folder left.2.1.there;
+        stand = ran_ends pod (makes_and_runs pod) (prepares pod Run) (run_leaves pod) (run_removes pod) (run_notes pod) d.process old new ext quiet finish.run (unborn_before intent begins.begins) t x.owned.own address x.says.ends x.made d' s s' x.same stays
+            (early_part d approach intent refl begins (x.asked t)) (x.then t) finish (subst (λ (p : PodId). HasRun seen observed p x.owned.own address x.says.ends x.made d' s s') x.is_owned.is x.says.ran) left.2.0.folder left.2.1.there;
       }

@@ -31,7 +31,8 @@ use Rattle.lifecycle.proofs.Places.{none_stands}
 use Rattle.command_outcomes.specs.Meanwhile.{Meanwhile}
 use Rattle.commands.specs.ImageRm.{Removes}
 use Rattle.commands.proofs.PlacesKept.{same_folders}
-use Rattle.commands.proofs.RemovalQuiet.{in_process, held_before}
+use Rattle.commands.proofs.OwnSteps.{in_process}
+use Rattle.commands.proofs.RemovalQuiet.{held_before}
 
 -- no folder stands at the location
 abbrev pub NoneAt : Spot → List (Option Spot) → Type 0

@@ -14,15 +14,16 @@ use Rattle.dir_model.specs.declared.request.Reply.TheVariants.{Done, Opened}
 use Rattle.dir_model.specs.Locks.{is_handle}
 use Rattle.dir_model.specs.State.{Namespace, DirState, empty_state, spot_eq}
 use Rattle.dir_model.specs.Trace.{state_after, state_next, states_next, moved, removed, namespace_replied, namespace_done, namespace_opened, locked, opened, opened_gate}
-use Rattle.dir_model.specs.Calls.{is_begin, is_finish, is_foreign, is_kill, Extends, AtOwnStep}
+use Rattle.dir_model.specs.Calls.{is_foreign, is_kill, Extends, AtOwnStep}
 use Rattle.dir_model.specs.Quiet.{Quiet}
-use Rattle.dir_model.proofs.Lists.{or_last, same_rest, same_self, all_left, any_map, any_last_not}
+use Rattle.dir_model.proofs.Lists.{same_rest, same_self, all_left, any_map, any_last_not}
 use Rattle.dir_model.proofs.Chains.{states_next-append}
 use Rattle.folder_contents.proofs.Spots.{one_location}
 use Rattle.folder_contents.proofs.StaysWhole.{get_pushed}
 use Rattle.command_outcomes.specs.Ends.{StaysBeside}
 use Rattle.commands.proofs.StoreQuiet.{elsewhere, fewer, mine_only}
 use Rattle.commands.proofs.PlacesKept.{same_folders, IsPlace}
+use Rattle.commands.proofs.OwnSteps.{in_process}
 
 -- the location of the folder in which a request changes something
 abbrev pub changed_in : Request → Option Spot
@@ -38,16 +39,6 @@ pub record ChangesAt (touched : Spot → Bool) (asks : Request → Bool) : Type 
   pub moves : (from to : Spot) → asks (MoveFolder from to) ≡ true → touched from ≡ true
   pub removes : (spot : Spot) → asks (RemoveFolder spot) ≡ true → touched spot ≡ true
   pub fills : (request : Request) (spot : Spot) → changed_in request ≡ Some spot → asks request ≡ true → touched spot ≡ true
-
-abbrev pub in_process : (Request → Bool) → Request → Bool
-in_process asks request = is_begin request || (asks request || is_finish request)
-
-pub asks_in_process : (asks : Request → Bool) (r : Request) → asks r ≡ true → in_process asks r ≡ true
-asks_in_process asks r h = or_last (is_begin r) (asks r || is_finish r) (by (asks r) h)
-  where
-    by : (b : Bool) → b ≡ true → (b || is_finish r) ≡ true
-    by true k = refl
-    by false k = cc
 
 pub or_false : (b : Bool) → (b || false) ≡ true → b ≡ true
 or_false true h = refl

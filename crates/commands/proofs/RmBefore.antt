@@ -31,7 +31,7 @@ use Rattle.phase_read.specs.Sequential.{sequential_read, found_in}
 use Rattle.phase_read.specs.Exact.{AtOwnEvent}
 use Rattle.pod_claim.specs.Elsewhere.{IsOwnedElsewhere}
 use Rattle.pod_removal.specs.Requests.{removes}
-use Rattle.command_outcomes.specs.Meanwhile.{Meanwhile}
+use Rattle.commands.specs.Opening.{OnceFound}
 use Rattle.commands.specs.Rm.{FindsPodBusy, WasSo, WasOwned}
 use Rattle.commands.specs.RemovalQuiet.{HasPhaseNow, IsHeldNow}
 use Rattle.commands.proofs.OwnSteps.{in_process, event_process}
@@ -119,7 +119,7 @@ module _ (pod : PodId) (now : ℕ) {me : ℕ} {old new : List Event} (ext : Exte
   before_end : {ended : List Event} → (more : List Event) → new ≡ ended ++ more → IsConforming new → IsConforming ended
   before_end {ended} more grown conforming = conforming_left ended more (subst IsConforming grown conforming)
 
-  by_embryo : Meanwhile (WasSo pod kind.Embryo) me old new → IsConforming new → pod_phase its old ≡ Some kind.Embryo
+  by_embryo : OnceFound (WasSo pod kind.Embryo) me old new → IsConforming new → pod_phase its old ≡ Some kind.Embryo
   by_embryo m conforming =
       let w = m.so (before_end m.finishes.more m.finishes.grown conforming) in
       had_phase kind.Embryo (event_process m.begins m.finishes (event_weaker (λ h. (phase_of_state (pod_state its h) ≡ Some kind.Embryo) × (is_lasting me (pod_state its h) ≡ true)) (λ h x. (x.is, embryo_lasts me (pod_state its h) x.is)) w.was))
@@ -128,10 +128,10 @@ module _ (pod : PodId) (now : ℕ) {me : ℕ} {old new : List Event} (ext : Exte
   by_owner p other =
       had_phase p (event_weaker (λ h. (phase_of_state (pod_state its h) ≡ Some p) × (is_lasting me (pod_state its h) ≡ true)) (λ h x. (x.was.is, owned_lasts me x.owner (pod_state its h) x.is x.other)) other.1)
 
-  owner_process : (p : Phase) (m : Meanwhile (WasOwned pod p) me old new) → (a : Area) × AtOwnEvent me m.begun m.ended (IsOwnedElsewhere me pod p a) → (a : Area) × AtOwnEvent me old new (IsOwnedElsewhere me pod p a)
+  owner_process : (p : Phase) (m : OnceFound (WasOwned pod p) me old new) → (a : Area) × AtOwnEvent me m.begun m.ended (IsOwnedElsewhere me pod p a) → (a : Area) × AtOwnEvent me old new (IsOwnedElsewhere me pod p a)
   owner_process p m x = (x.0, event_process m.begins m.finishes x.1)
 
-  had : (p : Phase) → Meanwhile (WasSo pod p) me old new → Meanwhile (WasOwned pod p) me old new → IsConforming new → pod_phase its old ≡ Some p
+  had : (p : Phase) → OnceFound (WasSo pod p) me old new → OnceFound (WasOwned pod p) me old new → IsConforming new → pod_phase its old ≡ Some p
   had kind.Embryo m o conforming = by_embryo m conforming
   had kind.Preparing m o conforming = by_owner kind.Preparing (owner_process kind.Preparing o (o.so (before_end o.finishes.more o.finishes.grown conforming) refl))
   had kind.Running m o conforming = by_owner kind.Running (owner_process kind.Running o (o.so (before_end o.finishes.more o.finishes.grown conforming) refl))
@@ -142,11 +142,11 @@ module _ (pod : PodId) (now : ℕ) {me : ℕ} {old new : List Event} (ext : Exte
   had kind.ExitedGarbage m o conforming = let clash : true ≡ false = (m.so (before_end m.finishes.more m.finishes.grown conforming)).wrong in cc
   had kind.Garbage m o conforming = let clash : true ≡ false = (m.so (before_end m.finishes.more m.finishes.grown conforming)).wrong in cc
 
-  pub rm_wrong_before : (p : Phase) → Meanwhile (WasSo pod p) me old new → Meanwhile (WasOwned pod p) me old new → IsConforming new → HasPhaseNow pod p old
+  pub rm_wrong_before : (p : Phase) → OnceFound (WasSo pod p) me old new → OnceFound (WasOwned pod p) me old new → IsConforming new → HasPhaseNow pod p old
   rm_wrong_before p m o conforming =
       has_phase_now pod old (conforming_left old quiet.more (subst IsConforming quiet.grown conforming)) p (had p m o conforming)
 
-  pub rm_held_before : (which : Which) → Meanwhile (FindsPodBusy pod which) me old new → IsHeldNow (is_pod_spot pod) which me (state_after old)
+  pub rm_held_before : (which : Which) → OnceFound (FindsPodBusy pod which) me old new → IsHeldNow (is_pod_spot pod) which me (state_after old)
   rm_held_before which m =
       was_held (is_pod_spot pod) (λ a b same. of_same its a b same) (removes pod now) (removes_late pod now) (λ from to is here. rm_moves pod now from to is) me pod (λ a stage. ap (λ b. b && bytes_eq its its) stage ∙ same_bytes its) which old m.begun m.ended new
       (record { more = m.begins.more; grown = m.begins.grown }) (record { more = m.finishes.more; grown = m.finishes.grown }) ext quiet m.so.busy

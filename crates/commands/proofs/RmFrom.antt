@@ -38,7 +38,7 @@ use Rattle.lifecycle.proofs.Run.{good}
 use Rattle.phase_read.specs.Read.{pod_spot}
 use Rattle.pod_claim.proofs.Traces.{grown_none}
 use Rattle.pod_removal.specs.Requests.{is_removable, removes}
-use Rattle.command_outcomes.specs.Meanwhile.{Meanwhile}
+use Rattle.commands.specs.Opening.{OnceFound}
 use Rattle.commands.specs.Rm.{Removes}
 use Rattle.commands.specs.RemovalQuiet.{IsRemovableNow}
 use Rattle.commands.proofs.OwnSteps.{in_process, forward, history_fixed, same_folders}
@@ -98,7 +98,7 @@ owns_nothing u me h conforming idle own =
     let shut = all_in (λ (x : Opening). (x.process == me) ≡ true → is_exclusive x.lock ≡ false) o.0 (state_after h).namespace.openings idle o.1.0 (ap (λ (p : ℕ). p == me) o.1.1.1 ∙ same_self me) in
     let clash : true ≡ false = sym (and_right (is_own_of u o.0.target) (is_exclusive o.0.lock) o.1.1.0) ∙ shut in cc
 
-module _ (pod : PodId) (now : ℕ) {me : ℕ} {old new : List Event} (ext : Extends (in_process (removes pod now)) me old new) (quiet : Quiet me old new) (idle : OwnsNothing me (state_after old).namespace) (m : Meanwhile (Removes pod) me old new) (conforming : IsConforming new) where
+module _ (pod : PodId) (now : ℕ) {me : ℕ} {old new : List Event} (ext : Extends (in_process (removes pod now)) me old new) (quiet : Quiet me old new) (idle : OwnsNothing me (state_after old).namespace) (m : OnceFound (Removes pod) me old new) (conforming : IsConforming new) where
   abbrev u : List ℕ
   u = pod_text pod.bytes
 

@@ -13,13 +13,12 @@ use Rattle.dir_model.specs.declared.request.Request.TheVariants.{MakeFolder, Mov
 use Rattle.dir_model.specs.declared.request.Reply.{Reply}
 use Rattle.dir_model.specs.declared.request.Reply.TheVariants.{Done}
 use Rattle.dir_model.specs.Areas.{rank, is_stage}
-use Rattle.dir_model.specs.Calls.{event, is_begin, is_finish, is_kill, TookPlace, LeftNothing, Extends, AtOwnStep}
+use Rattle.dir_model.specs.Calls.{event, is_kill, TookPlace, LeftNothing, Extends, AtOwnStep}
 use Rattle.dir_model.specs.Pods.{pod_text}
 use Rattle.dir_model.specs.Quiet.{Quiet}
 use Rattle.dir_model.specs.Replies.{is_look_at}
 use Rattle.dir_model.specs.State.{Namespace, DirState, empty_state, folder_at, stands}
 use Rattle.dir_model.specs.Trace.{state_after, namespace_replied}
-use Rattle.dir_model.proofs.Chains.{extends_wider, extends_more}
 use Rattle.dir_model.proofs.Moments.{at_grown, at_weaker}
 use Rattle.dir_rules.proofs.Looks.{same_bytes}
 use Rattle.dir_rules.specs.Standing.{is_of}
@@ -41,11 +40,11 @@ use Rattle.pod_claim.proofs.Traces.{grown_none, grown_more, grown_call}
 use Rattle.pod_steps.specs.Causes.{Did}
 use Rattle.pod_removal.specs.Causes.{IsDeleted}
 use Rattle.pod_removal.specs.Removals.{FoundNone, FoundThenEnded}
-use Rattle.command_outcomes.specs.Meanwhile.{Meanwhile}
+use Rattle.commands.specs.Opening.{OnceFound}
 use Rattle.commands.specs.Rm.{Removes}
 use Rattle.commands.specs.RemovalQuiet.{StandsNowhere, IsGoneForGood}
 use Rattle.commands.specs.RemovalHistory.{ExistedBetween, IsRemovedBetween}
-use Rattle.commands.proofs.OwnSteps.{in_process, back_at, at_process, same_folders}
+use Rattle.commands.proofs.OwnSteps.{in_process, back_at, at_process, same_folders, whole_process}
 
 -- the pod is gone for good
 
@@ -196,14 +195,14 @@ module _ (pod : PodId) where
   existed : (me : ℕ) (old new : List Event) → Removes pod me old new → IsConforming new → ExistedBetween pod old new
   existed me old new r c = existed_by me old new r.did c
 
-  pub rm_existed : {me : ℕ} {old new : List Event} → Meanwhile (Removes pod) me old new → IsConforming new → ExistedBetween pod old new
+  pub rm_existed : {me : ℕ} {old new : List Event} → OnceFound (Removes pod) me old new → IsConforming new → ExistedBetween pod old new
   rm_existed {me} {old} {new} m conforming =
       let last : Grew m.ended new = record { more = m.finishes.more; grown = m.finishes.grown } in
       let first : Grew old m.begun = record { more = m.begins.more; grown = m.begins.grown } in
       let x = existed me m.begun m.ended m.so (conforming_before last conforming) in
       record { then = x.then; first = grown_more first x.first; last = grown_more x.last last; was = x.was }
 
-  pub was_there : {me : ℕ} {old new : List Event} (m : Meanwhile (Removes pod) me old new) → IsConforming new → pod_state u old ≡ state.Gone → ⊥
+  pub was_there : {me : ℕ} {old new : List Event} (m : OnceFound (Removes pod) me old new) → IsConforming new → pod_state u old ≡ state.Gone → ⊥
   was_there {me} {old} {new} m conforming gone =
       let x = rm_existed m conforming in
       let clash : true ≡ false = sym x.was ∙ ap exists (gone_after u old x.then x.first gone) in cc
@@ -218,7 +217,7 @@ module _ (pod : PodId) where
           let x = (stands_exists u h (pod_spot pod a) conforming its is).0 in
           let clash : true ≡ false = sym x ∙ ap exists gone in cc
 
-  pub rm_gone : {me : ℕ} {old new : List Event} → Meanwhile (Removes pod) me old new → IsConforming new → IsGoneForGood pod new
+  pub rm_gone : {me : ℕ} {old new : List Event} → OnceFound (Removes pod) me old new → IsConforming new → IsGoneForGood pod new
   rm_gone {me} {old} {new} m conforming =
       let last : Grew m.ended new = record { more = m.finishes.more; grown = m.finishes.grown } in
       let then = conforming_before last conforming in
@@ -226,7 +225,7 @@ module _ (pod : PodId) where
       record { is = gone; nowhere = gone_nowhere new conforming gone }
 
   -- it was there, and is gone
-  pub rm_removed : {me : ℕ} {old new : List Event} → Meanwhile (Removes pod) me old new → IsConforming new → IsRemovedBetween pod old new
+  pub rm_removed : {me : ℕ} {old new : List Event} → OnceFound (Removes pod) me old new → IsConforming new → IsRemovedBetween pod old new
   rm_removed m conforming = record { existed = rm_existed m conforming; gone = rm_gone m conforming }
 
 -- where it looked alone and found none, there was none before
@@ -236,28 +235,6 @@ looks_leave test p w (MakeFolder here) reply h = cc
 looks_leave test p w (MoveFolder from to) reply h = cc
 looks_leave test p w (RemoveFolder gone) reply h = cc
 looks_leave test p w request reply h = same_folders p w request reply refl (λ handle. refl)
-
-begin_first : (asks : Request → Bool) (r : Request) → is_begin r ≡ true → in_process asks r ≡ true
-begin_first asks r is = ap (λ b. b || (asks r || is_finish r)) is
-
-asks_second : (asks : Request → Bool) (r : Request) → asks r ≡ true → in_process asks r ≡ true
-asks_second asks r is = by (is_begin r) (ap (λ b. b || is_finish r) is)
-  where
-    by : (b : Bool) → (asks r || is_finish r) ≡ true → (b || (asks r || is_finish r)) ≡ true
-    by true h = refl
-    by false h = h
-
-finish_last : (asks : Request → Bool) (r : Request) → is_finish r ≡ true → in_process asks r ≡ true
-finish_last asks r is = by (is_begin r) (asks r)
-  where
-    by : (b c : Bool) → (b || (c || is_finish r)) ≡ true
-    by true c = refl
-    by false true = refl
-    by false false = is
-
-whole_process : {asks : Request → Bool} {me : ℕ} {old begun ended new : List Event} → Extends is_begin me old begun → Extends asks me begun ended → Extends is_finish me ended new → Extends (in_process asks) me old new
-whole_process {asks} {me} {old} {begun} {ended} {new} b x f =
-    extends_more (in_process asks) me old ended new (extends_more (in_process asks) me old begun ended (extends_wider (begin_first asks) b) (extends_wider (asks_second asks) x)) (extends_wider (finish_last asks) f)
 
 left_out_all : (pod : PodId) (me : ℕ) (old new : List Event) (areas : List Area) (between : List Event) → LeftOut me old between pod areas → Grew between new → AllByRecursion (λ a. AtOwnStep me old new (λ s. stands s.namespace (pod_spot pod a) ≡ false)) areas
 left_out_all pod me old new [] between l more = tt
@@ -277,7 +254,7 @@ each_stage P all area.Prepare is = all.1.1.1.1.0
 each_stage P all area.Embryo is = all.1.1.1.1.1.0
 each_stage P all a is = cc
 
-pub rm_none_before : (pod : PodId) {me : ℕ} {old new : List Event} → Quiet me old new → Meanwhile (FoundNone pod) me old new → StandsNowhere pod (state_after old)
+pub rm_none_before : (pod : PodId) {me : ℕ} {old new : List Event} → Quiet me old new → OnceFound (FoundNone pod) me old new → StandsNowhere pod (state_after old)
 rm_none_before pod {me} {old} {new} quiet m a stage =
     let asks = in_process (is_look_at (is_pod_spot pod)) in
     let ext : Extends asks me old new = whole_process m.begins m.so.only m.finishes in

@@ -13,7 +13,7 @@ use Rattle.dir_model.specs.declared.spot.Which.TheVariants.{Own, Claim}
 use Rattle.dir_model.specs.declared.request.Request.{Request}
 use Rattle.dir_model.specs.declared.request.Request.TheVariants.{MakeDirIn, AppendIn, MakeFileIn, RemoveFileIn, RemoveDirIn}
 use Rattle.dir_model.specs.Areas.{rank, is_stage, phase_in}
-use Rattle.dir_model.specs.Calls.{is_begin, is_finish, is_kill, Extends}
+use Rattle.dir_model.specs.Calls.{is_kill, Extends}
 use Rattle.dir_model.specs.Quiet.{Quiet, OwnsNothing, SameNamespace}
 use Rattle.dir_model.specs.Replies.{is_look, is_look_at, is_any_spot}
 use Rattle.dir_model.specs.State.{DirState, is_at, spot_eq, folder_at, stands, is_owned, is_owned_in, is_owned_at}
@@ -23,7 +23,7 @@ use Rattle.dir_model.proofs.Chains.{extends_wider}
 use Rattle.dir_model.proofs.Lists.{and_left, or_last}
 use Rattle.dir_model.proofs.Moments.{at_grown, some_number}
 use Rattle.dir_model.proofs.Spots.{look_wider}
-use Rattle.dir_model.proofs.Quiet.{begin_is_harmless, look_is_harmless, end_quiet}
+use Rattle.dir_model.proofs.Quiet.{look_is_harmless, end_quiet}
 use Rattle.lifecycle.specs.Executions.{IsConforming}
 use Rattle.phase_read.specs.declared.found.Found.{Found}
 use Rattle.phase_read.specs.declared.found.Found.TheVariants.{At, Gone}
@@ -38,6 +38,8 @@ use Rattle.pod_removal.specs.Found.{is_moved, HadClaim, PutAway, TakenAway, Miss
 use Rattle.pod_gc.specs.Requests.{lists_marks, moves_on}
 use Rattle.commands.specs.RemovalTable.{is_held_in}
 use Rattle.commands.proofs.OwnSteps.{in_process, forward}
+use Rattle.commands.specs.Opening.{opens}
+use Rattle.commands.proofs.Starts.{open_is_harmless}
 use Rattle.commands.proofs.LateTurns.{removes_late, in_garbage, or_false}
 use Rattle.commands.proofs.OneNumber.{one_number}
 use Rattle.commands.proofs.Lacking.{garbage_apart}
@@ -159,7 +161,7 @@ any_look : (pod : PodId) (r : Request) → is_look_at (is_pod_spot pod) r ≡ tr
 any_look pod r is = look_wider (is_pod_spot pod) is_any_spot (λ spot its. refl) r is
 
 module _ (pod : PodId) (now : ℕ) {me : ℕ} {old new : List Event} (ext : Extends (in_process (removes pod now)) me old new) (quiet : Quiet me old new) (idle : OwnsNothing me (state_after old).namespace) (conforming : IsConforming new)
-    (begun : List Event) (begins : Extends is_begin me old begun) where
+    (begun : List Event) (begins : Extends opens me old begun) where
   abbrev pub s : DirState
   s = state_after old
 
@@ -172,7 +174,7 @@ module _ (pod : PodId) (now : ℕ) {me : ℕ} {old new : List Event} (ext : Exte
   -- the read of the first round, of the state before
   module _ (P : Phase → ℕ → List Event → List Event → Type 0) (x : List Event) (f : FoundAnd pod P me begun x) (upto : Grew f.between new) where
     first_same : SameNamespace me s.namespace (state_after begun).namespace
-    first_same = end_quiet (extends_wider begin_is_harmless begins) (quiet_between quiet grown_none to_begun (grown_more (grown_by f.looks) upto)) idle
+    first_same = end_quiet (extends_wider open_is_harmless begins) (quiet_between quiet grown_none to_begun (grown_more (grown_by f.looks) upto)) idle
 
     quiet_read : Quiet me begun f.between
     quiet_read = quiet_between quiet to_begun (grown_by f.looks) upto

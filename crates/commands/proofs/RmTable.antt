@@ -12,7 +12,7 @@ use Rattle.dir_model.specs.declared.spot.Mode.TheVariants.{Shared, Exclusive}
 use Rattle.dir_model.specs.declared.spot.Which.{Which}
 use Rattle.dir_model.specs.declared.spot.Which.TheVariants.{Own, Claim}
 use Rattle.dir_model.specs.Areas.{is_stage, phase_in}
-use Rattle.dir_model.specs.Calls.{is_begin, Extends}
+use Rattle.dir_model.specs.Calls.{Extends}
 use Rattle.dir_model.specs.Locks.{is_folder, opposes}
 use Rattle.dir_model.specs.Quiet.{Quiet, OwnsNothing}
 use Rattle.dir_model.specs.State.{DirState, folder_at, stands, is_owned_at}
@@ -36,7 +36,7 @@ use Rattle.pod_removal.specs.Causes.{asked_mode}
 use Rattle.pod_removal.specs.Found.{HadClaim, TakenAway, RefusedAt, RefusedAside, WasRefused, FoundAnd}
 use Rattle.command_outcomes.specs.declared.refusal.Refusal.{Refusal}
 use Rattle.command_outcomes.specs.declared.refusal.Refusal.TheVariants.{NoPod, WrongPhase, NoManifest, PodBusy}
-use Rattle.command_outcomes.specs.Meanwhile.{Meanwhile}
+use Rattle.commands.specs.Opening.{OnceFound, opens}
 use Rattle.commands.specs.Rm.{Removes, FindsPodBusy, WasSo}
 use Rattle.commands.specs.RemovalQuiet.{StandsNowhere, HasPhaseNow}
 use Rattle.commands.specs.RemovalTable.{is_held_in, is_held_at, has_manifest, own_refusal, waiting_refusal, place_refusal, found_refusal, removal_refusal}
@@ -130,7 +130,7 @@ module _ (pod : PodId) (now : ℕ) {me : ℕ} {old new : List Event} (ext : Exte
   to_new : Grew old new
   to_new = record { more = quiet.more; grown = quiet.grown }
 
-  module _ (begun : List Event) (begins : Extends is_begin me old begun) (x : List Event) (from_x : Grew x new) where
+  module _ (begun : List Event) (begins : Extends opens me old begun) (x : List Event) (from_x : Grew x new) where
     -- a prepared pod was such
     waited : (p : Phase) → is_removable p ≡ true → (k : ℕ) → folder_at s.namespace (pod_spot pod (place_of p)) ≡ Some k → (a b : List Event) → Grew old a → Grew b new → HadClaim pod p me a b → place_of p ≡ area.Prepared → Waits me pod s k
     waited p may k at a b to_a from_b had here =
@@ -219,17 +219,17 @@ module _ (pod : PodId) (now : ℕ) {me : ℕ} {old new : List Event} (ext : Exte
   ending : {ended : List Event} (more : List Event) → new ≡ ended ++ more → Grew ended new
   ending more grown = record { more = more; grown = grown }
 
-  pub rm_unrefused : Meanwhile (Removes pod) me old new → removal_refusal me pod s ≡ None
+  pub rm_unrefused : OnceFound (Removes pod) me old new → removal_refusal me pod s ≡ None
   rm_unrefused m = elim m.so.first [
     | inl f ↦ taken m.begun m.begins m.ended (ending m.finishes.more m.finishes.grown) f
     | inr missed ↦ absurd (never_missed pod now ext quiet idle conforming m.begun m.begins m.ended (ending m.finishes.more m.finishes.grown) missed)
   ]
 
-  pub rm_busy_refused : (which : Which) → Meanwhile (FindsPodBusy pod which) me old new → removal_refusal me pod s ≡ Some (PodBusy pod which)
+  pub rm_busy_refused : (which : Which) → OnceFound (FindsPodBusy pod which) me old new → removal_refusal me pod s ≡ Some (PodBusy pod which)
   rm_busy_refused which m = elim m.so.first [
     | inl f ↦ refused m.begun m.begins m.ended (ending m.finishes.more m.finishes.grown) which f
     | inr missed ↦ absurd (never_missed pod now ext quiet idle conforming m.begun m.begins m.ended (ending m.finishes.more m.finishes.grown) missed)
   ]
 
-  pub rm_wrong : (p : Phase) → Meanwhile (WasSo pod p) me old new → is_removable p ≡ false
+  pub rm_wrong : (p : Phase) → OnceFound (WasSo pod p) me old new → is_removable p ≡ false
   rm_wrong p m = (m.so (conforming_left m.ended m.finishes.more (subst IsConforming m.finishes.grown conforming))).wrong

@@ -26,7 +26,7 @@ use Rattle.command_outcomes.specs.declared.refusal.Refusal.TheVariants.{NoMemory
 use Rattle.command_outcomes.specs.Conforming.{shown_at}
 use Rattle.command_outcomes.specs.Moments.{Answer, DirSeen}
 use Rattle.commands.specs.PrepareRefusals.{IsSaid}
-use Rattle.commands.specs.Prepare.{no_wishes, pod_line}
+use Rattle.commands.specs.Prepare.{pod_line}
 use Rattle.commands.proofs.Sayings.{busy_of}
 use Rattle.commands.proofs.Whole.{refused_whole}
 use Rattle.commands.proofs.OwnSteps.{at_process, held_before, in_process}
@@ -35,12 +35,13 @@ use Rattle.commands.specs.Run.{makes_and_runs, MakesAndRuns, IsUnmade}
 use Rattle.commands.specs.RunPrepared.{ClaimsAndRuns}
 use Rattle.commands.specs.AppRuns.{RunSays}
 use Rattle.commands.specs.RunQuiet.{IsRunRefusal, IsUnmadeFor}
+use Rattle.commands.specs.Wants.{Wants}
 
 pub same_refusal : (r q : Refusal) → ◌≡◌ {A = Answer} (Err r) (Err q) → r ≡ q
 same_refusal r q is = cc
 
 -- a pod that its process runs
-says_refusal : {seen observed : Bool} {owned : Owned} {d d' : DirAt} {s s' : SpawnerAt} (front : List ℕ) (pod : PodId) (r : Refusal) → owned.pod ≡ pod → RunSays seen observed owned front d d' s s' (Err r) → (r ≡ NoMemory) ⊎ IsRunRefusal pod r
+says_refusal : {seen observed : Bool} {owned : Owned} {address : List ℕ} {d d' : DirAt} {s s' : SpawnerAt} (front : List ℕ) (pod : PodId) (r : Refusal) → owned.pod ≡ pod → RunSays seen observed owned address front d d' s s' (Err r) → (r ≡ NoMemory) ⊎ IsRunRefusal pod r
 says_refusal {owned = owned} front pod r its (inl w) = said w.error w.is.0 (same_refusal r w.is.0 w.is.1) w.is.2
   where
     said : (error : RunError) (q : Refusal) → r ≡ q → IsRunSaid owned.pod error q → (r ≡ NoMemory) ⊎ IsRunRefusal pod r
@@ -48,26 +49,26 @@ says_refusal {owned = owned} front pod r its (inl w) = said w.error w.is.0 (same
     said error q is (inr told) = inl (is ∙ told)
 says_refusal front pod r its (inr w) = inl (same_refusal r NoMemory w.is)
 
-pub claimed_refusal : {seen observed : Bool} {pod : PodId} {d d' : DirAt} {s s' : SpawnerAt} (r : Refusal) → ClaimsAndRuns seen observed pod d d' s s' (Err r) → (r ≡ NoMemory) ⊎ IsRunRefusal pod r
+pub claimed_refusal : {seen observed : Bool} {pod : PodId} {address : List ℕ} {d d' : DirAt} {s s' : SpawnerAt} (r : Refusal) → ClaimsAndRuns seen observed pod address d d' s s' (Err r) → (r ≡ NoMemory) ⊎ IsRunRefusal pod r
 claimed_refusal {pod = pod} r x = says_refusal [] pod r x.is_owned.is x.says
 
-pub made_refusal : {seen observed : Bool} {words : List (List ℕ)} {now : ℕ} {draw : Draw} {d d' : DirAt} {s s' : SpawnerAt} (r : Refusal) → MakesAndRuns seen observed words now draw d d' s s' (Err r) → (r ≡ NoMemory) ⊎ IsRunRefusal draw.uuid r
+pub made_refusal : {seen observed : Bool} {wants : Wants} {address : List ℕ} {now : ℕ} {draw : Draw} {d d' : DirAt} {s s' : SpawnerAt} (r : Refusal) → MakesAndRuns seen observed wants address now draw d d' s s' (Err r) → (r ≡ NoMemory) ⊎ IsRunRefusal draw.uuid r
 made_refusal {draw = draw} r x = says_refusal (pod_line draw.uuid) draw.uuid r x.is_owned.is x.says
 
 -- and one that wasn't, for what is seen of the directory before and in the end
-module _ {seen : Bool} {words : List (List ℕ)} {now : ℕ} {draw : Draw} {d d' : DirAt} {s s' : SpawnerAt} (old new : DirSeen) (told : seen ≡ old.observed) (t : seen ≡ true) (mine : d.process ≡ old.process) (stays : d'.process ≡ d.process)
+module _ {seen : Bool} {wants : Wants} {now : ℕ} {draw : Draw} {d d' : DirAt} {s s' : SpawnerAt} (old new : DirSeen) (told : seen ≡ old.observed) (t : seen ≡ true) (mine : d.process ≡ old.process) (stays : d'.process ≡ d.process)
     (ext : Extends (in_process (makes_and_runs draw.uuid)) old.process old.trace new.trace) (quiet : Quiet old.process old.trace new.trace) (begins : Extends is_begin old.process old.trace d.trace) (ends : Extends is_finish old.process d'.trace new.trace)
     (intent : Intent) (began : Began Run draw now intent) (knows : Knows d (at_work intent [] nothing_made)) where
-  pub unmade_refusal : (r : Refusal) → IsUnmade seen words now draw d d' s s' (Err r) → (r ≡ NoMemory) ⊎ IsUnmadeFor words now draw old new r
+  pub unmade_refusal : (r : Refusal) → IsUnmade seen wants now draw d d' s s' (Err r) → (r ≡ NoMemory) ⊎ IsUnmadeFor wants now draw old new r
   unmade_refusal r x = by x.is.2
     where
       same : r ≡ x.is.0
       same = same_refusal r x.is.0 x.is.1
 
-      whole : IsRefused old.observed x.cause.0 no_wishes draw now x.error (shown_at old) (shown_at new)
+      whole : IsRefused old.observed x.cause.0 wants.wishes draw now x.error (shown_at old) (shown_at new)
       whole =
           refused_whole draw mine stays (λ o. begins) (λ o. subst (λ (p : ℕ). Extends is_finish p d'.trace new.trace) (sym (stays ∙ mine)) ends)
-          (subst (λ (o : Bool). IsRefused o x.cause.0 no_wishes draw now x.error d d') told x.cause.2)
+          (subst (λ (o : Bool). IsRefused o x.cause.0 wants.wishes draw now x.error d d') told x.cause.2)
 
       held : (area : Area) → x.error ≡ build.Busy area → IsBusyElsewhere old.process area Shared (state_after old.trace)
       held area busy =
@@ -77,11 +78,11 @@ module _ {seen : Bool} {words : List (List ℕ)} {now : ℕ} {draw : Draw} {d d'
       left : HasOwnFolder draw.uuid intent [] d'
       left = x.left t intent [] began refl knows
 
-      by : IsSaid words x.error x.is.0 → (r ≡ NoMemory) ⊎ IsUnmadeFor words now draw old new r
+      by : IsSaid wants.images x.error x.is.0 → (r ≡ NoMemory) ⊎ IsUnmadeFor wants now draw old new r
       by (inr is) = inl (same ∙ is)
       by (inl is) = inr (record {
         why = record { error = x.error; is = same ∙ is; cause = (x.cause.0, x.cause.1, whole) };
-        held = λ area busy. held area (busy_of words x.error area (sym (same ∙ is) ∙ busy));
+        held = λ area busy. held area (busy_of wants.images x.error area (sym (same ∙ is) ∙ busy));
         left = inr (record {
           begun = d.trace;
           ended = d'.trace;

@@ -35,10 +35,11 @@ use Rattle.pod_build.specs.Causes.{IsRefused}
 use Rattle.command_outcomes.specs.declared.refusal.Refusal.{Refusal}
 use Rattle.command_outcomes.specs.declared.refusal.Refusal.TheVariants.{Busy, BadManifest, NoDependency, Cycle, Limit, DirFault, NoMemory, Taken}
 use Rattle.command_outcomes.specs.Moments.{DirSeen}
-use Rattle.commands.specs.Prepare.{no_wishes, RefusesPod}
+use Rattle.commands.specs.Prepare.{RefusesPod}
 use Rattle.commands.specs.References.{AreReferences}
 use Rattle.commands.specs.PrepareRefusals.{prepare_refusal, dependency_refusal, manifest_refusal, root_refusal, listing_refusal, build_refusal, IsSaid}
 use Rattle.commands.proofs.Words.{place_within}
+use Rattle.commands.specs.Wants.{Wants}
 
 -- what is said of a choice of images
 abbrev pub is_of_choice : Refusal → Bool
@@ -223,13 +224,13 @@ taken_of words (build.RenderError e) pod is = choice_apart (root_refusal e) (Tak
 taken_of words (build.ListingError e) pod is = choice_apart (listing_refusal e) (Taken pod) (listing_chosen e) refl (sym is)
 taken_of words e pod is = cc
 
-pub taken_own : {words : List (List ℕ)} {now : ℕ} {draw : Draw} {pod : PodId} {old new : DirSeen} → RefusesPod words now draw old new (Taken pod) → pod ≡ draw.uuid
-taken_own {words} {now} {draw} {pod} x = by x.cause.2
+pub taken_own : {wants : Wants} {now : ℕ} {draw : Draw} {pod : PodId} {old new : DirSeen} → RefusesPod wants now draw old new (Taken pod) → pod ≡ draw.uuid
+taken_own {wants} {now} {draw} {pod} x = by x.cause.2
   where
     is : x.error ≡ build.Taken pod
-    is = taken_of words x.error pod x.is
+    is = taken_of wants.images x.error pod x.is
 
-    by : {observed : Bool} {a b : DirAt} → IsRefused observed x.cause.0 no_wishes draw now x.error a b → pod ≡ draw.uuid
+    by : {observed : Bool} {a b : DirAt} → IsRefused observed x.cause.0 wants.wishes draw now x.error a b → pod ≡ draw.uuid
     by (inl y) = gate_pod y.0 pod (sym is ∙ y.1)
     by (inr (inl y)) = plan_pod y.3.0 pod (sym is ∙ y.3.1)
     by (inr (inr y)) = make_pod y.0 draw.uuid y.2.3.0 pod (subst (λ (error : BuildError). IsMakeRefusal y.0 draw.uuid y.2.3.0 error) is y.2.3.1)

@@ -16,7 +16,6 @@ use Rattle.dir_model.specs.Locks.{is_handle, is_exclusive, owns}
 use Rattle.dir_model.specs.State.{Namespace, DirState, empty_state}
 use Rattle.dir_model.specs.Trace.{state_after, state_next, states_next, namespace_replied, namespace_done, namespace_opened, locked, opened_gate}
 use Rattle.dir_model.specs.Calls.{event, is_foreign, is_begin, is_finish, is_kill, Extends, AtOwnStep}
-use Rattle.dir_model.specs.Replies.{is_look}
 use Rattle.dir_model.specs.Quiet.{Quiet, OwnsNothing, SameNamespace}
 use Rattle.dir_model.proofs.Lists.{and_left, or_map, or_last, same_self, any_last_not, any_map, all_left, all_push, same_rest}
 use Rattle.dir_model.proofs.Quiet.{is_harmless, harmless_all, begin_is_harmless, finish_is_harmless}

@@ -34,7 +34,8 @@ use Rattle.image_removal.specs.Sweeps.{WasLocked}
 use Rattle.command_outcomes.specs.Meanwhile.{Meanwhile}
 use Rattle.commands.specs.ImageGc.{Sweeps}
 use Rattle.commands.proofs.PlacesKept.{same_folders}
-use Rattle.commands.proofs.RemovalQuiet.{in_process, held_before}
+use Rattle.commands.proofs.OwnSteps.{in_process}
+use Rattle.commands.proofs.RemovalQuiet.{held_before}
 use Rattle.commands.proofs.RemovalEnds.{NoneAt, absent_at, after_move, after_removal, removal_keeps, or_false, Upto, upto_more, upto_call, kept_between, Leaves, folders_same}
 
 -- the folder of this name in the area

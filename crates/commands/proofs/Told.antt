@@ -15,7 +15,7 @@ use Rattle.command_outcomes.specs.declared.told.Told.{Told}
 use Rattle.command_outcomes.specs.Moments.{Answer}
 use Rattle.commands.specs.AppEnds.{told_of}
 use Rattle.commands.specs.RunRefusals.{run_refusal, IsRunSaid, apps_refusal}
-use Rattle.commands.specs.AppRuns.{metadata, RunSays}
+use Rattle.commands.specs.AppRuns.{RunSays}
 
 -- of what a refusal was said
 run_fault : (pod : PodId) (e : RunError) → run_refusal pod e ≡ DirFault → e ≡ run.DirFault
@@ -64,18 +64,18 @@ pub telling_no_spawn : (t : Told) (a : Answer) {X : Type 0} → IsTelling t a �
 telling_no_spawn t a (inl is) e = let f : IsErrOf (telling t) SpawnFault = subst (λ (x : Answer). IsErrOf x SpawnFault) is e in cc
 telling_no_spawn t a (inr is) e = let f : IsErrOf (refusing NoMemory) SpawnFault = subst (λ (x : Answer). IsErrOf x SpawnFault) is e in cc
 
-module _ (seen observed : Bool) (owned : Owned) (d d' : DirAt) (s s' : SpawnerAt) where
+module _ (seen observed : Bool) (owned : Owned) (address : List ℕ) (d d' : DirAt) (s s' : SpawnerAt) where
   -- the faults
-  pub run_cause : (e : RunError) (r : Refusal) → IsRunSaid owned.pod e r → r ≡ DirFault → IsRefusedRun seen observed owned.pod metadata e d d' s s' → Rose d.faults d'.faults
+  pub run_cause : (e : RunError) (r : Refusal) → IsRunSaid owned.pod e r → r ≡ DirFault → IsRefusedRun seen observed owned.pod address e d d' s s' → Rose d.faults d'.faults
   run_cause e r said is x = subst (λ (e : RunError). RefusedFor seen owned.pod e d d' s s') (said_fault owned.pod e r said is) x.cause
 
-  pub spawn_cause : (e : RunError) (r : Refusal) → IsRunSaid owned.pod e r → r ≡ SpawnFault → IsRefusedRun seen observed owned.pod metadata e d d' s s' → Rose s.faults s'.faults
+  pub spawn_cause : (e : RunError) (r : Refusal) → IsRunSaid owned.pod e r → r ≡ SpawnFault → IsRefusedRun seen observed owned.pod address e d d' s s' → Rose s.faults s'.faults
   spawn_cause e r said is x = subst (λ (e : RunError). RefusedFor seen owned.pod e d d' s s') (said_spawn owned.pod e r said is) x.cause
 
   -- what was told
-  pub ran_says : (front : List ℕ) (ends : List AppEnd) (a : Answer) → IsTelling (told_of front ends) a → HasRun seen observed owned.pod owned.own metadata ends d d' s s' → RunSays seen observed owned front d d' s s' a
-  ran_says front ends a (inl is) ran = subst (λ (x : Answer). RunSays seen observed owned front d d' s s' x) (sym is) (record { ends = ends; is = refl; ran = ran })
-  ran_says front ends a (inr is) ran = subst (λ (x : Answer). RunSays seen observed owned front d d' s s' x) (sym is) (inr (record { is = refl; ends = ends; ran = ran }))
+  pub ran_says : (front : List ℕ) (ends : List AppEnd) (a : Answer) → IsTelling (told_of front ends) a → HasRun seen observed owned.pod owned.own address ends d d' s s' → RunSays seen observed owned address front d d' s s' a
+  ran_says front ends a (inl is) ran = subst (λ (x : Answer). RunSays seen observed owned address front d d' s s' x) (sym is) (record { ends = ends; is = refl; ran = ran })
+  ran_says front ends a (inr is) ran = subst (λ (x : Answer). RunSays seen observed owned address front d d' s s' x) (sym is) (inr (record { is = refl; ends = ends; ran = ran }))
 
-  pub stopped_says : (front : List ℕ) (e : RunError) (r : Refusal) → IsRunSaid owned.pod e r → IsRefusedRun seen observed owned.pod metadata e d d' s s' → RunSays seen observed owned front d d' s s' (refusing r)
+  pub stopped_says : (front : List ℕ) (e : RunError) (r : Refusal) → IsRunSaid owned.pod e r → IsRefusedRun seen observed owned.pod address e d d' s s' → RunSays seen observed owned address front d d' s s' (refusing r)
   stopped_says front e r said x = inl (record { error = e; is = (r, refl, said); refused = x })

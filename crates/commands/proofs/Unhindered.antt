@@ -2,7 +2,7 @@
 use Rattle.std.proofs.Common.{◌≡◌, inl, inr, ℕ, true, false, Ok, Err, IfErr, List, [], ◌∷◌, ◌++◌, sym, ap, subst, ◌∙◌, append_assoc, append-nil}
 use Rattle.dir_model.specs.declared.event.Event.{Event}
 use Rattle.dir_model.specs.declared.pod.PodId.{PodId}
-use Rattle.dir_model.specs.Calls.{is_begin, is_finish, Extends}
+use Rattle.dir_model.specs.Calls.{is_finish, Extends}
 use Rattle.dir_model.proofs.Moments.{at_within}
 use Rattle.lifecycle.specs.Executions.{IsConforming}
 use Rattle.lifecycle.proofs.Draws.{conforming_left}
@@ -12,6 +12,7 @@ use Rattle.pod_removal.proofs.Onward.{never_missed}
 use Rattle.command_outcomes.specs.declared.refusal.Refusal.{Refusal}
 use Rattle.command_outcomes.specs.declared.refusal.Refusal.TheVariants.{NoPod, WrongPhase, NoManifest, PodBusy, DirFault, Stray, NoMemory}
 use Rattle.command_outcomes.specs.Moments.{DirSeen, Outcome}
+use Rattle.commands.specs.Opening.{opens}
 use Rattle.commands.specs.Rm.{rm_refusal, RmSays, WhereRemoving, FailsAlone, FailsFor}
 
 -- by what it says
@@ -37,7 +38,7 @@ unhindered_part {pod} {me} {old} {begun} {ended} {new} more rest first last free
     record { exists = x.exists; manifest = x.manifest; unheld = λ folder which its. x.unheld folder which (its.0, at_within more [] first (sym (append-nil (before ++ step ∷ []))) its.1) }
 
 -- of a part of a whole process
-pub fails_alone : (pod : PodId) (r : Refusal) (old begun ended new : DirSeen) → Extends is_begin begun.process old.trace begun.trace → Extends is_finish begun.process ended.trace new.trace → begun.process ≡ old.process → FailsAlone pod begun ended r →
+pub fails_alone : (pod : PodId) (r : Refusal) (old begun ended new : DirSeen) → Extends opens begun.process old.trace begun.trace → Extends is_finish begun.process ended.trace new.trace → begun.process ≡ old.process → FailsAlone pod begun ended r →
     IsConforming new.trace → IsUnhinderedThroughout pod old.process old.trace new.trace → FailsFor r begun.process begun.trace ended.trace
 fails_alone pod r old begun ended new b f same alone conforming free =
     alone (conforming_left ended.trace f.more (subst IsConforming f.grown conforming))

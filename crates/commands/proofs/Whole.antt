@@ -20,7 +20,8 @@ use Rattle.pod_build.specs.Preparations.{IsPrepared}
 use Rattle.command_outcomes.specs.declared.refusal.Refusal.{Refusal}
 use Rattle.command_outcomes.specs.Moments.{DirSeen}
 use Rattle.command_outcomes.specs.Conforming.{shown_at}
-use Rattle.commands.specs.Prepare.{no_wishes, IsFaithful, RefusesPod}
+use Rattle.commands.specs.Prepare.{IsFaithful, RefusesPod}
+use Rattle.commands.specs.Wants.{Wants}
 
 part_whole : {s e a b c d : DirAt} {early late : Request → Bool} → b.process ≡ a.process → ExtendsBy early a b → ExtendsBy late c d → IsPartOf s e b c → IsPartOf s e a d
 part_whole {s} {e} {a} {b} {c} {d} same x y p = record {
@@ -38,13 +39,13 @@ refused_whole draw me same ab cd (inr (inl x)) = inr (inl (x.0, x.1, λ t. part_
 refused_whole draw me same ab cd (inr (inr x)) = inr (inr (x.0, (x.1.0, x.1.1, λ t. part_whole me (ab t) (cd t) (x.1.2 t), x.1.3), (x.2.0, x.2.1, λ t. part_whole me (ab t) (cd t) (x.2.2 t), x.2.3)))
 
 -- why the pod wasn't prepared
-pub refuses_whole : {words : List (List ℕ)} {now : ℕ} {draw : Draw} {r : Refusal} {a b c d : DirSeen} (asks : Request → Bool) → b.observed ≡ a.observed → b.process ≡ a.process → c.process ≡ b.process
+pub refuses_whole : {wants : Wants} {now : ℕ} {draw : Draw} {r : Refusal} {a b c d : DirSeen} (asks : Request → Bool) → b.observed ≡ a.observed → b.process ≡ a.process → c.process ≡ b.process
     → (a.observed ≡ true → Extends asks a.process a.trace b.trace) → (a.observed ≡ true → Extends asks c.process c.trace d.trace)
-    → RefusesPod words now draw b c r → RefusesPod words now draw a d r
-refuses_whole {words} {now} {draw} {r} {a} {b} {c} {d} asks told ab same begins ends x = record {
+    → RefusesPod wants now draw b c r → RefusesPod wants now draw a d r
+refuses_whole {wants} {now} {draw} {r} {a} {b} {c} {d} asks told ab same begins ends x = record {
   error = x.error;
   is = x.is;
-  cause = (x.cause.0, x.cause.1, refused_whole draw ab same begins ends (subst (λ (o : Bool). IsRefused o x.cause.0 no_wishes draw now x.error (shown_at b) (shown_at c)) told x.cause.2));
+  cause = (x.cause.0, x.cause.1, refused_whole draw ab same begins ends (subst (λ (o : Bool). IsRefused o x.cause.0 wants.wishes draw now x.error (shown_at b) (shown_at c)) told x.cause.2));
 }
 
 -- that the pod was prepared
@@ -66,6 +67,6 @@ prepared_wider {refs} {options} {me} {draw} {to} {a} {b} {c} {d} earlier rest be
   holds = x.holds;
 }
 
-pub faithful_wider : (words : List (List ℕ)) (draw : PodId) (a b c d : DirSeen) (earlier rest : List Event) → b.process ≡ a.process → b.trace ≡ a.trace ++ earlier → d.trace ≡ c.trace ++ rest → IsFaithful words draw b c → IsFaithful words draw a d
-faithful_wider words draw a b c d earlier rest same begins ends x =
-    (x.0, x.1, prepared_wider earlier rest begins ends (subst (λ (me : ℕ). IsPrepared x.0 no_wishes me draw Prepared b.trace c.trace) same x.2))
+pub faithful_wider : (wants : Wants) (draw : PodId) (a b c d : DirSeen) (earlier rest : List Event) → b.process ≡ a.process → b.trace ≡ a.trace ++ earlier → d.trace ≡ c.trace ++ rest → IsFaithful wants draw b c → IsFaithful wants draw a d
+faithful_wider wants draw a b c d earlier rest same begins ends x =
+    (x.0, x.1, prepared_wider earlier rest begins ends (subst (λ (me : ℕ). IsPrepared x.0 wants.wishes me draw Prepared b.trace c.trace) same x.2))

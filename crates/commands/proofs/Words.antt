@@ -1,19 +1,18 @@
 -- The references that words are.
-use Rattle.std.proofs.Common.{◌≡◌, ◌∙◌, ◌<◌, ℕ, suc, true, List, ◌∷◌, ◌++◌, [], map, length, take, drop, get_or, set, Ok, Err, is_ok, string_bytes, String, refl, sym, ap, subst, arith}
-use Rattle.std.specs.Global.{Global}
-use Rattle.std.specs.List.{list_all}
-use Rattle.std.proofs.lemmas.List.{set_split, set-get_or}
-use Rattle.std.proofs.lemmas.List.Folds.{list_all-map}
+use Rattle.std.proofs.Common.{arith, ◌≡◌, ◌∙◌, ◌<◌, ◌+◌, ℕ, List, ◌∷◌, ◌++◌, [], length, take, Some, Ok, sym, ap, subst}
+use Rattle.std.specs.List.{slice_get}
+use Rattle.std.proofs.lemmas.List.{take_more}
+use Rattle.std.proofs.lemmas.Option.{get_or_from_slice_get, slice_get_within}
 use Rattle.ac_types.specs.declared.image_ref.ImageRef.{ImageRef}
-use Rattle.pod_choice.specs.Choices.{IsUnmatched}
-use Rattle.dep_match.specs.declared.stored.Stored.{Stored}
-use Rattle.pod_choice.proofs.Mapped.{mapped_length}
 use Rattle.ac_types.specs.References.{reference}
-use Rattle.commands.specs.References.{is_reference, are_references, AreReferences, IsFirstBad}
+use Rattle.dep_match.specs.declared.stored.Stored.{Stored}
+use Rattle.pod_choice.specs.Choices.{IsUnmatched}
+use Rattle.pod_choice.proofs.Mapped.{mapped_length}
+use Rattle.commands.specs.References.{AreReferences}
 
--- the words of the program, and their bytes
-pub all_words : (words : List (String Global)) → list_all (λ (w : String Global). is_reference (string_bytes w)) words ≡ are_references (map string_bytes words)
-all_words words = sym (list_all-map is_reference string_bytes words)
+-- one word more
+pub take_one : (xs : List (List ℕ)) (i : ℕ) (x : List ℕ) → slice_get xs i ≡ Some x → take (i + 1) xs ≡ take i xs ++ x ∷ []
+take_one xs i x is = take_more xs i x (slice_get_within xs i x is) ∙ ap (λ (y : List ℕ). take i xs ++ y ∷ []) (get_or_from_slice_get xs i x x is)
 
 -- a place among the references is one among the words
 before_end : (before after : List ImageRef) (wanted : ImageRef) → length before < length (before ++ wanted ∷ after)
@@ -24,22 +23,3 @@ pub place_within : {images : List Stored} (words : List (List ℕ)) (refs : List
 place_within {images} words refs {place} are x =
     subst (λ (n : ℕ). place < n) (mapped_length reference Ok words refs are)
     (subst (λ (l : List ImageRef). place < length l) (sym x.is) (subst (λ (n : ℕ). n < length (x.before ++ x.wanted ∷ x.after)) (sym x.at) (before_end x.before x.after x.wanted)))
-
--- the word before which all are references is the first that is none
-all_good : (words : List (List ℕ)) (refs : List ImageRef) → AreReferences words refs → are_references words ≡ true
-all_good [] refs are = refl
-all_good (w ∷ ws) [] are = cc
-all_good (w ∷ ws) (r ∷ refs) are =
-    let first : reference w ≡ Ok r = cc in
-    let rest : AreReferences ws refs = cc in
-    rw (ap is_ok first) (all_good ws refs rest)
-
-pub first_bad : (words : List (List ℕ)) (refs : List ImageRef) (i place : ℕ) (word : List ℕ) → i < length words → word ≡ get_or words i word → AreReferences (take i words) refs → reference word ≡ Err place → IsFirstBad words place
-first_bad words refs i place word within is are bad = record {
-  before = take i words;
-  word = word;
-  after = drop (suc i) words;
-  are = sym (sym (set_split words i word within) ∙ (ap (set words i) is ∙ set-get_or words i word));
-  good = all_good (take i words) refs are;
-  bad = bad;
-}

@@ -1,5 +1,5 @@
 -- The run of a pod that a process owns, and what is told of it.
-use Rattle.std.specs.Prelude.{◌≡◌, ◌⊎◌, ℕ, Bool, List, codes, Ok, Err}
+use Rattle.std.specs.Prelude.{◌≡◌, ◌⊎◌, ℕ, Bool, List, Ok, Err}
 use Rattle.dir_trait.specs.DirCalls.{DirAt}
 use Rattle.spawner.specs.Calls.{SpawnerAt}
 use Rattle.pod_ownership.specs.declared.owned.Owned.{Owned}
@@ -13,31 +13,27 @@ use Rattle.command_outcomes.specs.Moments.{Answer, Inside, dir_seen}
 use Rattle.commands.specs.AppEnds.{told_of}
 use Rattle.commands.specs.RunRefusals.{IsRunSaid}
 
--- where the metadata service listens by default
-abbrev pub metadata : List ℕ
-metadata = codes "127.0.0.1:18112"
-
--- the pod was run to its end, and this is told after the text
-pub record IsRun (seen observed : Bool) (owned : Owned) (front : List ℕ) (d d' : DirAt) (s s' : SpawnerAt) (told : Told) : Type 0 where
+-- the pod was run to its end, with this address of the metadata service, and this is told after the text
+pub record IsRun (seen observed : Bool) (owned : Owned) (address front : List ℕ) (d d' : DirAt) (s s' : SpawnerAt) (told : Told) : Type 0 where
   pub ends : List AppEnd
   pub is : told ≡ told_of front ends
-  pub ran : HasRun seen observed owned.pod owned.own metadata ends d d' s s'
+  pub ran : HasRun seen observed owned.pod owned.own address ends d d' s s'
 
 -- it was run to its end, and no memory was left to tell it
-pub record IsUntold (seen observed : Bool) (owned : Owned) (d d' : DirAt) (s s' : SpawnerAt) (answer : Answer) : Type 0 where
+pub record IsUntold (seen observed : Bool) (owned : Owned) (address : List ℕ) (d d' : DirAt) (s s' : SpawnerAt) (answer : Answer) : Type 0 where
   pub is : answer ≡ Err NoMemory
   pub ends : List AppEnd
-  pub ran : HasRun seen observed owned.pod owned.own metadata ends d d' s s'
+  pub ran : HasRun seen observed owned.pod owned.own address ends d d' s s'
 
 -- it wasn't run to its end, for this cause
-pub record IsStopped (seen observed : Bool) (owned : Owned) (d d' : DirAt) (s s' : SpawnerAt) (answer : Answer) : Type 0 where
+pub record IsStopped (seen observed : Bool) (owned : Owned) (address : List ℕ) (d d' : DirAt) (s s' : SpawnerAt) (answer : Answer) : Type 0 where
   pub error : RunError
   pub is : (refusal : Refusal) × (answer ≡ Err refusal) × IsRunSaid owned.pod error refusal
-  pub refused : IsRefusedRun seen observed owned.pod metadata error d d' s s'
+  pub refused : IsRefusedRun seen observed owned.pod address error d d' s s'
 
-abbrev pub RunSays : Bool → Bool → Owned → List ℕ → DirAt → DirAt → SpawnerAt → SpawnerAt → Answer → Type 0
-RunSays seen observed owned front d d' s s' (Ok told) = IsRun seen observed owned front d d' s s' told
-RunSays seen observed owned front d d' s s' (Err refusal) = IsStopped seen observed owned d d' s s' (Err refusal) ⊎ IsUntold seen observed owned d d' s s' (Err refusal)
+abbrev pub RunSays : Bool → Bool → Owned → List ℕ → List ℕ → DirAt → DirAt → SpawnerAt → SpawnerAt → Answer → Type 0
+RunSays seen observed owned address front d d' s s' (Ok told) = IsRun seen observed owned address front d d' s s' told
+RunSays seen observed owned address front d d' s s' (Err refusal) = IsStopped seen observed owned address d d' s s' (Err refusal) ⊎ IsUntold seen observed owned address d d' s s' (Err refusal)
 
 -- between two moments, whatever the counts of calls
 pub record Between (P : DirAt → DirAt → SpawnerAt → SpawnerAt → Type 0) (old new : Inside) : Type 0 where

@@ -2,7 +2,7 @@
 use Rattle.std.specs.Prelude.{◌≡◌, ◌⊎◌, ℕ, Bool, true, false, ◌++◌, Ok, Err}
 use Rattle.dir_model.specs.declared.intent.Intent.{Intent}
 use Rattle.dir_model.specs.declared.request.Request.{Request}
-use Rattle.dir_model.specs.declared.request.Request.TheVariants.{Begin, Finish}
+use Rattle.dir_model.specs.declared.request.Request.TheVariants.{Finish}
 use Rattle.dir_model.specs.declared.request.Reply.TheVariants.{Done}
 use Rattle.dir_trait.specs.Calls.{Extends, CallStep}
 use Rattle.dir_trait.specs.Knowledge.{Knows}
@@ -14,17 +14,18 @@ use Rattle.command_outcomes.specs.Moments.{DirSeen, SpawnerSeen, Inside, Moment,
 use Rattle.command_outcomes.specs.Conforming.{shown_at}
 use Rattle.command_outcomes.specs.Conforming.{begun as just_begun}
 use Rattle.commands.specs.Answers.{Complained, inside_in}
+use Rattle.commands.specs.Opening.{Approach, Opens}
 
 abbrev pub inside : DirSeen → SpawnerSeen → Inside
 inside dir spawner = record { dir = dir; spawner = spawner }
 
--- the process began, between its calls this was so, and it finished
-pub record WithinProcess (asks : Request → Bool) (P : Inside → Inside → Type 0) (intent : Intent) (old new : Inside) : Type 0 where
+-- the process began and came to its pod, then this was so, and it finished
+pub record WithinProcess (approach : Approach) (asks : Request → Bool) (P : Inside → Inside → Type 0) (intent : Intent) (old new : Inside) : Type 0 where
   pub begun : DirSeen
   pub ended : DirSeen
   pub told : begun.observed ≡ old.dir.observed
   pub me : begun.process ≡ old.dir.process
-  pub begins : old.dir.observed ≡ true → CallStep old.dir.process old.dir.trace (Begin intent) Done begun.trace
+  pub begins : old.dir.observed ≡ true → Opens approach intent old.dir.process old.dir.trace begun.trace
   pub came : P (inside begun old.spawner) (inside ended new.spawner)
   pub knows : old.dir.observed ≡ true → Knows (shown_at begun) (just_begun intent)
   pub same : ended.process ≡ begun.process
@@ -32,8 +33,8 @@ pub record WithinProcess (asks : Request → Bool) (P : Inside → Inside → Ty
   pub finishes : old.dir.observed ≡ true → CallStep ended.process ended.trace Finish Done new.dir.trace
 
 -- or it couldn't begin
-abbrev pub CameSo : (Request → Bool) → (Inside → Inside → Answer → Type 0) → Intent → Inside → Inside → Answer → Type 0
-CameSo asks came intent old new answer = WithinProcess asks (λ a b. came a b answer) intent old new ⊎ ((answer ≡ Err NoMemory) × (new.spawner ≡ old.spawner))
+abbrev pub CameSo : Approach → (Request → Bool) → (Inside → Inside → Answer → Type 0) → Intent → Inside → Inside → Answer → Type 0
+CameSo approach asks came intent old new answer = WithinProcess approach asks (λ a b. came a b answer) intent old new ⊎ ((answer ≡ Err NoMemory) × (new.spawner ≡ old.spawner))
 
 -- 0 where all apps ended with 0, and else 16
 abbrev pub well_status : Bool → ℕ

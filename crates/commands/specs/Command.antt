@@ -8,6 +8,7 @@ use Rattle.dir_trait.specs.State.{DirState}
 use Rattle.lifecycle.specs.Executions.{IsConforming}
 use Rattle.command_outcomes.specs.declared.refusal.Refusal.{Refusal}
 use Rattle.command_outcomes.specs.Moments.{BundleSeen, Outside, Inside, Moment, Outcome, Answer}
+use Rattle.commands.specs.Opening.{Approach}
 
 -- what is told of a command alone, or of one that starts apps
 pub data Saying : Type 1 where
@@ -23,7 +24,9 @@ pub data Reading : Type 1 where
 pub record Command : Type 1 where
   -- what its process says when it begins. None: it works on no directory
   pub begins : Option (ℕ → Draw → Intent)
-  -- what it asks of the directory between its begin and its finish
+  -- how it comes to its pod
+  pub approach : Approach
+  -- what it asks of the directory then, before its finish
   pub asks : ℕ → Draw → Request → Bool
   -- what it reads of the bundle
   pub reads : Reading

@@ -11,26 +11,16 @@ use Rattle.command_outcomes.specs.declared.refusal.Refusal.{Refusal}
 use Rattle.command_outcomes.specs.declared.refusal.Refusal.TheVariants.{Stray}
 use Rattle.command_outcomes.specs.Moments.{DirSeen, Moment}
 use Rattle.commands.specs.Answers.{WritesOf}
+use Rattle.commands.specs.Opening.{directly}
 use Rattle.commands.specs.Command.{Command, nothing, alone, WhereObserved, WhereAllKeepRules}
 use Rattle.commands.specs.Gc.{times_of, gc_refusal, lines_text, GcSays, HasMadePasses, HasMetStrayInPods, HasSweptInPart, HasSweptPods}
 use Rattle.commands.specs.RemovalHistory.{SweepsForGood}
 use Rattle.commands.specs.RemovalQuiet.{SweepsPodsQuietly, is_pods_place}
 use Rattle.commands.specs.NextState.{LeavesBeside}
 
--- how long an exited pod rests since it was marked, and a prepared one since it was made, in seconds: half an hour, and a day
-abbrev pub grace_time : ℕ
-grace_time = 1800
-
-abbrev pub expire_time : ℕ
-expire_time = 86400
-
--- the times of a sweep at this moment
-abbrev pub its_times : ℕ → Times
-its_times now = times_of now grace_time expire_time
-
--- what its process says of them when it begins
-abbrev pub gc_intent : ℕ → Draw → Intent
-gc_intent now draw = record { kind = kind.Gc; word = []; now = now; grace = grace_time; expire = expire_time; draw = draw.uuid; token = draw.token }
+-- what its process says when it begins: how long an exited pod rests since it was marked, and a prepared one since it was made, in seconds
+abbrev pub gc_intent : ℕ → ℕ → ℕ → Draw → Intent
+gc_intent grace expire now draw = record { kind = kind.Gc; word = []; now = now; grace = grace; expire = expire; draw = draw.uuid; token = draw.token }
 
 -- an answer came that what the locks keep doesn't explain
 abbrev pub RefusesGc : Refusal → DirSeen → DirSeen → Type 0
@@ -47,23 +37,24 @@ LeavesSwept times status old new =
 
 -- with status 0 it wrote the lines of its six passes; where every process keeps the local rules, each pod that they call deleted existed
 -- at a moment of the call, and is gone at its end, for good. With each status it did what that says
-pub record TellsGc (now : ℕ) (status : ℕ) (old new : Moment) : Type 0 where
-  pub swept : WhereObserved old (status ≡ 0 → WritesOf (HasSweptPods (its_times now) old.outside.dir new.outside.dir) old new)
-  pub left : WhereObserved old (LeavesSwept (its_times now) status old.outside.dir new.outside.dir)
-  pub gone : WhereAllKeepRules old new (status ≡ 0 → WritesOf (SweepsForGood (its_times now) old.outside.dir new.outside.dir) old new)
+pub record TellsGc (times : Times) (status : ℕ) (old new : Moment) : Type 0 where
+  pub swept : WhereObserved old (status ≡ 0 → WritesOf (HasSweptPods times old.outside.dir new.outside.dir) old new)
+  pub left : WhereObserved old (LeavesSwept times status old.outside.dir new.outside.dir)
+  pub gone : WhereAllKeepRules old new (status ≡ 0 → WritesOf (SweepsForGood times old.outside.dir new.outside.dir) old new)
 
 -- it lists the areas of pods, asks for the lock of embryo, looks at pods, lists and makes their marks, moves them to a garbage place and
 -- deletes there
-abbrev pub gc_command : Command
-gc_command = record {
-  begins = Some gc_intent;
+abbrev pub gc_command : ℕ → ℕ → Command
+gc_command grace expire = record {
+  begins = Some (gc_intent grace expire);
+  approach = directly;
   asks = λ now draw. sweeps now;
   reads = nothing;
   prints = λ draw bundle text. (lines : List GcLine) × (text ≡ lines_text lines);
   refusals = gc_refusal;
   refused_for = λ now draw refusal old new. RefusesGc refusal old.outside.dir new.outside.dir;
-  tells = λ now draw status old new. TellsGc now status old new;
-  quiet = λ now draw old new o. SweepsPodsQuietly (its_times now) old.dir new.dir o;
+  tells = λ now draw status old new. TellsGc (times_of now grace expire) status old new;
+  quiet = λ now draw old new o. SweepsPodsQuietly (times_of now grace expire) old.dir new.dir o;
   leaves = λ me draw old new. LeavesBeside is_pods_place me old new;
-  says = alone (λ now draw old new o. GcSays (its_times now) old.dir new.dir o);
+  says = alone (λ now draw old new o. GcSays (times_of now grace expire) old.dir new.dir o);
 }

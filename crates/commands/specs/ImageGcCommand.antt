@@ -7,6 +7,7 @@ use Rattle.command_outcomes.specs.declared.refusal.Refusal.{Refusal}
 use Rattle.command_outcomes.specs.declared.refusal.Refusal.TheVariants.{Stray}
 use Rattle.command_outcomes.specs.Moments.{DirSeen, Moment}
 use Rattle.commands.specs.Answers.{WritesOf}
+use Rattle.commands.specs.Opening.{directly}
 use Rattle.commands.specs.Command.{Command, nothing, alone, intent_for, WhereObserved}
 use Rattle.commands.specs.ImageGc.{image_gc_refusal, sweep_texts, is_swept_place, HasEndedEarly, HasMetStrayInSweep, HasSwept, ImageGcSays, SweepsQuietly}
 use Rattle.commands.specs.NextState.{LeavesBeside}
@@ -25,6 +26,7 @@ pub record TellsImageGc (status : ℕ) (old new : Moment) : Type 0 where
 abbrev pub image_gc_command : Command
 image_gc_command = record {
   begins = Some (intent_for kind.ImageGc []);
+  approach = directly;
   asks = λ now draw. sweeps;
   reads = nothing;
   prints = λ draw bundle text. (lines : List SweepLine) × (text ≡ sweep_texts lines);

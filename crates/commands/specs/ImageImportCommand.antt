@@ -12,6 +12,7 @@ use Rattle.command_outcomes.specs.declared.refusal.Refusal.{Refusal}
 use Rattle.command_outcomes.specs.declared.refusal.Refusal.TheVariants.{Busy}
 use Rattle.command_outcomes.specs.Moments.{Outside, Moment}
 use Rattle.commands.specs.Answers.{IsAnswer, WritesOf}
+use Rattle.commands.specs.Opening.{directly}
 use Rattle.commands.specs.Command.{Command, reading, alone, intent_for, WhereAllKeepRules}
 use Rattle.commands.specs.ImageImport.{image_import_refusal, import_refusal, ImageImportSays, ImportsQuietly, IsAreaHeld, LeavesOthers, PrintsKey, RefusesImage, StoresImage}
 
@@ -39,6 +40,7 @@ pub record TellsImport (path : List ℕ) (now : ℕ) (draw : Draw) (status : ℕ
 abbrev pub image_import_command : List ℕ → Command
 image_import_command path = record {
   begins = Some (intent_for kind.ImageImport []);
+  approach = directly;
   asks = λ now draw. imports_at (building_spot draw.uuid);
   reads = reading (λ old new. old.faults ≤ new.faults);
   prints = λ draw bundle text. PrintsKey path bundle text;

@@ -7,6 +7,7 @@ use Rattle.command_outcomes.specs.declared.refusal.Refusal.{Refusal}
 use Rattle.command_outcomes.specs.declared.refusal.Refusal.TheVariants.{Busy, Damaged}
 use Rattle.command_outcomes.specs.Moments.{DirSeen, Moment}
 use Rattle.commands.specs.Answers.{WritesOf}
+use Rattle.commands.specs.Opening.{directly}
 use Rattle.commands.specs.Command.{Command, nothing, alone, intent_for, WhereObserved}
 use Rattle.commands.specs.ImageList.{image_list_refusal, lists_images, images_text, LacksPart, IsHeldElsewhere, ListsStore, ImageListSays, ListsQuietly}
 use Rattle.commands.specs.NextState.{LeavesAll}
@@ -25,6 +26,7 @@ TellsImages status old new = WhereObserved old (status ≡ 0 → WritesOf (Lists
 abbrev pub image_list_command : Command
 image_list_command = record {
   begins = Some (intent_for kind.ImageList []);
+  approach = directly;
   asks = λ now draw. lists_images;
   reads = nothing;
   prints = λ draw bundle text. (images : List Stored) × (text ≡ images_text images);

@@ -12,6 +12,7 @@ use Rattle.command_outcomes.specs.Meanwhile.{Meanwhile}
 use Rattle.command_outcomes.specs.Moments.{DirSeen, Moment}
 use Rattle.commands.specs.Answers.{WritesOf}
 use Rattle.commands.specs.Kept.{KeepsRefused, RemovesNoneUnlessDone}
+use Rattle.commands.specs.Opening.{directly}
 use Rattle.commands.specs.Command.{Command, nothing, alone, intent_for, WhereObserved}
 use Rattle.commands.specs.ImageRm.{image_rm_refusal, removed_text, is_removal_place, FindsBusy, HasFoundNone, HasMetStray, HasRemoved, ImageRmSays, RemovesQuietly}
 use Rattle.commands.specs.NextState.{LeavesBeside}
@@ -33,6 +34,7 @@ pub record TellsImageRm (key : StoreKey) (draw : Draw) (status : ℕ) (old new :
 abbrev pub image_rm_command : StoreKey → Command
 image_rm_command key = record {
   begins = Some (intent_for kind.ImageRm []);
+  approach = directly;
   asks = λ now draw. removes_at key draw.uuid;
   reads = nothing;
   prints = λ draw bundle text. text ≡ removed_text key;

@@ -16,6 +16,7 @@ pub mod ImageRm
 pub mod ImageRmCommand
 pub mod Kept
 pub mod NextState
+pub mod Opening
 pub mod Prepare
 pub mod PrepareCommand
 pub mod PrepareQuiet
@@ -37,3 +38,4 @@ pub mod StatusCommand
 pub mod Texts
 pub mod Validate
 pub mod ValidateCommand
+pub mod Wants

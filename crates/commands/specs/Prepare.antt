@@ -23,7 +23,6 @@ use Rattle.dir_trait.specs.Knowledge.{Knows}
 use Rattle.area_locks.specs.AreaLocks.{IsBusyElsewhere}
 use Rattle.folder_building.specs.Work.{either}
 use Rattle.lifecycle.specs.Executions.{IsConforming}
-use Rattle.pod_manifest.specs.Wishes.{Wishes}
 use Rattle.pod_making.specs.Progress.{Progress, at_work, handed}
 use Rattle.pod_making.specs.Work.{IsOwnFolder, HasOwnFolder}
 use Rattle.pod_build.specs.declared.error.BuildError.{BuildError}
@@ -36,15 +35,12 @@ use Rattle.command_outcomes.specs.Moments.{DirSeen, Outcome}
 use Rattle.command_outcomes.specs.Conforming.{shown_at, begun}
 use Rattle.command_outcomes.specs.Meanwhile.{Meanwhile}
 use Rattle.commands.specs.References.{OfReferences}
+use Rattle.commands.specs.Wants.{Wants}
 use Rattle.commands.specs.PrepareRefusals.{build_refusal}
 
 -- the line that it prints: the pod's name
 abbrev pub pod_line : PodId → List ℕ
 pod_line pod = pod_text pod.bytes ++ codes "\n"
-
--- no volume and no mount is asked for
-abbrev pub no_wishes : Wishes
-no_wishes = record { volumes = []; mounts = [] }
 
 -- what it asks of the directory: what a prepare asks for, and that the names in prepared are brought to the disk
 abbrev pub syncs : Area → Request → Bool
@@ -69,18 +65,18 @@ SyncSays line observed old new (Err refusal) = ⊥
 abbrev pub WhereBegun : Draw → ℕ → DirSeen → (Intent → Type 0) → Type 0
 WhereBegun draw now old P = (intent : Intent) → Began area.Prepared draw now intent → Knows (shown_at old) (begun intent) → P intent
 
--- the pod of these words was prepared faithfully, by an own Ok move
-abbrev pub IsFaithful : List (List ℕ) → PodId → DirSeen → DirSeen → Type 0
-IsFaithful words draw old new = OfReferences words (λ refs. IsPrepared refs no_wishes old.process draw area.Prepared old.trace new.trace)
+-- the pod that is wanted was prepared faithfully, by an own Ok move
+abbrev pub IsFaithful : Wants → PodId → DirSeen → DirSeen → Type 0
+IsFaithful wants draw old new = OfReferences wants.images (λ refs. IsPrepared refs wants.wishes old.process draw area.Prepared old.trace new.trace)
 
 -- by its own answers it brought the pod to prepared; and where every process keeps the local rules, the pod was prepared
 -- faithfully. Then it asked that the area be synced, which was answered so
-pub record BringsPod (words : List (List ℕ)) (now : ℕ) (draw : Draw) (reply : Reply) (old new : DirSeen) : Type 0 where
+pub record BringsPod (wants : Wants) (now : ℕ) (draw : Draw) (reply : Reply) (old new : DirSeen) : Type 0 where
   pub brought : DirSeen
   pub same : brought.process ≡ old.process
   pub extends : old.observed ≡ true → Extends (prepares draw.uuid area.Prepared) old.process old.trace brought.trace
   pub knows : old.observed ≡ true → WhereBegun draw now old (λ intent. KnowsPrepared draw.uuid area.Prepared intent [] (shown_at brought))
-  pub faithful : old.observed ≡ true → IsConforming brought.trace → WhereBegun draw now old (λ intent. IsFaithful words draw.uuid old brought)
+  pub faithful : old.observed ≡ true → IsConforming brought.trace → WhereBegun draw now old (λ intent. IsFaithful wants draw.uuid old brought)
   pub synced : old.observed ≡ true → CallStep old.process brought.trace (SyncArea area.Prepared) reply new.trace
 
 -- by its own answers it knew the pod in prepared and held nothing, and then its sync of that area was answered so
@@ -115,10 +111,10 @@ abbrev pub LeavesFolder : ℕ → Draw → DirSeen → DirSeen → Type 0
 LeavesFolder now draw old new = old.observed ≡ true → WhereBegun draw now old (λ intent. HasOwnFolder draw.uuid intent [] (shown_at new))
 
 -- why the pod wasn't prepared, and that this is what is said
-pub record RefusesPod (words : List (List ℕ)) (now : ℕ) (draw : Draw) (old new : DirSeen) (refusal : Refusal) : Type 0 where
+pub record RefusesPod (wants : Wants) (now : ℕ) (draw : Draw) (old new : DirSeen) (refusal : Refusal) : Type 0 where
   pub error : BuildError
-  pub is : refusal ≡ build_refusal words error
-  pub cause : OfReferences words (λ refs. IsRefused old.observed refs no_wishes draw now error (shown_at old) (shown_at new))
+  pub is : refusal ≡ build_refusal wants.images error
+  pub cause : OfReferences wants.images (λ refs. IsRefused old.observed refs wants.wishes draw now error (shown_at old) (shown_at new))
 
 -- where a lock was refused, another process held it exclusively at an own step
 abbrev pub IsAreaHeld : Area → DirSeen → DirSeen → Type 0
@@ -128,8 +124,8 @@ abbrev pub IsHeldFrom : ℕ → Draw → Refusal → DirSeen → DirSeen → Typ
 IsHeldFrom now draw refusal old new = (area : Area) → refusal ≡ Busy area → old.observed ≡ true → WhereBegun draw now old (λ intent. IsAreaHeld area old new)
 
 -- what was told of the pod. Only where the area wasn't synced the pod stands in prepared, and its name isn't printed
-abbrev pub PrepareSays : List (List ℕ) → ℕ → Draw → DirSeen → DirSeen → Outcome → Type 0
-PrepareSays words now draw old new (Ok text) = (text ≡ pod_line draw.uuid) × BringsPod words now draw Done old new
-PrepareSays words now draw old new (Err NoMemory) = LeavesFolder now draw old new ⊎ BringsPod words now draw (Refused dir.NoMemory 0) old new
-PrepareSays words now draw old new (Err DirFault) = LeavesFolder now draw old new ⊎ BringsPod words now draw (Refused dir.Failed 0) old new
-PrepareSays words now draw old new (Err refusal) = LeavesFolder now draw old new × RefusesPod words now draw old new refusal × IsHeldFrom now draw refusal old new
+abbrev pub PrepareSays : Wants → ℕ → Draw → DirSeen → DirSeen → Outcome → Type 0
+PrepareSays wants now draw old new (Ok text) = (text ≡ pod_line draw.uuid) × BringsPod wants now draw Done old new
+PrepareSays wants now draw old new (Err NoMemory) = LeavesFolder now draw old new ⊎ BringsPod wants now draw (Refused dir.NoMemory 0) old new
+PrepareSays wants now draw old new (Err DirFault) = LeavesFolder now draw old new ⊎ BringsPod wants now draw (Refused dir.Failed 0) old new
+PrepareSays wants now draw old new (Err refusal) = LeavesFolder now draw old new × RefusesPod wants now draw old new refusal × IsHeldFrom now draw refusal old new

@@ -1,5 +1,5 @@
 -- `prepare IMAGE..`, as a whole process of it.
-use Rattle.std.specs.Prelude.{◌≡◌, ◌⊎◌, ◌||◌, ◌==◌, ℕ, true, false, List, [], Some}
+use Rattle.std.specs.Prelude.{◌≡◌, ◌⊎◌, ◌||◌, ◌==◌, ℕ, true, false, [], Some}
 use Rattle.dir_model.specs.declared.area.Area.{Area}
 use Rattle.dir_model.specs.declared.intent.Draw.{Draw}
 use Rattle.dir_model.specs.declared.intent.Kind.TheVariants as kind
@@ -10,17 +10,19 @@ use Rattle.command_outcomes.specs.declared.refusal.Refusal.{Refusal}
 use Rattle.command_outcomes.specs.declared.refusal.Refusal.TheVariants.{Busy}
 use Rattle.command_outcomes.specs.Moments.{DirSeen, Moment}
 use Rattle.commands.specs.Answers.{WritesOf}
+use Rattle.commands.specs.Opening.{directly}
 use Rattle.commands.specs.Command.{Command, nothing, alone, intent_for, WhereObserved, WhereAllKeepRules}
 use Rattle.commands.specs.Prepare.{pod_line, prepares_pod, HasBrought, HasKeptFolder, HasSynced, IsAreaHeld, IsFaithful, PrepareSays, RefusesPod}
 use Rattle.commands.specs.PrepareQuiet.{PreparesQuietly, is_pod_place}
 use Rattle.commands.specs.PrepareRefusals.{prepare_refusal}
 use Rattle.commands.specs.NextState.{LeavesBeside}
+use Rattle.commands.specs.Wants.{Wants}
 
 -- why the pod wasn't prepared, by its own reads and answers; and where a lock was refused, another process held it exclusively at an
 -- own step
-pub record RefusesPrepare (words : List (List ℕ)) (now : ℕ) (draw : Draw) (refusal : Refusal) (old new : DirSeen) : Type 0 where
+pub record RefusesPrepare (wants : Wants) (now : ℕ) (draw : Draw) (refusal : Refusal) (old new : DirSeen) : Type 0 where
   pub own : prepare_refusal refusal ≡ true
-  pub why : RefusesPod words now draw old new refusal
+  pub why : RefusesPod wants now draw old new refusal
   pub held : (area : Area) → refusal ≡ Busy area → old.observed ≡ true → IsAreaHeld area old new
 
 -- with status 0 and 12 it brought the pod to prepared and synced that area; with 9 it may have, and the sync was refused; with 14 it may
@@ -34,23 +36,24 @@ LeavesPod draw status old new =
     ⊎ ((((status == 0) || (status == 12)) ≡ false) × HasKeptFolder draw old new)
 
 -- with status 0 it wrote the drawn name, and before that it brought the pod to prepared and synced that area; and where every process
--- keeps the local rules, the pod of the words was prepared faithfully. With each status it left what that says
-pub record TellsPrepare (words : List (List ℕ)) (draw : Draw) (status : ℕ) (old new : Moment) : Type 0 where
+-- keeps the local rules, the pod that is wanted was prepared faithfully. With each status it left what that says
+pub record TellsPrepare (wants : Wants) (draw : Draw) (status : ℕ) (old new : Moment) : Type 0 where
   pub synced : WhereObserved old (status ≡ 0 → WritesOf (λ text. (text ≡ pod_line draw.uuid) × HasSynced draw.uuid old.outside.dir new.outside.dir) old new)
   pub left : WhereObserved old (LeavesPod draw.uuid status old.outside.dir new.outside.dir)
-  pub faithful : WhereAllKeepRules old new (status ≡ 0 → WritesOf (λ text. (text ≡ pod_line draw.uuid) × IsFaithful words draw.uuid old.outside.dir new.outside.dir) old new)
+  pub faithful : WhereAllKeepRules old new (status ≡ 0 → WritesOf (λ text. (text ≡ pod_line draw.uuid) × IsFaithful wants draw.uuid old.outside.dir new.outside.dir) old new)
 
 -- it asks for the locks of images and embryo, for reads of images, for its own folder, its lock and its moves, and for the sync of prepared
-abbrev pub prepare_command : List (List ℕ) → Command
-prepare_command words = record {
+abbrev pub prepare_command : Wants → Command
+prepare_command wants = record {
   begins = Some (intent_for kind.Prepare []);
+  approach = directly;
   asks = λ now draw. prepares_pod draw.uuid;
   reads = nothing;
   prints = λ draw bundle text. text ≡ pod_line draw.uuid;
   refusals = prepare_refusal;
-  refused_for = λ now draw refusal old new. RefusesPrepare words now draw refusal old.outside.dir new.outside.dir;
-  tells = λ now draw status old new. TellsPrepare words draw status old new;
-  quiet = λ now draw old new o. PreparesQuietly words now draw old.dir new.dir o;
+  refused_for = λ now draw refusal old new. RefusesPrepare wants now draw refusal old.outside.dir new.outside.dir;
+  tells = λ now draw status old new. TellsPrepare wants draw status old new;
+  quiet = λ now draw old new o. PreparesQuietly wants now draw old.dir new.dir o;
   leaves = λ me draw old new. LeavesBeside (is_pod_place draw.uuid) me old new;
-  says = alone (λ now draw old new o. PrepareSays words now draw old.dir new.dir o);
+  says = alone (λ now draw old new o. PrepareSays wants now draw old.dir new.dir o);
 }

@@ -16,26 +16,28 @@ use Rattle.pod_making.specs.Requests.{pod_at}
 use Rattle.command_outcomes.specs.declared.refusal.Refusal.TheVariants.{Busy, DirFault, NoMemory}
 use Rattle.command_outcomes.specs.Moments.{DirSeen, Outcome}
 use Rattle.pod_build.specs.Preparations.{IsPrepared}
+use Rattle.pod_manifest.specs.Wishes.{Wishes}
 use Rattle.commands.specs.References.{OfReferences}
-use Rattle.commands.specs.Prepare.{pod_line, no_wishes, RefusesPod}
+use Rattle.commands.specs.Prepare.{pod_line, RefusesPod}
+use Rattle.commands.specs.Wants.{Wants}
 
 -- a pod that was prepared so stands there still, with what its maker made
-pub record StandsPrepared {refs : List ImageRef} {me : ℕ} {draw : PodId} {old new : List Event} (x : IsPrepared refs no_wishes me draw Prepared old new) (s : DirState) : Type 0 where
+pub record StandsPrepared {refs : List ImageRef} {wishes : Wishes} {me : ℕ} {draw : PodId} {old new : List Event} (x : IsPrepared refs wishes me draw Prepared old new) (s : DirState) : Type 0 where
   pub stands : folder_at s.namespace (pod_at Prepared draw) ≡ Some x.folder
   pub holds : entries_in x.folder s.entries ≡ x.faithful.built.making.entries
 
--- of some references that these words are, the pod was prepared faithfully, and stands in the end as it was made
-abbrev pub HasPrepared : List (List ℕ) → PodId → DirSeen → DirSeen → Type 0
-HasPrepared words draw old new =
-    OfReferences words (λ refs. (x : IsPrepared refs no_wishes old.process draw Prepared old.trace new.trace) × StandsPrepared x (state_after new.trace))
+-- of some references that its words are, the pod was prepared faithfully, and stands in the end as it was made
+abbrev pub HasPrepared : Wants → PodId → DirSeen → DirSeen → Type 0
+HasPrepared wants draw old new =
+    OfReferences wants.images (λ refs. (x : IsPrepared refs wants.wishes old.process draw Prepared old.trace new.trace) × StandsPrepared x (state_after new.trace))
 
 -- by its own reads, or by a lock as it was held before
-abbrev pub PreparesQuietly : List (List ℕ) → ℕ → Draw → DirSeen → DirSeen → Outcome → Type 0
-PreparesQuietly words now draw old new (Ok text) = (text ≡ pod_line draw.uuid) × (IsConforming new.trace → HasPrepared words draw.uuid old new)
-PreparesQuietly words now draw old new (Err (Busy area)) = RefusesPod words now draw old new (Busy area) × IsBusyElsewhere old.process area Shared (state_after old.trace)
-PreparesQuietly words now draw old new (Err NoMemory) = ⊥
-PreparesQuietly words now draw old new (Err DirFault) = ⊥
-PreparesQuietly words now draw old new (Err refusal) = RefusesPod words now draw old new refusal
+abbrev pub PreparesQuietly : Wants → ℕ → Draw → DirSeen → DirSeen → Outcome → Type 0
+PreparesQuietly wants now draw old new (Ok text) = (text ≡ pod_line draw.uuid) × (IsConforming new.trace → HasPrepared wants draw.uuid old new)
+PreparesQuietly wants now draw old new (Err (Busy area)) = RefusesPod wants now draw old new (Busy area) × IsBusyElsewhere old.process area Shared (state_after old.trace)
+PreparesQuietly wants now draw old new (Err NoMemory) = ⊥
+PreparesQuietly wants now draw old new (Err DirFault) = ⊥
+PreparesQuietly wants now draw old new (Err refusal) = RefusesPod wants now draw old new refusal
 
 -- where it makes and moves folders
 abbrev pub is_pod_place : PodId → Spot → Bool

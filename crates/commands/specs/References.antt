@@ -1,5 +1,5 @@
 -- The words by which a user names the images of a pod.
-use Rattle.std.specs.Prelude.{◌≡◌, Bool, true, ℕ, List, ◌∷◌, ◌++◌, map, Ok, Err, is_ok}
+use Rattle.std.specs.Prelude.{◌≡◌, Bool, ℕ, List, map, Ok, is_ok}
 use Rattle.std.specs.List.{list_all}
 use Rattle.ac_types.specs.References.{reference}
 use Rattle.ac_types.specs.declared.image_ref.ImageRef.{ImageRef}
@@ -19,12 +19,3 @@ AreReferences words refs = map reference words ≡ map Ok refs
 -- this is so of what they are
 abbrev pub OfReferences : List (List ℕ) → (List ImageRef → Type 0) → Type 0
 OfReferences words P = (refs : List ImageRef) × AreReferences words refs × P refs
-
--- the first word that is no reference stops to be one at this place
-pub record IsFirstBad (words : List (List ℕ)) (place : ℕ) : Type 0 where
-  pub before : List (List ℕ)
-  pub word : List ℕ
-  pub after : List (List ℕ)
-  pub are : words ≡ before ++ word ∷ after
-  pub good : are_references before ≡ true
-  pub bad : reference word ≡ Err place

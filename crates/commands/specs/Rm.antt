@@ -27,7 +27,7 @@ use Rattle.command_outcomes.specs.Texts.{named_line}
 use Rattle.command_outcomes.specs.Moments.{DirSeen, Outcome}
 use Rattle.command_outcomes.specs.Conforming.{shown_at}
 use Rattle.command_outcomes.specs.Ends.{is_common}
-use Rattle.command_outcomes.specs.Meanwhile.{Meanwhile}
+use Rattle.commands.specs.Opening.{OnceFound}
 
 -- the line that it prints
 abbrev pub removed_text : PodId → List ℕ
@@ -115,20 +115,20 @@ FailsAlone pod old new refusal = IsConforming new.trace → IsUnhinderedThrougho
 -- of a whole process: that it removed the pod, that it found none, that it found it in such a phase or without its manifest, that
 -- another process held its lock, that it met an answer which the locks don't explain
 abbrev pub HasRemovedPod : PodId → DirSeen → DirSeen → Type 0
-HasRemovedPod pod old new = Meanwhile (Removes pod) old.process old.trace new.trace
+HasRemovedPod pod old new = OnceFound (Removes pod) old.process old.trace new.trace
 
 abbrev pub HasFoundNoPod : PodId → DirSeen → DirSeen → Type 0
-HasFoundNoPod pod old new = Meanwhile (FoundNone pod) old.process old.trace new.trace
+HasFoundNoPod pod old new = OnceFound (FoundNone pod) old.process old.trace new.trace
 
 pub record HasFoundWrong (pod : PodId) (phase : Phase) (old new : DirSeen) : Type 0 where
-  pub was : Meanwhile (WasSo pod phase) old.process old.trace new.trace
-  pub owner : Meanwhile (WasOwned pod phase) old.process old.trace new.trace
+  pub was : OnceFound (WasSo pod phase) old.process old.trace new.trace
+  pub owner : OnceFound (WasOwned pod phase) old.process old.trace new.trace
 
 abbrev pub HasFoundNoManifest : PodId → DirSeen → DirSeen → Type 0
-HasFoundNoManifest pod old new = Meanwhile (HadNoManifest pod) old.process old.trace new.trace
+HasFoundNoManifest pod old new = OnceFound (HadNoManifest pod) old.process old.trace new.trace
 
 abbrev pub HasFoundBusy : PodId → Which → DirSeen → DirSeen → Type 0
-HasFoundBusy pod which old new = Meanwhile (FindsPodBusy pod which) old.process old.trace new.trace
+HasFoundBusy pod which old new = OnceFound (FindsPodBusy pod which) old.process old.trace new.trace
 
 abbrev pub HasMetStrayAtPod : PodId → DirSeen → DirSeen → Type 0
-HasMetStrayAtPod pod old new = Meanwhile (MeetsStray pod) old.process old.trace new.trace
+HasMetStrayAtPod pod old new = OnceFound (MeetsStray pod) old.process old.trace new.trace

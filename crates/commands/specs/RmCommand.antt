@@ -1,9 +1,8 @@
 -- `rm POD`, as a whole process of it.
-use Rattle.std.specs.Prelude.{◌≡◌, ◌⊎◌, ◌==◌, ℕ, Bool, true, [], ◌∷◌, Some}
+use Rattle.std.specs.Prelude.{◌≡◌, ◌⊎◌, ◌==◌, ℕ, Bool, true, List, [], ◌∷◌, Some}
 use Rattle.std.specs.List.{list_any}
 use Rattle.dir_model.specs.declared.intent.Kind.TheVariants as kind
 use Rattle.dir_model.specs.declared.pod.PodId.{PodId}
-use Rattle.dir_trait.specs.Pods.{pod_text}
 use Rattle.phase_read.specs.Read.{is_pod_spot}
 use Rattle.pod_removal.specs.Hindrances.{IsUnhinderedThroughout}
 use Rattle.pod_removal.specs.Requests.{removes}
@@ -12,8 +11,8 @@ use Rattle.command_outcomes.specs.declared.refusal.Refusal.TheVariants.{NoPod, W
 use Rattle.command_outcomes.specs.Moments.{DirSeen, Moment}
 use Rattle.commands.specs.Answers.{WritesOf}
 use Rattle.pod_steps.specs.Causes.{WasStray}
-use Rattle.command_outcomes.specs.Meanwhile.{Meanwhile}
 use Rattle.commands.specs.Kept.{KeepsRefused, RemovesNoneUnlessDone}
+use Rattle.commands.specs.Opening.{OnceFound, approach_of}
 use Rattle.commands.specs.Command.{Command, nothing, alone, intent_for, WhereObserved, WhereAllKeepRules}
 use Rattle.commands.specs.RemovalHistory.{IsRemovedBetween}
 use Rattle.commands.specs.RemovalQuiet.{RemovesPodQuietly}
@@ -37,7 +36,7 @@ abbrev pub is_removal_end : ℕ → Bool
 is_removal_end status = list_any (λ n. n == status) (0 ∷ 9 ∷ 12 ∷ 14 ∷ [])
 
 abbrev pub EndsUnhindered : ℕ → DirSeen → DirSeen → Type 0
-EndsUnhindered status old new = (is_removal_end status ≡ true) ⊎ ((status ≡ 20) × Meanwhile WasStray old.process old.trace new.trace)
+EndsUnhindered status old new = (is_removal_end status ≡ true) ⊎ ((status ≡ 20) × OnceFound WasStray old.process old.trace new.trace)
 
 -- with status 0 it wrote that the pod is removed, and removed it, or found it gone after it had been there. Where every process keeps the
 -- local rules, the pod existed then at a moment of the call, and is gone at its end, for good; and if nothing hinders its removal after any
@@ -49,9 +48,10 @@ pub record TellsRm (pod : PodId) (status : ℕ) (old new : Moment) : Type 0 wher
   pub kept : WhereObserved old (RemovesNoneUnlessDone status old new)
 
 -- it looks for the pod, asks for its locks, its mark and its moves to a garbage place, and for its deletion there
-abbrev pub rm_command : PodId → Command
-rm_command pod = record {
-  begins = Some (intent_for kind.Rm (pod_text pod.bytes));
+abbrev pub rm_command : List ℕ → PodId → Command
+rm_command word pod = record {
+  begins = Some (intent_for kind.Rm word);
+  approach = approach_of word;
   asks = λ now draw. removes pod now;
   reads = nothing;
   prints = λ draw bundle text. text ≡ removed_text pod;

@@ -26,7 +26,8 @@ use Rattle.command_outcomes.specs.declared.refusal.Refusal.TheVariants.{NoMemory
 use Rattle.command_outcomes.specs.Moments.{Answer, Inside}
 use Rattle.commands.specs.References.{OfReferences}
 use Rattle.commands.specs.PrepareRefusals.{IsSaid}
-use Rattle.commands.specs.Prepare.{pod_line, no_wishes}
+use Rattle.commands.specs.Prepare.{pod_line}
+use Rattle.commands.specs.Wants.{Wants}
 use Rattle.commands.specs.AppRuns.{RunSays, Between}
 
 -- what it asks of the directory: what a prepare asks for that brings the pod to run, and what a run of the pod does
@@ -43,22 +44,22 @@ WhereMaking draw now d P = From (Began area.Run draw now) IsAlone nothing_made d
 
 -- the pod was prepared, and brought to run with its lock kept: by own answers, and faithfully where every process keeps the local
 -- rules; and then it was run, of which this is told
-pub record MakesAndRuns (seen observed : Bool) (words : List (List ℕ)) (now : ℕ) (draw : Draw) (d d' : DirAt) (s s' : SpawnerAt) (answer : Answer) : Type 0 where
+pub record MakesAndRuns (seen observed : Bool) (wants : Wants) (address : List ℕ) (now : ℕ) (draw : Draw) (d d' : DirAt) (s s' : SpawnerAt) (answer : Answer) : Type 0 where
   pub made : DirAt
   pub owned : Owned
   pub is_owned : IsOwned draw.uuid d.local owned
   pub same : made.process ≡ d.process
   pub asked : seen ≡ true → ExtendsBy (prepares draw.uuid area.Run) d made
   pub knows : seen ≡ true → From (Began area.Run draw now) IsAlone nothing_made d (λ intent hs. KnowsPrepared draw.uuid area.Run intent (own_held draw.uuid owned.own (Some Exclusive) ∷ []) made)
-  pub faithful : seen ≡ true → IsConforming made.trace → WhereMaking draw now d (OfReferences words (λ refs. IsPrepared refs no_wishes d.process draw.uuid area.Run d.trace made.trace))
+  pub faithful : seen ≡ true → IsConforming made.trace → WhereMaking draw now d (OfReferences wants.images (λ refs. IsPrepared refs wants.wishes d.process draw.uuid area.Run d.trace made.trace))
   pub then : seen ≡ true → Grew made.trace d'.trace
-  pub says : RunSays seen observed owned (pod_line draw.uuid) made d' s s' answer
+  pub says : RunSays seen observed owned address (pod_line draw.uuid) made d' s s' answer
 
 -- the pod wasn't made, for this cause: at most its own folder is left in embryo or prepare, and nothing was asked of the spawner
-pub record IsUnmade (seen : Bool) (words : List (List ℕ)) (now : ℕ) (draw : Draw) (d d' : DirAt) (s s' : SpawnerAt) (answer : Answer) : Type 0 where
+pub record IsUnmade (seen : Bool) (wants : Wants) (now : ℕ) (draw : Draw) (d d' : DirAt) (s s' : SpawnerAt) (answer : Answer) : Type 0 where
   pub error : BuildError
-  pub is : (refusal : Refusal) × (answer ≡ Err refusal) × IsSaid words error refusal
-  pub cause : OfReferences words (λ refs. IsRefused seen refs no_wishes draw now error d d')
+  pub is : (refusal : Refusal) × (answer ≡ Err refusal) × IsSaid wants.images error refusal
+  pub cause : OfReferences wants.images (λ refs. IsRefused seen refs wants.wishes draw now error d d')
   pub another : seen ≡ true → WhereMaking draw now d (IsHeldElsewhere error d d')
   pub left : seen ≡ true → From (Began area.Run draw now) IsAlone nothing_made d (λ intent hs. HasOwnFolder draw.uuid intent hs d')
   pub unasked : s' ≡ s
@@ -70,9 +71,9 @@ pub record IsUnbegun (d d' : DirAt) (s s' : SpawnerAt) (answer : Answer) : Type 
   pub unasked : s' ≡ s
 
 -- what was told of the pod
-abbrev pub NewRunSays : Bool → Bool → List (List ℕ) → ℕ → Draw → DirAt → DirAt → SpawnerAt → SpawnerAt → Answer → Type 0
-NewRunSays seen observed words now draw d d' s s' answer =
-    MakesAndRuns seen observed words now draw d d' s s' answer ⊎ IsUnmade seen words now draw d d' s s' answer ⊎ IsUnbegun d d' s s' answer
+abbrev pub NewRunSays : Bool → Bool → Wants → List ℕ → ℕ → Draw → DirAt → DirAt → SpawnerAt → SpawnerAt → Answer → Type 0
+NewRunSays seen observed wants address now draw d d' s s' answer =
+    MakesAndRuns seen observed wants address now draw d d' s s' answer ⊎ IsUnmade seen wants now draw d d' s s' answer ⊎ IsUnbegun d d' s s' answer
 
-abbrev pub RunIsTold : List (List ℕ) → ℕ → Draw → Inside → Inside → Answer → Type 0
-RunIsTold words now draw old new answer = Between (λ d d' s s'. NewRunSays old.dir.observed old.spawner.observed words now draw d d' s s' answer) old new
+abbrev pub RunIsTold : Wants → List ℕ → ℕ → Draw → Inside → Inside → Answer → Type 0
+RunIsTold wants address now draw old new answer = Between (λ d d' s s'. NewRunSays old.dir.observed old.spawner.observed wants address now draw d d' s s' answer) old new

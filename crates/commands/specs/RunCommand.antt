@@ -12,44 +12,47 @@ use Rattle.command_outcomes.specs.Moments.{DirSeen, Moment, Outcome}
 use Rattle.commands.specs.Answers.{inside_in}
 use Rattle.commands.specs.AppEnds.{app_lines}
 use Rattle.commands.specs.AppsTold.{WithinProcess, CameSo, TellsApps}
+use Rattle.commands.specs.Opening.{directly}
 use Rattle.commands.specs.Command.{Command, nothing, running, intent_for}
 use Rattle.commands.specs.Prepare.{pod_line}
 use Rattle.commands.specs.Run.{makes_and_runs, RunIsTold}
 use Rattle.commands.specs.RunQuiet.{HasMadeAndLeft, IsRunRefusal, IsUnmadeFor, TellsItsEnds}
 use Rattle.commands.specs.RunRefusals.{new_run_refusal}
 use Rattle.commands.specs.NextState.{LeavesBeside}
+use Rattle.commands.specs.Wants.{Wants}
 
 abbrev pub run_intent : ℕ → Draw → Intent
 run_intent = intent_for kind.Run []
 
 -- the pod wasn't made, or it wasn't run to its end: this is what it rests on
-pub record RefusesNewRun (words : List (List ℕ)) (now : ℕ) (draw : Draw) (refusal : Refusal) (old new : Moment) : Type 0 where
+pub record RefusesNewRun (wants : Wants) (address : List ℕ) (now : ℕ) (draw : Draw) (refusal : Refusal) (old new : Moment) : Type 0 where
   pub own : new_run_refusal refusal ≡ true
-  pub why : WithinProcess (makes_and_runs draw.uuid) (λ a b. RunIsTold words now draw a b (Err refusal)) (run_intent now draw) (inside_in old) (inside_in new)
+  pub why : WithinProcess directly (makes_and_runs draw.uuid) (λ a b. RunIsTold wants address now draw a b (Err refusal)) (run_intent now draw) (inside_in old) (inside_in new)
 
 -- how the pod was made and its apps ran
-abbrev pub TellsNewRun : List (List ℕ) → ℕ → Draw → ℕ → Moment → Moment → Type 0
-TellsNewRun words now draw status old new = TellsApps (CameSo (makes_and_runs draw.uuid) (RunIsTold words now draw) (run_intent now draw) (inside_in old) (inside_in new)) status old new
+abbrev pub TellsNewRun : Wants → List ℕ → ℕ → Draw → ℕ → Moment → Moment → Type 0
+TellsNewRun wants address now draw status old new = TellsApps (CameSo directly (makes_and_runs draw.uuid) (RunIsTold wants address now draw) (run_intent now draw) (inside_in old) (inside_in new)) status old new
 
 -- where every process keeps the local rules the pod was made faithfully, and is left in run, without an owner, with the mark and the
 -- status of each app whose line is told; where it is refused for a cause of the run it is left so too, or it wasn't made, for this cause
-abbrev pub LeavesMade : List (List ℕ) → ℕ → Draw → DirSeen → DirSeen → Outcome → Type 0
-LeavesMade words now draw old new (Ok text) = IsConforming new.trace → HasMadeAndLeft words old.process draw.uuid old.trace new.trace × TellsItsEnds draw.uuid (pod_line draw.uuid) new.trace text
-LeavesMade words now draw old new (Err NoMemory) = Unit {0}
-LeavesMade words now draw old new (Err refusal) =
-    IsRunRefusal draw.uuid refusal × (IsConforming new.trace → HasMadeAndLeft words old.process draw.uuid old.trace new.trace) ⊎ IsUnmadeFor words now draw old new refusal
+abbrev pub LeavesMade : Wants → ℕ → Draw → DirSeen → DirSeen → Outcome → Type 0
+LeavesMade wants now draw old new (Ok text) = IsConforming new.trace → HasMadeAndLeft wants old.process draw.uuid old.trace new.trace × TellsItsEnds draw.uuid (pod_line draw.uuid) new.trace text
+LeavesMade wants now draw old new (Err NoMemory) = Unit {0}
+LeavesMade wants now draw old new (Err refusal) =
+    IsRunRefusal draw.uuid refusal × (IsConforming new.trace → HasMadeAndLeft wants old.process draw.uuid old.trace new.trace) ⊎ IsUnmadeFor wants now draw old new refusal
 
 -- it asks for what a prepare asks for that leads to run, and then for what a run of the pod does
-abbrev pub run_command : List (List ℕ) → Command
-run_command words = record {
+abbrev pub run_command : Wants → List ℕ → Command
+run_command wants address = record {
   begins = Some (intent_for kind.Run []);
+  approach = directly;
   asks = λ now draw. makes_and_runs draw.uuid;
   reads = nothing;
   prints = λ draw bundle text. (ends : List AppEnd) × (text ≡ pod_line draw.uuid ++ app_lines ends);
   refusals = new_run_refusal;
-  refused_for = λ now draw refusal old new. RefusesNewRun words now draw refusal old new;
-  tells = λ now draw status old new. TellsNewRun words now draw status old new;
-  quiet = λ now draw old new o. LeavesMade words now draw old.dir new.dir o;
+  refused_for = λ now draw refusal old new. RefusesNewRun wants address now draw refusal old new;
+  tells = λ now draw status old new. TellsNewRun wants address now draw status old new;
+  quiet = λ now draw old new o. LeavesMade wants now draw old.dir new.dir o;
   leaves = λ me draw old new. LeavesBeside (is_pod_spot draw.uuid) me old new;
-  says = running (λ now draw. RunIsTold words now draw);
+  says = running (λ now draw. RunIsTold wants address now draw);
 }

@@ -1,5 +1,5 @@
 -- The command `run-prepared`.
-use Rattle.std.specs.Prelude.{◌≡◌, ◌⊎◌, Bool, true, [], Err}
+use Rattle.std.specs.Prelude.{◌≡◌, ◌⊎◌, ℕ, Bool, true, List, [], Err}
 use Rattle.dir_model.specs.declared.pod.PodId.{PodId}
 use Rattle.dir_model.specs.declared.request.Request.{Request}
 use Rattle.dir_rules.specs.declared.seen.Seen.{Seen}
@@ -31,7 +31,7 @@ abbrev pub CanClaim : DirAt → Type 0
 CanClaim d = (s : Seen) × Knows d s × MayClaim s
 
 -- the pod was claimed: both locks were taken and the pod was moved to run, all answered Ok; and then it was run, of which this is told
-pub record ClaimsAndRuns (seen observed : Bool) (pod : PodId) (d d' : DirAt) (s s' : SpawnerAt) (answer : Answer) : Type 0 where
+pub record ClaimsAndRuns (seen observed : Bool) (pod : PodId) (address : List ℕ) (d d' : DirAt) (s s' : SpawnerAt) (answer : Answer) : Type 0 where
   pub claimed : DirAt
   pub owned : Owned
   pub is_owned : IsOwned pod d.local owned
@@ -39,7 +39,7 @@ pub record ClaimsAndRuns (seen observed : Bool) (pod : PodId) (d d' : DirAt) (s 
   pub asked : seen ≡ true → ExtendsBy (claims pod) d claimed
   pub took : seen ≡ true → TookBoth pod owned.own d.process d.trace claimed.trace
   pub then : seen ≡ true → Grew claimed.trace d'.trace
-  pub says : RunSays seen observed owned [] claimed d' s s' answer
+  pub says : RunSays seen observed owned address [] claimed d' s s' answer
 
 -- the claim was refused for this cause, which is a failure where the pod was free throughout: this process moved nothing, and nothing was
 -- asked of the spawner
@@ -54,9 +54,9 @@ pub record IsUnclaimed (seen : Bool) (pod : PodId) (d d' : DirAt) (s s' : Spawne
   pub unasked : s' ≡ s
 
 -- what was told of the pod
-abbrev pub RunPreparedSays : PodId → Inside → Inside → Answer → Type 0
-RunPreparedSays pod old new answer =
+abbrev pub RunPreparedSays : PodId → List ℕ → Inside → Inside → Answer → Type 0
+RunPreparedSays pod address old new answer =
     Between
-    (λ d d' s s'. ClaimsAndRuns old.dir.observed old.spawner.observed pod d d' s s' answer ⊎ IsUnclaimed old.dir.observed pod d d' s s' answer)
+    (λ d d' s s'. ClaimsAndRuns old.dir.observed old.spawner.observed pod address d d' s s' answer ⊎ IsUnclaimed old.dir.observed pod d d' s s' answer)
     old
     new

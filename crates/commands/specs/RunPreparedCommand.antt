@@ -5,7 +5,6 @@ use Rattle.dir_model.specs.declared.intent.Draw.{Draw}
 use Rattle.dir_model.specs.declared.intent.Intent.{Intent}
 use Rattle.dir_model.specs.declared.intent.Kind.TheVariants as kind
 use Rattle.dir_model.specs.declared.pod.PodId.{PodId}
-use Rattle.dir_trait.specs.Pods.{pod_text}
 use Rattle.phase_read.specs.Read.{is_pod_spot}
 use Rattle.pod_claim.specs.Claims.{IsFreeThroughout}
 use Rattle.pod_claim.specs.declared.error.ClaimError.{ClaimError}
@@ -17,19 +16,20 @@ use Rattle.command_outcomes.specs.Moments.{DirSeen, Moment, Outcome}
 use Rattle.commands.specs.Answers.{inside_in}
 use Rattle.commands.specs.AppEnds.{app_lines}
 use Rattle.commands.specs.AppsTold.{WithinProcess, CameSo, TellsApps}
+use Rattle.commands.specs.Opening.{approach_of}
 use Rattle.commands.specs.Command.{Command, nothing, running, intent_for, WhereAllKeepRules}
 use Rattle.commands.specs.RunPrepared.{runs_prepared, RunPreparedSays}
 use Rattle.commands.specs.RunQuiet.{HasPassed, IsRunRefusal, TellsItsEnds, UnclaimedFor}
 use Rattle.commands.specs.RunRefusals.{run_prepared_refusal, claim_refusal}
 use Rattle.commands.specs.NextState.{LeavesBeside}
 
-abbrev pub run_prepared_intent : PodId → ℕ → Draw → Intent
-run_prepared_intent pod = intent_for kind.RunPrepared (pod_text pod.bytes)
+abbrev pub run_prepared_intent : List ℕ → ℕ → Draw → Intent
+run_prepared_intent word = intent_for kind.RunPrepared word
 
 -- the claim was refused, or the claimed pod wasn't run to its end: this is what it rests on
-pub record RefusesRun (pod : PodId) (now : ℕ) (draw : Draw) (refusal : Refusal) (old new : Moment) : Type 0 where
+pub record RefusesRun (word : List ℕ) (pod : PodId) (address : List ℕ) (now : ℕ) (draw : Draw) (refusal : Refusal) (old new : Moment) : Type 0 where
   pub own : run_prepared_refusal refusal ≡ true
-  pub why : WithinProcess (runs_prepared pod) (λ a b. RunPreparedSays pod a b (Err refusal)) (run_prepared_intent pod now draw) (inside_in old) (inside_in new)
+  pub why : WithinProcess (approach_of word) (runs_prepared pod) (λ a b. RunPreparedSays pod address a b (Err refusal)) (run_prepared_intent word now draw) (inside_in old) (inside_in new)
 
 -- that the pod isn't prepared, or that another process holds a lock of it
 abbrev pub is_unfree_status : ℕ → Bool
@@ -37,8 +37,8 @@ is_unfree_status status = list_any (λ n. n == status) (2 ∷ 4 ∷ 5 ∷ [])
 
 -- how the pod was claimed and its apps ran; and where every process keeps the local rules, if the pod waits with its manifest after each
 -- own step, and no other process holds a lock of it, it isn't refused for such a cause
-pub record TellsRunPrepared (pod : PodId) (now : ℕ) (draw : Draw) (status : ℕ) (old new : Moment) : Type 0 where
-  pub apps : TellsApps (CameSo (runs_prepared pod) (RunPreparedSays pod) (run_prepared_intent pod now draw) (inside_in old) (inside_in new)) status old new
+pub record TellsRunPrepared (word : List ℕ) (pod : PodId) (address : List ℕ) (now : ℕ) (draw : Draw) (status : ℕ) (old new : Moment) : Type 0 where
+  pub apps : TellsApps (CameSo (approach_of word) (runs_prepared pod) (RunPreparedSays pod address) (run_prepared_intent word now draw) (inside_in old) (inside_in new)) status old new
   pub complete : WhereAllKeepRules old new (IsFreeThroughout pod (shown_at old.outside.dir) (shown_at new.outside.dir) → is_unfree_status status ≡ false)
 
 -- the pod waited in prepared before and is left in run, without an owner, and the mark and the status of each app whose line is told stand
@@ -49,16 +49,17 @@ PassesQuietly pod old new (Err NoMemory) = Unit {0}
 PassesQuietly pod old new (Err refusal) = IsRunRefusal pod refusal × HasPassed pod old.trace new.trace ⊎ ((error : ClaimError) × (refusal ≡ claim_refusal pod error) × UnclaimedFor pod error old.process old.trace new.trace)
 
 -- it looks for the pod, asks for its locks and for its move to run, reads it there and makes its notes
-abbrev pub run_prepared_command : PodId → Command
-run_prepared_command pod = record {
-  begins = Some (intent_for kind.RunPrepared (pod_text pod.bytes));
+abbrev pub run_prepared_command : List ℕ → PodId → List ℕ → Command
+run_prepared_command word pod address = record {
+  begins = Some (intent_for kind.RunPrepared word);
+  approach = approach_of word;
   asks = λ now draw. runs_prepared pod;
   reads = nothing;
   prints = λ draw bundle text. (ends : List AppEnd) × (text ≡ app_lines ends);
   refusals = run_prepared_refusal;
-  refused_for = λ now draw refusal old new. RefusesRun pod now draw refusal old new;
-  tells = λ now draw status old new. TellsRunPrepared pod now draw status old new;
+  refused_for = λ now draw refusal old new. RefusesRun word pod address now draw refusal old new;
+  tells = λ now draw status old new. TellsRunPrepared word pod address now draw status old new;
   quiet = λ now draw old new o. PassesQuietly pod old.dir new.dir o;
   leaves = λ me draw old new. LeavesBeside (is_pod_spot pod) me old new;
-  says = running (λ now draw. RunPreparedSays pod);
+  says = running (λ now draw. RunPreparedSays pod address);
 }

@@ -27,7 +27,8 @@ use Rattle.pod_claim.specs.declared.error.ClaimError.TheVariants as claim
 use Rattle.pod_claim.specs.Causes.{LacksManifest, is_held_elsewhere}
 use Rattle.pod_claim.specs.Requests.{in_prepared, in_run}
 use Rattle.commands.specs.References.{OfReferences}
-use Rattle.commands.specs.Prepare.{no_wishes, RefusesPod, HasKeptFolder}
+use Rattle.commands.specs.Prepare.{RefusesPod, HasKeptFolder}
+use Rattle.commands.specs.Wants.{Wants}
 use Rattle.commands.specs.RemovalQuiet.{StandsNowhere, HasPhaseNow}
 use Rattle.spawner.specs.Conditions.{start_mark}
 use Rattle.stage1.specs.declared.end.AppEnd.{AppEnd}
@@ -61,8 +62,8 @@ pub record IsClaimHeld (pod : PodId) (which : Which) (me : ℕ) (s : DirState) :
   pub held : list_any (is_held_elsewhere me which folder) s.namespace.openings ≡ true
 
 -- a pod that was made for this process was made faithfully, and its folder is left in run
-abbrev pub HasMadeAndLeft : List (List ℕ) → ℕ → PodId → List Event → List Event → Type 0
-HasMadeAndLeft words me draw old new = OfReferences words (λ refs. (x : IsPrepared refs no_wishes me draw area.Run old new) × IsLeftInRun draw x.folder new)
+abbrev pub HasMadeAndLeft : Wants → ℕ → PodId → List Event → List Event → Type 0
+HasMadeAndLeft wants me draw old new = OfReferences wants.images (λ refs. (x : IsPrepared refs wants.wishes me draw area.Run old new) × IsLeftInRun draw x.folder new)
 
 -- the mark of an app stands in the folder with this number, and the file of its status with that alone
 pub record HasEnded (folder : ℕ) (s : DirState) (end : AppEnd) : Type 0 where
@@ -96,7 +97,7 @@ IsRunRefusal pod refusal = (error : RunError) × (refusal ≡ run_refusal pod er
 
 -- a pod wasn't made for its run, for this cause, by the reads of its process, or by a lock as another process held it before. By its own
 -- answers the process left at most its own folder, in embryo or in prepare, without a lock
-pub record IsUnmadeFor (words : List (List ℕ)) (now : ℕ) (draw : Draw) (old new : DirSeen) (refusal : Refusal) : Type 0 where
-  pub why : RefusesPod words now draw old new refusal
+pub record IsUnmadeFor (wants : Wants) (now : ℕ) (draw : Draw) (old new : DirSeen) (refusal : Refusal) : Type 0 where
+  pub why : RefusesPod wants now draw old new refusal
   pub held : (area : Area) → refusal ≡ Busy area → IsBusyElsewhere old.process area Shared (state_after old.trace)
   pub left : HasKeptFolder draw.uuid old new

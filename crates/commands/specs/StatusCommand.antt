@@ -5,7 +5,6 @@ use Rattle.dir_model.specs.declared.area.Phase.{Phase}
 use Rattle.dir_model.specs.declared.event.Event.{Event}
 use Rattle.dir_model.specs.declared.intent.Kind.TheVariants as kind
 use Rattle.dir_model.specs.declared.pod.PodId.{PodId}
-use Rattle.dir_trait.specs.Pods.{pod_text}
 use Rattle.dir_trait.specs.Replies.{is_look_at}
 use Rattle.dir_trait.specs.Trace.{state_after}
 use Rattle.phase_read.specs.Exact.{AtOwnEvent, IsInPhase, IsNowhere}
@@ -15,6 +14,7 @@ use Rattle.command_outcomes.specs.declared.refusal.Refusal.TheVariants.{NoPod}
 use Rattle.command_outcomes.specs.Ends.{is_own_end}
 use Rattle.command_outcomes.specs.Moments.{DirSeen, Moment}
 use Rattle.commands.specs.Answers.{WritesOf}
+use Rattle.commands.specs.Opening.{approach_of}
 use Rattle.commands.specs.Command.{Command, nothing, alone, intent_for, WhereAllKeepRules}
 use Rattle.commands.specs.Status.{status_refusal, StatusSays, sequential_status}
 use Rattle.commands.specs.Texts.{state_text}
@@ -38,9 +38,10 @@ pub record TellsStatus (pod : PodId) (status : ℕ) (old new : Moment) : Type 0 
   pub nowhere : WhereAllKeepRules old new (status ≡ 2 → AtOwnEvent old.outside.dir.process old.outside.dir.trace new.outside.dir.trace (IsNowhere pod))
 
 -- it looks at the pod's six locations. Where nobody else steps it answers by the state before, and leaves everything as it was
-abbrev pub status_command : PodId → Command
-status_command pod = record {
-  begins = Some (intent_for kind.Status (pod_text pod.bytes));
+abbrev pub status_command : List ℕ → PodId → Command
+status_command word pod = record {
+  begins = Some (intent_for kind.Status word);
+  approach = approach_of word;
   asks = λ now draw. is_look_at (is_pod_spot pod);
   reads = nothing;
   prints = λ draw bundle text. (phase : Phase) × (text ≡ state_text phase);

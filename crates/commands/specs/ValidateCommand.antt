@@ -4,6 +4,7 @@ use Rattle.manifests.specs.DocumentData.{DocumentData}
 use Rattle.command_outcomes.specs.Ends.{is_own_end}
 use Rattle.command_outcomes.specs.Moments.{Moment}
 use Rattle.commands.specs.Answers.{IsAnswer}
+use Rattle.commands.specs.Opening.{directly}
 use Rattle.commands.specs.Command.{Command, reading, alone}
 use Rattle.commands.specs.Texts.{valid_text}
 use Rattle.commands.specs.Validate.{validate_refusal, ValidateSays, ReadsFile, sequential_validate}
@@ -21,6 +22,7 @@ TellsJudgement path status old new =
 abbrev pub validate_command : List ℕ → Command
 validate_command path = record {
   begins = None;
+  approach = directly;
   asks = λ now draw request. false;
   reads = reading (ReadsFile path);
   prints = λ draw bundle text. (manifest : DocumentData) × (text ≡ valid_text manifest);

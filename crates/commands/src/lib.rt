@@ -18,4 +18,4 @@ pub mod status;
 pub mod validate;
 mod wanted;
 
-pub use wanted::{Wanted, are_references};
+pub use wanted::Wanted;

@@ -9,15 +9,14 @@ ghost use Rattle.pod_build.specs.Preparations.{Began, MakesFaithfully};
 ghost use Rattle.command_outcomes.specs.Conforming.{StaysConforming};
 ghost use Rattle.command_outcomes.specs.Moments.{dir_at};
 ghost use Rattle.commands.specs.PrepareRefusals.{prepare_refusal};
-ghost use Rattle.commands.specs.Prepare.{pod_line, no_wishes, syncs, prepares_pod, sync_refusal, SyncSays, PrepareSays};
+ghost use Rattle.commands.specs.Prepare.{pod_line, syncs, prepares_pod, sync_refusal, SyncSays, PrepareSays};
 
 use crate::prepare_refusals::build_refusal;
 use crate::wanted::Wanted;
-use ac_types::{NoMemory, Sequence};
+use ac_types::NoMemory;
 use command_outcomes::{Output, Refusal};
 use dir_trait::{Area, Dir, DirError, Draw, PodId};
 use pod_build::prepare;
-use pod_manifest::Options;
 use std::alloc::Global;
 
 /// The line that names the pod. Refused only where memory ran out.
@@ -28,15 +27,6 @@ pub fn pod_line(alloc: Global, pod: PodId) -> Result<Output, NoMemory>
     let mut line = Output::of(alloc, name.as_str())?;
     line.push("\n")?;
     Ok(line)
-}
-
-/// No volume and no mount.
-pub fn no_options(alloc: Global) -> Options
-    ensures { result ≡ no_wishes }
-{
-    let volumes = Sequence::new(alloc);
-    let mounts = Sequence::new(alloc);
-    Options { volumes, mounts }
 }
 
 fn sync_refusal(error: DirError) -> Refusal
@@ -80,19 +70,27 @@ fn prepare_saying<D: Dir>(
     ensures makers { D.observed ≡ true → MakesFaithfully Area.Prepared draw.now now (D.shown dir.old) (D.shown dir.new) }
     ensures says { PrepareSays wanted.now now draw.now (dir_at D.Dir dir.old) (dir_at D.Dir dir.new) result }
 {
-    let options = no_options(alloc);
-    match prepare(alloc, dir, wanted.refs(), &options, draw, now, false) {
+    match prepare(
+        alloc,
+        dir,
+        wanted.refs(),
+        wanted.options(),
+        draw,
+        now,
+        false,
+    ) {
         Ok(_) => sync_saying(alloc, line, dir),
         Err(error) => Err(build_refusal(alloc, wanted.words(), error)),
     }
 }
 
-/// The line that `prepare` prints: the name of a pod of the best images of the store for these words, which is then in
-/// prepared, and outlasts a stop of the machine. `now` is the moment of its making; its name and its token are drawn.
+/// The line that `prepare` prints: the name of a pod of the best images of the store for what is wanted, with the
+/// volumes and mounts that are asked for, which is then in prepared, and outlasts a stop of the machine. `now` is the moment of its making; its name and its token are drawn.
 ///
 /// `Busy` where another process holds the lock of images or of embryo exclusively. `NoImage` with the first word that
 /// no image matches; `NoDependency`, `Cycle` and `Limit` at the first fault in an image's dependencies. `BadManifest`
-/// with the name of an image without an app, of an app that runs no program, or of one that comes a second time.
+/// with the name of an image without an app, of an app that runs no program, of one that comes a second time, or of the
+/// volume of a mount that no volume has.
 /// `Limit` where there are too many apps, or a root is too large. `Damaged` where a file of the store is missing, has no
 /// reading or differs from its image's listing. `Taken` where a folder with the drawn name stands in embryo. `Stray`
 /// where the directory's answers contradict what this process made; `DirFault` where it failed. With `DirFault` and

@@ -12,7 +12,7 @@ ghost use Rattle.command_outcomes.specs.Moments.{dir_at, inside_at};
 ghost use Rattle.commands.specs.RunRefusals.{new_run_refusal};
 ghost use Rattle.commands.specs.Run.{makes_and_runs, CanRun, NewRunSays, RunIsTold};
 
-use crate::prepare::{no_options, pod_line};
+use crate::prepare::pod_line;
 use crate::prepare_refusals::build_refusal;
 use crate::running::run_owned;
 use crate::wanted::Wanted;
@@ -39,6 +39,7 @@ fn run_saying<D: Dir, S: Spawner>(
     alloc: Global,
     line: Output,
     wanted: &Wanted,
+    address: &str,
     now: u64,
     draw: &Draw,
     dir: &mut D,
@@ -54,23 +55,24 @@ fn run_saying<D: Dir, S: Spawner>(
     ensures refusals { IfErr result (λ r. new_run_refusal r ≡ true) }
     ensures known { D.observed ≡ true → (intent : Intent) → Began Area.Run draw.now now intent → StaysConforming intent (dir_at D.Dir dir.old) (dir_at D.Dir dir.new) }
     ensures makers { D.observed ≡ true → MakesFaithfully Area.Run draw.now now (D.shown dir.old) (D.shown dir.new) }
-    ensures says { NewRunSays D.observed S.observed wanted.now now draw.now (D.shown dir.old) (D.shown dir.new) (S.shown spawner.old) (S.shown spawner.new) result }
+    ensures says { NewRunSays D.observed S.observed wanted.now address.now now draw.now (D.shown dir.old) (D.shown dir.new) (S.shown spawner.old) (S.shown spawner.new) result }
 {
-    let options = no_options(alloc);
-    match prepare(alloc, dir, wanted.refs(), &options, draw, now, true) {
-        Ok(built) => run_owned(alloc, line, kept(built), dir, spawner),
+    match prepare(alloc, dir, wanted.refs(), wanted.options(), draw, now, true) {
+        Ok(built) => run_owned(alloc, line, kept(built), address, dir, spawner),
         Err(error) => Err(build_refusal(alloc, wanted.words(), error)),
     }
 }
 
-/// The lines that `run` prints: the name of a pod of the best images of the store for these words, and then one line of
-/// each app with its status, in the order of the pod's manifest, after the last app has ended. The pod goes from prepare
-/// to run with its lock kept. `now` is the moment of its making; its name and its token are drawn.
+/// The lines that `run` prints: the name of a pod of the best images of the store for what is wanted, and then one line
+/// of each app with its status, in the order of the pod's manifest, after the last app has ended. The pod goes from
+/// prepare to run with its lock kept. `address` is that of the metadata service, which the apps find in their
+/// environment; `now` is the moment of the pod's making; its name and its token are drawn.
 ///
 /// Refused as a prepare of these images; and then as `run-prepared` of a claimed pod, which is exited then.
 pub fn run<D: Dir, S: Spawner>(
     alloc: Global,
     wanted: &Wanted,
+    address: &str,
     now: u64,
     draw: &Draw,
     dir: &mut D,
@@ -85,11 +87,11 @@ pub fn run<D: Dir, S: Spawner>(
     ensures refusals { IfErr result (λ r. new_run_refusal r ≡ true) }
     ensures known { D.observed ≡ true → (intent : Intent) → Began Area.Run draw.now now intent → StaysConforming intent (dir_at D.Dir dir.old) (dir_at D.Dir dir.new) }
     ensures makers { D.observed ≡ true → MakesFaithfully Area.Run draw.now now (D.shown dir.old) (D.shown dir.new) }
-    ensures says { RunIsTold wanted.now now draw.now (inside_at D.Dir S.Spawner dir.old spawner.old) (inside_at D.Dir S.Spawner dir.new spawner.new) result }
+    ensures says { RunIsTold wanted.now address.now now draw.now (inside_at D.Dir S.Spawner dir.old spawner.old) (inside_at D.Dir S.Spawner dir.new spawner.new) result }
 {
     // Made first: a pod whose apps ran can't be named where there is no memory for its line.
     match pod_line(alloc, draw.uuid) {
-        Ok(line) => run_saying(alloc, line, wanted, now, draw, dir, spawner),
+        Ok(line) => run_saying(alloc, line, wanted, address, now, draw, dir, spawner),
         Err(_) => Err(Refusal::NoMemory),
     }
 }

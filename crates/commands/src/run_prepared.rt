@@ -20,7 +20,7 @@ use std::alloc::Global;
 
 /// The lines that `run-prepared` prints, one of each app with its status, in the order of the pod's manifest, after the
 /// last app has ended. The pod is claimed and moved to run, its apps are started there and waited for, and its own lock
-/// is given up.
+/// is given up. `address` is that of the metadata service, which the apps find in their environment.
 ///
 /// `NoPod`, `WrongPhase`, `NoManifest` and `PodBusy` where the pod isn't claimed: then it is as it was. `NoManifest`,
 /// `Damaged` and `NoProgram` where a file of the pod is missing or has no reading, or an app's root has no program for
@@ -29,6 +29,7 @@ use std::alloc::Global;
 pub fn run_prepared<D: Dir, S: Spawner>(
     alloc: Global,
     pod: PodId,
+    address: &str,
     dir: &mut D,
     spawner: &mut S,
 ) -> Result<Told, Refusal>
@@ -40,10 +41,10 @@ pub fn run_prepared<D: Dir, S: Spawner>(
     ensures spawn_cause { IsErrOf result Refusal.SpawnFault → Rose (S.shown spawner.old).faults (S.shown spawner.new).faults }
     ensures refusals { IfErr result (λ r. run_prepared_refusal r ≡ true) }
     ensures known { D.observed ≡ true → (intent : Intent) → is_run_prepared intent.kind ≡ true → StaysConforming intent (dir_at D.Dir dir.old) (dir_at D.Dir dir.new) }
-    ensures says { RunPreparedSays pod (inside_at D.Dir S.Spawner dir.old spawner.old) (inside_at D.Dir S.Spawner dir.new spawner.new) result }
+    ensures says { RunPreparedSays pod address.now (inside_at D.Dir S.Spawner dir.old spawner.old) (inside_at D.Dir S.Spawner dir.new spawner.new) result }
 {
     match claim(alloc, dir, pod) {
-        Ok(owned) => run_owned(alloc, Output::new(alloc), owned, dir, spawner),
+        Ok(owned) => run_owned(alloc, Output::new(alloc), owned, address, dir, spawner),
         Err(error) => Err(claim_refusal(pod, error)),
     }
 }

@@ -17,15 +17,14 @@ use spawner::Spawner;
 use stage1::run_pod;
 use std::alloc::Global;
 
-// Where the metadata service listens by default.
-const METADATA: &str = "127.0.0.1:18112";
-
-/// Runs the apps of the pod to their ends, and tells each with its status after the text. The pod's own lock is given
+/// Runs the apps of the pod to their ends, with this address of the metadata service in their environment, and tells
+/// each with its status after the text. The pod's own lock is given
 /// up before.
 pub(crate) fn run_owned<D: Dir, S: Spawner>(
     alloc: Global,
     text: Output,
     owned: Owned,
+    address: &str,
     dir: &mut D,
     spawner: &mut S,
 ) -> Result<Told, Refusal>
@@ -37,10 +36,10 @@ pub(crate) fn run_owned<D: Dir, S: Spawner>(
     ensures spawn_cause { IsErrOf result Refusal.SpawnFault → Rose (S.shown spawner.old).faults (S.shown spawner.new).faults }
     ensures refusals { IfErr result (λ r. apps_refusal r ≡ true) }
     ensures keeps { D.observed ≡ true → KeepsToEnd owned.pod owned.own (D.shown dir.old) (D.shown dir.new) }
-    ensures says { RunSays D.observed S.observed owned text (D.shown dir.old) (D.shown dir.new) (S.shown spawner.old) (S.shown spawner.new) result }
+    ensures says { RunSays D.observed S.observed owned address.now text (D.shown dir.old) (D.shown dir.new) (S.shown spawner.old) (S.shown spawner.new) result }
 {
     let pod = owned.pod;
-    match run_pod(alloc, dir, spawner, owned, METADATA) {
+    match run_pod(alloc, dir, spawner, owned, address) {
         Ok(ends) => tell(alloc, text, ends.as_slice()),
         Err(error) => Err(run_refusal(alloc, pod, error)),
     }

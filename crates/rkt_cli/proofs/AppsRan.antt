@@ -1,28 +1,29 @@
 -- What the commands tell that start apps.
-use Rattle.std.proofs.Common.{◌≡◌, ◌≢◌, ◌⊎◌, inl, inr, ℕ, ◌==◌, Bool, true, false, ◌||◌, List, [], ◌++◌, Option, Some, None, Result, Ok, Err, IfOk, IsErrOf, refl, sym, ap, subst, ◌∙◌}
+use Rattle.std.proofs.Common.{◌≡◌, ◌≢◌, ◌⊎◌, inl, inr, ℕ, ◌==◌, Bool, true, false, ◌||◌, List, [], ◌++◌, Some, Result, Ok, Err, IfOk, IsErrOf, refl, sym, ap, subst, ◌∙◌}
 use Rattle.dir_model.specs.declared.intent.Draw.{Draw}
 use Rattle.dir_model.specs.declared.intent.Intent.{Intent}
 use Rattle.dir_model.specs.declared.pod.PodId.{PodId}
 use Rattle.stage1.specs.declared.end.AppEnd.{AppEnd}
 use Rattle.command_outcomes.specs.declared.refusal.Refusal.{Refusal}
-use Rattle.command_outcomes.specs.declared.refusal.Refusal.TheVariants.{Usage, SpawnFault, NoMemory}
+use Rattle.command_outcomes.specs.declared.refusal.Refusal.TheVariants.{SpawnFault, NoMemory}
 use Rattle.command_outcomes.specs.declared.told.Told.{Told}
-use Rattle.command_outcomes.specs.Moments.{Inside, Outside, SpawnerSeen, Moment, Answer, outcome_of, is_well}
+use Rattle.command_outcomes.specs.Moments.{Inside, Moment, Answer, outcome_of, is_well}
 use Rattle.command_outcomes.specs.Texts.{status_of}
 use Rattle.commands.specs.Prepare.{pod_line}
 use Rattle.commands.specs.AppEnds.{app_lines}
 use Rattle.commands.specs.RunPrepared.{RunPreparedSays}
 use Rattle.commands.specs.RunRefusals.{claim_refusal}
 use Rattle.commands.specs.Run.{NewRunSays, RunIsTold}
-use Rattle.rkt_cli.specs.declared.line.Line.{Line}
-use Rattle.rkt_cli.specs.declared.line.Line.TheVariants.{RunPrepared, Run}
+use Rattle.rkt_cli.specs.Tasks.{Task}
+use Rattle.rkt_cli.specs.Tasks.{RunPrepared, Run}
 use Rattle.commands.specs.Answers.{Complained, inside_in}
 use Rattle.commands.specs.AppsTold.{well_status, TellsApps}
 use Rattle.rkt_cli.specs.Commands.{runs_apps, intent_of}
-use Rattle.rkt_cli.specs.Runs.{AppsIn, End, Unwritten, Printed, Reported, end_status, end_of_writing, status_at, RunOfLine, RunOfNothing, RunOf, RunIs}
+use Rattle.rkt_cli.specs.Runs.{AppsIn, End, Unwritten, Printed, Reported, end_status, end_of_writing, status_at, RunOfLine, RunOf, RunIs}
 use Rattle.rkt_cli.specs.Spawns.{CameBetween}
 use Rattle.rkt_cli.proofs.Ends.{absurd_number, refusal_plain}
 use Rattle.rkt_cli.proofs.Grades.{unhurt_line}
+use Rattle.commands.specs.Wants.{Wants}
 
 abbrev telling : Told → Answer
 telling t = Ok t
@@ -31,34 +32,33 @@ telling t = Ok t
 told_text : (told : Told) (text front : List ℕ) (ends : List AppEnd) → Ok text ≡ outcome_of (telling told) → told.text ≡ front ++ app_lines ends → text ≡ front ++ app_lines ends
 told_text told text front ends is told_is = let e : text ≡ told.text = cc in e ∙ told_is
 
-prepared_text : (pod : PodId) (a b : Inside) (answer : Answer) (text : List ℕ) → Ok text ≡ outcome_of answer → RunPreparedSays pod a b answer → (ends : List AppEnd) × (text ≡ app_lines ends)
+prepared_text : {address : List ℕ} (pod : PodId) (a b : Inside) (answer : Answer) (text : List ℕ) → Ok text ≡ outcome_of answer → RunPreparedSays pod address a b answer → (ends : List AppEnd) × (text ≡ app_lines ends)
 prepared_text pod a b (Err r) text is says = cc
 prepared_text pod a b (Ok told) text is says =
     elim says.so [ inl x ↦ (x.says.ends, told_text told text [] x.says.ends is (ap (λ (t : Told). t.text) x.says.is)) | inr x ↦ let clash : telling told ≡ Err (claim_refusal pod x.error) = x.is in cc ]
 
-made_text : (words : List (List ℕ)) (now : ℕ) (draw : Draw) (a b : Inside) (answer : Answer) (text : List ℕ) → Ok text ≡ outcome_of answer → RunIsTold words now draw a b answer → (ends : List AppEnd) × (text ≡ pod_line draw.uuid ++ app_lines ends)
-made_text words now draw a b (Err r) text is says = cc
-made_text words now draw a b (Ok told) text is says = by says.so
+made_text : {address : List ℕ} (wants : Wants) (now : ℕ) (draw : Draw) (a b : Inside) (answer : Answer) (text : List ℕ) → Ok text ≡ outcome_of answer → RunIsTold wants address now draw a b answer → (ends : List AppEnd) × (text ≡ pod_line draw.uuid ++ app_lines ends)
+made_text wants now draw a b (Err r) text is says = cc
+made_text {address = address} wants now draw a b (Ok told) text is says = by says.so
   where
-    by : NewRunSays a.dir.observed a.spawner.observed words now draw says.from says.to a.spawner.shown b.spawner.shown (telling told) → (ends : List AppEnd) × (text ≡ pod_line draw.uuid ++ app_lines ends)
+    by : NewRunSays a.dir.observed a.spawner.observed wants address now draw says.from says.to a.spawner.shown b.spawner.shown (telling told) → (ends : List AppEnd) × (text ≡ pod_line draw.uuid ++ app_lines ends)
     by (inl x) = (x.says.ends, told_text told text (pod_line draw.uuid) x.says.ends is (ap (λ (t : Told). t.text) x.says.is))
     by (inr (inl x)) = let clash : telling told ≡ Err x.is.0 = x.is.1 in cc
     by (inr (inr x)) = let clash : telling told ≡ Err NoMemory = x.is in cc
 
-pub run_prepared_printed : (pod : PodId) (now : ℕ) (draw : Draw) (intent : Intent) (a b : Inside) (answer : Answer) (text : List ℕ) → Ok text ≡ outcome_of answer → CameBetween (RunPrepared pod) now draw (Some intent) a b answer → (ends : List AppEnd) × (text ≡ app_lines ends)
-run_prepared_printed pod now draw intent a b answer text is (inl x) = prepared_text pod _ _ answer text is x.came
-run_prepared_printed pod now draw intent a b answer text is (inr x) = let clash : Ok text ≡ Err NoMemory = is ∙ ap outcome_of x.0 in cc
+pub run_prepared_printed : (word : List ℕ) {address : List ℕ} (pod : PodId) (now : ℕ) (draw : Draw) (intent : Intent) (a b : Inside) (answer : Answer) (text : List ℕ) → Ok text ≡ outcome_of answer → CameBetween (RunPrepared word pod address) now draw (Some intent) a b answer → (ends : List AppEnd) × (text ≡ app_lines ends)
+run_prepared_printed word pod now draw intent a b answer text is (inl x) = prepared_text pod _ _ answer text is x.came
+run_prepared_printed word pod now draw intent a b answer text is (inr x) = let clash : Ok text ≡ Err NoMemory = is ∙ ap outcome_of x.0 in cc
 
-pub run_printed : (words : List (List ℕ)) (now : ℕ) (draw : Draw) (intent : Intent) (a b : Inside) (answer : Answer) (text : List ℕ) → Ok text ≡ outcome_of answer → CameBetween (Run words) now draw (Some intent) a b answer →
+pub run_printed : {address : List ℕ} (wants : Wants) (now : ℕ) (draw : Draw) (intent : Intent) (a b : Inside) (answer : Answer) (text : List ℕ) → Ok text ≡ outcome_of answer → CameBetween (Run wants address) now draw (Some intent) a b answer →
     (ends : List AppEnd) × (text ≡ pod_line draw.uuid ++ app_lines ends)
-run_printed words now draw intent a b answer text is (inl x) = made_text words now draw _ _ answer text is x.came
-run_printed words now draw intent a b answer text is (inr x) = let clash : Ok text ≡ Err NoMemory = is ∙ ap outcome_of x.0 in cc
+run_printed wants now draw intent a b answer text is (inl x) = made_text wants now draw _ _ answer text is x.came
+run_printed wants now draw intent a b answer text is (inr x) = let clash : Ok text ≡ Err NoMemory = is ∙ ap outcome_of x.0 in cc
 
 -- no run has the plain status 16
-never_sixteen : (l : Option Line) (now : ℕ) (draw : Draw) (old new : Moment) (plain : ℕ) {X : Type 0} → RunOf l now draw old new plain → plain ≡ 16 → X
-never_sixteen None now draw old new plain r is = absurd_number 1 16 (sym r.is ∙ is) refl
-never_sixteen (Some line) now draw old new plain (inr n) is = absurd_number 14 16 (sym n.is ∙ is) refl
-never_sixteen (Some line) now draw old new plain {X} (inl r) is = by r.end (sym r.is ∙ is)
+never_sixteen : (task : Task) (now : ℕ) (draw : Draw) (old new : Moment) (plain : ℕ) {X : Type 0} → RunOf task now draw old new plain → plain ≡ 16 → X
+never_sixteen task now draw old new plain (inr n) is = absurd_number 14 16 (sym n.is ∙ is) refl
+never_sixteen task now draw old new plain {X} (inl r) is = by r.end (sym r.is ∙ is)
   where
     second : (a b : Bool) → (a || b) ≡ false → b ≡ false
     second false b h = h
@@ -69,7 +69,7 @@ never_sixteen (Some line) now draw old new plain {X} (inl r) is = by r.end (sym 
     by (Err q) e = absurd_number (status_of q) 16 e (second (status_of q == 0) (status_of q == 16) (refusal_plain q))
 
 -- what a command told that starts apps
-module _ (line : Line) (now : ℕ) (draw : Draw) (old new : Moment) where
+module _ (line : Task) (now : ℕ) (draw : Draw) (old new : Moment) where
   abbrev Tells : ℕ → Type 0
   Tells status = TellsApps (CameBetween line now draw (intent_of line now draw) (inside_in old) (inside_in new)) status old new
 
@@ -107,15 +107,12 @@ module _ (line : Line) (now : ℕ) (draw : Draw) (old new : Moment) where
   line_so (Ok told) end well came printed reported = told_so told end well came printed
   line_so (Err q) end well came printed reported = refused_so q end came printed reported
 
-  nothing_so : (plain : ℕ) → RunOfNothing NoMemory old new plain → Tells plain
-  nothing_so plain n = inr (inr (inr (n.is, ap (λ (x : Outside). record { dir = x.dir; spawner = new.spawner }) n.outside ∙ ap (λ (x : SpawnerSeen). record { dir = old.outside.dir; spawner = x }) n.spawner)))
-
 -- why the spawner's count rose
 pub spawns : (answer : Answer) → outcome_of answer ≡ Err SpawnFault → IsErrOf answer SpawnFault
 spawns (Ok told) is = cc
 spawns (Err r) is = let same : r ≡ SpawnFault = cc in subst (λ (x : Refusal). IsErrOf {T = Told} (Err x) SpawnFault) (sym same) refl
 
-abbrev Apps : Option Line → ℕ → Draw → Moment → Moment → ℕ → Type 0
+abbrev Apps : Task → ℕ → Draw → Moment → Moment → ℕ → Type 0
 Apps l now draw old new status = AppsIn l now draw status old new
 
 -- the status that a writing ends with, which is 16 only where apps ran
@@ -126,38 +123,25 @@ graded_end false answer (Ok false) only well = let clash : false ≡ true = well
 graded_end runs answer (Err q) only well = inl refl
 
 -- a run of a line
-pub line_is : (line : Line) (now : ℕ) (draw : Draw) (old new : Moment) (answer : Answer) (end : Result Bool Refusal) (status : ℕ) → status ≡ status_at end → IfOk end (λ well. well ≡ is_well answer)
+pub line_is : (line : Task) (now : ℕ) (draw : Draw) (old new : Moment) (answer : Answer) (end : Result Bool Refusal) (status : ℕ) → status ≡ status_at end → IfOk end (λ well. well ≡ is_well answer)
     → RunOfLine line now draw (intent_of line now draw) old new (end_status (end_of_writing end)) → CameBetween line now draw (intent_of line now draw) (inside_in old) (inside_in new) answer
-    → Printed (outcome_of answer) old.out new.out (end_of_writing end) → Reported (end_of_writing end) old.err new.err → RunIs (Some line) now draw old new status
+    → Printed (outcome_of answer) old.out new.out (end_of_writing end) → Reported (end_of_writing end) old.err new.err → RunIs line now draw old new status
 line_is line now draw old new answer end status is well r came printed reported = record {
   plain = end_status (end_of_writing end);
   ran = inl r;
   is = elim graded [ inl e ↦ inl (is ∙ e) | inr x ↦ inr (is ∙ x.0, x.1, x.2) ];
-  apps = subst (λ (n : ℕ). Apps (Some line) now draw old new n) (sym is) (by line r came);
+  apps = subst (λ (n : ℕ). Apps line now draw old new n) (sym is) (by line r came);
 }
   where
     graded : (status_at end ≡ end_status (end_of_writing end)) ⊎ ((status_at end ≡ 16) × (end_status (end_of_writing end) ≡ 0) × (runs_apps line ≡ true))
     graded = graded_end (runs_apps line) answer end (λ none. unhurt_line line now draw (intent_of line now draw) (inside_in old) (inside_in new) answer none came) well
 
-    never : (k : Line) → runs_apps k ≡ false → RunOfLine k now draw (intent_of k now draw) old new (end_status (end_of_writing end)) → CameBetween k now draw (intent_of k now draw) (inside_in old) (inside_in new) answer → status_at end ≢ 16
+    never : (k : Task) → runs_apps k ≡ false → RunOfLine k now draw (intent_of k now draw) old new (end_status (end_of_writing end)) → CameBetween k now draw (intent_of k now draw) (inside_in old) (inside_in new) answer → status_at end ≢ 16
     never k none r came sixteen =
         let plain : end_status (end_of_writing end) ≡ 16 = elim (graded_end (runs_apps k) answer end (λ none. unhurt_line k now draw (intent_of k now draw) (inside_in old) (inside_in new) answer none came) well) [ inl e ↦ sym e ∙ sixteen | inr x ↦ let clash : false ≡ true = sym none ∙ x.2 in cc ] in
-        never_sixteen (Some k) now draw old new (end_status (end_of_writing end)) (inl r) plain
+        never_sixteen k now draw old new (end_status (end_of_writing end)) (inl r) plain
 
-    by : (k : Line) → RunOfLine k now draw (intent_of k now draw) old new (end_status (end_of_writing end)) → CameBetween k now draw (intent_of k now draw) (inside_in old) (inside_in new) answer → Apps (Some k) now draw old new (status_at end)
-    by (RunPrepared pod) r came = line_so (RunPrepared pod) now draw old new answer end well came printed reported
-    by (Run words) r came = line_so (Run words) now draw old new answer end well came printed reported
+    by : (k : Task) → RunOfLine k now draw (intent_of k now draw) old new (end_status (end_of_writing end)) → CameBetween k now draw (intent_of k now draw) (inside_in old) (inside_in new) answer → Apps k now draw old new (status_at end)
+    by (RunPrepared word pod address) r came = line_so (RunPrepared word pod address) now draw old new answer end well came printed reported
+    by (Run wants address) r came = line_so (Run wants address) now draw old new answer end well came printed reported
     by k r came = never k refl r came
-
--- a run of nothing, for want of memory
-pub nothing_is : (line : Line) (now : ℕ) (draw : Draw) (old new : Moment) (status : ℕ) → RunOfNothing NoMemory old new status → RunIs (Some line) now draw old new status
-nothing_is line now draw old new status n = record { plain = status; ran = inr n; is = inl refl; apps = by line }
-  where
-    by : (k : Line) → Apps (Some k) now draw old new status
-    by (RunPrepared pod) = nothing_so (RunPrepared pod) now draw old new status n
-    by (Run words) = nothing_so (Run words) now draw old new status n
-    by k = λ sixteen. absurd_number 14 16 (sym n.is ∙ sixteen) refl
-
--- words that are no command
-pub usage_is : (now : ℕ) (draw : Draw) (old new : Moment) (status : ℕ) → RunOfNothing Usage old new status → RunIs None now draw old new status
-usage_is now draw old new status n = record { plain = status; ran = n; is = inl refl; apps = λ sixteen. absurd_number 1 16 (sym n.is ∙ sixteen) refl }

@@ -6,7 +6,7 @@ use Rattle.bundle_image.specs.declared.refusal.BundleRefusal.TheVariants as bund
 use Rattle.bundle_image.specs.Refusals.{IsOutside}
 use Rattle.image_store.specs.Imports.{IsRefused}
 use Rattle.image_store.specs.Refusals.{bundle_refusal}
-use Rattle.rkt_cli.specs.declared.line.Line.TheVariants.{ImageImport}
+use Rattle.rkt_cli.specs.Tasks.{ImageImport}
 use Rattle.command_outcomes.specs.declared.refusal.Refusal.{Refusal}
 use Rattle.command_outcomes.specs.declared.refusal.Refusal.TheVariants.{NoMemory}
 use Rattle.command_outcomes.specs.Texts.{status_of}

@@ -29,8 +29,8 @@ use Rattle.commands.specs.RunPreparedCommand.{RefusesRun}
 use Rattle.commands.specs.Status.{read_outcome}
 use Rattle.commands.specs.StatusCommand.{RefusesStatus}
 use Rattle.commands.proofs.ImageImports.{is_memory}
-use Rattle.rkt_cli.specs.declared.line.Line.{Line}
-use Rattle.rkt_cli.specs.declared.line.Line.TheVariants.{Status, Validate, ImageList, ImageImport, ImageRm, ImageGc, Prepare, RunPrepared, Run, Rm, Gc}
+use Rattle.rkt_cli.specs.Tasks.{Task}
+use Rattle.rkt_cli.specs.Tasks.{Status, Validate, ImageList, ImageImport, ImageRm, ImageGc, Prepare, RunPrepared, Run, Rm, Gc}
 use Rattle.rkt_cli.specs.Commands.{command_in, intent_of, may}
 use Rattle.rkt_cli.specs.Promises.{RefusedFor}
 use Rattle.rkt_cli.specs.Runs.{Performs, RunOfLine, Unwritten}
@@ -42,7 +42,8 @@ use Rattle.rkt_cli.proofs.Outcomes.{fault_cause, bundle_cause, refusals_of, does
 use Rattle.rkt_cli.proofs.PodRan.{prepare_refused, prepare_busy, is_fault}
 use Rattle.rkt_cli.proofs.PodRemovals.{rm_none, rm_stray, rm_busy, rm_wrong, rm_bare, gc_stray}
 use Rattle.rkt_cli.proofs.Removals.{removal_busy, removal_unnamed, removal_none, removal_stray, sweep_stray}
-use Rattle.rkt_cli.proofs.Sessions.{any_call, begin_part, finish_part}
+use Rattle.rkt_cli.proofs.Sessions.{any_call, begin_any, finish_part}
+use Rattle.commands.specs.Wants.{Wants}
 
 -- the refusals that aren't of one command
 abbrev pub is_shared : Refusal → Bool
@@ -78,18 +79,18 @@ missing_read pod me old new (At phase area) is read = cc
 missing_read pod me old new Gone is read = read
 
 module _ (now : ℕ) (draw : Draw) (old new : Outside) where
-  abbrev Fails : Line → Refusal → Type 0
+  abbrev Fails : Task → Refusal → Type 0
   Fails line r = Performs line now draw (intent_of line now draw) old new (Err r)
 
-  missing : (pod : PodId) → Fails (Status pod) NoPod → old.dir.observed ≡ true → LeftOut old.dir.process old.dir.trace new.dir.trace pod stages
+  missing : {word : List ℕ} (pod : PodId) → Fails (Status word pod) NoPod → old.dir.observed ≡ true → LeftOut old.dir.process old.dir.trace new.dir.trace pod stages
   missing pod (inl s) t =
       let d = s.ran.says refl in
       let me = old.dir.process in
       let read : LeftOut s.begun.dir.process s.begun.dir.trace s.ended.dir.trace pod stages = missing_read pod s.begun.dir.process s.begun.dir.trace s.ended.dir.trace d.found d.is (d.told (s.told ∙ t)) in
-      left_out_before pod {asks = any_call} me me old.dir.trace s.ended.dir.trace new.dir.trace stages (left_out_after pod {asks = any_call} me s.begun.dir.process old.dir.trace s.begun.dir.trace s.ended.dir.trace stages (begin_part s t any_call refl) s.me read) refl (finish_part s t any_call refl)
+      left_out_before pod {asks = any_call} me me old.dir.trace s.ended.dir.trace new.dir.trace stages (left_out_after pod {asks = any_call} me s.begun.dir.process old.dir.trace s.begun.dir.trace s.ended.dir.trace stages (begin_any s t) s.me read) refl (finish_part s t any_call refl)
   missing pod (inr n) t = let e = n.is in cc
 
-  status_refused : (pod : PodId) (r : Refusal) → Fails (Status pod) r → is_shared r ≡ false → may (Status pod) r ≡ true → RefusesStatus pod r old.dir new.dir
+  status_refused : {word : List ℕ} (pod : PodId) (r : Refusal) → Fails (Status word pod) r → is_shared r ≡ false → may (Status word pod) r ≡ true → RefusesStatus pod r old.dir new.dir
   status_refused pod NoPod p plain own = missing pod p
   status_refused pod NoMemory p plain own = let clash : true ≡ false = plain in cc
   status_refused pod DirFault p plain own = let clash : true ≡ false = plain in cc
@@ -134,40 +135,40 @@ module _ (now : ℕ) (draw : Draw) (old new : Outside) where
   sweep_refused DirFault p plain own = let clash : true ≡ false = plain in cc
   sweep_refused r p plain own = let clash : false ≡ true = own in cc
 
-  prepare_own : (words : List (List ℕ)) (r : Refusal) → is_shared r ≡ false → may (Prepare words) r ≡ true → prepare_refusal r ≡ true
-  prepare_own words NoMemory plain own = let clash : true ≡ false = plain in cc
-  prepare_own words DirFault plain own = let clash : true ≡ false = plain in cc
-  prepare_own words BundleFault plain own = let clash : true ≡ false = plain in cc
-  prepare_own words SpawnFault plain own = let clash : true ≡ false = plain in cc
-  prepare_own words OutFault plain own = let clash : true ≡ false = plain in cc
-  prepare_own words Usage plain own = let clash : true ≡ false = plain in cc
-  prepare_own words r plain own = own
+  prepare_own : (wants : Wants) (r : Refusal) → is_shared r ≡ false → may (Prepare wants) r ≡ true → prepare_refusal r ≡ true
+  prepare_own wants NoMemory plain own = let clash : true ≡ false = plain in cc
+  prepare_own wants DirFault plain own = let clash : true ≡ false = plain in cc
+  prepare_own wants BundleFault plain own = let clash : true ≡ false = plain in cc
+  prepare_own wants SpawnFault plain own = let clash : true ≡ false = plain in cc
+  prepare_own wants OutFault plain own = let clash : true ≡ false = plain in cc
+  prepare_own wants Usage plain own = let clash : true ≡ false = plain in cc
+  prepare_own wants r plain own = own
 
-  prepare_causes : (words : List (List ℕ)) (r : Refusal) → Fails (Prepare words) r → is_shared r ≡ false → may (Prepare words) r ≡ true → RefusesPrepare words now draw r old.dir new.dir
-  prepare_causes words r p plain own = record {
-    own = prepare_own words r plain own;
-    why = prepare_refused words now draw (intent_of (Prepare words) now draw) old new r (no_fault r plain) p;
-    held = λ area is t. prepare_busy words now draw old new area (subst (λ (q : Refusal). Fails (Prepare words) q) is p) t;
+  prepare_causes : (wants : Wants) (r : Refusal) → Fails (Prepare wants) r → is_shared r ≡ false → may (Prepare wants) r ≡ true → RefusesPrepare wants now draw r old.dir new.dir
+  prepare_causes wants r p plain own = record {
+    own = prepare_own wants r plain own;
+    why = prepare_refused wants now draw (intent_of (Prepare wants) now draw) old new r (no_fault r plain) p;
+    held = λ area is t. prepare_busy wants now draw old new area (subst (λ (q : Refusal). Fails (Prepare wants) q) is p) t;
   }
 
-  rm_refused : (pod : PodId) (r : Refusal) → Fails (Rm pod) r → is_shared r ≡ false → may (Rm pod) r ≡ true → RefusesRm pod r old.dir new.dir
-  rm_refused pod NoPod p plain own = λ t. rm_none pod now draw (intent_of (Rm pod) now draw) old new t p
+  rm_refused : {word : List ℕ} (pod : PodId) (r : Refusal) → Fails (Rm word pod) r → is_shared r ≡ false → may (Rm word pod) r ≡ true → RefusesRm pod r old.dir new.dir
+  rm_refused {word = word} pod NoPod p plain own = λ t. rm_none word pod now draw (intent_of (Rm word pod) now draw) old new t p
   rm_refused pod (WrongPhase phase) p plain own = rm_wrong pod now draw old new phase p
-  rm_refused pod (NoManifest other) p plain own = rm_bare pod now draw (intent_of (Rm pod) now draw) old new other p
+  rm_refused {word = word} pod (NoManifest other) p plain own = rm_bare word pod now draw (intent_of (Rm word pod) now draw) old new other p
   rm_refused pod (PodBusy other which) p plain own = rm_busy pod now draw old new other which p
-  rm_refused pod Stray p plain own = rm_stray pod now draw (intent_of (Rm pod) now draw) old new p
+  rm_refused {word = word} pod Stray p plain own = rm_stray word pod now draw (intent_of (Rm word pod) now draw) old new p
   rm_refused pod NoMemory p plain own = let clash : true ≡ false = plain in cc
   rm_refused pod DirFault p plain own = let clash : true ≡ false = plain in cc
   rm_refused pod r p plain own = let clash : false ≡ true = own in cc
 
-  gc_refused : (r : Refusal) → Fails Gc r → is_shared r ≡ false → may Gc r ≡ true → RefusesGc r old.dir new.dir
-  gc_refused Stray p plain own = gc_stray now draw (intent_of Gc now draw) old new p
+  gc_refused : {grace : ℕ} {expire : ℕ} (r : Refusal) → Fails (Gc grace expire) r → is_shared r ≡ false → may (Gc grace expire) r ≡ true → RefusesGc r old.dir new.dir
+  gc_refused {grace = grace} {expire = expire} Stray p plain own = gc_stray grace expire now draw (intent_of (Gc grace expire) now draw) old new p
   gc_refused NoMemory p plain own = let clash : true ≡ false = plain in cc
   gc_refused DirFault p plain own = let clash : true ≡ false = plain in cc
   gc_refused r p plain own = let clash : false ≡ true = own in cc
 
 -- the refusals of a command that are its own
-own_of : (line : Line) (r : Refusal) → is_shared r ≡ false → may line r ≡ true → (command_in line).refusals r ≡ true
+own_of : (line : Task) (r : Refusal) → is_shared r ≡ false → may line r ≡ true → (command_in line).refusals r ≡ true
 own_of line NoMemory plain own = let clash : true ≡ false = plain in cc
 own_of line DirFault plain own = let clash : true ≡ false = plain in cc
 own_of line BundleFault plain own = let clash : true ≡ false = plain in cc
@@ -177,39 +178,39 @@ own_of line Usage plain own = let clash : true ≡ false = plain in cc
 own_of line r plain own = own
 
 module _ (now : ℕ) (draw : Draw) (old new : Moment) where
-  abbrev Refuses : Line → Refusal → Type 0
+  abbrev Refuses : Task → Refusal → Type 0
   Refuses line r = Performs line now draw (intent_of line now draw) old.outside new.outside (Err r)
 
-  abbrev Comes : Line → Refusal → Type 0
+  abbrev Comes : Task → Refusal → Type 0
   Comes line r = CameBetween line now draw (intent_of line now draw) (inside_in old) (inside_in new) (Err r)
 
   -- a process that couldn't begin says that memory ran out
   unbegun : (r : Refusal) {X : Type 0} → is_shared r ≡ false → ◌≡◌ {A = Answer} (Err r) (Err NoMemory) → X
   unbegun r plain is = let clash : true ≡ false = sym (ap is_shared (same_refusal r NoMemory is)) ∙ plain in cc
 
-  run_prepared_refused : (pod : PodId) (r : Refusal) → is_shared r ≡ false → may (RunPrepared pod) r ≡ true → Comes (RunPrepared pod) r → RefusesRun pod now draw r old new
-  run_prepared_refused pod r plain own (inl x) = record { own = own_of (RunPrepared pod) r plain own; why = x }
+  run_prepared_refused : {word : List ℕ} {address : List ℕ} (pod : PodId) (r : Refusal) → is_shared r ≡ false → may (RunPrepared word pod address) r ≡ true → Comes (RunPrepared word pod address) r → RefusesRun word pod address now draw r old new
+  run_prepared_refused {word = word} {address = address} pod r plain own (inl x) = record { own = own_of (RunPrepared word pod address) r plain own; why = x }
   run_prepared_refused pod r plain own (inr x) = unbegun r plain x.0
 
-  run_refused : (words : List (List ℕ)) (r : Refusal) → is_shared r ≡ false → may (Run words) r ≡ true → Comes (Run words) r → RefusesNewRun words now draw r old new
-  run_refused words r plain own (inl x) = record { own = own_of (Run words) r plain own; why = x }
-  run_refused words r plain own (inr x) = unbegun r plain x.0
+  run_refused : {address : List ℕ} (wants : Wants) (r : Refusal) → is_shared r ≡ false → may (Run wants address) r ≡ true → Comes (Run wants address) r → RefusesNewRun wants address now draw r old new
+  run_refused {address = address} wants r plain own (inl x) = record { own = own_of (Run wants address) r plain own; why = x }
+  run_refused wants r plain own (inr x) = unbegun r plain x.0
 
-  own_cause : (line : Line) (r : Refusal) → is_shared r ≡ false → may line r ≡ true → Refuses line r → Comes line r → (command_in line).refused_for now draw r old new
-  own_cause (Status pod) r plain own p came = status_refused now draw old.outside new.outside pod r p plain own
+  own_cause : (line : Task) (r : Refusal) → is_shared r ≡ false → may line r ≡ true → Refuses line r → Comes line r → (command_in line).refused_for now draw r old new
+  own_cause (Status word pod) r plain own p came = status_refused now draw old.outside new.outside pod r p plain own
   own_cause (Validate path) r plain own p came = (own_of (Validate path) r plain own, does_validate path now draw (intent_of (Validate path) now draw) old.outside new.outside (Err r) (own_end r plain) p)
   own_cause ImageList r plain own p came = list_refused now draw old.outside new.outside r p plain own
   own_cause (ImageImport path) r plain own p came = import_causes now draw old.outside new.outside path r p plain own
   own_cause (ImageRm key) r plain own p came = removal_refused now draw old.outside new.outside key r p plain own
   own_cause ImageGc r plain own p came = sweep_refused now draw old.outside new.outside r p plain own
-  own_cause (Prepare words) r plain own p came = prepare_causes now draw old.outside new.outside words r p plain own
-  own_cause (RunPrepared pod) r plain own p came = run_prepared_refused pod r plain own came
-  own_cause (Run words) r plain own p came = run_refused words r plain own came
-  own_cause (Rm pod) r plain own p came = rm_refused now draw old.outside new.outside pod r p plain own
-  own_cause Gc r plain own p came = gc_refused now draw old.outside new.outside r p plain own
+  own_cause (Prepare wants) r plain own p came = prepare_causes now draw old.outside new.outside wants r p plain own
+  own_cause (RunPrepared word pod address) r plain own p came = run_prepared_refused pod r plain own came
+  own_cause (Run wants address) r plain own p came = run_refused wants r plain own came
+  own_cause (Rm word pod) r plain own p came = rm_refused now draw old.outside new.outside pod r p plain own
+  own_cause (Gc grace expire) r plain own p came = gc_refused now draw old.outside new.outside r p plain own
 
   -- whichever it is
-  its_cause : (line : Line) (r : Refusal) → may line r ≡ true → Refuses line r → Comes line r → (r ≡ SpawnFault → Rose old.spawner.shown.faults new.spawner.shown.faults) → RefusedFor (command_in line) now draw r old new
+  its_cause : (line : Task) (r : Refusal) → may line r ≡ true → Refuses line r → Comes line r → (r ≡ SpawnFault → Rose old.spawner.shown.faults new.spawner.shown.faults) → RefusedFor (command_in line) now draw r old new
   its_cause line NoMemory own p came spawn = tt
   its_cause line DirFault own p came spawn = (own, fault_cause line now draw (intent_of line now draw) old.outside new.outside (Err DirFault) p refl)
   its_cause line BundleFault own p came spawn = (own, bundle_cause line now draw (intent_of line now draw) old.outside new.outside (Err BundleFault) p refl)
@@ -230,7 +231,7 @@ refused_answer (Ok told) r is = let e : ◌≡◌ {A = Outcome} (Ok told.text) (
 refused_answer (Err q) r is = let e : ◌≡◌ {A = Outcome} (Err q) (Err r) = is in let same : q ≡ r = cc in ap failing same
 
 -- of a run that ended with a refusal
-pub cause_of : (line : Line) (now : ℕ) (draw : Draw) (old new : Moment) (status : ℕ) (r : Refusal) (x : RunOfLine line now draw (intent_of line now draw) old new status) → x.end ≡ Err r → RefusedFor (command_in line) now draw r old new
+pub cause_of : (line : Task) (now : ℕ) (draw : Draw) (old new : Moment) (status : ℕ) (r : Refusal) (x : RunOfLine line now draw (intent_of line now draw) old new status) → x.end ≡ Err r → RefusedFor (command_in line) now draw r old new
 cause_of line now draw old new status r x is = by (from_end x.outcome old.out new.out x.end r x.printed is)
   where
     by : (x.outcome ≡ Err r) ⊎ Unwritten r old.out new.out → RefusedFor (command_in line) now draw r old new

@@ -5,8 +5,7 @@ use Rattle.dir_model.specs.declared.event.Event.{Event}
 use Rattle.dir_model.specs.declared.intent.Intent.{Intent}
 use Rattle.dir_model.specs.declared.intent.Kind.TheVariants as kind
 use Rattle.dir_model.specs.declared.pod.PodId.{PodId}
-use Rattle.dir_model.specs.Calls.{Extends, is_begin, is_finish, is_foreign}
-use Rattle.dir_model.specs.Pods.{pod_text}
+use Rattle.dir_model.specs.Calls.{Extends, is_finish, is_foreign}
 use Rattle.dir_trait.specs.DirCalls.{DirAt}
 use Rattle.lifecycle.specs.Executions.{IsConforming}
 use Rattle.lifecycle.proofs.Draws.{conforming_left}
@@ -27,12 +26,12 @@ use Rattle.commands.proofs.Claimed.{may_begin}
 use Rattle.commands.proofs.RunRefused.{same_refusal}
 use Rattle.commands.specs.Rm.{rm_refusal, FailsFor}
 use Rattle.commands.proofs.Unhindered.{rm_complete, fails_alone}
-use Rattle.rkt_cli.specs.declared.line.Line.TheVariants.{RunPrepared, Rm}
+use Rattle.rkt_cli.specs.Tasks.{RunPrepared, Rm}
 use Rattle.commands.specs.Answers.{inside_in}
 use Rattle.commands.specs.Command.{intent_for}
 use Rattle.commands.specs.RmCommand.{is_removal_end, EndsUnhindered}
 use Rattle.pod_steps.specs.Causes.{WasStray}
-use Rattle.rkt_cli.proofs.Removals.{meanwhile}
+use Rattle.rkt_cli.proofs.Removals.{once_found}
 use Rattle.commands.specs.RunPreparedCommand.{is_unfree_status}
 use Rattle.rkt_cli.specs.Commands.{may, intent_of}
 use Rattle.rkt_cli.specs.Runs.{End, InProcess, Performs, Printed, Unwritten, Graded, RunOf, end_status}
@@ -40,47 +39,49 @@ use Rattle.rkt_cli.specs.Spawns.{CameBetween}
 use Rattle.rkt_cli.proofs.RunsQuiet.{finish_ext, seen, me_is, first, to_is, knows_there}
 use Rattle.rkt_cli.proofs.Conforming.{begun_knows}
 use Rattle.rkt_cli.proofs.PodRemovals.{rm_intent, begun_removes}
-use Rattle.rkt_cli.proofs.Sessions.{begin_part, finish_part}
+use Rattle.rkt_cli.proofs.Sessions.{finish_part}
+use Rattle.commands.specs.Opening.{opens}
+use Rattle.commands.proofs.Starts.{open_extends}
 
 -- its refusals
-rm_known : (pod : PodId) (r : Refusal) → may (Rm pod) r ≡ true → rm_refusal r ≡ true
-rm_known pod NoMemory known = refl
-rm_known pod DirFault known = refl
-rm_known pod BundleFault known = cc
-rm_known pod Usage known = cc
-rm_known pod OutFault known = cc
-rm_known pod r known = known
+rm_known : (word : List ℕ) (pod : PodId) (r : Refusal) → may (Rm word pod) r ≡ true → rm_refusal r ≡ true
+rm_known word pod NoMemory known = refl
+rm_known word pod DirFault known = refl
+rm_known word pod BundleFault known = cc
+rm_known word pod Usage known = cc
+rm_known word pod OutFault known = cc
+rm_known word pod r known = known
 
 unwritten : (r : Refusal) (old new : SinkSeen) → Unwritten r old new → is_removal_end (status_of r) ≡ true
 unwritten r old new (inl x) = ap (λ (e : Refusal). is_removal_end (status_of e)) x.0
 unwritten r old new (inr x) = ap (λ (e : Refusal). is_removal_end (status_of e)) x.0
 
-module _ (pod : PodId) (now : ℕ) (draw : Draw) (old new : Moment) (t : old.outside.dir.observed ≡ true) (conforms : IsConforming new.outside.dir.trace)
+module _ (word : List ℕ) (pod : PodId) (now : ℕ) (draw : Draw) (old new : Moment) (t : old.outside.dir.observed ≡ true) (conforms : IsConforming new.outside.dir.trace)
     (free : IsUnhinderedThroughout pod old.outside.dir.process old.outside.dir.trace new.outside.dir.trace) where
   abbrev Ends : ℕ → Type 0
   Ends status = EndsUnhindered status old.outside.dir new.outside.dir
 
-  refused : (r : Refusal) (s : InProcess (Rm pod) now draw (rm_intent pod now draw) old.outside new.outside (Err r)) → FailsFor r s.begun.dir.process s.begun.dir.trace s.ended.dir.trace
+  refused : (r : Refusal) (s : InProcess (Rm word pod) now draw (rm_intent word now draw) old.outside new.outside (Err r)) → FailsFor r s.begun.dir.process s.begun.dir.trace s.ended.dir.trace
   refused r s =
       let me = s.begun.dir.process in
-      let first : Extends is_begin me old.outside.dir.trace s.begun.dir.trace = subst (λ (p : ℕ). Extends is_begin p old.outside.dir.trace s.begun.dir.trace) (sym s.me) (begin_part s t is_begin refl) in
+      let first : Extends opens me old.outside.dir.trace s.begun.dir.trace = subst (λ (p : ℕ). Extends opens p old.outside.dir.trace s.begun.dir.trace) (sym s.me) (open_extends (s.begins t)) in
       let last : Extends is_finish me s.ended.dir.trace new.outside.dir.trace = subst (λ (p : ℕ). Extends is_finish p s.ended.dir.trace new.outside.dir.trace) (sym s.me) (finish_part s t is_finish refl) in
-      let alone = rm_complete pod now s.begun.dir s.ended.dir r (rm_known pod r s.ran.refusals) s.ran.says.0 (s.told ∙ t) (begun (rm_intent pod now draw)) (begun_knows s t) (begun_removes pod now draw) in
+      let alone = rm_complete pod now s.begun.dir s.ended.dir r (rm_known word pod r s.ran.refusals) s.ran.says.0 (s.told ∙ t) (begun (rm_intent word now draw)) (begun_knows s t) (begun_removes now draw s.meant) in
       fails_alone pod r old.outside.dir s.begun.dir s.ended.dir new.outside.dir first last s.me alone conforms free
 
-  failed : (r : Refusal) (s : InProcess (Rm pod) now draw (rm_intent pod now draw) old.outside new.outside (Err r)) → FailsFor r s.begun.dir.process s.begun.dir.trace s.ended.dir.trace → Ends (status_of r)
+  failed : (r : Refusal) (s : InProcess (Rm word pod) now draw (rm_intent word now draw) old.outside new.outside (Err r)) → FailsFor r s.begun.dir.process s.begun.dir.trace s.ended.dir.trace → Ends (status_of r)
   failed DirFault s is = inl refl
   failed NoMemory s is = inl refl
-  failed Stray s is = inr (refl, meanwhile WasStray s t is)
+  failed Stray s is = inr (refl, once_found WasStray s t is)
   failed r s is = absurd is
 
-  ended : (o : Outcome) (end : End) → Performs (Rm pod) now draw (intent_of (Rm pod) now draw) old.outside new.outside o → Printed o old.out new.out end → Ends (end_status end)
+  ended : (o : Outcome) (end : End) → Performs (Rm word pod) now draw (intent_of (Rm word pod) now draw) old.outside new.outside o → Printed o old.out new.out end → Ends (end_status end)
   ended (Ok text) (Ok done) performs printed = inl refl
   ended (Ok text) (Err r) performs printed = inl (unwritten r old.out new.out (printed.cause text refl))
   ended (Err r) end (inl s) printed = subst (λ (e : End). Ends (end_status e)) (sym printed.refused.0) (failed r s (refused r s))
   ended (Err r) end (inr n) printed = subst (λ (e : End). Ends (end_status e)) (sym printed.refused.0) (let same : r ≡ NoMemory = (let e : ◌≡◌ {A = Outcome} (Err r) (Err NoMemory) = n.is in cc) in subst (λ (e : Refusal). Ends (status_of e)) (sym same) (inl refl))
 
-  pub rm_ends : (plain : ℕ) → RunOf (Some (Rm pod)) now draw old new plain → Ends plain
+  pub rm_ends : (plain : ℕ) → RunOf (Rm word pod) now draw old new plain → Ends plain
   rm_ends plain (inl r) = subst Ends (sym r.is) (ended r.outcome r.end r.performs r.printed)
   rm_ends plain (inr n) = subst Ends (sym n.is) (inl refl)
 
@@ -109,11 +110,11 @@ free_part pod old new d d' more rest me first last free before later left step b
     (free before (more ++ later) (left ++ rest) step (begins ∙ (ap (λ (h : List Event). h ++ later) first ∙ append_assoc old.trace more later))
     (last ∙ (ap (λ (h : List Event). h ++ rest) ends ∙ append_assoc (before ++ step ∷ []) left rest)) (subst (λ (p : ℕ). is_foreign p step ≡ false) me own))
 
-module _ (pod : PodId) (now : ℕ) (draw : Draw) (a b : Inside) (t : a.dir.observed ≡ true) (conforms : IsConforming b.dir.trace) (free : IsFreeThroughout pod (shown_at a.dir) (shown_at b.dir)) where
+module _ (word address : List ℕ) (pod : PodId) (now : ℕ) (draw : Draw) (a b : Inside) (t : a.dir.observed ≡ true) (conforms : IsConforming b.dir.trace) (free : IsFreeThroughout pod (shown_at a.dir) (shown_at b.dir)) where
   abbrev its_intent : Intent
-  its_intent = intent_for kind.RunPrepared (pod_text pod.bytes) now draw
+  its_intent = intent_for kind.RunPrepared word now draw
 
-  unfree : (r : Refusal) → CameBetween (RunPrepared pod) now draw (Some its_intent) a b (Err r) → is_unfree_status (status_of r) ≡ false
+  unfree : (r : Refusal) → CameBetween (RunPrepared word pod address) now draw (Some its_intent) a b (Err r) → is_unfree_status (status_of r) ≡ false
   unfree r (inr x) = ap (λ (z : Refusal). is_unfree_status (status_of z)) (same_refusal r NoMemory x.0)
   unfree r (inl x) = by x.came.so
     where
@@ -129,10 +130,10 @@ module _ (pod : PodId) (now : ℕ) (draw : Draw) (a b : Inside) (t : a.dir.obser
       ends : b.dir.trace ≡ d'.trace ++ last.more
       ends = last.grown ∙ ap (λ (h : List Event). h ++ last.more) (to_is x t d d' x.came.begins x.came.ends)
 
-      by : ClaimsAndRuns x.begun.observed a.spawner.observed pod d d' a.spawner.shown b.spawner.shown (Err r) ⊎ IsUnclaimed x.begun.observed pod d d' a.spawner.shown b.spawner.shown (Err r) → is_unfree_status (status_of r) ≡ false
+      by : ClaimsAndRuns x.begun.observed a.spawner.observed pod address d d' a.spawner.shown b.spawner.shown (Err r) ⊎ IsUnclaimed x.begun.observed pod d d' a.spawner.shown b.spawner.shown (Err r) → is_unfree_status (status_of r) ≡ false
       by (inl c) = stopped c.says
         where
-          stopped : RunSays x.begun.observed a.spawner.observed c.owned [] c.claimed d' a.spawner.shown b.spawner.shown (Err r) → is_unfree_status (status_of r) ≡ false
+          stopped : RunSays x.begun.observed a.spawner.observed c.owned address [] c.claimed d' a.spawner.shown b.spawner.shown (Err r) → is_unfree_status (status_of r) ≡ false
           stopped (inl w) = ap (λ (z : Refusal). is_unfree_status (status_of z)) (same_refusal r w.is.0 w.is.1) ∙ said_apart c.owned.pod w.error w.is.0 w.is.2
           stopped (inr w) = ap (λ (z : Refusal). is_unfree_status (status_of z)) (same_refusal r NoMemory w.is)
       by (inr u) =
@@ -148,19 +149,19 @@ unwritten_apart r old new (inr x) = ap (λ (e : Refusal). is_unfree_status (stat
 
 module _ (pod : PodId) (now : ℕ) (draw : Draw) (old new : Moment) (t : old.outside.dir.observed ≡ true) (conforms : IsConforming new.outside.dir.trace)
     (free : IsFreeThroughout pod (shown_at old.outside.dir) (shown_at new.outside.dir)) where
-  run_ended : (answer : Answer) (end : End) → CameBetween (RunPrepared pod) now draw (intent_of (RunPrepared pod) now draw) (inside_in old) (inside_in new) answer → Printed (outcome_of answer) old.out new.out end → is_unfree_status (end_status end) ≡ false
-  run_ended (Ok told) (Ok done) came printed = refl
-  run_ended (Ok told) (Err r) came printed = unwritten_apart r old.out new.out (printed.cause told.text refl)
-  run_ended (Err r) end came printed = ap (λ (e : End). is_unfree_status (end_status e)) printed.refused.0 ∙ unfree pod now draw (inside_in old) (inside_in new) t conforms free r came
+  run_ended : (word address : List ℕ) (answer : Answer) (end : End) → CameBetween (RunPrepared word pod address) now draw (intent_of (RunPrepared word pod address) now draw) (inside_in old) (inside_in new) answer → Printed (outcome_of answer) old.out new.out end → is_unfree_status (end_status end) ≡ false
+  run_ended word address (Ok told) (Ok done) came printed = refl
+  run_ended word address (Ok told) (Err r) came printed = unwritten_apart r old.out new.out (printed.cause told.text refl)
+  run_ended word address (Err r) end came printed = ap (λ (e : End). is_unfree_status (end_status e)) printed.refused.0 ∙ unfree word address pod now draw (inside_in old) (inside_in new) t conforms free r came
 
-  run_plainly : (plain : ℕ) → RunOf (Some (RunPrepared pod)) now draw old new plain → is_unfree_status plain ≡ false
-  run_plainly plain (inl r) = ap is_unfree_status r.is ∙ run_ended r.answer r.end r.came (subst (λ (o : Outcome). Printed o old.out new.out r.end) r.outcome_is r.printed)
-  run_plainly plain (inr n) = ap is_unfree_status n.is
+  run_plainly : (word address : List ℕ) (plain : ℕ) → RunOf (RunPrepared word pod address) now draw old new plain → is_unfree_status plain ≡ false
+  run_plainly word address plain (inl r) = ap is_unfree_status r.is ∙ run_ended word address r.answer r.end r.came (subst (λ (o : Outcome). Printed o old.out new.out r.end) r.outcome_is r.printed)
+  run_plainly word address plain (inr n) = ap is_unfree_status n.is
 
-  graded_apart : (plain status : ℕ) → Graded (Some (RunPrepared pod)) plain status → is_unfree_status plain ≡ false → is_unfree_status status ≡ false
-  graded_apart plain status (inl same) apart = ap is_unfree_status same ∙ apart
-  graded_apart plain status (inr x) apart = ap is_unfree_status x.0
+  graded_apart : (word address : List ℕ) (plain status : ℕ) → Graded (RunPrepared word pod address) plain status → is_unfree_status plain ≡ false → is_unfree_status status ≡ false
+  graded_apart word address plain status (inl same) apart = ap is_unfree_status same ∙ apart
+  graded_apart word address plain status (inr x) apart = ap is_unfree_status x.0
 
-pub claim_ends : (pod : PodId) (now : ℕ) (draw : Draw) (old new : Moment) → old.outside.dir.observed ≡ true → IsConforming new.outside.dir.trace → IsFreeThroughout pod (shown_at old.outside.dir) (shown_at new.outside.dir) →
-    (plain status : ℕ) → Graded (Some (RunPrepared pod)) plain status → RunOf (Some (RunPrepared pod)) now draw old new plain → is_unfree_status status ≡ false
-claim_ends pod now draw old new t conforms free plain status graded ran = graded_apart pod now draw old new t conforms free plain status graded (run_plainly pod now draw old new t conforms free plain ran)
+pub claim_ends : (word address : List ℕ) (pod : PodId) (now : ℕ) (draw : Draw) (old new : Moment) → old.outside.dir.observed ≡ true → IsConforming new.outside.dir.trace → IsFreeThroughout pod (shown_at old.outside.dir) (shown_at new.outside.dir) →
+    (plain status : ℕ) → Graded (RunPrepared word pod address) plain status → RunOf (RunPrepared word pod address) now draw old new plain → is_unfree_status status ≡ false
+claim_ends word address pod now draw old new t conforms free plain status graded ran = graded_apart pod now draw old new t conforms free word address plain status graded (run_plainly pod now draw old new t conforms free word address plain ran)

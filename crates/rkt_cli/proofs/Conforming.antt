@@ -1,19 +1,18 @@
 -- A run of the program keeps the local rules.
-use Rattle.std.proofs.Common.{◌≡◌, inl, inr, ℕ, Bool, true, Option, Some, None, [], refl, sym, ap, subst, ◌∙◌}
+use Rattle.std.proofs.Common.{◌≡◌, inl, inr, ℕ, Bool, true, Option, Some, None, refl, sym, ap, subst, ◌∙◌}
 use Rattle.area_locks.specs.AreaLocks.{is_free_of}
 use Rattle.dir_model.specs.declared.area.Area.TheVariants.{Images}
 use Rattle.dir_model.specs.declared.intent.Draw.{Draw}
 use Rattle.dir_model.specs.declared.intent.Intent.{Intent}
 use Rattle.dir_model.specs.declared.request.Request.TheVariants.{Finish}
 use Rattle.dir_model.specs.declared.request.Reply.TheVariants.{Done}
-use Rattle.dir_model.specs.Local.{Local}
 use Rattle.dir_rules.specs.declared.seen.Seen.{Seen}
 use Rattle.dir_rules.specs.Conforms.{Conforms, IsTied, seen_replied}
 use Rattle.dir_rules.proofs.Tied.{tied_call}
-use Rattle.dir_rules.proofs.Unborn.{tied_begun, refused_unseen}
+use Rattle.dir_rules.proofs.Unborn.{refused_unseen}
 use Rattle.dir_trait.specs.DirCalls.{DirAt}
-use Rattle.dir_trait.specs.Knowledge.{Knows, SameHandles, OnlyLooks}
-use Rattle.rkt_cli.specs.declared.line.Line.{Line}
+use Rattle.dir_trait.specs.Knowledge.{Knows, OnlyLooks}
+use Rattle.rkt_cli.specs.Tasks.{Task}
 use Rattle.command_outcomes.specs.Moments.{DirSeen, Outside, Moment, Outcome}
 use Rattle.command_outcomes.proofs.Seen.{seen_at}
 use Rattle.command_outcomes.specs.Conforming.{shown_at, begun, KeepsRules, StaysConforming, KeepsConforming}
@@ -37,13 +36,13 @@ pub apart_conforming : (intent : Intent) (d : DirSeen) → StaysConforming inten
 apart_conforming intent d k = record { known = begun intent; knows = k; kept = refl }
 
 -- what the process knows when it has begun
-pub begun_knows : {line : Line} {now : ℕ} {draw : Draw} {intent : Intent} {old new : Outside} {o : Outcome} (s : InProcess line now draw intent old new o) → old.dir.observed ≡ true → Knows (shown_at s.begun.dir) (begun intent)
+pub begun_knows : {line : Task} {now : ℕ} {draw : Draw} {intent : Intent} {old new : Outside} {o : Outcome} (s : InProcess line now draw intent old new o) → old.dir.observed ≡ true → Knows (shown_at s.begun.dir) (begun intent)
 begun_knows {line} {now} {draw} {intent} {old} {new} {o} s t = record {
-  tied = subst (λ (me : ℕ). IsTied me s.begun.dir.trace (begun intent)) (sym s.me) (tied_begun (s.begins t));
-  handles = subst (λ (m : Local). SameHandles [] m.holdings) (sym s.started) (λ test. refl);
+  tied = (s.knows t).tied;
+  handles = (s.knows t).handles;
 }
 
-module _ (line : Line) (now : ℕ) (draw : Draw) (old new : Outside) (o : Outcome) (t : old.dir.observed ≡ true) where
+module _ (line : Task) (now : ℕ) (draw : Draw) (old new : Outside) (o : Outcome) (t : old.dir.observed ≡ true) where
   begun_keeps : (intent : Intent) → InProcess line now draw intent old new o → KeepsConforming old.dir new.dir
   begun_keeps intent s before =
       let kept : KeepsRules s.ended.dir = s.keeps t (begun_knows s t) in
@@ -59,10 +58,9 @@ module _ (line : Line) (now : ℕ) (draw : Draw) (old new : Outside) (o : Outcom
   performed_keeps (Some intent) (inr n) before = never_keeps intent n before
 
 -- and so does a run, whatever its words are
-pub run_conforms : {l : Option Line} {now : ℕ} {draw : Draw} {old new : Moment} {status : ℕ} → RunIs l now draw old new status → old.outside.dir.observed ≡ true → KeepsConforming old.outside.dir new.outside.dir
-run_conforms {l} {now} {draw} {old} {new} {status} run t = by l run.ran
+pub run_conforms : {task : Task} {now : ℕ} {draw : Draw} {old new : Moment} {status : ℕ} → RunIs task now draw old new status → old.outside.dir.observed ≡ true → KeepsConforming old.outside.dir new.outside.dir
+run_conforms {task} {now} {draw} {old} {new} {status} run t = by run.ran
   where
-    by : (l : Option Line) → RunOf l now draw old new run.plain → KeepsConforming old.outside.dir new.outside.dir
-    by None r before = subst (λ (x : Outside). Conforms old.outside.dir.process x.dir.trace) (sym r.outside) before
-    by (Some line) (inr n) before = subst (λ (x : Outside). Conforms old.outside.dir.process x.dir.trace) (sym n.outside) before
-    by (Some line) (inl r) before = performed_keeps line now draw old.outside new.outside r.outcome t (intent_of line now draw) r.performs before
+    by : RunOf task now draw old new run.plain → KeepsConforming old.outside.dir new.outside.dir
+    by (inr n) before = subst (λ (x : Outside). Conforms old.outside.dir.process x.dir.trace) (sym n.outside) before
+    by (inl r) before = performed_keeps task now draw old.outside new.outside r.outcome t (intent_of task now draw) r.performs before

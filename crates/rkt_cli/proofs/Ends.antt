@@ -5,9 +5,9 @@ use Rattle.dir_model.specs.declared.area.Area.{Area}
 use Rattle.dir_model.specs.declared.area.Phase.{Phase}
 use Rattle.dir_model.specs.declared.spot.Which.{Which}
 use Rattle.dir_model.specs.declared.pod.PodId.{PodId}
-use Rattle.rkt_cli.specs.declared.line.Line.{Line}
+use Rattle.rkt_cli.specs.Tasks.{Task}
 use Rattle.command_outcomes.specs.declared.refusal.Refusal.{Refusal}
-use Rattle.command_outcomes.specs.declared.refusal.Refusal.TheVariants.{Usage, NoPod, Busy, BadManifest, NoImage, NoDependency, Cycle, Limit, DirFault, BundleFault, OutFault, NoMemory, NoFile, Conflict, Damaged, BadKind, Taken, WrongPhase, PodBusy, NoManifest, NoProgram, SpawnFault, Stray}
+use Rattle.command_outcomes.specs.declared.refusal.Refusal.TheVariants.{Usage, NoPod, Ambiguous, Busy, BadManifest, NoImage, NoDependency, Cycle, Limit, DirFault, BundleFault, OutFault, NoMemory, NoFile, Conflict, Damaged, BadKind, Taken, WrongPhase, PodBusy, NoManifest, NoProgram, SpawnFault, Stray}
 use Rattle.command_outcomes.specs.Texts.{status_of}
 use Rattle.command_outcomes.specs.Moments.{SinkSeen, Outcome}
 use Rattle.rkt_cli.specs.Commands.{may}
@@ -22,7 +22,7 @@ abbrev pub end_of : ℕ → End
 end_of n = cond (n == 0) (Ok tt) (cond (n == 1) (Err Usage) (cond (n == 2) (Err NoPod) (cond (n == 9) (Err DirFault) (cond (n == 10) (Err BundleFault) (cond (n == 11) (Err SpawnFault) (cond (n == 12) (Err OutFault) (cond (n == 20) (Err Stray) (Err NoMemory))))))))
 
 abbrev pub names : ℕ → Bool
-names n = (n == 4) || ((n == 5) || ((n == 6) || ((n == 7) || ((n == 8) || ((n == 15) || ((n == 17) || ((n == 18) || (n == 19))))))))
+names n = (n == 3) || ((n == 4) || ((n == 5) || ((n == 6) || ((n == 7) || ((n == 8) || ((n == 15) || ((n == 17) || ((n == 18) || (n == 19)))))))))
 
 end_again : (end : End) → names (end_status end) ≡ false → end ≡ end_of (end_status end)
 end_again (Ok done) plain = refl
@@ -114,9 +114,10 @@ output_known OutFault is = refl
 output_known NoMemory is = refl
 output_known r is = let clash : false ≡ true = is in cc
 
-pub refusal_known : (line : Line) (r : Refusal) → may line r ≡ true → IsStatus (status_of r)
+pub refusal_known : (line : Task) (r : Refusal) → may line r ≡ true → IsStatus (status_of r)
 refusal_known line Usage allowed = refl
 refusal_known line NoPod allowed = refl
+refusal_known line (Ambiguous first second) allowed = refl
 refusal_known line (Busy area) allowed = refl
 refusal_known line (BadManifest path number) allowed = refl
 refusal_known line (NoImage key) allowed = refl

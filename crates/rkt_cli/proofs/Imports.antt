@@ -9,12 +9,9 @@ use Rattle.dir_trait.specs.DirCalls.{HeldBetween}
 use Rattle.area_locks.specs.AreaLocks.{IsBusyElsewhere}
 use Rattle.lifecycle.specs.Executions.{IsConforming}
 use Rattle.lifecycle.proofs.Draws.{conforming_left}
-use Rattle.tree_digest.specs.declared.listing_error.ListingError.TheVariants as listing
 use Rattle.bundle_image.specs.declared.image.BundleImage.{BundleImage}
-use Rattle.bundle_image.specs.declared.refusal.BundleRefusal.TheVariants as bundle
-use Rattle.image_reading.specs.declared.error.StoreError.TheVariants as store_error
 use Rattle.image_store.specs.Imports.{IsRefused, ComesInTurn}
-use Rattle.rkt_cli.specs.declared.line.Line.TheVariants.{ImageImport}
+use Rattle.rkt_cli.specs.Tasks.{ImageImport}
 use Rattle.command_outcomes.specs.declared.refusal.Refusal.{Refusal}
 use Rattle.command_outcomes.specs.declared.refusal.Refusal.TheVariants.{Busy, NoMemory}
 use Rattle.command_outcomes.specs.Moments.{BundleSeen, Outside, Outcome}

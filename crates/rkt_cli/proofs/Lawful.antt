@@ -7,13 +7,13 @@ use Rattle.dir_model.specs.declared.intent.Intent.{Intent}
 use Rattle.dir_model.specs.declared.request.Request.{Request}
 use Rattle.dir_model.specs.declared.request.Request.TheVariants.{Begin}
 use Rattle.dir_model.specs.declared.request.Reply.TheVariants.{Done}
-use Rattle.dir_model.specs.Calls.{Extends, event, is_begin, is_foreign, is_kill}
+use Rattle.dir_model.specs.Calls.{CallStep, IsRun, Extends, event, is_begin, is_foreign, is_kill}
 use Rattle.dir_model.specs.Pods.{pod_text}
 use Rattle.dir_model.specs.Quiet.{Quiet}
 use Rattle.dir_model.proofs.Chains.{and_more, extends_wider}
 use Rattle.dir_model.proofs.Lists.{same_self}
 use Rattle.dir_rules.specs.declared.standing.Standing.{Standing}
-use Rattle.dir_rules.specs.Conforms.{Conforms, nothing_seen, seen_after, seen_of}
+use Rattle.dir_rules.specs.Conforms.{Conforms, nothing_seen, seen_of}
 use Rattle.dir_rules.specs.Standing.{nothing_standing, standing_from, standing_of, standing_replied, stood}
 use Rattle.dir_rules.proofs.Standings.{standing_is}
 use Rattle.dir_rules.proofs.Tied.{others_unseen, seen_after-append}
@@ -23,13 +23,15 @@ use Rattle.lifecycle.specs.Executions.{IsConforming, IsDrawnOnce}
 use Rattle.lifecycle.proofs.Draws.{standing_split}
 use Rattle.lifecycle.proofs.Handles.{nat_same}
 use Rattle.command_outcomes.specs.Moments.{DirSeen, Outside, Moment, Outcome}
-use Rattle.rkt_cli.specs.declared.line.Line.{Line}
-use Rattle.rkt_cli.specs.declared.line.Line.TheVariants.{Status, Validate, ImageList, ImageImport, ImageRm, ImageGc, Prepare, RunPrepared, Run, Rm, Gc}
-use Rattle.rkt_cli.specs.Commands.{asks, intent_of}
+use Rattle.rkt_cli.specs.Tasks.{Task}
+use Rattle.rkt_cli.specs.Tasks.{Status, Validate, ImageList, ImageImport, ImageRm, ImageGc, Prepare, RunPrepared, Run, Rm, Gc}
+use Rattle.pod_lookup.specs.Looks.{lists_stages}
+use Rattle.commands.proofs.Starts.{look_extends, look_lists}
+use Rattle.rkt_cli.specs.Commands.{approach_in, asks, intent_of}
 use Rattle.rkt_cli.specs.Histories.{IsNewDraw, StaysLawful}
 use Rattle.rkt_cli.specs.Runs.{InProcess, NeverBegan, Performs, RunIs, RunOf}
 use Rattle.rkt_cli.proofs.Conforming.{performed_keeps}
-use Rattle.rkt_cli.proofs.Sessions.{act_part, began_alone, finish_part, quiet_begin}
+use Rattle.rkt_cli.proofs.Sessions.{act_part, began_alone, finish_part, quiet_first}
 
 -- what a process does another one doesn't see
 unseen : (me p : ℕ) (more : List Event) → (me == p) ≡ false → AllByRecursion (λ e. e.process ≡ me) more → AllByRecursion (λ e. is_foreign p e ≡ true) more
@@ -50,46 +52,63 @@ intent_rest me s (e ∷ es) asked = intent_rest me (stood me s e) es asked.1 ∙
     one false h = same_intent s e.request e.reply (off (is_begin e.request) h)
 
 -- no command begins a second time
-begins_once : (line : Line) (now : ℕ) (draw : Draw) (intent : Intent) → asks line now draw (Begin intent) ≡ false
-begins_once (Status pod) now draw intent = refl
+begins_once : (line : Task) (now : ℕ) (draw : Draw) (intent : Intent) → asks line now draw (Begin intent) ≡ false
+begins_once (Status word pod) now draw intent = refl
 begins_once (Validate path) now draw intent = refl
 begins_once ImageList now draw intent = refl
 begins_once (ImageImport path) now draw intent = refl
 begins_once (ImageRm key) now draw intent = refl
 begins_once ImageGc now draw intent = refl
-begins_once (Prepare words) now draw intent = refl
-begins_once (RunPrepared pod) now draw intent = refl
-begins_once (Run words) now draw intent = refl
-begins_once (Rm pod) now draw intent = refl
-begins_once Gc now draw intent = refl
+begins_once (Prepare wants) now draw intent = refl
+begins_once (RunPrepared word pod address) now draw intent = refl
+begins_once (Run wants address) now draw intent = refl
+begins_once (Rm word pod) now draw intent = refl
+begins_once (Gc grace expire) now draw intent = refl
 
-asks_no_begin : (line : Line) (now : ℕ) (draw : Draw) (r : Request) → asks line now draw r ≡ true → not (is_begin r) ≡ true
+-- nor does a look
+pub lists_no_begin : (r : Request) → lists_stages r ≡ true → not (is_begin r) ≡ true
+lists_no_begin (Begin intent) h = cc
+lists_no_begin r h = refl
+
+asks_no_begin : (line : Task) (now : ℕ) (draw : Draw) (r : Request) → asks line now draw r ≡ true → not (is_begin r) ≡ true
 asks_no_begin line now draw (Begin intent) h = let clash : true ≡ false = sym h ∙ begins_once line now draw intent in cc
 asks_no_begin line now draw r h = refl
 
 -- it begins with the draw that it was given
-record HasDraw (draw : Draw) (intent : Intent) : Type 0 where
-  identity : pod_text intent.draw.bytes ≡ pod_text draw.uuid.bytes
-  token : intent.token ≡ draw.token
+pub record HasDraw (draw : Draw) (intent : Intent) : Type 0 where
+  pub identity : pod_text intent.draw.bytes ≡ pod_text draw.uuid.bytes
+  pub token : intent.token ≡ draw.token
 
 with_draw : (draw : Draw) (a intent : Intent) → HasDraw draw a → ◌≡◌ {A = Option Intent} (Some a) (Some intent) → HasDraw draw intent
 with_draw draw a intent has is = subst (HasDraw draw) (let e : a ≡ intent = cc in e) has
 
-its_draw : (line : Line) (now : ℕ) (draw : Draw) (intent : Intent) → intent_of line now draw ≡ Some intent → HasDraw draw intent
-its_draw (Status pod) now draw intent is = with_draw draw _ intent (record { identity = refl; token = refl }) is
+pub its_draw : (line : Task) (now : ℕ) (draw : Draw) (intent : Intent) → intent_of line now draw ≡ Some intent → HasDraw draw intent
+its_draw (Status word pod) now draw intent is = with_draw draw _ intent (record { identity = refl; token = refl }) is
 its_draw (Validate path) now draw intent is = cc
 its_draw ImageList now draw intent is = with_draw draw _ intent (record { identity = refl; token = refl }) is
 its_draw (ImageImport path) now draw intent is = with_draw draw _ intent (record { identity = refl; token = refl }) is
 its_draw (ImageRm key) now draw intent is = with_draw draw _ intent (record { identity = refl; token = refl }) is
 its_draw ImageGc now draw intent is = with_draw draw _ intent (record { identity = refl; token = refl }) is
-its_draw (Prepare words) now draw intent is = with_draw draw _ intent (record { identity = refl; token = refl }) is
-its_draw (RunPrepared pod) now draw intent is = with_draw draw _ intent (record { identity = refl; token = refl }) is
-its_draw (Run words) now draw intent is = with_draw draw _ intent (record { identity = refl; token = refl }) is
-its_draw (Rm pod) now draw intent is = with_draw draw _ intent (record { identity = refl; token = refl }) is
-its_draw Gc now draw intent is = with_draw draw _ intent (record { identity = refl; token = refl }) is
+its_draw (Prepare wants) now draw intent is = with_draw draw _ intent (record { identity = refl; token = refl }) is
+its_draw (RunPrepared word pod address) now draw intent is = with_draw draw _ intent (record { identity = refl; token = refl }) is
+its_draw (Run wants address) now draw intent is = with_draw draw _ intent (record { identity = refl; token = refl }) is
+its_draw (Rm word pod) now draw intent is = with_draw draw _ intent (record { identity = refl; token = refl }) is
+its_draw (Gc grace expire) now draw intent is = with_draw draw _ intent (record { identity = refl; token = refl }) is
 
 same_intents : (a b : Intent) → ◌≡◌ {A = Option Intent} (Some a) (Some b) → a ≡ b
 same_intents a b is = cc
+
+-- a process that began at once has that intent in the end
+pub began_since : (me : ℕ) (old first new : List Event) (intent : Intent) → CallStep me old (Begin intent) Done first → Quiet me old first → Extends (λ r. not (is_begin r)) me first new → (standing_of me new).intent ≡ Some intent
+began_since me old first new intent step quiet rest =
+    let start : first ≡ old ++ event me (Begin intent) Done ∷ [] = began_alone me old first intent step quiet in
+    ap (λ (h : List Event). (standing_of me h).intent) rest.grown ∙ (ap (λ s. s.intent) (standing_split me nothing_standing first rest.more)
+    ∙ (intent_rest me (standing_of me first) rest.more rest.asked ∙ (ap (λ (h : List Event). (standing_of me h).intent) start ∙ (ap (λ s. s.intent) (standing_split me nothing_standing old (event me (Begin intent) Done ∷ []))
+    ∙ by (me == me) (same_self me)))))
+  where
+    by : (b : Bool) → b ≡ true → (cond (not b || false) (standing_of me old) (standing_replied (standing_of me old) (Begin intent) Done)).intent ≡ Some intent
+    by true h = refl
+    by false h = cc
 
 module _ (me : ℕ) (old new : List Event) (quiet : Quiet me old new) (conforming : IsConforming old) where
   -- what another process knows is as before
@@ -124,32 +143,29 @@ module _ (me : ℕ) (old new : List Event) (quiet : Quiet me old new) (conformin
         by false true first second = absurd (fresh p a (before p a first x) (same ∙ ap drawn (mine q b second y)))
         by false false first second = once p q a b (before p a first x) (before q b second y) same
 
-module _ (line : Line) (now : ℕ) (draw : Draw) (old new : Outside) (o : Outcome) (t : old.dir.observed ≡ true) (quiet : Quiet old.dir.process old.dir.trace new.dir.trace) (conforming : IsConforming old.dir.trace) where
+  -- so the whole is lawful
+  pub lawful_by : (draw : Draw) (intent : Intent) → HasDraw draw intent → IsNewDraw draw old → (standing_of me new).intent ≡ Some intent → IsRun new → Conforms me new → IsConforming new
+  lawful_by draw intent its fresh began run own = record {
+    run = run;
+    rules = rules_after own;
+    identities = once_after intent began (λ i. pod_text i.draw.bytes) conforming.identities (λ p b has same. fresh.identity p b has (same ∙ its.identity));
+    tokens = once_after intent began (λ i. i.token) conforming.tokens (λ p b has same. fresh.token p b has (same ∙ its.token));
+  }
+
+module _ (task : Task) (now : ℕ) (draw : Draw) (old new : Outside) (o : Outcome) (t : old.dir.observed ≡ true) (quiet : Quiet old.dir.process old.dir.trace new.dir.trace) (conforming : IsConforming old.dir.trace) where
   abbrev me : ℕ
   me = old.dir.process
 
   -- it has its own intent in the end
-  began_so : (intent : Intent) → InProcess line now draw intent old new o → (standing_of me new.dir.trace).intent ≡ Some intent
+  began_so : (intent : Intent) → InProcess task now draw intent old new o → (standing_of me new.dir.trace).intent ≡ Some intent
   began_so intent s =
-      let first : s.begun.dir.trace ≡ old.dir.trace ++ event me (Begin intent) Done ∷ [] = began_alone me old.dir.trace s.begun.dir.trace intent (s.begins t) (quiet_begin s t quiet) in
-      let rest : Extends (λ r. not (is_begin r)) me s.begun.dir.trace new.dir.trace = and_more (extends_wider (asks_no_begin line now draw) (act_part s t)) refl (finish_part s t (λ r. not (is_begin r)) refl) in
-      ap (λ (h : List Event). (standing_of me h).intent) rest.grown ∙ (ap (λ s. s.intent) (standing_split me nothing_standing s.begun.dir.trace rest.more)
-      ∙ (intent_rest me (standing_of me s.begun.dir.trace) rest.more rest.asked ∙ (ap (λ (h : List Event). (standing_of me h).intent) first ∙ (ap (λ s. s.intent) (standing_split me nothing_standing old.dir.trace (event me (Begin intent) Done ∷ []))
-      ∙ by (me == me) (same_self me)))))
-    where
-      by : (b : Bool) → b ≡ true → (cond (not b || false) (standing_of me old.dir.trace) (standing_replied (standing_of me old.dir.trace) (Begin intent) Done)).intent ≡ Some intent
-      by true h = refl
-      by false h = cc
+      let looked : Extends (λ r. not (is_begin r)) me (s.begins t).first s.begun.dir.trace = extends_wider (λ r h. lists_no_begin r (look_lists (approach_in task) r h)) (look_extends (approach_in task) (s.begins t).looks) in
+      began_since me old.dir.trace (s.begins t).first new.dir.trace intent (s.begins t).begins (quiet_first s t quiet)
+      (and_more (and_more looked refl (extends_wider (asks_no_begin task now draw) (act_part s t))) refl (finish_part s t (λ r. not (is_begin r)) refl))
 
-  lawful_process : (intent : Intent) → intent_of line now draw ≡ Some intent → IsNewDraw draw old.dir.trace → InProcess line now draw intent old new o → IsConforming new.dir.trace
+  lawful_process : (intent : Intent) → intent_of task now draw ≡ Some intent → IsNewDraw draw old.dir.trace → InProcess task now draw intent old new o → IsConforming new.dir.trace
   lawful_process intent said fresh s =
-      let its = its_draw line now draw intent said in
-      let began = began_so intent s in record {
-        run = (s.finishes t).run;
-        rules = rules_after me old.dir.trace new.dir.trace quiet conforming (performed_keeps line now draw old new o t (Some intent) (inl s) (conforming.rules me));
-        identities = once_after me old.dir.trace new.dir.trace quiet conforming intent began (λ i. pod_text i.draw.bytes) conforming.identities (λ p b has same. fresh.identity p b has (same ∙ its.identity));
-        tokens = once_after me old.dir.trace new.dir.trace quiet conforming intent began (λ i. i.token) conforming.tokens (λ p b has same. fresh.token p b has (same ∙ its.token));
-      }
+      lawful_by me old.dir.trace new.dir.trace quiet conforming draw intent (its_draw task now draw intent said) fresh (began_so intent s) (s.finishes t).run (performed_keeps task now draw old new o t (Some intent) (inl s) (conforming.rules me))
 
   -- a begin that was refused leaves all as it was
   stands_refused : (intent : Intent) → NeverBegan intent old new o → (p : ℕ) → standing_of p new.dir.trace ≡ standing_of p old.dir.trace
@@ -162,23 +178,22 @@ module _ (line : Line) (now : ℕ) (draw : Draw) (old new : Outside) (o : Outcom
   once_still : (intent : Intent) → NeverBegan intent old new o → (drawn : Intent → List ℕ) → IsDrawnOnce drawn old.dir.trace → IsDrawnOnce drawn new.dir.trace
   once_still intent n drawn once p q a b x y same = once p q a b (sym (ap (λ s. s.intent) (stands_refused intent n p)) ∙ x) (sym (ap (λ s. s.intent) (stands_refused intent n q)) ∙ y) same
 
-  lawful_refused : (intent : Intent) → NeverBegan intent old new o → IsConforming new.dir.trace
+  pub lawful_refused : (intent : Intent) → NeverBegan intent old new o → IsConforming new.dir.trace
   lawful_refused intent n = record {
     run = (n.step t).run;
-    rules = rules_after me old.dir.trace new.dir.trace quiet conforming (performed_keeps line now draw old new o t (Some intent) (inr n) (conforming.rules me));
+    rules = rules_after me old.dir.trace new.dir.trace quiet conforming (performed_keeps task now draw old new o t (Some intent) (inr n) (conforming.rules me));
     identities = once_still intent n (λ i. pod_text i.draw.bytes) conforming.identities;
     tokens = once_still intent n (λ i. i.token) conforming.tokens;
   }
 
-  lawful_performed : (intent : Option Intent) → intent_of line now draw ≡ intent → IsNewDraw draw old.dir.trace → Performs line now draw intent old new o → IsConforming new.dir.trace
+  lawful_performed : (intent : Option Intent) → intent_of task now draw ≡ intent → IsNewDraw draw old.dir.trace → Performs task now draw intent old new o → IsConforming new.dir.trace
   lawful_performed None said fresh p = subst (λ (d : DirSeen). IsConforming d.trace) (sym p.dir) conforming
   lawful_performed (Some intent) said fresh (inl s) = lawful_process intent said fresh s
   lawful_performed (Some intent) said fresh (inr n) = lawful_refused intent n
 
-pub stays_lawful : {l : Option Line} {now : ℕ} {draw : Draw} {old new : Moment} {status : ℕ} → RunIs l now draw old new status → old.outside.dir.observed ≡ true → StaysLawful draw old.outside.dir new.outside.dir
-stays_lawful {l} {now} {draw} {old} {new} {status} run t quiet conforming fresh = by l run.ran
+pub stays_lawful : {task : Task} {now : ℕ} {draw : Draw} {old new : Moment} {status : ℕ} → RunIs task now draw old new status → old.outside.dir.observed ≡ true → StaysLawful draw old.outside.dir new.outside.dir
+stays_lawful {task} {now} {draw} {old} {new} {status} run t quiet conforming fresh = by run.ran
   where
-    by : (l : Option Line) → RunOf l now draw old new run.plain → IsConforming new.outside.dir.trace
-    by None r = subst (λ (x : Outside). IsConforming x.dir.trace) (sym r.outside) conforming
-    by (Some line) (inr n) = subst (λ (x : Outside). IsConforming x.dir.trace) (sym n.outside) conforming
-    by (Some line) (inl r) = lawful_performed line now draw old.outside new.outside r.outcome t quiet conforming (intent_of line now draw) refl fresh r.performs
+    by : RunOf task now draw old new run.plain → IsConforming new.outside.dir.trace
+    by (inr n) = subst (λ (x : Outside). IsConforming x.dir.trace) (sym n.outside) conforming
+    by (inl r) = lawful_performed task now draw old.outside new.outside r.outcome t quiet conforming (intent_of task now draw) refl fresh r.performs

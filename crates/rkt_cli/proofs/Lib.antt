@@ -1,4 +1,3 @@
-pub mod Words
 pub mod Judged
 pub mod Ends
 pub mod Sessions
@@ -26,3 +25,8 @@ pub mod PodLeft
 pub mod Imports
 pub mod BundleJudged
 pub mod Removals
+pub mod Vain
+pub mod Meanings
+pub mod Words
+pub mod Acting
+pub mod Looked

@@ -7,21 +7,21 @@ use Rattle.dir_model.specs.declared.intent.Intent.{Intent}
 use Rattle.dir_model.specs.declared.spot.Mode.TheVariants.{Shared}
 use Rattle.area_locks.specs.AreaLocks.{IsBusyElsewhere}
 use Rattle.dir_trait.specs.DirCalls.{HeldBetween}
-use Rattle.rkt_cli.specs.declared.line.Line.{Line}
-use Rattle.rkt_cli.specs.declared.line.Line.TheVariants.{ImageList}
+use Rattle.rkt_cli.specs.Tasks.{Task}
+use Rattle.rkt_cli.specs.Tasks.{ImageList}
 use Rattle.command_outcomes.specs.declared.refusal.Refusal.TheVariants.{Busy, Damaged}
 use Rattle.command_outcomes.specs.Moments.{Outside, Outcome}
 use Rattle.command_outcomes.specs.Conforming.{shown_at, begun}
 use Rattle.commands.specs.ImageList.{ListsStore, LacksPart, IsHeldElsewhere}
 use Rattle.rkt_cli.specs.Runs.{InProcess, Performs}
 use Rattle.commands.proofs.Parts.{Part, held_wider, store_wider, lacks_wider}
-use Rattle.rkt_cli.proofs.Sessions.{any_call, begin_part, finish_part}
+use Rattle.rkt_cli.proofs.Sessions.{any_call, begin_any, finish_part}
 use Rattle.rkt_cli.proofs.Conforming.{begun_knows}
 
-module _ {line : Line} {now : ℕ} {draw : Draw} {intent : Intent} {old new : Outside} {o : Outcome} (s : InProcess line now draw intent old new o) where
+module _ {line : Task} {now : ℕ} {draw : Draw} {intent : Intent} {old new : Outside} {o : Outcome} (s : InProcess line now draw intent old new o) where
   pub process_part : old.dir.observed ≡ true → Part (shown_at old.dir) (shown_at s.begun.dir) (shown_at s.ended.dir) (shown_at new.dir)
   process_part t =
-      let first = begin_part s t any_call refl in
+      let first = begin_any s t in
       let last = finish_part s t any_call refl in
       record { earlier = first.more; later = last.more; same = s.me; begins = first.grown; ends = last.grown }
 

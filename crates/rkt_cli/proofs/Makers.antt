@@ -17,8 +17,8 @@ use Rattle.dir_model.specs.Areas.{is_stage}
 use Rattle.dir_model.specs.State.{spot_eq}
 use Rattle.dir_model.specs.Calls.{CallStep, Extends, is_begin, is_finish}
 use Rattle.dir_model.specs.Replies.{is_look_at}
-use Rattle.dir_model.proofs.Chains.{and_call, nothing_yet}
-use Rattle.dir_model.proofs.Lists.{and_false, and_left, and_right}
+use Rattle.dir_model.proofs.Chains.{and_call, and_more, extends_wider, nothing_yet}
+use Rattle.dir_model.proofs.Lists.{and_false, and_left, and_right, or_last}
 use Rattle.dir_rules.specs.Standing.{is_in}
 use Rattle.dir_trait.specs.DirCalls.{DirAt, DirCall, ExtendsBy}
 use Rattle.folder_contents.proofs.Spots.{in_area, one_location}
@@ -36,12 +36,15 @@ use Rattle.pod_build.specs.Preparations.{Began, MakesFaithfully}
 use Rattle.commands.specs.ImageList.{lists_images}
 use Rattle.commands.proofs.LateTurns.{or_false, or_either}
 use Rattle.commands.specs.RunPrepared.{runs_prepared}
-use Rattle.rkt_cli.specs.declared.line.Line.{Line}
-use Rattle.rkt_cli.specs.declared.line.Line.TheVariants.{Prepare as PrepareLine, Run as RunLine}
+use Rattle.rkt_cli.specs.Tasks.{Task}
+use Rattle.rkt_cli.specs.Tasks.{Prepare as PrepareLine, Run as RunLine}
 use Rattle.commands.specs.Command.{intent_for}
 use Rattle.rkt_cli.specs.Commands.{intent_of}
 use Rattle.rkt_cli.specs.Histories.{HandsOver, WhereKnown}
 use Rattle.rkt_cli.proofs.PodRan.{prepares}
+use Rattle.commands.specs.Wants.{Wants}
+use Rattle.pod_lookup.specs.Looks.{lists_stages}
+use Rattle.commands.specs.Opening.{opens}
 
 not_from : (from to : Spot) → is_in Prepare from.area ≡ false → hands_over (MoveFolder from to) ≡ false
 not_from from to off = ap (λ b. b && is_handed_to to.area) off
@@ -96,14 +99,14 @@ sweeps_none now = spares (sweeps_pods now) (λ from to is. by from to (or_either
     by from to (inr x) = not_to from to (ap is_handed_to (sym (in_area Garbage to.area x)))
 
 -- `prepare` and `run`, of a process that has just begun
-pub prepare_hands : (a b : DirAt) {line : Line} {words : List (List ℕ)} (now : ℕ) (draw : Draw) → line ≡ PrepareLine words → MakesFaithfully Prepared draw now a b → WhereKnown line now draw a (HandsOver a b)
-prepare_hands a b {line} {words} now draw is makes intent said known run =
-    let began = prepares words now draw intent (subst (λ (l : Line). intent_of l now draw ≡ Some intent) is said) in
+pub prepare_hands : (a b : DirAt) {line : Task} {wants : Wants} (now : ℕ) (draw : Draw) → line ≡ PrepareLine wants → MakesFaithfully Prepared draw now a b → WhereKnown line now draw a (HandsOver a b)
+prepare_hands a b {line} {wants} now draw is makes intent said known run =
+    let began = prepares wants now draw intent (subst (λ (l : Task). intent_of l now draw ≡ Some intent) is said) in
     makes run intent [] began refl (record { tied = known.tied; handles = known.handles })
 
-pub run_hands : (a b : DirAt) {line : Line} {words : List (List ℕ)} (now : ℕ) (draw : Draw) → line ≡ RunLine words → MakesFaithfully Run draw now a b → WhereKnown line now draw a (HandsOver a b)
-run_hands a b {line} {words} now draw is makes intent said known run =
-    let same : intent_for kind.Run [] now draw ≡ intent = (let e : intent_of (RunLine words) now draw ≡ Some intent = subst (λ (l : Line). intent_of l now draw ≡ Some intent) is said in cc) in
+pub run_hands : (a b : DirAt) {line : Task} {wants : Wants} {address : List ℕ} (now : ℕ) (draw : Draw) → line ≡ RunLine wants address → MakesFaithfully Run draw now a b → WhereKnown line now draw a (HandsOver a b)
+run_hands a b {line} {wants} {address} now draw is makes intent said known run =
+    let same : intent_for kind.Run [] now draw ≡ intent = (let e : intent_of (RunLine wants address) now draw ≡ Some intent = subst (λ (l : Task). intent_of l now draw ≡ Some intent) is said in cc) in
     makes run intent [] (subst (λ (i : Intent). Began Run draw now i) same (record { leads = refl; drawn = refl; token = refl; moment = refl })) refl (record { tied = known.tied; handles = known.handles })
 
 -- a begin that is refused hands nothing over
@@ -114,10 +117,26 @@ never_begun_hands step = none_handed (spares is_begin (λ from to is. cc)) (and_
 pub apart_hands : (a b : DirAt) → b ≡ a → HandsOver a b
 apart_hands a b same run = subst (λ (d : DirAt). HandsOverFaithfully a.process a.trace d.trace) (sym same) nothing_handed
 
--- a whole process: its begin and its finish hand nothing over
-pub process_hands : {observed : Bool} {asks : Request → Bool} {intent : Intent} (a b c d : DirAt) → observed ≡ true → DirCall observed a (Begin intent) Done b → c.process ≡ b.process → ExtendsBy asks b c → HandsOver b c → DirCall observed c Finish Done d → HandsOver a d
-process_hands {observed} {asks} {intent} a b c d t begins same bc x finishes run =
+-- a begin and a look hand nothing over
+opens_none : HandsNothingOver opens
+opens_none = spares opens (λ from to is. cc)
+
+opened : {me : ℕ} {a b c : List Event} → Extends is_begin me a b → Extends lists_stages me b c → Extends opens me a c
+opened ab bc = and_more (extends_wider (λ r h. or_last (lists_stages r) _ h) ab) refl (extends_wider (λ r h. ap (λ x. x || is_begin r) h) bc)
+
+-- a whole process: its begin, its look and its finish hand nothing over
+pub process_hands : {observed : Bool} {asks : Request → Bool} {intent : Intent} (a b m c d : DirAt) → observed ≡ true → DirCall observed a (Begin intent) Done b → m.process ≡ b.process → ExtendsBy lists_stages b m → c.process ≡ m.process → ExtendsBy asks m c → HandsOver m c →
+    DirCall observed c Finish Done d → HandsOver a d
+process_hands {observed} {asks} {intent} a b m c d t begins found looks same mc x finishes run =
     let ab : Extends is_begin a.process a.trace b.trace = and_call nothing_yet refl refl (begins.step t) in
+    let bm : Extends lists_stages a.process b.trace m.trace = subst (λ (p : ℕ). Extends lists_stages p b.trace m.trace) begins.same looks in
+    let am : Extends opens a.process a.trace m.trace = opened ab bm in
+    let mine : m.process ≡ a.process = found ∙ begins.same in
     let cd : Extends is_finish c.process c.trace d.trace = and_call nothing_yet refl refl (finishes.step t) in
-    let first : HandsOverFaithfully a.process a.trace c.trace = handed_after (λ me. IsFaithfulBuild me) (spares is_begin (λ from to is. cc)) ab begins.same bc (x (run_until cd run)) in
-    handed_before {P = IsFaithfulBuild a.process} (follow_on ab begins.same bc) first (same ∙ begins.same) (spares is_finish (λ from to is. cc)) cd
+    let first : HandsOverFaithfully a.process a.trace c.trace = handed_after (λ me. IsFaithfulBuild me) opens_none am mine mc (x (run_until cd run)) in
+    handed_before {P = IsFaithfulBuild a.process} (follow_on am mine mc) first (same ∙ mine) (spares is_finish (λ from to is. cc)) cd
+
+-- and where it looked in vain
+pub vain_hands : {observed : Bool} {intent : Intent} (a b m d : DirAt) → observed ≡ true → DirCall observed a (Begin intent) Done b → m.process ≡ b.process → ExtendsBy lists_stages b m → DirCall observed m Finish Done d → HandsOver a d
+vain_hands {observed} {intent} a b m d t begins found looks finishes run =
+    process_hands {asks = λ r. false} a b m m d t begins found looks refl nothing_yet (λ run. nothing_handed) finishes run

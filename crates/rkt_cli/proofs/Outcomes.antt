@@ -7,8 +7,8 @@ use Rattle.dir_trait.specs.Bundles.{file_bytes}
 use Rattle.ac_types.specs.Outcomes.{reads, fails}
 use Rattle.ac_types.specs.Outcomes as reading
 use Rattle.manifests.specs.DocumentData.{DocumentData, any_manifest}
-use Rattle.rkt_cli.specs.declared.line.Line.{Line}
-use Rattle.rkt_cli.specs.declared.line.Line.TheVariants.{Validate}
+use Rattle.rkt_cli.specs.Tasks.{Task}
+use Rattle.rkt_cli.specs.Tasks.{Validate}
 use Rattle.command_outcomes.specs.declared.refusal.Refusal.{Refusal}
 use Rattle.command_outcomes.specs.declared.refusal.Refusal.TheVariants.{DirFault, BundleFault, NoMemory}
 use Rattle.command_outcomes.specs.Texts.{status_of}
@@ -25,17 +25,17 @@ use Rattle.rkt_cli.proofs.Judged.{judged_whole}
 pub rose_between : (a b c d : ℕ) → b ≡ a → Rose b c → d ≡ c → Rose a d
 rose_between a b c d ba rose dc = omega arith
 
-pub fault_cause : (line : Line) (now : ℕ) (draw : Draw) (intent : Option Intent) (old new : Outside) (o : Outcome) → Performs line now draw intent old new o → o ≡ Err DirFault → Rose old.dir.faults new.dir.faults
+pub fault_cause : (line : Task) (now : ℕ) (draw : Draw) (intent : Option Intent) (old new : Outside) (o : Outcome) → Performs line now draw intent old new o → o ≡ Err DirFault → Rose old.dir.faults new.dir.faults
 fault_cause line now draw (Some intent) old new o (inl s) is = rose_wider old.dir.faults s.begun.dir.faults s.ended.dir.faults new.dir.faults s.risen (subst (λ (o : Outcome). IsErrOf o DirFault → Rose s.begun.dir.faults s.ended.dir.faults) is s.ran.cause refl) s.faults
 fault_cause line now draw (Some intent) old new o (inr n) is = let e : Err DirFault ≡ Err NoMemory = sym is ∙ n.is in cc
 fault_cause line now draw None old new o p is = subst (λ (o : Outcome). IsErrOf o DirFault → Rose old.dir.faults new.dir.faults) is p.ran.cause refl
 
-pub bundle_cause : (line : Line) (now : ℕ) (draw : Draw) (intent : Option Intent) (old new : Outside) (o : Outcome) → Performs line now draw intent old new o → o ≡ Err BundleFault → Rose old.bundle.faults new.bundle.faults
+pub bundle_cause : (line : Task) (now : ℕ) (draw : Draw) (intent : Option Intent) (old new : Outside) (o : Outcome) → Performs line now draw intent old new o → o ≡ Err BundleFault → Rose old.bundle.faults new.bundle.faults
 bundle_cause line now draw (Some intent) old new o (inl s) is = rose_between old.bundle.faults s.begun.bundle.faults s.ended.bundle.faults new.bundle.faults (ap (λ (x : BundleSeen). x.faults) s.bundle_before) (subst (λ (o : Outcome). IsErrOf o BundleFault → Rose s.begun.bundle.faults s.ended.bundle.faults) is s.ran.bundle_cause refl) (ap (λ (x : BundleSeen). x.faults) s.bundle_after)
 bundle_cause line now draw (Some intent) old new o (inr n) is = let e : Err BundleFault ≡ Err NoMemory = sym is ∙ n.is in cc
 bundle_cause line now draw None old new o p is = subst (λ (o : Outcome). IsErrOf o BundleFault → Rose old.bundle.faults new.bundle.faults) is p.ran.bundle_cause refl
 
-pub refusals_of : (line : Line) (now : ℕ) (draw : Draw) (intent : Option Intent) (old new : Outside) (o : Outcome) (r : Refusal) → Performs line now draw intent old new o → o ≡ Err r → may line r ≡ true
+pub refusals_of : (line : Task) (now : ℕ) (draw : Draw) (intent : Option Intent) (old new : Outside) (o : Outcome) (r : Refusal) → Performs line now draw intent old new o → o ≡ Err r → may line r ≡ true
 refusals_of line now draw (Some intent) old new o r (inl s) is = subst (λ (o : Outcome). IfErr o (λ r. may line r ≡ true)) is s.ran.refusals
 refusals_of line now draw (Some intent) old new o r (inr n) is = subst (λ (o : Outcome). IfErr o (λ r. may line r ≡ true)) (sym n.is ∙ is) refl
 refusals_of line now draw None old new o r p is = subst (λ (o : Outcome). IfErr o (λ r. may line r ≡ true)) is p.ran.refusals

@@ -25,9 +25,10 @@ use Rattle.folder_contents.proofs.Spots.{one_location}
 use Rattle.folder_contents.proofs.Unmoved.{unmoved}
 use Rattle.pod_making.specs.Requests.{pod_at}
 use Rattle.pod_build.specs.Preparations.{IsPrepared}
-use Rattle.commands.specs.Prepare.{prepares_pod, no_wishes}
+use Rattle.commands.specs.Prepare.{prepares_pod}
 use Rattle.commands.specs.PrepareQuiet.{StandsPrepared}
-use Rattle.commands.proofs.RemovalQuiet.{in_process}
+use Rattle.commands.proofs.OwnSteps.{in_process}
+use Rattle.pod_manifest.specs.Wishes.{Wishes}
 
 module _ (draw : PodId) where
   abbrev spot : Spot
@@ -83,9 +84,9 @@ module _ (draw : PodId) where
       subst (λ (h : List Event). Stands folder before h) (sym whole) (rest.0, rest.1 ∙ one.1)
 
   -- the pod that came
-  pub pod_stands : {me : ℕ} {old new : List Event} {refs : List ImageRef} (ext : Extends asks me old new) → Quiet me old new → IsConforming new →
-      (x : IsPrepared refs no_wishes me draw Prepared old new) → StandsPrepared x (state_after new)
-  pod_stands {me} {old} {new} {refs} ext quiet conforming x =
+  pub pod_stands : {me : ℕ} {old new : List Event} {refs : List ImageRef} {wishes : Wishes} (ext : Extends asks me old new) → Quiet me old new → IsConforming new →
+      (x : IsPrepared refs wishes me draw Prepared old new) → StandsPrepared x (state_after new)
+  pod_stands {me} {old} {new} {refs} {wishes} ext quiet conforming x =
       let own : AllByRecursion (λ e. e.process ≡ me) ext.more =
       subst (λ (l : List Event). AllByRecursion (λ e. e.process ≡ me) l) (same_rest old quiet.more ext.more (sym quiet.grown ∙ ext.grown)) quiet.own in
       let step : Event = event me (MoveFolder (pod_at Prepare draw) spot) Done in

@@ -2,7 +2,6 @@
 use Rattle.std.proofs.Common.{◌≡◌, inl, inr, ℕ, Bool, true, false, List, [], append-nil, Option, Some, None, Ok, Err, IfErr, IsErrOf, refl, sym, ap, subst, ◌∙◌}
 use Rattle.dir_model.specs.declared.area.Area.{Area}
 use Rattle.dir_model.specs.declared.area.Area.TheVariants.{Prepared}
-use Rattle.dir_model.specs.declared.area.Area.TheVariants as area
 use Rattle.dir_model.specs.declared.intent.Draw.{Draw}
 use Rattle.dir_model.specs.declared.intent.Intent.{Intent}
 use Rattle.dir_model.specs.declared.intent.Kind.TheVariants as kind
@@ -21,8 +20,8 @@ use Rattle.lifecycle.specs.Executions.{IsConforming}
 use Rattle.lifecycle.proofs.Draws.{conforming_left}
 use Rattle.pod_build.specs.Preparations.{Began}
 use Rattle.pod_making.specs.Progress.{at_work, handed}
-use Rattle.rkt_cli.specs.declared.line.Line.{Line}
-use Rattle.rkt_cli.specs.declared.line.Line.TheVariants.{Prepare}
+use Rattle.rkt_cli.specs.Tasks.{Task}
+use Rattle.rkt_cli.specs.Tasks.{Prepare}
 use Rattle.command_outcomes.specs.declared.refusal.Refusal.{Refusal}
 use Rattle.command_outcomes.specs.declared.refusal.Refusal.TheVariants.{Busy, DirFault, NoMemory}
 use Rattle.command_outcomes.specs.Conforming.{shown_at}
@@ -36,10 +35,11 @@ use Rattle.commands.specs.Command.{intent_for}
 use Rattle.rkt_cli.specs.Commands.{intent_of, may}
 use Rattle.rkt_cli.specs.Runs.{CommandRan, InProcess, Performs}
 use Rattle.rkt_cli.proofs.Listed.{process_part}
-use Rattle.rkt_cli.proofs.Sessions.{any_call, begin_part, finish_part}
+use Rattle.rkt_cli.proofs.Sessions.{any_call, begin_any, finish_part}
 use Rattle.rkt_cli.proofs.Conforming.{begun_knows}
 use Rattle.rkt_cli.proofs.Removals.{meanwhile}
 use Rattle.rkt_cli.proofs.Ran.{ran}
+use Rattle.commands.specs.Wants.{Wants}
 
 abbrev pub prepare_intent : ℕ → Draw → Intent
 prepare_intent now draw = intent_for kind.Prepare [] now draw
@@ -48,19 +48,19 @@ prepare_intent now draw = intent_for kind.Prepare [] now draw
 pub began : (now : ℕ) (draw : Draw) → Began Prepared draw now (prepare_intent now draw)
 began now draw = record { leads = refl; drawn = refl; token = refl; moment = refl }
 
-pub prepares : (words : List (List ℕ)) (now : ℕ) (draw : Draw) (intent : Intent) → intent_of (Prepare words) now draw ≡ Some intent → Began Prepared draw now intent
-prepares words now draw intent is = subst (λ (i : Intent). Began Prepared draw now i) (let e : prepare_intent now draw ≡ intent = cc in e) (began now draw)
+pub prepares : (wants : Wants) (now : ℕ) (draw : Draw) (intent : Intent) → intent_of (Prepare wants) now draw ≡ Some intent → Began Prepared draw now intent
+prepares wants now draw intent is = subst (λ (i : Intent). Began Prepared draw now i) (let e : prepare_intent now draw ≡ intent = cc in e) (began now draw)
 
 -- what it owes
-prepare_may : (words : List (List ℕ)) (r : Refusal) → prepare_refusal r ≡ true → may (Prepare words) r ≡ true
-prepare_may words NoMemory known = known
-prepare_may words DirFault known = known
-prepare_may words r known = known
+prepare_may : (wants : Wants) (r : Refusal) → prepare_refusal r ≡ true → may (Prepare wants) r ≡ true
+prepare_may wants NoMemory known = known
+prepare_may wants DirFault known = known
+prepare_may wants r known = known
 
-pub prepare_ran : (line : Line) (now : ℕ) (draw : Draw) (words : List (List ℕ)) (observed : Bool) (a b : DirAt) (bundle : BundleSeen) (o : Outcome) → line ≡ Prepare words → Worked observed (prepares_pod draw.uuid) a b →
-    (IsErrOf o DirFault → Rose a.faults b.faults) → IfErr o (λ r. prepare_refusal r ≡ true) → PrepareSays words now draw (seen_at observed a) (seen_at observed b) o →
+pub prepare_ran : (line : Task) (now : ℕ) (draw : Draw) (wants : Wants) (observed : Bool) (a b : DirAt) (bundle : BundleSeen) (o : Outcome) → line ≡ Prepare wants → Worked observed (prepares_pod draw.uuid) a b →
+    (IsErrOf o DirFault → Rose a.faults b.faults) → IfErr o (λ r. prepare_refusal r ≡ true) → PrepareSays wants now draw (seen_at observed a) (seen_at observed b) o →
     CommandRan line now draw (beside (seen_at observed a) bundle) (beside (seen_at observed b) bundle) o
-prepare_ran line now draw words observed a b bundle o is worked cause known says = ran (Prepare words) prepare_refusal refl (prepare_may words) line now draw observed a b bundle o is refl worked cause known says
+prepare_ran line now draw wants observed a b bundle o is worked cause known says = ran (Prepare wants) prepare_refusal refl (prepare_may wants) line now draw observed a b bundle o is refl worked cause known says
 
 -- the refusals that may come with the pod in prepared
 abbrev pub is_fault : Refusal → Bool
@@ -68,35 +68,35 @@ is_fault NoMemory = true
 is_fault DirFault = true
 is_fault r = false
 
-says_why : (words : List (List ℕ)) (now : ℕ) (draw : Draw) (old new : Outside) (r : Refusal) → is_fault r ≡ false → PrepareSays words now draw old.dir new.dir (Err r) → RefusesPod words now draw old.dir new.dir r × IsHeldFrom now draw r old.dir new.dir
-says_why words now draw old new NoMemory other says = let clash : true ≡ false = other in cc
-says_why words now draw old new DirFault other says = let clash : true ≡ false = other in cc
-says_why words now draw old new r other says = (says.1, says.2)
+says_why : (wants : Wants) (now : ℕ) (draw : Draw) (old new : Outside) (r : Refusal) → is_fault r ≡ false → PrepareSays wants now draw old.dir new.dir (Err r) → RefusesPod wants now draw old.dir new.dir r × IsHeldFrom now draw r old.dir new.dir
+says_why wants now draw old new NoMemory other says = let clash : true ≡ false = other in cc
+says_why wants now draw old new DirFault other says = let clash : true ≡ false = other in cc
+says_why wants now draw old new r other says = (says.1, says.2)
 
-module _ {words : List (List ℕ)} {now : ℕ} {draw : Draw} {intent : Intent} {old new : Outside} {o : Outcome} (s : InProcess (Prepare words) now draw intent old new o) where
-  refused_in_process : (r : Refusal) → RefusesPod words now draw s.begun.dir s.ended.dir r → RefusesPod words now draw old.dir new.dir r
-  refused_in_process r x = refuses_whole any_call s.told s.me s.ran.same (λ t. begin_part s t any_call refl)
+module _ {wants : Wants} {now : ℕ} {draw : Draw} {intent : Intent} {old new : Outside} {o : Outcome} (s : InProcess (Prepare wants) now draw intent old new o) where
+  refused_in_process : (r : Refusal) → RefusesPod wants now draw s.begun.dir s.ended.dir r → RefusesPod wants now draw old.dir new.dir r
+  refused_in_process r x = refuses_whole any_call s.told s.me s.ran.same (λ t. begin_any s t)
       (λ t. step_extends any_call s.ended.dir.process s.ended.dir.trace Finish Done new.dir.trace refl (s.finishes t)) x
 
   -- the pod was brought to prepared, and then the sync was answered so
-  module _ (said : Began Prepared draw now intent) (t : old.dir.observed ≡ true) {reply : Reply} (x : BringsPod words now draw reply s.begun.dir s.ended.dir) where
+  module _ (said : Began Prepared draw now intent) (t : old.dir.observed ≡ true) {reply : Reply} (x : BringsPod wants now draw reply s.begun.dir s.ended.dir) where
     sync_part : Extends any_call s.begun.dir.process x.brought.trace s.ended.dir.trace
     sync_part = step_extends any_call s.begun.dir.process x.brought.trace (SyncArea Prepared) reply s.ended.dir.trace refl (x.synced (s.told ∙ t))
 
-    pub faithful_in_process : IsConforming new.dir.trace → IsFaithful words draw.uuid old.dir new.dir
+    pub faithful_in_process : IsConforming new.dir.trace → IsFaithful wants draw.uuid old.dir new.dir
     faithful_in_process conforming =
-        let first = begin_part s t any_call refl in
+        let first = begin_any s t in
         let last = finish_part s t any_call refl in
         let ended = conforming_left s.ended.dir.trace last.more (subst IsConforming last.grown conforming) in
         let brought = conforming_left x.brought.trace sync_part.more (subst IsConforming sync_part.grown ended) in
         let within = x.faithful (s.told ∙ t) brought intent said (begun_knows s t) in
-        faithful_wider words draw.uuid old.dir s.begun.dir s.ended.dir new.dir first.more last.more s.me first.grown last.grown
-        (faithful_wider words draw.uuid s.begun.dir s.begun.dir x.brought s.ended.dir [] sync_part.more refl (sym (append-nil s.begun.dir.trace)) sync_part.grown within)
+        faithful_wider wants draw.uuid old.dir s.begun.dir s.ended.dir new.dir first.more last.more s.me first.grown last.grown
+        (faithful_wider wants draw.uuid s.begun.dir s.begun.dir x.brought s.ended.dir [] sync_part.more refl (sym (append-nil s.begun.dir.trace)) sync_part.grown within)
 
     pub brought_in_process : HasBrought draw.uuid reply old.dir new.dir
     brought_in_process =
         let k = x.knows (s.told ∙ t) intent said (begun_knows s t) in
-        meanwhile (Syncs draw.uuid reply) s t (record {
+        meanwhile (Syncs draw.uuid reply) refl s t (record {
           intent = intent;
           entries = k.0;
           mid = x.brought.trace;
@@ -109,7 +109,7 @@ module _ {words : List (List ℕ)} {now : ℕ} {draw : Draw} {intent : Intent} {
   pub kept_in_process : Began Prepared draw now intent → old.dir.observed ≡ true → LeavesFolder now draw s.begun.dir s.ended.dir → HasKeptFolder draw.uuid old.dir new.dir
   kept_in_process said t left =
       let x = left (s.told ∙ t) intent said (begun_knows s t) in
-      inr (meanwhile (KeepsFolder draw.uuid) s t (record {
+      inr (meanwhile (KeepsFolder draw.uuid) refl s t (record {
         intent = intent;
         progress = x.progress;
         own = x.own;
@@ -117,28 +117,28 @@ module _ {words : List (List ℕ)} {now : ℕ} {draw : Draw} {intent : Intent} {
       }))
 
 -- what was printed
-pub prepare_printed : (words : List (List ℕ)) (now : ℕ) (draw : Draw) (intent : Option Intent) (old new : Outside) (text : List ℕ) → Performs (Prepare words) now draw intent old new (Ok text) → text ≡ pod_line draw.uuid
-prepare_printed words now draw (Some intent) old new text (inl s) = s.ran.says.0
-prepare_printed words now draw (Some intent) old new text (inr n) = let e = n.is in cc
-prepare_printed words now draw None old new text p = let clash : true ≡ false = p.apart in cc
+pub prepare_printed : (wants : Wants) (now : ℕ) (draw : Draw) (intent : Option Intent) (old new : Outside) (text : List ℕ) → Performs (Prepare wants) now draw intent old new (Ok text) → text ≡ pod_line draw.uuid
+prepare_printed wants now draw (Some intent) old new text (inl s) = s.ran.says.0
+prepare_printed wants now draw (Some intent) old new text (inr n) = let e = n.is in cc
+prepare_printed wants now draw None old new text p = let clash : true ≡ false = p.apart in cc
 
-pub prepare_faithful : (words : List (List ℕ)) (now : ℕ) (draw : Draw) (old new : Outside) (text : List ℕ) → Performs (Prepare words) now draw (intent_of (Prepare words) now draw) old new (Ok text) → old.dir.observed ≡ true → IsConforming new.dir.trace → IsFaithful words draw.uuid old.dir new.dir
-prepare_faithful words now draw old new text (inl s) t conforming = faithful_in_process s (began now draw) t s.ran.says.1 conforming
-prepare_faithful words now draw old new text (inr n) t conforming = let e = n.is in cc
+pub prepare_faithful : (wants : Wants) (now : ℕ) (draw : Draw) (old new : Outside) (text : List ℕ) → Performs (Prepare wants) now draw (intent_of (Prepare wants) now draw) old new (Ok text) → old.dir.observed ≡ true → IsConforming new.dir.trace → IsFaithful wants draw.uuid old.dir new.dir
+prepare_faithful wants now draw old new text (inl s) t conforming = faithful_in_process s (began now draw) t s.ran.says.1 conforming
+prepare_faithful wants now draw old new text (inr n) t conforming = let e = n.is in cc
 
-pub prepare_synced : (words : List (List ℕ)) (now : ℕ) (draw : Draw) (old new : Outside) (text : List ℕ) → Performs (Prepare words) now draw (intent_of (Prepare words) now draw) old new (Ok text) → old.dir.observed ≡ true → HasSynced draw.uuid old.dir new.dir
-prepare_synced words now draw old new text (inl s) t = brought_in_process s (began now draw) t s.ran.says.1
-prepare_synced words now draw old new text (inr n) t = let e = n.is in cc
+pub prepare_synced : (wants : Wants) (now : ℕ) (draw : Draw) (old new : Outside) (text : List ℕ) → Performs (Prepare wants) now draw (intent_of (Prepare wants) now draw) old new (Ok text) → old.dir.observed ≡ true → HasSynced draw.uuid old.dir new.dir
+prepare_synced wants now draw old new text (inl s) t = brought_in_process s (began now draw) t s.ran.says.1
+prepare_synced wants now draw old new text (inr n) t = let e = n.is in cc
 
 -- why it was refused
-pub prepare_refused : (words : List (List ℕ)) (now : ℕ) (draw : Draw) (intent : Option Intent) (old new : Outside) (r : Refusal) → is_fault r ≡ false → Performs (Prepare words) now draw intent old new (Err r) → RefusesPod words now draw old.dir new.dir r
-prepare_refused words now draw (Some intent) old new r other (inl s) = refused_in_process s r ((says_why words now draw s.begun s.ended r other s.ran.says).0)
-prepare_refused words now draw (Some intent) old new r other (inr n) = let same : Err r ≡ Err NoMemory = n.is in let m : r ≡ NoMemory = cc in let clash : false ≡ true = sym other ∙ ap is_fault m in cc
-prepare_refused words now draw None old new r other p = let clash : true ≡ false = p.apart in cc
+pub prepare_refused : (wants : Wants) (now : ℕ) (draw : Draw) (intent : Option Intent) (old new : Outside) (r : Refusal) → is_fault r ≡ false → Performs (Prepare wants) now draw intent old new (Err r) → RefusesPod wants now draw old.dir new.dir r
+prepare_refused wants now draw (Some intent) old new r other (inl s) = refused_in_process s r ((says_why wants now draw s.begun s.ended r other s.ran.says).0)
+prepare_refused wants now draw (Some intent) old new r other (inr n) = let same : Err r ≡ Err NoMemory = n.is in let m : r ≡ NoMemory = cc in let clash : false ≡ true = sym other ∙ ap is_fault m in cc
+prepare_refused wants now draw None old new r other p = let clash : true ≡ false = p.apart in cc
 
-pub prepare_busy : (words : List (List ℕ)) (now : ℕ) (draw : Draw) (old new : Outside) (area : Area) → Performs (Prepare words) now draw (intent_of (Prepare words) now draw) old new (Err (Busy area)) → old.dir.observed ≡ true → IsAreaHeld area old.dir new.dir
-prepare_busy words now draw old new area (inl s) t =
+pub prepare_busy : (wants : Wants) (now : ℕ) (draw : Draw) (old new : Outside) (area : Area) → Performs (Prepare wants) now draw (intent_of (Prepare wants) now draw) old new (Err (Busy area)) → old.dir.observed ≡ true → IsAreaHeld area old.dir new.dir
+prepare_busy wants now draw old new area (inl s) t =
     held_wider (process_part s t) (IsBusyElsewhere old.dir.process area Shared)
     (subst (λ (me : ℕ). HeldBetween (shown_at s.begun.dir) (shown_at s.ended.dir) (IsBusyElsewhere me area Shared)) s.me
     (s.ran.says.2 area refl (s.told ∙ t) (prepare_intent now draw) (began now draw) (begun_knows s t)))
-prepare_busy words now draw old new area (inr n) t = let e = n.is in cc
+prepare_busy wants now draw old new area (inr n) t = let e = n.is in cc

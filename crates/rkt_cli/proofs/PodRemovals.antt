@@ -1,12 +1,11 @@
 -- What `rm` and `gc` tell of the whole run.
-use Rattle.std.proofs.Common.{◌≡◌, ◌⊎◌, inl, inr, ℕ, Bool, true, false, List, [], ◌∷◌, Option, Some, None, Ok, Err, IsErrOf, IfErr, refl, sym, ap, subst, ◌∙◌}
+use Rattle.std.proofs.Common.{◌≡◌, ◌⊎◌, inl, inr, ℕ, Bool, true, false, List, Option, Some, None, Ok, Err, IsErrOf, IfErr, refl, sym, ap, subst, ◌∙◌}
 use Rattle.dir_model.specs.declared.area.Phase.{Phase}
 use Rattle.dir_model.specs.declared.intent.Draw.{Draw}
 use Rattle.dir_model.specs.declared.intent.Intent.{Intent}
 use Rattle.dir_model.specs.declared.intent.Kind.TheVariants as kind
 use Rattle.dir_model.specs.declared.pod.PodId.{PodId}
 use Rattle.dir_model.specs.declared.spot.Which.{Which}
-use Rattle.dir_model.specs.Pods.{pod_text}
 use Rattle.dir_model.specs.Calls.{Extends, is_begin}
 use Rattle.dir_model.specs.Causes.{Rose}
 use Rattle.dir_model.proofs.Chains.{step_extends}
@@ -18,9 +17,8 @@ use Rattle.pod_removal.specs.Requests.{removes}
 use Rattle.pod_gc.specs.Requests.{sweeps}
 use Rattle.command_outcomes.specs.declared.refusal.Refusal.{Refusal}
 use Rattle.command_outcomes.proofs.Seen.{beside}
-use Rattle.rkt_cli.specs.declared.line.Line.{Line}
+use Rattle.rkt_cli.specs.Tasks.{Task}
 use Rattle.rkt_cli.proofs.Ran.{ran}
-use Rattle.dir_rules.specs.Marks.{begins}
 use Rattle.pod_steps.specs.Causes.{WasStray}
 use Rattle.pod_removal.specs.Holding.{MayRemovePod}
 use Rattle.pod_removal.specs.Removals.{FoundNone}
@@ -32,31 +30,29 @@ use Rattle.command_outcomes.specs.Conforming.{begun, StaysConforming}
 use Rattle.commands.specs.Kept.{KeepsRefused}
 use Rattle.commands.specs.Rm.{rm_refusal, RmSays, removed_text, Removes, FindsPodBusy, WasSo, WasOwned, HadNoManifest, MeetsStray, HasRemovedPod, HasFoundNoPod, HasFoundWrong, HasFoundNoManifest, HasFoundBusy, HasMetStrayAtPod}
 use Rattle.commands.specs.Gc.{gc_refusal, GcSays, times_of, lines_text, Sweeps, SweepsUntold, SweepsInPart, HasSweptPods, HasMadePasses, HasSweptInPart, HasMetStrayInPods}
-use Rattle.rkt_cli.specs.declared.line.Line.TheVariants.{Rm, Gc}
+use Rattle.rkt_cli.specs.Tasks.{Rm, Gc}
 use Rattle.commands.specs.Command.{intent_for}
-use Rattle.commands.specs.GcCommand.{gc_intent, grace_time, expire_time}
+use Rattle.commands.specs.GcCommand.{gc_intent}
 use Rattle.rkt_cli.specs.Commands.{intent_of, may}
 use Rattle.rkt_cli.specs.Runs.{CommandRan, Performs}
-use Rattle.rkt_cli.proofs.Removals.{meanwhile}
+use Rattle.rkt_cli.proofs.Removals.{meanwhile, once_found}
 use Rattle.rkt_cli.proofs.Conforming.{begun_knows}
+use Rattle.pod_gc.specs.declared.ages.Times.{Times}
+use Rattle.rkt_cli.specs.Tasks.{IsMeant}
 
-abbrev pub rm_intent : PodId → ℕ → Draw → Intent
-rm_intent pod now draw = intent_for kind.Rm (pod_text pod.bytes) now draw
+abbrev pub rm_intent : List ℕ → ℕ → Draw → Intent
+rm_intent word now draw = intent_for kind.Rm word now draw
 
 abbrev is_memory : Refusal → Bool
 is_memory NoMemory = true
 is_memory r = false
 
-begins_itself : (bs : List ℕ) → begins bs bs ≡ true
-begins_itself [] = refl
-begins_itself (x ∷ xs) = rw (same_self x) (begins_itself xs)
-
 -- a process that has just begun so may remove the pod, or sweep
-pub begun_removes : (pod : PodId) (now : ℕ) (draw : Draw) → MayRemovePod pod now (begun (rm_intent pod now draw))
-begun_removes pod now draw = record { may = record { began = refl; moment = same_self now; apart = refl; bare = refl }; asks = begins_itself (pod_text pod.bytes) }
+pub begun_removes : {word : List ℕ} {pod : PodId} (now : ℕ) (draw : Draw) → IsMeant word pod → MayRemovePod pod now (begun (rm_intent word now draw))
+begun_removes now draw meant = record { may = record { began = refl; moment = same_self now; apart = refl; bare = refl }; asks = meant.begins }
 
-pub begun_sweeps : (now : ℕ) (draw : Draw) → MaySweepAll now expire_time (begun (gc_intent now draw))
-begun_sweeps now draw = record { sweeps = record { may = record { began = refl; moment = same_self now; apart = refl; bare = refl }; sweeps = refl }; free = refl }
+pub begun_sweeps : {grace : ℕ} {expire : ℕ} (now : ℕ) (draw : Draw) → MaySweepAll now expire (begun (gc_intent grace expire now draw))
+begun_sweeps {expire = expire} now draw = record { sweeps = record { may = record { began = refl; moment = same_self now; apart = refl; bare = refl }; sweeps = same_self expire }; free = refl }
 
 -- a process that couldn't begin tells only that, and one there is
 unbegun : (r : Refusal) {X : Type 0} → is_memory r ≡ false → ◌≡◌ {A = Outcome} (Err r) (Err NoMemory) → X
@@ -69,113 +65,113 @@ unused : {X : Type 0} → true ≡ false → X
 unused clash = cc
 
 -- `rm`: what was printed, and done
-pub rm_printed : (pod : PodId) (now : ℕ) (draw : Draw) (intent : Option Intent) (old new : Outside) (text : List ℕ) → Performs (Rm pod) now draw intent old new (Ok text) → text ≡ removed_text pod
-rm_printed pod now draw (Some intent) old new text (inl s) = s.ran.says.0.0
-rm_printed pod now draw (Some intent) old new text (inr n) = untold text n.is
-rm_printed pod now draw None old new text p = unused p.apart
+pub rm_printed : (word : List ℕ) (pod : PodId) (now : ℕ) (draw : Draw) (intent : Option Intent) (old new : Outside) (text : List ℕ) → Performs (Rm word pod) now draw intent old new (Ok text) → text ≡ removed_text pod
+rm_printed word pod now draw (Some intent) old new text (inl s) = s.ran.says.0.0
+rm_printed word pod now draw (Some intent) old new text (inr n) = untold text n.is
+rm_printed word pod now draw None old new text p = unused p.apart
 
-pub rm_done : (pod : PodId) (now : ℕ) (draw : Draw) (intent : Option Intent) (old new : Outside) (text : List ℕ) → Performs (Rm pod) now draw intent old new (Ok text) → old.dir.observed ≡ true → HasRemovedPod pod old.dir new.dir
-rm_done pod now draw (Some intent) old new text (inl s) t = meanwhile (Removes pod) s t (s.ran.says.0.1 (s.told ∙ t))
-rm_done pod now draw (Some intent) old new text (inr n) t = untold text n.is
-rm_done pod now draw None old new text p t = unused p.apart
+pub rm_done : (word : List ℕ) (pod : PodId) (now : ℕ) (draw : Draw) (intent : Option Intent) (old new : Outside) (text : List ℕ) → Performs (Rm word pod) now draw intent old new (Ok text) → old.dir.observed ≡ true → HasRemovedPod pod old.dir new.dir
+rm_done word pod now draw (Some intent) old new text (inl s) t = once_found (Removes pod) s t (s.ran.says.0.1 (s.told ∙ t))
+rm_done word pod now draw (Some intent) old new text (inr n) t = untold text n.is
+rm_done word pod now draw None old new text p t = unused p.apart
 
 -- or why not
-pub rm_none : (pod : PodId) (now : ℕ) (draw : Draw) (intent : Option Intent) (old new : Outside) → old.dir.observed ≡ true → Performs (Rm pod) now draw intent old new (Err NoPod) → HasFoundNoPod pod old.dir new.dir
-rm_none pod now draw (Some intent) old new t (inl s) = meanwhile (FoundNone pod) s t (s.ran.says.0 (s.told ∙ t))
-rm_none pod now draw (Some intent) old new t (inr n) = unbegun NoPod refl n.is
-rm_none pod now draw None old new t p = unused p.apart
+pub rm_none : (word : List ℕ) (pod : PodId) (now : ℕ) (draw : Draw) (intent : Option Intent) (old new : Outside) → old.dir.observed ≡ true → Performs (Rm word pod) now draw intent old new (Err NoPod) → HasFoundNoPod pod old.dir new.dir
+rm_none word pod now draw (Some intent) old new t (inl s) = once_found (FoundNone pod) s t (s.ran.says.0 (s.told ∙ t))
+rm_none word pod now draw (Some intent) old new t (inr n) = unbegun NoPod refl n.is
+rm_none word pod now draw None old new t p = unused p.apart
 
-pub rm_stray : (pod : PodId) (now : ℕ) (draw : Draw) (intent : Option Intent) (old new : Outside) → Performs (Rm pod) now draw intent old new (Err Stray) → old.dir.observed ≡ true → HasMetStrayAtPod pod old.dir new.dir
-rm_stray pod now draw (Some intent) old new (inl s) t = meanwhile (MeetsStray pod) s t (s.ran.says.0 (s.told ∙ t))
-rm_stray pod now draw (Some intent) old new (inr n) t = unbegun Stray refl n.is
-rm_stray pod now draw None old new p t = unused p.apart
+pub rm_stray : (word : List ℕ) (pod : PodId) (now : ℕ) (draw : Draw) (intent : Option Intent) (old new : Outside) → Performs (Rm word pod) now draw intent old new (Err Stray) → old.dir.observed ≡ true → HasMetStrayAtPod pod old.dir new.dir
+rm_stray word pod now draw (Some intent) old new (inl s) t = once_found (MeetsStray pod) s t (s.ran.says.0 (s.told ∙ t))
+rm_stray word pod now draw (Some intent) old new (inr n) t = unbegun Stray refl n.is
+rm_stray word pod now draw None old new p t = unused p.apart
 
-pub rm_bare : (pod : PodId) (now : ℕ) (draw : Draw) (intent : Option Intent) (old new : Outside) (bare : PodId) → Performs (Rm pod) now draw intent old new (Err (NoManifest bare)) → (bare ≡ pod) × (old.dir.observed ≡ true → HasFoundNoManifest pod old.dir new.dir)
-rm_bare pod now draw (Some intent) old new bare (inl s) = (s.ran.says.0.0, λ t. meanwhile (HadNoManifest pod) s t (s.ran.says.0.1 (s.told ∙ t)))
-rm_bare pod now draw (Some intent) old new bare (inr n) = unbegun (NoManifest bare) refl n.is
-rm_bare pod now draw None old new bare p = unused p.apart
+pub rm_bare : (word : List ℕ) (pod : PodId) (now : ℕ) (draw : Draw) (intent : Option Intent) (old new : Outside) (bare : PodId) → Performs (Rm word pod) now draw intent old new (Err (NoManifest bare)) → (bare ≡ pod) × (old.dir.observed ≡ true → HasFoundNoManifest pod old.dir new.dir)
+rm_bare word pod now draw (Some intent) old new bare (inl s) = (s.ran.says.0.0, λ t. once_found (HadNoManifest pod) s t (s.ran.says.0.1 (s.told ∙ t)))
+rm_bare word pod now draw (Some intent) old new bare (inr n) = unbegun (NoManifest bare) refl n.is
+rm_bare word pod now draw None old new bare p = unused p.apart
 
-pub rm_busy : (pod : PodId) (now : ℕ) (draw : Draw) (old new : Outside) (busy : PodId) (which : Which) → Performs (Rm pod) now draw (intent_of (Rm pod) now draw) old new (Err (PodBusy busy which)) →
+pub rm_busy : {word : List ℕ} (pod : PodId) (now : ℕ) (draw : Draw) (old new : Outside) (busy : PodId) (which : Which) → Performs (Rm word pod) now draw (intent_of (Rm word pod) now draw) old new (Err (PodBusy busy which)) →
     (busy ≡ pod) × (old.dir.observed ≡ true → HasFoundBusy pod which old.dir new.dir)
-rm_busy pod now draw old new busy which (inl s) = (s.ran.says.0.0, λ t. meanwhile (FindsPodBusy pod which) s t (s.ran.says.0.1 (s.told ∙ t) (begun (rm_intent pod now draw)) (begun_knows s t) (begun_removes pod now draw)))
+rm_busy {word = word} pod now draw old new busy which (inl s) = (s.ran.says.0.0, λ t. once_found (FindsPodBusy pod which) s t (s.ran.says.0.1 (s.told ∙ t) (begun (rm_intent word now draw)) (begun_knows s t) (begun_removes now draw s.meant)))
 rm_busy pod now draw old new busy which (inr n) = unbegun (PodBusy busy which) refl n.is
 
-pub rm_wrong : (pod : PodId) (now : ℕ) (draw : Draw) (old new : Outside) (phase : Phase) → Performs (Rm pod) now draw (intent_of (Rm pod) now draw) old new (Err (WrongPhase phase)) → old.dir.observed ≡ true → HasFoundWrong pod phase old.dir new.dir
-rm_wrong pod now draw old new phase (inl s) t = record {
-  was = meanwhile (WasSo pod phase) s t (s.ran.says.0.was (s.told ∙ t));
-  owner = meanwhile (WasOwned pod phase) s t (s.ran.says.0.owner (s.told ∙ t) (begun (rm_intent pod now draw)) (begun_knows s t) (begun_removes pod now draw));
+pub rm_wrong : {word : List ℕ} (pod : PodId) (now : ℕ) (draw : Draw) (old new : Outside) (phase : Phase) → Performs (Rm word pod) now draw (intent_of (Rm word pod) now draw) old new (Err (WrongPhase phase)) → old.dir.observed ≡ true → HasFoundWrong pod phase old.dir new.dir
+rm_wrong {word = word} pod now draw old new phase (inl s) t = record {
+  was = once_found (WasSo pod phase) s t (s.ran.says.0.was (s.told ∙ t));
+  owner = once_found (WasOwned pod phase) s t (s.ran.says.0.owner (s.told ∙ t) (begun (rm_intent word now draw)) (begun_knows s t) (begun_removes now draw s.meant));
 }
 rm_wrong pod now draw old new phase (inr n) t = unbegun (WrongPhase phase) refl n.is
 
 -- `gc`: what was printed, and done
-pub gc_printed : (now : ℕ) (draw : Draw) (intent : Option Intent) (old new : Outside) (text : List ℕ) → Performs Gc now draw intent old new (Ok text) → (lines : List GcLine) × (text ≡ lines_text lines)
-gc_printed now draw (Some intent) old new text (inl s) = (s.ran.says.lines, s.ran.says.is)
-gc_printed now draw (Some intent) old new text (inr n) = untold text n.is
-gc_printed now draw None old new text p = unused p.apart
+pub gc_printed : (grace expire : ℕ) (now : ℕ) (draw : Draw) (intent : Option Intent) (old new : Outside) (text : List ℕ) → Performs (Gc grace expire) now draw intent old new (Ok text) → (lines : List GcLine) × (text ≡ lines_text lines)
+gc_printed grace expire now draw (Some intent) old new text (inl s) = (s.ran.says.lines, s.ran.says.is)
+gc_printed grace expire now draw (Some intent) old new text (inr n) = untold text n.is
+gc_printed grace expire now draw None old new text p = unused p.apart
 
-pub gc_done : (now : ℕ) (draw : Draw) (old new : Outside) (text : List ℕ) → Performs Gc now draw (intent_of Gc now draw) old new (Ok text) → old.dir.observed ≡ true → HasSweptPods (times_of now grace_time expire_time) old.dir new.dir text
-gc_done now draw old new text (inl s) t = record {
+pub gc_done : {grace : ℕ} {expire : ℕ} (now : ℕ) (draw : Draw) (old new : Outside) (text : List ℕ) → Performs (Gc grace expire) now draw (intent_of (Gc grace expire) now draw) old new (Ok text) → old.dir.observed ≡ true → HasSweptPods (times_of now grace expire) old.dir new.dir text
+gc_done {grace = grace} {expire = expire} now draw old new text (inl s) t = record {
   lines = s.ran.says.lines;
   is = s.ran.says.is;
-  swept = meanwhile (Sweeps (times_of now grace_time expire_time) s.ran.says.lines) s t (s.ran.says.swept (s.told ∙ t) (begun (gc_intent now draw)) (begun_knows s t) (begun_sweeps now draw));
+  swept = meanwhile (Sweeps (times_of now grace expire) s.ran.says.lines) refl s t (s.ran.says.swept (s.told ∙ t) (begun (gc_intent grace expire now draw)) (begun_knows s t) (begun_sweeps now draw));
 }
 gc_done now draw old new text (inr n) t = untold text n.is
 
-pub gc_stray : (now : ℕ) (draw : Draw) (intent : Option Intent) (old new : Outside) → Performs Gc now draw intent old new (Err Stray) → old.dir.observed ≡ true → HasMetStrayInPods old.dir new.dir
-gc_stray now draw (Some intent) old new (inl s) t = meanwhile WasStray s t (s.ran.says.0 (s.told ∙ t))
-gc_stray now draw (Some intent) old new (inr n) t = unbegun Stray refl n.is
-gc_stray now draw None old new p t = unused p.apart
+pub gc_stray : (grace expire : ℕ) (now : ℕ) (draw : Draw) (intent : Option Intent) (old new : Outside) → Performs (Gc grace expire) now draw intent old new (Err Stray) → old.dir.observed ≡ true → HasMetStrayInPods old.dir new.dir
+gc_stray grace expire now draw (Some intent) old new (inl s) t = meanwhile WasStray refl s t (s.ran.says.0 (s.told ∙ t))
+gc_stray grace expire now draw (Some intent) old new (inr n) t = unbegun Stray refl n.is
+gc_stray grace expire now draw None old new p t = unused p.apart
 
 -- and what was done where the lines weren't told
-pub gc_passes : (now : ℕ) (draw : Draw) (old new : Outside) (text : List ℕ) → Performs Gc now draw (intent_of Gc now draw) old new (Ok text) → old.dir.observed ≡ true → HasMadePasses (times_of now grace_time expire_time) old.dir new.dir
-gc_passes now draw old new text (inl s) t =
-    meanwhile (SweepsUntold (times_of now grace_time expire_time)) s t (s.ran.says.lines, s.ran.says.swept (s.told ∙ t) (begun (gc_intent now draw)) (begun_knows s t) (begun_sweeps now draw))
+pub gc_passes : {grace : ℕ} {expire : ℕ} (now : ℕ) (draw : Draw) (old new : Outside) (text : List ℕ) → Performs (Gc grace expire) now draw (intent_of (Gc grace expire) now draw) old new (Ok text) → old.dir.observed ≡ true → HasMadePasses (times_of now grace expire) old.dir new.dir
+gc_passes {grace = grace} {expire = expire} now draw old new text (inl s) t =
+    meanwhile (SweepsUntold (times_of now grace expire)) refl s t (s.ran.says.lines, s.ran.says.swept (s.told ∙ t) (begun (gc_intent grace expire now draw)) (begun_knows s t) (begun_sweeps now draw))
 gc_passes now draw old new text (inr n) t = untold text n.is
 
 -- what a sweep did that was refused so
-abbrev pub SweptBy : ℕ → Refusal → DirSeen → DirSeen → Type 0
-SweptBy now NoMemory old new =
-    HasMadePasses (times_of now grace_time expire_time) old new ⊎ HasSweptInPart (times_of now grace_time expire_time) old new ⊎ Extends is_begin old.process old.trace new.trace
-SweptBy now r old new = HasSweptInPart (times_of now grace_time expire_time) old new
+abbrev pub SweptBy : Times → Refusal → DirSeen → DirSeen → Type 0
+SweptBy times NoMemory old new =
+    HasMadePasses times old new ⊎ HasSweptInPart times old new ⊎ Extends is_begin old.process old.trace new.trace
+SweptBy times r old new = HasSweptInPart times old new
 
-pub gc_swept : (now : ℕ) (draw : Draw) (old new : Outside) (r : Refusal) → Performs Gc now draw (intent_of Gc now draw) old new (Err r) → old.dir.observed ≡ true → SweptBy now r old.dir new.dir
+pub gc_swept : {grace : ℕ} {expire : ℕ} (now : ℕ) (draw : Draw) (old new : Outside) (r : Refusal) → Performs (Gc grace expire) now draw (intent_of (Gc grace expire) now draw) old new (Err r) → old.dir.observed ≡ true → SweptBy (times_of now grace expire) r old.dir new.dir
 gc_swept now draw old new NoMemory (inr n) t = inr (inr (step_extends is_begin old.dir.process old.dir.trace _ _ new.dir.trace refl (n.step t)))
-gc_swept now draw old new NoMemory (inl s) t =
-    elim (s.ran.says (s.told ∙ t) (begun (gc_intent now draw)) (begun_knows s t) (begun_sweeps now draw))
-    [ inl part ↦ inr (inl (meanwhile (SweepsInPart (times_of now grace_time expire_time)) s t part)) | inr whole ↦ inl (meanwhile (SweepsUntold (times_of now grace_time expire_time)) s t whole) ]
-gc_swept now draw old new Stray (inl s) t =
-    meanwhile (SweepsInPart (times_of now grace_time expire_time)) s t (s.ran.says.1 (s.told ∙ t) (begun (gc_intent now draw)) (begun_knows s t) (begun_sweeps now draw))
-gc_swept now draw old new r (inl s) t =
-    meanwhile (SweepsInPart (times_of now grace_time expire_time)) s t (s.ran.says (s.told ∙ t) (begun (gc_intent now draw)) (begun_knows s t) (begun_sweeps now draw))
+gc_swept {grace = grace} {expire = expire} now draw old new NoMemory (inl s) t =
+    elim (s.ran.says (s.told ∙ t) (begun (gc_intent grace expire now draw)) (begun_knows s t) (begun_sweeps now draw))
+    [ inl part ↦ inr (inl (meanwhile (SweepsInPart (times_of now grace expire)) refl s t part)) | inr whole ↦ inl (meanwhile (SweepsUntold (times_of now grace expire)) refl s t whole) ]
+gc_swept {grace = grace} {expire = expire} now draw old new Stray (inl s) t =
+    meanwhile (SweepsInPart (times_of now grace expire)) refl s t (s.ran.says.1 (s.told ∙ t) (begun (gc_intent grace expire now draw)) (begun_knows s t) (begun_sweeps now draw))
+gc_swept {grace = grace} {expire = expire} now draw old new r (inl s) t =
+    meanwhile (SweepsInPart (times_of now grace expire)) refl s t (s.ran.says (s.told ∙ t) (begun (gc_intent grace expire now draw)) (begun_knows s t) (begun_sweeps now draw))
 gc_swept now draw old new r (inr n) t = let e = n.is in cc
 
 -- what each owes between its begin and its finish
-pub rm_conforming : (pod : PodId) (now : ℕ) (draw : Draw) (intent : Intent) (observed : Bool) (a b : DirAt) → intent_of (Rm pod) now draw ≡ Some intent → Stays (MayRemovePod pod now) a (λ s. KeepsReady s b) → StaysConforming intent (dir_seen observed a) (dir_seen observed b)
-rm_conforming pod now draw intent observed a b is stays =
-    subst (λ (i : Intent). StaysConforming i (dir_seen observed a) (dir_seen observed b)) (let e : rm_intent pod now draw ≡ intent = cc in e)
-    (λ k. let s = stays (begun (rm_intent pod now draw)) (record { tied = k.tied; handles = k.handles }) (begun_removes pod now draw) in
+pub rm_conforming : {word : List ℕ} (pod : PodId) (now : ℕ) (draw : Draw) (intent : Intent) (observed : Bool) (a b : DirAt) → IsMeant word pod → intent_of (Rm word pod) now draw ≡ Some intent → Stays (MayRemovePod pod now) a (λ s. KeepsReady s b) → StaysConforming intent (dir_seen observed a) (dir_seen observed b)
+rm_conforming {word = word} pod now draw intent observed a b meant is stays =
+    subst (λ (i : Intent). StaysConforming i (dir_seen observed a) (dir_seen observed b)) (let e : rm_intent word now draw ≡ intent = cc in e)
+    (λ k. let s = stays (begun (rm_intent word now draw)) (record { tied = k.tied; handles = k.handles }) (begun_removes now draw meant) in
     record { known = s.known; knows = record { tied = s.knows.tied; handles = s.knows.handles }; kept = s.keeps.kept })
 
-pub gc_conforming : (now : ℕ) (draw : Draw) (intent : Intent) (observed : Bool) (a b : DirAt) → intent_of Gc now draw ≡ Some intent → Stays (MaySweepAll now expire_time) a (λ s. KeepsReady s b) → StaysConforming intent (dir_seen observed a) (dir_seen observed b)
-gc_conforming now draw intent observed a b is stays =
-    subst (λ (i : Intent). StaysConforming i (dir_seen observed a) (dir_seen observed b)) (let e : gc_intent now draw ≡ intent = cc in e)
-    (λ k. let s = stays (begun (gc_intent now draw)) (record { tied = k.tied; handles = k.handles }) (begun_sweeps now draw) in
+pub gc_conforming : {grace : ℕ} {expire : ℕ} (now : ℕ) (draw : Draw) (intent : Intent) (observed : Bool) (a b : DirAt) → intent_of (Gc grace expire) now draw ≡ Some intent → Stays (MaySweepAll now expire) a (λ s. KeepsReady s b) → StaysConforming intent (dir_seen observed a) (dir_seen observed b)
+gc_conforming {grace = grace} {expire = expire} now draw intent observed a b is stays =
+    subst (λ (i : Intent). StaysConforming i (dir_seen observed a) (dir_seen observed b)) (let e : gc_intent grace expire now draw ≡ intent = cc in e)
+    (λ k. let s = stays (begun (gc_intent grace expire now draw)) (record { tied = k.tied; handles = k.handles }) (begun_sweeps now draw) in
     record { known = s.known; knows = record { tied = s.knows.tied; handles = s.knows.handles }; kept = s.keeps.kept })
 
-rm_may : (pod : PodId) (r : Refusal) → rm_refusal r ≡ true → may (Rm pod) r ≡ true
-rm_may pod NoMemory known = known
-rm_may pod DirFault known = known
-rm_may pod r known = known
+rm_may : (word : List ℕ) (pod : PodId) (r : Refusal) → rm_refusal r ≡ true → may (Rm word pod) r ≡ true
+rm_may word pod NoMemory known = known
+rm_may word pod DirFault known = known
+rm_may word pod r known = known
 
-gc_may : (r : Refusal) → gc_refusal r ≡ true → may Gc r ≡ true
-gc_may NoMemory known = known
-gc_may DirFault known = known
-gc_may r known = known
+gc_may : (grace expire : ℕ) (r : Refusal) → gc_refusal r ≡ true → may (Gc grace expire) r ≡ true
+gc_may grace expire NoMemory known = known
+gc_may grace expire DirFault known = known
+gc_may grace expire r known = known
 
-pub rm_ran : (line : Line) (now : ℕ) (draw : Draw) (pod : PodId) (observed : Bool) (a b : DirAt) (bundle : BundleSeen) (o : Outcome) → line ≡ Rm pod → Worked observed (removes pod now) a b → (IsErrOf o DirFault → Rose a.faults b.faults) →
+pub rm_ran : {word : List ℕ} (line : Task) (now : ℕ) (draw : Draw) (pod : PodId) (observed : Bool) (a b : DirAt) (bundle : BundleSeen) (o : Outcome) → line ≡ Rm word pod → Worked observed (removes pod now) a b → (IsErrOf o DirFault → Rose a.faults b.faults) →
     IfErr o (λ r. rm_refusal r ≡ true) → RmSays pod now (dir_seen observed a) (dir_seen observed b) o → KeepsRefused (dir_seen observed a) (dir_seen observed b) o → CommandRan line now draw (beside (dir_seen observed a) bundle) (beside (dir_seen observed b) bundle) o
-rm_ran line now draw pod observed a b bundle o is worked cause known says kept = ran (Rm pod) rm_refusal refl (rm_may pod) line now draw observed a b bundle o is refl worked cause known (says, kept)
+rm_ran {word = word} line now draw pod observed a b bundle o is worked cause known says kept = ran (Rm word pod) rm_refusal refl (rm_may word pod) line now draw observed a b bundle o is refl worked cause known (says, kept)
 
-pub gc_ran : (line : Line) (now : ℕ) (draw : Draw) (observed : Bool) (a b : DirAt) (bundle : BundleSeen) (o : Outcome) → line ≡ Gc → Worked observed (sweeps now) a b → (IsErrOf o DirFault → Rose a.faults b.faults) →
-    IfErr o (λ r. gc_refusal r ≡ true) → GcSays (times_of now grace_time expire_time) (dir_seen observed a) (dir_seen observed b) o → CommandRan line now draw (beside (dir_seen observed a) bundle) (beside (dir_seen observed b) bundle) o
-gc_ran line now draw observed a b bundle o is worked cause known says = ran Gc gc_refusal refl gc_may line now draw observed a b bundle o is refl worked cause known says
+pub gc_ran : {grace : ℕ} {expire : ℕ} (line : Task) (now : ℕ) (draw : Draw) (observed : Bool) (a b : DirAt) (bundle : BundleSeen) (o : Outcome) → line ≡ (Gc grace expire) → Worked observed (sweeps now) a b → (IsErrOf o DirFault → Rose a.faults b.faults) →
+    IfErr o (λ r. gc_refusal r ≡ true) → GcSays (times_of now grace expire) (dir_seen observed a) (dir_seen observed b) o → CommandRan line now draw (beside (dir_seen observed a) bundle) (beside (dir_seen observed b) bundle) o
+gc_ran {grace = grace} {expire = expire} line now draw observed a b bundle o is worked cause known says = ran (Gc grace expire) gc_refusal refl (gc_may grace expire) line now draw observed a b bundle o is refl worked cause known says

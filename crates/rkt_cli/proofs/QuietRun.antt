@@ -10,17 +10,21 @@ use Rattle.dir_model.specs.declared.intent.Intent.{Intent}
 use Rattle.dir_model.specs.declared.intent.Kind.TheVariants as kind
 use Rattle.dir_model.specs.declared.pod.PodId.{PodId}
 use Rattle.dir_model.specs.declared.request.Request.{Request}
-use Rattle.dir_model.specs.declared.request.Request.TheVariants.{Begin, Finish}
+use Rattle.dir_model.specs.declared.request.Request.TheVariants.{Begin}
 use Rattle.dir_model.specs.declared.spot.Spot.{Spot}
 use Rattle.dir_model.specs.declared.request.Reply.TheVariants.{Done}
 use Rattle.dir_model.specs.State.{DirState, is_owned}
-use Rattle.dir_model.proofs.Lists.{or_last}
 use Rattle.dir_model.specs.Trace.{state_after, state_next}
 use Rattle.dir_model.specs.Calls.{event, Extends}
 use Rattle.dir_model.specs.Quiet.{Quiet, OwnsNothing}
 use Rattle.dir_model.specs.Replies.{is_look, is_look_at, is_any_spot}
 use Rattle.dir_model.proofs.Chains.{extends_wider}
 use Rattle.dir_model.proofs.Quiet.{is_harmless, look_is_harmless, end_quiet}
+use Rattle.dir_model.specs.Quiet.{SameNamespace}
+use Rattle.commands.specs.Opening.{directly}
+use Rattle.commands.proofs.Starts.{look_lists, lists_is_harmless}
+use Rattle.commands.proofs.SameReads.{sequential_same}
+use Rattle.rkt_cli.specs.Commands.{approach_in}
 use Rattle.dir_model.proofs.Spots.{look_wider}
 use Rattle.dir_trait.specs.Bundles.{file_bytes}
 use Rattle.image_store.specs.Requests.{building_spot}
@@ -28,10 +32,10 @@ use Rattle.image_removal.specs.Requests.{removes_at, sweeps}
 use Rattle.image_removal.proofs.Begun.{begun_removes}
 use Rattle.phase_read.specs.Read.{is_pod_spot}
 use Rattle.phase_read.proofs.Quiet.{read_quiet}
-use Rattle.rkt_cli.specs.declared.line.Line.{Line}
-use Rattle.rkt_cli.specs.declared.line.Line.TheVariants.{Status, Validate, ImageList, ImageImport, ImageRm, ImageGc, Prepare, RunPrepared, Run, Rm, Gc}
-use Rattle.command_outcomes.specs.declared.refusal.Refusal.TheVariants.{Usage, Busy, NoImage, NoPod, WrongPhase, NoManifest, PodBusy, DirFault, BundleFault, NoMemory, Damaged, Stray}
-use Rattle.command_outcomes.specs.Moments.{BundleSeen, DirSeen, Outside, Moment, SinkSeen, Outcome}
+use Rattle.rkt_cli.specs.Tasks.{Task}
+use Rattle.rkt_cli.specs.Tasks.{Status, Validate, ImageList, ImageImport, ImageRm, ImageGc, Prepare, RunPrepared, Run, Rm, Gc}
+use Rattle.command_outcomes.specs.declared.refusal.Refusal.TheVariants.{Busy, NoImage, NoPod, WrongPhase, NoManifest, PodBusy, DirFault, BundleFault, NoMemory, Damaged, Stray}
+use Rattle.command_outcomes.specs.Moments.{BundleSeen, DirSeen, Outside, Moment, Outcome}
 use Rattle.command_outcomes.specs.Ends.{is_own_end, IsUnchanged}
 use Rattle.commands.specs.Status.{read_outcome, sequential_status}
 use Rattle.commands.specs.ImageList.{image_list_refusal, ListsQuietly}
@@ -42,9 +46,9 @@ use Rattle.commands.specs.ImageGc.{is_swept_place, SweepsQuietly}
 use Rattle.command_outcomes.specs.Conforming.{begun}
 use Rattle.commands.specs.Answers.{inside_in, IsAnswer}
 use Rattle.commands.specs.Command.{intent_for}
-use Rattle.commands.specs.GcCommand.{gc_intent, grace_time, expire_time}
+use Rattle.commands.specs.GcCommand.{gc_intent}
 use Rattle.rkt_cli.specs.Commands.{uses_dir, runs_apps, intent_of, asks, ComesQuietly, LeavesQuietly}
-use Rattle.rkt_cli.specs.Promises.{IsUndisturbed, Works, IsPlainAnswer, IsQuietAnswer}
+use Rattle.rkt_cli.specs.Promises.{AnswersTask, Undisturbed, Works, IsPlainAnswer}
 use Rattle.rkt_cli.specs.Runs.{CommandRan, Performs, InProcess, Apart, Printed, RunOf, RunOfLine, RunIs, end_status}
 use Rattle.rkt_cli.proofs.Grades.{graded_same}
 use Rattle.rkt_cli.proofs.Judged.{judged_whole}
@@ -65,19 +69,20 @@ use Rattle.commands.proofs.RemovalEnds.{removal_ends, none_before}
 use Rattle.commands.proofs.SweepEnds.{incoming_left, removed_left}
 use Rattle.commands.proofs.Changes.{claim_changes, gc_changes, import_changes, list_changes, looks_change, prepare_changes, removal_changes, rm_changes, run_changes, sweep_changes}
 use Rattle.commands.proofs.NextState.{leaves_beside}
-use Rattle.commands.proofs.RemovalQuiet.{ChangesAt, in_process, asks_in_process, held_before}
+use Rattle.commands.proofs.RemovalQuiet.{ChangesAt, held_before}
+use Rattle.commands.proofs.OwnSteps.{in_process}
 use Rattle.commands.proofs.ImportQuiet.{is_modest, imports_is_modest, at_modest, end_modest}
 use Rattle.pod_removal.specs.Requests.{removes}
-use Rattle.pod_gc.specs.Requests.{sweeps as sweeps_pods}
 use Rattle.commands.specs.Gc.{times_of}
 use Rattle.commands.specs.RemovalQuiet.{RemovesPodQuietly, SweepsPodsQuietly, is_pods_place}
 use Rattle.commands.proofs.RemovedQuietly.{rm_removed_quietly, rm_none_quietly, rm_wrong_quietly, rm_lacking_quietly, rm_busy_quietly, gc_swept_quietly}
 use Rattle.rkt_cli.proofs.PodRemovals.{rm_intent, rm_printed, rm_done, rm_none, rm_wrong, rm_bare, rm_busy, rm_stray, gc_done, gc_stray}
 use Rattle.rkt_cli.proofs.RunsQuiet.{RunsQuietly, runs_quietly}
-use Rattle.rkt_cli.proofs.Sessions.{all_parts, quiet_act, state_begun, idle}
+use Rattle.rkt_cli.proofs.Sessions.{all_parts, all_in_process, begin_part, no_looks, quiet_act, quiet_begin, state_begun, idle}
+use Rattle.commands.specs.Wants.{Wants}
 
 -- undisturbed it came to an end of its own, or memory ran out
-own_end : (line : Line) (now : ℕ) (draw : Draw) (old new : Outside) (o : Outcome) → CommandRan line now draw old new o → IsUndisturbed (Some line) old new → (o ≡ Err NoMemory) ⊎ (is_own_end o ≡ true)
+own_end : (line : Task) (now : ℕ) (draw : Draw) (old new : Outside) (o : Outcome) → CommandRan line now draw old new o → Undisturbed line old new → (o ≡ Err NoMemory) ⊎ (is_own_end o ≡ true)
 own_end line now draw old new (Ok text) d u = inr refl
 own_end line now draw old new (Err NoMemory) d u = inl refl
 own_end line now draw old new (Err DirFault) d u = absurd (u.works d.refusals (d.cause refl))
@@ -88,17 +93,23 @@ own_end line now draw old new (Err r) d u = inr refl
 pod_look : (pod : PodId) (r : Request) → is_look_at (is_pod_spot pod) r ≡ true → is_look r ≡ true
 pod_look pod r h = look_wider (is_pod_spot pod) is_any_spot (λ spot is. refl) r h
 
-module _ (line : Line) (now : ℕ) (draw : Draw) (intent : Intent) (old new : Outside) (o : Outcome) (s : InProcess line now draw intent old new o) (u : IsUndisturbed (Some line) old new) where
+module _ (line : Task) (now : ℕ) (draw : Draw) (intent : Intent) (old new : Outside) (o : Outcome) (s : InProcess line now draw intent old new o) (u : Undisturbed line old new) where
   abbrev t : old.dir.observed ≡ true
   t = u.observed s.uses
 
-  state : state_after s.begun.dir.trace ≡ state_next (state_after old.dir.trace) (event old.dir.process (Begin intent) Done)
-  state = state_begun s t (u.alone s.uses)
+  state : approach_in line ≡ directly → state_after s.begun.dir.trace ≡ state_next (state_after old.dir.trace) (event old.dir.process (Begin intent) Done)
+  state direct = state_begun s t direct (u.alone s.uses)
+
+  -- a look for its pod changes no folder, and not whose lock is held exclusively
+  looked_same : SameNamespace old.dir.process (state_after old.dir.trace).namespace (state_after s.begun.dir.trace).namespace
+  looked_same =
+      let q = u.alone s.uses in
+      end_quiet (begin_part s t is_harmless refl (λ r h. lists_is_harmless r (look_lists (approach_in line) r h))) (quiet_begin s t q) (idle s t q)
 
   quiet_between : Quiet s.begun.dir.process s.begun.dir.trace s.ended.dir.trace
   quiet_between = subst (λ (p : ℕ). Quiet p s.begun.dir.trace s.ended.dir.trace) (sym s.me) (quiet_act s t (u.alone s.uses))
 
-  undisturbed_act : IsUndisturbed (Some line) s.begun s.ended
+  undisturbed_act : Undisturbed line s.begun s.ended
   undisturbed_act = record {
     observed = λ h. s.told ∙ t;
     alone = λ h. quiet_between;
@@ -108,7 +119,7 @@ module _ (line : Line) (now : ℕ) (draw : Draw) (intent : Intent) (old new : Ou
   }
 
   idle_act : OwnsNothing s.begun.dir.process (state_after s.begun.dir.trace).namespace
-  idle_act = subst (λ (p : ℕ). OwnsNothing p (state_after s.begun.dir.trace).namespace) (sym s.me) (subst (λ (x : DirState). OwnsNothing old.dir.process x.namespace) (sym state) (idle s t (u.alone s.uses)))
+  idle_act = subst (λ (p : ℕ). OwnsNothing p (state_after s.begun.dir.trace).namespace) (sym s.me) looked_same.mine
 
   ends_own : (o ≡ Err NoMemory) ⊎ (is_own_end o ≡ true)
   ends_own = own_end line now draw s.begun s.ended o s.ran undisturbed_act
@@ -116,34 +127,34 @@ module _ (line : Line) (now : ℕ) (draw : Draw) (intent : Intent) (old new : Ou
   unchanged : ((r : Request) → asks line now draw r ≡ true → is_harmless r ≡ true) → IsUnchanged (state_after old.dir.trace) (state_after new.dir.trace)
   unchanged harmless =
       let q = u.alone s.uses in
-      let same = end_quiet (all_parts s t is_harmless refl harmless refl) q (idle s t q) in
+      let same = end_quiet (all_parts s t is_harmless refl (λ r h. lists_is_harmless r (look_lists (approach_in line) r h)) harmless refl) q (idle s t q) in
       record { folders = same.folders; owned = same.owned }
 
-  tame_unchanged : ((r : Request) → asks line now draw r ≡ true → is_tame r ≡ true) → IsUnchanged (state_after old.dir.trace) (state_after new.dir.trace)
-  tame_unchanged tame =
+  tame_unchanged : approach_in line ≡ directly → ((r : Request) → asks line now draw r ≡ true → is_tame r ≡ true) → IsUnchanged (state_after old.dir.trace) (state_after new.dir.trace)
+  tame_unchanged direct tame =
       let q = u.alone s.uses in
-      let end = end_tame (all_parts s t is_tame refl tame refl) q (idle s t q) in
+      let end = end_tame (all_parts s t is_tame refl (λ r h. no_looks line direct r h) tame refl) q (idle s t q) in
       record { folders = end.same.folders; owned = end.same.owned }
 
   -- what isn't touched is as it was
   beside : (touched : Spot → Bool) → ChangesAt touched (asks line now draw) → LeavesBeside touched old.dir.process (state_after old.dir.trace) (state_after new.dir.trace)
-  beside touched c = leaves_beside touched (asks line now draw) c (all_parts s t (in_process (asks line now draw)) refl (asks_in_process (asks line now draw)) (or_last (asks line now draw Finish) true refl)) (u.alone s.uses)
+  beside touched c = leaves_beside touched (asks line now draw) c (all_in_process s t) (u.alone s.uses)
 
 -- what `status` comes to. That this process has begun makes no difference to it
-status_quiet : (pod : PodId) (now : ℕ) (draw : Draw) (intent : Intent) (old new : Outside) (o : Outcome) → InProcess (Status pod) now draw intent old new o → IsUndisturbed (Some (Status pod)) old new → is_own_end o ≡ true → o ≡ sequential_status pod (state_after old.dir.trace)
-status_quiet pod now draw intent old new o s u own =
+status_quiet : {word : List ℕ} (pod : PodId) (now : ℕ) (draw : Draw) (intent : Intent) (old new : Outside) (o : Outcome) → InProcess (Status word pod) now draw intent old new o → Undisturbed (Status word pod) old new → is_own_end o ≡ true → o ≡ sequential_status pod (state_after old.dir.trace)
+status_quiet {word = word} pod now draw intent old new o s u own =
     let says = s.ran.says own in
     let told = says.told (s.told ∙ u.observed refl) in
     let looks = extends_wider (pod_look pod) (s.ran.extends (s.told ∙ u.observed refl)) in
-    let here : o ≡ sequential_status pod (state_after s.begun.dir.trace) = says.is ∙ ap read_outcome (sym (read_quiet looks (quiet_between (Status pod) now draw intent old new o s u) (idle_act (Status pod) now draw intent old new o s u) pod says.found told)) in
-    here ∙ ap (λ (x : DirState). sequential_status pod x) (state (Status pod) now draw intent old new o s u)
+    let here : o ≡ sequential_status pod (state_after s.begun.dir.trace) = says.is ∙ ap read_outcome (sym (read_quiet looks (quiet_between (Status word pod) now draw intent old new o s u) (idle_act (Status word pod) now draw intent old new o s u) pod says.found told)) in
+    here ∙ ap read_outcome (sequential_same old.dir.process (state_after old.dir.trace) (state_after s.begun.dir.trace) (looked_same (Status word pod) now draw intent old new o s u) pod)
 
 -- and `image list`
 busy_area : (area : Area) → image_list_refusal (Busy area) ≡ true → area ≡ Images
 busy_area Images h = refl
 busy_area area h = let clash : false ≡ true = h in cc
 
-busy_before : (now : ℕ) (draw : Draw) (intent : Intent) (old new : Outside) (area : Area) → InProcess ImageList now draw intent old new (Err (Busy area)) → IsUndisturbed (Some ImageList) old new → IsBusyElsewhere old.dir.process Images Shared (state_after old.dir.trace)
+busy_before : (now : ℕ) (draw : Draw) (intent : Intent) (old new : Outside) (area : Area) → InProcess ImageList now draw intent old new (Err (Busy area)) → Undisturbed ImageList old new → IsBusyElsewhere old.dir.process Images Shared (state_after old.dir.trace)
 busy_before now draw intent old new area s u =
     let t = u.observed refl in
     let me = s.begun.dir.process in
@@ -151,9 +162,9 @@ busy_before now draw intent old new area s u =
     let ext : Extends is_tame me s.begun.dir.trace s.ended.dir.trace = extends_wider lists_is_tame (s.ran.extends (s.told ∙ t)) in
     let found = at_tame (IsBusyElsewhere me Images Shared) held ext (quiet_between ImageList now draw intent old new (Err (Busy area)) s u) (idle_act ImageList now draw intent old new (Err (Busy area)) s u) in
     let first : IsBusyElsewhere me Images Shared (state_after s.begun.dir.trace) = found.1.others (is_against Images Shared) found.2 in
-    subst (λ (p : ℕ). IsBusyElsewhere p Images Shared (state_after old.dir.trace)) s.me (subst (λ (x : DirState). IsBusyElsewhere me Images Shared x) (state ImageList now draw intent old new (Err (Busy area)) s u) first)
+    subst (λ (p : ℕ). IsBusyElsewhere p Images Shared (state_after old.dir.trace)) s.me (subst (λ (x : DirState). IsBusyElsewhere me Images Shared x) (state ImageList now draw intent old new (Err (Busy area)) s u refl) first)
 
-list_quiet : (now : ℕ) (draw : Draw) (intent : Intent) (old new : Outside) (o : Outcome) → InProcess ImageList now draw intent old new o → IsUndisturbed (Some ImageList) old new → is_own_end o ≡ true → ListsQuietly old.dir new.dir o
+list_quiet : (now : ℕ) (draw : Draw) (intent : Intent) (old new : Outside) (o : Outcome) → InProcess ImageList now draw intent old new o → Undisturbed ImageList old new → is_own_end o ≡ true → ListsQuietly old.dir new.dir o
 list_quiet now draw intent old new (Ok text) s u own = listed_in_process s s.ran.says
 list_quiet now draw intent old new (Err (Busy area)) s u own = (busy_area area s.ran.refusals, busy_before now draw intent old new area s u)
 list_quiet now draw intent old new (Err (Damaged path)) s u own = lacked_in_process s s.ran.says
@@ -163,7 +174,7 @@ list_quiet now draw intent old new (Err BundleFault) s u own = let clash : false
 list_quiet now draw intent old new (Err r) s u own = let clash : false ≡ true = s.ran.refusals in cc
 
 -- and `image import`
-import_held_before : (path : List ℕ) (now : ℕ) (draw : Draw) (intent : Intent) (old new : Outside) (area : Area) (s : InProcess (ImageImport path) now draw intent old new (Err (Busy area))) → IsUndisturbed (Some (ImageImport path)) old new →
+import_held_before : (path : List ℕ) (now : ℕ) (draw : Draw) (intent : Intent) (old new : Outside) (area : Area) (s : InProcess (ImageImport path) now draw intent old new (Err (Busy area))) → Undisturbed (ImageImport path) old new →
     IsAreaHeld area s.begun.dir s.ended.dir → IsBusyElsewhere old.dir.process area Shared (state_after old.dir.trace)
 import_held_before path now draw intent old new area s u held =
     let t = u.observed refl in
@@ -173,19 +184,19 @@ import_held_before path now draw intent old new area s u held =
     let found = at_modest (building_spot draw.uuid) (IsBusyElsewhere me area Shared) held ext (quiet_between (ImageImport path) now draw intent old new o s u) (idle_act (ImageImport path) now draw intent old new o s u) in
     let first : IsBusyElsewhere me area Shared (state_after s.begun.dir.trace) = found.1.others (is_against area Shared) found.2 in
     subst (λ (p : ℕ). IsBusyElsewhere p area Shared (state_after old.dir.trace)) s.me
-    (subst (λ (x : DirState). IsBusyElsewhere me area Shared x) (state (ImageImport path) now draw intent old new o s u) first)
+    (subst (λ (x : DirState). IsBusyElsewhere me area Shared x) (state (ImageImport path) now draw intent old new o s u refl) first)
 
 -- its own requests
-import_extends : (path : List ℕ) (now : ℕ) (draw : Draw) (intent : Intent) (old new : Outside) (o : Outcome) → InProcess (ImageImport path) now draw intent old new o → IsUndisturbed (Some (ImageImport path)) old new →
+import_extends : (path : List ℕ) (now : ℕ) (draw : Draw) (intent : Intent) (old new : Outside) (o : Outcome) → InProcess (ImageImport path) now draw intent old new o → Undisturbed (ImageImport path) old new →
     Extends (is_modest (building_spot draw.uuid)) old.dir.process old.dir.trace new.dir.trace
-import_extends path now draw intent old new o s u = all_parts s (u.observed refl) (is_modest (building_spot draw.uuid)) refl (imports_is_modest (building_spot draw.uuid)) refl
+import_extends path now draw intent old new o s u = all_parts s (u.observed refl) (is_modest (building_spot draw.uuid)) refl (λ r h. cc) (imports_is_modest (building_spot draw.uuid)) refl
 
-import_keeps_images : (path : List ℕ) (now : ℕ) (draw : Draw) (intent : Intent) (old new : Outside) (o : Outcome) → InProcess (ImageImport path) now draw intent old new o → IsUndisturbed (Some (ImageImport path)) old new →
+import_keeps_images : (path : List ℕ) (now : ℕ) (draw : Draw) (intent : Intent) (old new : Outside) (o : Outcome) → InProcess (ImageImport path) now draw intent old new o → Undisturbed (ImageImport path) old new →
     LeavesImages old.dir new.dir
 import_keeps_images path now draw intent old new o s u conforming = images_kept draw.uuid (import_extends path now draw intent old new o s u) (u.alone refl) conforming
 
 import_quiet : (path : List ℕ) (now : ℕ) (draw : Draw) (intent : Intent) (old new : Outside) (o : Outcome) (said : intent_of (ImageImport path) now draw ≡ Some intent) → InProcess (ImageImport path) now draw intent old new o →
-    IsUndisturbed (Some (ImageImport path)) old new → is_own_end o ≡ true → ImportsQuietly path now draw.uuid old new o
+    Undisturbed (ImageImport path) old new → is_own_end o ≡ true → ImportsQuietly path now draw.uuid old new o
 import_quiet path now draw intent old new (Ok text) said s u own = (
   import_printed path now draw (Some intent) old new text (inl s),
   λ conforming. record {
@@ -203,7 +214,7 @@ import_quiet path now draw intent old new (Err DirFault) said s u own = let clas
 import_quiet path now draw intent old new (Err BundleFault) said s u own = let clash : false ≡ true = own in cc
 import_quiet path now draw intent old new (Err r) said s u own = (import_refused path now draw (Some intent) old new r refl (inl s), import_keeps_images path now draw intent old new (Err r) s u)
 
-import_owned : (path : List ℕ) (now : ℕ) (draw : Draw) (intent : Intent) (old new : Outside) (o : Outcome) → InProcess (ImageImport path) now draw intent old new o → IsUndisturbed (Some (ImageImport path)) old new →
+import_owned : (path : List ℕ) (now : ℕ) (draw : Draw) (intent : Intent) (old new : Outside) (o : Outcome) → InProcess (ImageImport path) now draw intent old new o → Undisturbed (ImageImport path) old new →
     (folder : ℕ) → is_owned (state_after new.dir.trace).namespace folder ≡ is_owned (state_after old.dir.trace).namespace folder
 import_owned path now draw intent old new o s u = (end_modest (building_spot draw.uuid) (import_extends path now draw intent old new o s u) (u.alone refl) (idle s (u.observed refl) (u.alone refl))).owned
 
@@ -215,7 +226,7 @@ removal_area area h = let clash : false ≡ true = h in cc
 abbrev removal_intent : ℕ → Draw → Intent
 removal_intent now draw = intent_for kind.ImageRm [] now draw
 
-removal_held : (key : StoreKey) (now : ℕ) (draw : Draw) (old new : Outside) (area : Area) → InProcess (ImageRm key) now draw (removal_intent now draw) old new (Err (Busy area)) → IsUndisturbed (Some (ImageRm key)) old new →
+removal_held : (key : StoreKey) (now : ℕ) (draw : Draw) (old new : Outside) (area : Area) → InProcess (ImageRm key) now draw (removal_intent now draw) old new (Err (Busy area)) → Undisturbed (ImageRm key) old new →
     IsBusyElsewhere old.dir.process Images Exclusive (state_after old.dir.trace)
 removal_held key now draw old new area s u =
     let t = u.observed refl in
@@ -225,13 +236,13 @@ removal_held key now draw old new area s u =
     let found : FindsBusy me s.begun.dir.trace s.ended.dir.trace = s.ran.says.0 (s.told ∙ t) (begun intent) (begun_knows s t) (begun_removes intent draw.uuid refl refl) in
     let first : IsBusyElsewhere me Images Exclusive (state_after s.begun.dir.trace) = held_before (is_against Images Exclusive) found.held (quiet_between (ImageRm key) now draw intent old new o s u) in
     subst (λ (p : ℕ). IsBusyElsewhere p Images Exclusive (state_after old.dir.trace)) s.me
-    (subst (λ (x : DirState). IsBusyElsewhere me Images Exclusive x) (state (ImageRm key) now draw intent old new o s u) first)
+    (subst (λ (x : DirState). IsBusyElsewhere me Images Exclusive x) (state (ImageRm key) now draw intent old new o s u refl) first)
 
-removal_extends : (key : StoreKey) (now : ℕ) (draw : Draw) (intent : Intent) (old new : Outside) (o : Outcome) → InProcess (ImageRm key) now draw intent old new o → IsUndisturbed (Some (ImageRm key)) old new →
+removal_extends : (key : StoreKey) (now : ℕ) (draw : Draw) (intent : Intent) (old new : Outside) (o : Outcome) → InProcess (ImageRm key) now draw intent old new o → Undisturbed (ImageRm key) old new →
     Extends (in_process (removes_at key draw.uuid)) old.dir.process old.dir.trace new.dir.trace
-removal_extends key now draw intent old new o s u = all_parts s (u.observed refl) (in_process (removes_at key draw.uuid)) refl (asks_in_process (removes_at key draw.uuid)) refl
+removal_extends key now draw intent old new o s u = all_in_process s (u.observed refl)
 
-removal_quiet : (key : StoreKey) (now : ℕ) (draw : Draw) (old new : Outside) (o : Outcome) → InProcess (ImageRm key) now draw (removal_intent now draw) old new o → IsUndisturbed (Some (ImageRm key)) old new → is_own_end o ≡ true →
+removal_quiet : (key : StoreKey) (now : ℕ) (draw : Draw) (old new : Outside) (o : Outcome) → InProcess (ImageRm key) now draw (removal_intent now draw) old new o → Undisturbed (ImageRm key) old new → is_own_end o ≡ true →
     RemovesQuietly key draw.uuid old.dir new.dir o
 removal_quiet key now draw old new (Ok text) s u own =
     let done = removal_done key now draw old new text (inl s) (u.observed refl) in
@@ -248,11 +259,11 @@ removal_quiet key now draw old new (Err BundleFault) s u own = let clash : false
 removal_quiet key now draw old new (Err r) s u own = let clash : false ≡ true = s.ran.refusals in cc
 
 -- and `image gc`
-sweep_quiet : (now : ℕ) (draw : Draw) (old new : Outside) (o : Outcome) → InProcess ImageGc now draw (intent_for kind.ImageGc [] now draw) old new o → IsUndisturbed (Some ImageGc) old new → is_own_end o ≡ true →
+sweep_quiet : (now : ℕ) (draw : Draw) (old new : Outside) (o : Outcome) → InProcess ImageGc now draw (intent_for kind.ImageGc [] now draw) old new o → Undisturbed ImageGc old new → is_own_end o ≡ true →
     SweepsQuietly old.dir new.dir o
 sweep_quiet now draw old new (Ok text) s u own =
     let done = sweep_done now draw old new text (inl s) (u.observed refl) in
-    let ext : Extends (in_process sweeps) old.dir.process old.dir.trace new.dir.trace = all_parts s (u.observed refl) (in_process sweeps) refl (asks_in_process sweeps) refl in
+    let ext : Extends (in_process sweeps) old.dir.process old.dir.trace new.dir.trace = all_in_process s (u.observed refl) in
     (done, incoming_left ext (u.alone refl) done.swept, removed_left ext (u.alone refl) done.swept)
 sweep_quiet now draw old new (Err Stray) s u own = sweep_stray now draw (Some (intent_for kind.ImageGc [] now draw)) old new (inl s) (u.observed refl)
 sweep_quiet now draw old new (Err NoMemory) s u own = let clash : false ≡ true = own in cc
@@ -264,40 +275,40 @@ sweep_quiet now draw old new (Err r) s u own = let clash : false ≡ true = s.ra
 abbrev prepare_asks : Draw → Request → Bool
 prepare_asks draw = prepares_pod draw.uuid
 
-prepare_held : (words : List (List ℕ)) (now : ℕ) (draw : Draw) (old new : Outside) (area : Area) (s : InProcess (Prepare words) now draw (prepare_intent now draw) old new (Err (Busy area))) → IsUndisturbed (Some (Prepare words)) old new →
+prepare_held : (wants : Wants) (now : ℕ) (draw : Draw) (old new : Outside) (area : Area) (s : InProcess (Prepare wants) now draw (prepare_intent now draw) old new (Err (Busy area))) → Undisturbed (Prepare wants) old new →
     IsBusyElsewhere old.dir.process area Shared (state_after old.dir.trace)
-prepare_held words now draw old new area s u =
+prepare_held wants now draw old new area s u =
     let t = u.observed refl in
     let me = s.begun.dir.process in
     let o : Outcome = Err (Busy area) in
     let intent = prepare_intent now draw in
     let held : IsPodAreaHeld area s.begun.dir s.ended.dir = s.ran.says.2 area refl (s.told ∙ t) intent (began now draw) (begun_knows s t) in
-    let first : IsBusyElsewhere me area Shared (state_after s.begun.dir.trace) = held_before (is_against area Shared) held (quiet_between (Prepare words) now draw intent old new o s u) in
+    let first : IsBusyElsewhere me area Shared (state_after s.begun.dir.trace) = held_before (is_against area Shared) held (quiet_between (Prepare wants) now draw intent old new o s u) in
     subst (λ (p : ℕ). IsBusyElsewhere p area Shared (state_after old.dir.trace)) s.me
-    (subst (λ (x : DirState). IsBusyElsewhere me area Shared x) (state (Prepare words) now draw intent old new o s u) first)
+    (subst (λ (x : DirState). IsBusyElsewhere me area Shared x) (state (Prepare wants) now draw intent old new o s u refl) first)
 
 -- its own requests
-prepare_extends : (words : List (List ℕ)) (now : ℕ) (draw : Draw) (intent : Intent) (old new : Outside) (o : Outcome) → InProcess (Prepare words) now draw intent old new o → IsUndisturbed (Some (Prepare words)) old new →
+prepare_extends : (wants : Wants) (now : ℕ) (draw : Draw) (intent : Intent) (old new : Outside) (o : Outcome) → InProcess (Prepare wants) now draw intent old new o → Undisturbed (Prepare wants) old new →
     Extends (in_process (prepare_asks draw)) old.dir.process old.dir.trace new.dir.trace
-prepare_extends words now draw intent old new o s u = all_parts s (u.observed refl) (in_process (prepare_asks draw)) refl (asks_in_process (prepare_asks draw)) refl
+prepare_extends wants now draw intent old new o s u = all_in_process s (u.observed refl)
 
-prepare_quiet : (words : List (List ℕ)) (now : ℕ) (draw : Draw) (old new : Outside) (o : Outcome) → InProcess (Prepare words) now draw (prepare_intent now draw) old new o → IsUndisturbed (Some (Prepare words)) old new → is_own_end o ≡ true →
-    PreparesQuietly words now draw old.dir new.dir o
-prepare_quiet words now draw old new (Ok text) s u own = (
+prepare_quiet : (wants : Wants) (now : ℕ) (draw : Draw) (old new : Outside) (o : Outcome) → InProcess (Prepare wants) now draw (prepare_intent now draw) old new o → Undisturbed (Prepare wants) old new → is_own_end o ≡ true →
+    PreparesQuietly wants now draw old.dir new.dir o
+prepare_quiet wants now draw old new (Ok text) s u own = (
   s.ran.says.0,
   λ conforming.
-      let x = prepare_faithful words now draw old new text (inl s) (u.observed refl) conforming in
-      (x.0, x.1, (x.2, pod_stands draw.uuid (prepare_extends words now draw (prepare_intent now draw) old new (Ok text) s u) (u.alone refl) conforming x.2)),
+      let x = prepare_faithful wants now draw old new text (inl s) (u.observed refl) conforming in
+      (x.0, x.1, (x.2, pod_stands draw.uuid (prepare_extends wants now draw (prepare_intent now draw) old new (Ok text) s u) (u.alone refl) conforming x.2)),
 )
-prepare_quiet words now draw old new (Err (Busy area)) s u own = (prepare_refused words now draw (Some (prepare_intent now draw)) old new (Busy area) refl (inl s), prepare_held words now draw old new area s u)
-prepare_quiet words now draw old new (Err NoMemory) s u own = let clash : false ≡ true = own in cc
-prepare_quiet words now draw old new (Err DirFault) s u own = let clash : false ≡ true = own in cc
-prepare_quiet words now draw old new (Err BundleFault) s u own = let clash : false ≡ true = own in cc
-prepare_quiet words now draw old new (Err r) s u own = prepare_refused words now draw (Some (prepare_intent now draw)) old new r refl (inl s)
+prepare_quiet wants now draw old new (Err (Busy area)) s u own = (prepare_refused wants now draw (Some (prepare_intent now draw)) old new (Busy area) refl (inl s), prepare_held wants now draw old new area s u)
+prepare_quiet wants now draw old new (Err NoMemory) s u own = let clash : false ≡ true = own in cc
+prepare_quiet wants now draw old new (Err DirFault) s u own = let clash : false ≡ true = own in cc
+prepare_quiet wants now draw old new (Err BundleFault) s u own = let clash : false ≡ true = own in cc
+prepare_quiet wants now draw old new (Err r) s u own = prepare_refused wants now draw (Some (prepare_intent now draw)) old new r refl (inl s)
 
 -- `rm` and `gc`
-rm_quiet : (pod : PodId) (now : ℕ) (draw : Draw) (old new : Outside) (o : Outcome) → InProcess (Rm pod) now draw (rm_intent pod now draw) old new o → IsUndisturbed (Some (Rm pod)) old new → is_own_end o ≡ true → RemovesPodQuietly pod old.dir new.dir o
-rm_quiet pod now draw old new o s u own = by o s own
+rm_quiet : {word : List ℕ} (pod : PodId) (now : ℕ) (draw : Draw) (old new : Outside) (o : Outcome) → InProcess (Rm word pod) now draw (rm_intent word now draw) old new o → Undisturbed (Rm word pod) old new → is_own_end o ≡ true → RemovesPodQuietly pod old.dir new.dir o
+rm_quiet {word = word} pod now draw old new o s u own = by o s own
   where
     t : old.dir.observed ≡ true
     t = u.observed refl
@@ -305,41 +316,41 @@ rm_quiet pod now draw old new o s u own = by o s own
     quiet : Quiet old.dir.process old.dir.trace new.dir.trace
     quiet = u.alone refl
 
-    ext : (o : Outcome) → InProcess (Rm pod) now draw (rm_intent pod now draw) old new o → Extends (in_process (removes pod now)) old.dir.process old.dir.trace new.dir.trace
-    ext o s = all_parts s t (in_process (removes pod now)) refl (asks_in_process (removes pod now)) refl
+    ext : {word : List ℕ} (o : Outcome) → InProcess (Rm word pod) now draw (rm_intent word now draw) old new o → Extends (in_process (removes pod now)) old.dir.process old.dir.trace new.dir.trace
+    ext o s = all_in_process s t
 
-    by : (o : Outcome) → InProcess (Rm pod) now draw (rm_intent pod now draw) old new o → is_own_end o ≡ true → RemovesPodQuietly pod old.dir new.dir o
-    by (Ok text) s own =
-        rm_removed_quietly pod now old.dir new.dir (ext (Ok text) s) quiet (idle s t quiet) text (rm_printed pod now draw (Some (rm_intent pod now draw)) old new text (inl s)) (rm_done pod now draw (Some (rm_intent pod now draw)) old new text (inl s) t)
-    by (Err NoPod) s own = rm_none_quietly pod now old.dir new.dir (ext (Err NoPod) s) quiet (idle s t quiet) (rm_none pod now draw (Some (rm_intent pod now draw)) old new t (inl s))
+    by : {word : List ℕ} (o : Outcome) → InProcess (Rm word pod) now draw (rm_intent word now draw) old new o → is_own_end o ≡ true → RemovesPodQuietly pod old.dir new.dir o
+    by {word = word} (Ok text) s own =
+        rm_removed_quietly pod now old.dir new.dir (ext (Ok text) s) quiet (idle s t quiet) text (rm_printed word pod now draw (Some (rm_intent word now draw)) old new text (inl s)) (rm_done word pod now draw (Some (rm_intent word now draw)) old new text (inl s) t)
+    by {word = word} (Err NoPod) s own = rm_none_quietly pod now old.dir new.dir (ext (Err NoPod) s) quiet (idle s t quiet) (rm_none word pod now draw (Some (rm_intent word now draw)) old new t (inl s))
     by (Err (WrongPhase phase)) s own = rm_wrong_quietly pod now old.dir new.dir (ext (Err (WrongPhase phase)) s) quiet (idle s t quiet) phase (rm_wrong pod now draw old new phase (inl s) t)
-    by (Err (NoManifest other)) s own =
-        let x = rm_bare pod now draw (Some (rm_intent pod now draw)) old new other (inl s) in
+    by {word = word} (Err (NoManifest other)) s own =
+        let x = rm_bare word pod now draw (Some (rm_intent word now draw)) old new other (inl s) in
         rm_lacking_quietly pod now old.dir new.dir (ext (Err (NoManifest other)) s) quiet (idle s t quiet) other x.0 (x.1 t)
     by (Err (PodBusy other which)) s own =
         let x = rm_busy pod now draw old new other which (inl s) in
         rm_busy_quietly pod now old.dir new.dir (ext (Err (PodBusy other which)) s) quiet (idle s t quiet) other which x.0 (x.1 t)
-    by (Err Stray) s own = rm_stray pod now draw (Some (rm_intent pod now draw)) old new (inl s) t
+    by {word = word} (Err Stray) s own = rm_stray word pod now draw (Some (rm_intent word now draw)) old new (inl s) t
     by (Err NoMemory) s own = let clash : false ≡ true = own in cc
     by (Err DirFault) s own = let clash : false ≡ true = own in cc
     by (Err BundleFault) s own = let clash : false ≡ true = own in cc
     by (Err r) s own = let clash : false ≡ true = s.ran.refusals in cc
 
-gc_quiet : (now : ℕ) (draw : Draw) (old new : Outside) (o : Outcome) → InProcess Gc now draw (gc_intent now draw) old new o → IsUndisturbed (Some Gc) old new → is_own_end o ≡ true →
-    SweepsPodsQuietly (times_of now grace_time expire_time) old.dir new.dir o
-gc_quiet now draw old new (Ok text) s u own =
+gc_quiet : {grace : ℕ} {expire : ℕ} (now : ℕ) (draw : Draw) (old new : Outside) (o : Outcome) → InProcess (Gc grace expire) now draw (gc_intent grace expire now draw) old new o → Undisturbed (Gc grace expire) old new → is_own_end o ≡ true →
+    SweepsPodsQuietly (times_of now grace expire) old.dir new.dir o
+gc_quiet {grace = grace} {expire = expire} now draw old new (Ok text) s u own =
     let t = u.observed refl in
     let quiet = u.alone refl in
-    gc_swept_quietly (times_of now grace_time expire_time) old.dir new.dir text (all_parts s t (in_process (sweeps_pods now)) refl (asks_in_process (sweeps_pods now)) refl) quiet (idle s t quiet) (gc_done now draw old new text (inl s) t)
-gc_quiet now draw old new (Err Stray) s u own = gc_stray now draw (Some (gc_intent now draw)) old new (inl s) (u.observed refl)
+    gc_swept_quietly (times_of now grace expire) old.dir new.dir text (all_in_process s t) quiet (idle s t quiet) (gc_done now draw old new text (inl s) t)
+gc_quiet {grace = grace} {expire = expire} now draw old new (Err Stray) s u own = gc_stray grace expire now draw (Some (gc_intent grace expire now draw)) old new (inl s) (u.observed refl)
 gc_quiet now draw old new (Err NoMemory) s u own = let clash : false ≡ true = own in cc
 gc_quiet now draw old new (Err DirFault) s u own = let clash : false ≡ true = own in cc
 gc_quiet now draw old new (Err BundleFault) s u own = let clash : false ≡ true = own in cc
 gc_quiet now draw old new (Err r) s u own = let clash : false ≡ true = s.ran.refusals in cc
 
 -- each command
-comes_of : (line : Line) (now : ℕ) (draw : Draw) (intent : Intent) (old new : Outside) (o : Outcome) → intent_of line now draw ≡ Some intent → InProcess line now draw intent old new o → IsUndisturbed (Some line) old new → is_own_end o ≡ true → RunsQuietly line now draw old.dir new.dir o → ComesQuietly line now draw old new o
-comes_of (Status pod) now draw intent old new o said s u own ran = status_quiet pod now draw intent old new o s u own
+comes_of : (line : Task) (now : ℕ) (draw : Draw) (intent : Intent) (old new : Outside) (o : Outcome) → intent_of line now draw ≡ Some intent → InProcess line now draw intent old new o → Undisturbed line old new → is_own_end o ≡ true → RunsQuietly line now draw old.dir new.dir o → ComesQuietly line now draw old new o
+comes_of (Status word pod) now draw intent old new o said s u own ran = status_quiet pod now draw intent old new o s u own
 comes_of (Validate path) now draw intent old new o said s u own ran = let clash : false ≡ true = s.uses in cc
 comes_of ImageList now draw intent old new o said s u own ran = list_quiet now draw intent old new o s u own
 comes_of (ImageImport path) now draw intent old new o said s u own ran = import_quiet path now draw intent old new o said s u own
@@ -347,37 +358,37 @@ comes_of (ImageRm key) now draw intent old new o said s u own ran =
     removal_quiet key now draw old new o (subst (λ (i : Intent). InProcess (ImageRm key) now draw i old new o) (let e : intent ≡ removal_intent now draw = cc in e) s) u own
 comes_of ImageGc now draw intent old new o said s u own ran =
     sweep_quiet now draw old new o (subst (λ (i : Intent). InProcess ImageGc now draw i old new o) (let e : intent ≡ intent_for kind.ImageGc [] now draw = cc in e) s) u own
-comes_of (Prepare words) now draw intent old new o said s u own ran =
-    prepare_quiet words now draw old new o (subst (λ (i : Intent). InProcess (Prepare words) now draw i old new o) (let e : intent ≡ prepare_intent now draw = cc in e) s) u own
-comes_of (RunPrepared pod) now draw intent old new o said s u own ran = ran
-comes_of (Run words) now draw intent old new o said s u own ran = ran
-comes_of (Rm pod) now draw intent old new o said s u own ran =
-    rm_quiet pod now draw old new o (subst (λ (i : Intent). InProcess (Rm pod) now draw i old new o) (let e : intent ≡ rm_intent pod now draw = cc in e) s) u own
-comes_of Gc now draw intent old new o said s u own ran =
-    gc_quiet now draw old new o (subst (λ (i : Intent). InProcess Gc now draw i old new o) (let e : intent ≡ gc_intent now draw = cc in e) s) u own
+comes_of (Prepare wants) now draw intent old new o said s u own ran =
+    prepare_quiet wants now draw old new o (subst (λ (i : Intent). InProcess (Prepare wants) now draw i old new o) (let e : intent ≡ prepare_intent now draw = cc in e) s) u own
+comes_of (RunPrepared word pod address) now draw intent old new o said s u own ran = ran
+comes_of (Run wants address) now draw intent old new o said s u own ran = ran
+comes_of (Rm word pod) now draw intent old new o said s u own ran =
+    rm_quiet pod now draw old new o (subst (λ (i : Intent). InProcess (Rm word pod) now draw i old new o) (let e : intent ≡ rm_intent word now draw = cc in e) s) u own
+comes_of (Gc grace expire) now draw intent old new o said s u own ran =
+    gc_quiet now draw old new o (subst (λ (i : Intent). InProcess (Gc grace expire) now draw i old new o) (let e : intent ≡ gc_intent grace expire now draw = cc in e) s) u own
 
-comes_apart : (line : Line) (now : ℕ) (draw : Draw) (old new : Outside) (o : Outcome) → Apart line now draw old new o → IsUndisturbed (Some line) old new → is_own_end o ≡ true → ComesQuietly line now draw old new o
-comes_apart (Status pod) now draw old new o p u own = let clash : true ≡ false = p.apart in cc
+comes_apart : (line : Task) (now : ℕ) (draw : Draw) (old new : Outside) (o : Outcome) → Apart line now draw old new o → Undisturbed line old new → is_own_end o ≡ true → ComesQuietly line now draw old new o
+comes_apart (Status word pod) now draw old new o p u own = let clash : true ≡ false = p.apart in cc
 comes_apart (Validate path) now draw old new o p u own = let s = p.ran.says own in s.is ∙ judged_whole path s.found (file_bytes (old.bundle.tree path)) (s.told (u.bundle_observed refl))
 comes_apart ImageList now draw old new o p u own = let clash : true ≡ false = p.apart in cc
 comes_apart (ImageImport path) now draw old new o p u own = let clash : true ≡ false = p.apart in cc
 comes_apart (ImageRm key) now draw old new o p u own = let clash : true ≡ false = p.apart in cc
 comes_apart ImageGc now draw old new o p u own = let clash : true ≡ false = p.apart in cc
-comes_apart (Prepare words) now draw old new o p u own = let clash : true ≡ false = p.apart in cc
-comes_apart (RunPrepared pod) now draw old new o p u own = let clash : true ≡ false = p.apart in cc
-comes_apart (Run words) now draw old new o p u own = let clash : true ≡ false = p.apart in cc
-comes_apart (Rm pod) now draw old new o p u own = let clash : true ≡ false = p.apart in cc
-comes_apart Gc now draw old new o p u own = let clash : true ≡ false = p.apart in cc
+comes_apart (Prepare wants) now draw old new o p u own = let clash : true ≡ false = p.apart in cc
+comes_apart (RunPrepared word pod address) now draw old new o p u own = let clash : true ≡ false = p.apart in cc
+comes_apart (Run wants address) now draw old new o p u own = let clash : true ≡ false = p.apart in cc
+comes_apart (Rm word pod) now draw old new o p u own = let clash : true ≡ false = p.apart in cc
+comes_apart (Gc grace expire) now draw old new o p u own = let clash : true ≡ false = p.apart in cc
 
 -- what each command leaves
-leaves_quietly : (line : Line) (now : ℕ) (draw : Draw) (intent : Intent) (old new : Outside) (o : Outcome) → InProcess line now draw intent old new o → IsUndisturbed (Some line) old new → LeavesQuietly line old.dir.process draw (state_after old.dir.trace) (state_after new.dir.trace)
-leaves_quietly (Status pod) now draw intent old new o s u = record {
-  same = unchanged (Status pod) now draw intent old new o s u (λ r h. look_is_harmless r (pod_look pod r h));
-  beside = beside (Status pod) now draw intent old new o s u is_nowhere (looks_change (is_pod_spot pod));
+leaves_quietly : (line : Task) (now : ℕ) (draw : Draw) (intent : Intent) (old new : Outside) (o : Outcome) → InProcess line now draw intent old new o → Undisturbed line old new → LeavesQuietly line old.dir.process draw (state_after old.dir.trace) (state_after new.dir.trace)
+leaves_quietly (Status word pod) now draw intent old new o s u = record {
+  same = unchanged (Status word pod) now draw intent old new o s u (λ r h. look_is_harmless r (pod_look pod r h));
+  beside = beside (Status word pod) now draw intent old new o s u is_nowhere (looks_change (is_pod_spot pod));
 }
 leaves_quietly (Validate path) now draw intent old new o s u = let clash : false ≡ true = s.uses in cc
 leaves_quietly ImageList now draw intent old new o s u = record {
-  same = tame_unchanged ImageList now draw intent old new o s u lists_is_tame;
+  same = tame_unchanged ImageList now draw intent old new o s u refl lists_is_tame;
   beside = beside ImageList now draw intent old new o s u is_nowhere list_changes;
 }
 leaves_quietly (ImageImport path) now draw intent old new o s u = record {
@@ -386,40 +397,40 @@ leaves_quietly (ImageImport path) now draw intent old new o s u = record {
 }
 leaves_quietly (ImageRm key) now draw intent old new o s u = beside (ImageRm key) now draw intent old new o s u (is_removal_place key draw.uuid) (removal_changes key draw.uuid)
 leaves_quietly ImageGc now draw intent old new o s u = beside ImageGc now draw intent old new o s u is_swept_place sweep_changes
-leaves_quietly (Prepare words) now draw intent old new o s u = beside (Prepare words) now draw intent old new o s u (is_pod_place draw.uuid) (prepare_changes draw.uuid)
-leaves_quietly (RunPrepared pod) now draw intent old new o s u = beside (RunPrepared pod) now draw intent old new o s u (is_pod_spot pod) (claim_changes pod)
-leaves_quietly (Run words) now draw intent old new o s u = beside (Run words) now draw intent old new o s u (is_pod_spot draw.uuid) (run_changes draw.uuid)
-leaves_quietly (Rm pod) now draw intent old new o s u = beside (Rm pod) now draw intent old new o s u (is_pod_spot pod) (rm_changes pod now)
-leaves_quietly Gc now draw intent old new o s u = beside Gc now draw intent old new o s u is_pods_place (gc_changes now)
+leaves_quietly (Prepare wants) now draw intent old new o s u = beside (Prepare wants) now draw intent old new o s u (is_pod_place draw.uuid) (prepare_changes draw.uuid)
+leaves_quietly (RunPrepared word pod address) now draw intent old new o s u = beside (RunPrepared word pod address) now draw intent old new o s u (is_pod_spot pod) (claim_changes pod)
+leaves_quietly (Run wants address) now draw intent old new o s u = beside (Run wants address) now draw intent old new o s u (is_pod_spot draw.uuid) (run_changes draw.uuid)
+leaves_quietly (Rm word pod) now draw intent old new o s u = beside (Rm word pod) now draw intent old new o s u (is_pod_spot pod) (rm_changes pod now)
+leaves_quietly (Gc grace expire) now draw intent old new o s u = beside (Gc grace expire) now draw intent old new o s u is_pods_place (gc_changes now)
 
-leaves_apart : (line : Line) (now : ℕ) (draw : Draw) (old new : Outside) (o : Outcome) → Apart line now draw old new o → LeavesQuietly line old.dir.process draw (state_after old.dir.trace) (state_after new.dir.trace)
-leaves_apart (Status pod) now draw old new o p = let clash : true ≡ false = p.apart in cc
+leaves_apart : (line : Task) (now : ℕ) (draw : Draw) (old new : Outside) (o : Outcome) → Apart line now draw old new o → LeavesQuietly line old.dir.process draw (state_after old.dir.trace) (state_after new.dir.trace)
+leaves_apart (Status word pod) now draw old new o p = let clash : true ≡ false = p.apart in cc
 leaves_apart (Validate path) now draw old new o p = ap (λ (d : DirSeen). state_after d.trace) p.dir
 leaves_apart ImageList now draw old new o p = let clash : true ≡ false = p.apart in cc
 leaves_apart (ImageImport path) now draw old new o p = let clash : true ≡ false = p.apart in cc
 leaves_apart (ImageRm key) now draw old new o p = let clash : true ≡ false = p.apart in cc
 leaves_apart ImageGc now draw old new o p = let clash : true ≡ false = p.apart in cc
-leaves_apart (Prepare words) now draw old new o p = let clash : true ≡ false = p.apart in cc
-leaves_apart (RunPrepared pod) now draw old new o p = let clash : true ≡ false = p.apart in cc
-leaves_apart (Run words) now draw old new o p = let clash : true ≡ false = p.apart in cc
-leaves_apart (Rm pod) now draw old new o p = let clash : true ≡ false = p.apart in cc
-leaves_apart Gc now draw old new o p = let clash : true ≡ false = p.apart in cc
+leaves_apart (Prepare wants) now draw old new o p = let clash : true ≡ false = p.apart in cc
+leaves_apart (RunPrepared word pod address) now draw old new o p = let clash : true ≡ false = p.apart in cc
+leaves_apart (Run wants address) now draw old new o p = let clash : true ≡ false = p.apart in cc
+leaves_apart (Rm word pod) now draw old new o p = let clash : true ≡ false = p.apart in cc
+leaves_apart (Gc grace expire) now draw old new o p = let clash : true ≡ false = p.apart in cc
 
-abbrev IsQuiet : Line → ℕ → Draw → Outside → Outside → Outcome → Type 0
+abbrev IsQuiet : Task → ℕ → Draw → Outside → Outside → Outcome → Type 0
 IsQuiet line now draw old new o =
     (o ≡ Err NoMemory)
     ⊎ (ComesQuietly line now draw old new o × LeavesQuietly line old.dir.process draw (state_after old.dir.trace) (state_after new.dir.trace))
 
-performs_quiet : (line : Line) (now : ℕ) (draw : Draw) (intent : Option Intent) (old new : Outside) (o : Outcome) → intent_of line now draw ≡ intent → Performs line now draw intent old new o → IsUndisturbed (Some line) old new → ((OwnsNothing old.dir.process (state_after old.dir.trace).namespace) → RunsQuietly line now draw old.dir new.dir o) → IsQuiet line now draw old new o
+performs_quiet : (line : Task) (now : ℕ) (draw : Draw) (intent : Option Intent) (old new : Outside) (o : Outcome) → intent_of line now draw ≡ intent → Performs line now draw intent old new o → Undisturbed line old new → ((OwnsNothing old.dir.process (state_after old.dir.trace).namespace) → RunsQuietly line now draw old.dir new.dir o) → IsQuiet line now draw old new o
 performs_quiet line now draw (Some intent) old new o said (inr n) u ran = inl n.is
 performs_quiet line now draw (Some intent) old new o said (inl s) u ran =
     elim (ends_own line now draw intent old new o s u) [ inl e ↦ inl e | inr own ↦ inr (comes_of line now draw intent old new o said s u own (ran (idle s (u.observed s.uses) (u.alone s.uses))), leaves_quietly line now draw intent old new o s u) ]
 performs_quiet line now draw None old new o said p u ran = elim (own_end line now draw old new o p.ran u) [ inl e ↦ inl e | inr own ↦ inr (comes_apart line now draw old new o p u own, leaves_apart line now draw old new o p) ]
 
 -- a command that starts apps works on the directory
-runs_use : (line : Line) → runs_apps line ≡ true → uses_dir line ≡ true
-runs_use (RunPrepared pod) runs = refl
-runs_use (Run words) runs = refl
+runs_use : (line : Task) → runs_apps line ≡ true → uses_dir line ≡ true
+runs_use (RunPrepared word pod address) runs = refl
+runs_use (Run wants address) runs = refl
 runs_use line runs = cc
 
 -- and what it comes to is said, or memory ran out
@@ -430,20 +441,19 @@ said_quiet o old new status (inr (inr x)) works = inr x
 
 module _ (now : ℕ) (draw : Draw) (old new : Moment) (status : ℕ) where
   -- what is told of a run of apps
-  ran_quietly : (line : Line) → (r : RunOfLine line now draw (intent_of line now draw) old new status) → IsUndisturbed (Some line) old.outside new.outside →
+  ran_quietly : (line : Task) → (r : RunOfLine line now draw (intent_of line now draw) old new status) → Undisturbed line old.outside new.outside →
       OwnsNothing old.outside.dir.process (state_after old.outside.dir.trace).namespace → RunsQuietly line now draw old.outside.dir new.outside.dir r.outcome
   ran_quietly line r u idle = subst (λ (o : Outcome). RunsQuietly line now draw old.outside.dir new.outside.dir o) (sym r.outcome_is)
       (runs_quietly line now draw (inside_in old) (inside_in new) r.answer (λ runs. u.observed (runs_use line runs)) (λ runs. u.alone (runs_use line runs)) (λ runs. idle) r.came)
 
-  quiet_of : (l : Option Line) → RunOf l now draw old new status → IsUndisturbed l old.outside new.outside → Works old.out new.out → (status ≡ 14) ⊎ IsPlainAnswer l now draw status old new
-  quiet_of None r u works = inr (Err Usage, refl, (r.is, λ t. ap (λ (s : SinkSeen). s.bytes) r.out, r.reported), ap (λ (x : Outside). state_after x.dir.trace) r.outside)
-  quiet_of (Some line) (inr n) u works = inl n.is
-  quiet_of (Some line) (inl r) u works = by (performs_quiet line now draw (intent_of line now draw) old.outside new.outside r.outcome refl r.performs u (ran_quietly line r u))
+  quiet_of : (task : Task) → RunOf task now draw old new status → Undisturbed task old.outside new.outside → Works old.out new.out → (status ≡ 14) ⊎ IsPlainAnswer task now draw status old new
+  quiet_of task (inr n) u works = inl n.is
+  quiet_of task (inl r) u works = by (performs_quiet task now draw (intent_of task now draw) old.outside new.outside r.outcome refl r.performs u (ran_quietly task r u))
     where
-      by : IsQuiet line now draw old.outside new.outside r.outcome → (status ≡ 14) ⊎ IsPlainAnswer (Some line) now draw status old new
+      by : IsQuiet task now draw old.outside new.outside r.outcome → (status ≡ 14) ⊎ IsPlainAnswer task now draw status old new
       by (inl e) = inl (r.is ∙ ap end_status ((subst (λ (o : Outcome). Printed o old.out new.out r.end) e r.printed).refused.0))
       by (inr (comes, left)) = elim (said_quiet r.outcome old new status (answered r.outcome old new r.end status r.printed r.reported r.is) works) [ inl x ↦ inl x | inr x ↦ inr (r.outcome, comes, x, left) ]
 
-pub quiet : {l : Option Line} {now : ℕ} {draw : Draw} {old new : Moment} {status : ℕ} → RunIs l now draw old new status → IsUndisturbed l old.outside new.outside → Works old.out new.out → IsQuietAnswer l now draw status old new
-quiet {l} {now} {draw} {old} {new} {status} run u works =
-    elim (quiet_of now draw old new run.plain l run.ran u works) [ inl e ↦ inl (graded_same l run.plain status 14 run.is e refl) | inr x ↦ inr (run.plain, run.is, x) ]
+pub quiet : {task : Task} {now : ℕ} {draw : Draw} {old new : Moment} {status : ℕ} → RunIs task now draw old new status → Undisturbed task old.outside new.outside → Works old.out new.out → (status ≡ 14) ⊎ AnswersTask task now draw status old new
+quiet {task} {now} {draw} {old} {new} {status} run u works =
+    elim (quiet_of now draw old new run.plain task run.ran u works) [ inl e ↦ inl (graded_same task run.plain status 14 run.is e refl) | inr x ↦ inr (run.plain, run.is, x) ]

@@ -11,8 +11,8 @@ use Rattle.dir_model.specs.Calls.{is_begin, is_finish}
 use Rattle.image_removal.specs.declared.pass.SweepLine.{SweepLine}
 use Rattle.image_removal.specs.Causes.{StrayRemoval, FoundNone}
 use Rattle.image_removal.proofs.Begun.{begun_removes, begun_sweeps}
-use Rattle.rkt_cli.specs.declared.line.Line.{Line}
-use Rattle.rkt_cli.specs.declared.line.Line.TheVariants.{ImageRm, ImageGc}
+use Rattle.rkt_cli.specs.Tasks.{Task}
+use Rattle.rkt_cli.specs.Tasks.{ImageRm, ImageGc}
 use Rattle.command_outcomes.specs.declared.refusal.Refusal.TheVariants.{Busy, NoImage, Stray, DirFault}
 use Rattle.command_outcomes.specs.Moments.{Outside, Outcome}
 use Rattle.command_outcomes.specs.Conforming.{begun}
@@ -22,16 +22,30 @@ use Rattle.rkt_cli.specs.Runs.{InProcess, Performs}
 use Rattle.command_outcomes.specs.Meanwhile.{Meanwhile}
 use Rattle.commands.specs.ImageRm.{removed_text, Removes, FindsBusy, HasRemoved, HasFoundNone, HasMetStray}
 use Rattle.commands.specs.ImageGc.{sweep_texts, Sweeps, StrayInSweep, HasSwept, HasMetStrayInSweep, EndsEarly, HasEndedEarly}
-use Rattle.rkt_cli.proofs.Sessions.{begin_part, finish_part}
+use Rattle.rkt_cli.proofs.Sessions.{begin_part, finish_part, no_looks}
 use Rattle.rkt_cli.proofs.Conforming.{begun_knows}
+use Rattle.commands.specs.Opening.{directly, OnceFound}
+use Rattle.commands.proofs.Starts.{open_extends}
+use Rattle.rkt_cli.specs.Commands.{approach_in}
 
 -- what was so of the command is so of the process between its begin and its finish
-pub meanwhile : {line : Line} {now : ℕ} {draw : Draw} {intent : Intent} {old new : Outside} {o : Outcome} (P : ℕ → List Event → List Event → Type 0) (s : InProcess line now draw intent old new o) → old.dir.observed ≡ true →
+pub meanwhile : {task : Task} {now : ℕ} {draw : Draw} {intent : Intent} {old new : Outside} {o : Outcome} (P : ℕ → List Event → List Event → Type 0) → approach_in task ≡ directly → (s : InProcess task now draw intent old new o) → old.dir.observed ≡ true →
     P s.begun.dir.process s.begun.dir.trace s.ended.dir.trace → Meanwhile P old.dir.process old.dir.trace new.dir.trace
-meanwhile P s t so = record {
+meanwhile {task = task} P direct s t so = record {
   begun = s.begun.dir.trace;
   ended = s.ended.dir.trace;
-  begins = begin_part s t is_begin refl;
+  begins = begin_part s t is_begin refl (λ r h. no_looks task direct r h);
+  so = subst (λ (me : ℕ). P me s.begun.dir.trace s.ended.dir.trace) s.me so;
+  finishes = finish_part s t is_finish refl;
+}
+
+-- and where the process may have looked for its pod
+pub once_found : {task : Task} {now : ℕ} {draw : Draw} {intent : Intent} {old new : Outside} {o : Outcome} (P : ℕ → List Event → List Event → Type 0) (s : InProcess task now draw intent old new o) → old.dir.observed ≡ true →
+    P s.begun.dir.process s.begun.dir.trace s.ended.dir.trace → OnceFound P old.dir.process old.dir.trace new.dir.trace
+once_found P s t so = record {
+  begun = s.begun.dir.trace;
+  ended = s.ended.dir.trace;
+  begins = open_extends (s.begins t);
   so = subst (λ (me : ℕ). P me s.begun.dir.trace s.ended.dir.trace) s.me so;
   finishes = finish_part s t is_finish refl;
 }
@@ -47,7 +61,7 @@ pub removal_done : (key : StoreKey) (now : ℕ) (draw : Draw) (old new : Outside
     HasRemoved key draw.uuid old.dir new.dir
 removal_done key now draw old new text (inl s) t =
     let intent = intent_for kind.ImageRm [] now draw in
-    meanwhile (Removes key draw.uuid) s t (s.ran.says.0.removed (s.told ∙ t) (begun intent) (begun_knows s t) (begun_removes intent draw.uuid refl refl))
+    meanwhile (Removes key draw.uuid) refl s t (s.ran.says.0.removed (s.told ∙ t) (begun intent) (begun_knows s t) (begun_removes intent draw.uuid refl refl))
 removal_done key now draw old new text (inr n) t = let e = n.is in cc
 
 -- or why not
@@ -55,7 +69,7 @@ pub removal_busy : (key : StoreKey) (now : ℕ) (draw : Draw) (old new : Outside
     Meanwhile FindsBusy old.dir.process old.dir.trace new.dir.trace
 removal_busy key now draw old new area (inl s) t =
     let intent = intent_for kind.ImageRm [] now draw in
-    meanwhile FindsBusy s t (s.ran.says.0 (s.told ∙ t) (begun intent) (begun_knows s t) (begun_removes intent draw.uuid refl refl))
+    meanwhile FindsBusy refl s t (s.ran.says.0 (s.told ∙ t) (begun intent) (begun_knows s t) (begun_removes intent draw.uuid refl refl))
 removal_busy key now draw old new area (inr n) t = let e = n.is in cc
 
 pub removal_unnamed : (key : StoreKey) (now : ℕ) (draw : Draw) (intent : Option Intent) (old new : Outside) (named : List ℕ) → Performs (ImageRm key) now draw intent old new (Err (NoImage named)) → named ≡ id_text key.bytes
@@ -65,12 +79,12 @@ removal_unnamed key now draw None old new named p = let clash : true ≡ false =
 
 pub removal_none : (key : StoreKey) (now : ℕ) (draw : Draw) (intent : Option Intent) (old new : Outside) (named : List ℕ) → Performs (ImageRm key) now draw intent old new (Err (NoImage named)) → old.dir.observed ≡ true →
     HasFoundNone key draw.uuid old.dir new.dir
-removal_none key now draw (Some intent) old new named (inl s) t = meanwhile (FoundNone key draw.uuid) s t (s.ran.says.0.found (s.told ∙ t))
+removal_none key now draw (Some intent) old new named (inl s) t = meanwhile (FoundNone key draw.uuid) refl s t (s.ran.says.0.found (s.told ∙ t))
 removal_none key now draw (Some intent) old new named (inr n) t = let e = n.is in cc
 removal_none key now draw None old new named p t = let clash : true ≡ false = p.apart in cc
 
 pub removal_stray : (key : StoreKey) (now : ℕ) (draw : Draw) (intent : Option Intent) (old new : Outside) → Performs (ImageRm key) now draw intent old new (Err Stray) → old.dir.observed ≡ true → HasMetStray key draw.uuid old.dir new.dir
-removal_stray key now draw (Some intent) old new (inl s) t = meanwhile (StrayRemoval key draw.uuid) s t (s.ran.says.0 (s.told ∙ t))
+removal_stray key now draw (Some intent) old new (inl s) t = meanwhile (StrayRemoval key draw.uuid) refl s t (s.ran.says.0 (s.told ∙ t))
 removal_stray key now draw (Some intent) old new (inr n) t = let e = n.is in cc
 removal_stray key now draw None old new p t = let clash : true ≡ false = p.apart in cc
 
@@ -87,17 +101,17 @@ sweep_done now draw old new text (inl s) t =
     record {
       lines = s.ran.says.lines;
       is = s.ran.says.is;
-      swept = meanwhile (Sweeps s.ran.says.lines) s t (s.ran.says.swept (s.told ∙ t) (begun intent) (begun_knows s t) (begun_sweeps intent refl));
+      swept = meanwhile (Sweeps s.ran.says.lines) refl s t (s.ran.says.swept (s.told ∙ t) (begun intent) (begun_knows s t) (begun_sweeps intent refl));
     }
 sweep_done now draw old new text (inr n) t = let e = n.is in cc
 
 pub sweep_stray : (now : ℕ) (draw : Draw) (intent : Option Intent) (old new : Outside) → Performs ImageGc now draw intent old new (Err Stray) → old.dir.observed ≡ true → HasMetStrayInSweep old.dir new.dir
-sweep_stray now draw (Some intent) old new (inl s) t = meanwhile StrayInSweep s t (s.ran.says (s.told ∙ t))
+sweep_stray now draw (Some intent) old new (inl s) t = meanwhile StrayInSweep refl s t (s.ran.says (s.told ∙ t))
 sweep_stray now draw (Some intent) old new (inr n) t = let e = n.is in cc
 sweep_stray now draw None old new p t = let clash : true ≡ false = p.apart in cc
 
 -- a sweep whose directory failed ended early
 pub sweep_failed : (now : ℕ) (draw : Draw) (intent : Option Intent) (old new : Outside) → Performs ImageGc now draw intent old new (Err DirFault) → old.dir.observed ≡ true → HasEndedEarly old.dir new.dir
-sweep_failed now draw (Some intent) old new (inl s) t = meanwhile EndsEarly s t (s.ran.says (s.told ∙ t))
+sweep_failed now draw (Some intent) old new (inl s) t = meanwhile EndsEarly refl s t (s.ran.says (s.told ∙ t))
 sweep_failed now draw (Some intent) old new (inr n) t = let e = n.is in cc
 sweep_failed now draw None old new p t = let clash : true ≡ false = p.apart in cc

@@ -10,7 +10,6 @@ use Rattle.dir_model.specs.declared.request.Request.{Request}
 use Rattle.dir_model.specs.declared.request.Request.TheVariants.{Begin, Finish}
 use Rattle.dir_model.specs.declared.request.Reply.TheVariants.{Done}
 use Rattle.dir_model.specs.Calls.{CallStep, Extends, is_begin, is_finish}
-use Rattle.dir_model.specs.Pods.{pod_text}
 use Rattle.dir_model.specs.Quiet.{Quiet, OwnsNothing}
 use Rattle.dir_model.specs.Trace.{state_after}
 use Rattle.dir_model.proofs.Chains.{and_more, extends_wider, step_extends}
@@ -36,14 +35,17 @@ use Rattle.commands.proofs.Claimed.{may_begin}
 use Rattle.commands.proofs.ClaimBefore.{RefusedClaim}
 use Rattle.commands.proofs.RunRefused.{same_refusal, claimed_refusal, made_refusal, unmade_refusal}
 use Rattle.commands.proofs.RanQuietly.{run_prepared_passed, run_prepared_unclaimed, run_prepared_ends, run_made_left, run_ends}
-use Rattle.commands.proofs.RemovalQuiet.{in_process, asks_in_process}
-use Rattle.rkt_cli.specs.declared.line.Line.{Line}
-use Rattle.rkt_cli.specs.declared.line.Line.TheVariants.{RunPrepared, Run}
+use Rattle.commands.proofs.OwnSteps.{in_process, asks_in_process, lists_in_process}
+use Rattle.rkt_cli.specs.Tasks.{Task}
+use Rattle.rkt_cli.specs.Tasks.{RunPrepared, Run}
 use Rattle.commands.specs.Command.{intent_for}
 use Rattle.commands.specs.RunCommand.{LeavesMade}
 use Rattle.commands.specs.RunPreparedCommand.{PassesQuietly}
-use Rattle.rkt_cli.specs.Commands.{asks, runs_apps, intent_of}
+use Rattle.rkt_cli.specs.Commands.{runs_apps, intent_of}
 use Rattle.rkt_cli.specs.Spawns.{CameBetween}
+use Rattle.commands.specs.Wants.{Wants}
+use Rattle.commands.specs.Opening.{Approach, directly, approach_of, looks_by, Opens}
+use Rattle.commands.proofs.Starts.{look_lists, open_extends, opening_extends}
 
 -- what is told of a run of apps where nobody else steps, by what came between its begin and its finish
 passed_refused : (pod : PodId) (old new : DirSeen) (r : Refusal) → HasPassed pod old.trace new.trace → (r ≡ NoMemory) ⊎ IsRunRefusal pod r → PassesQuietly pod old new (Err r)
@@ -60,12 +62,12 @@ of_refused : (pod : PodId) (old new : DirSeen) (r : Refusal) (error : ClaimError
 of_refused pod old new NoMemory error is u = tt
 of_refused pod old new r error is u = inr (error, is, u)
 
-module _ {asks : Request → Bool} {P : Inside → Inside → Type 0} {intent : Intent} {a b : Inside} (x : WithinProcess asks P intent a b) (t : a.dir.observed ≡ true) where
+module _ {approach : Approach} {asks : Request → Bool} {P : Inside → Inside → Type 0} {intent : Intent} {a b : Inside} (x : WithinProcess approach asks P intent a b) (t : a.dir.observed ≡ true) where
   abbrev me : ℕ
   me = a.dir.process
 
-  begin_ext : (asked : Request → Bool) → asked (Begin intent) ≡ true → Extends asked me a.dir.trace x.begun.trace
-  begin_ext asked is = step_extends asked me a.dir.trace (Begin intent) Done x.begun.trace is (x.begins t)
+  begin_ext : (asked : Request → Bool) → asked (Begin intent) ≡ true → ((r : Request) → looks_by approach r ≡ true → asked r ≡ true) → Extends asked me a.dir.trace x.begun.trace
+  begin_ext asked is wider = opening_extends is wider (x.begins t)
 
   act_ext : Extends asks me x.begun.trace x.ended.trace
   act_ext = subst (λ (p : ℕ). Extends asks p x.begun.trace x.ended.trace) x.me (x.extends t)
@@ -77,7 +79,7 @@ module _ {asks : Request → Bool} {P : Inside → Inside → Type 0} {intent : 
   finish_ext asked is = step_extends asked me x.ended.trace Finish Done b.dir.trace is finish_call
 
   whole_ext : Extends (in_process asks) me a.dir.trace b.dir.trace
-  whole_ext = and_more (and_more (begin_ext (in_process asks) refl) refl (extends_wider (asks_in_process asks) act_ext)) refl (finish_ext (in_process asks) (or_last (asks Finish) true refl))
+  whole_ext = and_more (and_more (begin_ext (in_process asks) refl (λ r h. lists_in_process asks r (look_lists approach r h))) refl (extends_wider (asks_in_process asks) act_ext)) refl (finish_ext (in_process asks) (or_last (asks Finish) true refl))
 
   -- by a directory that shows so at these two moments
   module _ (d d' : DirAt) (begins : dir_seen x.begun.observed d ≡ x.begun) (ends : dir_seen x.ended.observed d' ≡ x.ended) where
@@ -100,10 +102,10 @@ module _ {asks : Request → Bool} {P : Inside → Inside → Type 0} {intent : 
     alone q = subst (λ (p : ℕ). Quiet p a.dir.trace b.dir.trace) me_is q
 
     pub first : Grew a.dir.trace d.trace
-    first = let e = begin_ext (λ r. true) refl in subst (λ (h : List Event). Grew a.dir.trace h) from_is (record { more = e.more; grown = e.grown })
+    first = let e = begin_ext (λ r. true) refl (λ r h. refl) in subst (λ (h : List Event). Grew a.dir.trace h) from_is (record { more = e.more; grown = e.grown })
 
-    begin_there : CallStep d.process a.dir.trace (Begin intent) Done d.trace
-    begin_there = subst (λ (h : List Event). CallStep d.process a.dir.trace (Begin intent) Done h) from_is (subst (λ (p : ℕ). CallStep p a.dir.trace (Begin intent) Done x.begun.trace) me_is (x.begins t))
+    begin_there : Opens approach intent d.process a.dir.trace d.trace
+    begin_there = subst (λ (h : List Event). Opens approach intent d.process a.dir.trace h) from_is (subst (λ (p : ℕ). Opens approach intent p a.dir.trace x.begun.trace) me_is (x.begins t))
 
     stays : d'.process ≡ d.process
     stays = ap (λ (z : DirSeen). z.process) ends ∙ (x.same ∙ (x.me ∙ me_is))
@@ -114,11 +116,11 @@ module _ {asks : Request → Bool} {P : Inside → Inside → Type 0} {intent : 
     pub knows_there : Knows d (just_begun intent)
     knows_there = let k = subst (λ (z : DirSeen). Knows (shown_at z) (just_begun intent)) (sym begins) (x.knows t) in record { tied = k.tied; handles = k.handles }
 
-module _ (pod : PodId) (now : ℕ) (draw : Draw) (a b : Inside) (answer : Answer) (t : a.dir.observed ≡ true) (quiet : Quiet a.dir.process a.dir.trace b.dir.trace) (idle : OwnsNothing a.dir.process (state_after a.dir.trace).namespace) where
+module _ (word address : List ℕ) (pod : PodId) (now : ℕ) (draw : Draw) (a b : Inside) (answer : Answer) (t : a.dir.observed ≡ true) (quiet : Quiet a.dir.process a.dir.trace b.dir.trace) (idle : OwnsNothing a.dir.process (state_after a.dir.trace).namespace) where
   abbrev its_intent : Intent
-  its_intent = intent_for kind.RunPrepared (pod_text pod.bytes) now draw
+  its_intent = intent_for kind.RunPrepared word now draw
 
-  passed_in : WithinProcess (runs_prepared pod) (λ p q. RunPreparedSays pod p q answer) its_intent a b → PassesQuietly pod a.dir b.dir (outcome_of answer)
+  passed_in : WithinProcess (approach_of word) (runs_prepared pod) (λ p q. RunPreparedSays pod address p q answer) its_intent a b → PassesQuietly pod a.dir b.dir (outcome_of answer)
   passed_in x = by x.came.so
     where
       d : DirAt
@@ -128,7 +130,7 @@ module _ (pod : PodId) (now : ℕ) (draw : Draw) (a b : Inside) (answer : Answer
       d' = x.came.to
 
       refused : RefusedClaim pod a.dir.process a.dir.trace x.begun.trace x.ended.trace b.dir.trace
-      refused = record { begins = begin_ext x t is_begin refl; works = act_ext x t; finishes = finish_ext x t is_finish refl; whole = whole_ext x t; quiet = quiet }
+      refused = record { begins = open_extends (x.begins t); works = act_ext x t; finishes = finish_ext x t is_finish refl; whole = whole_ext x t; quiet = quiet }
 
       refused_there : RefusedClaim pod d.process a.dir.trace d.trace d'.trace b.dir.trace
       refused_there =
@@ -136,23 +138,23 @@ module _ (pod : PodId) (now : ℕ) (draw : Draw) (a b : Inside) (answer : Answer
           (subst (λ (h : List Event). RefusedClaim pod d.process a.dir.trace h x.ended.trace b.dir.trace) (from_is x t d d' x.came.begins x.came.ends)
           (subst (λ (p : ℕ). RefusedClaim pod p a.dir.trace x.begun.trace x.ended.trace b.dir.trace) (me_is x t d d' x.came.begins x.came.ends) refused))
 
-      by : ClaimsAndRuns x.begun.observed a.spawner.observed pod d d' a.spawner.shown b.spawner.shown answer ⊎ IsUnclaimed x.begun.observed pod d d' a.spawner.shown b.spawner.shown answer → PassesQuietly pod a.dir b.dir (outcome_of answer)
+      by : ClaimsAndRuns x.begun.observed a.spawner.observed pod address d d' a.spawner.shown b.spawner.shown answer ⊎ IsUnclaimed x.begun.observed pod d d' a.spawner.shown b.spawner.shown answer → PassesQuietly pod a.dir b.dir (outcome_of answer)
       by (inl c) =
-          let passed = run_prepared_passed x.begun.observed a.spawner.observed pod d d' a.spawner.shown b.spawner.shown answer (seen x t d d' x.came.begins x.came.ends) a.dir.trace b.dir.trace (ext x t d d' x.came.begins x.came.ends) (alone x t d d' x.came.begins x.came.ends quiet)
+          let passed = run_prepared_passed x.begun.observed a.spawner.observed pod address d d' a.spawner.shown b.spawner.shown answer (seen x t d d' x.came.begins x.came.ends) a.dir.trace b.dir.trace (ext x t d d' x.came.begins x.came.ends) (alone x t d d' x.came.begins x.came.ends quiet)
           (first x t d d' x.came.begins x.came.ends) (finish x t d d' x.came.begins x.came.ends) c (c.then (seen x t d d' x.came.begins x.came.ends)) in
           of_passed pod a.dir b.dir answer passed
           (λ told is. run_prepared_ends x.begun.observed a.spawner.observed d d' a.spawner.shown b.spawner.shown told (seen x t d d' x.came.begins x.came.ends) a.dir.trace b.dir.trace (alone x t d d' x.came.begins x.came.ends quiet)
-          its_intent (begin_there x t d d' x.came.begins x.came.ends) (stays x t d d' x.came.begins x.came.ends) (finish x t d d' x.came.begins x.came.ends) pod (ext x t d d' x.came.begins x.came.ends)
-          (subst (λ (z : Answer). ClaimsAndRuns x.begun.observed a.spawner.observed pod d d' a.spawner.shown b.spawner.shown z) is c) passed)
-          (λ r is. claimed_refusal r (subst (λ (z : Answer). ClaimsAndRuns x.begun.observed a.spawner.observed pod d d' a.spawner.shown b.spawner.shown z) is c))
+          (approach_of word) its_intent (begin_there x t d d' x.came.begins x.came.ends) (stays x t d d' x.came.begins x.came.ends) (finish x t d d' x.came.begins x.came.ends) pod address (ext x t d d' x.came.begins x.came.ends)
+          (subst (λ (z : Answer). ClaimsAndRuns x.begun.observed a.spawner.observed pod address d d' a.spawner.shown b.spawner.shown z) is c) passed)
+          (λ r is. claimed_refusal r (subst (λ (z : Answer). ClaimsAndRuns x.begun.observed a.spawner.observed pod address d d' a.spawner.shown b.spawner.shown z) is c))
       by (inr c) =
-          let u = run_prepared_unclaimed x.begun.observed a.spawner.observed pod d d' a.spawner.shown b.spawner.shown answer (seen x t d d' x.came.begins x.came.ends) a.dir.trace b.dir.trace refused_there
+          let u = run_prepared_unclaimed x.begun.observed a.spawner.observed pod address d d' a.spawner.shown b.spawner.shown answer (seen x t d d' x.came.begins x.came.ends) a.dir.trace b.dir.trace refused_there
           (subst (λ (p : ℕ). OwnsNothing p (state_after a.dir.trace).namespace) (me_is x t d d' x.came.begins x.came.ends) idle)
           (just_begun its_intent, knows_there x t d d' x.came.begins x.came.ends, may_begin its_intent refl) c in
           subst (λ (z : Answer). PassesQuietly pod a.dir b.dir (outcome_of z)) (sym c.is)
           (of_refused pod a.dir b.dir (claim_refusal pod c.error) c.error refl (subst (λ (p : ℕ). UnclaimedFor pod c.error p a.dir.trace b.dir.trace) (sym (me_is x t d d' x.came.begins x.came.ends)) u))
 
-  pub passes : CameBetween (RunPrepared pod) now draw (Some its_intent) a b answer → PassesQuietly pod a.dir b.dir (outcome_of answer)
+  pub passes : CameBetween (RunPrepared word pod address) now draw (Some its_intent) a b answer → PassesQuietly pod a.dir b.dir (outcome_of answer)
   passes (inl x) = passed_in x
   passes (inr x) = subst (λ (z : Answer). PassesQuietly pod a.dir b.dir (outcome_of z)) (sym x.0) tt
 
@@ -160,12 +162,12 @@ module _ (pod : PodId) (now : ℕ) (draw : Draw) (a b : Inside) (answer : Answer
 ok_not_err : {X : Type 0} (told : Told) (r : Refusal) → ◌≡◌ {A = Answer} (Ok told) (Err r) → X
 ok_not_err told r is = cc
 
-module _ (words : List (List ℕ)) (now : ℕ) (draw : Draw) (a b : Inside) (t : a.dir.observed ≡ true) (quiet : Quiet a.dir.process a.dir.trace b.dir.trace) where
+module _ (address : List ℕ) (wants : Wants) (now : ℕ) (draw : Draw) (a b : Inside) (t : a.dir.observed ≡ true) (quiet : Quiet a.dir.process a.dir.trace b.dir.trace) where
   abbrev new_intent : Intent
   new_intent = intent_for kind.Run [] now draw
 
   abbrev MadeIn : Answer → Type 0
-  MadeIn answer = WithinProcess (makes_and_runs draw.uuid) (λ p q. RunIsTold words now draw p q answer) new_intent a b
+  MadeIn answer = WithinProcess directly (makes_and_runs draw.uuid) (λ p q. RunIsTold wants address now draw p q answer) new_intent a b
 
   -- the pod of a run, whatever came of it
   module _ {answer : Answer} (x : MadeIn answer) where
@@ -187,38 +189,38 @@ module _ (words : List (List ℕ)) (now : ℕ) (draw : Draw) (a b : Inside) (t :
     knows : Knows d (at_work new_intent [] nothing_made)
     knows = let k = knows_there x t d d' x.came.begins x.came.ends in record { tied = k.tied; handles = k.handles }
 
-    left : MakesAndRuns x.begun.observed a.spawner.observed words now draw d d' a.spawner.shown b.spawner.shown answer → IsConforming b.dir.trace → HasMadeAndLeft words d.process draw.uuid a.dir.trace b.dir.trace
+    left : MakesAndRuns x.begun.observed a.spawner.observed wants address now draw d d' a.spawner.shown b.spawner.shown answer → IsConforming b.dir.trace → HasMadeAndLeft wants d.process draw.uuid a.dir.trace b.dir.trace
     left m conforming =
-        run_made_left x.begun.observed a.spawner.observed words now draw d d' a.spawner.shown b.spawner.shown answer sees a.dir.trace b.dir.trace (ext x t d d' x.came.begins x.came.ends) (alone x t d d' x.came.begins x.came.ends quiet)
+        run_made_left x.begun.observed a.spawner.observed wants address now draw d d' a.spawner.shown b.spawner.shown answer sees a.dir.trace b.dir.trace (ext x t d d' x.came.begins x.came.ends) (alone x t d d' x.came.begins x.came.ends quiet)
         (first x t d d' x.came.begins x.came.ends) (finish x t d d' x.came.begins x.came.ends) new_intent began knows m (m.then sees) conforming
 
-    there : HasMadeAndLeft words d.process draw.uuid a.dir.trace b.dir.trace → HasMadeAndLeft words a.dir.process draw.uuid a.dir.trace b.dir.trace
-    there h = subst (λ (p : ℕ). HasMadeAndLeft words p draw.uuid a.dir.trace b.dir.trace) (sym mine) h
+    there : HasMadeAndLeft wants d.process draw.uuid a.dir.trace b.dir.trace → HasMadeAndLeft wants a.dir.process draw.uuid a.dir.trace b.dir.trace
+    there h = subst (λ (p : ℕ). HasMadeAndLeft wants p draw.uuid a.dir.trace b.dir.trace) (sym mine) h
 
     begins : Extends is_begin a.dir.process a.dir.trace d.trace
-    begins = subst (λ (h : List Event). Extends is_begin a.dir.process a.dir.trace h) (from_is x t d d' x.came.begins x.came.ends) (begin_ext x t is_begin refl)
+    begins = subst (λ (h : List Event). Extends is_begin a.dir.process a.dir.trace h) (from_is x t d d' x.came.begins x.came.ends) (begin_ext x t is_begin refl (λ r h. cc))
 
     ends : Extends is_finish a.dir.process d'.trace b.dir.trace
     ends = subst (λ (h : List Event). Extends is_finish a.dir.process h b.dir.trace) (to_is x t d d' x.came.begins x.came.ends) (finish_ext x t is_finish refl)
 
-  made_in : (told : Told) → MadeIn (Ok told) → LeavesMade words now draw a.dir b.dir (Ok told.text)
+  made_in : (told : Told) → MadeIn (Ok told) → LeavesMade wants now draw a.dir b.dir (Ok told.text)
   made_in told x = by x.came.so
     where
-      by : NewRunSays x.begun.observed a.spawner.observed words now draw (d x) (d' x) a.spawner.shown b.spawner.shown (Ok told) → LeavesMade words now draw a.dir b.dir (Ok told.text)
+      by : NewRunSays x.begun.observed a.spawner.observed wants address now draw (d x) (d' x) a.spawner.shown b.spawner.shown (Ok told) → LeavesMade wants now draw a.dir b.dir (Ok told.text)
       by (inl m) conforming =
           let h = left x m conforming in (
             there x h,
             run_ends x.begun.observed a.spawner.observed (d x) (d' x) a.spawner.shown b.spawner.shown told (sees x) a.dir.trace b.dir.trace (alone x t (d x) (d' x) x.came.begins x.came.ends quiet)
-                new_intent (begin_there x t (d x) (d' x) x.came.begins x.came.ends) (stays x t (d x) (d' x) x.came.begins x.came.ends) (finish x t (d x) (d' x) x.came.begins x.came.ends) words now draw (ext x t (d x) (d' x) x.came.begins x.came.ends) m h,
+                directly new_intent (begin_there x t (d x) (d' x) x.came.begins x.came.ends) (stays x t (d x) (d' x) x.came.begins x.came.ends) (finish x t (d x) (d' x) x.came.begins x.came.ends) wants address now draw (ext x t (d x) (d' x) x.came.begins x.came.ends) m h,
           )
       by (inr (inl u)) conforming = ok_not_err told u.is.0 u.is.1
       by (inr (inr u)) conforming = ok_not_err told NoMemory u.is
 
   -- why it was refused
   abbrev IsWhy : Refusal → Type 0
-  IsWhy r = IsRunRefusal draw.uuid r × (IsConforming b.dir.trace → HasMadeAndLeft words a.dir.process draw.uuid a.dir.trace b.dir.trace) ⊎ IsUnmadeFor words now draw a.dir b.dir r
+  IsWhy r = IsRunRefusal draw.uuid r × (IsConforming b.dir.trace → HasMadeAndLeft wants a.dir.process draw.uuid a.dir.trace b.dir.trace) ⊎ IsUnmadeFor wants now draw a.dir b.dir r
 
-  of_why : (r : Refusal) → (r ≡ NoMemory) ⊎ IsWhy r → LeavesMade words now draw a.dir b.dir (Err r)
+  of_why : (r : Refusal) → (r ≡ NoMemory) ⊎ IsWhy r → LeavesMade wants now draw a.dir b.dir (Err r)
   of_why NoMemory why = tt
   of_why r (inl is) = cc
   of_why r (inr why) = why
@@ -226,26 +228,26 @@ module _ (words : List (List ℕ)) (now : ℕ) (draw : Draw) (a b : Inside) (t :
   refused_in : (r : Refusal) → MadeIn (Err r) → (r ≡ NoMemory) ⊎ IsWhy r
   refused_in r x = by x.came.so
     where
-      by : NewRunSays x.begun.observed a.spawner.observed words now draw (d x) (d' x) a.spawner.shown b.spawner.shown (Err r) → (r ≡ NoMemory) ⊎ IsWhy r
+      by : NewRunSays x.begun.observed a.spawner.observed wants address now draw (d x) (d' x) a.spawner.shown b.spawner.shown (Err r) → (r ≡ NoMemory) ⊎ IsWhy r
       by (inl m) = elim (made_refusal r m) [ inl is ↦ inl is | inr one ↦ inr (inl (one, λ conforming. there x (left x m conforming))) ]
       by (inr (inl u)) = elim (unmade_refusal a.dir b.dir x.told (sees x) (sym (mine x)) (stays x t (d x) (d' x) x.came.begins x.came.ends) (whole_ext x t) quiet (begins x) (ends x) new_intent (began x) (knows x) r u) [ inl is ↦ inl is | inr why ↦ inr (inr why) ]
       by (inr (inr u)) = inl (same_refusal r NoMemory u.is)
 
-  pub made : (answer : Answer) → CameBetween (Run words) now draw (Some new_intent) a b answer → LeavesMade words now draw a.dir b.dir (outcome_of answer)
+  pub made : (answer : Answer) → CameBetween (Run wants address) now draw (Some new_intent) a b answer → LeavesMade wants now draw a.dir b.dir (outcome_of answer)
   made (Ok told) (inl x) = made_in told x
   made (Ok told) (inr x) = ok_not_err told NoMemory x.0
   made (Err r) (inl x) = of_why r (refused_in r x)
   made (Err r) (inr x) = of_why r (inl (same_refusal r NoMemory x.0))
 
 -- what a command that starts apps comes to
-abbrev pub RunsQuietly : Line → ℕ → Draw → DirSeen → DirSeen → Outcome → Type 0
-RunsQuietly (RunPrepared pod) now draw old new o = PassesQuietly pod old new o
-RunsQuietly (Run words) now draw old new o = LeavesMade words now draw old new o
+abbrev pub RunsQuietly : Task → ℕ → Draw → DirSeen → DirSeen → Outcome → Type 0
+RunsQuietly (RunPrepared word pod address) now draw old new o = PassesQuietly pod old new o
+RunsQuietly (Run wants address) now draw old new o = LeavesMade wants now draw old new o
 RunsQuietly line now draw old new o = Unit {0}
 
 -- of each command
-pub runs_quietly : (line : Line) (now : ℕ) (draw : Draw) (a b : Inside) (answer : Answer) → (runs_apps line ≡ true → a.dir.observed ≡ true) → (runs_apps line ≡ true → Quiet a.dir.process a.dir.trace b.dir.trace) →
+pub runs_quietly : (line : Task) (now : ℕ) (draw : Draw) (a b : Inside) (answer : Answer) → (runs_apps line ≡ true → a.dir.observed ≡ true) → (runs_apps line ≡ true → Quiet a.dir.process a.dir.trace b.dir.trace) →
     (runs_apps line ≡ true → OwnsNothing a.dir.process (state_after a.dir.trace).namespace) → CameBetween line now draw (intent_of line now draw) a b answer → RunsQuietly line now draw a.dir b.dir (outcome_of answer)
-runs_quietly (RunPrepared pod) now draw a b answer t quiet idle came = passes pod now draw a b answer (t refl) (quiet refl) (idle refl) came
-runs_quietly (Run words) now draw a b answer t quiet idle came = made words now draw a b (t refl) (quiet refl) answer came
+runs_quietly (RunPrepared word pod address) now draw a b answer t quiet idle came = passes word address pod now draw a b answer (t refl) (quiet refl) (idle refl) came
+runs_quietly (Run wants address) now draw a b answer t quiet idle came = made address wants now draw a b (t refl) (quiet refl) answer came
 runs_quietly line now draw a b answer t quiet idle came = tt

@@ -11,14 +11,17 @@ use Rattle.dir_model.specs.State.{empty_state, has_begun}
 use Rattle.dir_model.specs.Trace.{state_after, state_next, states_next}
 use Rattle.dir_model.specs.Calls.{CallStep, TookPlace, LeftNothing, Extends, IsRun, event}
 use Rattle.dir_model.specs.Quiet.{Quiet, OwnsNothing}
-use Rattle.dir_model.proofs.Lists.{all_left, same_rest}
+use Rattle.dir_model.proofs.Lists.{all_left, or_last, same_rest}
 use Rattle.dir_model.proofs.Allowed.{allowed_step}
 use Rattle.dir_model.proofs.Chains.{step_extends, and_more, nothing_yet, extends_wider, state_after-push, states_next-append, run_before, run-left, run_from-right}
 use Rattle.dir_model.proofs.Begun.{unborn_owns_nothing, silent_before}
 use Rattle.dir_model.proofs.Quiet.{quiet_within}
-use Rattle.rkt_cli.specs.declared.line.Line.{Line}
+use Rattle.rkt_cli.specs.Tasks.{Task}
 use Rattle.command_outcomes.specs.Moments.{Outside, Outcome}
-use Rattle.rkt_cli.specs.Commands.{asks}
+use Rattle.rkt_cli.specs.Commands.{approach_in, looks, asks}
+use Rattle.commands.specs.Opening.{Approach, directly, Looks, looks_by, Opens}
+use Rattle.commands.proofs.OwnSteps.{in_process, asks_in_process, lists_in_process}
+use Rattle.commands.proofs.Starts.{look_extends, look_lists, opening_extends}
 use Rattle.rkt_cli.specs.Runs.{InProcess}
 
 late_never : {X : Type 0} {me : ℕ} {before new : List Event} {intent : Intent} → LeftNothing before me (Begin intent) Done new → X
@@ -67,32 +70,64 @@ module _ (me : ℕ) (old new : List Event) (intent : Intent) (s : CallStep me ol
 abbrev pub any_call : Request → Bool
 any_call r = true
 
-module _ {line : Line} {now : ℕ} {draw : Draw} {intent : Intent} {old new : Outside} {o : Outcome} (s : InProcess line now draw intent old new o) (t : old.dir.observed ≡ true) where
-  pub begin_part : (asked : Request → Bool) → asked (Begin intent) ≡ true → Extends asked old.dir.process old.dir.trace s.begun.dir.trace
-  begin_part asked is = step_extends asked old.dir.process old.dir.trace (Begin intent) Done s.begun.dir.trace is (s.begins t)
+-- a command that comes to its pod directly lists nothing for it
+pub no_looks : (task : Task) {X : Type 0} → approach_in task ≡ directly → (r : Request) → looks task r ≡ true → X
+no_looks task direct r h = let clash : true ≡ false = sym h ∙ ap (λ (a : Approach). looks_by a r) direct in cc
 
-  pub act_part : Extends (asks line now draw) old.dir.process s.begun.dir.trace s.ended.dir.trace
-  act_part = subst (λ (p : ℕ). Extends (asks line now draw) p s.begun.dir.trace s.ended.dir.trace) s.me (s.ran.extends (s.told ∙ t))
+module _ {task : Task} {now : ℕ} {draw : Draw} {intent : Intent} {old new : Outside} {o : Outcome} (s : InProcess task now draw intent old new o) (t : old.dir.observed ≡ true) where
+  pub begin_part : (asked : Request → Bool) → asked (Begin intent) ≡ true → ((r : Request) → looks task r ≡ true → asked r ≡ true) → Extends asked old.dir.process old.dir.trace s.begun.dir.trace
+  begin_part asked is wider = opening_extends is wider (s.begins t)
+
+  -- whatever it asked for
+  pub begin_any : Extends any_call old.dir.process old.dir.trace s.begun.dir.trace
+  begin_any = begin_part any_call refl (λ r h. refl)
+
+  pub act_part : Extends (asks task now draw) old.dir.process s.begun.dir.trace s.ended.dir.trace
+  act_part = subst (λ (p : ℕ). Extends (asks task now draw) p s.begun.dir.trace s.ended.dir.trace) s.me (s.ran.extends (s.told ∙ t))
 
   pub finish_part : (asked : Request → Bool) → asked Finish ≡ true → Extends asked old.dir.process s.ended.dir.trace new.dir.trace
   finish_part asked is = step_extends asked old.dir.process s.ended.dir.trace Finish Done new.dir.trace is (subst (λ (p : ℕ). CallStep p s.ended.dir.trace Finish Done new.dir.trace) (s.ran.same ∙ s.me) (s.finishes t))
 
   -- the three together
-  pub all_parts : (asked : Request → Bool) → asked (Begin intent) ≡ true → ((r : Request) → asks line now draw r ≡ true → asked r ≡ true) → asked Finish ≡ true → Extends asked old.dir.process old.dir.trace new.dir.trace
-  all_parts asked begins wider finishes = and_more (and_more (begin_part asked begins) refl (extends_wider wider act_part)) refl (finish_part asked finishes)
+  pub all_parts : (asked : Request → Bool) → asked (Begin intent) ≡ true → ((r : Request) → looks task r ≡ true → asked r ≡ true) → ((r : Request) → asks task now draw r ≡ true → asked r ≡ true) → asked Finish ≡ true → Extends asked old.dir.process old.dir.trace new.dir.trace
+  all_parts asked begins looks wider finishes = and_more (and_more (begin_part asked begins looks) refl (extends_wider wider act_part)) refl (finish_part asked finishes)
+
+  -- as requests of a process
+  pub all_in_process : Extends (in_process (asks task now draw)) old.dir.process old.dir.trace new.dir.trace
+  all_in_process =
+      all_parts (in_process (asks task now draw)) refl (λ r h. lists_in_process (asks task now draw) r (look_lists (approach_in task) r h)) (asks_in_process (asks task now draw)) (or_last (asks task now draw Finish) true refl)
 
   -- nobody else stepped at the begin, nor meanwhile
   pub quiet_begin : Quiet old.dir.process old.dir.trace new.dir.trace → Quiet old.dir.process old.dir.trace s.begun.dir.trace
   quiet_begin q =
-      let first = begin_part any_call refl in
-      quiet_within q (nothing_yet {asks = any_call}) (and_more (extends_wider {asks = asks line now draw} {asks' = any_call} (λ r h. refl) act_part) refl (finish_part any_call refl)) first.more first.grown
+      let first = begin_any in
+      quiet_within q (nothing_yet {asks = any_call}) (and_more (extends_wider {asks = asks task now draw} {asks' = any_call} (λ r h. refl) act_part) refl (finish_part any_call refl)) first.more first.grown
 
   pub quiet_act : Quiet old.dir.process old.dir.trace new.dir.trace → Quiet old.dir.process s.begun.dir.trace s.ended.dir.trace
-  quiet_act q = quiet_within q (begin_part any_call refl) (finish_part any_call refl) act_part.more act_part.grown
+  quiet_act q = quiet_within q begin_any (finish_part any_call refl) act_part.more act_part.grown
 
-  -- the state is then the same, but that this process has begun
-  pub state_begun : Quiet old.dir.process old.dir.trace new.dir.trace → state_after s.begun.dir.trace ≡ state_next (state_after old.dir.trace) (event old.dir.process (Begin intent) Done)
-  state_begun q = ap state_after (began_alone old.dir.process old.dir.trace s.begun.dir.trace intent (s.begins t) (quiet_begin q)) ∙ state_after-push old.dir.trace (event old.dir.process (Begin intent) Done)
+  -- nobody else stepped at the begin, nor while it looked for its pod
+  abbrev pub opening : Opens (approach_in task) intent old.dir.process old.dir.trace s.begun.dir.trace
+  opening = s.begins t
+
+  abbrev first_part : Extends any_call old.dir.process old.dir.trace opening.first
+  first_part = step_extends any_call old.dir.process old.dir.trace (Begin intent) Done opening.first refl opening.begins
+
+  abbrev look_part : Extends any_call old.dir.process opening.first s.begun.dir.trace
+  look_part = extends_wider (λ r h. refl) (look_extends (approach_in task) opening.looks)
+
+  pub quiet_first : Quiet old.dir.process old.dir.trace new.dir.trace → Quiet old.dir.process old.dir.trace opening.first
+  quiet_first q = quiet_within (quiet_begin q) (nothing_yet {asks = any_call}) look_part first_part.more first_part.grown
+
+  pub quiet_look : Quiet old.dir.process old.dir.trace new.dir.trace → Quiet old.dir.process opening.first s.begun.dir.trace
+  quiet_look q = quiet_within (quiet_begin q) first_part (nothing_yet {asks = any_call}) look_part.more look_part.grown
+
+  pub state_first : Quiet old.dir.process old.dir.trace new.dir.trace → state_after opening.first ≡ state_next (state_after old.dir.trace) (event old.dir.process (Begin intent) Done)
+  state_first q = ap state_after (began_alone old.dir.process old.dir.trace opening.first intent opening.begins (quiet_first q)) ∙ state_after-push old.dir.trace (event old.dir.process (Begin intent) Done)
+
+  -- where it came to its pod directly, the state is then the same, but that this process has begun
+  pub state_begun : approach_in task ≡ directly → Quiet old.dir.process old.dir.trace new.dir.trace → state_after s.begun.dir.trace ≡ state_next (state_after old.dir.trace) (event old.dir.process (Begin intent) Done)
+  state_begun is q = ap state_after (subst (λ (a : Approach). Looks a old.dir.process opening.first s.begun.dir.trace) is opening.looks) ∙ state_first q
 
   pub idle : Quiet old.dir.process old.dir.trace new.dir.trace → OwnsNothing old.dir.process (state_after old.dir.trace).namespace
-  idle q = held_nothing old.dir.process old.dir.trace s.begun.dir.trace intent (s.begins t) (quiet_begin q)
+  idle q = held_nothing old.dir.process old.dir.trace opening.first intent opening.begins (quiet_first q)

@@ -23,9 +23,9 @@ use Rattle.commands.specs.Kept.{KeepsRefused}
 use Rattle.commands.specs.ImageImport.{image_import_refusal, ImageImportSays}
 use Rattle.commands.specs.ImageRm.{image_rm_refusal, ImageRmSays}
 use Rattle.commands.specs.ImageGc.{image_gc_refusal, ImageGcSays}
-use Rattle.rkt_cli.specs.declared.line.Line.{Line}
+use Rattle.rkt_cli.specs.Tasks.{Task}
 use Rattle.rkt_cli.proofs.Ran.{ran}
-use Rattle.rkt_cli.specs.declared.line.Line.TheVariants.{ImageImport, ImageRm, ImageGc}
+use Rattle.rkt_cli.specs.Tasks.{ImageImport, ImageRm, ImageGc}
 use Rattle.commands.specs.Command.{intent_for}
 use Rattle.rkt_cli.specs.Commands.{intent_of, may}
 use Rattle.rkt_cli.specs.Runs.{CommandRan}
@@ -45,12 +45,12 @@ import_end : (path : List ℕ) (o : Outcome) → IfErr o (λ r. image_import_ref
 import_end path (Ok text) known = known
 import_end path (Err r) known = import_may path r known
 
-pub import_ran : (line : Line) (now : ℕ) (draw : Draw) (path : List ℕ) (observed : Bool) (a b : DirAt) (before after : BundleSeen) (o : Outcome) → line ≡ ImageImport path →
+pub import_ran : (line : Task) (now : ℕ) (draw : Draw) (path : List ℕ) (observed : Bool) (a b : DirAt) (before after : BundleSeen) (o : Outcome) → line ≡ ImageImport path →
     Worked observed (imports_at (building_spot draw.uuid)) a b → (IsErrOf o DirFault → Rose a.faults b.faults) → before.faults ≤ after.faults → (IsErrOf o BundleFault → Rose before.faults after.faults) →
     IfErr o (λ r. image_import_refusal r ≡ true) → ImageImportSays path now draw.uuid (beside (seen_at observed a) before) (beside (seen_at observed b) after) o →
     CommandRan line now draw (beside (seen_at observed a) before) (beside (seen_at observed b) after) o
 import_ran line now draw path observed a b before after o is worked cause faults bundle_cause known says =
-    subst (λ (l : Line). CommandRan l now draw (beside (seen_at observed a) before) (beside (seen_at observed b) after) o) (sym is) whole
+    subst (λ (l : Task). CommandRan l now draw (beside (seen_at observed a) before) (beside (seen_at observed b) after) o) (sym is) whole
   where
     whole : CommandRan (ImageImport path) now draw (beside (seen_at observed a) before) (beside (seen_at observed b) after) o
     whole = record {
@@ -98,12 +98,12 @@ sweep_may NoMemory known = known
 sweep_may DirFault known = known
 sweep_may r known = known
 
-pub removal_ran : (line : Line) (now : ℕ) (draw : Draw) (key : StoreKey) (observed : Bool) (a b : DirAt) (bundle : BundleSeen) (o : Outcome) → line ≡ ImageRm key → Worked observed (removes_at key draw.uuid) a b →
+pub removal_ran : (line : Task) (now : ℕ) (draw : Draw) (key : StoreKey) (observed : Bool) (a b : DirAt) (bundle : BundleSeen) (o : Outcome) → line ≡ ImageRm key → Worked observed (removes_at key draw.uuid) a b →
     (IsErrOf o DirFault → Rose a.faults b.faults) → IfErr o (λ r. image_rm_refusal r ≡ true) → ImageRmSays key draw.uuid (seen_at observed a) (seen_at observed b) o → KeepsRefused (seen_at observed a) (seen_at observed b) o →
     CommandRan line now draw (beside (seen_at observed a) bundle) (beside (seen_at observed b) bundle) o
 removal_ran line now draw key observed a b bundle o is worked cause known says kept = ran (ImageRm key) image_rm_refusal refl (removal_may key) line now draw observed a b bundle o is refl worked cause known (says, kept)
 
-pub sweep_ran : (line : Line) (now : ℕ) (draw : Draw) (observed : Bool) (a b : DirAt) (bundle : BundleSeen) (o : Outcome) → line ≡ ImageGc → Worked observed sweeps a b →
+pub sweep_ran : (line : Task) (now : ℕ) (draw : Draw) (observed : Bool) (a b : DirAt) (bundle : BundleSeen) (o : Outcome) → line ≡ ImageGc → Worked observed sweeps a b →
     (IsErrOf o DirFault → Rose a.faults b.faults) → IfErr o (λ r. image_gc_refusal r ≡ true) → ImageGcSays (seen_at observed a) (seen_at observed b) o →
     CommandRan line now draw (beside (seen_at observed a) bundle) (beside (seen_at observed b) bundle) o
 sweep_ran line now draw observed a b bundle o is worked cause known says = ran ImageGc image_gc_refusal refl sweep_may line now draw observed a b bundle o is refl worked cause known says

@@ -1,5 +1,5 @@
 -- What a run tells with its status, command by command.
-use Rattle.std.proofs.Common.{◌≡◌, ◌⊎◌, inl, inr, ℕ, true, false, List, [], append-nil, Option, Some, None, Ok, Err, IsOk, refl, sym, ap, subst, ◌∙◌}
+use Rattle.std.proofs.Common.{not, ◌≡◌, ◌⊎◌, inl, inr, ℕ, true, false, List, [], append-nil, Option, Some, None, Ok, Err, IsOk, refl, sym, ap, subst, ◌∙◌}
 use Rattle.ac_types.specs.declared.store_key.StoreKey.{StoreKey}
 use Rattle.dir_model.specs.declared.event.Event.{Event}
 use Rattle.dir_model.specs.declared.intent.Draw.{Draw}
@@ -14,11 +14,11 @@ use Rattle.command_outcomes.specs.Moments.{DirSeen, Outside, Moment, Outcome}
 use Rattle.command_outcomes.specs.Texts.{status_of}
 use Rattle.command_outcomes.specs.declared.refusal.Refusal.{Refusal}
 use Rattle.folder_removal.specs.Removal.{KeptFolders}
-use Rattle.folder_removal.proofs.Keeping.{kept_call, kept_more}
+use Rattle.folder_removal.proofs.Keeping.{kept_by, kept_call, kept_more}
 use Rattle.commands.specs.Kept.{KeepsRefused, RemovesNoneUnlessDone}
 use Rattle.lifecycle.specs.Executions.{IsConforming}
 use Rattle.commands.specs.Answers.{IsAnswer, WritesOf}
-use Rattle.commands.specs.GcCommand.{its_times, TellsGc}
+use Rattle.commands.specs.GcCommand.{TellsGc}
 use Rattle.commands.specs.ImageGcCommand.{TellsImageGc}
 use Rattle.commands.specs.ImageImportCommand.{IsBundleJudgement, TellsImport}
 use Rattle.commands.specs.ImageListCommand.{TellsImages}
@@ -30,10 +30,9 @@ use Rattle.commands.specs.StatusCommand.{TellsPhase, TellsStatus}
 use Rattle.commands.specs.Texts.{state_text}
 use Rattle.commands.specs.Validate.{sequential_validate}
 use Rattle.commands.specs.ValidateCommand.{TellsJudgement}
-use Rattle.rkt_cli.specs.declared.line.Line.{Line}
-use Rattle.rkt_cli.specs.declared.line.Line.TheVariants.{Status, Validate, ImageList, ImageImport, ImageRm, ImageGc, Prepare, RunPrepared, Run, Rm, Gc}
+use Rattle.rkt_cli.specs.Tasks.{Task}
+use Rattle.rkt_cli.specs.Tasks.{Status, Validate, ImageList, ImageImport, ImageRm, ImageGc, Prepare, RunPrepared, Run, Rm, Gc}
 use Rattle.rkt_cli.specs.Commands.{command_in, intent_of, runs_apps}
-use Rattle.rkt_cli.specs.Promises.{TellsIn}
 use Rattle.rkt_cli.specs.Runs.{InProcess, Performs, Printed, Reported, End, Unwritten, end_status, RunOf, RunOfLine, RunIs}
 use Rattle.rkt_cli.proofs.BundleJudged.{import_judged}
 use Rattle.rkt_cli.proofs.Completing.{rm_ends, claim_ends}
@@ -48,11 +47,19 @@ use Rattle.rkt_cli.proofs.PodRemovals.{gc_done, rm_done, rm_printed}
 use Rattle.commands.specs.ImageGc.{HasEndedEarly}
 use Rattle.commands.specs.ImageRm.{removed_text, HasRemoved}
 use Rattle.rkt_cli.proofs.Removals.{removal_done, removal_printed, sweep_done, sweep_failed}
-use Rattle.rkt_cli.proofs.Sessions.{any_call, begin_part, finish_part}
+use Rattle.rkt_cli.proofs.Sessions.{any_call, begin_any, finish_part}
 use Rattle.lifecycle.proofs.Draws.{conforming_left}
 use Rattle.phase_read.proofs.Exact.{was_within}
 use Rattle.commands.proofs.RmQuiet.{rm_removed}
 use Rattle.commands.proofs.GcFrom.{gc_deleted}
+use Rattle.commands.specs.Wants.{Wants}
+use Rattle.commands.specs.Opening.{Approach, Opens, opens}
+use Rattle.commands.proofs.Starts.{open_extends}
+use Rattle.folder_removal.specs.Removal.{removes_folder}
+use Rattle.dir_model.specs.declared.request.Request.{Request}
+use Rattle.dir_model.specs.declared.request.Request.TheVariants.{RemoveFolder}
+use Rattle.dir_model.specs.declared.request.Reply.{Reply}
+use Rattle.commands.specs.Gc.{times_of}
 
 abbrev IsJudged : List ℕ → ℕ → Moment → Moment → Type 0
 IsJudged path status old new =
@@ -76,6 +83,14 @@ judgement_of path now draw intent (Err (NoFile named)) old new end status t p pr
 judgement_of path now draw intent (Err r) old new end status t p printed said is = judged_own path now draw intent (Err r) old new end status refl t p printed said is
 judgement_of path now draw intent (Ok text) old new end status t p printed said is = judged_own path now draw intent (Ok text) old new end status refl t p printed said is
 
+-- a begin and a look remove no folder
+spares : (r : Request) (reply : Reply) → opens r ≡ true → not (removes_folder r reply) ≡ true
+spares (RemoveFolder spot) reply h = cc
+spares r reply h = refl
+
+kept_opening : {approach : Approach} {intent : Intent} {me : ℕ} {old new : List Event} → Opens approach intent me old new → KeptFolders me old new
+kept_opening o = kept_by spares (open_extends o)
+
 -- what a command `status` read, and that it was so
 pub record WasRead (pod : PodId) (me : ℕ) (old new : List Event) (o : Outcome) : Type 0 where
   pub found : Found
@@ -83,12 +98,12 @@ pub record WasRead (pod : PodId) (me : ℕ) (old new : List Event) (o : Outcome)
   pub so : WasSo me old new pod found
 
 module _ (pod : PodId) (now : ℕ) (draw : Draw) (old new : Outside) (t : old.dir.observed ≡ true) (conforming : IsConforming new.dir.trace) where
-  status_read : (intent : Option Intent) (o : Outcome) → is_own_end o ≡ true → Performs (Status pod) now draw intent old new o → WasRead pod old.dir.process old.dir.trace new.dir.trace o
-  status_read None o own p = let clash : true ≡ false = p.apart in cc
-  status_read (Some intent) o own (inr n) = let clash : true ≡ false = sym own ∙ ap is_own_end n.is in cc
-  status_read (Some intent) o own (inl s) =
+  status_read : (word : List ℕ) (intent : Option Intent) (o : Outcome) → is_own_end o ≡ true → Performs (Status word pod) now draw intent old new o → WasRead pod old.dir.process old.dir.trace new.dir.trace o
+  status_read word None o own p = let clash : true ≡ false = p.apart in cc
+  status_read word (Some intent) o own (inr n) = let clash : true ≡ false = sym own ∙ ap is_own_end n.is in cc
+  status_read word (Some intent) o own (inl s) =
       let says = s.ran.says own in
-      let first = begin_part s t any_call refl in
+      let first = begin_any s t in
       let last = finish_part s t any_call refl in
       let so = says.exact (s.told ∙ t) (conforming_left s.ended.dir.trace last.more (subst IsConforming last.grown conforming)) in
       record {
@@ -107,11 +122,11 @@ tells_gone pod me old new Gone is so = so
 
 -- of a run with this status, if all apps had ended with 0
 module _ (now : ℕ) (draw : Draw) (old new : Moment) (status : ℕ) where
-  abbrev Ran : Line → Type 0
-  Ran line = RunOf (Some line) now draw old new status
+  abbrev Ran : Task → Type 0
+  Ran line = RunOf line now draw old new status
 
   -- where the status is 0, the line ran and its text was written
-  wrote : (line : Line) (P : List ℕ → Type 0) → ((text : List ℕ) → Performs line now draw (intent_of line now draw) old.outside new.outside (Ok text) → P text) → Ran line → status ≡ 0 → WritesOf P old new
+  wrote : (line : Task) (P : List ℕ → Type 0) → ((text : List ℕ) → Performs line now draw (intent_of line now draw) old.outside new.outside (Ok text) → P text) → Ran line → status ≡ 0 → WritesOf P old new
   wrote line P so (inr n) zero = absurd_number 0 14 (sym zero ∙ n.is) refl
   wrote line P so (inl r) zero =
       let done = r.printed.done (end_at r.end status 0 r.is zero refl) in
@@ -121,15 +136,15 @@ module _ (now : ℕ) (draw : Draw) (old new : Moment) (status : ℕ) where
   me = old.outside.dir.process
 
   -- a removal that wasn't done
-  abbrev Keeps : Line → Type 0
+  abbrev Keeps : Task → Type 0
   Keeps line = (intent : Intent) (o : Outcome) (s : InProcess line now draw intent old.outside new.outside o) → KeepsRefused s.begun.dir s.ended.dir o
 
-  kept_refused : (line : Line) → Keeps line → old.outside.dir.observed ≡ true → (intent : Option Intent) (r : Refusal) → Performs line now draw intent old.outside new.outside (Err r) → KeptFolders me old.outside.dir.trace new.outside.dir.trace
-  kept_refused line keeps t (Some intent) r (inl s) = kept_more (kept_call refl (s.begins t)) s.me (kept_more (keeps intent (Err r) s (s.told ∙ t)) s.ran.same (kept_call refl (s.finishes t)))
+  kept_refused : (line : Task) → Keeps line → old.outside.dir.observed ≡ true → (intent : Option Intent) (r : Refusal) → Performs line now draw intent old.outside new.outside (Err r) → KeptFolders me old.outside.dir.trace new.outside.dir.trace
+  kept_refused line keeps t (Some intent) r (inl s) = kept_more (kept_opening (s.begins t)) s.me (kept_more (keeps intent (Err r) s (s.told ∙ t)) s.ran.same (kept_call refl (s.finishes t)))
   kept_refused line keeps t (Some intent) r (inr n) = kept_call refl (n.step t)
   kept_refused line keeps t None r p = subst (λ (d : DirSeen). KeptFolders me old.outside.dir.trace d.trace) (sym p.dir) (record { more = []; grown = sym (append-nil _); kept = tt })
 
-  kept_told : (line : Line) → Keeps line → old.outside.dir.observed ≡ true → Ran line → RemovesNoneUnlessDone status old new
+  kept_told : (line : Task) → Keeps line → old.outside.dir.observed ≡ true → Ran line → RemovesNoneUnlessDone status old new
   kept_told line keeps t (inr n) = inr (inr (inr (subst (λ (x : Outside). KeptFolders me old.outside.dir.trace x.dir.trace) (sym n.outside) (record { more = []; grown = sym (append-nil _); kept = tt }))))
   kept_told line keeps t (inl r) = by r.end refl
     where
@@ -144,24 +159,24 @@ module _ (now : ℕ) (draw : Draw) (old new : Moment) (status : ℕ) where
         | inr x ↦ unwritten q (r.is ∙ ap end_status same) x
       ]
 
-  was_read : (pod : PodId) (r : RunOfLine (Status pod) now draw (intent_of (Status pod) now draw) old new status) (o : Outcome) → r.outcome ≡ o → is_own_end o ≡ true → old.outside.dir.observed ≡ true → IsConforming new.outside.dir.trace → WasRead pod me old.outside.dir.trace new.outside.dir.trace o
-  was_read pod r o is own t conforming = status_read pod now draw old.outside new.outside t conforming (intent_of (Status pod) now draw) o own (subst (λ (o : Outcome). Performs (Status pod) now draw (intent_of (Status pod) now draw) old.outside new.outside o) is r.performs)
+  was_read : {word : List ℕ} (pod : PodId) (r : RunOfLine (Status word pod) now draw (intent_of (Status word pod) now draw) old new status) (o : Outcome) → r.outcome ≡ o → is_own_end o ≡ true → old.outside.dir.observed ≡ true → IsConforming new.outside.dir.trace → WasRead pod me old.outside.dir.trace new.outside.dir.trace o
+  was_read {word = word} pod r o is own t conforming = status_read pod now draw old.outside new.outside t conforming word (intent_of (Status word pod) now draw) o own (subst (λ (o : Outcome). Performs (Status word pod) now draw (intent_of (Status word pod) now draw) old.outside new.outside o) is r.performs)
 
-  phase_told : (pod : PodId) → Ran (Status pod) → old.outside.dir.observed ≡ true → IsConforming new.outside.dir.trace → status ≡ 0 → WritesOf (TellsPhase pod me old.outside.dir.trace new.outside.dir.trace) old new
+  phase_told : {word : List ℕ} (pod : PodId) → Ran (Status word pod) → old.outside.dir.observed ≡ true → IsConforming new.outside.dir.trace → status ≡ 0 → WritesOf (TellsPhase pod me old.outside.dir.trace new.outside.dir.trace) old new
   phase_told pod (inr n) t conforming zero = absurd_number 0 14 (sym zero ∙ n.is) refl
   phase_told pod (inl r) t conforming zero =
       let done = r.printed.done (end_at r.end status 0 r.is zero refl) in
       let w = was_read pod r (Ok done.0) done.1 refl t conforming in
       (done.0, tells_phase pod me old.outside.dir.trace new.outside.dir.trace done.0 w.found w.is w.so, done.2)
 
-  nowhere_told : (pod : PodId) → Ran (Status pod) → old.outside.dir.observed ≡ true → IsConforming new.outside.dir.trace → status ≡ 2 → AtOwnEvent me old.outside.dir.trace new.outside.dir.trace (IsNowhere pod)
+  nowhere_told : {word : List ℕ} (pod : PodId) → Ran (Status word pod) → old.outside.dir.observed ≡ true → IsConforming new.outside.dir.trace → status ≡ 2 → AtOwnEvent me old.outside.dir.trace new.outside.dir.trace (IsNowhere pod)
   nowhere_told pod (inr n) t conforming two = absurd_number 2 14 (sym two ∙ n.is) refl
   nowhere_told pod (inl r) t conforming two =
       let e : r.outcome ≡ Err NoPod = from_command r.outcome old.out new.out r.end NoPod r.printed (end_at r.end status 2 r.is two refl) refl in
       let w = was_read pod r (Err NoPod) e refl t conforming in
       tells_gone pod me old.outside.dir.trace new.outside.dir.trace w.found w.is w.so
 
-  status_tells : (pod : PodId) → Ran (Status pod) → TellsStatus pod status old new
+  status_tells : {word : List ℕ} (pod : PodId) → Ran (Status word pod) → TellsStatus pod status old new
   status_tells pod r = record { phase = λ t conforming. phase_told pod r t conforming; nowhere = λ t conforming. nowhere_told pod r t conforming }
 
   validate_tells : (path : List ℕ) → Ran (Validate path) → TellsJudgement path status old new
@@ -193,46 +208,45 @@ module _ (now : ℕ) (draw : Draw) (old new : Moment) (status : ℕ) where
   sweep_tells : Ran ImageGc → TellsImageGc status old new
   sweep_tells r = record { swept = λ t. wrote ImageGc _ (λ text p. sweep_done now draw old.outside new.outside text p t) r; early = λ t. sweep_early r t }
 
-  prepare_tells : (words : List (List ℕ)) → Ran (Prepare words) → TellsPrepare words draw status old new
-  prepare_tells words r = record {
-    synced = λ t. wrote (Prepare words) _ (λ text p. (prepare_printed words now draw (intent_of (Prepare words) now draw) old.outside new.outside text p, prepare_synced words now draw old.outside new.outside text p t)) r;
-    left = λ t. pod_left now draw old new status t words r;
-    faithful = λ t conforming. wrote (Prepare words) _ (λ text p. (prepare_printed words now draw (intent_of (Prepare words) now draw) old.outside new.outside text p, prepare_faithful words now draw old.outside new.outside text p t conforming)) r;
+  prepare_tells : (wants : Wants) → Ran (Prepare wants) → TellsPrepare wants draw status old new
+  prepare_tells wants r = record {
+    synced = λ t. wrote (Prepare wants) _ (λ text p. (prepare_printed wants now draw (intent_of (Prepare wants) now draw) old.outside new.outside text p, prepare_synced wants now draw old.outside new.outside text p t)) r;
+    left = λ t. pod_left now draw old new status t wants r;
+    faithful = λ t conforming. wrote (Prepare wants) _ (λ text p. (prepare_printed wants now draw (intent_of (Prepare wants) now draw) old.outside new.outside text p, prepare_faithful wants now draw old.outside new.outside text p t conforming)) r;
   }
 
-  rm_tells : (pod : PodId) → Ran (Rm pod) → TellsRm pod status old new
-  rm_tells pod r = record {
-    removed = λ t. wrote (Rm pod) _ (λ text p. (rm_printed pod now draw (intent_of (Rm pod) now draw) old.outside new.outside text p, rm_done pod now draw (intent_of (Rm pod) now draw) old.outside new.outside text p t)) r;
-    gone = λ t conforming. wrote (Rm pod) _ (λ text p. (rm_printed pod now draw (intent_of (Rm pod) now draw) old.outside new.outside text p, rm_removed pod (rm_done pod now draw (intent_of (Rm pod) now draw) old.outside new.outside text p t) conforming)) r;
-    complete = λ t conforming free. rm_ends pod now draw old new t conforming free status r;
-    kept = λ t. kept_told (Rm pod) (λ intent o s. s.ran.says.1) t r;
+  rm_tells : {word : List ℕ} (pod : PodId) → Ran (Rm word pod) → TellsRm pod status old new
+  rm_tells {word = word} pod r = record {
+    removed = λ t. wrote (Rm word pod) _ (λ text p. (rm_printed word pod now draw (intent_of (Rm word pod) now draw) old.outside new.outside text p, rm_done word pod now draw (intent_of (Rm word pod) now draw) old.outside new.outside text p t)) r;
+    gone = λ t conforming. wrote (Rm word pod) _ (λ text p. (rm_printed word pod now draw (intent_of (Rm word pod) now draw) old.outside new.outside text p, rm_removed pod (rm_done word pod now draw (intent_of (Rm word pod) now draw) old.outside new.outside text p t) conforming)) r;
+    complete = λ t conforming free. rm_ends word pod now draw old new t conforming free status r;
+    kept = λ t. kept_told (Rm word pod) (λ intent o s. s.ran.says.1) t r;
   }
 
-  gc_tells : Ran Gc → TellsGc now status old new
-  gc_tells r = record {
-    swept = λ t. wrote Gc _ (λ text p. gc_done now draw old.outside new.outside text p t) r;
+  gc_tells : {grace : ℕ} {expire : ℕ} → Ran (Gc grace expire) → TellsGc (times_of now grace expire) status old new
+  gc_tells {grace = grace} {expire = expire} r = record {
+    swept = λ t. wrote (Gc grace expire) _ (λ text p. gc_done now draw old.outside new.outside text p t) r;
     left = λ t. sweep_left now draw old new status t r;
-    gone = λ t conforming. wrote Gc _ (λ text p. let swept = gc_done now draw old.outside new.outside text p t in record { swept = swept; deleted = gc_deleted (its_times now) swept.lines swept.swept conforming }) r;
+    gone = λ t conforming. wrote (Gc grace expire) _ (λ text p. let swept = gc_done now draw old.outside new.outside text p t in record { swept = swept; deleted = gc_deleted (times_of now grace expire) swept.lines swept.swept conforming }) r;
   }
 
 -- of each command
-pub tells : {l : Option Line} {now : ℕ} {draw : Draw} {old new : Moment} {status : ℕ} → RunIs l now draw old new status → TellsIn l now draw status old new
-tells {l} {now} {draw} {old} {new} {status} run = by l run
+pub tells : {task : Task} {now : ℕ} {draw : Draw} {old new : Moment} {status : ℕ} → RunIs task now draw old new status → (command_in task).tells now draw status old new
+tells {task} {now} {draw} {old} {new} {status} run = by task run
   where
     -- a command that starts no apps has its plain status
-    alone : (line : Line) (run : RunIs (Some line) now draw old new status) → runs_apps line ≡ false → (command_in line).tells now draw run.plain old new → (command_in line).tells now draw status old new
-    alone line run none so = subst (λ (n : ℕ). (command_in line).tells now draw n old new) (sym (unhurt (Some line) run.plain status run.is none)) so
+    alone : (task : Task) (run : RunIs task now draw old new status) → runs_apps task ≡ false → (command_in task).tells now draw run.plain old new → (command_in task).tells now draw status old new
+    alone task run none so = subst (λ (n : ℕ). (command_in task).tells now draw n old new) (sym (unhurt task run.plain status run.is none)) so
 
-    by : (l : Option Line) → RunIs l now draw old new status → TellsIn l now draw status old new
-    by None run = (run.ran.outside, run.ran.spawner, run.ran.out)
-    by (Some (Status pod)) run = alone (Status pod) run refl (status_tells now draw old new run.plain pod run.ran)
-    by (Some (Validate path)) run = alone (Validate path) run refl (validate_tells now draw old new run.plain path run.ran)
-    by (Some ImageList) run = alone ImageList run refl (list_tells now draw old new run.plain run.ran)
-    by (Some (ImageImport path)) run = alone (ImageImport path) run refl (import_tells now draw old new run.plain path run.ran)
-    by (Some (ImageRm key)) run = alone (ImageRm key) run refl (removal_tells now draw old new run.plain key run.ran)
-    by (Some ImageGc) run = alone ImageGc run refl (sweep_tells now draw old new run.plain run.ran)
-    by (Some (Prepare words)) run = alone (Prepare words) run refl (prepare_tells now draw old new run.plain words run.ran)
-    by (Some (RunPrepared pod)) run = record { apps = run.apps; complete = λ t conforming free. claim_ends pod now draw old new t conforming free run.plain status run.is run.ran }
-    by (Some (Run words)) run = run.apps
-    by (Some (Rm pod)) run = alone (Rm pod) run refl (rm_tells now draw old new run.plain pod run.ran)
-    by (Some Gc) run = alone Gc run refl (gc_tells now draw old new run.plain run.ran)
+    by : (task : Task) → RunIs task now draw old new status → (command_in task).tells now draw status old new
+    by (Status word pod) run = alone (Status word pod) run refl (status_tells now draw old new run.plain pod run.ran)
+    by (Validate path) run = alone (Validate path) run refl (validate_tells now draw old new run.plain path run.ran)
+    by ImageList run = alone ImageList run refl (list_tells now draw old new run.plain run.ran)
+    by (ImageImport path) run = alone (ImageImport path) run refl (import_tells now draw old new run.plain path run.ran)
+    by (ImageRm key) run = alone (ImageRm key) run refl (removal_tells now draw old new run.plain key run.ran)
+    by ImageGc run = alone ImageGc run refl (sweep_tells now draw old new run.plain run.ran)
+    by (Prepare wants) run = alone (Prepare wants) run refl (prepare_tells now draw old new run.plain wants run.ran)
+    by (RunPrepared word pod address) run = record { apps = run.apps; complete = λ t conforming free. claim_ends word address pod now draw old new t conforming free run.plain status run.is run.ran }
+    by (Run wants address) run = run.apps
+    by (Rm word pod) run = alone (Rm word pod) run refl (rm_tells now draw old new run.plain pod run.ran)
+    by (Gc grace expire) run = alone (Gc grace expire) run refl (gc_tells now draw old new run.plain run.ran)

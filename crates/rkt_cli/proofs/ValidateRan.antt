@@ -3,9 +3,8 @@ use Rattle.std.proofs.Common.{arith, ◌≡◌, ◌≤◌, ℕ, true, false, Lis
 use Rattle.dir_model.specs.declared.intent.Draw.{Draw}
 use Rattle.dir_model.specs.Causes.{Rose}
 use Rattle.dir_model.proofs.Chains.{nothing_yet}
-use Rattle.dir_trait.specs.declared.bundle.BundleError.TheVariants as bundle_error
-use Rattle.rkt_cli.specs.declared.line.Line.{Line}
-use Rattle.rkt_cli.specs.declared.line.Line.TheVariants.{Validate}
+use Rattle.rkt_cli.specs.Tasks.{Task}
+use Rattle.rkt_cli.specs.Tasks.{Validate}
 use Rattle.command_outcomes.specs.declared.refusal.Refusal.{Refusal}
 use Rattle.command_outcomes.specs.declared.refusal.Refusal.TheVariants.{DirFault, BundleFault, NoMemory}
 use Rattle.command_outcomes.specs.Moments.{DirSeen, BundleSeen, Outcome}
@@ -27,8 +26,8 @@ may_end : (path : List ℕ) (o : Outcome) → IfErr o (λ r. validate_refusal r 
 may_end path (Ok text) known = known
 may_end path (Err r) known = may_refuse path r known
 
-pub validate_ran : (line : Line) (now : ℕ) (draw : Draw) (path : List ℕ) (dir : DirSeen) (old new : BundleSeen) (o : Outcome) → line ≡ Validate path → old.faults ≤ new.faults → (IsErrOf o BundleFault → Rose old.faults new.faults) → IfErr o (λ r. validate_refusal r ≡ true) → ReadsFile path old new → (is_own_end o ≡ true → ValidateSays path old o) → CommandRan line now draw (beside dir old) (beside dir new) o
-validate_ran line now draw path dir old new o is faults cause known reads says = subst (λ (l : Line). CommandRan l now draw (beside dir old) (beside dir new) o) (sym is) ran
+pub validate_ran : (line : Task) (now : ℕ) (draw : Draw) (path : List ℕ) (dir : DirSeen) (old new : BundleSeen) (o : Outcome) → line ≡ Validate path → old.faults ≤ new.faults → (IsErrOf o BundleFault → Rose old.faults new.faults) → IfErr o (λ r. validate_refusal r ≡ true) → ReadsFile path old new → (is_own_end o ≡ true → ValidateSays path old o) → CommandRan line now draw (beside dir old) (beside dir new) o
+validate_ran line now draw path dir old new o is faults cause known reads says = subst (λ (l : Task). CommandRan l now draw (beside dir old) (beside dir new) o) (sym is) ran
   where
     ran : CommandRan (Validate path) now draw (beside dir old) (beside dir new) o
     ran = record {

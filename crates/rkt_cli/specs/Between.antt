@@ -7,8 +7,7 @@ use Rattle.dir_trait.specs.declared.sink.Sink.{Ghosts as SinkGhosts}
 use Rattle.spawner.specs.declared.spawning.Spawner.{Ghosts as SpawnerGhosts}
 use Rattle.rkt_cli.specs.declared.line.Line.{Line}
 use Rattle.command_outcomes.specs.Moments.{moment_at}
-use Rattle.rkt_cli.specs.Promises.{IsEnded, TellsIn, AnswersQuietly}
-use Rattle.rkt_cli.specs.Runs.{RunIs}
+use Rattle.rkt_cli.specs.Promises.{IsEnded, TellsIn, AnswersQuietly, IsRunOf}
 
 -- how it ended: done, or refused, and why
 abbrev pub EndedBetween : {D B S O E : Type 0} → DirGhosts D → BundleGhosts B → SpawnerGhosts S → SinkGhosts O → SinkGhosts E → Option Line → ℕ → Draw → ℕ → D × B × S × O × E → D × B × S × O × E → Type 0
@@ -24,4 +23,4 @@ QuietBetween d b s o e line now draw status old new = AnswersQuietly line now dr
 
 -- the run itself, from which the others follow
 abbrev pub RunBetween : {D B S O E : Type 0} → DirGhosts D → BundleGhosts B → SpawnerGhosts S → SinkGhosts O → SinkGhosts E → Option Line → ℕ → Draw → ℕ → D × B × S × O × E → D × B × S × O × E → Type 0
-RunBetween d b s o e line now draw status old new = RunIs line now draw (moment_at d b s o e old) (moment_at d b s o e new) status
+RunBetween d b s o e line now draw status old new = IsRunOf line now draw (moment_at d b s o e old) (moment_at d b s o e new) status

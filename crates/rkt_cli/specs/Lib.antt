@@ -1,7 +1,10 @@
 pub mod Lines
+pub mod Tasks
 pub mod Commands
 pub mod Spawns
 pub mod Runs
 pub mod Histories
+pub mod Lookups
 pub mod Promises
 pub mod Between
+pub mod Paths

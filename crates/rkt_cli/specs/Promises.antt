@@ -1,33 +1,44 @@
 -- What a caller is told of a run of the program.
-use Rattle.std.specs.Prelude.{◌≡◌, ◌⊎◌, ℕ, Bool, true, false, ◌||◌, ◌==◌, List, [], ◌∷◌, ◌++◌, Option, Some, None, Err}
+use Rattle.std.specs.Prelude.{◌≡◌, ◌⊎◌, ℕ, Bool, true, false, ◌||◌, ◌==◌, List, [], ◌∷◌, ◌++◌, Option, Some, None, Result, Ok, Err}
 use Rattle.std.specs.List.{list_any}
 use Rattle.dir_model.specs.declared.intent.Draw.{Draw}
 use Rattle.dir_model.specs.declared.intent.Intent.{Intent}
+use Rattle.dir_model.specs.declared.pod.PodId.{PodId}
 use Rattle.dir_model.specs.declared.request.Request.{Request}
 use Rattle.dir_trait.specs.Causes.{Rose}
-use Rattle.dir_trait.specs.Calls.{is_begin, is_finish}
+use Rattle.dir_trait.specs.Calls.{Extends, is_begin, is_finish}
+use Rattle.dir_model.specs.declared.event.Event.{Event}
 use Rattle.dir_trait.specs.Local.{Local}
 use Rattle.dir_trait.specs.Quiet.{Quiet}
 use Rattle.dir_trait.specs.Sinks.{WritesPart}
 use Rattle.dir_trait.specs.State.{DirState}
 use Rattle.dir_trait.specs.Trace.{state_after}
+use Rattle.pod_lookup.specs.declared.error.LookupError.{LookupError}
+use Rattle.pod_lookup.specs.Choice.{sequential_resolve}
 use Rattle.rkt_cli.specs.declared.line.Line.{Line}
+use Rattle.rkt_cli.specs.Tasks.{Task, task_of, word_of}
+use Rattle.rkt_cli.specs.Lookups.{OfPod, CameToNothing, lookup_refusal}
 use Rattle.command_outcomes.specs.declared.refusal.Refusal.{Refusal}
 use Rattle.command_outcomes.specs.declared.refusal.Refusal.TheVariants.{Usage, DirFault, BundleFault, SpawnFault, OutFault, NoMemory}
 use Rattle.command_outcomes.specs.Texts.{status_of}
 use Rattle.command_outcomes.specs.Moments.{BundleSeen, SinkSeen, Outside, Moment, Outcome}
 use Rattle.commands.specs.Answers.{Complained, IsAnswer}
 use Rattle.commands.specs.Command.{Command, begins_any, reads_any, starts_any}
-use Rattle.rkt_cli.specs.Commands.{command_in, uses_dir_in, reads_bundle_in, runs_apps_in, intent_of, asks, ReadsOnly}
-use Rattle.rkt_cli.specs.Runs.{ended_local, Graded}
+use Rattle.commands.specs.NextState.{LeavesAll}
+use Rattle.commands.specs.Opening.{approach_of, looks_by}
+use Rattle.rkt_cli.specs.Commands.{command_in, any_task, uses_dir, uses_dir_in, reads_bundle, reads_bundle_in, runs_apps, runs_apps_in, intent_in, looks, asks, ReadsOnly}
+use Rattle.rkt_cli.specs.Runs.{RunIs, RunOfNothing, ended_local, Graded}
 
 -- the exit statuses
 abbrev pub IsStatus : ℕ → Type 0
-IsStatus status = list_any (λ n. n == status) (0 ∷ 1 ∷ 2 ∷ 4 ∷ 5 ∷ 6 ∷ 7 ∷ 8 ∷ 9 ∷ 10 ∷ 11 ∷ 12 ∷ 14 ∷ 15 ∷ 16 ∷ 17 ∷ 18 ∷ 19 ∷ 20 ∷ []) ≡ true
+IsStatus status = list_any (λ n. n == status) (0 ∷ 1 ∷ 2 ∷ 3 ∷ 4 ∷ 5 ∷ 6 ∷ 7 ∷ 8 ∷ 9 ∷ 10 ∷ 11 ∷ 12 ∷ 14 ∷ 15 ∷ 16 ∷ 17 ∷ 18 ∷ 19 ∷ 20 ∷ []) ≡ true
 
 -- the status of a command that was done: 16 only of one that starts apps, of which some ended with another status than 0
+abbrev pub DoneWith : Bool → ℕ → Type 0
+DoneWith runs status = (status ≡ 0) ⊎ ((status ≡ 16) × (runs ≡ true))
+
 abbrev pub IsDone : Option Line → ℕ → Type 0
-IsDone line status = (status ≡ 0) ⊎ ((status ≡ 16) × (runs_apps_in line ≡ true))
+IsDone line status = DoneWith (runs_apps_in line) status
 
 -- why a command was refused: what it uses failed, as the count of its faults shows; memory ran out, of which no cause is told; or for a
 -- refusal of the command's own, with its cause
@@ -40,43 +51,63 @@ RefusedFor c now draw OutFault old new = Rose old.out.faults new.out.faults
 RefusedFor c now draw Usage old new = ⊥
 RefusedFor c now draw refusal old new = c.refused_for now draw refusal old new
 
--- words that are no command are refused as such
-abbrev pub IsCauseOf : Option Line → ℕ → Draw → Refusal → Moment → Moment → Type 0
-IsCauseOf None now draw refusal old new = refusal ≡ Usage
-IsCauseOf (Some line) now draw refusal old new = RefusedFor (command_in line) now draw refusal old new
-
 -- it was refused so, with that refusal's status and message, and for its cause
-pub record IsRefused (line : Option Line) (now : ℕ) (draw : Draw) (status : ℕ) (old new : Moment) : Type 0 where
+pub record IsRefused (task : Task) (now : ℕ) (draw : Draw) (status : ℕ) (old new : Moment) : Type 0 where
   pub refusal : Refusal
   pub is : status ≡ status_of refusal
   pub said : Complained refusal old.err new.err
-  pub cause : IsCauseOf line now draw refusal old new
+  pub cause : RefusedFor (command_in task) now draw refusal old new
 
 -- it was done, and nothing was said; or refused
+abbrev pub Ends : Task → ℕ → Draw → ℕ → Moment → Moment → Type 0
+Ends task now draw status old new = (DoneWith (runs_apps task) status × (new.err ≡ old.err)) ⊎ IsRefused task now draw status old new
+
+-- words that are no command are refused as such, or memory ran out
+abbrev pub EndsUnread : ℕ → Moment → Moment → Type 0
+EndsUnread status old new = RunOfNothing Usage old new status ⊎ RunOfNothing NoMemory old new status
+
 abbrev pub IsEnded : Option Line → ℕ → Draw → ℕ → Moment → Moment → Type 0
-IsEnded line now draw status old new = (IsDone line status × (new.err ≡ old.err)) ⊎ IsRefused line now draw status old new
+IsEnded None now draw status old new = EndsUnread status old new
+IsEnded (Some line) now draw status old new = OfPod line draw (λ task. Ends task now draw status old new) ⊎ CameToNothing line now draw old new status
 
--- what is told with the status. Words that are no command call nothing but the error output
+-- what is told with the status
 abbrev pub TellsIn : Option Line → ℕ → Draw → ℕ → Moment → Moment → Type 0
-TellsIn None now draw status old new = (new.outside ≡ old.outside) × (new.spawner ≡ old.spawner) × (new.out ≡ old.out)
-TellsIn (Some line) now draw status old new = (command_in line).tells now draw status old new
+TellsIn None now draw status old new = EndsUnread status old new
+TellsIn (Some line) now draw status old new = OfPod line draw (λ task. (command_in task).tells now draw status old new) ⊎ CameToNothing line now draw old new status
 
--- the process's own requests: its begin, those of the command, its finish
-abbrev pub asks_in : Option Line → ℕ → Draw → Request → Bool
-asks_in None now draw request = false
-asks_in (Some line) now draw request = is_begin request || (asks line now draw request || is_finish request)
+-- the process's own requests: its begin, a look for its pod, those of the command, its finish
+abbrev pub asks_all : Task → ℕ → Draw → Request → Bool
+asks_all task now draw request = looks task request || (is_begin request || (asks task now draw request || is_finish request))
+
+-- and those of one that comes to no task
+abbrev pub looks_for : Option (List ℕ) → Request → Bool
+looks_for None request = false
+looks_for (Some word) request = looks_by (approach_of word) request
+
+abbrev pub looks_in : Line → Request → Bool
+looks_in line = looks_for (word_of line)
+
+abbrev pub opens_in : Line → Request → Bool
+opens_in line request = looks_in line request || (is_begin request || is_finish request)
+
+abbrev pub AsksOnly : Option Line → ℕ → Draw → ℕ → List Event → List Event → Type 0
+AsksOnly None now draw me old new = new ≡ old
+AsksOnly (Some line) now draw me old new = OfPod line draw (λ task. Extends (asks_all task now draw) me old new) ⊎ Extends (opens_in line) me old new
 
 -- a text that the command prints
 abbrev pub Prints : Option Line → Draw → BundleSeen → List ℕ → Type 0
 Prints None draw bundle text = ⊥
-Prints (Some line) draw bundle text = (command_in line).prints draw bundle text
+Prints (Some line) draw bundle text = OfPod line draw (λ task. (command_in task).prints draw bundle text)
 
 -- where it was done the command's text was written, with 12 and 14 a part of it from its start or nothing, and else nothing
-abbrev pub IsOutput : Option Line → Draw → BundleSeen → ℕ → List ℕ → List ℕ → Type 0
-IsOutput line draw bundle status old new =
-    (IsDone line status × (text : List ℕ) × Prints line draw bundle text × (new ≡ old ++ text))
-    ⊎ (((status ≡ 12) ⊎ (status ≡ 14)) × (text : List ℕ) × Prints line draw bundle text × WritesPart old text new)
+abbrev pub Writes : Bool → (List ℕ → Type 0) → ℕ → List ℕ → List ℕ → Type 0
+Writes runs P status old new =
+    (DoneWith runs status × (text : List ℕ) × P text × (new ≡ old ++ text))
+    ⊎ (((status ≡ 12) ⊎ (status ≡ 14)) × (text : List ℕ) × P text × WritesPart old text new)
     ⊎ ((((status == 0) || (status == 16)) ≡ false) × (new ≡ old))
+
+abbrev pub IsOutput : Option Line → Draw → BundleSeen → ℕ → List ℕ → List ℕ → Type 0
+IsOutput line draw bundle status old new = Writes (runs_apps_in line) (Prints line draw bundle) status old new
 
 -- a command on the directory leaves a process that has begun so and finished, with nothing open. Where memory ran out
 -- before it began, and for all other words, nothing has changed
@@ -86,47 +117,64 @@ EndsAs (Some intent) status old new = (new ≡ ended_local intent) ⊎ ((status 
 
 abbrev pub IsOver : Option Line → ℕ → Draw → ℕ → Local → Local → Type 0
 IsOver None now draw status old new = new ≡ old
-IsOver (Some line) now draw status old new = EndsAs (intent_of line now draw) status old new
+IsOver (Some line) now draw status old new = EndsAs (intent_in line now draw) status old new
 
 -- what the words read of the bundle
 abbrev pub ReadsIn : Option Line → BundleSeen → BundleSeen → Type 0
 ReadsIn None old new = new ≡ old
-ReadsIn (Some line) old new = ReadsOnly line old new
-
--- what a run comes to where nobody else steps
-abbrev pub ComesIn : Option Line → ℕ → Draw → Outside → Outside → Outcome → Type 0
-ComesIn None now draw old new o = o ≡ Err Usage
-ComesIn (Some line) now draw old new o = (command_in line).quiet now draw old new o
+ReadsIn (Some line) old new = ReadsOnly (any_task line) old new
 
 -- of what the command uses, all is observed, nothing failed, and nobody else stepped
-pub record IsUndisturbed (line : Option Line) (old new : Outside) : Type 0 where
-  pub observed : uses_dir_in line ≡ true → old.dir.observed ≡ true
-  pub alone : uses_dir_in line ≡ true → Quiet old.dir.process old.dir.trace new.dir.trace
-  pub works : uses_dir_in line ≡ true → Rose old.dir.faults new.dir.faults → ⊥
-  pub bundle_observed : reads_bundle_in line ≡ true → old.bundle.observed ≡ true
-  pub bundle_works : reads_bundle_in line ≡ true → Rose old.bundle.faults new.bundle.faults → ⊥
+pub record WorksAlone (uses reads : Bool) (old new : Outside) : Type 0 where
+  pub observed : uses ≡ true → old.dir.observed ≡ true
+  pub alone : uses ≡ true → Quiet old.dir.process old.dir.trace new.dir.trace
+  pub works : uses ≡ true → Rose old.dir.faults new.dir.faults → ⊥
+  pub bundle_observed : reads ≡ true → old.bundle.observed ≡ true
+  pub bundle_works : reads ≡ true → Rose old.bundle.faults new.bundle.faults → ⊥
+
+abbrev pub IsUndisturbed : Option Line → Outside → Outside → Type 0
+IsUndisturbed line old new = WorksAlone (uses_dir_in line) (reads_bundle_in line) old new
+
+abbrev pub Undisturbed : Task → Outside → Outside → Type 0
+Undisturbed task old new = WorksAlone (uses_dir task) (reads_bundle task) old new
 
 -- and the output didn't fail
 abbrev pub Works : SinkSeen → SinkSeen → Type 0
 Works old new = Rose old.faults new.faults → ⊥
 
--- what the words leave in the directory then
-abbrev pub LeavesIn : Option Line → ℕ → Draw → DirState → DirState → Type 0
-LeavesIn None me draw old new = new ≡ old
-LeavesIn (Some line) me draw old new = (command_in line).leaves me draw old new
-
 -- so it was answered, with this status as if all apps had ended with 0, and so the directory was left
-abbrev pub IsPlainAnswer : Option Line → ℕ → Draw → ℕ → Moment → Moment → Type 0
-IsPlainAnswer line now draw plain old new =
+abbrev pub IsPlainAnswer : Task → ℕ → Draw → ℕ → Moment → Moment → Type 0
+IsPlainAnswer task now draw plain old new =
     (o : Outcome)
-    × ComesIn line now draw old.outside new.outside o
+    × (command_in task).quiet now draw old.outside new.outside o
     × IsAnswer o plain old new
-    × LeavesIn line old.outside.dir.process draw (state_after old.outside.dir.trace) (state_after new.outside.dir.trace)
+    × (command_in task).leaves old.outside.dir.process draw (state_after old.outside.dir.trace) (state_after new.outside.dir.trace)
 
--- memory ran out, or it was answered so, with 16 for 0 where an app ended with another status than 0
+-- with 16 for 0 where an app ended with another status than 0
+abbrev pub AnswersTask : Task → ℕ → Draw → ℕ → Moment → Moment → Type 0
+AnswersTask task now draw status old new = (plain : ℕ) × Graded task plain status × IsPlainAnswer task now draw plain old new
+
+-- by what the line's word means in the state before: the answer of the command on that pod, or that there is none, or more than one
+abbrev pub meaning_in : DirState → Option (List ℕ) → Draw → Result PodId LookupError
+meaning_in s None draw = Ok draw.uuid
+meaning_in s (Some word) draw = sequential_resolve s word
+
+abbrev pub AnswersMeaning : Line → ℕ → Draw → Result PodId LookupError → ℕ → Moment → Moment → Type 0
+AnswersMeaning line now draw (Ok pod) status old new = AnswersTask (task_of line pod) now draw status old new
+AnswersMeaning line now draw (Err error) status old new =
+    IsAnswer (Err (lookup_refusal error)) status old new × LeavesAll old.outside.dir.process (state_after old.outside.dir.trace) (state_after new.outside.dir.trace)
+
+-- memory ran out, or it was answered so
 abbrev pub IsQuietAnswer : Option Line → ℕ → Draw → ℕ → Moment → Moment → Type 0
-IsQuietAnswer line now draw status old new = (status ≡ 14) ⊎ ((plain : ℕ) × Graded line plain status × IsPlainAnswer line now draw plain old new)
+IsQuietAnswer None now draw status old new = EndsUnread status old new
+IsQuietAnswer (Some line) now draw status old new =
+    (status ≡ 14) ⊎ AnswersMeaning line now draw (meaning_in (state_after old.outside.dir.trace) (word_of line) draw) status old new
 
 -- where of what the command uses all is observed and works, and nobody else steps
 abbrev pub AnswersQuietly : Option Line → ℕ → Draw → ℕ → Moment → Moment → Type 0
 AnswersQuietly line now draw status old new = IsUndisturbed line old.outside new.outside → Works old.out new.out → IsQuietAnswer line now draw status old new
+
+-- the whole run, from which all this follows
+abbrev pub IsRunOf : Option Line → ℕ → Draw → Moment → Moment → ℕ → Type 0
+IsRunOf None now draw old new status = EndsUnread status old new
+IsRunOf (Some line) now draw old new status = OfPod line draw (λ task. RunIs task now draw old new status) ⊎ CameToNothing line now draw old new status

@@ -7,32 +7,34 @@ use Rattle.dir_model.specs.declared.request.Request.TheVariants.{Begin, Finish}
 use Rattle.dir_model.specs.declared.request.Reply.TheVariants.{Done, Refused}
 use Rattle.dir_trait.specs.Causes.{Rose}
 use Rattle.dir_trait.specs.Calls.{Extends, CallStep}
+use Rattle.dir_trait.specs.Knowledge.{Knows}
 use Rattle.dir_trait.specs.Local.{Local}
 use Rattle.dir_trait.specs.Sinks.{WritesPart}
-use Rattle.rkt_cli.specs.declared.line.Line.{Line}
+use Rattle.rkt_cli.specs.Tasks.{Task, MeansItsPod, FindsItsPod}
 use Rattle.command_outcomes.specs.declared.refusal.Refusal.{Refusal}
-use Rattle.command_outcomes.specs.declared.refusal.Refusal.TheVariants.{Usage, DirFault, BundleFault, SpawnFault, OutFault, NoMemory}
+use Rattle.command_outcomes.specs.declared.refusal.Refusal.TheVariants.{DirFault, BundleFault, SpawnFault, OutFault, NoMemory}
 use Rattle.command_outcomes.specs.Texts.{status_of}
-use Rattle.command_outcomes.specs.Conforming.{StaysConforming}
+use Rattle.command_outcomes.specs.Conforming.{begun as just_begun, shown_at, StaysConforming}
 use Rattle.command_outcomes.specs.Moments.{Outside, Moment, SinkSeen, Outcome, Answer, outcome_of}
 use Rattle.commands.specs.Answers.{inside_in, Complained}
 use Rattle.commands.specs.AppsTold.{TellsApps}
 use Rattle.commands.specs.Command.{Saying, alone, running}
+use Rattle.commands.specs.Opening.{Opens}
 use Rattle.rkt_cli.specs.Spawns.{CameBetween}
-use Rattle.rkt_cli.specs.Commands.{command_in, uses_dir, runs_apps_in, intent_of, asks, may, CommandSays, ReadsOnly}
+use Rattle.rkt_cli.specs.Commands.{command_in, uses_dir, runs_apps, intent_of, approach_in, asks, may, CommandSays, ReadsOnly}
 
 -- what a command leaves and answers, whichever it is
-pub record CommandRan (line : Line) (now : ℕ) (draw : Draw) (old new : Outside) (o : Outcome) : Type 0 where
+pub record CommandRan (task : Task) (now : ℕ) (draw : Draw) (old new : Outside) (o : Outcome) : Type 0 where
   pub same : new.dir.process ≡ old.dir.process
   pub local : new.dir.local ≡ old.dir.local
   pub faults : old.dir.faults ≤ new.dir.faults
   pub cause : IsErrOf o DirFault → Rose old.dir.faults new.dir.faults
   pub bundle_faults : old.bundle.faults ≤ new.bundle.faults
   pub bundle_cause : IsErrOf o BundleFault → Rose old.bundle.faults new.bundle.faults
-  pub refusals : IfErr o (λ r. may line r ≡ true)
-  pub extends : old.dir.observed ≡ true → Extends (asks line now draw) old.dir.process old.dir.trace new.dir.trace
-  pub reads : ReadsOnly line old.bundle new.bundle
-  pub says : CommandSays line now draw old new o
+  pub refusals : IfErr o (λ r. may task r ≡ true)
+  pub extends : old.dir.observed ≡ true → Extends (asks task now draw) old.dir.process old.dir.trace new.dir.trace
+  pub reads : ReadsOnly task old.bundle new.bundle
+  pub says : CommandSays task now draw old new o
 
 -- what a process knows when it has begun so, and when it has finished
 abbrev pub begun_local : Intent → Local
@@ -41,18 +43,21 @@ begun_local intent = record { intent = Some intent; finished = false; holdings =
 abbrev pub ended_local : Intent → Local
 ended_local intent = record { intent = Some intent; finished = true; holdings = [] }
 
--- the process began, the command ran, and the process finished
-pub record InProcess (line : Line) (now : ℕ) (draw : Draw) (intent : Intent) (old new : Outside) (o : Outcome) : Type 0 where
-  pub uses : uses_dir line ≡ true
+-- the process began and came to its pod, the command ran, and the process finished
+pub record InProcess (task : Task) (now : ℕ) (draw : Draw) (intent : Intent) (old new : Outside) (o : Outcome) : Type 0 where
+  pub uses : uses_dir task ≡ true
   pub begun : Outside
   pub ended : Outside
   pub told : begun.dir.observed ≡ old.dir.observed
   pub me : begun.dir.process ≡ old.dir.process
   pub risen : old.dir.faults ≤ begun.dir.faults
   pub started : begun.dir.local ≡ begun_local intent
-  pub begins : old.dir.observed ≡ true → CallStep old.dir.process old.dir.trace (Begin intent) Done begun.dir.trace
+  pub meant : MeansItsPod task
+  pub begins : old.dir.observed ≡ true → Opens (approach_in task) intent old.dir.process old.dir.trace begun.dir.trace
+  pub found : (t : old.dir.observed ≡ true) → FindsItsPod task old.dir.process (begins t).first begun.dir.trace
+  pub knows : old.dir.observed ≡ true → Knows (shown_at begun.dir) (just_begun intent)
   pub bundle_before : begun.bundle ≡ old.bundle
-  pub ran : CommandRan line now draw begun ended o
+  pub ran : CommandRan task now draw begun ended o
   pub keeps : old.dir.observed ≡ true → StaysConforming intent begun.dir ended.dir
   pub finishes : old.dir.observed ≡ true → CallStep ended.dir.process ended.dir.trace Finish Done new.dir.trace
   pub faults : new.dir.faults ≡ ended.dir.faults
@@ -70,14 +75,14 @@ pub record NeverBegan (intent : Intent) (old new : Outside) (o : Outcome) : Type
   pub bundle : new.bundle ≡ old.bundle
 
 -- the command ran, and made no call on the directory
-pub record Apart (line : Line) (now : ℕ) (draw : Draw) (old new : Outside) (o : Outcome) : Type 0 where
-  pub apart : uses_dir line ≡ false
+pub record Apart (task : Task) (now : ℕ) (draw : Draw) (old new : Outside) (o : Outcome) : Type 0 where
+  pub apart : uses_dir task ≡ false
   pub dir : new.dir ≡ old.dir
-  pub ran : CommandRan line now draw old new o
+  pub ran : CommandRan task now draw old new o
 
-abbrev pub Performs : Line → ℕ → Draw → Option Intent → Outside → Outside → Outcome → Type 0
-Performs line now draw None old new o = Apart line now draw old new o
-Performs line now draw (Some intent) old new o = InProcess line now draw intent old new o ⊎ NeverBegan intent old new o
+abbrev pub Performs : Task → ℕ → Draw → Option Intent → Outside → Outside → Outcome → Type 0
+Performs task now draw None old new o = Apart task now draw old new o
+Performs task now draw (Some intent) old new o = InProcess task now draw intent old new o ⊎ NeverBegan intent old new o
 
 -- how a run ended
 abbrev pub End : Type 0
@@ -115,14 +120,14 @@ Reported (Ok done) old new = new ≡ old
 Reported (Err refusal) old new = Complained refusal old new
 
 -- the words are a command, and it ran
-pub record RunOfLine (line : Line) (now : ℕ) (draw : Draw) (intent : Option Intent) (old new : Moment) (status : ℕ) : Type 0 where
+pub record RunOfLine (task : Task) (now : ℕ) (draw : Draw) (intent : Option Intent) (old new : Moment) (status : ℕ) : Type 0 where
   pub answer : Answer
   pub outcome : Outcome
   pub outcome_is : outcome ≡ outcome_of answer
-  pub came : CameBetween line now draw intent (inside_in old) (inside_in new) answer
+  pub came : CameBetween task now draw intent (inside_in old) (inside_in new) answer
   pub spawn_cause : outcome ≡ Err SpawnFault → Rose old.spawner.shown.faults new.spawner.shown.faults
   pub end : End
-  pub performs : Performs line now draw intent old.outside new.outside outcome
+  pub performs : Performs task now draw intent old.outside new.outside outcome
   pub printed : Printed outcome old.out new.out end
   pub reported : Reported end old.err new.err
   pub is : status ≡ end_status end
@@ -135,27 +140,25 @@ pub record RunOfNothing (reason : Refusal) (old new : Moment) (status : ℕ) : T
   pub out : new.out ≡ old.out
   pub reported : Complained reason old.err new.err
 
--- words that are a command are run, but where memory ran out before
-abbrev pub RunOf : Option Line → ℕ → Draw → Moment → Moment → ℕ → Type 0
-RunOf None now draw old new status = RunOfNothing Usage old new status
-RunOf (Some line) now draw old new status = RunOfLine line now draw (intent_of line now draw) old new status ⊎ RunOfNothing NoMemory old new status
+-- a task is run, but where memory ran out before
+abbrev pub RunOf : Task → ℕ → Draw → Moment → Moment → ℕ → Type 0
+RunOf task now draw old new status = RunOfLine task now draw (intent_of task now draw) old new status ⊎ RunOfNothing NoMemory old new status
 
 -- how the apps ran of a command that starts some. No other has status 16
 abbrev pub AppsOf : Saying → (Answer → Type 0) → ℕ → Moment → Moment → Type 0
 AppsOf (alone says) came status old new = status ≢ 16
 AppsOf (running says) came status old new = TellsApps came status old new
 
-abbrev pub AppsIn : Option Line → ℕ → Draw → ℕ → Moment → Moment → Type 0
-AppsIn None now draw status old new = status ≢ 16
-AppsIn (Some line) now draw status old new = AppsOf (command_in line).says (CameBetween line now draw (intent_of line now draw) (inside_in old) (inside_in new)) status old new
+abbrev pub AppsIn : Task → ℕ → Draw → ℕ → Moment → Moment → Type 0
+AppsIn task now draw status old new = AppsOf (command_in task).says (CameBetween task now draw (intent_of task now draw) (inside_in old) (inside_in new)) status old new
 
 -- the status of the run as if all apps had ended with 0, and then its own
-abbrev pub Graded : Option Line → ℕ → ℕ → Type 0
-Graded line plain status = (status ≡ plain) ⊎ ((status ≡ 16) × (plain ≡ 0) × (runs_apps_in line ≡ true))
+abbrev pub Graded : Task → ℕ → ℕ → Type 0
+Graded task plain status = (status ≡ plain) ⊎ ((status ≡ 16) × (plain ≡ 0) × (runs_apps task ≡ true))
 
--- a run of these words, whatever they are
-pub record RunIs (line : Option Line) (now : ℕ) (draw : Draw) (old new : Moment) (status : ℕ) : Type 0 where
+-- a run of this task
+pub record RunIs (task : Task) (now : ℕ) (draw : Draw) (old new : Moment) (status : ℕ) : Type 0 where
   pub plain : ℕ
-  pub ran : RunOf line now draw old new plain
-  pub is : Graded line plain status
-  pub apps : AppsIn line now draw status old new
+  pub ran : RunOf task now draw old new plain
+  pub is : Graded task plain status
+  pub apps : AppsIn task now draw status old new

@@ -2,12 +2,12 @@
 use Rattle.std.specs.Prelude.{◌≡◌, ℕ, true, Option, Some, None}
 use Rattle.dir_model.specs.declared.intent.Draw.{Draw}
 use Rattle.dir_model.specs.declared.intent.Intent.{Intent}
-use Rattle.rkt_cli.specs.declared.line.Line.{Line}
+use Rattle.rkt_cli.specs.Tasks.{Task}
 use Rattle.command_outcomes.specs.Moments.{Inside, Answer, is_well}
 use Rattle.commands.specs.AppsTold.{CameSo}
-use Rattle.rkt_cli.specs.Commands.{asks, Came}
+use Rattle.rkt_cli.specs.Commands.{approach_in, asks, Came}
 
 -- what a command told of a pod and its apps, by a process that began with this intent, or by none
-abbrev pub CameBetween : Line → ℕ → Draw → Option Intent → Inside → Inside → Answer → Type 0
-CameBetween line now draw None old new answer = is_well answer ≡ true
-CameBetween line now draw (Some intent) old new answer = CameSo (asks line now draw) (Came line now draw) intent old new answer
+abbrev pub CameBetween : Task → ℕ → Draw → Option Intent → Inside → Inside → Answer → Type 0
+CameBetween task now draw None old new answer = is_well answer ≡ true
+CameBetween task now draw (Some intent) old new answer = CameSo (approach_in task) (asks task now draw) (Came task now draw) intent old new answer

@@ -2,10 +2,11 @@
 #![tactic(auto)]
 
 mod line;
+mod lookup;
 mod perform;
 mod print;
 mod top;
 
-pub use line::{Line, WordsError, read_line};
+pub use line::{Line, named_path, read_line};
 pub use print::refuse;
 pub use top::rkt;

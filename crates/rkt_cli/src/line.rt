@@ -1,17 +1,23 @@
 // The words of a command line.
-ghost use Rattle.std.specs.Prelude.{◌≡◌, Some, map, string_bytes};
-ghost use Rattle.rkt_cli.specs.Lines.{is_file_word, single_of, is_pod_command, pod_command_of, other_command_of, command_of, removal_of, long_command_of, images_of, prepare_of, run_of, short_line_of, begins_with, line_in, IsReading, IsImages};
+ghost use Rattle.std.specs.Prelude.{◌≡◌, Some, IfOk, IfErr, IfSome};
+ghost use Rattle.pod_manifest.specs.Wishes.{AreWishes};
+ghost use Rattle.rkt_words.specs.Wishes.{AsksWell, MayBeAsked};
+ghost use Rattle.rkt_cli.specs.Lines.{IsReading, known_line, line_in, wants_of};
+ghost use Rattle.rkt_cli.specs.Paths.{path_in};
+ghost use Rattle.rkt_cli.specs.Tasks.{word_of};
 
-use ac_types::{StoreKey, Text};
-use commands::{Wanted, are_references};
-use dir_trait::PodId;
+use ac_types::{NoMemory, StoreKey, Text};
+use commands::Wanted;
+use dir_trait::PodPrefix;
+use pod_manifest::Options;
+use rkt_words::{Asked, WordsError};
 use std::alloc::Global;
 
-/// A command with its words.
+/// A command with its words, of those that this program has.
 #[derive(Drop)]
 pub enum Line {
-    /// `status UUID`: print the phase of a pod.
-    Status(PodId),
+    /// `status POD`: print the phase of a pod.
+    Status(PodPrefix),
     /// `validate FILE`: judge a file of the bundle as a manifest.
     Validate(Text),
     /// `image list`: print the images of the store.
@@ -24,203 +30,115 @@ pub enum Line {
     ImageGc,
     /// `prepare IMAGE...`: prepare a pod of these images.
     Prepare(Wanted),
-    /// `run-prepared UUID`: run a prepared pod.
-    RunPrepared(PodId),
-    /// `run IMAGE...`: make a pod of these images and run it.
-    Run(Wanted),
-    /// `rm UUID`: remove a pod.
-    Rm(PodId),
-    /// `gc`: sweep pods.
-    Gc,
+    /// `run-prepared POD`: run a prepared pod, with this address of the metadata service.
+    RunPrepared(PodPrefix, Text),
+    /// `run IMAGE...`: make a pod of these images and run it, with this address of the metadata service.
+    Run(Wanted, Text),
+    /// `rm POD`: remove a pod.
+    Rm(PodPrefix),
+    /// `gc`: sweep pods; how long an exited one rests since it was marked, and a prepared one since it was made, in
+    /// seconds.
+    Gc(u64, u64),
 }
 
-/// Why words weren't read.
-#[derive(Clone, Copy, Debug, PartialEq, Eq)]
-pub enum WordsError {
-    /// The words are no command.
-    Usage,
-    /// Memory ran out.
-    NoMemory,
-}
-
-fn is_file(word: &str) -> bool
-    ensures { result ≡ is_file_word word.now }
+fn options_of(asked: &Asked) -> Result<Options, NoMemory>
+    requires { MayBeAsked asked.now }
+    ensures { IfOk result (λ options. options ≡ (wants_of asked.now).wishes) }
 {
-    match word.as_bytes() {
-        [] => false,
-        [first, ..] => *first != b'-',
-    }
+    let volumes = asked.volumes.copy()?;
+    let mounts = asked.mounts.copy()?;
+    Ok(Options { volumes, mounts })
 }
 
-fn file_line(alloc: Global, word: &str) -> Result<Line, WordsError>
-    ensures { IsReading (Some (Line.Validate word.now)) result }
+fn wanted(alloc: Global, asked: &Asked) -> Result<Wanted, WordsError>
+    requires { MayBeAsked asked.now }
+    ensures wants { IfOk result (λ wanted. wanted ≡ wants_of asked.now) }
+    ensures memory { IfErr result (λ e. e ≡ WordsError.NoMemory) }
 {
-    match Text::of(alloc, word) {
-        Ok(path) => Ok(Line::Validate(path)),
-        Err(_) => Err(WordsError::NoMemory),
-    }
-}
-
-// A command on the pod of this name.
-fn read_pod_command(command: &str, pod: PodId) -> Result<Line, WordsError>
-    ensures { IsReading (pod_command_of command.now pod) result }
-{
-    if command == "status" {
-        return Ok(Line::Status(pod));
-    }
-    if command == "run-prepared" {
-        return Ok(Line::RunPrepared(pod));
-    }
-    if command == "rm" {
-        return Ok(Line::Rm(pod));
-    }
-    Err(WordsError::Usage)
-}
-
-fn read_other_command(alloc: Global, command: &str, word: &str) -> Result<Line, WordsError>
-    ensures { IsReading (other_command_of command.now word.now) result }
-{
-    if command == "validate" && is_file(word) {
-        return file_line(alloc, word);
-    }
-    if command == "image" && word == "list" {
-        return Ok(Line::ImageList);
-    }
-    if command == "image" && word == "gc" {
-        return Ok(Line::ImageGc);
-    }
-    Err(WordsError::Usage)
-}
-
-fn is_pod_command(command: &str) -> bool
-    ensures { result ≡ is_pod_command command.now }
-{
-    command == "status" || command == "run-prepared" || command == "rm"
-}
-
-fn read_command(alloc: Global, command: &str, word: &str) -> Result<Line, WordsError>
-    ensures { IsReading (command_of command.now word.now) result }
-{
-    if !is_pod_command(command) {
-        return read_other_command(alloc, command, word);
-    }
-    match PodId::parse(word) {
-        Some(pod) => read_pod_command(command, pod),
-        None => Err(WordsError::Usage),
-    }
-}
-
-fn read_single(command: &str) -> Result<Line, WordsError>
-    ensures { IsReading (single_of command.now) result }
-{
-    if command == "gc" {
-        return Ok(Line::Gc);
-    }
-    Err(WordsError::Usage)
-}
-
-fn bundle_line(alloc: Global, word: &str) -> Result<Line, WordsError>
-    ensures { IsReading (Some (Line.ImageImport word.now)) result }
-{
-    match Text::of(alloc, word) {
-        Ok(path) => Ok(Line::ImageImport(path)),
-        Err(_) => Err(WordsError::NoMemory),
-    }
-}
-
-fn removal_line(word: &str) -> Result<Line, WordsError>
-    ensures { IsReading (removal_of word.now) result }
-{
-    match StoreKey::parse(word) {
-        Ok(key) => Ok(Line::ImageRm(key)),
-        Err(_) => Err(WordsError::Usage),
-    }
-}
-
-fn read_long_command(
-    alloc: Global,
-    command: &str,
-    word: &str,
-    last: &str,
-) -> Result<Line, WordsError>
-    ensures { IsReading (long_command_of command.now word.now last.now) result }
-{
-    if command == "image" && word == "import" && is_file(last) {
-        return bundle_line(alloc, last);
-    }
-    if command == "image" && word == "rm" {
-        return removal_line(last);
-    }
-    Err(WordsError::Usage)
-}
-
-fn images(alloc: Global, words: &[String]) -> Result<Wanted, WordsError>
-    ensures { IsImages (images_of (map string_bytes words.now)) result }
-{
-    if words.is_empty() {
-        return Err(WordsError::Usage);
-    }
-    if !are_references(alloc, words) {
-        return Err(WordsError::Usage);
-    }
-    match Wanted::read(alloc, words) {
+    let options = match options_of(asked) {
+        Ok(options) => options,
+        Err(_) => return Err(WordsError::NoMemory),
+    };
+    match Wanted::of(alloc, &asked.images, options) {
         Ok(wanted) => Ok(wanted),
         Err(_) => Err(WordsError::NoMemory),
     }
 }
 
-fn prepare_line(alloc: Global, words: &[String]) -> Result<Line, WordsError>
-    ensures { IsReading (prepare_of (map string_bytes words.now)) result }
+fn prepare_line(alloc: Global, asked: &Asked) -> Result<Line, WordsError>
+    requires { MayBeAsked asked.now }
+    ensures { IsReading (Some (Line.Prepare (wants_of asked.now))) result }
 {
-    match images(alloc, words) {
+    match wanted(alloc, asked) {
         Ok(wanted) => Ok(Line::Prepare(wanted)),
         Err(error) => Err(error),
     }
 }
 
-fn run_line(alloc: Global, words: &[String]) -> Result<Line, WordsError>
-    ensures { IsReading (run_of (map string_bytes words.now)) result }
+fn run_line(alloc: Global, asked: &Asked, address: Text) -> Result<Line, WordsError>
+    requires { MayBeAsked asked.now }
+    ensures { IsReading (Some (Line.Run (wants_of asked.now) address)) result }
 {
-    match images(alloc, words) {
-        Ok(wanted) => Ok(Line::Run(wanted)),
+    match wanted(alloc, asked) {
+        Ok(wanted) => Ok(Line::Run(wanted, address)),
         Err(error) => Err(error),
     }
 }
 
-fn read_short_line(alloc: Global, words: &[String]) -> Result<Line, WordsError>
-    ensures { IsReading (short_line_of (map string_bytes words.now)) result }
+fn known_line(alloc: Global, words: rkt_words::Line) -> Result<Line, WordsError>
+    requires { AsksWell words }
+    ensures { IsReading (known_line words) result }
 {
     match words {
-        [command] => read_single(command.as_str()),
-        [command, word] => read_command(alloc, command.as_str(), word.as_str()),
-        [command, word, last] => {
-            read_long_command(alloc, command.as_str(), word.as_str(), last.as_str())
+        rkt_words::Line::Status(pod) => Ok(Line::Status(pod)),
+        rkt_words::Line::Prepare(asked) => prepare_line(alloc, &asked),
+        rkt_words::Line::Run { asked, address } => run_line(alloc, &asked, address),
+        rkt_words::Line::RunPrepared { pod, address } => Ok(Line::RunPrepared(pod, address)),
+        rkt_words::Line::Rm(pod) => Ok(Line::Rm(pod)),
+        rkt_words::Line::Gc { grace, expire } => Ok(Line::Gc(grace, expire)),
+        rkt_words::Line::Validate(path) => Ok(Line::Validate(path)),
+        rkt_words::Line::ImageImport(path) => Ok(Line::ImageImport(path)),
+        rkt_words::Line::ImageList => Ok(Line::ImageList),
+        rkt_words::Line::ImageRm(key) => Ok(Line::ImageRm(key)),
+        rkt_words::Line::ImageGc => Ok(Line::ImageGc),
+        rkt_words::Line::List
+        | rkt_words::Line::CatManifest(_)
+        | rkt_words::Line::Metadata {
+            address: _,
+            count: _,
         }
-        _ => Err(WordsError::Usage),
+        | rkt_words::Line::Demo(_) => Err(WordsError::Usage(0)),
     }
 }
 
-fn begins_with(words: &[String], name: &str) -> bool
-    ensures { result ≡ begins_with name.now (map string_bytes words.now) }
-{
-    match words {
-        [] => false,
-        [command, ..] => command.as_str() == name,
-    }
-}
-
-/// The command that the words are. `Usage` where they are none: an unknown word, too few or too many
-/// words, a uuid that isn't whole, hyphenated and in lower case, a path that is empty or an option,
-/// a key that isn't `sha512-` and 64 or 128 hex digits in lower case, or an image that is no reference.
-/// `NoMemory` only where they are one.
+/// The command that the words are. `Usage` where they are none, or one that this program hasn't, with the place of the
+/// first word that can't be part of one; `NoMemory` at any words.
 pub fn read_line(alloc: Global, words: &[String]) -> Result<Line, WordsError>
     ensures { IsReading (line_in words.now) result }
 {
-    if begins_with(words, "prepare") {
-        return prepare_line(alloc, &words[1..]);
+    match rkt_words::read_line(alloc, words) {
+        Ok(line) => known_line(alloc, line),
+        Err(error) => Err(error),
     }
-    if begins_with(words, "run") {
-        return run_line(alloc, &words[1..]);
+}
+
+/// The word by which the line names a pod.
+pub(crate) fn line_word(line: &Line) -> Option<PodPrefix>
+    ensures { result ≡ word_of line.now }
+{
+    match line {
+        Line::Status(word) | Line::RunPrepared(word, _) | Line::Rm(word) => Some(*word),
+        _ => None,
     }
-    read_short_line(alloc, words)
+}
+
+/// The path of the file or of the bundle that the words name. None where they name none, or memory ran out.
+pub fn named_path(alloc: Global, words: &[String]) -> Option<Text>
+    ensures { IfSome result (λ path. path_in (line_in words.now) ≡ Some path) }
+{
+    match read_line(alloc, words) {
+        Ok(Line::Validate(path)) => Some(path),
+        Ok(Line::ImageImport(path)) => Some(path),
+        _ => None,
+    }
 }

@@ -4,16 +4,18 @@ ghost use Rattle.dir_model.specs.Causes.{Rose};
 ghost use Rattle.dir_model.specs.declared.intent.Intent.{Intent};
 ghost use Rattle.dir_trait.specs.Knowledge.{Knows};
 ghost use Rattle.dir_trait.specs.Local.{IsActive, nothing_local};
-ghost use Rattle.command_outcomes.specs.Moments.{dir_at, outside_at, inside_at, outcome_of, is_well};
+ghost use Rattle.command_outcomes.specs.Moments.{dir_at, outside_at, inside_at, spawner_at, outcome_of, is_well};
 ghost use Rattle.command_outcomes.specs.Conforming.{begun, StaysConforming};
 ghost use Rattle.commands.specs.Command.{intent_for};
 ghost use Rattle.commands.specs.GcCommand.{gc_intent};
-ghost use Rattle.rkt_cli.specs.Commands.{uses_dir, reads_bundle, runs_apps, intent_of, Came};
-ghost use Rattle.rkt_cli.specs.Runs.{CommandRan, Performs};
-ghost use Rattle.rkt_cli.specs.Spawns.{CameBetween};
+ghost use Rattle.rkt_cli.specs.Commands.{uses_dir, reads_bundle, runs_apps, any_task, intent_in, intent_of, Came};
 ghost use Rattle.rkt_cli.specs.Histories.{HandsOver, WhereKnown};
+ghost use Rattle.rkt_cli.specs.Lookups.{Acts};
+ghost use Rattle.rkt_cli.specs.Runs.{CommandRan};
+ghost use Rattle.rkt_cli.specs.Tasks.{MeansItsPod, task_of};
 
 use crate::line::Line;
+use crate::lookup::its_pod;
 use command_outcomes::{Output, Refusal, Told};
 use commands::gc::gc_pods;
 use commands::image_gc::image_gc;
@@ -26,14 +28,9 @@ use commands::run::run;
 use commands::run_prepared::run_prepared;
 use commands::status::pod_status;
 use commands::validate::validate;
-use dir_trait::{Bundle, Dir, Draw, Intent, Kind, PodPrefix};
+use dir_trait::{Bundle, Dir, Draw, Intent, Kind, PodId, PodPrefix};
 use spawner::Spawner;
 use std::alloc::Global;
-
-// How long an exited pod rests since it was marked, and a prepared one since it was made, in seconds: half an hour, a day.
-const GRACE: u64 = 1_800;
-
-const EXPIRE: u64 = 86_400;
 
 fn intent_for(kind: Kind, word: PodPrefix, now: u64, draw: &Draw) -> Intent
     ensures { result ≡ intent_for kind word now draw.now }
@@ -49,15 +46,15 @@ fn intent_for(kind: Kind, word: PodPrefix, now: u64, draw: &Draw) -> Intent
     }
 }
 
-fn gc_intent(now: u64, draw: &Draw) -> Intent
-    ensures { result ≡ gc_intent now draw.now }
+fn gc_intent(grace: u64, expire: u64, now: u64, draw: &Draw) -> Intent
+    ensures { result ≡ gc_intent grace expire now draw.now }
 {
     Intent {
         kind: Kind::Gc,
         word: PodPrefix::empty(),
         now,
-        grace: GRACE,
-        expire: EXPIRE,
+        grace,
+        expire,
         draw: draw.uuid,
         token: draw.token,
     }
@@ -65,61 +62,59 @@ fn gc_intent(now: u64, draw: &Draw) -> Intent
 
 // What a process says of a line when it begins. None where the command needs no process.
 fn line_intent(line: &Line, now: u64, draw: &Draw) -> Option<Intent>
-    ensures intent { result ≡ intent_of line.now now draw.now }
-    ensures some { IsSome result → uses_dir line.now ≡ true }
-    ensures none { IsNone result → uses_dir line.now ≡ false }
+    ensures intent { result ≡ intent_in line.now now draw.now }
+    ensures some { IsSome result → uses_dir (any_task line.now) ≡ true }
+    ensures none { IsNone result → uses_dir (any_task line.now) ≡ false }
 {
     match line {
-        Line::Status(pod) => Some(intent_for(Kind::Status, PodPrefix::of(*pod), now, draw)),
+        Line::Status(word) => Some(intent_for(Kind::Status, *word, now, draw)),
         Line::Validate(_) => None,
         Line::ImageList => Some(intent_for(Kind::ImageList, PodPrefix::empty(), now, draw)),
         Line::ImageImport(_) => Some(intent_for(Kind::ImageImport, PodPrefix::empty(), now, draw)),
         Line::ImageRm(_) => Some(intent_for(Kind::ImageRm, PodPrefix::empty(), now, draw)),
         Line::ImageGc => Some(intent_for(Kind::ImageGc, PodPrefix::empty(), now, draw)),
         Line::Prepare(_) => Some(intent_for(Kind::Prepare, PodPrefix::empty(), now, draw)),
-        Line::RunPrepared(pod) => Some(intent_for(
-            Kind::RunPrepared,
-            PodPrefix::of(*pod),
-            now,
-            draw,
-        )),
-        Line::Run(_) => Some(intent_for(Kind::Run, PodPrefix::empty(), now, draw)),
-        Line::Rm(pod) => Some(intent_for(Kind::Rm, PodPrefix::of(*pod), now, draw)),
-        Line::Gc => Some(gc_intent(now, draw)),
+        Line::RunPrepared(word, _) => Some(intent_for(Kind::RunPrepared, *word, now, draw)),
+        Line::Run(_, _) => Some(intent_for(Kind::Run, PodPrefix::empty(), now, draw)),
+        Line::Rm(word) => Some(intent_for(Kind::Rm, *word, now, draw)),
+        Line::Gc(grace, expire) => Some(gc_intent(*grace, *expire, now, draw)),
     }
 }
 
-// A command that runs no apps.
+// A command that runs no apps, on the pod that its line means.
 fn act_alone<D: Dir, B: Bundle>(
     alloc: Global,
     line: &Line,
+    pod: PodId,
     now: u64,
     draw: &Draw,
     dir: &mut D,
     bundle: &mut B,
 ) -> Result<Output, Refusal>
-    requires active { uses_dir line.now ≡ true → IsActive (D.shown dir.old).local }
+    requires active { uses_dir (task_of line.now pod) ≡ true → IsActive (D.shown dir.old).local }
     requires ready { (D.shown dir.old).local.holdings ≡ [] }
-    requires alone { runs_apps line.now ≡ false }
+    requires meant { MeansItsPod (task_of line.now pod) }
+    requires alone { runs_apps (task_of line.now pod) ≡ false }
     ensures local { (D.shown dir.new).local ≡ (D.shown dir.old).local }
-    ensures apart { uses_dir line.now ≡ false → dir.new ≡ dir.old }
-    ensures unread { reads_bundle line.now ≡ false → bundle.new ≡ bundle.old }
-    ensures keeps { D.observed ≡ true → (intent : Intent) → intent_of line.now now draw.now ≡ Some intent
+    ensures apart { uses_dir (task_of line.now pod) ≡ false → dir.new ≡ dir.old }
+    ensures unread { reads_bundle (task_of line.now pod) ≡ false → bundle.new ≡ bundle.old }
+    ensures keeps { D.observed ≡ true → (intent : Intent) → intent_of (task_of line.now pod) now draw.now ≡ Some intent
         → StaysConforming intent (dir_at D.Dir dir.old) (dir_at D.Dir dir.new) }
-    ensures makers { D.observed ≡ true → uses_dir line.now ≡ true → WhereKnown line.now now draw.now (D.shown dir.old) (HandsOver (D.shown dir.old) (D.shown dir.new)) }
-    ensures ran { CommandRan line.now now draw.now (outside_at D.Dir B.Bundle dir.old bundle.old) (outside_at D.Dir B.Bundle dir.new bundle.new) result }
+    ensures makers { D.observed ≡ true → uses_dir (task_of line.now pod) ≡ true
+        → WhereKnown (task_of line.now pod) now draw.now (D.shown dir.old) (HandsOver (D.shown dir.old) (D.shown dir.new)) }
+    ensures ran { CommandRan (task_of line.now pod) now draw.now (outside_at D.Dir B.Bundle dir.old bundle.old) (outside_at D.Dir B.Bundle dir.new bundle.new) result }
 {
     match line {
-        Line::Status(pod) => pod_status(alloc, *pod, dir),
+        Line::Status(_) => pod_status(alloc, pod, dir),
         Line::Validate(path) => validate(alloc, path, bundle),
         Line::ImageList => image_list(alloc, dir),
         Line::ImageImport(path) => image_import(alloc, path, now, draw.uuid, dir, bundle),
         Line::ImageRm(key) => image_rm(alloc, *key, draw.uuid, dir),
         Line::ImageGc => image_gc(alloc, dir),
         Line::Prepare(wanted) => prepare_pod(alloc, wanted, now, draw, dir),
-        Line::Rm(pod) => rm(alloc, *pod, now, dir),
-        Line::Gc => gc_pods(alloc, now, GRACE, EXPIRE, dir),
-        Line::RunPrepared(_) | Line::Run(_) => unreachable!(),
+        Line::Rm(_) => rm(alloc, pod, now, dir),
+        Line::Gc(grace, expire) => gc_pods(alloc, now, *grace, *expire, dir),
+        Line::RunPrepared(_, _) | Line::Run(_, _) => unreachable!(),
     }
 }
 
@@ -134,38 +129,44 @@ fn all_well(outcome: Result<Output, Refusal>) -> Result<Told, Refusal>
     }
 }
 
-// The command itself, between the begin and the finish where it needs a process.
+// The command itself, on the pod that its line means.
 fn act<D: Dir, B: Bundle, S: Spawner>(
     alloc: Global,
     line: &Line,
+    pod: PodId,
     now: u64,
     draw: &Draw,
     dir: &mut D,
     bundle: &mut B,
     spawner: &mut S,
 ) -> Result<Told, Refusal>
-    requires active { uses_dir line.now ≡ true → IsActive (D.shown dir.old).local }
+    requires active { uses_dir (task_of line.now pod) ≡ true → IsActive (D.shown dir.old).local }
     requires ready { (D.shown dir.old).local.holdings ≡ [] }
-    requires known { D.observed ≡ true → (intent : Intent) → intent_of line.now now draw.now ≡ Some intent → Knows (D.shown dir.old) (begun intent) }
+    requires meant { MeansItsPod (task_of line.now pod) }
+    requires known { D.observed ≡ true → (intent : Intent) → intent_of (task_of line.now pod) now draw.now ≡ Some intent → Knows (D.shown dir.old) (begun intent) }
     ensures local { (D.shown dir.new).local ≡ (D.shown dir.old).local }
-    ensures apart { uses_dir line.now ≡ false → dir.new ≡ dir.old }
-    ensures unread { reads_bundle line.now ≡ false → bundle.new ≡ bundle.old }
-    ensures unasked { runs_apps line.now ≡ false → spawner.new ≡ spawner.old }
+    ensures apart { uses_dir (task_of line.now pod) ≡ false → dir.new ≡ dir.old }
+    ensures unread { reads_bundle (task_of line.now pod) ≡ false → bundle.new ≡ bundle.old }
+    ensures unasked { runs_apps (task_of line.now pod) ≡ false → spawner.new ≡ spawner.old }
     ensures spawn_cause { IsErrOf result Refusal.SpawnFault → Rose (S.shown spawner.old).faults (S.shown spawner.new).faults }
-    ensures keeps { D.observed ≡ true → (intent : Intent) → intent_of line.now now draw.now ≡ Some intent
+    ensures keeps { D.observed ≡ true → (intent : Intent) → intent_of (task_of line.now pod) now draw.now ≡ Some intent
         → StaysConforming intent (dir_at D.Dir dir.old) (dir_at D.Dir dir.new) }
-    ensures makers { D.observed ≡ true → uses_dir line.now ≡ true → WhereKnown line.now now draw.now (D.shown dir.old) (HandsOver (D.shown dir.old) (D.shown dir.new)) }
-    ensures ran { CommandRan line.now now draw.now (outside_at D.Dir B.Bundle dir.old bundle.old) (outside_at D.Dir B.Bundle dir.new bundle.new) (outcome_of result) }
-    ensures came { Came line.now now draw.now (inside_at D.Dir S.Spawner dir.old spawner.old) (inside_at D.Dir S.Spawner dir.new spawner.new) result }
+    ensures makers { D.observed ≡ true → uses_dir (task_of line.now pod) ≡ true
+        → WhereKnown (task_of line.now pod) now draw.now (D.shown dir.old) (HandsOver (D.shown dir.old) (D.shown dir.new)) }
+    ensures ran { CommandRan (task_of line.now pod) now draw.now (outside_at D.Dir B.Bundle dir.old bundle.old) (outside_at D.Dir B.Bundle dir.new bundle.new) (outcome_of result) }
+    ensures came { Came (task_of line.now pod) now draw.now (inside_at D.Dir S.Spawner dir.old spawner.old) (inside_at D.Dir S.Spawner dir.new spawner.new) result }
 {
     match line {
-        Line::RunPrepared(pod) => run_prepared(alloc, *pod, dir, spawner),
-        Line::Run(wanted) => run(alloc, wanted, now, draw, dir, spawner),
-        _ => all_well(act_alone(alloc, line, now, draw, dir, bundle)),
+        Line::RunPrepared(_, address) => run_prepared(alloc, pod, address.as_str(), dir, spawner),
+        Line::Run(wanted, address) => {
+            run(alloc, wanted, address.as_str(), now, draw, dir, spawner)
+        }
+        _ => all_well(act_alone(alloc, line, pod, now, draw, dir, bundle)),
     }
 }
 
-// A process begins, does what the line says, and finishes. Where it can't begin, it does nothing more.
+// A process begins, comes to the pod that the line means, does what it says, and finishes. Where it can't begin, it does
+// nothing more.
 fn act_in_process<D: Dir, B: Bundle, S: Spawner>(
     alloc: Global,
     line: &Line,
@@ -177,24 +178,28 @@ fn act_in_process<D: Dir, B: Bundle, S: Spawner>(
     spawner: &mut S,
 ) -> Result<Told, Refusal>
     requires fresh { (D.shown dir.old).local ≡ nothing_local }
-    requires uses { uses_dir line.now ≡ true }
-    requires said { intent_of line.now now draw.now ≡ Some intent }
-    ensures unread { reads_bundle line.now ≡ false → bundle.new ≡ bundle.old }
-    ensures unasked { runs_apps line.now ≡ false → spawner.new ≡ spawner.old }
-    ensures spawn_cause { IsErrOf result Refusal.SpawnFault → Rose (S.shown spawner.old).faults (S.shown spawner.new).faults }
+    requires uses { uses_dir (any_task line.now) ≡ true }
+    requires said { intent_in line.now now draw.now ≡ Some intent }
+    ensures unread { reads_bundle (any_task line.now) ≡ false → bundle.new ≡ bundle.old }
+    ensures unasked { runs_apps (any_task line.now) ≡ false → spawner.new ≡ spawner.old }
     ensures makers { D.observed ≡ true → HandsOver (D.shown dir.old) (D.shown dir.new) }
-    ensures performs { Performs line.now now draw.now (Some intent) (outside_at D.Dir B.Bundle dir.old bundle.old)
-        (outside_at D.Dir B.Bundle dir.new bundle.new) (outcome_of result) }
-    ensures came { CameBetween line.now now draw.now (Some intent) (inside_at D.Dir S.Spawner dir.old spawner.old) (inside_at D.Dir S.Spawner dir.new spawner.new) result }
+    ensures acts { Acts line.now now draw.now (outside_at D.Dir B.Bundle dir.old bundle.old) (outside_at D.Dir B.Bundle dir.new bundle.new)
+        (spawner_at S.Spawner spawner.old) (spawner_at S.Spawner spawner.new) result }
 {
     match dir.begin(alloc, intent) {
-        Ok(()) => {
-            let answer = act(alloc, line, now, draw, dir, bundle, spawner);
-            // Before anything is printed, so that a slow reader of the output keeps no process alive.
-            dir.finish();
-            answer
-        }
         Err(_) => Err(Refusal::NoMemory),
+        Ok(()) => match its_pod(alloc, line, draw, dir) {
+            Ok(pod) => {
+                let answer = act(alloc, line, pod, now, draw, dir, bundle, spawner);
+                // Before anything is printed, so that a slow reader of the output keeps no process alive.
+                dir.finish();
+                answer
+            }
+            Err(refusal) => {
+                dir.finish();
+                Err(refusal)
+            }
+        },
     }
 }
 
@@ -209,17 +214,15 @@ pub fn perform<D: Dir, B: Bundle, S: Spawner>(
     spawner: &mut S,
 ) -> Result<Told, Refusal>
     requires fresh { (D.shown dir.old).local ≡ nothing_local }
-    ensures apart { uses_dir line.now ≡ false → dir.new ≡ dir.old }
-    ensures unread { reads_bundle line.now ≡ false → bundle.new ≡ bundle.old }
-    ensures unasked { runs_apps line.now ≡ false → spawner.new ≡ spawner.old }
-    ensures spawn_cause { IsErrOf result Refusal.SpawnFault → Rose (S.shown spawner.old).faults (S.shown spawner.new).faults }
+    ensures apart { uses_dir (any_task line.now) ≡ false → dir.new ≡ dir.old }
+    ensures unread { reads_bundle (any_task line.now) ≡ false → bundle.new ≡ bundle.old }
+    ensures unasked { runs_apps (any_task line.now) ≡ false → spawner.new ≡ spawner.old }
     ensures makers { D.observed ≡ true → HandsOver (D.shown dir.old) (D.shown dir.new) }
-    ensures performs { Performs line.now now draw.now (intent_of line.now now draw.now) (outside_at D.Dir B.Bundle dir.old bundle.old)
-        (outside_at D.Dir B.Bundle dir.new bundle.new) (outcome_of result) }
-    ensures came { CameBetween line.now now draw.now (intent_of line.now now draw.now) (inside_at D.Dir S.Spawner dir.old spawner.old) (inside_at D.Dir S.Spawner dir.new spawner.new) result }
+    ensures acts { Acts line.now now draw.now (outside_at D.Dir B.Bundle dir.old bundle.old) (outside_at D.Dir B.Bundle dir.new bundle.new)
+        (spawner_at S.Spawner spawner.old) (spawner_at S.Spawner spawner.new) result }
 {
     match line_intent(line, now, draw) {
         Some(intent) => act_in_process(alloc, line, intent, now, draw, dir, bundle, spawner),
-        None => act(alloc, line, now, draw, dir, bundle, spawner),
+        None => act(alloc, line, draw.uuid, now, draw, dir, bundle, spawner),
     }
 }

@@ -1,5 +1,5 @@
 // What is written, and the status.
-ghost use Rattle.std.specs.Prelude.{◌≡◌, IfOk};
+ghost use Rattle.std.specs.Prelude.{◌≡◌, IfOk, IfErr};
 ghost use Rattle.command_outcomes.specs.Texts.{status_of};
 ghost use Rattle.command_outcomes.specs.Moments.{sink_at, outcome_of, is_well};
 ghost use Rattle.commands.specs.Answers.{Complained};
@@ -17,6 +17,7 @@ pub fn print<O: Sink>(
 ) -> Result<bool, Refusal>
     ensures printed { Printed (outcome_of answer) (sink_at O.Sink out.old) (sink_at O.Sink out.new) (end_of_writing result) }
     ensures well { IfOk result (λ well. well ≡ is_well answer) }
+    ensures unwritten { IfErr answer (λ refusal. out.new ≡ out.old) }
 {
     match answer {
         Err(refusal) => Err(refusal),

@@ -1,8 +1,7 @@
 // The top call.
-ghost use Rattle.std.specs.Prelude.{◌≡◌, ◌↔◌, true, false, None};
+ghost use Rattle.std.specs.Prelude.{◌≡◌, ◌⊎◌, true, false, None};
 ghost use Rattle.command_outcomes.specs.Conforming.{KeepsConforming};
 ghost use Rattle.command_outcomes.specs.Moments.{dir_at, bundle_at};
-ghost use Rattle.dir_trait.specs.DirCalls.{ExtendsBy};
 ghost use Rattle.dir_trait.specs.Local.{nothing_local};
 ghost use Rattle.pod_build.specs.LegalExecutions.{IsLegal};
 ghost use Rattle.pod_roots.specs.Roots.{AppsStartFaithfully, PodsReadAsMade};
@@ -10,13 +9,14 @@ ghost use Rattle.rkt_cli.specs.Between.{EndedBetween, ToldBetween, QuietBetween,
 ghost use Rattle.rkt_cli.specs.Commands.{uses_dir_in, reads_bundle_in, runs_apps_in};
 ghost use Rattle.rkt_cli.specs.Histories.{HandsOver, StaysLawful};
 ghost use Rattle.rkt_cli.specs.Lines.{line_in};
-ghost use Rattle.rkt_cli.specs.Promises.{asks_in, IsStatus, IsOutput, IsOver, ReadsIn};
+ghost use Rattle.rkt_cli.specs.Promises.{AsksOnly, IsStatus, IsOutput, IsOver, ReadsIn};
 
-use crate::line::{WordsError, read_line};
+use crate::line::read_line;
 use crate::perform::perform;
 use crate::print::{print, refuse, report};
 use command_outcomes::Refusal;
 use dir_trait::{Bundle, Dir, Draw, Sink};
+use rkt_words::WordsError;
 use spawner::Spawner;
 use std::alloc::Global;
 
@@ -41,7 +41,7 @@ fn run<D: Dir, B: Bundle, S: Spawner, O: Sink, E: Sink>(
     ensures makers { D.observed ≡ true → HandsOver (D.shown dir.old) (D.shown dir.new) }
 {
     match read_line(alloc, words) {
-        Err(WordsError::Usage) => refuse(alloc, err, &Refusal::Usage),
+        Err(WordsError::Usage(_)) => refuse(alloc, err, &Refusal::Usage),
         Err(WordsError::NoMemory) => refuse(alloc, err, &Refusal::NoMemory),
         Ok(line) => {
             let answer = perform(alloc, &line, now, draw, dir, bundle, spawner);
@@ -69,7 +69,8 @@ pub fn rkt<D: Dir, B: Bundle, S: Spawner, O: Sink, E: Sink>(
 ) -> u8
     requires fresh { (D.shown dir.old).local ≡ nothing_local }
     ensures statuses { IsStatus result }
-    ensures usage { (result ≡ 1) ↔ (line_in words.now ≡ None) }
+    ensures usage { result ≡ 1 → line_in words.now ≡ None }
+    ensures unread_words { line_in words.now ≡ None → (result ≡ 1) ⊎ (result ≡ 14) }
     ensures ended { EndedBetween D.Dir B.Bundle S.Spawner O.Sink E.Sink (line_in words.now) now draw.now result
         (dir.old, bundle.old, spawner.old, out.old, err.old) (dir.new, bundle.new, spawner.new, out.new, err.new) }
     ensures tells { ToldBetween D.Dir B.Bundle S.Spawner O.Sink E.Sink (line_in words.now) now draw.now result
@@ -80,7 +81,7 @@ pub fn rkt<D: Dir, B: Bundle, S: Spawner, O: Sink, E: Sink>(
     ensures unasked { runs_apps_in (line_in words.now) ≡ false → spawner.new ≡ spawner.old }
     ensures reads { ReadsIn (line_in words.now) (bundle_at B.Bundle bundle.old) (bundle_at B.Bundle bundle.new) }
     ensures over { IsOver (line_in words.now) now draw.now result (D.shown dir.old).local (D.shown dir.new).local }
-    ensures extends { D.observed ≡ true → ExtendsBy (asks_in (line_in words.now) now draw.now) (D.shown dir.old) (D.shown dir.new) }
+    ensures extends { D.observed ≡ true → AsksOnly (line_in words.now) now draw.now (D.shown dir.old).process (D.shown dir.old).trace (D.shown dir.new).trace }
     ensures conforms { D.observed ≡ true → KeepsConforming (dir_at D.Dir dir.old) (dir_at D.Dir dir.new) }
     ensures lawful { D.observed ≡ true → StaysLawful draw.now (dir_at D.Dir dir.old) (dir_at D.Dir dir.new) }
     ensures makers { D.observed ≡ true → HandsOver (D.shown dir.old) (D.shown dir.new) }

@@ -7,7 +7,7 @@ use Rattle.commands.proofs.Prepares.{syncs_hand_none}
 use Rattle.commands.proofs.prepare.prepare_saying.Goals as goal
 
 pub build_refusal-requires : goal.build_refusal-requires
-build_refusal-requires g c place is = rw c.words.ensures (no_match_within c.args.wanted.now g.D.Dir.observed c.refs.result.now c.no_options-options.result c.args.draw.now c.refs.ensures c.in-Err.ensures.refused place is)
+build_refusal-requires g c place is = rw c.words.ensures (no_match_within c.args.wanted.now.images g.D.Dir.observed c.refs.result.now c.options.result.now c.args.draw.now c.refs.ensures c.in-Err.ensures.refused place is)
 
 pub returns-in-Ok-clause-worked : goal.returns-in-Ok-clause-worked
 returns-in-Ok-clause-worked g c = both_worked c.args.draw.now.uuid (prepare_worked c.args.draw.now.uuid c.prepare.result c.prepare.ensures.answer c.prepare.ensures.went) c.sync_saying.ensures.worked
@@ -30,7 +30,7 @@ pub returns-in-Ok-clause-says : goal.returns-in-Ok-clause-says
 returns-in-Ok-clause-says g c =
     let D = g.D.Dir in
     synced_says D.observed (D.shown c.args.dir.now) (D.shown c.prepare.new.dir) (D.shown c.sync_saying.new.dir) c.args.wanted.now c.refs.result.now c.args.now c.args.draw.now c.args.line c.in-Ok.field-0 c.sync_saying.result
-    c.prepare.ensures.went.same c.refs.ensures c.in-Ok.ensures.answer c.prepare.ensures.went.extends c.in-Ok.ensures.knows (rw c.no_options-options.ensures at c.in-Ok.ensures.prepared) c.requires.line c.sync_saying.ensures.says
+    c.prepare.ensures.went.same c.refs.ensures c.in-Ok.ensures.answer c.prepare.ensures.went.extends c.in-Ok.ensures.knows (rw c.options.ensures at c.in-Ok.ensures.prepared) c.requires.line c.sync_saying.ensures.says
 
 pub returns-in-Err-clause-worked : goal.returns-in-Err-clause-worked
 returns-in-Err-clause-worked g c = prepare_worked c.args.draw.now.uuid c.prepare.result c.prepare.ensures.answer c.prepare.ensures.went
@@ -50,7 +50,7 @@ pub returns-in-Err-clause-says : goal.returns-in-Err-clause-says
 returns-in-Err-clause-says g c =
     let D = g.D.Dir in
     refused_says D.observed (D.shown c.args.dir.now) (D.shown c.prepare.new.dir) c.args.wanted.now c.refs.result.now c.args.now c.args.draw.now c.in-Err.error c.build_refusal.result c.refs.ensures
-    (rw c.words.ensures at c.build_refusal.ensures) (rw c.no_options-options.ensures at c.in-Err.ensures.refused) c.in-Err.ensures.another c.in-Err.ensures.left
+    (rw c.words.ensures at c.build_refusal.ensures) (rw c.options.ensures at c.in-Err.ensures.refused) c.in-Err.ensures.another c.in-Err.ensures.left
 
 pub returns-in-Ok-clause-makers : goal.returns-in-Ok-clause-makers
 returns-in-Ok-clause-makers g c t run intent hs began alone k =

@@ -34,7 +34,7 @@ run_owned-requires-clause-runs g c t =
     (λ t. made_knows c.args.draw.now c.args.now c.in-Ok.built c.kept.result a (D.shown c.prepare.new.dir) c.kept.ensures (c.in-Ok.ensures.knows t)) t
 
 pub build_refusal-requires : goal.build_refusal-requires
-build_refusal-requires g c place is = rw c.words.ensures (no_match_within c.args.wanted.now g.D.Dir.observed c.refs.result.now c.no_options-options.result c.args.draw.now c.refs.ensures c.in-Err.ensures.refused place is)
+build_refusal-requires g c place is = rw c.words.ensures (no_match_within c.args.wanted.now.images g.D.Dir.observed c.refs.result.now c.options.result.now c.args.draw.now c.refs.ensures c.in-Err.ensures.refused place is)
 
 pub returns-in-Ok-clause-worked : goal.returns-in-Ok-clause-worked
 returns-in-Ok-clause-worked g c =
@@ -63,11 +63,11 @@ returns-in-Ok-clause-says g c =
     let S = g.S.Spawner in
     let a = D.shown c.args.dir.now in
     let b = D.shown c.prepare.new.dir in
-    made_says D.observed S.observed c.args.wanted.now c.args.now c.args.draw.now a (D.shown c.run_owned.new.dir) (S.shown c.args.spawner.now) (S.shown c.run_owned.new.spawner) c.run_owned.result c.refs.result.now b c.kept.result c.refs.ensures
+    made_says D.observed S.observed c.args.wanted.now c.args.address.now c.args.now c.args.draw.now a (D.shown c.run_owned.new.dir) (S.shown c.args.spawner.now) (S.shown c.run_owned.new.spawner) c.run_owned.result c.refs.result.now b c.kept.result c.refs.ensures
     (kept_owned c.args.draw.now.uuid a.local c.in-Ok.built c.kept.result c.kept.ensures c.in-Ok.ensures.answer)
     c.prepare.ensures.went.same c.prepare.ensures.went.extends
     (λ t. made_knows c.args.draw.now c.args.now c.in-Ok.built c.kept.result a b c.kept.ensures (c.in-Ok.ensures.knows t))
-    (rw c.no_options-options.ensures at c.in-Ok.ensures.prepared) (λ t. grown_by (c.run_owned.ensures.went.extends t)) (rw c.requires.line at c.run_owned.ensures.says)
+    (rw c.options.ensures at c.in-Ok.ensures.prepared) (λ t. grown_by (c.run_owned.ensures.went.extends t)) (rw c.requires.line at c.run_owned.ensures.says)
 
 pub returns-in-Err-clause-worked : goal.returns-in-Err-clause-worked
 returns-in-Err-clause-worked g c = unmade_worked c.args.draw.now.uuid (unmade_went (g.D.Dir.shown c.args.dir.now).local c.args.draw.now.uuid c.prepare.result c.in-Err.error c.in-Err.is c.prepare.ensures.went)
@@ -92,8 +92,8 @@ pub returns-in-Err-clause-says : goal.returns-in-Err-clause-says
 returns-in-Err-clause-says g c =
     let D = g.D.Dir in
     let S = g.S.Spawner in
-    unmade_says D.observed S.observed c.args.wanted.now c.args.now c.args.draw.now (D.shown c.args.dir.now) (D.shown c.prepare.new.dir) (S.shown c.args.spawner.now) (S.shown c.args.spawner.now) (Err c.build_refusal.result)
-    c.refs.result.now c.in-Err.error c.build_refusal.result refl c.refs.ensures (rw c.words.ensures at c.build_refusal.ensures) (rw c.no_options-options.ensures at c.in-Err.ensures.refused) c.in-Err.ensures.another c.in-Err.ensures.left refl
+    unmade_says D.observed S.observed c.args.wanted.now c.args.address.now c.args.now c.args.draw.now (D.shown c.args.dir.now) (D.shown c.prepare.new.dir) (S.shown c.args.spawner.now) (S.shown c.args.spawner.now) (Err c.build_refusal.result)
+    c.refs.result.now c.in-Err.error c.build_refusal.result refl c.refs.ensures (rw c.words.ensures at c.build_refusal.ensures) (rw c.options.ensures at c.in-Err.ensures.refused) c.in-Err.ensures.another c.in-Err.ensures.left refl
 
 pub returns-in-Ok-clause-makers : goal.returns-in-Ok-clause-makers
 returns-in-Ok-clause-makers g c t run intent hs began alone k =

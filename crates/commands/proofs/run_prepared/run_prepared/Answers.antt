@@ -42,7 +42,7 @@ pub returns-in-Ok-clause-says : goal.returns-in-Ok-clause-says
 returns-in-Ok-clause-says g c =
     let D = g.D.Dir in
     let S = g.S.Spawner in
-    claimed_says D.observed S.observed c.args.pod (D.shown c.args.dir.now) (D.shown c.run_owned.new.dir) (S.shown c.args.spawner.now) (S.shown c.run_owned.new.spawner) c.run_owned.result (D.shown c.claim.new.dir) c.in-Ok.owned
+    claimed_says D.observed S.observed c.args.pod c.args.address.now (D.shown c.args.dir.now) (D.shown c.run_owned.new.dir) (S.shown c.args.spawner.now) (S.shown c.run_owned.new.spawner) c.run_owned.result (D.shown c.claim.new.dir) c.in-Ok.owned
     c.in-Ok.ensures.owned c.claim.ensures.went.same c.claim.ensures.went.extends c.in-Ok.ensures.moved (λ t. grown_by (c.run_owned.ensures.went.extends t)) (rw c.new.ensures at c.run_owned.ensures.says)
 
 pub returns-in-Err-clause-worked : goal.returns-in-Err-clause-worked
@@ -70,5 +70,5 @@ pub returns-in-Err-clause-says : goal.returns-in-Err-clause-says
 returns-in-Err-clause-says g c =
     let D = g.D.Dir in
     let S = g.S.Spawner in
-    unclaimed_says D.observed S.observed c.args.pod (D.shown c.args.dir.now) (D.shown c.claim.new.dir) (S.shown c.args.spawner.now) (S.shown c.args.spawner.now) (Err c.claim_refusal.result) c.in-Err.error
+    unclaimed_says D.observed S.observed c.args.pod c.args.address.now (D.shown c.args.dir.now) (D.shown c.claim.new.dir) (S.shown c.args.spawner.now) (S.shown c.args.spawner.now) (Err c.claim_refusal.result) c.in-Err.error
     (ap Err c.claim_refusal.ensures) c.in-Err.ensures.cause c.in-Err.ensures.still c.in-Err.ensures.another c.in-Err.ensures.owned_elsewhere c.in-Err.ensures.complete refl

@@ -1,5 +1,5 @@
-use Rattle.std.proofs.Common.{◌≡◌, map, take, string_bytes}
+use Rattle.std.proofs.Common.{◌≡◌, take}
 use Rattle.commands.proofs.wanted.texts_of.Given as goal
 
 abbrev pub invariant-words : goal.invariant-words
-invariant-words l = l.texts.items ≡ map string_bytes (take l.word-index l.words)
+invariant-words l = l.texts.items ≡ take l.place l.words

@@ -1,0 +1,81 @@
+-- From an answer to a pod's word to how a process came to its pod.
+use Rattle.std.proofs.Common.{arith, ◌≡◌, ◌==◌, ℕ, Bool, true, false, cond, List, length, Some, Ok, Err, IsOk, IsErrOf, refl, ap, subst}
+use Rattle.std.proofs.lemmas.Bool.Decides.{nat_tests}
+use Rattle.dir_model.specs.declared.pod.PodId.{PodId}
+use Rattle.dir_model.specs.Causes.{Rose}
+use Rattle.dir_model.specs.Pods.{pod_text}
+use Rattle.dir_rules.specs.declared.seen.Seen.{Seen}
+use Rattle.dir_trait.specs.DirCalls.{DirAt}
+use Rattle.dir_trait.specs.Knowledge.{Knows}
+use Rattle.pod_lookup.specs.declared.error.LookupError.{LookupError}
+use Rattle.pod_lookup.specs.declared.error.LookupError.TheVariants as lookup
+use Rattle.pod_lookup.specs.Choice.{IfAmbiguous, IsChoice, NamesMeant}
+use Rattle.pod_lookup.specs.Looks.{OnlyLooksFor, lists_stages}
+use Rattle.pod_lookup.specs.Resolved.{AreTheLeast, FindsTheOne, IsNoneOf, IsSequential, IsShown}
+use Rattle.command_outcomes.specs.Conforming.{begun, shown_at}
+use Rattle.command_outcomes.specs.Moments.{DirSeen, dir_seen}
+use Rattle.commands.specs.Opening.{directly, looking, Looks}
+use Rattle.rkt_cli.specs.Lookups.{ComesToPod, FindsMeant, MeansNone, lookup_refusal}
+use Rattle.command_outcomes.specs.declared.refusal.Refusal.{Refusal}
+
+equal_lengths : (n : ℕ) → (n == 36) ≡ true → n ≡ 36
+equal_lengths n is = grind (arith, nat_tests)
+
+module _ (observed : Bool) (word : List ℕ) (old new : DirAt) where
+  abbrev before : DirSeen
+  before = dir_seen observed old
+
+  abbrev after : DirSeen
+  after = dir_seen observed new
+
+  -- how it came there
+  pub came : OnlyLooksFor observed lists_stages old new → (length word ≡ 36 → new ≡ old) → ComesToPod (Some word) before after
+  came only unseen = record {
+    same = only.same;
+    faults = only.faults;
+    local = only.local;
+    looks = λ t. looks t (length word == 36) refl;
+    knows = λ t intent k.
+        let x = only.known t (begun intent) (record { tied = k.tied; handles = k.handles }) in
+        let y : Knows new (begun intent) = subst (λ (s : Seen). Knows new s) (x.bare refl) x.knows in
+        record { tied = y.tied; handles = y.handles };
+  }
+    where
+      looks : observed ≡ true → (b : Bool) → (length word == 36) ≡ b → Looks (cond b directly looking) old.process old.trace new.trace
+      looks t true is = ap (λ (d : DirAt). d.trace) (unseen (equal_lengths (length word) is))
+      looks t false is = only.extends t
+
+  -- to the pod
+  pub came_to : (pod : PodId) → NamesMeant word (Ok pod) → (length word ≡ 36 → pod_text pod.bytes ≡ word) → (observed ≡ true → FindsTheOne word (Ok pod) old new) → (observed ≡ true → IsSequential word (Ok pod) old new) → FindsMeant word before after (Ok pod)
+  came_to pod meant whole one quiet = (record { begins = meant; whole = whole }, λ t. record { the_one = one t; quiet = quiet t })
+
+  -- or to none
+  shown_so : {names : List (List ℕ)} {pod : PodId} → IsShown word names old new pod → IsShown word names (shown_at before) (shown_at after) pod
+  shown_so x = record { meant = x.meant; among = x.among; shown = x.shown; existed = x.existed }
+
+  least_so : {a b : PodId} → AreTheLeast word a b old new → AreTheLeast word a b (shown_at before) (shown_at after)
+  least_so x = record { names = x.names; listed = x.listed; first = shown_so x.first; second = shown_so x.second; rise = x.rise; least = x.least }
+
+  why : (error : LookupError) → (IsErrOf {T = PodId} (Err error) lookup.DirFault → Rose old.faults new.faults) → (IsErrOf {T = PodId} (Err error) lookup.NoPod → observed ≡ true → IsNoneOf word old new) →
+      IfAmbiguous (Err error) (λ a b. observed ≡ true → AreTheLeast word a b old new) → MeansNone word error before after
+  why lookup.NoPod cause none several = none refl
+  why (lookup.Ambiguous a b) cause none several = λ t. least_so (several t)
+  why lookup.DirFault cause none several = cause refl
+  why lookup.NoMemory cause none several = tt
+
+  apart : (error : LookupError) (b : Bool) → (length word == 36) ≡ b → (length word ≡ 36 → IsOk {T = PodId} {E = LookupError} (Err error)) → cond b directly looking ≡ looking
+  apart error false is whole = refl
+  apart error true is whole = let clash : false ≡ true = whole (equal_lengths (length word) is) in cc
+
+  pub came_to_none : (error : LookupError) (refusal : Refusal) → refusal ≡ lookup_refusal error → (IsErrOf {T = PodId} (Err error) lookup.DirFault → Rose old.faults new.faults) → (IsErrOf {T = PodId} (Err error) lookup.NoPod → observed ≡ true → IsNoneOf word old new) →
+      IfAmbiguous (Err error) (λ a b. observed ≡ true → AreTheLeast word a b old new) → (length word ≡ 36 → IsOk {T = PodId} {E = LookupError} (Err error)) → NamesMeant word (Err error) → (IsChoice (Err error) → observed ≡ true → FindsTheOne word (Err error) old new) → (IsChoice (Err error) → observed ≡ true → IsSequential word (Err error) old new) →
+      FindsMeant word before after (Err refusal)
+  came_to_none error refusal is cause none several whole names one quiet = record {
+    error = error;
+    is = is;
+    part = apart error (length word == 36) refl whole;
+    names = names;
+    why = why error cause none several;
+    not_one = λ t choice. one choice t;
+    quiet = λ t choice. quiet choice t;
+  }

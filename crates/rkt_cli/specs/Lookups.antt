@@ -1,0 +1,123 @@
+-- A process that comes to no task: memory ran out before, or the word of its line means no pod.
+use Rattle.std.specs.Prelude.{◌≡◌, ◌⊎◌, ◌≤◌, ℕ, true, List, Option, Some, None, Result, Ok, Err, IsErrOf}
+use Rattle.dir_model.specs.declared.intent.Draw.{Draw}
+use Rattle.dir_model.specs.declared.intent.Intent.{Intent}
+use Rattle.dir_model.specs.declared.pod.PodId.{PodId}
+use Rattle.dir_model.specs.declared.request.Request.TheVariants.{Begin, Finish}
+use Rattle.dir_model.specs.declared.request.Reply.TheVariants.{Done}
+use Rattle.dir_trait.specs.Calls.{CallStep}
+use Rattle.dir_trait.specs.Causes.{Rose}
+use Rattle.dir_trait.specs.Knowledge.{Knows}
+use Rattle.pod_lookup.specs.declared.error.LookupError.{LookupError}
+use Rattle.pod_lookup.specs.declared.error.LookupError.TheVariants as lookup
+use Rattle.pod_lookup.specs.Choice.{IsChoice, NamesMeant}
+use Rattle.pod_lookup.specs.Resolved.{IsNoneOf, AreTheLeast, FindsTheOne, IsSequential}
+use Rattle.command_outcomes.specs.declared.refusal.Refusal.{Refusal}
+use Rattle.command_outcomes.specs.declared.refusal.Refusal.TheVariants.{NoPod, Ambiguous, DirFault, SpawnFault, NoMemory}
+use Rattle.command_outcomes.specs.Texts.{status_of}
+use Rattle.command_outcomes.specs.Conforming.{begun as just_begun, shown_at}
+use Rattle.command_outcomes.specs.Moments.{DirSeen, SpawnerSeen, Outside, Moment, Answer, outcome_of}
+use Rattle.commands.specs.Answers.{Complained}
+use Rattle.commands.specs.AppsTold.{inside}
+use Rattle.commands.specs.Opening.{Approach, directly, looking, approach_of, Looks}
+use Rattle.rkt_cli.specs.declared.line.Line.{Line}
+use Rattle.rkt_cli.specs.Commands.{intent_in, intent_of}
+use Rattle.rkt_cli.specs.Runs.{NeverBegan, Performs, ended_local}
+use Rattle.rkt_cli.specs.Spawns.{CameBetween}
+use Rattle.rkt_cli.specs.Tasks.{Task, task_of, word_of, IsMeant, IsMeantBy, IsFound}
+
+-- it is so of the line's task, for a pod that the line means
+abbrev pub OfPod : Line → Draw → (Task → Type 0) → Type 0
+OfPod line draw P = (pod : PodId) × IsMeantBy (word_of line) draw pod × P (task_of line pod)
+
+-- what is said of a word that means no pod
+abbrev pub lookup_refusal : LookupError → Refusal
+lookup_refusal lookup.NoPod = NoPod
+lookup_refusal (lookup.Ambiguous first second) = Ambiguous first second
+lookup_refusal lookup.DirFault = DirFault
+lookup_refusal lookup.NoMemory = NoMemory
+
+-- where every process keeps the local rules, each pod that the word begins didn't exist at an own step of the look; listings showed
+-- these two, which are the least that it begins; or the directory failed
+abbrev pub MeansNone : List ℕ → LookupError → DirSeen → DirSeen → Type 0
+MeansNone word lookup.NoPod old new = old.observed ≡ true → IsNoneOf word (shown_at old) (shown_at new)
+MeansNone word (lookup.Ambiguous first second) old new = old.observed ≡ true → AreTheLeast word first second (shown_at old) (shown_at new)
+MeansNone word lookup.DirFault old new = Rose old.faults new.faults
+MeansNone word lookup.NoMemory old new = Unit {0}
+
+-- a look for the pod of a word that isn't a whole uuid found none, for this cause; whatever pods it names, the word begins their uuids
+pub record IsVain (word : List ℕ) (refusal : Refusal) (old new : DirSeen) : Type 0 where
+  pub error : LookupError
+  pub is : refusal ≡ lookup_refusal error
+  pub part : approach_of word ≡ looking
+  pub names : NamesMeant word (Err error)
+  pub why : MeansNone word error old new
+  -- so it isn't where of the pods that the word begins the same one exists at each moment, and no other at any
+  pub not_one : old.observed ≡ true → IsChoice (Err error) → FindsTheOne word (Err error) (shown_at old) (shown_at new)
+  pub quiet : old.observed ≡ true → IsChoice (Err error) → IsSequential word (Err error) (shown_at old) (shown_at new)
+
+-- how a process comes to the pod of its word, and what it knows then
+abbrev pub approach_by : Option (List ℕ) → Approach
+approach_by None = directly
+approach_by (Some word) = approach_of word
+
+pub record ComesToPod (word : Option (List ℕ)) (old new : DirSeen) : Type 0 where
+  pub same : new.process ≡ old.process
+  pub faults : old.faults ≤ new.faults
+  pub local : new.local ≡ old.local
+  pub looks : old.observed ≡ true → Looks (approach_by word) old.process old.trace new.trace
+  pub knows : old.observed ≡ true → (intent : Intent) → Knows (shown_at old) (just_begun intent) → Knows (shown_at new) (just_begun intent)
+
+-- what it comes to: the pod of its word, or why there is none
+abbrev pub FindsMeant : List ℕ → DirSeen → DirSeen → Result PodId Refusal → Type 0
+FindsMeant word old new (Ok pod) = IsMeant word pod × (old.observed ≡ true → IsFound word pod old.process old.trace new.trace)
+FindsMeant word old new (Err refusal) = IsVain word refusal old new
+
+abbrev pub FindsPod : Option (List ℕ) → Draw → DirSeen → DirSeen → Result PodId Refusal → Type 0
+FindsPod None draw old new result = result ≡ Ok draw.uuid
+FindsPod (Some word) draw old new result = FindsMeant word old new result
+
+-- the process began, looked for the pod that the word means, found none, and finished
+pub record LookedInVain (word : List ℕ) (intent : Intent) (old new : DirSeen) (refusal : Refusal) : Type 0 where
+  pub begun : DirSeen
+  pub looked : DirSeen
+  pub told : begun.observed ≡ old.observed
+  pub me : begun.process ≡ old.process
+  pub risen : old.faults ≤ begun.faults
+  pub begins : old.observed ≡ true → CallStep old.process old.trace (Begin intent) Done begun.trace
+  pub knew : old.observed ≡ true → Knows (shown_at begun) (just_begun intent)
+  pub comes : ComesToPod (Some word) begun looked
+  pub vain : IsVain word refusal begun looked
+  pub finishes : old.observed ≡ true → CallStep old.process looked.trace Finish Done new.trace
+  pub same : new.process ≡ old.process
+  pub faults : new.faults ≡ looked.faults
+  pub local : new.local ≡ ended_local intent
+
+-- memory ran out before the first call, or at the begin, or it looked in vain
+abbrev pub NeverCame : Line → ℕ → Draw → Outside → Outside → Refusal → Type 0
+NeverCame line now draw old new refusal =
+    ((refusal ≡ NoMemory) × (new.dir ≡ old.dir))
+    ⊎ ((intent : Intent) × (intent_in line now draw ≡ Some intent) × (refusal ≡ NoMemory) × NeverBegan intent old new (Err NoMemory))
+    ⊎ ((word : List ℕ) × (word_of line ≡ Some word) × (intent : Intent) × (intent_in line now draw ≡ Some intent) × LookedInVain word intent old.dir new.dir refusal)
+
+-- so it was refused: nothing was read of the bundle, asked of the spawner or written to the output
+pub record CameToNothing (line : Line) (now : ℕ) (draw : Draw) (old new : Moment) (status : ℕ) : Type 0 where
+  pub refusal : Refusal
+  pub is : status ≡ status_of refusal
+  pub said : Complained refusal old.err new.err
+  pub why : NeverCame line now draw old.outside new.outside refusal
+  pub bundle : new.outside.bundle ≡ old.outside.bundle
+  pub spawner : new.spawner ≡ old.spawner
+  pub out : new.out ≡ old.out
+
+-- a task was performed, between two moments of what it works on
+pub record PerformsTask (task : Task) (now : ℕ) (draw : Draw) (old new : Outside) (s s' : SpawnerSeen) (answer : Answer) : Type 0 where
+  pub performs : Performs task now draw (intent_of task now draw) old new (outcome_of answer)
+  pub came : CameBetween task now draw (intent_of task now draw) (inside old.dir s) (inside new.dir s') answer
+  pub spawn_cause : IsErrOf answer SpawnFault → Rose s.shown.faults s'.shown.faults
+
+-- so was the line's, for a pod that the line means; or it came to none
+abbrev pub Acts : Line → ℕ → Draw → Outside → Outside → SpawnerSeen → SpawnerSeen → Answer → Type 0
+Acts line now draw old new s s' answer =
+    OfPod line draw (λ task. PerformsTask task now draw old new s s' answer)
+    ⊎ ((refusal : Refusal) × (answer ≡ Err refusal) × NeverCame line now draw old new refusal × (new.bundle ≡ old.bundle) × (s' ≡ s))
