@@ -1,0 +1,9 @@
+mod Ages
+mod Asking
+mod Reading
+mod Leaving
+mod Meeting
+mod Telling
+mod Results
+mod Going
+mod Alone
