@@ -1,11 +1,10 @@
 -- Where no folder comes or goes meanwhile, exactly the pods that stood before have lines.
-use Rattle.std.proofs.Common.{◌≡◌, ◌⊎◌, inl, inr, ℕ, Bool, true, false, ◌||◌, ◌&&◌, bytes_eq, None, List, [], ◌∷◌, ◌++◌, refl, sym, ap, subst, ◌∙◌, append_assoc}
+use Rattle.std.proofs.Common.{◌≡◌, inl, inr, ℕ, Bool, true, false, ◌||◌, bytes_eq, None, List, [], ◌∷◌, ◌++◌, refl, sym, ap, ◌∙◌, append_assoc}
 use Rattle.std.specs.List.{list_any, flat_map, AllByRecursion}
 use Rattle.std.proofs.lemmas.Slice.Eq.{bytes_eq-Decides}
 use Rattle.dir_model.specs.declared.area.Area.{Area}
 use Rattle.dir_model.specs.declared.event.Event.{Event}
 use Rattle.dir_model.specs.declared.pod.PodId.{PodId}
-use Rattle.dir_model.specs.declared.spot.Spot.{Spot}
 use Rattle.dir_model.specs.Areas.{is_stage}
 use Rattle.dir_model.specs.Listings.{has_name}
 use Rattle.dir_model.specs.State.{Namespace, stands}
@@ -13,7 +12,6 @@ use Rattle.dir_model.specs.Trace.{state_after}
 use Rattle.dir_model.specs.Trees.{names_in}
 use Rattle.dir_model.proofs.Lists.{and_both, and_left}
 use Rattle.dir_trait.specs.DirCalls.{DirAt}
-use Rattle.lifecycle.specs.declared.machine.PodState.{PodState}
 use Rattle.lifecycle.specs.PodMachine.{pod_state}
 use Rattle.lifecycle.specs.Executions.{IsConforming}
 use Rattle.lifecycle.specs.Ownership.{place_in}
@@ -23,13 +21,13 @@ use Rattle.phase_read.specs.Read.{stages}
 use Rattle.pod_lookup.specs.Pods.{pod_names, is_pod_name, pods_standing, KeepsFolders}
 use Rattle.pod_lookup.proofs.AreaNames.{area_named}
 use Rattle.pod_lookup.proofs.InOrder.{Rising, one_order}
-use Rattle.pod_lookup.proofs.Names.{named_rise, named_are}
+use Rattle.pod_lookup.proofs.Names.{named_are}
 use Rattle.pod_lookup.proofs.Shown.{any_parts, conforms}
 use Rattle.pod_report.specs.declared.line.PodLine.{PodLine}
 use Rattle.pod_report.specs.Snapshot.{lined, IsPartOf, TellsPods, LinesStanding}
 use Rattle.pod_report.proofs.Telling.{never_both, part_sorted}
 
-any_with : {X : Type 0} (P : X → Type 0) (t : X → Bool) (xs : List X) → AllByRecursion P xs → list_any t xs ≡ true → (x : X) × P x × (t x ≡ true)
+pub any_with : {X : Type 0} (P : X → Type 0) (t : X → Bool) (xs : List X) → AllByRecursion P xs → list_any t xs ≡ true → (x : X) × P x × (t x ≡ true)
 any_with P t [] all h = cc
 any_with {X} P t (x ∷ xs) all h = by (t x) refl (λ k. any_with P t xs all.1 k) h
   where
@@ -37,7 +35,7 @@ any_with {X} P t (x ∷ xs) all h = by (t x) refl (λ k. any_with P t xs all.1 k
     by true e go h = (x, all.0, e)
     by false e go h = go h
 
-all_stages : AllByRecursion (λ a. is_stage a ≡ true) stages
+pub all_stages : AllByRecursion (λ a. is_stage a ≡ true) stages
 all_stages = (refl, (refl, (refl, (refl, (refl, (refl, tt))))))
 
 in_part : (xs ys : List (List ℕ)) (name : List ℕ) → IsPartOf xs ys → has_name xs name ≡ true → has_name ys name ≡ true
@@ -62,7 +60,7 @@ stand_in n name (a ∷ areas) =
     ∙ ap (λ b. stands n (place_in name a) || b) (stand_in n name areas))
 
 -- one of the pods that stand has a folder somewhere
-standing_there : (n : Namespace) (name : List ℕ) → has_name (pod_names (pods_standing n)) name ≡ true → list_any (λ area. stands n (place_in name area)) stages ≡ true
+pub standing_there : (n : Namespace) (name : List ℕ) → has_name (pod_names (pods_standing n)) name ≡ true → list_any (λ area. stands n (place_in name area)) stages ≡ true
 standing_there n name h =
     let names : List (List ℕ) = flat_map (λ area. names_in area n.folders) stages in
     sym (stand_in n name stages) ∙ and_left (has_name names name) (is_pod_name name) (sym (named_are names name) ∙ h)

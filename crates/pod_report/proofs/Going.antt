@@ -1,19 +1,16 @@
 -- Rounds and visits, one after the other.
-use Rattle.std.proofs.Common.{arith, ◌≡◌, ◌≤◌, ◌+◌, ◌||◌, ℕ, suc, Bool, true, false, ◌&&◌, bytes_eq, Option, Some, None, List, [], ◌++◌, refl, sym, ap, subst, append-nil}
-use Rattle.dir_model.specs.declared.event.Event.{Event}
+use Rattle.std.proofs.Common.{arith, ◌≡◌, ◌||◌, ℕ, Bool, true, false, ◌&&◌, bytes_eq, Option, Some, None, [], ◌++◌, refl, sym, subst, append-nil}
 use Rattle.dir_model.specs.declared.pod.PodId.{PodId}
 use Rattle.dir_model.specs.declared.request.Request.{Request}
 use Rattle.dir_model.specs.declared.request.Request.TheVariants.{Open, TryLock, Close, ListArea, ReadIn}
 use Rattle.dir_model.specs.declared.spot.Mode.TheVariants.{Shared, Exclusive}
 use Rattle.dir_model.specs.Areas.{is_stage}
 use Rattle.dir_model.specs.Pods.{pod_text}
-use Rattle.dir_model.specs.Calls.{AtOwnStep}
 use Rattle.dir_model.proofs.Lists.{and_left}
 use Rattle.dir_model.proofs.Moments.{at_within}
 use Rattle.dir_trait.specs.DirCalls.{DirAt}
 use Rattle.manifests.specs.declared.pod_manifest.PodManifest.{PodManifest}
 use Rattle.lifecycle.specs.Executions.{IsConforming}
-use Rattle.lifecycle.specs.PodMachine.{pod_state, age}
 use Rattle.phase_read.specs.Exact.{AtOwnEvent, IsNowhere}
 use Rattle.phase_read.proofs.Exact.{event_within}
 use Rattle.pod_lookup.specs.Looks.{lists_stages}

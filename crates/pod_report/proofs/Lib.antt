@@ -7,3 +7,6 @@ mod Telling
 mod Results
 mod Going
 mod Alone
+mod QuietSurvey
+mod QuietLines
+mod Listing

@@ -1,5 +1,5 @@
 -- What one round of a visit tells: the pod was found, and later its manifest was looked for there.
-use Rattle.std.proofs.Common.{arith, ◌≡◌, ◌⊎◌, inl, inr, ◌≤◌, ◌<◌, ◌+◌, ℕ, suc, nat_le, Bool, true, false, ◌&&◌, bytes_eq, Option, Some, None, is_some, List, [], ◌∷◌, ◌++◌, refl, sym, ap, subst, ◌∙◌, append_assoc, append-nil}
+use Rattle.std.proofs.Common.{arith, ◌≡◌, inl, inr, ◌≤◌, ◌<◌, ℕ, suc, true, false, bytes_eq, Option, Some, is_some, List, [], ◌∷◌, ◌++◌, refl, sym, ap, subst, ◌∙◌, append_assoc, append-nil}
 use Rattle.std.proofs.lemmas.Slice.Eq.{bytes_eq-Decides}
 use Rattle.manifests.specs.PodData.{pod_data}
 use Rattle.dir_model.specs.declared.area.Area.{Area}
@@ -7,7 +7,6 @@ use Rattle.dir_model.specs.declared.area.Area.TheVariants as area
 use Rattle.dir_model.specs.declared.area.Phase.{Phase}
 use Rattle.dir_model.specs.declared.event.Event.{Event}
 use Rattle.dir_model.specs.declared.pod.PodId.{PodId}
-use Rattle.dir_model.specs.declared.spot.Spot.{Spot}
 use Rattle.dir_model.specs.Areas.{rank, is_stage}
 use Rattle.dir_model.specs.Pods.{pod_text}
 use Rattle.dir_model.specs.State.{DirState, stands, folder_at}
@@ -15,16 +14,13 @@ use Rattle.dir_model.specs.Trace.{state_after}
 use Rattle.dir_model.specs.Calls.{AtOwnStep}
 use Rattle.dir_model.proofs.Lists.{and_both}
 use Rattle.dir_model.proofs.Moments.{at_within, at_weaker, at_grown, some_number}
-use Rattle.dir_rules.specs.Standing.{is_of}
 use Rattle.dir_trait.specs.DirCalls.{DirAt}
-use Rattle.lifecycle.specs.declared.machine.PodState.{PodState}
-use Rattle.lifecycle.specs.PodMachine.{pod_state, phase_of_state, is_place, age, age_in}
+use Rattle.lifecycle.specs.PodMachine.{pod_state, is_place, age, age_in}
 use Rattle.lifecycle.specs.Executions.{IsConforming}
 use Rattle.lifecycle.proofs.Forward.{age_out, out_age}
 use Rattle.lifecycle.proofs.Invariant.{placed_age}
 use Rattle.lifecycle.proofs.Phases.{stands_exists}
 use Rattle.lifecycle.proofs.Stays.{stays_between}
-use Rattle.dir_files.specs.Reads.{file_at}
 use Rattle.phase_read.specs.Read.{pod_spot}
 use Rattle.phase_read.specs.Exact.{AtOwnEvent, IsInPhase, IsNowhere}
 use Rattle.phase_read.proofs.Exact.{event_within}
@@ -35,10 +31,10 @@ use Rattle.pod_report.proofs.Ages.{ages_on}
 use Rattle.pod_report.specs.declared.sight.Sight.{Sight}
 use Rattle.pod_report.specs.declared.sight.Sight.TheVariants.{Moved, Lacking, Manifest}
 use Rattle.pod_report.specs.declared.attempt.Round.TheVariants.{Missed}
-use Rattle.pod_report.specs.Manifests.{HasManifest, HasManifestIn, HasUnreadable, HasNoFile, LacksManifest, manifest_file}
+use Rattle.pod_report.specs.Manifests.{HasManifest, HasManifestIn, HasUnreadable, HasNoFile, LacksManifest}
 use Rattle.pod_report.specs.Sights.{Sees, WasMissingThere}
-use Rattle.pod_report.specs.Rounds.{age_past, HasLeft, LeavesOneMore, moved_from, round_of, RoundTells}
-use Rattle.pod_report.specs.Visits.{IsPhase, IsVisit}
+use Rattle.pod_report.specs.Rounds.{age_past, moved_from, round_of, RoundTells}
+use Rattle.pod_report.specs.Visits.{IsPhase}
 use Rattle.pod_report.proofs.Leaving.{left_more}
 
 event_grown : {me : ℕ} {a b : List Event} {P : List Event → Type 0} → AtOwnEvent me a b P → (more : List Event) × (b ≡ a ++ more)

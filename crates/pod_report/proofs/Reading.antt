@@ -1,9 +1,9 @@
 -- What a file that was read by one call tells of a manifest.
-use Rattle.std.proofs.Common.{arith, ◌≡◌, ◌⊎◌, inl, inr, ◌≤◌, ◌<◌, ◌+◌, ℕ, zero, suc, nat_le, Bool, true, false, ◌&&◌, ◌||◌, ◌==◌, bytes_eq, Option, Some, None, IsSomeAnd, MatchOption, Result, Ok, Err, IfOk, Vec, Global, List, [], ◌∷◌, ◌++◌, length, take, drop, codes, refl, sym, ap, subst, ◌∙◌}
+use Rattle.std.proofs.Common.{arith, ◌≡◌, ◌⊎◌, inl, inr, ◌≤◌, ◌<◌, ℕ, zero, suc, nat_le, Bool, true, false, ◌||◌, ◌==◌, bytes_eq, Option, Some, None, IsSomeAnd, MatchOption, Result, Ok, Err, IfOk, Vec, Global, List, [], ◌∷◌, ◌++◌, length, take, drop, codes, refl, sym, ap, subst, ◌∙◌}
 use Rattle.std.proofs.lemmas.Grind.{common_steps}
 use Rattle.std.proofs.lemmas.Bool.Decides.{nat_tests}
 use Rattle.std.proofs.lemmas.Bool.{eqb-true}
-use Rattle.ac_types.specs.Outcomes.{Outcome, reads, fails, ◌>>=◌, ◌>>◌}
+use Rattle.ac_types.specs.Outcomes.{fails, ◌>>=◌, ◌>>◌}
 use Rattle.ac_types.specs.FieldForms.{an_object}
 use Rattle.ac_types.specs.declared.fault.FaultKind.TheVariants.{TooLong}
 use Rattle.manifest_parts.specs.DocumentForm.{document, if_short, known_json, json_of}
@@ -21,7 +21,6 @@ use Rattle.std.proofs.lemmas.Str.{IsUtf8-from_ascii, is_utf8-from_IsUtf8}
 use Rattle.dir_model.specs.Paths.{is_path}
 use Rattle.dir_model.specs.Pods.{pod_text}
 use Rattle.dir_model.specs.State.{DirState, stands, spot_eq}
-use Rattle.dir_model.specs.Trace.{state_after}
 use Rattle.dir_model.specs.Calls.{AtOwnStep}
 use Rattle.dir_model.proofs.Lists.{and_left, and_right, and_both}
 use Rattle.dir_model.proofs.Moments.{at_after, at_weaker}
@@ -39,7 +38,7 @@ use Rattle.pod_report.specs.Requests.{OnlyAsksFor, visits, reads_in}
 use Rattle.pod_report.specs.declared.sight.Sight.{Sight}
 use Rattle.pod_report.specs.declared.sight.Sight.TheVariants.{Moved, Lacking, Manifest}
 use Rattle.pod_report.specs.Manifests.{IsManifestOf, IsNoManifest, HasManifestIn, HasUnreadable, manifest_file}
-use Rattle.pod_report.specs.Sights.{IsSightOf, Sees, SeesNoFile, WasMissingThere}
+use Rattle.pod_report.specs.Sights.{IsSightOf, Sees, SeesNoFile}
 use Rattle.gate_reading.specs.Files.{is_plain}
 use Rattle.gate_reading.proofs.PlainPaths.{plain_own}
 

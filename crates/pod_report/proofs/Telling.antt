@@ -1,6 +1,6 @@
 -- The lines of several pods, one after the other, and what they tell of all.
-use Rattle.std.proofs.Common.{arith, ◌≡◌, ◌⊎◌, inl, inr, ◌≤◌, ◌<◌, ◌+◌, take, length, get_or, ℕ, Bool, true, false, ◌&&◌, ◌||◌, bytes_eq, Option, Some, None, List, [], ◌∷◌, ◌++◌, map, refl, sym, ap, subst, ◌∙◌, append_assoc, append-nil}
-use Rattle.std.specs.List.{AllByRecursion, list_any}
+use Rattle.std.proofs.Common.{◌≡◌, ◌⊎◌, inl, inr, ◌<◌, ◌+◌, take, length, get_or, ℕ, Bool, true, false, ◌||◌, bytes_eq, Option, Some, None, List, [], ◌∷◌, ◌++◌, map, refl, sym, ap, subst, ◌∙◌, append_assoc, append-nil}
+use Rattle.std.specs.List.{AllByRecursion}
 use Rattle.std.specs.List.Sorted.{IsStrictlySortedBy}
 use Rattle.std.specs.Ordering.{nat_cmp}
 use Rattle.std.specs.Cmp.Lexicographic.{slice_cmp}
@@ -11,8 +11,6 @@ use Rattle.dir_model.specs.declared.event.Event.{Event}
 use Rattle.dir_model.specs.declared.pod.PodId.{PodId}
 use Rattle.dir_model.specs.Pods.{pod_text}
 use Rattle.dir_model.specs.Listings.{has_name}
-use Rattle.dir_model.specs.State.{DirState}
-use Rattle.dir_model.specs.Calls.{AtOwnStep}
 use Rattle.dir_model.proofs.Lists.{all_both}
 use Rattle.dir_model.proofs.Moments.{at_within, at_weaker}
 use Rattle.dir_trait.specs.DirCalls.{DirAt}
@@ -22,7 +20,6 @@ use Rattle.manifests.specs.PodData.{RuntimeAppData, runtime_app_data, pod_data}
 use Rattle.lifecycle.specs.declared.machine.PodState.{PodState}
 use Rattle.lifecycle.specs.declared.machine.PodState.TheVariants.{Absent, Gone}
 use Rattle.lifecycle.specs.PodMachine.{pod_state, phase_of_state, exists}
-use Rattle.lifecycle.specs.Executions.{IsConforming}
 use Rattle.lifecycle.specs.Readings.{WasPhase}
 use Rattle.lifecycle.proofs.Handles.{clash}
 use Rattle.phase_read.specs.Exact.{AtOwnEvent, IsNowhere}
@@ -31,8 +28,8 @@ use Rattle.pod_lookup.specs.Pods.{pod_names, is_pod_name, MissesGone}
 use Rattle.pod_lookup.proofs.InOrder.{Rising, has_push}
 use Rattle.pod_report.specs.declared.line.PodLine.{PodLine}
 use Rattle.pod_report.specs.declared.visit.Visit.{Visit}
-use Rattle.pod_report.specs.Manifests.{HasManifest, LacksManifest, app_names}
-use Rattle.pod_report.specs.Visits.{IsPhase, IsVisit, ToldManifest}
+use Rattle.pod_report.specs.Manifests.{app_names}
+use Rattle.pod_report.specs.Visits.{IsVisit, ToldManifest}
 use Rattle.pod_report.specs.Snapshot.{ExistsThroughout, HasApps, AreAppsOf, IsLine, lined, IsWeakSnapshot, names_told, LineTells, IsPartOf, AddsLine, TellsPods}
 
 -- the names of a manifest's apps

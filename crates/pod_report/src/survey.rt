@@ -3,6 +3,7 @@ ghost use Rattle.std.specs.Prelude.{◌≡◌, ◌++◌, ◌∷◌, [], true, If
 ghost use Rattle.dir_trait.specs.Causes.{Rose};
 ghost use Rattle.dir_trait.specs.Local.{IsActive};
 ghost use Rattle.lifecycle.specs.Executions.{IsConforming};
+ghost use Rattle.pod_report.specs.Before.{ListsQuietly};
 ghost use Rattle.pod_report.specs.Outside.{IsUnsaid};
 ghost use Rattle.pod_report.specs.Requests.{OnlyAsksFor, surveys, HasNoPodOpen};
 ghost use Rattle.pod_report.specs.Snapshot.{AddsLine, TellsPods, IsSnapshotBetween, LinesStanding};
@@ -68,7 +69,8 @@ fn lines_of<D: Dir>(alloc: Global, dir: &mut D, pods: &[PodId]) -> Result<Vec<Po
 /// order, and then each pod that was shown is looked for. Where every process keeps the local rules, each
 /// pod that exists at every own step has exactly one line and no pod has two, each phase is the pod's at an
 /// own step, and the names are those of a manifest that the pod had at one; they are absent only where at
-/// one the manifest was missing or had no reading.
+/// one the manifest was missing or had no reading, or the pod didn't exist. Where nobody else steps, the
+/// lines are those of the state before.
 ///
 /// `Stray` where a pod was missed at six places in turn, which can't be where every process keeps the
 /// local rules; `DirFault` where the directory failed, `NoMemory` where memory ran out.
@@ -82,6 +84,8 @@ pub fn list_pods<D: Dir>(alloc: Global, dir: &mut D) -> Result<Vec<PodLine>, Rep
         → IsSnapshotBetween (D.shown dir.old) (D.shown dir.new) lines.items) }
     ensures standing { IfOk result (λ lines. D.observed ≡ true → IsConforming (D.shown dir.new).trace
         → LinesStanding (D.shown dir.old) (D.shown dir.new) lines.items) }
+    ensures quiet { IfOk result (λ lines. D.observed ≡ true → IsConforming (D.shown dir.new).trace
+        → ListsQuietly (D.shown dir.old) (D.shown dir.new) lines.items) }
     ensures stray { IsErrOf result ReportError.Stray → D.observed ≡ true → IsConforming (D.shown dir.new).trace → ⊥ }
 {
     match listed_pods(alloc, dir) {

@@ -1,4 +1,4 @@
-use Rattle.std.proofs.Common.{◌≡◌, true, sym, subst}
+use Rattle.std.proofs.Common.{sym, subst}
 use Rattle.pod_report.proofs.Asking.{asks_more}
 use Rattle.pod_report.specs.declared.attempt.Round.{Round}
 use Rattle.pod_report.specs.Rounds.{RoundTells}

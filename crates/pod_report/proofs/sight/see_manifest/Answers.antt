@@ -1,4 +1,4 @@
-use Rattle.std.proofs.Common.{◌≡◌, true, codes, ℕ, List, sym, ap, subst, ◌∙◌}
+use Rattle.std.proofs.Common.{◌≡◌, true, codes, ℕ, List, sym, subst}
 use Rattle.dir_model.specs.declared.spot.Spot.{Spot}
 use Rattle.dir_trait.specs.DirCalls.{HeldBetween}
 use Rattle.dir_files.specs.Reads.{inner_at, OnlyReads, TellsFile, IsPiece, WasMissing}

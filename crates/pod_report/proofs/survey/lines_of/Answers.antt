@@ -1,4 +1,3 @@
-use Rattle.std.proofs.Common.{◌≡◌, true}
 use Rattle.pod_report.proofs.Asking.{asks_more}
 use Rattle.pod_report.proofs.Going.{conforming_before}
 use Rattle.pod_report.proofs.Telling.{tells_taken}

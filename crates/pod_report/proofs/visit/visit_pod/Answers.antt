@@ -1,5 +1,5 @@
-use Rattle.std.proofs.Common.{arith, ◌≡◌, ◌+◌, ℕ, suc, true, subst}
-use Rattle.pod_report.proofs.Asking.{asks_none, asks_more}
+use Rattle.std.proofs.Common.{arith, ◌≡◌, ◌+◌, ℕ, suc, subst}
+use Rattle.pod_report.proofs.Asking.{asks_more}
 use Rattle.pod_report.specs.Rounds.{HasLeft}
 use Rattle.pod_report.proofs.Going.{conforming_before}
 use Rattle.pod_report.proofs.visit.visit_pod.Goals as goal
