@@ -1,5 +1,5 @@
 -- Where nobody else steps, each line is that of the state before.
-use Rattle.std.proofs.Common.{◌≡◌, inl, inr, ℕ, zero, suc, true, bytes_eq, is_some, Option, Some, None, List, [], ◌∷◌, ◌++◌, refl, sym, ap, subst, ◌∙◌, append_assoc}
+use Rattle.std.proofs.Common.{◌≡◌, inl, inr, ℕ, Bool, zero, suc, true, false, bytes_eq, is_some, Option, Some, None, List, [], ◌∷◌, ◌++◌, refl, sym, ap, subst, ◌∙◌, append_assoc}
 use Rattle.std.specs.Prelude.{position}
 use Rattle.std.specs.List.{list_any, AllByRecursion}
 use Rattle.std.proofs.lemmas.Slice.Eq.{bytes_eq-Decides}
@@ -15,7 +15,7 @@ use Rattle.dir_model.specs.declared.pod.PodId.{PodId}
 use Rattle.dir_model.specs.declared.spot.Spot.{Spot}
 use Rattle.dir_model.specs.declared.tree.TreeEntry.{TreeEntry}
 use Rattle.dir_model.specs.Areas.{rank, is_stage, phase_in}
-use Rattle.dir_model.specs.Calls.{Extends}
+use Rattle.dir_model.specs.Calls.{Extends, AtOwnStep}
 use Rattle.dir_model.specs.Listings.{has_name}
 use Rattle.dir_model.specs.Pods.{pod_text}
 use Rattle.dir_model.specs.Quiet.{Quiet, OwnsNothing}
@@ -30,13 +30,13 @@ use Rattle.lifecycle.specs.Ownership.{place_in}
 use Rattle.lifecycle.specs.PodMachine.{pod_state}
 use Rattle.lifecycle.proofs.Moves.{place_once}
 use Rattle.lifecycle.proofs.Phases.{stands_exists, phase_of_place}
-use Rattle.phase_read.specs.Exact.{AtOwnEvent}
+use Rattle.phase_read.specs.Exact.{AtOwnEvent, IsNowhere}
 use Rattle.phase_read.specs.Read.{pod_spot, stages}
 use Rattle.pod_lookup.proofs.InOrder.{head_named}
 use Rattle.pod_lookup.proofs.Shown.{conforms}
 use Rattle.pod_report.specs.declared.line.PodLine.{PodLine}
 use Rattle.pod_report.specs.Before.{names_read, names_in_file, IsLineOf}
-use Rattle.pod_report.specs.Manifests.{LacksManifest, manifest_file}
+use Rattle.pod_report.specs.Manifests.{HasManifest, LacksManifest, manifest_file}
 use Rattle.pod_report.specs.Requests.{surveys}
 use Rattle.pod_report.specs.Snapshot.{lined, HasApps, AreAppsOf, IsLine}
 use Rattle.pod_report.specs.Visits.{IsPhase}
@@ -125,6 +125,13 @@ module _ {me : ℕ} {old new : List Event} (conforming : IsConforming new) (ext 
     file_before h good w b is at =
         subst (λ (c : Area). file_at before (manifest_file pod c) ≡ file_at (state_after h) (manifest_file pod b)) (same_area h good w b is at) (sym (same_file w (manifest_file pod b)))
 
+    never_there : AtOwnEvent me old new (IsNowhere pod) → ⊥
+    never_there at =
+        let h : List Event = at.before ++ at.step ∷ [] in
+        let w : SameWorld me before (state_after h) = world_at at.before at.step at.later at.rest at.begins at.ends in
+        let x = stands_exists u h (pod_spot pod a) (conforms h new at.rest at.ends conforming) (named a stage) (stood h w) in
+        never_both (pod_state u h) x.0 at.holds
+
     apps_before : (o : Option (List (List ℕ))) → AreAppsOf pod o me old new → o ≡ names_in_file (file_at before (manifest_file pod a))
     apps_before (Some names) at =
         let h : List Event = at.before ++ at.step ∷ [] in
@@ -147,11 +154,29 @@ module _ {me : ℕ} {old new : List Event} (conforming : IsConforming new) (ext 
             let same = file_before h good w b stage_b (file_stands (state_after h) (manifest_file pod b) bad.bytes bad.file) in
             sym (ap names_in_file (same ∙ bad.file) ∙ unread (pod_manifest bad.bytes) bad.none)
         by h w good (b, stage_b, inr bare) = sym (ap names_in_file (file_before h good w b stage_b bare.there ∙ bare.missing))
-    apps_before None (inr at) =
-        let h : List Event = at.before ++ at.step ∷ [] in
-        let w : SameWorld me before (state_after h) = world_at at.before at.step at.later at.rest at.begins at.ends in
-        let x = stands_exists u h (pod_spot pod a) (conforms h new at.rest at.ends conforming) (named a stage) (stood h w) in
-        absurd (never_both (pod_state u h) x.0 at.holds)
+    apps_before None (inr at) = absurd (never_there at)
+
+  -- the same of one pod's manifest
+  module _ (pod : PodId) where
+    pub manifest_before : (manifest : PodData) → AtOwnStep me old new (HasManifest pod manifest) → HasManifest pod manifest before
+    manifest_before manifest at = by (world_at at.before at.step at.later at.rest at.begins at.ends) at.holds
+      where
+        by : {t : DirState} → SameWorld me before t → HasManifest pod manifest t → HasManifest pod manifest before
+        by w (b, stage_b, has) = (b, stage_b, record { bytes = has.bytes; file = sym (same_file w (manifest_file pod b)) ∙ has.file; is = has.is })
+
+    pub lack_before : AtOwnStep me old new (LacksManifest pod) → LacksManifest pod before
+    lack_before at = by (world_at at.before at.step at.later at.rest at.begins at.ends) at.holds
+      where
+        by : {t : DirState} → SameWorld me before t → LacksManifest pod t → LacksManifest pod before
+        by w (b, stage_b, inl bad) = (b, stage_b, inl (record { bytes = bad.bytes; file = sym (same_file w (manifest_file pod b)) ∙ bad.file; none = bad.none }))
+        by w (b, stage_b, inr bare) = (b, stage_b, inr (record { there = ap (λ (o : Option ℕ). is_some o) (sym (same_folder w (pod_spot pod b))) ∙ bare.there; missing = sym (same_file w (manifest_file pod b)) ∙ bare.missing }))
+
+    pub nowhere_before : AtOwnEvent me old new (IsNowhere pod) → (a : Area) → is_stage a ≡ true → stands before.namespace (pod_spot pod a) ≡ false
+    nowhere_before at a stage = by (stands before.namespace (pod_spot pod a)) refl
+      where
+        by : (b : Bool) → stands before.namespace (pod_spot pod a) ≡ b → b ≡ false
+        by false there = refl
+        by true there = absurd (never_there pod a stage there at)
 
   line_before : (line : PodLine) → list_any (λ area. stands before.namespace (place_in (pod_text line.pod.bytes) area)) stages ≡ true → IsLine me old new line → IsLineOf before line
   line_before line somewhere l =

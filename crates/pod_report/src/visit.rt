@@ -7,6 +7,7 @@ ghost use Rattle.dir_trait.specs.Pods.{pod_text};
 ghost use Rattle.lifecycle.specs.Executions.{IsConforming};
 ghost use Rattle.manifests.specs.PodData.{pod_data};
 ghost use Rattle.phase_read.specs.Exact.{AtOwnEvent, IsNowhere};
+ghost use Rattle.pod_report.specs.Before.{AnswersQuietly};
 ghost use Rattle.pod_report.specs.Manifests.{HasManifest, LacksManifest};
 ghost use Rattle.pod_report.specs.Outside.{IsUnsaid};
 ghost use Rattle.pod_report.specs.Requests.{OnlyAsksFor, visits};
@@ -57,7 +58,8 @@ pub(crate) fn visit_pod<D: Dir>(
 /// The pod's manifest. `NoPod` where there is no such pod; `NoManifest` where its file `pod` is missing or
 /// has no reading. Where the pod moved on meanwhile it is looked for again, six times at most; `Stray`
 /// where that wasn't enough, which can't be where every process keeps the local rules. `DirFault` where
-/// the directory failed, `NoMemory` where memory ran out.
+/// the directory failed, `NoMemory` where memory ran out. Where nobody else steps, the state before tells
+/// the answer.
 pub fn manifest_of<D: Dir>(
     alloc: Global,
     dir: &mut D,
@@ -74,6 +76,8 @@ pub fn manifest_of<D: Dir>(
         → AtOwnEvent (D.shown dir.old).process (D.shown dir.old).trace (D.shown dir.new).trace (IsNowhere pod) }
     ensures lacking { IsErrOf result ReportError.NoManifest → D.observed ≡ true → IsConforming (D.shown dir.new).trace
         → HeldBetween (D.shown dir.old) (D.shown dir.new) (LacksManifest pod) }
+    ensures quiet { D.observed ≡ true → IsConforming (D.shown dir.new).trace
+        → AnswersQuietly pod result (D.shown dir.old) (D.shown dir.new) }
     ensures stray { IsErrOf result ReportError.Stray → D.observed ≡ true → IsConforming (D.shown dir.new).trace → ⊥ }
 {
     match visit_pod(alloc, dir, pod) {
