@@ -1,0 +1,12 @@
+mod Ages
+mod Asking
+mod Reading
+mod Leaving
+mod Meeting
+mod Telling
+mod Results
+mod Going
+mod Alone
+mod QuietSurvey
+mod QuietLines
+mod Listing

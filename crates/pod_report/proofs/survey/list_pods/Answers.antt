@@ -1,0 +1,45 @@
+use Rattle.std.proofs.Common.{◌≡◌, true}
+use Rattle.lifecycle.specs.Executions.{IsConforming}
+use Rattle.pod_report.specs.Before.{ListsQuietly}
+use Rattle.pod_report.specs.Snapshot.{TellsPods, IsSnapshotBetween, LinesStanding}
+use Rattle.pod_report.proofs.Asking.{asks_more, asks_looks}
+use Rattle.pod_report.proofs.Going.{lists_survey}
+use Rattle.pod_report.proofs.Listing.{list_tells}
+use Rattle.pod_report.proofs.Results.{if_ok}
+use Rattle.pod_report.proofs.survey.list_pods.Goals as goal
+
+pub returns-in-Ok-clause-only : goal.returns-in-Ok-clause-only
+returns-in-Ok-clause-only g c = asks_more (asks_looks lists_survey c.listed_pods.ensures.only) c.lines_of.ensures.only
+
+pub returns-in-Err-clause-only : goal.returns-in-Err-clause-only
+returns-in-Err-clause-only g c = asks_looks lists_survey c.listed_pods.ensures.only
+
+pub returns-in-Ok-clause-snapshot : goal.returns-in-Ok-clause-snapshot
+returns-in-Ok-clause-snapshot g c =
+    let D = g.D.Dir in
+    let old = D.shown c.args.dir.now in
+    let mid = D.shown c.listed_pods.new.dir in
+    let new = D.shown c.lines_of.new.dir in
+    if_ok (λ lines. D.observed ≡ true → IsConforming new.trace → TellsPods c.deref.result.now lines.items mid new) (λ lines. D.observed ≡ true → IsConforming new.trace → IsSnapshotBetween old new lines.items) c.lines_of.result
+    (λ lines tells t conforming. (list_tells c.in-Ok.pods.items c.deref.result.now lines.items old mid new t (asks_looks lists_survey c.listed_pods.ensures.only) c.lines_of.ensures.only conforming c.in-Ok.ensures.rise (c.in-Ok.ensures.gone t) (c.in-Ok.ensures.still t) c.deref.ensures.value (tells t conforming)).snapshot)
+    c.lines_of.ensures.told
+
+pub returns-in-Ok-clause-standing : goal.returns-in-Ok-clause-standing
+returns-in-Ok-clause-standing g c =
+    let D = g.D.Dir in
+    let old = D.shown c.args.dir.now in
+    let mid = D.shown c.listed_pods.new.dir in
+    let new = D.shown c.lines_of.new.dir in
+    if_ok (λ lines. D.observed ≡ true → IsConforming new.trace → TellsPods c.deref.result.now lines.items mid new) (λ lines. D.observed ≡ true → IsConforming new.trace → LinesStanding old new lines.items) c.lines_of.result
+    (λ lines tells t conforming. (list_tells c.in-Ok.pods.items c.deref.result.now lines.items old mid new t (asks_looks lists_survey c.listed_pods.ensures.only) c.lines_of.ensures.only conforming c.in-Ok.ensures.rise (c.in-Ok.ensures.gone t) (c.in-Ok.ensures.still t) c.deref.ensures.value (tells t conforming)).standing)
+    c.lines_of.ensures.told
+
+pub returns-in-Ok-clause-quiet : goal.returns-in-Ok-clause-quiet
+returns-in-Ok-clause-quiet g c =
+    let D = g.D.Dir in
+    let old = D.shown c.args.dir.now in
+    let mid = D.shown c.listed_pods.new.dir in
+    let new = D.shown c.lines_of.new.dir in
+    if_ok (λ lines. D.observed ≡ true → IsConforming new.trace → TellsPods c.deref.result.now lines.items mid new) (λ lines. D.observed ≡ true → IsConforming new.trace → ListsQuietly old new lines.items) c.lines_of.result
+    (λ lines tells t conforming. (list_tells c.in-Ok.pods.items c.deref.result.now lines.items old mid new t (asks_looks lists_survey c.listed_pods.ensures.only) c.lines_of.ensures.only conforming c.in-Ok.ensures.rise (c.in-Ok.ensures.gone t) (c.in-Ok.ensures.still t) c.deref.ensures.value (tells t conforming)).quiet)
+    c.lines_of.ensures.told
