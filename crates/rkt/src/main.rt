@@ -13,8 +13,9 @@ use command_outcomes::Refusal;
 use dir_host::{HostBundle, HostSink, Outside, SetupError, assemble, find_root, read_words};
 use dir_trait::{Sink, SinkError, write_whole};
 use host_spawner::HostSpawner;
-use rkt_cli::{named_path, refuse, rkt};
-use std::alloc::{AllocError, Global};
+use rkt_cli::{named_path, read_line, refuse, rkt};
+use rkt_words::WordsError;
+use std::alloc::Global;
 use std::process;
 use std::process::ExitCode;
 
@@ -46,10 +47,14 @@ fn refuse_setup<E: Sink>(alloc: Global, error: SetupError, err: &mut E) -> u8
 }
 
 /// The path of the file or of the bundle that the words name. Empty where they name none.
-fn path_of(alloc: Global, words: &[String]) -> Result<String, AllocError> {
-    match named_path(alloc, words) {
-        Some(path) => String::from_str(alloc, path.as_str()),
-        None => Ok(String::new(alloc)),
+fn path_of(alloc: Global, words: &[String]) -> Result<String, SetupError> {
+    match read_line(alloc, words) {
+        Ok(line) => Ok(match named_path(&line) {
+            Some(path) => String::from_str(alloc, path)?,
+            None => String::new(alloc),
+        }),
+        Err(WordsError::Usage(_)) => Ok(String::new(alloc)),
+        Err(WordsError::NoMemory) => Err(SetupError::NoMemory),
     }
 }
 

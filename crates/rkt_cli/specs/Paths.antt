@@ -7,7 +7,3 @@ abbrev pub path_of : Line → Option (List ℕ)
 path_of (Validate path) = Some path
 path_of (ImageImport path) = Some path
 path_of line = None
-
-abbrev pub path_in : Option Line → Option (List ℕ)
-path_in None = None
-path_in (Some line) = path_of line

@@ -1,9 +1,10 @@
 // The words of a command line.
-ghost use Rattle.std.specs.Prelude.{◌≡◌, Some, IfOk, IfErr, IfSome};
+ghost use Rattle.std.specs.Option.{option_copied};
+ghost use Rattle.std.specs.Prelude.{◌≡◌, Some, IfOk, IfErr};
 ghost use Rattle.pod_manifest.specs.Wishes.{AreWishes};
 ghost use Rattle.rkt_words.specs.Wishes.{AsksWell, MayBeAsked};
 ghost use Rattle.rkt_cli.specs.Lines.{IsReading, known_line, line_in, wants_of};
-ghost use Rattle.rkt_cli.specs.Paths.{path_in};
+ghost use Rattle.rkt_cli.specs.Paths.{path_of};
 ghost use Rattle.rkt_cli.specs.Tasks.{word_of};
 
 use ac_types::{NoMemory, StoreKey, Text};
@@ -132,13 +133,12 @@ pub(crate) fn line_word(line: &Line) -> Option<PodPrefix>
     }
 }
 
-/// The path of the file or of the bundle that the words name. None where they name none, or memory ran out.
-pub fn named_path(alloc: Global, words: &[String]) -> Option<Text>
-    ensures { IfSome result (λ path. path_in (line_in words.now) ≡ Some path) }
+/// The path of the file or of the bundle that the line names.
+pub fn named_path(line: &Line) -> Option<&str>
+    ensures { option_copied result ≡ path_of line.now }
 {
-    match read_line(alloc, words) {
-        Ok(Line::Validate(path)) => Some(path),
-        Ok(Line::ImageImport(path)) => Some(path),
+    match line {
+        Line::Validate(path) | Line::ImageImport(path) => Some(path.as_str()),
         _ => None,
     }
 }
