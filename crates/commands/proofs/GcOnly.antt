@@ -1,10 +1,7 @@
 -- The lines of a sweep that one state asks for are one list.
-use Rattle.std.proofs.Common.{◌≡◌, ℕ, Bool, true, false, ◌||◌, bytes_eq, map, Less, Option, Some, List, [], ◌∷◌, ◌++◌, refl, sym, ap, subst, ◌∙◌}
+use Rattle.std.proofs.Common.{◌≡◌, ℕ, Bool, true, false, ◌||◌, bytes_eq, map, Option, Some, List, [], ◌∷◌, ◌++◌, refl, sym, ap, subst, ◌∙◌}
 use Rattle.std.specs.List.{AllByRecursion}
-use Rattle.std.specs.List.Sorted.{IsStrictlySortedBy}
-use Rattle.std.specs.Ordering.{nat_cmp, ordering_reverse}
 use Rattle.std.specs.Cmp.{both_ways}
-use Rattle.std.specs.Cmp.Lexicographic.{slice_cmp, nat_list_cmp_total}
 use Rattle.dir_model.specs.declared.area.Area.{Area}
 use Rattle.dir_model.specs.declared.area.Area.TheVariants as area
 use Rattle.dir_model.specs.declared.pod.PodId.{PodId}
@@ -17,56 +14,11 @@ use Rattle.pod_gc.specs.declared.ages.Times.{Times}
 use Rattle.pod_gc.specs.declared.line.Deed.{Deed}
 use Rattle.pod_gc.specs.declared.line.GcLine.{GcLine}
 use Rattle.pod_gc.specs.Told.{places}
+use Rattle.pod_lookup.proofs.InOrder.{one_order}
 use Rattle.commands.specs.Gc.{subject_text}
 use Rattle.commands.specs.GcLines.{HasLine, is_gated, deed_in_pass, IsPassLine, ArePassLines, GatedOr, IsPassOf, ArePassesOf, IsSweepOf}
 use Rattle.commands.proofs.GcQuiet.{pod_back}
 use Rattle.commands.proofs.GcTells.{same_text}
-use Rattle.commands.proofs.GcTurn.{later_apart}
-
--- names in order, with the same members
-
-named_holds : (P : List ℕ → Type 0) (n : List ℕ) (ns : List (List ℕ)) → AllByRecursion P ns → has_name ns n ≡ true → P n
-named_holds P n [] all named = cc
-named_holds P n (x ∷ xs) all named = by (bytes_eq x n) refl named (λ rest. named_holds P n xs all.1 rest)
-  where
-    by : (b : Bool) → bytes_eq x n ≡ b → (b || has_name xs n) ≡ true → (has_name xs n ≡ true → P n) → P n
-    by true same h go = subst P (same_text x n same) all.0
-    by false apart h go = go h
-
-head_named : (x : List ℕ) (xs : List (List ℕ)) → has_name (x ∷ xs) x ≡ true
-head_named x xs = ap (λ b. b || has_name xs x) (same_bytes x)
-
--- two that are each below the other there are not
-no_cycle : (x y : List ℕ) {X : Type 0} → slice_cmp nat_cmp x y ≡ Less → slice_cmp nat_cmp y x ≡ Less → X
-no_cycle x y less more =
-    let clash : slice_cmp nat_cmp x y ≡ ordering_reverse Less = nat_list_cmp_total.antisymm x y ∙ ap ordering_reverse more in
-    let e : Less ≡ ordering_reverse Less = sym less ∙ clash in cc
-
-module _ (x y : List ℕ) (xs ys : List (List ℕ)) (s : IsStrictlySortedBy (slice_cmp nat_cmp) (x ∷ xs)) (t : IsStrictlySortedBy (slice_cmp nat_cmp) (y ∷ ys)) (same : (n : List ℕ) → has_name (x ∷ xs) n ≡ has_name (y ∷ ys) n) where
-  heads : x ≡ y
-  unfolding IsStrictlySortedBy
-  heads = by (bytes_eq y x) refl (sym (same x) ∙ head_named x xs) (bytes_eq x y) refl (same y ∙ head_named y ys)
-    where
-      by : (b : Bool) → bytes_eq y x ≡ b → (b || has_name ys x) ≡ true → (c : Bool) → bytes_eq x y ≡ c → (c || has_name xs y) ≡ true → x ≡ y
-      by true is h c d g = sym (same_text y x is)
-      by false is h true d g = same_text x y d
-      by false is h false d g = no_cycle x y (named_holds (λ (z : List ℕ). slice_cmp nat_cmp x z ≡ Less) y xs s.0 g) (named_holds (λ (z : List ℕ). slice_cmp nat_cmp y z ≡ Less) x ys t.0 h)
-
-  tails : (n : List ℕ) → has_name xs n ≡ has_name ys n
-  tails n = by (bytes_eq x n) refl (same n ∙ ap (λ (z : List ℕ). bytes_eq z n || has_name ys n) (sym heads))
-    where
-      by : (b : Bool) → bytes_eq x n ≡ b → (bytes_eq x n || has_name xs n) ≡ (bytes_eq x n || has_name ys n) → has_name xs n ≡ has_name ys n
-      by false apart h = sym (ap (λ c. c || has_name xs n) apart) ∙ (h ∙ ap (λ c. c || has_name ys n) apart)
-      by true is h =
-          let at = same_text x n is in
-          subst (λ (z : List ℕ). has_name xs z ≡ false) at (later_apart [] x xs s) ∙ sym (subst (λ (z : List ℕ). has_name ys z ≡ false) (sym heads ∙ at) (later_apart [] y ys t))
-
-same_sorted : (xs ys : List (List ℕ)) → IsStrictlySortedBy (slice_cmp nat_cmp) xs → IsStrictlySortedBy (slice_cmp nat_cmp) ys → ((n : List ℕ) → has_name xs n ≡ has_name ys n) → xs ≡ ys
-unfolding IsStrictlySortedBy
-same_sorted [] [] s t same = refl
-same_sorted [] (y ∷ ys) s t same = let clash : false ≡ true = same y ∙ head_named y ys in cc
-same_sorted (x ∷ xs) [] s t same = let clash : true ≡ false = sym (head_named x xs) ∙ same x in cc
-same_sorted (x ∷ xs) (y ∷ ys) s t same = ap (λ (z : List ℕ). z ∷ xs) (heads x y xs ys s t same) ∙ ap (λ (zs : List (List ℕ)). y ∷ zs) (same_sorted xs ys s.1 t.1 (tails x y xs ys s t same))
 
 -- the lines of one pass
 
@@ -125,7 +77,7 @@ module _ (place : Area) (deeds : PodId → Option Deed) where
   one_pass : (ks ls : List GcLine) → ArePassLines place deeds ks → ArePassLines place deeds ls → ks ≡ ls
   one_pass ks ls x y =
       same_lines ks ls x.each y.each
-      (same_sorted (subjects ks) (subjects ls) x.ordered y.ordered (λ n. both_ways (has_name (subjects ks) n) (has_name (subjects ls) n) (λ is. asked_named ks ls x y n is) (λ is. asked_named ls ks y x n is)))
+      (one_order (subjects ks) (subjects ls) x.ordered y.ordered (λ n. both_ways (has_name (subjects ks) n) (has_name (subjects ls) n) (λ is. asked_named ks ls x y n is) (λ is. asked_named ls ks y x n is)))
 
 -- of all passes
 module _ (times : Times) (me : ℕ) (s : DirState) where

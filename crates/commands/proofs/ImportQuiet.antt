@@ -19,7 +19,8 @@ use Rattle.dir_model.proofs.Lists.{or_last, all_left, same_rest, same_self}
 use Rattle.dir_model.proofs.Chains.{states_next-append}
 use Rattle.image_store.specs.Requests.{imports_at}
 use Rattle.commands.specs.ImageList.{lists_images}
-use Rattle.commands.proofs.StoreQuiet.{elsewhere, Tame, is_tame, opens_tame, locks_tame, closes_tame, tame_step}
+use Rattle.commands.proofs.OwnSteps.{elsewhere}
+use Rattle.commands.proofs.StoreQuiet.{Tame, is_tame, opens_tame, locks_tame, closes_tame, tame_step}
 
 -- nothing has come to what others have open, and whose lock is held exclusively is as before
 pub record Modest (me : ℕ) (old new : Namespace) : Type 0 where

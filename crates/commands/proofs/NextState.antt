@@ -28,8 +28,8 @@ use Rattle.folder_contents.proofs.Places.{located}
 use Rattle.lifecycle.proofs.Handles.{clash, nat_same}
 use Rattle.commands.specs.NextState.{LeavesBeside, others_openings}
 use Rattle.commands.proofs.PlacesKept.{IsPlace}
-use Rattle.commands.proofs.OwnSteps.{in_process}
-use Rattle.commands.proofs.RemovalQuiet.{ChangesAt, elsewhere_from, or_false, own_asked, place_step, places_beside, same_openings}
+use Rattle.commands.proofs.OwnSteps.{in_process, same_openings}
+use Rattle.commands.proofs.RemovalQuiet.{ChangesAt, elsewhere_from, or_false, own_asked, place_step, places_beside}
 
 -- a list without what is kept anyway
 kept_within : {X : Type 0} (p q : X → Bool) → ((x : X) → p x ≡ true → q x ≡ true) → (xs : List X) → filter p (filter q xs) ≡ filter p xs

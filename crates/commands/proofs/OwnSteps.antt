@@ -175,7 +175,8 @@ same_folders p w request reply done opened = refl
 abbrev pub elsewhere : ℕ → (Opening → Bool) → Opening → Bool
 elsewhere me test o = not (o.process == me) && test o
 
-fewer : (t q : Opening → Bool) (xs : List Opening) → list_any t (filter q xs) ≡ true → list_any t xs ≡ true
+-- a list without some of its openings
+pub fewer : (t q : Opening → Bool) (xs : List Opening) → list_any t (filter q xs) ≡ true → list_any t xs ≡ true
 fewer t q [] any = any
 fewer t q (x ∷ xs) any = by (q x) any (λ rest. fewer t q xs rest)
   where
@@ -196,7 +197,7 @@ same_openings p w request Done done opened = done
 same_openings p w request (Opened handle) done opened = opened handle
 same_openings p w request reply done opened = refl
 
-step_others : (me : ℕ) (w : Namespace) (request : Request) (reply : Reply) (test : Opening → Bool) →
+pub step_others : (me : ℕ) (w : Namespace) (request : Request) (reply : Reply) (test : Opening → Bool) →
     list_any (elsewhere me test) (namespace_replied w me request reply).openings ≡ true → list_any (elsewhere me test) w.openings ≡ true
 step_others me w (OpenArea area) (Opened handle) test any =
     sym (any_last_not (elsewhere me test) w.openings (opened_gate me handle area) (ap (λ b. not b && test (opened_gate me handle area)) (same_self me))) ∙ any

@@ -5,25 +5,22 @@ use Rattle.std.specs.List.{list_any, AllByRecursion}
 use Rattle.std.proofs.lemmas.Option.{slice_get-map}
 use Rattle.dir_model.specs.declared.event.Event.{Event}
 use Rattle.dir_model.specs.declared.opening.Opening.{Opening}
-use Rattle.dir_model.specs.declared.spot.Handle.{Handle}
 use Rattle.dir_model.specs.declared.spot.Spot.{Spot}
 use Rattle.dir_model.specs.declared.request.Request.{Request}
-use Rattle.dir_model.specs.declared.request.Request.TheVariants.{MakeFolder, MoveFolder, Open, OpenArea, TryLock, Close, RemoveFolder, Finish, Kill, MakeDirIn, MakeFileIn, AppendIn, RemoveFileIn, RemoveDirIn}
+use Rattle.dir_model.specs.declared.request.Request.TheVariants.{MakeFolder, MoveFolder, RemoveFolder, MakeDirIn, MakeFileIn, AppendIn, RemoveFileIn, RemoveDirIn}
 use Rattle.dir_model.specs.declared.request.Reply.{Reply}
-use Rattle.dir_model.specs.declared.request.Reply.TheVariants.{Done, Opened}
-use Rattle.dir_model.specs.Locks.{is_handle}
+use Rattle.dir_model.specs.declared.request.Reply.TheVariants.{Done}
 use Rattle.dir_model.specs.State.{Namespace, DirState, empty_state, spot_eq}
-use Rattle.dir_model.specs.Trace.{state_after, state_next, states_next, moved, removed, namespace_replied, namespace_done, namespace_opened, locked, opened, opened_gate}
+use Rattle.dir_model.specs.Trace.{state_after, state_next, states_next, moved, removed, namespace_replied}
 use Rattle.dir_model.specs.Calls.{is_foreign, is_kill, Extends, AtOwnStep}
 use Rattle.dir_model.specs.Quiet.{Quiet}
-use Rattle.dir_model.proofs.Lists.{same_rest, same_self, all_left, any_map, any_last_not}
+use Rattle.dir_model.proofs.Lists.{same_rest, same_self, all_left}
 use Rattle.dir_model.proofs.Chains.{states_next-append}
 use Rattle.folder_contents.proofs.Spots.{one_location}
 use Rattle.folder_contents.proofs.StaysWhole.{get_pushed}
 use Rattle.command_outcomes.specs.Ends.{StaysBeside}
-use Rattle.commands.proofs.StoreQuiet.{elsewhere, fewer, mine_only}
 use Rattle.commands.proofs.PlacesKept.{same_folders, IsPlace}
-use Rattle.commands.proofs.OwnSteps.{in_process}
+use Rattle.commands.proofs.OwnSteps.{elsewhere, in_process, step_others}
 
 -- the location of the folder in which a request changes something
 abbrev pub changed_in : Request → Option Spot
@@ -85,30 +82,6 @@ module _ (touched : Spot → Bool) (asks : Request → Bool) (c : ChangesAt touc
       subst (λ (s : DirState). StaysBeside touched (state_after old) s) (sym here) (places_all me (state_after old) ext.more own ext.asked)
 
 -- no own step adds to what others have open
-pub same_openings : (p : ℕ) (w : Namespace) (request : Request) (reply : Reply) → (namespace_done w p request).openings ≡ w.openings → ((handle : Handle) → (namespace_opened w p request handle).openings ≡ w.openings) →
-    (namespace_replied w p request reply).openings ≡ w.openings
-same_openings p w request Done done opened = done
-same_openings p w request (Opened handle) done opened = opened handle
-same_openings p w request reply done opened = refl
-
-step_others : (me : ℕ) (w : Namespace) (request : Request) (reply : Reply) (test : Opening → Bool) →
-    list_any (elsewhere me test) (namespace_replied w me request reply).openings ≡ true → list_any (elsewhere me test) w.openings ≡ true
-step_others me w (OpenArea area) (Opened handle) test any =
-    sym (any_last_not (elsewhere me test) w.openings (opened_gate me handle area) (ap (λ b. not b && test (opened_gate me handle area)) (same_self me))) ∙ any
-step_others me w (OpenArea area) reply test any = any
-step_others me w (Open spot which) (Opened handle) test any =
-    sym (any_last_not (elsewhere me test) w.openings (opened w me handle spot which) (ap (λ b. not b && test (opened w me handle spot which)) (same_self me))) ∙ any
-step_others me w (Open spot which) reply test any = any
-step_others me w (TryLock handle mode) Done test any = sym (any_map (elsewhere me test) (locked me handle mode) (mine_only me test handle mode) w.openings) ∙ any
-step_others me w (TryLock handle mode) reply test any = any
-step_others me w (Close handle) Done test any = fewer (elsewhere me test) (λ o. not (is_handle me handle o)) w.openings any
-step_others me w (Close handle) reply test any = any
-step_others me w Finish Done test any = fewer (elsewhere me test) (λ o. not (o.process == me)) w.openings any
-step_others me w Finish reply test any = any
-step_others me w Kill Done test any = fewer (elsewhere me test) (λ o. not (o.process == me)) w.openings any
-step_others me w Kill reply test any = any
-step_others me w request reply test any = subst (λ (os : List Opening). list_any (elsewhere me test) os ≡ true) (same_openings me w request reply refl (λ handle. refl)) any
-
 all_others : (me : ℕ) (s : DirState) (es : List Event) (test : Opening → Bool) → AllByRecursion (λ e. e.process ≡ me) es →
     list_any (elsewhere me test) (states_next s es).namespace.openings ≡ true → list_any (elsewhere me test) s.namespace.openings ≡ true
 all_others me s [] test own any = any

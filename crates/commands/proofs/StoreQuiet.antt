@@ -1,12 +1,11 @@
 -- Where nobody else steps, a process that begins, takes the lock of the images shared, reads them, gives the lock back and
 -- finishes changes no folder, not whose lock is held exclusively, and nothing that others have open.
-use Rattle.std.proofs.Common.{◌≡◌, ℕ, Bool, true, false, not, ◌&&◌, ◌||◌, ◌==◌, cond, Some, List, [], ◌∷◌, ◌++◌, filter, refl, sym, ap, subst, ◌∙◌, append_assoc}
+use Rattle.std.proofs.Common.{◌≡◌, ℕ, Bool, true, false, not, ◌&&◌, ◌||◌, ◌==◌, List, [], ◌∷◌, ◌++◌, refl, sym, ap, subst, ◌∙◌, append_assoc}
 use Rattle.std.specs.List.{list_any, AllByRecursion}
 use Rattle.dir_model.specs.declared.area.Area.{Area}
 use Rattle.dir_model.specs.declared.event.Event.{Event}
 use Rattle.dir_model.specs.declared.opening.Opening.{Opening}
 use Rattle.dir_model.specs.declared.spot.Handle.{Handle}
-use Rattle.dir_model.specs.declared.spot.Mode.{Mode}
 use Rattle.dir_model.specs.declared.spot.Mode.TheVariants.{Shared, Exclusive}
 use Rattle.dir_model.specs.declared.request.Request.{Request}
 use Rattle.dir_model.specs.declared.request.Request.TheVariants.{Begin, OpenArea, TryLock, Close, ListArea, ListIn, ReadIn, Finish, Kill}
@@ -17,14 +16,11 @@ use Rattle.dir_model.specs.State.{Namespace, DirState, empty_state}
 use Rattle.dir_model.specs.Trace.{state_after, state_next, states_next, namespace_replied, namespace_done, namespace_opened, locked, opened_gate}
 use Rattle.dir_model.specs.Calls.{event, is_foreign, is_begin, is_finish, is_kill, Extends, AtOwnStep}
 use Rattle.dir_model.specs.Quiet.{Quiet, OwnsNothing, SameNamespace}
-use Rattle.dir_model.proofs.Lists.{and_left, or_map, or_last, same_self, any_last_not, any_map, all_left, all_push, same_rest}
+use Rattle.dir_model.proofs.Lists.{or_last, same_self, any_last_not, any_map, all_left, all_push, same_rest}
 use Rattle.dir_model.proofs.Quiet.{is_harmless, harmless_all, begin_is_harmless, finish_is_harmless}
 use Rattle.dir_model.proofs.Chains.{states_next-append}
 use Rattle.commands.specs.ImageList.{lists_images}
-
--- another process has it open, and this holds of it
-abbrev pub elsewhere : ℕ → (Opening → Bool) → Opening → Bool
-elsewhere me test o = not (o.process == me) && test o
+use Rattle.commands.proofs.OwnSteps.{elsewhere, fewer, mine_only}
 
 -- nothing has come to what others have open
 pub record Tame (me : ℕ) (old new : Namespace) : Type 0 where
@@ -44,22 +40,6 @@ tame_both me a b c x y = record {
 one_same : (me : ℕ) (w : Namespace) (request : Request) (reply : Reply) → ((not (me == me) || is_kill request) || is_harmless request) ≡ true → OwnsNothing me w →
     SameNamespace me w (namespace_replied w me request reply)
 one_same me w request reply asked idle = harmless_all me (record empty_state { namespace = w }) (event me request reply ∷ []) (refl, tt) (asked, tt) idle
-
--- a list without some of its openings
-pub fewer : (t q : Opening → Bool) (xs : List Opening) → list_any t (filter q xs) ≡ true → list_any t xs ≡ true
-fewer t q [] any = any
-fewer t q (x ∷ xs) any = by (q x) any (λ rest. fewer t q xs rest)
-  where
-    by : (b : Bool) → list_any t (cond b (x ∷ filter q xs) (filter q xs)) ≡ true → (list_any t (filter q xs) ≡ true → list_any t xs ≡ true) → (t x || list_any t xs) ≡ true
-    by true found rest = or_map (t x) (list_any t (filter q xs)) (list_any t xs) rest found
-    by false found rest = or_last (t x) (list_any t xs) (rest found)
-
-pub mine_only : (me : ℕ) (test : Opening → Bool) (h : Handle) (mode : Mode) (o : Opening) → elsewhere me test (locked me h mode o) ≡ elsewhere me test o
-mine_only me test h mode o = by (is_handle me h o) (λ it. and_left (o.process == me) (o.handle.number == h.number) it)
-  where
-    by : (b : Bool) → (b ≡ true → (o.process == me) ≡ true) → elsewhere me test (cond b (record o { lock = Some mode }) o) ≡ elsewhere me test o
-    by true it = ap (λ b. not b && test (record o { lock = Some mode })) (it refl) ∙ sym (ap (λ b. not b && test o) (it refl))
-    by false it = refl
 
 -- a step that leaves the openings, or takes some away
 begin_others : (me : ℕ) (w : Namespace) (request : Request) (reply : Reply) (test : Opening → Bool) → is_begin request ≡ true →

@@ -11,8 +11,11 @@ use scripts::{Page, Unread};
 use std::alloc::Global;
 
 /// What stands before the mounts of a pod's one app.
-const POD: &str =
-    "{\"acKind\":\"PodManifest\",\"acVersion\":\"0.8.0\",\"apps\":[{\"name\":\"x\",\"image\":{\"id\":\"sha512-00000000000000000000000000000000000000000000000000000000000000000000000000000000000000000000000000000000000000000000000000000000\"},\"mounts\":[";
+const POD: &str = "{\"acKind\":\"PodManifest\",\"acVersion\":\"0.8.0\",\
+    \"apps\":[{\"name\":\"x\",\"image\":{\"id\":\"sha512-\
+    0000000000000000000000000000000000000000000000000000000000000000\
+    0000000000000000000000000000000000000000000000000000000000000000\"},\
+    \"mounts\":[";
 
 /// The volumes of a pod, and the mounts of its first app.
 fn asked(alloc: Global, pod: PodManifest) -> Result<Options, NoMemory>
