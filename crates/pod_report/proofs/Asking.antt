@@ -1,18 +1,33 @@
 -- What a process asked for that reads what pods hold, and what it knows afterwards.
-use Rattle.std.proofs.Common.{arith, ◌≡◌, ◌≤◌, Bool, true, refl, ap, ◌∙◌}
+use Rattle.std.proofs.Common.{arith, ◌≡◌, ◌≤◌, ◌&&◌, ◌||◌, bytes_eq, ℕ, Bool, true, List, Result, Ok, Err, refl, ap, subst, ◌∙◌}
+use Rattle.std.proofs.lemmas.Slice.Eq.{bytes_eq-Decides}
 use Rattle.dir_model.specs.declared.area.Area.{Area}
 use Rattle.dir_model.specs.declared.area.Area.TheVariants as area
 use Rattle.dir_model.specs.declared.item.Inner.{Inner}
+use Rattle.dir_model.specs.declared.item.Item.{Item}
+use Rattle.dir_model.specs.declared.spot.Spot.{Spot}
+use Rattle.dir_model.specs.declared.pod.PodId.{PodId}
+use Rattle.dir_model.specs.declared.request.DirError.{DirError}
 use Rattle.dir_model.specs.declared.request.Request.{Request}
-use Rattle.dir_model.specs.Areas.{is_stage}
+use Rattle.dir_model.specs.declared.request.Request.TheVariants.{ListIn}
+use Rattle.dir_model.specs.Areas.{rank, is_stage}
+use Rattle.dir_model.specs.Local.{Local, local_replied}
+use Rattle.dir_model.specs.Pods.{pod_text}
+use Rattle.dir_model.specs.Replies.{items_reply}
 use Rattle.dir_model.proofs.Chains.{extends_wider, nothing_yet, and_more}
+use Rattle.dir_model.proofs.Lists.{and_both}
 use Rattle.dir_rules.specs.declared.standing.Standing.{Standing}
 use Rattle.dir_rules.specs.declared.seen.Seen.{Seen}
-use Rattle.dir_trait.specs.DirCalls.{DirAt, ExtendsBy}
+use Rattle.dir_rules.specs.Rules.{may_look}
+use Rattle.dir_rules.specs.Conforms.{seen_listed}
+use Rattle.dir_trait.specs.DirCalls.{DirAt, ExtendsBy, ListCall}
 use Rattle.dir_trait.specs.Knowledge.{Knows, OnlyLooks}
-use Rattle.dir_files.specs.Reads.{OnlyReads, may_read, reads_at}
+use Rattle.dir_files.specs.Reads.{inner_at, OnlyReads, may_read, reads_at}
+use Rattle.folder_removal.proofs.Calls.{list_extends, knows_list}
+use Rattle.phase_read.specs.Read.{pod_spot}
 use Rattle.pod_lookup.specs.Looks.{OnlyLooksFor}
-use Rattle.pod_report.specs.Requests.{KeepsHandles, OnlyAsksFor}
+use Rattle.pod_lookup.proofs.OneByOne.{stage_of}
+use Rattle.pod_report.specs.Requests.{KeepsHandles, OnlyAsksFor, visits, lists_in, inspects}
 
 reads_there : (s : Standing) (place : Area) → is_stage place ≡ true → may_read place s ≡ true
 reads_there s area.Images is = cc
@@ -77,3 +92,35 @@ looks_places asked same faults local extends looks = record {
         knows = l.knows;
       };
 }
+
+-- a listing in a folder of a pod leaves what a process knows of what it has open
+looks_there : (s : Seen) (place : Area) → is_stage place ≡ true → may_look s place ≡ true
+looks_there s area.Images is = cc
+looks_there s _ is = refl
+
+list_local : (m : Local) (inner : Inner) (r : Result (List Item) DirError) → local_replied m (ListIn inner) (items_reply r) ≡ m
+list_local m inner (Ok items) = refl
+list_local m inner (Err e) = refl
+
+list_known : {new : DirAt} (s : Seen) (inner : Inner) (r : Result (List Item) DirError) → is_stage inner.spot.area ≡ true → Knows new (seen_listed s (ListIn inner) (items_reply r)) → KeepsHandles s new
+list_known s inner (Ok items) stage k = record { known = _; intent = refl; holdings = refl; kept = ap (λ b. b && (b && s.kept)) (looks_there s inner.spot.area stage); knows = k }
+list_known s inner (Err e) stage k = record { known = _; intent = refl; holdings = refl; kept = ap (λ b. b && (b && s.kept)) (looks_there s inner.spot.area stage); knows = k }
+
+looks_list : {observed : Bool} {asks : Request → Bool} {old new : DirAt} (inner : Inner) (r : Result (List Item) DirError) → (observed ≡ true → is_stage inner.spot.area ≡ true) → (observed ≡ true → asks (ListIn inner) ≡ true) → ListCall observed old (ListIn inner) (items_reply r) new → OnlyAsksFor observed asks old new
+looks_list {observed} {asks} {old} {new} inner r stage asked x = record {
+  same = x.same;
+  faults = x.faults;
+  local = x.local ∙ list_local old.local inner r;
+  extends = λ t. list_extends (asked t) (x.step t);
+  known = λ t s k. list_known s inner r (stage t) (knows_list inner r t k x);
+}
+
+-- of a directory of the pod's folder
+pub looks_directory : {observed : Bool} {old new : DirAt} (pod : PodId) (place : Area) (path : List ℕ) (r : Result (List Item) DirError) (spot : Spot) → spot ≡ pod_spot pod place → (observed ≡ true → rank place ≤ 5) → ListCall observed old (ListIn (inner_at spot path)) (items_reply r) new → OnlyAsksFor observed (inspects pod) old new
+looks_directory {observed} {old} {new} pod place path r spot is within x =
+    looks_list (inner_at (pod_spot pod place) path) r (λ t. stage_of place (within t)) (λ t. and_both (is_stage place) (bytes_eq (pod_text pod.bytes) (pod_text pod.bytes)) (stage_of place (within t)) ((bytes_eq-Decides (pod_text pod.bytes) (pod_text pod.bytes)).1 refl))
+    (subst (λ (s : Spot). ListCall observed old (ListIn (inner_at s path)) (items_reply r) new) is x)
+
+-- a visit is a part of an inspection
+pub visits_inspect : (pod : PodId) (r : Request) → visits pod r ≡ true → inspects pod r ≡ true
+visits_inspect pod r h = ap (λ (b : Bool). b || lists_in pod r) h

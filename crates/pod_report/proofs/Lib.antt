@@ -5,8 +5,19 @@ mod Leaving
 mod Meeting
 mod Telling
 mod Results
-mod Going
+pub mod Going
 mod Alone
-mod QuietSurvey
+pub mod QuietSurvey
+mod OnePlace
 mod QuietLines
 mod Listing
+mod StatusTexts
+mod StatusFiles
+mod StatusParents
+mod MissingDirectory
+mod Greatest
+mod TellingEnds
+mod SeeingStatus
+mod StatusMeeting
+mod InspectionRounds
+mod QuietStatus

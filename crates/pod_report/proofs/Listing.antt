@@ -3,6 +3,7 @@ use Rattle.std.proofs.Common.{◌≡◌, Bool, true, List, sym, ap, subst, ◌�
 use Rattle.dir_model.specs.declared.pod.PodId.{PodId}
 use Rattle.dir_model.specs.Listings.{has_name}
 use Rattle.dir_model.specs.Trace.{state_after}
+use Rattle.dir_model.proofs.Chains.{extends_wider}
 use Rattle.dir_trait.specs.DirCalls.{DirAt}
 use Rattle.lifecycle.specs.Executions.{IsConforming}
 use Rattle.pod_lookup.specs.Pods.{pod_names, FindsStanding, MissesGone}
@@ -15,7 +16,7 @@ use Rattle.pod_report.proofs.Alone.{lines_standing, standing_there}
 use Rattle.pod_report.proofs.Asking.{asks_more}
 use Rattle.pod_report.proofs.Going.{conforming_before}
 use Rattle.pod_report.proofs.QuietLines.{lines_before}
-use Rattle.pod_report.proofs.QuietSurvey.{survey_keeps}
+use Rattle.pod_report.proofs.QuietSurvey.{survey_calm, survey_keeps}
 use Rattle.pod_report.proofs.Telling.{snapshot}
 
 pub record ListTells (old new : DirAt) (lines : List PodLine) : Type 0 where
@@ -30,7 +31,7 @@ list_tells pods shown lines old mid new t first last conforming rise gone still 
     let told = subst (λ (l : List PodId). TellsPods l lines mid new) same tells in
     let weak = snapshot pods lines old mid new first.same a.more b.more a.grown b.grown rise (gone (conforming_before mid new t last conforming)) told in
     let standing = lines_standing pods lines old mid new a.more b.more a.grown b.grown conforming rise still told in
-    let ext = (asks_more first last).extends t in
+    let ext = extends_wider survey_calm ((asks_more first last).extends t) in
     record {
       snapshot = weak;
       standing = standing;

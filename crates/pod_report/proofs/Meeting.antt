@@ -37,7 +37,7 @@ use Rattle.pod_report.specs.Rounds.{age_past, moved_from, round_of, RoundTells}
 use Rattle.pod_report.specs.Visits.{IsPhase}
 use Rattle.pod_report.proofs.Leaving.{left_more}
 
-event_grown : {me : ℕ} {a b : List Event} {P : List Event → Type 0} → AtOwnEvent me a b P → (more : List Event) × (b ≡ a ++ more)
+pub event_grown : {me : ℕ} {a b : List Event} {P : List Event → Type 0} → AtOwnEvent me a b P → (more : List Event) × (b ≡ a ++ more)
 event_grown {me} {a} {b} {P} at = (at.later ++ (at.step ∷ [] ++ at.rest), at.ends ∙ (ap (λ h. (h ++ at.step ∷ []) ++ at.rest) at.begins ∙ simp append_assoc))
 
 module _ (pod : PodId) (phase : Phase) (area : Area) (within : rank area ≤ 5) {me : ℕ} {old mid : List Event} (found : AtOwnEvent me old mid (IsInPhase pod phase area)) where
@@ -135,7 +135,7 @@ module _ (pod : PodId) (phase : Phase) (area : Area) (within : rank area ≤ 5) 
 
 -- what a round tells
 module _ (pod : PodId) (phase : Phase) (old mid new : DirAt) (same : mid.process ≡ old.process) (rest : List Event) (grown : new.trace ≡ mid.trace ++ rest) (conforming : IsConforming new.trace) where
-  met_moved : (area : Area) → rank area ≤ 5 → AtOwnEvent old.process old.trace mid.trace (IsInPhase pod phase area) → AtOwnStep old.process mid.trace new.trace (λ s. stands s.namespace (pod_spot pod area) ≡ false) → RoundTells pod (moved_from area) old new
+  pub met_moved : (area : Area) → rank area ≤ 5 → AtOwnEvent old.process old.trace mid.trace (IsInPhase pod phase area) → AtOwnStep old.process mid.trace new.trace (λ s. stands s.namespace (pod_spot pod area) ≡ false) → RoundTells pod (moved_from area) old new
   met_moved area.Garbage within found y = gone_met pod phase area.Garbage within found conforming y refl
   met_moved area.Embryo within found y = λ n l. let m = missed_met pod phase area.Embryo within found conforming y n refl l in record { left = m.0; most = m.1 }
   met_moved area.Prepare within found y = λ n l. let m = missed_met pod phase area.Prepare within found conforming y n refl l in record { left = m.0; most = m.1 }

@@ -1,34 +1,31 @@
 -- Where nobody else steps, each line is that of the state before.
-use Rattle.std.proofs.Common.{◌≡◌, inl, inr, ℕ, Bool, zero, suc, true, false, bytes_eq, is_some, Option, Some, None, List, [], ◌∷◌, ◌++◌, refl, sym, ap, subst, ◌∙◌, append_assoc}
+use Rattle.std.proofs.Common.{◌≡◌, inl, inr, ℕ, Bool, true, false, bytes_eq, is_some, Option, Some, None, List, [], ◌∷◌, ◌++◌, refl, sym, ap, subst, ◌∙◌, append_assoc}
 use Rattle.std.specs.Prelude.{position}
 use Rattle.std.specs.List.{list_any, AllByRecursion}
-use Rattle.std.proofs.lemmas.Slice.Eq.{bytes_eq-Decides}
 use Rattle.ac_types.specs.Outcomes.{Outcome, reads, fails}
 use Rattle.manifests.specs.PodData.{PodData}
 use Rattle.manifests.specs.PodForm.{pod_manifest}
 use Rattle.dir_model.specs.declared.area.Area.{Area}
-use Rattle.dir_model.specs.declared.area.Area.TheVariants as area
 use Rattle.dir_model.specs.declared.area.Phase.{Phase}
 use Rattle.dir_model.specs.declared.event.Event.{Event}
 use Rattle.dir_model.specs.declared.item.Inner.{Inner}
 use Rattle.dir_model.specs.declared.pod.PodId.{PodId}
 use Rattle.dir_model.specs.declared.spot.Spot.{Spot}
 use Rattle.dir_model.specs.declared.tree.TreeEntry.{TreeEntry}
-use Rattle.dir_model.specs.Areas.{rank, is_stage, phase_in}
+use Rattle.dir_model.specs.Areas.{is_stage, phase_in}
 use Rattle.dir_model.specs.Calls.{Extends, AtOwnStep}
 use Rattle.dir_model.specs.Listings.{has_name}
 use Rattle.dir_model.specs.Pods.{pod_text}
 use Rattle.dir_model.specs.Quiet.{Quiet, OwnsNothing}
 use Rattle.dir_model.specs.State.{DirState, is_at, stands, folder_at, is_owned_at, is_owned_in}
 use Rattle.dir_model.specs.Trace.{state_after}
-use Rattle.dir_model.proofs.Lists.{and_both, or_last}
+use Rattle.dir_model.proofs.Lists.{or_last}
 use Rattle.dir_model.proofs.Moments.{some_number}
 use Rattle.dir_rules.specs.Standing.{is_of}
 use Rattle.dir_files.specs.Reads.{bytes_in, file_at}
 use Rattle.lifecycle.specs.Executions.{IsConforming}
 use Rattle.lifecycle.specs.Ownership.{place_in}
 use Rattle.lifecycle.specs.PodMachine.{pod_state}
-use Rattle.lifecycle.proofs.Moves.{place_once}
 use Rattle.lifecycle.proofs.Phases.{stands_exists, phase_of_place}
 use Rattle.phase_read.specs.Exact.{AtOwnEvent, IsNowhere}
 use Rattle.phase_read.specs.Read.{pod_spot, stages}
@@ -37,36 +34,15 @@ use Rattle.pod_lookup.proofs.Shown.{conforms}
 use Rattle.pod_report.specs.declared.line.PodLine.{PodLine}
 use Rattle.pod_report.specs.Before.{names_read, names_in_file, IsLineOf}
 use Rattle.pod_report.specs.Manifests.{HasManifest, LacksManifest, manifest_file}
-use Rattle.pod_report.specs.Requests.{surveys}
 use Rattle.pod_report.specs.Snapshot.{lined, HasApps, AreAppsOf, IsLine}
 use Rattle.pod_report.specs.Visits.{IsPhase}
 use Rattle.pod_report.proofs.Alone.{any_with, all_stages}
-use Rattle.pod_report.proofs.QuietSurvey.{SameWorld, same_world}
+use Rattle.pod_report.proofs.OnePlace.{place_of, one_area}
+use Rattle.pod_report.proofs.QuietSurvey.{is_calm, SameWorld, same_world}
 use Rattle.pod_report.proofs.Telling.{never_both}
 
--- a stage by its rank
-abbrev stage_at : ℕ → Area
-stage_at zero = area.Embryo
-stage_at (suc zero) = area.Prepare
-stage_at (suc (suc zero)) = area.Prepared
-stage_at (suc (suc (suc zero))) = area.Run
-stage_at (suc (suc (suc (suc zero)))) = area.ExitedGarbage
-stage_at (suc (suc (suc (suc (suc n))))) = area.Garbage
-
-stage_back : (a : Area) → is_stage a ≡ true → stage_at (rank a) ≡ a
-stage_back area.Embryo is = refl
-stage_back area.Prepare is = refl
-stage_back area.Prepared is = refl
-stage_back area.Run is = refl
-stage_back area.ExitedGarbage is = refl
-stage_back area.Garbage is = refl
-stage_back area.Incoming is = cc
-stage_back area.Images is = cc
-stage_back area.Trees is = cc
-stage_back area.Removed is = cc
-
 -- a file is in a folder that stands
-file_stands : (s : DirState) (inner : Inner) (bytes : List ℕ) → file_at s inner ≡ Some bytes → stands s.namespace inner.spot ≡ true
+pub file_stands : (s : DirState) (inner : Inner) (bytes : List ℕ) → file_at s inner ≡ Some bytes → stands s.namespace inner.spot ≡ true
 file_stands s inner bytes is = by (folder_at s.namespace inner.spot) is
   where
     by : (o : Option ℕ) → bytes_in s.entries inner.path o ≡ Some bytes → is_some o ≡ true
@@ -78,15 +54,15 @@ unread (reads m) none = absurd (none m refl)
 unread (fails path kind) none = refl
 
 module _ {me : ℕ} {s t : DirState} (w : SameWorld me s t) where
-  same_folder : (spot : Spot) → folder_at t.namespace spot ≡ folder_at s.namespace spot
+  pub same_folder : (spot : Spot) → folder_at t.namespace spot ≡ folder_at s.namespace spot
   same_folder spot = ap (λ (folders : List (Option Spot)). position (is_at spot) folders) w.names.folders
 
-  same_file : (inner : Inner) → file_at t inner ≡ file_at s inner
+  pub same_file : (inner : Inner) → file_at t inner ≡ file_at s inner
   same_file inner =
       ap (λ (es : List TreeEntry). bytes_in es inner.path (folder_at t.namespace inner.spot)) w.entries
       ∙ ap (bytes_in s.entries inner.path) (same_folder inner.spot)
 
-module _ {me : ℕ} {old new : List Event} (conforming : IsConforming new) (ext : Extends surveys me old new) (quiet : Quiet me old new) (idle : OwnsNothing me (state_after old).namespace) where
+module _ {me : ℕ} {old new : List Event} (conforming : IsConforming new) (ext : Extends is_calm me old new) (quiet : Quiet me old new) (idle : OwnsNothing me (state_after old).namespace) where
   abbrev before : DirState
   before = state_after old
 
@@ -100,19 +76,16 @@ module _ {me : ℕ} {old new : List Event} (conforming : IsConforming new) (ext 
     u = pod_text pod.bytes
 
     named : (b : Area) → is_stage b ≡ true → is_of u (pod_spot pod b) ≡ true
-    named b is = and_both (is_stage b) (bytes_eq u u) is ((bytes_eq-Decides u u).1 refl)
+    named b is = place_of pod b is
 
     -- the pod stood there at each moment, and nowhere else
     stood : (h : List Event) → SameWorld me before (state_after h) → stands (state_after h).namespace (pod_spot pod a) ≡ true
     stood h w = ap (λ (o : Option ℕ). is_some o) (same_folder w (pod_spot pod a)) ∙ there
 
     same_area : (h : List Event) → IsConforming h → SameWorld me before (state_after h) → (b : Area) → is_stage b ≡ true → stands (state_after h).namespace (pod_spot pod b) ≡ true → b ≡ a
-    same_area h good w b is at =
-        let x = stands_exists u h (pod_spot pod b) good (named b is) at in
-        let y = stands_exists u h (pod_spot pod a) good (named a stage) (stood h w) in
-        sym (stage_back b is) ∙ (ap stage_at (place_once b a (pod_state u h) x.1 y.1) ∙ stage_back a stage)
+    same_area h good w b is at = one_area pod h good a b stage is (stood h w) at
 
-    phase_before : {phase : Phase} → AtOwnEvent me old new (IsPhase pod phase) → phase_in a (is_owned_at before.namespace (pod_spot pod a)) ≡ Some phase
+    pub phase_before : {phase : Phase} → AtOwnEvent me old new (IsPhase pod phase) → phase_in a (is_owned_at before.namespace (pod_spot pod a)) ≡ Some phase
     phase_before {phase} at =
         let h : List Event = at.before ++ at.step ∷ [] in
         let w : SameWorld me before (state_after h) = world_at at.before at.step at.later at.rest at.begins at.ends in

@@ -72,12 +72,12 @@ module _ (me : ℕ) (a b c d : List Event) (more rest : List Event) (ab : b ≡ 
   lines_within (l ∷ lines) all = (line_within l all.0, lines_within lines all.1)
 
 -- parts of lists
-part_skip : (xs ys : List (List ℕ)) (y : List ℕ) → IsPartOf xs ys → IsPartOf xs (ys ++ y ∷ [])
+pub part_skip : (xs ys : List (List ℕ)) (y : List ℕ) → IsPartOf xs ys → IsPartOf xs (ys ++ y ∷ [])
 part_skip xs [] y p = inl p
 part_skip xs (z ∷ ys) y (inl p) = inl (part_skip xs ys y p)
 part_skip xs (z ∷ ys) y (inr (rest, is, p)) = inr (rest, is, part_skip rest ys y p)
 
-part_keep : (xs ys : List (List ℕ)) (y : List ℕ) → IsPartOf xs ys → IsPartOf (xs ++ y ∷ []) (ys ++ y ∷ [])
+pub part_keep : (xs ys : List (List ℕ)) (y : List ℕ) → IsPartOf xs ys → IsPartOf (xs ++ y ∷ []) (ys ++ y ∷ [])
 part_keep xs [] y p = inr ([], ap (λ l. l ++ y ∷ []) p, refl)
 part_keep xs (z ∷ ys) y (inl p) = inl (part_keep xs ys y p)
 part_keep xs (z ∷ ys) y (inr (rest, is, p)) = inr (rest ++ y ∷ [], ap (λ l. l ++ y ∷ []) is, part_keep rest ys y p)

@@ -2,7 +2,7 @@
 use Rattle.std.specs.Prelude.{◌≡◌, ◌≤◌, ℕ, Bool, true, false, ◌||◌, List}
 use Rattle.dir_model.specs.declared.pod.PodId.{PodId}
 use Rattle.dir_model.specs.declared.request.Request.{Request}
-use Rattle.dir_model.specs.declared.request.Request.TheVariants.{Open, TryLock, Close, ListArea, ReadIn}
+use Rattle.dir_model.specs.declared.request.Request.TheVariants.{Open, TryLock, Close, ListArea, ListIn, ReadIn}
 use Rattle.dir_model.specs.Areas.{is_stage}
 use Rattle.dir_model.specs.Local.{Local, has_own_open}
 use Rattle.dir_model.specs.Replies.{is_look_at}
@@ -20,7 +20,16 @@ reads_in pod _ = false
 abbrev pub visits : PodId → Request → Bool
 visits pod request = is_look_at (is_pod_spot pod) request || reads_in pod request
 
--- the same of any pod, and listings of the areas
+-- listings of directories of the pod's folder
+abbrev pub lists_in : PodId → Request → Bool
+lists_in pod (ListIn inner) = is_pod_spot pod inner.spot
+lists_in pod _ = false
+
+-- and visits to it
+abbrev pub inspects : PodId → Request → Bool
+inspects pod request = visits pod request || lists_in pod request
+
+-- visits to any pod, and listings of the areas
 abbrev pub surveys : Request → Bool
 surveys (Open spot which) = is_stage spot.area
 surveys (TryLock handle mode) = is_look_at (λ spot. false) (TryLock handle mode)

@@ -6,7 +6,7 @@ ghost use Rattle.dir_trait.specs.Pods.{pod_text};
 ghost use Rattle.lifecycle.specs.Executions.{IsConforming};
 ghost use Rattle.pod_report.specs.Outside.{IsOutside};
 ghost use Rattle.pod_report.specs.Requests.{OnlyAsksFor, visits};
-ghost use Rattle.pod_report.specs.Rounds.{moved_from, round_of, RoundTells};
+ghost use Rattle.pod_report.specs.Rounds.{IsKnownRound, moved_from, round_of, RoundTells};
 
 use crate::error::{ReportError, look_fault};
 use crate::sight::{Sight, see_manifest};
@@ -60,6 +60,7 @@ pub(crate) fn attempt<D: Dir>(alloc: Global, dir: &mut D, pod: PodId) -> Result<
     ensures kind { IfErr result IsOutside }
     ensures round { IfOk result (λ round. D.observed ≡ true → IsConforming (D.shown dir.new).trace
         → RoundTells pod round (D.shown dir.old) (D.shown dir.new)) }
+    ensures manifest { IfOk result IsKnownRound }
 {
     match read_phase(alloc, dir, pod) {
         Ok(Found::At(phase, area)) => match see_manifest(alloc, dir, pod, area) {

@@ -8,7 +8,7 @@ ghost use Rattle.dir_trait.specs.State.{stands};
 ghost use Rattle.phase_read.specs.Read.{pod_spot};
 ghost use Rattle.pod_report.specs.Outside.{IsOutside};
 ghost use Rattle.pod_report.specs.Requests.{OnlyAsksFor, visits};
-ghost use Rattle.pod_report.specs.Sights.{IsSightOf, SeesNoFile, Sees};
+ghost use Rattle.pod_report.specs.Sights.{IsKnownSight, IsSightOf, SeesNoFile, Sees};
 
 use crate::error::{ReportError, look_fault};
 use crate::place::pod_spot;
@@ -35,6 +35,7 @@ pub(crate) enum Sight {
 // The manifest that the bytes are.
 fn sight_of(alloc: Global, bytes: &[u8]) -> Result<Sight, ReportError>
     ensures seen { IfOk result (IsSightOf bytes.now) }
+    ensures manifest { IfOk result IsKnownSight }
     ensures memory { IfErr result (λ e. e ≡ ReportError.NoMemory) }
 {
     match read_pod(alloc, bytes) {
@@ -44,8 +45,13 @@ fn sight_of(alloc: Global, bytes: &[u8]) -> Result<Sight, ReportError>
     }
 }
 
-// Whether the pod is there still, where its file wasn't.
-fn is_there<D: Dir>(alloc: Global, dir: &mut D, pod: PodId, area: Area) -> Result<bool, ReportError>
+/// Whether the pod is there still.
+pub(crate) fn is_there<D: Dir>(
+    alloc: Global,
+    dir: &mut D,
+    pod: PodId,
+    area: Area,
+) -> Result<bool, ReportError>
     requires active { IsActive (D.shown dir.old).local }
     requires stage { D.observed ≡ true → rank area ≤ 5 }
     ensures counted { (D.shown dir.new).calls ≤ (D.shown dir.old).calls + 2 }
@@ -74,6 +80,7 @@ fn sight_missing<D: Dir>(
     ensures cause { IsErrOf result ReportError.DirFault → Rose (D.shown dir.old).faults (D.shown dir.new).faults }
     ensures kind { IfErr result IsOutside }
     ensures seen { IfOk result (λ sight. D.observed ≡ true → SeesNoFile pod area sight (D.shown dir.old) (D.shown dir.new)) }
+    ensures manifest { IfOk result IsKnownSight }
 {
     if is_there(alloc, dir, pod, area)? {
         Ok(Sight::Lacking)
@@ -96,6 +103,7 @@ pub(crate) fn see_manifest<D: Dir>(
     ensures cause { IsErrOf result ReportError.DirFault → Rose (D.shown dir.old).faults (D.shown dir.new).faults }
     ensures kind { IfErr result IsOutside }
     ensures seen { IfOk result (λ sight. D.observed ≡ true → Sees pod area sight (D.shown dir.old) (D.shown dir.new)) }
+    ensures manifest { IfOk result IsKnownSight }
 {
     match read_whole(alloc, dir, pod_spot(pod, area), "pod", MOST) {
         Ok(Some(bytes)) => sight_of(alloc, &bytes),

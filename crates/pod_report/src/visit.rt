@@ -1,17 +1,18 @@
 // A visit to a pod: its phase and its manifest.
-ghost use Rattle.std.specs.Prelude.{◌≡◌, ◌≤◌, ◌+◌, true, false, IfOk, IfErr, IsErrOf};
+ghost use Rattle.std.specs.Prelude.{◌≡◌, ◌≤◌, ◌+◌, true, false, IfOk, IfErr, IfSome, IsErrOf};
 ghost use Rattle.dir_trait.specs.Causes.{Rose};
 ghost use Rattle.dir_trait.specs.DirCalls.{HeldBetween};
 ghost use Rattle.dir_trait.specs.Local.{IsActive, has_own_open};
 ghost use Rattle.dir_trait.specs.Pods.{pod_text};
 ghost use Rattle.lifecycle.specs.Executions.{IsConforming};
+ghost use Rattle.manifests.specs.ManifestRules.{IsPodManifest};
 ghost use Rattle.manifests.specs.PodData.{pod_data};
 ghost use Rattle.phase_read.specs.Exact.{AtOwnEvent, IsNowhere};
 ghost use Rattle.pod_report.specs.Before.{AnswersQuietly};
 ghost use Rattle.pod_report.specs.Manifests.{HasManifest, LacksManifest};
 ghost use Rattle.pod_report.specs.Outside.{IsUnsaid};
 ghost use Rattle.pod_report.specs.Requests.{OnlyAsksFor, visits};
-ghost use Rattle.pod_report.specs.Visits.{VisitTells};
+ghost use Rattle.pod_report.specs.Visits.{IsKnownVisit, VisitTells};
 
 use crate::attempt::{Round, attempt};
 use crate::error::ReportError;
@@ -42,6 +43,7 @@ pub(crate) fn visit_pod<D: Dir>(
     ensures kind { IfErr result IsUnsaid }
     ensures told { IfOk result (λ found. D.observed ≡ true → IsConforming (D.shown dir.new).trace
         → VisitTells pod found (D.shown dir.old) (D.shown dir.new)) }
+    ensures manifest { IfOk result (λ found. IfSome found IsKnownVisit) }
     ensures stray { IsErrOf result ReportError.Stray → D.observed ≡ true → IsConforming (D.shown dir.new).trace → ⊥ }
 {
     'rounds: for _round in 0..6u8 {
@@ -72,6 +74,7 @@ pub fn manifest_of<D: Dir>(
     ensures cause { IsErrOf result ReportError.DirFault → Rose (D.shown dir.old).faults (D.shown dir.new).faults }
     ensures read { IfOk result (λ manifest. D.observed ≡ true → IsConforming (D.shown dir.new).trace
         → HeldBetween (D.shown dir.old) (D.shown dir.new) (HasManifest pod (pod_data manifest))) }
+    ensures kind { IfOk result (λ manifest. IsPodManifest (pod_data manifest)) }
     ensures nowhere { IsErrOf result ReportError.NoPod → D.observed ≡ true → IsConforming (D.shown dir.new).trace
         → AtOwnEvent (D.shown dir.old).process (D.shown dir.old).trace (D.shown dir.new).trace (IsNowhere pod) }
     ensures lacking { IsErrOf result ReportError.NoManifest → D.observed ≡ true → IsConforming (D.shown dir.new).trace

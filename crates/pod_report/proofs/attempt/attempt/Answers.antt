@@ -1,7 +1,8 @@
 use Rattle.std.proofs.Common.{sym, subst}
 use Rattle.pod_report.proofs.Asking.{asks_more}
 use Rattle.pod_report.specs.declared.attempt.Round.{Round}
-use Rattle.pod_report.specs.Rounds.{RoundTells}
+use Rattle.pod_report.specs.Rounds.{IsKnownRound, RoundTells}
+use Rattle.pod_report.proofs.Results.{known_round}
 use Rattle.pod_report.proofs.Reading.{looks_phase}
 use Rattle.pod_report.proofs.Meeting.{round_tells}
 use Rattle.pod_report.proofs.Going.{conforming_before}
@@ -30,3 +31,6 @@ returns-in-Ok-clause-round g c t conforming =
     let on = c.see_manifest.ensures.only.extends t in
     subst (λ (r : Round). RoundTells c.args.pod r old new) (sym c.round_of.ensures)
     (round_tells c.args.pod c.in-Ok-At.phase old mid new c.read_phase.ensures.same on.more on.grown conforming c.in-Ok-At.area c.in-Ok.sight (e.read t).stage (e.exact t before) (c.in-Ok.ensures.seen t))
+
+pub returns-in-Ok-clause-manifest : goal.returns-in-Ok-clause-manifest
+returns-in-Ok-clause-manifest g c = subst IsKnownRound (sym c.round_of.ensures) (known_round c.in-Ok-At.phase c.in-Ok-At.area c.in-Ok.sight c.in-Ok.ensures.manifest)

@@ -1,0 +1,158 @@
+-- Status files: they are no started app's own, and the directory of statuses shows them.
+use Rattle.std.proofs.Common.{arith, ◌≡◌, ◌≤◌, ◌<◌, ℕ, zero, suc, nat_lt, Bool, true, false, not, ◌&&◌, ◌||◌, ◌==◌, cond, bytes_eq, nat_eq, Option, Some, None, option_to_list, List, [], ◌∷◌, ◌++◌, length, drop, slice_index, codes, refl, sym, ap, subst, ◌∙◌}
+use Rattle.std.specs.List.{list_any, list_all, cons_option, AllByRecursion, starts_with}
+use Rattle.std.specs.Str.{is_utf8, IsAscii}
+use Rattle.std.proofs.lemmas.Bool.Decides.{Decides-eqb, nat_tests}
+use Rattle.std.proofs.lemmas.Grind.{common_steps}
+use Rattle.std.proofs.lemmas.List.Sums.{AllPass-from_list_all}
+use Rattle.std.proofs.lemmas.Slice.Eq.{starts_is}
+use Rattle.std.proofs.lemmas.Str.{IsUtf8-from_ascii}
+use Rattle.dir_model.specs.declared.event.Event.{Event}
+use Rattle.dir_model.specs.declared.item.Inner.{Inner}
+use Rattle.dir_model.specs.declared.item.Item.{Item}
+use Rattle.dir_model.specs.declared.tree.StartedApp.{StartedApp}
+use Rattle.dir_model.specs.declared.tree.TreeEntry.{TreeEntry}
+use Rattle.dir_model.specs.declared.request.Request.{Request}
+use Rattle.dir_model.specs.declared.request.Request.TheVariants.{MakeFileIn}
+use Rattle.dir_model.specs.declared.request.Reply.{Reply}
+use Rattle.dir_model.specs.declared.request.Reply.TheVariants.{Done}
+use Rattle.dir_model.specs.Listings.{is_named}
+use Rattle.dir_model.specs.Names.{is_file_byte, IsFileName}
+use Rattle.dir_model.specs.Paths.{is_slash, is_empty, is_file_name, is_path, lies_below, is_directly_in, behind}
+use Rattle.dir_model.specs.Replies.{is_own_at, is_own_of}
+use Rattle.dir_model.specs.State.{Namespace, DirState, empty_state, folder_at}
+use Rattle.dir_model.specs.Trace.{is_mark, marked_app, app_started, state_next, states_next, state_after}
+use Rattle.dir_model.specs.Trees.{is_within, mark_prefix, app_root, is_apps_own, is_dir, is_entry, is_file_entry, has_file, item_in, items_in, kind_of}
+use Rattle.dir_model.proofs.Lists.{and_left, and_right, and_both, and_false, or_none, or_last, not_true, all_both}
+use Rattle.dir_rules.specs.Marks.{status_directory}
+use Rattle.dir_rules.proofs.Looks.{same_bytes}
+use Rattle.folder_removal.proofs.Paths.{path_of}
+use Rattle.lifecycle.proofs.Handles.{clash}
+use Rattle.lifecycle.proofs.Places.{name_same}
+
+-- each started app has its root at such a path
+abbrev Rooted : StartedApp → Type 0
+Rooted a = (app : List ℕ) × (a.root ≡ app_root app)
+
+marked_rooted : (o : Option ℕ) (path : List ℕ) → AllByRecursion Rooted (option_to_list (marked_app o path))
+marked_rooted None path = tt
+marked_rooted (Some folder) path = by (is_mark path)
+  where
+    by : (b : Bool) → AllByRecursion Rooted (option_to_list (cond b (Some (record { folder = folder; root = app_root (drop (length mark_prefix) path) })) None))
+    by true = ((drop (length mark_prefix) path, refl), tt)
+    by false = tt
+
+started_rooted : (n : Namespace) (request : Request) (reply : Reply) → AllByRecursion Rooted (option_to_list (app_started n request reply))
+started_rooted n (MakeFileIn i) Done = marked_rooted (folder_at n i.spot) i.path
+started_rooted n request reply = tt
+
+all_rooted : (s : DirState) (es : List Event) → AllByRecursion Rooted s.apps → AllByRecursion Rooted (states_next s es).apps
+all_rooted s [] a = a
+all_rooted s (e ∷ es) a = all_rooted (state_next s e) es (all_both Rooted s.apps (option_to_list (app_started s.namespace e.request e.reply)) a (started_rooted s.namespace e.request e.reply))
+
+-- where all roots are
+abbrev is_staged : List ℕ → Bool
+is_staged path = starts_with nat_eq path (codes "stage1/rootfs/opt/")
+
+begun_so : (app rest path : List ℕ) → path ≡ app_root app ++ rest → is_staged path ≡ true
+begun_so app rest path is = subst (λ (q : List ℕ). is_staged q ≡ true) (sym is) refl
+
+pub some_length : (x : ℕ) (xs : List ℕ) → (length (x ∷ xs) == 0) ≡ false
+some_length x xs = grind (arith, nat_tests, common_steps)
+
+-- what lies below a path begins with it
+pub below_front : (path q : List ℕ) → (length q == 0) ≡ false → lies_below path q ≡ true → path ≡ q ++ drop (length q) path
+unfolding lies_below
+below_front path q other h =
+    let parts : (starts_with nat_eq path q && (slice_index path (length q) == 47)) ≡ true =
+    sym (ap (λ b. cond b (not (length path == 0)) (starts_with nat_eq path q && (slice_index path (length q) == 47))) other) ∙ h in
+    (starts_is Decides-eqb path q _ refl).0 (and_left (starts_with nat_eq path q) (slice_index path (length q) == 47) parts)
+
+within_root : (app path : List ℕ) → is_within (app_root app) path ≡ true → is_staged path ≡ true
+within_root app path h = by (bytes_eq path (app_root app)) refl h
+  where
+    by : (b : Bool) → bytes_eq path (app_root app) ≡ b → (b || lies_below path (app_root app)) ≡ true → is_staged path ≡ true
+    by true is h = subst (λ (q : List ℕ). is_staged q ≡ true) (sym (name_same path (app_root app) is)) refl
+    by false is h = begun_so app (drop (length (app_root app)) path) path (below_front path (app_root app) (some_length 115 (drop 1 (app_root app))) h)
+
+unowned : (apps : List StartedApp) (folder : ℕ) (path : List ℕ) → AllByRecursion Rooted apps → is_staged path ≡ false → is_apps_own apps folder path ≡ false
+unowned [] folder path rooted off = refl
+unowned (a ∷ apps) folder path rooted off =
+    or_none ((a.folder == folder) && is_within a.root path) (is_apps_own apps folder path) (by (is_within a.root path) refl) (unowned apps folder path rooted.1 off)
+  where
+    by : (b : Bool) → is_within a.root path ≡ b → ((a.folder == folder) && b) ≡ false
+    by false e = and_false (a.folder == folder)
+    by true e = clash (is_staged path) (within_root rooted.0.0 path (subst (λ (r : List ℕ). is_within r path ≡ true) rooted.0.1 e)) off
+
+-- the statuses are at and below their directory
+pub status_own : (h : List Event) (inner : Inner) (rest : List ℕ) → inner.path ≡ status_directory ++ rest → is_own_of (state_after h) (Some inner) ≡ false
+status_own h inner rest is = by (folder_at (state_after h).namespace inner.spot)
+  where
+    by : (o : Option ℕ) → is_own_at (state_after h) inner.path o ≡ false
+    by None = refl
+    by (Some folder) = unowned (state_after h).apps folder inner.path (all_rooted empty_state h tt) (subst (λ (p : List ℕ). is_staged p ≡ false) (sym is) refl)
+
+-- a file name is one name behind the directory
+no_slash : (bs : List ℕ) → list_all is_file_byte bs ≡ true → list_any is_slash bs ≡ false
+no_slash [] h = refl
+no_slash (b ∷ bs) h =
+    or_none (is_slash b) (list_any is_slash bs)
+    (not_true (b == 47) (and_left (not (b == 47)) (not (b == 0)) (and_left (is_file_byte b) (list_all is_file_byte bs) h)))
+    (no_slash bs (and_right (is_file_byte b) (list_all is_file_byte bs) h))
+
+pub name_plain : (app : List ℕ) → is_file_name app ≡ true → list_any is_slash app ≡ false
+name_plain app name =
+    no_slash app (and_left (list_all is_file_byte app) (is_utf8 app) (and_right _ (list_all is_file_byte app && is_utf8 app) (and_right (not (is_empty app)) _ name)))
+
+pub directly : (app : List ℕ) → is_file_name app ≡ true → is_directly_in status_directory (status_directory ++ 47 ∷ app) ≡ true
+unfolding lies_below
+directly app name =
+    and_both (not (is_empty app)) (not (list_any is_slash app)) (and_left (not (is_empty app)) _ name) (ap not (name_plain app name))
+
+-- the directory shows a file that stands in it
+shown_one : (k : ℕ) (app : List ℕ) (e : TreeEntry) → is_file_name app ≡ true → is_file_entry k (status_directory ++ 47 ∷ app) e ≡ true → item_in k status_directory e ≡ Some (record { name = app; kind = kind_of e.node })
+shown_one k app e name is =
+    let here = and_left (is_entry k (status_directory ++ 47 ∷ app) e) (not (is_dir e.node)) is in
+    let path : e.path ≡ status_directory ++ 47 ∷ app = name_same e.path (status_directory ++ 47 ∷ app) (and_right (e.folder == k) _ here) in
+    ap (λ (p : List ℕ). cond (((e.folder == k) && is_directly_in status_directory p) && is_file_name (behind status_directory p)) (some (behind status_directory p)) None) path
+    ∙ (ap (λ (b : Bool). cond ((b && is_directly_in status_directory (status_directory ++ 47 ∷ app)) && is_file_name app) (some app) None) (and_left (e.folder == k) _ here)
+    ∙ (ap (λ (b : Bool). cond (b && is_file_name app) (some app) None) (directly app name)
+    ∙ ap (λ (b : Bool). cond b (some app) None) name))
+  where
+    some : List ℕ → Option Item
+    some n = Some (record { name = n; kind = kind_of e.node })
+
+pub file_shown : (k : ℕ) (app : List ℕ) (es : List TreeEntry) → is_file_name app ≡ true → has_file es k (status_directory ++ 47 ∷ app) ≡ true → list_any (is_named app) (items_in k status_directory es) ≡ true
+file_shown k app [] name h = cc
+file_shown k app (e ∷ es) name h = by (is_file_entry k (status_directory ++ 47 ∷ app) e) refl h (λ rest. file_shown k app es name rest)
+  where
+    after : (o : Option Item) → list_any (is_named app) (items_in k status_directory es) ≡ true → list_any (is_named app) (cons_option o (items_in k status_directory es)) ≡ true
+    after None h = h
+    after (Some item) h = or_last (is_named app item) (list_any (is_named app) (items_in k status_directory es)) h
+
+    by : (b : Bool) → is_file_entry k (status_directory ++ 47 ∷ app) e ≡ b → (b || has_file es k (status_directory ++ 47 ∷ app)) ≡ true → (has_file es k (status_directory ++ 47 ∷ app) ≡ true → list_any (is_named app) (items_in k status_directory es) ≡ true) → list_any (is_named app) (items_in k status_directory (e ∷ es)) ≡ true
+    by true is h go =
+        ap (λ (o : Option Item). list_any (is_named app) (cons_option o (items_in k status_directory es))) (shown_one k app e name is)
+        ∙ ap (λ (b : Bool). b || list_any (is_named app) (items_in k status_directory es)) (same_bytes app)
+    by false is h go = after (item_in k status_directory e) (go h)
+
+-- their directory has a path, and each file in it has one
+small_bytes : (bs : List ℕ) → list_all (λ b. nat_lt b 128) bs ≡ true → IsAscii bs
+small_bytes [] h i = omega arith
+small_bytes (b ∷ bs) h zero = below b (and_left (nat_lt b 128) (list_all (λ b. nat_lt b 128) bs) h)
+  where
+    below : (b : ℕ) → nat_lt b 128 ≡ true → b < 128
+    below b h = grind (arith, nat_tests)
+small_bytes (b ∷ bs) h (suc i) = small_bytes bs (and_right (nat_lt b 128) (list_all (λ b. nat_lt b 128) bs) h) i
+
+plain_name : (bs : List ℕ) → 1 ≤ length bs → length bs ≤ 255 → list_all is_file_byte bs ≡ true → list_all (λ b. nat_lt b 128) bs ≡ true → IsFileName bs
+plain_name bs some few plain small = (some, few, AllPass-from_list_all is_file_byte bs plain, IsUtf8-from_ascii bs (small_bytes bs small))
+
+pub directory_path : is_path status_directory ≡ true
+directory_path =
+    path_of (codes "stage1/rootfs/rkt") (codes "status")
+    (path_of (codes "stage1/rootfs") (codes "rkt") (path_of (codes "stage1") (codes "rootfs") (path_of [] (codes "stage1") refl (plain_name (codes "stage1") (omega arith) (omega arith) refl refl)) (plain_name (codes "rootfs") (omega arith) (omega arith) refl refl)) (plain_name (codes "rkt") (omega arith) (omega arith) refl refl))
+    (plain_name (codes "status") (omega arith) (omega arith) refl refl)
+
+pub file_path : (app : List ℕ) → IsFileName app → is_path (status_directory ++ 47 ∷ app) ≡ true
+file_path app name = path_of status_directory app directory_path name
