@@ -136,7 +136,7 @@ SPEC = {
 }
 
 
-def small_commands():
+def small_commands(works):
     """What is near an empty program: statuses and lists."""
     title("Statuses and lists, beside an empty C program in turn", " ratio to it |")
     pairs = [(launch([FLOOR]), launch([FLOOR])) for _ in range(50)]
@@ -149,9 +149,33 @@ def small_commands():
         pairs = [(launch([FLOOR]), data.rkt("status", f"00000000-0000-4000-8000-{count - 1:012x}")) for _ in range(50)]
         told(f"`status` among {count:,} pods", [p[1] for p in pairs], [p[0] for p in pairs])
     for count in (1, 100, 1000):
+        data, last = listed_pods(count)
+        if data.says("list").count("\texited\tsmall") != count:
+            raise SystemExit("a list lacks a pod")
+        pairs = [(launch([FLOOR]), data.rkt("list")) for _ in range(50)]
+        told(f"`list` of {count:,} pods", [p[1] for p in pairs], [p[0] for p in pairs])
+        pairs = [(launch([FLOOR]), data.rkt("cat-manifest", last)) for _ in range(50)]
+        told(f"`cat-manifest` among {count:,} pods", [p[1] for p in pairs], [p[0] for p in pairs])
+    for count in (1, 100, 1000):
         data = many_images(count)
         pairs = [(launch([FLOOR]), data.rkt("image", "list")) for _ in range(50)]
         told(f"`image list` of {count:,} images", [p[1] for p in pairs], [p[0] for p in pairs])
+    lists = {"podman": [*PODMAN, "ps", "--all"], "crun": ["crun", f"--root={WORK}/crun", "list"], "runc": ["runc", f"--root={WORK}/runc", "list"]}
+    for name in (name for name in lists if name in works):
+        pairs = [(launch([FLOOR]), launch(lists[name])) for _ in range(RUNS)]
+        told(f"{name}'s list of no container", [p[1] for p in pairs], [p[0] for p in pairs])
+
+
+def listed_pods(count):
+    """So many exited pods that have the manifest of one, in a data folder; and the last of them."""
+    data = Data(f"listed{count}")
+    data.says("image", "import", WORK + "/small")
+    first = data.says("run", "example.com/small").split("\n", maxsplit=1)[0]
+    pods = [first] + [f"00000000-0000-4000-8000-{n:012x}" for n in range(count - 1)]
+    for pod in pods[1:]:
+        os.mkdir(f"{data.area('run')}/{pod}")
+        shutil.copy(f"{data.area('run')}/{first}/pod", f"{data.area('run')}/{pod}/pod")
+    return data, pods[-1]
 
 
 def many_images(count):
@@ -309,7 +333,7 @@ def main():
     bundle("small", 1, 0)
     bundle("large", 2, 17)
     works = peers()
-    small_commands()
+    small_commands(works)
     one_of_each(works)
     small_runs(works)
     sweeps()

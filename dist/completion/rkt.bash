@@ -27,7 +27,7 @@ _rkt() {
     case $current$before in *=) return ;; esac
     case $before in --volume | --mount | --metadata | --grace-period | --expire-prepared) return ;; esac
     case $command in
-    '') words='image prepare run-prepared run status rm gc validate help'; options='--help --version' ;;
+    '') words='image prepare run-prepared run list status cat-manifest rm gc validate help'; options='--help --version' ;;
     image) words='import list rm gc'; options=--help ;;
     'image import') options='--help'; case $current in -*) ;; *) _rkt_files -d "$current"; return ;; esac ;;
     'image list') options='--help' ;;
@@ -36,7 +36,9 @@ _rkt() {
     'prepare') options='--volume= --mount= --help'; words=$(_rkt_images "$program") ;;
     'run-prepared') options='--metadata= --help'; words=$(_rkt_pods prepared) ;;
     'run') options='--volume= --mount= --metadata= --help'; words=$(_rkt_images "$program") ;;
+    'list') options='--help' ;;
     'status') options='--help'; words=$(_rkt_pods embryo prepare prepared run exited-garbage garbage) ;;
+    'cat-manifest') options='--help'; words=$(_rkt_pods prepare prepared run exited-garbage garbage) ;;
     'rm') options='--help'; words=$(_rkt_pods prepare prepared run exited-garbage garbage) ;;
     'gc') options='--grace-period= --expire-prepared= --help' ;;
     'validate') options='--help'; case $current in -*) ;; *) _rkt_files -f "$current"; return ;; esac ;;

@@ -51,6 +51,15 @@ expect() {
     esac
 }
 
+# first_line COMMAND..: the first line that the command prints, and its status.
+first_line() {
+    local all status
+    all=$("$@")
+    status=$?
+    [ -z "$all" ] || echo "${all%%$'\n'*}"
+    return $status
+}
+
 # How many checks there were, and whether none failed.
 finish() {
     echo "$script: $checks checks, $failures failed"

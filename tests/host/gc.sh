@@ -163,7 +163,7 @@ if [ ${#as_user[@]} -eq 0 ] || "${as_user[@]}" "$rkt" --version >/dev/null 2>&1;
     pod=$("${as_user[@]}" "$rkt" run example.com/app | head -n 1)
     close "$(root run "$pod" app)/"$'closed\xff' 555
     expect 'a closed root whose name is not UTF-8' 9 '' 'rkt: directory fault' "${as_user[@]}" "$rkt" rm "$pod"
-    expect 'it rests' 0 'state=exited garbage' '' "${as_user[@]}" "$rkt" status "$pod"
+    expect 'it rests' 0 'state=exited garbage' '' first_line "${as_user[@]}" "$rkt" status "$pod"
     "${as_user[@]}" chmod -R u+rwx "$(root exited-garbage "$pod" app)"
     expect 'an opened root' 0 "removed $pod" '' "${as_user[@]}" "$rkt" rm "$pod"
     same 'nothing of it stands' 0 "$(standing)"

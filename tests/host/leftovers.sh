@@ -58,7 +58,7 @@ cut() {
 leaves() {
     local name=$1 pod others=() lines
     pod=$(exited "$2")
-    same "$name: the app has run" state=exited "$("$rkt" status "$pod")"
+    same "$name: the app has run" state=exited "$(first_line "$rkt" status "$pod")"
     expect "$name: rm" 0 "removed $pod" '' timeout 60 "$rkt" rm "$pod"
     pod=$(exited "$2")
     "$rkt" gc >/dev/null

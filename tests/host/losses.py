@@ -108,7 +108,7 @@ class World:
         found = {}
         for pod in self.pods():
             status, out, err = self.call("status", pod)
-            found[pod] = out.strip().removeprefix("state=") if status == 0 else f"status {status} {err.strip()}"
+            found[pod] = out.split("\n")[0].removeprefix("state=") if status == 0 else f"status {status} {err.strip()}"
         return found
 
     def images(self):

@@ -70,7 +70,7 @@ uuid=$("$rkt" prepare example.com/reduce-worker:1.0.0 2>"$tmp/err")
 same 'it is prepared' '0|' "$?|$(cat "$tmp/err")"
 [[ $uuid =~ ^[0-9a-f]{8}-[0-9a-f]{4}-4[0-9a-f]{3}-[89ab][0-9a-f]{3}-[0-9a-f]{12}$ ]]
 same 'it prints a uuid' 0 $?
-expect 'its state' 0 'state=prepared' '' "$rkt" status "$uuid"
+expect 'its state' 0 'state=prepared' '' first_line "$rkt" status "$uuid"
 same 'the store is as it was' "$store" "$(find "$RKT_DIR/store" -printf '%p %y %m %s %i %T@ %C@\n' | sort)"
 same 'one pod in prepared' "$uuid" "$(ls "$(area prepared)")"
 same 'none elsewhere' '0 0 0 0 0' "$(pods embryo) $(pods prepare) $(pods run) $(pods exited-garbage) $(pods garbage)"
@@ -144,7 +144,7 @@ exec 9<&-
 hold "$RKT_DIR/store/images" -s
 uuid=$("$rkt" prepare example.com/reduce-worker 9<&-)
 same 'beside a reader' 0 $?
-expect 'it is prepared too' 0 'state=prepared' '' "$rkt" status "$uuid"
+expect 'it is prepared too' 0 'state=prepared' '' first_line "$rkt" status "$uuid"
 exec 9<&-
 same 'two pods' 2 "$(pods prepared)"
 
@@ -154,7 +154,7 @@ printf abd >"$file"
 expect 'a file that differs' 15 '' "rkt: damaged: $(key a)/rootfs/bin/abc" "$rkt" prepare example.com/reduce-worker
 same 'an aborted prepare is left' 1 "$(pods prepare)"
 left=$(ls "$(area prepare)")
-expect 'it reads as one' 0 'state=aborted prepare' '' "$rkt" status "$left"
+expect 'it reads as one' 0 'state=aborted prepare' '' first_line "$rkt" status "$left"
 printf abc >"$file"
 mv "$RKT_DIR/store/images/$(key b)/tree" "$tmp/away"
 expect 'a listing that is gone' 15 '' "rkt: damaged: $(key b)/tree" "$rkt" prepare example.com/reduce-worker
@@ -170,7 +170,7 @@ for n in 1 2 3 4 5 6 7 8; do
 done
 wait
 for n in 1 2 3 4 5 6 7 8; do
-    expect "pod $n of eight" 0 'state=prepared' '' "$rkt" status "$(cat "$tmp/out$n")"
+    expect "pod $n of eight" 0 'state=prepared' '' first_line "$rkt" status "$(cat "$tmp/out$n")"
     same "its root" 0 "$(diff -r "$tmp/wanted/stage1/rootfs/opt" "$(area prepared)/$(cat "$tmp/out$n")/stage1/rootfs/opt" >/dev/null; echo $?)"
 done
 same 'eight pods' 8 "$(pods prepared)"
@@ -188,14 +188,14 @@ for n in $(seq 50); do
     kill -9 $prepare 2>/dev/null
     wait $prepare 2>/dev/null
     for uuid in $(ls "$(area embryo)"); do
-        expect "kill $n: an embryo" 0 'state=embryo' '' "$rkt" status "$uuid"
+        expect "kill $n: an embryo" 0 'state=embryo' '' first_line "$rkt" status "$uuid"
     done
     for uuid in $(ls "$(area prepare)"); do
-        expect "kill $n: an aborted prepare" 0 'state=aborted prepare' '' "$rkt" status "$uuid"
+        expect "kill $n: an aborted prepare" 0 'state=aborted prepare' '' first_line "$rkt" status "$uuid"
     done
     for uuid in $(ls "$(area prepared)"); do
         whole=$((whole + 1))
-        expect "kill $n: a pod" 0 'state=prepared' '' "$rkt" status "$uuid"
+        expect "kill $n: a pod" 0 'state=prepared' '' first_line "$rkt" status "$uuid"
         same "kill $n: it is whole" 0 "$(diff -r "$tmp/wanted/stage1/rootfs/opt" "$(area prepared)/$uuid/stage1/rootfs/opt" >/dev/null; echo $?)"
     done
     printed=$(cat "$tmp/line")
@@ -203,7 +203,7 @@ for n in $(seq 50); do
     rm -rf "$(area embryo)"/* "$(area prepare)"/* "$(area prepared)"/*
 done
 uuid=$("$rkt" prepare example.com/reduce-worker)
-expect 'a prepare afterwards' 0 'state=prepared' '' "$rkt" status "$uuid"
+expect 'a prepare afterwards' 0 'state=prepared' '' first_line "$rkt" status "$uuid"
 echo "prepare.sh: of 50 prepares that were killed $whole had prepared the pod"
 
 # While its image is removed and imported again: a whole pod, or no image, or a lock that is held.
@@ -222,7 +222,7 @@ while kill -0 $remover 2>/dev/null; do
     out=$("$rkt" prepare example.com/reduce-worker 2>"$tmp/err")
     case $?$(cat "$tmp/err") in
         0)
-            expect 'beside a removal' 0 'state=prepared' '' "$rkt" status "$out"
+            expect 'beside a removal' 0 'state=prepared' '' first_line "$rkt" status "$out"
             same 'its root is whole' 0 "$(diff -r "$tmp/wanted/stage1/rootfs/opt" "$(area prepared)/$out/stage1/rootfs/opt" >/dev/null; echo $?)"
             ;;
         '5rkt: busy: gate images' | '7rkt: no dependency: example.com/lib') ;;

@@ -103,6 +103,22 @@ expect 'the first stands' 0 'state=exited' '' "$rkt" status $one
 expect 'so does the second' 0 'state=embryo' '' "$rkt" status $two
 rmdir "$RKT_DIR/pods/run/$one" "$RKT_DIR/pods/embryo/$two" "$RKT_DIR/pods/garbage/$three"
 
+# When it was made, by its latest created- mark, and how its apps ended, by name: what isn't whole is passed over.
+folder=$RKT_DIR/pods/run/$pod
+statuses=$folder/stage1/rootfs/rkt/status
+mkdir -p "$statuses/folder"
+touch "$folder/created-00000000000000000100" "$folder/created-00000000000000000007" "$folder/created-200" "$folder/marked-00000000000000000300"
+expect 'its latest mark' 0 $'state=exited\ncreated=100' '' "$rkt" status $pod
+printf '0\n' >"$statuses/web"
+printf '137\n' >"$statuses/db"
+: >"$statuses/begun"
+printf 1 >"$statuses/half"
+printf '256\n' >"$statuses/large"
+printf '007\n' >"$statuses/long"
+printf ' 7\n' >"$statuses/space"
+printf '7\n\n' >"$statuses/two"
+expect 'marks and ends' 0 $'state=exited\ncreated=100\napp-db=137\napp-web=0' '' "$rkt" status $pod
+rm -r "$folder"
 # It changes nothing.
 mkdir -p "$RKT_DIR/pods/prepared/$pod/stage1" "$RKT_DIR/pods/run/00000000-0000-4000-8000-000000000002"
 echo text >"$RKT_DIR/pods/prepared/$pod/pod"

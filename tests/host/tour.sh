@@ -23,11 +23,13 @@ answers=(
     "$worker_key"
     "$base_key example.com/base [0-9]+ $worker_key example.com/worker [0-9]+"
     ''
-    'state=prepared'
-    'state=prepared'
+    'state=prepared created=[0-9]+'
+    'state=prepared created=[0-9]+'
+    "$uuid_text"$'\tprepared\tworker'
+    '\{"acKind":"PodManifest","acVersion":"0.8.0","apps":\[\{.*,"name":"worker"\}\]\}'
     'appsinfo created-[0-9]{20} pod stage1 token'
     'hello app-worker=0'
-    'state=exited'
+    'state=exited created=[0-9]+ app-worker=0'
     "removed $uuid_text"
     "hello $uuid_text app-worker=0"
     "$uuid_text moved exited-garbage $uuid_text kept exited garbage"

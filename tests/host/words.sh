@@ -87,7 +87,6 @@ if [ -x "$rkt" ]; then
     usage image frob --help
     usage image --help import
     usage import --help
-    usage list --help
     usage frob --help
     usage '' --help
 else

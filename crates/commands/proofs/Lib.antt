@@ -58,6 +58,9 @@ pub mod RemovalEnds
 pub mod RemovalQuiet
 pub mod Removals
 pub mod RemovedQuietly
+pub mod Reports
+pub mod ReportsBefore
+pub mod ReportsKept
 pub mod RmBefore
 pub mod RmFrom
 pub mod RmLacking

@@ -11,14 +11,14 @@ use Rattle.phase_read.specs.Read.{pod_spot}
 use Rattle.phase_read.specs.Sequential.{or_in, sequential_read}
 
 module _ (me : ℕ) (s s' : DirState) (same : SameNamespace me s.namespace s'.namespace) where
-  same_stands : (spot : Spot) → stands s'.namespace spot ≡ stands s.namespace spot
+  pub same_stands : (spot : Spot) → stands s'.namespace spot ≡ stands s.namespace spot
   same_stands spot = ap (λ (l : List (Option Spot)). is_some (position (is_at spot) l)) same.folders
 
   owned_in : (folder : Option ℕ) → is_owned_in s'.namespace folder ≡ is_owned_in s.namespace folder
   owned_in None = refl
   owned_in (Some k) = same.owned k
 
-  same_owned : (spot : Spot) → is_owned_at s'.namespace spot ≡ is_owned_at s.namespace spot
+  pub same_owned : (spot : Spot) → is_owned_at s'.namespace spot ≡ is_owned_at s.namespace spot
   same_owned spot = owned_in (folder_at s'.namespace spot) ∙ ap (λ (l : List (Option Spot)). is_owned_in s.namespace (position (is_at spot) l)) same.folders
 
   or_same : (pod : PodId) (a : Area) (later later' : Found) → later' ≡ later → or_in s' pod a later' ≡ or_in s pod a later

@@ -5,9 +5,12 @@ use Rattle.std.specs.List.{flat_map, list_all}
 use Rattle.command_outcomes.specs.declared.told.Told.{Told}
 use Rattle.stage1.specs.declared.end.AppEnd.{AppEnd}
 
--- the line of an app
+-- the line of an app that ended so
+abbrev pub end_line : List ℕ → ℕ → List ℕ
+end_line app status = (((codes "app-" ++ app) ++ codes "=") ++ decimal status) ++ codes "\n"
+
 abbrev pub app_line : AppEnd → List ℕ
-app_line end = (((codes "app-" ++ end.app) ++ codes "=") ++ decimal end.status) ++ codes "\n"
+app_line end = end_line end.app end.status
 
 abbrev pub app_lines : List AppEnd → List ℕ
 app_lines ends = flat_map app_line ends

@@ -2,6 +2,8 @@ pub mod Answers
 pub mod AppEnds
 pub mod AppRuns
 pub mod AppsTold
+pub mod CatManifest
+pub mod CatManifestCommand
 pub mod Command
 pub mod Gc
 pub mod GcCommand
@@ -15,8 +17,10 @@ pub mod ImageListCommand
 pub mod ImageRm
 pub mod ImageRmCommand
 pub mod Kept
+pub mod ListCommand
 pub mod NextState
 pub mod Opening
+pub mod PodList
 pub mod Prepare
 pub mod PrepareCommand
 pub mod PrepareQuiet
@@ -25,6 +29,7 @@ pub mod References
 pub mod RemovalHistory
 pub mod RemovalQuiet
 pub mod RemovalTable
+pub mod Report
 pub mod Rm
 pub mod RmCommand
 pub mod Run

@@ -1,36 +1,74 @@
 -- The command `status`.
-use Rattle.std.specs.Prelude.{◌≡◌, Bool, true, Ok, Err}
+use Rattle.std.specs.Prelude.{◌≡◌, ℕ, Bool, true, Option, Some, None, List, [], ◌++◌, codes, Ok, Err}
+use Rattle.std.specs.Fmt.{decimal}
+use Rattle.std.specs.List.{flat_map}
+use Rattle.dir_model.specs.declared.event.Event.{Event}
 use Rattle.dir_model.specs.declared.pod.PodId.{PodId}
 use Rattle.dir_trait.specs.State.{DirState}
-use Rattle.phase_read.specs.declared.found.Found.{Found}
-use Rattle.phase_read.specs.declared.found.Found.TheVariants.{At, Gone}
-use Rattle.lifecycle.specs.Executions.{IsConforming}
-use Rattle.phase_read.specs.Exact.{WasSo}
-use Rattle.phase_read.specs.Read.{IsReading}
-use Rattle.phase_read.specs.Sequential.{sequential_read}
+use Rattle.phase_read.specs.Exact.{AtOwnEvent, IsNowhere}
+use Rattle.pod_report.specs.declared.ends.AppEndText.{AppEndText}
+use Rattle.pod_report.specs.declared.error.ReportError.{ReportError}
+use Rattle.pod_report.specs.declared.error.ReportError.TheVariants as report
+use Rattle.pod_report.specs.declared.status.PodStatus.{PodStatus}
+use Rattle.pod_report.specs.Requests.{inspects}
+use Rattle.pod_report.specs.Status.{IsStatus, IsStatusOf}
 use Rattle.command_outcomes.specs.declared.refusal.Refusal.{Refusal}
-use Rattle.command_outcomes.specs.declared.refusal.Refusal.TheVariants.{NoPod}
-use Rattle.command_outcomes.specs.Moments.{DirSeen, Outcome}
-use Rattle.commands.specs.Texts.{state_text}
+use Rattle.command_outcomes.specs.declared.refusal.Refusal.TheVariants.{DirFault, NoMemory, NoPod, Stray}
 use Rattle.command_outcomes.specs.Ends.{is_common}
+use Rattle.command_outcomes.specs.Moments.{Outcome}
+use Rattle.commands.specs.AppEnds.{end_line}
+use Rattle.commands.specs.RemovalQuiet.{StandsNowhere}
+use Rattle.commands.specs.Report.{Report}
+use Rattle.commands.specs.Texts.{state_text}
+
+-- the lines that it prints: the phase, the moment of the latest created- mark, and a line for each end
+abbrev pub created_line : Option ℕ → List ℕ
+created_line None = []
+created_line (Some moment) = (codes "created=" ++ decimal moment) ++ codes "\n"
+
+abbrev pub ended_line : AppEndText → List ℕ
+ended_line end = end_line end.app end.status
+
+abbrev pub status_lines : PodStatus → List ℕ
+status_lines status = (state_text status.phase ++ created_line status.created) ++ flat_map ended_line status.ends
 
 -- the refusals that it may have
 abbrev pub status_refusal : Refusal → Bool
 status_refusal NoPod = true
+status_refusal Stray = true
 status_refusal refusal = is_common refusal
 
--- what a read comes to
-abbrev pub read_outcome : Found → Outcome
-read_outcome (At phase area) = Ok (state_text phase)
-read_outcome Gone = Err NoPod
+-- what is said where no status was told
+abbrev pub unknown_refusal : ReportError → Refusal
+unknown_refusal report.NoPod = NoPod
+unknown_refusal report.DirFault = DirFault
+unknown_refusal report.NoMemory = NoMemory
+unknown_refusal error = Stray
 
--- a read of the pod's phase, and its text. Where the execution conforms, what was read was so at one own event
-pub record StatusSays (pod : PodId) (old new : DirSeen) (o : Outcome) : Type 0 where
-  pub found : Found
-  pub told : old.observed ≡ true → IsReading old.process old.trace new.trace pod found
-  pub exact : old.observed ≡ true → IsConforming new.trace → WasSo old.process old.trace new.trace pod found
-  pub is : o ≡ read_outcome found
+-- it printed a status of which this is so
+pub record PrintsStatus (P : PodStatus → Type 0) (text : List ℕ) : Type 0 where
+  pub status : PodStatus
+  pub so : P status
+  pub is : text ≡ status_lines status
 
--- what it comes to where nobody else steps
-abbrev pub sequential_status : PodId → DirState → Outcome
-sequential_status pod s = read_outcome (sequential_read s pod)
+-- the phase is the pod's at an own event, and so on; or it didn't exist at one. Contradictory answers don't come
+abbrev pub TellsStatus : PodId → ℕ → List Event → List Event → Outcome → Type 0
+TellsStatus pod me old new (Ok text) = PrintsStatus (λ status. IsStatus pod status me old new) text
+TellsStatus pod me old new (Err NoPod) = AtOwnEvent me old new (IsNowhere pod)
+TellsStatus pod me old new (Err refusal) = ⊥
+
+-- where nobody else steps: the status that the pod has in the state before, or that it stands nowhere
+abbrev pub IsStatusIn : PodId → DirState → Outcome → Type 0
+IsStatusIn pod s (Ok text) = PrintsStatus (IsStatusOf s pod) text
+IsStatusIn pod s (Err NoPod) = StandsNowhere pod s
+IsStatusIn pod s (Err refusal) = ⊥
+
+-- it looks at the pod's locations, lists its folder and its statuses, and reads these
+abbrev pub status_report : PodId → Report
+status_report pod = record {
+  asks = inspects pod;
+  prints = λ text. (status : PodStatus) × (text ≡ status_lines status);
+  refusals = status_refusal;
+  tells = TellsStatus pod;
+  quiet = IsStatusIn pod;
+}

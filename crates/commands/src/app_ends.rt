@@ -1,22 +1,34 @@
 // What is told of the apps of a pod.
 ghost use Rattle.std.specs.Prelude.{◌≡◌, ◌⊎◌, ◌++◌, ◌==◌, Ok, Err, OnOk};
 ghost use Rattle.std.specs.List.{list_all};
-ghost use Rattle.commands.specs.AppEnds.{app_line, app_lines, all_well, told_of};
+ghost use Rattle.commands.specs.AppEnds.{app_line, app_lines, all_well, end_line, told_of};
 
 use ac_types::NoMemory;
 use command_outcomes::{Output, Refusal, Told};
 use stage1::AppEnd;
 use std::alloc::Global;
 
+/// Appends the line of an app that ended with this status.
+pub(crate) fn add_end_line(
+    alloc: Global,
+    text: &mut Output,
+    app: &str,
+    status: u8,
+) -> Result<(), NoMemory>
+    ensures { OnOk result (text.new ≡ text.old ++ end_line app.now status) }
+{
+    text.push("app-")?;
+    text.push(app)?;
+    text.push("=")?;
+    text.push_number(alloc, u64::from(status))?;
+    text.push("\n")?;
+    Ok(())
+}
+
 fn add_end(alloc: Global, text: &mut Output, end: &AppEnd) -> Result<(), NoMemory>
     ensures { OnOk result (text.new ≡ text.old ++ app_line end.now) }
 {
-    text.push("app-")?;
-    text.push(end.app.as_str())?;
-    text.push("=")?;
-    text.push_number(alloc, u64::from(end.status))?;
-    text.push("\n")?;
-    Ok(())
+    add_end_line(alloc, text, end.app.as_str(), end.status)
 }
 
 fn add_ends(alloc: Global, text: &mut Output, ends: &[AppEnd]) -> Result<(), NoMemory>

@@ -2,11 +2,13 @@
 #![tactic(auto)]
 
 mod app_ends;
+pub mod cat_manifest;
 pub mod gc;
 pub mod image_gc;
 pub mod image_import;
 pub mod image_list;
 pub mod image_rm;
+pub mod list;
 pub mod prepare;
 mod prepare_refusals;
 pub mod rm;

@@ -15,7 +15,9 @@ usage:
   rkt prepare [OPTION...] IMAGE...  makes a pod of an app of each image
   rkt run-prepared [OPTION...] POD  runs a prepared pod, once
   rkt run [OPTION...] IMAGE...      makes a pod of images and runs it
-  rkt status POD                    prints the phase of a pod
+  rkt list                          prints the pods, with phases and apps
+  rkt status POD                    prints a pod's phase and how its apps ended
+  rkt cat-manifest POD              prints the manifest of a pod
   rkt rm POD                        removes a pod
   rkt gc [OPTION...]                removes pods that are dead or too old
   rkt validate FILE                 judges a manifest of App Container 0.8
@@ -173,18 +175,46 @@ exit status: 0 done, 1 usage, 5 busy, 6 bad manifest,
   20 stray reply
 ";
 
+const LIST: &str = "\
+usage: rkt list
+
+Prints a line for each pod, by uuid: its uuid, its phase and the names of its
+apps, with a tab between them, and changes nothing. Between the names are
+commas; - stands for none, also where the pod's manifest is missing or has no
+reading. A pod that is there throughout has one line, whatever other processes
+do.
+
+exit status: 0 done, 1 usage, 9 directory fault, 12 output fault,
+  14 out of memory, 20 stray reply
+";
+
 const STATUS: &str = "\
 usage: rkt status POD
 
-Prints the phase of a pod as a line state=PHASE, and changes nothing of the pod.
-PHASE is embryo, preparing, aborted prepare, prepared, running, exited, exited
-garbage, garbage or deleting.
+Prints the phase of a pod as a line state=PHASE, then created=N, the moment in
+seconds when it was made, where its folder has that mark, and a line
+app-APP=STATUS for each app that ended, by name; and changes nothing of the pod.
+A status that is just being written isn't told. PHASE is embryo, preparing,
+aborted prepare, prepared, running, exited, exited garbage, garbage or deleting.
 
   POD  a pod's uuid, 36 characters with hyphens, or the beginning of one, in
        small or capital letters
 
 exit status: 0 done, 1 usage, 2 no such pod, 3 ambiguous, 9 directory fault,
-  12 output fault, 14 out of memory
+  12 output fault, 14 out of memory, 20 stray reply
+";
+
+const CAT_MANIFEST: &str = "\
+usage: rkt cat-manifest POD
+
+Prints the manifest of a pod, as JSON without spaces in one line, and changes
+nothing. Before a pod is prepared it may have none yet.
+
+  POD  a pod's uuid, 36 characters with hyphens, or the beginning of one, in
+       small or capital letters
+
+exit status: 0 done, 1 usage, 2 no such pod, 3 ambiguous, 9 directory fault,
+  12 output fault, 14 out of memory, 18 no manifest, 20 stray reply
 ";
 
 const RM: &str = "\
@@ -237,12 +267,14 @@ exit status: 0 done, 1 usage, 6 bad manifest, 9 directory fault,
 ";
 
 /// The text of each first word.
-pub const COMMANDS: [(&str, &str); 8] = [
+pub const COMMANDS: [(&str, &str); 10] = [
     ("image", IMAGE),
     ("prepare", PREPARE),
     ("run-prepared", RUN_PREPARED),
     ("run", RUN),
+    ("list", LIST),
     ("status", STATUS),
+    ("cat-manifest", CAT_MANIFEST),
     ("rm", RM),
     ("gc", GC),
     ("validate", VALIDATE),

@@ -43,36 +43,42 @@ at_task pod is = ap (λ (l : Line). task_of l pod) is
 -- what doesn't depend on the pod
 pub same_uses : (l : Line) (pod : PodId) → uses_dir (task_of l pod) ≡ uses_dir (any_task l)
 same_uses (line.Status word) pod = refl
+same_uses (line.CatManifest word) pod = refl
 same_uses (line.RunPrepared word address) pod = refl
 same_uses (line.Rm word) pod = refl
 same_uses l pod = refl
 
 pub same_reads : (l : Line) (pod : PodId) → reads_bundle (task_of l pod) ≡ reads_bundle (any_task l)
 same_reads (line.Status word) pod = refl
+same_reads (line.CatManifest word) pod = refl
 same_reads (line.RunPrepared word address) pod = refl
 same_reads (line.Rm word) pod = refl
 same_reads l pod = refl
 
 pub same_runs : (l : Line) (pod : PodId) → runs_apps (task_of l pod) ≡ runs_apps (any_task l)
 same_runs (line.Status word) pod = refl
+same_runs (line.CatManifest word) pod = refl
 same_runs (line.RunPrepared word address) pod = refl
 same_runs (line.Rm word) pod = refl
 same_runs l pod = refl
 
 pub same_intent : (l : Line) (pod : PodId) (now : ℕ) (draw : Draw) → intent_of (task_of l pod) now draw ≡ intent_in l now draw
 same_intent (line.Status word) pod now draw = refl
+same_intent (line.CatManifest word) pod now draw = refl
 same_intent (line.RunPrepared word address) pod now draw = refl
 same_intent (line.Rm word) pod now draw = refl
 same_intent l pod now draw = refl
 
 pub read_so : (l : Line) (pod : PodId) (old new : BundleSeen) → ReadsOnly (task_of l pod) old new → ReadsOnly (any_task l) old new
 read_so (line.Status word) pod old new reads = reads
+read_so (line.CatManifest word) pod old new reads = reads
 read_so (line.RunPrepared word address) pod old new reads = reads
 read_so (line.Rm word) pod old new reads = reads
 read_so l pod old new reads = reads
 
 same_approach : (l : Line) (pod : PodId) → approach_by (word_of l) ≡ approach_in (task_of l pod)
 same_approach (line.Status word) pod = refl
+same_approach (line.CatManifest word) pod = refl
 same_approach (line.RunPrepared word address) pod = refl
 same_approach (line.Rm word) pod = refl
 same_approach l pod = refl
@@ -80,18 +86,21 @@ same_approach l pod = refl
 -- the pod that it was found to mean
 pub is_meant_by : (l : Line) (pod : PodId) (draw : Draw) (b m : DirSeen) → FindsPod (word_of l) draw b m (Ok pod) → IsMeantBy (word_of l) draw pod
 is_meant_by (line.Status word) pod draw b m f = f.0
+is_meant_by (line.CatManifest word) pod draw b m f = f.0
 is_meant_by (line.RunPrepared word address) pod draw b m f = f.0
 is_meant_by (line.Rm word) pod draw b m f = f.0
 is_meant_by l pod draw b m f = let same : pod ≡ draw.uuid = cc in same
 
 pub means_its : (l : Line) (pod : PodId) (draw : Draw) → IsMeantBy (word_of l) draw pod → MeansItsPod (task_of l pod)
 means_its (line.Status word) pod draw m = m
+means_its (line.CatManifest word) pod draw m = m
 means_its (line.RunPrepared word address) pod draw m = m
 means_its (line.Rm word) pod draw m = m
 means_its l pod draw m = tt
 
 finds_its : (l : Line) (pod : PodId) (draw : Draw) (b m : DirSeen) → FindsPod (word_of l) draw b m (Ok pod) → b.observed ≡ true → FindsItsPod (task_of l pod) b.process b.trace m.trace
 finds_its (line.Status word) pod draw b m f t = f.1 t
+finds_its (line.CatManifest word) pod draw b m f t = f.1 t
 finds_its (line.RunPrepared word address) pod draw b m f t = f.1 t
 finds_its (line.Rm word) pod draw b m f t = f.1 t
 finds_its l pod draw b m f t = tt
@@ -99,6 +108,7 @@ finds_its l pod draw b m f t = tt
 -- a line that needs no process has no word
 pub drawn_alone : (l : Line) (draw : Draw) → uses_dir (any_task l) ≡ false → IsMeantBy (word_of l) draw draw.uuid
 drawn_alone (line.Status word) draw apart = cc
+drawn_alone (line.CatManifest word) draw apart = cc
 drawn_alone (line.RunPrepared word address) draw apart = cc
 drawn_alone (line.Rm word) draw apart = cc
 drawn_alone l draw apart = refl

@@ -2,14 +2,9 @@
 use Rattle.std.proofs.Common.{◌≡◌, ◌⊎◌, inl, inr, ℕ, Bool, true, false, List, Ok, Err, refl, sym, ap, subst, ◌∙◌}
 use Rattle.ac_types.specs.declared.store_key.StoreKey.{StoreKey}
 use Rattle.dir_model.specs.declared.area.Area.TheVariants.{Images}
-use Rattle.dir_model.specs.declared.event.Event.{Event}
 use Rattle.dir_model.specs.declared.intent.Draw.{Draw}
 use Rattle.dir_model.specs.declared.pod.PodId.{PodId}
 use Rattle.dir_model.specs.Causes.{Rose}
-use Rattle.phase_read.specs.declared.found.Found.{Found}
-use Rattle.phase_read.specs.declared.found.Found.TheVariants.{At, Gone}
-use Rattle.phase_read.specs.Read.{IsReading, LeftOut, stages}
-use Rattle.phase_read.proofs.InTurn.{left_out_after, left_out_before}
 use Rattle.command_outcomes.specs.declared.refusal.Refusal.{Refusal}
 use Rattle.command_outcomes.specs.declared.refusal.Refusal.TheVariants.{Usage, NoPod, Busy, NoImage, WrongPhase, PodBusy, NoManifest, Damaged, DirFault, BundleFault, SpawnFault, OutFault, NoMemory, Stray}
 use Rattle.command_outcomes.specs.Ends.{is_own_end}
@@ -26,11 +21,14 @@ use Rattle.commands.specs.PrepareRefusals.{prepare_refusal}
 use Rattle.commands.specs.RmCommand.{RefusesRm}
 use Rattle.commands.specs.RunCommand.{RefusesNewRun}
 use Rattle.commands.specs.RunPreparedCommand.{RefusesRun}
-use Rattle.commands.specs.Status.{read_outcome}
-use Rattle.commands.specs.StatusCommand.{RefusesStatus}
+use Rattle.commands.specs.CatManifest.{cat_manifest_report}
+use Rattle.commands.specs.PodList.{list_report}
+use Rattle.commands.specs.Report.{RefusesReport}
+use Rattle.commands.proofs.ReportsKept.{lines_wider, manifest_wider, status_wider}
+use Rattle.commands.specs.Status.{status_report}
 use Rattle.commands.proofs.ImageImports.{is_memory}
 use Rattle.rkt_cli.specs.Tasks.{Task}
-use Rattle.rkt_cli.specs.Tasks.{Status, Validate, ImageList, ImageImport, ImageRm, ImageGc, Prepare, RunPrepared, Run, Rm, Gc}
+use Rattle.rkt_cli.specs.Tasks.{Status, PodList, CatManifest, Validate, ImageList, ImageImport, ImageRm, ImageGc, Prepare, RunPrepared, Run, Rm, Gc}
 use Rattle.rkt_cli.specs.Commands.{command_in, intent_of, may}
 use Rattle.rkt_cli.specs.Promises.{RefusedFor}
 use Rattle.rkt_cli.specs.Runs.{Performs, RunOfLine, Unwritten}
@@ -42,7 +40,7 @@ use Rattle.rkt_cli.proofs.Outcomes.{fault_cause, bundle_cause, refusals_of, does
 use Rattle.rkt_cli.proofs.PodRan.{prepare_refused, prepare_busy, is_fault}
 use Rattle.rkt_cli.proofs.PodRemovals.{rm_none, rm_stray, rm_busy, rm_wrong, rm_bare, gc_stray}
 use Rattle.rkt_cli.proofs.Removals.{removal_busy, removal_unnamed, removal_none, removal_stray, sweep_stray}
-use Rattle.rkt_cli.proofs.Sessions.{any_call, begin_any, finish_part}
+use Rattle.rkt_cli.proofs.Reported.{report_told}
 use Rattle.commands.specs.Wants.{Wants}
 
 -- the refusals that aren't of one command
@@ -74,27 +72,9 @@ own_end r plain = refl
 same_refusal : (r q : Refusal) → ◌≡◌ {A = Answer} (Err r) (Err q) → r ≡ q
 same_refusal r q is = cc
 
-missing_read : (pod : PodId) (me : ℕ) (old new : List Event) (found : Found) → Err NoPod ≡ read_outcome found → IsReading me old new pod found → LeftOut me old new pod stages
-missing_read pod me old new (At phase area) is read = cc
-missing_read pod me old new Gone is read = read
-
 module _ (now : ℕ) (draw : Draw) (old new : Outside) where
   abbrev Fails : Task → Refusal → Type 0
   Fails line r = Performs line now draw (intent_of line now draw) old new (Err r)
-
-  missing : {word : List ℕ} (pod : PodId) → Fails (Status word pod) NoPod → old.dir.observed ≡ true → LeftOut old.dir.process old.dir.trace new.dir.trace pod stages
-  missing pod (inl s) t =
-      let d = s.ran.says refl in
-      let me = old.dir.process in
-      let read : LeftOut s.begun.dir.process s.begun.dir.trace s.ended.dir.trace pod stages = missing_read pod s.begun.dir.process s.begun.dir.trace s.ended.dir.trace d.found d.is (d.told (s.told ∙ t)) in
-      left_out_before pod {asks = any_call} me me old.dir.trace s.ended.dir.trace new.dir.trace stages (left_out_after pod {asks = any_call} me s.begun.dir.process old.dir.trace s.begun.dir.trace s.ended.dir.trace stages (begin_any s t) s.me read) refl (finish_part s t any_call refl)
-  missing pod (inr n) t = let e = n.is in cc
-
-  status_refused : {word : List ℕ} (pod : PodId) (r : Refusal) → Fails (Status word pod) r → is_shared r ≡ false → may (Status word pod) r ≡ true → RefusesStatus pod r old.dir new.dir
-  status_refused pod NoPod p plain own = missing pod p
-  status_refused pod NoMemory p plain own = let clash : true ≡ false = plain in cc
-  status_refused pod DirFault p plain own = let clash : true ≡ false = plain in cc
-  status_refused pod r p plain own = let clash : false ≡ true = own in cc
 
   list_refused : (r : Refusal) → Fails ImageList r → is_shared r ≡ false → may ImageList r ≡ true → RefusesImageList r old.dir new.dir
   list_refused (Busy Images) p plain own = list_busy now draw (intent_of ImageList now draw) old new Images p
@@ -196,8 +176,28 @@ module _ (now : ℕ) (draw : Draw) (old new : Moment) where
   run_refused {address = address} wants r plain own (inl x) = record { own = own_of (Run wants address) r plain own; why = x }
   run_refused wants r plain own (inr x) = unbegun r plain x.0
 
+  list_refuses : (r : Refusal) → is_shared r ≡ false → may PodList r ≡ true → Refuses PodList r → RefusesReport list_report r old new
+  list_refuses r plain own p = record {
+    own = own_of PodList r plain own;
+    why = λ t conforming. report_told list_report PodList now draw old.outside new.outside refl (Err r) (own_end r plain) lines_wider (λ i s. s.ran.says) (intent_of PodList now draw) p t conforming;
+  }
+
+  cat_refuses : {word : List ℕ} (pod : PodId) (r : Refusal) → is_shared r ≡ false → may (CatManifest word pod) r ≡ true → Refuses (CatManifest word pod) r → RefusesReport (cat_manifest_report pod) r old new
+  cat_refuses {word = word} pod r plain own p = record {
+    own = own_of (CatManifest word pod) r plain own;
+    why = λ t conforming. report_told (cat_manifest_report pod) (CatManifest word pod) now draw old.outside new.outside refl (Err r) (own_end r plain) (λ me a b c d earlier later begins ends. manifest_wider me a b c d earlier later begins ends pod) (λ i s. s.ran.says) (intent_of (CatManifest word pod) now draw) p t conforming;
+  }
+
+  status_refuses : {word : List ℕ} (pod : PodId) (r : Refusal) → is_shared r ≡ false → may (Status word pod) r ≡ true → Refuses (Status word pod) r → RefusesReport (status_report pod) r old new
+  status_refuses {word = word} pod r plain own p = record {
+    own = own_of (Status word pod) r plain own;
+    why = λ t conforming. report_told (status_report pod) (Status word pod) now draw old.outside new.outside refl (Err r) (own_end r plain) (λ me a b c d earlier later begins ends. status_wider me a b c d earlier later begins ends pod) (λ i s. s.ran.says) (intent_of (Status word pod) now draw) p t conforming;
+  }
+
   own_cause : (line : Task) (r : Refusal) → is_shared r ≡ false → may line r ≡ true → Refuses line r → Comes line r → (command_in line).refused_for now draw r old new
-  own_cause (Status word pod) r plain own p came = status_refused now draw old.outside new.outside pod r p plain own
+  own_cause (Status word pod) r plain own p came = status_refuses pod r plain own p
+  own_cause PodList r plain own p came = list_refuses r plain own p
+  own_cause (CatManifest word pod) r plain own p came = cat_refuses pod r plain own p
   own_cause (Validate path) r plain own p came = (own_of (Validate path) r plain own, does_validate path now draw (intent_of (Validate path) now draw) old.outside new.outside (Err r) (own_end r plain) p)
   own_cause ImageList r plain own p came = list_refused now draw old.outside new.outside r p plain own
   own_cause (ImageImport path) r plain own p came = import_causes now draw old.outside new.outside path r p plain own

@@ -4,6 +4,7 @@ use Rattle.area_locks.specs.AreaLocks.{is_free_of}
 use Rattle.dir_model.specs.declared.area.Area.TheVariants.{Images}
 use Rattle.dir_model.specs.declared.intent.Draw.{Draw}
 use Rattle.dir_model.specs.declared.intent.Intent.{Intent}
+use Rattle.dir_model.specs.declared.request.Request.{Request}
 use Rattle.dir_model.specs.declared.request.Request.TheVariants.{Finish}
 use Rattle.dir_model.specs.declared.request.Reply.TheVariants.{Done}
 use Rattle.dir_rules.specs.declared.seen.Seen.{Seen}
@@ -11,7 +12,8 @@ use Rattle.dir_rules.specs.Conforms.{Conforms, IsTied, seen_replied}
 use Rattle.dir_rules.proofs.Tied.{tied_call}
 use Rattle.dir_rules.proofs.Unborn.{refused_unseen}
 use Rattle.dir_trait.specs.DirCalls.{DirAt}
-use Rattle.dir_trait.specs.Knowledge.{Knows, OnlyLooks}
+use Rattle.dir_trait.specs.Knowledge.{Knows}
+use Rattle.pod_report.specs.Requests.{OnlyAsksFor}
 use Rattle.rkt_cli.specs.Tasks.{Task}
 use Rattle.command_outcomes.specs.Moments.{DirSeen, Outside, Moment, Outcome}
 use Rattle.command_outcomes.proofs.Seen.{seen_at}
@@ -19,17 +21,17 @@ use Rattle.command_outcomes.specs.Conforming.{shown_at, begun, KeepsRules, Stays
 use Rattle.rkt_cli.specs.Commands.{intent_of}
 use Rattle.rkt_cli.specs.Runs.{Performs, InProcess, NeverBegan, RunOf, RunIs}
 
--- looks keep them
-pub looks_conforming : (intent : Intent) (observed : Bool) (old new : DirAt) → OnlyLooks old new → StaysConforming intent (seen_at observed old) (seen_at observed new)
-looks_conforming intent observed old new looks k =
-    let l = looks (begun intent) (record { tied = k.tied; handles = k.handles }) in
-    record { known = l.known; knows = record { tied = l.knows.tied; handles = l.knows.handles }; kept = ap (λ (f : Seen). f.kept) l.looked.same }
-
--- and so does what knows all that it knew, where it had no handle open on the lock of the images
+-- what knows all that it knew keeps them, where it had no handle open on the lock of the images
 pub list_conforming : (intent : Intent) (observed : Bool) (old new : DirAt) → ((s : Seen) → Knows old s → is_free_of Images s ≡ true → Knows new s) → StaysConforming intent (seen_at observed old) (seen_at observed new)
 list_conforming intent observed old new known k =
     let l = known (begun intent) (record { tied = k.tied; handles = k.handles }) refl in
     record { known = begun intent; knows = record { tied = l.tied; handles = l.handles }; kept = refl }
+
+-- and a report
+pub report_conforming : (intent : Intent) (observed : Bool) {asks : Request → Bool} (old new : DirAt) → OnlyAsksFor observed asks old new → observed ≡ true → StaysConforming intent (seen_at observed old) (seen_at observed new)
+report_conforming intent observed old new only t k =
+    let l = only.known t (begun intent) (record { tied = k.tied; handles = k.handles }) in
+    record { known = l.known; knows = record { tied = l.knows.tied; handles = l.knows.handles }; kept = l.kept }
 
 -- what makes no call keeps them
 pub apart_conforming : (intent : Intent) (d : DirSeen) → StaysConforming intent d d

@@ -24,7 +24,7 @@ use Rattle.lifecycle.proofs.Draws.{standing_split}
 use Rattle.lifecycle.proofs.Handles.{nat_same}
 use Rattle.command_outcomes.specs.Moments.{DirSeen, Outside, Moment, Outcome}
 use Rattle.rkt_cli.specs.Tasks.{Task}
-use Rattle.rkt_cli.specs.Tasks.{Status, Validate, ImageList, ImageImport, ImageRm, ImageGc, Prepare, RunPrepared, Run, Rm, Gc}
+use Rattle.rkt_cli.specs.Tasks.{Status, PodList, CatManifest, Validate, ImageList, ImageImport, ImageRm, ImageGc, Prepare, RunPrepared, Run, Rm, Gc}
 use Rattle.pod_lookup.specs.Looks.{lists_stages}
 use Rattle.commands.proofs.Starts.{look_extends, look_lists}
 use Rattle.rkt_cli.specs.Commands.{approach_in, asks, intent_of}
@@ -54,6 +54,8 @@ intent_rest me s (e ∷ es) asked = intent_rest me (stood me s e) es asked.1 ∙
 -- no command begins a second time
 begins_once : (line : Task) (now : ℕ) (draw : Draw) (intent : Intent) → asks line now draw (Begin intent) ≡ false
 begins_once (Status word pod) now draw intent = refl
+begins_once PodList now draw intent = refl
+begins_once (CatManifest word pod) now draw intent = refl
 begins_once (Validate path) now draw intent = refl
 begins_once ImageList now draw intent = refl
 begins_once (ImageImport path) now draw intent = refl
@@ -70,7 +72,7 @@ pub lists_no_begin : (r : Request) → lists_stages r ≡ true → not (is_begin
 lists_no_begin (Begin intent) h = cc
 lists_no_begin r h = refl
 
-asks_no_begin : (line : Task) (now : ℕ) (draw : Draw) (r : Request) → asks line now draw r ≡ true → not (is_begin r) ≡ true
+pub asks_no_begin : (line : Task) (now : ℕ) (draw : Draw) (r : Request) → asks line now draw r ≡ true → not (is_begin r) ≡ true
 asks_no_begin line now draw (Begin intent) h = let clash : true ≡ false = sym h ∙ begins_once line now draw intent in cc
 asks_no_begin line now draw r h = refl
 
@@ -84,6 +86,8 @@ with_draw draw a intent has is = subst (HasDraw draw) (let e : a ≡ intent = cc
 
 pub its_draw : (line : Task) (now : ℕ) (draw : Draw) (intent : Intent) → intent_of line now draw ≡ Some intent → HasDraw draw intent
 its_draw (Status word pod) now draw intent is = with_draw draw _ intent (record { identity = refl; token = refl }) is
+its_draw PodList now draw intent is = with_draw draw _ intent (record { identity = refl; token = refl }) is
+its_draw (CatManifest word pod) now draw intent is = with_draw draw _ intent (record { identity = refl; token = refl }) is
 its_draw (Validate path) now draw intent is = cc
 its_draw ImageList now draw intent is = with_draw draw _ intent (record { identity = refl; token = refl }) is
 its_draw (ImageImport path) now draw intent is = with_draw draw _ intent (record { identity = refl; token = refl }) is

@@ -4,6 +4,7 @@ pub mod Sessions
 pub mod Outcomes
 pub mod Listed
 pub mod Grades
+pub mod Headlines
 pub mod RunsRan
 pub mod Makers
 pub mod RunsQuiet
@@ -18,6 +19,7 @@ pub mod QuietRun
 pub mod Completing
 pub mod Conforming
 pub mod Ran
+pub mod Reported
 pub mod StoreRan
 pub mod PodRan
 pub mod PodKept

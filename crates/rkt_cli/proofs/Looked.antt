@@ -11,7 +11,7 @@ use Rattle.pod_lookup.specs.declared.error.LookupError.{LookupError}
 use Rattle.pod_lookup.specs.declared.error.LookupError.TheVariants as lookup
 use Rattle.pod_lookup.specs.Choice.{IfAmbiguous, IsChoice, NamesMeant}
 use Rattle.pod_lookup.specs.Looks.{OnlyLooksFor, lists_stages}
-use Rattle.pod_lookup.specs.Resolved.{AreTheLeast, FindsTheOne, IsNoneOf, IsSequential, IsShown}
+use Rattle.pod_lookup.specs.Resolved.{AreTheLeast, Existed, FindsTheOne, IsChosen, IsNoneOf, IsSequential, IsShown}
 use Rattle.command_outcomes.specs.Conforming.{begun, shown_at}
 use Rattle.command_outcomes.specs.Moments.{DirSeen, dir_seen}
 use Rattle.commands.specs.Opening.{directly, looking, Looks}
@@ -46,8 +46,10 @@ module _ (observed : Bool) (word : List ℕ) (old new : DirAt) where
       looks t false is = only.extends t
 
   -- to the pod
-  pub came_to : (pod : PodId) → NamesMeant word (Ok pod) → (length word ≡ 36 → pod_text pod.bytes ≡ word) → (observed ≡ true → FindsTheOne word (Ok pod) old new) → (observed ≡ true → IsSequential word (Ok pod) old new) → FindsMeant word before after (Ok pod)
-  came_to pod meant whole one quiet = (record { begins = meant; whole = whole }, λ t. record { the_one = one t; quiet = quiet t })
+  pub came_to : (pod : PodId) → NamesMeant word (Ok pod) → (length word ≡ 36 → pod_text pod.bytes ≡ word) → ((length word ≡ 36 → ⊥) → observed ≡ true → IsChosen word (Ok pod) old new) → ((length word ≡ 36 → ⊥) → observed ≡ true → Existed pod old new) →
+      (observed ≡ true → FindsTheOne word (Ok pod) old new) → (observed ≡ true → IsSequential word (Ok pod) old new) → FindsMeant word before after (Ok pod)
+  came_to pod meant whole chosen existed one quiet =
+      (record { begins = meant; whole = whole }, λ t. record { shown = λ part. let x = chosen part t in (x.pods, x.found, x.is); existed = λ part. existed part t; the_one = one t; quiet = quiet t })
 
   -- or to none
   shown_so : {names : List (List ℕ)} {pod : PodId} → IsShown word names old new pod → IsShown word names (shown_at before) (shown_at after) pod
@@ -68,14 +70,16 @@ module _ (observed : Bool) (word : List ℕ) (old new : DirAt) where
   apart error true is whole = let clash : false ≡ true = whole (equal_lengths (length word) is) in cc
 
   pub came_to_none : (error : LookupError) (refusal : Refusal) → refusal ≡ lookup_refusal error → (IsErrOf {T = PodId} (Err error) lookup.DirFault → Rose old.faults new.faults) → (IsErrOf {T = PodId} (Err error) lookup.NoPod → observed ≡ true → IsNoneOf word old new) →
-      IfAmbiguous (Err error) (λ a b. observed ≡ true → AreTheLeast word a b old new) → (length word ≡ 36 → IsOk {T = PodId} {E = LookupError} (Err error)) → NamesMeant word (Err error) → (IsChoice (Err error) → observed ≡ true → FindsTheOne word (Err error) old new) → (IsChoice (Err error) → observed ≡ true → IsSequential word (Err error) old new) →
+      IfAmbiguous (Err error) (λ a b. observed ≡ true → AreTheLeast word a b old new) → (length word ≡ 36 → IsOk {T = PodId} {E = LookupError} (Err error)) → NamesMeant word (Err error) →
+      ((length word ≡ 36 → ⊥) → IsChoice (Err error) → observed ≡ true → IsChosen word (Err error) old new) → (IsChoice (Err error) → observed ≡ true → FindsTheOne word (Err error) old new) → (IsChoice (Err error) → observed ≡ true → IsSequential word (Err error) old new) →
       FindsMeant word before after (Err refusal)
-  came_to_none error refusal is cause none several whole names one quiet = record {
+  came_to_none error refusal is cause none several whole names chosen one quiet = record {
     error = error;
     is = is;
     part = apart error (length word == 36) refl whole;
     names = names;
     why = why error cause none several;
+    chosen = λ t choice. let x = chosen (λ long. let clash : false ≡ true = whole long in cc) choice t in record { pods = x.pods; found = x.found; is = x.is };
     not_one = λ t choice. one choice t;
     quiet = λ t choice. quiet choice t;
   }

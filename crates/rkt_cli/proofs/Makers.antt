@@ -16,7 +16,6 @@ use Rattle.dir_model.specs.declared.request.Reply.TheVariants.{Done}
 use Rattle.dir_model.specs.Areas.{is_stage}
 use Rattle.dir_model.specs.State.{spot_eq}
 use Rattle.dir_model.specs.Calls.{CallStep, Extends, is_begin, is_finish}
-use Rattle.dir_model.specs.Replies.{is_look_at}
 use Rattle.dir_model.proofs.Chains.{and_call, and_more, extends_wider, nothing_yet}
 use Rattle.dir_model.proofs.Lists.{and_false, and_left, and_right, or_last}
 use Rattle.dir_rules.specs.Standing.{is_in}
@@ -25,7 +24,7 @@ use Rattle.folder_contents.proofs.Spots.{in_area, one_location}
 use Rattle.image_store.specs.Requests.{imports_at}
 use Rattle.image_removal.specs.Requests.{away_spot, removes_at, sweeps}
 use Rattle.image_reading.specs.Places.{image_spot}
-use Rattle.phase_read.specs.Read.{pod_spot, is_pod_spot}
+use Rattle.phase_read.specs.Read.{pod_spot}
 use Rattle.pod_claim.specs.Requests.{in_prepared, in_run}
 use Rattle.pod_removal.specs.Requests.{removes}
 use Rattle.pod_gc.specs.Requests.{sweeps as sweeps_pods}
@@ -44,6 +43,9 @@ use Rattle.rkt_cli.specs.Histories.{HandsOver, WhereKnown}
 use Rattle.rkt_cli.proofs.PodRan.{prepares}
 use Rattle.commands.specs.Wants.{Wants}
 use Rattle.pod_lookup.specs.Looks.{lists_stages}
+use Rattle.pod_report.specs.Requests.{inspects, surveys, visits}
+use Rattle.pod_report.proofs.QuietSurvey.{inspect_calm}
+use Rattle.pod_report.proofs.Going.{visits_survey}
 use Rattle.commands.specs.Opening.{opens}
 
 not_from : (from to : Spot) → is_in Prepare from.area ≡ false → hands_over (MoveFolder from to) ≡ false
@@ -57,8 +59,14 @@ spares : (asks : Request → Bool) → ((from to : Spot) → asks (MoveFolder fr
 spares asks f (MoveFolder from to) is = f from to is
 spares asks f request is = refl
 
-pub looks_none : (pod : PodId) → HandsNothingOver (is_look_at (is_pod_spot pod))
-looks_none pod = spares (is_look_at (is_pod_spot pod)) (λ from to is. cc)
+pub surveys_none : HandsNothingOver surveys
+surveys_none = spares surveys (λ from to is. cc)
+
+pub visits_none : (pod : PodId) → HandsNothingOver (visits pod)
+visits_none pod = spares (visits pod) (λ from to is. let clash : false ≡ true = visits_survey pod (MoveFolder from to) is in cc)
+
+pub inspects_none : (pod : PodId) → HandsNothingOver (inspects pod)
+inspects_none pod = spares (inspects pod) (λ from to is. let clash : false ≡ true = inspect_calm pod (MoveFolder from to) is in cc)
 
 pub lists_none : HandsNothingOver lists_images
 lists_none = spares lists_images (λ from to is. cc)

@@ -47,9 +47,11 @@ found_by {task} {now} {draw} {old} {new} {status} intent said word pod found run
 pub its_meaning : (l : Line) {now : ℕ} {draw : Draw} {old new : Moment} {status : ℕ} (pod : PodId) → IsMeantBy (word_of l) draw pod → RunIs (task_of l pod) now draw old new status → Undisturbed (task_of l pod) old.outside new.outside →
     (status ≡ 14) ⊎ (meaning_in (state_after old.outside.dir.trace) (word_of l) draw ≡ Ok pod)
 its_meaning (line.Status word) pod meant run u = found_by _ refl word pod (λ o s t. s.found t) run u
+its_meaning (line.CatManifest word) pod meant run u = found_by _ refl word pod (λ o s t. s.found t) run u
 its_meaning (line.RunPrepared word address) pod meant run u = found_by _ refl word pod (λ o s t. s.found t) run u
 its_meaning (line.Rm word) pod meant run u = found_by _ refl word pod (λ o s t. s.found t) run u
 its_meaning (line.Validate path) pod meant run u = inr (ap Ok (sym meant))
+its_meaning line.PodList pod meant run u = inr (ap Ok (sym meant))
 its_meaning line.ImageList pod meant run u = inr (ap Ok (sym meant))
 its_meaning (line.ImageImport path) pod meant run u = inr (ap Ok (sym meant))
 its_meaning (line.ImageRm key) pod meant run u = inr (ap Ok (sym meant))

@@ -2,24 +2,22 @@
 use Rattle.std.proofs.Common.{arith, ◌≤◌, ◌+◌, ◌≡◌, ◌⊎◌, inl, inr, ℕ, Bool, true, false, ◌||◌, ◌==◌, List, ◌++◌, Option, Some, None, Ok, Err, refl, sym, ap, subst, ◌∙◌}
 use Rattle.dir_model.specs.declared.intent.Draw.{Draw}
 use Rattle.dir_model.specs.declared.intent.Intent.{Intent}
-use Rattle.dir_model.specs.declared.pod.PodId.{PodId}
 use Rattle.dir_model.specs.declared.request.Request.{Request}
 use Rattle.dir_model.specs.declared.request.Request.TheVariants.{Begin, Finish}
 use Rattle.dir_model.specs.Calls.{Extends, is_begin, is_finish}
 use Rattle.dir_model.proofs.Chains.{nothing_yet, step_extends}
 use Rattle.dir_trait.specs.Sinks.{WritesPart}
 use Rattle.dir_trait.proofs.Askings.{asks_nothing}
-use Rattle.phase_read.specs.declared.found.Found.{Found}
-use Rattle.phase_read.specs.declared.found.Found.TheVariants.{At, Gone}
 use Rattle.command_outcomes.specs.declared.refusal.Refusal.TheVariants.{Usage, NoMemory}
 use Rattle.command_outcomes.specs.Texts.{status_of}
 use Rattle.command_outcomes.specs.Moments.{DirSeen, BundleSeen, Outside, Inside, SinkSeen, Moment, Outcome, Answer, outcome_of}
 use Rattle.commands.specs.Answers.{inside_in}
-use Rattle.commands.specs.Status.{read_outcome}
-use Rattle.commands.specs.Texts.{state_text}
+use Rattle.commands.specs.CatManifest.{cat_manifest_report}
+use Rattle.commands.specs.PodList.{list_report}
+use Rattle.commands.specs.Status.{status_report}
 use Rattle.commands.specs.Validate.{ReadsFile, most_read}
 use Rattle.rkt_cli.specs.Tasks.{Task}
-use Rattle.rkt_cli.specs.Tasks.{Status, Validate, ImageList, ImageImport, ImageRm, ImageGc, Prepare, RunPrepared, Run, Rm, Gc}
+use Rattle.rkt_cli.specs.Tasks.{Status, PodList, CatManifest, Validate, ImageList, ImageImport, ImageRm, ImageGc, Prepare, RunPrepared, Run, Rm, Gc}
 use Rattle.rkt_cli.specs.Commands.{command_in, intent_of, looks, asks, runs_apps, ReadsOnly}
 use Rattle.rkt_cli.specs.Spawns.{CameBetween}
 use Rattle.rkt_cli.specs.Runs.{Performs, End, Unwritten, Printed, Reported, end_status, RunOf, RunIs}
@@ -34,6 +32,7 @@ use Rattle.rkt_cli.proofs.Outcomes.{refusals_of, does_validate, file_prints}
 use Rattle.rkt_cli.proofs.PodRan.{prepare_printed}
 use Rattle.rkt_cli.proofs.PodRemovals.{rm_printed, gc_printed}
 use Rattle.rkt_cli.proofs.Removals.{removal_printed, sweep_printed}
+use Rattle.rkt_cli.proofs.Reported.{report_printed}
 use Rattle.rkt_cli.proofs.Sessions.{all_parts}
 
 abbrev TaskPrints : Task → Draw → BundleSeen → List ℕ → Type 0
@@ -47,15 +46,11 @@ or_right : (a b : Bool) → b ≡ true → (a || b) ≡ true
 or_right true b h = refl
 or_right false b h = h
 
-read_prints : (word : List ℕ) (found : Found) (text : List ℕ) (pod : PodId) (draw : Draw) (bundle : BundleSeen) → Ok text ≡ read_outcome found → TaskPrints (Status word pod) draw bundle text
-read_prints word (At phase area) text pod draw bundle is = (phase, let e : text ≡ state_text phase = cc in e)
-read_prints word Gone text pod draw bundle is = cc
-
 -- the text that was printed is one that the command prints
 prints_of : (line : Task) (now : ℕ) (draw : Draw) (intent : Option Intent) (old new : Outside) (text : List ℕ) → Performs line now draw intent old new (Ok text) → (a b : Inside) (answer : Answer) → Ok text ≡ outcome_of answer → CameBetween line now draw intent a b answer → TaskPrints line draw old.bundle text
-prints_of (Status word pod) now draw (Some intent) old new text (inl s) a b answer is came = let d = s.ran.says refl in read_prints word d.found text pod draw old.bundle d.is
-prints_of (Status word pod) now draw (Some intent) old new text (inr n) a b answer is came = let e = n.is in cc
-prints_of (Status word pod) now draw None old new text p a b answer is came = let d = p.ran.says refl in read_prints word d.found text pod draw old.bundle d.is
+prints_of (Status word pod) now draw intent old new text p a b answer is came = report_printed (status_report pod) (Status word pod) now draw old new refl text (λ i s. s.ran.says) intent p
+prints_of PodList now draw intent old new text p a b answer is came = report_printed list_report PodList now draw old new refl text (λ i s. s.ran.says) intent p
+prints_of (CatManifest word pod) now draw intent old new text p a b answer is came = report_printed (cat_manifest_report pod) (CatManifest word pod) now draw old new refl text (λ i s. s.ran.says) intent p
 prints_of ImageList now draw intent old new text p a b answer is came = let d = list_printed now draw intent old new text p in (d.images, d.is)
 prints_of (Validate path) now draw intent old new text p a b answer is came = let d = does_validate path now draw intent old new (Ok text) refl p in file_prints path d.found text d.is
 prints_of (ImageImport path) now draw intent old new text p a b answer is came = import_printed path now draw intent old new text p

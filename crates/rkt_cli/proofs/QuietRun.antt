@@ -17,27 +17,29 @@ use Rattle.dir_model.specs.State.{DirState, is_owned}
 use Rattle.dir_model.specs.Trace.{state_after, state_next}
 use Rattle.dir_model.specs.Calls.{event, Extends}
 use Rattle.dir_model.specs.Quiet.{Quiet, OwnsNothing}
-use Rattle.dir_model.specs.Replies.{is_look, is_look_at, is_any_spot}
 use Rattle.dir_model.proofs.Chains.{extends_wider}
-use Rattle.dir_model.proofs.Quiet.{is_harmless, look_is_harmless, end_quiet}
+use Rattle.dir_model.proofs.Quiet.{is_harmless, end_quiet}
 use Rattle.dir_model.specs.Quiet.{SameNamespace}
 use Rattle.commands.specs.Opening.{directly}
 use Rattle.commands.proofs.Starts.{look_lists, lists_is_harmless}
-use Rattle.commands.proofs.SameReads.{sequential_same}
 use Rattle.rkt_cli.specs.Commands.{approach_in}
-use Rattle.dir_model.proofs.Spots.{look_wider}
 use Rattle.dir_trait.specs.Bundles.{file_bytes}
 use Rattle.image_store.specs.Requests.{building_spot}
 use Rattle.image_removal.specs.Requests.{removes_at, sweeps}
 use Rattle.image_removal.proofs.Begun.{begun_removes}
 use Rattle.phase_read.specs.Read.{is_pod_spot}
-use Rattle.phase_read.proofs.Quiet.{read_quiet}
 use Rattle.rkt_cli.specs.Tasks.{Task}
-use Rattle.rkt_cli.specs.Tasks.{Status, Validate, ImageList, ImageImport, ImageRm, ImageGc, Prepare, RunPrepared, Run, Rm, Gc}
+use Rattle.rkt_cli.specs.Tasks.{Status, PodList, CatManifest, Validate, ImageList, ImageImport, ImageRm, ImageGc, Prepare, RunPrepared, Run, Rm, Gc}
 use Rattle.command_outcomes.specs.declared.refusal.Refusal.TheVariants.{Busy, NoImage, NoPod, WrongPhase, NoManifest, PodBusy, DirFault, BundleFault, NoMemory, Damaged, Stray}
 use Rattle.command_outcomes.specs.Moments.{BundleSeen, DirSeen, Outside, Moment, Outcome}
 use Rattle.command_outcomes.specs.Ends.{is_own_end, IsUnchanged}
-use Rattle.commands.specs.Status.{read_outcome, sequential_status}
+use Rattle.commands.specs.CatManifest.{cat_manifest_report}
+use Rattle.commands.specs.PodList.{list_report}
+use Rattle.commands.proofs.ReportsKept.{inspects_change, lines_stable, manifest_stable, status_stable, surveys_change, visits_change}
+use Rattle.pod_report.proofs.Going.{visits_survey}
+use Rattle.rkt_cli.proofs.Reported.{report_leaves, report_quiet}
+use Rattle.commands.specs.Status.{status_report}
+use Rattle.pod_report.proofs.QuietSurvey.{inspect_calm, survey_calm}
 use Rattle.commands.specs.ImageList.{image_list_refusal, ListsQuietly}
 use Rattle.commands.specs.ImageImport.{IsAreaHeld, LeavesImages, ImportsQuietly, is_building_place}
 use Rattle.commands.specs.NextState.{LeavesBeside, is_nowhere}
@@ -67,7 +69,7 @@ use Rattle.rkt_cli.proofs.PodRan.{prepare_intent, began, prepare_faithful, prepa
 use Rattle.rkt_cli.proofs.Removals.{removal_done, removal_none, removal_stray, sweep_done, sweep_stray}
 use Rattle.commands.proofs.RemovalEnds.{removal_ends, none_before}
 use Rattle.commands.proofs.SweepEnds.{incoming_left, removed_left}
-use Rattle.commands.proofs.Changes.{claim_changes, gc_changes, import_changes, list_changes, looks_change, prepare_changes, removal_changes, rm_changes, run_changes, sweep_changes}
+use Rattle.commands.proofs.Changes.{claim_changes, gc_changes, import_changes, list_changes, prepare_changes, removal_changes, rm_changes, run_changes, sweep_changes}
 use Rattle.commands.proofs.NextState.{leaves_beside}
 use Rattle.commands.proofs.RemovalQuiet.{ChangesAt, held_before}
 use Rattle.commands.proofs.OwnSteps.{in_process}
@@ -88,10 +90,6 @@ own_end line now draw old new (Err NoMemory) d u = inl refl
 own_end line now draw old new (Err DirFault) d u = absurd (u.works d.refusals (d.cause refl))
 own_end line now draw old new (Err BundleFault) d u = absurd (u.bundle_works d.refusals (d.bundle_cause refl))
 own_end line now draw old new (Err r) d u = inr refl
-
--- a look at the pod's locations is a look
-pod_look : (pod : PodId) (r : Request) → is_look_at (is_pod_spot pod) r ≡ true → is_look r ≡ true
-pod_look pod r h = look_wider (is_pod_spot pod) is_any_spot (λ spot is. refl) r h
 
 module _ (line : Task) (now : ℕ) (draw : Draw) (intent : Intent) (old new : Outside) (o : Outcome) (s : InProcess line now draw intent old new o) (u : Undisturbed line old new) where
   abbrev t : old.dir.observed ≡ true
@@ -140,16 +138,7 @@ module _ (line : Task) (now : ℕ) (draw : Draw) (intent : Intent) (old new : Ou
   beside : (touched : Spot → Bool) → ChangesAt touched (asks line now draw) → LeavesBeside touched old.dir.process (state_after old.dir.trace) (state_after new.dir.trace)
   beside touched c = leaves_beside touched (asks line now draw) c (all_in_process s t) (u.alone s.uses)
 
--- what `status` comes to. That this process has begun makes no difference to it
-status_quiet : {word : List ℕ} (pod : PodId) (now : ℕ) (draw : Draw) (intent : Intent) (old new : Outside) (o : Outcome) → InProcess (Status word pod) now draw intent old new o → Undisturbed (Status word pod) old new → is_own_end o ≡ true → o ≡ sequential_status pod (state_after old.dir.trace)
-status_quiet {word = word} pod now draw intent old new o s u own =
-    let says = s.ran.says own in
-    let told = says.told (s.told ∙ u.observed refl) in
-    let looks = extends_wider (pod_look pod) (s.ran.extends (s.told ∙ u.observed refl)) in
-    let here : o ≡ sequential_status pod (state_after s.begun.dir.trace) = says.is ∙ ap read_outcome (sym (read_quiet looks (quiet_between (Status word pod) now draw intent old new o s u) (idle_act (Status word pod) now draw intent old new o s u) pod says.found told)) in
-    here ∙ ap read_outcome (sequential_same old.dir.process (state_after old.dir.trace) (state_after s.begun.dir.trace) (looked_same (Status word pod) now draw intent old new o s u) pod)
-
--- and `image list`
+-- what `image list` comes to
 busy_area : (area : Area) → image_list_refusal (Busy area) ≡ true → area ≡ Images
 busy_area Images h = refl
 busy_area area h = let clash : false ≡ true = h in cc
@@ -350,7 +339,9 @@ gc_quiet now draw old new (Err r) s u own = let clash : false ≡ true = s.ran.r
 
 -- each command
 comes_of : (line : Task) (now : ℕ) (draw : Draw) (intent : Intent) (old new : Outside) (o : Outcome) → intent_of line now draw ≡ Some intent → InProcess line now draw intent old new o → Undisturbed line old new → is_own_end o ≡ true → RunsQuietly line now draw old.dir new.dir o → ComesQuietly line now draw old new o
-comes_of (Status word pod) now draw intent old new o said s u own ran = status_quiet pod now draw intent old new o s u own
+comes_of (Status word pod) now draw intent old new o said s u own ran = report_quiet s u (status_report pod) (λ me s t w. status_stable me s t w pod) s.ran.says own
+comes_of PodList now draw intent old new o said s u own ran = report_quiet s u list_report lines_stable s.ran.says own
+comes_of (CatManifest word pod) now draw intent old new o said s u own ran = report_quiet s u (cat_manifest_report pod) (λ me s t w. manifest_stable me s t w pod) s.ran.says own
 comes_of (Validate path) now draw intent old new o said s u own ran = let clash : false ≡ true = s.uses in cc
 comes_of ImageList now draw intent old new o said s u own ran = list_quiet now draw intent old new o s u own
 comes_of (ImageImport path) now draw intent old new o said s u own ran = import_quiet path now draw intent old new o said s u own
@@ -369,6 +360,8 @@ comes_of (Gc grace expire) now draw intent old new o said s u own ran =
 
 comes_apart : (line : Task) (now : ℕ) (draw : Draw) (old new : Outside) (o : Outcome) → Apart line now draw old new o → Undisturbed line old new → is_own_end o ≡ true → ComesQuietly line now draw old new o
 comes_apart (Status word pod) now draw old new o p u own = let clash : true ≡ false = p.apart in cc
+comes_apart PodList now draw old new o p u own = let clash : true ≡ false = p.apart in cc
+comes_apart (CatManifest word pod) now draw old new o p u own = let clash : true ≡ false = p.apart in cc
 comes_apart (Validate path) now draw old new o p u own = let s = p.ran.says own in s.is ∙ judged_whole path s.found (file_bytes (old.bundle.tree path)) (s.told (u.bundle_observed refl))
 comes_apart ImageList now draw old new o p u own = let clash : true ≡ false = p.apart in cc
 comes_apart (ImageImport path) now draw old new o p u own = let clash : true ≡ false = p.apart in cc
@@ -383,8 +376,16 @@ comes_apart (Gc grace expire) now draw old new o p u own = let clash : true ≡ 
 -- what each command leaves
 leaves_quietly : (line : Task) (now : ℕ) (draw : Draw) (intent : Intent) (old new : Outside) (o : Outcome) → InProcess line now draw intent old new o → Undisturbed line old new → LeavesQuietly line old.dir.process draw (state_after old.dir.trace) (state_after new.dir.trace)
 leaves_quietly (Status word pod) now draw intent old new o s u = record {
-  same = unchanged (Status word pod) now draw intent old new o s u (λ r h. look_is_harmless r (pod_look pod r h));
-  beside = beside (Status word pod) now draw intent old new o s u is_nowhere (looks_change (is_pod_spot pod));
+  same = report_leaves s u (inspect_calm pod);
+  beside = beside (Status word pod) now draw intent old new o s u is_nowhere (inspects_change pod);
+}
+leaves_quietly PodList now draw intent old new o s u = record {
+  same = report_leaves s u survey_calm;
+  beside = beside PodList now draw intent old new o s u is_nowhere surveys_change;
+}
+leaves_quietly (CatManifest word pod) now draw intent old new o s u = record {
+  same = report_leaves s u (λ r h. survey_calm r (visits_survey pod r h));
+  beside = beside (CatManifest word pod) now draw intent old new o s u is_nowhere (visits_change pod);
 }
 leaves_quietly (Validate path) now draw intent old new o s u = let clash : false ≡ true = s.uses in cc
 leaves_quietly ImageList now draw intent old new o s u = record {
@@ -405,6 +406,8 @@ leaves_quietly (Gc grace expire) now draw intent old new o s u = beside (Gc grac
 
 leaves_apart : (line : Task) (now : ℕ) (draw : Draw) (old new : Outside) (o : Outcome) → Apart line now draw old new o → LeavesQuietly line old.dir.process draw (state_after old.dir.trace) (state_after new.dir.trace)
 leaves_apart (Status word pod) now draw old new o p = let clash : true ≡ false = p.apart in cc
+leaves_apart PodList now draw old new o p = let clash : true ≡ false = p.apart in cc
+leaves_apart (CatManifest word pod) now draw old new o p = let clash : true ≡ false = p.apart in cc
 leaves_apart (Validate path) now draw old new o p = ap (λ (d : DirSeen). state_after d.trace) p.dir
 leaves_apart ImageList now draw old new o p = let clash : true ≡ false = p.apart in cc
 leaves_apart (ImageImport path) now draw old new o p = let clash : true ≡ false = p.apart in cc

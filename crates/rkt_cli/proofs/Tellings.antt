@@ -5,10 +5,7 @@ use Rattle.dir_model.specs.declared.event.Event.{Event}
 use Rattle.dir_model.specs.declared.intent.Draw.{Draw}
 use Rattle.dir_model.specs.declared.intent.Intent.{Intent}
 use Rattle.dir_model.specs.declared.pod.PodId.{PodId}
-use Rattle.phase_read.specs.declared.found.Found.{Found}
-use Rattle.phase_read.specs.declared.found.Found.TheVariants.{At, Gone}
-use Rattle.phase_read.specs.Exact.{AtOwnEvent, IsNowhere, WasSo}
-use Rattle.command_outcomes.specs.declared.refusal.Refusal.TheVariants.{BadManifest, BundleFault, DirFault, NoFile, NoMemory, NoPod}
+use Rattle.command_outcomes.specs.declared.refusal.Refusal.TheVariants.{BadManifest, BundleFault, DirFault, NoFile, NoMemory}
 use Rattle.command_outcomes.specs.Ends.{is_own_end}
 use Rattle.command_outcomes.specs.Moments.{DirSeen, Outside, Moment, Outcome}
 use Rattle.command_outcomes.specs.Texts.{status_of}
@@ -25,15 +22,18 @@ use Rattle.commands.specs.ImageListCommand.{TellsImages}
 use Rattle.commands.specs.ImageRmCommand.{TellsImageRm}
 use Rattle.commands.specs.PrepareCommand.{TellsPrepare}
 use Rattle.commands.specs.RmCommand.{TellsRm}
-use Rattle.commands.specs.Status.{read_outcome}
-use Rattle.commands.specs.StatusCommand.{TellsPhase, TellsStatus}
-use Rattle.commands.specs.Texts.{state_text}
+use Rattle.commands.specs.CatManifest.{cat_manifest_report}
+use Rattle.commands.specs.PodList.{list_report}
+use Rattle.commands.specs.Report.{TellsReport}
+use Rattle.commands.proofs.ReportsKept.{lines_wider, manifest_wider, status_wider}
+use Rattle.rkt_cli.proofs.Reported.{report_told}
+use Rattle.commands.specs.Status.{status_report}
 use Rattle.commands.specs.Validate.{sequential_validate}
 use Rattle.commands.specs.ValidateCommand.{TellsJudgement}
 use Rattle.rkt_cli.specs.Tasks.{Task}
-use Rattle.rkt_cli.specs.Tasks.{Status, Validate, ImageList, ImageImport, ImageRm, ImageGc, Prepare, RunPrepared, Run, Rm, Gc}
+use Rattle.rkt_cli.specs.Tasks.{Status, PodList, CatManifest, Validate, ImageList, ImageImport, ImageRm, ImageGc, Prepare, RunPrepared, Run, Rm, Gc}
 use Rattle.rkt_cli.specs.Commands.{command_in, intent_of, runs_apps}
-use Rattle.rkt_cli.specs.Runs.{InProcess, Performs, Printed, Reported, End, Unwritten, end_status, RunOf, RunOfLine, RunIs}
+use Rattle.rkt_cli.specs.Runs.{InProcess, Performs, Printed, Reported, End, Unwritten, end_status, RunOf, RunIs}
 use Rattle.rkt_cli.proofs.BundleJudged.{import_judged}
 use Rattle.rkt_cli.proofs.Completing.{rm_ends, claim_ends}
 use Rattle.rkt_cli.proofs.Ends.{absurd_number, end_at, from_command, from_end}
@@ -47,9 +47,6 @@ use Rattle.rkt_cli.proofs.PodRemovals.{gc_done, rm_done, rm_printed}
 use Rattle.commands.specs.ImageGc.{HasEndedEarly}
 use Rattle.commands.specs.ImageRm.{removed_text, HasRemoved}
 use Rattle.rkt_cli.proofs.Removals.{removal_done, removal_printed, sweep_done, sweep_failed}
-use Rattle.rkt_cli.proofs.Sessions.{any_call, begin_any, finish_part}
-use Rattle.lifecycle.proofs.Draws.{conforming_left}
-use Rattle.phase_read.proofs.Exact.{was_within}
 use Rattle.commands.proofs.RmQuiet.{rm_removed}
 use Rattle.commands.proofs.GcFrom.{gc_deleted}
 use Rattle.commands.specs.Wants.{Wants}
@@ -91,35 +88,6 @@ spares r reply h = refl
 kept_opening : {approach : Approach} {intent : Intent} {me : ℕ} {old new : List Event} → Opens approach intent me old new → KeptFolders me old new
 kept_opening o = kept_by spares (open_extends o)
 
--- what a command `status` read, and that it was so
-pub record WasRead (pod : PodId) (me : ℕ) (old new : List Event) (o : Outcome) : Type 0 where
-  pub found : Found
-  pub is : o ≡ read_outcome found
-  pub so : WasSo me old new pod found
-
-module _ (pod : PodId) (now : ℕ) (draw : Draw) (old new : Outside) (t : old.dir.observed ≡ true) (conforming : IsConforming new.dir.trace) where
-  status_read : (word : List ℕ) (intent : Option Intent) (o : Outcome) → is_own_end o ≡ true → Performs (Status word pod) now draw intent old new o → WasRead pod old.dir.process old.dir.trace new.dir.trace o
-  status_read word None o own p = let clash : true ≡ false = p.apart in cc
-  status_read word (Some intent) o own (inr n) = let clash : true ≡ false = sym own ∙ ap is_own_end n.is in cc
-  status_read word (Some intent) o own (inl s) =
-      let says = s.ran.says own in
-      let first = begin_any s t in
-      let last = finish_part s t any_call refl in
-      let so = says.exact (s.told ∙ t) (conforming_left s.ended.dir.trace last.more (subst IsConforming last.grown conforming)) in
-      record {
-        found = says.found;
-        is = says.is;
-        so = was_within old.dir.process old.dir.trace s.begun.dir.trace s.ended.dir.trace new.dir.trace pod says.found first.more last.more first.grown last.grown (subst (λ (me : ℕ). WasSo me s.begun.dir.trace s.ended.dir.trace pod says.found) s.me so);
-      }
-
-tells_phase : (pod : PodId) (me : ℕ) (old new : List Event) (text : List ℕ) (found : Found) → Ok text ≡ read_outcome found → WasSo me old new pod found → TellsPhase pod me old new text
-tells_phase pod me old new text (At phase area) is so = record { phase = phase; area = area; is = let e : text ≡ state_text phase = cc in e; so = so }
-tells_phase pod me old new text Gone is so = cc
-
-tells_gone : (pod : PodId) (me : ℕ) (old new : List Event) (found : Found) → Err NoPod ≡ read_outcome found → WasSo me old new pod found → AtOwnEvent me old new (IsNowhere pod)
-tells_gone pod me old new (At phase area) is so = cc
-tells_gone pod me old new Gone is so = so
-
 -- of a run with this status, if all apps had ended with 0
 module _ (now : ℕ) (draw : Draw) (old new : Moment) (status : ℕ) where
   abbrev Ran : Task → Type 0
@@ -159,25 +127,16 @@ module _ (now : ℕ) (draw : Draw) (old new : Moment) (status : ℕ) where
         | inr x ↦ unwritten q (r.is ∙ ap end_status same) x
       ]
 
-  was_read : {word : List ℕ} (pod : PodId) (r : RunOfLine (Status word pod) now draw (intent_of (Status word pod) now draw) old new status) (o : Outcome) → r.outcome ≡ o → is_own_end o ≡ true → old.outside.dir.observed ≡ true → IsConforming new.outside.dir.trace → WasRead pod me old.outside.dir.trace new.outside.dir.trace o
-  was_read {word = word} pod r o is own t conforming = status_read pod now draw old.outside new.outside t conforming word (intent_of (Status word pod) now draw) o own (subst (λ (o : Outcome). Performs (Status word pod) now draw (intent_of (Status word pod) now draw) old.outside new.outside o) is r.performs)
+  status_tells : {word : List ℕ} (pod : PodId) → Ran (Status word pod) → old.outside.dir.observed ≡ true → IsConforming new.outside.dir.trace → status ≡ 0 → WritesOf (λ text. TellsReport (status_report pod) (Ok text) old new) old new
+  status_tells {word = word} pod r t conforming =
+      wrote (Status word pod) _ (λ text p. report_told (status_report pod) (Status word pod) now draw old.outside new.outside refl (Ok text) refl (λ me a b c d earlier later begins ends. status_wider me a b c d earlier later begins ends pod) (λ i s. s.ran.says) (intent_of (Status word pod) now draw) p t conforming) r
 
-  phase_told : {word : List ℕ} (pod : PodId) → Ran (Status word pod) → old.outside.dir.observed ≡ true → IsConforming new.outside.dir.trace → status ≡ 0 → WritesOf (TellsPhase pod me old.outside.dir.trace new.outside.dir.trace) old new
-  phase_told pod (inr n) t conforming zero = absurd_number 0 14 (sym zero ∙ n.is) refl
-  phase_told pod (inl r) t conforming zero =
-      let done = r.printed.done (end_at r.end status 0 r.is zero refl) in
-      let w = was_read pod r (Ok done.0) done.1 refl t conforming in
-      (done.0, tells_phase pod me old.outside.dir.trace new.outside.dir.trace done.0 w.found w.is w.so, done.2)
+  list_pods_tells : Ran PodList → old.outside.dir.observed ≡ true → IsConforming new.outside.dir.trace → status ≡ 0 → WritesOf (λ text. TellsReport list_report (Ok text) old new) old new
+  list_pods_tells r t conforming = wrote PodList _ (λ text p. report_told list_report PodList now draw old.outside new.outside refl (Ok text) refl lines_wider (λ i s. s.ran.says) (intent_of PodList now draw) p t conforming) r
 
-  nowhere_told : {word : List ℕ} (pod : PodId) → Ran (Status word pod) → old.outside.dir.observed ≡ true → IsConforming new.outside.dir.trace → status ≡ 2 → AtOwnEvent me old.outside.dir.trace new.outside.dir.trace (IsNowhere pod)
-  nowhere_told pod (inr n) t conforming two = absurd_number 2 14 (sym two ∙ n.is) refl
-  nowhere_told pod (inl r) t conforming two =
-      let e : r.outcome ≡ Err NoPod = from_command r.outcome old.out new.out r.end NoPod r.printed (end_at r.end status 2 r.is two refl) refl in
-      let w = was_read pod r (Err NoPod) e refl t conforming in
-      tells_gone pod me old.outside.dir.trace new.outside.dir.trace w.found w.is w.so
-
-  status_tells : {word : List ℕ} (pod : PodId) → Ran (Status word pod) → TellsStatus pod status old new
-  status_tells pod r = record { phase = λ t conforming. phase_told pod r t conforming; nowhere = λ t conforming. nowhere_told pod r t conforming }
+  cat_tells : {word : List ℕ} (pod : PodId) → Ran (CatManifest word pod) → old.outside.dir.observed ≡ true → IsConforming new.outside.dir.trace → status ≡ 0 → WritesOf (λ text. TellsReport (cat_manifest_report pod) (Ok text) old new) old new
+  cat_tells {word = word} pod r t conforming =
+      wrote (CatManifest word pod) _ (λ text p. report_told (cat_manifest_report pod) (CatManifest word pod) now draw old.outside new.outside refl (Ok text) refl (λ me a b c d earlier later begins ends. manifest_wider me a b c d earlier later begins ends pod) (λ i s. s.ran.says) (intent_of (CatManifest word pod) now draw) p t conforming) r
 
   validate_tells : (path : List ℕ) → Ran (Validate path) → TellsJudgement path status old new
   validate_tells path (inr n) t = inr (inl n.is)
@@ -240,6 +199,8 @@ tells {task} {now} {draw} {old} {new} {status} run = by task run
 
     by : (task : Task) → RunIs task now draw old new status → (command_in task).tells now draw status old new
     by (Status word pod) run = alone (Status word pod) run refl (status_tells now draw old new run.plain pod run.ran)
+    by PodList run = alone PodList run refl (list_pods_tells now draw old new run.plain run.ran)
+    by (CatManifest word pod) run = alone (CatManifest word pod) run refl (cat_tells now draw old new run.plain pod run.ran)
     by (Validate path) run = alone (Validate path) run refl (validate_tells now draw old new run.plain path run.ran)
     by ImageList run = alone ImageList run refl (list_tells now draw old new run.plain run.ran)
     by (ImageImport path) run = alone (ImageImport path) run refl (import_tells now draw old new run.plain path run.ran)

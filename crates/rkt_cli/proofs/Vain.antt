@@ -50,10 +50,10 @@ module _ {word : List ℕ} {intent : Intent} {old new : DirSeen} {refusal : Refu
   first_part : (asked : Request → Bool) → asked (Begin intent) ≡ true → Extends asked me old.trace v.begun.trace
   first_part asked is = step_extends asked me old.trace (Begin intent) Done v.begun.trace is (v.begins t)
 
-  look_part : Extends (looks_by (approach_of word)) me v.begun.trace v.looked.trace
+  pub look_part : Extends (looks_by (approach_of word)) me v.begun.trace v.looked.trace
   look_part = look_extends (approach_of word) looked
 
-  last_part : (asked : Request → Bool) → asked Finish ≡ true → Extends asked me v.looked.trace new.trace
+  pub last_part : (asked : Request → Bool) → asked Finish ≡ true → Extends asked me v.looked.trace new.trace
   last_part asked is = step_extends asked me v.looked.trace Finish Done new.trace is (v.finishes t)
 
   pub vain_extends : (asked : Request → Bool) → asked (Begin intent) ≡ true → ((r : Request) → looks_by (approach_of word) r ≡ true → asked r ≡ true) → asked Finish ≡ true → Extends asked me old.trace new.trace

@@ -174,6 +174,7 @@ module _ (l : Line) (now : ℕ) (draw : Draw) (old new : Moment) (status : ℕ) 
     where
       by : (k : Line) → word_of k ≡ Some word → uses_dir (any_task k) ≡ true
       by (line.Status w) h = refl
+      by (line.CatManifest w) h = refl
       by (line.RunPrepared w a) h = refl
       by (line.Rm w) h = refl
       by k h = cc

@@ -10,6 +10,8 @@ use Rattle.command_outcomes.specs.declared.refusal.Refusal.TheVariants.{Usage, D
 use Rattle.command_outcomes.specs.Moments.{BundleSeen, Outside, Inside, Outcome, Answer, is_well}
 use Rattle.commands.specs.Command.{Command, Saying, alone, running, begins_any, reads_any, starts_any, IsRead}
 use Rattle.commands.specs.StatusCommand.{status_command}
+use Rattle.commands.specs.ListCommand.{list_command}
+use Rattle.commands.specs.CatManifestCommand.{cat_manifest_command}
 use Rattle.commands.specs.ValidateCommand.{validate_command}
 use Rattle.commands.specs.ImageListCommand.{image_list_command}
 use Rattle.commands.specs.ImageImportCommand.{image_import_command}
@@ -22,10 +24,12 @@ use Rattle.commands.specs.RmCommand.{rm_command}
 use Rattle.commands.specs.GcCommand.{gc_command}
 use Rattle.commands.specs.Opening.{Approach, looks_by}
 use Rattle.rkt_cli.specs.declared.line.Line.{Line}
-use Rattle.rkt_cli.specs.Tasks.{Task, Status, Validate, ImageList, ImageImport, ImageRm, ImageGc, Prepare, RunPrepared, Run, Rm, Gc, task_of}
+use Rattle.rkt_cli.specs.Tasks.{Task, Status, PodList, CatManifest, Validate, ImageList, ImageImport, ImageRm, ImageGc, Prepare, RunPrepared, Run, Rm, Gc, task_of}
 
 abbrev pub command_in : Task → Command
 command_in (Status word pod) = status_command word pod
+command_in PodList = list_command
+command_in (CatManifest word pod) = cat_manifest_command word pod
 command_in (Validate path) = validate_command path
 command_in ImageList = image_list_command
 command_in (ImageImport path) = image_import_command path

@@ -7,4 +7,5 @@ pub mod Histories
 pub mod Lookups
 pub mod Promises
 pub mod Between
+pub mod Headlines
 pub mod Paths

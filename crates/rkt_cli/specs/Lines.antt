@@ -9,7 +9,7 @@ use Rattle.rkt_words.specs.declared.line.Line.{Line as Words}
 use Rattle.rkt_words.specs.declared.line.Line.TheVariants as words
 use Rattle.commands.specs.Wants.{Wants}
 use Rattle.rkt_cli.specs.declared.line.Line.{Line}
-use Rattle.rkt_cli.specs.declared.line.Line.TheVariants.{Status, Validate, ImageList, ImageImport, ImageRm, ImageGc, Prepare, RunPrepared, Run, Rm, Gc}
+use Rattle.rkt_cli.specs.declared.line.Line.TheVariants.{Status, PodList, CatManifest, Validate, ImageList, ImageImport, ImageRm, ImageGc, Prepare, RunPrepared, Run, Rm, Gc}
 
 -- what a pod is to be made of
 abbrev pub wants_of : Asked → Wants
@@ -18,6 +18,8 @@ wants_of asked = record { images = asked.images; wishes = record { volumes = ask
 -- the line of a command that this program has
 abbrev pub known_line : Words → Option Line
 known_line (words.Status pod) = Some (Status pod)
+known_line words.List = Some PodList
+known_line (words.CatManifest pod) = Some (CatManifest pod)
 known_line (words.Prepare asked) = Some (Prepare (wants_of asked))
 known_line (words.Run asked address) = Some (Run (wants_of asked) address)
 known_line (words.RunPrepared pod address) = Some (RunPrepared pod address)

@@ -11,7 +11,7 @@ use Rattle.dir_trait.specs.Knowledge.{Knows}
 use Rattle.pod_lookup.specs.declared.error.LookupError.{LookupError}
 use Rattle.pod_lookup.specs.declared.error.LookupError.TheVariants as lookup
 use Rattle.pod_lookup.specs.Choice.{IsChoice, NamesMeant}
-use Rattle.pod_lookup.specs.Resolved.{IsNoneOf, AreTheLeast, FindsTheOne, IsSequential}
+use Rattle.pod_lookup.specs.Resolved.{IsChosen, IsNoneOf, AreTheLeast, FindsTheOne, IsSequential}
 use Rattle.command_outcomes.specs.declared.refusal.Refusal.{Refusal}
 use Rattle.command_outcomes.specs.declared.refusal.Refusal.TheVariants.{NoPod, Ambiguous, DirFault, SpawnFault, NoMemory}
 use Rattle.command_outcomes.specs.Texts.{status_of}
@@ -52,6 +52,8 @@ pub record IsVain (word : List ℕ) (refusal : Refusal) (old new : DirSeen) : Ty
   pub part : approach_of word ≡ looking
   pub names : NamesMeant word (Err error)
   pub why : MeansNone word error old new
+  -- the six areas were listed, and this is what the word means among the pods that they showed
+  pub chosen : old.observed ≡ true → IsChoice (Err error) → IsChosen word (Err error) (shown_at old) (shown_at new)
   -- so it isn't where of the pods that the word begins the same one exists at each moment, and no other at any
   pub not_one : old.observed ≡ true → IsChoice (Err error) → FindsTheOne word (Err error) (shown_at old) (shown_at new)
   pub quiet : old.observed ≡ true → IsChoice (Err error) → IsSequential word (Err error) (shown_at old) (shown_at new)

@@ -9,9 +9,9 @@ use Rattle.dir_model.specs.Quiet.{Quiet, OwnsNothing}
 use Rattle.dir_model.specs.Trace.{state_after}
 use Rattle.dir_rules.specs.Marks.{begins}
 use Rattle.lifecycle.specs.Executions.{IsConforming}
-use Rattle.pod_lookup.specs.Choice.{is_meant, sequential_resolve}
-use Rattle.pod_lookup.specs.Moments.{AtEachMoment}
-use Rattle.pod_lookup.specs.Pods.{is_pod_name}
+use Rattle.pod_lookup.specs.Choice.{is_meant, choice, sequential_resolve}
+use Rattle.pod_lookup.specs.Moments.{AtEachMoment, AtSomeMoment, Exists}
+use Rattle.pod_lookup.specs.Pods.{is_pod_name, FindsPods}
 use Rattle.pod_lookup.specs.Resolved.{IsTheOne}
 use Rattle.commands.specs.Wants.{Wants}
 use Rattle.rkt_cli.specs.declared.line.Line.{Line}
@@ -20,6 +20,8 @@ use Rattle.rkt_cli.specs.declared.line.Line.TheVariants as line
 -- a command, with the word by which it names a pod, and that pod
 pub data Task : Type 0 where
   Status : List ℕ → PodId → Task
+  PodList : Task
+  CatManifest : List ℕ → PodId → Task
   Validate : List ℕ → Task
   ImageList : Task
   ImageImport : List ℕ → Task
@@ -34,6 +36,8 @@ pub data Task : Type 0 where
 -- the task of a line, where this is its pod
 abbrev pub task_of : Line → PodId → Task
 task_of (line.Status word) pod = Status word pod
+task_of line.PodList pod = PodList
+task_of (line.CatManifest word) pod = CatManifest word pod
 task_of (line.Validate path) pod = Validate path
 task_of line.ImageList pod = ImageList
 task_of (line.ImageImport path) pod = ImageImport path
@@ -48,6 +52,7 @@ task_of (line.Gc grace expire) pod = Gc grace expire
 -- the word by which a line names a pod
 abbrev pub word_of : Line → Option (List ℕ)
 word_of (line.Status word) = Some word
+word_of (line.CatManifest word) = Some word
 word_of (line.RunPrepared word address) = Some word
 word_of (line.Rm word) = Some word
 word_of line = None
@@ -61,10 +66,13 @@ abbrev pub IsMeantBy : Option (List ℕ) → Draw → PodId → Type 0
 IsMeantBy None draw pod = pod ≡ draw.uuid
 IsMeantBy (Some word) draw pod = IsMeant word pod
 
--- a look found this pod for the word
+-- the process came to this pod by the word
 pub record IsFound (word : List ℕ) (pod : PodId) (me : ℕ) (old new : List Event) : Type 0 where
-  -- where every process keeps the local rules, and of the pods that the word begins the same one exists at each moment, and no other
-  -- at any, it is that one
+  -- of a word that is no whole uuid: the six areas were listed, and of the pods that they showed it is the only one that the word begins
+  pub shown : (length word ≡ 36 → ⊥) → (pods : List PodId) × FindsPods me old new pods × (Ok pod ≡ choice word pods)
+  -- so where every process keeps the local rules, it existed at some moment of the look
+  pub existed : (length word ≡ 36 → ⊥) → IsConforming new → AtSomeMoment old new (Exists (pod_text pod.bytes))
+  -- and where of the pods that the word begins the same one exists at each moment, and no other at any, it is that one
   pub the_one : IsConforming new → (name : List ℕ) → is_pod_name name ≡ true → begins word name ≡ true → AtEachMoment old new (IsTheOne word name) → pod_text pod.bytes ≡ name
   -- where nobody else steps, and the process holds no lock exclusively, it is the one that the word means in the state before
   pub quiet : Quiet me old new → OwnsNothing me (state_after old).namespace → Ok pod ≡ sequential_resolve (state_after old) word
@@ -72,6 +80,7 @@ pub record IsFound (word : List ℕ) (pod : PodId) (me : ℕ) (old new : List Ev
 -- a task's word means its pod
 abbrev pub MeansItsPod : Task → Type 0
 MeansItsPod (Status word pod) = IsMeant word pod
+MeansItsPod (CatManifest word pod) = IsMeant word pod
 MeansItsPod (RunPrepared word pod address) = IsMeant word pod
 MeansItsPod (Rm word pod) = IsMeant word pod
 MeansItsPod task = Unit {0}
@@ -79,6 +88,7 @@ MeansItsPod task = Unit {0}
 -- and its pod was found by a look between two traces
 abbrev pub FindsItsPod : Task → ℕ → List Event → List Event → Type 0
 FindsItsPod (Status word pod) me old new = IsFound word pod me old new
+FindsItsPod (CatManifest word pod) me old new = IsFound word pod me old new
 FindsItsPod (RunPrepared word pod address) me old new = IsFound word pod me old new
 FindsItsPod (Rm word pod) me old new = IsFound word pod me old new
 FindsItsPod task me old new = Unit {0}

@@ -19,6 +19,10 @@ use std::alloc::Global;
 pub enum Line {
     /// `status POD`: print the phase of a pod.
     Status(PodPrefix),
+    /// `list`: print the pods.
+    PodList,
+    /// `cat-manifest POD`: print the manifest of a pod.
+    CatManifest(PodPrefix),
     /// `validate FILE`: judge a file of the bundle as a manifest.
     Validate(Text),
     /// `image list`: print the images of the store.
@@ -92,6 +96,8 @@ fn known_line(alloc: Global, words: rkt_words::Line) -> Result<Line, WordsError>
 {
     match words {
         rkt_words::Line::Status(pod) => Ok(Line::Status(pod)),
+        rkt_words::Line::List => Ok(Line::PodList),
+        rkt_words::Line::CatManifest(pod) => Ok(Line::CatManifest(pod)),
         rkt_words::Line::Prepare(asked) => prepare_line(alloc, &asked),
         rkt_words::Line::Run { asked, address } => run_line(alloc, &asked, address),
         rkt_words::Line::RunPrepared { pod, address } => Ok(Line::RunPrepared(pod, address)),
@@ -102,9 +108,7 @@ fn known_line(alloc: Global, words: rkt_words::Line) -> Result<Line, WordsError>
         rkt_words::Line::ImageList => Ok(Line::ImageList),
         rkt_words::Line::ImageRm(key) => Ok(Line::ImageRm(key)),
         rkt_words::Line::ImageGc => Ok(Line::ImageGc),
-        rkt_words::Line::List
-        | rkt_words::Line::CatManifest(_)
-        | rkt_words::Line::Metadata {
+        rkt_words::Line::Metadata {
             address: _,
             count: _,
         }
@@ -128,7 +132,10 @@ pub(crate) fn line_word(line: &Line) -> Option<PodPrefix>
     ensures { result ≡ word_of line.now }
 {
     match line {
-        Line::Status(word) | Line::RunPrepared(word, _) | Line::Rm(word) => Some(*word),
+        Line::Status(word)
+        | Line::CatManifest(word)
+        | Line::RunPrepared(word, _)
+        | Line::Rm(word) => Some(*word),
         _ => None,
     }
 }

@@ -1,5 +1,5 @@
 // How a process comes to the pod that its line means.
-ghost use Rattle.std.specs.Prelude.{◌≡◌, [], Some};
+ghost use Rattle.std.specs.Prelude.{◌≡◌, Some};
 ghost use Rattle.dir_trait.specs.Local.{IsActive};
 ghost use Rattle.command_outcomes.specs.Moments.{dir_at};
 ghost use Rattle.rkt_cli.specs.Lookups.{ComesToPod, FindsPod, FindsMeant, lookup_refusal};
@@ -25,7 +25,6 @@ fn lookup_refusal(error: LookupError) -> Refusal
 // The pod that the word means.
 fn meant_pod<D: Dir>(alloc: Global, word: PodPrefix, dir: &mut D) -> Result<PodId, Refusal>
     requires active { IsActive (D.shown dir.old).local }
-    requires ready { (D.shown dir.old).local.holdings ≡ [] }
     ensures comes { ComesToPod (Some word) (dir_at D.Dir dir.old) (dir_at D.Dir dir.new) }
     ensures finds { FindsMeant word (dir_at D.Dir dir.old) (dir_at D.Dir dir.new) result }
 {
@@ -46,7 +45,6 @@ pub(crate) fn its_pod<D: Dir>(
     dir: &mut D,
 ) -> Result<PodId, Refusal>
     requires active { IsActive (D.shown dir.old).local }
-    requires ready { (D.shown dir.old).local.holdings ≡ [] }
     ensures comes { ComesToPod (word_of line.now) (dir_at D.Dir dir.old) (dir_at D.Dir dir.new) }
     ensures finds { FindsPod (word_of line.now) draw.now (dir_at D.Dir dir.old) (dir_at D.Dir dir.new) result }
 {

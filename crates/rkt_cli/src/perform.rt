@@ -17,11 +17,13 @@ ghost use Rattle.rkt_cli.specs.Tasks.{MeansItsPod, task_of};
 use crate::line::Line;
 use crate::lookup::its_pod;
 use command_outcomes::{Output, Refusal, Told};
+use commands::cat_manifest::cat_manifest;
 use commands::gc::gc_pods;
 use commands::image_gc::image_gc;
 use commands::image_import::image_import;
 use commands::image_list::image_list;
 use commands::image_rm::image_rm;
+use commands::list::list;
 use commands::prepare::prepare_pod;
 use commands::rm::rm;
 use commands::run::run;
@@ -68,6 +70,8 @@ fn line_intent(line: &Line, now: u64, draw: &Draw) -> Option<Intent>
 {
     match line {
         Line::Status(word) => Some(intent_for(Kind::Status, *word, now, draw)),
+        Line::PodList => Some(intent_for(Kind::List, PodPrefix::empty(), now, draw)),
+        Line::CatManifest(word) => Some(intent_for(Kind::CatManifest, *word, now, draw)),
         Line::Validate(_) => None,
         Line::ImageList => Some(intent_for(Kind::ImageList, PodPrefix::empty(), now, draw)),
         Line::ImageImport(_) => Some(intent_for(Kind::ImageImport, PodPrefix::empty(), now, draw)),
@@ -106,6 +110,8 @@ fn act_alone<D: Dir, B: Bundle>(
 {
     match line {
         Line::Status(_) => pod_status(alloc, pod, dir),
+        Line::PodList => list(alloc, dir),
+        Line::CatManifest(_) => cat_manifest(alloc, pod, dir),
         Line::Validate(path) => validate(alloc, path, bundle),
         Line::ImageList => image_list(alloc, dir),
         Line::ImageImport(path) => image_import(alloc, path, now, draw.uuid, dir, bundle),

@@ -1,15 +1,15 @@
 // The top call.
 ghost use Rattle.std.specs.Prelude.{◌≡◌, ◌⊎◌, true, false, None};
-ghost use Rattle.command_outcomes.specs.Conforming.{KeepsConforming};
 ghost use Rattle.command_outcomes.specs.Moments.{dir_at, bundle_at};
 ghost use Rattle.dir_trait.specs.Local.{nothing_local};
 ghost use Rattle.pod_build.specs.LegalExecutions.{IsLegal};
-ghost use Rattle.pod_roots.specs.Roots.{AppsStartFaithfully, PodsReadAsMade};
+ghost use Rattle.pod_roots.specs.Roots.{PodsReadAsMade};
 ghost use Rattle.rkt_cli.specs.Between.{EndedBetween, ToldBetween, QuietBetween, RunBetween};
 ghost use Rattle.rkt_cli.specs.Commands.{uses_dir_in, reads_bundle_in, runs_apps_in};
 ghost use Rattle.rkt_cli.specs.Histories.{HandsOver, StaysLawful};
 ghost use Rattle.rkt_cli.specs.Lines.{line_in};
-ghost use Rattle.rkt_cli.specs.Promises.{AsksOnly, IsStatus, IsOutput, IsOver, ReadsIn};
+ghost use Rattle.rkt_cli.specs.Headlines.{KeepsTheHeadline};
+ghost use Rattle.rkt_cli.specs.Promises.{IsStatus, IsOutput, IsOver, ReadsIn};
 
 use crate::line::read_line;
 use crate::perform::perform;
@@ -81,11 +81,8 @@ pub fn rkt<D: Dir, B: Bundle, S: Spawner, O: Sink, E: Sink>(
     ensures unasked { runs_apps_in (line_in words.now) ≡ false → spawner.new ≡ spawner.old }
     ensures reads { ReadsIn (line_in words.now) (bundle_at B.Bundle bundle.old) (bundle_at B.Bundle bundle.new) }
     ensures over { IsOver (line_in words.now) now draw.now result (D.shown dir.old).local (D.shown dir.new).local }
-    ensures extends { D.observed ≡ true → AsksOnly (line_in words.now) now draw.now (D.shown dir.old).process (D.shown dir.old).trace (D.shown dir.new).trace }
-    ensures conforms { D.observed ≡ true → KeepsConforming (dir_at D.Dir dir.old) (dir_at D.Dir dir.new) }
+    ensures headline { D.observed ≡ true → KeepsTheHeadline (line_in words.now) now draw.now (D.shown dir.old) (D.shown dir.new) }
     ensures lawful { D.observed ≡ true → StaysLawful draw.now (dir_at D.Dir dir.old) (dir_at D.Dir dir.new) }
-    ensures makers { D.observed ≡ true → HandsOver (D.shown dir.old) (D.shown dir.new) }
-    ensures starts { D.observed ≡ true → IsLegal (D.shown dir.new).trace → AppsStartFaithfully (D.shown dir.new).trace }
     ensures as_made { D.observed ≡ true → IsLegal (D.shown dir.new).trace → PodsReadAsMade (D.shown dir.new).trace }
     ensures quiet { QuietBetween D.Dir B.Bundle S.Spawner O.Sink E.Sink (line_in words.now) now draw.now result
         (dir.old, bundle.old, spawner.old, out.old, err.old) (dir.new, bundle.new, spawner.new, out.new, err.new) }

@@ -148,13 +148,20 @@ fn status_of(page: &mut Page, pod: &str) -> Command {
     }
 }
 
-// What `status` tells of a pod.
+fn first_line(text: &str) -> &str {
+    match text.split_once('\n') {
+        Some((first, _)) => first,
+        None => text,
+    }
+}
+
+// The line of the phase that `status` tells of a pod.
 fn told(page: &mut Page, stage: &mut Stage, pod: &str) -> String {
     let command = status_of(page, pod);
     let text = match &run(page, stage, LOOKERS, &command) {
         Some((ended, _)) => {
             let text = str::from_utf8(ended.out.bytes.as_slice()).unwrap_or("");
-            page.text(text.trim_end())
+            page.text(first_line(text))
         }
         None => String::new(page.alloc()),
     };

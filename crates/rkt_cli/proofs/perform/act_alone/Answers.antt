@@ -2,22 +2,23 @@ use Rattle.std.proofs.Common.{◌≡◌, true, false, Some, sym, ap, subst, ◌�
 use Rattle.rkt_cli.specs.Tasks.{Task, MeansItsPod}
 use Rattle.rkt_cli.specs.Commands.{uses_dir, intent_of}
 use Rattle.command_outcomes.specs.Moments.{dir_at}
-use Rattle.rkt_cli.proofs.Conforming.{looks_conforming, apart_conforming, list_conforming}
+use Rattle.rkt_cli.proofs.Conforming.{apart_conforming, list_conforming, report_conforming}
 use Rattle.rkt_cli.proofs.StoreRan.{imports, import_ran, removal_conforming, sweep_conforming, removal_ran, sweep_ran}
 use Rattle.rkt_cli.proofs.ValidateRan.{validate_ran}
 use Rattle.rkt_cli.proofs.PodRan.{prepares, prepare_ran}
 use Rattle.rkt_cli.proofs.PodRemovals.{rm_conforming, gc_conforming, rm_ran, gc_ran}
-use Rattle.rkt_cli.proofs.Makers.{looks_none, lists_none, imports_none, image_removes_none, image_sweeps_none, removes_none, sweeps_none, prepare_hands}
+use Rattle.rkt_cli.proofs.Makers.{inspects_none, surveys_none, visits_none, lists_none, imports_none, image_removes_none, image_sweeps_none, removes_none, sweeps_none, prepare_hands}
 use Rattle.pod_making.proofs.Handing.{none_handed}
 use Rattle.image_store.specs.Requests.{building_spot}
 use Rattle.rkt_cli.proofs.Acting.{at_task}
+use Rattle.rkt_cli.proofs.Reported.{cat_ran, list_ran, none_open, status_ran}
 use Rattle.rkt_cli.proofs.perform.act_alone.Goals as goal
 
 pub returns-in-Validate-clause-ran : goal.returns-in-Validate-clause-ran
 returns-in-Validate-clause-ran g c = validate_ran _ _ _ c.in-Validate.path _ _ _ _ (at_task c.args.pod c.in-Validate.is) c.validate.ensures.faults c.validate.ensures.cause c.validate.ensures.refusals c.validate.ensures.reads c.validate.ensures.says
 
 pub returns-in-Status-clause-keeps : goal.returns-in-Status-clause-keeps
-returns-in-Status-clause-keeps g c t intent said = looks_conforming intent g.D.Dir.observed _ _ (c.pod_status.ensures.known t)
+returns-in-Status-clause-keeps g c t intent said = report_conforming intent g.D.Dir.observed _ _ c.pod_status.ensures.only t
 
 pub returns-in-Validate-clause-keeps : goal.returns-in-Validate-clause-keeps
 returns-in-Validate-clause-keeps g c t intent said = apart_conforming intent (dir_at g.D.Dir c.args.dir.now)
@@ -80,7 +81,7 @@ returns-in-Gc-clause-ran g c =
     gc_ran _ _ _ D.observed (D.shown c.args.dir.now) (D.shown c.gc_pods.new.dir) _ _ (at_task c.args.pod c.in-Gc.is) c.gc_pods.ensures.worked c.gc_pods.ensures.cause c.gc_pods.ensures.refusals c.gc_pods.ensures.says
 
 pub returns-in-Status-clause-makers : goal.returns-in-Status-clause-makers
-returns-in-Status-clause-makers g c t uses intent said known run = none_handed (looks_none c.args.pod) (c.pod_status.ensures.extends t)
+returns-in-Status-clause-makers g c t uses intent said known run = none_handed (inspects_none c.args.pod) (c.pod_status.ensures.only.extends t)
 
 pub returns-in-ImageList-clause-makers : goal.returns-in-ImageList-clause-makers
 returns-in-ImageList-clause-makers g c t uses intent said known run = none_handed (lists_none) (c.image_list.ensures.extends t)
@@ -105,3 +106,33 @@ returns-in-Prepare-clause-makers g c t uses = prepare_hands (g.D.Dir.shown c.arg
 
 pub returns-in-Validate-clause-makers : goal.returns-in-Validate-clause-makers
 returns-in-Validate-clause-makers g c t uses = let clash : true ≡ false = sym uses ∙ ap uses_dir (at_task c.args.pod c.in-Validate.is) in cc
+
+pub list-requires-clause-alone : goal.list-requires-clause-alone
+list-requires-clause-alone g c = none_open (g.D.Dir.shown c.args.dir.now).local c.requires.ready
+
+pub returns-in-PodList-clause-keeps : goal.returns-in-PodList-clause-keeps
+returns-in-PodList-clause-keeps g c t intent said = report_conforming intent g.D.Dir.observed _ _ c.list.ensures.only t
+
+pub returns-in-PodList-clause-makers : goal.returns-in-PodList-clause-makers
+returns-in-PodList-clause-makers g c t uses intent said known run = none_handed surveys_none (c.list.ensures.only.extends t)
+
+pub returns-in-PodList-clause-ran : goal.returns-in-PodList-clause-ran
+returns-in-PodList-clause-ran g c =
+    let D = g.D.Dir in
+    list_ran _ _ _ D.observed (D.shown c.args.dir.now) (D.shown c.list.new.dir) _ _ (at_task c.args.pod c.in-PodList.is) c.list.ensures.only c.list.ensures.cause c.list.ensures.refusals c.list.ensures.says
+
+pub returns-in-CatManifest-clause-keeps : goal.returns-in-CatManifest-clause-keeps
+returns-in-CatManifest-clause-keeps g c t intent said = report_conforming intent g.D.Dir.observed _ _ c.cat_manifest.ensures.only t
+
+pub returns-in-CatManifest-clause-makers : goal.returns-in-CatManifest-clause-makers
+returns-in-CatManifest-clause-makers g c t uses intent said known run = none_handed (visits_none c.args.pod) (c.cat_manifest.ensures.only.extends t)
+
+pub returns-in-CatManifest-clause-ran : goal.returns-in-CatManifest-clause-ran
+returns-in-CatManifest-clause-ran g c =
+    let D = g.D.Dir in
+    cat_ran _ _ _ D.observed (D.shown c.args.dir.now) (D.shown c.cat_manifest.new.dir) _ _ _ c.args.pod (at_task c.args.pod c.in-CatManifest.is) c.cat_manifest.ensures.only c.cat_manifest.ensures.cause c.cat_manifest.ensures.refusals c.cat_manifest.ensures.says
+
+pub returns-in-Status-clause-ran : goal.returns-in-Status-clause-ran
+returns-in-Status-clause-ran g c =
+    let D = g.D.Dir in
+    status_ran _ _ _ D.observed (D.shown c.args.dir.now) (D.shown c.pod_status.new.dir) _ _ _ c.args.pod (at_task c.args.pod c.in-Status.is) c.pod_status.ensures.only c.pod_status.ensures.cause c.pod_status.ensures.refusals c.pod_status.ensures.says

@@ -1,7 +1,8 @@
 use Rattle.rkt_cli.specs.Lines.{line_in}
 use Rattle.rkt_cli.proofs.Words as words
 use Rattle.pod_roots.proofs.Reading.{pods_read}
-use Rattle.pod_roots.proofs.Standing.{apps_start}
+use Rattle.headline.proofs.Holds.{headline_holds}
+use Rattle.rkt_cli.proofs.Headlines.{run_begins}
 use Rattle.rkt_cli.proofs.top.rkt.Goals as goal
 
 pub returns-clause-statuses : goal.returns-clause-statuses
@@ -28,14 +29,14 @@ returns-clause-reads g c = words.reads c.args.now c.args.draw.now _ _ c.run.resu
 pub returns-clause-over : goal.returns-clause-over
 returns-clause-over g c = words.over c.args.now c.args.draw.now _ _ c.run.result (line_in c.args.words.now) c.run.ensures.ran
 
-pub returns-clause-extends : goal.returns-clause-extends
-returns-clause-extends g c = words.asked c.args.now c.args.draw.now _ _ c.run.result (line_in c.args.words.now) c.run.ensures.ran
-
-pub returns-clause-conforms : goal.returns-clause-conforms
-returns-clause-conforms g c t = words.conforms c.args.now c.args.draw.now _ _ c.run.result (line_in c.args.words.now) c.run.ensures.ran t
-
-pub returns-clause-starts : goal.returns-clause-starts
-returns-clause-starts g c t legal = apps_start (g.D.Dir.shown c.run.new.dir).trace legal
+pub returns-clause-headline : goal.returns-clause-headline
+returns-clause-headline g c t = record {
+  extends = words.asked c.args.now c.args.draw.now _ _ c.run.result (line_in c.args.words.now) c.run.ensures.ran t;
+  begins = run_begins c.args.now c.args.draw.now _ _ c.run.result (line_in c.args.words.now) c.run.ensures.ran t;
+  rules = words.conforms c.args.now c.args.draw.now _ _ c.run.result (line_in c.args.words.now) c.run.ensures.ran t;
+  makers = c.run.ensures.makers t;
+  holds = headline_holds (g.D.Dir.shown c.run.new.dir).trace;
+}
 
 pub returns-clause-as_made : goal.returns-clause-as_made
 returns-clause-as_made g c t legal = pods_read (g.D.Dir.shown c.run.new.dir).trace legal
