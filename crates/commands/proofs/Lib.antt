@@ -44,6 +44,7 @@ pub mod MarkMoments
 pub mod MarkTimes
 pub mod NewRunQuiet
 pub mod NewRuns
+pub mod NamedPhases
 pub mod NextState
 pub mod NotesStand
 pub mod OneNumber

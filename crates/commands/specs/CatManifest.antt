@@ -22,6 +22,7 @@ use Rattle.command_outcomes.specs.declared.refusal.Refusal.{Refusal}
 use Rattle.command_outcomes.specs.declared.refusal.Refusal.TheVariants.{DirFault, NoManifest, NoMemory, NoPod, Stray}
 use Rattle.command_outcomes.specs.Ends.{is_common}
 use Rattle.command_outcomes.specs.Moments.{Outcome}
+use Rattle.commands.specs.Phases.{names_none}
 use Rattle.commands.specs.Report.{Report}
 
 -- the line that it prints: the manifest's JSON without spaces
@@ -79,6 +80,7 @@ cat_manifest_report pod = record {
   asks = visits pod;
   prints = λ text. (manifest : PodData) × (text ≡ manifest_line manifest);
   refusals = cat_manifest_refusal;
+  names = names_none;
   tells = TellsManifest pod;
   quiet = IsManifestIn pod;
 }

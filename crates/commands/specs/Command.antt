@@ -1,8 +1,10 @@
 -- What a command promises, whichever it is. Each command has such a record, in a file of its own.
 use Rattle.std.specs.Prelude.{◌≡◌, ℕ, Bool, true, false, Option, Some, None, List}
+use Rattle.dir_model.specs.declared.area.Phase.{Phase}
 use Rattle.dir_model.specs.declared.intent.Draw.{Draw}
 use Rattle.dir_model.specs.declared.intent.Intent.{Intent}
 use Rattle.dir_model.specs.declared.intent.Kind.{Kind}
+use Rattle.dir_model.specs.declared.pod.PodId.{PodId}
 use Rattle.dir_model.specs.declared.request.Request.{Request}
 use Rattle.dir_trait.specs.State.{DirState}
 use Rattle.lifecycle.specs.Executions.{IsConforming}
@@ -36,6 +38,8 @@ pub record Command : Type 1 where
   pub refusals : Refusal → Bool
   -- and each with its cause
   pub refused_for : ℕ → Draw → Refusal → Moment → Moment → Type 0
+  -- the phases of pods that its answer names: so each of them was
+  pub names : Outcome → (PodId → Phase → Type 0) → Type 0
   -- what it tells with each status: by its own answers, and of the histories of pods and images
   pub tells : ℕ → Draw → ℕ → Moment → Moment → Type 0
   -- what it answers where nobody else steps

@@ -1,7 +1,8 @@
 -- The command `gc`.
 use Rattle.std.specs.Prelude.{◌≡◌, ◌≤◌, ◌⊎◌, ℕ, Bool, true, Option, Some, None, List, ◌++◌, codes, Ok, Err}
-use Rattle.std.specs.List.{flat_map}
+use Rattle.std.specs.List.{flat_map, AllByRecursion}
 use Rattle.dir_model.specs.declared.area.Area.{Area}
+use Rattle.dir_model.specs.declared.area.Phase.{Phase}
 use Rattle.dir_model.specs.declared.event.Event.{Event}
 use Rattle.dir_model.specs.declared.pod.PodId.{PodId}
 use Rattle.dir_model.specs.Areas.{phase_text}
@@ -50,6 +51,20 @@ line_text line = (subject_text line.pod line.place ++ deed_text line.place line.
 
 abbrev pub lines_text : List GcLine → List ℕ
 lines_text lines = flat_map line_text lines
+
+-- a line of a pod that was let be names its phase
+abbrev pub NamesKept : (PodId → Phase → Type 0) → GcLine → Type 0
+NamesKept Had line = (pod : PodId) (phase : Phase) → line.pod ≡ Some pod → line.deed ≡ Kept phase → Had pod phase
+
+-- the lines were printed, of which this is so
+pub record PrintsSweep (P : List GcLine → Type 0) (text : List ℕ) : Type 0 where
+  pub lines : List GcLine
+  pub so : P lines
+  pub is : text ≡ lines_text lines
+
+abbrev pub names_kept : Outcome → (PodId → Phase → Type 0) → Type 0
+names_kept (Ok text) Had = PrintsSweep (AllByRecursion (NamesKept Had)) text
+names_kept (Err refusal) Had = Unit {0}
 
 -- the refusals that it may have, and what is said of a sweep that ended early
 abbrev pub gc_refusal : Refusal → Bool

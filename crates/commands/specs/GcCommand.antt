@@ -13,7 +13,7 @@ use Rattle.command_outcomes.specs.Moments.{DirSeen, Moment}
 use Rattle.commands.specs.Answers.{WritesOf}
 use Rattle.commands.specs.Opening.{directly}
 use Rattle.commands.specs.Command.{Command, nothing, alone, WhereObserved, WhereAllKeepRules}
-use Rattle.commands.specs.Gc.{times_of, gc_refusal, lines_text, GcSays, HasMadePasses, HasMetStrayInPods, HasSweptInPart, HasSweptPods}
+use Rattle.commands.specs.Gc.{times_of, gc_refusal, lines_text, names_kept, GcSays, HasMadePasses, HasMetStrayInPods, HasSweptInPart, HasSweptPods}
 use Rattle.commands.specs.RemovalHistory.{SweepsForGood}
 use Rattle.commands.specs.RemovalQuiet.{SweepsPodsQuietly, is_pods_place}
 use Rattle.commands.specs.NextState.{LeavesBeside}
@@ -53,6 +53,7 @@ gc_command grace expire = record {
   prints = λ draw bundle text. (lines : List GcLine) × (text ≡ lines_text lines);
   refusals = gc_refusal;
   refused_for = λ now draw refusal old new. RefusesGc refusal old.outside.dir new.outside.dir;
+  names = names_kept;
   tells = λ now draw status old new. TellsGc (times_of now grace expire) status old new;
   quiet = λ now draw old new o. SweepsPodsQuietly (times_of now grace expire) old.dir new.dir o;
   leaves = λ me draw old new. LeavesBeside is_pods_place me old new;

@@ -8,6 +8,7 @@ use Rattle.command_outcomes.specs.declared.refusal.Refusal.TheVariants.{Stray}
 use Rattle.command_outcomes.specs.Moments.{DirSeen, Moment}
 use Rattle.commands.specs.Answers.{WritesOf}
 use Rattle.commands.specs.Opening.{directly}
+use Rattle.commands.specs.Phases.{names_none}
 use Rattle.commands.specs.Command.{Command, nothing, alone, intent_for, WhereObserved}
 use Rattle.commands.specs.ImageGc.{image_gc_refusal, sweep_texts, is_swept_place, HasEndedEarly, HasMetStrayInSweep, HasSwept, ImageGcSays, SweepsQuietly}
 use Rattle.commands.specs.NextState.{LeavesBeside}
@@ -32,6 +33,7 @@ image_gc_command = record {
   prints = λ draw bundle text. (lines : List SweepLine) × (text ≡ sweep_texts lines);
   refusals = image_gc_refusal;
   refused_for = λ now draw refusal old new. RefusesImageGc refusal old.outside.dir new.outside.dir;
+  names = names_none;
   tells = λ now draw status old new. TellsImageGc status old new;
   quiet = λ now draw old new o. SweepsQuietly old.dir new.dir o;
   leaves = λ me draw old new. LeavesBeside is_swept_place me old new;

@@ -13,6 +13,7 @@ use Rattle.command_outcomes.specs.declared.refusal.Refusal.TheVariants.{Busy}
 use Rattle.command_outcomes.specs.Moments.{Outside, Moment}
 use Rattle.commands.specs.Answers.{IsAnswer, WritesOf}
 use Rattle.commands.specs.Opening.{directly}
+use Rattle.commands.specs.Phases.{names_none}
 use Rattle.commands.specs.Command.{Command, reading, alone, intent_for, WhereAllKeepRules}
 use Rattle.commands.specs.ImageImport.{image_import_refusal, import_refusal, ImageImportSays, ImportsQuietly, IsAreaHeld, LeavesOthers, PrintsKey, RefusesImage, StoresImage}
 
@@ -46,6 +47,7 @@ image_import_command path = record {
   prints = λ draw bundle text. PrintsKey path bundle text;
   refusals = image_import_refusal;
   refused_for = λ now draw refusal old new. RefusesImport path refusal old.outside new.outside;
+  names = names_none;
   tells = λ now draw status old new. TellsImport path now draw status old new;
   quiet = λ now draw old new o. ImportsQuietly path now draw.uuid old new o;
   leaves = λ me draw old new. LeavesOthers draw.uuid me old new;

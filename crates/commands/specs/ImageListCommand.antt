@@ -8,6 +8,7 @@ use Rattle.command_outcomes.specs.declared.refusal.Refusal.TheVariants.{Busy, Da
 use Rattle.command_outcomes.specs.Moments.{DirSeen, Moment}
 use Rattle.commands.specs.Answers.{WritesOf}
 use Rattle.commands.specs.Opening.{directly}
+use Rattle.commands.specs.Phases.{names_none}
 use Rattle.commands.specs.Command.{Command, nothing, alone, intent_for, WhereObserved}
 use Rattle.commands.specs.ImageList.{image_list_refusal, lists_images, images_text, LacksPart, IsHeldElsewhere, ListsStore, ImageListSays, ListsQuietly}
 use Rattle.commands.specs.NextState.{LeavesAll}
@@ -32,6 +33,7 @@ image_list_command = record {
   prints = λ draw bundle text. (images : List Stored) × (text ≡ images_text images);
   refusals = image_list_refusal;
   refused_for = λ now draw refusal old new. RefusesImageList refusal old.outside.dir new.outside.dir;
+  names = names_none;
   tells = λ now draw status old new. TellsImages status old new;
   quiet = λ now draw old new o. ListsQuietly old.dir new.dir o;
   leaves = λ me draw old new. LeavesAll me old new;

@@ -13,6 +13,7 @@ use Rattle.command_outcomes.specs.Moments.{DirSeen, Moment}
 use Rattle.commands.specs.Answers.{WritesOf}
 use Rattle.commands.specs.Kept.{KeepsRefused, RemovesNoneUnlessDone}
 use Rattle.commands.specs.Opening.{directly}
+use Rattle.commands.specs.Phases.{names_none}
 use Rattle.commands.specs.Command.{Command, nothing, alone, intent_for, WhereObserved}
 use Rattle.commands.specs.ImageRm.{image_rm_refusal, removed_text, is_removal_place, FindsBusy, HasFoundNone, HasMetStray, HasRemoved, ImageRmSays, RemovesQuietly}
 use Rattle.commands.specs.NextState.{LeavesBeside}
@@ -40,6 +41,7 @@ image_rm_command key = record {
   prints = λ draw bundle text. text ≡ removed_text key;
   refusals = image_rm_refusal;
   refused_for = λ now draw refusal old new. RefusesImageRm key draw refusal old.outside.dir new.outside.dir;
+  names = names_none;
   tells = λ now draw status old new. TellsImageRm key draw status old new;
   quiet = λ now draw old new o. RemovesQuietly key draw.uuid old.dir new.dir o;
   leaves = λ me draw old new. LeavesBeside (is_removal_place key draw.uuid) me old new;

@@ -20,6 +20,7 @@ pub mod Kept
 pub mod ListCommand
 pub mod NextState
 pub mod Opening
+pub mod Phases
 pub mod PodList
 pub mod Prepare
 pub mod PrepareCommand

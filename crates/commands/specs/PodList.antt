@@ -1,6 +1,7 @@
 -- The command `list`.
 use Rattle.std.specs.Prelude.{◌≡◌, ℕ, Bool, true, Option, Some, None, List, [], ◌∷◌, ◌++◌, codes, Ok, Err}
-use Rattle.std.specs.List.{flat_map}
+use Rattle.std.specs.List.{flat_map, AllByRecursion}
+use Rattle.dir_model.specs.declared.area.Phase.{Phase}
 use Rattle.dir_model.specs.declared.event.Event.{Event}
 use Rattle.dir_model.specs.declared.pod.PodId.{PodId}
 use Rattle.dir_model.specs.Pods.{pod_text}
@@ -24,10 +25,11 @@ use Rattle.command_outcomes.specs.Ends.{is_common}
 use Rattle.command_outcomes.specs.Moments.{Outcome}
 use Rattle.commands.specs.Report.{Report}
 
--- the names of a pod's apps, with ',' between them, or '-' where there is none or it has no manifest
+-- a name after another one
 abbrev pub name_behind : List ℕ → List ℕ
 name_behind name = codes "," ++ name
 
+-- the names of a pod's apps, with ',' between them, or '-' where there is none or it has no manifest
 abbrev pub names_text : List (List ℕ) → List ℕ
 names_text [] = codes "-"
 names_text (first ∷ others) = first ++ flat_map name_behind others
@@ -60,6 +62,11 @@ pub record PrintsLines (P : List PodLine → Type 0) (text : List ℕ) : Type 0 
   pub so : P lines
   pub is : text ≡ list_text lines
 
+-- each line names that of its pod
+abbrev pub names_lines : Outcome → (PodId → Phase → Type 0) → Type 0
+names_lines (Ok text) Had = PrintsLines (AllByRecursion (λ (line : PodLine). Had line.pod line.phase)) text
+names_lines (Err refusal) Had = Unit {0}
+
 -- the lines are a weakly consistent snapshot of the pods; contradictory answers don't come
 abbrev pub TellsLines : ℕ → List Event → List Event → Outcome → Type 0
 TellsLines me old new (Ok text) = PrintsLines (IsWeakSnapshot me old new) text
@@ -83,6 +90,7 @@ list_report = record {
   asks = surveys;
   prints = λ text. (lines : List PodLine) × (text ≡ list_text lines);
   refusals = list_refusal;
+  names = names_lines;
   tells = TellsLines;
   quiet = IsListOf;
 }

@@ -11,6 +11,7 @@ use Rattle.command_outcomes.specs.declared.refusal.Refusal.TheVariants.{Busy}
 use Rattle.command_outcomes.specs.Moments.{DirSeen, Moment}
 use Rattle.commands.specs.Answers.{WritesOf}
 use Rattle.commands.specs.Opening.{directly}
+use Rattle.commands.specs.Phases.{names_none}
 use Rattle.commands.specs.Command.{Command, nothing, alone, intent_for, WhereObserved, WhereAllKeepRules}
 use Rattle.commands.specs.Prepare.{pod_line, prepares_pod, HasBrought, HasKeptFolder, HasSynced, IsAreaHeld, IsFaithful, PrepareSays, RefusesPod}
 use Rattle.commands.specs.PrepareQuiet.{PreparesQuietly, is_pod_place}
@@ -52,6 +53,7 @@ prepare_command wants = record {
   prints = λ draw bundle text. text ≡ pod_line draw.uuid;
   refusals = prepare_refusal;
   refused_for = λ now draw refusal old new. RefusesPrepare wants now draw refusal old.outside.dir new.outside.dir;
+  names = names_none;
   tells = λ now draw status old new. TellsPrepare wants draw status old new;
   quiet = λ now draw old new o. PreparesQuietly wants now draw old.dir new.dir o;
   leaves = λ me draw old new. LeavesBeside (is_pod_place draw.uuid) me old new;

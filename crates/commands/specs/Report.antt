@@ -1,7 +1,9 @@
 -- What a report on pods promises, whichever it is: a command that looks, and changes nothing.
 use Rattle.std.specs.Prelude.{◌≡◌, ℕ, Bool, true, List, Some, Err, Ok, IfOk}
+use Rattle.dir_model.specs.declared.area.Phase.{Phase}
 use Rattle.dir_model.specs.declared.event.Event.{Event}
 use Rattle.dir_model.specs.declared.intent.Kind.{Kind}
+use Rattle.dir_model.specs.declared.pod.PodId.{PodId}
 use Rattle.dir_model.specs.declared.request.Request.{Request}
 use Rattle.dir_model.specs.Quiet.{Quiet, OwnsNothing}
 use Rattle.dir_trait.specs.State.{DirState}
@@ -22,6 +24,8 @@ pub record Report : Type 1 where
   pub prints : List ℕ → Type 0
   -- the refusals that it may have
   pub refusals : Refusal → Bool
+  -- the phases that its answer names
+  pub names : Outcome → (PodId → Phase → Type 0) → Type 0
   -- what its end tells of the history of pods, while others step
   pub tells : ℕ → List Event → List Event → Outcome → Type 0
   -- what it comes to where nobody else steps: by the state before
@@ -53,6 +57,7 @@ report_command kind word approach r = record {
   prints = λ draw bundle. r.prints;
   refusals = r.refusals;
   refused_for = λ now draw refusal old new. RefusesReport r refusal old new;
+  names = r.names;
   tells = λ now draw status old new. WhereAllKeepRules old new (status ≡ 0 → WritesOf (λ text. TellsReport r (Ok text) old new) old new);
   quiet = λ now draw old new o. IsConforming new.dir.trace → r.quiet (state_after old.dir.trace) o;
   leaves = λ me draw old new. LeavesAll me old new;

@@ -13,6 +13,7 @@ use Rattle.commands.specs.Answers.{WritesOf}
 use Rattle.pod_steps.specs.Causes.{WasStray}
 use Rattle.commands.specs.Kept.{KeepsRefused, RemovesNoneUnlessDone}
 use Rattle.commands.specs.Opening.{OnceFound, approach_of}
+use Rattle.commands.specs.Phases.{names_refused}
 use Rattle.commands.specs.Command.{Command, nothing, alone, intent_for, WhereObserved, WhereAllKeepRules}
 use Rattle.commands.specs.RemovalHistory.{IsRemovedBetween}
 use Rattle.commands.specs.RemovalQuiet.{RemovesPodQuietly}
@@ -57,6 +58,7 @@ rm_command word pod = record {
   prints = λ draw bundle text. text ≡ removed_text pod;
   refusals = rm_refusal;
   refused_for = λ now draw refusal old new. RefusesRm pod refusal old.outside.dir new.outside.dir;
+  names = names_refused pod;
   tells = λ now draw status old new. TellsRm pod status old new;
   quiet = λ now draw old new o. RemovesPodQuietly pod old.dir new.dir o;
   leaves = λ me draw old new. LeavesBeside (is_pod_spot pod) me old new;

@@ -13,6 +13,7 @@ use Rattle.commands.specs.Answers.{inside_in}
 use Rattle.commands.specs.AppEnds.{app_lines}
 use Rattle.commands.specs.AppsTold.{WithinProcess, CameSo, TellsApps}
 use Rattle.commands.specs.Opening.{directly}
+use Rattle.commands.specs.Phases.{names_none}
 use Rattle.commands.specs.Command.{Command, nothing, running, intent_for}
 use Rattle.commands.specs.Prepare.{pod_line}
 use Rattle.commands.specs.Run.{makes_and_runs, RunIsTold}
@@ -51,6 +52,7 @@ run_command wants address = record {
   prints = λ draw bundle text. (ends : List AppEnd) × (text ≡ pod_line draw.uuid ++ app_lines ends);
   refusals = new_run_refusal;
   refused_for = λ now draw refusal old new. RefusesNewRun wants address now draw refusal old new;
+  names = names_none;
   tells = λ now draw status old new. TellsNewRun wants address now draw status old new;
   quiet = λ now draw old new o. LeavesMade wants now draw old.dir new.dir o;
   leaves = λ me draw old new. LeavesBeside (is_pod_spot draw.uuid) me old new;

@@ -17,6 +17,7 @@ use Rattle.commands.specs.Answers.{inside_in}
 use Rattle.commands.specs.AppEnds.{app_lines}
 use Rattle.commands.specs.AppsTold.{WithinProcess, CameSo, TellsApps}
 use Rattle.commands.specs.Opening.{approach_of}
+use Rattle.commands.specs.Phases.{names_refused}
 use Rattle.commands.specs.Command.{Command, nothing, running, intent_for, WhereAllKeepRules}
 use Rattle.commands.specs.RunPrepared.{runs_prepared, RunPreparedSays}
 use Rattle.commands.specs.RunQuiet.{HasPassed, IsRunRefusal, TellsItsEnds, UnclaimedFor}
@@ -58,6 +59,7 @@ run_prepared_command word pod address = record {
   prints = λ draw bundle text. (ends : List AppEnd) × (text ≡ app_lines ends);
   refusals = run_prepared_refusal;
   refused_for = λ now draw refusal old new. RefusesRun word pod address now draw refusal old new;
+  names = names_refused pod;
   tells = λ now draw status old new. TellsRunPrepared word pod address now draw status old new;
   quiet = λ now draw old new o. PassesQuietly pod old.dir new.dir o;
   leaves = λ me draw old new. LeavesBeside (is_pod_spot pod) me old new;

@@ -2,6 +2,7 @@
 use Rattle.std.specs.Prelude.{◌≡◌, ℕ, Bool, true, Option, Some, None, List, [], ◌++◌, codes, Ok, Err}
 use Rattle.std.specs.Fmt.{decimal}
 use Rattle.std.specs.List.{flat_map}
+use Rattle.dir_model.specs.declared.area.Phase.{Phase}
 use Rattle.dir_model.specs.declared.event.Event.{Event}
 use Rattle.dir_model.specs.declared.pod.PodId.{PodId}
 use Rattle.dir_trait.specs.State.{DirState}
@@ -51,6 +52,11 @@ pub record PrintsStatus (P : PodStatus → Type 0) (text : List ℕ) : Type 0 wh
   pub so : P status
   pub is : text ≡ status_lines status
 
+-- it names its pod's
+abbrev pub names_status : PodId → Outcome → (PodId → Phase → Type 0) → Type 0
+names_status pod (Ok text) Had = PrintsStatus (λ status. Had pod status.phase) text
+names_status pod (Err refusal) Had = Unit {0}
+
 -- the phase is the pod's at an own event, and so on; or it didn't exist at one. Contradictory answers don't come
 abbrev pub TellsStatus : PodId → ℕ → List Event → List Event → Outcome → Type 0
 TellsStatus pod me old new (Ok text) = PrintsStatus (λ status. IsStatus pod status me old new) text
@@ -69,6 +75,7 @@ status_report pod = record {
   asks = inspects pod;
   prints = λ text. (status : PodStatus) × (text ≡ status_lines status);
   refusals = status_refusal;
+  names = names_status pod;
   tells = TellsStatus pod;
   quiet = IsStatusIn pod;
 }

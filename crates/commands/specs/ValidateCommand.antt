@@ -5,6 +5,7 @@ use Rattle.command_outcomes.specs.Ends.{is_own_end}
 use Rattle.command_outcomes.specs.Moments.{Moment}
 use Rattle.commands.specs.Answers.{IsAnswer}
 use Rattle.commands.specs.Opening.{directly}
+use Rattle.commands.specs.Phases.{names_none}
 use Rattle.commands.specs.Command.{Command, reading, alone}
 use Rattle.commands.specs.Texts.{valid_text}
 use Rattle.commands.specs.Validate.{validate_refusal, ValidateSays, ReadsFile, sequential_validate}
@@ -28,6 +29,7 @@ validate_command path = record {
   prints = λ draw bundle text. (manifest : DocumentData) × (text ≡ valid_text manifest);
   refusals = validate_refusal;
   refused_for = λ now draw refusal old new. (validate_refusal refusal ≡ true) × ValidateSays path old.outside.bundle (Err refusal);
+  names = names_none;
   tells = λ now draw status old new. TellsJudgement path status old new;
   quiet = λ now draw old new o. o ≡ sequential_validate path old.bundle.tree;
   leaves = λ me draw old new. new ≡ old;

@@ -11,6 +11,7 @@ pub mod RunsQuiet
 pub mod PodRemovals
 pub mod AppsRan
 pub mod Promises
+pub mod Phases
 pub mod Causes
 pub mod Lawful
 pub mod Tellings

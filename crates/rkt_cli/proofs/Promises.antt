@@ -20,7 +20,7 @@ use Rattle.rkt_cli.specs.Tasks.{Task}
 use Rattle.rkt_cli.specs.Tasks.{Status, PodList, CatManifest, Validate, ImageList, ImageImport, ImageRm, ImageGc, Prepare, RunPrepared, Run, Rm, Gc}
 use Rattle.rkt_cli.specs.Commands.{command_in, intent_of, looks, asks, runs_apps, ReadsOnly}
 use Rattle.rkt_cli.specs.Spawns.{CameBetween}
-use Rattle.rkt_cli.specs.Runs.{Performs, End, Unwritten, Printed, Reported, end_status, RunOf, RunIs}
+use Rattle.rkt_cli.specs.Runs.{Performs, End, Unwritten, Printed, Reported, end_status, RunOfLine, RunOf, RunIs}
 use Rattle.rkt_cli.specs.Promises.{IsStatus, asks_all, Ends, EndsAs, IsRefused, Writes}
 use Rattle.rkt_cli.proofs.AppsRan.{run_prepared_printed, run_printed}
 use Rattle.rkt_cli.proofs.Causes.{cause_of}
@@ -64,21 +64,22 @@ prints_of (RunPrepared word pod address) now draw (Some intent) old new text p a
 prints_of (Run wants address) now draw None old new text p a b answer is came = let clash : true ≡ false = p.apart in cc
 prints_of (Run wants address) now draw (Some intent) old new text p a b answer is came = run_printed wants now draw intent a b answer text is came
 
-abbrev IsPlainOutput : Task → Draw → BundleSeen → ℕ → List ℕ → List ℕ → Type 0
-IsPlainOutput line draw bundle status old new =
-    ((status ≡ 0) × (text : List ℕ) × TaskPrints line draw bundle text × (new ≡ old ++ text))
-    ⊎ (((status ≡ 12) ⊎ (status ≡ 14)) × (text : List ℕ) × TaskPrints line draw bundle text × WritesPart old text new)
+-- of a run with this status, if all apps had ended with 0: its text was written, or a part of it, or nothing
+abbrev IsPlainOutput : (List ℕ → Type 0) → ℕ → List ℕ → List ℕ → Type 0
+IsPlainOutput P status old new =
+    ((status ≡ 0) × (text : List ℕ) × P text × (new ≡ old ++ text))
+    ⊎ (((status ≡ 12) ⊎ (status ≡ 14)) × (text : List ℕ) × P text × WritesPart old text new)
     ⊎ ((((status == 0) || (status == 16)) ≡ false) × (new ≡ old))
 
-output_of : (line : Task) (draw : Draw) (bundle : BundleSeen) (o : Outcome) (old new : SinkSeen) (end : End) (status : ℕ) → ((text : List ℕ) → o ≡ Ok text → TaskPrints line draw bundle text) → Printed o old new end → status ≡ end_status end → old.observed ≡ true → IsPlainOutput line draw bundle status old.bytes new.bytes
-output_of line draw bundle (Err r) old new end status prints p is t = inr (inr (ap (λ (n : ℕ). (n == 0) || (n == 16)) (is ∙ ap end_status (p.refused.0)) ∙ refusal_plain r, p.refused.1 t))
-output_of line draw bundle (Ok text) old new (Ok done) status prints p is t =
+output_of : (P : List ℕ → Type 0) (o : Outcome) (old new : SinkSeen) (end : End) (status : ℕ) → ((text : List ℕ) → o ≡ Ok text → P text) → Printed o old new end → status ≡ end_status end → old.observed ≡ true → IsPlainOutput P status old.bytes new.bytes
+output_of P (Err r) old new end status prints p is t = inr (inr (ap (λ (n : ℕ). (n == 0) || (n == 16)) (is ∙ ap end_status (p.refused.0)) ∙ refusal_plain r, p.refused.1 t))
+output_of P (Ok text) old new (Ok done) status prints p is t =
     let q = p.done refl in
     let same : text ≡ q.0 = let e : Ok text ≡ Ok q.0 = q.1 in cc in
     inl (is, text, prints text refl, q.2 t ∙ ap (λ (x : List ℕ). old.bytes ++ x) (sym same))
-output_of line draw bundle (Ok text) old new (Err r) status prints p is t = by (p.cause text refl)
+output_of P (Ok text) old new (Err r) status prints p is t = by (p.cause text refl)
   where
-    by : Unwritten r old new → IsPlainOutput line draw bundle status old.bytes new.bytes
+    by : Unwritten r old new → IsPlainOutput P status old.bytes new.bytes
     by (inl x) = inr (inl (inl (is ∙ ap status_of x.0), text, prints text refl, p.part text refl t))
     by (inr x) = inr (inl (inr (is ∙ ap status_of x.0), text, prints text refl, p.part text refl t))
 
@@ -158,16 +159,17 @@ module _ (task : Task) (now : ℕ) (draw : Draw) (old new : Moment) (status : �
       by (Some intent) (inr n) = step_extends (asks_all task now draw) old.outside.dir.process old.outside.dir.trace _ _ new.outside.dir.trace (begins (Begin intent) refl) (n.step t)
       by None p = subst (λ (d : DirSeen). Extends (asks_all task now draw) old.outside.dir.process old.outside.dir.trace d.trace) (sym p.dir) nothing_yet
 
-  out_of : Is → old.out.observed ≡ true → IsPlainOutput task draw old.outside.bundle status old.out.bytes new.out.bytes
-  out_of (inr n) t = inr (inr (ap (λ (n : ℕ). (n == 0) || (n == 16)) n.is, ap (λ (s : SinkSeen). s.bytes) n.out))
-  out_of (inl r) t = output_of task draw old.outside.bundle r.outcome old.out new.out r.end status prints r.printed r.is t
-    where
-      intent : Option Intent
-      intent = intent_of task now draw
+  -- a text of which this is so, if the task came to it
+  out_of : (P : List ℕ → Type 0) → Is → ((r : RunOfLine task now draw (intent_of task now draw) old new status) (text : List ℕ) → r.outcome ≡ Ok text → P text) → old.out.observed ≡ true → IsPlainOutput P status old.out.bytes new.out.bytes
+  out_of P (inr n) prints t = inr (inr (ap (λ (n : ℕ). (n == 0) || (n == 16)) n.is, ap (λ (s : SinkSeen). s.bytes) n.out))
+  out_of P (inl r) prints t = output_of P r.outcome old.out new.out r.end status (prints r) r.printed r.is t
 
-      prints : (text : List ℕ) → r.outcome ≡ Ok text → TaskPrints task draw old.outside.bundle text
-      prints text is =
-          prints_of task now draw intent old.outside new.outside text (subst (λ (o : Outcome). Performs task now draw intent old.outside new.outside o) is r.performs) (inside_in old) (inside_in new) r.answer (sym is ∙ r.outcome_is) r.came
+  -- what it performed
+  performed : (r : RunOfLine task now draw (intent_of task now draw) old new status) (o : Outcome) → r.outcome ≡ o → Performs task now draw (intent_of task now draw) old.outside new.outside o
+  performed r o is = subst (λ (x : Outcome). Performs task now draw (intent_of task now draw) old.outside new.outside x) is r.performs
+
+  its_text : (r : RunOfLine task now draw (intent_of task now draw) old new status) (text : List ℕ) → r.outcome ≡ Ok text → TaskPrints task draw old.outside.bundle text
+  its_text r text is = prints_of task now draw (intent_of task now draw) old.outside new.outside text (performed r (Ok text) is) (inside_in old) (inside_in new) r.answer (sym is ∙ r.outcome_is) r.came
 
   is_over : Is → EndsAs (intent_of task now draw) status old.outside.dir.local new.outside.dir.local
   is_over (inr n) = by (intent_of task now draw)
@@ -198,13 +200,17 @@ module _ {task : Task} {now : ℕ} {draw : Draw} {old new : Moment} {status : �
   pub extends : old.outside.dir.observed ≡ true → Extends (asks_all task now draw) old.outside.dir.process old.outside.dir.trace new.outside.dir.trace
   extends = extends_of task now draw old new run.plain run.ran
 
+  wrote : (P : List ℕ → Type 0) → IsPlainOutput P run.plain old.out.bytes new.out.bytes → Writes (runs_apps task) P status old.out.bytes new.out.bytes
+  wrote P (inl x) = inl (graded_none task run.plain status run.is x.0, x.1, x.2, x.3)
+  wrote P (inr (inl x)) = inr (inl (elim x.0 [ inl e ↦ inl (same_at 12 e refl) | inr e ↦ inr (same_at 14 e refl) ], x.1, x.2, x.3))
+  wrote P (inr (inr x)) = inr (inr (ap (λ (n : ℕ). (n == 0) || (n == 16)) (same_at run.plain refl (either_false (run.plain == 0) (run.plain == 16) x.0)) ∙ x.0, x.1))
+
+  -- a text of which this is so, if that is so of each that the task comes to
+  pub output_as : (P : List ℕ → Type 0) → ((text : List ℕ) → Performs task now draw (intent_of task now draw) old.outside new.outside (Ok text) → P text) → old.out.observed ≡ true → Writes (runs_apps task) P status old.out.bytes new.out.bytes
+  output_as P so t = wrote P (out_of task now draw old new run.plain P run.ran (λ r text is. so text (performed task now draw old new run.plain r (Ok text) is)) t)
+
   pub output : old.out.observed ≡ true → Writes (runs_apps task) (TaskPrints task draw old.outside.bundle) status old.out.bytes new.out.bytes
-  output t = by (out_of task now draw old new run.plain run.ran t)
-    where
-      by : IsPlainOutput task draw old.outside.bundle run.plain old.out.bytes new.out.bytes → Writes (runs_apps task) (TaskPrints task draw old.outside.bundle) status old.out.bytes new.out.bytes
-      by (inl x) = inl (graded_none task run.plain status run.is x.0, x.1, x.2, x.3)
-      by (inr (inl x)) = inr (inl (elim x.0 [ inl e ↦ inl (same_at 12 e refl) | inr e ↦ inr (same_at 14 e refl) ], x.1, x.2, x.3))
-      by (inr (inr x)) = inr (inr (ap (λ (n : ℕ). (n == 0) || (n == 16)) (same_at run.plain refl (either_false (run.plain == 0) (run.plain == 16) x.0)) ∙ x.0, x.1))
+  output t = wrote (TaskPrints task draw old.outside.bundle) (out_of task now draw old new run.plain (TaskPrints task draw old.outside.bundle) run.ran (its_text task now draw old new run.plain) t)
 
   pub ended : Ends task now draw status old new
   ended = by (ended_of task now draw old new run.plain run.ran)

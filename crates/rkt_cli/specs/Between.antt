@@ -7,6 +7,7 @@ use Rattle.dir_trait.specs.declared.sink.Sink.{Ghosts as SinkGhosts}
 use Rattle.spawner.specs.declared.spawning.Spawner.{Ghosts as SpawnerGhosts}
 use Rattle.rkt_cli.specs.declared.line.Line.{Line}
 use Rattle.command_outcomes.specs.Moments.{moment_at}
+use Rattle.rkt_cli.specs.Phases.{NamesPhases}
 use Rattle.rkt_cli.specs.Promises.{IsEnded, TellsIn, AnswersQuietly, IsRunOf}
 
 -- how it ended: done, or refused, and why
@@ -16,6 +17,10 @@ EndedBetween d b s o e line now draw status old new = IsEnded line now draw stat
 -- what it tells with its status
 abbrev pub ToldBetween : {D B S O E : Type 0} → DirGhosts D → BundleGhosts B → SpawnerGhosts S → SinkGhosts O → SinkGhosts E → Option Line → ℕ → Draw → ℕ → D × B × S × O × E → D × B × S × O × E → Type 0
 ToldBetween d b s o e line now draw status old new = TellsIn line now draw status (moment_at d b s o e old) (moment_at d b s o e new)
+
+-- the phases of pods that it names
+abbrev pub PhasesBetween : {D B S O E : Type 0} → DirGhosts D → BundleGhosts B → SpawnerGhosts S → SinkGhosts O → SinkGhosts E → Option Line → ℕ → Draw → ℕ → D × B × S × O × E → D × B × S × O × E → Type 0
+PhasesBetween d b s o e line now draw status old new = NamesPhases line now draw status (moment_at d b s o e old) (moment_at d b s o e new)
 
 -- its answer where nobody else steps and nothing fails
 abbrev pub QuietBetween : {D B S O E : Type 0} → DirGhosts D → BundleGhosts B → SpawnerGhosts S → SinkGhosts O → SinkGhosts E → Option Line → ℕ → Draw → ℕ → D × B × S × O × E → D × B × S × O × E → Type 0

@@ -6,6 +6,7 @@ pub mod Runs
 pub mod Histories
 pub mod Lookups
 pub mod Promises
+pub mod Phases
 pub mod Between
 pub mod Headlines
 pub mod Paths

@@ -4,7 +4,7 @@ ghost use Rattle.command_outcomes.specs.Moments.{dir_at, bundle_at};
 ghost use Rattle.dir_trait.specs.Local.{nothing_local};
 ghost use Rattle.pod_build.specs.LegalExecutions.{IsLegal};
 ghost use Rattle.pod_roots.specs.Roots.{PodsReadAsMade};
-ghost use Rattle.rkt_cli.specs.Between.{EndedBetween, ToldBetween, QuietBetween, RunBetween};
+ghost use Rattle.rkt_cli.specs.Between.{EndedBetween, ToldBetween, PhasesBetween, QuietBetween, RunBetween};
 ghost use Rattle.rkt_cli.specs.Commands.{uses_dir_in, reads_bundle_in, runs_apps_in};
 ghost use Rattle.rkt_cli.specs.Histories.{HandsOver, StaysLawful};
 ghost use Rattle.rkt_cli.specs.Lines.{line_in};
@@ -74,6 +74,8 @@ pub fn rkt<D: Dir, B: Bundle, S: Spawner, O: Sink, E: Sink>(
     ensures ended { EndedBetween D.Dir B.Bundle S.Spawner O.Sink E.Sink (line_in words.now) now draw.now result
         (dir.old, bundle.old, spawner.old, out.old, err.old) (dir.new, bundle.new, spawner.new, out.new, err.new) }
     ensures tells { ToldBetween D.Dir B.Bundle S.Spawner O.Sink E.Sink (line_in words.now) now draw.now result
+        (dir.old, bundle.old, spawner.old, out.old, err.old) (dir.new, bundle.new, spawner.new, out.new, err.new) }
+    ensures phases { PhasesBetween D.Dir B.Bundle S.Spawner O.Sink E.Sink (line_in words.now) now draw.now result
         (dir.old, bundle.old, spawner.old, out.old, err.old) (dir.new, bundle.new, spawner.new, out.new, err.new) }
     ensures out { O.observed ≡ true → IsOutput (line_in words.now) draw.now (bundle_at B.Bundle bundle.old) result (O.shown out.old).bytes (O.shown out.new).bytes }
     ensures apart { uses_dir_in (line_in words.now) ≡ false → dir.new ≡ dir.old }

@@ -3,6 +3,7 @@ use Rattle.rkt_cli.proofs.Words as words
 use Rattle.pod_roots.proofs.Reading.{pods_read}
 use Rattle.headline.proofs.Holds.{headline_holds}
 use Rattle.rkt_cli.proofs.Headlines.{run_begins}
+use Rattle.rkt_cli.proofs.Phases.{phases}
 use Rattle.rkt_cli.proofs.top.rkt.Goals as goal
 
 pub returns-clause-statuses : goal.returns-clause-statuses
@@ -19,6 +20,9 @@ returns-clause-ended g c = words.ended c.args.now c.args.draw.now _ _ c.run.resu
 
 pub returns-clause-tells : goal.returns-clause-tells
 returns-clause-tells g c = words.told c.args.now c.args.draw.now _ _ c.run.result (line_in c.args.words.now) c.run.ensures.ran
+
+pub returns-clause-phases : goal.returns-clause-phases
+returns-clause-phases g c = phases c.args.now c.args.draw.now _ _ c.run.result (line_in c.args.words.now) c.run.ensures.ran
 
 pub returns-clause-out : goal.returns-clause-out
 returns-clause-out g c = words.written c.args.now c.args.draw.now _ _ c.run.result (line_in c.args.words.now) c.run.ensures.ran
