@@ -14,7 +14,7 @@ use Rattle.area_locks.specs.AreaLocks.{IsBusy}
 use Rattle.tree_digest.specs.declared.line.ListingLine.{ListingLine}
 use Rattle.image_reading.specs.declared.error.StoreError.{StoreError}
 use Rattle.image_reading.specs.Places.{IsAbsent}
-use Rattle.image_store.specs.Causes.{Source, LacksPart, UnlikeListed, Conflicts, Vanished, StrayCause, ImportCause}
+use Rattle.image_store.specs.Causes.{Source, LacksPart, UnlikeListed, Conflicts, Vanished, StrayCause, DamagedInTurn, ImportCause}
 use Rattle.image_store.specs.Imports.{key_of, IsRefused, ComesInTurn, IsImported}
 use Rattle.commands.proofs.Parts.{Part, within_wider, held_wider}
 
@@ -78,5 +78,12 @@ module _ {observed : Bool} {old first last new : DirAt} (s : Span observed old f
   refused_wider source e (inl x) = inl x
   refused_wider source e (inr x) = inr (x.0, x.1, cause_wider x.2)
 
+  in_turn_wider : {source : Source} {key : StoreKey} {lines : List ListingLine} {path : List ℕ} → DamagedInTurn observed source key lines path first last → DamagedInTurn observed source key lines path old new
+  in_turn_wider {key = key} (inl l) = inl (λ t. within_wider (s.part t) (l t))
+  in_turn_wider {key = key} (inr x) = inr (x.0, λ t. held_wider (s.part t) (IsAbsent key) (x.1 t))
+
   pub turn_wider : (source : Source) (e : StoreError) → ComesInTurn observed source e first last → ComesInTurn observed source e old new
-  turn_wider source e turn late = let x = turn late in (x.0, x.1, λ t. held_wider (s.part t) (IsAbsent (key_of x.0)) (x.2 t))
+  turn_wider source e turn = record {
+    late = λ late. let x = turn.late late in (x.0, x.1, λ t. held_wider (s.part t) (IsAbsent (key_of x.0)) (x.2 t));
+    damaged = λ path is. let x = turn.damaged path is in (x.0, x.1, in_turn_wider x.2);
+  }

@@ -15,7 +15,7 @@ use Rattle.image_reading.specs.declared.error.StoreError.{StoreError}
 use Rattle.image_reading.specs.Places.{image_spot}
 use Rattle.image_store.specs.Requests.{building_spot}
 use Rattle.image_store.specs.Work.{HasOwnFolder}
-use Rattle.image_store.specs.Causes.{source_at, LacksPart, UnlikeListed, IsUnlikeEntry, ImportCause}
+use Rattle.image_store.specs.Causes.{source_at, DamagedInTurn, LacksPart, UnlikeListed, IsUnlikeEntry, ImportCause}
 use Rattle.image_store.specs.Imports.{key_of, IsOf, Leaves, IsImported}
 use Rattle.image_store.proofs.Outcomes.{imported_by}
 
@@ -25,9 +25,16 @@ module _ {told : Bool} {a b : Tree} (same : told ≡ true → b ≡ a) where
   unlike_before root path (File meta size sha) x = λ t bytes is. x t bytes (subst (λ (tree : Tree). file_bytes (tree (child_path root path)) ≡ Some bytes) (sym (same t)) is)
   unlike_before root path e x = x
 
+  listed_before : {root path : List ℕ} {lines : List ListingLine} → UnlikeListed (source_at told b root) lines path → UnlikeListed (source_at told a root) lines path
+  listed_before {root} {path} x = record { before = x.before; line = x.line; rest = x.rest; is = x.is; from = x.from; unlike = unlike_before root path x.line.entry x.unlike }
+
   damage_before : {root path : List ℕ} {lines : List ListingLine} {observed : Bool} {key : StoreKey} {old new : DirAt} → LacksPart observed key path old new ⊎ UnlikeListed (source_at told b root) lines path → LacksPart observed key path old new ⊎ UnlikeListed (source_at told a root) lines path
   damage_before (inl lacks) = inl lacks
-  damage_before {root} {path} (inr x) = inr (record { before = x.before; line = x.line; rest = x.rest; is = x.is; from = x.from; unlike = unlike_before root path x.line.entry x.unlike })
+  damage_before (inr x) = inr (listed_before x)
+
+  pub turn_before_reads : {root path : List ℕ} {lines : List ListingLine} {observed : Bool} {key : StoreKey} {old new : DirAt} → DamagedInTurn observed (source_at told b root) key lines path old new → DamagedInTurn observed (source_at told a root) key lines path old new
+  turn_before_reads (inl lacks) = inl lacks
+  turn_before_reads (inr x) = inr (listed_before x.0, x.1)
 
   pub cause_before_reads : {may : StoreError → Bool} {observed : Bool} {root : List ℕ} {key : StoreKey} {digest : List ℕ} {lines : List ListingLine} {e : StoreError} {old new : DirAt}
       → ImportCause may observed (source_at told b root) key digest lines e old new → ImportCause may observed (source_at told a root) key digest lines e old new

@@ -29,7 +29,7 @@ use Rattle.image_reading.specs.Images.{HasDigest, LacksStored}
 use Rattle.image_reading.proofs.Widths.{within_self}
 use Rattle.image_store.specs.Refusals.{lock_refusal, is_lock_refusal, is_look_refusal, is_change_refusal, is_fill_refusal, is_place_refusal, is_work_refusal, is_import_area, is_import_refusal, bundle_refusal}
 use Rattle.image_store.specs.Plans.{IsUnlikeRefusal, IsBuildRefusal}
-use Rattle.image_store.specs.Causes.{LockCause, BusyElsewhere, LookCause, ChangeCause, FillCause, BuildCause, CompareCause, PlaceCause, ImportCause, WasStray, WasTaken, Source, UnlikePlanned, LacksThere, is_late}
+use Rattle.image_store.specs.Causes.{LockCause, BusyElsewhere, LookCause, ChangeCause, FillCause, BuildCause, CompareCause, PlaceCause, ImportCause, FoundInTurn, WasStray, WasTaken, Source, UnlikePlanned, LacksThere, is_late}
 use Rattle.image_store.proofs.Unlikes.{files_of, unlike_planned, unlike_listed}
 use Rattle.image_store.proofs.Widths.{Follows, fault_after, told_after, conflict_after}
 
@@ -248,12 +248,12 @@ lock_import area NoMemory of h = refl
 lock_import area e of h = cc
 
 -- what comes only once no image was found
-pub look_early : (e : StoreError) → is_look_refusal e ≡ true → is_late e ≡ true → ⊥
+look_early : (e : StoreError) → is_look_refusal e ≡ true → is_late e ≡ true → ⊥
 look_early Stray h late = cc
 look_early (Busy area) h late = cc
 look_early e h late = cc
 
-pub lock_early : (e : StoreError) → is_lock_refusal Images e ≡ true → is_late e ≡ true → ⊥
+lock_early : (e : StoreError) → is_lock_refusal Images e ≡ true → is_late e ≡ true → ⊥
 lock_early (Busy Incoming) h late = cc
 lock_early (Busy area) h late = cc
 lock_early e h late = cc
@@ -266,6 +266,16 @@ bundle_early (bundle.Listing error) late = cc
 bundle_early (bundle.BadKind path) late = cc
 bundle_early bundle.BundleFault late = cc
 bundle_early bundle.NoMemory late = cc
+
+-- a bundle without an image isn't damaged
+pub bundle_sound : (refusal : BundleRefusal) (path : List ℕ) → bundle_refusal refusal ≡ Damaged path → ⊥
+bundle_sound (bundle.NoFile other) path is = cc
+bundle_sound (bundle.Manifest fault) path is = cc
+bundle_sound (bundle.Id bad) path is = cc
+bundle_sound (bundle.Listing error) path is = cc
+bundle_sound (bundle.BadKind other) path is = cc
+bundle_sound bundle.BundleFault path is = cc
+bundle_sound bundle.NoMemory path is = cc
 
 -- what a kind of refusal isn't
 apart_by : (may : StoreError → Bool) (e x : StoreError) → may e ≡ true → may x ≡ false → e ≡ x → ⊥
@@ -304,6 +314,17 @@ module _ {observed : Bool} {source : Source} {key : StoreKey} {digest : List ℕ
     conflict = x.conflict;
     stray = λ is t. absurd (apart_by is_look_refusal e Stray x.kind refl is);
   }
+
+  -- before an image was looked for, and where one was found
+  pub lock_in_turn : (e : StoreError) → LockCause observed Images e old new → FoundInTurn observed source key lines e old new
+  lock_in_turn e x = record { late = λ late t. absurd (lock_early e x.kind late); damaged = λ path is. absurd (apart_by (is_lock_refusal Images) e (Damaged path) x.kind refl is) }
+
+  pub look_in_turn : (e : StoreError) → LookCause observed key digest e old new → FoundInTurn observed source key lines e old new
+  look_in_turn e x = record { late = λ late t. absurd (look_early e x.kind late); damaged = λ path is. inl (x.damaged path is) }
+
+  -- and once none was found
+  pub late_in_turn : (e : StoreError) → (observed ≡ true → HeldBetween old new (IsAbsent key)) → ImportCause is_import_refusal observed source key digest lines e old new → FoundInTurn observed source key lines e old new
+  late_in_turn e absent x = record { late = λ late t. absent t; damaged = λ path is. elim (x.damaged path is) [ inl l ↦ inl l | inr u ↦ inr (u, absent) ] }
 
   pub lock_importing : (area : Area) (e : StoreError) → is_import_area area ≡ true → LockCause observed area e old new → ImportCause is_import_refusal observed source key digest lines e old new
   lock_importing area e of x = record {

@@ -12,7 +12,7 @@ use Rattle.image_reading.specs.Within.{Within}
 use Rattle.image_reading.proofs.Widths.{within_after, within_before}
 use Rattle.bundle_image.proofs.Reading.{rose_later, rose_still}
 use Rattle.folder_building.specs.Work.{Worked}
-use Rattle.image_store.specs.Causes.{Source, Vanished, StrayCause, Conflicts, LacksPart, UnlikeListed, ImportCause}
+use Rattle.image_store.specs.Causes.{Source, Vanished, StrayCause, Conflicts, DamagedInTurn, FoundInTurn, LacksPart, UnlikeListed, ImportCause}
 
 -- calls, whatever they leave open
 pub record Follows (observed : Bool) (old new : DirAt) : Type 0 where
@@ -72,6 +72,16 @@ part_before : (observed : Bool) (key : StoreKey) (path : List ℕ) (lines : List
 part_before observed key path lines source a b c same (inl l) bc = inl (λ t. told_before a b c same bc t (l t))
 part_before observed key path lines source a b c same (inr u) bc = inr u
 
+-- the same of what is damaged in its turn
+module _ {observed : Bool} {source : Source} {key : StoreKey} {lines : List ListingLine} {path : List ℕ} (a b c : DirAt) where
+  pub damaged_after : Follows observed a b → DamagedInTurn observed source key lines path b c → DamagedInTurn observed source key lines path a c
+  damaged_after ab (inl l) = inl (λ t. told_after a b c ab t (l t))
+  damaged_after ab (inr x) = inr (x.0, λ t. held_after a b c ab t (x.1 t))
+
+  pub damaged_before : b.process ≡ a.process → Follows observed b c → DamagedInTurn observed source key lines path a b → DamagedInTurn observed source key lines path a c
+  damaged_before same bc (inl l) = inl (λ t. told_before a b c same bc t (l t))
+  damaged_before same bc (inr x) = inr (x.0, λ t. held_before a b c same bc t (x.1 t))
+
 pub cause_after : {may : StoreError → Bool} {observed : Bool} {source : Source} {key : StoreKey} {digest : List ℕ} {lines : List ListingLine} {e : StoreError} {a b c : DirAt} → Follows observed a b → ImportCause may observed source key digest lines e b c → ImportCause may observed source key digest lines e a c
 cause_after {may} {observed} {source} {key} {digest} {lines} {e} {a} {b} {c} ab x = record {
   kind = x.kind;
@@ -90,4 +100,10 @@ cause_before {may} {observed} {source} {key} {digest} {lines} {e} {a} {b} {c} sa
   damaged = λ path is. part_before observed key path lines source a b c same (x.damaged path is) bc;
   conflict = λ other stored fresh is. conflict_before same (x.conflict other stored fresh is) bc;
   stray = λ is t. stray_before t same (x.stray is t) bc;
+}
+
+pub turn_within : {observed : Bool} {source : Source} {key : StoreKey} {lines : List ListingLine} {e : StoreError} (a b c d : DirAt) → Follows observed a b → c.process ≡ a.process → Follows observed c d → FoundInTurn observed source key lines e b c → FoundInTurn observed source key lines e a d
+turn_within a b c d ab same cd x = record {
+  late = λ is t. held_before a c d same cd t (held_after a b c ab t (x.late is t));
+  damaged = λ path is. damaged_before a c d same cd (damaged_after a b c ab (x.damaged path is));
 }

@@ -169,8 +169,14 @@ is_late (Busy Incoming) = true
 is_late Stray = true
 is_late error = false
 
-abbrev pub FoundAbsent : Bool → StoreKey → StoreError → DirAt → DirAt → Type 0
-FoundAbsent observed key error old new = is_late error ≡ true → observed ≡ true → HeldBetween old new (IsAbsent key)
+-- and what is damaged is told in its turn: a part of an image that stood there; or, only once none was found there, a file of the bundle
+abbrev pub DamagedInTurn : Bool → Source → StoreKey → List ListingLine → List ℕ → DirAt → DirAt → Type 0
+DamagedInTurn observed source key lines path old new =
+    LacksPart observed key path old new ⊎ (UnlikeListed source lines path × (observed ≡ true → HeldBetween old new (IsAbsent key)))
+
+pub record FoundInTurn (observed : Bool) (source : Source) (key : StoreKey) (lines : List ListingLine) (error : StoreError) (old new : DirAt) : Type 0 where
+  pub late : is_late error ≡ true → observed ≡ true → HeldBetween old new (IsAbsent key)
+  pub damaged : (path : List ℕ) → error ≡ Damaged path → DamagedInTurn observed source key lines path old new
 
 -- the folder didn't come into images
 pub record PlaceCause (observed : Bool) (key : StoreKey) (digest : List ℕ) (error : StoreError) (old new : DirAt) : Type 0 where

@@ -23,12 +23,13 @@ use Rattle.bundle_image.specs.declared.refusal.BundleRefusal.{BundleRefusal}
 use Rattle.bundle_image.specs.Images as bundle
 use Rattle.bundle_image.specs.Refusals.{IsOutside}
 use Rattle.image_reading.specs.declared.error.StoreError.{StoreError}
+use Rattle.image_reading.specs.declared.error.StoreError.TheVariants.{Damaged}
 use Rattle.image_reading.specs.Places.{image_spot, IsAbsent}
 use Rattle.image_store.specs.declared.importing.Imported.{Imported}
 use Rattle.image_store.specs.Refusals.{bundle_refusal, is_import_refusal}
 use Rattle.image_store.specs.Requests.{building_spot}
 use Rattle.image_store.specs.Work.{at_work, holding, HasOwnFolder, HasMoved}
-use Rattle.image_store.specs.Causes.{Source, ImportCause, is_late}
+use Rattle.image_store.specs.Causes.{Source, DamagedInTurn, ImportCause, is_late}
 
 abbrev pub key_of : BundleImage → StoreKey
 key_of image = record { bytes = take 32 image.id.bytes }
@@ -54,9 +55,10 @@ IsRefused observed source error old new =
     ((refusal : BundleRefusal) × (error ≡ bundle_refusal refusal) × (source.told ≡ true → IsOutside refusal ⊎ bundle.FailsBundle source.tree source.root refusal))
     ⊎ OfBundle source (λ image. ImportCause is_import_refusal observed source (key_of image) (digest_of image) image.listing error old new)
 
--- what comes only once no image was found there comes after that
-abbrev pub ComesInTurn : Bool → Source → StoreError → DirAt → DirAt → Type 0
-ComesInTurn observed source error old new = is_late error ≡ true → OfBundle source (λ image. observed ≡ true → HeldBetween old new (IsAbsent (key_of image)))
+-- what comes only once no image was found there comes after that, and so does a file of the bundle that isn't what its listing says
+pub record ComesInTurn (observed : Bool) (source : Source) (error : StoreError) (old new : DirAt) : Type 0 where
+  pub late : is_late error ≡ true → OfBundle source (λ image. observed ≡ true → HeldBetween old new (IsAbsent (key_of image)))
+  pub damaged : (path : List ℕ) → error ≡ Damaged path → OfBundle source (λ image. DamagedInTurn observed source (key_of image) image.listing path old new)
 
 -- with the answer false it moved the folder that it had built into images
 abbrev pub Brought : PodId → ℕ → BundleImage → DirAt → DirAt → Type 0

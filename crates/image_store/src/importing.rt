@@ -8,7 +8,7 @@ ghost use Rattle.image_reading.specs.Places.{image_spot};
 ghost use Rattle.image_store.specs.Refusals.{is_work_refusal, is_import_refusal};
 ghost use Rattle.image_store.specs.Requests.{building_spot, imports_at};
 ghost use Rattle.image_store.specs.Work.{UnderImages, UnderBoth, IsAlone, From};
-ghost use Rattle.image_store.specs.Causes.{source_at, BusyElsewhere, WasThere, FoundAbsent, ImportCause};
+ghost use Rattle.image_store.specs.Causes.{source_at, BusyElsewhere, WasThere, FoundInTurn, ImportCause};
 ghost use Rattle.image_store.specs.Imports.{key_of, digest_of, IsOf, OfBundle, IsRefused, ComesInTurn, Leaves, LeavesAtEnd, IsImported};
 
 use crate::building::build;
@@ -102,7 +102,8 @@ fn import_or_find<D: Dir, B: Bundle>(
     ensures bundle_cause { IsErrOf result StoreError.BundleFault → Rose (B.shown bundle.old).faults (B.shown bundle.new).faults }
     ensures cause { IfErr result (λ e. ImportCause is_import_refusal D.observed (source_at B.observed (B.shown bundle.old).tree path.now)
         (key_of image.now) digest.now image.now.listing e (D.shown dir.old) (D.shown dir.new)) }
-    ensures turn { IfErr result (λ e. FoundAbsent D.observed (key_of image.now) e (D.shown dir.old) (D.shown dir.new)) }
+    ensures turn { IfErr result (λ e. FoundInTurn D.observed (source_at B.observed (B.shown bundle.old).tree path.now)
+        (key_of image.now) image.now.listing e (D.shown dir.old) (D.shown dir.new)) }
     ensures another { IfErr result (λ e. D.observed ≡ true → From draw UnderImages false None (D.shown dir.old)
         (λ intent hs. BusyElsewhere e (D.shown dir.old) (D.shown dir.new))) }
     ensures there { result ≡ Ok true → D.observed ≡ true → WasThere (key_of image.now) digest.now (D.shown dir.old) (D.shown dir.new) }
@@ -133,7 +134,8 @@ fn import_locked<D: Dir, B: Bundle>(
     ensures bundle_cause { IsErrOf result StoreError.BundleFault → Rose (B.shown bundle.old).faults (B.shown bundle.new).faults }
     ensures cause { IfErr result (λ e. ImportCause is_import_refusal D.observed (source_at B.observed (B.shown bundle.old).tree path.now)
         (key_of image.now) digest.now image.now.listing e (D.shown dir.old) (D.shown dir.new)) }
-    ensures turn { IfErr result (λ e. FoundAbsent D.observed (key_of image.now) e (D.shown dir.old) (D.shown dir.new)) }
+    ensures turn { IfErr result (λ e. FoundInTurn D.observed (source_at B.observed (B.shown bundle.old).tree path.now)
+        (key_of image.now) image.now.listing e (D.shown dir.old) (D.shown dir.new)) }
     ensures another { IfErr result (λ e. D.observed ≡ true → From draw IsAlone false None (D.shown dir.old)
         (λ intent hs. BusyElsewhere e (D.shown dir.old) (D.shown dir.new))) }
     ensures there { result ≡ Ok true → D.observed ≡ true → WasThere (key_of image.now) digest.now (D.shown dir.old) (D.shown dir.new) }
@@ -162,7 +164,8 @@ fn import_image<D: Dir, B: Bundle>(
     ensures bundle_cause { IsErrOf result StoreError.BundleFault → Rose (B.shown bundle.old).faults (B.shown bundle.new).faults }
     ensures cause { IfErr result (λ e. ImportCause is_import_refusal D.observed (source_at B.observed (B.shown bundle.old).tree path.now)
         (key_of image.now) (digest_of image.now) image.now.listing e (D.shown dir.old) (D.shown dir.new)) }
-    ensures turn { IfErr result (λ e. FoundAbsent D.observed (key_of image.now) e (D.shown dir.old) (D.shown dir.new)) }
+    ensures turn { IfErr result (λ e. FoundInTurn D.observed (source_at B.observed (B.shown bundle.old).tree path.now)
+        (key_of image.now) image.now.listing e (D.shown dir.old) (D.shown dir.new)) }
     ensures another { IfErr result (λ e. D.observed ≡ true → From draw IsAlone false None (D.shown dir.old)
         (λ intent hs. BusyElsewhere e (D.shown dir.old) (D.shown dir.new))) }
     ensures there { result ≡ Ok true → D.observed ≡ true → WasThere (key_of image.now) (digest_of image.now) (D.shown dir.old) (D.shown dir.new) }

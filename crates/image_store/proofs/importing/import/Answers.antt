@@ -1,13 +1,13 @@
-use Rattle.std.proofs.Common.{◌≡◌, true, inr, rules, subst}
+use Rattle.std.proofs.Common.{◌≡◌, true, inr, rules, sym, subst, ◌∙◌}
 use Rattle.folder_building.proofs.Copying.{err_more}
 use Rattle.image_reading.specs.declared.error.StoreError.{StoreError}
 use Rattle.image_reading.proofs.Results.{err_same}
 use Rattle.image_store.specs.Refusals.{is_import_refusal}
-use Rattle.image_store.specs.Causes.{source_at, is_late, FoundAbsent, ImportCause}
+use Rattle.image_store.specs.Causes.{source_at, is_late, FoundInTurn, ImportCause}
 use Rattle.image_store.specs.Imports.{key_of, digest_of, IsRefused, ComesInTurn}
-use Rattle.image_store.proofs.Refusals.{bundle_early}
+use Rattle.image_store.proofs.Refusals.{bundle_early, bundle_sound}
 use Rattle.image_store.proofs.Placings.{same_key}
-use Rattle.image_store.proofs.Ends.{cause_before_reads, brought_is_imported}
+use Rattle.image_store.proofs.Ends.{cause_before_reads, turn_before_reads, brought_is_imported}
 use Rattle.image_store.proofs.importing.import.Goals as goal
 
 pub returns-in_err-there-in-Ok-clause-refused : goal.returns-in_err-there-in-Ok-clause-refused
@@ -28,15 +28,21 @@ pub returns-in_err-there-in-Ok-clause-turn : goal.returns-in_err-there-in-Ok-cla
 returns-in_err-there-in-Ok-clause-turn g c =
     let D = g.D.Dir in
     let B = g.B.Bundle in
-    let first = source_at B.observed (B.shown c.args.bundle.now).tree c.args.path.now in
+    let root = c.args.path.now in
+    let first = source_at B.observed (B.shown c.args.bundle.now).tree root in
+    let read = source_at B.observed (B.shown c.read_bundle.new.bundle).tree root in
     let old = D.shown c.args.dir.now in
     let new = D.shown c.import_image.new.dir in
     let image = c.in-Ok.image in
     err_same (λ e. ComesInTurn D.observed first e old new) c.import_image.result c.from_residual.result (λ e h. search (rules, h, c.from_residual.ensures, c.in_err-there-in-Ok.is))
-    (err_more (λ e. FoundAbsent D.observed (key_of image) e old new) (λ e. ComesInTurn D.observed first e old new) c.import_image.result (λ e x late. (image, c.in-Ok.ensures.ok, x late)) c.import_image.ensures.turn)
+    (err_more (λ e. FoundInTurn D.observed read (key_of image) image.listing e old new) (λ e. ComesInTurn D.observed first e old new) c.import_image.result
+    (λ e x. record { late = λ late. (image, c.in-Ok.ensures.ok, x.late late); damaged = λ path is. (image, c.in-Ok.ensures.ok, turn_before_reads c.read_bundle.ensures.reads.same (x.damaged path is)) }) c.import_image.ensures.turn)
 
 pub returns-in-Err-clause-turn : goal.returns-in-Err-clause-turn
-returns-in-Err-clause-turn g c late = absurd (bundle_early c.in-Err.refusal (subst (λ (x : StoreError). is_late x ≡ true) c.bundle_refusal.ensures late))
+returns-in-Err-clause-turn g c = record {
+  late = λ late. absurd (bundle_early c.in-Err.refusal (subst (λ (x : StoreError). is_late x ≡ true) c.bundle_refusal.ensures late));
+  damaged = λ path is. absurd (bundle_sound c.in-Err.refusal path (sym c.bundle_refusal.ensures ∙ is));
+}
 
 pub returns-in_ok-there-in-Ok-clause-imported : goal.returns-in_ok-there-in-Ok-clause-imported
 returns-in_ok-there-in-Ok-clause-imported g c fresh t conforms intent hs imports alone k =

@@ -11,11 +11,11 @@ use Rattle.image_reading.proofs.Results.{err_same}
 use Rattle.image_store.specs.Refusals.{is_import_refusal}
 use Rattle.image_store.specs.Requests.{building_spot}
 use Rattle.image_store.specs.Work.{at_work, UnderImages, IsAlone, From}
-use Rattle.image_store.specs.Causes.{source_at, LockCause, BusyElsewhere, FoundAbsent, ImportCause}
+use Rattle.image_store.specs.Causes.{source_at, LockCause, BusyElsewhere, FoundInTurn, ImportCause}
 use Rattle.image_store.specs.Imports.{key_of}
-use Rattle.image_store.proofs.Widths.{held_after, held_before, cause_after, cause_before}
+use Rattle.image_store.proofs.Widths.{cause_after, cause_before, turn_within}
 use Rattle.image_store.proofs.Locked.{Shares, GivesBack, follows_share, follows_back, share_images, worked_refused, worked_under, under_images}
-use Rattle.image_store.proofs.Refusals.{lock_early, lock_importing}
+use Rattle.image_store.proofs.Refusals.{lock_importing, lock_in_turn}
 use Rattle.image_store.proofs.Outcomes.{elsewhere_after, elsewhere_before, given_leaves}
 use Rattle.image_store.proofs.importing.import_locked.Goals as goal
 
@@ -35,24 +35,26 @@ returns-in_err-gate-clause-cause g c =
 pub returns-in_err-gate-clause-turn : goal.returns-in_err-gate-clause-turn
 returns-in_err-gate-clause-turn g c =
     let D = g.D.Dir in
+    let source = source_at g.B.Bundle.observed (g.B.Bundle.shown c.args.bundle.now).tree c.args.path.now in
     let old = D.shown c.args.dir.now in
     let new = D.shown c.share.new.dir in
-    let key = key_of c.args.image.now in
-    err_same (λ e. FoundAbsent D.observed key e old new) c.share.result c.from_residual.result (λ e h. search (rules, h, c.from_residual.ensures, c.in_err-gate.is))
-    (err_more (λ e. LockCause D.observed Images e old new) (λ e. FoundAbsent D.observed key e old new) c.share.result (λ e x late t. absurd (lock_early e x.kind late)) c.share.ensures.cause)
+    let image = c.args.image.now in
+    err_same (λ e. FoundInTurn D.observed source (key_of image) image.listing e old new) c.share.result c.from_residual.result (λ e h. search (rules, h, c.from_residual.ensures, c.in_err-gate.is))
+    (err_more (λ e. LockCause D.observed Images e old new) (λ e. FoundInTurn D.observed source (key_of image) image.listing e old new) c.share.result (λ e x. lock_in_turn {digest = c.args.digest.now} e x) c.share.ensures.cause)
 
 pub returns-clause-turn : goal.returns-clause-turn
 returns-clause-turn g c =
     let D = g.D.Dir in
+    let source = source_at g.B.Bundle.observed (g.B.Bundle.shown c.args.bundle.now).tree c.args.path.now in
     let old = D.shown c.args.dir.now in
     let mid = D.shown c.share.new.dir in
     let late = D.shown c.import_or_find-result.new.dir in
     let new = D.shown c.unlock_area.new.dir in
-    let key = key_of c.args.image.now in
+    let image = c.args.image.now in
     let s : Shares D.observed Images c.in_ok-gate.gate old mid = record { same = c.share.ensures.same; faults = c.share.ensures.faults; held = c.in_ok-gate.ensures.held; unopened = c.in_ok-gate.ensures.unopened; extends = c.share.ensures.extends } in
     let b : GivesBack D.observed c.in_ok-gate.gate late new = record { same = c.unlock_area.ensures.same; faultless = c.unlock_area.ensures.faultless; local = c.unlock_area.ensures.local; extends = c.unlock_area.ensures.extends } in
-    err_more (λ e. FoundAbsent D.observed key e mid late) (λ e. FoundAbsent D.observed key e old new) c.import_or_find-result.result
-    (λ e x is t. held_before old late new (c.import_or_find-result.ensures.worked.same ∙ c.share.ensures.same) (follows_back b) t (held_after old mid late (follows_share s) t (x is t))) c.import_or_find-result.ensures.turn
+    err_more (λ e. FoundInTurn D.observed source (key_of image) image.listing e mid late) (λ e. FoundInTurn D.observed source (key_of image) image.listing e old new) c.import_or_find-result.result
+    (λ e x. turn_within old mid late new (follows_share s) (c.import_or_find-result.ensures.worked.same ∙ c.share.ensures.same) (follows_back b) x) c.import_or_find-result.ensures.turn
 
 pub returns-clause-worked : goal.returns-clause-worked
 returns-clause-worked g c =

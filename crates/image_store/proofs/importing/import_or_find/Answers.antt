@@ -8,10 +8,10 @@ use Rattle.image_reading.proofs.Results.{err_same}
 use Rattle.image_store.specs.Refusals.{is_import_refusal}
 use Rattle.image_store.specs.Requests.{building_spot}
 use Rattle.image_store.specs.Work.{at_work, UnderImages, From}
-use Rattle.image_store.specs.Causes.{source_at, BusyElsewhere, WasThere, FoundAbsent, LookCause, ImportCause}
+use Rattle.image_store.specs.Causes.{source_at, BusyElsewhere, WasThere, FoundInTurn, LookCause, ImportCause}
 use Rattle.image_store.specs.Imports.{key_of}
 use Rattle.image_store.proofs.Widths.{follows_work, held_before, cause_after}
-use Rattle.image_store.proofs.Refusals.{look_early, look_importing}
+use Rattle.image_store.proofs.Refusals.{late_in_turn, look_importing, look_in_turn}
 use Rattle.image_store.proofs.Placings.{worked_reads, may_read_there, same_key}
 use Rattle.image_store.proofs.Outcomes.{elsewhere_after, leaves_after}
 use Rattle.image_store.proofs.importing.import_or_find.Goals as goal
@@ -33,11 +33,13 @@ returns-in_err-is_there-clause-cause g c =
 pub returns-in_err-is_there-clause-turn : goal.returns-in_err-is_there-clause-turn
 returns-in_err-is_there-clause-turn g c =
     let D = g.D.Dir in
+    let source = source_at g.B.Bundle.observed (g.B.Bundle.shown c.args.bundle.now).tree c.args.path.now in
     let old = D.shown c.args.dir.now in
     let new = D.shown c.is_there.new.dir in
-    let key = key_of c.args.image.now in
-    err_same (λ e. FoundAbsent D.observed key e old new) c.is_there.result c.from_residual.result (λ e h. search (rules, h, c.from_residual.ensures, c.in_err-is_there.is))
-    (err_more (λ e. LookCause D.observed c.of.result c.args.digest.now e old new) (λ e. FoundAbsent D.observed key e old new) c.is_there.result (λ e x late t. absurd (look_early e x.kind late)) c.is_there.ensures.cause)
+    let image = c.args.image.now in
+    err_same (λ e. FoundInTurn D.observed source (key_of image) image.listing e old new) c.is_there.result c.from_residual.result (λ e h. search (rules, h, c.from_residual.ensures, c.in_err-is_there.is))
+    (err_more (λ e. LookCause D.observed c.of.result c.args.digest.now e old new) (λ e. FoundInTurn D.observed source (key_of image) image.listing e old new) c.is_there.result
+    (λ e x. look_in_turn e (subst (λ (k : StoreKey). LookCause D.observed k c.args.digest.now e old new) (same_key c.of.result image c.of.ensures) x)) c.is_there.ensures.cause)
 
 pub returns-else-branch-clause-turn : goal.returns-else-branch-clause-turn
 returns-else-branch-clause-turn g c =
@@ -47,9 +49,10 @@ returns-else-branch-clause-turn g c =
     let mid = D.shown c.is_there.new.dir in
     let new = D.shown c.import_new.new.dir in
     let image = c.args.image.now in
-    err_more (λ e. ImportCause is_import_refusal D.observed source (key_of image) c.args.digest.now image.listing e mid new) (λ e. FoundAbsent D.observed (key_of image) e old new) c.import_new.result
-    (λ e x late t. held_before old mid new c.is_there.ensures.only.same (follows_work c.import_new.ensures.worked) t
-    (subst (λ (k : StoreKey). HeldBetween old mid (IsAbsent k)) (same_key c.of.result image c.of.ensures) (c.in_ok-is_there.ensures.absent (ap Ok c.if-branch.false) t))) c.import_new.ensures.cause
+    let absent = λ (t : D.observed ≡ true). held_before old mid new c.is_there.ensures.only.same (follows_work c.import_new.ensures.worked) t
+    (subst (λ (k : StoreKey). HeldBetween old mid (IsAbsent k)) (same_key c.of.result image c.of.ensures) (c.in_ok-is_there.ensures.absent (ap Ok c.if-branch.false) t)) in
+    err_more (λ e. ImportCause is_import_refusal D.observed source (key_of image) c.args.digest.now image.listing e mid new) (λ e. FoundInTurn D.observed source (key_of image) image.listing e old new) c.import_new.result
+    (λ e x. late_in_turn e absent (cause_after (follows_work (worked_reads (building_spot c.args.draw) c.of.result c.is_there.ensures.only)) x)) c.import_new.ensures.cause
 
 pub returns-then-branch-clause-worked : goal.returns-then-branch-clause-worked
 returns-then-branch-clause-worked g c = worked_reads (building_spot c.args.draw) c.of.result c.is_there.ensures.only
