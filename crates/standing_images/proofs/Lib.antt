@@ -1,0 +1,9 @@
+pub mod LastSteps
+pub mod SameFiles
+pub mod Fronts
+pub mod Pieces
+pub mod AtEnd
+pub mod Listed
+pub mod Moments
+pub mod Keys
+pub mod Stores
