@@ -1,11 +1,10 @@
 -- The keys among names.
-use Rattle.std.proofs.Common.{arith, ◌≡◌, ℕ, Bool, true, false, ◌||◌, bytes_eq, Less, Option, Some, None, List, [], ◌∷◌, ◌++◌, map, refl, sym, ap, subst, ◌∙◌}
+use Rattle.std.proofs.Common.{◌≡◌, ℕ, Bool, true, false, ◌||◌, bytes_eq, Less, Option, Some, None, List, [], ◌∷◌, ◌++◌, map, refl, sym, ap, subst, ◌∙◌}
 use Rattle.std.specs.Prelude.{Contains}
 use Rattle.std.specs.List.{AllByRecursion, cons_option}
 use Rattle.std.specs.List.Sorted.{IsStrictlySortedBy}
 use Rattle.std.specs.Ordering.{nat_cmp}
 use Rattle.std.specs.Cmp.Lexicographic.{slice_cmp}
-use Rattle.std.proofs.lemmas.List.Elements.{Contains-append_left, Contains-append_right}
 use Rattle.ac_types.specs.declared.store_key.StoreKey.{StoreKey}
 use Rattle.ac_types.specs.Ids.{AreBytes, id_text, id_read}
 use Rattle.ac_types.proofs.IdTexts.{read_text, text_read}
@@ -13,6 +12,7 @@ use Rattle.dir_model.specs.Listings.{has_name}
 use Rattle.lifecycle.proofs.Places.{name_same}
 use Rattle.image_reading.specs.Places.{some_key, key_of, keys_among}
 use Rattle.standing_images.specs.Images.{KeysRise}
+use Rattle.standing_images.proofs.Members.{contains_first, contains_more}
 
 -- the text of a key is read back
 key_back : (key : StoreKey) → AreBytes 32 key.bytes → key_of (id_text key.bytes) ≡ Some key
@@ -26,9 +26,6 @@ text_back name key named = by (id_read 32 name) refl named
     by (Some bytes) read is =
         let key_is : record { bytes = bytes } ≡ key = cc in
         sym (read_text 32 name bytes read ∙ ap (λ (k : StoreKey). id_text k.bytes) key_is)
-
-contains_first : {X : Type 0} (x : X) (xs : List X) → Contains (x ∷ xs) x
-contains_first x xs = Contains-append_left (x ∷ []) xs x (0, omega arith, refl)
 
 -- a name that is there has its key among them
 named_key : (names : List (List ℕ)) (name : List ℕ) (key : StoreKey) → key_of name ≡ Some key → has_name names name ≡ true →
@@ -44,7 +41,7 @@ named_key (n ∷ ns) name key named there = by (bytes_eq n name) refl there (key
         let e : k ≡ key = cc in
         subst (λ (x : StoreKey). Contains (x ∷ keys_among ns) key) (sym e) (contains_first key (keys_among ns))
     by false other t None m go = go t
-    by false other t (Some k) m go = Contains-append_right (k ∷ []) (keys_among ns) key (go t)
+    by false other t (Some k) m go = contains_more k (keys_among ns) key (go t)
 
 pub key_among : (names : List (List ℕ)) (key : StoreKey) → AreBytes 32 key.bytes → has_name names (id_text key.bytes) ≡ true →
     Contains (keys_among names) key

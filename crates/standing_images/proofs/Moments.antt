@@ -2,7 +2,6 @@
 use Rattle.std.proofs.Common.{arith, ◌≡◌, ◌⊎◌, inl, inr, ◌≤◌, ℕ, Bool, true, false, ◌||◌, bytes_eq, Option, Some, None, List, [], ◌∷◌, ◌++◌, refl, sym, ap, ◌∙◌}
 use Rattle.std.specs.Prelude.{Contains}
 use Rattle.std.specs.List.{AllByRecursion, cons_option}
-use Rattle.std.proofs.lemmas.List.Elements.{Contains-append_cases, Contains-push_cases}
 use Rattle.dir_model.specs.declared.item.Item.{Item}
 use Rattle.dir_model.specs.State.{DirState}
 use Rattle.dir_model.specs.Listings.{has_name, item_names}
@@ -12,9 +11,7 @@ use Rattle.folder_contents.specs.Entries.{entries_in}
 use Rattle.gate_reading.specs.Listings.{ShowsEntries}
 use Rattle.image_reading.specs.Marks.{imported_moment, imported_moments, IsGreatest}
 use Rattle.standing_images.specs.Images.{HasMark}
-
-pub contains_none : {X : Type 0} (x : X) → Contains [] x → ⊥
-contains_none x h = let lt = h.1 in omega arith
+use Rattle.standing_images.proofs.Members.{contains_none, contains_cases}
 
 -- a name of that moment is shown
 pub record IsShown (items : List Item) (moment : ℕ) : Type 0 where
@@ -43,14 +40,10 @@ shown_of (x ∷ xs) moment h = by (imported_moment x.name) refl h (λ c. shown_o
     by : (o : Option ℕ) → imported_moment x.name ≡ o → Contains (cons_option o (imported_moments xs)) moment
         → (Contains (imported_moments xs) moment → IsShown xs moment) → IsShown (x ∷ xs) moment
     by None is c go = shown_more x xs moment (go c)
-    by (Some m) is c go = either (Contains-append_cases (m ∷ []) (imported_moments xs) moment c)
+    by (Some m) is c go = either (contains_cases m (imported_moments xs) moment c)
       where
-        one : Contains [] moment ⊎ (m ≡ moment) → IsShown (x ∷ xs) moment
-        one (inl none) = absurd (contains_none moment none)
-        one (inr same) = shown_first x xs moment (is ∙ ap Some same)
-
-        either : Contains (m ∷ []) moment ⊎ Contains (imported_moments xs) moment → IsShown (x ∷ xs) moment
-        either (inl first) = one (Contains-push_cases [] m moment first)
+        either : (m ≡ moment) ⊎ Contains (imported_moments xs) moment → IsShown (x ∷ xs) moment
+        either (inl same) = shown_first x xs moment (is ∙ ap Some same)
         either (inr later) = shown_more x xs moment (go later)
 
 not_later : (items : List Item) (most : ℕ) (name : List ℕ) (moment : ℕ) → AllByRecursion (λ n. n ≤ most) (imported_moments items) →

@@ -7,11 +7,13 @@ use Rattle.std.specs.Cmp.Lexicographic.{slice_cmp}
 use Rattle.ac_types.specs.declared.store_key.StoreKey.{StoreKey}
 use Rattle.ac_types.specs.Ids.{id_text, AreBytes}
 use Rattle.dep_match.specs.declared.stored.Stored.{Stored}
+use Rattle.dep_match.specs.Copies.{stored_data}
 use Rattle.dir_model.specs.declared.area.Area.TheVariants.{Images}
 use Rattle.dir_model.specs.declared.event.Event.{Event}
 use Rattle.dir_model.specs.declared.request.Request.TheVariants.{ListArea}
 use Rattle.dir_model.specs.declared.request.Reply.TheVariants.{Begun}
 use Rattle.dir_model.specs.State.{DirState, folder_at}
+use Rattle.dir_model.specs.Trace.{state_after}
 use Rattle.dir_model.specs.Calls.{AtOwnStep, event}
 use Rattle.dir_rules.specs.declared.seen.Seen.{Seen}
 use Rattle.dir_trait.specs.DirCalls.{DirAt}
@@ -68,6 +70,17 @@ pub record StoodTogether (images : List Stored) (me : ℕ) (old new : List Event
   pub begins : listed.step ≡ event me (ListArea Images) Begun
   pub gate : KnowsAlong shares_images me (listed.before ++ listed.step ∷ []) (listed.rest ++ stood.step ∷ [])
   pub rise : KeysRise (keys images)
+
+-- these images are the store: they stand, and no other does
+pub record AreStore (images : List Stored) (s : DirState) : Type 0 where
+  pub together : StandTogether images s
+  pub all : AreAll (keys images) s
+  pub rise : KeysRise (keys images)
+
+-- after a trace one list of images is the store, by what is seen of them
+abbrev pub OneStore : List Event → Type 0
+OneStore trace =
+    (xs ys : List Stored) → AreStore xs (state_after trace) → AreStore ys (state_after trace) → map stored_data xs ≡ map stored_data ys
 
 -- while a process has the gate, and asks for reads and listings of images alone, what it reads of the store stood there together
 abbrev pub StoresStand : List Event → Type 0

@@ -1,5 +1,5 @@
 // The law of images that stand together, the contract of a function.
-ghost use Rattle.standing_images.specs.Images.{StoresStand};
+ghost use Rattle.standing_images.specs.Images.{StoresStand, OneStore};
 
 use dir_model::History;
 
@@ -8,6 +8,14 @@ use dir_model::History;
 /// stood there when its listing of the area had begun.
 pub fn images(history: &History)
     ensures { StoresStand history.now.items }
+{
+    let _events = history.as_slice();
+}
+
+/// After a trace one list of images is the store, by what is seen of them: their keys, IDs and moments, and
+/// what their manifests show.
+pub fn one_store(history: &History)
+    ensures { OneStore history.now.items }
 {
     let _events = history.as_slice();
 }

@@ -3,4 +3,4 @@
 
 mod laws;
 
-pub use laws::images;
+pub use laws::{images, one_store};
