@@ -1,0 +1,12 @@
+pub mod Reading
+pub mod LastSteps
+pub mod SameFiles
+pub mod Fronts
+pub mod Pieces
+pub mod AtEnd
+pub mod Listed
+pub mod Members
+pub mod Moments
+pub mod Keys
+pub mod Stores
+pub mod OneStore

@@ -1,0 +1,166 @@
+-- What was read of the store under the gate stood there together.
+use Rattle.std.proofs.Common.{arith, ◌≡◌, ◌<◌, ℕ, Bool, true, false, nat_le, Some, is_some, List, [], ◌∷◌, ◌++◌, take, length, append_assoc, codes, refl, sym, ap, subst, ◌∙◌, ◌+◌}
+use Rattle.std.specs.Prelude.{Contains}
+use Rattle.std.specs.List.{AllByRecursion}
+use Rattle.std.proofs.lemmas.Bool.Decides.{nat_tests}
+use Rattle.std.proofs.lemmas.Grind.{common_steps}
+use Rattle.ac_types.specs.declared.store_key.StoreKey.{StoreKey}
+use Rattle.ac_types.specs.declared.image_id.ImageId.{ImageId}
+use Rattle.ac_types.specs.declared.fault.FaultKind.TheVariants.{TooLong}
+use Rattle.ac_types.specs.Ids.{AreBytes, id_text}
+use Rattle.ac_types.specs.Outcomes.{fails}
+use Rattle.dep_match.specs.declared.stored.Stored.{Stored}
+use Rattle.manifests.specs.declared.image_manifest.ImageManifest.{ImageManifest}
+use Rattle.manifests.specs.ImageForm.{image_manifest}
+use Rattle.manifest_parts.specs.DocumentForm.{document}
+use Rattle.dir_model.specs.declared.area.Area.TheVariants.{Images}
+use Rattle.dir_model.specs.declared.event.Event.{Event}
+use Rattle.dir_model.specs.declared.request.Request.{Request}
+use Rattle.dir_model.specs.declared.request.Request.TheVariants.{ListArea}
+use Rattle.dir_model.specs.declared.request.Reply.TheVariants.{Names}
+use Rattle.dir_model.specs.Listings.{has_name}
+use Rattle.dir_model.specs.State.{DirState, folder_at}
+use Rattle.dir_model.specs.Trace.{state_after}
+use Rattle.dir_model.specs.Calls.{event}
+use Rattle.dir_model.proofs.Lists.{all_weaker, same_rest, same_self}
+use Rattle.dir_rules.specs.declared.seen.Seen.{Seen}
+use Rattle.dir_trait.specs.DirCalls.{DirAt}
+use Rattle.dir_files.specs.Listed.{ShowsArea, ShowsDirectory}
+use Rattle.gate_reading.specs.Areas.{is_image}
+use Rattle.gate_reading.specs.Gate.{GoesOn}
+use Rattle.image_reading.specs.Places.{image_spot, image_inner, manifest_name, id_name, IsPresent}
+use Rattle.image_reading.specs.Files.{IsManifestOf, IsIdOf, ReadsManifest, ReadsId, most_of_manifest, most_of_id}
+use Rattle.image_reading.specs.Images.{ReadsImage}
+use Rattle.image_reading.specs.Looks.{reads_images}
+use Rattle.image_reading.specs.Store.{keys, ReadsStore}
+use Rattle.image_reading.proofs.Values.{id_front}
+use Rattle.standing_images.specs.Images.{HasFile, StandsSo, AreAll, KeysRise, StoodTogether}
+use Rattle.standing_images.proofs.LastSteps.{LastOwn, last_own}
+use Rattle.standing_images.proofs.AtEnd.{end, whole, file_front}
+use Rattle.standing_images.proofs.Listed.{lead, start, finish, ends_own, items_last, names_whole}
+use Rattle.standing_images.proofs.Moments.{has_mark, is_newest}
+use Rattle.standing_images.proofs.Keys.{key_among, keys_rise}
+
+-- a manifest isn't longer than the bytes that are read
+take_short : (n : ℕ) (bytes : List ℕ) → nat_le (length bytes) n ≡ true → take (n + 1) bytes ≡ bytes
+take_short n bytes short = grind (arith, nat_tests, common_steps)
+
+take_long : (n : ℕ) (bytes : List ℕ) → nat_le (length bytes) n ≡ false → nat_le (length (take (n + 1) bytes)) n ≡ false
+take_long n bytes long = grind (arith, nat_tests, common_steps)
+
+too_long : (bytes : List ℕ) → nat_le (length bytes) 1048576 ≡ false → image_manifest bytes ≡ fails (codes "$") TooLong
+unfolding image_manifest document
+too_long bytes long = rw long
+
+manifest_so : (bytes : List ℕ) → image_manifest (take 1048577 bytes) ≡ image_manifest bytes
+manifest_so bytes = by (nat_le (length bytes) 1048576) refl
+  where
+    by : (short : Bool) → nat_le (length bytes) 1048576 ≡ short → image_manifest (take 1048577 bytes) ≡ image_manifest bytes
+    by true short = ap image_manifest (take_short 1048576 bytes short)
+    by false long = too_long (take 1048577 bytes) (take_long 1048576 bytes long) ∙ sym (too_long bytes long)
+
+module _ {asks : Request → Bool} {s : Seen} {old new : DirAt} (g : GoesOn asks s old new) (l : LastOwn old.process g.extends.more) where
+  manifest_stands : (key : StoreKey) (manifest : ImageManifest) → ReadsManifest key manifest old new →
+      HasFile key manifest_name (IsManifestOf manifest) (state_after (end g l))
+  manifest_stands key manifest r =
+      let f = file_front g l key manifest_name most_of_manifest (IsManifestOf manifest) refl (omega arith) r in
+      record { bytes = f.0; there = f.1; holds = sym (manifest_so f.0) ∙ f.2 }
+
+  id_stands : (key : StoreKey) (id : ImageId) → ReadsId key id old new → HasFile key id_name (IsIdOf key id) (state_after (end g l))
+  id_stands key id r =
+      let f = file_front g l key id_name most_of_id (IsIdOf key id) refl (omega arith) r in
+      record { bytes = f.0; there = f.1; holds = id_front key f.0 id f.2 }
+
+  -- an image that was read stands so at the end
+  pub image_stands : (image : Stored) → ReadsImage image old new → StandsSo image (state_after (end g l))
+  image_stands image r =
+      let w = r.moment.shown in
+      let d = subst (λ (p : ℕ). ShowsDirectory p w.first.trace w.last.trace (image_inner image.key []) r.moment.items) w.same w.told in
+      let i = items_last g l w.earlier w.later w.begins w.ends (image_spot image.key) r.moment.items refl d in
+      record {
+        folder = i.0;
+        here = i.1;
+        manifest = manifest_stands image.key image.manifest r.manifest;
+        id = id_stands image.key image.id r.id;
+        mark = has_mark i.0 (state_after (end g l)) r.moment.items i.2 image.moment r.moment.holds;
+        newest = is_newest i.0 (state_after (end g l)) r.moment.items i.2 image.moment r.moment.holds;
+      }
+
+  module _ (images : List Stored) (r : ReadsStore images old new) where
+    area : ShowsArea old.process r.shown.first.trace r.shown.last.trace Images r.names
+    area = subst (λ (p : ℕ). ShowsArea p r.shown.first.trace r.shown.last.trace Images r.names) r.shown.same r.shown.told
+
+    are_all : (z : DirState) → ((name : List ℕ) → is_image z name ≡ true → has_name r.names name ≡ true) → AreAll (keys images) z
+    are_all z all key are there =
+        subst (λ (ks : List StoreKey). Contains ks key) (sym r.read.of_names)
+        (key_among r.names key are (all (id_text key.bytes) (ap is_some there.1)))
+
+    stood_at : StoodTogether images old.process old.trace new.trace
+    stood_at =
+        let listed = names_whole g l r.shown.earlier r.shown.later r.shown.begins r.shown.ends r.names area (AreAll (keys images)) are_all in
+        record {
+          stood = record {
+            before = old.trace ++ l.before;
+            step = l.step;
+            later = l.before;
+            rest = l.rest;
+            begins = refl;
+            ends = whole g l;
+            own = l.own;
+            holds = all_weaker (λ image. ReadsImage image old new) (λ image. StandsSo image (state_after (end g l))) image_stands images r.read.each;
+          };
+          listed = listed.at;
+          begins = listed.is;
+          gate = listed.gate;
+          rise = subst (λ (ks : List StoreKey). KeysRise ks) (sym r.read.of_names) (keys_rise r.names r.ordered);
+        }
+
+-- the listing's end is an own event
+listing_end : {asks : Request → Bool} {s : Seen} {old new : DirAt} {images : List Stored} (g : GoesOn asks s old new) →
+    ReadsStore images old new → LastOwn old.process g.extends.more
+listing_end {asks} {s} {old} {new} {images} g r =
+    let w = r.shown in
+    let d = subst (λ (p : ℕ). ShowsArea p w.first.trace w.last.trace Images r.names) w.same w.told in
+    let request : Request = ListArea Images in
+    let u : List Event = lead old.trace w.earlier w.later w.begins w.ends old.process request (Names r.names) d.stretch
+    ++ start old.trace w.earlier w.later w.begins w.ends old.process request (Names r.names) d.stretch ∷ d.stretch.others in
+    let is = ends_own old.trace w.earlier w.later w.begins w.ends old.process request (Names r.names) d.stretch in
+    last_own old.process g.extends.more u w.later (event old.process request (Names r.names))
+    (same_rest old.trace g.extends.more (u ++ event old.process request (Names r.names) ∷ w.later)
+    (sym g.extends.grown ∙ (is ∙ append_assoc old.trace u (event old.process request (Names r.names) ∷ w.later))))
+    (rw (same_self old.process) refl)
+
+-- what was read of the store while the process had the gate stood there together, and was all that had stood when the listing
+-- of the area had begun
+pub store_stood : {asks : Request → Bool} {s : Seen} {old new : DirAt} {images : List Stored} → GoesOn asks s old new →
+    ReadsStore images old new → StoodTogether images old.process old.trace new.trace
+store_stood {asks} {s} {old} {new} {images} g r = stood_at g (listing_end g r) images r
+
+-- and between two moments that lie further apart
+pub stood_wider : {images : List Stored} {me : ℕ} {a b c d : List Event} (more rest : List Event) → b ≡ a ++ more → d ≡ c ++ rest →
+    StoodTogether images me b c → StoodTogether images me a d
+stood_wider {images} {me} {a} {b} {c} {d} more rest begins ends t = record {
+  stood = record {
+    before = t.stood.before;
+    step = t.stood.step;
+    later = more ++ t.stood.later;
+    rest = t.stood.rest ++ rest;
+    begins = t.stood.begins ∙ (ap (λ (h : List Event). h ++ t.stood.later) begins ∙ append_assoc a more t.stood.later);
+    ends = ends ∙ (ap (λ (h : List Event). h ++ rest) t.stood.ends ∙ append_assoc (t.stood.before ++ t.stood.step ∷ []) t.stood.rest rest);
+    own = t.stood.own;
+    holds = t.stood.holds;
+  };
+  listed = record {
+    before = t.listed.before;
+    step = t.listed.step;
+    later = more ++ t.listed.later;
+    rest = t.listed.rest;
+    begins = t.listed.begins ∙ (ap (λ (h : List Event). h ++ t.listed.later) begins ∙ append_assoc a more t.listed.later);
+    ends = t.listed.ends;
+    own = t.listed.own;
+    holds = t.listed.holds;
+  };
+  begins = t.begins;
+  gate = t.gate;
+  rise = t.rise;
+}

@@ -1,0 +1,21 @@
+// The law of images that stand together, the contract of a function.
+ghost use Rattle.standing_images.specs.Images.{StoresStand, OneStore};
+
+use dir_model::History;
+
+/// What a process reads of the store, while it has the area lock of images shared and asks for nothing but
+/// reads and listings of images, stood there together just after one of its own events. It is all that
+/// stood there when its listing of the area had begun.
+pub fn images(history: &History)
+    ensures { StoresStand history.now.items }
+{
+    let _events = history.as_slice();
+}
+
+/// After a trace one list of images is the store, by what is seen of them: their keys, IDs and moments, and
+/// what their manifests show.
+pub fn one_store(history: &History)
+    ensures { OneStore history.now.items }
+{
+    let _events = history.as_slice();
+}
