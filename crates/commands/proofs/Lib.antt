@@ -73,6 +73,7 @@ pub mod SameReads
 pub mod Sayings
 pub mod Starts
 pub mod StoreQuiet
+pub mod StoreStanding
 pub mod SweepEnds
 pub mod Sweeps
 pub mod Told

@@ -18,6 +18,8 @@ use Rattle.image_reading.specs.declared.error.StoreError.{StoreError}
 use Rattle.image_reading.specs.declared.error.StoreError.TheVariants as store_error
 use Rattle.image_reading.specs.Looks.{reads_images}
 use Rattle.image_reading.specs.Store.{ReadsStore, LacksListed, IsStorePath}
+use Rattle.lifecycle.specs.Executions.{IsConforming}
+use Rattle.standing_images.specs.Images.{StoodTogether}
 use Rattle.command_outcomes.specs.declared.refusal.Refusal.{Refusal}
 use Rattle.command_outcomes.specs.declared.refusal.Refusal.TheVariants.{Busy, DirFault, NoMemory, Damaged}
 use Rattle.command_outcomes.specs.Moments.{DirSeen, Outcome}
@@ -59,6 +61,16 @@ pub record ListsStore (old new : DirSeen) (text : List ℕ) : Type 0 where
   pub told : old.observed ≡ true → ReadsStore images (shown_at old) (shown_at new)
   pub is : text ≡ images_text images
 
+-- it printed the images that stood together while it had the lock
+pub record ListsStanding (old new : DirSeen) (text : List ℕ) : Type 0 where
+  pub images : List Stored
+  pub is : text ≡ images_text images
+  pub stood : StoodTogether images old.process old.trace new.trace
+
+-- it is so where the process knows that it has no handle open on the lock of the images
+abbrev pub WhereFree : DirSeen → Type 0 → Type 0
+WhereFree old P = old.observed ≡ true → (s : Seen) → Knows (shown_at old) s → is_free_of Images s ≡ true → P
+
 -- another process held the lock of the images exclusively at an own step
 abbrev pub IsHeldElsewhere : DirSeen → DirSeen → Type 0
 IsHeldElsewhere old new = HeldBetween (shown_at old) (shown_at new) (IsBusyElsewhere old.process Images Shared)
@@ -69,10 +81,10 @@ pub record LacksPart (path : List ℕ) (old new : DirSeen) : Type 0 where
   pub place : IsStorePath path
   pub told : old.observed ≡ true → LacksListed (store_error.Damaged path) (shown_at old) (shown_at new)
 
--- what was told of the images, or of their lock, by a process that knows that it has no handle open on that lock
+-- what was told of the images, or of their lock
 abbrev pub ImageListSays : DirSeen → DirSeen → Outcome → Type 0
-ImageListSays old new (Ok text) = ListsStore old new text
-ImageListSays old new (Err (Busy area)) = old.observed ≡ true → (s : Seen) → Knows (shown_at old) s → is_free_of Images s ≡ true → IsHeldElsewhere old new
+ImageListSays old new (Ok text) = ListsStore old new text × WhereFree old (IsConforming new.trace → ListsStanding old new text)
+ImageListSays old new (Err (Busy area)) = WhereFree old (IsHeldElsewhere old new)
 ImageListSays old new (Err (Damaged path)) = LacksPart path old new
 ImageListSays old new (Err refusal) = Unit {0}
 

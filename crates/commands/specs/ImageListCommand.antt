@@ -9,8 +9,8 @@ use Rattle.command_outcomes.specs.Moments.{DirSeen, Moment}
 use Rattle.commands.specs.Answers.{WritesOf}
 use Rattle.commands.specs.Opening.{directly}
 use Rattle.commands.specs.Phases.{names_none}
-use Rattle.commands.specs.Command.{Command, nothing, alone, intent_for, WhereObserved}
-use Rattle.commands.specs.ImageList.{image_list_refusal, lists_images, images_text, LacksPart, IsHeldElsewhere, ListsStore, ImageListSays, ListsQuietly}
+use Rattle.commands.specs.Command.{Command, nothing, alone, intent_for, WhereAllKeepRules, WhereObserved}
+use Rattle.commands.specs.ImageList.{image_list_refusal, lists_images, images_text, LacksPart, IsHeldElsewhere, ListsStanding, ListsStore, ImageListSays, ListsQuietly}
 use Rattle.commands.specs.NextState.{LeavesAll}
 
 -- another process held the lock of the images exclusively at an own step; or a part of an image wasn't there or had no reading
@@ -19,9 +19,11 @@ RefusesImageList (Busy Images) old new = old.observed ≡ true → IsHeldElsewhe
 RefusesImageList (Damaged path) old new = LacksPart path old new
 RefusesImageList refusal old new = ⊥
 
--- with status 0 it wrote the lines of the images that it read
-abbrev pub TellsImages : ℕ → Moment → Moment → Type 0
-TellsImages status old new = WhereObserved old (status ≡ 0 → WritesOf (ListsStore old.outside.dir new.outside.dir) old new)
+-- with status 0 it wrote the lines of the images that it read; and where every process keeps the local rules, they stood together while it
+-- had the lock, and are all that stood when its listing began
+pub record TellsImages (status : ℕ) (old new : Moment) : Type 0 where
+  pub read : WhereObserved old (status ≡ 0 → WritesOf (ListsStore old.outside.dir new.outside.dir) old new)
+  pub stood : WhereAllKeepRules old new (status ≡ 0 → WritesOf (ListsStanding old.outside.dir new.outside.dir) old new)
 
 -- it asks for images and their lock
 abbrev pub image_list_command : Command

@@ -12,9 +12,12 @@ use Rattle.rkt_cli.specs.Tasks.{ImageList}
 use Rattle.command_outcomes.specs.declared.refusal.Refusal.TheVariants.{Busy, Damaged}
 use Rattle.command_outcomes.specs.Moments.{Outside, Outcome}
 use Rattle.command_outcomes.specs.Conforming.{shown_at, begun}
-use Rattle.commands.specs.ImageList.{ListsStore, LacksPart, IsHeldElsewhere}
+use Rattle.commands.specs.ImageList.{ListsStanding, ListsStore, LacksPart, IsHeldElsewhere}
 use Rattle.rkt_cli.specs.Runs.{InProcess, Performs}
 use Rattle.commands.proofs.Parts.{Part, held_wider, store_wider, lacks_wider}
+use Rattle.commands.proofs.StoreStanding.{stood_in}
+use Rattle.lifecycle.specs.Executions.{IsConforming}
+use Rattle.lifecycle.proofs.Draws.{conforming_left}
 use Rattle.rkt_cli.proofs.Sessions.{any_call, begin_any, finish_part}
 use Rattle.rkt_cli.proofs.Conforming.{begun_knows}
 
@@ -28,14 +31,26 @@ module _ {line : Task} {now : ℕ} {draw : Draw} {intent : Intent} {old new : Ou
   pub listed_in_process : {text : List ℕ} → ListsStore s.begun.dir s.ended.dir text → ListsStore old.dir new.dir text
   listed_in_process says = record { images = says.images; told = λ t. store_wider (process_part t) says.images (says.told (s.told ∙ t)); is = says.is }
 
+  -- the process's own look at their lock
+  pub standing_in_process : {text : List ℕ} → ListsStanding s.begun.dir s.ended.dir text → old.dir.observed ≡ true → ListsStanding old.dir new.dir text
+  standing_in_process says t = record { images = says.images; is = says.is; stood = stood_in says.images (process_part t) says.stood }
+
+  pub ended_conforms : old.dir.observed ≡ true → IsConforming new.dir.trace → IsConforming s.ended.dir.trace
+  ended_conforms t conforming = let last = finish_part s t any_call refl in conforming_left s.ended.dir.trace last.more (subst IsConforming last.grown conforming)
+
   pub lacked_in_process : {path : List ℕ} → LacksPart path s.begun.dir s.ended.dir → LacksPart path old.dir new.dir
   lacked_in_process {path} says = record { place = says.place; told = λ t. lacks_wider (process_part t) path (says.told (s.told ∙ t)) }
 
 -- what was printed, or wasn't
 pub list_printed : (now : ℕ) (draw : Draw) (intent : Option Intent) (old new : Outside) (text : List ℕ) → Performs ImageList now draw intent old new (Ok text) → ListsStore old.dir new.dir text
-list_printed now draw (Some intent) old new text (inl s) = listed_in_process s s.ran.says
+list_printed now draw (Some intent) old new text (inl s) = listed_in_process s s.ran.says.0
 list_printed now draw (Some intent) old new text (inr n) = let e = n.is in cc
 list_printed now draw None old new text p = let clash : true ≡ false = p.apart in cc
+
+pub list_stood : (now : ℕ) (draw : Draw) (intent : Option Intent) (old new : Outside) (text : List ℕ) → Performs ImageList now draw intent old new (Ok text) → old.dir.observed ≡ true → IsConforming new.dir.trace → ListsStanding old.dir new.dir text
+list_stood now draw (Some intent) old new text (inl s) t conforming = standing_in_process s (s.ran.says.1 (s.told ∙ t) (begun intent) (begun_knows s t) refl (ended_conforms s t conforming)) t
+list_stood now draw (Some intent) old new text (inr n) t conforming = let e = n.is in cc
+list_stood now draw None old new text p t conforming = let clash : true ≡ false = p.apart in cc
 
 pub list_lacked : (now : ℕ) (draw : Draw) (intent : Option Intent) (old new : Outside) (path : List ℕ) → Performs ImageList now draw intent old new (Err (Damaged path)) → LacksPart path old.dir new.dir
 list_lacked now draw (Some intent) old new path (inl s) = lacked_in_process s s.ran.says

@@ -154,7 +154,7 @@ busy_before now draw intent old new area s u =
     subst (λ (p : ℕ). IsBusyElsewhere p Images Shared (state_after old.dir.trace)) s.me (subst (λ (x : DirState). IsBusyElsewhere me Images Shared x) (state ImageList now draw intent old new (Err (Busy area)) s u refl) first)
 
 list_quiet : (now : ℕ) (draw : Draw) (intent : Intent) (old new : Outside) (o : Outcome) → InProcess ImageList now draw intent old new o → Undisturbed ImageList old new → is_own_end o ≡ true → ListsQuietly old.dir new.dir o
-list_quiet now draw intent old new (Ok text) s u own = listed_in_process s s.ran.says
+list_quiet now draw intent old new (Ok text) s u own = listed_in_process s s.ran.says.0
 list_quiet now draw intent old new (Err (Busy area)) s u own = (busy_area area s.ran.refusals, busy_before now draw intent old new area s u)
 list_quiet now draw intent old new (Err (Damaged path)) s u own = lacked_in_process s s.ran.says
 list_quiet now draw intent old new (Err NoMemory) s u own = let clash : false ≡ true = own in cc

@@ -39,7 +39,7 @@ use Rattle.rkt_cli.proofs.Completing.{rm_ends, claim_ends}
 use Rattle.rkt_cli.proofs.Ends.{absurd_number, end_at, from_command, from_end}
 use Rattle.rkt_cli.proofs.Grades.{unhurt}
 use Rattle.rkt_cli.proofs.Imports.{import_stored}
-use Rattle.rkt_cli.proofs.Listed.{list_printed}
+use Rattle.rkt_cli.proofs.Listed.{list_printed, list_stood}
 use Rattle.rkt_cli.proofs.Outcomes.{answered, does_validate, refusals_of, validate_told}
 use Rattle.rkt_cli.proofs.PodLeft.{pod_left, sweep_left}
 use Rattle.rkt_cli.proofs.PodRan.{prepare_faithful, prepare_printed, prepare_synced}
@@ -143,7 +143,10 @@ module _ (now : ℕ) (draw : Draw) (old new : Moment) (status : ℕ) where
   validate_tells path (inl r) t = judgement_of path now draw (intent_of (Validate path) now draw) r.outcome old new r.end status t r.performs r.printed r.reported r.is
 
   list_tells : Ran ImageList → TellsImages status old new
-  list_tells r t = wrote ImageList _ (λ text p. list_printed now draw (intent_of ImageList now draw) old.outside new.outside text p) r
+  list_tells r = record {
+    read = λ t. wrote ImageList _ (λ text p. list_printed now draw (intent_of ImageList now draw) old.outside new.outside text p) r;
+    stood = λ t conforming. wrote ImageList _ (λ text p. list_stood now draw (intent_of ImageList now draw) old.outside new.outside text p t conforming) r;
+  }
 
   import_tells : (path : List ℕ) → Ran (ImageImport path) → TellsImport path now draw status old new
   import_tells path r = record { stored = λ t conforming. wrote (ImageImport path) _ (λ text p. import_stored path now draw old.outside new.outside text p t conforming) r; judged = λ t. by r t }

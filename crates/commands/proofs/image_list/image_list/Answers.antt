@@ -6,6 +6,7 @@ use Rattle.dir_model.specs.declared.spot.Mode.TheVariants.{Shared}
 use Rattle.dir_model.specs.Local.{IsActive}
 use Rattle.command_outcomes.proofs.Seen.{rose_wider}
 use Rattle.commands.proofs.ImageLists.{holds_lock, lock_open, given_back, takes_lists, list_extends, list_part, list_known, list_says, list_refusals, list_cause, lock_cause}
+use Rattle.commands.proofs.StoreStanding.{stands_between}
 use Rattle.commands.proofs.image_list.image_list.Goals as goal
 
 pub stored-found-requires-clause-active : goal.stored-found-requires-clause-active
@@ -57,6 +58,10 @@ returns-in-Ok-clause-says g c =
     (λ t. list_part (D.shown c.args.dir.now) (D.shown c.lock_area.new.dir) (D.shown c.stored-found.new.dir) (D.shown c.unlock_area.new.dir) c.in-Ok.gate
     (c.lock_area.ensures.extends t) c.lock_area.ensures.same (c.stored-found.ensures.only.extends t) c.stored-found.ensures.only.same (c.unlock_area.ensures.extends t))
     c.stored-found.ensures.listed c.stored-found.ensures.damaged
+    (λ images read t s k free conforming. stands_between c.in-Ok.gate
+    (list_part (D.shown c.args.dir.now) (D.shown c.lock_area.new.dir) (D.shown c.stored-found.new.dir) (D.shown c.unlock_area.new.dir) c.in-Ok.gate
+    (c.lock_area.ensures.extends t) c.lock_area.ensures.same (c.stored-found.ensures.only.extends t) c.stored-found.ensures.only.same (c.unlock_area.ensures.extends t))
+    (c.in-Ok.ensures.taken t s (record { tied = k.tied; handles = k.handles }) (record { free = free; kind = refl })) (c.stored-found.ensures.only.extends t) conforming images (read t))
 
 pub returns-in-Err-clause-cause : goal.returns-in-Err-clause-cause
 returns-in-Err-clause-cause g c is = c.lock_area.ensures.cause (c.in-Err.is ∙ ap Err (lock_cause c.in-Err.error c.lock_refusal.result c.lock_refusal.ensures cc))
