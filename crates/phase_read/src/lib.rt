@@ -5,6 +5,6 @@ mod found;
 mod probe;
 mod read;
 
-pub use found::{Found, LookError};
+pub use found::{Found, LookError, look_error};
 pub use probe::look;
 pub use read::read_phase;

@@ -1,5 +1,5 @@
 // The read of a phase: the six areas in lifecycle order, each place looked at twice.
-ghost use Rattle.std.specs.Prelude.{◌≡◌, ◌+◌, ◌-◌, ◌*◌, ◌≤◌, true, false, IfOk, IsErrOf, Ok, Some, None, is_some, IfSome};
+ghost use Rattle.std.specs.Prelude.{◌≡◌, ◌+◌, ◌-◌, ◌*◌, ◌≤◌, true, false, IfOk, IfErr, IsErrOf, Ok, Some, None, is_some, IfSome};
 ghost use Rattle.dir_trait.specs.Causes.{Rose};
 ghost use Rattle.dir_trait.specs.Knowledge.{OnlyLooks};
 ghost use Rattle.dir_trait.specs.DirCalls.{ExtendsBy, HeldBetween};
@@ -10,6 +10,7 @@ ghost use Rattle.dir_trait.specs.Between.{StaysBetween};
 ghost use Rattle.dir_trait.specs.Replies.{is_look_at};
 ghost use Rattle.dir_trait.specs.Local.{IsActive, has_own_open};
 ghost use Rattle.phase_read.specs.Exact.{IsExactly};
+ghost use Rattle.phase_read.specs.Faults.{IsFault};
 ghost use Rattle.phase_read.specs.Often.{OpensOnce, ReadsAtMost};
 ghost use Rattle.phase_read.specs.Read.{IsRead, HasPhase, FoundBetween, is_pod_spot};
 
@@ -42,6 +43,7 @@ fn read_at<D: Dir>(alloc: Global, dir: &mut D, spot: Spot) -> Result<Option<Phas
     ensures same { (D.shown dir.new).process ≡ (D.shown dir.old).process }
     ensures faults { (D.shown dir.old).faults ≤ (D.shown dir.new).faults }
     ensures cause { IsErrOf result LookError.DirFault → Rose (D.shown dir.old).faults (D.shown dir.new).faults }
+    ensures kind { IfErr result IsFault }
     ensures local { (D.shown dir.new).local ≡ (D.shown dir.old).local }
     ensures known { D.observed ≡ true → OnlyLooks (D.shown dir.old) (D.shown dir.new) }
     ensures extends { D.observed ≡ true → ExtendsBy (is_look_at (spot_eq spot)) (D.shown dir.old) (D.shown dir.new) }
@@ -80,8 +82,8 @@ fn read_at<D: Dir>(alloc: Global, dir: &mut D, spot: Spot) -> Result<Option<Phas
 /// Reads a pod's phase, area by area in lifecycle order, by at most 24 calls on the directory,
 /// whatever the directory answers. No handle of this process is open on the pod's lock before, and each
 /// handle that it opened is closed again. Where every process keeps the local rules, the pod stood in
-/// the area in that phase, or didn't exist, at one step of this read. `DirFault` only where the
-/// directory failed.
+/// the area in that phase, or didn't exist, at one step of this read. Refused by `DirFault`, only where
+/// the directory failed, or by `NoMemory`.
 pub fn read_phase<D: Dir>(alloc: Global, dir: &mut D, pod: PodId) -> Result<Found, LookError>
     requires active { IsActive (D.shown dir.old).local }
     requires alone { has_own_open (D.shown dir.old).local (pod_text pod.bytes) ≡ false }
@@ -89,6 +91,7 @@ pub fn read_phase<D: Dir>(alloc: Global, dir: &mut D, pod: PodId) -> Result<Foun
     ensures same { (D.shown dir.new).process ≡ (D.shown dir.old).process }
     ensures faults { (D.shown dir.old).faults ≤ (D.shown dir.new).faults }
     ensures cause { IsErrOf result LookError.DirFault → Rose (D.shown dir.old).faults (D.shown dir.new).faults }
+    ensures kind { IfErr result IsFault }
     ensures local { (D.shown dir.new).local ≡ (D.shown dir.old).local }
     ensures known { D.observed ≡ true → OnlyLooks (D.shown dir.old) (D.shown dir.new) }
     ensures extends { D.observed ≡ true → ExtendsBy (is_look_at (is_pod_spot pod)) (D.shown dir.old) (D.shown dir.new) }

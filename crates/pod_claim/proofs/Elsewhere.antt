@@ -223,7 +223,7 @@ met_by_reading pod a b phase area extends exact t s may knows conforming q is ow
 
 pub look_isnt_wrong : (e : LookError) (q : Phase) → look_refusal e ≡ WrongPhase q → ⊥
 look_isnt_wrong look.DirFault q is = cc
-look_isnt_wrong look.NoMemory q is = cc
+look_isnt_wrong _ q is = cc
 
 -- one attempt, and a second one
 

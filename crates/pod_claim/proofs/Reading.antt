@@ -89,7 +89,7 @@ module _ {observed : Bool} {pod : PodId} {a b : DirAt} (extends : observed ≡ t
 
   pub alone_failed : (e : LookError) → (e ≡ look.DirFault → Rose a.faults b.faults) → StopsAlone observed pod (setback.Refused (look_refusal e)) a b
   alone_failed look.DirFault rose = record { still = λ t. still_looks (extends t); fault = λ is. rose refl; missing = λ is. cc; there = λ is. cc; calm = λ error is. inr (inl cc) }
-  alone_failed look.NoMemory rose = record { still = λ t. still_looks (extends t); fault = λ is. cc; missing = λ is. cc; there = λ is. cc; calm = λ error is. inr (inr cc) }
+  alone_failed _ rose = record { still = λ t. still_looks (extends t); fault = λ is. cc; missing = λ is. cc; there = λ is. cc; calm = λ error is. inr (inr cc) }
 
 -- the pod was read
 phase_by : (p : Phase) → is_prepared p ≡ true → p ≡ phase.Prepared
@@ -135,12 +135,12 @@ cause_gone pod exact = record { fault = λ is. cc; nowhere = λ is t conforming.
 
 pub cause_failed : {observed : Bool} {a b : DirAt} (pod : PodId) (e : LookError) → (e ≡ look.DirFault → Rose a.faults b.faults) → ClaimCause observed pod (look_refusal e) a b
 cause_failed pod look.DirFault rose = record { fault = λ is. rose refl; nowhere = λ is. cc; phase = λ q is. cc; manifest = λ is. cc; named = λ other which is. cc; stray = λ is. cc }
-cause_failed pod look.NoMemory rose = record { fault = λ is. cc; nowhere = λ is. cc; phase = λ q is. cc; manifest = λ is. cc; named = λ other which is. cc; stray = λ is. cc }
+cause_failed pod _ rose = record { fault = λ is. cc; nowhere = λ is. cc; phase = λ q is. cc; manifest = λ is. cc; named = λ other which is. cc; stray = λ is. cc }
 
 -- nor is a lock refused then
 pub look_calm : (pod : PodId) (e : LookError) (which : Which) → look_refusal e ≡ Busy pod which → ⊥
 look_calm pod look.DirFault which is = cc
-look_calm pod look.NoMemory which is = cc
+look_calm pod _ which is = cc
 
 -- where the pod was found in prepared, and stood there later again, it stood there between
 

@@ -22,9 +22,10 @@ abbrev pub lock_setback : PodId → Which → DirError → Setback
 lock_setback pod which dir.Locked = Refused (Busy pod which)
 lock_setback pod which error = set_back error
 
+-- a look at a pod gives DirFault or NoMemory
 abbrev pub look_refusal : LookError → ClaimError
 look_refusal look.DirFault = DirFault
-look_refusal look.NoMemory = NoMemory
+look_refusal _ = NoMemory
 
 -- a claim that is set back for good
 abbrev pub last_refusal : Setback → ClaimError

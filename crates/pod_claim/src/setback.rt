@@ -1,6 +1,7 @@
 // What sets an attempt at a pod back: it begins again, or it is refused.
 ghost use Rattle.std.specs.Prelude.{◌≡◌, true};
 ghost use Rattle.area_locks.specs.AreaLocks.{is_lock_refusal};
+ghost use Rattle.phase_read.specs.Faults.{IsFault};
 ghost use Rattle.pod_claim.specs.Setbacks.{set_back, lock_setback, look_refusal, last_refusal};
 
 use crate::error::ClaimError;
@@ -40,11 +41,13 @@ pub(crate) fn lock_setback(pod: PodId, which: Which, error: DirError) -> Setback
 
 /// What it means that a look found nothing out.
 pub(crate) fn look_refusal(error: LookError) -> ClaimError
+    requires { IsFault error }
     ensures { result ≡ look_refusal error }
 {
     match error {
         LookError::DirFault => ClaimError::DirFault,
         LookError::NoMemory => ClaimError::NoMemory,
+        _ => unreachable!(),
     }
 }
 

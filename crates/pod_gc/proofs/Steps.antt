@@ -282,7 +282,7 @@ peeks_here pod place old new is looks t = subst (λ (s : Spot). ExtendsBy (is_lo
 
 pub look_cause : {observed : Bool} {old new : DirAt} (e : LookError) → (e ≡ look.DirFault → Rose old.faults new.faults) → GcCause observed (look_fault e) old new
 look_cause look.DirFault rose = record { fault = λ is. rose refl; stray = λ is. cc }
-look_cause look.NoMemory rose = record { fault = λ is. cc; stray = λ is. cc }
+look_cause _ rose = record { fault = λ is. cc; stray = λ is. cc }
 
 -- a pod whose time isn't over
 

@@ -21,9 +21,10 @@ listing_fault dir.Failed = DirFault
 listing_fault dir.NoMemory = NoMemory
 listing_fault _ = Stray
 
+-- a look at a pod gives DirFault or NoMemory
 abbrev pub look_fault : LookError → GcError
 look_fault look.DirFault = DirFault
-look_fault look.NoMemory = NoMemory
+look_fault _ = NoMemory
 
 abbrev pub lock_fault : LockError → GcError
 lock_fault lock.DirFault = DirFault

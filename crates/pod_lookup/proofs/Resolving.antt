@@ -11,8 +11,8 @@ use Rattle.dir_model.proofs.PodTexts.{passes_text}
 use Rattle.dir_rules.specs.Marks.{begins}
 use Rattle.dir_rules.proofs.Looks.{same_bytes}
 use Rattle.dir_trait.specs.DirCalls.{DirAt, ExtendsBy}
-use Rattle.pod_lookup.specs.declared.error.LookupError.{LookupError}
-use Rattle.pod_lookup.specs.declared.error.LookupError.TheVariants.{NoPod, Ambiguous, DirFault, NoMemory}
+use Rattle.phase_read.specs.declared.found.LookError.{LookError}
+use Rattle.phase_read.specs.declared.found.LookError.TheVariants.{NoPod, Ambiguous, DirFault, NoMemory}
 use Rattle.pod_lookup.specs.Choice.{is_meant, the_only, choice, whole_or, IsChoice, IfAmbiguous, NamesMeant}
 use Rattle.pod_lookup.specs.Looks.{lists_stages}
 use Rattle.pod_lookup.specs.Pods.{is_pod_name, pod_names, pods_standing, FindsPodsBetween}
@@ -52,7 +52,7 @@ module _ (word : List ℕ) (old new : DirAt) (pods : List PodId) (f : FindsPodsB
       }
 
   pub finds_the_one : FindsTheOne word (choice word pods) old new
-  finds_the_one conforming name pod so each = subst (λ (r : Result PodId LookupError). IsOkAnd r (λ p. pod_text p.bytes ≡ name)) (sym named)
+  finds_the_one conforming name pod so each = subst (λ (r : Result PodId LookError). IsOkAnd r (λ p. pod_text p.bytes ≡ name)) (sym named)
       (just_one word f.names name (record { named = there; pod = pod; so = so })
       (λ other m.
       let at = shown_existed old.process old.trace new.trace other (shown_in_stages old.process old.trace new.trace other f.names f.listed m.named) conforming in
@@ -71,30 +71,30 @@ module _ (word : List ℕ) (old new : DirAt) (pods : List PodId) (f : FindsPodsB
       ∙ sym (ap (λ (o : Option PodId). whole_or o (choice word (pods_standing (state_after old.trace).namespace))) none)
 
 -- the answer is the choice, where it is one
-abbrev pub Chosen : Result PodId LookupError → List ℕ → List PodId → Type 0
+abbrev pub Chosen : Result PodId LookError → List ℕ → List PodId → Type 0
 Chosen r word pods = IsChoice r → r ≡ choice word pods
 
-pub chosen_meant : (word : List ℕ) (pods : List PodId) (r : Result PodId LookupError) → IsStrictlySortedBy (slice_cmp nat_cmp) (pod_names pods) → Chosen r word pods → NamesMeant word r
+pub chosen_meant : (word : List ℕ) (pods : List PodId) (r : Result PodId LookError) → IsStrictlySortedBy (slice_cmp nat_cmp) (pod_names pods) → Chosen r word pods → NamesMeant word r
 chosen_meant word pods r rise chosen = by r chosen
   where
-    meant_one : (s : Result PodId LookupError) → s ≡ choice word pods → NamesMeant word s
+    meant_one : (s : Result PodId LookError) → s ≡ choice word pods → NamesMeant word s
     meant_one s is = subst (NamesMeant word) (sym is) (choice_meant word pods rise)
 
-    by : (s : Result PodId LookupError) → Chosen s word pods → NamesMeant word s
+    by : (s : Result PodId LookError) → Chosen s word pods → NamesMeant word s
     by (Ok pod) is = meant_one (Ok pod) (is tt)
     by (Err (Ambiguous a b)) is = meant_one (Err (Ambiguous a b)) (is tt)
     by (Err NoPod) is = tt
     by (Err DirFault) is = tt
     by (Err NoMemory) is = tt
 
-pub none_of : (observed : Bool) (word : List ℕ) (old new : DirAt) (pods : List PodId) (r : Result PodId LookupError) → (observed ≡ true → FindsPodsBetween old new pods) → Chosen r word pods → r ≡ Err NoPod → observed ≡ true → IsNoneOf word old new
+pub none_of : (observed : Bool) (word : List ℕ) (old new : DirAt) (pods : List PodId) (r : Result PodId LookError) → (observed ≡ true → FindsPodsBetween old new pods) → Chosen r word pods → r ≡ Err NoPod → observed ≡ true → IsNoneOf word old new
 none_of observed word old new pods r f chosen is t = finds_none word old new pods (f t) (sym is ∙ chosen (subst IsChoice (sym is) tt))
 
-pub existed : (observed : Bool) (word : List ℕ) (old new : DirAt) (pods : List PodId) (r : Result PodId LookupError) → (observed ≡ true → FindsPodsBetween old new pods) → Chosen r word pods → IfOk r (λ pod. observed ≡ true → Existed pod old new)
+pub existed : (observed : Bool) (word : List ℕ) (old new : DirAt) (pods : List PodId) (r : Result PodId LookError) → (observed ≡ true → FindsPodsBetween old new pods) → Chosen r word pods → IfOk r (λ pod. observed ≡ true → Existed pod old new)
 existed observed word old new pods (Ok pod) f chosen = λ t. finds_one word old new pods (f t) pod (chosen tt)
 existed observed word old new pods (Err e) f chosen = tt
 
-pub least_two : (observed : Bool) (word : List ℕ) (old new : DirAt) (pods : List PodId) (r : Result PodId LookupError) → (observed ≡ true → FindsPodsBetween old new pods) → Chosen r word pods → IfAmbiguous r (λ a b. observed ≡ true → AreTheLeast word a b old new)
+pub least_two : (observed : Bool) (word : List ℕ) (old new : DirAt) (pods : List PodId) (r : Result PodId LookError) → (observed ≡ true → FindsPodsBetween old new pods) → Chosen r word pods → IfAmbiguous r (λ a b. observed ≡ true → AreTheLeast word a b old new)
 least_two observed word old new pods (Err (Ambiguous a b)) f chosen = λ t. finds_several word old new pods (f t) a b (chosen tt)
 least_two observed word old new pods (Err NoPod) f chosen = tt
 least_two observed word old new pods (Err DirFault) f chosen = tt

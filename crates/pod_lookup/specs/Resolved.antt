@@ -14,14 +14,14 @@ use Rattle.dir_trait.specs.DirCalls.{DirAt}
 use Rattle.lifecycle.specs.Executions.{IsConforming}
 use Rattle.lifecycle.specs.Readings.{WasPhase}
 use Rattle.phase_read.specs.Read.{stages}
-use Rattle.pod_lookup.specs.declared.error.LookupError.{LookupError}
+use Rattle.phase_read.specs.declared.found.LookError.{LookError}
 use Rattle.pod_lookup.specs.AreaListings.{AreListedBetween, WasShown}
 use Rattle.pod_lookup.specs.Choice.{is_meant, choice, sequential_resolve}
 use Rattle.pod_lookup.specs.Moments.{AtEachMoment, AtSomeMoment, Exists}
 use Rattle.pod_lookup.specs.Pods.{is_pod_name, FindsPodsBetween}
 
 -- it is what the word means among the pods that listings of the six areas showed
-pub record IsChosen (word : List ℕ) (result : Result PodId LookupError) (old new : DirAt) : Type 0 where
+pub record IsChosen (word : List ℕ) (result : Result PodId LookError) (old new : DirAt) : Type 0 where
   pub pods : List PodId
   pub found : FindsPodsBetween old new pods
   pub is : result ≡ choice word pods
@@ -58,13 +58,13 @@ pub record IsTheOne (word name : List ℕ) (trace : List Event) : Type 0 where
   pub alone : (other : List ℕ) → is_pod_name other ≡ true → begins word other ≡ true → Exists other trace → other ≡ name
 
 -- where the execution conforms and this is so at each moment, the answer is that pod
-abbrev pub FindsTheOne : List ℕ → Result PodId LookupError → DirAt → DirAt → Type 0
+abbrev pub FindsTheOne : List ℕ → Result PodId LookError → DirAt → DirAt → Type 0
 FindsTheOne word result old new =
     IsConforming new.trace → (name : List ℕ) → is_pod_name name ≡ true → begins word name ≡ true →
     AtEachMoment old.trace new.trace (IsTheOne word name) → IsOkAnd result (λ pod. pod_text pod.bytes ≡ name)
 
 -- where nobody else steps, and this process holds no lock exclusively, the answer is that of the state before
-abbrev pub IsSequential : List ℕ → Result PodId LookupError → DirAt → DirAt → Type 0
+abbrev pub IsSequential : List ℕ → Result PodId LookError → DirAt → DirAt → Type 0
 IsSequential word result old new =
     Quiet old.process old.trace new.trace → OwnsNothing old.process (state_after old.trace).namespace →
     result ≡ sequential_resolve (state_after old.trace) word

@@ -7,16 +7,16 @@ ghost use Rattle.dir_model.specs.Areas.{is_stage, rank};
 ghost use Rattle.dir_trait.specs.Causes.{Rose};
 ghost use Rattle.dir_trait.specs.Local.{IsActive};
 ghost use Rattle.lifecycle.specs.Executions.{IsConforming};
+ghost use Rattle.phase_read.specs.Faults.{IsFault};
 ghost use Rattle.phase_read.specs.Read.{stages};
-ghost use Rattle.pod_lookup.specs.Faults.{IsFault};
 ghost use Rattle.pod_lookup.specs.Looks.{OnlyLooksFor, lists_stages};
 ghost use Rattle.pod_lookup.specs.AreaListings.{AreListedBetween, AddsListedBetween};
 ghost use Rattle.pod_lookup.specs.Pods.{pod_names, FindsPodsBetween, FindsStanding, MissesGone};
 
-use crate::error::{LookupError, lookup_error};
 use crate::sorted::pods_among;
 use dir_files::names_of;
 use dir_trait::{Area, Dir, Name, PodId};
+use phase_read::{LookError, look_error};
 use std::alloc::Global;
 
 // Lists one area, and adds the names.
@@ -25,28 +25,28 @@ fn list_next<D: Dir>(
     dir: &mut D,
     area: Area,
     names: &mut Vec<Name>,
-) -> Result<(), LookupError>
+) -> Result<(), LookError>
     requires active { IsActive (D.shown dir.old).local }
     requires stage { rank area ≤ 5 }
     ensures only { OnlyLooksFor D.observed lists_stages (D.shown dir.old) (D.shown dir.new) }
-    ensures cause { IsErrOf result LookupError.DirFault → Rose (D.shown dir.old).faults (D.shown dir.new).faults }
+    ensures cause { IsErrOf result LookError.DirFault → Rose (D.shown dir.old).faults (D.shown dir.new).faults }
     ensures kind { IfErr result IsFault }
     ensures listed { IfOk result (λ done. D.observed ≡ true → AddsListedBetween area (D.shown dir.old) (D.shown dir.new) names.old.items names.new.items) }
 {
     match names_of(alloc, dir, area) {
         Ok(shown) => match names.extend_from_slice(shown.as_slice()) {
             Ok(()) => Ok(()),
-            Err(_) => Err(LookupError::NoMemory),
+            Err(_) => Err(LookError::NoMemory),
         },
-        Err(error) => Err(lookup_error(error)),
+        Err(error) => Err(look_error(error)),
     }
 }
 
 // Lists the six areas, in lifecycle order.
-fn list_each<D: Dir>(alloc: Global, dir: &mut D) -> Result<Vec<Name>, LookupError>
+fn list_each<D: Dir>(alloc: Global, dir: &mut D) -> Result<Vec<Name>, LookError>
     requires active { IsActive (D.shown dir.old).local }
     ensures only { OnlyLooksFor D.observed lists_stages (D.shown dir.old) (D.shown dir.new) }
-    ensures cause { IsErrOf result LookupError.DirFault → Rose (D.shown dir.old).faults (D.shown dir.new).faults }
+    ensures cause { IsErrOf result LookError.DirFault → Rose (D.shown dir.old).faults (D.shown dir.new).faults }
     ensures kind { IfErr result IsFault }
     ensures listed { IfOk result (λ names. D.observed ≡ true → AreListedBetween stages (D.shown dir.old) (D.shown dir.new) names.items) }
 {
@@ -65,10 +65,10 @@ fn list_each<D: Dir>(alloc: Global, dir: &mut D) -> Result<Vec<Name>, LookupErro
 /// their uuids rise. Where every process keeps the local rules, a pod that isn't among them didn't exist
 /// at an own step; and where no folder comes or goes meanwhile they are the pods that stood before.
 /// `DirFault` where the directory failed, `NoMemory` where memory ran out.
-pub fn listed_pods<D: Dir>(alloc: Global, dir: &mut D) -> Result<Vec<PodId>, LookupError>
+pub fn listed_pods<D: Dir>(alloc: Global, dir: &mut D) -> Result<Vec<PodId>, LookError>
     requires active { IsActive (D.shown dir.old).local }
     ensures only { OnlyLooksFor D.observed lists_stages (D.shown dir.old) (D.shown dir.new) }
-    ensures cause { IsErrOf result LookupError.DirFault → Rose (D.shown dir.old).faults (D.shown dir.new).faults }
+    ensures cause { IsErrOf result LookError.DirFault → Rose (D.shown dir.old).faults (D.shown dir.new).faults }
     ensures kind { IfErr result IsFault }
     ensures rise { IfOk result (λ pods. IsStrictlySortedBy (slice_cmp nat_cmp) (pod_names pods.items)) }
     ensures found { IfOk result (λ pods. D.observed ≡ true → FindsPodsBetween (D.shown dir.old) (D.shown dir.new) pods.items) }

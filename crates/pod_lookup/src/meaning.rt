@@ -7,9 +7,9 @@ ghost use Rattle.pod_lookup.specs.Looks.{OnlyLooksFor, lists_stages};
 ghost use Rattle.pod_lookup.specs.Choice.{is_meant, the_only, choice, IsChoice, IfAmbiguous, NamesMeant};
 ghost use Rattle.pod_lookup.specs.Resolved.{IsChosen, IsNoneOf, Existed, AreTheLeast, FindsTheOne, IsSequential};
 
-use crate::error::LookupError;
 use crate::listing::listed_pods;
 use dir_trait::{Dir, PodId, PodPrefix};
+use phase_read::LookError;
 use std::alloc::Global;
 
 // Whether the pod's uuid begins with the prefix.
@@ -20,9 +20,9 @@ fn is_meant(prefix: PodPrefix, pod: PodId) -> bool
 }
 
 // The pods that begin so.
-fn meant(alloc: Global, prefix: PodPrefix, pods: &[PodId]) -> Result<Vec<PodId>, LookupError>
+fn meant(alloc: Global, prefix: PodPrefix, pods: &[PodId]) -> Result<Vec<PodId>, LookError>
     ensures meant { IfOk result (λ found. found.items ≡ filter (is_meant prefix) pods.now) }
-    ensures memory { IfErr result (λ e. e ≡ LookupError.NoMemory) }
+    ensures memory { IfErr result (λ e. e ≡ LookError.NoMemory) }
 {
     let found = pods
         .iter()
@@ -31,23 +31,23 @@ fn meant(alloc: Global, prefix: PodPrefix, pods: &[PodId]) -> Result<Vec<PodId>,
         .collect(alloc);
     match found {
         Ok(found) => Ok(found),
-        Err(_) => Err(LookupError::NoMemory),
+        Err(_) => Err(LookError::NoMemory),
     }
 }
 
-fn the_only(pods: &[PodId]) -> Result<PodId, LookupError>
+fn the_only(pods: &[PodId]) -> Result<PodId, LookError>
     ensures { result ≡ the_only pods.now }
 {
     match pods {
-        [] => Err(LookupError::NoPod),
+        [] => Err(LookError::NoPod),
         [pod] => Ok(*pod),
-        [first, second, ..] => Err(LookupError::Ambiguous(*first, *second)),
+        [first, second, ..] => Err(LookError::Ambiguous(*first, *second)),
     }
 }
 
-fn choose(alloc: Global, prefix: PodPrefix, pods: &[PodId]) -> Result<PodId, LookupError>
+fn choose(alloc: Global, prefix: PodPrefix, pods: &[PodId]) -> Result<PodId, LookError>
     ensures chosen { IsChoice result → result ≡ choice prefix pods.now }
-    ensures calm { IsErrOf result LookupError.DirFault → ⊥ }
+    ensures calm { IsErrOf result LookError.DirFault → ⊥ }
 {
     let found = meant(alloc, prefix, pods)?;
     the_only(&found)
@@ -67,10 +67,10 @@ fn whole(prefix: PodPrefix) -> Option<PodId>
 /// listed begins so, and where every process keeps the local rules each such pod didn't exist at an own
 /// step; `Ambiguous` where several do, with the two least. `DirFault` where the directory failed,
 /// `NoMemory` where memory ran out.
-pub fn resolve<D: Dir>(alloc: Global, dir: &mut D, prefix: PodPrefix) -> Result<PodId, LookupError>
+pub fn resolve<D: Dir>(alloc: Global, dir: &mut D, prefix: PodPrefix) -> Result<PodId, LookError>
     requires active { IsActive (D.shown dir.old).local }
     ensures only { OnlyLooksFor D.observed lists_stages (D.shown dir.old) (D.shown dir.new) }
-    ensures cause { IsErrOf result LookupError.DirFault → Rose (D.shown dir.old).faults (D.shown dir.new).faults }
+    ensures cause { IsErrOf result LookError.DirFault → Rose (D.shown dir.old).faults (D.shown dir.new).faults }
     ensures whole { length prefix ≡ 36 → IsOk result }
     ensures unseen { length prefix ≡ 36 → D.shown dir.new ≡ D.shown dir.old }
     ensures same { length prefix ≡ 36 → IfOk result (λ pod. pod_text pod.bytes ≡ prefix) }
@@ -79,7 +79,7 @@ pub fn resolve<D: Dir>(alloc: Global, dir: &mut D, prefix: PodPrefix) -> Result<
         → IsChosen prefix result (D.shown dir.old) (D.shown dir.new) }
     ensures existed { (length prefix ≡ 36 → ⊥) → IfOk result (λ pod. D.observed ≡ true
         → Existed pod (D.shown dir.old) (D.shown dir.new)) }
-    ensures none { IsErrOf result LookupError.NoPod → D.observed ≡ true
+    ensures none { IsErrOf result LookError.NoPod → D.observed ≡ true
         → IsNoneOf prefix (D.shown dir.old) (D.shown dir.new) }
     ensures several { IfAmbiguous result (λ a b. D.observed ≡ true
         → AreTheLeast prefix a b (D.shown dir.old) (D.shown dir.new)) }

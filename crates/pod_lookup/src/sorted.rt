@@ -9,50 +9,50 @@ ghost use Rattle.dir_model.specs.Listings.{has_name};
 ghost use Rattle.dir_model.specs.Pods.{pod_of};
 ghost use Rattle.pod_lookup.specs.Pods.{pods_named};
 
-use crate::error::LookupError;
 use dir_trait::{Name, PodId};
+use phase_read::LookError;
 use std::alloc::Global;
 use std::collections::BTreeSet;
 
 // Each name once, in byte order.
-fn gathered(alloc: Global, names: &[Name]) -> Result<BTreeSet<Name>, LookupError>
+fn gathered(alloc: Global, names: &[Name]) -> Result<BTreeSet<Name>, LookError>
     ensures has { IfOk result (λ sorted. (name : List ℕ) → has_name sorted.keys name ≡ has_name names.now name) }
     ensures ordered { IfOk result (λ sorted. IsOrdered (slice_cmp nat_cmp) sorted) }
-    ensures memory { IfErr result (λ e. e ≡ LookupError.NoMemory) }
+    ensures memory { IfErr result (λ e. e ≡ LookError.NoMemory) }
 {
     let mut sorted = BTreeSet::new(alloc);
     'names: for name in names {
         match sorted.insert(*name) {
             Ok(_) => {}
-            Err(_) => return Err(LookupError::NoMemory),
+            Err(_) => return Err(LookError::NoMemory),
         }
     }
     Ok(sorted)
 }
 
-fn sorted_names(alloc: Global, names: &[Name]) -> Result<Vec<Name>, LookupError>
+fn sorted_names(alloc: Global, names: &[Name]) -> Result<Vec<Name>, LookError>
     ensures has { IfOk result (λ sorted. (name : List ℕ) → has_name sorted.items name ≡ has_name names.now name) }
     ensures ordered { IfOk result (λ sorted. IsStrictlySortedBy (slice_cmp nat_cmp) sorted.items) }
-    ensures memory { IfErr result (λ e. e ≡ LookupError.NoMemory) }
+    ensures memory { IfErr result (λ e. e ≡ LookError.NoMemory) }
 {
     let sorted = gathered(alloc, names)?;
     match sorted.iter().copied().collect(alloc) {
         Ok(list) => Ok(list),
-        Err(_) => Err(LookupError::NoMemory),
+        Err(_) => Err(LookError::NoMemory),
     }
 }
 
 // The pods of which these are the names.
-fn parsed(alloc: Global, names: &[Name]) -> Result<Vec<PodId>, LookupError>
+fn parsed(alloc: Global, names: &[Name]) -> Result<Vec<PodId>, LookError>
     ensures pods { IfOk result (λ pods. pods.items ≡ filter_map pod_of names.now) }
-    ensures memory { IfErr result (λ e. e ≡ LookupError.NoMemory) }
+    ensures memory { IfErr result (λ e. e ≡ LookError.NoMemory) }
 {
     let mut pods = Vec::new(alloc);
     'names: for name in names {
         if let Some(pod) = PodId::parse(name.as_str()) {
             match pods.push(pod) {
                 Ok(()) => {}
-                Err(_) => return Err(LookupError::NoMemory),
+                Err(_) => return Err(LookError::NoMemory),
             }
         }
     }
@@ -61,9 +61,9 @@ fn parsed(alloc: Global, names: &[Name]) -> Result<Vec<PodId>, LookupError>
 
 /// The pods among names of folders, each once, and their uuids rise. A name that isn't a uuid is passed
 /// over. Refused only where memory ran out.
-pub(crate) fn pods_among(alloc: Global, names: &[Name]) -> Result<Vec<PodId>, LookupError>
+pub(crate) fn pods_among(alloc: Global, names: &[Name]) -> Result<Vec<PodId>, LookError>
     ensures among { IfOk result (λ pods. pods.items ≡ pods_named names.now) }
-    ensures memory { IfErr result (λ e. e ≡ LookupError.NoMemory) }
+    ensures memory { IfErr result (λ e. e ≡ LookError.NoMemory) }
 {
     let sorted = sorted_names(alloc, names)?;
     parsed(alloc, &sorted)

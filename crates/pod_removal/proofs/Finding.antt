@@ -132,7 +132,7 @@ module _ {observed : Bool} (pod : PodId) (p : Phase) (area : Area) (old mid new 
 
 pub look_unrefused : (pod : PodId) (e : LookError) (old new : DirAt) → RoundRefused pod (refusal pod (look_setback e)) old new
 look_unrefused pod look.DirFault old new which is = cc
-look_unrefused pod look.NoMemory old new which is = cc
+look_unrefused pod _ old new which is = cc
 
 -- the rounds
 

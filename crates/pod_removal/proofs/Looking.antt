@@ -46,7 +46,7 @@ module _ {observed : Bool} {spot : Spot} (pod : PodId) (old new : DirAt) (is : s
 
 pub alone_failed : {observed : Bool} (pod : PodId) (old new : DirAt) (e : LookError) → (e ≡ look.DirFault → Rose old.faults new.faults) → StopsAlone observed pod (look_setback e) old new
 alone_failed pod old new look.DirFault rose = record { calm = refl; fault = λ is. rose refl; missing = λ is. cc; there = λ is. cc }
-alone_failed pod old new look.NoMemory rose = record { calm = refl; fault = λ is. cc; missing = λ is. cc; there = λ is. cc }
+alone_failed pod old new _ rose = record { calm = refl; fault = λ is. cc; missing = λ is. cc; there = λ is. cc }
 
 -- the folder was missing, or the look failed
 pub missing_stops : {observed : Bool} {spot : Spot} (pod : PodId) (a : Area) (old new : DirAt) → spot ≡ pod_spot pod a → (observed ≡ true → HeldBetween old new (λ s. stands s.namespace spot ≡ false)) → Stopped observed pod (IsAbsentAt pod a) stop.Missing old new
@@ -54,12 +54,12 @@ missing_stops pod a old new is absent = record { fault = λ e. cc; missing = λ 
 
 pub failed_stops : {observed : Bool} {pod : PodId} {Missed : DirState → Type 0} {old new : DirAt} (e : LookError) → (e ≡ look.DirFault → Rose old.faults new.faults) → Stopped observed pod Missed (look_setback e) old new
 failed_stops look.DirFault rose = record { fault = λ is. rose refl; missing = λ is. cc; manifest = λ is. cc; stray = λ is. cc }
-failed_stops look.NoMemory rose = record { fault = λ is. cc; missing = λ is. cc; manifest = λ is. cc; stray = λ is. cc }
+failed_stops _ rose = record { fault = λ is. cc; missing = λ is. cc; manifest = λ is. cc; stray = λ is. cc }
 
 pub look_calm : (e : LookError) (which : Which) → look_setback e ≡ stop.Busy which → ⊥
 look_calm look.DirFault which is = cc
-look_calm look.NoMemory which is = cc
+look_calm _ which is = cc
 
 pub look_no_stray : (e : LookError) → look_setback e ≡ stop.Stray → ⊥
 look_no_stray look.DirFault is = cc
-look_no_stray look.NoMemory is = cc
+look_no_stray _ is = cc

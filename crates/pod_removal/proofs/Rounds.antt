@@ -274,13 +274,13 @@ cause_wrong {observed} {a} {b} pod p at wrong exact = record {
 
 pub cause_failed : {observed : Bool} {a b : DirAt} (pod : PodId) (e : LookError) → (e ≡ look.DirFault → Rose a.faults b.faults) → RoundCause observed pod (refusal pod (look_setback e)) a b
 cause_failed pod look.DirFault rose = record { fault = λ is. rose refl; there = λ is. cc; phase = λ q is. cc; manifest = λ is. cc; named = λ other which is. cc; stray = λ is. cc }
-cause_failed pod look.NoMemory rose = record { fault = λ is. cc; there = λ is. cc; phase = λ q is. cc; manifest = λ is. cc; named = λ other which is. cc; stray = λ is. cc }
+cause_failed pod _ rose = record { fault = λ is. cc; there = λ is. cc; phase = λ q is. cc; manifest = λ is. cc; named = λ other which is. cc; stray = λ is. cc }
 
 -- a read that failed, and one that found the pod in a phase that doesn't allow its removal
 
 pub look_alone : (pod : PodId) (e : LookError) (old new : DirAt) → RefusedByAnother pod (refusal pod (look_setback e)) old new
 look_alone pod look.DirFault old new = record { busy = λ which is. cc; owner = λ conforming q is owned. cc }
-look_alone pod look.NoMemory old new = record { busy = λ which is. cc; owner = λ conforming q is owned. cc }
+look_alone pod _ old new = record { busy = λ which is. cc; owner = λ conforming q is owned. cc }
 
 pub wrong_elsewhere : {observed : Bool} (pod : PodId) (now : ℕ) (old new : DirAt) (p : Phase) (area : Area) → (observed ≡ true → ExtendsBy (is_look_at (is_pod_spot pod)) old new)
     → (observed ≡ true → IsConforming new.trace → AtOwnEvent old.process old.trace new.trace (IsInPhase pod p area))

@@ -8,7 +8,7 @@ ghost use Rattle.pod_report.specs.Outside.{IsUnsaid};
 ghost use Rattle.pod_report.specs.Requests.{OnlyAsksFor, surveys, HasNoPodOpen};
 ghost use Rattle.pod_report.specs.Snapshot.{AddsLine, TellsPods, IsSnapshotBetween, LinesStanding};
 
-use crate::error::{ReportError, lookup_fault};
+use crate::error::{ReportError, look_fault};
 use crate::line::{PodLine, line_of};
 use dir_trait::{Dir, PodId};
 use pod_lookup::listed_pods;
@@ -90,6 +90,6 @@ pub fn list_pods<D: Dir>(alloc: Global, dir: &mut D) -> Result<Vec<PodLine>, Rep
 {
     match listed_pods(alloc, dir) {
         Ok(pods) => lines_of(alloc, dir, &pods),
-        Err(error) => Err(lookup_fault(error)),
+        Err(error) => Err(look_fault(error)),
     }
 }

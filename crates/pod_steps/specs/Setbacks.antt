@@ -21,9 +21,10 @@ abbrev pub lock_setback : Which → DirError → Setback
 lock_setback which dir.Locked = Busy which
 lock_setback which error = set_back error
 
+-- a look at a pod gives DirFault or NoMemory
 abbrev pub look_setback : LookError → Setback
 look_setback look.DirFault = DirFault
-look_setback look.NoMemory = NoMemory
+look_setback _ = NoMemory
 
 abbrev pub delete_setback : DeleteError → Setback
 delete_setback delete.DirFault = DirFault

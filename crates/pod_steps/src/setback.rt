@@ -1,5 +1,6 @@
 // What sets a step at a pod back.
 ghost use Rattle.std.specs.Prelude.{◌≡◌};
+ghost use Rattle.phase_read.specs.Faults.{IsFault};
 ghost use Rattle.pod_steps.specs.Setbacks.{set_back, lock_setback, look_setback, delete_setback};
 
 use dir_trait::{DirError, Which};
@@ -47,11 +48,13 @@ pub(crate) fn lock_setback(which: Which, error: DirError) -> Setback
 
 /// What it means that a look found nothing out.
 pub fn look_setback(error: LookError) -> Setback
+    requires { IsFault error }
     ensures { result ≡ look_setback error }
 {
     match error {
         LookError::DirFault => Setback::DirFault,
         LookError::NoMemory => Setback::NoMemory,
+        _ => unreachable!(),
     }
 }
 

@@ -7,8 +7,8 @@ use Rattle.dir_model.specs.Pods.{pod_text}
 use Rattle.dir_rules.specs.declared.seen.Seen.{Seen}
 use Rattle.dir_trait.specs.DirCalls.{DirAt}
 use Rattle.dir_trait.specs.Knowledge.{Knows}
-use Rattle.pod_lookup.specs.declared.error.LookupError.{LookupError}
-use Rattle.pod_lookup.specs.declared.error.LookupError.TheVariants as lookup
+use Rattle.phase_read.specs.declared.found.LookError.{LookError}
+use Rattle.phase_read.specs.declared.found.LookError.TheVariants as lookup
 use Rattle.pod_lookup.specs.Choice.{IfAmbiguous, IsChoice, NamesMeant}
 use Rattle.pod_lookup.specs.Looks.{OnlyLooksFor, lists_stages}
 use Rattle.pod_lookup.specs.Resolved.{AreTheLeast, Existed, FindsTheOne, IsChosen, IsNoneOf, IsSequential, IsShown}
@@ -58,19 +58,19 @@ module _ (observed : Bool) (word : List ℕ) (old new : DirAt) where
   least_so : {a b : PodId} → AreTheLeast word a b old new → AreTheLeast word a b (shown_at before) (shown_at after)
   least_so x = record { names = x.names; listed = x.listed; first = shown_so x.first; second = shown_so x.second; rise = x.rise; least = x.least }
 
-  why : (error : LookupError) → (IsErrOf {T = PodId} (Err error) lookup.DirFault → Rose old.faults new.faults) → (IsErrOf {T = PodId} (Err error) lookup.NoPod → observed ≡ true → IsNoneOf word old new) →
+  why : (error : LookError) → (IsErrOf {T = PodId} (Err error) lookup.DirFault → Rose old.faults new.faults) → (IsErrOf {T = PodId} (Err error) lookup.NoPod → observed ≡ true → IsNoneOf word old new) →
       IfAmbiguous (Err error) (λ a b. observed ≡ true → AreTheLeast word a b old new) → MeansNone word error before after
   why lookup.NoPod cause none several = none refl
   why (lookup.Ambiguous a b) cause none several = λ t. least_so (several t)
   why lookup.DirFault cause none several = cause refl
   why lookup.NoMemory cause none several = tt
 
-  apart : (error : LookupError) (b : Bool) → (length word == 36) ≡ b → (length word ≡ 36 → IsOk {T = PodId} {E = LookupError} (Err error)) → cond b directly looking ≡ looking
+  apart : (error : LookError) (b : Bool) → (length word == 36) ≡ b → (length word ≡ 36 → IsOk {T = PodId} {E = LookError} (Err error)) → cond b directly looking ≡ looking
   apart error false is whole = refl
   apart error true is whole = let clash : false ≡ true = whole (equal_lengths (length word) is) in cc
 
-  pub came_to_none : (error : LookupError) (refusal : Refusal) → refusal ≡ lookup_refusal error → (IsErrOf {T = PodId} (Err error) lookup.DirFault → Rose old.faults new.faults) → (IsErrOf {T = PodId} (Err error) lookup.NoPod → observed ≡ true → IsNoneOf word old new) →
-      IfAmbiguous (Err error) (λ a b. observed ≡ true → AreTheLeast word a b old new) → (length word ≡ 36 → IsOk {T = PodId} {E = LookupError} (Err error)) → NamesMeant word (Err error) →
+  pub came_to_none : (error : LookError) (refusal : Refusal) → refusal ≡ lookup_refusal error → (IsErrOf {T = PodId} (Err error) lookup.DirFault → Rose old.faults new.faults) → (IsErrOf {T = PodId} (Err error) lookup.NoPod → observed ≡ true → IsNoneOf word old new) →
+      IfAmbiguous (Err error) (λ a b. observed ≡ true → AreTheLeast word a b old new) → (length word ≡ 36 → IsOk {T = PodId} {E = LookError} (Err error)) → NamesMeant word (Err error) →
       ((length word ≡ 36 → ⊥) → IsChoice (Err error) → observed ≡ true → IsChosen word (Err error) old new) → (IsChoice (Err error) → observed ≡ true → FindsTheOne word (Err error) old new) → (IsChoice (Err error) → observed ≡ true → IsSequential word (Err error) old new) →
       FindsMeant word before after (Err refusal)
   came_to_none error refusal is cause none several whole names chosen one quiet = record {

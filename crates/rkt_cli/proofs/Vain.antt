@@ -17,7 +17,7 @@ use Rattle.dir_rules.specs.Conforms.{Conforms, IsTied, seen_replied}
 use Rattle.dir_rules.proofs.Tied.{tied_call}
 use Rattle.dir_trait.specs.Knowledge.{Knows}
 use Rattle.lifecycle.specs.Executions.{IsConforming}
-use Rattle.pod_lookup.specs.declared.error.LookupError.{LookupError}
+use Rattle.phase_read.specs.declared.found.LookError.{LookError}
 use Rattle.pod_lookup.specs.Choice.{sequential_resolve}
 use Rattle.command_outcomes.specs.declared.refusal.Refusal.{Refusal}
 use Rattle.command_outcomes.specs.declared.refusal.Refusal.TheVariants.{NoMemory}
@@ -96,7 +96,7 @@ module _ {word : List ℕ} {intent : Intent} {old new : DirSeen} {refusal : Refu
         lawful_by me old.trace new.trace quiet conforming draw intent its fresh (began_since me old.trace v.begun.trace new.trace intent (v.begins t) vain_first rest) (v.finishes t).run vain_keeps
 
     -- what its word means in the state before
-    pub vain_meaning : (error : LookupError) → (Quiet v.begun.process v.begun.trace v.looked.trace → OwnsNothing v.begun.process (state_after v.begun.trace).namespace → Err error ≡ sequential_resolve (state_after v.begun.trace) word) →
+    pub vain_meaning : (error : LookError) → (Quiet v.begun.process v.begun.trace v.looked.trace → OwnsNothing v.begun.process (state_after v.begun.trace).namespace → Err error ≡ sequential_resolve (state_after v.begun.trace) word) →
         sequential_resolve (state_after old.trace) word ≡ Err error
     vain_meaning error told =
         let here : state_after v.begun.trace ≡ state_next (state_after old.trace) (event_begun) = ap state_after (began_alone me old.trace v.begun.trace intent (v.begins t) vain_first) ∙ state_after-push old.trace event_begun in

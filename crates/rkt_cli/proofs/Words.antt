@@ -9,8 +9,8 @@ use Rattle.dir_model.specs.Calls.{Extends, is_begin, is_finish}
 use Rattle.dir_model.specs.Trace.{state_after}
 use Rattle.dir_model.proofs.Chains.{nothing_yet, step_extends}
 use Rattle.dir_model.proofs.Lists.{or_last}
-use Rattle.pod_lookup.specs.declared.error.LookupError.{LookupError}
-use Rattle.pod_lookup.specs.declared.error.LookupError.TheVariants as lookup
+use Rattle.phase_read.specs.declared.found.LookError.{LookError}
+use Rattle.phase_read.specs.declared.found.LookError.TheVariants as lookup
 use Rattle.pod_lookup.specs.Choice.{IsChoice}
 use Rattle.pod_lookup.specs.Resolved.{IsSequential}
 use Rattle.lifecycle.specs.Executions.{IsConforming}
@@ -39,13 +39,13 @@ use Rattle.rkt_cli.proofs.Tellings.{tells}
 use Rattle.rkt_cli.proofs.Vain.{never_keeps, never_lawful, vain_extends, vain_meaning, vain_leaves, vain_rose}
 
 -- the refusals of a line that came to nothing
-vain_status : (e : LookupError) → IsStatus (status_of (lookup_refusal e))
+vain_status : (e : LookError) → IsStatus (status_of (lookup_refusal e))
 vain_status lookup.NoPod = refl
 vain_status (lookup.Ambiguous a b) = refl
 vain_status lookup.DirFault = refl
 vain_status lookup.NoMemory = refl
 
-vain_read : (e : LookupError) → status_of (lookup_refusal e) ≡ 1 → ⊥
+vain_read : (e : LookError) → status_of (lookup_refusal e) ≡ 1 → ⊥
 vain_read lookup.NoPod is = absurd_number 2 1 is refl
 vain_read (lookup.Ambiguous a b) is = absurd_number 3 1 is refl
 vain_read lookup.DirFault is = absurd_number 9 1 is refl
@@ -162,10 +162,10 @@ undisturbed l pod old new u =
     (subst (λ (b : Bool). WorksAlone b (reads_bundle (any_task l)) old new) (sym (same_uses l pod)) u)
 
 module _ (l : Line) (now : ℕ) (draw : Draw) (old new : Moment) (status : ℕ) where
-  abbrev Means : Result PodId LookupError → Type 0
+  abbrev Means : Result PodId LookError → Type 0
   Means m = (status ≡ 14) ⊎ AnswersMeaning l now draw m status old new
 
-  abbrev meaning : Result PodId LookupError
+  abbrev meaning : Result PodId LookError
   meaning = meaning_in (state_after old.outside.dir.trace) (word_of l) draw
 
   -- a line with a word works on the directory
@@ -189,13 +189,13 @@ module _ (l : Line) (now : ℕ) (draw : Draw) (old new : Moment) (status : ℕ) 
       t = u.observed uses
 
       -- so it was answered, and so left
-      means : (e : LookupError) → n.refusal ≡ lookup_refusal e → IsSequential word (Err e) (shown_at v.begun) (shown_at v.looked) → Means meaning
+      means : (e : LookError) → n.refusal ≡ lookup_refusal e → IsSequential word (Err e) (shown_at v.begun) (shown_at v.looked) → Means meaning
       means e same told =
           let answer : IsAnswer (Err (lookup_refusal e)) status old new = subst (λ (r : Refusal). IsAnswer (Err r) status old new) same (n.is, λ t. ap (λ (s : SinkSeen). s.bytes) n.out, n.said) in
           let m : meaning ≡ Err e = ap (λ (w : Option (List ℕ)). meaning_in (state_after old.outside.dir.trace) w draw) is ∙ vain_meaning v t (u.alone uses) e told in
-          inr (subst (λ (x : Result PodId LookupError). AnswersMeaning l now draw x status old new) (sym m) (answer, vain_leaves v t (u.alone uses)))
+          inr (subst (λ (x : Result PodId LookError). AnswersMeaning l now draw x status old new) (sym m) (answer, vain_leaves v t (u.alone uses)))
 
-      by : (e : LookupError) → n.refusal ≡ lookup_refusal e → MeansNone word e v.begun v.looked → (IsChoice (Err e) → IsSequential word (Err e) (shown_at v.begun) (shown_at v.looked)) → Means meaning
+      by : (e : LookError) → n.refusal ≡ lookup_refusal e → MeansNone word e v.begun v.looked → (IsChoice (Err e) → IsSequential word (Err e) (shown_at v.begun) (shown_at v.looked)) → Means meaning
       by lookup.NoMemory same why told = inl (n.is ∙ ap status_of same)
       by lookup.DirFault same why told = absurd (u.works uses (vain_rose v why))
       by lookup.NoPod same why told = means lookup.NoPod same (told tt)
@@ -212,7 +212,7 @@ module _ (l : Line) (now : ℕ) (draw : Draw) (old new : Moment) (status : ℕ) 
       let its = undisturbed l x.0 old.outside new.outside u in
       elim (its_meaning l x.0 x.1 x.2 its) [
         | inl e ↦ inl e
-        | inr m ↦ elim (quiet x.2 its works) [ inl e ↦ inl e | inr a ↦ inr (subst (λ (r : Result PodId LookupError). AnswersMeaning l now draw r status old new) (sym m) a) ]
+        | inr m ↦ elim (quiet x.2 its works) [ inl e ↦ inl e | inr a ↦ inr (subst (λ (r : Result PodId LookError). AnswersMeaning l now draw r status old new) (sym m) a) ]
       ]
 
 module _ (now : ℕ) (draw : Draw) (old new : Moment) (status : ℕ) where

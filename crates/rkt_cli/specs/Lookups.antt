@@ -8,8 +8,8 @@ use Rattle.dir_model.specs.declared.request.Reply.TheVariants.{Done}
 use Rattle.dir_trait.specs.Calls.{CallStep}
 use Rattle.dir_trait.specs.Causes.{Rose}
 use Rattle.dir_trait.specs.Knowledge.{Knows}
-use Rattle.pod_lookup.specs.declared.error.LookupError.{LookupError}
-use Rattle.pod_lookup.specs.declared.error.LookupError.TheVariants as lookup
+use Rattle.phase_read.specs.declared.found.LookError.{LookError}
+use Rattle.phase_read.specs.declared.found.LookError.TheVariants as lookup
 use Rattle.pod_lookup.specs.Choice.{IsChoice, NamesMeant}
 use Rattle.pod_lookup.specs.Resolved.{IsChosen, IsNoneOf, AreTheLeast, FindsTheOne, IsSequential}
 use Rattle.command_outcomes.specs.declared.refusal.Refusal.{Refusal}
@@ -31,7 +31,7 @@ abbrev pub OfPod : Line → Draw → (Task → Type 0) → Type 0
 OfPod line draw P = (pod : PodId) × IsMeantBy (word_of line) draw pod × P (task_of line pod)
 
 -- what is said of a word that means no pod
-abbrev pub lookup_refusal : LookupError → Refusal
+abbrev pub lookup_refusal : LookError → Refusal
 lookup_refusal lookup.NoPod = NoPod
 lookup_refusal (lookup.Ambiguous first second) = Ambiguous first second
 lookup_refusal lookup.DirFault = DirFault
@@ -39,7 +39,7 @@ lookup_refusal lookup.NoMemory = NoMemory
 
 -- where every process keeps the local rules, each pod that the word begins didn't exist at an own step of the look; listings showed
 -- these two, which are the least that it begins; or the directory failed
-abbrev pub MeansNone : List ℕ → LookupError → DirSeen → DirSeen → Type 0
+abbrev pub MeansNone : List ℕ → LookError → DirSeen → DirSeen → Type 0
 MeansNone word lookup.NoPod old new = old.observed ≡ true → IsNoneOf word (shown_at old) (shown_at new)
 MeansNone word (lookup.Ambiguous first second) old new = old.observed ≡ true → AreTheLeast word first second (shown_at old) (shown_at new)
 MeansNone word lookup.DirFault old new = Rose old.faults new.faults
@@ -47,7 +47,7 @@ MeansNone word lookup.NoMemory old new = Unit {0}
 
 -- a look for the pod of a word that isn't a whole uuid found none, for this cause; whatever pods it names, the word begins their uuids
 pub record IsVain (word : List ℕ) (refusal : Refusal) (old new : DirSeen) : Type 0 where
-  pub error : LookupError
+  pub error : LookError
   pub is : refusal ≡ lookup_refusal error
   pub part : approach_of word ≡ looking
   pub names : NamesMeant word (Err error)

@@ -13,7 +13,7 @@ use Rattle.dir_trait.specs.Quiet.{Quiet}
 use Rattle.dir_trait.specs.Sinks.{WritesPart}
 use Rattle.dir_trait.specs.State.{DirState}
 use Rattle.dir_trait.specs.Trace.{state_after}
-use Rattle.pod_lookup.specs.declared.error.LookupError.{LookupError}
+use Rattle.phase_read.specs.declared.found.LookError.{LookError}
 use Rattle.pod_lookup.specs.Choice.{sequential_resolve}
 use Rattle.rkt_cli.specs.declared.line.Line.{Line}
 use Rattle.rkt_cli.specs.Tasks.{Task, task_of, word_of}
@@ -155,11 +155,11 @@ abbrev pub AnswersTask : Task → ℕ → Draw → ℕ → Moment → Moment →
 AnswersTask task now draw status old new = (plain : ℕ) × Graded task plain status × IsPlainAnswer task now draw plain old new
 
 -- by what the line's word means in the state before: the answer of the command on that pod, or that there is none, or more than one
-abbrev pub meaning_in : DirState → Option (List ℕ) → Draw → Result PodId LookupError
+abbrev pub meaning_in : DirState → Option (List ℕ) → Draw → Result PodId LookError
 meaning_in s None draw = Ok draw.uuid
 meaning_in s (Some word) draw = sequential_resolve s word
 
-abbrev pub AnswersMeaning : Line → ℕ → Draw → Result PodId LookupError → ℕ → Moment → Moment → Type 0
+abbrev pub AnswersMeaning : Line → ℕ → Draw → Result PodId LookError → ℕ → Moment → Moment → Type 0
 AnswersMeaning line now draw (Ok pod) status old new = AnswersTask (task_of line pod) now draw status old new
 AnswersMeaning line now draw (Err error) status old new =
     IsAnswer (Err (lookup_refusal error)) status old new × LeavesAll old.outside.dir.process (state_after old.outside.dir.trace) (state_after new.outside.dir.trace)

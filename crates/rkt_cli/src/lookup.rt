@@ -8,17 +8,18 @@ ghost use Rattle.rkt_cli.specs.Tasks.{word_of};
 use crate::line::{Line, line_word};
 use command_outcomes::Refusal;
 use dir_trait::{Dir, Draw, PodId, PodPrefix};
-use pod_lookup::{LookupError, resolve};
+use phase_read::LookError;
+use pod_lookup::resolve;
 use std::alloc::Global;
 
-fn lookup_refusal(error: LookupError) -> Refusal
+fn lookup_refusal(error: LookError) -> Refusal
     ensures { result ≡ lookup_refusal error }
 {
     match error {
-        LookupError::NoPod => Refusal::NoPod,
-        LookupError::Ambiguous(first, second) => Refusal::Ambiguous(first, second),
-        LookupError::DirFault => Refusal::DirFault,
-        LookupError::NoMemory => Refusal::NoMemory,
+        LookError::NoPod => Refusal::NoPod,
+        LookError::Ambiguous(first, second) => Refusal::Ambiguous(first, second),
+        LookError::DirFault => Refusal::DirFault,
+        LookError::NoMemory => Refusal::NoMemory,
     }
 }
 
