@@ -1,13 +1,12 @@
 -- Up to the last own event of a stretch under the gate images stay, and what was read of a file is the file that stands then.
-use Rattle.std.proofs.Common.{◌≡◌, ◌⊎◌, ◌<◌, ℕ, Bool, true, false, ◌||◌, Option, Some, None, List, [], ◌∷◌, ◌++◌, length, take, append_assoc, append-nil, refl, sym, ap, subst, ◌∙◌}
+use Rattle.std.proofs.Common.{◌≡◌, ◌<◌, ℕ, Bool, true, false, ◌||◌, Option, Some, None, List, [], ◌∷◌, ◌++◌, length, take, append_assoc, append-nil, refl, sym, ap, subst, ◌∙◌}
 use Rattle.std.specs.List.{AllByRecursion}
 use Rattle.ac_types.specs.declared.store_key.StoreKey.{StoreKey}
 use Rattle.dir_model.specs.declared.area.Area.TheVariants.{Images}
 use Rattle.dir_model.specs.declared.event.Event.{Event}
-use Rattle.dir_model.specs.declared.item.Inner.{Inner}
 use Rattle.dir_model.specs.declared.request.Request.{Request}
 use Rattle.dir_model.specs.declared.spot.Spot.{Spot}
-use Rattle.dir_model.specs.State.{DirState, folder_at, lives}
+use Rattle.dir_model.specs.State.{folder_at}
 use Rattle.dir_model.specs.Trace.{state_after}
 use Rattle.dir_model.specs.Calls.{AtOwnStep, is_foreign}
 use Rattle.dir_model.proofs.Lists.{all_left, same_rest}
@@ -27,7 +26,7 @@ use Rattle.image_reading.specs.Places.{image_inner, image_spot}
 use Rattle.image_reading.specs.Files.{ReadsFile}
 use Rattle.standing_images.proofs.LastSteps.{LastOwn}
 use Rattle.standing_images.proofs.SameFiles.{same_file}
-use Rattle.standing_images.proofs.Pieces.{ArePieces, told_grown, IsFront, is_front}
+use Rattle.standing_images.proofs.Pieces.{ArePieces, told_grown, is_front}
 
 module _ {asks : Request → Bool} {s : Seen} {old new : DirAt} (g : GoesOn asks s old new) (l : LastOwn old.process g.extends.more) where
   abbrev pub me : ℕ

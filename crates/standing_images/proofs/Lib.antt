@@ -10,3 +10,4 @@ pub mod Moments
 pub mod Keys
 pub mod Stores
 pub mod OneStore
+pub mod QuietStores

@@ -1,5 +1,5 @@
 -- At one state one list of images is the store, by what is seen of them.
-use Rattle.std.proofs.Common.{arith, ◌≡◌, ◌⊎◌, inl, inr, ◌<◌, ◌≤◌, ℕ, Less, Greater, Option, Some, None, List, [], ◌∷◌, ◌++◌, map, length, take, refl, sym, ap, subst, ◌∙◌}
+use Rattle.std.proofs.Common.{arith, ◌≡◌, ◌⊎◌, inl, inr, ◌<◌, ◌≤◌, ℕ, Less, Greater, Some, List, [], ◌∷◌, map, length, take, refl, sym, ap, subst, ◌∙◌}
 use Rattle.std.specs.Prelude.{Contains, slice_index}
 use Rattle.std.specs.List.{AllByRecursion}
 use Rattle.std.specs.List.Sorted.{IsStrictlySortedBy}
@@ -16,7 +16,7 @@ use Rattle.ac_types.specs.Outcomes.{reads}
 use Rattle.ac_types.proofs.IdTexts.{text_read}
 use Rattle.dep_match.specs.declared.stored.Stored.{Stored}
 use Rattle.dep_match.specs.Copies.{StoredData, stored_data}
-use Rattle.manifests.specs.ImageData.{ImageData, image_data}
+use Rattle.manifests.specs.ImageData.{image_data}
 use Rattle.manifests.specs.ImageForm.{image_manifest}
 use Rattle.dir_model.specs.State.{DirState, folder_at}
 use Rattle.dir_files.specs.Reads.{file_at}

@@ -1,13 +1,12 @@
 -- What was read of the store under the gate stood there together.
-use Rattle.std.proofs.Common.{arith, ◌≡◌, ◌<◌, ℕ, Bool, true, false, nat_le, Some, is_some, List, [], ◌∷◌, ◌++◌, take, length, append_assoc, codes, refl, sym, ap, subst, ◌∙◌, ◌+◌}
+use Rattle.std.proofs.Common.{arith, ◌≡◌, ℕ, Bool, true, false, nat_le, is_some, List, [], ◌∷◌, ◌++◌, take, length, append_assoc, codes, refl, sym, ap, subst, ◌∙◌, ◌+◌}
 use Rattle.std.specs.Prelude.{Contains}
-use Rattle.std.specs.List.{AllByRecursion}
 use Rattle.std.proofs.lemmas.Bool.Decides.{nat_tests}
 use Rattle.std.proofs.lemmas.Grind.{common_steps}
 use Rattle.ac_types.specs.declared.store_key.StoreKey.{StoreKey}
 use Rattle.ac_types.specs.declared.image_id.ImageId.{ImageId}
 use Rattle.ac_types.specs.declared.fault.FaultKind.TheVariants.{TooLong}
-use Rattle.ac_types.specs.Ids.{AreBytes, id_text}
+use Rattle.ac_types.specs.Ids.{id_text}
 use Rattle.ac_types.specs.Outcomes.{fails}
 use Rattle.dep_match.specs.declared.stored.Stored.{Stored}
 use Rattle.manifests.specs.declared.image_manifest.ImageManifest.{ImageManifest}
@@ -19,7 +18,7 @@ use Rattle.dir_model.specs.declared.request.Request.{Request}
 use Rattle.dir_model.specs.declared.request.Request.TheVariants.{ListArea}
 use Rattle.dir_model.specs.declared.request.Reply.TheVariants.{Names}
 use Rattle.dir_model.specs.Listings.{has_name}
-use Rattle.dir_model.specs.State.{DirState, folder_at}
+use Rattle.dir_model.specs.State.{DirState}
 use Rattle.dir_model.specs.Trace.{state_after}
 use Rattle.dir_model.specs.Calls.{event}
 use Rattle.dir_model.proofs.Lists.{all_weaker, same_rest, same_self}
@@ -28,16 +27,15 @@ use Rattle.dir_trait.specs.DirCalls.{DirAt}
 use Rattle.dir_files.specs.Listed.{ShowsArea, ShowsDirectory}
 use Rattle.gate_reading.specs.Areas.{is_image}
 use Rattle.gate_reading.specs.Gate.{GoesOn}
-use Rattle.image_reading.specs.Places.{image_spot, image_inner, manifest_name, id_name, IsPresent}
+use Rattle.image_reading.specs.Places.{image_spot, image_inner, manifest_name, id_name}
 use Rattle.image_reading.specs.Files.{IsManifestOf, IsIdOf, ReadsManifest, ReadsId, most_of_manifest, most_of_id}
 use Rattle.image_reading.specs.Images.{ReadsImage}
-use Rattle.image_reading.specs.Looks.{reads_images}
 use Rattle.image_reading.specs.Store.{keys, ReadsStore}
 use Rattle.image_reading.proofs.Values.{id_front}
 use Rattle.standing_images.specs.Images.{HasFile, StandsSo, AreAll, KeysRise, StoodTogether}
 use Rattle.standing_images.proofs.LastSteps.{LastOwn, last_own}
 use Rattle.standing_images.proofs.AtEnd.{end, whole, file_front}
-use Rattle.standing_images.proofs.Listed.{lead, start, finish, ends_own, items_last, names_whole}
+use Rattle.standing_images.proofs.Listed.{lead, start, ends_own, items_last, names_whole}
 use Rattle.standing_images.proofs.Moments.{has_mark, is_newest}
 use Rattle.standing_images.proofs.Keys.{key_among, keys_rise}
 

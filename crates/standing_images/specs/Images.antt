@@ -7,26 +7,20 @@ use Rattle.std.specs.Cmp.Lexicographic.{slice_cmp}
 use Rattle.ac_types.specs.declared.store_key.StoreKey.{StoreKey}
 use Rattle.ac_types.specs.Ids.{id_text, AreBytes}
 use Rattle.dep_match.specs.declared.stored.Stored.{Stored}
-use Rattle.dep_match.specs.Copies.{stored_data}
 use Rattle.dir_model.specs.declared.area.Area.TheVariants.{Images}
 use Rattle.dir_model.specs.declared.event.Event.{Event}
 use Rattle.dir_model.specs.declared.request.Request.TheVariants.{ListArea}
 use Rattle.dir_model.specs.declared.request.Reply.TheVariants.{Begun}
 use Rattle.dir_model.specs.State.{DirState, folder_at}
-use Rattle.dir_model.specs.Trace.{state_after}
 use Rattle.dir_model.specs.Calls.{AtOwnStep, event}
-use Rattle.dir_rules.specs.declared.seen.Seen.{Seen}
-use Rattle.dir_trait.specs.DirCalls.{DirAt}
 use Rattle.dir_files.specs.Reads.{file_at}
 use Rattle.folder_contents.specs.Entries.{entries_in}
 use Rattle.folder_contents.specs.UnderGate.{shares_images, KnowsAlong}
-use Rattle.gate_reading.specs.Gate.{GoesOn}
 use Rattle.gate_reading.specs.Listings.{has_direct}
 use Rattle.image_reading.specs.Places.{image_spot, image_inner, manifest_name, id_name, IsPresent}
 use Rattle.image_reading.specs.Files.{IsManifestOf, IsIdOf}
-use Rattle.image_reading.specs.Looks.{reads_images}
 use Rattle.image_reading.specs.Marks.{imported_moment}
-use Rattle.image_reading.specs.Store.{keys, ReadsStore}
+use Rattle.image_reading.specs.Store.{keys}
 
 -- a file of this name stands in the image's folder, and this holds of its bytes
 pub record HasFile (key : StoreKey) (name : List ℕ) (P : List ℕ → Type 0) (s : DirState) : Type 0 where
@@ -76,14 +70,3 @@ pub record AreStore (images : List Stored) (s : DirState) : Type 0 where
   pub together : StandTogether images s
   pub all : AreAll (keys images) s
   pub rise : KeysRise (keys images)
-
--- after a trace one list of images is the store, by what is seen of them
-abbrev pub OneStore : List Event → Type 0
-OneStore trace =
-    (xs ys : List Stored) → AreStore xs (state_after trace) → AreStore ys (state_after trace) → map stored_data xs ≡ map stored_data ys
-
--- while a process has the gate, and asks for reads and listings of images alone, what it reads of the store stood there together
-abbrev pub StoresStand : List Event → Type 0
-StoresStand trace =
-    (s : Seen) (old new : DirAt) (images : List Stored) → new.trace ≡ trace → GoesOn reads_images s old new →
-    ReadsStore images old new → StoodTogether images old.process old.trace new.trace

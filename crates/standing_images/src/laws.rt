@@ -1,13 +1,15 @@
-// The law of images that stand together, the contract of a function.
-ghost use Rattle.standing_images.specs.Images.{StoresStand, OneStore};
+// The laws of images that stand together, each the contract of a function.
+ghost use Rattle.standing_images.specs.Laws.{StoresStand, QuietStores, OneStore};
 
 use dir_model::History;
 
 /// What a process reads of the store, while it has the area lock of images shared and asks for nothing but
 /// reads and listings of images, stood there together just after one of its own events. It is all that
-/// stood there when its listing of the area had begun.
+/// stood there when its listing of the area had begun. Where nobody else steps meanwhile, it is the store
+/// as the state before had it.
 pub fn images(history: &History)
-    ensures { StoresStand history.now.items }
+    ensures stand { StoresStand history.now.items }
+    ensures quiet { QuietStores history.now.items }
 {
     let _events = history.as_slice();
 }
