@@ -74,6 +74,7 @@ pub mod Sayings
 pub mod Starts
 pub mod StoreQuiet
 pub mod StoreStanding
+pub mod StoreTexts
 pub mod SweepEnds
 pub mod Sweeps
 pub mod Told

@@ -8,6 +8,7 @@ use Rattle.dir_model.specs.declared.area.Area.TheVariants.{Images}
 use Rattle.dir_model.specs.declared.request.Request.{Request}
 use Rattle.dir_model.specs.declared.spot.Mode.TheVariants.{Shared}
 use Rattle.dir_rules.specs.declared.seen.Seen.{Seen}
+use Rattle.dir_trait.specs.State.{DirState}
 use Rattle.dir_trait.specs.Trace.{state_after}
 use Rattle.dir_trait.specs.DirCalls.{HeldBetween}
 use Rattle.dir_trait.specs.Knowledge.{Knows}
@@ -19,7 +20,7 @@ use Rattle.image_reading.specs.declared.error.StoreError.TheVariants as store_er
 use Rattle.image_reading.specs.Looks.{reads_images}
 use Rattle.image_reading.specs.Store.{ReadsStore, LacksListed, IsStorePath}
 use Rattle.lifecycle.specs.Executions.{IsConforming}
-use Rattle.standing_images.specs.Images.{StoodTogether}
+use Rattle.standing_images.specs.Images.{AreStore, StoodTogether}
 use Rattle.command_outcomes.specs.declared.refusal.Refusal.{Refusal}
 use Rattle.command_outcomes.specs.declared.refusal.Refusal.TheVariants.{Busy, DirFault, NoMemory, Damaged}
 use Rattle.command_outcomes.specs.Moments.{DirSeen, Outcome}
@@ -88,9 +89,17 @@ ImageListSays old new (Err (Busy area)) = WhereFree old (IsHeldElsewhere old new
 ImageListSays old new (Err (Damaged path)) = LacksPart path old new
 ImageListSays old new (Err refusal) = Unit {0}
 
--- what it comes to where nobody else steps: by its own reads, or by the lock as it was held before
+-- the text is that of the images of the store, whatever list of them is taken
+pub record PrintsStore (s : DirState) (text : List ℕ) : Type 0 where
+  pub images : List Stored
+  pub are : AreStore images s
+  pub is : text ≡ images_text images
+  pub only : (others : List Stored) → AreStore others s → text ≡ images_text others
+
+-- what it comes to where nobody else steps: by its own reads, which where every process keeps the local rules are of the store as it was
+-- before; or by the lock as it was held before
 abbrev pub ListsQuietly : DirSeen → DirSeen → Outcome → Type 0
-ListsQuietly old new (Ok text) = ListsStore old new text
+ListsQuietly old new (Ok text) = ListsStore old new text × (IsConforming new.trace → PrintsStore (state_after old.trace) text)
 ListsQuietly old new (Err (Busy area)) = (area ≡ Images) × IsBusyElsewhere old.process Images Shared (state_after old.trace)
 ListsQuietly old new (Err (Damaged path)) = LacksPart path old new
 ListsQuietly old new (Err refusal) = ⊥

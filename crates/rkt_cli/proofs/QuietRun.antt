@@ -40,7 +40,7 @@ use Rattle.pod_report.proofs.Going.{visits_survey}
 use Rattle.rkt_cli.proofs.Reported.{report_leaves, report_quiet}
 use Rattle.commands.specs.Status.{status_report}
 use Rattle.pod_report.proofs.QuietSurvey.{inspect_calm, survey_calm}
-use Rattle.commands.specs.ImageList.{image_list_refusal, ListsQuietly}
+use Rattle.commands.specs.ImageList.{image_list_refusal, ListsQuietly, PrintsStore}
 use Rattle.commands.specs.ImageImport.{IsAreaHeld, LeavesImages, ImportsQuietly, is_building_place}
 use Rattle.commands.specs.NextState.{LeavesBeside, is_nowhere}
 use Rattle.commands.specs.ImageRm.{image_rm_refusal, is_removal_place, FindsBusy, RemovesQuietly}
@@ -57,8 +57,10 @@ use Rattle.rkt_cli.proofs.Judged.{judged_whole}
 use Rattle.command_outcomes.proofs.Seen.{rose_wider}
 use Rattle.rkt_cli.proofs.Outcomes.{rose_between, answered, WasAnswered}
 use Rattle.rkt_cli.proofs.Conforming.{begun_knows}
-use Rattle.rkt_cli.proofs.Listed.{listed_in_process, lacked_in_process}
+use Rattle.lifecycle.specs.Executions.{IsConforming}
+use Rattle.rkt_cli.proofs.Listed.{ended_conforms, listed_in_process, lacked_in_process}
 use Rattle.commands.proofs.StoreQuiet.{is_tame, lists_is_tame, at_tame, end_tame}
+use Rattle.commands.proofs.StoreTexts.{prints_store}
 use Rattle.rkt_cli.proofs.StoreRan.{imports}
 use Rattle.rkt_cli.proofs.Imports.{import_printed, stored_in_process, import_refused}
 use Rattle.commands.proofs.ImagesKept.{images_kept, image_held}
@@ -154,7 +156,16 @@ busy_before now draw intent old new area s u =
     subst (λ (p : ℕ). IsBusyElsewhere p Images Shared (state_after old.dir.trace)) s.me (subst (λ (x : DirState). IsBusyElsewhere me Images Shared x) (state ImageList now draw intent old new (Err (Busy area)) s u refl) first)
 
 list_quiet : (now : ℕ) (draw : Draw) (intent : Intent) (old new : Outside) (o : Outcome) → InProcess ImageList now draw intent old new o → Undisturbed ImageList old new → is_own_end o ≡ true → ListsQuietly old.dir new.dir o
-list_quiet now draw intent old new (Ok text) s u own = listed_in_process s s.ran.says.0
+list_quiet now draw intent old new (Ok text) s u own = (listed_in_process s s.ran.says.0, λ conforming. by conforming)
+  where
+    t : old.dir.observed ≡ true
+    t = u.observed refl
+
+    by : IsConforming new.dir.trace → PrintsStore (state_after old.dir.trace) text
+    by conforming =
+        let stands = s.ran.says.1 (s.told ∙ t) (begun intent) (begun_knows s t) refl (ended_conforms s t conforming) in
+        subst (λ (x : DirState). PrintsStore x text) (state ImageList now draw intent old new (Ok text) s u refl)
+        (prints_store s.begun.dir s.ended.dir text stands (s.ran.extends (s.told ∙ t)) (quiet_between ImageList now draw intent old new (Ok text) s u))
 list_quiet now draw intent old new (Err (Busy area)) s u own = (busy_area area s.ran.refusals, busy_before now draw intent old new area s u)
 list_quiet now draw intent old new (Err (Damaged path)) s u own = lacked_in_process s s.ran.says
 list_quiet now draw intent old new (Err NoMemory) s u own = let clash : false ≡ true = own in cc

@@ -1,0 +1,45 @@
+-- The text of the images of the store is one, and where nobody else steps `image list` prints that of the state before.
+use Rattle.std.proofs.Common.{◌≡◌, ℕ, true, codes, List, [], ◌∷◌, ◌++◌, map, refl, sym, ap, subst, ◌∙◌}
+use Rattle.std.specs.Fmt.{decimal}
+use Rattle.std.specs.List.{flat_map}
+use Rattle.ac_types.specs.Ids.{id_text}
+use Rattle.dep_match.specs.declared.stored.Stored.{Stored}
+use Rattle.dep_match.specs.Copies.{StoredData, stored_data}
+use Rattle.dir_model.specs.declared.request.Request.{Request}
+use Rattle.dir_model.specs.declared.request.Request.TheVariants.{OpenArea, TryLock, Close, ListArea, ListIn, ReadIn}
+use Rattle.dir_model.specs.Calls.{Extends}
+use Rattle.dir_model.specs.Quiet.{Quiet}
+use Rattle.dir_model.specs.State.{DirState}
+use Rattle.dir_model.specs.Trace.{state_after}
+use Rattle.standing_images.specs.Images.{AreStore}
+use Rattle.standing_images.specs.Laws.{leaves_store}
+use Rattle.standing_images.proofs.OneStore.{one_store}
+use Rattle.standing_images.proofs.QuietStores.{quiet_store}
+use Rattle.command_outcomes.specs.Moments.{DirSeen}
+use Rattle.commands.specs.ImageList.{images_text, lists_images, ListsStanding, PrintsStore}
+
+-- a line is of what is seen of an image
+seen_text : StoredData → List ℕ
+seen_text d = ((((id_text d.key.bytes ++ codes " ") ++ d.manifest.name) ++ codes " ") ++ decimal d.moment) ++ codes "\n"
+
+text_seen : (images : List Stored) → images_text images ≡ flat_map seen_text (map stored_data images)
+text_seen [] = refl
+text_seen (image ∷ images) = rw (text_seen images) refl
+
+pub one_text : (s : DirState) (xs ys : List Stored) → AreStore xs s → AreStore ys s → images_text xs ≡ images_text ys
+one_text s xs ys x y = text_seen xs ∙ (ap (flat_map seen_text) (one_store s xs ys x y) ∙ sym (text_seen ys))
+
+-- what it asks for changes no image
+lists_leave : (request : Request) → lists_images request ≡ true → leaves_store request ≡ true
+lists_leave (OpenArea area) h = refl
+lists_leave (TryLock handle mode) h = refl
+lists_leave (Close handle) h = refl
+lists_leave (ListArea area) h = refl
+lists_leave (ListIn inner) h = refl
+lists_leave (ReadIn inner at room) h = refl
+lists_leave request h = cc
+
+pub prints_store : (old new : DirSeen) (text : List ℕ) → ListsStanding old new text → Extends lists_images old.process old.trace new.trace → Quiet old.process old.trace new.trace → PrintsStore (state_after old.trace) text
+prints_store old new text x ext quiet =
+    let store = quiet_store lists_images lists_leave x.stood ext quiet in
+    record { images = x.images; are = store; is = x.is; only = λ others are. x.is ∙ one_text (state_after old.trace) x.images others store are }
