@@ -54,7 +54,7 @@ fn round_of(phase: Phase, area: Area, sight: Sight) -> Round
 pub(crate) fn attempt<D: Dir>(alloc: Global, dir: &mut D, pod: PodId) -> Result<Round, ReportError>
     requires active { IsActive (D.shown dir.old).local }
     requires alone { has_own_open (D.shown dir.old).local (pod_text pod.bytes) ≡ false }
-    ensures counted { (D.shown dir.new).calls ≤ (D.shown dir.old).calls + 27 }
+    ensures counted { (D.shown dir.new).calls ≤ (D.shown dir.old).calls + 28 }
     ensures only { OnlyAsksFor D.observed (visits pod) (D.shown dir.old) (D.shown dir.new) }
     ensures cause { IsErrOf result ReportError.DirFault → Rose (D.shown dir.old).faults (D.shown dir.new).faults }
     ensures kind { IfErr result IsOutside }

@@ -37,7 +37,7 @@ pub(crate) fn visit_pod<D: Dir>(
 ) -> Result<Option<Visit>, ReportError>
     requires active { IsActive (D.shown dir.old).local }
     requires alone { has_own_open (D.shown dir.old).local (pod_text pod.bytes) ≡ false }
-    ensures counted { (D.shown dir.new).calls ≤ (D.shown dir.old).calls + 162 }
+    ensures counted { (D.shown dir.new).calls ≤ (D.shown dir.old).calls + 168 }
     ensures only { OnlyAsksFor D.observed (visits pod) (D.shown dir.old) (D.shown dir.new) }
     ensures cause { IsErrOf result ReportError.DirFault → Rose (D.shown dir.old).faults (D.shown dir.new).faults }
     ensures kind { IfErr result IsUnsaid }
@@ -69,7 +69,7 @@ pub fn manifest_of<D: Dir>(
 ) -> Result<PodManifest, ReportError>
     requires active { IsActive (D.shown dir.old).local }
     requires alone { has_own_open (D.shown dir.old).local (pod_text pod.bytes) ≡ false }
-    ensures counted { (D.shown dir.new).calls ≤ (D.shown dir.old).calls + 162 }
+    ensures counted { (D.shown dir.new).calls ≤ (D.shown dir.old).calls + 168 }
     ensures only { OnlyAsksFor D.observed (visits pod) (D.shown dir.old) (D.shown dir.new) }
     ensures cause { IsErrOf result ReportError.DirFault → Rose (D.shown dir.old).faults (D.shown dir.new).faults }
     ensures read { IfOk result (λ manifest. D.observed ≡ true → IsConforming (D.shown dir.new).trace
