@@ -5,6 +5,7 @@ ghost use Rattle.dir_trait.specs.Local.{IsActive, has_own_open};
 ghost use Rattle.dir_trait.specs.Pods.{pod_text};
 ghost use Rattle.lifecycle.specs.Executions.{IsConforming};
 ghost use Rattle.pod_report.specs.Outside.{IsOutside};
+ghost use Rattle.pod_report.specs.SeenManifests.{RoundSees};
 ghost use Rattle.pod_report.specs.Requests.{OnlyAsksFor, visits};
 ghost use Rattle.pod_report.specs.Rounds.{IsKnownRound, moved_from, round_of, RoundTells};
 
@@ -58,6 +59,7 @@ pub(crate) fn attempt<D: Dir>(alloc: Global, dir: &mut D, pod: PodId) -> Result<
     ensures only { OnlyAsksFor D.observed (visits pod) (D.shown dir.old) (D.shown dir.new) }
     ensures cause { IsErrOf result ReportError.DirFault → Rose (D.shown dir.old).faults (D.shown dir.new).faults }
     ensures kind { IfErr result IsOutside }
+    ensures seen { IfOk result (λ round. D.observed ≡ true → RoundSees pod round (D.shown dir.old) (D.shown dir.new)) }
     ensures round { IfOk result (λ round. D.observed ≡ true → IsConforming (D.shown dir.new).trace
         → RoundTells pod round (D.shown dir.old) (D.shown dir.new)) }
     ensures manifest { IfOk result IsKnownRound }
