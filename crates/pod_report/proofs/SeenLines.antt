@@ -1,6 +1,6 @@
 -- Lines that were seen, one after the other.
-use Rattle.std.proofs.Common.{◌≡◌, ◌⊎◌, inl, inr, ◌<◌, ◌+◌, ℕ, Bool, true, false, bytes_eq, Option, Some, None, List, [], ◌∷◌, ◌++◌, take, length, get_or, refl, sym, ap, subst, ◌∙◌, append_assoc, append-nil}
-use Rattle.std.specs.List.{AllByRecursion, list_any}
+use Rattle.std.proofs.Common.{◌≡◌, inl, inr, ◌<◌, ◌+◌, ℕ, Bool, true, bytes_eq, Option, Some, None, List, [], ◌∷◌, ◌++◌, take, length, get_or, refl, sym, ap, subst, ◌∙◌, append_assoc, append-nil}
+use Rattle.std.specs.List.{AllByRecursion}
 use Rattle.std.proofs.lemmas.List.{map-append, take_more}
 use Rattle.manifests.specs.declared.pod_manifest.PodManifest.{PodManifest}
 use Rattle.dir_model.specs.declared.area.Area.{Area}
@@ -20,7 +20,7 @@ use Rattle.phase_read.proofs.InTurn.{left_out_before}
 use Rattle.pod_lookup.specs.Pods.{pod_names}
 use Rattle.pod_report.specs.declared.line.PodLine.{PodLine}
 use Rattle.pod_report.specs.declared.visit.Visit.{Visit}
-use Rattle.pod_report.specs.OwnReadings.{FindsPod, HasGone, IsMissed}
+use Rattle.pod_report.specs.OwnReadings.{FindsPod, IsMissed}
 use Rattle.pod_report.specs.SeenManifests.{SeesManifest, IsVisited}
 use Rattle.pod_report.specs.SeenLines.{IsLineSeen, LineSees, AddsSeen, IsLinedOrMissed, LinesSeen}
 use Rattle.pod_report.specs.Requests.{OnlyAsksFor}

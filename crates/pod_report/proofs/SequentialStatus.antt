@@ -13,13 +13,10 @@ use Rattle.dir_model.specs.Trace.{state_after}
 use Rattle.dir_model.specs.Trees.{items_in}
 use Rattle.dir_model.proofs.Lists.{and_left, and_right, and_both, any_of_map, all_weaker}
 use Rattle.dir_model.proofs.Moments.{some_number}
-use Rattle.dir_rules.specs.Marks.{created_moment}
 use Rattle.dir_rules.specs.Seen.{created_among}
 use Rattle.lifecycle.specs.Executions.{IsConforming}
 use Rattle.phase_read.specs.declared.found.Found.{Found}
-use Rattle.phase_read.specs.declared.found.Found.TheVariants.{At}
 use Rattle.phase_read.specs.Read.{pod_spot}
-use Rattle.phase_read.specs.Sequential.{sequential_read}
 use Rattle.pod_lookup.proofs.InOrder.{same_name}
 use Rattle.pod_report.specs.declared.ends.AppEndText.{AppEndText}
 use Rattle.pod_report.specs.declared.error.ReportError.{ReportError}
