@@ -38,7 +38,7 @@ any_with {X} P t (x ∷ xs) all h = by (t x) refl (λ k. any_with P t xs all.1 k
 pub all_stages : AllByRecursion (λ a. is_stage a ≡ true) stages
 all_stages = (refl, (refl, (refl, (refl, (refl, (refl, tt))))))
 
-in_part : (xs ys : List (List ℕ)) (name : List ℕ) → IsPartOf xs ys → has_name xs name ≡ true → has_name ys name ≡ true
+pub in_part : (xs ys : List (List ℕ)) (name : List ℕ) → IsPartOf xs ys → has_name xs name ≡ true → has_name ys name ≡ true
 in_part xs [] name p h = ap (λ l. has_name l name) (sym p) ∙ h
 in_part xs (y ∷ ys) name (inl p) h = later (bytes_eq y name) (in_part xs ys name p h)
   where

@@ -1,12 +1,12 @@
 -- The greatest moment of created- marks.
-use Rattle.std.proofs.Common.{arith, ◌≡◌, ◌≤◌, ◌&&◌, ◌==◌, ℕ, Bool, true, false, cond, nat_le, bytes_eq, Option, Some, None, IsSomeAnd, List, [], ◌∷◌, ◌++◌, drop, refl, sym, ap, subst, ◌∙◌}
+use Rattle.std.proofs.Common.{arith, ◌≡◌, ◌≤◌, ◌&&◌, ◌||◌, ◌==◌, ℕ, Bool, true, false, cond, nat_le, bytes_eq, Option, Some, None, IsSomeAnd, List, [], ◌∷◌, ◌++◌, drop, refl, sym, ap, subst, ◌∙◌}
 use Rattle.std.specs.List.{list_any}
 use Rattle.std.proofs.lemmas.Bool.Decides.{nat_tests}
 use Rattle.dir_model.specs.declared.item.Item.{Item}
 use Rattle.dir_model.specs.Listings.{is_named, is_item, has_item, kind_number}
-use Rattle.dir_model.proofs.Lists.{and_both, any_last, any_push, any_last_not, same_self}
+use Rattle.dir_model.proofs.Lists.{and_both, or_last, any_last, any_push, any_last_not, same_self}
 use Rattle.dir_rules.specs.Marks.{created_mark, created_moment, number_of}
-use Rattle.dir_rules.specs.Seen.{later}
+use Rattle.dir_rules.specs.Seen.{later, created_among}
 use Rattle.dir_rules.proofs.Looks.{same_bytes}
 use Rattle.lifecycle.proofs.Places.{name_same}
 use Rattle.pod_report.specs.Created.{IsGreatest}
@@ -88,3 +88,34 @@ greatest_more items item found g = record {
       (λ a. since_left m found (created_moment item.name) (g.most name m a is))
       (λ b. since_right m found (created_moment item.name) (subst (λ (o : Option ℕ). IsSince m o) (sym (ap created_moment (name_same item.name name b) ∙ is)) (omega arith))) h;
 }
+
+-- the greatest of all items
+pub first_item : (x : Item) (xs : List Item) → has_item (x ∷ xs) x ≡ true
+first_item x xs = ap (λ b. b || has_item xs x) (and_both (bytes_eq x.name x.name) (kind_number x.kind == kind_number x.kind) (same_bytes x.name) (same_self (kind_number x.kind)))
+
+since_more : (x : Item) (xs : List Item) (name : List ℕ) (m : ℕ) → (list_any (is_named name) xs ≡ true → created_moment name ≡ Some m → IsSince m (created_among xs)) → list_any (is_named name) (x ∷ xs) ≡ true → created_moment name ≡ Some m → IsSince m (created_among (x ∷ xs))
+since_more x xs name m rest h is = by (bytes_eq x.name name) refl h
+  where
+    by : (b : Bool) → bytes_eq x.name name ≡ b → (b || list_any (is_named name) xs) ≡ true → IsSince m (later (created_moment x.name) (created_among xs))
+    by true same h = since_left m (created_moment x.name) (created_among xs) (subst (λ (o : Option ℕ). IsSince m o) (sym (ap created_moment (name_same x.name name same) ∙ is)) (omega arith))
+    by false apart h = since_right m (created_moment x.name) (created_among xs) (rest h is)
+
+pub among_greatest : (items : List Item) → IsGreatest items (created_among items)
+among_greatest [] = greatest_none
+among_greatest (x ∷ xs) =
+    let rest = among_greatest xs in
+    record {
+      shown = λ m is. later_is ((y : Item) × (has_item (x ∷ xs) y ≡ true) × (created_moment y.name ≡ Some m)) m (created_moment x.name) (created_among xs) (λ a. (x, first_item x xs, a)) (λ b. let g = rest.shown m b in (g.0, or_last (is_item g.0 x) (has_item xs g.0) g.1, g.2)) is;
+      most = λ name m h is. since_more x xs name m (λ k e. rest.most name m k e) h is;
+    }
+
+-- what is greatest is so once
+pub one_greatest : (Has : ℕ → Type 0) (a b : Option ℕ) → ((m : ℕ) → a ≡ Some m → Has m) → ((m : ℕ) → Has m → IsSince m a) → ((m : ℕ) → b ≡ Some m → Has m) → ((m : ℕ) → Has m → IsSince m b) → a ≡ b
+one_greatest Has None None has_a most_a has_b most_b = refl
+one_greatest Has None (Some n) has_a most_a has_b most_b = absurd (most_a n (has_b n refl))
+one_greatest Has (Some m) None has_a most_a has_b most_b = absurd (most_b m (has_a m refl))
+one_greatest Has (Some m) (Some n) has_a most_a has_b most_b =
+    let up = most_b m (has_a m refl) in
+    let down = most_a n (has_b n refl) in
+    let same : m ≡ n = omega (arith, up, down) in
+    ap Some same

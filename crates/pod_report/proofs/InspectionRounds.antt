@@ -61,5 +61,6 @@ module _ {observed : Bool} {asks : Request → Bool} (pod : PodId) (old mid new 
         latest = λ m each. x.latest m (λ h at. each h (moment_after at));
         ends = all_weaker (λ (e : AppEndText). AtSomeMoment mid.trace new.trace (HasEnded pod e.app e.status)) (λ (e : AppEndText). AtSomeMoment old.trace new.trace (HasEnded pod e.app e.status)) (λ e at. some_after at) status.ends x.ends;
         rise = x.rise;
+        named = x.named;
         whole = λ app n name each. x.whole app n name (λ h at. each h (moment_after at));
       }

@@ -21,3 +21,9 @@ mod SeeingStatus
 mod StatusMeeting
 mod InspectionRounds
 mod QuietStatus
+mod SequentialReads
+mod SequentialEnds
+mod SequentialStatus
+pub mod SameStatus
+mod OwnReadings
+mod SeenLines

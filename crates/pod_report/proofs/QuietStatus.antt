@@ -1,28 +1,45 @@
 -- Where nobody else steps, a status is that of the state before.
-use Rattle.std.proofs.Common.{ℕ, is_some, Option, List, [], ◌∷◌, ◌++◌, sym, ap, subst, ◌∙◌, append_assoc}
-use Rattle.std.specs.List.{list_any}
+use Rattle.std.proofs.Common.{◌≡◌, ◌≤◌, ℕ, true, is_some, Option, Some, IsSomeAnd, List, [], ◌∷◌, ◌++◌, sym, ap, subst, ◌∙◌, append_assoc}
+use Rattle.std.specs.List.{list_any, AllByRecursion}
+use Rattle.dir_model.specs.declared.area.Area.{Area}
 use Rattle.dir_model.specs.declared.event.Event.{Event}
 use Rattle.dir_model.specs.declared.pod.PodId.{PodId}
 use Rattle.dir_model.specs.declared.tree.TreeEntry.{TreeEntry}
+use Rattle.dir_model.specs.Areas.{is_stage, phase_in}
 use Rattle.dir_model.specs.Calls.{Extends}
-use Rattle.dir_model.specs.Listings.{is_named}
+use Rattle.dir_model.specs.Listings.{has_name, is_named}
+use Rattle.dir_model.specs.Paths.{is_file_name}
 use Rattle.dir_model.specs.Quiet.{Quiet, OwnsNothing}
-use Rattle.dir_model.specs.State.{DirState}
+use Rattle.dir_model.specs.State.{DirState, stands, is_owned_at}
 use Rattle.dir_model.specs.Trace.{state_after}
 use Rattle.dir_model.specs.Trees.{items_in}
 use Rattle.dir_model.proofs.Lists.{all_weaker}
 use Rattle.lifecycle.specs.Executions.{IsConforming}
 use Rattle.phase_read.specs.Exact.{AtOwnEvent}
 use Rattle.phase_read.specs.Read.{pod_spot}
+use Rattle.pod_lookup.proofs.InOrder.{Rising}
 use Rattle.pod_report.specs.declared.ends.AppEndText.{AppEndText}
 use Rattle.pod_report.specs.declared.status.PodStatus.{PodStatus}
 use Rattle.pod_report.specs.Created.{HasCreatedMark}
-use Rattle.pod_report.specs.Ends.{status_file, HasEnded}
+use Rattle.pod_report.specs.Ends.{status_file, HasEnded, ended_apps}
 use Rattle.pod_report.specs.Moments.{IsMoment, AtSomeMoment, AtEachMoment}
-use Rattle.pod_report.specs.Status.{IsStatus, IsStatusOf}
+use Rattle.pod_report.specs.Status.{IsStatus}
 use Rattle.pod_report.specs.Visits.{IsPhase}
 use Rattle.pod_report.proofs.QuietLines.{same_folder, same_file, phase_before}
 use Rattle.pod_report.proofs.QuietSurvey.{is_calm, SameWorld, same_world}
+
+-- what is told of a pod is so of one state: the phase by the area and the lock, the greatest created- mark, and each end
+pub record IsStatusOf (s : DirState) (pod : PodId) (status : PodStatus) : Type 0 where
+  pub area : Area
+  pub stage : is_stage area ≡ true
+  pub there : stands s.namespace (pod_spot pod area) ≡ true
+  pub phase : phase_in area (is_owned_at s.namespace (pod_spot pod area)) ≡ Some status.phase
+  pub created : (moment : ℕ) → status.created ≡ Some moment → HasCreatedMark pod moment s
+  pub latest : (moment : ℕ) → HasCreatedMark pod moment s → IsSomeAnd status.created (λ c. moment ≤ c)
+  pub ends : AllByRecursion (λ (e : AppEndText). HasEnded pod e.app e.status s) status.ends
+  pub rise : Rising (ended_apps status.ends)
+  pub named : AllByRecursion (λ (e : AppEndText). is_file_name e.app ≡ true) status.ends
+  pub whole : (app : List ℕ) (n : ℕ) → is_file_name app ≡ true → HasEnded pod app n s → has_name (ended_apps status.ends) app ≡ true
 
 module _ {me : ℕ} {s t : DirState} (w : SameWorld me s t) where
   mark_before : (pod : PodId) (m : ℕ) → HasCreatedMark pod m t → HasCreatedMark pod m s
@@ -87,5 +104,6 @@ module _ {me : ℕ} {old new : List Event} (conforming : IsConforming new) (ext 
         latest = λ m has. x.latest m (always (HasCreatedMark pod m) (λ t w p. mark_after w pod m p) has);
         ends = all_weaker (λ (e : AppEndText). AtSomeMoment old new (HasEnded pod e.app e.status)) (λ (e : AppEndText). HasEnded pod e.app e.status before) (λ e at. once (HasEnded pod e.app e.status) (λ t w p. end_before w pod e.app e.status p) at) status.ends x.ends;
         rise = x.rise;
+        named = x.named;
         whole = λ app n name has. x.whole app n name (always (HasEnded pod app n) (λ t w p. end_after w pod app n p) has);
       }

@@ -30,6 +30,7 @@ use Rattle.dir_trait.specs.DirCalls.{DirAt, ExtendsBy, HeldBetween}
 use Rattle.dir_trait.specs.Knowledge.{OnlyLooks}
 use Rattle.phase_read.proofs.Stages.{pod_spot_only}
 use Rattle.dir_files.specs.Reads.{inner_at, file_at, TellsFile, IsPiece, WasMissing, OnlyReads, reads_at}
+use Rattle.dir_files.proofs.Reading.{missing_more}
 use Rattle.phase_read.specs.Read.{pod_spot, is_pod_spot}
 use Rattle.lifecycle.proofs.Looking.{at_most}
 use Rattle.pod_lookup.proofs.OneByOne.{stage_of}
@@ -148,3 +149,26 @@ pub kept_told : {observed : Bool} {E : Type 0} (inner : Inner) (room : ℕ) (byt
 kept_told inner room bytes old new (Err e) same told kept = tt
 kept_told inner room bytes old new (Ok None) same told kept = absurd kept
 kept_told inner room bytes old new (Ok (Some v)) same told kept = λ t. subst (λ (l : List ℕ). HeldBetween old new (TellsFile inner (IsPiece 0 room l))) (sym (kept ∙ same)) (told t)
+
+-- bytes that don't fill their room are the same in a larger one
+short_within : (n : ℕ) (f : List ℕ) → length (take n f) < n → length f ≤ n
+short_within n f short = by (at_most (length f) n)
+  where
+    by : (length f ≤ n) ⊎ (n < length f) → length f ≤ n
+    by (inl l) = l
+    by (inr l) = let full = taken_length n f l in absurd (omega (arith, short, full))
+
+larger_piece : (small most : ℕ) (bytes : List ℕ) (file : Option (List ℕ)) → small ≤ most → length bytes < small → IsPiece 0 small bytes file → IsPiece 0 most bytes file
+larger_piece small most bytes None within short piece = piece
+larger_piece small most bytes (Some f) within short piece =
+    let l = short_within small f (subst (λ (b : List ℕ). length b < small) piece short) in
+    piece ∙ (taken_past small f l ∙ sym (taken_past most f (omega (arith, l, within))))
+
+pub larger_told : {me : ℕ} {old new : List Event} (inner : Inner) (small most : ℕ) (bytes : List ℕ) → small ≤ most → length bytes < small → AtOwnStep me old new (TellsFile inner (IsPiece 0 small bytes)) → AtOwnStep me old new (TellsFile inner (IsPiece 0 most bytes))
+larger_told inner small most bytes within short told = at_weaker (TellsFile inner (IsPiece 0 most bytes)) (λ s piece plain. larger_piece small most bytes (file_at s inner) within short (piece plain)) told
+
+-- what a second read told
+pub told_again : {observed : Bool} {E : Type 0} (inner : Inner) (most : ℕ) (old mid new : DirAt) (r : Result (Option (Vec ℕ Global)) E) → OnlyReads observed inner old mid → IfOk r (λ found. observed ≡ true → MatchOption found (WasMissing inner mid new) (λ b. HeldBetween mid new (TellsFile inner (IsPiece 0 most b.items)))) → IfOk r (λ found. observed ≡ true → MatchOption found (WasMissing inner old new) (λ b. HeldBetween old new (TellsFile inner (IsPiece 0 most b.items))))
+told_again inner most old mid new (Err e) first told = tt
+told_again inner most old mid new (Ok None) first told = λ t. missing_more new t first (told t)
+told_again inner most old mid new (Ok (Some v)) first told = λ t. at_after (first.extends t) first.same (told t)

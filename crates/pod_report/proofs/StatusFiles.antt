@@ -22,7 +22,7 @@ use Rattle.dir_model.specs.Paths.{is_slash, is_empty, is_file_name, is_path, lie
 use Rattle.dir_model.specs.Replies.{is_own_at, is_own_of}
 use Rattle.dir_model.specs.State.{Namespace, DirState, empty_state, folder_at}
 use Rattle.dir_model.specs.Trace.{is_mark, marked_app, app_started, state_next, states_next, state_after}
-use Rattle.dir_model.specs.Trees.{is_within, mark_prefix, app_root, is_apps_own, is_dir, is_entry, is_file_entry, has_file, item_in, items_in, kind_of}
+use Rattle.dir_model.specs.Trees.{is_within, mark_prefix, app_root, is_apps_own, is_dir, is_entry, is_file_entry, has_file, is_child, item_in, items_in, kind_of}
 use Rattle.dir_model.proofs.Lists.{and_left, and_right, and_both, and_false, or_none, or_last, not_true, all_both}
 use Rattle.dir_rules.specs.Marks.{status_directory}
 use Rattle.dir_rules.proofs.Looks.{same_bytes}
@@ -135,6 +135,20 @@ file_shown k app (e ∷ es) name h = by (is_file_entry k (status_directory ++ 47
         ap (λ (o : Option Item). list_any (is_named app) (cons_option o (items_in k status_directory es))) (shown_one k app e name is)
         ∙ ap (λ (b : Bool). b || list_any (is_named app) (items_in k status_directory es)) (same_bytes app)
     by false is h go = after (item_in k status_directory e) (go h)
+
+-- and all that it shows has a file's name
+pub listed_name : (k : ℕ) (path : List ℕ) (es : List TreeEntry) (name : List ℕ) → list_any (is_named name) (items_in k path es) ≡ true → is_file_name name ≡ true
+listed_name k path [] name h = cc
+listed_name k path (e ∷ es) name h = by (is_child k path e) (is_file_name (behind path e.path)) refl h (λ rest. listed_name k path es name rest)
+  where
+    one : (b : Bool) → bytes_eq (behind path e.path) name ≡ b → is_file_name (behind path e.path) ≡ true → (b || list_any (is_named name) (items_in k path es)) ≡ true → (list_any (is_named name) (items_in k path es) ≡ true → is_file_name name ≡ true) → is_file_name name ≡ true
+    one true same is h go = subst (λ (n : List ℕ). is_file_name n ≡ true) (name_same (behind path e.path) name same) is
+    one false apart is h go = go h
+
+    by : (c b : Bool) → is_file_name (behind path e.path) ≡ b → list_any (is_named name) (cons_option (cond (c && b) (Some (record { name = behind path e.path; kind = kind_of e.node })) None) (items_in k path es)) ≡ true → (list_any (is_named name) (items_in k path es) ≡ true → is_file_name name ≡ true) → is_file_name name ≡ true
+    by true true is h go = one (bytes_eq (behind path e.path) name) refl is h go
+    by true false is h go = go h
+    by false b is h go = go h
 
 -- their directory has a path, and each file in it has one
 small_bytes : (bs : List ℕ) → list_all (λ b. nat_lt b 128) bs ≡ true → IsAscii bs

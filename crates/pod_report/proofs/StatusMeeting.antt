@@ -22,7 +22,7 @@ use Rattle.dir_model.specs.State.{DirState, empty_state, stands, folder_at}
 use Rattle.dir_model.specs.Trace.{states_next, state_after}
 use Rattle.dir_model.specs.Trees.{has_dir, has_file, items_in, content}
 use Rattle.dir_model.proofs.Chains.{states_next-append}
-use Rattle.dir_model.proofs.Lists.{and_left, any_of_map, all_weaker}
+use Rattle.dir_model.proofs.Lists.{and_left, or_last, any_of_map, all_weaker}
 use Rattle.dir_model.proofs.Moments.{some_number}
 use Rattle.dir_rules.specs.Marks.{created_mark, created_moment, status_directory}
 use Rattle.dir_laws.specs.Stretches.{StandsNamed, StandsInside}
@@ -45,12 +45,12 @@ use Rattle.pod_report.specs.Ends.{status_path, status_file, HasEndedIn, HasEnded
 use Rattle.pod_report.specs.Inspections.{TellsMarks, TellsEnds, SeesStatus}
 use Rattle.pod_report.specs.Moments.{IsMoment, AtSomeMoment, AtEachMoment}
 use Rattle.pod_report.specs.Status.{IsStatus}
-use Rattle.pod_report.proofs.Greatest.{mark_tells}
+use Rattle.pod_report.proofs.Greatest.{mark_tells, first_item}
 use Rattle.pod_report.proofs.OnePlace.{one_area}
 use Rattle.pod_report.proofs.QuietLines.{file_stands}
-use Rattle.pod_report.proofs.StatusFiles.{status_own, directly, file_shown}
+use Rattle.pod_report.proofs.StatusFiles.{status_own, directly, file_shown, listed_name}
 use Rattle.pod_report.proofs.StatusParents.{status_parent}
-use Rattle.pod_report.proofs.Telling.{part_sorted}
+use Rattle.pod_report.proofs.Telling.{all_part, part_sorted}
 
 -- the one trace goes on from the other
 record Grows (a b : List Event) : Type 0 where
@@ -82,10 +82,10 @@ to_step {me} {a} {b} {P} x = by_more (x.later ++ x.step ∷ []) (ap (λ h. h ++ 
 from_step : {me : ℕ} {a b : List Event} {P : DirState → Type 0} (x : AtOwnStep me a b P) → Grows (At x) b
 from_step x = by_more x.rest x.ends
 
-same_number : (o : Option ℕ) (k l : ℕ) → o ≡ Some k → o ≡ Some l → k ≡ l
+pub same_number : (o : Option ℕ) (k l : ℕ) → o ≡ Some k → o ≡ Some l → k ≡ l
 same_number o k l p q = let e : Some k ≡ Some l = sym p ∙ q in cc
 
-item_named : (xs : List Item) (item : Item) → has_item xs item ≡ true → list_any (is_named item.name) xs ≡ true
+pub item_named : (xs : List Item) (item : Item) → has_item xs item ≡ true → list_any (is_named item.name) xs ≡ true
 item_named [] item h = cc
 item_named (x ∷ xs) item h = by (is_item item x) refl h (λ rest. item_named xs item rest)
   where
@@ -97,8 +97,17 @@ item_named (x ∷ xs) item h = by (is_item item x) refl h (λ rest. item_named x
     by true is h go = ap (λ c. c || list_any (is_named item.name) xs) (and_left (bytes_eq x.name item.name) _ is)
     by false is h go = last (bytes_eq x.name item.name) (list_any (is_named item.name) xs) (go h)
 
+-- what is so of each item that is there is so of their names
+each_item : (P : List ℕ → Type 0) (xs : List Item) → ((item : Item) → has_item xs item ≡ true → P item.name) → AllByRecursion P (item_names xs)
+each_item P [] holds = tt
+each_item P (x ∷ xs) holds = (holds x (first_item x xs), each_item P xs (λ item h. holds item (or_last (is_item item x) (has_item xs item) h)))
+
+each_app : (P : List ℕ → Type 0) (ends : List AppEndText) → AllByRecursion P (ended_apps ends) → AllByRecursion (λ (e : AppEndText). P e.app) ends
+each_app P [] all = tt
+each_app P (e ∷ ends) all = (all.0, each_app P ends all.1)
+
 -- where a folder has the file, one is there
-file_in : (s : DirState) (k : ℕ) (spot : Spot) (path bytes : List ℕ) → folder_at s.namespace spot ≡ Some k → file_at s (inner_at spot path) ≡ Some bytes → has_file s.entries k path ≡ true
+pub file_in : (s : DirState) (k : ℕ) (spot : Spot) (path bytes : List ℕ) → folder_at s.namespace spot ≡ Some k → file_at s (inner_at spot path) ≡ Some bytes → has_file s.entries k path ≡ true
 file_in s k spot path bytes at is = by (has_file s.entries k path) (sym (ap (bytes_in s.entries path) at) ∙ is)
   where
     by : (b : Bool) → cond b (Some (content s.entries k path)) None ≡ Some bytes → b ≡ true
@@ -271,6 +280,15 @@ module _ (pod : PodId) (area : Area) (within : rank area ≤ 5) (phase : Phase) 
   rise_met (inl t) = part_sorted (ended_apps status.ends) (item_names t.items) t.each.part t.rise
   rise_met (inr (none, y)) = subst (λ (l : List AppEndText). IsStrictlySortedBy (slice_cmp nat_cmp) (ended_apps l)) (sym none) (part_sorted [] [] refl tt)
 
+  named_met : TellsEnds pod area status.ends me sees.marked sees.ended → AllByRecursion (λ (e : AppEndText). is_file_name e.app ≡ true) status.ends
+  named_met (inl t) =
+      each_app (λ (n : List ℕ). is_file_name n ≡ true) status.ends
+      (all_part (λ (n : List ℕ). is_file_name n ≡ true) (ended_apps status.ends) (item_names t.items) t.each.part
+      (each_item (λ (n : List ℕ). is_file_name n ≡ true) t.items (λ item h.
+      let x = shown_once X_marked (and_on (last_of t.moment) ended_Z) status_directory t.items t.shows status_mine item h in
+      listed_name K status_directory (state_after x.0).entries item.name x.3)))
+  named_met (inr (none, y)) = subst (λ (l : List AppEndText). AllByRecursion (λ (e : AppEndText). is_file_name e.app ≡ true) l) (sym none) tt
+
   whole_met : TellsEnds pod area status.ends me sees.marked sees.ended → (app : List ℕ) (n : ℕ) → is_file_name app ≡ true → AtEachMoment old new (HasEnded pod app n) → has_name (ended_apps status.ends) app ≡ true
   whole_met (inl t) app n name each = by (has_name (ended_apps status.ends) app) refl
     where
@@ -302,5 +320,6 @@ module _ (pod : PodId) (area : Area) (within : rank area ≤ 5) (phase : Phase) 
     latest = latest_met sees.marks;
     ends = ends_met sees.ends;
     rise = rise_met sees.ends;
+    named = named_met sees.ends;
     whole = whole_met sees.ends;
   }

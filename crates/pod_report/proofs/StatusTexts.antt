@@ -1,13 +1,18 @@
 -- The text of a status.
-use Rattle.std.proofs.Common.{arith, ◌≡◌, ◌≤◌, ◌<◌, ◌-◌, ◌^◌, ℕ, Option, Some, None, IsSomeAnd, Result, Ok, Err, List, [], ◌∷◌, ◌++◌, length, length-append, take, sym, ap, subst, ◌∙◌}
+use Rattle.std.proofs.Common.{arith, ◌≡◌, ◌⊎◌, inl, inr, ◌≤◌, ◌<◌, ◌+◌, ◌-◌, ◌^◌, ℕ, zero, suc, Bool, true, false, bytes_eq, cond, find, Option, Some, None, IsSomeAnd, Result, Ok, Err, List, [], ◌∷◌, ◌++◌, length, length-append, take, refl, sym, ap, subst, ◌∙◌}
 use Rattle.std.specs.Fmt.{decimal}
+use Rattle.std.specs.List.{range_with_len}
 use Rattle.std.specs.Str.{IsUtf8}
 use Rattle.std.specs.Str.Parse.{ParsesUnsigned}
 use Rattle.std.proofs.Math.Seq.{take-append_seam}
-use Rattle.std.proofs.lemmas.Fmt.{length-decimal-le, IsAscii-decimal, parse-decimal}
+use Rattle.std.proofs.lemmas.Fmt.{length-decimal-le, IsAscii-decimal, decimal_injective, parse-decimal}
 use Rattle.std.proofs.lemmas.Grind.{common_steps}
+use Rattle.std.proofs.lemmas.Slice.Eq.{bytes_eq-Decides}
 use Rattle.std.proofs.lemmas.Str.{IsUtf8-from_ascii}
+use Rattle.lifecycle.proofs.Handles.{clash}
+use Rattle.lifecycle.proofs.Looking.{at_most}
 use Rattle.pod_report.specs.Ends.{status_text, IsStatusText, IsNoStatus}
+use Rattle.pod_report.specs.Sequential.{status_of_text}
 
 small_64 : (n : ℕ) → n ≤ 255 → n < 2 ^ 64
 small_64 n h = omega (arith, h)
@@ -60,3 +65,46 @@ taken (Err e) = None
 
 pub number_taken : {E : Type 0} (n : ℕ) (bytes digits : List ℕ) (r : Result ℕ E) → digits ≡ take (length bytes - 1) bytes → IsStatusText n bytes → ParsesUnsigned 8 10 digits r → taken r ≡ Some n
 number_taken n bytes digits r is t p = ap taken (parsed n bytes digits r is t p)
+
+-- the first number that passes, where one alone does
+find_one : (t : ℕ → Bool) (n : ℕ) → t n ≡ true → ((k : ℕ) → k ≤ n → t k ≡ true → k ≡ n) → (a len : ℕ) → a ≤ n → n < a + len → find t (range_with_len a len) ≡ Some n
+find_one t n passes one a zero low high = absurd (omega (arith, low, high))
+find_one t n passes one a (suc len) low high = by (t a) refl (at_most n a) (λ far. find_one t n passes one (a + 1) len (omega (arith, far)) (omega (arith, high)))
+  where
+    by : (b : Bool) → t a ≡ b → (n ≤ a) ⊎ (a < n) → (a < n → find t (range_with_len (a + 1) len) ≡ Some n) → cond b (Some a) (find t (range_with_len (a + 1) len)) ≡ Some n
+    by true is near go = ap Some (one a low is)
+    by false off (inl near) go = let same : n ≡ a = omega (arith, near, low) in clash (t a) (subst (λ (k : ℕ). t k ≡ true) same passes) off
+    by false off (inr far) go = go far
+
+-- one that is found passes
+record Passes (t : ℕ → Bool) (top n : ℕ) : Type 0 where
+  is : t n ≡ true
+  below : n < top
+
+find_told : (t : ℕ → Bool) (n a len : ℕ) → find t (range_with_len a len) ≡ Some n → Passes t (a + len) n
+find_told t n a zero found = cc
+find_told t n a (suc len) found = by (t a) refl found (λ rest. find_told t n (a + 1) len rest)
+  where
+    by : (b : Bool) → t a ≡ b → cond b (Some a) (find t (range_with_len (a + 1) len)) ≡ Some n → (find t (range_with_len (a + 1) len) ≡ Some n → Passes t ((a + 1) + len) n) → Passes t (a + suc len) n
+    by true is found go = let same : a ≡ n = cc in record { is = subst (λ (k : ℕ). t k ≡ true) same is; below = omega (arith, same) }
+    by false off found go = let p = go found in record { is = p.is; below = let low = p.below in omega (arith, low) }
+
+-- a text is that of one status
+abbrev is_text : List ℕ → ℕ → Bool
+is_text bytes n = bytes_eq bytes (status_text n)
+
+small_text : (bytes : List ℕ) (n : ℕ) → n ≤ 255 → is_text bytes n ≡ true → IsStatusText n bytes
+small_text bytes n small is = record { small = small; is = (bytes_eq-Decides bytes (status_text n)).0 is }
+
+one_status : (bytes : List ℕ) (k n : ℕ) → IsStatusText k bytes → IsStatusText n bytes → k ≡ n
+one_status bytes k n a b = decimal_injective k n (small_64 k a.small) (small_64 n b.small) (sym (digits_of k bytes a) ∙ digits_of n bytes b)
+
+pub text_status : (n : ℕ) (bytes : List ℕ) → IsStatusText n bytes → status_of_text bytes ≡ Some n
+unfolding status_of_text
+text_status n bytes t =
+    let small = t.small in
+    find_one (is_text bytes) n ((bytes_eq-Decides bytes (status_text n)).1 t.is) (λ k low is. one_status bytes k n (small_text bytes k (omega (arith, low, small)) is) t) 0 256 (omega arith) (omega (arith, small))
+
+pub text_told : (n : ℕ) (bytes : List ℕ) → status_of_text bytes ≡ Some n → IsStatusText n bytes
+unfolding status_of_text
+text_told n bytes found = let p = find_told (is_text bytes) n 0 256 found in small_text bytes n (let low = p.below in omega (arith, low)) p.is

@@ -82,7 +82,7 @@ part_keep xs [] y p = inr ([], ap (λ l. l ++ y ∷ []) p, refl)
 part_keep xs (z ∷ ys) y (inl p) = inl (part_keep xs ys y p)
 part_keep xs (z ∷ ys) y (inr (rest, is, p)) = inr (rest ++ y ∷ [], ap (λ l. l ++ y ∷ []) is, part_keep rest ys y p)
 
-all_part : (P : List ℕ → Type 0) (xs ys : List (List ℕ)) → IsPartOf xs ys → AllByRecursion P ys → AllByRecursion P xs
+pub all_part : (P : List ℕ → Type 0) (xs ys : List (List ℕ)) → IsPartOf xs ys → AllByRecursion P ys → AllByRecursion P xs
 all_part P xs [] p all = subst (AllByRecursion P) (sym p) tt
 all_part P xs (y ∷ ys) (inl p) all = all_part P xs ys p all.1
 all_part P xs (y ∷ ys) (inr (rest, is, p)) all = subst (AllByRecursion P) (sym is) (all.0, all_part P rest ys p all.1)

@@ -1,5 +1,5 @@
 -- The whole status of a pod, while others step, and where nobody else does.
-use Rattle.std.specs.Prelude.{◌≡◌, ◌≤◌, ℕ, true, false, Some, IsSomeAnd, List, Result, Ok, Err}
+use Rattle.std.specs.Prelude.{◌≡◌, ◌≤◌, ℕ, true, Some, IsSomeAnd, List, Result, Err}
 use Rattle.std.specs.List.{AllByRecursion}
 use Rattle.std.specs.List.Sorted.{IsStrictlySortedBy}
 use Rattle.std.specs.Ordering.{nat_cmp}
@@ -7,22 +7,21 @@ use Rattle.std.specs.Cmp.Lexicographic.{slice_cmp}
 use Rattle.dir_model.specs.declared.area.Area.{Area}
 use Rattle.dir_model.specs.declared.event.Event.{Event}
 use Rattle.dir_model.specs.declared.pod.PodId.{PodId}
-use Rattle.dir_model.specs.Areas.{is_stage, phase_in}
+use Rattle.dir_model.specs.Areas.{is_stage}
 use Rattle.dir_model.specs.Listings.{has_name}
 use Rattle.dir_model.specs.Paths.{is_file_name}
 use Rattle.dir_model.specs.Quiet.{Quiet, OwnsNothing}
-use Rattle.dir_model.specs.State.{DirState, stands, is_owned_at}
 use Rattle.dir_model.specs.Trace.{state_after}
 use Rattle.dir_trait.specs.DirCalls.{DirAt}
 use Rattle.phase_read.specs.Exact.{AtOwnEvent, IsInPhase}
-use Rattle.phase_read.specs.Read.{pod_spot}
 use Rattle.pod_report.specs.declared.ends.AppEndText.{AppEndText}
 use Rattle.pod_report.specs.declared.error.ReportError.{ReportError}
-use Rattle.pod_report.specs.declared.error.ReportError.TheVariants.{NoPod}
+use Rattle.pod_report.specs.declared.error.ReportError.TheVariants.{DirFault, NoMemory}
 use Rattle.pod_report.specs.declared.status.PodStatus.{PodStatus}
 use Rattle.pod_report.specs.Created.{HasCreatedMark}
 use Rattle.pod_report.specs.Ends.{HasEnded, ended_apps}
 use Rattle.pod_report.specs.Moments.{AtSomeMoment, AtEachMoment}
+use Rattle.pod_report.specs.Sequential.{sequential_status}
 
 -- what is told of the pod is so between the two traces
 pub record IsStatus (pod : PodId) (status : PodStatus) (me : ℕ) (old new : List Event) : Type 0 where
@@ -38,31 +37,21 @@ pub record IsStatus (pod : PodId) (status : PodStatus) (me : ℕ) (old new : Lis
   pub ends : AllByRecursion (λ (e : AppEndText). AtSomeMoment old new (HasEnded pod e.app e.status)) status.ends
   -- they come by name, one for each app
   pub rise : IsStrictlySortedBy (slice_cmp nat_cmp) (ended_apps status.ends)
+  -- each of a file's name
+  pub named : AllByRecursion (λ (e : AppEndText). is_file_name e.app ≡ true) status.ends
   -- and none is left out that was so at each
   pub whole : (app : List ℕ) (n : ℕ) → is_file_name app ≡ true → AtEachMoment old new (HasEnded pod app n) → has_name (ended_apps status.ends) app ≡ true
 
 abbrev pub IsStatusBetween : PodId → PodStatus → DirAt → DirAt → Type 0
 IsStatusBetween pod status old new = IsStatus pod status old.process old.trace new.trace
 
--- the same of one state: the phase by the area and the lock, the greatest created- mark, and each end
-pub record IsStatusOf (s : DirState) (pod : PodId) (status : PodStatus) : Type 0 where
-  pub area : Area
-  pub stage : is_stage area ≡ true
-  pub there : stands s.namespace (pod_spot pod area) ≡ true
-  pub phase : phase_in area (is_owned_at s.namespace (pod_spot pod area)) ≡ Some status.phase
-  pub created : (moment : ℕ) → status.created ≡ Some moment → HasCreatedMark pod moment s
-  pub latest : (moment : ℕ) → HasCreatedMark pod moment s → IsSomeAnd status.created (λ c. moment ≤ c)
-  pub ends : AllByRecursion (λ (e : AppEndText). HasEnded pod e.app e.status s) status.ends
-  pub rise : IsStrictlySortedBy (slice_cmp nat_cmp) (ended_apps status.ends)
-  pub whole : (app : List ℕ) (n : ℕ) → is_file_name app ≡ true → HasEnded pod app n s → has_name (ended_apps status.ends) app ≡ true
-
--- the pod's status, or that it stands nowhere
-abbrev pub IsStatusBy : DirState → PodId → Result PodStatus ReportError → Type 0
-IsStatusBy s pod (Ok status) = IsStatusOf s pod status
-IsStatusBy s pod (Err NoPod) = (area : Area) → is_stage area ≡ true → stands s.namespace (pod_spot pod area) ≡ false
-IsStatusBy s pod (Err error) = Unit {0}
+-- it isn't a fault of the directory, nor want of memory
+abbrev pub IsAnswer : Result PodStatus ReportError → Type 0
+IsAnswer (Err DirFault) = ⊥
+IsAnswer (Err NoMemory) = ⊥
+IsAnswer result = Unit {0}
 
 -- where nobody else steps, and this process holds no lock exclusively, the answer is that of the state before
 abbrev pub TellsQuietly : PodId → Result PodStatus ReportError → DirAt → DirAt → Type 0
 TellsQuietly pod result old new =
-    Quiet old.process old.trace new.trace → OwnsNothing old.process (state_after old.trace).namespace → IsStatusBy (state_after old.trace) pod result
+    Quiet old.process old.trace new.trace → OwnsNothing old.process (state_after old.trace).namespace → IsAnswer result → result ≡ sequential_status (state_after old.trace) pod

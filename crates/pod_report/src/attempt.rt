@@ -5,6 +5,7 @@ ghost use Rattle.dir_trait.specs.Local.{IsActive, has_own_open};
 ghost use Rattle.dir_trait.specs.Pods.{pod_text};
 ghost use Rattle.lifecycle.specs.Executions.{IsConforming};
 ghost use Rattle.pod_report.specs.Outside.{IsOutside};
+ghost use Rattle.pod_report.specs.SeenManifests.{RoundSees};
 ghost use Rattle.pod_report.specs.Requests.{OnlyAsksFor, visits};
 ghost use Rattle.pod_report.specs.Rounds.{IsKnownRound, moved_from, round_of, RoundTells};
 
@@ -54,10 +55,11 @@ fn round_of(phase: Phase, area: Area, sight: Sight) -> Round
 pub(crate) fn attempt<D: Dir>(alloc: Global, dir: &mut D, pod: PodId) -> Result<Round, ReportError>
     requires active { IsActive (D.shown dir.old).local }
     requires alone { has_own_open (D.shown dir.old).local (pod_text pod.bytes) ≡ false }
-    ensures counted { (D.shown dir.new).calls ≤ (D.shown dir.old).calls + 27 }
+    ensures counted { (D.shown dir.new).calls ≤ (D.shown dir.old).calls + 28 }
     ensures only { OnlyAsksFor D.observed (visits pod) (D.shown dir.old) (D.shown dir.new) }
     ensures cause { IsErrOf result ReportError.DirFault → Rose (D.shown dir.old).faults (D.shown dir.new).faults }
     ensures kind { IfErr result IsOutside }
+    ensures seen { IfOk result (λ round. D.observed ≡ true → RoundSees pod round (D.shown dir.old) (D.shown dir.new)) }
     ensures round { IfOk result (λ round. D.observed ≡ true → IsConforming (D.shown dir.new).trace
         → RoundTells pod round (D.shown dir.old) (D.shown dir.new)) }
     ensures manifest { IfOk result IsKnownRound }

@@ -7,6 +7,7 @@ ghost use Rattle.dir_trait.specs.Pods.{pod_text};
 ghost use Rattle.lifecycle.specs.Executions.{IsConforming};
 ghost use Rattle.pod_report.specs.Inspections.{moved_on, SeesAt, InspectionTells};
 ghost use Rattle.pod_report.specs.Outside.{IsOutside};
+ghost use Rattle.pod_report.specs.OwnReadings.{InspectionSees};
 ghost use Rattle.pod_report.specs.Requests.{OnlyAsksFor, inspects};
 
 use crate::created::created_at;
@@ -79,6 +80,7 @@ pub(crate) fn inspect<D: Dir>(
     ensures only { OnlyAsksFor D.observed (inspects pod) (D.shown dir.old) (D.shown dir.new) }
     ensures cause { IsErrOf result ReportError.DirFault → Rose (D.shown dir.old).faults (D.shown dir.new).faults }
     ensures kind { IfErr result IsOutside }
+    ensures seen { IfOk result (λ round. D.observed ≡ true → InspectionSees pod round (D.shown dir.old) (D.shown dir.new)) }
     ensures round { IfOk result (λ round. D.observed ≡ true → IsConforming (D.shown dir.new).trace
         → InspectionTells pod round (D.shown dir.old) (D.shown dir.new)) }
 {

@@ -6,6 +6,7 @@ ghost use Rattle.dir_trait.specs.Pods.{pod_text};
 ghost use Rattle.lifecycle.specs.Executions.{IsConforming};
 ghost use Rattle.manifests.specs.declared.runtime_app.RuntimeApp.{RuntimeApp};
 ghost use Rattle.pod_report.specs.Outside.{IsUnsaid};
+ghost use Rattle.pod_report.specs.SeenLines.{LineSees};
 ghost use Rattle.pod_report.specs.Requests.{OnlyAsksFor, visits};
 ghost use Rattle.pod_report.specs.Snapshot.{names_told, LineTells};
 
@@ -82,6 +83,7 @@ pub(crate) fn line_of<D: Dir>(
     ensures only { OnlyAsksFor D.observed (visits pod) (D.shown dir.old) (D.shown dir.new) }
     ensures cause { IsErrOf result ReportError.DirFault → Rose (D.shown dir.old).faults (D.shown dir.new).faults }
     ensures kind { IfErr result IsUnsaid }
+    ensures seen { IfOk result (λ line. D.observed ≡ true → LineSees pod line (D.shown dir.old) (D.shown dir.new)) }
     ensures told { IfOk result (λ line. D.observed ≡ true → IsConforming (D.shown dir.new).trace
         → LineTells pod line (D.shown dir.old) (D.shown dir.new)) }
     ensures stray { IsErrOf result ReportError.Stray → D.observed ≡ true → IsConforming (D.shown dir.new).trace → ⊥ }

@@ -98,7 +98,7 @@ pub(crate) fn see_manifest<D: Dir>(
 ) -> Result<Sight, ReportError>
     requires active { IsActive (D.shown dir.old).local }
     requires stage { D.observed ≡ true → rank area ≤ 5 }
-    ensures counted { (D.shown dir.new).calls ≤ (D.shown dir.old).calls + 3 }
+    ensures counted { (D.shown dir.new).calls ≤ (D.shown dir.old).calls + 4 }
     ensures only { OnlyAsksFor D.observed (visits pod) (D.shown dir.old) (D.shown dir.new) }
     ensures cause { IsErrOf result ReportError.DirFault → Rose (D.shown dir.old).faults (D.shown dir.new).faults }
     ensures kind { IfErr result IsOutside }

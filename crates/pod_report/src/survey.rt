@@ -5,6 +5,7 @@ ghost use Rattle.dir_trait.specs.Local.{IsActive};
 ghost use Rattle.lifecycle.specs.Executions.{IsConforming};
 ghost use Rattle.pod_report.specs.Before.{ListsQuietly};
 ghost use Rattle.pod_report.specs.Outside.{IsUnsaid};
+ghost use Rattle.pod_report.specs.SeenLines.{AddsSeen, LinesSeenBetween, ListsSeenBetween};
 ghost use Rattle.pod_report.specs.Requests.{OnlyAsksFor, surveys, HasNoPodOpen};
 ghost use Rattle.pod_report.specs.Snapshot.{AddsLine, TellsPods, IsSnapshotBetween, LinesStanding};
 
@@ -36,6 +37,8 @@ fn add_line<D: Dir>(
     ensures only { OnlyAsksFor D.observed surveys (D.shown dir.old) (D.shown dir.new) }
     ensures cause { IsErrOf result ReportError.DirFault → Rose (D.shown dir.old).faults (D.shown dir.new).faults }
     ensures kind { IfErr result IsUnsaid }
+    ensures seen { IfOk result (λ done. D.observed ≡ true
+        → AddsSeen pod lines.old.items lines.new.items (D.shown dir.old) (D.shown dir.new)) }
     ensures told { IfOk result (λ done. D.observed ≡ true → IsConforming (D.shown dir.new).trace
         → AddsLine pod lines.old.items lines.new.items (D.shown dir.old) (D.shown dir.new)) }
     ensures stray { IsErrOf result ReportError.Stray → D.observed ≡ true → IsConforming (D.shown dir.new).trace → ⊥ }
@@ -54,6 +57,8 @@ fn lines_of<D: Dir>(alloc: Global, dir: &mut D, pods: &[PodId]) -> Result<Vec<Po
     ensures only { OnlyAsksFor D.observed surveys (D.shown dir.old) (D.shown dir.new) }
     ensures cause { IsErrOf result ReportError.DirFault → Rose (D.shown dir.old).faults (D.shown dir.new).faults }
     ensures kind { IfErr result IsUnsaid }
+    ensures seen { IfOk result (λ lines. D.observed ≡ true
+        → LinesSeenBetween pods.now lines.items (D.shown dir.old) (D.shown dir.new)) }
     ensures told { IfOk result (λ lines. D.observed ≡ true → IsConforming (D.shown dir.new).trace
         → TellsPods pods.now lines.items (D.shown dir.old) (D.shown dir.new)) }
     ensures stray { IsErrOf result ReportError.Stray → D.observed ≡ true → IsConforming (D.shown dir.new).trace → ⊥ }
@@ -69,8 +74,9 @@ fn lines_of<D: Dir>(alloc: Global, dir: &mut D, pods: &[PodId]) -> Result<Vec<Po
 /// order, and then each pod that was shown is looked for. Where every process keeps the local rules, each
 /// pod that exists at every own step has exactly one line and no pod has two, each phase is the pod's at an
 /// own step, and the names are those of a manifest that the pod had at one; they are absent only where at
-/// one the manifest was missing or had no reading, or the pod didn't exist. Where nobody else steps, the
-/// lines are those of the state before.
+/// one the manifest was missing or had no reading, or the pod didn't exist. Whatever other processes do, the
+/// lines are what own listings, looks and reads gave. Where nobody else steps, they are those of the state
+/// before.
 ///
 /// `Stray` where a pod was missed at six places in turn, which can't be where every process keeps the
 /// local rules; `DirFault` where the directory failed, `NoMemory` where memory ran out.
@@ -80,6 +86,8 @@ pub fn list_pods<D: Dir>(alloc: Global, dir: &mut D) -> Result<Vec<PodLine>, Rep
     ensures only { OnlyAsksFor D.observed surveys (D.shown dir.old) (D.shown dir.new) }
     ensures cause { IsErrOf result ReportError.DirFault → Rose (D.shown dir.old).faults (D.shown dir.new).faults }
     ensures kind { IfErr result IsUnsaid }
+    ensures seen { IfOk result (λ lines. D.observed ≡ true
+        → ListsSeenBetween lines.items (D.shown dir.old) (D.shown dir.new)) }
     ensures snapshot { IfOk result (λ lines. D.observed ≡ true → IsConforming (D.shown dir.new).trace
         → IsSnapshotBetween (D.shown dir.old) (D.shown dir.new) lines.items) }
     ensures standing { IfOk result (λ lines. D.observed ≡ true → IsConforming (D.shown dir.new).trace

@@ -11,6 +11,7 @@ ghost use Rattle.phase_read.specs.Exact.{AtOwnEvent, IsNowhere};
 ghost use Rattle.pod_report.specs.Before.{AnswersQuietly};
 ghost use Rattle.pod_report.specs.Manifests.{HasManifest, LacksManifest};
 ghost use Rattle.pod_report.specs.Outside.{IsUnsaid};
+ghost use Rattle.pod_report.specs.SeenManifests.{AnswersRead, VisitSees};
 ghost use Rattle.pod_report.specs.Requests.{OnlyAsksFor, visits};
 ghost use Rattle.pod_report.specs.Visits.{IsKnownVisit, VisitTells};
 
@@ -37,10 +38,11 @@ pub(crate) fn visit_pod<D: Dir>(
 ) -> Result<Option<Visit>, ReportError>
     requires active { IsActive (D.shown dir.old).local }
     requires alone { has_own_open (D.shown dir.old).local (pod_text pod.bytes) ≡ false }
-    ensures counted { (D.shown dir.new).calls ≤ (D.shown dir.old).calls + 162 }
+    ensures counted { (D.shown dir.new).calls ≤ (D.shown dir.old).calls + 168 }
     ensures only { OnlyAsksFor D.observed (visits pod) (D.shown dir.old) (D.shown dir.new) }
     ensures cause { IsErrOf result ReportError.DirFault → Rose (D.shown dir.old).faults (D.shown dir.new).faults }
     ensures kind { IfErr result IsUnsaid }
+    ensures seen { IfOk result (λ found. D.observed ≡ true → VisitSees pod found (D.shown dir.old) (D.shown dir.new)) }
     ensures told { IfOk result (λ found. D.observed ≡ true → IsConforming (D.shown dir.new).trace
         → VisitTells pod found (D.shown dir.old) (D.shown dir.new)) }
     ensures manifest { IfOk result (λ found. IfSome found IsKnownVisit) }
@@ -60,8 +62,8 @@ pub(crate) fn visit_pod<D: Dir>(
 /// The pod's manifest. `NoPod` where there is no such pod; `NoManifest` where its file `pod` is missing or
 /// has no reading. Where the pod moved on meanwhile it is looked for again, six times at most; `Stray`
 /// where that wasn't enough, which can't be where every process keeps the local rules. `DirFault` where
-/// the directory failed, `NoMemory` where memory ran out. Where nobody else steps, the state before tells
-/// the answer.
+/// the directory failed, `NoMemory` where memory ran out. Whatever other processes do, the answer is what
+/// own looks and reads gave. Where nobody else steps, the state before tells it.
 pub fn manifest_of<D: Dir>(
     alloc: Global,
     dir: &mut D,
@@ -69,9 +71,10 @@ pub fn manifest_of<D: Dir>(
 ) -> Result<PodManifest, ReportError>
     requires active { IsActive (D.shown dir.old).local }
     requires alone { has_own_open (D.shown dir.old).local (pod_text pod.bytes) ≡ false }
-    ensures counted { (D.shown dir.new).calls ≤ (D.shown dir.old).calls + 162 }
+    ensures counted { (D.shown dir.new).calls ≤ (D.shown dir.old).calls + 168 }
     ensures only { OnlyAsksFor D.observed (visits pod) (D.shown dir.old) (D.shown dir.new) }
     ensures cause { IsErrOf result ReportError.DirFault → Rose (D.shown dir.old).faults (D.shown dir.new).faults }
+    ensures seen { D.observed ≡ true → AnswersRead pod result (D.shown dir.old) (D.shown dir.new) }
     ensures read { IfOk result (λ manifest. D.observed ≡ true → IsConforming (D.shown dir.new).trace
         → HeldBetween (D.shown dir.old) (D.shown dir.new) (HasManifest pod (pod_data manifest))) }
     ensures kind { IfOk result (λ manifest. IsPodManifest (pod_data manifest)) }

@@ -1,6 +1,7 @@
-use Rattle.std.proofs.Common.{◌≡◌, ◌++◌, ◌∷◌, [], inl, refl, true}
+use Rattle.std.proofs.Common.{◌≡◌, ◌++◌, ◌∷◌, [], inl, inr, refl, true}
 use Rattle.lifecycle.specs.Executions.{IsConforming}
 use Rattle.pod_report.proofs.Asking.{asks_wider}
+use Rattle.pod_report.specs.SeenLines.{AddsSeen}
 use Rattle.pod_report.specs.Snapshot.{AddsLine}
 use Rattle.pod_report.proofs.Results.{if_ok}
 use Rattle.pod_report.proofs.Going.{visits_survey}
@@ -29,3 +30,17 @@ returns-in-Ok-Some-clause-told g c =
 
 pub returns-in-Ok-None-clause-told : goal.returns-in-Ok-None-clause-told
 returns-in-Ok-None-clause-told g c t conforming = let e = rw c.in-Ok-None.field-0-is at c.in-Ok-None.ensures in inl (refl, e.told t conforming)
+
+pub returns-in-Ok-Some-clause-seen : goal.returns-in-Ok-Some-clause-seen
+returns-in-Ok-Some-clause-seen g c =
+    let D = g.D.Dir in
+    let old = D.shown c.args.dir.now in
+    let new = D.shown c.line_of.new.dir in
+    let e = rw c.in-Ok-Some.field-0-is at c.in-Ok-Some.ensures in
+    let before = c.args.lines.now.items in
+    let after = c.push.new.lines.items in
+    if_ok (λ done. after ≡ before ++ c.in-Ok-Some.line ∷ []) (λ done. D.observed ≡ true → AddsSeen c.args.pod before after old new) c.push.result
+    (λ done is t. let l = e.seen t in inr (c.in-Ok-Some.line, is, l.0, l.1)) c.push.ensures.items
+
+pub returns-in-Ok-None-clause-seen : goal.returns-in-Ok-None-clause-seen
+returns-in-Ok-None-clause-seen g c t = let e = rw c.in-Ok-None.field-0-is at c.in-Ok-None.ensures in inl (refl, e.seen t)

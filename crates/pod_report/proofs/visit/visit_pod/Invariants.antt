@@ -8,7 +8,7 @@ abbrev pub invariant-rounds : goal.invariant-rounds
 invariant-rounds g l =
     let D = g.D.Dir in
     record {
-      counted : (D.shown l.dir).calls ≤ (D.shown l.fn.dir).calls + 27 * l._round;
+      counted : (D.shown l.dir).calls ≤ (D.shown l.fn.dir).calls + 28 * l._round;
       only : OnlyAsksFor D.observed (visits l.pod) (D.shown l.fn.dir) (D.shown l.dir);
       left : D.observed ≡ true → IsConforming (D.shown l.dir).trace → HasLeft l.pod l._round (D.shown l.dir) × (l._round ≤ 5);
     }
