@@ -20,12 +20,15 @@ use Rattle.command_outcomes.specs.declared.refusal.Refusal.{Refusal}
 use Rattle.command_outcomes.specs.declared.refusal.Refusal.TheVariants.{DirFault, NoMemory}
 use Rattle.command_outcomes.specs.Ends.{is_own_end}
 use Rattle.command_outcomes.specs.Moments.{Outcome, dir_seen}
-use Rattle.commands.specs.CatManifest.{IsManifestIn, TellsManifest, cat_manifest_refusal, cat_manifest_report, manifest_line, unread_refusal}
-use Rattle.commands.specs.PodList.{IsListOf, TellsLines, list_refusal, list_report, list_text, unlisted_refusal}
+use Rattle.commands.specs.CatManifest.{IsManifestIn, SeesPod, TellsManifest, cat_manifest_refusal, cat_manifest_report, manifest_line, unread_refusal}
+use Rattle.commands.specs.PodList.{IsListOf, SeesLines, TellsLines, list_refusal, list_report, list_text, unlisted_refusal}
 use Rattle.pod_report.specs.declared.status.PodStatus.{PodStatus}
-use Rattle.pod_report.specs.Status.{IsStatusBetween, IsStatusBy, TellsQuietly}
+use Rattle.pod_report.specs.OwnReadings.{AnswersSeen}
+use Rattle.pod_report.specs.SeenLines.{ListsSeenBetween}
+use Rattle.pod_report.specs.SeenManifests.{AnswersRead}
+use Rattle.pod_report.specs.Status.{IsAnswer, IsStatusBetween, TellsQuietly}
 use Rattle.commands.specs.Report.{ReportSays}
-use Rattle.commands.specs.Status.{IsStatusIn, TellsStatus, status_lines, status_refusal, status_report, unknown_refusal}
+use Rattle.commands.specs.Status.{IsStatusIn, SeesStatus, TellsStatus, status_said, status_lines, status_refusal, status_report, unknown_refusal}
 use Rattle.commands.proofs.ReportsBefore.{conforming_before, lacking_is, list_is, manifest_is, nowhere_is}
 
 -- an outcome is of a text or of a refusal, or memory ran out while the text was made
@@ -75,12 +78,15 @@ module _ {V : Type 0} (items : V → List PodLine) (observed : Bool) (old new : 
 
   pub list_says :
       IfErr found IsUnsaid →
+      IfOk found (λ v. observed ≡ true → ListsSeenBetween (items v) old new) →
       IfOk found (λ v. observed ≡ true → IsConforming new.trace → IsSnapshotBetween old new (items v)) →
       IfOk found (λ v. observed ≡ true → IsConforming new.trace → ListsQuietly old new (items v)) →
       (IsErrOf found report.Stray → observed ≡ true → IsConforming new.trace → ⊥) →
       ReportSays list_report (dir_seen observed old) (dir_seen observed new) result
-  list_says kind snapshot quiet stray = record {
+  list_says kind seen snapshot quiet stray = record {
     prints = came lines_text unlisted_refusal result (λ o. IfOk o list_report.prints) found lists refuses (λ v is. (items v, refl)) (λ e is. tt) tt;
+    seen = came lines_text unlisted_refusal result (λ o. observed ≡ true → SeesLines old.process old.trace new.trace o) found lists refuses
+        (λ v is t. record { lines = items v; so = said _ found v seen is t; is = refl }) (λ e is t. tt) (λ t. tt);
     told = came lines_text unlisted_refusal result (λ o. is_own_end o ≡ true → observed ≡ true → IsConforming new.trace → TellsLines old.process old.trace new.trace o) found lists refuses
         (λ v is own t conforming. record { lines = items v; so = said _ found v snapshot is t conforming; is = refl })
         (λ e is own t conforming. unlisted_never e (refused_so _ found e kind is) (λ strayed. stray (is ∙ ap Err strayed) t conforming) own)
@@ -117,7 +123,8 @@ module _ (pod : PodId) (observed : Bool) (old new : DirAt) (result : Outcome) (f
   pub cat_refusals : IfErr result (λ r. cat_manifest_refusal r ≡ true)
   cat_refusals = came its_line (unread_refusal pod) result (λ o. IfErr o (λ r. cat_manifest_refusal r ≡ true)) found writes refuses (λ m is. tt) (λ e is. unread_own pod e) refl
 
-  module _ (read : IfOk found (λ m. observed ≡ true → IsConforming new.trace → HeldBetween old new (HasManifest pod (pod_data m))))
+  module _ (seen : observed ≡ true → AnswersRead pod found old new)
+      (read : IfOk found (λ m. observed ≡ true → IsConforming new.trace → HeldBetween old new (HasManifest pod (pod_data m))))
       (nowhere : IsErrOf found report.NoPod → observed ≡ true → IsConforming new.trace → AtOwnEvent old.process old.trace new.trace (IsNowhere pod))
       (lacking : IsErrOf found report.NoManifest → observed ≡ true → IsConforming new.trace → HeldBetween old new (LacksManifest pod))
       (quiet : observed ≡ true → IsConforming new.trace → AnswersQuietly pod found old new)
@@ -129,6 +136,11 @@ module _ (pod : PodId) (observed : Bool) (old new : DirAt) (result : Outcome) (f
     unread_told report.DirFault is own t conforming = let clash : false ≡ true = own in cc
     unread_told report.NoMemory is own t conforming = let clash : false ≡ true = own in cc
 
+    unread_seen : (e : ReportError) → AnswersRead pod (Err e) old new → SeesPod pod old.process old.trace new.trace (Err (unread_refusal pod e))
+    unread_seen report.NoPod missed = missed
+    unread_seen report.NoManifest visited = (refl, visited.0, visited.1)
+    unread_seen e x = tt
+
     unread_quiet : IsConforming old.trace → (e : ReportError) → IsManifestBy (state_after old.trace) pod (Err e) → (e ≡ report.Stray → ⊥) → is_own_end (Err (unread_refusal pod e)) ≡ true → IsManifestIn pod (state_after old.trace) (Err (unread_refusal pod e))
     unread_quiet good report.NoPod by strayed own = nowhere_is pod old.trace by
     unread_quiet good report.NoManifest by strayed own = lacking_is old.trace good pod by
@@ -139,6 +151,11 @@ module _ (pod : PodId) (observed : Bool) (old new : DirAt) (result : Outcome) (f
     pub cat_says : ReportSays (cat_manifest_report pod) (dir_seen observed old) (dir_seen observed new) result
     cat_says = record {
       prints = came its_line (unread_refusal pod) result (λ o. IfOk o (cat_manifest_report pod).prints) found writes refuses (λ m is. (pod_data m, refl)) (λ e is. tt) tt;
+      seen = came its_line (unread_refusal pod) result (λ o. observed ≡ true → SeesPod pod old.process old.trace new.trace o) found writes refuses
+          (λ m is t. let x = subst (λ (r : Result PodManifest ReportError). AnswersRead pod r old new) is (seen t) in
+          record { manifest = pod_data m; so = record { read = m; is = refl; phase = x.0; visited = x.1 }; is = refl })
+          (λ e is t. unread_seen e (subst (λ (r : Result PodManifest ReportError). AnswersRead pod r old new) is (seen t)))
+          (λ t. tt);
       told = came its_line (unread_refusal pod) result (λ o. is_own_end o ≡ true → observed ≡ true → IsConforming new.trace → TellsManifest pod old.process old.trace new.trace o) found writes refuses
           (λ m is own t conforming. record { manifest = pod_data m; so = said _ found m read is t conforming; is = refl })
           unread_told
@@ -172,6 +189,7 @@ module _ (pod : PodId) (observed : Bool) (old new : DirAt) (result : Outcome) (f
   status_refusals = came status_lines unknown_refusal result (λ o. IfErr o (λ r. status_refusal r ≡ true)) found says refuses (λ s is. tt) (λ e is. unknown_own e) refl
 
   module _ (never : IsErrOf found report.NoManifest → ⊥)
+      (seen : observed ≡ true → AnswersSeen pod found old new)
       (told : IfOk found (λ s. observed ≡ true → IsConforming new.trace → IsStatusBetween pod s old new))
       (nowhere : IsErrOf found report.NoPod → observed ≡ true → IsConforming new.trace → AtOwnEvent old.process old.trace new.trace (IsNowhere pod))
       (quiet : observed ≡ true → IsConforming new.trace → TellsQuietly pod found old new)
@@ -183,23 +201,29 @@ module _ (pod : PodId) (observed : Bool) (old new : DirAt) (result : Outcome) (f
     unknown_told report.DirFault is own t conforming = let clash : false ≡ true = own in cc
     unknown_told report.NoMemory is own t conforming = let clash : false ≡ true = own in cc
 
-    unknown_quiet : (e : ReportError) → found ≡ Err e → IsStatusBy (state_after old.trace) pod (Err e) → (e ≡ report.Stray → ⊥) → is_own_end (Err (unknown_refusal e)) ≡ true → IsStatusIn pod (state_after old.trace) (Err (unknown_refusal e))
-    unknown_quiet report.NoPod is by strayed own = by
-    unknown_quiet report.NoManifest is by strayed own = absurd (never is)
-    unknown_quiet report.Stray is by strayed own = absurd (strayed refl)
-    unknown_quiet report.DirFault is by strayed own = let clash : false ≡ true = own in cc
-    unknown_quiet report.NoMemory is by strayed own = let clash : false ≡ true = own in cc
+    unknown_answers : (e : ReportError) → is_own_end (Err (unknown_refusal e)) ≡ true → IsAnswer (Err e)
+    unknown_answers report.DirFault own = let clash : false ≡ true = own in cc
+    unknown_answers report.NoMemory own = let clash : false ≡ true = own in cc
+    unknown_answers e own = tt
+
+    unknown_seen : (e : ReportError) → AnswersSeen pod (Err e) old new → SeesStatus pod old.process old.trace new.trace (Err (unknown_refusal e))
+    unknown_seen report.NoPod missed = missed
+    unknown_seen e missed = tt
 
     pub status_says : ReportSays (status_report pod) (dir_seen observed old) (dir_seen observed new) result
     status_says = record {
       prints = came status_lines unknown_refusal result (λ o. IfOk o (status_report pod).prints) found says refuses (λ s is. (s, refl)) (λ e is. tt) tt;
+      seen = came status_lines unknown_refusal result (λ o. observed ≡ true → SeesStatus pod old.process old.trace new.trace o) found says refuses
+          (λ s is t. record { status = s; so = subst (λ (x : Result PodStatus ReportError). AnswersSeen pod x old new) is (seen t); is = refl })
+          (λ e is t. unknown_seen e (subst (λ (x : Result PodStatus ReportError). AnswersSeen pod x old new) is (seen t)))
+          (λ t. tt);
       told = came status_lines unknown_refusal result (λ o. is_own_end o ≡ true → observed ≡ true → IsConforming new.trace → TellsStatus pod old.process old.trace new.trace o) found says refuses
           (λ s is own t conforming. record { status = s; so = said _ found s told is t conforming; is = refl })
           unknown_told
           (λ own t conforming. let clash : false ≡ true = own in cc);
       quiet = came status_lines unknown_refusal result
           (λ o. is_own_end o ≡ true → observed ≡ true → IsConforming new.trace → Quiet old.process old.trace new.trace → OwnsNothing old.process (state_after old.trace).namespace → IsStatusIn pod (state_after old.trace) o) found says refuses
-          (λ s is own t conforming alone idle. record { status = s; so = subst (λ (x : Result PodStatus ReportError). IsStatusBy (state_after old.trace) pod x) is (quiet t conforming alone idle); is = refl })
-          (λ e is own t conforming alone idle. unknown_quiet e is (subst (λ (x : Result PodStatus ReportError). IsStatusBy (state_after old.trace) pod x) is (quiet t conforming alone idle)) (λ strayed. stray (is ∙ ap Err strayed) t conforming) own)
+          (λ s is own t conforming alone idle. ap status_said (sym is ∙ quiet t conforming alone idle (subst IsAnswer (sym is) tt)))
+          (λ e is own t conforming alone idle. ap status_said (sym is ∙ quiet t conforming alone idle (subst IsAnswer (sym is) (unknown_answers e own))))
           (λ own t conforming alone idle. let clash : false ≡ true = own in cc);
     }

@@ -1,26 +1,30 @@
 -- What a report told of a part of a time is so of the whole; and what it comes to by a state, by any with the same folders, owners and files.
-use Rattle.std.proofs.Common.{◌≡◌, inl, inr, ℕ, Bool, true, false, position, List, [], ◌∷◌, ◌++◌, Option, Some, None, Ok, Err, refl, sym, ap, ◌∙◌, append_assoc}
-use Rattle.std.specs.List.{flat_map, list_any}
+use Rattle.std.proofs.Common.{◌≡◌, inl, inr, ℕ, Bool, true, false, position, List, [], ◌∷◌, ◌++◌, Option, Some, None, option_map, Result, Ok, Err, refl, sym, ap, ◌∙◌, append_assoc}
+use Rattle.std.specs.List.{filter_map, flat_map}
+use Rattle.dir_model.specs.declared.area.Area.{Area}
+use Rattle.dir_model.specs.declared.area.Phase.{Phase}
 use Rattle.dir_model.specs.declared.event.Event.{Event}
 use Rattle.dir_model.specs.declared.item.Inner.{Inner}
+use Rattle.dir_model.specs.declared.item.Item.{Item}
 use Rattle.dir_model.specs.declared.pod.PodId.{PodId}
 use Rattle.dir_model.specs.declared.request.Request.{Request}
 use Rattle.dir_model.specs.declared.request.Request.TheVariants.{MoveFolder, RemoveFolder, MakeDirIn, MakeFileIn, AppendIn, RemoveFileIn, RemoveDirIn}
 use Rattle.dir_model.specs.declared.spot.Spot.{Spot}
 use Rattle.dir_model.specs.declared.tree.TreeEntry.{TreeEntry}
 use Rattle.dir_model.specs.State.{DirState, is_at, folder_at}
-use Rattle.dir_model.specs.Trees.{items_in, names_in}
-use Rattle.dir_model.specs.Areas.{phase_in}
-use Rattle.dir_model.specs.Listings.{is_named}
+use Rattle.dir_model.specs.Trees.{names_in}
+use Rattle.dir_model.specs.Listings.{item_names}
+use Rattle.dir_rules.specs.Marks.{status_directory}
+use Rattle.dir_rules.specs.Seen.{created_among}
 use Rattle.dir_model.proofs.Lists.{all_weaker}
 use Rattle.dir_model.proofs.Moments.{at_within}
-use Rattle.dir_files.specs.Reads.{bytes_in, file_at}
+use Rattle.dir_files.specs.Reads.{bytes_in, file_at, inner_at}
 use Rattle.phase_read.specs.declared.found.Found.{Found}
 use Rattle.phase_read.specs.declared.found.Found.TheVariants.{At, Gone}
 use Rattle.phase_read.specs.Read.{pod_spot, stages}
 use Rattle.phase_read.specs.Sequential.{sequential_read}
 use Rattle.phase_read.proofs.Exact.{event_within}
-use Rattle.pod_lookup.specs.Pods.{pods_named, pods_standing}
+use Rattle.pod_lookup.specs.Pods.{in_order, pods_named, pods_standing}
 use Rattle.pod_report.specs.declared.line.PodLine.{PodLine}
 use Rattle.pod_report.specs.Before.{names_in_file}
 use Rattle.pod_report.specs.declared.ends.AppEndText.{AppEndText}
@@ -29,7 +33,9 @@ use Rattle.pod_report.specs.Created.{HasCreatedMark}
 use Rattle.pod_report.specs.Ends.{HasEnded, status_file}
 use Rattle.pod_report.specs.Manifests.{manifest_file}
 use Rattle.pod_report.specs.Moments.{AtEachMoment, AtSomeMoment, IsMoment}
-use Rattle.pod_report.specs.Status.{IsStatus, IsStatusOf}
+use Rattle.pod_report.specs.declared.error.ReportError.{ReportError}
+use Rattle.pod_report.specs.Sequential.{created_in, end_in, end_with, ends_in, items_at, items_of, status_found, status_in_file}
+use Rattle.pod_report.specs.Status.{IsStatus}
 use Rattle.pod_report.specs.Requests.{inspects, surveys, visits}
 use Rattle.pod_report.specs.Snapshot.{AreAppsOf, ExistsThroughout, IsLine, IsWeakSnapshot}
 use Rattle.pod_report.proofs.Going.{visits_survey}
@@ -41,8 +47,8 @@ use Rattle.commands.specs.NextState.{is_nowhere}
 use Rattle.commands.specs.PodList.{IsListOf, TellsLines, line_in, line_text, sequential_list}
 use Rattle.commands.specs.Report.{Report}
 use Rattle.commands.proofs.RemovalQuiet.{ChangesAt, changed_in}
-use Rattle.commands.specs.Status.{IsStatusIn, TellsStatus}
-use Rattle.commands.proofs.SameReads.{same_owned, same_stands, sequential_same}
+use Rattle.commands.specs.Status.{IsStatusIn, TellsStatus, status_said}
+use Rattle.commands.proofs.SameReads.{sequential_same}
 
 -- of a longer time
 abbrev pub IsWider : Report → Type 0
@@ -107,6 +113,7 @@ module _ (me : ℕ) (a b c d earlier later : List Event) (begins : b ≡ a ++ ea
     latest = λ moment all. x.latest moment (each_within (HasCreatedMark pod moment) all);
     ends = all_weaker (λ (e : AppEndText). AtSomeMoment b c (HasEnded pod e.app e.status)) (λ (e : AppEndText). AtSomeMoment a d (HasEnded pod e.app e.status)) (λ e at. some_wider at) status.ends x.ends;
     rise = x.rise;
+    named = x.named;
     whole = λ app n named all. x.whole app n named (each_within (HasEnded pod app n) all);
   }
 
@@ -115,57 +122,38 @@ module _ (me : ℕ) (a b c d earlier later : List Event) (begins : b ≡ a ++ ea
   status_wider pod (Err NoPod) at = event_within earlier later begins ends at
   status_wider pod (Err r) p = p
 
--- what one state shows of a pod's folder, another one with the same folders and files does
-module _ (x y : DirState) (folders : y.namespace.folders ≡ x.namespace.folders) (entries : y.entries ≡ x.entries) where
-  mark_in : (pod : PodId) (moment : ℕ) → HasCreatedMark pod moment x → HasCreatedMark pod moment y
-  mark_in pod moment (name, is, has) = (
-    name,
-    is,
-    record {
-      area = has.area;
-      stage = has.stage;
-      folder = has.folder;
-      there = ap (λ (fs : List (Option Spot)). position (is_at (pod_spot pod has.area)) fs) folders ∙ has.there;
-      named = ap (λ (es : List TreeEntry). list_any (is_named name) (items_in has.folder [] es)) entries ∙ has.named;
-    },
-  )
-
-  end_in : (pod : PodId) (app : List ℕ) (n : ℕ) → HasEnded pod app n x → HasEnded pod app n y
-  end_in pod app n (a, stage, has) = (
-    a,
-    stage,
-    record {
-      bytes = has.bytes;
-      file = ap (λ (es : List TreeEntry). bytes_in es (status_file pod a app).path (folder_at y.namespace (pod_spot pod a))) entries
-          ∙ (ap (λ (fs : List (Option Spot)). bytes_in x.entries (status_file pod a app).path (position (is_at (pod_spot pod a)) fs)) folders ∙ has.file);
-      is = has.is;
-    },
-  )
-
-module _ (me : ℕ) (s t : DirState) (w : SameWorld me s t) where
-  whole_stable : (pod : PodId) (status : PodStatus) → IsStatusOf t pod status → IsStatusOf s pod status
-  whole_stable pod status x = record {
-    area = x.area;
-    stage = x.stage;
-    there = sym (same_stands me s t w.names (pod_spot pod x.area)) ∙ x.there;
-    phase = ap (phase_in x.area) (sym (same_owned me s t w.names (pod_spot pod x.area))) ∙ x.phase;
-    created = λ moment is. mark_in t s (sym w.names.folders) (sym w.entries) pod moment (x.created moment is);
-    latest = λ moment has. x.latest moment (mark_in s t w.names.folders w.entries pod moment has);
-    ends = all_weaker (λ (e : AppEndText). HasEnded pod e.app e.status t) (λ (e : AppEndText). HasEnded pod e.app e.status s) (λ e has. end_in t s (sym w.names.folders) (sym w.entries) pod e.app e.status has) status.ends x.ends;
-    rise = x.rise;
-    whole = λ app n named has. x.whole app n named (end_in s t w.names.folders w.entries pod app n has);
-  }
-
-  pub status_stable : (pod : PodId) (o : Outcome) → IsStatusIn pod t o → IsStatusIn pod s o
-  status_stable pod (Ok text) p = record { status = p.status; so = whole_stable pod p.status p.so; is = p.is }
-  status_stable pod (Err NoPod) none = λ a stage. sym (same_stands me s t w.names (pod_spot pod a)) ∙ none a stage
-  status_stable pod (Err r) p = p
+found_so : Phase → Option ℕ → List AppEndText → Result PodStatus ReportError
+found_so phase created ends = Ok (record { phase = phase; created = created; ends = ends })
 
 module _ (me : ℕ) (s t : DirState) (w : SameWorld me s t) where
   same_file : (inner : Inner) → file_at t inner ≡ file_at s inner
   same_file inner =
       ap (λ (es : List TreeEntry). bytes_in es inner.path (folder_at t.namespace inner.spot)) w.entries
       ∙ ap (λ (folders : List (Option Spot)). bytes_in s.entries inner.path (position (is_at inner.spot) folders)) w.names.folders
+
+  -- what stands in a directory, and what its files tell
+  same_items : (inner : Inner) → items_at t inner ≡ items_at s inner
+  same_items inner =
+      ap (λ (es : List TreeEntry). items_of es inner.path (folder_at t.namespace inner.spot)) w.entries
+      ∙ ap (λ (folders : List (Option Spot)). items_of s.entries inner.path (position (is_at inner.spot) folders)) w.names.folders
+
+  same_end : (pod : PodId) (a : Area) (app : List ℕ) → end_in t pod a app ≡ end_in s pod a app
+  same_end pod a app = ap (λ (file : Option (List ℕ)). option_map (end_with app) (status_in_file file)) (same_file (status_file pod a app))
+
+  same_ends : (pod : PodId) (a : Area) (apps : List (List ℕ)) → filter_map (end_in t pod a) apps ≡ filter_map (end_in s pod a) apps
+  same_ends pod a [] = refl
+  same_ends pod a (app ∷ apps) = rw (same_end pod a app, same_ends pod a apps) refl
+
+  status_same : (pod : PodId) (f : Found) → status_found t pod f ≡ status_found s pod f
+  status_same pod (At phase a) =
+      let created = ap created_among (same_items (inner_at (pod_spot pod a) [])) in
+      let ends = same_ends pod a (in_order (item_names (items_at t (inner_at (pod_spot pod a) status_directory))))
+      ∙ ap (λ (items : List Item). filter_map (end_in s pod a) (in_order (item_names items))) (same_items (inner_at (pod_spot pod a) status_directory)) in
+      ap (λ (moment : Option ℕ). found_so phase moment (ends_in t pod a)) created ∙ ap (λ (es : List AppEndText). found_so phase (created_in s pod a) es) ends
+  status_same pod Gone = refl
+
+  pub status_stable : (pod : PodId) (o : Outcome) → IsStatusIn pod t o → IsStatusIn pod s o
+  status_stable pod o is = is ∙ ap status_said (status_same pod (sequential_read t pod) ∙ ap (status_found s pod) (sequential_same me s t w.names pod))
 
   line_stable : (pod : PodId) (f : Found) → line_in t pod f ≡ line_in s pod f
   line_stable pod (At phase area) = ap (λ (file : Option (List ℕ)). line_text (record { pod = pod; phase = phase; apps = names_in_file file })) (same_file (manifest_file pod area))

@@ -1,5 +1,6 @@
 -- The command `cat-manifest`.
 use Rattle.std.specs.Prelude.{◌≡◌, ℕ, Bool, true, Option, Some, None, List, ◌++◌, codes, Ok, Err}
+use Rattle.dir_model.specs.declared.area.Phase.{Phase}
 use Rattle.dir_model.specs.declared.event.Event.{Event}
 use Rattle.dir_model.specs.declared.pod.PodId.{PodId}
 use Rattle.dir_model.specs.Calls.{AtOwnStep}
@@ -7,7 +8,8 @@ use Rattle.dir_trait.specs.State.{DirState}
 use Rattle.dir_files.specs.Reads.{file_at}
 use Rattle.ac_types.specs.Outcomes.{reads, fails}
 use Rattle.ac_types.specs.Outcomes as reading
-use Rattle.manifests.specs.PodData.{PodData}
+use Rattle.manifests.specs.declared.pod_manifest.PodManifest.{PodManifest}
+use Rattle.manifests.specs.PodData.{PodData, pod_data}
 use Rattle.manifests.specs.PodForm.{pod_manifest}
 use Rattle.phase_read.specs.Exact.{AtOwnEvent, IsNowhere}
 use Rattle.phase_read.specs.declared.found.Found.{Found}
@@ -17,7 +19,9 @@ use Rattle.pod_report.specs.declared.error.ReportError.{ReportError}
 use Rattle.pod_report.specs.declared.error.ReportError.TheVariants as report
 use Rattle.pod_report.specs.Manifests.{HasManifest, LacksManifest, manifest_file}
 use Rattle.pod_report.specs.ManifestText.{manifest_text}
+use Rattle.pod_report.specs.OwnReadings.{IsMissed}
 use Rattle.pod_report.specs.Requests.{visits}
+use Rattle.pod_report.specs.SeenManifests.{IsVisited}
 use Rattle.command_outcomes.specs.declared.refusal.Refusal.{Refusal}
 use Rattle.command_outcomes.specs.declared.refusal.Refusal.TheVariants.{DirFault, NoManifest, NoMemory, NoPod, Stray}
 use Rattle.command_outcomes.specs.Ends.{is_common}
@@ -50,6 +54,20 @@ unread_refusal pod report.DirFault = DirFault
 unread_refusal pod report.Stray = Stray
 unread_refusal pod report.NoMemory = NoMemory
 
+-- an own reading found the pod, and then its file `pod` there was this manifest
+pub record SeesManifest (pod : PodId) (me : ℕ) (old new : List Event) (manifest : PodData) : Type 0 where
+  pub read : PodManifest
+  pub is : manifest ≡ pod_data read
+  pub phase : Phase
+  pub visited : IsVisited pod phase (Some read) me old new
+
+-- or it was missing or had no reading; or own readings missed the pod
+abbrev pub SeesPod : PodId → ℕ → List Event → List Event → Outcome → Type 0
+SeesPod pod me old new (Ok text) = PrintsManifest (SeesManifest pod me old new) text
+SeesPod pod me old new (Err NoPod) = IsMissed pod me old new
+SeesPod pod me old new (Err (NoManifest other)) = (other ≡ pod) × (phase : Phase) × IsVisited pod phase None me old new
+SeesPod pod me old new (Err refusal) = Unit {0}
+
 -- at an own step the pod's file `pod` was this manifest, or it was missing or had no reading; or the pod didn't exist. Contradictory
 -- answers don't come
 abbrev pub TellsManifest : PodId → ℕ → List Event → List Event → Outcome → Type 0
@@ -81,6 +99,7 @@ cat_manifest_report pod = record {
   prints = λ text. (manifest : PodData) × (text ≡ manifest_line manifest);
   refusals = cat_manifest_refusal;
   names = names_none;
+  sees = SeesPod pod;
   tells = TellsManifest pod;
   quiet = IsManifestIn pod;
 }

@@ -18,6 +18,7 @@ use Rattle.pod_report.specs.declared.line.PodLine.{PodLine}
 use Rattle.pod_report.specs.Before.{names_in_file}
 use Rattle.pod_report.specs.Manifests.{manifest_file}
 use Rattle.pod_report.specs.Requests.{surveys}
+use Rattle.pod_report.specs.SeenLines.{ListsSeen}
 use Rattle.pod_report.specs.Snapshot.{IsWeakSnapshot}
 use Rattle.command_outcomes.specs.declared.refusal.Refusal.{Refusal}
 use Rattle.command_outcomes.specs.declared.refusal.Refusal.TheVariants.{DirFault, NoMemory, Stray}
@@ -62,6 +63,11 @@ pub record PrintsLines (P : List PodLine → Type 0) (text : List ℕ) : Type 0 
   pub so : P lines
   pub is : text ≡ list_text lines
 
+-- the six areas were listed, and then own readings found each pod that has a line, and missed each that has none
+abbrev pub SeesLines : ℕ → List Event → List Event → Outcome → Type 0
+SeesLines me old new (Ok text) = PrintsLines (λ lines. ListsSeen lines me old new) text
+SeesLines me old new (Err refusal) = Unit {0}
+
 -- each line names that of its pod
 abbrev pub names_lines : Outcome → (PodId → Phase → Type 0) → Type 0
 names_lines (Ok text) Had = PrintsLines (AllByRecursion (λ (line : PodLine). Had line.pod line.phase)) text
@@ -91,6 +97,7 @@ list_report = record {
   prints = λ text. (lines : List PodLine) × (text ≡ list_text lines);
   refusals = list_refusal;
   names = names_lines;
+  sees = SeesLines;
   tells = TellsLines;
   quiet = IsListOf;
 }

@@ -13,9 +13,9 @@ use Rattle.command_outcomes.specs.declared.refusal.Refusal.{Refusal}
 use Rattle.command_outcomes.specs.Ends.{is_own_end}
 use Rattle.command_outcomes.specs.Moments.{DirSeen, Moment, Outcome}
 use Rattle.commands.specs.Answers.{WritesOf}
-use Rattle.commands.specs.Command.{Command, nothing, alone, intent_for, WhereAllKeepRules}
+use Rattle.commands.specs.Command.{Command, nothing, alone, intent_for, WhereAllKeepRules, WhereObserved}
 use Rattle.commands.specs.NextState.{LeavesAll}
-use Rattle.commands.specs.Opening.{Approach}
+use Rattle.commands.specs.Opening.{Approach, OnceFound}
 
 pub record Report : Type 1 where
   -- what it asks of the directory
@@ -26,26 +26,37 @@ pub record Report : Type 1 where
   pub refusals : Refusal → Bool
   -- the phases that its answer names
   pub names : Outcome → (PodId → Phase → Type 0) → Type 0
+  -- what its end tells of its own readings, whatever the other processes do
+  pub sees : ℕ → List Event → List Event → Outcome → Type 0
   -- what its end tells of the history of pods, while others step
   pub tells : ℕ → List Event → List Event → Outcome → Type 0
   -- what it comes to where nobody else steps: by the state before
   pub quiet : DirState → Outcome → Type 0
 
--- an end of its own tells this where every process keeps the local rules
+-- an end of its own tells what it read, and more where every process keeps the local rules
 pub record ReportSays (r : Report) (old new : DirSeen) (o : Outcome) : Type 0 where
   pub prints : IfOk o r.prints
+  pub seen : old.observed ≡ true → r.sees old.process old.trace new.trace o
   pub told : is_own_end o ≡ true → old.observed ≡ true → IsConforming new.trace → r.tells old.process old.trace new.trace o
   pub quiet :
       is_own_end o ≡ true → old.observed ≡ true → IsConforming new.trace → Quiet old.process old.trace new.trace →
       OwnsNothing old.process (state_after old.trace).namespace → r.quiet (state_after old.trace) o
 
 -- the same of the whole process
+abbrev pub SeesReport : Report → Outcome → Moment → Moment → Type 0
+SeesReport r o old new = OnceFound (λ me a b. r.sees me a b o) old.outside.dir.process old.outside.dir.trace new.outside.dir.trace
+
 abbrev pub TellsReport : Report → Outcome → Moment → Moment → Type 0
 TellsReport r o old new = r.tells old.outside.dir.process old.outside.dir.trace new.outside.dir.trace o
 
 pub record RefusesReport (r : Report) (refusal : Refusal) (old new : Moment) : Type 0 where
   pub own : r.refusals refusal ≡ true
+  pub seen : WhereObserved old (SeesReport r (Err refusal) old new)
   pub why : WhereAllKeepRules old new (TellsReport r (Err refusal) old new)
+
+pub record WritesReport (r : Report) (status : ℕ) (old new : Moment) : Type 0 where
+  pub seen : WhereObserved old (status ≡ 0 → WritesOf (λ text. SeesReport r (Ok text) old new) old new)
+  pub told : WhereAllKeepRules old new (status ≡ 0 → WritesOf (λ text. TellsReport r (Ok text) old new) old new)
 
 -- a command that is this report. It leaves everything as it was
 abbrev pub report_command : Kind → List ℕ → Approach → Report → Command
@@ -58,7 +69,7 @@ report_command kind word approach r = record {
   refusals = r.refusals;
   refused_for = λ now draw refusal old new. RefusesReport r refusal old new;
   names = r.names;
-  tells = λ now draw status old new. WhereAllKeepRules old new (status ≡ 0 → WritesOf (λ text. TellsReport r (Ok text) old new) old new);
+  tells = λ now draw status old new. WritesReport r status old new;
   quiet = λ now draw old new o. IsConforming new.dir.trace → r.quiet (state_after old.dir.trace) o;
   leaves = λ me draw old new. LeavesAll me old new;
   says = alone (λ now draw old new o. ReportSays r old.dir new.dir o);

@@ -1,5 +1,5 @@
 -- The command `status`.
-use Rattle.std.specs.Prelude.{◌≡◌, ℕ, Bool, true, Option, Some, None, List, [], ◌++◌, codes, Ok, Err}
+use Rattle.std.specs.Prelude.{◌≡◌, ℕ, Bool, true, Option, Some, None, List, [], ◌++◌, codes, Result, Ok, Err}
 use Rattle.std.specs.Fmt.{decimal}
 use Rattle.std.specs.List.{flat_map}
 use Rattle.dir_model.specs.declared.area.Phase.{Phase}
@@ -12,13 +12,14 @@ use Rattle.pod_report.specs.declared.error.ReportError.{ReportError}
 use Rattle.pod_report.specs.declared.error.ReportError.TheVariants as report
 use Rattle.pod_report.specs.declared.status.PodStatus.{PodStatus}
 use Rattle.pod_report.specs.Requests.{inspects}
-use Rattle.pod_report.specs.Status.{IsStatus, IsStatusOf}
+use Rattle.pod_report.specs.OwnReadings.{IsMissed, IsSeen}
+use Rattle.pod_report.specs.Sequential.{sequential_status}
+use Rattle.pod_report.specs.Status.{IsStatus}
 use Rattle.command_outcomes.specs.declared.refusal.Refusal.{Refusal}
 use Rattle.command_outcomes.specs.declared.refusal.Refusal.TheVariants.{DirFault, NoMemory, NoPod, Stray}
 use Rattle.command_outcomes.specs.Ends.{is_common}
 use Rattle.command_outcomes.specs.Moments.{Outcome}
 use Rattle.commands.specs.AppEnds.{end_line}
-use Rattle.commands.specs.RemovalQuiet.{StandsNowhere}
 use Rattle.commands.specs.Report.{Report}
 use Rattle.commands.specs.Texts.{state_text}
 
@@ -52,6 +53,12 @@ pub record PrintsStatus (P : PodStatus → Type 0) (text : List ℕ) : Type 0 wh
   pub so : P status
   pub is : text ≡ status_lines status
 
+-- an own reading found the pod in that phase, and then its folder there showed the rest; or own readings missed it
+abbrev pub SeesStatus : PodId → ℕ → List Event → List Event → Outcome → Type 0
+SeesStatus pod me old new (Ok text) = PrintsStatus (λ status. IsSeen pod status me old new) text
+SeesStatus pod me old new (Err NoPod) = IsMissed pod me old new
+SeesStatus pod me old new (Err refusal) = Unit {0}
+
 -- it names its pod's
 abbrev pub names_status : PodId → Outcome → (PodId → Phase → Type 0) → Type 0
 names_status pod (Ok text) Had = PrintsStatus (λ status. Had pod status.phase) text
@@ -63,11 +70,13 @@ TellsStatus pod me old new (Ok text) = PrintsStatus (λ status. IsStatus pod sta
 TellsStatus pod me old new (Err NoPod) = AtOwnEvent me old new (IsNowhere pod)
 TellsStatus pod me old new (Err refusal) = ⊥
 
--- where nobody else steps: the status that the pod has in the state before, or that it stands nowhere
+-- where nobody else steps: the status that the state before gives the pod, or that there is none
+abbrev pub status_said : Result PodStatus ReportError → Outcome
+status_said (Ok status) = Ok (status_lines status)
+status_said (Err error) = Err (unknown_refusal error)
+
 abbrev pub IsStatusIn : PodId → DirState → Outcome → Type 0
-IsStatusIn pod s (Ok text) = PrintsStatus (IsStatusOf s pod) text
-IsStatusIn pod s (Err NoPod) = StandsNowhere pod s
-IsStatusIn pod s (Err refusal) = ⊥
+IsStatusIn pod s o = o ≡ status_said (sequential_status s pod)
 
 -- it looks at the pod's locations, lists its folder and its statuses, and reads these
 abbrev pub status_report : PodId → Report
@@ -76,6 +85,7 @@ status_report pod = record {
   prints = λ text. (status : PodStatus) × (text ≡ status_lines status);
   refusals = status_refusal;
   names = names_status pod;
+  sees = SeesStatus pod;
   tells = TellsStatus pod;
   quiet = IsStatusIn pod;
 }

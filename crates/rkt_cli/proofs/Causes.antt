@@ -40,7 +40,7 @@ use Rattle.rkt_cli.proofs.Outcomes.{fault_cause, bundle_cause, refusals_of, does
 use Rattle.rkt_cli.proofs.PodRan.{prepare_refused, prepare_busy, is_fault}
 use Rattle.rkt_cli.proofs.PodRemovals.{rm_none, rm_stray, rm_busy, rm_wrong, rm_bare, gc_stray}
 use Rattle.rkt_cli.proofs.Removals.{removal_busy, removal_unnamed, removal_none, removal_stray, sweep_stray}
-use Rattle.rkt_cli.proofs.Reported.{report_told}
+use Rattle.rkt_cli.proofs.Reported.{report_seen, report_told}
 use Rattle.commands.specs.Wants.{Wants}
 
 -- the refusals that aren't of one command
@@ -179,18 +179,21 @@ module _ (now : ℕ) (draw : Draw) (old new : Moment) where
   list_refuses : (r : Refusal) → is_shared r ≡ false → may PodList r ≡ true → Refuses PodList r → RefusesReport list_report r old new
   list_refuses r plain own p = record {
     own = own_of PodList r plain own;
+    seen = report_seen list_report PodList now draw old.outside new.outside refl (Err r) (own_end r plain) (λ i s. s.ran.says) (intent_of PodList now draw) p;
     why = λ t conforming. report_told list_report PodList now draw old.outside new.outside refl (Err r) (own_end r plain) lines_wider (λ i s. s.ran.says) (intent_of PodList now draw) p t conforming;
   }
 
   cat_refuses : {word : List ℕ} (pod : PodId) (r : Refusal) → is_shared r ≡ false → may (CatManifest word pod) r ≡ true → Refuses (CatManifest word pod) r → RefusesReport (cat_manifest_report pod) r old new
   cat_refuses {word = word} pod r plain own p = record {
     own = own_of (CatManifest word pod) r plain own;
+    seen = report_seen (cat_manifest_report pod) (CatManifest word pod) now draw old.outside new.outside refl (Err r) (own_end r plain) (λ i s. s.ran.says) (intent_of (CatManifest word pod) now draw) p;
     why = λ t conforming. report_told (cat_manifest_report pod) (CatManifest word pod) now draw old.outside new.outside refl (Err r) (own_end r plain) (λ me a b c d earlier later begins ends. manifest_wider me a b c d earlier later begins ends pod) (λ i s. s.ran.says) (intent_of (CatManifest word pod) now draw) p t conforming;
   }
 
   status_refuses : {word : List ℕ} (pod : PodId) (r : Refusal) → is_shared r ≡ false → may (Status word pod) r ≡ true → Refuses (Status word pod) r → RefusesReport (status_report pod) r old new
   status_refuses {word = word} pod r plain own p = record {
     own = own_of (Status word pod) r plain own;
+    seen = report_seen (status_report pod) (Status word pod) now draw old.outside new.outside refl (Err r) (own_end r plain) (λ i s. s.ran.says) (intent_of (Status word pod) now draw) p;
     why = λ t conforming. report_told (status_report pod) (Status word pod) now draw old.outside new.outside refl (Err r) (own_end r plain) (λ me a b c d earlier later begins ends. status_wider me a b c d earlier later begins ends pod) (λ i s. s.ran.says) (intent_of (Status word pod) now draw) p t conforming;
   }
 

@@ -31,6 +31,7 @@ use Rattle.command_outcomes.proofs.Seen.{seen_at, beside}
 use Rattle.commands.specs.CatManifest.{cat_manifest_refusal, cat_manifest_report}
 use Rattle.commands.specs.PodList.{list_refusal, list_report}
 use Rattle.commands.specs.Status.{status_refusal, status_report}
+use Rattle.commands.specs.Opening.{OnceFound}
 use Rattle.commands.specs.Report.{Report, ReportSays}
 use Rattle.commands.proofs.ReportsKept.{IsStable, IsWider}
 use Rattle.commands.proofs.Starts.{look_extends, look_lists, lists_is_harmless}
@@ -39,6 +40,7 @@ use Rattle.rkt_cli.specs.Promises.{Undisturbed}
 use Rattle.rkt_cli.specs.Runs.{CommandRan, InProcess, Performs}
 use Rattle.rkt_cli.specs.Tasks.{Task, CatManifest, PodList, Status}
 use Rattle.rkt_cli.proofs.Ran.{ran}
+use Rattle.rkt_cli.proofs.Removals.{once_found}
 use Rattle.rkt_cli.proofs.Sessions.{act_part, any_call, begin_any, begin_part, finish_part, idle, quiet_act, quiet_begin, quiet_look, state_first}
 
 -- ---- between the begin and the finish
@@ -104,6 +106,13 @@ module _ (r : Report) (task : Task) (now : ℕ) (draw : Draw) (old new : Outside
   report_told o own wider says None p t conforming = let clash : true ≡ false = sym uses ∙ p.apart in cc
   report_told o own wider says (Some intent) (inl s) t conforming = told_in_process s r wider (says intent s) own t conforming
   report_told o own wider says (Some intent) (inr n) t conforming = let clash : true ≡ false = sym own ∙ ap is_own_end n.is in cc
+
+  -- what it saw itself
+  pub report_seen : (o : Outcome) → is_own_end o ≡ true → ((intent : Intent) (s : InProcess task now draw intent old new o) → ReportSays r s.begun.dir s.ended.dir o) → (intent : Option Intent) → Performs task now draw intent old new o →
+      old.dir.observed ≡ true → OnceFound (λ me a b. r.sees me a b o) old.dir.process old.dir.trace new.dir.trace
+  report_seen o own says None p t = let clash : true ≡ false = sym uses ∙ p.apart in cc
+  report_seen o own says (Some intent) (inl s) t = once_found (λ me a b. r.sees me a b o) s t ((says intent s).seen (s.told ∙ t))
+  report_seen o own says (Some intent) (inr n) t = let clash : true ≡ false = sym own ∙ ap is_own_end n.is in cc
 
   -- the text that it printed
   pub report_printed : (text : List ℕ) → ((intent : Intent) (s : InProcess task now draw intent old new (Ok text)) → ReportSays r s.begun.dir s.ended.dir (Ok text)) → (intent : Option Intent) → Performs task now draw intent old new (Ok text) → r.prints text

@@ -24,15 +24,15 @@ use Rattle.commands.specs.PrepareCommand.{TellsPrepare}
 use Rattle.commands.specs.RmCommand.{TellsRm}
 use Rattle.commands.specs.CatManifest.{cat_manifest_report}
 use Rattle.commands.specs.PodList.{list_report}
-use Rattle.commands.specs.Report.{TellsReport}
-use Rattle.commands.proofs.ReportsKept.{lines_wider, manifest_wider, status_wider}
-use Rattle.rkt_cli.proofs.Reported.{report_told}
+use Rattle.commands.specs.Report.{Report, ReportSays, WritesReport}
+use Rattle.commands.proofs.ReportsKept.{IsWider, lines_wider, manifest_wider, status_wider}
+use Rattle.rkt_cli.proofs.Reported.{report_seen, report_told}
 use Rattle.commands.specs.Status.{status_report}
 use Rattle.commands.specs.Validate.{sequential_validate}
 use Rattle.commands.specs.ValidateCommand.{TellsJudgement}
 use Rattle.rkt_cli.specs.Tasks.{Task}
 use Rattle.rkt_cli.specs.Tasks.{Status, PodList, CatManifest, Validate, ImageList, ImageImport, ImageRm, ImageGc, Prepare, RunPrepared, Run, Rm, Gc}
-use Rattle.rkt_cli.specs.Commands.{command_in, intent_of, runs_apps}
+use Rattle.rkt_cli.specs.Commands.{command_in, intent_of, runs_apps, uses_dir}
 use Rattle.rkt_cli.specs.Runs.{InProcess, Performs, Printed, Reported, End, Unwritten, end_status, RunOf, RunIs}
 use Rattle.rkt_cli.proofs.BundleJudged.{import_judged}
 use Rattle.rkt_cli.proofs.Completing.{rm_ends, claim_ends}
@@ -127,16 +127,12 @@ module _ (now : ℕ) (draw : Draw) (old new : Moment) (status : ℕ) where
         | inr x ↦ unwritten q (r.is ∙ ap end_status same) x
       ]
 
-  status_tells : {word : List ℕ} (pod : PodId) → Ran (Status word pod) → old.outside.dir.observed ≡ true → IsConforming new.outside.dir.trace → status ≡ 0 → WritesOf (λ text. TellsReport (status_report pod) (Ok text) old new) old new
-  status_tells {word = word} pod r t conforming =
-      wrote (Status word pod) _ (λ text p. report_told (status_report pod) (Status word pod) now draw old.outside new.outside refl (Ok text) refl (λ me a b c d earlier later begins ends. status_wider me a b c d earlier later begins ends pod) (λ i s. s.ran.says) (intent_of (Status word pod) now draw) p t conforming) r
-
-  list_pods_tells : Ran PodList → old.outside.dir.observed ≡ true → IsConforming new.outside.dir.trace → status ≡ 0 → WritesOf (λ text. TellsReport list_report (Ok text) old new) old new
-  list_pods_tells r t conforming = wrote PodList _ (λ text p. report_told list_report PodList now draw old.outside new.outside refl (Ok text) refl lines_wider (λ i s. s.ran.says) (intent_of PodList now draw) p t conforming) r
-
-  cat_tells : {word : List ℕ} (pod : PodId) → Ran (CatManifest word pod) → old.outside.dir.observed ≡ true → IsConforming new.outside.dir.trace → status ≡ 0 → WritesOf (λ text. TellsReport (cat_manifest_report pod) (Ok text) old new) old new
-  cat_tells {word = word} pod r t conforming =
-      wrote (CatManifest word pod) _ (λ text p. report_told (cat_manifest_report pod) (CatManifest word pod) now draw old.outside new.outside refl (Ok text) refl (λ me a b c d earlier later begins ends. manifest_wider me a b c d earlier later begins ends pod) (λ i s. s.ran.says) (intent_of (CatManifest word pod) now draw) p t conforming) r
+  -- a report: what it saw, and what that tells
+  report_tells : (rep : Report) (task : Task) → uses_dir task ≡ true → IsWider rep → ((o : Outcome) (i : Intent) (s : InProcess task now draw i old.outside new.outside o) → ReportSays rep s.begun.dir s.ended.dir o) → Ran task → WritesReport rep status old new
+  report_tells rep task uses wider says r = record {
+    seen = λ t. wrote task _ (λ text p. report_seen rep task now draw old.outside new.outside uses (Ok text) refl (says (Ok text)) (intent_of task now draw) p t) r;
+    told = λ t conforming. wrote task _ (λ text p. report_told rep task now draw old.outside new.outside uses (Ok text) refl wider (says (Ok text)) (intent_of task now draw) p t conforming) r;
+  }
 
   validate_tells : (path : List ℕ) → Ran (Validate path) → TellsJudgement path status old new
   validate_tells path (inr n) t = inr (inl n.is)
@@ -201,9 +197,11 @@ tells {task} {now} {draw} {old} {new} {status} run = by task run
     alone task run none so = subst (λ (n : ℕ). (command_in task).tells now draw n old new) (sym (unhurt task run.plain status run.is none)) so
 
     by : (task : Task) → RunIs task now draw old new status → (command_in task).tells now draw status old new
-    by (Status word pod) run = alone (Status word pod) run refl (status_tells now draw old new run.plain pod run.ran)
-    by PodList run = alone PodList run refl (list_pods_tells now draw old new run.plain run.ran)
-    by (CatManifest word pod) run = alone (CatManifest word pod) run refl (cat_tells now draw old new run.plain pod run.ran)
+    by (Status word pod) run = alone (Status word pod) run refl
+        (report_tells now draw old new run.plain (status_report pod) (Status word pod) refl (λ me a b c d earlier later begins ends. status_wider me a b c d earlier later begins ends pod) (λ o i s. s.ran.says) run.ran)
+    by PodList run = alone PodList run refl (report_tells now draw old new run.plain list_report PodList refl lines_wider (λ o i s. s.ran.says) run.ran)
+    by (CatManifest word pod) run = alone (CatManifest word pod) run refl
+        (report_tells now draw old new run.plain (cat_manifest_report pod) (CatManifest word pod) refl (λ me a b c d earlier later begins ends. manifest_wider me a b c d earlier later begins ends pod) (λ o i s. s.ran.says) run.ran)
     by (Validate path) run = alone (Validate path) run refl (validate_tells now draw old new run.plain path run.ran)
     by ImageList run = alone ImageList run refl (list_tells now draw old new run.plain run.ran)
     by (ImageImport path) run = alone (ImageImport path) run refl (import_tells now draw old new run.plain path run.ran)

@@ -15,4 +15,4 @@ pub returns-clause-says : goal.returns-clause-says
 returns-clause-says g c =
     let D = g.D.Dir in
     cat_says c.args.pod D.observed (D.shown c.args.dir.now) (D.shown c.manifest_of-found.new.dir) c.written.result c.manifest_of-found.result c.written.ensures.writes c.written.ensures.refuses
-    c.manifest_of-found.ensures.read c.manifest_of-found.ensures.nowhere c.manifest_of-found.ensures.lacking c.manifest_of-found.ensures.quiet c.manifest_of-found.ensures.stray
+    c.manifest_of-found.ensures.seen c.manifest_of-found.ensures.read c.manifest_of-found.ensures.nowhere c.manifest_of-found.ensures.lacking c.manifest_of-found.ensures.quiet c.manifest_of-found.ensures.stray
