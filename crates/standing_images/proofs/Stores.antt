@@ -23,16 +23,22 @@ use Rattle.dir_model.specs.Trace.{state_after}
 use Rattle.dir_model.specs.Calls.{event}
 use Rattle.dir_model.proofs.Lists.{all_weaker, same_rest, same_self}
 use Rattle.dir_rules.specs.declared.seen.Seen.{Seen}
-use Rattle.dir_trait.specs.DirCalls.{DirAt}
+use Rattle.dir_trait.specs.DirCalls.{DirAt, ExtendsBy}
+use Rattle.dir_trait.specs.Knowledge.{Knows}
+use Rattle.lifecycle.specs.Executions.{IsConforming}
+use Rattle.lifecycle.proofs.Draws.{conforming_left}
+use Rattle.folder_contents.specs.UnderGate.{shares_images}
 use Rattle.dir_files.specs.Listed.{ShowsArea, ShowsDirectory}
 use Rattle.gate_reading.specs.Areas.{is_image}
 use Rattle.gate_reading.specs.Gate.{GoesOn}
 use Rattle.image_reading.specs.Places.{image_spot, image_inner, manifest_name, id_name}
 use Rattle.image_reading.specs.Files.{IsManifestOf, IsIdOf, ReadsManifest, ReadsId, most_of_manifest, most_of_id}
 use Rattle.image_reading.specs.Images.{ReadsImage}
+use Rattle.image_reading.specs.Looks.{reads_images}
 use Rattle.image_reading.specs.Store.{keys, ReadsStore}
 use Rattle.image_reading.proofs.Values.{id_front}
 use Rattle.standing_images.specs.Images.{HasFile, StandsSo, AreAll, KeysRise, StoodTogether}
+use Rattle.standing_images.proofs.Reading.{reads_on}
 use Rattle.standing_images.proofs.LastSteps.{LastOwn, last_own}
 use Rattle.standing_images.proofs.AtEnd.{end, whole, file_front}
 use Rattle.standing_images.proofs.Listed.{lead, start, ends_own, items_last, names_whole}
@@ -162,3 +168,12 @@ stood_wider {images} {me} {a} {b} {c} {d} more rest begins ends t = record {
   gate = t.gate;
   rise = t.rise;
 }
+
+-- where the process read between a moment at which it knew that it has the gate and a later one, of moments around them
+pub stood_around : {s : Seen} (a b c d : DirAt) {images : List Stored} (earlier later : List Event) → b.process ≡ a.process →
+    b.trace ≡ a.trace ++ earlier → d.trace ≡ c.trace ++ later → IsConforming d.trace → Knows b s → shares_images s ≡ true →
+    ExtendsBy reads_images b c → ReadsStore images b c → StoodTogether images a.process a.trace d.trace
+stood_around {s} a b c d {images} earlier later same begins ends conforming known shares extends read =
+    let up_to : IsConforming c.trace = conforming_left c.trace later (subst (λ (h : List Event). IsConforming h) ends conforming) in
+    subst (λ (p : ℕ). StoodTogether images p a.trace d.trace) same
+    (stood_wider earlier later begins ends (store_stood (reads_on up_to known.tied shares extends) read))
