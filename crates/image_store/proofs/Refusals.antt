@@ -281,6 +281,10 @@ bundle_sound bundle.NoMemory path is = cc
 apart_by : (may : StoreError → Bool) (e x : StoreError) → may e ≡ true → may x ≡ false → e ≡ x → ⊥
 apart_by may e x h none is = let b : true ≡ false = sym h ∙ (ap may is ∙ none) in cc
 
+-- before an image was looked for
+pub lock_in_turn : {observed : Bool} {source : Source} {key : StoreKey} {lines : List ListingLine} {old new : DirAt} (e : StoreError) → LockCause observed Images e old new → FoundInTurn observed source key lines e old new
+lock_in_turn e x = record { late = λ late t. absurd (lock_early e x.kind late); damaged = λ path is. absurd (apart_by (is_lock_refusal Images) e (Damaged path) x.kind refl is) }
+
 module _ {observed : Bool} {source : Source} {key : StoreKey} {digest : List ℕ} {lines : List ListingLine} {old new : DirAt} where
   pub build_import : (e : StoreError) → BuildCause observed source lines e old new → ImportCause is_work_refusal observed source key digest lines e old new
   build_import e x = record {
@@ -315,10 +319,7 @@ module _ {observed : Bool} {source : Source} {key : StoreKey} {digest : List ℕ
     stray = λ is t. absurd (apart_by is_look_refusal e Stray x.kind refl is);
   }
 
-  -- before an image was looked for, and where one was found
-  pub lock_in_turn : (e : StoreError) → LockCause observed Images e old new → FoundInTurn observed source key lines e old new
-  lock_in_turn e x = record { late = λ late t. absurd (lock_early e x.kind late); damaged = λ path is. absurd (apart_by (is_lock_refusal Images) e (Damaged path) x.kind refl is) }
-
+  -- where an image was found
   pub look_in_turn : (e : StoreError) → LookCause observed key digest e old new → FoundInTurn observed source key lines e old new
   look_in_turn e x = record { late = λ late t. absurd (look_early e x.kind late); damaged = λ path is. inl (x.damaged path is) }
 

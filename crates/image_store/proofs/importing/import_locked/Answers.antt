@@ -40,7 +40,7 @@ returns-in_err-gate-clause-turn g c =
     let new = D.shown c.share.new.dir in
     let image = c.args.image.now in
     err_same (λ e. FoundInTurn D.observed source (key_of image) image.listing e old new) c.share.result c.from_residual.result (λ e h. search (rules, h, c.from_residual.ensures, c.in_err-gate.is))
-    (err_more (λ e. LockCause D.observed Images e old new) (λ e. FoundInTurn D.observed source (key_of image) image.listing e old new) c.share.result (λ e x. lock_in_turn {digest = c.args.digest.now} e x) c.share.ensures.cause)
+    (err_more (λ e. LockCause D.observed Images e old new) (λ e. FoundInTurn D.observed source (key_of image) image.listing e old new) c.share.result (λ e x. lock_in_turn e x) c.share.ensures.cause)
 
 pub returns-clause-turn : goal.returns-clause-turn
 returns-clause-turn g c =
