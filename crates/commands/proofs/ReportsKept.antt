@@ -1,11 +1,8 @@
 -- What a report told of a part of a time is so of the whole; and what it comes to by a state, by any with the same folders, owners and files.
-use Rattle.std.proofs.Common.{◌≡◌, inl, inr, ℕ, Bool, true, false, position, List, [], ◌∷◌, ◌++◌, Option, Some, None, option_map, Result, Ok, Err, refl, sym, ap, ◌∙◌, append_assoc}
-use Rattle.std.specs.List.{filter_map, flat_map}
-use Rattle.dir_model.specs.declared.area.Area.{Area}
-use Rattle.dir_model.specs.declared.area.Phase.{Phase}
+use Rattle.std.proofs.Common.{◌≡◌, inl, inr, ℕ, Bool, true, false, position, List, [], ◌∷◌, ◌++◌, Option, Some, None, Ok, Err, refl, sym, ap, ◌∙◌, append_assoc}
+use Rattle.std.specs.List.{flat_map}
 use Rattle.dir_model.specs.declared.event.Event.{Event}
 use Rattle.dir_model.specs.declared.item.Inner.{Inner}
-use Rattle.dir_model.specs.declared.item.Item.{Item}
 use Rattle.dir_model.specs.declared.pod.PodId.{PodId}
 use Rattle.dir_model.specs.declared.request.Request.{Request}
 use Rattle.dir_model.specs.declared.request.Request.TheVariants.{MoveFolder, RemoveFolder, MakeDirIn, MakeFileIn, AppendIn, RemoveFileIn, RemoveDirIn}
@@ -13,32 +10,28 @@ use Rattle.dir_model.specs.declared.spot.Spot.{Spot}
 use Rattle.dir_model.specs.declared.tree.TreeEntry.{TreeEntry}
 use Rattle.dir_model.specs.State.{DirState, is_at, folder_at}
 use Rattle.dir_model.specs.Trees.{names_in}
-use Rattle.dir_model.specs.Listings.{item_names}
-use Rattle.dir_rules.specs.Marks.{status_directory}
-use Rattle.dir_rules.specs.Seen.{created_among}
 use Rattle.dir_model.proofs.Lists.{all_weaker}
 use Rattle.dir_model.proofs.Moments.{at_within}
-use Rattle.dir_files.specs.Reads.{bytes_in, file_at, inner_at}
+use Rattle.dir_files.specs.Reads.{bytes_in, file_at}
 use Rattle.phase_read.specs.declared.found.Found.{Found}
 use Rattle.phase_read.specs.declared.found.Found.TheVariants.{At, Gone}
 use Rattle.phase_read.specs.Read.{pod_spot, stages}
 use Rattle.phase_read.specs.Sequential.{sequential_read}
 use Rattle.phase_read.proofs.Exact.{event_within}
-use Rattle.pod_lookup.specs.Pods.{in_order, pods_named, pods_standing}
+use Rattle.pod_lookup.specs.Pods.{pods_named, pods_standing}
 use Rattle.pod_report.specs.declared.line.PodLine.{PodLine}
 use Rattle.pod_report.specs.Before.{names_in_file}
 use Rattle.pod_report.specs.declared.ends.AppEndText.{AppEndText}
 use Rattle.pod_report.specs.declared.status.PodStatus.{PodStatus}
 use Rattle.pod_report.specs.Created.{HasCreatedMark}
-use Rattle.pod_report.specs.Ends.{HasEnded, status_file}
+use Rattle.pod_report.specs.Ends.{HasEnded}
 use Rattle.pod_report.specs.Manifests.{manifest_file}
 use Rattle.pod_report.specs.Moments.{AtEachMoment, AtSomeMoment, IsMoment}
-use Rattle.pod_report.specs.declared.error.ReportError.{ReportError}
-use Rattle.pod_report.specs.Sequential.{created_in, end_in, end_with, ends_in, items_at, items_of, status_found, status_in_file}
 use Rattle.pod_report.specs.Status.{IsStatus}
 use Rattle.pod_report.specs.Requests.{inspects, surveys, visits}
 use Rattle.pod_report.specs.Snapshot.{AreAppsOf, ExistsThroughout, IsLine, IsWeakSnapshot}
 use Rattle.pod_report.proofs.Going.{visits_survey}
+use Rattle.pod_report.proofs.SameStatus.{same_status}
 use Rattle.pod_report.proofs.QuietSurvey.{SameWorld, inspect_calm, is_calm, survey_calm}
 use Rattle.command_outcomes.specs.declared.refusal.Refusal.TheVariants.{NoManifest, NoPod}
 use Rattle.command_outcomes.specs.Moments.{Outcome}
@@ -122,38 +115,14 @@ module _ (me : ℕ) (a b c d earlier later : List Event) (begins : b ≡ a ++ ea
   status_wider pod (Err NoPod) at = event_within earlier later begins ends at
   status_wider pod (Err r) p = p
 
-found_so : Phase → Option ℕ → List AppEndText → Result PodStatus ReportError
-found_so phase created ends = Ok (record { phase = phase; created = created; ends = ends })
-
 module _ (me : ℕ) (s t : DirState) (w : SameWorld me s t) where
   same_file : (inner : Inner) → file_at t inner ≡ file_at s inner
   same_file inner =
       ap (λ (es : List TreeEntry). bytes_in es inner.path (folder_at t.namespace inner.spot)) w.entries
       ∙ ap (λ (folders : List (Option Spot)). bytes_in s.entries inner.path (position (is_at inner.spot) folders)) w.names.folders
 
-  -- what stands in a directory, and what its files tell
-  same_items : (inner : Inner) → items_at t inner ≡ items_at s inner
-  same_items inner =
-      ap (λ (es : List TreeEntry). items_of es inner.path (folder_at t.namespace inner.spot)) w.entries
-      ∙ ap (λ (folders : List (Option Spot)). items_of s.entries inner.path (position (is_at inner.spot) folders)) w.names.folders
-
-  same_end : (pod : PodId) (a : Area) (app : List ℕ) → end_in t pod a app ≡ end_in s pod a app
-  same_end pod a app = ap (λ (file : Option (List ℕ)). option_map (end_with app) (status_in_file file)) (same_file (status_file pod a app))
-
-  same_ends : (pod : PodId) (a : Area) (apps : List (List ℕ)) → filter_map (end_in t pod a) apps ≡ filter_map (end_in s pod a) apps
-  same_ends pod a [] = refl
-  same_ends pod a (app ∷ apps) = rw (same_end pod a app, same_ends pod a apps) refl
-
-  status_same : (pod : PodId) (f : Found) → status_found t pod f ≡ status_found s pod f
-  status_same pod (At phase a) =
-      let created = ap created_among (same_items (inner_at (pod_spot pod a) [])) in
-      let ends = same_ends pod a (in_order (item_names (items_at t (inner_at (pod_spot pod a) status_directory))))
-      ∙ ap (λ (items : List Item). filter_map (end_in s pod a) (in_order (item_names items))) (same_items (inner_at (pod_spot pod a) status_directory)) in
-      ap (λ (moment : Option ℕ). found_so phase moment (ends_in t pod a)) created ∙ ap (λ (es : List AppEndText). found_so phase (created_in s pod a) es) ends
-  status_same pod Gone = refl
-
   pub status_stable : (pod : PodId) (o : Outcome) → IsStatusIn pod t o → IsStatusIn pod s o
-  status_stable pod o is = is ∙ ap status_said (status_same pod (sequential_read t pod) ∙ ap (status_found s pod) (sequential_same me s t w.names pod))
+  status_stable pod o is = is ∙ ap status_said (same_status w pod)
 
   line_stable : (pod : PodId) (f : Found) → line_in t pod f ≡ line_in s pod f
   line_stable pod (At phase area) = ap (λ (file : Option (List ℕ)). line_text (record { pod = pod; phase = phase; apps = names_in_file file })) (same_file (manifest_file pod area))
