@@ -108,7 +108,7 @@ module _ (pod : PodId) (phase : Phase) (address : List ℕ) {approach : Approach
       let end : to.trace ≡ w.ended.trace = ap (λ (d : DirSeen). d.trace) w.came.ends in
       let so = subst (λ (me : ℕ). AtOwnEvent me w.begun.trace w.ended.trace (IsPhase pod phase)) mine
       (subst (λ (h : List Event). AtOwnEvent from.process w.begun.trace h (IsPhase pod phase)) end (subst (λ (h : List Event). AtOwnEvent from.process h to.trace (IsPhase pod phase)) first came_upon)) in
-      event_process (open_extends (w.begins t)) last so
+      event_process (open_extends (w.begins t)) (subst (λ (p : ℕ). Extends is_finish p w.ended.trace new.dir.trace) (w.same ∙ w.me) last) so
 
 -- the lines of a sweep
 module _ (times : Times) (lines : List GcLine) {me : ℕ} {old new : List Event} (m : Meanwhile (Sweeps times lines) me old new) (conforming : IsConforming new) where

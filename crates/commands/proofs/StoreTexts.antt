@@ -16,15 +16,15 @@ use Rattle.standing_images.specs.Laws.{leaves_store}
 use Rattle.standing_images.proofs.OneStore.{one_store}
 use Rattle.standing_images.proofs.QuietStores.{quiet_store}
 use Rattle.command_outcomes.specs.Moments.{DirSeen}
-use Rattle.commands.specs.ImageList.{images_text, lists_images, ListsStanding, PrintsStore}
+use Rattle.commands.specs.ImageList.{image_text, images_text, lists_images, ListsStanding, PrintsStore}
 
 -- a line is of what is seen of an image
-seen_text : StoredData → List ℕ
+abbrev seen_text : StoredData → List ℕ
 seen_text d = ((((id_text d.key.bytes ++ codes " ") ++ d.manifest.name) ++ codes " ") ++ decimal d.moment) ++ codes "\n"
 
 text_seen : (images : List Stored) → images_text images ≡ flat_map seen_text (map stored_data images)
 text_seen [] = refl
-text_seen (image ∷ images) = rw (text_seen images) refl
+text_seen (image ∷ images) = ap (λ (rest : List ℕ). image_text image ++ rest) (text_seen images)
 
 pub one_text : (s : DirState) (xs ys : List Stored) → AreStore xs s → AreStore ys s → images_text xs ≡ images_text ys
 one_text s xs ys x y = text_seen xs ∙ (ap (flat_map seen_text) (one_store s xs ys x y) ∙ sym (text_seen ys))
