@@ -30,16 +30,15 @@ use Rattle.pod_gc.specs.Told.{IsTold}
 use Rattle.pod_report.specs.declared.line.PodLine.{PodLine}
 use Rattle.pod_report.specs.Snapshot.{IsLine}
 use Rattle.pod_report.specs.Visits.{IsPhase}
-use Rattle.command_outcomes.specs.declared.refusal.Refusal.{Refusal}
 use Rattle.command_outcomes.specs.declared.refusal.Refusal.TheVariants.{WrongPhase}
 use Rattle.command_outcomes.specs.Meanwhile.{Meanwhile}
-use Rattle.command_outcomes.specs.Moments.{Answer, DirSeen, Inside, dir_seen}
+use Rattle.command_outcomes.specs.Moments.{DirSeen, Inside}
 use Rattle.commands.specs.AppsTold.{WithinProcess}
 use Rattle.commands.specs.Gc.{HasSweptPods, NamesKept, Sweeps, names_kept}
-use Rattle.commands.specs.Opening.{Approach, OnceFound}
+use Rattle.commands.specs.Opening.{Approach}
 use Rattle.commands.specs.Phases.{HadPhase}
 use Rattle.commands.specs.PodList.{TellsLines, names_lines}
-use Rattle.commands.specs.Rm.{HasFoundWrong, WasSo}
+use Rattle.commands.specs.Rm.{HasFoundWrong}
 use Rattle.commands.specs.RunPrepared.{ClaimsAndRuns, IsUnclaimed, RunPreparedSays}
 use Rattle.commands.specs.RunRefusals.{claim_refusal, run_refusal}
 use Rattle.commands.specs.Status.{TellsStatus, names_status}

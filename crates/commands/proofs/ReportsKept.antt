@@ -1,5 +1,5 @@
 -- What a report told of a part of a time is so of the whole; and what it comes to by a state, by any with the same folders, owners and files.
-use Rattle.std.proofs.Common.{◌≡◌, inl, inr, ℕ, Bool, true, false, position, List, [], ◌∷◌, ◌++◌, Option, Some, None, Ok, Err, refl, sym, ap, ◌∙◌, append_assoc}
+use Rattle.std.proofs.Common.{◌≡◌, inl, inr, ℕ, Bool, true, false, position, List, [], ◌∷◌, ◌++◌, Option, Some, None, Ok, Err, refl, ap, ◌∙◌, append_assoc}
 use Rattle.std.specs.List.{flat_map}
 use Rattle.dir_model.specs.declared.event.Event.{Event}
 use Rattle.dir_model.specs.declared.item.Inner.{Inner}
@@ -15,7 +15,7 @@ use Rattle.dir_model.proofs.Moments.{at_within}
 use Rattle.dir_files.specs.Reads.{bytes_in, file_at}
 use Rattle.phase_read.specs.declared.found.Found.{Found}
 use Rattle.phase_read.specs.declared.found.Found.TheVariants.{At, Gone}
-use Rattle.phase_read.specs.Read.{pod_spot, stages}
+use Rattle.phase_read.specs.Read.{stages}
 use Rattle.phase_read.specs.Sequential.{sequential_read}
 use Rattle.phase_read.proofs.Exact.{event_within}
 use Rattle.pod_lookup.specs.Pods.{pods_named, pods_standing}

@@ -13,7 +13,7 @@ use Rattle.commands.proofs.ReportsKept.{lines_wider, status_wider}
 use Rattle.rkt_cli.specs.declared.line.Line.{Line}
 use Rattle.rkt_cli.specs.Commands.{command_in, intent_of}
 use Rattle.rkt_cli.specs.Phases.{HadIn, NamesPhases, NamesTruePhases}
-use Rattle.rkt_cli.specs.Promises.{Ends, IsRunOf, RefusedFor}
+use Rattle.rkt_cli.specs.Promises.{IsRunOf, RefusedFor}
 use Rattle.rkt_cli.specs.Runs.{Performs, RunIs}
 use Rattle.rkt_cli.specs.Tasks.{Task, Status, PodList, CatManifest, Validate, ImageList, ImageImport, ImageRm, ImageGc, Prepare, RunPrepared, Run, Rm, Gc}
 use Rattle.rkt_cli.proofs.PodRemovals.{gc_done}

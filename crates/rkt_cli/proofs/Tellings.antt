@@ -13,7 +13,6 @@ use Rattle.command_outcomes.specs.declared.refusal.Refusal.{Refusal}
 use Rattle.folder_removal.specs.Removal.{KeptFolders}
 use Rattle.folder_removal.proofs.Keeping.{kept_by, kept_call, kept_more}
 use Rattle.commands.specs.Kept.{KeepsRefused, RemovesNoneUnlessDone}
-use Rattle.lifecycle.specs.Executions.{IsConforming}
 use Rattle.commands.specs.Answers.{IsAnswer, WritesOf}
 use Rattle.commands.specs.GcCommand.{TellsGc}
 use Rattle.commands.specs.ImageGcCommand.{TellsImageGc}
