@@ -6,7 +6,7 @@ use Rattle.ac_types.specs.Ids.{id_text}
 use Rattle.dep_match.specs.declared.stored.Stored.{Stored}
 use Rattle.dep_match.specs.Copies.{StoredData, stored_data}
 use Rattle.dir_model.specs.declared.request.Request.{Request}
-use Rattle.dir_model.specs.declared.request.Request.TheVariants.{OpenArea, TryLock, Close, ListArea, ListIn, ReadIn}
+use Rattle.dir_model.specs.declared.request.Request.TheVariants.{Begin, OpenArea, TryLock, Close, ListArea, ListIn, ReadIn, Finish}
 use Rattle.dir_model.specs.Calls.{Extends}
 use Rattle.dir_model.specs.Quiet.{Quiet}
 use Rattle.dir_model.specs.State.{DirState}
@@ -16,7 +16,8 @@ use Rattle.standing_images.specs.Laws.{leaves_store}
 use Rattle.standing_images.proofs.OneStore.{one_store}
 use Rattle.standing_images.proofs.QuietStores.{quiet_store}
 use Rattle.command_outcomes.specs.Moments.{DirSeen}
-use Rattle.commands.specs.ImageList.{image_text, images_text, lists_images, ListsStanding, PrintsStore}
+use Rattle.commands.specs.ImageList.{image_text, images_text, ListsStanding, PrintsStore}
+use Rattle.commands.proofs.StoreQuiet.{is_tame}
 
 -- a line is of what is seen of an image
 abbrev seen_text : StoredData → List ℕ
@@ -29,17 +30,19 @@ text_seen (image ∷ images) = ap (λ (rest : List ℕ). image_text image ++ res
 pub one_text : (s : DirState) (xs ys : List Stored) → AreStore xs s → AreStore ys s → images_text xs ≡ images_text ys
 one_text s xs ys x y = text_seen xs ∙ (ap (flat_map seen_text) (one_store s xs ys x y) ∙ sym (text_seen ys))
 
--- what it asks for changes no image
-lists_leave : (request : Request) → lists_images request ≡ true → leaves_store request ≡ true
-lists_leave (OpenArea area) h = refl
-lists_leave (TryLock handle mode) h = refl
-lists_leave (Close handle) h = refl
-lists_leave (ListArea area) h = refl
-lists_leave (ListIn inner) h = refl
-lists_leave (ReadIn inner at room) h = refl
-lists_leave request h = cc
+-- what its process asks for changes no image
+tame_leaves : (request : Request) → is_tame request ≡ true → leaves_store request ≡ true
+tame_leaves (Begin intent) h = refl
+tame_leaves (OpenArea area) h = refl
+tame_leaves (TryLock handle mode) h = refl
+tame_leaves (Close handle) h = refl
+tame_leaves (ListArea area) h = refl
+tame_leaves (ListIn inner) h = refl
+tame_leaves (ReadIn inner at room) h = refl
+tame_leaves Finish h = refl
+tame_leaves request h = cc
 
-pub prints_store : (old new : DirSeen) (text : List ℕ) → ListsStanding old new text → Extends lists_images old.process old.trace new.trace → Quiet old.process old.trace new.trace → PrintsStore (state_after old.trace) text
+pub prints_store : (old new : DirSeen) (text : List ℕ) → ListsStanding old new text → Extends is_tame old.process old.trace new.trace → Quiet old.process old.trace new.trace → PrintsStore (state_after old.trace) text
 prints_store old new text x ext quiet =
-    let store = quiet_store lists_images lists_leave x.stood ext quiet in
+    let store = quiet_store is_tame tame_leaves x.stood ext quiet in
     record { images = x.images; are = store; is = x.is; only = λ others are. x.is ∙ one_text (state_after old.trace) x.images others store are }

@@ -58,7 +58,7 @@ use Rattle.command_outcomes.proofs.Seen.{rose_wider}
 use Rattle.rkt_cli.proofs.Outcomes.{rose_between, answered, WasAnswered}
 use Rattle.rkt_cli.proofs.Conforming.{begun_knows}
 use Rattle.lifecycle.specs.Executions.{IsConforming}
-use Rattle.rkt_cli.proofs.Listed.{ended_conforms, listed_in_process, lacked_in_process}
+use Rattle.rkt_cli.proofs.Listed.{ended_conforms, listed_in_process, lacked_in_process, standing_in_process}
 use Rattle.commands.proofs.StoreQuiet.{is_tame, lists_is_tame, at_tame, end_tame}
 use Rattle.commands.proofs.StoreTexts.{prints_store}
 use Rattle.rkt_cli.proofs.StoreRan.{imports}
@@ -164,8 +164,7 @@ list_quiet now draw intent old new (Ok text) s u own = (listed_in_process s s.ra
     by : IsConforming new.dir.trace → PrintsStore (state_after old.dir.trace) text
     by conforming =
         let stands = s.ran.says.1 (s.told ∙ t) (begun intent) (begun_knows s t) refl (ended_conforms s t conforming) in
-        subst (λ (x : DirState). PrintsStore x text) (state ImageList now draw intent old new (Ok text) s u refl)
-        (prints_store s.begun.dir s.ended.dir text stands (s.ran.extends (s.told ∙ t)) (quiet_between ImageList now draw intent old new (Ok text) s u))
+        prints_store old.dir new.dir text (standing_in_process s stands t) (all_parts s t is_tame refl (λ r h. no_looks ImageList refl r h) lists_is_tame refl) (u.alone s.uses)
 list_quiet now draw intent old new (Err (Busy area)) s u own = (busy_area area s.ran.refusals, busy_before now draw intent old new area s u)
 list_quiet now draw intent old new (Err (Damaged path)) s u own = lacked_in_process s s.ran.says
 list_quiet now draw intent old new (Err NoMemory) s u own = let clash : false ≡ true = own in cc
