@@ -76,6 +76,7 @@ pub mod StoreQuiet
 pub mod StoreStanding
 pub mod StoreTexts
 pub mod SweepEnds
+pub mod SweepLines
 pub mod Sweeps
 pub mod Told
 pub mod Unhindered

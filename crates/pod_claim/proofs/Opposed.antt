@@ -1,6 +1,6 @@
 -- Where a lock of a pod can't be had, another process holds it, unless this one has a second handle on it.
 use Rattle.std.proofs.Common.{◌≡◌, ◌⊎◌, inl, inr, ℕ, Bool, true, false, not, ◌&&◌, ◌==◌}
-use Rattle.std.proofs.Common.{Option, Some, None, is_some, List, [], ◌∷◌, ◌++◌, map, find, refl, sym, ap, subst, ◌∙◌}
+use Rattle.std.proofs.Common.{Option, Some, None, is_some, List, [], ◌∷◌, ◌++◌, map, find, append-nil, refl, sym, ap, subst, ◌∙◌}
 use Rattle.std.specs.List.{list_any}
 use Rattle.dir_model.specs.declared.event.Event.{Event}
 use Rattle.dir_model.specs.declared.opening.Opening.{Opening}
@@ -10,20 +10,22 @@ use Rattle.dir_model.specs.declared.spot.Mode.{Mode}
 use Rattle.dir_model.specs.declared.spot.Mode.TheVariants.{Exclusive}
 use Rattle.dir_model.specs.declared.spot.Spot.{Spot}
 use Rattle.dir_model.specs.declared.spot.Which.{Which}
+use Rattle.dir_model.specs.declared.tree.TreeEntry.{TreeEntry}
+use Rattle.dir_model.specs.declared.request.DirError.{DirError}
 use Rattle.dir_model.specs.declared.request.DirError.TheVariants.{Locked}
 use Rattle.dir_model.specs.declared.request.Request.{Request}
 use Rattle.dir_model.specs.declared.request.Request.TheVariants.{Open, TryLock}
 use Rattle.dir_model.specs.declared.request.Reply.{Reply}
 use Rattle.dir_model.specs.declared.request.Reply.TheVariants.{Opened, Refused}
 use Rattle.dir_model.specs.Locks.{is_handle, is_folder, is_same_lock, opposes, target_of}
-use Rattle.dir_model.specs.State.{Namespace, DirState, folder_at}
+use Rattle.dir_model.specs.State.{Namespace, DirState, folder_at, has_open}
 use Rattle.dir_model.specs.Trace.{opened, state_after}
-use Rattle.dir_model.specs.Replies.{is_late_reply, is_locked, is_opposed}
+use Rattle.dir_model.specs.Replies.{is_late_reply, is_locked, is_opposed, refused_in, open_refusal}
 use Rattle.dir_model.specs.Calls.{CallStep, Interference, IsRun, LeftNothing, TookPlace, event}
 use Rattle.dir_model.specs.Local.{holding_of}
 use Rattle.dir_model.proofs.Lists.{and_left, and_right, and_both, and_false, or_none, same_self, any_fewer, filter_push}
 use Rattle.dir_model.proofs.Chains.{state_after-push, run-left}
-use Rattle.dir_model.proofs.Allowed.{open_says, held_says}
+use Rattle.dir_model.proofs.Allowed.{open_says, held_says, allowed_reply}
 use Rattle.dir_model.proofs.Moments.{took_at, some_number}
 use Rattle.dir_rules.specs.declared.standing.Held.{Held}
 use Rattle.dir_rules.specs.declared.seen.Seen.{Seen}
@@ -32,8 +34,12 @@ use Rattle.dir_rules.proofs.Tied.{meanwhile_unseen, lived_meanwhile}
 use Rattle.area_locks.proofs.OwnHandles.{Lives, open_as_seen}
 use Rattle.pod_claim.specs.Requests.{in_prepared}
 use Rattle.pod_claim.specs.Holding.{on_lock, and_held, is_own}
-use Rattle.pod_claim.specs.Causes.{is_lock, is_held_elsewhere, HeldByAnother}
+use Rattle.pod_claim.specs.Causes.{is_lock, is_held_elsewhere, OpensThere, HeldByAnother}
 use Rattle.pod_claim.proofs.OwnOpenings.{none_fails, find_last, any_but, mine, own, own_any, find_own, own_meanwhile, same_lock, doubles}
+
+not_refused : (o : Option DirError) (more : Bool) → (not (is_some o) && more) ≡ true → o ≡ None
+not_refused None more is = refl
+not_refused (Some e) more is = cc
 
 holds_some : (lock : Option Mode) → opposes Exclusive lock ≡ true → is_some lock ≡ true
 holds_some None is = cc
@@ -114,6 +120,12 @@ module _ (me : ℕ) (handle : Handle) (pod : PodId) (which : Which) (old opened_
   single_now : list_any (doubles which handle) (map holding_of (own me after.openings)) ≡ false
   single_now = sym (open_as_seen me asked_at earlier living (doubles which handle)) ∙ seen_once
 
+  opens : (k : ℕ) → folder_at before (in_prepared pod) ≡ Some k → refused_in (open_refusal which) (state_after opened_at).entries (Some k) ≡ None
+  opens k at =
+      ap (λ (o : Option ℕ). refused_in (open_refusal which) (state_after opened_at).entries o) (sym at)
+      ∙ not_refused (refused_in (open_refusal which) (state_after opened_at).entries (folder_at before (in_prepared pod))) (not (has_open before me handle))
+      (allowed_reply (state_after opened_at) me (Open (in_prepared pod) which) (Opened handle) open_took.allowed)
+
   held_took : HeldByAnother pod which me old late
   held_took =
       let k = some_number (folder_at before (in_prepared pod)) (open_says (state_after opened_at) me (in_prepared pod) which handle open_took.allowed).there in
@@ -122,7 +134,8 @@ module _ (me : ℕ) (handle : Handle) (pod : PodId) (which : Which) (old opened_
       record {
         folder = k.0;
         between = mid;
-        found = took_at me old opened_at (Open (in_prepared pod) which) (Opened handle) mid (λ s. folder_at s.namespace (in_prepared pod) ≡ Some k.0) refl first open_took k.1;
+        found = took_at me old opened_at (Open (in_prepared pod) which) (Opened handle) mid (OpensThere pod which k.0) refl first open_took
+            (k.1, ap (λ (es : List TreeEntry). refused_in (open_refusal which) es (Some k.0)) (append-nil (state_after opened_at).entries) ∙ opens k.0 k.1);
         held = took_at me mid asked_at (TryLock handle Exclusive) (Refused Locked 0) late (λ s. list_any (is_held_elsewhere me which k.0) s.namespace.openings ≡ true) refl between ask_took
             (elsewhere_by me handle which (in_prepared pod) k.0 after.openings single_now (sym (ap (is_opposed after me handle Exclusive) found) ∙ told));
       }

@@ -6,7 +6,7 @@ use Rattle.dir_trait.specs.Knowledge.{Knows, LookedInto}
 use Rattle.pod_claim.specs.declared.setback.Setback.{Setback}
 use Rattle.pod_claim.specs.Holding.{MayClaim, and_locked, with_pod}
 use Rattle.pod_claim.specs.Work.{Leaves, TookBoth}
-use Rattle.pod_claim.specs.Causes.{Stopped, IsAbsent, SetBack, BusyElsewhere}
+use Rattle.pod_claim.specs.Causes.{Stopped, IsAbsent, SetBack, BusyInTurn}
 use Rattle.pod_claim.specs.Claims.{HasPod}
 use Rattle.pod_claim.proofs.Parts.{went_as, went_wider, went_more}
 use Rattle.pod_claim.proofs.Reading.{set_back_after, took_after, another_after, held_after, left_after, ok_more, err_more, refused_first}
@@ -50,7 +50,7 @@ returns-in-Ok-clause-another g c =
     let a = D.shown c.args.dir.now in
     let b = D.shown c.find_prepared.new.dir in
     let d = D.shown c.take_and_run.new.dir in
-    err_more (λ (e : Setback). Leaves D.observed MayClaim b (λ s. BusyElsewhere c.args.pod e b d)) (λ (e : Setback). Leaves D.observed MayClaim a (λ s. BusyElsewhere c.args.pod e a d)) c.take_and_run.result
+    err_more (λ (e : Setback). Leaves D.observed MayClaim b (λ s. BusyInTurn c.args.pod e b d)) (λ (e : Setback). Leaves D.observed MayClaim a (λ s. BusyInTurn c.args.pod e a d)) c.take_and_run.result
     (λ e f. another_after c.find_prepared.ensures.went c.find_prepared.ensures.still c.in-Ok.ensures.found c.find_prepared.ensures.known d e f) c.take_and_run.ensures.another
 
 pub returns-in-Ok-clause-held : goal.returns-in-Ok-clause-held
