@@ -13,7 +13,7 @@ use Rattle.dir_model.proofs.Moments.{at_within}
 use Rattle.dir_trait.specs.DirCalls.{DirAt, DirCall}
 use Rattle.pod_claim.specs.declared.setback.Setback.{Setback}
 use Rattle.pod_claim.specs.Work.{Deed, Grew, MovedNothing, InOrder, is_ok_move}
-use Rattle.pod_claim.specs.Causes.{Stopped, OpensOwnAlone, HeldByAnother, HadClaim, BusyElsewhere}
+use Rattle.pod_claim.specs.Causes.{Stopped, OpensOwnAlone, HeldByAnother, HadAlone, HadBothAlone, HadClaim, BusyElsewhere}
 use Rattle.pod_claim.proofs.Traces.{grown_none, grown_more, grown_call, deeds_after, deeds_before, still_none, still_more, still_call}
 
 -- calls that moved nothing, whatever they leave open
@@ -47,8 +47,16 @@ held_part {pod} {which} {me} {other} {a} {b} {c} {d} ab same cd h =
     let g = subst (λ (p : ℕ). HeldByAnother pod which p b c) same h in
     record { folder = g.folder; between = g.between; found = at_part ab refl grown_none g.found; held = at_part grown_none refl cd g.held }
 
+pub alone_had : {pod : PodId} {which : Which} {me other : ℕ} {a b c d : List Event} → Grew a b → other ≡ me → Grew c d → HadAlone pod which other b c → HadAlone pod which me a d
+alone_had {pod} {which} {me} {other} {a} {b} {c} {d} ab same cd h =
+    let g = subst (λ (p : ℕ). HadAlone pod which p b c) same h in
+    record { folder = g.folder; between = g.between; found = at_part ab refl grown_none g.found; free = at_part grown_none refl cd g.free }
+
+pub both_had : {pod : PodId} {me other : ℕ} {a b c d : List Event} → Grew a b → other ≡ me → Grew c d → HadBothAlone pod other b c → HadBothAlone pod me a d
+both_had ab same cd h = record { claim = alone_had ab same cd h.claim; own = alone_had ab same cd h.own }
+
 pub had_part : (pod : PodId) (which : Which) {me other : ℕ} {a b c d : List Event} → Grew a b → other ≡ me → Grew c d → HadClaim pod which other b c → HadClaim pod which me a d
-had_part pod Own ab same cd had = (had.0, deeds_part ab same cd had.1)
+had_part pod Own ab same cd had = alone_had ab same cd had
 had_part pod Claim ab same cd had = tt
 
 pub in_turn_part : (pod : PodId) (which : Which) {me other : ℕ} {a b c d : List Event} → Grew a b → other ≡ me → Grew c d → HeldByAnother pod which other b c × HadClaim pod which other b c → HeldByAnother pod which me a d × HadClaim pod which me a d

@@ -10,7 +10,6 @@ use Rattle.dir_model.specs.declared.opening.Opening.{Opening}
 use Rattle.dir_model.specs.declared.opening.Target.{Target}
 use Rattle.dir_model.specs.declared.opening.Target.TheVariants as target
 use Rattle.dir_model.specs.declared.pod.PodId.{PodId}
-use Rattle.dir_model.specs.declared.spot.Handle.{Handle}
 use Rattle.dir_model.specs.declared.spot.Which.{Which}
 use Rattle.dir_model.specs.declared.spot.Which.TheVariants.{Own, Claim}
 use Rattle.dir_model.specs.declared.request.DirError.TheVariants.{Missing, Exists}
@@ -32,7 +31,7 @@ use Rattle.pod_claim.specs.declared.error.ClaimError.TheVariants.{NoPod, WrongPh
 use Rattle.pod_claim.specs.declared.setback.Setback.{Setback}
 use Rattle.pod_claim.specs.declared.setback.Setback.TheVariants as setback
 use Rattle.pod_claim.specs.Requests.{in_prepared, in_run}
-use Rattle.pod_claim.specs.Work.{InOrder, MovedNothing, takes}
+use Rattle.pod_claim.specs.Work.{InOrder, MovedNothing}
 
 abbrev pub is_prepared : Phase → Bool
 is_prepared phase.Prepared = true
@@ -128,9 +127,21 @@ pub record StopsAlone (observed : Bool) (pod : PodId) (stop : Setback) (old new 
 abbrev pub BusyElsewhere : PodId → Setback → DirAt → DirAt → Type 0
 BusyElsewhere pod stop old new = (which : Which) → stop ≡ setback.Refused (Busy pod which) → HeldByAnother pod which old.process old.trace new.trace
 
+-- the lock was opened in prepared and later had, and no other process held it then
+pub record HadAlone (pod : PodId) (which : Which) (me : ℕ) (old new : List Event) : Type 0 where
+  pub folder : ℕ
+  pub between : List Event
+  pub found : AtOwnStep me old between (OpensThere pod which folder)
+  pub free : AtOwnStep me between new (λ s. list_any (is_held_elsewhere me which folder) s.namespace.openings ≡ false)
+
+-- and so both were
+pub record HadBothAlone (pod : PodId) (me : ℕ) (old new : List Event) : Type 0 where
+  pub claim : HadAlone pod Claim me old new
+  pub own : HadAlone pod Own me old new
+
 -- before Own is asked for Claim is had
 abbrev pub HadClaim : PodId → Which → ℕ → List Event → List Event → Type 0
-HadClaim pod Own me old new = (claim : Handle) × InOrder me old new (takes pod Claim claim [])
+HadClaim pod Own me old new = HadAlone pod Claim me old new
 HadClaim pod Claim me old new = Unit {0}
 
 -- where a lock was refused, another process held it, and the locks were asked for in their order
