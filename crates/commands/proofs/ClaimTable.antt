@@ -8,7 +8,7 @@ use Rattle.dir_model.specs.declared.event.Event.{Event}
 use Rattle.dir_model.specs.declared.item.Inner.{Inner}
 use Rattle.dir_model.specs.declared.opening.Opening.{Opening}
 use Rattle.dir_model.specs.declared.pod.PodId.{PodId}
-use Rattle.dir_model.specs.declared.spot.Handle.{Handle}
+use Rattle.dir_model.specs.declared.spot.Spot.{Spot}
 use Rattle.dir_model.specs.declared.spot.Mode.{Mode}
 use Rattle.dir_model.specs.declared.spot.Mode.TheVariants.{Shared, Exclusive}
 use Rattle.dir_model.specs.declared.spot.Which.{Which}
@@ -29,17 +29,16 @@ use Rattle.dir_model.proofs.Lists.{and_left}
 use Rattle.dir_model.proofs.Moments.{at_grown, at_weaker}
 use Rattle.lifecycle.specs.Executions.{IsConforming}
 use Rattle.phase_read.specs.declared.found.Found.TheVariants.{At}
-use Rattle.phase_read.specs.Read.{pod_spot}
+use Rattle.folder_contents.proofs.Spots.{one_location}
 use Rattle.phase_read.specs.Sequential.{sequential_read}
 use Rattle.pod_claim.specs.declared.error.ClaimError.{ClaimError}
 use Rattle.pod_claim.specs.declared.error.ClaimError.TheVariants.{NoPod, WrongPhase, NoManifest, Busy}
-use Rattle.pod_claim.specs.Causes.{is_prepared, is_lock, is_held_elsewhere, LacksManifest, OpensThere, HeldByAnother, HadClaim}
+use Rattle.pod_claim.specs.Causes.{is_prepared, is_lock, is_held_elsewhere, LacksManifest, OpensThere, HeldByAnother, HadAlone, HadBothAlone, HadClaim}
 use Rattle.pod_claim.specs.Requests.{in_prepared, in_run}
-use Rattle.pod_claim.specs.Work.{Grew, InOrder, TookBoth, takes}
+use Rattle.pod_claim.specs.Work.{Grew}
 use Rattle.pod_claim.proofs.Times.{at_part}
-use Rattle.pod_claim.proofs.Traces.{grown_more, grown_call, grown_none}
-use Rattle.pod_steps.specs.Causes.{OpensAt, is_held_against, FreeOfOthers}
-use Rattle.pod_steps.proofs.Opposed.{free_step}
+use Rattle.pod_claim.proofs.Traces.{grown_more}
+use Rattle.pod_steps.specs.Causes.{is_held_against}
 use Rattle.commands.specs.ClaimTable.{waiting_error, found_error, claim_error, IsWhy}
 use Rattle.commands.specs.RemovalQuiet.{StandsNowhere, HasPhaseNow}
 use Rattle.commands.specs.RemovalTable.{is_held_in, is_held_at, has_manifest}
@@ -147,7 +146,7 @@ module _ (pod : PodId) {me : ℕ} {old new : List Event} (ext : Extends (in_proc
       (at_weaker (λ x. folder_at x.namespace (in_prepared pod) ≡ Some k) (λ x y. y.0) at) ext quiet
 
   -- a lock was had: nobody else held it
-  free_then : (which : Which) {a b : List Event} → Grew old a → Grew b new → FreeOfOthers pod area.Prepared which Exclusive me a b →
+  free_then : (which : Which) {a b : List Event} → Grew old a → Grew b new → HadAlone pod which me a b →
       (k : ℕ) × (folder_at s.namespace (in_prepared pod) ≡ Some k) × (is_held_in me which Exclusive (Some k) s ≡ false) × (which ≡ Claim → has_file s.entries k manifest ≡ true)
   free_then which {a} {b} first last f =
       let g = at_grown f.free in
@@ -155,7 +154,8 @@ module _ (pod : PodId) {me : ℕ} {old new : List Event} (ext : Extends (in_proc
       let h = at_grown f.found in (
         f.folder,
         stood_before which f.folder found,
-        free_before (λ o. is_folder f.folder o.folder && (is_lock which o.target && opposes Exclusive o.lock)) (at_part (grown_more first (record { more = h.0; grown = h.1 })) refl last f.free) ext quiet,
+        held_same me which f.folder s.namespace.openings
+        ∙ free_before (λ o. is_folder f.folder o.folder && (is_lock which o.target && is_some o.lock)) (at_part (grown_more first (record { more = h.0; grown = h.1 })) refl last f.free) ext quiet,
         (λ is. (has_before f.folder (subst (λ (w : Which). AtOwnStep me old new (OpensThere pod w f.folder)) is found)).1),
       )
 
@@ -182,11 +182,13 @@ module _ (pod : PodId) {me : ℕ} {old new : List Event} (ext : Extends (in_proc
       let same = one held.folder h.folder held.there has.0 in
       claim_why h.folder has.0 has.1 (held_same me Claim h.folder s.namespace.openings ∙ subst (λ (k : ℕ). list_any (is_held_elsewhere me Claim k) s.namespace.openings ≡ true) same held.held)
   busy_why Own {begun} {ended} first last h had held =
-      let o = had.1.each in
-      let t = o.4 in
-      let f = free_then Claim (grown_more first o.2) (grown_more t.4 last) (free_step me o.0 o.1 t.1 had.0 pod area.Prepared Claim Exclusive o.3 (asks o.1 t.0 t.1 t.2 t.3)) in
+      let f = free_then Claim first last had in
       let same = one held.folder f.0 held.there f.1 in
       why_is f.0 f.1 (f.3 refl) false true f.2 (held_same me Own f.0 s.namespace.openings ∙ subst (λ (k : ℕ). list_any (is_held_elsewhere me Own k) s.namespace.openings ≡ true) same held.held)
-    where
-      asks : (x y z : List Event) → Grew x y → CallStep me y (TryLock had.0 Exclusive) Done z → CallStep me x (TryLock had.0 Exclusive) Done z
-      asks x y z g c = tt
+
+  -- both locks were had
+  pub claimed_why : {begun claimed : List Event} → Grew old begun → Grew claimed new → HadBothAlone pod me begun claimed → claim_error me pod s ≡ None
+  claimed_why first last had =
+      let c = free_then Claim first last had.claim in
+      let o = free_then Own first last had.own in
+      why_is c.0 c.1 (c.3 refl) false false c.2 (subst (λ (k : ℕ). is_held_in me Own Exclusive (Some k) s ≡ false) (one o.0 c.0 o.1 c.1) o.2)

@@ -2,6 +2,7 @@ pub mod Changes
 pub mod ClaimBefore
 pub mod ClaimQuiet
 pub mod ClaimRefusals
+pub mod ClaimTable
 pub mod Claimed
 pub mod EndsQuiet
 pub mod EndsStand

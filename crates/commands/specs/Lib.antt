@@ -46,3 +46,4 @@ pub mod Validate
 pub mod ValidateCommand
 pub mod Wants
 pub mod SweepTable
+pub mod ClaimTable

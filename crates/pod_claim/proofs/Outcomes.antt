@@ -51,7 +51,7 @@ use Rattle.pod_claim.specs.Claims.{HasPod, RefusedByAnother, IsFree, IsFreeThrou
 use Rattle.pod_claim.proofs.Parts.{went_more}
 use Rattle.pod_claim.proofs.Reading.{Moment, later_is, reading_grew, may_looked}
 use Rattle.pod_claim.proofs.Seen.{runs_pod}
-use Rattle.pod_claim.proofs.Times.{at_part, deeds_part, held_part, in_turn_part}
+use Rattle.pod_claim.proofs.Times.{at_part, deeds_part, in_turn_part}
 use Rattle.pod_claim.proofs.Traces.{grown_none, grown_more, grown_by, still_more}
 
 -- what was so after the first attempt was so after both

@@ -49,7 +49,7 @@ use Rattle.pod_claim.specs.Holding.{MayClaim, with_pod}
 use Rattle.pod_claim.specs.Work.{Went, Grew, MovedNothing, TookBoth, Leaves}
 use Rattle.pod_claim.specs.Causes.{is_prepared, CannotOpen, IsAbsent, LacksManifest, OpensOwnAlone, WasWrong, Stopped, StopsAlone, BusyInTurn, ClaimCause, SetBack}
 use Rattle.pod_claim.specs.Claims.{HasPod}
-use Rattle.pod_claim.proofs.Times.{Follows, at_part, deeds_part, held_part, in_turn_part}
+use Rattle.pod_claim.proofs.Times.{Follows, at_part, deeds_part, in_turn_part}
 use Rattle.pod_claim.proofs.Traces.{grown_none, grown_by, still_looks, still_more}
 
 -- a look is a request of a claim

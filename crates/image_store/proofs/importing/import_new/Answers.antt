@@ -1,4 +1,4 @@
-use Rattle.std.proofs.Common.{not, false, None, Some, ◌∷◌, ap, refl, rules, ◌∙◌}
+use Rattle.std.proofs.Common.{◌≡◌, true, not, false, None, Some, ◌∷◌, ap, refl, rules, ◌∙◌}
 use Rattle.dir_model.specs.declared.area.Area.TheVariants.{Incoming}
 use Rattle.dir_model.specs.declared.spot.Mode.TheVariants.{Shared}
 use Rattle.area_locks.specs.AreaLocks.{on_gate}
