@@ -155,7 +155,7 @@ module _ (pod : PodId) {me : ℕ} {old new : List Event} (ext : Extends (in_proc
         f.folder,
         stood_before which f.folder found,
         held_same me which f.folder s.namespace.openings
-        ∙ free_before (λ o. is_folder f.folder o.folder && (is_lock which o.target && is_some o.lock)) (at_part (grown_more first (record { more = h.0; grown = h.1 })) refl last f.free) ext quiet,
+            ∙ free_before (λ o. is_folder f.folder o.folder && (is_lock which o.target && is_some o.lock)) (at_part (grown_more first (record { more = h.0; grown = h.1 })) refl last f.free) ext quiet,
         (λ is. (has_before f.folder (subst (λ (w : Which). AtOwnStep me old new (OpensThere pod w f.folder)) is found)).1),
       )
 

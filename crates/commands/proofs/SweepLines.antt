@@ -1,9 +1,9 @@
 -- Where nobody else steps, the lines of a sweep of the store are those of the state before.
-use Rattle.std.proofs.Common.{◌≡◌, ◌⊎◌, inl, inr, ℕ, Bool, true, false, not, ◌&&◌, ◌||◌, ◌==◌, cond, bytes_eq, is_some, Less, Greater, Option, Some, None, List, [], ◌∷◌, ◌++◌, map, append-nil, refl, sym, ap, subst, ◌∙◌, append_assoc, ordering_reverse}
+use Rattle.std.proofs.Common.{◌≡◌, ◌⊎◌, inl, inr, ℕ, Bool, true, false, not, ◌&&◌, ◌||◌, ◌==◌, cond, bytes_eq, is_some, Less, Greater, Option, Some, None, List, [], ◌∷◌, ◌++◌, map, append-nil, refl, sym, ap, subst, ◌∙◌, append_assoc, ◌+◌}
 use Rattle.std.specs.List.{list_any, position_from, AllByRecursion}
 use Rattle.std.proofs.lemmas.Iterator.Adapters.{position_from-zero}
 use Rattle.std.specs.List.Sorted.{IsStrictlySortedBy}
-use Rattle.std.specs.Ordering.{nat_cmp}
+use Rattle.std.specs.Ordering.{nat_cmp, ordering_reverse}
 use Rattle.std.specs.Cmp.Lexicographic.{slice_cmp}
 use Rattle.std.proofs.lemmas.Cmp.{nat_list_cmp_total}
 use Rattle.std.proofs.lemmas.Slice.Eq.{bytes_eq-Decides}
@@ -249,8 +249,15 @@ idle_all me (e ∷ es) own asked = (λ p w. idle_leaves e.request e.reply mine p
 -- a part of a quiet time
 quiet_within : {me : ℕ} (old a b new : List Event) → Quiet me old new → Upto old a → (y : Upto a b) → Upto b new → Quiet me a b
 quiet_within {me} old a b new quiet x y z =
-    let q = quiet_part old a new quiet x (upto_more a b new y z) in
-    record { more = y.0; grown = y.1; own = all_left _ y.0 z.0 q.own }
+    record {
+      more = y.0;
+      grown = y.1;
+      own = all_left (λ e. e.process ≡ me) y.0 z.0 (all_right (λ e. e.process ≡ me) x.0 (y.0 ++ z.0)
+          (subst (λ (l : List Event). AllByRecursion (λ e. e.process ≡ me) l) (same_rest old quiet.more (x.0 ++ (y.0 ++ z.0)) (sym quiet.grown ∙ whole)) quiet.own));
+    }
+  where
+    whole : new ≡ old ++ (x.0 ++ (y.0 ++ z.0))
+    whole = z.1 ∙ (ap (λ (h : List Event). h ++ z.0) (y.1 ∙ ap (λ (h : List Event). h ++ y.0) x.1) ∙ simp append_assoc)
 
 idle_folders : {me : ℕ} (a b : List Event) → Extends is_idle me a b → Quiet me a b → (state_after b).namespace.folders ≡ (state_after a).namespace.folders
 idle_folders a b ext quiet =
@@ -270,12 +277,13 @@ is_either name place = is_at (incoming_spot name) place || is_at (removed_spot n
 
 putting_is : (ns : List (List ℕ)) (a b : Spot) → list_any (λ (n : List ℕ). spot_eq a (incoming_spot n) && spot_eq b (removed_spot n)) ns ≡ true → (n : List ℕ) × (a ≡ incoming_spot n) × (b ≡ removed_spot n)
 putting_is [] a b h = cc
-putting_is (n ∷ ns) a b h = by (spot_eq a (incoming_spot n)) (spot_eq b (removed_spot n)) refl refl h
+putting_is (n ∷ ns) a b h = by (spot_eq a (incoming_spot n)) (spot_eq b (removed_spot n)) refl refl h (λ rest. putting_is ns a b rest)
   where
-    by : (x y : Bool) → spot_eq a (incoming_spot n) ≡ x → spot_eq b (removed_spot n) ≡ y → ((x && y) || list_any (λ (k : List ℕ). spot_eq a (incoming_spot k) && spot_eq b (removed_spot k)) ns) ≡ true → (k : List ℕ) × (a ≡ incoming_spot k) × (b ≡ removed_spot k)
-    by true true is to h = (n, one_location a (incoming_spot n) is, one_location b (removed_spot n) to)
-    by true false is to h = putting_is ns a b h
-    by false y is to h = putting_is ns a b h
+    by : (x y : Bool) → spot_eq a (incoming_spot n) ≡ x → spot_eq b (removed_spot n) ≡ y → ((x && y) || list_any (λ (k : List ℕ). spot_eq a (incoming_spot k) && spot_eq b (removed_spot k)) ns) ≡ true →
+        (list_any (λ (k : List ℕ). spot_eq a (incoming_spot k) && spot_eq b (removed_spot k)) ns ≡ true → (k : List ℕ) × (a ≡ incoming_spot k) × (b ≡ removed_spot k)) → (k : List ℕ) × (a ≡ incoming_spot k) × (b ≡ removed_spot k)
+    by true true is to h rest = (n, one_location a (incoming_spot n) is, one_location b (removed_spot n) to)
+    by true false is to h rest = rest h
+    by false y is to h rest = rest h
 
 abbrev puts_or_closes : List (List ℕ) → Request → Bool
 puts_or_closes names r = putting names r || is_close r
@@ -379,9 +387,9 @@ neither_kept name n (x ∷ xs) none =
             (refl, apart)
 
 -- of a uuid, what is met
-met : (u x r i open : Bool) → (u ≡ true → x ≡ (r || (open && i))) → (u && x) ≡ ((u && r) || (open && (u && i)))
-met true x r i open is = is refl
-met false x r i open is = sym (and_false open)
+met : (u x r i free : Bool) → (u ≡ true → x ≡ (r || (free && i))) → (u && x) ≡ ((u && r) || (free && (u && i)))
+met true x r i free is = is refl
+met false x r i free is = sym (and_false free)
 
 module _ {me : ℕ} {old new : List Event} {lines : List SweepLine} (ext : Extends (in_process sweeps) me old new) (quiet : Quiet me old new) (m : Meanwhile (Sweeps lines) me old new) where
   abbrev s : DirState
@@ -460,7 +468,7 @@ module _ {me : ℕ} {old new : List Event} {lines : List SweepLine} (ext : Exten
 
     pub is_shown : (name : List ℕ) → has_name names name ≡ has_place (place_in (area_of pass) name) (state_after a).namespace.folders
     is_shown name =
-        listed_exactly u.under.works.only_lists.more u.under.works.only_lists.grown u.under.works.shows (idle_leave idle_list quiet_list) name
+        listed_exactly idle_list.more idle_list.grown u.under.works.shows (idle_leave idle_list quiet_list) name
         ∙ ap (has_place (place_in (area_of pass) name)) same_locked
 
     pub unbarred : is_barred me pass s ≡ false
@@ -493,8 +501,8 @@ module _ {me : ℕ} {old new : List Event} {lines : List SweepLine} (ext : Exten
       (λ name. ap (λ b. is_uuid name && b) (ap (has_place (incoming_spot name)) same_begun ∙ sym (stands_there s.namespace (incoming_spot name))))
 
   module _ (u : First) where
-    abbrev listed : List Event
-    listed = u.under.works.listed
+    abbrev seen : List Event
+    seen = u.under.works.listed
 
     abbrev shown : List (List ℕ)
     shown = u.under.names
@@ -502,24 +510,24 @@ module _ {me : ℕ} {old new : List Event} {lines : List SweepLine} (ext : Exten
     abbrev rest : Upto between new
     rest = from_between ext quiet m
 
-    to_end_of_pass : Upto listed between
+    to_end_of_pass : Upto seen between
     to_end_of_pass = listed_b PutAway m.so.moved m.begun between u to_begun rest
 
-    work : Extends (puts_or_closes shown) me listed between
+    work : Extends (puts_or_closes shown) me seen between
     work = and_more (extends_wider (λ r h. ap (λ b. b || is_close r) h) u.under.works.only) refl (extends_wider (λ r h. or_last (putting shown r) (is_close r) h) u.gives_back)
 
-    quiet_work : Quiet me listed between
-    quiet_work = quiet_within old listed between new quiet (to_listed PutAway m.so.moved m.begun between u to_begun rest) to_end_of_pass rest
+    quiet_work : Quiet me seen between
+    quiet_work = quiet_within old seen between new quiet (to_listed PutAway m.so.moved m.begun between u to_begun rest) to_end_of_pass rest
 
     later : (Q : List (Option Spot) → Type 0) → ((n : List ℕ) (folders : List (Option Spot)) → Q folders → Q (map (moved (incoming_spot n) (removed_spot n)) folders)) → Q before → Q (state_after between).namespace.folders
     later Q kept q =
-        kept_between Q (puts_or_closes shown) (putting_keeps Q kept shown) listed listed between between work quiet_work (nothing_more listed) to_end_of_pass (nothing_more between)
+        kept_between Q (puts_or_closes shown) (putting_keeps Q kept shown) seen seen between between work quiet_work (nothing_more seen) to_end_of_pass (nothing_more between)
         (subst Q (sym (same_listed PutAway m.so.moved m.begun between u to_begun rest ∙ same_begun)) q)
 
     dealt : Dealt Incoming puts putting me m.begun between
     dealt = record {
       locked = u.locked;
-      listed = listed;
+      listed = seen;
       done = u.done;
       names = shown;
       takes_lock = u.takes_lock;
@@ -531,6 +539,7 @@ module _ {me : ℕ} {old new : List Event} {lines : List SweepLine} (ext : Exten
     }
 
     none_incoming : (name : List ℕ) → is_uuid name ≡ true → NoneAt (incoming_spot name) (state_after between).namespace.folders
+    unfolding dealt
     none_incoming name uuid =
         none_left name uuid m.begun between between dealt
         (quiet_within old u.locked between new quiet (to_locked PutAway m.so.moved m.begun between u to_begun rest) (locked_b PutAway m.so.moved m.begun between u to_begun rest) rest)
@@ -564,20 +573,20 @@ module _ {me : ℕ} {old new : List Event} {lines : List SweepLine} (ext : Exten
 
   put_away : IsPassOf me s PutAway m.so.moved
   put_away = elim m.so.puts_away [
-      inl u ↦ subst (λ (b : Bool). BarredOr b PutAway m.so.moved (ArePassLines PutAway (meets me PutAway s) m.so.moved)) (sym (open_then u)) (first_lines u)
+    | inl u ↦ subst (λ (b : Bool). BarredOr b PutAway m.so.moved (ArePassLines PutAway (meets me PutAway s) m.so.moved)) (sym (open_then u)) (first_lines u)
     | inr w ↦ subst (λ (b : Bool). BarredOr b PutAway m.so.moved (ArePassLines PutAway (meets me PutAway s) m.so.moved)) (sym (barred w)) w.line_is
   ]
 
   -- what stands in removed then
   stands_then : (name : List ℕ) → is_uuid name ≡ true → has_place (removed_spot name) (state_after between).namespace.folders ≡ (stands s.namespace (removed_spot name) || (not (is_barred me PutAway s) && stands s.namespace (incoming_spot name)))
   stands_then name uuid = elim m.so.puts_away [
-      inl u ↦ removed_then u name uuid ∙ as_before (is_barred me PutAway s) (open_then u)
+    | inl u ↦ removed_then u name uuid ∙ as_before (is_barred me PutAway s) (open_then u)
     | inr w ↦ ap (has_place (removed_spot name)) (barred_then w) ∙ as_it_was (is_barred me PutAway s) (barred w)
   ]
     where
       as_before : (b : Bool) → b ≡ false → (has_place (removed_spot name) before || has_place (incoming_spot name) before) ≡ (stands s.namespace (removed_spot name) || (not b && stands s.namespace (incoming_spot name)))
-      as_before true open = cc
-      as_before false open = rw (stands_there s.namespace (removed_spot name), stands_there s.namespace (incoming_spot name)) refl
+      as_before true free = cc
+      as_before false free = rw (stands_there s.namespace (removed_spot name), stands_there s.namespace (incoming_spot name)) refl
 
       as_it_was : (b : Bool) → b ≡ true → has_place (removed_spot name) before ≡ (stands s.namespace (removed_spot name) || (not b && stands s.namespace (incoming_spot name)))
       as_it_was true closed = sym (stands_there s.namespace (removed_spot name)) ∙ or_none (stands s.namespace (removed_spot name))
@@ -589,10 +598,10 @@ module _ {me : ℕ} {old new : List Event} {lines : List SweepLine} (ext : Exten
 
   delete : IsPassOf me s Delete m.so.deleted
   delete = elim m.so.deletes [
-      inl u ↦ subst (λ (b : Bool). BarredOr b Delete m.so.deleted (ArePassLines Delete (meets me Delete s) m.so.deleted))
-          (sym (unbarred Delete m.so.deleted between m.ended u (to_between ext quiet m) to_end))
-          (pass_lines Delete m.so.deleted between m.ended u (to_between ext quiet m) to_end (meets me Delete s)
-          (λ name. met (is_uuid name) (has_place (removed_spot name) (state_after between).namespace.folders) (stands s.namespace (removed_spot name)) (stands s.namespace (incoming_spot name)) (not (is_barred me PutAway s)) (λ uuid. stands_then name uuid)))
+    | inl u ↦ subst (λ (b : Bool). BarredOr b Delete m.so.deleted (ArePassLines Delete (meets me Delete s) m.so.deleted))
+        (sym (unbarred Delete m.so.deleted between m.ended u (to_between ext quiet m) to_end))
+        (pass_lines Delete m.so.deleted between m.ended u (to_between ext quiet m) to_end (meets me Delete s)
+        (λ name. met (is_uuid name) (has_place (removed_spot name) (state_after between).namespace.folders) (stands s.namespace (removed_spot name)) (stands s.namespace (incoming_spot name)) (not (is_barred me PutAway s)) (λ uuid. stands_then name uuid)))
     | inr w ↦ subst (λ (b : Bool). BarredOr b Delete m.so.deleted (ArePassLines Delete (meets me Delete s) m.so.deleted)) (sym (held_then Removed w.busy (to_between ext quiet m) to_end)) w.line_is
   ]
 

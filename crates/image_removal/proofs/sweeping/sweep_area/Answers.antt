@@ -122,7 +122,7 @@ returns-in-Ok-clause-tried g c =
     err_more (λ e. D.observed ≡ true → TriesBetween pass mid late) (λ e. D.observed ≡ true → TriedBetween pass old new) c.sweep_listed-result.result
     (λ e tries t. inr (under_lock (area_of pass) h (TriesUnder pass) old mid late new c.lock_area.ensures.same c.sweep_listed-result.ensures.worked.same
     (subst (λ (a : Area). Extends (takes a Exclusive) old.process old.trace mid.trace) c.area.ensures (c.lock_area.ensures.extends t))
-          (subst (λ (a : Area). HeldBetween old mid (IsFreeElsewhere old.process a Exclusive)) c.area.ensures (c.in-Ok.ensures.free t)) (tries t) (c.unlock_area.ensures.extends t)))
+    (subst (λ (a : Area). HeldBetween old mid (IsFreeElsewhere old.process a Exclusive)) c.area.ensures (c.in-Ok.ensures.free t)) (tries t) (c.unlock_area.ensures.extends t)))
     c.sweep_listed-result.ensures.tried
 
 pub returns-in-Ok-clause-stays : goal.returns-in-Ok-clause-stays
@@ -247,7 +247,7 @@ returns-in-Ok-clause-ended g c =
     err_more (λ e. D.observed ≡ true → EndsListingBetween pass mid late) (λ e. D.observed ≡ true → EndsPassBetween pass old new) c.sweep_listed-result.result
     (λ e ends t. inl (under_lock (area_of pass) h (EndsListing pass) old mid late new c.lock_area.ensures.same c.sweep_listed-result.ensures.worked.same
     (subst (λ (a : Area). Extends (takes a Exclusive) old.process old.trace mid.trace) c.area.ensures (c.lock_area.ensures.extends t))
-          (subst (λ (a : Area). HeldBetween old mid (IsFreeElsewhere old.process a Exclusive)) c.area.ensures (c.in-Ok.ensures.free t)) (ends t) (c.unlock_area.ensures.extends t)))
+    (subst (λ (a : Area). HeldBetween old mid (IsFreeElsewhere old.process a Exclusive)) c.area.ensures (c.in-Ok.ensures.free t)) (ends t) (c.unlock_area.ensures.extends t)))
     c.sweep_listed-result.ensures.ended
 
 pub returns-in-Err-clause-ended : goal.returns-in-Err-clause-ended
