@@ -18,6 +18,10 @@ pub ok_both : {A E : Type 0} (P Q R : A → Type 0) (r : Result A E) → ((a : A
 ok_both P Q R (Ok a) f p q = f a p q
 ok_both P Q R (Err e) f p q = tt
 
+pub ok_three : {A E : Type 0} (P Q R S : A → Type 0) (r : Result A E) → ((a : A) → P a → Q a → R a → S a) → IfOk r P → IfOk r Q → IfOk r R → IfOk r S
+ok_three P Q R S (Ok a) f p q h = f a p q h
+ok_three P Q R S (Err e) f p q h = tt
+
 -- the same value in another answer
 pub ok_same : {A E F : Type 0} (P : A → Type 0) (r : Result A E) (other : Result A F) → ((a : A) → other ≡ Ok a → r ≡ Ok a) → IfOk r P → IfOk other P
 ok_same P r (Ok a) same h = subst (λ x. IfOk x P) (same a refl) h

@@ -1,28 +1,31 @@
 use Rattle.std.proofs.Common.{rules, ◌≡◌, List, length, sym, ap, subst, ◌∙◌}
-use Rattle.path_map.specs.Entries.{Entries}
+use Rattle.std.specs.List.{All}
+use Rattle.dep_match.specs.declared.dep_tree.DepTree.{DepTree}
 use Rattle.dep_match.specs.declared.stored.Stored.{Stored}
-use Rattle.pod_choice.specs.Choices.{IsChoice}
+use Rattle.dep_match.specs.TreeOrder.{IsOrderedTree}
+use Rattle.pod_reading.specs.Roots.{ComesOnce, AreRoots}
+use Rattle.pod_reading.specs.RootRefusals.{IsRootsRefusal}
 use Rattle.pod_reading.specs.Plans.{IsPlanOf, PlansChoice}
-use Rattle.pod_reading.proofs.Results.{if_ok, ok_same}
+use Rattle.pod_reading.proofs.Results.{if_ok, if_err, ok_same}
+use Rattle.pod_reading.proofs.Once.{all_once}
 use Rattle.pod_reading.proofs.Ready.{is_ready}
 use Rattle.pod_reading.proofs.pod.plan_chosen.Goals as goal
 
+pub read_roots-requires-clause-trees : goal.read_roots-requires-clause-trees
+read_roots-requires-clause-trees g c =
+    subst (λ (xs : List Stored). All (λ (t : DepTree). IsOrderedTree (length xs) t.nodes) c.as_slice-2.result.now) (sym c.as_slice.ensures.value)
+    (subst (λ (ts : List DepTree). All (λ (t : DepTree). IsOrderedTree (length c.args.read.now.images.items) t.nodes) ts) (sym c.as_slice-2.ensures) c.requires.ordered)
+
+pub read_roots-requires-clause-once : goal.read_roots-requires-clause-once
+read_roots-requires-clause-once g c =
+    subst (λ (ts : List DepTree). All (λ (t : DepTree). ComesOnce t.nodes) ts) (sym c.as_slice-2.ensures)
+    (all_once c.args.read.now.images.items c.args.choice.picks c.args.choice.trees c.requires.chosen.1.dependencies c.requires.ordered)
+
 pub plan_of-requires : goal.plan_of-requires
-plan_of-requires c =
-    let many : length c.args.read.now.manifests.items ≡ length c.as_slice-images.result.now = c.requires.whole.manifests ∙ ap (λ (xs : List Stored). length xs) (sym c.as_slice-images.ensures.value) in
-    record { ready = is_ready c.args.refs.now c.args.options.now c.in-Ok.choice c.in-Ok.ensures.ok (length c.args.read.now.manifests.items) many }
+plan_of-requires g c = ?
 
 pub returns-in-Ok-clause-made : goal.returns-in-Ok-clause-made
-returns-in-Ok-clause-made c =
-    let read = c.args.read.now in
-    let images = read.images.items in
-    let maps = read.maps.items in
-    let refs = c.args.refs.now in
-    let options = c.args.options.now in
-    let choice = c.in-Ok.choice in
-    let chosen : IsChoice images maps refs options choice =
-    subst (λ (xs : List Stored). IsChoice xs maps refs options choice) c.as_slice-images.ensures.value
-    (subst (λ (ms : List Entries). IsChoice c.as_slice-images.result.now ms refs options choice) c.as_slice.ensures.value c.in-Ok.ensures.ok) in
-    ok_same (λ plan. PlansChoice images read.manifests.items maps refs options c.args.now c.args.token.now plan.items) c.plan_of.result c.map_err.result (λ a h. search (rules, h, c.map_err.ensures.cases))
-    (if_ok (λ plan. IsPlanOf images read.manifests.items choice c.args.now c.args.token.now plan.items) (λ plan. PlansChoice images read.manifests.items maps refs options c.args.now c.args.token.now plan.items) c.plan_of.result
-    (λ plan planned. record { choice = choice; wishes = c.volumes-wishes.ensures.kind; chosen = chosen; planned = planned }) c.plan_of.ensures.made)
+returns-in-Ok-clause-made g c = ?
+
+pub returns-in-Err-clause-refused : goal.returns-in-Err-clause-refused
+returns-in-Err-clause-refused g c = ?
