@@ -109,5 +109,5 @@ module _ {observed : Bool} {old new : DirAt} (read : StoreImages) (known : Reads
   have_manifests t = zip_weaker (KnowsManifest observed old new) (λ i m. HasManifest i m old new) (λ i m h. h t) read.images.items read.manifests.items known.manifests
 
 -- the manifests that were read before something else was
-pub manifests_before : {observed : Bool} {a b c : DirAt} (t : observed ≡ true) (images : List Stored) (manifests : List (List ℕ)) → HaveManifests images manifests a b → OnlyReadsImages observed b c → HaveManifests images manifests a c
-manifests_before {observed} {a} {b} {c} t images manifests are bc = zip_weaker (λ i m. HasManifest i m a b) (λ i m. HasManifest i m a c) (λ i m h. file_before t h bc) images manifests are
+pub manifests_before : {observed : Bool} (a : DirAt) {b c : DirAt} (t : observed ≡ true) (images : List Stored) (manifests : List (List ℕ)) → HaveManifests images manifests a b → OnlyReadsImages observed b c → HaveManifests images manifests a c
+manifests_before {observed} a {b} {c} t images manifests are bc = zip_weaker (λ i m. HasManifest i m a b) (λ i m. HasManifest i m a c) (λ i m h. file_before t h bc) images manifests are

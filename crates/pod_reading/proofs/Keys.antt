@@ -72,10 +72,10 @@ key_there [] i image is = let no : ⊥ = cc in absurd no
 key_there (x ∷ images) zero image is = let same : x ≡ image = cc in ap (λ (s : Stored). s.key) same
 key_there (x ∷ images) (suc i) image is = key_there images i image is
 
-pub key_read : (images : List Stored) (i : ℕ) (image : Stored) → i < length images → image ≡ get_or images i image → key_at images i ≡ image.key
-key_read [] i image within is = absurd (omega arith)
-key_read (x ∷ images) zero image within is = ap (λ (s : Stored). s.key) (sym is)
-key_read (x ∷ images) (suc i) image within is = key_read images i image (omega (arith, within)) is
+pub key_read : (images : List Stored) (i : ℕ) (d : Stored) → i < length images → key_at images i ≡ (get_or images i d).key
+key_read [] i d within = absurd (omega arith)
+key_read (x ∷ images) zero d within = refl
+key_read (x ∷ images) (suc i) d within = key_read images i d (omega (arith, within))
 
 key_found : (images : List Stored) (i : ℕ) (image : Stored) → slice_get images i ≡ Some image → slice_get (keys images) i ≡ Some image.key
 key_found [] i image is = let no : ⊥ = cc in absurd no

@@ -1,5 +1,5 @@
 -- Which part of the store is lacking, at each place where a read may be refused.
-use Rattle.std.proofs.Common.{◌≡◌, inl, inr, ◌+◌, ◌<◌, ℕ, Bool, true, List, [], ◌∷◌, take, drop, get_or, length, ap, subst}
+use Rattle.std.proofs.Common.{◌≡◌, inl, ◌+◌, ◌<◌, ℕ, Bool, true, List, [], ◌∷◌, take, drop, get_or, length, subst}
 use Rattle.std.specs.List.{AllZip, AllByRecursion}
 use Rattle.ac_types.specs.declared.store_key.StoreKey.{StoreKey}
 use Rattle.path_map.specs.Entries.{Entries}

@@ -1,13 +1,14 @@
 -- Listings that are read and laid one after the other.
-use Rattle.std.proofs.Common.{◌≡◌, ℕ, Bool, true, ◌<◌, ◌+◌, List, [], ◌∷◌, ◌++◌, length, Some, None, Option, is_some, cond, ◌∙◌, refl, sym, ap, subst, append_assoc, append-nil, arith}
-use Rattle.std.specs.Prelude.{sum_by, Result, Err, ◌↔◌}
+use Rattle.std.proofs.Common.{◌≡◌, ℕ, Bool, ◌<◌, ◌+◌, List, [], ◌∷◌, ◌++◌, length, get_or, Some, None, Option, is_some, cond, ◌∙◌, refl, sym, ap, subst, append_assoc, append-nil, arith}
+use Rattle.std.specs.Prelude.{Result, Err, ◌↔◌}
 use Rattle.std.proofs.lemmas.List.Sums.{sum_by_push}
 use Rattle.ac_types.specs.declared.store_key.StoreKey.{StoreKey}
 use Rattle.path_map.specs.declared.listed.Listed.{Listed}
 use Rattle.path_map.specs.Entries.{Entries, entry_at, IsPathMap}
 use Rattle.dep_match.specs.declared.dep_tree.DepNode.{DepNode}
 use Rattle.dep_match.specs.declared.stored.Stored.{Stored}
-use Rattle.dep_match.specs.TreeOrder.{node_at}
+use Rattle.dep_match.specs.Dependencies.{key_at}
+use Rattle.dep_match.specs.TreeOrder.{node_at, IsOrderedTree}
 use Rattle.render.specs.declared.plan.Plan.{Plan}
 use Rattle.render.specs.declared.refusals.TheConstants.{MAX_ENTRIES}
 use Rattle.render.specs.declared.rendering.Rendering.{Rendering}
@@ -29,10 +30,11 @@ use Rattle.render.specs.declared.render_error.RenderError.{RenderError as Render
 use Rattle.pod_reading.specs.declared.error.PlanError.{PlanError}
 use Rattle.pod_reading.specs.declared.error.PlanError.TheVariants.{Damaged, RenderError, DirFault, NoMemory}
 use Rattle.pod_reading.specs.Readings.{KnowsTree}
-use Rattle.pod_reading.specs.Roots.{times, ComesOnce, node_key, HasRead, entries_together, Lays, LaysNext, IsRendered}
+use Rattle.pod_reading.specs.Roots.{times, ComesOnce, node_key, HasRead, entries_together, LaysNext, IsRendered}
 use Rattle.pod_reading.specs.Refusals.{IsLack, LacksTreeAt, store_refusal, render_refusal}
 use Rattle.pod_reading.specs.RootRefusals.{IsLayRefusal, IsRenderingRefusal}
-use Rattle.pod_reading.proofs.Times.{times_both, times_here, times_other, by_number, with_own, own_here, own_other, sum_same, comes_first, push_other, push_apart}
+use Rattle.pod_reading.proofs.Times.{times_both, times_here, by_number, with_own, own_here, own_other, sum_same, comes_first, push_other, push_apart}
+use Rattle.pod_reading.proofs.Keys.{key_read}
 use Rattle.pod_reading.proofs.Lacks.{tree_since, tree_later, tree_lack_since}
 
 -- the image that is wanted is that of the next node, and then the plan isn't done
@@ -62,17 +64,28 @@ none_left plan is = by plan.whole (node_at plan.nodes plan.next).image (all_down
 pub some_left : (plan : Plan) → IsPlan plan → plan.whole ≡ None → (others : List ℕ) × (nodes_left plan ≡ plan.next ∷ others)
 some_left plan is none = (from_last (all_down plan.nodes) (node_at plan.nodes plan.next).children ++ after_layers plan.nodes plan.layers.items, node_left plan is (next_within plan is) none)
 
+-- its place is one in the list, and its key is that of the node's image
+pub wanted_within : (images : List Stored) (nodes : List DepNode) (plan : Plan) (image : ℕ) → IsOrderedTree (length images) nodes → IsPlan plan → plan.nodes ≡ nodes → Some image ≡ wanted_image plan → image < length images
+wanted_within images nodes plan image order sound same is =
+    let inside : plan.next < length nodes = subst (λ (ns : List DepNode). plan.next < length ns) same (next_within plan sound) in
+    let here : image ≡ (node_at nodes plan.next).image = wanted_is plan image is ∙ ap (λ (ns : List DepNode). (node_at ns plan.next).image) same in
+    subst (λ (n : ℕ). n < length images) (sym here) (order.images plan.next (record { image = 0; children = [] }) inside)
+
+pub wanted_key : (images : List Stored) (nodes : List DepNode) (plan : Plan) (image : ℕ) (d : Stored) → image < length images → plan.nodes ≡ nodes → Some image ≡ wanted_image plan → (get_or images image d).key ≡ node_key images nodes plan.next
+wanted_key images nodes plan image d within same is =
+    sym (key_read images image d within) ∙ ap (λ (n : ℕ). key_at images n) (wanted_is plan image is ∙ ap (λ (ns : List DepNode). (node_at ns plan.next).image) same)
+
 -- why a map wasn't laid
 pub lay_fault : {observed : Bool} (key : StoreKey) (plan : Plan) (map : Entries) {a b : DirAt} (r : Result Plan RenderFault) (e : RenderFault) → r ≡ Err e → (r ≡ Err TooManyEntries ↔ plan.room < length map) → KnowsTree observed key map a b
     → IsLayRefusal observed key plan (render_refusal e) a b
 lay_fault key plan map r TooManyEntries is tells known = (map, known, tells.0 is)
 lay_fault key plan map r render.NoMemory is tells known = tt
 
-pub lay_lack : {observed : Bool} (key : StoreKey) (plan : Plan) {a b : DirAt} (e : StoreError) → IsLack observed (λ path. LacksTreeAt key path a b) e → IsLayRefusal observed key plan (store_refusal e) a b
-lay_lack key plan (store.Damaged path) lack = lack
-lay_lack key plan store.DirFault lack = tt
-lay_lack key plan store.NoMemory lack = tt
-lay_lack key plan e lack = absurd lack
+pub lay_lack : (observed : Bool) (key : StoreKey) (plan : Plan) (a b : DirAt) (e : StoreError) → IsLack observed (λ path. LacksTreeAt key path a b) e → IsLayRefusal observed key plan (store_refusal e) a b
+lay_lack observed key plan a b (store.Damaged path) lack = lack
+lay_lack observed key plan a b store.DirFault lack = tt
+lay_lack observed key plan a b store.NoMemory lack = tt
+lay_lack observed key plan a b e lack = absurd lack
 
 -- of the nodes that were laid listings were read; the plan has room for the others, and stands for what agrees with what was read
 pub record IsLaidTo (observed : Bool) (images : List Stored) (nodes : List DepNode) (plan : Plan) (old new : DirAt) : Type 0 where

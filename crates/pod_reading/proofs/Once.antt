@@ -17,7 +17,6 @@ use Rattle.render.proofs.LayingOrder.{down_steps}
 use Rattle.pod_choice.specs.Choices.{AreTrees}
 use Rattle.pod_reading.specs.Roots.{times, ComesOnce}
 use Rattle.pod_reading.proofs.Times.{times_here, times_other, times_both}
-use Rattle.pod_reading.proofs.Zips.{head_of, tail_of}
 
 -- ---- lists of numbers that have each of a block once, and no other
 record Fills (first len : ℕ) (xs : List ℕ) : Type 0 where

@@ -24,7 +24,7 @@ use Rattle.dir_model.specs.declared.request.Request.{Request}
 use Rattle.image_reading.specs.Looks.{OnlyAsks}
 use Rattle.pod_choice.specs.Choices.{IsChoice, IsRefused}
 use Rattle.pod_reading.specs.declared.root.Root.{Root}
-use Rattle.pod_reading.specs.Refusals.{IsLack, LacksPart, store_refusal, choice_refusal, IsNoChoice}
+use Rattle.pod_reading.specs.Refusals.{IsLack, LacksPart, store_refusal, choice_refusal}
 use Rattle.pod_reading.specs.RootRefusals.{IsRootsRefusal}
 use Rattle.pod_reading.specs.NoPlans.{LacksRoot, IsUnplanned, MakesNone, IsNoPlan}
 use Rattle.pod_reading.specs.Plans.{folders, apps_of, IsPlanOf, PlansChoice}
@@ -42,7 +42,7 @@ module _ (images : List Stored) (manifests : List (List ℕ)) (choice : Choice) 
     makes = subst (λ (x : List PodApp). MakesPod now token text (map files_of x) plan) a (subst (λ (x : List ℕ). MakesPod now token x (map files_of apps) plan) b makes);
   }
 
-module _ {observed : Bool} {asks : Request → Bool} {Keeps : DirAt → DirAt → Type 0} {a b c : DirAt} (ab : OnlyAsks observed asks Keeps a b) where
+module _ (observed : Bool) {asks : Request → Bool} {Keeps : DirAt → DirAt → Type 0} (a b c : DirAt) (ab : OnlyAsks observed asks Keeps a b) where
   -- the plan of what was read since
   pub choice_since : {images : List Stored} {manifests : List (List ℕ)} {refs : List ImageRef} {options : Wishes} {now : ℕ} {token : List ℕ} {plan : List PlanEntry}
       → PlansChoice observed images manifests refs options now token plan b c → PlansChoice observed images manifests refs options now token plan a c
@@ -51,12 +51,12 @@ module _ {observed : Bool} {asks : Request → Bool} {Keeps : DirAt → DirAt �
     wishes = p.wishes;
     chosen = p.chosen;
     roots = p.roots;
-    rooted = roots_since images ab p.choice.trees p.roots p.rooted;
+    rooted = roots_since observed images a b c ab p.choice.trees p.roots p.rooted;
     planned = p.planned;
   }
 
   root_lacks_since : (images : List Stored) (refs : List ImageRef) (options : Wishes) (e : PlanError) → LacksRoot observed images refs options e b c → LacksRoot observed images refs options e a c
-  root_lacks_since images refs options e l = record { choice = l.choice; chosen = l.chosen; lacks = refusals_since images ab l.choice.trees e l.lacks }
+  root_lacks_since images refs options e l = record { choice = l.choice; chosen = l.chosen; lacks = refusals_since observed images a b c ab l.choice.trees e l.lacks }
 
   unplanned_since : (images : List Stored) (refs : List ImageRef) (options : Wishes) (e : PlanError) → IsUnplanned observed images refs options e b c → IsUnplanned observed images refs options e a c
   unplanned_since images refs options (Damaged path) u = root_lacks_since images refs options (Damaged path) u
@@ -82,22 +82,22 @@ module _ {observed : Bool} {asks : Request → Bool} {Keeps : DirAt → DirAt �
       by x h = none x h
 
 -- they make no pod
-pub unchosen : {observed : Bool} {a b : DirAt} (images : List Stored) (refs : List ImageRef) (options : Wishes) (reason : ChoiceError) → IsRefused images refs options reason → IsUnplanned observed images refs options (choice_refusal reason) a b
-unchosen images refs options (choice.NoMatch place) h = record { reason = choice.NoMatch place; is = refl; refused = h }
-unchosen images refs options (choice.DepError fault) h = record { reason = choice.DepError fault; is = refl; refused = h }
-unchosen images refs options (choice.GenError refusal) h = record { reason = choice.GenError refusal; is = refl; refused = h }
-unchosen images refs options choice.NoMemory h = tt
+pub unchosen : (observed : Bool) (a b : DirAt) (images : List Stored) (refs : List ImageRef) (options : Wishes) (reason : ChoiceError) → IsRefused images refs options reason → IsUnplanned observed images refs options (choice_refusal reason) a b
+unchosen observed a b images refs options (choice.NoMatch place) h = record { reason = choice.NoMatch place; is = refl; refused = h }
+unchosen observed a b images refs options (choice.DepError fault) h = record { reason = choice.DepError fault; is = refl; refused = h }
+unchosen observed a b images refs options (choice.GenError refusal) h = record { reason = choice.GenError refusal; is = refl; refused = h }
+unchosen observed a b images refs options choice.NoMemory h = tt
 
 -- or a root of it can't be made
-pub unrooted : {observed : Bool} {a b : DirAt} (images : List Stored) (refs : List ImageRef) (options : Wishes) (c : Choice) → IsChoice images refs options c → (e : PlanError) → IsRootsRefusal observed images c.trees e a b → IsUnplanned observed images refs options e a b
-unrooted images refs options c chosen (Damaged path) h = record { choice = c; chosen = chosen; lacks = h }
-unrooted images refs options c chosen (RenderError error) h = record { choice = c; chosen = chosen; lacks = h }
-unrooted images refs options c chosen (ListingError error) h = record { choice = c; chosen = chosen; lacks = h }
-unrooted images refs options c chosen DirFault h = tt
-unrooted images refs options c chosen NoMemory h = tt
-unrooted images refs options c chosen (NoMatch place) h = absurd h.faulty
-unrooted images refs options c chosen (DepError fault) h = absurd h.faulty
-unrooted images refs options c chosen (GenError refusal) h = absurd h.faulty
+pub unrooted : (observed : Bool) (a b : DirAt) (images : List Stored) (refs : List ImageRef) (options : Wishes) (c : Choice) → IsChoice images refs options c → (e : PlanError) → IsRootsRefusal observed images c.trees e a b → IsUnplanned observed images refs options e a b
+unrooted observed a b images refs options c chosen (Damaged path) h = record { choice = c; chosen = chosen; lacks = h }
+unrooted observed a b images refs options c chosen (RenderError error) h = record { choice = c; chosen = chosen; lacks = h }
+unrooted observed a b images refs options c chosen (ListingError error) h = record { choice = c; chosen = chosen; lacks = h }
+unrooted observed a b images refs options c chosen DirFault h = tt
+unrooted observed a b images refs options c chosen NoMemory h = tt
+unrooted observed a b images refs options c chosen (NoMatch place) h = absurd h.faulty
+unrooted observed a b images refs options c chosen (DepError fault) h = absurd h.faulty
+unrooted observed a b images refs options c chosen (GenError refusal) h = absurd h.faulty
 
 -- the images couldn't be read
 pub none_read : (observed : Bool) (refs : List ImageRef) (options : Wishes) (old new : DirAt) (e : StoreError) → IsLack observed (λ path. LacksPart path old new) e → IsNoPlan observed refs options old new (store_refusal e)

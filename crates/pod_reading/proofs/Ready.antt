@@ -69,8 +69,8 @@ pub apps_are : {list : List Stored} {options : Wishes} (choice : Choice) → IsP
 apps_are choice pod = ap (λ (p : PodData). p.apps) pod.manifest
 
 module _ {list : List Stored} (refs : List ImageRef) (options : Wishes) (choice : Choice) (chosen : IsChoice list refs options choice) (count : ℕ) (many : count ≡ length list) where
-  pub is_ready : {observed : Bool} {a b : DirAt} (roots : List Root) → AreRoots observed list a b choice.trees roots → IsReady count choice roots
-  is_ready {observed} {a} {b} roots rooted =
+  pub is_ready : (observed : Bool) (a b : DirAt) (roots : List Root) → AreRoots observed list a b choice.trees roots → IsReady count choice roots
+  is_ready observed a b roots rooted =
       let within = picks_within list refs choice.picks chosen.0 in
       let pod = chosen.1 in
       let apps = apps_are choice pod in

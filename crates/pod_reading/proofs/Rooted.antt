@@ -1,10 +1,9 @@
 -- The roots of apps, one after the other.
-use Rattle.std.proofs.Common.{◌≡◌, ◌⊎◌, inl, inr, ℕ, ◌<◌, ◌+◌, Bool, true, List, [], ◌∷◌, ◌++◌, Some, length, take, drop, get_or, sym, subst, arith}
-use Rattle.std.specs.List.{AllZip}
-use Rattle.path_map.specs.Entries.{Entries, EachEntry, entry_at}
+use Rattle.std.proofs.Common.{◌≡◌, ◌⊎◌, inl, inr, ℕ, ◌<◌, ◌+◌, Bool, List, [], ◌∷◌, ◌++◌, Some, length, take, drop, get_or, sym, ap, subst, arith, ◌∙◌}
+use Rattle.path_map.specs.Entries.{Entries, entry_at}
 use Rattle.path_map.specs.Overlay.{made_directory}
 use Rattle.path_map.specs.declared.entry.Entry.{Entry}
-use Rattle.tree_digest.specs.Listings.{IsListable, AreListable}
+use Rattle.tree_digest.specs.Listings.{IsListable, AreListable, lines_of}
 use Rattle.dep_match.specs.declared.dep_tree.DepNode.{DepNode}
 use Rattle.dep_match.specs.declared.dep_tree.DepTree.{DepTree}
 use Rattle.dep_match.specs.declared.stored.Stored.{Stored}
@@ -12,7 +11,7 @@ use Rattle.dep_match.specs.TreeOrder.{IsOrderedTree}
 use Rattle.render.specs.declared.rendering.Rendering.{Rendering}
 use Rattle.render.specs.declared.render_error.RenderError.TheVariants.{TooManyEntries}
 use Rattle.render.specs.declared.render_error.RenderError.TheVariants as render
-use Rattle.render.specs.Assembly.{own_whitelist, IsOwnOrMade}
+use Rattle.render.specs.Assembly.{own_whitelist}
 use Rattle.render.proofs.Assemblies.{own_or_made}
 use Rattle.dir_model.specs.declared.request.Request.{Request}
 use Rattle.dir_trait.specs.DirCalls.{DirAt}
@@ -21,9 +20,8 @@ use Rattle.pod_choice.proofs.Mapped.{split_at}
 use Rattle.pod_reading.specs.declared.error.PlanError.{PlanError}
 use Rattle.pod_reading.specs.declared.error.PlanError.TheVariants.{Damaged, NoMatch, DepError, GenError, RenderError, ListingError, DirFault, NoMemory}
 use Rattle.pod_reading.specs.declared.root.Root.{Root}
-use Rattle.pod_reading.specs.Readings.{KnowsTree}
 use Rattle.pod_reading.specs.Roots.{node_key, HasRead, IsRendered, IsRoot, AreRoots}
-use Rattle.pod_reading.specs.RootRefusals.{LacksNext, HasTooMany, IsRenderingRefusal, IsListingRefusal, HasLargeListing, IsRootRefusal, IsFirstRootFault, IsRootsRefusal}
+use Rattle.pod_reading.specs.RootRefusals.{IsRenderingRefusal, IsListingRefusal, IsRootRefusal, IsRootsRefusal}
 use Rattle.pod_reading.proofs.Lacks.{tree_since, tree_later, tree_lack_since}
 use Rattle.pod_reading.proofs.Zips.{zip_more, zip_weaker}
 
@@ -40,7 +38,7 @@ rendered_listable count images nodes r a b order is q entry at =
     by (inr made) = made_is_listable entry made
 
 -- ---- what was read is so still
-module _ {observed : Bool} (images : List Stored) {asks : Request → Bool} {Keeps : DirAt → DirAt → Type 0} {a b c : DirAt} where
+module _ (observed : Bool) (images : List Stored) {asks : Request → Bool} {Keeps : DirAt → DirAt → Type 0} (a b c : DirAt) where
   root_later : OnlyAsks observed asks Keeps b c → (tree : DepTree) (root : Root) → IsRoot observed images a b tree root → IsRoot observed images a c tree root
   root_later bc tree root is = record {
     rendered = record {
@@ -108,7 +106,13 @@ module _ {observed : Bool} (images : List Stored) {asks : Request → Bool} {Kee
   }
 
 -- ---- one root
-module _ {observed : Bool} (images : List Stored) (nodes : List DepNode) {a b : DirAt} where
+pub root_made : (observed : Bool) (images : List Stored) (a b : DirAt) (tree : DepTree) (r : Rendering) (root : Root) → IsRendered observed images tree.nodes r a b → root.rendering ≡ r → root.listing ≡ lines_of r.map → IsRoot observed images a b tree root
+root_made observed images a b tree r root is same listing = record {
+  rendered = subst (λ (x : Rendering). IsRendered observed images tree.nodes x a b) (sym same) is;
+  listing = listing ∙ ap (λ (x : Rendering). lines_of x.map) (sym same);
+}
+
+module _ (observed : Bool) (images : List Stored) (nodes : List DepNode) (a b : DirAt) where
   pub listing_refused : (r : Rendering) → IsRendered observed images nodes r a b → (e : PlanError) → IsListingRefusal r.map e → IsRootRefusal observed images nodes e a b
   listing_refused r is (ListingError error) h = record { rendering = r; rendered = is; large = h }
   listing_refused r is NoMemory h = tt
@@ -119,14 +123,17 @@ module _ {observed : Bool} (images : List Stored) (nodes : List DepNode) {a b : 
   rendering_refused e h = h
 
 -- ---- several
-module _ {observed : Bool} (images : List Stored) {asks others : Request → Bool} {Keeps Holds : DirAt → DirAt → Type 0} {a b c : DirAt} (ab : OnlyAsks observed asks Keeps a b) (bc : OnlyAsks observed others Holds b c) where
+pub none_rooted : (observed : Bool) (images : List Stored) (a b : DirAt) (trees : List DepTree) (roots : List Root) → trees ≡ [] → roots ≡ [] → AreRoots observed images a b trees roots
+none_rooted observed images a b trees roots t r = subst (λ (ts : List DepTree). AreRoots observed images a b ts roots) (sym t) (subst (λ (rs : List Root). AreRoots observed images a b [] rs) (sym r) tt)
+
+module _ (observed : Bool) (images : List Stored) {asks others : Request → Bool} {Keeps Holds : DirAt → DirAt → Type 0} (a b c : DirAt) (ab : OnlyAsks observed asks Keeps a b) (bc : OnlyAsks observed others Holds b c) where
   -- one root more
   pub roots_more : (trees more : List DepTree) (roots rooted : List Root) (tree : DepTree) (root : Root) → more ≡ trees ++ tree ∷ [] → rooted ≡ roots ++ root ∷ [] → AreRoots observed images a b trees roots → IsRoot observed images b c tree root
       → AreRoots observed images a c more rooted
   roots_more trees more roots rooted tree root grown pushed before here =
       subst (λ (ts : List DepTree). AreRoots observed images a c ts rooted) (sym grown)
       (subst (λ (rs : List Root). AreRoots observed images a c (trees ++ tree ∷ []) rs) (sym pushed)
-      (zip_more (IsRoot observed images a c) trees roots tree root (roots_later images bc trees roots before) (root_since images ab tree root here)))
+      (zip_more (IsRoot observed images a c) trees roots tree root (roots_later observed images a b c bc trees roots before) (root_since observed images a b c ab tree root here)))
 
   -- or the first without one
   pub first_fault : (trees : List DepTree) (i : ℕ) (tree : DepTree) (roots : List Root) → i < length trees → tree ≡ get_or trees i tree → AreRoots observed images a b (take i trees) roots
@@ -138,7 +145,7 @@ module _ {observed : Bool} (images : List Stored) {asks others : Request → Boo
     tree = tree;
     after = drop (i + 1) trees;
     is = split_at trees i tree tree within is;
-    faulty = refusal_since images ab tree.nodes e h;
+    faulty = refusal_since observed images a b c ab tree.nodes e h;
     roots = roots;
-    earlier = roots_later images bc (take i trees) roots before;
+    earlier = roots_later observed images a b c bc (take i trees) roots before;
   }

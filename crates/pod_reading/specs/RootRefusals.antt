@@ -3,7 +3,7 @@ use Rattle.std.specs.Prelude.{◌≡◌, ℕ, ◌<◌, Bool, true, List, ◌∷�
 use Rattle.ac_types.specs.declared.store_key.StoreKey.{StoreKey}
 use Rattle.path_map.specs.Entries.{Entries}
 use Rattle.tree_digest.specs.Listings.{lines_of, IsTooLarge}
-use Rattle.tree_digest.specs.declared.listing_error.ListingError.{ListingError}
+use Rattle.tree_digest.specs.declared.listing_error.ListingError.{ListingError as ListingFault}
 use Rattle.dep_match.specs.declared.dep_tree.DepNode.{DepNode}
 use Rattle.dep_match.specs.declared.dep_tree.DepTree.{DepTree}
 use Rattle.dep_match.specs.declared.stored.Stored.{Stored}
@@ -60,7 +60,7 @@ IsListingRefusal whole NoMemory = Unit {0}
 IsListingRefusal whole error = ⊥
 
 -- a rendering was made of listings that were read, and its own listing is too large
-pub record HasLargeListing (observed : Bool) (images : List Stored) (nodes : List DepNode) (error : ListingError) (old new : DirAt) : Type 0 where
+pub record HasLargeListing (observed : Bool) (images : List Stored) (nodes : List DepNode) (error : ListingFault) (old new : DirAt) : Type 0 where
   pub rendering : Rendering
   pub rendered : IsRendered observed images nodes rendering old new
   pub large : IsTooLarge (lines_of rendering.map) error

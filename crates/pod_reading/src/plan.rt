@@ -63,7 +63,9 @@ fn parts_of(
 {
     let text = pod_bytes(alloc, &choice.manifest)?;
     let Choice {
-        picks, manifest, ..
+        picks,
+        manifest,
+        ..
     } = choice;
     let named = manifest.apps.as_slice();
     match apps_with(alloc, manifests, picks.as_slice(), named, roots.into_vec()) {

@@ -54,7 +54,7 @@ fn read_root<D: Dir>(
     ensures cause { IsErrOf result PlanError.DirFault → Rose (D.shown dir.old).faults (D.shown dir.new).faults }
     ensures only { OnlyReadsImages D.observed (D.shown dir.old) (D.shown dir.new) }
     ensures root { IfOk result (λ root. IsRoot D.observed images.now (D.shown dir.old) (D.shown dir.new) tree.now root) }
-    ensures refused { IfErr result (λ e. IsRootRefusal D.observed images.now tree.now e (D.shown dir.old) (D.shown dir.new)) }
+    ensures refused { IfErr result (λ e. IsRootRefusal D.observed images.now tree.now.nodes e (D.shown dir.old) (D.shown dir.new)) }
 {
     match read_rendering(alloc, dir, images, tree) {
         Ok(rendering) => listed(alloc, rendering),

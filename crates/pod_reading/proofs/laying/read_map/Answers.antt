@@ -1,4 +1,4 @@
-use Rattle.std.proofs.Common.{◌≡◌, true, rules, sym}
+use Rattle.std.proofs.Common.{◌≡◌, rules}
 use Rattle.tree_digest.specs.Listings.{AreListable, entries_of}
 use Rattle.path_map.specs.Entries.{entry_at, IsPathMap}
 use Rattle.pod_reading.specs.Readings.{KnowsTree}

@@ -30,7 +30,7 @@ returns-in-Ok-clause-refused g c =
     let refs = c.args.refs.now in
     let options = c.args.options.now in
     if_err (λ e. IsUnplanned D.observed images refs options e mid new) (IsNoPlan D.observed refs options old new) c.plan_read.result
-    (λ e none. none_planned c.read_images.ensures.only images (λ t. listed_before t images (c.in-Ok.ensures.read.listed t) c.plan_read.ensures.only) refs options e none) c.plan_read.ensures.refused
+    (λ e none. none_planned D.observed old mid new c.read_images.ensures.only images (λ t. listed_before t images (c.in-Ok.ensures.read.listed t) c.plan_read.ensures.only) refs options e none) c.plan_read.ensures.refused
 
 pub returns-in-Ok-clause-made : goal.returns-in-Ok-clause-made
 returns-in-Ok-clause-made g c =
@@ -43,7 +43,7 @@ returns-in-Ok-clause-made g c =
     let refs = c.args.refs.now in
     let options = c.args.options.now in
     if_ok (λ plan. PlansChoice D.observed images manifests refs options c.args.now c.args.token.now plan.items mid new) _ c.plan_read.result
-    (λ plan p. (images, manifests, choice_since c.read_images.ensures.only p)) c.plan_read.ensures.made
+    (λ plan p. (images, manifests, choice_since D.observed old mid new c.read_images.ensures.only p)) c.plan_read.ensures.made
 
 pub returns-in-Ok-clause-faithful : goal.returns-in-Ok-clause-faithful
 returns-in-Ok-clause-faithful g c =
@@ -60,7 +60,7 @@ returns-in-Ok-clause-faithful g c =
     if_ok (λ plan. PlansChoice D.observed images manifests refs options c.args.now c.args.token.now plan.items mid new)
     (λ plan. D.observed ≡ true → PlansFaithfully refs options c.args.now c.args.token.now plan.items old new) c.plan_read.result
     (λ plan p t. plans_faithfully t images manifests (listed_before t images (known.listed t) c.plan_read.ensures.only)
-    (manifests_before t images manifests (have_manifests read known t) c.plan_read.ensures.only) (choice_since c.read_images.ensures.only p)) c.plan_read.ensures.made
+    (manifests_before old t images manifests (have_manifests read known t) c.plan_read.ensures.only) (choice_since D.observed old mid new c.read_images.ensures.only p)) c.plan_read.ensures.made
 
 pub returns-in-Err-clause-refused : goal.returns-in-Err-clause-refused
 returns-in-Err-clause-refused g c =
