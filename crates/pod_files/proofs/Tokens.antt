@@ -6,7 +6,7 @@ use Rattle.std.specs.Str.{IsAscii}
 use Rattle.std.proofs.lemmas.Bool.Decides.{nat_tests}
 use Rattle.std.proofs.lemmas.Str.{IsUtf8-from_ascii}
 use Rattle.dir_model.proofs.Lists.{and_left, and_right}
-use Rattle.pod_launches.specs.Files.{is_digit, is_token}
+use Rattle.pod_files.specs.Files.{is_digit, is_token}
 
 digit_small : (b : ℕ) → is_digit b ≡ true → b < 128
 digit_small b h = grind (arith, nat_tests)

@@ -8,7 +8,7 @@ use Rattle.dir_model.specs.State.{spot_eq}
 use Rattle.dir_trait.specs.DirCalls.{DirAt}
 use Rattle.dir_files.specs.Reads.{KeepsKnown}
 use Rattle.image_reading.specs.Looks.{OnlyAsks}
-use Rattle.pod_launches.specs.Places.{run_spot}
+use Rattle.pod_files.specs.Places.{run_spot}
 
 -- reads of its files
 abbrev pub reads_pod : PodId → Request → Bool

@@ -12,8 +12,8 @@ use Rattle.dir_trait.specs.DirCalls.{DirAt}
 use Rattle.dir_files.specs.Reads.{inner_at, OnlyReads, ReadsUp, reads_at}
 use Rattle.image_reading.specs.Files.{ReadsFile, LacksFile}
 use Rattle.image_reading.proofs.Widths.{within_self}
-use Rattle.pod_launches.specs.Places.{run_spot, pod_file}
-use Rattle.pod_launches.specs.Looks.{reads_pod, OnlyReadsPod}
+use Rattle.pod_files.specs.Places.{run_spot, pod_file}
+use Rattle.pod_files.specs.Looks.{reads_pod, OnlyReadsPod}
 
 pub reads_none : {observed : Bool} (pod : PodId) {d : DirAt} → OnlyReadsPod observed pod d d
 reads_none pod = record { same = refl; faults = omega arith; local = refl; extends = λ t. nothing_yet; known = λ t s may k. k }

@@ -10,7 +10,6 @@ use Rattle.dir_model.proofs.Lists.{and_left, and_right, and_both, or_none, not_t
 use Rattle.dir_model.proofs.Paths.{IsFileName-from_test}
 use Rattle.dir_rules.specs.Marks.{has_slash}
 use Rattle.ac_types.specs.Names.{is_word_byte, is_hyphen, are_words, IsAcName}
-use Rattle.pod_launches.specs.Places.{tree_path}
 
 -- a byte of a plain name
 abbrev is_plain : ℕ → Bool
@@ -134,18 +133,13 @@ stage1_path = plain_path (codes "stage1") refl refl refl
 pub rootfs_path : is_path (codes "stage1/rootfs") ≡ true
 rootfs_path = plain_behind (codes "stage1") (codes "rootfs") stage1_path refl refl refl refl
 
-opt_path : is_path (codes "stage1/rootfs/opt") ≡ true
+pub opt_path : is_path (codes "stage1/rootfs/opt") ≡ true
 opt_path = plain_behind (codes "stage1/rootfs") (codes "opt") rootfs_path refl refl refl refl
 
-stage2_path : is_path (codes "stage1/rootfs/opt/stage2") ≡ true
+pub stage2_path : is_path (codes "stage1/rootfs/opt/stage2") ≡ true
 stage2_path = plain_behind (codes "stage1/rootfs/opt") (codes "stage2") opt_path refl refl refl refl
 
--- the listing of an app's root
-pub tree_form : (app : List ℕ) → IsAcName app → is_path (tree_path app) ≡ true
-tree_form app is =
-    let name = app_name app is in
-    plain_behind (codes "stage1/rootfs/opt/stage2/" ++ app) (codes "tree") (plain_behind (codes "stage1/rootfs/opt/stage2") app stage2_path refl name.some name.short name.plain) refl refl refl refl
-
+-- the files of every pod
 pub token_form : is_path (codes "token") ≡ true
 token_form = plain_path (codes "token") refl refl refl
 
