@@ -42,15 +42,16 @@ def is_prepared(data):
     return len(os.listdir(f"{data}/pods/prepared")) == 1
 
 
-def told(title, data, app):
+def told(title, data, *words):
     """One line for each program, by turns; the pods are taken away in between."""
     rounds = {program: [] for program in PROGRAMS}
     for _ in range(RUNS):
         for program in PROGRAMS:
-            rounds[program].append(launched(program, data, "prepare", f"example.com/{app}"))
-            assert is_prepared(data), program
-            shutil.rmtree(f"{data}/pods/prepared")
-            os.makedirs(f"{data}/pods/prepared")
+            rounds[program].append(launched(program, data, *words))
+            if words[0] == "prepare":
+                assert is_prepared(data), program
+                shutil.rmtree(f"{data}/pods/prepared")
+                os.makedirs(f"{data}/pods/prepared")
     for program, taken in rounds.items():
         times = sorted(time for time, _ in taken)
         print(f"| {title} | {program} | {times[0]:.1f} ms | {times[len(times) // 2]:.1f} ms | {max(m for _, m in taken):.1f} MB |", flush=True)
@@ -67,7 +68,8 @@ def among(count, files):
     image(data, 0, "used", 1000, real=True)
     for number in range(1, count):
         image(data, number, f"other{number}", files)
-    told(f"one image of 1,000 files among {count}, the others of {files}", data, "used")
+    told(f"prepare of one image of 1,000 files among {count}, the others of {files}", data, "prepare", "example.com/used")
+    told(f"image list of {count} images", data, "image", "list")
     shutil.rmtree(data)
 
 
@@ -77,7 +79,7 @@ def layers(count, files):
     image(data, 0, "layer0", files, needs, real=True)
     for number in range(1, count):
         image(data, number, f"layer{number}", files, real=True)
-    told(f"{count} layers of {files} files", data, "layer0")
+    told(f"prepare of {count} layers of {files} files", data, "prepare", "example.com/layer0")
     shutil.rmtree(data)
 
 
@@ -86,5 +88,6 @@ if __name__ == "__main__":
     among(1, 1000)
     among(1000, 1)
     among(1000, 1000)
+    among(10000, 1)
     layers(1, 10000)
     layers(20, 10000)
