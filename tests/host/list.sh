@@ -227,6 +227,8 @@ maker() {
     local pod
     while [ ! -e "$notes/over" ]; do
         pod=$("$rkt" prepare example.com/one 2>"$notes/said.$1") || {
+            # A sweep of another maker has the lock of embryo for a moment.
+            [ "$(cat "$notes/said.$1")" != 'rkt: busy: gate embryo' ] || continue
             echo "prepare: $(cat "$notes/said.$1")" >>"$notes/failed"
             return
         }

@@ -22,7 +22,7 @@ use Rattle.dir_model.specs.State.{Namespace, DirState, empty_state, folder_at, s
 use Rattle.dir_model.specs.Trace.{state_after, state_next, entries_kept, entry_made}
 use Rattle.dir_model.specs.Trees.{is_file_entry, has_file}
 use Rattle.dir_model.proofs.Lists.{all_left, or_map, same_rest, same_self}
-use Rattle.dir_model.proofs.Moments.{at_grown}
+use Rattle.dir_model.proofs.Moments.{at_grown, at_weaker}
 use Rattle.dir_rules.proofs.Looks.{same_bytes}
 use Rattle.dir_rules.specs.Standing.{is_of}
 use Rattle.lifecycle.specs.declared.machine.PodState.{PodState}
@@ -318,7 +318,7 @@ module _ (pod : PodId) {me : ℕ} {old begun ended new : List Event} (r : Refuse
       let k = b.folder in
       let first : Grew old begun = grown_by r.begins in
       let after : Grew ended new = grown_by r.finishes in
-      let found = at_part first refl (grown_more (record { more = last.0; grown = last.1 }) after) b.found in
+      let found = at_part first refl (grown_more (record { more = last.0; grown = last.1 }) after) (at_weaker (λ s. folder_at s.namespace (in_prepared pod) ≡ Some k) (λ s y. y.0) b.found) in
       let held = at_part (grown_more first (record { more = front.0; grown = front.1 })) refl after b.held in
       record {
         folder = k;

@@ -31,6 +31,8 @@ use Rattle.pod_claim.proofs.Traces.{grown_more, grown_call}
 use Rattle.commands.proofs.OwnSteps.{in_process, back_from, same_folders}
 use Rattle.commands.proofs.LateTurns.{or_false}
 use Rattle.commands.specs.RunPrepared.{runs_prepared}
+use Rattle.lifecycle.specs.Executions.{IsConforming}
+use Rattle.commands.specs.ClaimTable.{claim_error}
 use Rattle.commands.specs.RunQuiet.{HasPassed}
 use Rattle.commands.proofs.EndsQuiet.{MakesNoNote}
 use Rattle.commands.proofs.NotesStand.{RemovesNothing}
@@ -118,8 +120,8 @@ claim_move {pod} {own} {me} {old} {begun} {claimed} {new} first took last =
 
 -- of a pod that was claimed, whatever came of its run
 pub claimed_passed : (pod : PodId) (own : Handle) {me : ℕ} {old begun claimed ended new : List Event} → Extends (in_process (runs_prepared pod)) me old new → Quiet me old new → Grew old begun → TookBoth pod own me begun claimed → Grew claimed ended →
-    CallStep me ended Finish Done new → HasPassed pod old new
-claimed_passed pod own {me} {old} {begun} {claimed} {ended} {new} ext quiet first took after finish =
+    CallStep me ended Finish Done new → (IsConforming old → claim_error me pod (state_after old) ≡ None) → HasPassed pod me old new
+claimed_passed pod own {me} {old} {begun} {claimed} {ended} {new} ext quiet first took after finish free =
     let m = claim_move first took (grown_more after (grown_call finish)) in
     let e = event me (MoveFolder (in_prepared pod) (in_run pod)) Done in
     let to_move : Grew old m.before = record { more = m.meanwhile; grown = m.begins } in
@@ -131,5 +133,6 @@ claimed_passed pod own {me} {old} {begun} {claimed} {ended} {new} ext quiet firs
       stood = stood;
       waited = λ conforming. phase_at pod old conforming state.Prepared phase.Prepared area.Prepared refl prepared_alone
           (prepared_is (pod_state (pod_text pod.bytes) old) (stands_exists (pod_text pod.bytes) old (in_prepared pod) conforming (same_bytes (pod_text pod.bytes)) (ap (λ (o : Option ℕ). is_some o) stood)).1);
+      free = free;
       left = left_in_run pod (runs_prepared pod) (claim_leaves pod) me old new m.before m.later (in_prepared pod) ext quiet m.meanwhile m.begins m.moved finish.run k.0 (is_past finish) k.1;
     }

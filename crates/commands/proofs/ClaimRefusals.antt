@@ -7,7 +7,7 @@ use Rattle.pod_ownership.specs.declared.owned.Owned.{Owned}
 use Rattle.pod_ownership.specs.Running.{IsOwned}
 use Rattle.pod_claim.specs.declared.error.ClaimError.{ClaimError}
 use Rattle.pod_claim.specs.declared.error.ClaimError.TheVariants as claim
-use Rattle.pod_claim.specs.Causes.{ClaimCause}
+use Rattle.pod_claim.specs.Causes.{ClaimCause, HadBothAlone}
 use Rattle.lifecycle.specs.Executions.{IsConforming}
 use Rattle.pod_claim.specs.Claims.{RefusedByAnother, IsFreeThroughout, IsFailure}
 use Rattle.pod_claim.specs.Elsewhere.{MetOwner}
@@ -56,8 +56,8 @@ module _ (seen observed : Bool) (pod : PodId) (address : List ℕ) (a c : DirAt)
   abbrev Says : Type 0
   Says = RunPreparedSays pod address (inside_of seen observed a s) (inside_of seen observed c s') answer
 
-  pub claimed_says : (b : DirAt) (owned : Owned) → IsOwned pod a.local owned → b.process ≡ a.process → (seen ≡ true → ExtendsBy (claims pod) a b) → (seen ≡ true → TookBoth pod owned.own a.process a.trace b.trace) → (seen ≡ true → Grew b.trace c.trace) → RunSays seen observed owned address [] b c s s' answer → Says
-  claimed_says b owned is same asked took then says = record { from = a; to = c; begins = refl; ends = refl; so = inl (record { claimed = b; owned = owned; is_owned = is; same = same; asked = asked; took = took; then = then; says = says }) }
+  pub claimed_says : (b : DirAt) (owned : Owned) → IsOwned pod a.local owned → b.process ≡ a.process → (seen ≡ true → ExtendsBy (claims pod) a b) → (seen ≡ true → TookBoth pod owned.own a.process a.trace b.trace) → (seen ≡ true → HadBothAlone pod a.process a.trace b.trace) → (seen ≡ true → Grew b.trace c.trace) → RunSays seen observed owned address [] b c s s' answer → Says
+  claimed_says b owned is same asked took alone then says = record { from = a; to = c; begins = refl; ends = refl; so = inl (record { claimed = b; owned = owned; is_owned = is; same = same; asked = asked; took = took; alone = alone; then = then; says = says }) }
 
   pub unclaimed_says : (e : ClaimError) → answer ≡ Err (claim_refusal pod e) → ClaimCause seen pod e a c → (seen ≡ true → MovedNothing a.process a.trace c.trace) → Leaves seen MayClaim a (λ known. RefusedByAnother pod e a c) → Leaves seen MayClaim a (λ known. MetOwner pod e a c) →
       Leaves seen MayClaim a (λ known. IsConforming c.trace → IsFreeThroughout pod a c → IsFailure e) → s' ≡ s → Says

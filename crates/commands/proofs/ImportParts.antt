@@ -80,7 +80,7 @@ module _ {observed : Bool} {old first last new : DirAt} (s : Span observed old f
 
   in_turn_wider : {source : Source} {key : StoreKey} {lines : List ListingLine} {path : List ℕ} → DamagedInTurn observed source key lines path first last → DamagedInTurn observed source key lines path old new
   in_turn_wider {key = key} (inl l) = inl (λ t. within_wider (s.part t) (l t))
-  in_turn_wider {key = key} (inr x) = inr (x.0, λ t. held_wider (s.part t) (IsAbsent key) (x.1 t))
+  in_turn_wider {key = key} (inr x) = inr (x.0, record { absent = λ t. held_wider (s.part t) (IsAbsent key) (x.1.absent t); locked = λ t. within_wider (s.part t) (x.1.locked t) })
 
   pub turn_wider : (source : Source) (e : StoreError) → ComesInTurn observed source e first last → ComesInTurn observed source e old new
   turn_wider source e turn = record {

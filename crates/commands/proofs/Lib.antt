@@ -2,6 +2,7 @@ pub mod Changes
 pub mod ClaimBefore
 pub mod ClaimQuiet
 pub mod ClaimRefusals
+pub mod ClaimTable
 pub mod Claimed
 pub mod EndsQuiet
 pub mod EndsStand
@@ -76,6 +77,7 @@ pub mod StoreQuiet
 pub mod StoreStanding
 pub mod StoreTexts
 pub mod SweepEnds
+pub mod SweepLines
 pub mod Sweeps
 pub mod Told
 pub mod Unhindered

@@ -21,7 +21,7 @@ use Rattle.pod_claim.specs.declared.error.ClaimError.{ClaimError}
 use Rattle.pod_claim.specs.declared.error.ClaimError.TheVariants as claim
 use Rattle.pod_claim.specs.Requests.{claims}
 use Rattle.pod_claim.specs.Work.{Grew}
-use Rattle.pod_claim.proofs.Traces.{grown_more, grown_call}
+use Rattle.pod_claim.proofs.Traces.{grown_more, grown_call, grown_by}
 use Rattle.pod_making.specs.Progress.{at_work, nothing_made}
 use Rattle.command_outcomes.specs.declared.told.Told.{Told}
 use Rattle.command_outcomes.specs.Moments.{Answer}
@@ -33,6 +33,7 @@ use Rattle.commands.specs.RunQuiet.{HasPassed, HasMadeAndLeft, UnclaimedFor, Tel
 use Rattle.stage1.specs.Runs.{HasRun}
 use Rattle.commands.proofs.EndsQuiet.{early_part, ran_ends, unborn_before}
 use Rattle.commands.proofs.ClaimQuiet.{claimed_passed, claim_leaves, claim_removes, claim_notes}
+use Rattle.commands.proofs.ClaimTable.{none_why, wrong_why, lacking_why, busy_why, claimed_why}
 use Rattle.commands.proofs.ClaimBefore.{RefusedClaim, none_before, wrong_before, lacked_before, lock_before}
 use Rattle.commands.proofs.NewRunQuiet.{made_and_left, run_leaves, run_removes, run_notes}
 use Rattle.commands.specs.Wants.{Wants}
@@ -44,8 +45,9 @@ conforming_at {a} {b} g conforming = conforming_left a g.more (subst IsConformin
 module _ (seen observed : Bool) (pod : PodId) (address : List ℕ) (d d' : DirAt) (s s' : SpawnerAt) (answer : Answer) (t : seen ≡ true) (old new : List Event) where
   -- a pod that was claimed, whatever came of its run
   pub run_prepared_passed : Extends (in_process (runs_prepared pod)) d.process old new → Quiet d.process old new → Grew old d.trace → CallStep d.process d'.trace Finish Done new → (x : ClaimsAndRuns seen observed pod address d d' s s' answer) → Grew x.claimed.trace d'.trace →
-      HasPassed pod old new
-  run_prepared_passed ext quiet first finish x after = claimed_passed pod x.owned.own ext quiet first (x.took t) after finish
+      HasPassed pod d.process old new
+  run_prepared_passed ext quiet first finish x after =
+      claimed_passed pod x.owned.own ext quiet first (x.took t) after finish (λ conforming. claimed_why pod ext quiet conforming first (grown_more after (grown_call finish)) (x.alone t))
 
   -- and one that wasn't
   pub run_prepared_unclaimed : RefusedClaim pod d.process old d.trace d'.trace new → OwnsNothing d.process (state_after old).namespace → CanClaim d → (x : IsUnclaimed seen pod d d' s s' answer) → UnclaimedFor pod x.error d.process old new
@@ -58,12 +60,17 @@ module _ (seen observed : Bool) (pod : PodId) (address : List ℕ) (d d' : DirAt
       at_begin conforming = conforming_at (record { more = r.quiet.more; grown = r.quiet.grown }) conforming
 
       by : (e : ClaimError) → x.error ≡ e → UnclaimedFor pod e d.process old new
-      by claim.NoPod is = λ conforming. none_before pod r (at_begin conforming) (x.cause.nowhere is t (at_end conforming))
-      by (claim.WrongPhase phase) is = λ conforming. wrong_before pod r phase (at_begin conforming) idle (x.still t) (x.cause.phase phase is t (at_end conforming)) (λ owned. x.owner t can.0 can.2 can.1 (at_end conforming) phase is owned)
-      by claim.NoManifest is = λ conforming. lacked_before pod r (x.cause.manifest is t (at_end conforming))
+      by claim.NoPod is = λ conforming. let none = none_before pod r (at_begin conforming) (x.cause.nowhere is t (at_end conforming)) in (none, none_why d.process pod (state_after old) none)
+      by (claim.WrongPhase phase) is = λ conforming.
+          let cause = x.cause.phase phase is t (at_end conforming) in
+          let had = wrong_before pod r phase (at_begin conforming) idle (x.still t) cause (λ owned. x.owner t can.0 can.2 can.1 (at_end conforming) phase is owned) in
+          (had, wrong_why d.process pod phase old cause.wrong had)
+      by claim.NoManifest is = λ conforming. let lacks = lacked_before pod r (x.cause.manifest is t (at_end conforming)) in (lacks, lacking_why d.process pod old (at_begin conforming) lacks)
       by (claim.Busy other which) is =
           let named = x.cause.named other which is in
-          (named, lock_before pod r which (x.another t can.0 can.2 can.1 which (is ∙ ap (λ (p : PodId). claim.Busy p which) named)))
+          let another = x.another t can.0 can.2 can.1 which (is ∙ ap (λ (p : PodId). claim.Busy p which) named) in
+          let held = lock_before pod r which another.0 in
+          (named, held, λ conforming. busy_why pod r.whole r.quiet (at_begin conforming) which (grown_by r.begins) (grown_by r.finishes) another.0 another.1 held)
       by e is = tt
 
 module _ (seen observed : Bool) (wants : Wants) (address : List ℕ) (now : ℕ) (draw : Draw) (d d' : DirAt) (s s' : SpawnerAt) (answer : Answer) (t : seen ≡ true) (old new : List Event) where
@@ -76,7 +83,7 @@ module _ (seen observed : Bool) (wants : Wants) (address : List ℕ) (now : ℕ)
 -- and what was told of a run to its end: the marks and the statuses stand in the pod
 module _ (seen observed : Bool) (d d' : DirAt) (s s' : SpawnerAt) (told : Told) (t : seen ≡ true) (old new : List Event) (quiet : Quiet d.process old new) (approach : Approach) (intent : Intent) (begins : Opens approach intent d.process old d.trace)
     (stays : d'.process ≡ d.process) (finish : CallStep d.process d'.trace Finish Done new) where
-  pub run_prepared_ends : (pod : PodId) (address : List ℕ) → Extends (in_process (runs_prepared pod)) d.process old new → ClaimsAndRuns seen observed pod address d d' s s' (Ok told) → HasPassed pod old new → TellsItsEnds pod [] new told.text
+  pub run_prepared_ends : (pod : PodId) (address : List ℕ) → Extends (in_process (runs_prepared pod)) d.process old new → ClaimsAndRuns seen observed pod address d d' s s' (Ok told) → HasPassed pod d.process old new → TellsItsEnds pod [] new told.text
   run_prepared_ends pod address ext x passed = record {
     ends = x.says.ends;
     is = ap (λ (w : Told). w.text) x.says.is;

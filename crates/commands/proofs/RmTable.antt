@@ -23,7 +23,7 @@ use Rattle.dir_model.proofs.Moments.{at_grown}
 use Rattle.lifecycle.specs.Executions.{IsConforming}
 use Rattle.lifecycle.proofs.Draws.{conforming_left}
 use Rattle.phase_read.specs.declared.found.Found.{Found}
-use Rattle.phase_read.specs.declared.found.Found.TheVariants.{At}
+use Rattle.phase_read.specs.declared.found.Found.TheVariants.{At, Gone}
 use Rattle.phase_read.specs.Read.{pod_spot}
 use Rattle.phase_read.specs.Sequential.{sequential_read, found_in}
 use Rattle.pod_claim.specs.Causes.{LacksManifest, is_lock}
@@ -102,12 +102,18 @@ found_is : (me : ℕ) (pod : PodId) (s : DirState) (p : Phase) (a : Area) (why :
 found_is me pod s p a why read may is = ap (found_refusal me pod s) read ∙ (ap (λ (b : Bool). cond b (place_refusal me pod a s) (Some (WrongPhase p))) may ∙ is)
 
 -- none stood anywhere
-pub none_refused : (me : ℕ) (pod : PodId) (s : DirState) → StandsNowhere pod s → removal_refusal me pod s ≡ Some NoPod
-none_refused me pod s nowhere =
-    ap (found_refusal me pod s) (over area.Embryo _ _ refl (over area.Prepare _ _ refl (over area.Prepared _ _ refl (over area.Run _ _ refl (over area.ExitedGarbage _ _ refl (over area.Garbage _ _ refl refl))))))
+pub none_read : (pod : PodId) (s : DirState) → StandsNowhere pod s → sequential_read s pod ≡ Gone
+none_read pod s nowhere = over area.Embryo _ _ refl (over area.Prepare _ _ refl (over area.Prepared _ _ refl (over area.Run _ _ refl (over area.ExitedGarbage _ _ refl (over area.Garbage _ _ refl refl)))))
   where
     over : (a : Area) (later : Found) (found : Found) → is_stage a ≡ true → later ≡ found → cond (stands s.namespace (pod_spot pod a)) (found_in a (phase_in a (is_owned_at s.namespace (pod_spot pod a)))) later ≡ found
     over a later found stage is = rw (nowhere a stage, is) refl
+
+pub none_refused : (me : ℕ) (pod : PodId) (s : DirState) → StandsNowhere pod s → removal_refusal me pod s ≡ Some NoPod
+none_refused me pod s nowhere = ap (found_refusal me pod s) (none_read pod s nowhere)
+
+-- one that stands in prepared is read there
+pub prepared_read : (pod : PodId) (h : List Event) → IsConforming h → stands (state_after h).namespace (pod_spot pod area.Prepared) ≡ true → sequential_read (state_after h) pod ≡ At kind.Prepared area.Prepared
+prepared_read pod h conforming there = reads pod h conforming kind.Prepared area.Prepared refl there refl (λ b stage apart. lone pod h conforming area.Prepared b refl stage there apart)
 
 -- it had a phase that its removal doesn't take
 pub wrong_refused : (me : ℕ) (pod : PodId) (p : Phase) (h : List Event) → is_removable p ≡ false → HasPhaseNow pod p h → removal_refusal me pod (state_after h) ≡ Some (WrongPhase p)
@@ -117,9 +123,7 @@ wrong_refused me pod p h wrong has = ap (found_refusal me pod (state_after h)) h
 pub lacking_refused : (me : ℕ) (pod : PodId) (h : List Event) → IsConforming h → LacksManifest pod (state_after h) → removal_refusal me pod (state_after h) ≡ Some (NoManifest pod)
 lacking_refused me pod h conforming lacks =
     let s = state_after h in
-    let there : stands s.namespace (pod_spot pod area.Prepared) ≡ true = ap (λ (o : Option ℕ). is_some o) lacks.there in
-    let read = reads pod h conforming kind.Prepared area.Prepared refl there refl (λ b stage apart. lone pod h conforming area.Prepared b refl stage there apart) in
-    found_is me pod s kind.Prepared area.Prepared (Some (NoManifest pod)) read refl
+    found_is me pod s kind.Prepared area.Prepared (Some (NoManifest pod)) (prepared_read pod h conforming (ap (λ (o : Option ℕ). is_some o) lacks.there)) refl
     (ap (λ (c : Bool). cond c (cond (is_held_at me Claim Exclusive pod area.Prepared s) (Some (PodBusy pod Claim)) (own_refusal me pod area.Prepared s)) (Some (NoManifest pod))) (ap (λ (o : Option ℕ). has_manifest o s) lacks.there ∙ lacks.without))
 
 -- of a whole process

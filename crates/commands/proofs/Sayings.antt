@@ -9,7 +9,6 @@ use Rattle.dir_trait.specs.DirCalls.{DirAt}
 use Rattle.area_locks.specs.declared.error.LockError.{LockError}
 use Rattle.area_locks.specs.declared.error.LockError.TheVariants as lock
 use Rattle.folder_building.specs.declared.plan.PlanEntry.{PlanEntry}
-use Rattle.path_map.specs.Entries.{Entries}
 use Rattle.dep_match.specs.declared.stored.Stored.{Stored}
 use Rattle.dep_match.specs.declared.dep_error.DepError.{DepError}
 use Rattle.dep_match.specs.declared.dep_error.DepError.TheVariants as dep
@@ -25,7 +24,8 @@ use Rattle.pod_choice.specs.declared.error.ChoiceError.TheVariants as choice
 use Rattle.pod_choice.specs.Choices.{IsUnmatched, IsRefused as IsNoPod}
 use Rattle.pod_reading.specs.declared.error.PlanError.{PlanError}
 use Rattle.pod_reading.specs.declared.error.PlanError.TheVariants as plan
-use Rattle.pod_reading.specs.Refusals.{choice_refusal, IsNoPlan, IsNoChoice}
+use Rattle.pod_reading.specs.Refusals.{choice_refusal, IsNoChoice}
+use Rattle.pod_reading.specs.NoPlans.{IsNoPlan}
 use Rattle.pod_making.specs.declared.error.MakeError.{MakeError}
 use Rattle.pod_making.specs.declared.error.MakeError.TheVariants as make
 use Rattle.pod_build.specs.declared.error.BuildError.{BuildError}
@@ -165,15 +165,13 @@ make_place entries draw make.DirFault place is = cc
 make_place entries draw make.Stray place is = cc
 make_place entries draw make.NoMemory place is = cc
 
-choice_place : (words : List (List ℕ)) {images : List Stored} {maps : List Entries} {refs : List ImageRef} {options : Wishes} (place : ℕ) → AreReferences words refs → IsNoChoice images maps refs options (plan.NoMatch place) → place < length words
-choice_place words {images} {maps} {refs} {options} place are x = by x.reason x.is x.refused
+choice_place : (words : List (List ℕ)) {images : List Stored} {refs : List ImageRef} {options : Wishes} (place : ℕ) → AreReferences words refs → IsNoChoice images refs options (plan.NoMatch place) → place < length words
+choice_place words {images} {refs} {options} place are x = by x.reason x.is x.refused
   where
-    by : (reason : ChoiceError) → plan.NoMatch place ≡ choice_refusal reason → IsNoPod images maps refs options reason → place < length words
+    by : (reason : ChoiceError) → plan.NoMatch place ≡ choice_refusal reason → IsNoPod images refs options reason → place < length words
     by (choice.NoMatch at) is refused = let same : at ≡ place = cc in place_within words refs are (subst (λ (n : ℕ). IsUnmatched images refs n) same refused)
     by (choice.DepError e) is refused = cc
     by (choice.GenError e) is refused = cc
-    by (choice.RenderError e) is refused = cc
-    by (choice.ListingError e) is refused = cc
     by choice.NoMemory is refused = cc
 
 plan_place : (words : List (List ℕ)) (observed : Bool) (refs : List ImageRef) (options : Wishes) (a b : DirAt) (reason : PlanError) (place : ℕ) → AreReferences words refs → build.NoMatch place ≡ plan_refusal reason → IsNoPlan observed refs options a b reason → place < length words

@@ -39,14 +39,14 @@ use Rattle.commands.proofs.RemovalQuiet.{held_before}
 use Rattle.commands.proofs.RemovalEnds.{NoneAt, absent_at, after_move, after_removal, removal_keeps, or_false, Upto, upto_more, upto_call, kept_between, Leaves, folders_same}
 
 -- the folder of this name in the area
-abbrev place_in : Area → List ℕ → Spot
+abbrev pub place_in : Area → List ℕ → Spot
 place_in area name = record { area = area; name = name }
 
 -- the requests by which the two passes deal with a folder, and all that they ask for to deal with folders of these names
-abbrev puts : List ℕ → Request
+abbrev pub puts : List ℕ → Request
 puts name = MoveFolder (incoming_spot name) (removed_spot name)
 
-abbrev putting : List (List ℕ) → Request → Bool
+abbrev pub putting : List (List ℕ) → Request → Bool
 putting names request = list_any (λ name. moves (incoming_spot name) (removed_spot name) request) (uuids names)
 
 abbrev deletes : List ℕ → Request
@@ -56,7 +56,7 @@ abbrev deleting : List (List ℕ) → Request → Bool
 deleting names request = list_any (λ name. deletes_at (removed_spot name) request) (uuids names)
 
 -- a pass that took its area's lock, listed the area, dealt with each uuid that was shown, and gave the lock up
-record Dealt (area : Area) (deed : List ℕ → Request) (deals : List (List ℕ) → Request → Bool) (me : ℕ) (old new : List Event) : Type 0 where
+pub record Dealt (area : Area) (deed : List ℕ → Request) (deals : List (List ℕ) → Request → Bool) (me : ℕ) (old new : List Event) : Type 0 where
   pub locked : List Event
   pub listed : List Event
   pub done : List Event
@@ -69,7 +69,7 @@ record Dealt (area : Area) (deed : List ℕ → Request) (deals : List (List ℕ
   pub gives_back : Extends is_close me done new
 
 -- a name stands in an area where a folder stands there
-named_at : (area : Area) (name : List ℕ) (places : List (Option Spot)) → has_name (names_in area places) name ≡ list_any (is_at (record { area = area; name = name })) places
+pub named_at : (area : Area) (name : List ℕ) (places : List (Option Spot)) → has_name (names_in area places) name ≡ list_any (is_at (record { area = area; name = name })) places
 named_at area name [] = refl
 named_at area name (None ∷ places) = named_at area name places
 named_at area name (Some here ∷ places) = by (rank here.area == rank area) (named_at area name places)
@@ -79,7 +79,7 @@ named_at area name (Some here ∷ places) = by (rank here.area == rank area) (na
     by true go = ap (λ c. bytes_eq here.name name || c) go
     by false go = go
 
-none_of : {X : Type 0} (t : X → Bool) (xs : List X) → list_any t xs ≡ false → AllByRecursion (λ x. t x ≡ false) xs
+pub none_of : {X : Type 0} (t : X → Bool) (xs : List X) → list_any t xs ≡ false → AllByRecursion (λ x. t x ≡ false) xs
 none_of t [] none = tt
 none_of t (x ∷ xs) none = by (t x) refl none (λ h. none_of t xs h)
   where
@@ -114,13 +114,13 @@ lists_leave me area (e ∷ es) own asked = (λ p w. list_leaves area e.request e
         ap (λ b. (not b || is_kill e.request) || lists area e.request) (sym (same_self me))
         ∙ (ap (λ (q : ℕ). (not (q == me) || is_kill e.request) || lists area e.request) (sym own.0) ∙ asked.0)
 
-throughout_same : (area : Area) (name : List ℕ) (s : DirState) (es : List Event) → AllByRecursion Leaves es → StandsInArea area name s → Throughout (StandsInArea area name) s es
+pub throughout_same : (area : Area) (name : List ℕ) (s : DirState) (es : List Event) → AllByRecursion Leaves es → StandsInArea area name s → Throughout (StandsInArea area name) s es
 throughout_same area name s [] leave at = at
 throughout_same area name s (e ∷ es) leave at =
     (at, throughout_same area name (state_next s e) es leave.1 (subst (λ (fs : List (Option Spot)). has_name (names_in area fs) name ≡ true) (sym (leave.0 e.process s.namespace)) at))
 
 -- a part of a quiet time
-quiet_part : {me : ℕ} (old a new : List Event) → Quiet me old new → Upto old a → (z : Upto a new) → Quiet me a new
+pub quiet_part : {me : ℕ} (old a new : List Event) → Quiet me old new → Upto old a → (z : Upto a new) → Quiet me a new
 quiet_part {me} old a new quiet x z =
     let whole : new ≡ old ++ (x.0 ++ z.0) = z.1 ∙ (ap (λ (h : List Event). h ++ z.0) x.1 ∙ append_assoc old x.0 z.0) in
     record {
@@ -129,7 +129,7 @@ quiet_part {me} old a new quiet x z =
       own = all_right _ x.0 z.0 (subst (λ (l : List Event). AllByRecursion (λ e. e.process ≡ me) l) (same_rest old quiet.more (x.0 ++ z.0) (sym quiet.grown ∙ whole)) quiet.own);
     }
 
-nothing_more : (a : List Event) → Upto a a
+pub nothing_more : (a : List Event) → Upto a a
 nothing_more a = ([], sym (append-nil a))
 
 -- no folder comes to this location by a request that is asked for
@@ -178,7 +178,7 @@ module _ {area : Area} {deed : List ℕ → Request} {deals : List (List ℕ) �
       ap (λ (s : DirState). s.namespace.folders) (ap state_after here ∙ states_next-append empty_state t.begun (t.others ++ last ∷ [])) ∙ folders_same (state_after t.begun) (t.others ++ last ∷ []) later in
       d.shows.all name (throughout_same area name (state_after t.begun) t.others (all_left Leaves t.others (last ∷ []) later) (subst (λ (fs : List (Option Spot)). has_name (names_in area fs) name ≡ true) same at))
 
-  none_left : NoneAt (place_in area name) (state_after new).namespace.folders
+  pub none_left : NoneAt (place_in area name) (state_after new).namespace.folders
   none_left = by (has_name (names_in area (state_after listed).namespace.folders) name) refl
     where
       dealt : Called (deed name) Done me listed d.done → NoneAt (place_in area name) (state_after new).namespace.folders
@@ -194,7 +194,7 @@ not_incoming : (area : Area) → is_in area Removed ≡ true → (rank area == r
 not_incoming Removed h = refl
 not_incoming area h = let clash : false ≡ true = h in cc
 
-moves_elsewhere : (name : List ℕ) (a b : Spot) → is_in b.area Removed ≡ true → (folders : List (Option Spot)) → NoneAt (incoming_spot name) folders → NoneAt (incoming_spot name) (map (moved a b) folders)
+pub moves_elsewhere : (name : List ℕ) (a b : Spot) → is_in b.area Removed ≡ true → (folders : List (Option Spot)) → NoneAt (incoming_spot name) folders → NoneAt (incoming_spot name) (map (moved a b) folders)
 moves_elsewhere name a b away folders none = all_map (λ x. is_at (incoming_spot name) x ≡ false) (moved a b) (λ x at. by x at (is_at a x)) folders none
   where
     by : (x : Option Spot) → is_at (incoming_spot name) x ≡ false → (c : Bool) → is_at (incoming_spot name) (cond c (Some b) x) ≡ false
@@ -217,7 +217,7 @@ incoming_keeps name p w request reply h none = subst (λ (fs : List (Option Spot
 abbrev finishing : List (List ℕ) → Request → Bool
 finishing names request = deleting names request || (is_close request || is_finish request)
 
-never : (xs : List (List ℕ)) → list_any (λ x. false) xs ≡ false
+pub never : (xs : List (List ℕ)) → list_any (λ x. false) xs ≡ false
 never [] = refl
 never (x ∷ xs) = never xs
 
@@ -242,7 +242,7 @@ or_head false b h = cc
 abbrev Pass : Area → (List ℕ → Request) → (List (List ℕ) → Request → Bool) → List SweepLine → ℕ → List Event → List Event → Type 0
 Pass area deed deals lines me old new = Dealt area deed deals me old new ⊎ WasLocked (IsBusyElsewhere me area Exclusive) area lines me old new
 
-upto_passed : {me : ℕ} (area : Area) (deed : List ℕ → Request) (deals : List (List ℕ) → Request → Bool) (lines : List SweepLine) (a b : List Event) → Pass area deed deals lines me a b → Upto a b
+pub upto_passed : {me : ℕ} (area : Area) (deed : List ℕ → Request) (deals : List (List ℕ) → Request → Bool) (lines : List SweepLine) (a b : List Event) → Pass area deed deals lines me a b → Upto a b
 upto_passed area deed deals lines a b (inr w) = (w.only.more, w.only.grown)
 upto_passed area deed deals lines a b (inl d) =
     upto_more a d.locked b (d.takes_lock.more, d.takes_lock.grown)
@@ -279,7 +279,7 @@ module _ {me : ℕ} {old new : List Event} {lines : List SweepLine} (ext : Exten
   last : Upto m.ended new
   last = (m.finishes.more, m.finishes.grown)
 
-  first_pass : Pass Incoming puts putting m.so.moved me m.begun between
+  pub first_pass : Pass Incoming puts putting m.so.moved me m.begun between
   first_pass = either m.so.puts_away
       (λ u. inl (record {
         locked = u.locked;
@@ -311,10 +311,10 @@ module _ {me : ℕ} {old new : List Event} {lines : List SweepLine} (ext : Exten
       }))
       (λ w. inr w)
 
-  to_between : Upto old between
+  pub to_between : Upto old between
   to_between = upto_more old m.begun between first (upto_passed Incoming puts putting m.so.moved m.begun between first_pass)
 
-  from_between : Upto between new
+  pub from_between : Upto between new
   from_between = upto_more between m.ended new (upto_passed Removed deletes deleting m.so.deleted between m.ended second_pass) last
 
   -- incoming

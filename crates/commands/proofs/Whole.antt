@@ -57,8 +57,6 @@ prepared_wider {refs} {options} {me} {draw} {to} {a} {b} {c} {d} earlier rest be
   begins = x.begins ∙ (ap (λ (h : List Event). h ++ x.meanwhile) begins ∙ append_assoc a earlier x.meanwhile);
   moved = ends ∙ (ap (λ (h : List Event). h ++ rest) x.moved ∙ append_assoc x.before (event me (MoveFolder (pod_at Prepare draw) (pod_at to draw)) Done ∷ x.later) rest);
   faithful = x.faithful;
-  maps = x.maps;
-  trees = x.trees;
   choice = x.choice;
   chosen = x.chosen;
   manifest = x.manifest;

@@ -9,7 +9,7 @@ use Rattle.dir_model.specs.declared.spot.Spot.{Spot}
 use Rattle.dir_rules.specs.declared.seen.Seen.{Seen}
 use Rattle.dir_rules.specs.Standing.{is_in}
 use Rattle.dir_trait.specs.Knowledge.{Knows}
-use Rattle.dir_trait.specs.State.{folder_at}
+use Rattle.dir_trait.specs.State.{DirState, folder_at}
 use Rattle.dir_trait.specs.Trace.{state_after}
 use Rattle.area_locks.specs.AreaLocks.{IsBusyElsewhere}
 use Rattle.image_removal.specs.declared.pass.SweepLine.{SweepLine}
@@ -26,6 +26,7 @@ use Rattle.command_outcomes.specs.Moments.{DirSeen, Outcome}
 use Rattle.command_outcomes.specs.Conforming.{shown_at}
 use Rattle.command_outcomes.specs.Ends.{is_common}
 use Rattle.command_outcomes.specs.Meanwhile.{Meanwhile}
+use Rattle.commands.specs.SweepTable.{AreSweepLines}
 
 -- the line that it prints of a folder, or of an area whose lock another process holds
 abbrev pub sweep_text : SweepLine → List ℕ
@@ -86,9 +87,17 @@ LeavesNoFolder area old new =
     ((name : List ℕ) → is_uuid name ≡ true → folder_at (state_after new.trace).namespace (record { area = area; name = name }) ≡ None)
     ⊎ IsBusyElsewhere old.process area Exclusive (state_after old.trace)
 
--- what it comes to where nobody else steps: no such folder is left in either area; or by its own answers
+-- the text is that of the state's lines, of which there is one list
+pub record PrintsSweep (me : ℕ) (s : DirState) (text : List ℕ) : Type 0 where
+  pub lines : List SweepLine
+  pub is : text ≡ sweep_texts lines
+  pub are : AreSweepLines me s lines
+  pub only : (others : List SweepLine) → AreSweepLines me s others → others ≡ lines
+
+-- what it comes to where nobody else steps: the lines of the state before, and no such folder is left in either area; or by its own
+-- answers
 abbrev pub SweepsQuietly : DirSeen → DirSeen → Outcome → Type 0
-SweepsQuietly old new (Ok text) = HasSwept old new text × LeavesNoFolder Incoming old new × LeavesNoFolder Removed old new
+SweepsQuietly old new (Ok text) = HasSwept old new text × PrintsSweep old.process (state_after old.trace) text × LeavesNoFolder Incoming old new × LeavesNoFolder Removed old new
 SweepsQuietly old new (Err Stray) = HasMetStrayInSweep old new
 SweepsQuietly old new (Err refusal) = ⊥
 

@@ -45,3 +45,5 @@ pub mod Texts
 pub mod Validate
 pub mod ValidateCommand
 pub mod Wants
+pub mod SweepTable
+pub mod ClaimTable

@@ -11,7 +11,7 @@ use Rattle.pod_ownership.specs.declared.owned.Owned.{Owned}
 use Rattle.pod_ownership.specs.Running.{IsOwned}
 use Rattle.pod_claim.specs.declared.error.ClaimError.{ClaimError}
 use Rattle.pod_claim.specs.Requests.{claims}
-use Rattle.pod_claim.specs.Causes.{ClaimCause}
+use Rattle.pod_claim.specs.Causes.{ClaimCause, HadBothAlone}
 use Rattle.lifecycle.specs.Executions.{IsConforming}
 use Rattle.pod_claim.specs.Claims.{RefusedByAnother, IsFreeThroughout, IsFailure}
 use Rattle.pod_claim.specs.Elsewhere.{MetOwner}
@@ -30,7 +30,8 @@ runs_prepared pod = either (claims pod) (runs_pod pod)
 abbrev pub CanClaim : DirAt → Type 0
 CanClaim d = (s : Seen) × Knows d s × MayClaim s
 
--- the pod was claimed: both locks were taken and the pod was moved to run, all answered Ok; and then it was run, of which this is told
+-- the pod was claimed: both locks were taken, which no other process held then, and the pod was moved to run, all answered Ok; and then it
+-- was run, of which this is told
 pub record ClaimsAndRuns (seen observed : Bool) (pod : PodId) (address : List ℕ) (d d' : DirAt) (s s' : SpawnerAt) (answer : Answer) : Type 0 where
   pub claimed : DirAt
   pub owned : Owned
@@ -38,6 +39,7 @@ pub record ClaimsAndRuns (seen observed : Bool) (pod : PodId) (address : List �
   pub same : claimed.process ≡ d.process
   pub asked : seen ≡ true → ExtendsBy (claims pod) d claimed
   pub took : seen ≡ true → TookBoth pod owned.own d.process d.trace claimed.trace
+  pub alone : seen ≡ true → HadBothAlone pod d.process d.trace claimed.trace
   pub then : seen ≡ true → Grew claimed.trace d'.trace
   pub says : RunSays seen observed owned address [] claimed d' s s' answer
 

@@ -45,9 +45,9 @@ pub record TellsRunPrepared (word : List ℕ) (pod : PodId) (address : List ℕ)
 -- the pod waited in prepared before and is left in run, without an owner, and the mark and the status of each app whose line is told stand
 -- there; where it is refused for a cause of the run it is left so too, or it wasn't claimed, for a cause in the state before
 abbrev pub PassesQuietly : PodId → DirSeen → DirSeen → Outcome → Type 0
-PassesQuietly pod old new (Ok text) = HasPassed pod old.trace new.trace × TellsItsEnds pod [] new.trace text
+PassesQuietly pod old new (Ok text) = HasPassed pod old.process old.trace new.trace × TellsItsEnds pod [] new.trace text
 PassesQuietly pod old new (Err NoMemory) = Unit {0}
-PassesQuietly pod old new (Err refusal) = IsRunRefusal pod refusal × HasPassed pod old.trace new.trace ⊎ ((error : ClaimError) × (refusal ≡ claim_refusal pod error) × UnclaimedFor pod error old.process old.trace new.trace)
+PassesQuietly pod old new (Err refusal) = IsRunRefusal pod refusal × HasPassed pod old.process old.trace new.trace ⊎ ((error : ClaimError) × (refusal ≡ claim_refusal pod error) × UnclaimedFor pod error old.process old.trace new.trace)
 
 -- it looks for the pod, asks for its locks and for its move to run, reads it there and makes its notes
 abbrev pub run_prepared_command : List ℕ → PodId → List ℕ → Command

@@ -1,5 +1,5 @@
 -- What `run-prepared` and `run` come to, and leave, where nobody else steps.
-use Rattle.std.specs.Prelude.{◌≡◌, ℕ, true, false, Some, List, ◌++◌}
+use Rattle.std.specs.Prelude.{◌≡◌, ℕ, true, false, Some, None, List, ◌++◌}
 use Rattle.std.specs.List.{AllByRecursion, list_any}
 use Rattle.dir_model.specs.declared.area.Area.{Area}
 use Rattle.dir_model.specs.declared.area.Area.TheVariants as area
@@ -26,6 +26,7 @@ use Rattle.pod_claim.specs.declared.error.ClaimError.{ClaimError}
 use Rattle.pod_claim.specs.declared.error.ClaimError.TheVariants as claim
 use Rattle.pod_claim.specs.Causes.{LacksManifest, is_held_elsewhere}
 use Rattle.pod_claim.specs.Requests.{in_prepared, in_run}
+use Rattle.commands.specs.ClaimTable.{claim_error, IsWhy}
 use Rattle.commands.specs.References.{OfReferences}
 use Rattle.commands.specs.Prepare.{RefusesPod, HasKeptFolder}
 use Rattle.commands.specs.Wants.{Wants}
@@ -48,11 +49,12 @@ pub record IsLeftInRun (pod : PodId) (folder : ℕ) (trace : List Event) : Type 
   pub exited : IsConforming trace → IsPhaseAt pod phase.Exited area.Run trace
   pub unowned : IsConforming trace → is_owned (state_after trace).namespace folder ≡ false
 
--- a pod that was claimed waited in prepared before, and its folder is left in run
-pub record HasPassed (pod : PodId) (old new : List Event) : Type 0 where
+-- a pod that was claimed waited in prepared before, nothing stood against its claim, and its folder is left in run
+pub record HasPassed (pod : PodId) (me : ℕ) (old new : List Event) : Type 0 where
   pub folder : ℕ
   pub stood : folder_at (state_after old).namespace (in_prepared pod) ≡ Some folder
   pub waited : IsConforming old → IsPhaseAt pod phase.Prepared area.Prepared old
+  pub free : IsConforming old → claim_error me pod (state_after old) ≡ None
   pub left : IsLeftInRun pod folder new
 
 -- a folder of the pod stands in prepared, and another process holds this lock of it
@@ -83,12 +85,12 @@ pub record TellsItsEnds (pod : PodId) (front : List ℕ) (trace : List Event) (t
   pub is : text ≡ front ++ app_lines ends
   pub stand : HasItsEnds pod ends trace
 
--- why a pod isn't claimed, by the state before
+-- why a pod isn't claimed, by the state before, which asks for this and for nothing else
 abbrev pub UnclaimedFor : PodId → ClaimError → ℕ → List Event → List Event → Type 0
-UnclaimedFor pod claim.NoPod me old new = IsConforming new → StandsNowhere pod (state_after old)
-UnclaimedFor pod (claim.WrongPhase phase) me old new = IsConforming new → HasPhaseNow pod phase old
-UnclaimedFor pod claim.NoManifest me old new = IsConforming new → LacksManifest pod (state_after old)
-UnclaimedFor pod (claim.Busy other which) me old new = (other ≡ pod) × IsClaimHeld pod which me (state_after old)
+UnclaimedFor pod claim.NoPod me old new = IsConforming new → StandsNowhere pod (state_after old) × IsWhy pod claim.NoPod me (state_after old)
+UnclaimedFor pod (claim.WrongPhase phase) me old new = IsConforming new → HasPhaseNow pod phase old × IsWhy pod (claim.WrongPhase phase) me (state_after old)
+UnclaimedFor pod claim.NoManifest me old new = IsConforming new → LacksManifest pod (state_after old) × IsWhy pod claim.NoManifest me (state_after old)
+UnclaimedFor pod (claim.Busy other which) me old new = (other ≡ pod) × IsClaimHeld pod which me (state_after old) × (IsConforming new → IsWhy pod (claim.Busy pod which) me (state_after old))
 UnclaimedFor pod error me old new = Unit {0}
 
 -- this refusal is one of the run of this pod

@@ -14,7 +14,7 @@ use Rattle.dir_model.specs.Paths.{is_slash, is_empty}
 use Rattle.dir_rules.specs.Marks.{path_in, parent, has_slash}
 use Rattle.dir_model.specs.Names.{is_file_byte, IsFileName}
 use Rattle.dir_model.specs.Listings.{item_names}
-use Rattle.dir_model.proofs.Lists.{and_left, and_right, and_both, same_self}
+use Rattle.dir_model.proofs.Lists.{and_left, and_right, and_both, any_last, same_self}
 use Rattle.folder_removal.specs.declared.task.Task.{Task}
 use Rattle.folder_removal.specs.Tasks.{is_plain, task_of, with_listed, has_plain_name, is_named, are_distinct, is_among, follows, are_nested}
 
@@ -197,6 +197,22 @@ module _ (d : List ℕ) where
   pub all_new : (before : List Task) (items : List Item) → list_all has_plain_name items ≡ true → list_any (λ e. bytes_eq (parent e.path) d) before ≡ false → list_all (IsNew before) items ≡ true
   all_new before [] plain none = refl
   all_new before (i ∷ is) plain none = and_both (IsNew before i) (list_all (IsNew before) is) (rw (is_new before i.name (and_left _ _ plain) none) refl) (all_new before is (and_right (has_plain_name i) _ plain) none)
+
+-- the items of the folder itself, and of the last task's directory
+pub nested_root : (items : List Item) → list_all has_plain_name items ≡ true → are_distinct items ≡ true → are_nested [] (map (task_of []) items) ≡ true
+nested_root items plain once = nested_children [] [] items refl plain once (all_new [] [] items plain refl)
+
+module _ (xs : List Task) (t : Task) (nested : are_nested [] (xs ++ t ∷ []) ≡ true) where
+  pub is_known : (is_empty t.path || is_among t.path (xs ++ with_listed t ∷ [])) ≡ true
+  is_known = or_right (is_empty t.path) _ (any_last (λ e. bytes_eq e.path t.path) xs (with_listed t) (same_bytes t.path))
+
+  pub is_childless : list_any (λ e. bytes_eq (parent e.path) t.path) (xs ++ with_listed t ∷ []) ≡ false
+  is_childless = list_any-append (λ e. bytes_eq (parent e.path) t.path) xs (with_listed t ∷ []) ∙ sym (list_any-append (λ e. bytes_eq (parent e.path) t.path) xs (t ∷ [])) ∙ last_childless xs t nested
+
+  pub nested_with_children : (items : List Item) → list_all has_plain_name items ≡ true → are_distinct items ≡ true → are_nested [] ((xs ++ with_listed t ∷ []) ++ map (task_of t.path) items) ≡ true
+  nested_with_children items plain once =
+      let before = xs ++ with_listed t ∷ [] in
+      nested-append [] before (map (task_of t.path) items) ∙ and_both _ _ (nested_listed xs t nested) (nested_children t.path before items is_known plain once (all_new t.path before items plain is_childless))
 
 -- names that ascend are apart
 not_below : (a b : List ℕ) → b ≡ a → slice_cmp nat_cmp a b ≡ Less → ⊥

@@ -31,7 +31,7 @@ use Rattle.folder_removal.specs.declared.task.Task.{Task}
 use Rattle.folder_removal.specs.Tasks.{task_of, with_listed, is_dir_item, is_unlisted, has_plain_name, are_distinct, is_among, are_nested}
 use Rattle.folder_removal.specs.Removal.{is_removal_area, deletes_at, task_inner, removal_by, removal_of}
 use Rattle.folder_removal.specs.Known.{shown_at, is_there, OnlyThere, MayDelete, has_listed, IsAtWork, IsDeleted}
-use Rattle.folder_removal.proofs.Nested.{or_left, or_right, none_left, none_right, none_both, false_if, same_bytes, nested-append, nested_rest, last_new, last_childless, nested_listed, nested_children, all_new}
+use Rattle.folder_removal.proofs.Nested.{or_left, or_right, none_left, none_right, none_both, false_if, same_bytes, nested-append, nested_rest, last_new, last_childless, nested_listed, nested_children, all_new, is_known, is_childless}
 
 -- lists
 filter_kept : {X : Type 0} (q : X → Bool) (xs : List X) → list_any q xs ≡ false → filter (λ x. not (q x)) xs ≡ xs
@@ -248,8 +248,8 @@ module _ (spot : Spot) (xs : List Task) (t : Task) (s : Seen) (w : IsAtWork spot
     items = w.items ∙ ap (λ (l : List ShownItem). w.others ++ l) (map-append (shown_at spot) xs (t ∷ []) ∙ sym (map-append (shown_at spot) xs (with_listed t ∷ [])));
     lock = w.lock;
     nested = nested_listed xs t w.nested;
-    known = or_right (is_empty t.path) _ (any_last (λ e. bytes_eq e.path t.path) xs (with_listed t) (same_bytes t.path));
-    childless = list_any-append (λ e. bytes_eq (parent e.path) t.path) xs (with_listed t ∷ []) ∙ sym (list_any-append (λ e. bytes_eq (parent e.path) t.path) xs (t ∷ [])) ∙ last_childless xs t w.nested;
+    known = is_known xs t w.nested;
+    childless = is_childless xs t w.nested;
     root = or_right (inner_eq (root_of spot) (task_inner spot t)) _ w.root;
     listed = list_all-append (has_listed spot (task_inner spot t ∷ s.listed)) xs (with_listed t ∷ [])
         ∙ and_both _ _

@@ -1,5 +1,5 @@
 -- Where a stray answer comes from.
-use Rattle.std.proofs.Common.{◌≡◌, ◌⊎◌, inl, inr, ℕ, Bool, true, false, ◌==◌, List, [], ◌∷◌, ◌++◌, map, refl, sym, ap, subst, ◌∙◌, append_assoc, append-nil}
+use Rattle.std.proofs.Common.{◌≡◌, ◌⊎◌, inl, inr, ℕ, Bool, true, false, not, ◌&&◌, ◌==◌, bytes_eq, List, [], ◌∷◌, ◌++◌, map, refl, sym, ap, subst, ◌∙◌, append_assoc, append-nil}
 use Rattle.std.specs.List.{list_any}
 use Rattle.dir_model.specs.declared.event.Event.{Event}
 use Rattle.dir_model.specs.declared.item.Inner.{Inner}
@@ -9,7 +9,7 @@ use Rattle.dir_model.specs.declared.spot.Spot.{Spot}
 use Rattle.dir_model.specs.declared.request.DirError.{DirError}
 use Rattle.dir_model.specs.declared.request.DirError.TheVariants.{Missing, Exists, NotEmpty, Locked, Failed, NoMemory}
 use Rattle.dir_model.specs.declared.request.Request.{Request}
-use Rattle.dir_model.specs.declared.request.Request.TheVariants.{ListIn, RemoveFolder}
+use Rattle.dir_model.specs.declared.request.Request.TheVariants.{ListIn, RemoveDirIn, RemoveFolder}
 use Rattle.dir_model.specs.declared.request.Reply.{Reply}
 use Rattle.dir_model.specs.declared.request.Reply.TheVariants.{Items, Refused}
 use Rattle.dir_model.specs.Calls.{CallStep, ListStep, TookPlace, LeftNothing, Extends, AtOwnStep, event}
@@ -22,12 +22,13 @@ use Rattle.dir_model.proofs.Moments.{at_within}
 use Rattle.dir_trait.specs.DirCalls.{DirAt}
 use Rattle.dir_rules.specs.Marks.{path_in}
 use Rattle.dir_rules.specs.Rules.{root_of}
-use Rattle.dir_model.proofs.Chains.{step_extends, extends_wider, and_more}
+use Rattle.dir_model.proofs.Chains.{step_extends, extends_wider, nothing_yet, and_more}
 use Rattle.folder_removal.specs.declared.task.Task.{Task}
-use Rattle.folder_removal.specs.Tasks.{task_of, with_listed, is_dir_item}
-use Rattle.folder_removal.specs.Removal.{deletes_at, inner_at, task_inner, removal_by, removal_of, is_stray, is_dir_named, WasShown, IsCalledFor, WasCalledFor, ListsStray, WasStray, WentUnasked, StrayTurn, spares_folders, lists_at, WasTaskShown, AreShown, ShownThen, StrayAfter}
+use Rattle.folder_removal.specs.Tasks.{task_of, with_listed, is_dir_item, is_among, are_nested}
+use Rattle.folder_removal.specs.Removal.{deletes_at, inner_at, task_inner, removal_by, removal_of, is_stray, is_dir_named, spares_dir, WasShown, IsCalledFor, WasCalledFor, ListsStray, WasStray, WentUnasked, WentUnremoved, AsksRemoval, StrayTurn, spares_folders, lists_at, WasTaskShown, AreShown, AreAtHand, HandsOn, StrayAfter}
+use Rattle.folder_removal.specs.Known.{IsListed}
 use Rattle.folder_removal.proofs.Steps.{asks_removal}
-use Rattle.folder_removal.proofs.Nested.{or_left, same_bytes}
+use Rattle.folder_removal.proofs.Nested.{or_left, none_left, none_right, same_bytes, swapped, nested_rest, last_new, nested_root, nested_with_children}
 
 -- a refusal that is no fault
 pub stray_listing : (inner : Inner) (e : DirError) → may_refuse (ListIn inner) e ≡ true → is_fault e ≡ false → is_stray (ListIn inner) (Refused e 0) ≡ true
@@ -101,24 +102,42 @@ listing_spares : (spot : Spot) (r : Request) → lists_at spot r ≡ true → sp
 listing_spares spot (RemoveFolder at) is = cc
 listing_spares spot r is = refl
 
--- what was shown in a part of a time was shown in the whole
-pub shown_within : {inner : Inner} {me : ℕ} {a b c d : List Event} (more rest : List Event) → b ≡ a ++ more → d ≡ c ++ rest → WasShown inner me b c → WasShown inner me a d
-shown_within {inner} {me} {a} {b} {c} {d} more rest ab cd w = record {
+-- nor does it ask for a directory's removal
+listing_spares_dir : (inner : Inner) (spot : Spot) (r : Request) → lists_at spot r ≡ true → spares_dir inner r ≡ true
+listing_spares_dir inner spot (RemoveDirIn at) is = cc
+listing_spares_dir inner spot r is = refl
+
+-- and a task's removal asks for none of another path
+spares_other : (spot : Spot) (t other : Task) → bytes_eq other.path t.path ≡ false → spares_dir (task_inner spot other) (removal_of spot t) ≡ true
+spares_other spot t other apart = by t.kind
+  where
+    by : (kind : ItemKind) → spares_dir (task_inner spot other) (removal_by kind (task_inner spot t)) ≡ true
+    by item.Dir = ap (λ (b : Bool). not (spot_eq spot spot && b)) (swapped other.path t.path ∙ apart) ∙ ap not (and_false (spot_eq spot spot))
+    by item.File = refl
+    by item.Other = refl
+
+-- what was shown since some moment was shown since an earlier one, and was still not removed while nobody asked for that
+pub shown_since : {inner : Inner} {me : ℕ} {a b c : List Event} (more : List Event) → b ≡ a ++ more → WasShown inner me b c → WasShown inner me a c
+shown_since {inner} {me} {a} {b} {c} more ab w = record {
   before = w.before;
   step = w.step;
   later = more ++ w.later;
-  rest = w.rest ++ rest;
   begins = w.begins ∙ ap (λ (h : List Event). h ++ w.later) ab ∙ append_assoc a more w.later;
-  ends = cd ∙ ap (λ (h : List Event). h ++ rest) w.ends ∙ append_assoc (w.before ++ w.step ∷ []) w.rest rest;
   own = w.own;
   showed = w.showed;
+  spared = w.spared;
 }
 
-shown_later : {asks : Request → Bool} {inner : Inner} {me : ℕ} {a b c : List Event} → WasShown inner me a b → Extends asks me b c → WasShown inner me a c
-shown_later {asks} {inner} {me} {a} {b} {c} w bc = shown_within [] bc.more (sym (append-nil a)) bc.grown w
-
-shown_before : {asks : Request → Bool} {inner : Inner} {me : ℕ} {a b c : List Event} → Extends asks me a b → WasShown inner me b c → WasShown inner me a c
-shown_before {asks} {inner} {me} {a} {b} {c} ab w = shown_within ab.more [] ab.grown (sym (append-nil c)) w
+shown_still : {inner : Inner} {me : ℕ} {a b c : List Event} → WasShown inner me a b → Extends (spares_dir inner) me b c → WasShown inner me a c
+shown_still {inner} {me} {a} {b} {c} w bc = record {
+  before = w.before;
+  step = w.step;
+  later = w.later;
+  begins = w.begins;
+  own = w.own;
+  showed = w.showed;
+  spared = and_more w.spared refl bc;
+}
 
 -- a listing that was called for was answered so
 pub listing_stray : {inner : Inner} {spot : Spot} {me : ℕ} {start old new : List Event} → inner.spot ≡ spot → Extends (deletes_at spot) me start old → ((inner ≡ root_of spot) × Extends spares_folders me start old) ⊎ WasShown inner me start old
@@ -138,7 +157,7 @@ listing_stray {inner} {spot} {me} {start} {old} {new} at first called l =
   where
     by : ((inner ≡ root_of spot) × Extends spares_folders me start old) ⊎ WasShown inner me start old → ((inner ≡ root_of spot) × Extends spares_folders me start l.before) ⊎ WasShown inner me start l.before
     by (inl root) = inl (root.0, and_more root.1 refl (extends_wider (listing_spares inner.spot) l.first))
-    by (inr w) = inr (shown_later w l.first)
+    by (inr w) = inr (shown_still w (extends_wider (listing_spares_dir inner inner.spot) l.first))
 
 -- the tasks that a listing of their directory is
 module _ (spot : Spot) (path : List ℕ) (items : List Item) {me : ℕ} {old new : List Event} where
@@ -154,11 +173,10 @@ module _ (spot : Spot) (path : List ℕ) (items : List Item) {me : ℕ} {old new
             before = l.ends.before;
             step = event me (ListIn (inner_at spot path)) (Items items);
             later = first.more ++ l.ends.meanwhile.others;
-            rest = [];
             begins = l.ends.meanwhile.grown ∙ ap (λ (h : List Event). h ++ l.ends.meanwhile.others) first.grown ∙ append_assoc old first.more l.ends.meanwhile.others;
-            ends = took.grown ∙ sym (append-nil (l.ends.before ++ event me (ListIn (inner_at spot path)) (Items items) ∷ []));
             own = rw (same_self me) refl;
             showed = and_both _ _ (spot_self spot) (subst (λ (q : Item → Bool). list_any q items ≡ true) is any);
+            spared = subst (λ (h : List Event). Extends (spares_dir (inner_at spot name)) me (l.ends.before ++ event me (ListIn (inner_at spot path)) (Items items) ∷ []) h) (sym took.grown) nothing_yet;
           }
 
   shown_each : (rest : List Item) → ((p : Item → Bool) → list_any p rest ≡ true → list_any p items ≡ true) → ListStep me old (ListIn (inner_at spot path)) (Items items) new → AreShown spot (map (task_of path) rest) me old new
@@ -173,36 +191,52 @@ module _ (spot : Spot) (path : List ℕ) (items : List Item) {me : ℕ} {old new
 
 -- the tasks that are left were shown before
 module _ (spot : Spot) (me : ℕ) (start old new : List Event) where
-  shown_still : (tasks : List Task) → Extends (deletes_at spot) me old new → AreShown spot tasks me start old → AreShown spot tasks me start new
-  shown_still tasks more all = all_weaker (WasTaskShown spot me start old) (WasTaskShown spot me start new) (λ t shown unlisted. shown_later (shown unlisted) more) tasks all
+  listed_still : (tasks : List Task) → Extends (lists_at spot) me old new → AreShown spot tasks me start old → AreShown spot tasks me start new
+  listed_still tasks more all = all_weaker (WasTaskShown spot me start old) (WasTaskShown spot me start new) (λ t shown unlisted. shown_still (shown unlisted) (extends_wider (listing_spares_dir (task_inner spot t) spot) more)) tasks all
 
-  shown_since : (tasks : List Task) → Extends (deletes_at spot) me start old → AreShown spot tasks me old new → AreShown spot tasks me start new
-  shown_since tasks first all = all_weaker (WasTaskShown spot me old new) (WasTaskShown spot me start new) (λ t shown unlisted. shown_before first (shown unlisted)) tasks all
+  removed_still : (t : Task) (tasks : List Task) → is_among t.path tasks ≡ false → AsksRemoval spot t me old new → AreShown spot tasks me start old → AreShown spot tasks me start new
+  removed_still t [] apart asked all = tt
+  removed_still t (x ∷ xs) apart asked all = (
+    λ unlisted. shown_still (all.0 unlisted) (step_extends (spares_dir (task_inner spot x)) me old (removal_of spot t) asked.reply new (spares_other spot t x (none_left (bytes_eq x.path t.path) _ apart)) asked.step),
+    removed_still t xs (none_right (bytes_eq x.path t.path) (is_among t.path xs) apart) asked all.1,
+  )
+
+  all_since : (tasks : List Task) → Extends (deletes_at spot) me start old → AreShown spot tasks me old new → AreShown spot tasks me start new
+  all_since tasks first all = all_weaker (WasTaskShown spot me old new) (WasTaskShown spot me start new) (λ t shown unlisted. shown_since first.more first.grown (shown unlisted)) tasks all
 
 -- a turn listed the last task's directory, or removed it
-module _ (spot : Spot) (xs : List Task) (t : Task) (old new : DirAt) (more : Extends (deletes_at spot) old.process old.trace new.trace) where
-  pub turn_listed : (children : List Task) → AreShown spot children old.process old.trace new.trace → ShownThen spot (xs ++ t ∷ []) ((xs ++ with_listed t ∷ []) ++ children) old new
-  turn_listed children shown start first all =
-      all_both (WasTaskShown spot old.process start new.trace) (xs ++ with_listed t ∷ []) children
-      (all_push (WasTaskShown spot old.process start new.trace) xs (with_listed t) (shown_still spot old.process start old.trace new.trace xs more (all_left (WasTaskShown spot old.process start old.trace) xs (t ∷ []) all))
-      (λ unlisted. let clash : false ≡ true = sym (and_false (is_dir_item t.kind)) ∙ unlisted in cc))
-      (shown_since spot old.process start old.trace new.trace children first shown)
+module _ (spot : Spot) (xs : List Task) (t : Task) (old new : DirAt) where
+  pub turn_listed : (children : List Task) → Extends (lists_at spot) old.process old.trace new.trace → IsListed spot t.path children old new → AreShown spot children old.process old.trace new.trace → HandsOn spot (xs ++ t ∷ []) ((xs ++ with_listed t ∷ []) ++ children) old new
+  turn_listed children lists l shown start first hand = record {
+    nested = subst (λ (ts : List Task). are_nested [] ((xs ++ with_listed t ∷ []) ++ ts) ≡ true) (sym l.are) (nested_with_children xs t hand.nested l.items l.plain l.once);
+    shown = all_both (WasTaskShown spot old.process start new.trace) (xs ++ with_listed t ∷ []) children
+        (all_push (WasTaskShown spot old.process start new.trace) xs (with_listed t) (listed_still spot old.process start old.trace new.trace xs lists (all_left (WasTaskShown spot old.process start old.trace) xs (t ∷ []) hand.shown))
+        (λ unlisted. let clash : false ≡ true = sym (and_false (is_dir_item t.kind)) ∙ unlisted in cc))
+        (all_since spot old.process start old.trace new.trace children first shown);
+  }
 
-  pub turn_removed : ShownThen spot (xs ++ t ∷ []) xs old new
-  turn_removed start first all = shown_still spot old.process start old.trace new.trace xs more (all_left (WasTaskShown spot old.process start old.trace) xs (t ∷ []) all)
+  pub turn_removed : AsksRemoval spot t old.process old.trace new.trace → HandsOn spot (xs ++ t ∷ []) xs old new
+  turn_removed asked start first hand = record {
+    nested = nested_rest xs t hand.nested;
+    shown = removed_still spot old.process start old.trace new.trace t xs (last_new xs t hand.nested) asked (all_left (WasTaskShown spot old.process start old.trace) xs (t ∷ []) hand.shown);
+  }
+
+-- a listing of the folder itself
+pub root_at_hand : {old new : DirAt} (spot : Spot) (tasks : List Task) → IsListed spot [] tasks old new → AreShown spot tasks old.process old.trace new.trace → AreAtHand spot tasks old.process old.trace new.trace
+root_at_hand spot tasks l shown = record { nested = subst (λ (ts : List Task). are_nested [] ts ≡ true) (sym l.are) (nested_root l.items l.plain l.once); shown = shown }
 
 -- one turn after others
 module _ (spot : Spot) (a b c : DirAt) (same : b.process ≡ a.process) (ab : Extends (deletes_at spot) a.process a.trace b.trace) where
-  pub shown_more : (xs ys zs : List Task) → ShownThen spot xs ys a b → ShownThen spot ys zs b c → ShownThen spot xs zs a c
-  shown_more xs ys zs f g start first all =
-      subst (λ (p : ℕ). AreShown spot zs p start c.trace) same
-      (g start (subst (λ (p : ℕ). Extends (deletes_at spot) p start b.trace) (sym same) (and_more first refl ab)) (subst (λ (p : ℕ). AreShown spot ys p start b.trace) (sym same) (f start first all)))
+  pub hands_more : (xs ys zs : List Task) → HandsOn spot xs ys a b → HandsOn spot ys zs b c → HandsOn spot xs zs a c
+  hands_more xs ys zs f g start first hand =
+      subst (λ (p : ℕ). AreAtHand spot zs p start c.trace) same
+      (g start (subst (λ (p : ℕ). Extends (deletes_at spot) p start b.trace) (sym same) (and_more first refl ab)) (subst (λ (p : ℕ). AreAtHand spot ys p start b.trace) (sym same) (f start first hand)))
 
-  pub stray_more : (xs ys : List Task) (t : Task) → ShownThen spot xs (ys ++ t ∷ []) a b → StrayTurn spot t b.process b.trace c.trace → StrayAfter spot xs a c
-  stray_more xs ys t f stray start first all = by (subst (λ (p : ℕ). StrayTurn spot t p b.trace c.trace) same stray)
+  pub stray_more : (xs ys : List Task) (t : Task) → HandsOn spot xs (ys ++ t ∷ []) a b → StrayTurn spot t b.process b.trace c.trace → StrayAfter spot xs a c
+  stray_more xs ys t f stray start first hand = by (subst (λ (p : ℕ). StrayTurn spot t p b.trace c.trace) same stray)
     where
       shown : AreShown spot (t ∷ []) a.process start b.trace
-      shown = all_right (WasTaskShown spot a.process start b.trace) ys (t ∷ []) (f start first all)
+      shown = all_right (WasTaskShown spot a.process start b.trace) ys (t ∷ []) (f start first hand).shown
 
       by : StrayTurn spot t a.process b.trace c.trace → WasStray spot a.process start c.trace
       by (inl x) = listing_stray refl (and_more first refl ab) (inr (shown.0 x.0)) x.1
@@ -217,10 +251,10 @@ module _ (spot : Spot) (a b c : DirAt) (same : b.process ≡ a.process) (ab : Ex
         last = w.last;
       }
 
-  pub stray_emptied : (tasks : List Task) → AreShown spot tasks a.process a.trace b.trace → StrayAfter spot tasks b c → WasStray spot a.process a.trace c.trace
-  stray_emptied tasks shown stray =
+  pub stray_emptied : (tasks : List Task) → AreAtHand spot tasks a.process a.trace b.trace → StrayAfter spot tasks b c → WasStray spot a.process a.trace c.trace
+  stray_emptied tasks hand stray =
       subst (λ (p : ℕ). WasStray spot p a.trace c.trace) same
-      (stray a.trace (subst (λ (p : ℕ). Extends (deletes_at spot) p a.trace b.trace) (sym same) ab) (subst (λ (p : ℕ). AreShown spot tasks p a.trace b.trace) (sym same) shown))
+      (stray a.trace (subst (λ (p : ℕ). Extends (deletes_at spot) p a.trace b.trace) (sym same) ab) (subst (λ (p : ℕ). AreAtHand spot tasks p a.trace b.trace) (sym same) hand))
 
 -- that a listing was called for is known of longer times too
 went_within : {spot : Spot} {me : ℕ} {a b c d : List Event} (more rest : List Event) → b ≡ a ++ more → d ≡ c ++ rest → WentUnasked spot me b c → WentUnasked spot me a d
@@ -236,9 +270,24 @@ went_within {spot} {me} {a} {b} {c} {d} more rest ab cd w = record {
   ends = cd ∙ ap (λ (h : List Event). h ++ rest) w.ends ∙ append_assoc w.after w.rest rest;
 }
 
+pub unremoved_within : {inner : Inner} {me : ℕ} {a b c d : List Event} (more rest : List Event) → b ≡ a ++ more → d ≡ c ++ rest → WentUnremoved inner me b c → WentUnremoved inner me a d
+unremoved_within {inner} {me} {a} {b} {c} {d} more rest ab cd w = record {
+  before = w.before;
+  after = w.after;
+  rest = w.rest ++ rest;
+  left = w.left;
+  shown = shown_since more ab w.shown;
+  missed = w.missed;
+  ends = cd ∙ ap (λ (h : List Event). h ++ rest) w.ends ∙ append_assoc w.after w.rest rest;
+}
+
+-- by the call that was answered so
+pub unremoved_at : {inner : Inner} {me : ℕ} {old before new : List Event} (left : ℕ) → WasShown inner me old before → CallStep me before (ListIn inner) (Refused Missing left) new → WentUnremoved inner me old new
+unremoved_at {before = before} {new} left shown last = record { before = before; after = new; rest = []; left = left; shown = shown; missed = last; ends = sym (append-nil new) }
+
 pub called_within : (request : Request) (reply : Reply) (me : ℕ) (a b c d more rest : List Event) → b ≡ a ++ more → d ≡ c ++ rest → WasCalledFor request reply me b c → WasCalledFor request reply me a d
 called_within (ListIn inner) (Refused Missing left) me a b c d more rest ab cd (inl root) = inl (root.0, went_within more rest ab cd root.1)
-called_within (ListIn inner) (Refused Missing left) me a b c d more rest ab cd (inr shown) = inr (shown_within more rest ab cd shown)
+called_within (ListIn inner) (Refused Missing left) me a b c d more rest ab cd (inr went) = inr (unremoved_within more rest ab cd went)
 called_within (ListIn inner) (Refused error left) me a b c d more rest ab cd called = tt
 called_within (ListIn inner) reply me a b c d more rest ab cd called = tt
 called_within request reply me a b c d more rest ab cd called = tt
@@ -263,9 +312,7 @@ module _ (spot : Spot) (me : ℕ) (old mid before new first : List Event) (begin
           ends = sym (append-nil new);
         },
       )
-  stood_called (ListIn inner) (Refused Missing left) (inr shown) last =
-      let grown = step_extends (λ r. true) me before (ListIn inner) (Refused Missing left) new refl last in
-      inr (shown_within first grown.more begins grown.grown shown)
+  stood_called (ListIn inner) (Refused Missing left) (inr shown) last = inr (unremoved_at left (shown_since first begins shown) last)
   stood_called (ListIn inner) (Refused error left) called last = tt
   stood_called (ListIn inner) reply called last = tt
   stood_called request reply called last = tt

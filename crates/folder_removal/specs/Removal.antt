@@ -20,7 +20,7 @@ use Rattle.dir_rules.specs.Marks.{path_in}
 use Rattle.dir_rules.specs.Rules.{root_of}
 use Rattle.dir_trait.specs.DirCalls.{DirAt}
 use Rattle.folder_removal.specs.declared.task.Task.{Task}
-use Rattle.folder_removal.specs.Tasks.{is_too_long, is_dir_item, is_unlisted}
+use Rattle.folder_removal.specs.Tasks.{is_too_long, is_dir_item, is_unlisted, are_nested}
 
 -- where folders are deleted
 abbrev pub is_removal_area : Area → Bool
@@ -79,16 +79,20 @@ abbrev pub shows_dir : Inner → Request → Reply → Bool
 shows_dir inner (ListIn at) (Items items) = spot_eq at.spot inner.spot && list_any (is_dir_named at.path inner.path) items
 shows_dir inner request reply = false
 
--- an own listing between these moments showed it
+-- the directory isn't asked to be removed
+abbrev pub spares_dir : Inner → Request → Bool
+spares_dir inner (RemoveDirIn at) = not (spot_eq at.spot inner.spot && bytes_eq at.path inner.path)
+spares_dir inner request = true
+
+-- an own listing between these moments showed it, and after that this process didn't ask for its removal
 pub record WasShown (inner : Inner) (me : ℕ) (old new : List Event) : Type 0 where
   pub before : List Event
   pub step : Event
   pub later : List Event
-  pub rest : List Event
   pub begins : before ≡ old ++ later
-  pub ends : new ≡ (before ++ step ∷ []) ++ rest
   pub own : is_foreign me step ≡ false
   pub showed : shows_dir inner step.request step.reply ≡ true
+  pub spared : Extends (spares_dir inner) me (before ++ step ∷ []) new
 
 -- no folder is removed
 abbrev pub spares_folders : Request → Bool
@@ -127,9 +131,19 @@ pub record WentUnasked (spot : Spot) (me : ℕ) (old new : List Event) : Type 0 
   pub missed : CallStep me before (ListIn (root_of spot)) (Refused Missing left) after
   pub ends : new ≡ after ++ rest
 
+-- a directory was shown, and after that this process didn't ask for its removal, until it was missing
+pub record WentUnremoved (inner : Inner) (me : ℕ) (old new : List Event) : Type 0 where
+  pub before : List Event
+  pub after : List Event
+  pub rest : List Event
+  pub left : ℕ
+  pub shown : WasShown inner me old before
+  pub missed : CallStep me before (ListIn inner) (Refused Missing left) after
+  pub ends : new ≡ after ++ rest
+
 -- it is so of a listing of what was missing
 abbrev pub WasCalledFor : Request → Reply → ℕ → List Event → List Event → Type 0
-WasCalledFor (ListIn inner) (Refused Missing left) me old new = ((inner ≡ root_of inner.spot) × WentUnasked inner.spot me old new) ⊎ WasShown inner me old new
+WasCalledFor (ListIn inner) (Refused Missing left) me old new = ((inner ≡ root_of inner.spot) × WentUnasked inner.spot me old new) ⊎ WentUnremoved inner me old new
 WasCalledFor request reply me old new = Unit {0}
 
 -- listings at this spot
@@ -162,6 +176,11 @@ pub record RemovesStray (spot : Spot) (t : Task) (me : ℕ) (old new : List Even
   pub stray : is_stray (removal_of spot t) reply ≡ true
   pub last : CallStep me old (removal_of spot t) reply new
 
+-- its one step was the task's removal, whatever it was answered
+pub record AsksRemoval (spot : Spot) (t : Task) (me : ℕ) (old new : List Event) : Type 0 where
+  pub reply : Reply
+  pub step : CallStep me old (removal_of spot t) reply new
+
 -- of a task's turn: it was listed, or removed
 abbrev pub StrayTurn : Spot → Task → ℕ → List Event → List Event → Type 0
 StrayTurn spot t me old new = ((is_unlisted t ≡ true) × ListsStray (task_inner spot t) me old new) ⊎ RemovesStray spot t me old new
@@ -173,13 +192,19 @@ WasTaskShown spot me old new t = is_unlisted t ≡ true → WasShown (task_inner
 abbrev pub AreShown : Spot → List Task → ℕ → List Event → List Event → Type 0
 AreShown spot tasks me old new = AllByRecursion (WasTaskShown spot me old new) tasks
 
--- where the tasks were shown since some moment, its last step was answered so after that
-abbrev pub StrayAfter : Spot → List Task → DirAt → DirAt → Type 0
-StrayAfter spot tasks old new = (start : List Event) → Extends (deletes_at spot) old.process start old.trace → AreShown spot tasks old.process start old.trace → WasStray spot old.process start new.trace
+-- the tasks that are left: each comes after its directory, no path comes twice, and each directory to be listed was shown between
+-- these moments and not removed since
+pub record AreAtHand (spot : Spot) (tasks : List Task) (me : ℕ) (old new : List Event) : Type 0 where
+  pub nested : are_nested [] tasks ≡ true
+  pub shown : AreShown spot tasks me old new
 
--- where some tasks were shown since some moment, these are then
-abbrev pub ShownThen : Spot → List Task → List Task → DirAt → DirAt → Type 0
-ShownThen spot tasks left old new = (start : List Event) → Extends (deletes_at spot) old.process start old.trace → AreShown spot tasks old.process start old.trace → AreShown spot left old.process start new.trace
+-- where the tasks were at hand since some moment, its last step was answered so after that
+abbrev pub StrayAfter : Spot → List Task → DirAt → DirAt → Type 0
+StrayAfter spot tasks old new = (start : List Event) → Extends (deletes_at spot) old.process start old.trace → AreAtHand spot tasks old.process start old.trace → WasStray spot old.process start new.trace
+
+-- where some tasks were at hand since some moment, these are then
+abbrev pub HandsOn : Spot → List Task → List Task → DirAt → DirAt → Type 0
+HandsOn spot tasks left old new = (start : List Event) → Extends (deletes_at spot) old.process start old.trace → AreAtHand spot tasks old.process start old.trace → AreAtHand spot left old.process start new.trace
 
 abbrev pub EndsStray : Spot → DirAt → DirAt → Type 0
 EndsStray spot old new = WasStray spot old.process old.trace new.trace

@@ -9,7 +9,7 @@ ghost use Rattle.dir_model.specs.declared.request.Reply.TheVariants.{Done};
 ghost use Rattle.folder_removal.specs.Tasks.{HasChildren};
 ghost use Rattle.folder_removal.specs.Weights.{weigh};
 ghost use Rattle.folder_removal.specs.Removal.{is_removal_area, deletes_at, spares_folders, KeepsFolders};
-ghost use Rattle.folder_removal.specs.Removal.{inner_at, removal_of, ListsStray, RemovesStray, StrayTurn, AreShown, ShownThen, StrayAfter, EndsStray, EndsRemoved};
+ghost use Rattle.folder_removal.specs.Removal.{inner_at, lists_at, removal_of, ListsStray, RemovesStray, AsksRemoval, StrayTurn, AreShown, HandsOn, StrayAfter, EndsStray, EndsRemoved};
 ghost use Rattle.folder_removal.specs.Known.{Learns, IsListed, OnlyLists, OnlyRemoves, OnlyWorks, WorksOff, OnlyTries, Deletes};
 
 use crate::error::{DeleteError, delete_error};
@@ -32,6 +32,7 @@ fn list<D: Dir>(
     ensures cause { IsErrOf result DeleteError.DirFault → Rose (D.shown dir.old).faults (D.shown dir.new).faults }
     ensures local { (D.shown dir.new).local ≡ (D.shown dir.old).local }
     ensures extends { D.observed ≡ true → ExtendsBy (deletes_at spot.now) (D.shown dir.old) (D.shown dir.new) }
+    ensures lists { D.observed ≡ true → ExtendsBy (lists_at spot.now) (D.shown dir.old) (D.shown dir.new) }
     ensures spares { D.observed ≡ true → ExtendsBy spares_folders (D.shown dir.old) (D.shown dir.new) }
     ensures stray { IsErrOf result DeleteError.Stray → D.observed ≡ true → ListsStray (inner_at spot.now path.now) (D.shown dir.old).process (D.shown dir.old).trace (D.shown dir.new).trace }
     ensures known { D.observed ≡ true → OnlyLists spot.now (D.shown dir.old) (D.shown dir.new) }
@@ -72,6 +73,7 @@ fn remove<D: Dir>(alloc: Global, dir: &mut D, spot: &Spot, task: &Task) -> Resul
     ensures extends { D.observed ≡ true → ExtendsBy (deletes_at spot.now) (D.shown dir.old) (D.shown dir.new) }
     ensures spares { D.observed ≡ true → ExtendsBy spares_folders (D.shown dir.old) (D.shown dir.new) }
     ensures stray { IsErrOf result DeleteError.Stray → D.observed ≡ true → RemovesStray spot.now task.now (D.shown dir.old).process (D.shown dir.old).trace (D.shown dir.new).trace }
+    ensures asked { D.observed ≡ true → AsksRemoval spot.now task.now (D.shown dir.old).process (D.shown dir.old).trace (D.shown dir.new).trace }
     ensures known { D.observed ≡ true → OnlyRemoves spot.now task.now (D.shown dir.old) (D.shown dir.new) }
     ensures removed { IfOk result (λ done. D.observed ≡ true → Learns (removal_of spot.now task.now) Done (D.shown dir.old) (D.shown dir.new)) }
 {
@@ -98,7 +100,7 @@ fn turn<D: Dir>(
     ensures extends { D.observed ≡ true → ExtendsBy (deletes_at spot.now) (D.shown dir.old) (D.shown dir.new) }
     ensures spares { D.observed ≡ true → ExtendsBy spares_folders (D.shown dir.old) (D.shown dir.new) }
     ensures stray { IsErrOf result DeleteError.Stray → D.observed ≡ true → StrayTurn spot.now task (D.shown dir.old).process (D.shown dir.old).trace (D.shown dir.new).trace }
-    ensures shown { IfOk result (λ done. D.observed ≡ true → ShownThen spot.now (tasks.old.items ++ task ∷ []) tasks.new.items (D.shown dir.old) (D.shown dir.new)) }
+    ensures at_hand { IfOk result (λ done. D.observed ≡ true → HandsOn spot.now (tasks.old.items ++ task ∷ []) tasks.new.items (D.shown dir.old) (D.shown dir.new)) }
     ensures known { D.observed ≡ true → OnlyWorks spot.now (tasks.old.items ++ task ∷ []) (D.shown dir.old) (D.shown dir.new) }
     ensures work { IfOk result (λ done. D.observed ≡ true → WorksOff spot.now (tasks.old.items ++ task ∷ []) tasks.new.items (D.shown dir.old) (D.shown dir.new)) }
     ensures less { IfOk result (λ done. weigh tasks.new.items < weigh (tasks.old.items ++ task ∷ [])) }

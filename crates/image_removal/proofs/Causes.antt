@@ -20,7 +20,6 @@ use Rattle.dir_model.specs.State.{folder_at, stands}
 use Rattle.dir_model.specs.Replies.{may_refuse, is_error}
 use Rattle.dir_model.specs.Calls.{CallStep, Extends}
 use Rattle.dir_model.proofs.Allowed.{allowed_reply}
-use Rattle.dir_model.proofs.Chains.{step_extends}
 use Rattle.dir_model.proofs.Moments.{missed, step_at}
 use Rattle.dir_trait.specs.DirCalls.{DirAt, DirCall, HeldBetween, ExtendsBy}
 use Rattle.area_locks.specs.declared.error.LockError.{LockError}
@@ -245,8 +244,7 @@ delete_cause {observed} {old} {new} spot delete.Stray fault stray = record {
   fault = λ is. cc;
   stray = λ is t.
       let w = stray refl t in
-      let last = step_extends (λ r. true) old.process w.before w.request w.reply new.trace refl w.last in
-      record { request = w.request; reply = w.reply; stray = stray_more w.request w.reply w.stray; due = due_of spot w.request w.reply old.process old.trace w.before new.trace last.more last.grown w.called; called = called_after w.first refl (called_self w.last) };
+      record { request = w.request; reply = w.reply; stray = stray_more w.request w.reply w.stray; due = due_of spot w.request w.reply old.process old.trace w.before new.trace w.last w.called; called = called_after w.first refl (called_self w.last) };
 }
 
 -- a look that found nothing

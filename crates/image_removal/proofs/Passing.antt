@@ -1,6 +1,9 @@
 -- What a pass of a sweep comes to.
 use Rattle.std.proofs.Common.{◌≡◌, inl, inr, ℕ, Bool, true, List, [], ◌++◌, map, Result, Ok, Err, IfOk, IfErr, refl, sym, ap, subst, ◌∙◌, append_assoc}
 use Rattle.std.specs.List.{AllByRecursion}
+use Rattle.std.specs.List.Sorted.{IsStrictlySortedBy}
+use Rattle.std.specs.Ordering.{nat_cmp}
+use Rattle.std.specs.Cmp.Lexicographic.{slice_cmp}
 use Rattle.dir_model.specs.declared.area.Area.{Area}
 use Rattle.dir_model.specs.declared.event.Event.{Event}
 use Rattle.dir_model.specs.declared.spot.Handle.{Handle}
@@ -11,9 +14,9 @@ use Rattle.dir_model.specs.Causes.{Rose}
 use Rattle.dir_model.specs.State.{DirState}
 use Rattle.dir_model.specs.Calls.{Extends}
 use Rattle.dir_model.proofs.Chains.{nothing_yet, extends_wider}
-use Rattle.dir_trait.specs.DirCalls.{DirAt, ListCall}
+use Rattle.dir_trait.specs.DirCalls.{DirAt, HeldBetween, ListCall}
 use Rattle.dir_files.specs.Listed.{ShowsAreaBetween}
-use Rattle.area_locks.specs.AreaLocks.{takes, closes}
+use Rattle.area_locks.specs.AreaLocks.{takes, closes, IsFreeElsewhere}
 use Rattle.folder_building.specs.Work.{Worked}
 use Rattle.image_reading.specs.declared.error.StoreError.{StoreError}
 use Rattle.image_reading.specs.declared.error.StoreError.TheVariants.{DirFault}
@@ -42,13 +45,14 @@ module _ {observed : Bool} (pass : Pass) (names : List (List ℕ)) (a b c : DirA
     only = subst (λ (me : ℕ). Extends (deals_with_some pass names) me b.trace c.trace) listing.same (works.extends t);
   }
 
-  pub adds_swept : (before after : List SweepLine) → AddsLines observed pass names before after b c → Adds (λ lines. SweepsUnder pass lines a.process a.trace c.trace) before after
+  pub adds_swept : IsStrictlySortedBy (slice_cmp nat_cmp) names → (before after : List SweepLine) → AddsLines observed pass names before after b c → Adds (λ lines. SweepsUnder pass lines a.process a.trace c.trace) before after
   unfolding works_at_shown
-  adds_swept before after adds = (
+  adds_swept rise before after adds = (
     map (line_of pass) (uuids names),
     adds.lines,
     record {
       names = names;
+      rise = rise;
       works = works_at_shown;
       each = subst (λ (me : ℕ). AllByRecursion (λ n. Called (deed_of pass n) Done me b.trace c.trace) (uuids names)) listing.same (adds.each t);
       lines_are = refl;
@@ -57,11 +61,12 @@ module _ {observed : Bool} (pass : Pass) (names : List (List ℕ)) (a b c : DirA
 
 -- a lock around other work
 pub under_lock : (area : Area) (h : Handle) (P : ℕ → List Event → List Event → Type 0) (a b c d : DirAt) → b.process ≡ a.process → c.process ≡ b.process
-    → Extends (takes area Exclusive) a.process a.trace b.trace → P b.process b.trace c.trace → Extends (closes h) c.process c.trace d.trace → UnderLock area P a.process a.trace d.trace
-under_lock area h P a b c d ab bc first under last = record {
+    → Extends (takes area Exclusive) a.process a.trace b.trace → HeldBetween a b (IsFreeElsewhere a.process area Exclusive) → P b.process b.trace c.trace → Extends (closes h) c.process c.trace d.trace → UnderLock area P a.process a.trace d.trace
+under_lock area h P a b c d ab bc first free under last = record {
   locked = b.trace;
   done = c.trace;
   takes_lock = first;
+  free = free;
   under = subst (λ (me : ℕ). P me b.trace c.trace) ab under;
   gives_back = subst (λ (me : ℕ). Extends is_close me c.trace d.trace) (bc ∙ ab) (extends_wider (closes_some h) last);
 }
@@ -81,7 +86,7 @@ swept_untried pass lines me old new x = inr (x.names, x.works)
 
 pub passed_tried : (Busy : Area → DirState → Type 0) (pass : Pass) (lines : List SweepLine) (me : ℕ) (old new : List Event) → Passed Busy pass lines me old new → Tried pass me old new
 passed_tried Busy pass lines me old new (inl x) = inr
-    (record { locked = x.locked; done = x.done; takes_lock = x.takes_lock; under = swept_untried pass lines me x.locked x.done x.under; gives_back = x.gives_back })
+    (record { locked = x.locked; done = x.done; takes_lock = x.takes_lock; free = x.free; under = swept_untried pass lines me x.locked x.done x.under; gives_back = x.gives_back })
 passed_tried Busy pass lines me old new (inr x) = inl x.only
 
 pub adds_both : (Busy : Area → DirState → Type 0) (a b c : DirAt) → b.process ≡ a.process → (before mid after : List SweepLine)

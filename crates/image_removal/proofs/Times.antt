@@ -14,7 +14,7 @@ use Rattle.dir_model.specs.Calls.{CallStep, Extends}
 use Rattle.dir_trait.specs.DirCalls.{DirAt, ExtendsBy}
 use Rattle.folder_building.specs.Work.{Worked}
 use Rattle.folder_removal.specs.Removal.{IsCalledFor}
-use Rattle.folder_removal.proofs.Strays.{shown_within}
+use Rattle.folder_removal.proofs.Strays.{unremoved_at, unremoved_within}
 use Rattle.image_reading.specs.declared.error.StoreError.{StoreError}
 use Rattle.image_removal.specs.Calls.{Called}
 use Rattle.image_removal.specs.Causes.{IsDue, WasStray, WorkCause}
@@ -68,18 +68,18 @@ called_before {asks} {request} {reply} {me} {other} {a} {b} {c} w bc = record {
 -- what a listing had shown before
 pub due_within : (request : Request) (reply : Reply) (me : ℕ) (a b c d more rest : List Event) → b ≡ a ++ more → d ≡ c ++ rest → IsDue request reply me b c → IsDue request reply me a d
 due_within (ListIn inner) (Refused Missing left) me a b c d more rest ab cd (inl root) = inl root
-due_within (ListIn inner) (Refused Missing left) me a b c d more rest ab cd (inr shown) = inr (shown_within more rest ab cd shown)
+due_within (ListIn inner) (Refused Missing left) me a b c d more rest ab cd (inr went) = inr (unremoved_within more rest ab cd went)
 due_within (ListIn inner) (Refused error left) me a b c d more rest ab cd due = tt
 due_within (ListIn inner) reply me a b c d more rest ab cd due = tt
 due_within request reply me a b c d more rest ab cd due = tt
 
 -- of a deletion's last step
-pub due_of : (spot : Spot) (request : Request) (reply : Reply) (me : ℕ) (old before new rest : List Event) → new ≡ before ++ rest → IsCalledFor spot request reply me old before → IsDue request reply me old new
-due_of spot (ListIn inner) (Refused Missing left) me old before new rest grown (inl root) = inl (root.0 ∙ ap root_of (sym (ap (λ (i : Inner). i.spot) root.0)))
-due_of spot (ListIn inner) (Refused Missing left) me old before new rest grown (inr shown) = inr (shown_within [] rest (sym (append-nil old)) grown shown)
-due_of spot (ListIn inner) (Refused error left) me old before new rest grown called = tt
-due_of spot (ListIn inner) reply me old before new rest grown called = tt
-due_of spot request reply me old before new rest grown called = tt
+pub due_of : (spot : Spot) (request : Request) (reply : Reply) (me : ℕ) (old before new : List Event) → CallStep me before request reply new → IsCalledFor spot request reply me old before → IsDue request reply me old new
+due_of spot (ListIn inner) (Refused Missing left) me old before new last (inl root) = inl (root.0 ∙ ap root_of (sym (ap (λ (i : Inner). i.spot) root.0)))
+due_of spot (ListIn inner) (Refused Missing left) me old before new last (inr shown) = inr (unremoved_at left shown last)
+due_of spot (ListIn inner) (Refused error left) me old before new last called = tt
+due_of spot (ListIn inner) reply me old before new last called = tt
+due_of spot request reply me old before new last called = tt
 
 -- a stray answer
 pub stray_after : {asks : Request → Bool} {me other : ℕ} {a b c : List Event} → Extends asks me a b → other ≡ me → WasStray other b c → WasStray me a c

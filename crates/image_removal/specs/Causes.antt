@@ -21,7 +21,7 @@ use Rattle.area_locks.specs.declared.error.LockError.TheVariants as lock
 use Rattle.area_locks.specs.AreaLocks.{takes, IsBusy, IsBusyElsewhere}
 use Rattle.folder_removal.specs.declared.error.DeleteError.{DeleteError}
 use Rattle.folder_removal.specs.declared.error.DeleteError.TheVariants as delete
-use Rattle.folder_removal.specs.Removal.{WasShown}
+use Rattle.folder_removal.specs.Removal.{WentUnremoved}
 use Rattle.image_reading.specs.declared.error.StoreError.{StoreError}
 use Rattle.image_reading.specs.declared.error.StoreError.TheVariants.{Busy, NoImage, DirFault, NoMemory, Stray}
 use Rattle.image_reading.specs.Places.{IsAbsent}
@@ -82,9 +82,10 @@ abbrev pub is_remove_refusal : StoreError → Bool
 is_remove_refusal (Busy area) = true
 is_remove_refusal error = is_move_refusal error
 
--- where it was a listing of what was missing, it was one of the folder itself, or of a directory that a listing had shown
+-- where it was a listing of what was missing, it was one of the folder itself, or of a directory that a listing had shown and that
+-- this process hadn't asked to be removed since
 abbrev pub IsDue : Request → Reply → ℕ → List Event → List Event → Type 0
-IsDue (ListIn inner) (Refused dir.Missing left) me old new = (inner ≡ root_of inner.spot) ⊎ WasShown inner me old new
+IsDue (ListIn inner) (Refused dir.Missing left) me old new = (inner ≡ root_of inner.spot) ⊎ WentUnremoved inner me old new
 IsDue request reply me old new = Unit {0}
 
 -- an own step was answered as what the locks keep doesn't explain

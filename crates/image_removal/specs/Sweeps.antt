@@ -1,6 +1,9 @@
 -- What a sweep comes to.
 use Rattle.std.specs.Prelude.{◌≡◌, ◌⊎◌, ℕ, Bool, true, List, [], ◌∷◌, ◌++◌, map}
 use Rattle.std.specs.List.{AllByRecursion}
+use Rattle.std.specs.List.Sorted.{IsStrictlySortedBy}
+use Rattle.std.specs.Ordering.{nat_cmp}
+use Rattle.std.specs.Cmp.Lexicographic.{slice_cmp}
 use Rattle.dir_model.specs.declared.area.Area.{Area}
 use Rattle.dir_model.specs.declared.event.Event.{Event}
 use Rattle.dir_model.specs.declared.request.Reply.TheVariants.{Done}
@@ -9,7 +12,7 @@ use Rattle.dir_model.specs.Calls.{Extends, AtOwnStep}
 use Rattle.dir_model.specs.State.{DirState}
 use Rattle.dir_trait.specs.DirCalls.{DirAt}
 use Rattle.dir_files.specs.Listed.{ShowsArea}
-use Rattle.area_locks.specs.AreaLocks.{takes, IsBusy, IsBusyElsewhere}
+use Rattle.area_locks.specs.AreaLocks.{takes, IsBusy, IsBusyElsewhere, IsFreeElsewhere}
 use Rattle.image_removal.specs.declared.pass.Pass.{Pass}
 use Rattle.image_removal.specs.declared.pass.Pass.TheVariants.{PutAway, Delete}
 use Rattle.image_removal.specs.declared.pass.SweepLine.{SweepLine}
@@ -25,9 +28,10 @@ pub record WorksAtShown (pass : Pass) (names : List (List ℕ)) (me : ℕ) (old 
   pub shows : ShowsArea me old listed (area_of pass) names
   pub only : Extends (deals_with_some pass names) me listed new
 
--- each uuid that was shown was dealt with by its own request, and has its line, in that order
+-- each uuid that was shown, in byte order, was dealt with by its own request, and has its line, in that order
 pub record SweepsUnder (pass : Pass) (lines : List SweepLine) (me : ℕ) (old new : List Event) : Type 0 where
   pub names : List (List ℕ)
+  pub rise : IsStrictlySortedBy (slice_cmp nat_cmp) names
   pub works : WorksAtShown pass names me old new
   pub each : AllByRecursion (λ name. Called (deed_of pass name) Done me works.listed new) (uuids names)
   pub lines_are : lines ≡ map (line_of pass) (uuids names)
@@ -36,11 +40,12 @@ pub record SweepsUnder (pass : Pass) (lines : List SweepLine) (me : ℕ) (old ne
 abbrev pub TriesUnder : Pass → ℕ → List Event → List Event → Type 0
 TriesUnder pass me old new = Extends (lists (area_of pass)) me old new ⊎ ((names : List (List ℕ)) × WorksAtShown pass names me old new)
 
--- it took the lock of an area, did this and gave the lock up
+-- it took the lock of an area, against which no other process had one then, did this and gave the lock up
 pub record UnderLock (area : Area) (P : ℕ → List Event → List Event → Type 0) (me : ℕ) (old new : List Event) : Type 0 where
   pub locked : List Event
   pub done : List Event
   pub takes_lock : Extends (takes area Exclusive) me old locked
+  pub free : AtOwnStep me old locked (IsFreeElsewhere me area Exclusive)
   pub under : P me locked done
   pub gives_back : Extends is_close me done new
 

@@ -11,6 +11,6 @@ mod removal;
 mod sweeping;
 
 pub use image_reading::StoreError;
-pub use pass::SweepLine;
+pub use pass::{Pass, SweepLine};
 pub use removal::remove;
 pub use sweeping::sweep;

@@ -15,9 +15,9 @@ pub enum SweepLine {
     BusyGate(Area),
 }
 
-/// A pass of a sweep.
+/// A pass of a sweep: what it goes through, and what it does with each folder there.
 #[derive(Clone, Copy, Debug, PartialEq, Eq)]
-pub(crate) enum Pass {
+pub enum Pass {
     /// The folders of incoming are moved to removed.
     PutAway,
     /// The folders of removed are deleted.

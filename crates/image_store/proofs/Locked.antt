@@ -1,5 +1,5 @@
 -- The lock of an area, taken and given back around other calls.
-use Rattle.std.proofs.Common.{◌≡◌, ◌≤◌, Bool, true, ◌||◌, Some, List, [], ◌∷◌, refl, ◌∙◌, arith}
+use Rattle.std.proofs.Common.{◌≡◌, ◌≤◌, Bool, true, false, ◌||◌, Some, List, [], ◌∷◌, refl, sym, ◌∙◌, arith}
 use Rattle.dir_model.specs.declared.area.Area.{Area}
 use Rattle.dir_model.specs.declared.area.Area.TheVariants.{Incoming, Images}
 use Rattle.dir_model.specs.declared.spot.Handle.{Handle}
@@ -15,6 +15,9 @@ use Rattle.dir_trait.specs.DirCalls.{DirAt, ExtendsBy}
 use Rattle.area_locks.specs.AreaLocks.{takes, closes, and_lock, on_gate}
 use Rattle.area_locks.proofs.Locking.{unlocked_same}
 use Rattle.folder_building.specs.Work.{Worked}
+use Rattle.image_reading.specs.declared.error.StoreError.{StoreError}
+use Rattle.image_store.specs.Refusals.{is_lock_refusal}
+use Rattle.image_store.specs.Causes.{LockCause, HadIncoming}
 use Rattle.image_store.specs.Requests.{takes_lock, imports_at}
 use Rattle.image_store.specs.Work.{UnderImages, UnderBoth}
 use Rattle.image_store.proofs.Widths.{Follows}
@@ -91,3 +94,19 @@ under_both hs h u = record { images = u.images; incoming = refl }
 
 pub under_images : (h : Handle) → UnderImages (on_gate h Images (Some Shared) ∷ [])
 under_images h = record { images = refl; free = refl }
+
+-- what came under the lock of incoming; and what is refused for the lock isn't
+pub got_locked : {observed : Bool} {h : Handle} {old mid late new : DirAt} → Shares observed Incoming h old mid → Follows observed late new → observed ≡ true → HadIncoming old new
+got_locked {observed} {h} {old} {mid} {late} {new} s b t = record {
+  first = mid;
+  last = late;
+  earlier = (s.extends t).more;
+  later = (b.extends t).more;
+  same = s.same;
+  begins = (s.extends t).grown;
+  ends = (b.extends t).grown;
+  told = (old.local, h, s.held);
+}
+
+pub lock_is_apart : {observed : Bool} {old new : DirAt} (e : StoreError) → LockCause observed Incoming e old new → is_lock_refusal Incoming e ≡ false → ⊥
+lock_is_apart e x other = let b : true ≡ false = sym x.kind ∙ other in cc

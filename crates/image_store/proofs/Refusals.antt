@@ -29,7 +29,7 @@ use Rattle.image_reading.specs.Images.{HasDigest, LacksStored}
 use Rattle.image_reading.proofs.Widths.{within_self}
 use Rattle.image_store.specs.Refusals.{lock_refusal, is_lock_refusal, is_look_refusal, is_change_refusal, is_fill_refusal, is_place_refusal, is_work_refusal, is_import_area, is_import_refusal, bundle_refusal}
 use Rattle.image_store.specs.Plans.{IsUnlikeRefusal, IsBuildRefusal}
-use Rattle.image_store.specs.Causes.{LockCause, BusyElsewhere, LookCause, ChangeCause, FillCause, BuildCause, CompareCause, PlaceCause, ImportCause, FoundInTurn, WasStray, WasTaken, Source, UnlikePlanned, LacksThere, is_late}
+use Rattle.image_store.specs.Causes.{LockCause, BusyElsewhere, LookCause, ChangeCause, FillCause, BuildCause, CompareCause, PlaceCause, ImportCause, HadIncoming, FoundInTurn, WasStray, WasTaken, Source, UnlikePlanned, LacksThere, is_late}
 use Rattle.image_store.proofs.Unlikes.{files_of, unlike_planned, unlike_listed}
 use Rattle.image_store.proofs.Widths.{Follows, fault_after, told_after, conflict_after}
 
@@ -324,8 +324,11 @@ module _ {observed : Bool} {source : Source} {key : StoreKey} {digest : List ℕ
   look_in_turn e x = record { late = λ late t. absurd (look_early e x.kind late); damaged = λ path is. inl (x.damaged path is) }
 
   -- and once none was found
-  pub late_in_turn : (e : StoreError) → (observed ≡ true → HeldBetween old new (IsAbsent key)) → ImportCause is_import_refusal observed source key digest lines e old new → FoundInTurn observed source key lines e old new
-  late_in_turn e absent x = record { late = λ late t. absent t; damaged = λ path is. elim (x.damaged path is) [ inl l ↦ inl l | inr u ↦ inr (u, absent) ] }
+  pub late_in_turn : (e : StoreError) → (observed ≡ true → HeldBetween old new (IsAbsent key)) → (is_lock_refusal Incoming e ≡ false → observed ≡ true → HadIncoming old new) → ImportCause is_import_refusal observed source key digest lines e old new → FoundInTurn observed source key lines e old new
+  late_in_turn e absent locked x = record {
+    late = λ late t. absent t;
+    damaged = λ path is. elim (x.damaged path is) [ inl l ↦ inl l | inr u ↦ inr (u, record { absent = absent; locked = locked (ap (is_lock_refusal Incoming) is) }) ];
+  }
 
   pub lock_importing : (area : Area) (e : StoreError) → is_import_area area ≡ true → LockCause observed area e old new → ImportCause is_import_refusal observed source key digest lines e old new
   lock_importing area e of x = record {

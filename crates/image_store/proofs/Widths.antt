@@ -76,11 +76,11 @@ part_before observed key path lines source a b c same (inr u) bc = inr u
 module _ {observed : Bool} {source : Source} {key : StoreKey} {lines : List ListingLine} {path : List ℕ} (a b c : DirAt) where
   pub damaged_after : Follows observed a b → DamagedInTurn observed source key lines path b c → DamagedInTurn observed source key lines path a c
   damaged_after ab (inl l) = inl (λ t. told_after a b c ab t (l t))
-  damaged_after ab (inr x) = inr (x.0, λ t. held_after a b c ab t (x.1 t))
+  damaged_after ab (inr x) = inr (x.0, record { absent = λ t. held_after a b c ab t (x.1.absent t); locked = λ t. told_after a b c ab t (x.1.locked t) })
 
   pub damaged_before : b.process ≡ a.process → Follows observed b c → DamagedInTurn observed source key lines path a b → DamagedInTurn observed source key lines path a c
   damaged_before same bc (inl l) = inl (λ t. told_before a b c same bc t (l t))
-  damaged_before same bc (inr x) = inr (x.0, λ t. held_before a b c same bc t (x.1 t))
+  damaged_before same bc (inr x) = inr (x.0, record { absent = λ t. held_before a b c same bc t (x.1.absent t); locked = λ t. told_before a b c same bc t (x.1.locked t) })
 
 pub cause_after : {may : StoreError → Bool} {observed : Bool} {source : Source} {key : StoreKey} {digest : List ℕ} {lines : List ListingLine} {e : StoreError} {a b c : DirAt} → Follows observed a b → ImportCause may observed source key digest lines e b c → ImportCause may observed source key digest lines e a c
 cause_after {may} {observed} {source} {key} {digest} {lines} {e} {a} {b} {c} ab x = record {

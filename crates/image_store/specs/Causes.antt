@@ -4,6 +4,7 @@ use Rattle.sha2.specs.Sha512.{sha512}
 use Rattle.ac_types.specs.declared.store_key.StoreKey.{StoreKey}
 use Rattle.dir_model.specs.declared.area.Area.{Area}
 use Rattle.dir_model.specs.declared.area.Area.TheVariants.{Incoming}
+use Rattle.dir_model.specs.declared.spot.Handle.{Handle}
 use Rattle.dir_model.specs.declared.spot.Mode.TheVariants.{Shared}
 use Rattle.dir_model.specs.declared.request.DirError.TheVariants.{Exists}
 use Rattle.dir_model.specs.declared.request.Request.{Request}
@@ -11,6 +12,7 @@ use Rattle.dir_model.specs.declared.request.Request.TheVariants.{MoveFolder}
 use Rattle.dir_model.specs.declared.request.Reply.{Reply}
 use Rattle.dir_model.specs.declared.request.Reply.TheVariants.{Refused}
 use Rattle.dir_model.specs.Causes.{Rose}
+use Rattle.dir_model.specs.Local.{Local}
 use Rattle.dir_model.specs.State.{spot_eq}
 use Rattle.dir_model.specs.Calls.{CallStep}
 use Rattle.dir_trait.specs.Bundles.{Tree, file_bytes, child_path}
@@ -21,7 +23,7 @@ use Rattle.tree_digest.specs.declared.line.ListingLine.{ListingLine}
 use Rattle.folder_building.specs.declared.plan.PlanEntry.{PlanEntry}
 use Rattle.folder_building.specs.declared.plan.Content.{Content}
 use Rattle.folder_building.specs.declared.plan.Content.TheVariants.{Copied}
-use Rattle.area_locks.specs.AreaLocks.{IsBusy, IsBusyElsewhere}
+use Rattle.area_locks.specs.AreaLocks.{IsBusy, IsBusyElsewhere, and_lock}
 use Rattle.image_reading.specs.declared.error.StoreError.{StoreError}
 use Rattle.image_reading.specs.declared.error.StoreError.TheVariants.{Busy, Damaged, IdConflict, DirFault, Stray}
 use Rattle.image_reading.specs.Places.{image_spot, tree_name, IsAbsent, IsPresent}
@@ -169,10 +171,23 @@ is_late (Busy Incoming) = true
 is_late Stray = true
 is_late error = false
 
--- and what is damaged is told in its turn: a part of an image that stood there; or, only once none was found there, a file of the bundle
+-- an own handle has just got the lock of incoming
+abbrev pub GotIncoming : DirAt → Type 0
+GotIncoming now = (before : Local) × (gate : Handle) × (now.local ≡ and_lock before gate Incoming Shared)
+
+abbrev pub HadIncoming : DirAt → DirAt → Type 0
+HadIncoming old new = Within (λ first last. GotIncoming first) old new
+
+-- no image with this key was found there, and the lock of incoming was had
+pub record IsMaking (observed : Bool) (key : StoreKey) (old new : DirAt) : Type 0 where
+  pub absent : observed ≡ true → HeldBetween old new (IsAbsent key)
+  pub locked : observed ≡ true → HadIncoming old new
+
+-- and what is damaged is told in its turn: a part of an image that stood there; or, only once none was found there and under the lock
+-- of incoming, a file of the bundle
 abbrev pub DamagedInTurn : Bool → Source → StoreKey → List ListingLine → List ℕ → DirAt → DirAt → Type 0
 DamagedInTurn observed source key lines path old new =
-    LacksPart observed key path old new ⊎ (UnlikeListed source lines path × (observed ≡ true → HeldBetween old new (IsAbsent key)))
+    LacksPart observed key path old new ⊎ (UnlikeListed source lines path × IsMaking observed key old new)
 
 pub record FoundInTurn (observed : Bool) (source : Source) (key : StoreKey) (lines : List ListingLine) (error : StoreError) (old new : DirAt) : Type 0 where
   pub late : is_late error ≡ true → observed ≡ true → HeldBetween old new (IsAbsent key)

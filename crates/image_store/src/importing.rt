@@ -5,10 +5,10 @@ ghost use Rattle.dir_trait.specs.Local.{IsActive};
 ghost use Rattle.lifecycle.specs.Executions.{IsConforming};
 ghost use Rattle.folder_building.specs.Work.{Worked};
 ghost use Rattle.image_reading.specs.Places.{image_spot};
-ghost use Rattle.image_store.specs.Refusals.{is_work_refusal, is_import_refusal};
+ghost use Rattle.image_store.specs.Refusals.{is_lock_refusal, is_work_refusal, is_import_refusal};
 ghost use Rattle.image_store.specs.Requests.{building_spot, imports_at};
 ghost use Rattle.image_store.specs.Work.{UnderImages, UnderBoth, IsAlone, From};
-ghost use Rattle.image_store.specs.Causes.{source_at, BusyElsewhere, WasThere, FoundInTurn, ImportCause};
+ghost use Rattle.image_store.specs.Causes.{source_at, BusyElsewhere, HadIncoming, WasThere, FoundInTurn, ImportCause};
 ghost use Rattle.image_store.specs.Imports.{key_of, digest_of, IsOf, OfBundle, IsRefused, ComesInTurn, Leaves, LeavesAtEnd, IsImported};
 
 use crate::building::build;
@@ -73,6 +73,7 @@ fn import_new<D: Dir, B: Bundle>(
     ensures bundle_cause { IsErrOf result StoreError.BundleFault → Rose (B.shown bundle.old).faults (B.shown bundle.new).faults }
     ensures cause { IfErr result (λ e. ImportCause is_import_refusal D.observed (source_at B.observed (B.shown bundle.old).tree path.now)
         (key_of image.now) digest.now image.now.listing e (D.shown dir.old) (D.shown dir.new)) }
+    ensures locked { IfErr result (λ e. is_lock_refusal Area.Incoming e ≡ false → D.observed ≡ true → HadIncoming (D.shown dir.old) (D.shown dir.new)) }
     ensures another { IfErr result (λ e. D.observed ≡ true → From draw UnderImages false None (D.shown dir.old)
         (λ intent hs. BusyElsewhere e (D.shown dir.old) (D.shown dir.new))) }
     ensures there { result ≡ Ok true → D.observed ≡ true → WasThere (key_of image.now) digest.now (D.shown dir.old) (D.shown dir.new) }
@@ -189,8 +190,8 @@ fn import_image<D: Dir, B: Bundle>(
 /// the listing's first fault, or without a listing `BadKind`, and its limits. `Busy` with images, where
 /// another process holds that area's lock exclusively. `Damaged`, where the image is there and its
 /// `manifest`, `id` or `tree` is missing or has no reading; `IdConflict`, where it has another digest.
-/// `Busy` with incoming. `Damaged` with a path of the bundle, where a file is missing or isn't what the
-/// listing says. `Damaged` and `IdConflict` once more, where another importer was first.
+/// `Busy` with incoming. Under that lock `Damaged` with a path of the bundle, where a file is missing or
+/// isn't what the listing says. `Damaged` and `IdConflict` once more, where another importer was first.
 /// `BundleFault`, `DirFault` and `NoMemory` where the bundle or the directory failed or memory ran out, and
 /// `Stray` where the directory's answers contradict what this process made. A refused import holds no
 /// lock, and leaves at most its folder in incoming.

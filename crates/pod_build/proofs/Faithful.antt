@@ -276,8 +276,6 @@ module _ {observed : Bool} {refs : List ImageRef} {options : Wishes} {draw : Dra
         begins = begins;
         moved = moved;
         faithful = faithful;
-        maps = x.planned.maps;
-        trees = x.planned.trees;
         choice = x.planned.choice;
         chosen = x.planned.chosen;
         manifest = refl;

@@ -14,7 +14,7 @@ use Rattle.area_locks.specs.AreaLocks.{IsBusy, IsBusyElsewhere}
 use Rattle.folder_building.specs.declared.plan.PlanEntry.{PlanEntry}
 use Rattle.pod_manifest.specs.Wishes.{Wishes}
 use Rattle.pod_reading.specs.declared.error.PlanError.{PlanError}
-use Rattle.pod_reading.specs.Refusals.{IsNoPlan}
+use Rattle.pod_reading.specs.NoPlans.{IsNoPlan}
 use Rattle.pod_reading.specs.FaithfulPods.{PlansFaithfully}
 use Rattle.pod_making.specs.declared.error.MakeError.{MakeError}
 use Rattle.pod_making.specs.Causes.{MakeCause}

@@ -25,11 +25,9 @@ use Rattle.folder_contents.specs.Entries.{entries_in}
 use Rattle.folder_contents.specs.Handing.{then_moved}
 use Rattle.image_reading.specs.Looks.{reads_images}
 use Rattle.manifests.specs.PodData.{pod_data}
-use Rattle.path_map.specs.Entries.{Entries}
 use Rattle.pod_choice.specs.declared.choice.Choice.{Choice}
 use Rattle.pod_choice.specs.Choices.{IsChoice}
 use Rattle.pod_manifest.specs.Wishes.{Wishes}
-use Rattle.pod_reading.specs.Readings.{HaveTrees}
 use Rattle.pod_reading.specs.FaithfulPods.{PlansFaithfully}
 use Rattle.pod_making.specs.Requests.{pod_at, makes_pod}
 use Rattle.pod_making.specs.Progress.{at_work, handed, nothing_made}
@@ -97,10 +95,8 @@ pub record IsPrepared (refs : List ImageRef) (options : Wishes) (me : ℕ) (draw
   pub begins : before ≡ old ++ meanwhile
   pub moved : new ≡ before ++ event me (MoveFolder (pod_at Prepare draw) (pod_at to draw)) Done ∷ later
   pub faithful : IsFaithfulBuild me before
-  pub maps : List Entries
-  pub trees : HaveTrees faithful.images maps faithful.old faithful.new
   pub choice : Choice
-  pub chosen : IsChoice faithful.images maps refs options choice
+  pub chosen : IsChoice faithful.images refs options choice
   pub manifest : faithful.manifest ≡ pod_data choice.manifest
   pub folder : ℕ
   pub stands : folder_at (state_after (then_moved before me (pod_at Prepare draw) (pod_at to draw))).namespace (pod_at to draw) ≡ Some folder

@@ -1,16 +1,13 @@
 -- Where one of several has a fault, it is the first.
 use Rattle.std.proofs.Common.{◌≡◌, ℕ, ◌+◌, ◌<◌, List, take, drop, get_or, length, Some, None, Result, Ok, Err, IfErr, refl, sym, subst}
 use Rattle.ac_types.specs.declared.image_ref.ImageRef.{ImageRef}
-use Rattle.path_map.specs.Entries.{Entries}
 use Rattle.dep_match.specs.declared.dep_tree.DepTree.{DepTree}
 use Rattle.dep_match.specs.declared.stored.Stored.{Stored}
 use Rattle.dep_match.specs.Dependencies.{dependency_tree}
-use Rattle.pod_manifest.specs.Generation.{first_refusal}
 use Rattle.pod_manifest.specs.Wishes.{Wishes}
-use Rattle.pod_choice.specs.Choices.{best_of, ArePicks, AreTrees, AreRoots, IsNoTree, IsPickRefusal, IsTreeRefusal, IsRootRefusal, IsRootsRefusal, IsPodRefusal, IsRefused}
+use Rattle.pod_choice.specs.Choices.{best_of, ArePicks, AreTrees, IsNoTree, IsPickRefusal, IsTreeRefusal, IsPodRefusal, IsRefused}
 use Rattle.pod_choice.specs.declared.error.ChoiceError.{ChoiceError}
-use Rattle.pod_choice.specs.declared.error.ChoiceError.TheVariants.{NoMatch, DepError, GenError, RenderError, ListingError, NoMemory}
-use Rattle.pod_choice.specs.declared.root.Root.{Root}
+use Rattle.pod_choice.specs.declared.error.ChoiceError.TheVariants.{NoMatch, DepError, NoMemory}
 use Rattle.pod_choice.proofs.Mapped.{split_at, mapped_length, all_some, all_ok}
 
 -- a refusal that is passed on is one of another kind
@@ -44,35 +41,20 @@ without_tree list picks i pick trees more is before (DepError fault) x = record 
 without_tree list picks i pick trees more is before NoMemory x = tt
 without_tree list picks i pick trees more is before e x = absurd x
 
-pub without_root : (list : List Stored) (maps : List Entries) (trees : List DepTree) (i : ℕ) (tree : DepTree) (roots : List Root) → i < length trees → tree ≡ get_or trees i tree
-    → AreRoots list maps (take i trees) roots → (e : ChoiceError) → IsRootRefusal list maps tree e → IsRootsRefusal list maps trees e
-without_root list maps trees i tree roots more is before NoMemory x = tt
-without_root list maps trees i tree roots more is before e x = record { before = take i trees; tree = tree; after = drop (i + 1) trees; is = split_at trees i tree tree more is; faulty = x; roots = roots; earlier = before }
-
--- the roots' refusal is the pod's
-pub roots_refusal : (list : List Stored) (maps : List Entries) (options : Wishes) (picks : List ℕ) (trees : List DepTree) → AreTrees list picks trees → first_refusal list picks options ≡ None
-    → (e : ChoiceError) → IsRootsRefusal list maps trees e → IsPodRefusal list maps options picks e
-roots_refusal list maps options picks trees are none (NoMatch place) x = absurd x.faulty
-roots_refusal list maps options picks trees are none (DepError fault) x = absurd x.faulty
-roots_refusal list maps options picks trees are none (GenError refusal) x = absurd x.faulty
-roots_refusal list maps options picks trees are none NoMemory x = tt
-roots_refusal list maps options picks trees are none (RenderError error) x = (trees, are, none, x)
-roots_refusal list maps options picks trees are none (ListingError error) x = (trees, are, none, x)
-
--- the images' tree faults are too
-pub trees_refusal : (list : List Stored) (maps : List Entries) (options : Wishes) (picks : List ℕ) (e : ChoiceError) → IsTreeRefusal list picks e → IsPodRefusal list maps options picks e
-trees_refusal list maps options picks (DepError fault) x = x
-trees_refusal list maps options picks NoMemory x = tt
-trees_refusal list maps options picks e x = absurd x
+-- the images' tree faults are the pod's
+pub trees_refusal : (list : List Stored) (options : Wishes) (picks : List ℕ) (e : ChoiceError) → IsTreeRefusal list picks e → IsPodRefusal list options picks e
+trees_refusal list options picks (DepError fault) x = x
+trees_refusal list options picks NoMemory x = tt
+trees_refusal list options picks e x = absurd x
 
 -- the pod's refusal is that of the references
-pub pod_refusal : (list : List Stored) (maps : List Entries) (refs : List ImageRef) (options : Wishes) (picks : List ℕ) → ArePicks list refs picks
-    → (e : ChoiceError) → IsPodRefusal list maps options picks e → IsRefused list maps refs options e
-pod_refusal list maps refs options picks are (NoMatch place) x = absurd x
-pod_refusal list maps refs options picks are NoMemory x = tt
-pod_refusal list maps refs options picks are e x = (picks, are, x)
+pub pod_refusal : (list : List Stored) (refs : List ImageRef) (options : Wishes) (picks : List ℕ) → ArePicks list refs picks
+    → (e : ChoiceError) → IsPodRefusal list options picks e → IsRefused list refs options e
+pod_refusal list refs options picks are (NoMatch place) x = absurd x
+pod_refusal list refs options picks are NoMemory x = tt
+pod_refusal list refs options picks are e x = (picks, are, x)
 
-pub picks_refusal : (list : List Stored) (maps : List Entries) (refs : List ImageRef) (options : Wishes) (e : ChoiceError) → IsPickRefusal list refs e → IsRefused list maps refs options e
-picks_refusal list maps refs options (NoMatch place) x = x
-picks_refusal list maps refs options NoMemory x = tt
-picks_refusal list maps refs options e x = absurd x
+pub picks_refusal : (list : List Stored) (refs : List ImageRef) (options : Wishes) (e : ChoiceError) → IsPickRefusal list refs e → IsRefused list refs options e
+picks_refusal list refs options (NoMatch place) x = x
+picks_refusal list refs options NoMemory x = tt
+picks_refusal list refs options e x = absurd x

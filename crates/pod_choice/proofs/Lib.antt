@@ -1,4 +1,3 @@
 pub mod Mapped
-pub mod Roots
 pub mod Faults
 pub mod Pods

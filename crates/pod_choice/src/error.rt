@@ -1,12 +1,10 @@
 // Why some references make no pod.
 ghost use Rattle.std.specs.Prelude.{◌≡◌};
-ghost use Rattle.pod_choice.specs.Refusals.{tree_refusal, manifest_refusal, render_refusal, listing_refusal};
+ghost use Rattle.pod_choice.specs.Refusals.{tree_refusal, manifest_refusal};
 
 use ac_types::NoMemory;
 use dep_match::DepError;
 use pod_manifest::GenError;
-use render::RenderError;
-use tree_digest::ListingError;
 
 /// Why some references make no pod.
 #[derive(Drop)]
@@ -17,10 +15,6 @@ pub enum ChoiceError {
     DepError(DepError),
     /// The first refusal of the pod's manifest.
     GenError(GenError),
-    /// An app's root is made of too many entries.
-    RenderError(RenderError),
-    /// The listing of an app's root passes a limit.
-    ListingError(ListingError),
     /// Memory ran out.
     NoMemory,
 }
@@ -50,23 +44,5 @@ pub(crate) fn manifest_refusal(error: GenError) -> ChoiceError
     match error {
         GenError::NoMemory => ChoiceError::NoMemory,
         error => ChoiceError::GenError(error),
-    }
-}
-
-pub(crate) fn render_refusal(error: RenderError) -> ChoiceError
-    ensures { result ≡ render_refusal error }
-{
-    match error {
-        RenderError::NoMemory => ChoiceError::NoMemory,
-        error => ChoiceError::RenderError(error),
-    }
-}
-
-pub(crate) fn listing_refusal(error: ListingError) -> ChoiceError
-    ensures { result ≡ listing_refusal error }
-{
-    match error {
-        ListingError::NoMemory => ChoiceError::NoMemory,
-        error => ChoiceError::ListingError(error),
     }
 }

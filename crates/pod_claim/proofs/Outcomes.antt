@@ -46,12 +46,12 @@ use Rattle.pod_claim.specs.Requests.{in_prepared, in_run}
 use Rattle.pod_claim.specs.Setbacks.{last_refusal}
 use Rattle.pod_claim.specs.Holding.{MayClaim, and_lock, with_pod}
 use Rattle.pod_claim.specs.Work.{Went, Grew, MovedNothing, TookBoth, Leaves}
-use Rattle.pod_claim.specs.Causes.{is_prepared, is_held_elsewhere, IsAbsent, LacksManifest, HeldByAnother, FoundThenMissed, MissedTwice, WasBarred, WasWrong, BusyElsewhere, ClaimCause, SetBack}
+use Rattle.pod_claim.specs.Causes.{is_prepared, is_held_elsewhere, IsAbsent, LacksManifest, HeldByAnother, FoundThenMissed, MissedTwice, WasBarred, WasWrong, BusyInTurn, ClaimCause, SetBack}
 use Rattle.pod_claim.specs.Claims.{HasPod, RefusedByAnother, IsFree, IsFreeThroughout, IsFailure}
 use Rattle.pod_claim.proofs.Parts.{went_more}
 use Rattle.pod_claim.proofs.Reading.{Moment, later_is, reading_grew, may_looked}
 use Rattle.pod_claim.proofs.Seen.{runs_pod}
-use Rattle.pod_claim.proofs.Times.{at_part, deeds_part, held_part}
+use Rattle.pod_claim.proofs.Times.{at_part, deeds_part, in_turn_part}
 use Rattle.pod_claim.proofs.Traces.{grown_none, grown_more, grown_by, still_more}
 
 -- what was so after the first attempt was so after both
@@ -127,13 +127,13 @@ module _ {observed : Bool} {pod : PodId} {n : ℕ} {l : Local} {a b : DirAt} (w 
         let then = x t now.known (may_looked now.looked may) now.knows in
         record { known = then.known; looked = looked_more now.looked then.looked; knows = then.knows }
 
-    pub another_twice : (c : DirAt) (stop : Setback) → Leaves observed MayClaim b (λ s. BusyElsewhere pod stop b c) → Leaves observed MayClaim a (λ s. RefusedByAnother pod (last_refusal stop) a c)
+    pub another_twice : (c : DirAt) (stop : Setback) → Leaves observed MayClaim b (λ s. BusyInTurn pod stop b c) → Leaves observed MayClaim a (λ s. RefusedByAnother pod (last_refusal stop) a c)
     another_twice c setback.Missing x t s may k which is = cc
     another_twice c (setback.Refused error) x t s may k which is =
         let now = left t s may k in
-        held_part (grown_by (w.extends t)) w.same grown_none (x t now.known (may_looked now.looked may) now.knows which (ap (λ (e : ClaimError). setback.Refused e) is))
+        in_turn_part pod which (grown_by (w.extends t)) w.same grown_none (x t now.known (may_looked now.looked may) now.knows which (ap (λ (e : ClaimError). setback.Refused e) is))
 
-pub another_once : {observed : Bool} {pod : PodId} (error : ClaimError) (a b : DirAt) → Leaves observed MayClaim a (λ s. BusyElsewhere pod (setback.Refused error) a b) → Leaves observed MayClaim a (λ s. RefusedByAnother pod error a b)
+pub another_once : {observed : Bool} {pod : PodId} (error : ClaimError) (a b : DirAt) → Leaves observed MayClaim a (λ s. BusyInTurn pod (setback.Refused error) a b) → Leaves observed MayClaim a (λ s. RefusedByAnother pod error a b)
 another_once error a b x t s may k which is = x t s may k which (ap (λ (e : ClaimError). setback.Refused e) is)
 
 -- it runs the pod
@@ -220,7 +220,7 @@ module _ (pod : PodId) (a c : DirAt) (free : IsFreeThroughout pod a c) (conformi
       let yx : Moment y ≡ Moment x ++ p = later_is x y in
       let whole : c.trace ≡ ((Moment x ++ p) ++ []) ++ y.rest = y.ends ∙ (ap (λ h. h ++ y.rest) yx ∙ ap (λ h. h ++ y.rest) (sym (append-nil (Moment x ++ p)))) in
       let stood = subst (λ (h : List Event). stands (state_after h).namespace (in_prepared pod) ≡ true) (yx ∙ sym (append-nil (Moment x ++ p))) (there_at at) in
-      let still = stays_between c.trace conforming (in_prepared pod) h.folder (Moment x) p [] y.rest (omega arith) whole x.holds stood in
+      let still = stays_between c.trace conforming (in_prepared pod) h.folder (Moment x) p [] y.rest (omega arith) whole x.holds.0 stood in
       let there = subst (λ (h' : List Event). folder_at (state_after h').namespace (in_prepared pod) ≡ Some h.folder) (sym yx) still in
       let e : false ≡ true = sym ((free_at at).unheld h.folder which there) ∙ y.holds in cc
 
@@ -252,7 +252,7 @@ pub only_failures : {observed : Bool} {pod : PodId} {a c : DirAt} (error : Claim
 only_failures {observed} {pod} {a} {c} NoPod t x busy conforming free = absurd (never_gone pod a c free conforming (x.nowhere refl t conforming))
 only_failures {observed} {pod} {a} {c} (WrongPhase p) t x busy conforming free = absurd (never_wrong pod a c free conforming p (x.phase p refl t conforming))
 only_failures {observed} {pod} {a} {c} NoManifest t x busy conforming free = absurd (never_lacking pod a c free conforming (x.manifest refl t conforming))
-only_failures {observed} {pod} {a} {c} (Busy other which) t x busy conforming free = absurd (never_held pod a c free conforming which (busy which (ap (λ (p : PodId). Busy p which) (x.named other which refl))))
+only_failures {observed} {pod} {a} {c} (Busy other which) t x busy conforming free = absurd (never_held pod a c free conforming which (busy which (ap (λ (p : PodId). Busy p which) (x.named other which refl))).0)
 only_failures DirFault t x busy conforming free = inl refl
 only_failures NoMemory t x busy conforming free = inr refl
 only_failures {observed} {pod} {a} {c} Stray t x busy conforming free = by (x.stray refl t)

@@ -31,11 +31,11 @@ use Rattle.pod_claim.specs.declared.setback.Setback.TheVariants as setback
 use Rattle.pod_claim.specs.Requests.{in_prepared, in_run}
 use Rattle.pod_claim.specs.Holding.{and_lock, and_locked, MayClaim, HasClaim, with_lock, with_pod}
 use Rattle.pod_claim.specs.Work.{Went, MovedNothing, InOrder, TookBoth, Leaves, Grew, takes, moves_on}
-use Rattle.pod_claim.specs.Causes.{CannotOpen, IsAbsent, Stopped, StopsAlone, IsLookRefusal, BusyElsewhere}
+use Rattle.pod_claim.specs.Causes.{CannotOpen, IsAbsent, Stopped, StopsAlone, IsLookRefusal, BusyElsewhere, BusyInTurn, HadAlone, HadBothAlone, HadClaim}
 use Rattle.pod_claim.proofs.Calls.{asks_move, lock_closed}
 use Rattle.pod_claim.proofs.Knowing.{new_number, knows_as, looked_none}
 use Rattle.pod_claim.proofs.Seen.{claim_back, claim_back_after}
-use Rattle.pod_claim.proofs.Times.{Follows, at_part, stops_part, busy_part}
+use Rattle.pod_claim.proofs.Times.{Follows, at_part, alone_had, stops_part, busy_part}
 use Rattle.pod_claim.proofs.Traces.{grown_none, grown_call, deeds_then, deeds_before, still_more}
 
 -- more calls are allowed
@@ -133,7 +133,7 @@ alone_stops {observed} {pod} {stop} {a} {b} {c} first same faults grew s =
       right = λ phase is. (look_only (WrongPhase phase) (s.calm (WrongPhase phase) is)).1.1.1 phase refl;
     }
 
-pub alone_calm : {observed : Bool} {pod : PodId} {stop : Setback} {b c : DirAt} (a : DirAt) → StopsAlone observed pod stop b c → BusyElsewhere pod stop a c
+pub alone_calm : {observed : Bool} {pod : PodId} {stop : Setback} {b c : DirAt} (a : DirAt) → StopsAlone observed pod stop b c → BusyInTurn pod stop a c
 alone_calm {observed} {pod} {stop} a s which is = absurd ((look_only (Busy pod which) (s.calm (Busy pod which) is)).1.0 pod which refl)
 
 -- Claim is given up, once the pod was taken under it, or not
@@ -213,6 +213,13 @@ module _ {observed : Bool} {pod : PodId} {claim : Handle} {a b c d : DirAt} (r :
       by (Ok own) f = λ t. record { claim = claim; order = deeds_then (first t) same (deeds_before (f t) (grown_call (z.step t))) }
       by (Err e) f = tt
 
+  pub alone_under : (observed ≡ true → HadAlone pod Claim a.process a.trace d.trace) → (observed ≡ true → Grew a.trace b.trace) → b.process ≡ a.process → IfOk r (λ own. observed ≡ true → HadAlone pod Own b.process b.trace c.trace) → IfOk r (λ own. observed ≡ true → HadBothAlone pod a.process a.trace d.trace)
+  alone_under first ab same second = by r second
+    where
+      by : (r : Result Handle Setback) → IfOk r (λ own. observed ≡ true → HadAlone pod Own b.process b.trace c.trace) → IfOk r (λ own. observed ≡ true → HadBothAlone pod a.process a.trace d.trace)
+      by (Ok own) f = λ t. record { claim = first t; own = alone_had (ab t) same (grown_call (z.step t)) (f t) }
+      by (Err e) f = tt
+
   pub stopped_under : Follows observed a b → c.process ≡ b.process → Follows observed c d → IfErr r (λ e. Stopped observed pod (IsAbsent pod) e b c) → IfErr r (λ e. Stopped observed pod (IsAbsent pod) e a d)
   stopped_under ab bc cd s = by r s
     where
@@ -225,12 +232,16 @@ module _ {observed : Bool} {pod : PodId} {claim : Handle} {a b c d : DirAt} (r :
     has_claim : {s : Seen} → MayClaim s → Knows a s → HasClaim pod (with_lock pod Claim claim s)
     has_claim {s} may k = record { claim = claim; base = s; may = may; fresh = new_number claim k unopened; is = refl }
 
-    pub another_under : Follows observed a b → c.process ≡ b.process → Follows observed c d → IfErr r (λ e. Leaves observed (HasClaim pod) b (λ s. BusyElsewhere pod e b c)) → IfErr r (λ e. Leaves observed MayClaim a (λ s. BusyElsewhere pod e a d))
-    another_under ab bc cd x = by r x
+    pub another_under : Follows observed a b → c.process ≡ b.process → Follows observed c d → IfErr r (λ e. Leaves observed (HasClaim pod) b (λ s. BusyElsewhere pod e b c)) → (observed ≡ true → HadAlone pod Claim a.process a.trace d.trace) → IfErr r (λ e. Leaves observed MayClaim a (λ s. BusyInTurn pod e a d))
+    another_under ab bc cd x alone = by r x
       where
-        by : (r : Result Handle Setback) → IfErr r (λ e. Leaves observed (HasClaim pod) b (λ s. BusyElsewhere pod e b c)) → IfErr r (λ e. Leaves observed MayClaim a (λ s. BusyElsewhere pod e a d))
+        had : (which : Which) → HadAlone pod Claim a.process a.trace d.trace → HadClaim pod which a.process a.trace d.trace
+        had Own o = o
+        had Claim o = tt
+
+        by : (r : Result Handle Setback) → IfErr r (λ e. Leaves observed (HasClaim pod) b (λ s. BusyElsewhere pod e b c)) → IfErr r (λ e. Leaves observed MayClaim a (λ s. BusyInTurn pod e a d))
         by (Ok own) f = tt
-        by (Err e) f = λ t s may k. busy_part {stop = e} t ab bc cd (f t (with_lock pod Claim claim s) (has_claim may k) (held t s may k))
+        by (Err e) f = λ t s may k which is. (busy_part {stop = e} t ab bc cd (f t (with_lock pod Claim claim s) (has_claim may k) (held t s may k)) which is, had which (alone t))
 
     pub held_under : IfOk r (λ own. Leaves observed (HasClaim pod) b (λ s. Knows c (with_pod pod own s))) → IfOk r (λ own. Leaves observed MayClaim a (λ s. Knows d (with_pod pod own s)))
     held_under x = by r fresh x

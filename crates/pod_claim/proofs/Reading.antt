@@ -47,9 +47,9 @@ use Rattle.pod_claim.specs.Requests.{in_prepared, claims}
 use Rattle.pod_claim.specs.Setbacks.{look_refusal}
 use Rattle.pod_claim.specs.Holding.{MayClaim, with_pod}
 use Rattle.pod_claim.specs.Work.{Went, Grew, MovedNothing, TookBoth, Leaves}
-use Rattle.pod_claim.specs.Causes.{is_prepared, CannotOpen, IsAbsent, LacksManifest, OpensOwnAlone, WasWrong, Stopped, StopsAlone, BusyElsewhere, ClaimCause, SetBack}
+use Rattle.pod_claim.specs.Causes.{is_prepared, CannotOpen, IsAbsent, LacksManifest, OpensOwnAlone, WasWrong, Stopped, StopsAlone, BusyInTurn, ClaimCause, SetBack}
 use Rattle.pod_claim.specs.Claims.{HasPod}
-use Rattle.pod_claim.proofs.Times.{Follows, at_part, deeds_part, held_part}
+use Rattle.pod_claim.proofs.Times.{Follows, at_part, deeds_part, in_turn_part}
 use Rattle.pod_claim.proofs.Traces.{grown_none, grown_by, still_looks, still_more}
 
 -- a look is a request of a claim
@@ -249,8 +249,8 @@ module _ {observed : Bool} {pod : PodId} {n : ℕ} {l : Local} {a b : DirAt} (w 
   took_after c t o = record { claim = o.claim; order = deeds_part (grown_by (w.extends t)) w.same grown_none o.order }
 
   module _ (known : observed ≡ true → OnlyLooks a b) where
-    pub another_after : (c : DirAt) (stop : Setback) → Leaves observed MayClaim b (λ s. BusyElsewhere pod stop b c) → Leaves observed MayClaim a (λ s. BusyElsewhere pod stop a c)
-    another_after c stop x t s may k = λ which is. let now = known t s k in held_part (grown_by (w.extends t)) w.same grown_none (x t now.known (may_looked now.looked may) now.knows which is)
+    pub another_after : (c : DirAt) (stop : Setback) → Leaves observed MayClaim b (λ s. BusyInTurn pod stop b c) → Leaves observed MayClaim a (λ s. BusyInTurn pod stop a c)
+    another_after c stop x t s may k = λ which is. let now = known t s k in in_turn_part pod which (grown_by (w.extends t)) w.same grown_none (x t now.known (may_looked now.looked may) now.knows which is)
 
     pub held_after : (c : DirAt) (own : Handle) → Leaves observed MayClaim b (λ s. Knows c (with_pod pod own s)) → Leaves observed MayClaim a (λ s. HasPod pod own s c)
     held_after c own x t s may k = let now = known t s k in record { known = now.known; looked = now.looked; knows = x t now.known (may_looked now.looked may) now.knows }

@@ -5,6 +5,7 @@ use Rattle.dir_model.specs.declared.pod.PodId.{PodId}
 use Rattle.dir_model.specs.declared.request.Request.{Request}
 use Rattle.dir_model.specs.declared.request.Reply.{Reply}
 use Rattle.dir_model.specs.declared.spot.Which.{Which}
+use Rattle.dir_model.specs.declared.spot.Which.TheVariants.{Own, Claim}
 use Rattle.dir_model.specs.Calls.{AtOwnStep}
 use Rattle.dir_model.specs.Causes.{Rose}
 use Rattle.dir_model.specs.State.{DirState}
@@ -12,7 +13,7 @@ use Rattle.dir_model.proofs.Moments.{at_within}
 use Rattle.dir_trait.specs.DirCalls.{DirAt, DirCall}
 use Rattle.pod_claim.specs.declared.setback.Setback.{Setback}
 use Rattle.pod_claim.specs.Work.{Deed, Grew, MovedNothing, InOrder, is_ok_move}
-use Rattle.pod_claim.specs.Causes.{Stopped, OpensOwnAlone, HeldByAnother, BusyElsewhere}
+use Rattle.pod_claim.specs.Causes.{Stopped, OpensOwnAlone, HeldByAnother, HadAlone, HadBothAlone, HadClaim, BusyElsewhere}
 use Rattle.pod_claim.proofs.Traces.{grown_none, grown_more, grown_call, deeds_after, deeds_before, still_none, still_more, still_call}
 
 -- calls that moved nothing, whatever they leave open
@@ -45,6 +46,21 @@ pub held_part : {pod : PodId} {which : Which} {me other : ℕ} {a b c d : List E
 held_part {pod} {which} {me} {other} {a} {b} {c} {d} ab same cd h =
     let g = subst (λ (p : ℕ). HeldByAnother pod which p b c) same h in
     record { folder = g.folder; between = g.between; found = at_part ab refl grown_none g.found; held = at_part grown_none refl cd g.held }
+
+pub alone_had : {pod : PodId} {which : Which} {me other : ℕ} {a b c d : List Event} → Grew a b → other ≡ me → Grew c d → HadAlone pod which other b c → HadAlone pod which me a d
+alone_had {pod} {which} {me} {other} {a} {b} {c} {d} ab same cd h =
+    let g = subst (λ (p : ℕ). HadAlone pod which p b c) same h in
+    record { folder = g.folder; between = g.between; found = at_part ab refl grown_none g.found; free = at_part grown_none refl cd g.free }
+
+pub both_had : {pod : PodId} {me other : ℕ} {a b c d : List Event} → Grew a b → other ≡ me → Grew c d → HadBothAlone pod other b c → HadBothAlone pod me a d
+both_had ab same cd h = record { claim = alone_had ab same cd h.claim; own = alone_had ab same cd h.own }
+
+pub had_part : (pod : PodId) (which : Which) {me other : ℕ} {a b c d : List Event} → Grew a b → other ≡ me → Grew c d → HadClaim pod which other b c → HadClaim pod which me a d
+had_part pod Own ab same cd had = alone_had ab same cd had
+had_part pod Claim ab same cd had = tt
+
+pub in_turn_part : (pod : PodId) (which : Which) {me other : ℕ} {a b c d : List Event} → Grew a b → other ≡ me → Grew c d → HeldByAnother pod which other b c × HadClaim pod which other b c → HeldByAnother pod which me a d × HadClaim pod which me a d
+in_turn_part pod which ab same cd x = (held_part ab same cd x.0, had_part pod which ab same cd x.1)
 
 pub busy_part : {observed : Bool} {pod : PodId} {stop : Setback} {a b c d : DirAt} → observed ≡ true → Follows observed a b → c.process ≡ b.process → Follows observed c d → BusyElsewhere pod stop b c → BusyElsewhere pod stop a d
 busy_part t ab bc cd busy which is = held_part (ab.grown t) ab.same (cd.grown t) (busy which is)

@@ -1,5 +1,5 @@
 -- Why a pod isn't claimed.
-use Rattle.std.specs.Prelude.{◌≡◌, ◌==◌, ◌⊎◌, ◌&&◌, ℕ, Bool, true, false, not, Some, is_some, List, [], ◌∷◌, codes}
+use Rattle.std.specs.Prelude.{◌≡◌, ◌==◌, ◌⊎◌, ◌&&◌, ℕ, Bool, true, false, not, Some, None, is_some, List, [], ◌∷◌, codes}
 use Rattle.std.specs.List.{list_any}
 use Rattle.dir_model.specs.declared.area.Area.{Area}
 use Rattle.dir_model.specs.declared.area.Area.TheVariants as area
@@ -67,11 +67,15 @@ is_lock which _ = false
 abbrev pub is_held_elsewhere : ℕ → Which → ℕ → Opening → Bool
 is_held_elsewhere me which folder o = not (o.process == me) && (is_folder folder o.folder && (is_lock which o.target && is_some o.lock))
 
+-- the folder with this number stands in prepared, and the lock can be opened: for Claim it has its file
+abbrev pub OpensThere : PodId → Which → ℕ → DirState → Type 0
+OpensThere pod which folder s = (folder_at s.namespace (in_prepared pod) ≡ Some folder) × (refused_in (open_refusal which) s.entries (Some folder) ≡ None)
+
 -- the lock was opened in prepared, and later another process held it
 pub record HeldByAnother (pod : PodId) (which : Which) (me : ℕ) (old new : List Event) : Type 0 where
   pub folder : ℕ
   pub between : List Event
-  pub found : AtOwnStep me old between (λ s. folder_at s.namespace (in_prepared pod) ≡ Some folder)
+  pub found : AtOwnStep me old between (OpensThere pod which folder)
   pub held : AtOwnStep me between new (λ s. list_any (is_held_elsewhere me which folder) s.namespace.openings ≡ true)
 
 -- a read found the pod in prepared, and later its folder was missing there
@@ -122,6 +126,27 @@ pub record StopsAlone (observed : Bool) (pod : PodId) (stop : Setback) (old new 
 -- where the lock was refused, another process held it
 abbrev pub BusyElsewhere : PodId → Setback → DirAt → DirAt → Type 0
 BusyElsewhere pod stop old new = (which : Which) → stop ≡ setback.Refused (Busy pod which) → HeldByAnother pod which old.process old.trace new.trace
+
+-- the lock was opened in prepared and later had, and no other process held it then
+pub record HadAlone (pod : PodId) (which : Which) (me : ℕ) (old new : List Event) : Type 0 where
+  pub folder : ℕ
+  pub between : List Event
+  pub found : AtOwnStep me old between (OpensThere pod which folder)
+  pub free : AtOwnStep me between new (λ s. list_any (is_held_elsewhere me which folder) s.namespace.openings ≡ false)
+
+-- and so both were
+pub record HadBothAlone (pod : PodId) (me : ℕ) (old new : List Event) : Type 0 where
+  pub claim : HadAlone pod Claim me old new
+  pub own : HadAlone pod Own me old new
+
+-- before Own is asked for Claim is had
+abbrev pub HadClaim : PodId → Which → ℕ → List Event → List Event → Type 0
+HadClaim pod Own me old new = HadAlone pod Claim me old new
+HadClaim pod Claim me old new = Unit {0}
+
+-- where a lock was refused, another process held it, and the locks were asked for in their order
+abbrev pub BusyInTurn : PodId → Setback → DirAt → DirAt → Type 0
+BusyInTurn pod stop old new = (which : Which) → stop ≡ setback.Refused (Busy pod which) → HeldByAnother pod which old.process old.trace new.trace × HadClaim pod which old.process old.trace new.trace
 
 -- a pod isn't claimed for one of these causes
 pub record ClaimCause (observed : Bool) (pod : PodId) (error : ClaimError) (old new : DirAt) : Type 0 where

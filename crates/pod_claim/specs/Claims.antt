@@ -23,7 +23,7 @@ use Rattle.pod_claim.specs.declared.error.ClaimError.{ClaimError}
 use Rattle.pod_claim.specs.declared.error.ClaimError.TheVariants.{Busy, DirFault, NoMemory}
 use Rattle.pod_claim.specs.Requests.{in_prepared}
 use Rattle.pod_claim.specs.Holding.{and_lock, with_pod}
-use Rattle.pod_claim.specs.Causes.{is_held_elsewhere, HeldByAnother}
+use Rattle.pod_claim.specs.Causes.{is_held_elsewhere, HeldByAnother, HadClaim}
 
 -- what is open after a claim
 abbrev pub and_owned : Local → PodId → Result Owned ClaimError → Local
@@ -36,9 +36,9 @@ pub record HasPod (pod : PodId) (own : Handle) (s : Seen) (new : DirAt) : Type 0
   pub looked : Looked s known
   pub knows : Knows new (with_pod pod own known)
 
--- where the lock was refused, another process held it
+-- where a lock was refused, another process held it, and the locks were asked for in their order
 abbrev pub RefusedByAnother : PodId → ClaimError → DirAt → DirAt → Type 0
-RefusedByAnother pod error old new = (which : Which) → error ≡ Busy pod which → HeldByAnother pod which old.process old.trace new.trace
+RefusedByAnother pod error old new = (which : Which) → error ≡ Busy pod which → HeldByAnother pod which old.process old.trace new.trace × HadClaim pod which old.process old.trace new.trace
 
 -- the pod waits to be run with its manifest, and no other process holds a lock of it
 pub record IsFree (pod : PodId) (me : ℕ) (trace : List Event) : Type 0 where

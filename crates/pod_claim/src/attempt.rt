@@ -12,7 +12,7 @@ ghost use Rattle.phase_read.specs.Read.{IsRead};
 ghost use Rattle.phase_read.specs.declared.found.Found.TheVariants as found;
 ghost use Rattle.pod_claim.specs.Holding.{MayClaim, and_locked};
 ghost use Rattle.pod_claim.specs.Work.{Went, MovedNothing, TookBoth, Leaves};
-ghost use Rattle.pod_claim.specs.Causes.{is_prepared, ClaimCause, SetBack, BusyElsewhere};
+ghost use Rattle.pod_claim.specs.Causes.{is_prepared, ClaimCause, SetBack, BusyInTurn, HadBothAlone};
 ghost use Rattle.pod_claim.specs.Claims.{HasPod};
 ghost use Rattle.pod_claim.specs.Elsewhere.{MetOwner, MetOwnerThen};
 
@@ -71,9 +71,10 @@ pub(crate) fn attempt<D: Dir>(alloc: Global, dir: &mut D, pod: PodId) -> Result<
     ensures unopened { IfOk result (λ own. IsUnopened (D.shown dir.old).local own) }
     ensures order { IfOk result (λ own. D.observed ≡ true
         → TookBoth pod own (D.shown dir.old).process (D.shown dir.old).trace (D.shown dir.new).trace) }
+    ensures alone { IfOk result (λ own. D.observed ≡ true → HadBothAlone pod (D.shown dir.old).process (D.shown dir.old).trace (D.shown dir.new).trace) }
     ensures set_back { IfErr result (λ e. SetBack D.observed pod e (D.shown dir.old) (D.shown dir.new)) }
     ensures another { IfErr result (λ e. Leaves D.observed MayClaim (D.shown dir.old)
-        (λ s. BusyElsewhere pod e (D.shown dir.old) (D.shown dir.new))) }
+        (λ s. BusyInTurn pod e (D.shown dir.old) (D.shown dir.new))) }
     ensures owned_elsewhere { IfErr result (λ e. Leaves D.observed MayClaim (D.shown dir.old)
         (λ s. MetOwnerThen pod e (D.shown dir.old) (D.shown dir.new))) }
     ensures held { IfOk result (λ own. Leaves D.observed MayClaim (D.shown dir.old) (λ s. HasPod pod own s (D.shown dir.new))) }

@@ -7,7 +7,7 @@ ghost use Rattle.lifecycle.specs.Executions.{IsConforming};
 ghost use Rattle.phase_read.specs.Often.{ReadsAtMost};
 ghost use Rattle.pod_claim.specs.Holding.{MayClaim};
 ghost use Rattle.pod_claim.specs.Work.{Went, MovedNothing, TookBoth, Leaves};
-ghost use Rattle.pod_claim.specs.Causes.{ClaimCause};
+ghost use Rattle.pod_claim.specs.Causes.{ClaimCause, HadBothAlone};
 ghost use Rattle.pod_claim.specs.Claims.{and_owned, HasPod, RefusedByAnother, IsFreeThroughout, IsFailure};
 ghost use Rattle.pod_claim.specs.Elsewhere.{MetOwner};
 ghost use Rattle.pod_ownership.specs.Running.{IsOwned, RunsPod};
@@ -51,6 +51,7 @@ pub fn claim<D: Dir>(alloc: Global, dir: &mut D, pod: PodId) -> Result<Owned, Cl
         (λ s. MetOwner pod e (D.shown dir.old) (D.shown dir.new))) }
     ensures moved { IfOk result (λ owned. D.observed ≡ true
         → TookBoth pod owned.own (D.shown dir.old).process (D.shown dir.old).trace (D.shown dir.new).trace) }
+    ensures alone { IfOk result (λ owned. D.observed ≡ true → HadBothAlone pod (D.shown dir.old).process (D.shown dir.old).trace (D.shown dir.new).trace) }
     ensures still { IfErr result (λ e. D.observed ≡ true → MovedNothing (D.shown dir.old).process (D.shown dir.old).trace (D.shown dir.new).trace) }
     ensures runs { IfOk result (λ owned. Leaves D.observed MayClaim (D.shown dir.old) (λ s. RunsPod pod (D.shown dir.new))) }
     ensures held { IfOk result (λ owned. Leaves D.observed MayClaim (D.shown dir.old) (λ s. HasPod pod owned.own s (D.shown dir.new))) }

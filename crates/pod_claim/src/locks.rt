@@ -1,12 +1,14 @@
 // The two locks of a prepared pod, and its move to run under both.
 ghost use Rattle.std.specs.Prelude.{◌≡◌, [], true, IfOk, IfErr};
+ghost use Rattle.dir_model.specs.declared.pod.PodId.{PodId};
+ghost use Rattle.dir_model.specs.declared.spot.Which.{Which};
 ghost use Rattle.dir_model.specs.declared.spot.Which.TheVariants as lock;
 ghost use Rattle.dir_trait.specs.Local.{IsActive, IsUnopened};
 ghost use Rattle.dir_trait.specs.Knowledge.{Knows, OnlyLooks, LookedInto};
 ghost use Rattle.phase_read.specs.Often.{ReadsAtMost};
 ghost use Rattle.pod_claim.specs.Holding.{MayTake, MayClaim, HasClaim, and_locked, with_lock, with_pod};
 ghost use Rattle.pod_claim.specs.Work.{Went, InOrder, MovedNothing, takes, moves_on, TookBoth, Leaves};
-ghost use Rattle.pod_claim.specs.Causes.{Stopped, StopsAlone, IsAbsent, CannotOpen, BusyElsewhere};
+ghost use Rattle.pod_claim.specs.Causes.{Stopped, StopsAlone, IsAbsent, CannotOpen, BusyElsewhere, BusyInTurn, HadAlone, HadBothAlone};
 ghost use Rattle.pod_claim.specs.Claims.{HasPod};
 
 use crate::error::ClaimError;
@@ -29,6 +31,8 @@ fn take<D: Dir>(alloc: Global, dir: &mut D, pod: PodId, which: Which) -> Result<
     ensures stopped { IfErr result (λ e. Stopped D.observed pod (CannotOpen pod which) e (D.shown dir.old) (D.shown dir.new)) }
     ensures another { IfErr result (λ e. Leaves D.observed (MayTake pod which) (D.shown dir.old)
         (λ s. BusyElsewhere pod e (D.shown dir.old) (D.shown dir.new))) }
+    ensures alone { IfOk result (λ handle. D.observed ≡ true → HadAlone pod which (D.shown dir.old).process (D.shown dir.old).trace (D.shown dir.new).trace) }
+    ensures own { IfErr result (λ e. (other : PodId) (named : Which) → e ≡ Setback.Refused (ClaimError.Busy other named) → named ≡ which) }
     ensures held { IfOk result (λ handle. Leaves D.observed (MayTake pod which) (D.shown dir.old)
         (λ s. Knows (D.shown dir.new) (with_lock pod which handle s))) }
     ensures left { IfErr result (λ e. Leaves D.observed (MayTake pod which) (D.shown dir.old) (λ s. Knows (D.shown dir.new) s)) }
@@ -55,6 +59,7 @@ fn run_under_claim<D: Dir>(alloc: Global, dir: &mut D, pod: PodId) -> Result<Han
     ensures unopened { IfOk result (λ own. IsUnopened (D.shown dir.old).local own) }
     ensures order { IfOk result (λ own. D.observed ≡ true
         → InOrder (D.shown dir.old).process (D.shown dir.old).trace (D.shown dir.new).trace (takes pod lock.Own own (moves_on pod))) }
+    ensures alone { IfOk result (λ own. D.observed ≡ true → HadAlone pod lock.Own (D.shown dir.old).process (D.shown dir.old).trace (D.shown dir.new).trace) }
     ensures stopped { IfErr result (λ e. Stopped D.observed pod (IsAbsent pod) e (D.shown dir.old) (D.shown dir.new)) }
     ensures another { IfErr result (λ e. Leaves D.observed (HasClaim pod) (D.shown dir.old)
         (λ s. BusyElsewhere pod e (D.shown dir.old) (D.shown dir.new))) }
@@ -101,9 +106,10 @@ pub(crate) fn take_and_run<D: Dir>(
     ensures unopened { IfOk result (λ own. IsUnopened (D.shown dir.old).local own) }
     ensures order { IfOk result (λ own. D.observed ≡ true
         → TookBoth pod own (D.shown dir.old).process (D.shown dir.old).trace (D.shown dir.new).trace) }
+    ensures alone { IfOk result (λ own. D.observed ≡ true → HadBothAlone pod (D.shown dir.old).process (D.shown dir.old).trace (D.shown dir.new).trace) }
     ensures stopped { IfErr result (λ e. Stopped D.observed pod (IsAbsent pod) e (D.shown dir.old) (D.shown dir.new)) }
     ensures another { IfErr result (λ e. Leaves D.observed MayClaim (D.shown dir.old)
-        (λ s. BusyElsewhere pod e (D.shown dir.old) (D.shown dir.new))) }
+        (λ s. BusyInTurn pod e (D.shown dir.old) (D.shown dir.new))) }
     ensures held { IfOk result (λ own. Leaves D.observed MayClaim (D.shown dir.old)
         (λ s. Knows (D.shown dir.new) (with_pod pod own s))) }
     ensures left { IfErr result (λ e. Leaves D.observed MayClaim (D.shown dir.old) (λ s. LookedInto s (D.shown dir.new))) }

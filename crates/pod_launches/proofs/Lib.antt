@@ -1,8 +1,7 @@
-pub mod Names
-pub mod Reading
+pub mod Trees
 mod Rooted
 mod Found
 mod Lacking
-mod Tokens
 pub mod Later
 pub mod Apart
+pub use Rattle.pod_files.proofs.Names

@@ -1,5 +1,5 @@
 pub mod Places
-pub mod Looks
 pub mod Files
 pub mod Starts
 pub mod Refusals
+pub use Rattle.pod_files.specs.Looks

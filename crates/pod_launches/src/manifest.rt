@@ -1,36 +1,18 @@
-// The manifest of a pod in run.
+// The manifest of a pod in run, as a start needs it.
 ghost use Rattle.std.specs.Prelude.{◌≡◌, true, IfOk, IfErr, IsErrOf};
 ghost use Rattle.dir_model.specs.Causes.{Rose};
 ghost use Rattle.dir_model.specs.Local.{IsActive};
 ghost use Rattle.manifests.specs.PodData.{pod_data};
 ghost use Rattle.manifests.specs.ManifestRules.{IsPodManifest};
 ghost use Rattle.pod_launches.specs.Looks.{OnlyReadsPod};
-ghost use Rattle.pod_launches.specs.Files.{IsManifestOf, IsNoManifest, ReadsManifest, LacksManifest};
+ghost use Rattle.pod_launches.specs.Files.{ReadsManifest, LacksManifest};
 ghost use Rattle.pod_launches.specs.Refusals.{IsLack};
 
 use crate::error::LoadError;
-use crate::part::read_part;
-use ac_types::ReadError;
 use dir_trait::{Dir, PodId};
-use manifests::{PodManifest, read_pod};
+use manifests::PodManifest;
+use pod_files::FileError;
 use std::alloc::Global;
-
-// One byte more than a manifest may have, so that a longer one is told from the longest.
-const MOST_OF_MANIFEST: usize = 1_048_577;
-
-// The manifest that the bytes are.
-fn manifest_of(alloc: Global, bytes: &[u8]) -> Result<PodManifest, LoadError>
-    ensures ok { IfOk result (λ manifest. IsManifestOf (pod_data manifest) bytes.now) }
-    ensures kind { IfOk result (λ manifest. IsPodManifest (pod_data manifest)) }
-    ensures fault { IfErr result (IsLack (IsNoManifest bytes.now)) }
-    ensures calm { IsErrOf result LoadError.DirFault → ⊥ }
-{
-    match read_pod(alloc, bytes) {
-        Ok(manifest) => Ok(manifest),
-        Err(ReadError::Bad(_)) => Err(LoadError::NoManifest),
-        Err(ReadError::NoMemory) => Err(LoadError::NoMemory),
-    }
-}
 
 /// The manifest of the pod. `NoManifest` where there is no file `pod` in its folder, or it is no pod
 /// manifest; `DirFault` where the directory failed, `NoMemory` where memory ran out.
@@ -46,9 +28,10 @@ pub(crate) fn read_manifest<D: Dir>(
     ensures read { IfOk result (λ manifest. D.observed ≡ true → ReadsManifest pod (pod_data manifest) (D.shown dir.old) (D.shown dir.new)) }
     ensures lacks { IfErr result (IsLack (D.observed ≡ true → LacksManifest pod (D.shown dir.old) (D.shown dir.new))) }
 {
-    match read_part(alloc, dir, pod, "pod", MOST_OF_MANIFEST) {
-        Ok(Some(bytes)) => manifest_of(alloc, &bytes),
-        Ok(None) => Err(LoadError::NoManifest),
-        Err(error) => Err(error),
+    match pod_files::read_manifest(alloc, dir, pod) {
+        Ok(manifest) => Ok(manifest),
+        Err(FileError::Lacking) => Err(LoadError::NoManifest),
+        Err(FileError::DirFault) => Err(LoadError::DirFault),
+        Err(FileError::NoMemory) => Err(LoadError::NoMemory),
     }
 }

@@ -1,4 +1,4 @@
-// A file of a pod in run.
+// A file of a pod in run, as a start needs it.
 ghost use Rattle.std.specs.Prelude.{◌≡◌, ◌<◌, ◌≤◌, length, true, IfOk, IfErr, IfSome, IsErrOf, MatchOption};
 ghost use Rattle.dir_model.specs.Causes.{Rose};
 ghost use Rattle.dir_model.specs.Paths.{is_path};
@@ -9,8 +9,6 @@ ghost use Rattle.pod_launches.specs.Looks.{OnlyReadsPod};
 ghost use Rattle.pod_launches.specs.Refusals.{IsOutside};
 
 use crate::error::{LoadError, read_error};
-use crate::place::run_spot;
-use dir_files::read_file;
 use dir_trait::{Dir, PodId};
 use std::alloc::Global;
 
@@ -33,8 +31,7 @@ pub(crate) fn read_part<D: Dir>(
         (WasMissing (pod_file pod path.now) (D.shown dir.old) (D.shown dir.new))
         (λ bytes. ReadsUp (pod_file pod path.now) most (D.shown dir.old) (D.shown dir.new) bytes.items)) }
 {
-    let spot = run_spot(pod);
-    match read_file(alloc, dir, spot, path, most) {
+    match pod_files::read_part(alloc, dir, pod, path, most) {
         Ok(found) => Ok(found),
         Err(error) => Err(read_error(error)),
     }

@@ -1,21 +1,12 @@
-// Where a pod in run stands, and the paths of its files.
+// The paths of a pod's files, and the roots of its apps.
 ghost use Rattle.std.specs.Prelude.{◌≡◌, IfOk, string_bytes};
-ghost use Rattle.pod_launches.specs.Places.{run_spot, tree_path, told_path, root_of};
+ghost use Rattle.pod_launches.specs.Places.{tree_path, told_path, root_of};
 
 use ac_types::{AcName, NoMemory, Text};
-use dir_trait::{Area, FileName, PodId, Spot};
+use dir_trait::{FileName, PodId};
+use pod_files::run_spot;
 use spawner::RootPlace;
 use std::alloc::Global;
-
-/// Where the pod stands in run.
-pub(crate) fn run_spot(pod: PodId) -> Spot
-    ensures { result ≡ run_spot pod }
-{
-    Spot {
-        area: Area::Run,
-        name: pod.name(),
-    }
-}
 
 /// The path of the listing of an app's root.
 pub(crate) fn tree_path(alloc: Global, app: &str) -> Result<String, NoMemory>

@@ -1,56 +1,17 @@
-// The token of a pod in run.
+// The token of a pod in run, as a start needs it.
 ghost use Rattle.std.specs.Prelude.{◌≡◌, true, IfOk, IfErr, IsErrOf};
-ghost use Rattle.std.specs.List.{list_all};
 ghost use Rattle.dir_model.specs.Causes.{Rose};
 ghost use Rattle.dir_model.specs.Local.{IsActive};
 ghost use Rattle.pod_launches.specs.Places.{token_name, told_path};
 ghost use Rattle.pod_launches.specs.Looks.{OnlyReadsPod};
-ghost use Rattle.pod_launches.specs.Files.{is_digit, is_token, IsTokenOf, IsNoToken, ReadsToken, LacksToken};
+ghost use Rattle.pod_launches.specs.Files.{ReadsToken, LacksToken};
 ghost use Rattle.pod_launches.specs.Refusals.{IsDamageFor};
 
-use crate::error::{LoadError, damaged, no_memory};
-use crate::part::read_part;
+use crate::error::{LoadError, damaged};
 use ac_types::Text;
 use dir_trait::{Dir, PodId};
+use pod_files::FileError;
 use std::alloc::Global;
-use std::str;
-
-// One byte more than a token.
-const MOST_OF_TOKEN: usize = 33;
-
-fn is_digit(byte: u8) -> bool
-    ensures { result ≡ is_digit byte }
-{
-    (b'0'..=b'9').contains(&byte) || (b'a'..=b'f').contains(&byte)
-}
-
-fn are_digits(bytes: &[u8]) -> bool
-    ensures { result ≡ list_all is_digit bytes.now }
-{
-    bytes.iter().all(|byte| is_digit(*byte))
-}
-
-// Whether the bytes are 32 lower-case hex digits.
-fn is_token(bytes: &[u8]) -> bool
-    ensures { result ≡ is_token bytes.now }
-{
-    bytes.len() == 32 && are_digits(bytes)
-}
-
-// The token that the bytes are.
-fn token_of(alloc: Global, pod: PodId, bytes: &[u8]) -> Result<Text, LoadError>
-    ensures ok { IfOk result (λ token. IsTokenOf token bytes.now) }
-    ensures fault { IfErr result (IsDamageFor (told_path pod token_name) (IsNoToken bytes.now)) }
-    ensures calm { IsErrOf result LoadError.DirFault → ⊥ }
-{
-    if !is_token(bytes) {
-        return Err(damaged(alloc, pod, "token"));
-    }
-    match str::from_utf8(bytes) {
-        Ok(text) => Text::of(alloc, text).map_err(no_memory),
-        Err(_) => unreachable!(),
-    }
-}
 
 /// The token of the pod. `Damaged` where there is no file `token` in its folder, or it isn't 32 lower-case
 /// hex digits; `DirFault` and `NoMemory` as for the manifest.
@@ -61,9 +22,10 @@ pub(crate) fn read_token<D: Dir>(alloc: Global, dir: &mut D, pod: PodId) -> Resu
     ensures read { IfOk result (λ token. D.observed ≡ true → ReadsToken pod token (D.shown dir.old) (D.shown dir.new)) }
     ensures lacks { IfErr result (IsDamageFor (told_path pod token_name) (D.observed ≡ true → LacksToken pod (D.shown dir.old) (D.shown dir.new))) }
 {
-    match read_part(alloc, dir, pod, "token", MOST_OF_TOKEN) {
-        Ok(Some(bytes)) => token_of(alloc, pod, &bytes),
-        Ok(None) => Err(damaged(alloc, pod, "token")),
-        Err(error) => Err(error),
+    match pod_files::read_token(alloc, dir, pod) {
+        Ok(token) => Ok(token),
+        Err(FileError::Lacking) => Err(damaged(alloc, pod, "token")),
+        Err(FileError::DirFault) => Err(LoadError::DirFault),
+        Err(FileError::NoMemory) => Err(LoadError::NoMemory),
     }
 }

@@ -1,10 +1,7 @@
 -- The images of the store, read one after the other.
-use Rattle.std.proofs.Common.{◌≡◌, Bool, true, ℕ, List, [], ◌∷◌, ◌++◌, refl, sym, ap, subst, ◌∙◌}
+use Rattle.std.proofs.Common.{◌≡◌, Bool, true, ℕ, List, [], ◌∷◌, ◌++◌, length, refl, sym, ap, subst, ◌∙◌}
 use Rattle.std.specs.List.{AllZip, AllByRecursion}
-use Rattle.std.proofs.lemmas.List.Elements.{All-nil, All-cons}
 use Rattle.ac_types.specs.declared.store_key.StoreKey.{StoreKey}
-use Rattle.path_map.specs.Entries.{Entries, entry_at}
-use Rattle.tree_digest.specs.Listings.{AreListable}
 use Rattle.dep_match.specs.declared.stored.Stored.{Stored}
 use Rattle.dir_model.proofs.Lists.{all_weaker}
 use Rattle.dir_trait.specs.DirCalls.{DirAt}
@@ -15,21 +12,18 @@ use Rattle.image_reading.specs.Store.{keys, ReadsStore}
 use Rattle.image_reading.proofs.Widths.{file_after, file_before, told_before}
 use Rattle.image_reading.proofs.Images.{image_before}
 use Rattle.image_reading.specs.declared.file.KeptManifest.{KeptManifest}
-use Rattle.pod_choice.specs.Choices.{AreAllListable}
 use Rattle.pod_reading.specs.declared.images.StoreImages.{StoreImages}
-use Rattle.pod_reading.specs.Readings.{HasManifest, HasTree, HaveManifests, HaveTrees, KnowsManifest, KnowsTree, with_manifest, IsReadAgain, ReadsNext, AreReadAgain, ReadsImages, AreInOrder}
+use Rattle.pod_reading.specs.Readings.{HasManifest, HaveManifests, KnowsManifest, with_manifest, IsReadAgain, ReadsNext, AreReadAgain, ReadsImages}
 use Rattle.pod_reading.proofs.Zips.{zip_more, zip_length, zip_weaker}
-use Rattle.pod_reading.proofs.Lacks.{tree_after, tree_before}
 
 -- the manifest that was read, with the bytes that were kept
 pub kept_manifest : (listed : Stored) (kept : KeptManifest) {old new : DirAt} → ReadsKept listed.key kept old new → HasManifest (with_manifest listed kept.manifest) kept.bytes.items old new
 kept_manifest listed kept r = record { bytes = r.bytes; few = r.few; read = r.read; holds = (sym r.holds.0, r.holds.1) }
 
-pub again_start : {observed : Bool} (listed : List Stored) (read : StoreImages) {d : DirAt} → listed ≡ [] → read.images.items ≡ [] → read.manifests.items ≡ [] → read.maps.items ≡ [] → AreReadAgain observed listed read d d
-again_start {observed} listed read {d} l i m t = record {
+pub again_start : {observed : Bool} (listed : List Stored) (read : StoreImages) {d : DirAt} → listed ≡ [] → read.images.items ≡ [] → read.manifests.items ≡ [] → AreReadAgain observed listed read d d
+again_start {observed} listed read {d} l i m = record {
   same = subst (λ (xs : List Stored). AllZip IsReadAgain xs read.images.items) (sym l) (subst (λ (xs : List Stored). AllZip IsReadAgain [] xs) (sym i) tt);
   manifests = subst (λ (xs : List Stored). AllZip (KnowsManifest observed d d) xs read.manifests.items) (sym i) (subst (λ (xs : List (List ℕ)). AllZip (KnowsManifest observed d d) [] xs) (sym m) tt);
-  maps = subst (λ (xs : List Stored). AllZip (KnowsTree observed d d) xs read.maps.items) (sym i) (subst (λ (xs : List Entries). AllZip (KnowsTree observed d d) [] xs) (sym t) tt);
 }
 
 -- two lists that grew
@@ -41,9 +35,6 @@ module _ {observed : Bool} {a b c : DirAt} (ab : OnlyReadsImages observed a b) (
   manifest_later : (image : Stored) (bytes : List ℕ) → KnowsManifest observed a b image bytes → KnowsManifest observed a c image bytes
   manifest_later image bytes h = λ t. file_before t (h t) bc
 
-  tree_later : (image : Stored) (map : Entries) → KnowsTree observed a b image map → KnowsTree observed a c image map
-  tree_later image map h = (h.0, λ t. tree_before t image.key map (h.1 t) bc)
-
   -- one image more
   pub again_more : (listed more : List Stored) (image : Stored) (before after : StoreImages) → more ≡ listed ++ image ∷ [] → AreReadAgain observed listed before a b → ReadsNext observed image before after b c → AreReadAgain observed more after a c
   again_more listed more image before after grown known next =
@@ -52,13 +43,11 @@ module _ {observed : Bool} {a b c : DirAt} (ab : OnlyReadsImages observed a b) (
         same = grown_zip IsReadAgain listed more before.images.items after.images.items image fresh grown next.adds.images known.same refl;
         manifests = grown_zip (KnowsManifest observed a c) before.images.items after.images.items before.manifests.items after.manifests.items fresh next.bytes next.adds.images next.adds.manifests
             (zip_weaker (KnowsManifest observed a b) (KnowsManifest observed a c) manifest_later before.images.items before.manifests.items known.manifests) (λ t. file_after t ab (next.manifest_read t));
-        maps = grown_zip (KnowsTree observed a c) before.images.items after.images.items before.maps.items after.maps.items fresh next.map next.adds.images next.adds.maps
-            (zip_weaker (KnowsTree observed a b) (KnowsTree observed a c) tree_later before.images.items before.maps.items known.maps) (next.listable, λ t. tree_after t image.key next.map ab (next.tree_read t));
       }
 
--- the trees that were read before
-pub trees_later : {observed : Bool} {a b c : DirAt} (t : observed ≡ true) {listed : List Stored} → OnlyReadsImages observed b c → (read : StoreImages) → AreReadAgain observed listed read a b → HaveTrees read.images.items read.maps.items a c
-trees_later {observed} {a} {b} {c} t bc read again = zip_weaker (KnowsTree observed a b) (λ (i : Stored) m. HasTree i.key m a c) (λ i m h. tree_before t i.key m (h.1 t) bc) read.images.items read.maps.items again.maps
+-- the manifests that were read before
+pub manifests_later : {observed : Bool} {a b c : DirAt} (t : observed ≡ true) {listed : List Stored} → OnlyReadsImages observed b c → (read : StoreImages) → AreReadAgain observed listed read a b → HaveManifests read.images.items read.manifests.items a c
+manifests_later {observed} {a} {b} {c} t bc read again = zip_weaker (KnowsManifest observed a b) (λ i m. HasManifest i m a c) (λ i m h. file_before t (h t) bc) read.images.items read.manifests.items again.manifests
 
 same_keys : (listed images : List Stored) → AllZip IsReadAgain listed images → keys images ≡ keys listed
 same_keys [] [] same = refl
@@ -86,9 +75,6 @@ module _ {observed : Bool} {a b c : DirAt} (ab : OnlyReadsImages observed a b) (
   manifests_since : AllZip (KnowsManifest observed a c) read.images.items read.manifests.items
   manifests_since = zip_weaker (KnowsManifest observed b c) (KnowsManifest observed a c) (λ i m h. λ t. file_after t ab (h t)) read.images.items read.manifests.items again.manifests
 
-  trees_since : AllZip (KnowsTree observed a c) read.images.items read.maps.items
-  trees_since = zip_weaker (KnowsTree observed b c) (KnowsTree observed a c) (λ i m h. (h.0, λ t. tree_after t i.key m ab (h.1 t))) read.images.items read.maps.items again.maps
-
   store_since : observed ≡ true → ReadsStore read.images.items a c
   store_since t =
       let first = store t in
@@ -105,7 +91,7 @@ module _ {observed : Bool} {a b c : DirAt} (ab : OnlyReadsImages observed a b) (
 
   -- all of them, as the store's images
   pub images_read : ReadsImages observed read a c
-  images_read = record { listed = store_since; manifests = manifests_since; maps = trees_since }
+  images_read = record { listed = store_since; manifests = manifests_since }
 
 pub listed_before : {observed : Bool} {a b c : DirAt} (t : observed ≡ true) (images : List Stored) → ReadsStore images a b → OnlyReadsImages observed b c → ReadsStore images a c
 listed_before {observed} {a} {b} {c} t images s bc = record {
@@ -115,23 +101,13 @@ listed_before {observed} {a} {b} {c} t images s bc = record {
   read = record { of_names = s.read.of_names; each = all_weaker (λ x. ReadsImage x a b) (λ x. ReadsImage x a c) (λ x h. image_before t h bc) images s.read.each };
 }
 
--- what was read is in order
-all_listable : (observed : Bool) (old new : DirAt) (images : List Stored) (maps : List Entries) → AllZip (KnowsTree observed old new) images maps → AreAllListable maps
-all_listable observed old new [] [] all = All-nil (λ map. AreListable (entry_at map))
-all_listable observed old new [] (m ∷ maps) all = absurd all
-all_listable observed old new (i ∷ images) [] all = absurd all
-all_listable observed old new (i ∷ images) (m ∷ maps) all = All-cons (λ map. AreListable (entry_at map)) m maps all.0.0 (all_listable observed old new images maps all.1)
-
 module _ {observed : Bool} {old new : DirAt} (read : StoreImages) (known : ReadsImages observed read old new) where
-  pub in_order : AreInOrder read
-  in_order = record {
-    manifests = zip_length (KnowsManifest observed old new) read.images.items read.manifests.items known.manifests;
-    maps = zip_length (KnowsTree observed old new) read.images.items read.maps.items known.maps;
-    listable = all_listable observed old new read.images.items read.maps.items known.maps;
-  }
+  pub as_many : length read.manifests.items ≡ length read.images.items
+  as_many = zip_length (KnowsManifest observed old new) read.images.items read.manifests.items known.manifests
 
   pub have_manifests : observed ≡ true → HaveManifests read.images.items read.manifests.items old new
   have_manifests t = zip_weaker (KnowsManifest observed old new) (λ i m. HasManifest i m old new) (λ i m h. h t) read.images.items read.manifests.items known.manifests
 
-  pub have_trees : observed ≡ true → HaveTrees read.images.items read.maps.items old new
-  have_trees t = zip_weaker (KnowsTree observed old new) (λ (i : Stored) m. HasTree i.key m old new) (λ i m h. h.1 t) read.images.items read.maps.items known.maps
+-- the manifests that were read before something else was
+pub manifests_before : {observed : Bool} (a : DirAt) {b c : DirAt} (t : observed ≡ true) (images : List Stored) (manifests : List (List ℕ)) → HaveManifests images manifests a b → OnlyReadsImages observed b c → HaveManifests images manifests a c
+manifests_before {observed} a {b} {c} t images manifests are bc = zip_weaker (λ i m. HasManifest i m a b) (λ i m. HasManifest i m a c) (λ i m h. file_before t h bc) images manifests are

@@ -1,9 +1,8 @@
 -- The pod of a plan is made of the images that were read.
-use Rattle.std.proofs.Common.{◌≡◌, ◌<◌, ℕ, List, [], ◌∷◌, Option, Some, None, Ok, length, map, get_or, refl, sym, ap, subst, ◌∙◌}
+use Rattle.std.proofs.Common.{◌≡◌, ◌<◌, ℕ, Bool, true, List, [], ◌∷◌, Option, Some, None, Ok, length, map, get_or, refl, sym, ap, subst, ◌∙◌}
 use Rattle.std.specs.List.{All, AllZip, AllByRecursion, slice_get, cons_option}
 use Rattle.std.proofs.lemmas.List.Elements.{All-nil, All-cons, All-head, All-tail, All-map}
 use Rattle.ac_types.specs.declared.image_ref.ImageRef.{ImageRef}
-use Rattle.ac_types.specs.declared.store_key.StoreKey.{StoreKey}
 use Rattle.path_map.specs.Entries.{Entries}
 use Rattle.tree_digest.specs.Listings.{entries_of, lines_of}
 use Rattle.manifest_parts.specs.PartRules.{IsImageId}
@@ -14,10 +13,8 @@ use Rattle.manifests.specs.PodData.{RuntimeAppData, pod_data, runtime_app_data}
 use Rattle.manifests.proofs.Manifests.{image_manifest_given}
 use Rattle.dep_match.specs.declared.stored.Stored.{Stored}
 use Rattle.dep_match.specs.declared.dep_tree.DepTree.{DepTree}
-use Rattle.dep_match.specs.Dependencies.{dependency_tree, key_at}
-use Rattle.dep_match.specs.TreeOrder.{node_at}
-use Rattle.dep_match.proofs.OrderedTrees.{tree_ordered}
-use Rattle.render.specs.Assembly.{own_entries, own_whitelist, IsAssembly}
+use Rattle.dep_match.specs.Dependencies.{dependency_tree}
+use Rattle.render.specs.Assembly.{own_whitelist, IsAssembly}
 use Rattle.dir_trait.specs.DirCalls.{DirAt}
 use Rattle.folder_building.specs.declared.plan.PlanEntry.{PlanEntry}
 use Rattle.image_reading.specs.Files.{IsManifestOf}
@@ -28,14 +25,15 @@ use Rattle.pod_manifest.specs.Inputs.{IsImage}
 use Rattle.pod_manifest.specs.Wishes.{Wishes}
 use Rattle.pod_manifest.proofs.Picks.{all_picked}
 use Rattle.pod_manifest.proofs.PodManifests.{pod_good}
-use Rattle.pod_choice.specs.declared.root.Root.{Root}
-use Rattle.pod_choice.specs.Choices.{AreTrees, AreRoots, IsRoot}
+use Rattle.pod_choice.specs.Choices.{AreTrees}
 use Rattle.pod_plans.specs.Pods.{files_of, IsPod}
-use Rattle.pod_reading.specs.Readings.{HasManifest, HasTree, HaveManifests, HaveTrees}
+use Rattle.pod_reading.specs.Readings.{HasManifest, HaveManifests}
+use Rattle.pod_reading.specs.declared.root.Root.{Root}
+use Rattle.pod_reading.specs.Roots.{IsRoot, AreRoots}
 use Rattle.pod_reading.specs.Plans.{app_with, apps_with, apps_of, PlansChoice}
 use Rattle.pod_reading.specs.FaithfulPods.{StoreRead, IsRootOf, IsAppOf, read_between, PlansFaithfully}
 use Rattle.pod_reading.proofs.Zips.{zip_at, found_at, head_of, tail_of}
-use Rattle.pod_reading.proofs.Keys.{key_there, one_with_id}
+use Rattle.pod_reading.proofs.Keys.{one_with_id}
 use Rattle.pod_reading.proofs.Ready.{picks_within, no_fault, apps_are}
 
 -- the entries of the lines of a map are the map's
@@ -43,33 +41,27 @@ entries_again : (map : Entries) → entries_of (lines_of map) ≡ map
 entries_again [] = refl
 entries_again (e ∷ map) = ap (λ (es : Entries). e ∷ es) (entries_again map)
 
-module _ {old new : DirAt} (images : List Stored) (manifests : List (List ℕ)) (maps : List Entries) (listed : ReadsStore images old new) (bytes : HaveManifests images manifests old new) (trees : HaveTrees images maps old new) where
+module _ {observed : Bool} (told : observed ≡ true) {old new : DirAt} (images : List Stored) (manifests : List (List ℕ)) (listed : ReadsStore images old new) (bytes : HaveManifests images manifests old new) where
   abbrev read : StoreRead
   read = read_between images old new
 
   -- ---- an app's root
-  tree_at : (i : ℕ) → i < length images → (own : Entries) → own ≡ get_or maps i [] → HasTree (key_at images i) own old new
-  tree_at i within own is =
-      let image = found_at images i within in
-      subst (λ (es : Entries). HasTree (key_at images i) es old new) (sym is)
-      (subst (λ (key : StoreKey). HasTree key (get_or maps i []) old new) (sym (key_there images i image.0 image.1)) (zip_at (λ (x : Stored) m. HasTree x.key m old new) images maps i image.0 [] trees image.1))
-
-  root_of : (place : ℕ) (t : DepTree) (root : Root) → place < length images → dependency_tree images place ≡ Ok t.nodes → IsRoot images maps t root → IsRootOf read place (entries_of root.listing)
-  root_of place t root within made is =
-      let order = tree_ordered images place t.nodes within made in
+  root_of : (place : ℕ) (t : DepTree) (root : Root) → dependency_tree images place ≡ Ok t.nodes → IsRoot observed images old new t root → IsRootOf read place (entries_of root.listing)
+  root_of place t root made is =
+      let own = is.rendered.own in
       let whole : root.rendering.map ≡ entries_of root.listing = sym (ap entries_of is.listing ∙ entries_again root.rendering.map) in
       record {
         nodes = t.nodes;
         tree = made;
-        own = own_entries t.nodes maps;
-        each = λ n inside. tree_at (node_at t.nodes n).image (order.images n (record { image = 0; children = [] }) inside) (own_entries t.nodes maps n) refl;
-        rendered = subst (λ (es : Entries). IsAssembly t.nodes (own_whitelist t.nodes images) (own_entries t.nodes maps) (length t.nodes) 0 es) whole is.rendering;
+        own = own;
+        each = λ n inside. (is.rendered.read n inside).read told;
+        rendered = subst (λ (es : Entries). IsAssembly t.nodes (own_whitelist t.nodes images) own (length t.nodes) 0 es) whole is.rendered.rendering;
       }
 
   -- ---- an app
-  app_is : (options : Wishes) (place : ℕ) (image : Stored) (named : RuntimeApp) (t : DepTree) (root : Root) → place < length images → slice_get images place ≡ Some image → runtime_app_data named ≡ app_of options image
-      → dependency_tree images place ≡ Ok t.nodes → IsRoot images maps t root → IsAppOf read (app_of options image) (files_of (app_with named (get_or manifests place []) root))
-  app_is options place image named t root within at same made is =
+  app_is : (options : Wishes) (place : ℕ) (image : Stored) (named : RuntimeApp) (t : DepTree) (root : Root) → slice_get images place ≡ Some image → runtime_app_data named ≡ app_of options image
+      → dependency_tree images place ≡ Ok t.nodes → IsRoot observed images old new t root → IsAppOf read (app_of options image) (files_of (app_with named (get_or manifests place []) root))
+  app_is options place image named t root at same made is =
       let m = zip_at (λ x b. HasManifest x b old new) images manifests place image [] bytes at in
       record {
         place = place;
@@ -78,10 +70,10 @@ module _ {old new : DirAt} (images : List Stored) (manifests : List (List ℕ)) 
         name = ap (λ (d : RuntimeAppData). d.name) same;
         manifest = record { bytes = m.bytes; few = m.few; read = m.read; holds = m.holds.0 };
         says = subst (λ (b : List ℕ). IsManifestOf image.manifest b) m.holds.0 m.holds.1;
-        root = root_of place t root within made is;
+        root = root_of place t root made is;
       }
 
-  each_app : (options : Wishes) (picks : List ℕ) (ts : List DepTree) (named : List RuntimeApp) (roots : List Root) → All (λ i. i < length images) picks → AreTrees images picks ts → AreRoots images maps ts roots
+  each_app : (options : Wishes) (picks : List ℕ) (ts : List DepTree) (named : List RuntimeApp) (roots : List Root) → All (λ i. i < length images) picks → AreTrees images picks ts → AreRoots observed images old new ts roots
       → map runtime_app_data named ≡ map (app_of options) (picked images picks) → AllZip (IsAppOf read) (map (app_of options) (picked images picks)) (map files_of (apps_with manifests picks named roots))
   each_app options [] ts named roots within are rooted same = tt
   each_app options (p ∷ picks) [] named roots within are rooted same = let no : ⊥ = cc in absurd no
@@ -106,7 +98,7 @@ module _ {old new : DirAt} (images : List Stored) (manifests : List (List ℕ)) 
           let first = head_of (runtime_app_data a) (app_of options image) (map runtime_app_data named) (map (app_of options) (picked images picks)) h in
           let others = tail_of (runtime_app_data a) (app_of options image) (map runtime_app_data named) (map (app_of options) (picked images picks)) h in
           let made = head_of (dependency_tree images p) (Ok t.nodes) (map (dependency_tree images) picks) (map (λ (x : DepTree). Ok x.nodes) ts) are in
-          (app_is options p image a t root here is first made rooted.0, rest others)
+          (app_is options p image a t root is first made rooted.0, rest others)
 
   -- ---- the manifest
   all_of : (P : Stored → Type 0) → ((image : Stored) → ReadsImage image old new → P image) → (xs : List Stored) → AllByRecursion (λ x. ReadsImage x old new) xs → All P xs
@@ -119,7 +111,7 @@ module _ {old new : DirAt} (images : List Stored) (manifests : List (List ℕ)) 
   id_good : (image : Stored) → ReadsImage image old new → IsImageId image.id
   id_good image r = r.id.holds.kind
 
-  module _ {refs : List ImageRef} {options : Wishes} {now : ℕ} {token : List ℕ} {plan : List PlanEntry} (p : PlansChoice images manifests maps refs options now token plan) where
+  module _ {refs : List ImageRef} {options : Wishes} {now : ℕ} {token : List ℕ} {plan : List PlanEntry} (p : PlansChoice observed images manifests refs options now token plan old new) where
     manifest_good : IsPodManifest (pod_data p.choice.manifest)
     manifest_good =
         let there = picked images p.choice.picks in
@@ -128,24 +120,22 @@ module _ {old new : DirAt} (images : List Stored) (manifests : List (List ℕ)) 
         (All-map (λ (a : RuntimeAppData). IsImageId a.image.id) (app_of options) there (all_picked (λ (i : Stored). IsImageId i.id) images p.choice.picks (all_of (λ (i : Stored). IsImageId i.id) id_good images listed.read.each)))
         (all_picked IsImage images p.choice.picks (all_of IsImage image_good images listed.read.each)))
 
-    apps_good : AllZip (IsAppOf read) (pod_data p.choice.manifest).apps (map files_of (apps_of manifests p.choice))
+    apps_good : AllZip (IsAppOf read) (pod_data p.choice.manifest).apps (map files_of (apps_of manifests p.choice p.roots))
     apps_good =
         let same = apps_are p.choice p.chosen.1 in
-        subst (λ (apps : List RuntimeAppData). AllZip (IsAppOf read) apps (map files_of (apps_of manifests p.choice))) (sym same)
-        (each_app options p.choice.picks p.chosen.1.trees p.choice.manifest.apps p.choice.roots (picks_within images refs p.choice.picks p.chosen.0) p.chosen.1.dependencies p.chosen.1.roots same)
+        subst (λ (apps : List RuntimeAppData). AllZip (IsAppOf read) apps (map files_of (apps_of manifests p.choice p.roots))) (sym same)
+        (each_app options p.choice.picks p.choice.trees p.choice.manifest.apps p.roots (picks_within images refs p.choice.picks p.chosen.0) p.chosen.1.dependencies p.rooted same)
 
     pub plans_faithfully : PlansFaithfully refs options now token plan old new
     plans_faithfully = record {
       images = images;
-      maps = maps;
       listed = listed;
-      trees = trees;
       choice = p.choice;
       chosen = p.chosen;
       makes = λ entries made. record {
         kind = manifest_good;
-        apps = map files_of (apps_of manifests p.choice);
+        apps = map files_of (apps_of manifests p.choice p.roots);
         each = apps_good;
-        pod = subst (λ (text : List ℕ). IsPod now token text (map files_of (apps_of manifests p.choice)) entries) (p.planned.written manifest_good) (p.planned.makes entries made);
+        pod = subst (λ (text : List ℕ). IsPod now token text (map files_of (apps_of manifests p.choice p.roots)) entries) (p.planned.written manifest_good) (p.planned.makes entries made);
       };
     }

@@ -1,5 +1,5 @@
 -- No two images of the store have one ID.
-use Rattle.std.proofs.Common.{◌≡◌, ℕ, zero, suc, List, [], ◌∷◌, Option, Some, None, take, refl, sym, ap, subst, ◌∙◌}
+use Rattle.std.proofs.Common.{◌≡◌, ◌<◌, ℕ, zero, suc, List, [], ◌∷◌, Option, Some, None, length, get_or, arith, take, refl, sym, ap, subst, ◌∙◌}
 use Rattle.std.specs.Ordering.{nat_cmp, ordering_reverse}
 use Rattle.std.specs.declared.cmp.Ordering.TheVariants.{Less}
 use Rattle.std.specs.Cmp.Lexicographic.{slice_cmp}
@@ -71,6 +71,11 @@ pub key_there : (images : List Stored) (i : ℕ) (image : Stored) → slice_get 
 key_there [] i image is = let no : ⊥ = cc in absurd no
 key_there (x ∷ images) zero image is = let same : x ≡ image = cc in ap (λ (s : Stored). s.key) same
 key_there (x ∷ images) (suc i) image is = key_there images i image is
+
+pub key_read : (images : List Stored) (i : ℕ) (d : Stored) → i < length images → key_at images i ≡ (get_or images i d).key
+key_read [] i d within = absurd (omega arith)
+key_read (x ∷ images) zero d within = refl
+key_read (x ∷ images) (suc i) d within = key_read images i d (omega (arith, within))
 
 key_found : (images : List Stored) (i : ℕ) (image : Stored) → slice_get images i ≡ Some image → slice_get (keys images) i ≡ Some image.key
 key_found [] i image is = let no : ⊥ = cc in absurd no

@@ -3,6 +3,10 @@ pub mod Results
 pub mod Keys
 pub mod Lacks
 pub mod Again
+pub mod Times
+pub mod Once
+pub mod Laid
+pub mod Rooted
 pub mod Ready
 pub mod Picked
 pub mod Faithful

@@ -2,7 +2,7 @@
 use Rattle.std.proofs.Common.{◌≡◌, ◌<◌, ◌+◌, ℕ, suc, List, [], ◌∷◌, ◌++◌, length, get_or, drop, sym, ap, ◌∙◌, append_assoc, append-nil}
 use Rattle.std.proofs.lemmas.List.{drop_more}
 use Rattle.manifests.specs.declared.runtime_app.RuntimeApp.{RuntimeApp}
-use Rattle.pod_choice.specs.declared.root.Root.{Root}
+use Rattle.pod_reading.specs.declared.root.Root.{Root}
 use Rattle.pod_plans.specs.declared.pod_app.PodApp.{PodApp}
 use Rattle.pod_reading.specs.Plans.{app_with, apps_with}
 

@@ -1,6 +1,6 @@
 -- What is known of a result, carried on.
 use Rattle.std.proofs.Common.{◌≡◌, ℕ, Bool, true, List, Result, Ok, Err, refl, sym, subst}
-use Rattle.std.specs.Prelude.{IfOk, IfErr}
+use Rattle.std.specs.Prelude.{IfOk, IfErr, IsErrAnd}
 use Rattle.image_reading.specs.declared.error.StoreError.{StoreError}
 use Rattle.image_reading.specs.declared.error.StoreError.TheVariants.{Damaged, DirFault, NoMemory}
 use Rattle.image_reading.specs.Refusals.{IsReadRefusal}
@@ -17,6 +17,15 @@ if_err P Q (Err e) f h = f e h
 pub ok_both : {A E : Type 0} (P Q R : A → Type 0) (r : Result A E) → ((a : A) → P a → Q a → R a) → IfOk r P → IfOk r Q → IfOk r R
 ok_both P Q R (Ok a) f p q = f a p q
 ok_both P Q R (Err e) f p q = tt
+
+pub ok_three : {A E : Type 0} (P Q R S : A → Type 0) (r : Result A E) → ((a : A) → P a → Q a → R a → S a) → IfOk r P → IfOk r Q → IfOk r R → IfOk r S
+ok_three P Q R S (Ok a) f p q h = f a p q h
+ok_three P Q R S (Err e) f p q h = tt
+
+-- an error that is known
+pub err_is : {A E : Type 0} (Q : E → Type 0) (r : Result A E) (x : E) → IsErrAnd r (λ e. e ≡ x) → Q x → IfErr r Q
+err_is Q (Ok a) x is h = tt
+err_is Q (Err e) x is h = subst Q (sym is) h
 
 -- the same value in another answer
 pub ok_same : {A E F : Type 0} (P : A → Type 0) (r : Result A E) (other : Result A F) → ((a : A) → other ≡ Ok a → r ≡ Ok a) → IfOk r P → IfOk other P

@@ -25,7 +25,6 @@ use Rattle.pod_manifest.specs.Wishes.{Wishes}
 use Rattle.pod_choice.specs.declared.choice.Choice.{Choice}
 use Rattle.pod_choice.specs.Choices.{IsChoice}
 use Rattle.pod_plans.specs.Pods.{AppFiles, IsPod}
-use Rattle.pod_reading.specs.Readings.{HaveTrees}
 
 -- what a maker read in the store: the images that it listed, and of which bytes a manifest is and which lines a listing,
 -- by the image's key
@@ -83,9 +82,7 @@ read_between images old new = record {
 -- wherever the plan is carried out, the folder is the pod that the references make of the images that were read
 pub record PlansFaithfully (refs : List ImageRef) (options : Wishes) (now : ℕ) (token : List ℕ) (plan : List PlanEntry) (old new : DirAt) : Type 0 where
   pub images : List Stored
-  pub maps : List Entries
   pub listed : ReadsStore images old new
-  pub trees : HaveTrees images maps old new
   pub choice : Choice
-  pub chosen : IsChoice images maps refs options choice
+  pub chosen : IsChoice images refs options choice
   pub makes : (entries : List Entry) → AreMade plan entries → IsPodOf (read_between images old new) (pod_data choice.manifest) now token entries

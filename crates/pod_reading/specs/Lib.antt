@@ -1,4 +1,7 @@
 pub mod Readings
 pub mod Refusals
+pub mod Roots
+pub mod RootRefusals
+pub mod NoPlans
 pub mod Plans
 pub mod FaithfulPods

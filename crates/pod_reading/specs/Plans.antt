@@ -1,10 +1,9 @@
 -- The plan of a pod: its apps, from the images that were picked for it.
-use Rattle.std.specs.Prelude.{◌≡◌, ◌<◌, ℕ, List, [], ◌∷◌, length, map, slice_index_or, bytes_eq}
+use Rattle.std.specs.Prelude.{◌≡◌, ◌<◌, ℕ, Bool, List, [], ◌∷◌, length, map, slice_index_or, bytes_eq}
 use Rattle.std.specs.List.{All, IsDistinct}
 use Rattle.serde_json.specs.Written.{compact_text}
 use Rattle.ac_types.specs.declared.image_ref.ImageRef.{ImageRef}
 use Rattle.ac_types.specs.Ids.{id_text}
-use Rattle.path_map.specs.Entries.{Entries}
 use Rattle.manifests.specs.declared.runtime_app.RuntimeApp.{RuntimeApp}
 use Rattle.manifests.specs.PodData.{pod_data}
 use Rattle.manifests.specs.ManifestRules.{IsPodManifest}
@@ -13,11 +12,13 @@ use Rattle.dep_match.specs.declared.stored.Stored.{Stored}
 use Rattle.folder_building.specs.declared.plan.PlanEntry.{PlanEntry}
 use Rattle.pod_manifest.specs.Wishes.{Wishes, AreWishes}
 use Rattle.pod_choice.specs.declared.choice.Choice.{Choice}
-use Rattle.pod_choice.specs.declared.root.Root.{Root}
 use Rattle.pod_choice.specs.Choices.{IsChoice}
 use Rattle.pod_plans.specs.declared.pod_app.PodApp.{PodApp}
 use Rattle.pod_plans.specs.PodPlans.{pod_entries}
 use Rattle.pod_plans.specs.Pods.{files_of, MakesPod}
+use Rattle.dir_trait.specs.DirCalls.{DirAt}
+use Rattle.pod_reading.specs.declared.root.Root.{Root}
+use Rattle.pod_reading.specs.Roots.{AreRoots}
 
 -- the names of the images' folders
 abbrev pub folders : List Stored → List (List ℕ)
@@ -34,31 +35,33 @@ apps_with manifests (pick ∷ picks) [] roots = []
 apps_with manifests (pick ∷ picks) (app ∷ named) [] = []
 apps_with manifests (pick ∷ picks) (app ∷ named) (root ∷ roots) = app_with app (slice_index_or manifests pick []) root ∷ apps_with manifests picks named roots
 
-abbrev pub apps_of : List (List ℕ) → Choice → List PodApp
-apps_of manifests choice = apps_with manifests choice.picks choice.manifest.apps choice.roots
+abbrev pub apps_of : List (List ℕ) → Choice → List Root → List PodApp
+apps_of manifests choice roots = apps_with manifests choice.picks choice.manifest.apps roots
 
 -- each of its apps has a root and an image among so many, and no two have one name
-pub record IsReady (count : ℕ) (choice : Choice) : Type 0 where
+pub record IsReady (count : ℕ) (choice : Choice) (roots : List Root) : Type 0 where
   pub within : All (λ pick. pick < count) choice.picks
   pub named : length choice.manifest.apps ≡ length choice.picks
-  pub roots : length choice.roots ≡ length choice.picks
+  pub rooted : length roots ≡ length choice.picks
   pub names : IsDistinct bytes_eq (map (λ (app : RuntimeApp). app.name) choice.manifest.apps)
 
 -- the text of its manifest, and its apps
-pub record ArePartsOf (manifests : List (List ℕ)) (choice : Choice) (text : List ℕ) (apps : List PodApp) : Type 0 where
+pub record ArePartsOf (manifests : List (List ℕ)) (choice : Choice) (roots : List Root) (text : List ℕ) (apps : List PodApp) : Type 0 where
   pub written : IsPodManifest (pod_data choice.manifest) → text ≡ compact_text (pod_object (pod_data choice.manifest))
-  pub made : apps ≡ apps_of manifests choice
+  pub made : apps ≡ apps_of manifests choice roots
 
 -- the plan of that pod, whose files are copied from the folders of the images
-pub record IsPlanOf (images : List Stored) (manifests : List (List ℕ)) (choice : Choice) (now : ℕ) (token : List ℕ) (plan : List PlanEntry) : Type 0 where
+pub record IsPlanOf (images : List Stored) (manifests : List (List ℕ)) (choice : Choice) (roots : List Root) (now : ℕ) (token : List ℕ) (plan : List PlanEntry) : Type 0 where
   pub text : List ℕ
   pub written : IsPodManifest (pod_data choice.manifest) → text ≡ compact_text (pod_object (pod_data choice.manifest))
-  pub entries : plan ≡ pod_entries now token text (folders images) (apps_of manifests choice)
-  pub makes : MakesPod now token text (map files_of (apps_of manifests choice)) plan
+  pub entries : plan ≡ pod_entries now token text (folders images) (apps_of manifests choice roots)
+  pub makes : MakesPod now token text (map files_of (apps_of manifests choice roots)) plan
 
--- the plan of the pod that the references make of some images with these manifests and trees
-pub record PlansChoice (images : List Stored) (manifests : List (List ℕ)) (maps : List Entries) (refs : List ImageRef) (options : Wishes) (now : ℕ) (token : List ℕ) (plan : List PlanEntry) : Type 0 where
+-- the plan of the pod that the references make of some images with these manifests, by listings that were read of them
+pub record PlansChoice (observed : Bool) (images : List Stored) (manifests : List (List ℕ)) (refs : List ImageRef) (options : Wishes) (now : ℕ) (token : List ℕ) (plan : List PlanEntry) (old new : DirAt) : Type 0 where
   pub choice : Choice
   pub wishes : AreWishes options
-  pub chosen : IsChoice images maps refs options choice
-  pub planned : IsPlanOf images manifests choice now token plan
+  pub chosen : IsChoice images refs options choice
+  pub roots : List Root
+  pub rooted : AreRoots observed images old new choice.trees roots
+  pub planned : IsPlanOf images manifests choice roots now token plan

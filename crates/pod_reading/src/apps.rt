@@ -3,10 +3,10 @@ ghost use Rattle.std.specs.Prelude.{◌≡◌, ◌<◌, ◌++◌, ◌∷◌, [],
 ghost use Rattle.std.specs.List.{All};
 ghost use Rattle.pod_reading.specs.Plans.{app_with, apps_with};
 
+use crate::root::Root;
 use ac_types::NoMemory;
 use dir_trait::Bytes;
 use manifests::RuntimeApp;
-use pod_choice::Root;
 use pod_plans::PodApp;
 use std::alloc::Global;
 

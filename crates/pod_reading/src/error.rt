@@ -1,7 +1,7 @@
 // Why some references make no pod of the images of the store.
 ghost use Rattle.std.specs.Prelude.{◌≡◌};
 ghost use Rattle.image_reading.specs.Refusals.{IsReadRefusal};
-ghost use Rattle.pod_reading.specs.Refusals.{IsAnyPath, store_refusal, choice_refusal};
+ghost use Rattle.pod_reading.specs.Refusals.{IsAnyPath, store_refusal, choice_refusal, listing_refusal};
 
 use ac_types::{NoMemory, Text};
 use dep_match::DepError;
@@ -30,6 +30,29 @@ pub enum PlanError {
     DirFault,
     /// Memory ran out.
     NoMemory,
+}
+
+impl From<NoMemory> for PlanError {
+    ghost use Rattle.pod_reading.specs.declared.error.PlanError.TheVariants.{NoMemory as OutOfMemory};
+
+    ghost from_gives = { λ _ e. e ≡ OutOfMemory };
+
+    fn from(_error: NoMemory) -> PlanError {
+        PlanError::NoMemory
+    }
+}
+
+impl From<RenderError> for PlanError {
+    ghost use Rattle.pod_reading.specs.Refusals.{render_refusal};
+
+    ghost from_gives = { λ error e. e ≡ render_refusal error };
+
+    fn from(error: RenderError) -> PlanError {
+        match error {
+            RenderError::NoMemory => PlanError::NoMemory,
+            error => PlanError::RenderError(error),
+        }
+    }
 }
 
 pub(crate) fn out_of_memory(_error: NoMemory) -> StoreError
@@ -69,8 +92,16 @@ pub(crate) fn choice_refusal(error: ChoiceError) -> PlanError
         ChoiceError::NoMatch(place) => PlanError::NoMatch(place),
         ChoiceError::DepError(fault) => PlanError::DepError(fault),
         ChoiceError::GenError(refusal) => PlanError::GenError(refusal),
-        ChoiceError::RenderError(refusal) => PlanError::RenderError(refusal),
-        ChoiceError::ListingError(refusal) => PlanError::ListingError(refusal),
         ChoiceError::NoMemory => PlanError::NoMemory,
+    }
+}
+
+/// The refusal of a listing.
+pub(crate) fn listing_refusal(error: ListingError) -> PlanError
+    ensures { result ≡ listing_refusal error }
+{
+    match error {
+        ListingError::NoMemory => PlanError::NoMemory,
+        error => PlanError::ListingError(error),
     }
 }

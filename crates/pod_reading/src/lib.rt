@@ -4,8 +4,10 @@
 mod apps;
 mod error;
 mod images;
+mod laying;
 mod plan;
 mod pod;
+mod root;
 
 pub use error::PlanError;
 pub use pod::plan_pod;

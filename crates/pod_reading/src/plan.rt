@@ -12,7 +12,8 @@ ghost use Rattle.pod_reading.specs.Plans.{apps_of, folders, IsReady, ArePartsOf,
 use crate::apps::apps_with;
 use crate::error::short_of_memory;
 use crate::images::StoreImages;
-use ac_types::{NoMemory, StoreKey};
+use crate::root::Root;
+use ac_types::{NoMemory, Sequence, StoreKey};
 use dep_match::Stored;
 use dir_trait::{Bytes, Name};
 use folder_building::PlanEntry;
@@ -50,16 +51,21 @@ struct PodParts {
     apps: Vec<PodApp>,
 }
 
-/// What the pod is made from, the images having these manifests.
-fn parts_of(alloc: Global, manifests: &[Bytes], choice: Choice) -> Result<PodParts, NoMemory>
-    requires ready { IsReady (length manifests.now) choice }
-    ensures { IfOk result (λ parts. ArePartsOf manifests.now choice parts.text.items parts.apps.items) }
+/// What the pod is made from, the images having these manifests and the apps these roots.
+fn parts_of(
+    alloc: Global,
+    manifests: &[Bytes],
+    choice: Choice,
+    roots: Sequence<Root>,
+) -> Result<PodParts, NoMemory>
+    requires ready { IsReady (length manifests.now) choice roots }
+    ensures { IfOk result (λ parts. ArePartsOf manifests.now choice roots parts.text.items parts.apps.items) }
 {
     let text = pod_bytes(alloc, &choice.manifest)?;
     let Choice {
         picks,
         manifest,
-        roots,
+        ..
     } = choice;
     let named = manifest.apps.as_slice();
     match apps_with(alloc, manifests, picks.as_slice(), named, roots.into_vec()) {
@@ -68,22 +74,23 @@ fn parts_of(alloc: Global, manifests: &[Bytes], choice: Choice) -> Result<PodPar
     }
 }
 
-/// The plan of the pod that was chosen of the images.
+/// The plan of the pod that was chosen of the images, its apps having these roots.
 pub(crate) fn plan_of(
     alloc: Global,
     read: &StoreImages,
     choice: Choice,
+    roots: Sequence<Root>,
     now: u64,
     token: &[u8; 16],
 ) -> Result<Vec<PlanEntry>, NoMemory>
-    requires ready { IsReady (length read.now.manifests.items) choice }
-    ensures made { IfOk result (λ plan. IsPlanOf read.now.images.items read.now.manifests.items choice now token.now plan.items) }
+    requires ready { IsReady (length read.now.manifests.items) choice roots }
+    ensures made { IfOk result (λ plan. IsPlanOf read.now.images.items read.now.manifests.items choice roots now token.now plan.items) }
     ensures plan { IfOk result (λ plan. is_plan plan.items ≡ true) }
     ensures turn { IfOk result (λ plan. ComesInTurn now plan.items) }
     ensures whole { IfOk result (λ plan. MakesWhole plan.items) }
 {
     let folders = folders_of(alloc, read.images.as_slice())?;
-    let parts = parts_of(alloc, read.manifests.as_slice(), choice)?;
+    let parts = parts_of(alloc, read.manifests.as_slice(), choice, roots)?;
     let apps = parts.apps.as_slice();
     pod_plan(alloc, now, token, &parts.text, folders.as_slice(), apps)
 }

@@ -1,6 +1,6 @@
 mod Ages
-mod Asking
-mod Reading
+pub mod Asking
+pub mod Reading
 mod Leaving
 mod Meeting
 mod Telling

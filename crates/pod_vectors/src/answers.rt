@@ -4,7 +4,7 @@ use crate::image_texts::ImageText;
 use crate::launches::launch_answer;
 use crate::plans::{plan_answer, token_answer};
 use crate::pods::pod_answer;
-use crate::roots::root_answer;
+use crate::roots::{laid_answer, root_answer};
 use crate::trees::{no_memory_answer, tree_answer};
 use scripts::{Page, Unread};
 use short_texts::TextNames;
@@ -29,6 +29,7 @@ fn is_text_call(page: &mut Page, images: &[ImageText], call: &str, text: &str) -
         "tree-size" => tree_answer(page, images, false),
         "root" => root_answer(page, images, false),
         "root-listing" => root_answer(page, images, true),
+        "laid" => laid_answer(page, images),
         "token" => token_answer(page, text),
         "numbers-of-no-memory" => no_memory_answer(page),
         _ => return false,

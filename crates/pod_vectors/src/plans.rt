@@ -13,7 +13,7 @@ use scripts::{Page, Unread, name_of, number_of};
 fn root_of(page: &mut Page, images: &[ImageText], place: usize) -> Option<Rendering> {
     let list = stored_images(page, images);
     let maps = maps_of(page, images);
-    let root = rendered(page, list.as_slice(), maps.as_slice(), place);
+    let root = rendered(page, list.as_slice(), maps.as_slice(), place, false);
     page.read(root, Unread::Missing)
 }
 

@@ -1,12 +1,32 @@
 // What the root of an image holds, and which image each file is from.
+ghost use Rattle.std.specs.Prelude.{◌≡◌, length};
+ghost use Rattle.dep_match.specs.TreeOrder.{IsOrderedTree};
+
 use crate::image_texts::ImageText;
 use crate::images::{maps_of, stored_images};
-use dep_match::{Stored, closure};
+use dep_match::{DepTree, Stored, closure};
 use path_map::{AbsPath, Entry, PathMap};
-use render::{RenderError, Rendering, render_tree};
+use render::{Plan, RenderError, Rendering, render_tree};
 use scripts::{Page, Unread};
 use short_texts::letter_of;
 use tree_digest::{Listing, are_listable};
+
+// The rendering of a tree, the maps being laid one after the other as its plan wants them.
+fn laid(
+    page: &mut Page,
+    tree: &DepTree,
+    list: &[Stored],
+    maps: &[PathMap],
+) -> Result<Rendering, RenderError>
+    requires tree { IsOrderedTree (length list.now) tree.now.nodes }
+    requires maps { length maps.now ≡ length list.now }
+{
+    let mut plan = Plan::open(page.alloc(), tree, list)?;
+    'maps: while let Some(image) = plan.wanted() {
+        plan = plan.lay(&maps[image])?;
+    }
+    Ok(plan.finish())
+}
 
 /// What the root of the image at a place holds, or why it holds nothing. Refused where there is no such image
 /// or it has no tree.
@@ -15,10 +35,15 @@ pub fn rendered(
     list: &[Stored],
     maps: &[PathMap],
     place: usize,
+    by_plan: bool,
 ) -> Result<Rendering, RenderError> {
     if place < list.len() && maps.len() == list.len() {
         if let Ok(tree) = closure(page.alloc(), list, place) {
-            return render_tree(page.alloc(), &tree, list, maps);
+            return if by_plan {
+                laid(page, &tree, list, maps)
+            } else {
+                render_tree(page.alloc(), &tree, list, maps)
+            };
         }
     }
     page.unread(Unread::Missing);
@@ -48,6 +73,21 @@ fn print_entries(page: &mut Page, list: &[Stored], root: &Rendering) {
     }
 }
 
+// The same, the files being gone through one after the other.
+fn print_files(page: &mut Page, list: &[Stored], root: &Rendering) {
+    let mut next = root.next_copy(None);
+    for (path, entry) in root.map().iter() {
+        print_entry(page, path, entry);
+        if let Some((file, place)) = next {
+            if file.as_str() == path.as_str() {
+                print_source(page, list, place);
+                next = root.next_copy(Some(path));
+            }
+        }
+        page.put("\n");
+    }
+}
+
 fn print_copy(page: &mut Page, list: &[Stored], root: &Rendering) {
     if let Some(copy) = page.made(root.copy()) {
         print_entries(page, list, &copy);
@@ -70,12 +110,22 @@ fn print_listed(page: &mut Page, map: &PathMap) {
     }
 }
 
-/// `root`: what the root of the first image holds, each file with the name of the image that it is from.
-/// `root-listing`: its listing.
+/// `laid`: what the root of the first image holds, of maps that are laid one after the other, each file with the
+/// name of the image that it is from.
+pub fn laid_answer(page: &mut Page, images: &[ImageText]) {
+    let list = stored_images(page, images);
+    let maps = maps_of(page, images);
+    match rendered(page, list.as_slice(), maps.as_slice(), 0, true) {
+        Ok(root) => print_files(page, list.as_slice(), &root),
+        Err(error) => page.tell_both(&error.number().unwrap_or(0), &error),
+    }
+}
+
+/// `root`: the same of maps that are all handed over at once. `root-listing`: its listing.
 pub fn root_answer(page: &mut Page, images: &[ImageText], listed: bool) {
     let list = stored_images(page, images);
     let maps = maps_of(page, images);
-    match rendered(page, list.as_slice(), maps.as_slice(), 0) {
+    match rendered(page, list.as_slice(), maps.as_slice(), 0, false) {
         Ok(root) if listed => print_listed(page, root.map()),
         Ok(root) => print_copy(page, list.as_slice(), &root),
         Err(error) => page.tell_both(&error.number().unwrap_or(0), &error),

@@ -71,6 +71,7 @@ use Rattle.rkt_cli.proofs.PodRan.{prepare_intent, began, prepare_faithful, prepa
 use Rattle.rkt_cli.proofs.Removals.{removal_done, removal_none, removal_stray, sweep_done, sweep_stray}
 use Rattle.commands.proofs.RemovalEnds.{removal_ends, none_before}
 use Rattle.commands.proofs.SweepEnds.{incoming_left, removed_left}
+use Rattle.commands.proofs.SweepLines.{prints_lines}
 use Rattle.commands.proofs.Changes.{claim_changes, gc_changes, import_changes, list_changes, prepare_changes, removal_changes, rm_changes, run_changes, sweep_changes}
 use Rattle.commands.proofs.NextState.{leaves_beside}
 use Rattle.commands.proofs.RemovalQuiet.{ChangesAt, held_before}
@@ -263,7 +264,7 @@ sweep_quiet : (now : ℕ) (draw : Draw) (old new : Outside) (o : Outcome) → In
 sweep_quiet now draw old new (Ok text) s u own =
     let done = sweep_done now draw old new text (inl s) (u.observed refl) in
     let ext : Extends (in_process sweeps) old.dir.process old.dir.trace new.dir.trace = all_in_process s (u.observed refl) in
-    (done, incoming_left ext (u.alone refl) done.swept, removed_left ext (u.alone refl) done.swept)
+    (done, prints_lines ext (u.alone refl) done.swept text done.is, incoming_left ext (u.alone refl) done.swept, removed_left ext (u.alone refl) done.swept)
 sweep_quiet now draw old new (Err Stray) s u own = sweep_stray now draw (Some (intent_for kind.ImageGc [] now draw)) old new (inl s) (u.observed refl)
 sweep_quiet now draw old new (Err NoMemory) s u own = let clash : false ≡ true = own in cc
 sweep_quiet now draw old new (Err DirFault) s u own = let clash : false ≡ true = own in cc

@@ -48,12 +48,12 @@ use Rattle.commands.specs.Opening.{Approach, directly, approach_of, looks_by, Op
 use Rattle.commands.proofs.Starts.{look_lists, open_extends, opening_extends}
 
 -- what is told of a run of apps where nobody else steps, by what came between its begin and its finish
-passed_refused : (pod : PodId) (old new : DirSeen) (r : Refusal) → HasPassed pod old.trace new.trace → (r ≡ NoMemory) ⊎ IsRunRefusal pod r → PassesQuietly pod old new (Err r)
+passed_refused : (pod : PodId) (old new : DirSeen) (r : Refusal) → HasPassed pod old.process old.trace new.trace → (r ≡ NoMemory) ⊎ IsRunRefusal pod r → PassesQuietly pod old new (Err r)
 passed_refused pod old new NoMemory h why = tt
 passed_refused pod old new r h (inl is) = cc
 passed_refused pod old new r h (inr one) = inl (one, h)
 
-of_passed : (pod : PodId) (old new : DirSeen) (answer : Answer) → HasPassed pod old.trace new.trace → ((told : Told) → answer ≡ Ok told → TellsItsEnds pod [] new.trace told.text) → ((r : Refusal) → answer ≡ Err r → (r ≡ NoMemory) ⊎ IsRunRefusal pod r) →
+of_passed : (pod : PodId) (old new : DirSeen) (answer : Answer) → HasPassed pod old.process old.trace new.trace → ((told : Told) → answer ≡ Ok told → TellsItsEnds pod [] new.trace told.text) → ((r : Refusal) → answer ≡ Err r → (r ≡ NoMemory) ⊎ IsRunRefusal pod r) →
     PassesQuietly pod old new (outcome_of answer)
 of_passed pod old new (Ok told) h ends why = (h, ends told refl)
 of_passed pod old new (Err r) h ends why = passed_refused pod old new r h (why r refl)
@@ -142,7 +142,7 @@ module _ (word address : List ℕ) (pod : PodId) (now : ℕ) (draw : Draw) (a b 
       by (inl c) =
           let passed = run_prepared_passed x.begun.observed a.spawner.observed pod address d d' a.spawner.shown b.spawner.shown answer (seen x t d d' x.came.begins x.came.ends) a.dir.trace b.dir.trace (ext x t d d' x.came.begins x.came.ends) (alone x t d d' x.came.begins x.came.ends quiet)
           (first x t d d' x.came.begins x.came.ends) (finish x t d d' x.came.begins x.came.ends) c (c.then (seen x t d d' x.came.begins x.came.ends)) in
-          of_passed pod a.dir b.dir answer passed
+          of_passed pod a.dir b.dir answer (subst (λ (p : ℕ). HasPassed pod p a.dir.trace b.dir.trace) (sym (me_is x t d d' x.came.begins x.came.ends)) passed)
           (λ told is. run_prepared_ends x.begun.observed a.spawner.observed d d' a.spawner.shown b.spawner.shown told (seen x t d d' x.came.begins x.came.ends) a.dir.trace b.dir.trace (alone x t d d' x.came.begins x.came.ends quiet)
           (approach_of word) its_intent (begin_there x t d d' x.came.begins x.came.ends) (stays x t d d' x.came.begins x.came.ends) (finish x t d d' x.came.begins x.came.ends) pod address (ext x t d d' x.came.begins x.came.ends)
           (subst (λ (z : Answer). ClaimsAndRuns x.begun.observed a.spawner.observed pod address d d' a.spawner.shown b.spawner.shown z) is c) passed)

@@ -43,7 +43,7 @@ returns-in-Ok-clause-says g c =
     let D = g.D.Dir in
     let S = g.S.Spawner in
     claimed_says D.observed S.observed c.args.pod c.args.address.now (D.shown c.args.dir.now) (D.shown c.run_owned.new.dir) (S.shown c.args.spawner.now) (S.shown c.run_owned.new.spawner) c.run_owned.result (D.shown c.claim.new.dir) c.in-Ok.owned
-    c.in-Ok.ensures.owned c.claim.ensures.went.same c.claim.ensures.went.extends c.in-Ok.ensures.moved (λ t. grown_by (c.run_owned.ensures.went.extends t)) (rw c.new.ensures at c.run_owned.ensures.says)
+    c.in-Ok.ensures.owned c.claim.ensures.went.same c.claim.ensures.went.extends c.in-Ok.ensures.moved c.in-Ok.ensures.alone (λ t. grown_by (c.run_owned.ensures.went.extends t)) (rw c.new.ensures at c.run_owned.ensures.says)
 
 pub returns-in-Err-clause-worked : goal.returns-in-Err-clause-worked
 returns-in-Err-clause-worked g c = unclaimed_worked c.args.pod (unclaimed_went (g.D.Dir.shown c.args.dir.now).local c.args.pod c.claim.result c.in-Err.error c.in-Err.is c.claim.ensures.went)

@@ -10,7 +10,7 @@ use Rattle.folder_removal.specs.Known.{OnlyTries}
 use Rattle.folder_removal.specs.Removal.{KeepsFolders}
 use Rattle.folder_removal.proofs.Keeping.{kept_spared, kept_more, kept_call}
 use Rattle.folder_removal.proofs.Steps.{err_any}
-use Rattle.folder_removal.proofs.Strays.{folder_stray, stray_folder, listing_stray, stray_emptied}
+use Rattle.folder_removal.proofs.Strays.{folder_stray, stray_folder, listing_stray, root_at_hand, stray_emptied}
 use Rattle.folder_removal.proofs.Knowing.{tries_tasks, tries_folder, deletes}
 use Rattle.folder_removal.proofs.delete.delete_folder.Goals as goal
 
@@ -57,7 +57,8 @@ returns-in_err-tasks-clause-stray g c h t =
 pub returns-in_err-empty-clause-stray : goal.returns-in_err-empty-clause-stray
 returns-in_err-empty-clause-stray g c h t =
     let k : IsErrOf c.empty.result Stray = grind (arith, common_steps, h, c.from_residual-in_err-empty.ensures, c.in_err-empty.is) in
-    stray_emptied c.args.spot (g.D.Dir.shown c.args.dir.now) (g.D.Dir.shown c.list.new.dir) (g.D.Dir.shown c.empty.new.dir) c.list.ensures.same (c.list.ensures.extends t) c.in_ok-tasks.tasks.items (c.in_ok-tasks.ensures.shown t) (c.empty.ensures.stray k t)
+    stray_emptied c.args.spot (g.D.Dir.shown c.args.dir.now) (g.D.Dir.shown c.list.new.dir) (g.D.Dir.shown c.empty.new.dir) c.list.ensures.same (c.list.ensures.extends t) c.in_ok-tasks.tasks.items
+    (root_at_hand c.args.spot c.in_ok-tasks.tasks.items (c.in_ok-tasks.ensures.listed t) (c.in_ok-tasks.ensures.shown t)) (c.empty.ensures.stray k t)
 
 pub returns-in-Err-clause-stray : goal.returns-in-Err-clause-stray
 returns-in-Err-clause-stray g c h t =

@@ -4,7 +4,7 @@ use Rattle.dir_model.proofs.Chains.{nothing_yet, and_more}
 use Rattle.folder_removal.specs.declared.task.Task.{Task}
 use Rattle.folder_removal.specs.declared.error.DeleteError.TheVariants.{Stray}
 use Rattle.folder_removal.specs.Known.{WorksOff}
-use Rattle.folder_removal.proofs.Strays.{shown_more, stray_more}
+use Rattle.folder_removal.proofs.Strays.{hands_more, stray_more}
 use Rattle.folder_removal.proofs.Knowing.{works_none, works_more, works_then, works_only}
 use Rattle.folder_removal.proofs.delete.empty.Goals as goal
 
@@ -15,7 +15,7 @@ tasks-init g c = record {
   local = refl;
   extends = λ t. nothing_yet;
   spares = λ t. nothing_yet;
-  shown = λ t start first all. all;
+  at_hand = λ t start first hand. hand;
   known = λ t. works_none;
 }
 
@@ -29,7 +29,7 @@ tasks-preserved g c =
       local = c.turn.ensures.local ∙ i.local;
       extends = λ t. and_more (i.extends t) i.same (c.turn.ensures.extends t);
       spares = λ t. and_more (i.spares t) i.same (c.turn.ensures.spares t);
-      shown = λ t. shown_more c.args.spot.now (D.shown c.args.dir.now) (D.shown c.tasks.dir) (D.shown c.turn.new.dir) i.same (i.extends t) c.args.tasks.items _ c.turn.new.tasks.items (rw c.in-Some.ensures.items at (i.shown t)) (c.in_ok-turn.ensures.shown t);
+      at_hand = λ t. hands_more c.args.spot.now (D.shown c.args.dir.now) (D.shown c.tasks.dir) (D.shown c.turn.new.dir) i.same (i.extends t) c.args.tasks.items _ c.turn.new.tasks.items (rw c.in-Some.ensures.items at (i.at_hand t)) (c.in_ok-turn.ensures.at_hand t);
       known = λ t. works_more (rw c.in-Some.ensures.items at (i.known t)) (c.in_ok-turn.ensures.work t);
     }
 
@@ -43,7 +43,7 @@ pub returns-in_err-turn-clause-stray : goal.returns-in_err-turn-clause-stray
 returns-in_err-turn-clause-stray g c h t =
     let k : IsErrOf c.turn.result Stray = search (rules, h, c.from_residual.ensures, c.in_err-turn.is) in
     let D = g.D.Dir in
-    stray_more c.args.spot.now (D.shown c.args.dir.now) (D.shown c.tasks.dir) (D.shown c.turn.new.dir) c.tasks.invariant.same (c.tasks.invariant.extends t) c.args.tasks.items _ c.in-Some.task (rw c.in-Some.ensures.items at (c.tasks.invariant.shown t)) (c.turn.ensures.stray k t)
+    stray_more c.args.spot.now (D.shown c.args.dir.now) (D.shown c.tasks.dir) (D.shown c.turn.new.dir) c.tasks.invariant.same (c.tasks.invariant.extends t) c.args.tasks.items _ c.in-Some.task (rw c.in-Some.ensures.items at (c.tasks.invariant.at_hand t)) (c.turn.ensures.stray k t)
 
 pub returns-clause-known : goal.returns-clause-known
 returns-clause-known g c t = works_only (c.tasks.invariant.known t)

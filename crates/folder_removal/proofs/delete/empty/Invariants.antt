@@ -1,7 +1,7 @@
 use Rattle.std.proofs.Common.{◌≡◌, ◌≤◌, true}
 use Rattle.dir_trait.specs.DirCalls.{ExtendsBy}
 use Rattle.folder_removal.specs.Weights.{weigh}
-use Rattle.folder_removal.specs.Removal.{deletes_at, spares_folders, ShownThen}
+use Rattle.folder_removal.specs.Removal.{deletes_at, spares_folders, HandsOn}
 use Rattle.folder_removal.specs.Known.{WorksOff}
 use Rattle.folder_removal.proofs.delete.empty.Given as goal
 
@@ -14,7 +14,7 @@ invariant-tasks g l =
       local : (D.shown l.dir).local ≡ (D.shown l.fn.dir).local;
       extends : D.observed ≡ true → ExtendsBy (deletes_at l.spot) (D.shown l.fn.dir) (D.shown l.dir);
       spares : D.observed ≡ true → ExtendsBy spares_folders (D.shown l.fn.dir) (D.shown l.dir);
-      shown : D.observed ≡ true → ShownThen l.spot l.fn.tasks.items l.tasks.items (D.shown l.fn.dir) (D.shown l.dir);
+      at_hand : D.observed ≡ true → HandsOn l.spot l.fn.tasks.items l.tasks.items (D.shown l.fn.dir) (D.shown l.dir);
       known : D.observed ≡ true → WorksOff l.spot l.fn.tasks.items l.tasks.items (D.shown l.fn.dir) (D.shown l.dir);
     }
 

@@ -1,6 +1,7 @@
 use Rattle.std.proofs.Common.{◌≡◌, true, Ok, List, refl, sym, subst}
 use Rattle.dir_model.specs.declared.item.Inner.{Inner}
 use Rattle.dir_model.specs.declared.request.Reply.TheVariants.{Items, Refused}
+use Rattle.dir_model.proofs.Spots.{spot_self}
 use Rattle.folder_removal.specs.declared.error.DeleteError.TheVariants.{Stray}
 use Rattle.folder_removal.specs.Tasks.{AreChildren}
 use Rattle.folder_removal.specs.declared.task.Task.{Task}
@@ -63,3 +64,9 @@ returns-in-Ok-clause-spares g c t = list_extends refl (c.list_in.ensures.called.
 
 pub returns-in-Err-clause-spares : goal.returns-in-Err-clause-spares
 returns-in-Err-clause-spares g c t = list_extends refl (c.list_in.ensures.called.step t)
+
+pub returns-in-Ok-clause-lists : goal.returns-in-Ok-clause-lists
+returns-in-Ok-clause-lists g c t = list_extends (spot_self c.args.spot.now) (c.list_in.ensures.called.step t)
+
+pub returns-in-Err-clause-lists : goal.returns-in-Err-clause-lists
+returns-in-Err-clause-lists g c t = list_extends (spot_self c.args.spot.now) (c.list_in.ensures.called.step t)

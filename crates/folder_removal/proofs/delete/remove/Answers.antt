@@ -1,5 +1,5 @@
 use Rattle.std.proofs.Common.{◌≡◌, refl}
-use Rattle.dir_model.specs.declared.request.Reply.TheVariants.{Refused}
+use Rattle.dir_model.specs.declared.request.Reply.TheVariants.{Done, Refused}
 use Rattle.dir_model.proofs.Chains.{nothing_yet, and_call}
 use Rattle.folder_removal.specs.declared.error.DeleteError.TheVariants.{Stray}
 use Rattle.folder_removal.proofs.Steps.{asks_removal}
@@ -33,3 +33,9 @@ returns-in-Ok-clause-spares g c t = and_call nothing_yet refl (spares_removal c.
 
 pub returns-in-Err-clause-spares : goal.returns-in-Err-clause-spares
 returns-in-Err-clause-spares g c t = and_call nothing_yet refl (spares_removal c.args.spot.now c.args.task.now) (c.ask.ensures.called.step t)
+
+pub returns-in-Ok-clause-asked : goal.returns-in-Ok-clause-asked
+returns-in-Ok-clause-asked g c t = record { reply = Done; step = c.in-Ok.ensures.called.step t }
+
+pub returns-in-Err-clause-asked : goal.returns-in-Err-clause-asked
+returns-in-Err-clause-asked g c t = record { reply = Refused c.in-Err.error 0; step = c.in-Err.ensures.called.step t }

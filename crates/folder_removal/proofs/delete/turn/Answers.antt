@@ -4,7 +4,7 @@ use Rattle.folder_removal.specs.declared.task.Task.{Task}
 use Rattle.folder_removal.specs.declared.error.DeleteError.TheVariants.{Stray}
 use Rattle.folder_removal.specs.Tasks.{with_listed}
 use Rattle.folder_removal.specs.Weights.{weigh}
-use Rattle.folder_removal.specs.Removal.{removal_of, ShownThen}
+use Rattle.folder_removal.specs.Removal.{removal_of, HandsOn}
 use Rattle.folder_removal.specs.Known.{Learns, WorksOff}
 use Rattle.folder_removal.proofs.Steps.{ok_more, ok_any}
 use Rattle.folder_removal.proofs.Strays.{turn_listed, turn_removed}
@@ -29,8 +29,8 @@ returns-in_err-children-clause-stray g c h t =
 pub returns-else-is_unlisted-clause-stray : goal.returns-else-is_unlisted-clause-stray
 returns-else-is_unlisted-clause-stray g c h t = inr (c.remove.ensures.stray h t)
 
-pub returns-in_ok-children-clause-shown : goal.returns-in_ok-children-clause-shown
-returns-in_ok-children-clause-shown g c =
+pub returns-in_ok-children-clause-at_hand : goal.returns-in_ok-children-clause-at_hand
+returns-in_ok-children-clause-at_hand g c =
     let D = g.D.Dir in
     let spot = c.args.spot.now in
     let xs = c.args.tasks.now.items in
@@ -38,18 +38,18 @@ returns-in_ok-children-clause-shown g c =
     let children = c.in_ok-children.children.items in
     let old = D.shown c.args.dir.now in
     let new = D.shown c.list.new.dir in
-    ok_more (λ done. c.add.new.tasks.items ≡ (xs ++ with_listed t ∷ []) ++ children) (λ done. D.observed ≡ true → ShownThen spot (xs ++ t ∷ []) c.add.new.tasks.items old new) c.add.result
-    (λ done is o. subst (λ (l : List Task). ShownThen spot (xs ++ t ∷ []) l old new) (sym is) (turn_listed spot xs t old new (c.list.ensures.extends o) children (c.in_ok-children.ensures.shown o)))
+    ok_more (λ done. c.add.new.tasks.items ≡ (xs ++ with_listed t ∷ []) ++ children) (λ done. D.observed ≡ true → HandsOn spot (xs ++ t ∷ []) c.add.new.tasks.items old new) c.add.result
+    (λ done is o. subst (λ (l : List Task). HandsOn spot (xs ++ t ∷ []) l old new) (sym is) (turn_listed spot xs t old new children (c.list.ensures.lists o) (rw c.as_str.ensures.text at (c.in_ok-children.ensures.listed o)) (c.in_ok-children.ensures.shown o)))
     c.add.ensures.items
 
-pub returns-else-is_unlisted-clause-shown : goal.returns-else-is_unlisted-clause-shown
-returns-else-is_unlisted-clause-shown g c =
+pub returns-else-is_unlisted-clause-at_hand : goal.returns-else-is_unlisted-clause-at_hand
+returns-else-is_unlisted-clause-at_hand g c =
     let D = g.D.Dir in
     let spot = c.args.spot.now in
     let xs = c.args.tasks.now.items in
     let old = D.shown c.args.dir.now in
     let new = D.shown c.remove.new.dir in
-    ok_any (λ done. D.observed ≡ true → ShownThen spot (xs ++ c.args.task ∷ []) xs old new) c.remove.result (λ done o. turn_removed spot xs c.args.task old new (c.remove.ensures.extends o))
+    ok_any (λ done. D.observed ≡ true → HandsOn spot (xs ++ c.args.task ∷ []) xs old new) c.remove.result (λ done o. turn_removed spot xs c.args.task old new (c.remove.ensures.asked o))
 
 pub returns-in_ok-children-clause-work : goal.returns-in_ok-children-clause-work
 returns-in_ok-children-clause-work g c =

@@ -6,7 +6,7 @@ use Rattle.dir_rules.specs.declared.seen.Seen.{Seen}
 use Rattle.dir_trait.specs.DirCalls.{HeldBetween}
 use Rattle.dir_trait.specs.Knowledge.{Knows}
 use Rattle.area_locks.specs.declared.error.LockError.TheVariants as lock
-use Rattle.area_locks.specs.AreaLocks.{takes, with_gate, is_free_of, MayLock, IsBusy, IsBusyElsewhere}
+use Rattle.area_locks.specs.AreaLocks.{takes, with_gate, is_free_of, MayLock, IsBusy, IsBusyElsewhere, IsFreeElsewhere}
 use Rattle.area_locks.proofs.Locking.{number_is_new}
 use Rattle.folder_building.proofs.Copying.{ok_more, err_more}
 use Rattle.image_removal.specs.declared.pass.SweepLine.TheVariants.{BusyGate}
@@ -81,7 +81,8 @@ returns-in-Ok-clause-passed g c =
       x.0,
       x.1,
       inl (under_lock (area_of pass) h (SweepsUnder pass x.0) old mid late new c.lock_area.ensures.same c.sweep_listed-result.ensures.worked.same
-          (subst (λ (a : Area). Extends (takes a Exclusive) old.process old.trace mid.trace) c.area.ensures (c.lock_area.ensures.extends t)) x.2 (c.unlock_area.ensures.extends t)),
+          (subst (λ (a : Area). Extends (takes a Exclusive) old.process old.trace mid.trace) c.area.ensures (c.lock_area.ensures.extends t))
+          (subst (λ (a : Area). HeldBetween old mid (IsFreeElsewhere old.process a Exclusive)) c.area.ensures (c.in-Ok.ensures.free t)) x.2 (c.unlock_area.ensures.extends t)),
     ))
     c.sweep_listed-result.ensures.swept
 
@@ -104,7 +105,8 @@ returns-in-Ok-clause-another g c =
       x.0,
       x.1,
       inl (under_lock (area_of pass) h (SweepsUnder pass x.0) old mid late new c.lock_area.ensures.same c.sweep_listed-result.ensures.worked.same
-          (subst (λ (a : Area). Extends (takes a Exclusive) old.process old.trace mid.trace) c.area.ensures (c.lock_area.ensures.extends t)) x.2 (c.unlock_area.ensures.extends t)),
+          (subst (λ (a : Area). Extends (takes a Exclusive) old.process old.trace mid.trace) c.area.ensures (c.lock_area.ensures.extends t))
+          (subst (λ (a : Area). HeldBetween old mid (IsFreeElsewhere old.process a Exclusive)) c.area.ensures (c.in-Ok.ensures.free t)) x.2 (c.unlock_area.ensures.extends t)),
     ))
     c.sweep_listed-result.ensures.swept
 
@@ -119,7 +121,8 @@ returns-in-Ok-clause-tried g c =
     let new = D.shown c.unlock_area.new.dir in
     err_more (λ e. D.observed ≡ true → TriesBetween pass mid late) (λ e. D.observed ≡ true → TriedBetween pass old new) c.sweep_listed-result.result
     (λ e tries t. inr (under_lock (area_of pass) h (TriesUnder pass) old mid late new c.lock_area.ensures.same c.sweep_listed-result.ensures.worked.same
-    (subst (λ (a : Area). Extends (takes a Exclusive) old.process old.trace mid.trace) c.area.ensures (c.lock_area.ensures.extends t)) (tries t) (c.unlock_area.ensures.extends t)))
+    (subst (λ (a : Area). Extends (takes a Exclusive) old.process old.trace mid.trace) c.area.ensures (c.lock_area.ensures.extends t))
+    (subst (λ (a : Area). HeldBetween old mid (IsFreeElsewhere old.process a Exclusive)) c.area.ensures (c.in-Ok.ensures.free t)) (tries t) (c.unlock_area.ensures.extends t)))
     c.sweep_listed-result.ensures.tried
 
 pub returns-in-Ok-clause-stays : goal.returns-in-Ok-clause-stays
@@ -243,7 +246,8 @@ returns-in-Ok-clause-ended g c =
     let new = D.shown c.unlock_area.new.dir in
     err_more (λ e. D.observed ≡ true → EndsListingBetween pass mid late) (λ e. D.observed ≡ true → EndsPassBetween pass old new) c.sweep_listed-result.result
     (λ e ends t. inl (under_lock (area_of pass) h (EndsListing pass) old mid late new c.lock_area.ensures.same c.sweep_listed-result.ensures.worked.same
-    (subst (λ (a : Area). Extends (takes a Exclusive) old.process old.trace mid.trace) c.area.ensures (c.lock_area.ensures.extends t)) (ends t) (c.unlock_area.ensures.extends t)))
+    (subst (λ (a : Area). Extends (takes a Exclusive) old.process old.trace mid.trace) c.area.ensures (c.lock_area.ensures.extends t))
+    (subst (λ (a : Area). HeldBetween old mid (IsFreeElsewhere old.process a Exclusive)) c.area.ensures (c.in-Ok.ensures.free t)) (ends t) (c.unlock_area.ensures.extends t)))
     c.sweep_listed-result.ensures.ended
 
 pub returns-in-Err-clause-ended : goal.returns-in-Err-clause-ended

@@ -58,7 +58,7 @@ returns-in-Ok-clause-swept g c =
     let listing = subst (λ (a : Area). ListCall D.observed old (ListArea a) (Names names) mid) c.area.ensures c.in-Ok.ensures.called in
     let works = subst (λ (ns : List (List ℕ)). Worked D.observed (deals_with_some pass ns) mid new) c.as_slice.ensures c.sweep_each.ensures.worked in
     ok_more (λ done. AddsLines D.observed pass shown before after mid new) (λ done. D.observed ≡ true → Adds (SweepsBetween pass old new) before after) c.sweep_each.result
-    (λ done adds t. adds_swept pass names old mid new t listing (subst (λ (a : Area). ShowsAreaBetween old mid a names) c.area.ensures (c.in-Ok.ensures.shows t)) works before after
+    (λ done adds t. adds_swept pass names old mid new t listing (subst (λ (a : Area). ShowsAreaBetween old mid a names) c.area.ensures (c.in-Ok.ensures.shows t)) works c.in-Ok.ensures.ordered before after
     (subst (λ (ns : List (List ℕ)). AddsLines D.observed pass ns before after mid new) c.as_slice.ensures adds)) c.sweep_each.ensures.swept
 
 pub returns-in-Ok-clause-tried : goal.returns-in-Ok-clause-tried

@@ -1,17 +1,17 @@
-use Rattle.std.proofs.Common.{not, false, None, Some, ◌∷◌, ap, refl, rules, ◌∙◌}
+use Rattle.std.proofs.Common.{◌≡◌, true, not, false, None, Some, ◌∷◌, ap, refl, rules, ◌∙◌}
 use Rattle.dir_model.specs.declared.area.Area.TheVariants.{Incoming}
 use Rattle.dir_model.specs.declared.spot.Mode.TheVariants.{Shared}
 use Rattle.area_locks.specs.AreaLocks.{on_gate}
 use Rattle.area_locks.proofs.Locking.{number_is_new}
 use Rattle.folder_building.proofs.Copying.{err_more}
 use Rattle.image_reading.proofs.Results.{err_same}
-use Rattle.image_store.specs.Refusals.{is_work_refusal, is_import_refusal}
+use Rattle.image_store.specs.Refusals.{is_lock_refusal, is_work_refusal, is_import_refusal}
 use Rattle.image_store.specs.Requests.{building_spot}
 use Rattle.image_store.specs.Work.{at_work}
-use Rattle.image_store.specs.Causes.{source_at, LockCause, ImportCause}
+use Rattle.image_store.specs.Causes.{source_at, HadIncoming, LockCause, ImportCause}
 use Rattle.image_store.specs.Imports.{key_of}
 use Rattle.image_store.proofs.Widths.{cause_after, cause_before}
-use Rattle.image_store.proofs.Locked.{Shares, GivesBack, follows_share, follows_back, share_incoming, worked_refused, worked_under, under_both}
+use Rattle.image_store.proofs.Locked.{Shares, GivesBack, follows_share, follows_back, share_incoming, worked_refused, worked_under, got_locked, lock_is_apart, under_both}
 use Rattle.image_store.proofs.Refusals.{lock_importing, work_importing}
 use Rattle.image_store.proofs.Outcomes.{given_leaves}
 use Rattle.image_store.proofs.importing.import_new.Goals as goal
@@ -28,6 +28,28 @@ returns-in_err-gate-clause-cause g c =
     let image = c.args.image.now in
     err_same (λ e. ImportCause is_import_refusal D.observed source (key_of image) c.args.digest.now image.listing e old new) c.share.result c.from_residual.result (λ e h. search (rules, h, c.from_residual.ensures, c.in_err-gate.is))
     (err_more (λ e. LockCause D.observed Incoming e old new) (λ e. ImportCause is_import_refusal D.observed source (key_of image) c.args.digest.now image.listing e old new) c.share.result (λ e x. lock_importing Incoming e refl x) c.share.ensures.cause)
+
+pub returns-in_err-gate-clause-locked : goal.returns-in_err-gate-clause-locked
+returns-in_err-gate-clause-locked g c =
+    let D = g.D.Dir in
+    let old = D.shown c.args.dir.now in
+    let new = D.shown c.share.new.dir in
+    err_same (λ e. is_lock_refusal Incoming e ≡ false → D.observed ≡ true → HadIncoming old new) c.share.result c.from_residual.result (λ e h. search (rules, h, c.from_residual.ensures, c.in_err-gate.is))
+    (err_more (λ e. LockCause D.observed Incoming e old new) (λ e. is_lock_refusal Incoming e ≡ false → D.observed ≡ true → HadIncoming old new) c.share.result (λ e x other t. absurd (lock_is_apart e x other)) c.share.ensures.cause)
+
+pub returns-clause-locked : goal.returns-clause-locked
+returns-clause-locked g c =
+    let D = g.D.Dir in
+    let old = D.shown c.args.dir.now in
+    let mid = D.shown c.share.new.dir in
+    let late = D.shown c.build_and_place-result.new.dir in
+    let new = D.shown c.unlock_area.new.dir in
+    let s : Shares D.observed Incoming c.in_ok-gate.gate old mid = record { same = c.share.ensures.same; faults = c.share.ensures.faults; held = c.in_ok-gate.ensures.held; unopened = c.in_ok-gate.ensures.unopened; extends = c.share.ensures.extends } in
+    let b : GivesBack D.observed c.in_ok-gate.gate late new = record { same = c.unlock_area.ensures.same; faultless = c.unlock_area.ensures.faultless; local = c.unlock_area.ensures.local; extends = c.unlock_area.ensures.extends } in
+    let image = c.args.image.now in
+    let source = source_at g.B.Bundle.observed (g.B.Bundle.shown c.args.bundle.now).tree c.args.path.now in
+    err_more (λ e. ImportCause is_work_refusal D.observed source (key_of image) c.args.digest.now image.listing e mid late) (λ e. is_lock_refusal Incoming e ≡ false → D.observed ≡ true → HadIncoming old new) c.build_and_place-result.result
+    (λ e x other t. got_locked s (follows_back b) t) c.build_and_place-result.ensures.cause
 
 pub returns-clause-worked : goal.returns-clause-worked
 returns-clause-worked g c =

@@ -1,16 +1,17 @@
 use Rattle.std.proofs.Common.{◌≡◌, true, false, None, Ok, ap, rules, subst}
 use Rattle.ac_types.specs.declared.store_key.StoreKey.{StoreKey}
+use Rattle.dir_model.specs.declared.area.Area.TheVariants.{Incoming}
 use Rattle.dir_trait.specs.DirCalls.{HeldBetween}
 use Rattle.folder_building.proofs.Copying.{err_more}
 use Rattle.folder_building.proofs.Working.{worked_more}
 use Rattle.image_reading.specs.Places.{IsAbsent}
-use Rattle.image_reading.proofs.Results.{err_same}
-use Rattle.image_store.specs.Refusals.{is_import_refusal}
+use Rattle.image_reading.proofs.Results.{err_same, err_both}
+use Rattle.image_store.specs.Refusals.{is_lock_refusal, is_import_refusal}
 use Rattle.image_store.specs.Requests.{building_spot}
 use Rattle.image_store.specs.Work.{at_work, UnderImages, From}
-use Rattle.image_store.specs.Causes.{source_at, BusyElsewhere, WasThere, FoundInTurn, LookCause, ImportCause}
+use Rattle.image_store.specs.Causes.{source_at, BusyElsewhere, WasThere, HadIncoming, FoundInTurn, LookCause, ImportCause}
 use Rattle.image_store.specs.Imports.{key_of}
-use Rattle.image_store.proofs.Widths.{follows_work, held_before, cause_after}
+use Rattle.image_store.proofs.Widths.{follows_work, held_before, told_after, cause_after}
 use Rattle.image_store.proofs.Refusals.{late_in_turn, look_importing, look_in_turn}
 use Rattle.image_store.proofs.Placings.{worked_reads, may_read_there, same_key}
 use Rattle.image_store.proofs.Outcomes.{elsewhere_after, leaves_after}
@@ -51,8 +52,10 @@ returns-else-branch-clause-turn g c =
     let image = c.args.image.now in
     let absent = λ (t : D.observed ≡ true). held_before old mid new c.is_there.ensures.only.same (follows_work c.import_new.ensures.worked) t
     (subst (λ (k : StoreKey). HeldBetween old mid (IsAbsent k)) (same_key c.of.result image c.of.ensures) (c.in_ok-is_there.ensures.absent (ap Ok c.if-branch.false) t)) in
-    err_more (λ e. ImportCause is_import_refusal D.observed source (key_of image) c.args.digest.now image.listing e mid new) (λ e. FoundInTurn D.observed source (key_of image) image.listing e old new) c.import_new.result
-    (λ e x. late_in_turn e absent (cause_after (follows_work (worked_reads (building_spot c.args.draw) c.of.result c.is_there.ensures.only)) x)) c.import_new.ensures.cause
+    let before = follows_work (worked_reads (building_spot c.args.draw) c.of.result c.is_there.ensures.only) in
+    err_both (λ e. is_lock_refusal Incoming e ≡ false → D.observed ≡ true → HadIncoming mid new) (λ e. ImportCause is_import_refusal D.observed source (key_of image) c.args.digest.now image.listing e mid new)
+    (λ e. FoundInTurn D.observed source (key_of image) image.listing e old new) c.import_new.result
+    (λ e l x. late_in_turn e absent (λ other t. told_after old mid new before t (l other t)) (cause_after before x)) c.import_new.ensures.locked c.import_new.ensures.cause
 
 pub returns-then-branch-clause-worked : goal.returns-then-branch-clause-worked
 returns-then-branch-clause-worked g c = worked_reads (building_spot c.args.draw) c.of.result c.is_there.ensures.only

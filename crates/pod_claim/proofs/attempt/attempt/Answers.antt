@@ -6,7 +6,9 @@ use Rattle.dir_trait.specs.Knowledge.{Knows, LookedInto}
 use Rattle.pod_claim.specs.declared.setback.Setback.{Setback}
 use Rattle.pod_claim.specs.Holding.{MayClaim, and_locked, with_pod}
 use Rattle.pod_claim.specs.Work.{Leaves, TookBoth}
-use Rattle.pod_claim.specs.Causes.{Stopped, IsAbsent, SetBack, BusyElsewhere}
+use Rattle.pod_claim.specs.Causes.{Stopped, IsAbsent, SetBack, BusyInTurn, HadBothAlone}
+use Rattle.pod_claim.proofs.Times.{both_had}
+use Rattle.pod_claim.proofs.Traces.{grown_by, grown_none}
 use Rattle.pod_claim.specs.Claims.{HasPod}
 use Rattle.pod_claim.proofs.Parts.{went_as, went_wider, went_more}
 use Rattle.pod_claim.proofs.Reading.{set_back_after, took_after, another_after, held_after, left_after, ok_more, err_more, refused_first}
@@ -50,7 +52,7 @@ returns-in-Ok-clause-another g c =
     let a = D.shown c.args.dir.now in
     let b = D.shown c.find_prepared.new.dir in
     let d = D.shown c.take_and_run.new.dir in
-    err_more (λ (e : Setback). Leaves D.observed MayClaim b (λ s. BusyElsewhere c.args.pod e b d)) (λ (e : Setback). Leaves D.observed MayClaim a (λ s. BusyElsewhere c.args.pod e a d)) c.take_and_run.result
+    err_more (λ (e : Setback). Leaves D.observed MayClaim b (λ s. BusyInTurn c.args.pod e b d)) (λ (e : Setback). Leaves D.observed MayClaim a (λ s. BusyInTurn c.args.pod e a d)) c.take_and_run.result
     (λ e f. another_after c.find_prepared.ensures.went c.find_prepared.ensures.still c.in-Ok.ensures.found c.find_prepared.ensures.known d e f) c.take_and_run.ensures.another
 
 pub returns-in-Ok-clause-held : goal.returns-in-Ok-clause-held
@@ -97,3 +99,12 @@ returns-in-Err-clause-owned_elsewhere g c = met_first c.args.pod (g.D.Dir.shown 
 
 pub returns-in-Ok-clause-reads : goal.returns-in-Ok-clause-reads
 returns-in-Ok-clause-reads g c = reads_more 1 (omega arith) c.find_prepared.ensures.reads c.find_prepared.ensures.went.same c.take_and_run.ensures.reads
+
+pub returns-in-Ok-clause-alone : goal.returns-in-Ok-clause-alone
+returns-in-Ok-clause-alone g c =
+    let D = g.D.Dir in
+    let a = D.shown c.args.dir.now in
+    let b = D.shown c.find_prepared.new.dir in
+    let d = D.shown c.take_and_run.new.dir in
+    ok_more (λ (own : Handle). D.observed ≡ true → HadBothAlone c.args.pod b.process b.trace d.trace) (λ (own : Handle). D.observed ≡ true → HadBothAlone c.args.pod a.process a.trace d.trace) c.take_and_run.result
+    (λ own f t. both_had (grown_by (c.find_prepared.ensures.went.extends t)) c.find_prepared.ensures.went.same grown_none (f t)) c.take_and_run.ensures.alone

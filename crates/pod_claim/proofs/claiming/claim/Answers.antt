@@ -10,6 +10,8 @@ use Rattle.pod_claim.specs.Claims.{HasPod, RefusedByAnother}
 use Rattle.pod_claim.proofs.Parts.{went_as, went_wider}
 use Rattle.pod_claim.proofs.Outcomes.{took_part, last_cause, last_still, left_twice, held_twice, another_twice, another_once, runs_it, went_twice, owned_twice, only_failures}
 use Rattle.pod_claim.specs.Elsewhere.{MetOwner}
+use Rattle.pod_claim.proofs.Times.{both_had}
+use Rattle.pod_claim.proofs.Traces.{grown_by, grown_none}
 use Rattle.pod_claim.proofs.Elsewhere.{met_once, met_twice}
 use Rattle.phase_read.proofs.Often.{reads_more, reads_within}
 use Rattle.pod_claim.proofs.claiming.claim.Goals as goal
@@ -155,3 +157,8 @@ returns-in-Ok-attempt-clause-reads g c = reads_more 2 (omega arith) c.attempt.en
 
 pub returns-in-Err-clause-reads : goal.returns-in-Err-clause-reads
 returns-in-Err-clause-reads g c = reads_more 2 (omega arith) c.attempt.ensures.reads c.attempt.ensures.went.same c.attempt-in-Err-Missing.ensures.reads
+
+pub returns-in-Ok-attempt-clause-alone : goal.returns-in-Ok-attempt-clause-alone
+returns-in-Ok-attempt-clause-alone g c t =
+    let e = rw c.in-Err-Missing.field-0-is at c.in-Err-Missing.ensures in
+    both_had (grown_by (e.went.extends t)) e.went.same grown_none (c.in-Ok-attempt.ensures.alone t)

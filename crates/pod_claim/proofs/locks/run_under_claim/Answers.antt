@@ -5,8 +5,8 @@ use Rattle.pod_claim.specs.Causes.{Stopped, IsAbsent}
 use Rattle.pod_claim.proofs.Calls.{with_spots, move_stops}
 use Rattle.pod_claim.proofs.Knowing.{knows_moved, knows_unmoved}
 use Rattle.pod_claim.proofs.Parts.{went_as, went_run, went_unrun, locked_ok, follows_taken}
-use Rattle.pod_claim.proofs.Times.{follows_call, stops_part}
-use Rattle.pod_claim.proofs.Traces.{deeds_then, one_deed, still_call}
+use Rattle.pod_claim.proofs.Times.{follows_call, stops_part, alone_had}
+use Rattle.pod_claim.proofs.Traces.{deeds_then, one_deed, still_call, grown_call, grown_none}
 use Rattle.phase_read.proofs.Often.{reads_more, unread_call}
 use Rattle.pod_claim.proofs.locks.run_under_claim.Goals as goal
 
@@ -45,3 +45,6 @@ returns-in-Ok-clause-reads g c = reads_more 0 (omega arith) c.take.ensures.reads
 
 pub returns-in-Err-clause-reads : goal.returns-in-Err-clause-reads
 returns-in-Err-clause-reads g c = reads_more 0 (omega arith) (reads_more 0 (omega arith) c.take.ensures.reads c.take.ensures.went.same (unread_call refl c.move_folder.ensures.called)) (c.move_folder.ensures.called.same ∙ c.take.ensures.went.same) (unread_call refl c.close.ensures.called)
+
+pub returns-in-Ok-clause-alone : goal.returns-in-Ok-clause-alone
+returns-in-Ok-clause-alone g c t = alone_had grown_none refl (grown_call (c.in-Ok.ensures.called.step t)) (c.in_ok-own.ensures.alone t)

@@ -1,5 +1,8 @@
-use Rattle.std.proofs.Common.{Err, refl, sym, ap, subst, ◌∙◌, ◌≡◌, true, arith}
-use Rattle.dir_model.specs.declared.request.Request.TheVariants.{Open}
+use Rattle.std.proofs.Common.{Err, refl, sym, ap, subst, ◌∙◌, ◌≡◌, ℕ, true, arith}
+use Rattle.dir_model.specs.declared.request.Request.TheVariants.{Open, TryLock}
+use Rattle.dir_model.specs.declared.request.Reply.TheVariants.{Done}
+use Rattle.dir_model.specs.declared.spot.Mode.TheVariants.{Exclusive}
+use Rattle.dir_model.specs.Calls.{CallStep}
 use Rattle.dir_model.specs.Local.{Local, IsUnlocked}
 use Rattle.dir_model.specs.Locks.{target_of}
 use Rattle.dir_model.proofs.Holdings.{unlocked_new}
@@ -7,6 +10,7 @@ use Rattle.pod_claim.specs.declared.setback.Setback.{Setback}
 use Rattle.pod_claim.specs.Causes.{Stopped, CannotOpen}
 use Rattle.pod_claim.proofs.Calls.{with_spot, went_taken, went_untaken, went_unopened, lock_stops, open_stops}
 use Rattle.pod_claim.proofs.Knowing.{busy_elsewhere, knows_taken, knows_untaken, knows_unopened}
+use Rattle.pod_claim.proofs.Opposed.{alone_step}
 use Rattle.pod_claim.proofs.Times.{follows_call, stops_part}
 use Rattle.pod_claim.proofs.Traces.{deeds_then, one_deed, still_call, still_more}
 use Rattle.phase_read.proofs.Often.{reads_more, unread_call, opens_past}
@@ -79,3 +83,10 @@ returns-in-Err-try_lock-clause-reads g c = reads_more 0 (omega arith) (reads_mor
 
 pub returns-in-Err-clause-reads : goal.returns-in-Err-clause-reads
 returns-in-Err-clause-reads g c = unread_call (opens_past c.args.pod Prepared 1 refl c.pod_spot-prepared.result (subst (λ (s : Spot). spot_eq (in_prepared c.args.pod) s ≡ true) (sym c.pod_spot-prepared.ensures) (spot_self (in_prepared c.args.pod))) c.args.which) c.«open».ensures.called
+
+pub returns-in-Ok-try_lock-clause-alone : goal.returns-in-Ok-try_lock-clause-alone
+returns-in-Ok-try_lock-clause-alone g c t =
+    let D = g.D.Dir in
+    let x = with_spot (λ s. Open s c.args.which) c.pod_spot-prepared.ensures c.in-Ok.ensures.called in
+    alone_step (D.shown c.args.dir.now).process (D.shown c.args.dir.now).trace (D.shown c.«open».new.self).trace (D.shown c.try_lock.new.self).trace c.in-Ok.handle c.args.pod c.args.which (x.step t)
+    (subst (λ (p : ℕ). CallStep p (D.shown c.«open».new.self).trace (TryLock c.in-Ok.handle Exclusive) Done (D.shown c.try_lock.new.self).trace) x.same (c.in-Ok-try_lock.ensures.called.step t))

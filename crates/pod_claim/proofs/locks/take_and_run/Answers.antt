@@ -1,9 +1,9 @@
 use Rattle.std.proofs.Common.{refl, ap, arith, ◌∙◌}
 use Rattle.dir_model.specs.declared.spot.Which.TheVariants.{Claim}
 use Rattle.pod_claim.specs.Holding.{and_locked}
-use Rattle.pod_claim.proofs.Parts.{went_as, went_wider, went_more, locked_ok, follows_taken, went_under, fresh_under, order_under, stopped_under, another_under, held_under, left_under, alone_stops}
-use Rattle.pod_claim.proofs.Times.{follows_call}
-use Rattle.pod_claim.proofs.Traces.{grown_by}
+use Rattle.pod_claim.proofs.Parts.{went_as, went_wider, went_more, locked_ok, follows_taken, went_under, fresh_under, order_under, alone_under, stopped_under, another_under, held_under, left_under, alone_stops}
+use Rattle.pod_claim.proofs.Times.{follows_call, alone_had}
+use Rattle.pod_claim.proofs.Traces.{grown_by, grown_call, grown_more, grown_none}
 use Rattle.phase_read.proofs.Often.{reads_more, unread_call}
 use Rattle.pod_claim.proofs.locks.take_and_run.Goals as goal
 
@@ -31,6 +31,7 @@ pub returns-in-Ok-clause-another : goal.returns-in-Ok-clause-another
 returns-in-Ok-clause-another g c =
     let w = went_as (locked_ok (g.D.Dir.shown c.args.dir.now).local c.args.pod Claim c.take.result c.in-Ok.claim c.in-Ok.is) c.take.ensures.went in
     another_under c.run_under_claim-result.result c.in-Ok.ensures.unopened w c.run_under_claim-result.ensures.unopened c.close.ensures.called c.in-Ok.ensures.held (follows_taken w c.in-Ok.ensures.still) c.run_under_claim-result.ensures.went.same (follows_call refl c.close.ensures.called) c.run_under_claim-result.ensures.another
+    (λ t. alone_had grown_none refl (grown_more (grown_by (c.run_under_claim-result.ensures.went.extends t)) (grown_call (c.close.ensures.called.step t))) (c.in-Ok.ensures.alone t))
 
 pub returns-in-Ok-clause-held : goal.returns-in-Ok-clause-held
 returns-in-Ok-clause-held g c =
@@ -57,3 +58,10 @@ returns-in-Ok-clause-reads g c = reads_more 0 (omega arith) (reads_more 0 (omega
 
 pub returns-in-Err-Missing-clause-reads : goal.returns-in-Err-Missing-clause-reads
 returns-in-Err-Missing-clause-reads g c = reads_more 0 (omega arith) c.take.ensures.reads c.take.ensures.went.same c.without_claim.ensures.reads
+
+pub returns-in-Ok-clause-alone : goal.returns-in-Ok-clause-alone
+returns-in-Ok-clause-alone g c =
+    let w = went_as (locked_ok (g.D.Dir.shown c.args.dir.now).local c.args.pod Claim c.take.result c.in-Ok.claim c.in-Ok.is) c.take.ensures.went in
+    alone_under c.run_under_claim-result.result c.in-Ok.ensures.unopened w c.run_under_claim-result.ensures.unopened c.close.ensures.called
+    (λ t. alone_had grown_none refl (grown_more (grown_by (c.run_under_claim-result.ensures.went.extends t)) (grown_call (c.close.ensures.called.step t))) (c.in-Ok.ensures.alone t))
+    (λ t. grown_by (w.extends t)) w.same c.run_under_claim-result.ensures.alone

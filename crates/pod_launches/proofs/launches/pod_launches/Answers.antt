@@ -5,7 +5,7 @@ use Rattle.image_reading.proofs.Widths.{file_after, file_before}
 use Rattle.pod_launches.specs.Files.{LacksManifest}
 use Rattle.pod_launches.specs.Starts.{FindsStarts, ReadsStarts}
 use Rattle.pod_launches.specs.Refusals.{IsLack, LacksStarts, LoadCause}
-use Rattle.pod_launches.proofs.Reading.{reads_more}
+use Rattle.pod_files.proofs.Reading.{reads_more}
 use Rattle.pod_launches.proofs.Rooted.{finds_after}
 use Rattle.pod_launches.proofs.Lacking.{lack_why, manifest_cause, token_cause, starts_cause}
 use Rattle.pod_launches.proofs.launches.pod_launches.Goals as goal

@@ -1,33 +1,4 @@
-use Rattle.std.proofs.Common.{◌≡◌, true}
-use Rattle.manifests.specs.PodData.{pod_data}
-use Rattle.image_reading.specs.Files.{most_of_manifest}
-use Rattle.image_reading.proofs.Results.{if_ok, if_err}
-use Rattle.pod_launches.specs.Places.{pod_file, manifest_name}
-use Rattle.pod_launches.specs.Files.{IsManifestOf, IsNoManifest, ReadsManifest, LacksManifest}
-use Rattle.pod_launches.specs.Refusals.{IsLack}
-use Rattle.pod_launches.proofs.Names.{manifest_form}
-use Rattle.pod_launches.proofs.Reading.{taken_so, not_taken}
-use Rattle.pod_launches.proofs.Lacking.{lack_why}
 use Rattle.pod_launches.proofs.manifest.read_manifest.Goals as goal
 
-pub read_part-requires-clause-path : goal.read_part-requires-clause-path
-read_part-requires-clause-path g c = manifest_form
-
-pub returns-in-Ok-Some-clause-read : goal.returns-in-Ok-Some-clause-read
-returns-in-Ok-Some-clause-read g c =
-    let D = g.D.Dir in
-    let e = rw c.in-Ok-Some.field-0-is at c.in-Ok-Some.ensures in
-    let old = D.shown c.args.dir.now in
-    let new = D.shown c.read_part.new.dir in
-    if_ok (λ m. IsManifestOf (pod_data m) c.deref.result.now) (λ m. D.observed ≡ true → ReadsManifest c.args.pod (pod_data m) old new) c.manifest_of.result
-    (λ m is. taken_so (pod_file c.args.pod manifest_name) most_of_manifest c.in-Ok-Some.bytes.items c.deref.result.now c.deref.ensures.value e.most e.read (IsManifestOf (pod_data m)) is) c.manifest_of.ensures.ok
-
-pub returns-in-Ok-Some-clause-lacks : goal.returns-in-Ok-Some-clause-lacks
-returns-in-Ok-Some-clause-lacks g c =
-    let D = g.D.Dir in
-    let e = rw c.in-Ok-Some.field-0-is at c.in-Ok-Some.ensures in
-    let old = D.shown c.args.dir.now in
-    let new = D.shown c.read_part.new.dir in
-    if_err (IsLack (IsNoManifest c.deref.result.now)) (IsLack (D.observed ≡ true → LacksManifest c.args.pod old new)) c.manifest_of.result
-    (λ e' is. lack_why (IsNoManifest c.deref.result.now) (D.observed ≡ true → LacksManifest c.args.pod old new) e' (λ none. not_taken (pod_file c.args.pod manifest_name) most_of_manifest c.in-Ok-Some.bytes.items c.deref.result.now c.deref.ensures.value e.most e.read IsNoManifest none) is)
-    c.manifest_of.ensures.fault
+pub returns-in-Err-Lacking-clause-lacks : goal.returns-in-Err-Lacking-clause-lacks
+returns-in-Err-Lacking-clause-lacks g c = rw c.in-Err-Lacking.field-0-is at c.in-Err-Lacking.ensures.lacks

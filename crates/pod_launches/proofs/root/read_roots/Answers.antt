@@ -5,7 +5,7 @@ use Rattle.manifests.specs.declared.runtime_app.RuntimeApp.{RuntimeApp}
 use Rattle.pod_launches.specs.Places.{tree_path, told_path}
 use Rattle.pod_launches.specs.Files.{LacksRoot, AreRoots}
 use Rattle.pod_launches.specs.Refusals.{IsDamageFor, IsRootsLack}
-use Rattle.pod_launches.proofs.Reading.{reads_none, reads_more}
+use Rattle.pod_files.proofs.Reading.{reads_none, reads_more}
 use Rattle.pod_launches.proofs.Rooted.{names, names_around, roots_none, roots_next}
 use Rattle.pod_launches.proofs.Lacking.{lacks_one}
 use Rattle.pod_launches.proofs.root.read_roots.Goals as goal

@@ -4,8 +4,8 @@ use Rattle.image_reading.proofs.Results.{if_ok, if_err}
 use Rattle.pod_launches.specs.Places.{pod_file, tree_path, told_path}
 use Rattle.pod_launches.specs.Files.{IsRootOf, IsNoListing, ReadsRoot, LacksRoot}
 use Rattle.pod_launches.specs.Refusals.{IsDamageFor}
-use Rattle.pod_launches.proofs.Names.{tree_form}
-use Rattle.pod_launches.proofs.Reading.{taken_so, not_taken}
+use Rattle.pod_launches.proofs.Trees.{tree_form}
+use Rattle.pod_files.proofs.Reading.{taken_so, not_taken}
 use Rattle.pod_launches.proofs.Lacking.{damage_why, damage_for, damage_outside}
 use Rattle.pod_launches.proofs.root.root_at.Goals as goal
 

@@ -1,42 +1,11 @@
-use Rattle.std.proofs.Common.{◌≡◌, inl, true}
-use Rattle.image_reading.proofs.Results.{if_ok, if_err}
-use Rattle.pod_launches.specs.Places.{pod_file, token_name, told_path}
-use Rattle.pod_launches.specs.Files.{IsTokenOf, IsNoToken, ReadsToken, LacksToken, most_of_token}
-use Rattle.pod_launches.specs.Refusals.{IsDamageFor}
-use Rattle.pod_launches.proofs.Names.{token_form}
-use Rattle.pod_launches.proofs.Reading.{taken_so, not_taken}
-use Rattle.pod_launches.proofs.Lacking.{damage_why, damage_for, damage_outside}
+use Rattle.std.proofs.Common.{◌≡◌, true}
+use Rattle.pod_launches.specs.Places.{token_name, told_path}
+use Rattle.pod_launches.specs.Files.{LacksToken}
+use Rattle.pod_launches.proofs.Lacking.{damage_for}
 use Rattle.pod_launches.proofs.token.read_token.Goals as goal
 
-pub read_part-requires-clause-path : goal.read_part-requires-clause-path
-read_part-requires-clause-path g c = token_form
-
-pub returns-in-Ok-Some-clause-read : goal.returns-in-Ok-Some-clause-read
-returns-in-Ok-Some-clause-read g c =
+pub returns-in-Err-Lacking-clause-lacks : goal.returns-in-Err-Lacking-clause-lacks
+returns-in-Err-Lacking-clause-lacks g c =
     let D = g.D.Dir in
-    let e = rw c.in-Ok-Some.field-0-is at c.in-Ok-Some.ensures in
-    let old = D.shown c.args.dir.now in
-    let new = D.shown c.read_part.new.dir in
-    if_ok (λ token. IsTokenOf token c.deref.result.now) (λ token. D.observed ≡ true → ReadsToken c.args.pod token old new) c.token_of.result
-    (λ token is. taken_so (pod_file c.args.pod token_name) most_of_token c.in-Ok-Some.bytes.items c.deref.result.now c.deref.ensures.value e.most e.read (IsTokenOf token) is) c.token_of.ensures.ok
-
-pub returns-in-Ok-Some-clause-lacks : goal.returns-in-Ok-Some-clause-lacks
-returns-in-Ok-Some-clause-lacks g c =
-    let D = g.D.Dir in
-    let e = rw c.in-Ok-Some.field-0-is at c.in-Ok-Some.ensures in
-    let old = D.shown c.args.dir.now in
-    let new = D.shown c.read_part.new.dir in
-    if_err (IsDamageFor (told_path c.args.pod token_name) (IsNoToken c.deref.result.now)) (IsDamageFor (told_path c.args.pod token_name) (D.observed ≡ true → LacksToken c.args.pod old new)) c.token_of.result
-    (λ e' is. damage_why (told_path c.args.pod token_name) (IsNoToken c.deref.result.now) (D.observed ≡ true → LacksToken c.args.pod old new) e' (λ none. not_taken (pod_file c.args.pod token_name) most_of_token c.in-Ok-Some.bytes.items c.deref.result.now c.deref.ensures.value e.most e.read IsNoToken none) is)
-    c.token_of.ensures.fault
-
-pub returns-in-Ok-None-clause-lacks : goal.returns-in-Ok-None-clause-lacks
-returns-in-Ok-None-clause-lacks g c =
-    let D = g.D.Dir in
-    let e = rw c.in-Ok-None.field-0-is at c.in-Ok-None.ensures in
-    damage_for (told_path c.args.pod token_name) (D.observed ≡ true → LacksToken c.args.pod (D.shown c.args.dir.now) (D.shown c.read_part.new.dir)) c.damaged.result (λ t. inl (e.read t)) c.damaged.ensures.damage
-
-pub returns-in-Err-clause-lacks : goal.returns-in-Err-clause-lacks
-returns-in-Err-clause-lacks g c =
-    let D = g.D.Dir in
-    damage_outside (told_path c.args.pod token_name) (D.observed ≡ true → LacksToken c.args.pod (D.shown c.args.dir.now) (D.shown c.read_part.new.dir)) c.in-Err.error c.in-Err.ensures.refusals
+    let why = rw c.in-Err-Lacking.field-0-is at c.in-Err-Lacking.ensures.lacks in
+    damage_for (told_path c.args.pod token_name) (D.observed ≡ true → LacksToken c.args.pod (D.shown c.args.dir.now) (D.shown c.read_token.new.dir)) c.damaged.result why c.damaged.ensures.damage

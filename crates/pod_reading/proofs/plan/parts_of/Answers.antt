@@ -1,7 +1,7 @@
 use Rattle.std.proofs.Common.{◌≡◌, ◌<◌, List, ℕ, length, sym, ap, subst, ◌∙◌}
 use Rattle.std.specs.List.{All}
 use Rattle.manifests.specs.declared.runtime_app.RuntimeApp.{RuntimeApp}
-use Rattle.pod_choice.specs.declared.root.Root.{Root}
+use Rattle.pod_reading.specs.declared.root.Root.{Root}
 use Rattle.pod_reading.specs.Plans.{apps_with}
 use Rattle.pod_reading.proofs.plan.parts_of.Goals as goal
 
@@ -12,7 +12,7 @@ apps_with-requires c =
     record {
       within = subst (λ (ps : List ℕ). All (λ i. i < length c.args.manifests.now) ps) (sym c.as_slice.ensures) ready.within;
       named = ap (λ (ns : List RuntimeApp). length ns) c.as_slice-named.ensures ∙ (ready.named ∙ many);
-      roots = ap (λ (rs : List Root). length rs) c.into_vec.ensures ∙ (ready.roots ∙ many);
+      roots = ap (λ (rs : List Root). length rs) c.into_vec.ensures ∙ (ready.rooted ∙ many);
     }
 
 pub returns-in-Ok : goal.returns-in-Ok

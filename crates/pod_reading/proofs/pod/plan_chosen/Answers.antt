@@ -1,28 +1,61 @@
-use Rattle.std.proofs.Common.{rules, ◌≡◌, List, length, sym, ap, subst, ◌∙◌}
-use Rattle.path_map.specs.Entries.{Entries}
+use Rattle.std.proofs.Common.{rules, List, length, sym, subst}
+use Rattle.std.specs.List.{All}
+use Rattle.dep_match.specs.declared.dep_tree.DepTree.{DepTree}
 use Rattle.dep_match.specs.declared.stored.Stored.{Stored}
-use Rattle.pod_choice.specs.Choices.{IsChoice}
+use Rattle.dep_match.specs.TreeOrder.{IsOrderedTree}
+use Rattle.pod_reading.specs.Roots.{ComesOnce, AreRoots}
+use Rattle.pod_reading.specs.RootRefusals.{IsRootsRefusal}
 use Rattle.pod_reading.specs.Plans.{IsPlanOf, PlansChoice}
 use Rattle.pod_reading.proofs.Results.{if_ok, ok_same}
+use Rattle.pod_reading.proofs.Once.{all_once}
 use Rattle.pod_reading.proofs.Ready.{is_ready}
 use Rattle.pod_reading.proofs.pod.plan_chosen.Goals as goal
 
+pub read_roots-requires-clause-trees : goal.read_roots-requires-clause-trees
+read_roots-requires-clause-trees g c =
+    subst (λ (xs : List Stored). All (λ (t : DepTree). IsOrderedTree (length xs) t.nodes) c.as_slice-2.result.now) (sym c.as_slice.ensures.value)
+    (subst (λ (ts : List DepTree). All (λ (t : DepTree). IsOrderedTree (length c.args.read.now.images.items) t.nodes) ts) (sym c.as_slice-2.ensures) c.requires.ordered)
+
+pub read_roots-requires-clause-once : goal.read_roots-requires-clause-once
+read_roots-requires-clause-once g c =
+    subst (λ (ts : List DepTree). All (λ (t : DepTree). ComesOnce t.nodes) ts) (sym c.as_slice-2.ensures)
+    (all_once c.args.read.now.images.items c.args.choice.picks c.args.choice.trees c.requires.chosen.1.dependencies c.requires.ordered)
+
 pub plan_of-requires : goal.plan_of-requires
-plan_of-requires c =
-    let many : length c.args.read.now.manifests.items ≡ length c.as_slice-images.result.now = c.requires.whole.manifests ∙ ap (λ (xs : List Stored). length xs) (sym c.as_slice-images.ensures.value) in
-    record { ready = is_ready c.args.refs.now c.args.options.now c.in-Ok.choice c.in-Ok.ensures.ok (length c.args.read.now.manifests.items) many }
+plan_of-requires g c =
+    let D = g.D.Dir in
+    let old = D.shown c.args.dir.now in
+    let new = D.shown c.read_roots.new.dir in
+    let images = c.args.read.now.images.items in
+    let trees = c.args.choice.trees in
+    let roots = c.in-Ok.roots in
+    let rooted : AreRoots D.observed images old new trees roots =
+    subst (λ (xs : List Stored). AreRoots D.observed xs old new trees roots) c.as_slice.ensures.value
+    (subst (λ (ts : List DepTree). AreRoots D.observed c.as_slice.result.now old new ts roots) c.as_slice-2.ensures c.in-Ok.ensures.roots) in
+    record { ready = is_ready c.args.refs.now c.args.options.now c.args.choice c.requires.chosen (length c.args.read.now.manifests.items) c.requires.whole D.observed old new roots rooted }
 
 pub returns-in-Ok-clause-made : goal.returns-in-Ok-clause-made
-returns-in-Ok-clause-made c =
-    let read = c.args.read.now in
-    let images = read.images.items in
-    let maps = read.maps.items in
-    let refs = c.args.refs.now in
-    let options = c.args.options.now in
-    let choice = c.in-Ok.choice in
-    let chosen : IsChoice images maps refs options choice =
-    subst (λ (xs : List Stored). IsChoice xs maps refs options choice) c.as_slice-images.ensures.value
-    (subst (λ (ms : List Entries). IsChoice c.as_slice-images.result.now ms refs options choice) c.as_slice.ensures.value c.in-Ok.ensures.ok) in
-    ok_same (λ plan. PlansChoice images read.manifests.items maps refs options c.args.now c.args.token.now plan.items) c.plan_of.result c.map_err.result (λ a h. search (rules, h, c.map_err.ensures.cases))
-    (if_ok (λ plan. IsPlanOf images read.manifests.items choice c.args.now c.args.token.now plan.items) (λ plan. PlansChoice images read.manifests.items maps refs options c.args.now c.args.token.now plan.items) c.plan_of.result
-    (λ plan planned. record { choice = choice; wishes = c.volumes-wishes.ensures.kind; chosen = chosen; planned = planned }) c.plan_of.ensures.made)
+returns-in-Ok-clause-made g c =
+    let D = g.D.Dir in
+    let old = D.shown c.args.dir.now in
+    let new = D.shown c.read_roots.new.dir in
+    let images = c.args.read.now.images.items in
+    let manifests = c.args.read.now.manifests.items in
+    let choice = c.args.choice in
+    let trees = choice.trees in
+    let roots = c.in-Ok.roots in
+    let rooted : AreRoots D.observed images old new trees roots =
+    subst (λ (xs : List Stored). AreRoots D.observed xs old new trees roots) c.as_slice.ensures.value
+    (subst (λ (ts : List DepTree). AreRoots D.observed c.as_slice.result.now old new ts roots) c.as_slice-2.ensures c.in-Ok.ensures.roots) in
+    ok_same (λ plan. PlansChoice D.observed images manifests c.args.refs.now c.args.options.now c.args.now c.args.token.now plan.items old new) c.plan_of.result c.map_err.result (λ a h. search (rules, h, c.map_err.ensures.cases))
+    (if_ok (λ plan. IsPlanOf images manifests choice roots c.args.now c.args.token.now plan.items) (λ plan. PlansChoice D.observed images manifests c.args.refs.now c.args.options.now c.args.now c.args.token.now plan.items old new) c.plan_of.result
+    (λ plan planned. record { choice = choice; wishes = c.volumes-wishes.ensures.kind; chosen = c.requires.chosen; roots = roots; rooted = rooted; planned = planned }) c.plan_of.ensures.made)
+
+pub returns-in-Err-clause-refused : goal.returns-in-Err-clause-refused
+returns-in-Err-clause-refused g c =
+    let D = g.D.Dir in
+    let old = D.shown c.args.dir.now in
+    let new = D.shown c.read_roots.new.dir in
+    let trees = c.args.choice.trees in
+    subst (λ (xs : List Stored). IsRootsRefusal D.observed xs trees c.in-Err.error old new) c.as_slice.ensures.value
+    (subst (λ (ts : List DepTree). IsRootsRefusal D.observed c.as_slice.result.now ts c.in-Err.error old new) c.as_slice-2.ensures c.in-Err.ensures.refused)

@@ -1,0 +1,103 @@
+// What a network is asked for: one call of std each.
+ghost use Rattle.std.specs.Prelude.{◌≡◌, ◌≤◌, ℕ, List, Bool, true, length, take, IfOk};
+ghost use Rattle.host_listener.specs.Facts.{Fact, listens, accepts, limits_reads, limits_writes, receives, sends, Tells};
+
+use std::io;
+use std::io::{Read, Write};
+use std::net::{Net, OpenListener, OpenStream, TcpListener};
+use std::time::Duration;
+
+/// A network. Each success is one fact that it tells.
+pub trait Network {
+    ghost use Rattle.host_listener.specs.Facts.{Fact};
+
+    /// Whether its answers are observed. A host observes none.
+    ghost observed: { Bool };
+
+    /// What it told so far, the oldest first.
+    ghost facts: { Self → List Fact };
+
+    /// Where connections come in.
+    type Listening: Drop;
+
+    /// A connection.
+    type Stream: Drop;
+
+    /// Listens at an address.
+    fn listen(&mut self, address: &str) -> io::Result<Self::Listening>
+        ensures told { observed ≡ true → Tells (facts self.old) (λ _. listens address.now) result (facts self.new) };
+
+    /// Takes the next connection, and waits for it.
+    fn accept(&mut self, listening: &Self::Listening) -> io::Result<Self::Stream>
+        ensures told { observed ≡ true → Tells (facts self.old) (λ _. accepts) result (facts self.new) };
+
+    /// Lets no read of the connection wait longer.
+    fn limit_reads(&mut self, stream: &Self::Stream, seconds: u64) -> io::Result<()>
+        ensures told { observed ≡ true → Tells (facts self.old) (λ _. limits_reads seconds) result (facts self.new) };
+
+    /// Lets no write to the connection wait longer.
+    fn limit_writes(&mut self, stream: &Self::Stream, seconds: u64) -> io::Result<()>
+        ensures told { observed ≡ true → Tells (facts self.old) (λ _. limits_writes seconds) result (facts self.new) };
+
+    /// Fills the room from its start with what comes, and answers how many bytes: none at the end.
+    fn receive(&mut self, stream: &mut Self::Stream, room: &mut [u8]) -> io::Result<usize>
+        ensures most { IfOk result (λ n. n ≤ length room.new) }
+        ensures told { observed ≡ true → Tells (facts self.old) (λ n. receives (take n room.new)) result (facts self.new) };
+
+    /// Sends the piece from its start, and answers how many of its bytes.
+    fn send(&mut self, stream: &mut Self::Stream, piece: &[u8]) -> io::Result<usize>
+        ensures most { IfOk result (λ n. n ≤ length piece.now) }
+        ensures told { observed ≡ true → Tells (facts self.old) (λ n. sends (take n piece.now)) result (facts self.new) };
+}
+
+/// The network of a host.
+#[derive(Drop)]
+pub struct HostNetwork<R: Net + Drop> {
+    rt: R,
+}
+
+impl<R: Net + Drop> HostNetwork<R> {
+    /// That of the host that this runs on.
+    pub fn new(rt: R) -> HostNetwork<R> {
+        HostNetwork { rt }
+    }
+}
+
+impl<R: Net + Drop> Network for HostNetwork<R> {
+    ghost use Rattle.std.specs.Prelude.{false, []};
+
+    ghost observed = { false };
+
+    ghost facts = { λ _. [] };
+
+    type Listening = R::Listener;
+
+    type Stream = R::Stream;
+
+    fn listen(&mut self, address: &str) -> io::Result<R::Listener> {
+        TcpListener::bind(&self.rt, address)
+    }
+
+    fn accept(&mut self, listening: &R::Listener) -> io::Result<R::Stream> {
+        match listening.accept() {
+            Ok((stream, _peer)) => Ok(stream),
+            Err(error) => Err(error),
+        }
+    }
+
+    fn limit_reads(&mut self, stream: &R::Stream, seconds: u64) -> io::Result<()> {
+        stream.set_read_timeout(Some(Duration::from_secs(seconds)))
+    }
+
+    fn limit_writes(&mut self, stream: &R::Stream, seconds: u64) -> io::Result<()> {
+        stream.set_write_timeout(Some(Duration::from_secs(seconds)))
+    }
+
+    fn receive(&mut self, stream: &mut R::Stream, room: &mut [u8]) -> io::Result<usize> {
+        stream.read(room)
+    }
+
+    fn send(&mut self, stream: &mut R::Stream, piece: &[u8]) -> io::Result<usize> {
+        stream.write(piece)
+    }
+}

@@ -1,0 +1,9 @@
+mod Wider
+mod Asking
+mod Shown
+mod Tokens
+mod Images
+mod Views
+mod Finding
+mod Replied
+mod Connections

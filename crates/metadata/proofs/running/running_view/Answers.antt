@@ -1,0 +1,26 @@
+use Rattle.std.proofs.Common.{◌≡◌, inl, true, option_map}
+use Rattle.image_reading.proofs.Results.{if_ok}
+use Rattle.metadata_reply.specs.Views.{view_data}
+use Rattle.pod_report.proofs.Asking.{asks_more}
+use Rattle.metadata.specs.PodViews.{TellsFiles, TellsRunning}
+use Rattle.metadata.proofs.Asking.{asks_pod}
+use Rattle.metadata.proofs.Views.{running_told}
+use Rattle.metadata.proofs.running.running_view.Goals as goal
+
+pub returns-in-Ok-true-clause-only : goal.returns-in-Ok-true-clause-only
+returns-in-Ok-true-clause-only g c = asks_more c.runs.ensures.only (asks_pod c.args.pod c.read_view.ensures.only)
+
+pub returns-in-Ok-true-clause-tells : goal.returns-in-Ok-true-clause-tells
+returns-in-Ok-true-clause-tells g c =
+    let D = g.D.Dir in
+    let e = rw c.in-Ok-true.field-0-test at c.in-Ok-true.ensures in
+    let old = D.shown c.args.dir.now in
+    let mid = D.shown c.runs.new.dir in
+    let new = D.shown c.read_view.new.dir in
+    if_ok (λ found. D.observed ≡ true → TellsFiles c.args.pod (option_map view_data found) mid new) (λ found. D.observed ≡ true → TellsRunning c.args.pod (option_map view_data found) old new) c.read_view.result
+    (λ found tells t. running_told t c.args.pod (option_map view_data found) old mid new c.runs.ensures.only c.read_view.ensures.only (e.tells t) (tells t)) c.read_view.ensures.tells
+
+pub returns-in-Ok-false-clause-tells : goal.returns-in-Ok-false-clause-tells
+returns-in-Ok-false-clause-tells g c t =
+    let e = rw c.in-Ok-false.field-0-test at c.in-Ok-false.ensures in
+    inl (e.tells t)
