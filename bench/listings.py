@@ -12,15 +12,16 @@ RUNS = int(os.environ.get("RUNS", "5"))
 NIL = hashlib.sha512(b"").hexdigest()
 
 
-def image(data, number, name, files, needs=(), real=False):
-    """An image of so many empty files, in one directory of its own."""
+def image(data, number, name, files, needs=(), real=False, directory=None):
+    """An image of so many empty files, in one directory: its own, or one that it shares with the others."""
+    directory = directory or name
     folder = f"{data}/store/images/sha512-{number:064x}"
-    os.makedirs(f"{folder}/rootfs/{name}" if real else f"{folder}/rootfs")
+    os.makedirs(f"{folder}/rootfs/{directory}" if real else f"{folder}/rootfs")
     manifest = {"acKind": "ImageManifest", "acVersion": "0.8.0", "name": f"example.com/{name}",
                 "app": {"exec": ["/bin/run"], "user": "0", "group": "0"},
                 "dependencies": [{"imageName": f"example.com/{need}"} for need in needs]}
     names = sorted("f%d" % n for n in range(files))
-    lines = [f"d 0755 0 0 /{name}"] + [f"f 0644 0 0 0 {NIL} /{name}/{file}" for file in names]
+    lines = [f"d 0755 0 0 /{directory}"] + [f"f 0644 0 0 0 {NIL} /{directory}/{file}" for file in names]
     texts = {"manifest": json.dumps(manifest), "id": f"sha512-{number:064x}{0:064}\n", "tree": "\n".join(lines) + "\n",
              f"imported-{number + 1:020}": ""}
     for file, text in texts.items():
@@ -28,7 +29,7 @@ def image(data, number, name, files, needs=(), real=False):
             out.write(text)
     if real:
         for file in names:
-            with open(f"{folder}/rootfs/{name}/{file}", "wb"):
+            with open(f"{folder}/rootfs/{directory}/{file}", "wb"):
                 pass
 
 
@@ -74,11 +75,12 @@ def among(count, files):
 
 
 def layers(count, files):
+    """All have the same paths: a root has no more than 65,536 entries."""
     data = data_folder(f"layers-{count}")
     needs = [f"layer{number}" for number in range(1, count)]
-    image(data, 0, "layer0", files, needs, real=True)
+    image(data, 0, "layer0", files, needs, real=True, directory="all")
     for number in range(1, count):
-        image(data, number, f"layer{number}", files, real=True)
+        image(data, number, f"layer{number}", files, real=True, directory="all")
     told(f"prepare of {count} layers of {files} files", data, "prepare", "example.com/layer0")
     shutil.rmtree(data)
 
