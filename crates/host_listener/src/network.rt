@@ -24,7 +24,7 @@ pub trait Network {
     type Stream: Drop;
 
     /// Which connection it is, by the number that was told when it was taken.
-    ghost number: { Stream → ℕ };
+    ghost number: { Self.Stream → ℕ };
 
     /// Listens at an address.
     fn listen(&mut self, address: &str) -> io::Result<Self::Listening>
