@@ -1,4 +1,4 @@
-use Rattle.std.proofs.Common.{arith, rules, ◌≡◌, ◌∙◌, inl, inr, Ok, Err, [], ◌∷◌, ◌++◌, List, refl, sym, ap, subst, length-append}
+use Rattle.std.proofs.Common.{arith, rules, ◌≡◌, ◌∙◌, inl, inr, Ok, Err, [], ◌∷◌, ◌++◌, refl, sym, ap, subst, length-append}
 use Rattle.dir_trait.specs.DirCalls.{DirAt}
 use Rattle.metadata.specs.declared.error.MetaError.TheVariants.{LinkFault, DirFault}
 use Rattle.pod_report.proofs.Asking.{asks_none, asks_more}
