@@ -20,6 +20,7 @@ use Rattle.image_reading.specs.declared.error.StoreError.TheVariants as store_er
 use Rattle.image_reading.specs.Looks.{reads_images}
 use Rattle.image_reading.specs.Store.{ReadsStore, LacksListed, IsStorePath}
 use Rattle.lifecycle.specs.Executions.{IsConforming}
+use Rattle.standing_images.specs.Damage.{IsFirstDamage}
 use Rattle.standing_images.specs.Images.{AreStore, StoodTogether}
 use Rattle.command_outcomes.specs.declared.refusal.Refusal.{Refusal}
 use Rattle.command_outcomes.specs.declared.refusal.Refusal.TheVariants.{Busy, DirFault, NoMemory, Damaged}
@@ -96,10 +97,16 @@ pub record PrintsStore (s : DirState) (text : List ℕ) : Type 0 where
   pub is : text ≡ images_text images
   pub only : (others : List Stored) → AreStore others s → text ≡ images_text others
 
--- what it comes to where nobody else steps: by its own reads, which where every process keeps the local rules are of the store as it was
--- before; or by the lock as it was held before
+-- the path is that of the first part that the store lacks: of its first image that isn't whole, in the byte order of their keys, the
+-- first of its manifest, its ID and its mark. No other path is
+pub record NamesDamage (s : DirState) (path : List ℕ) : Type 0 where
+  pub is : IsFirstDamage path s
+  pub only : (other : List ℕ) → IsFirstDamage other s → path ≡ other
+
+-- what it comes to where nobody else steps: by its own reads, which are of the store as it was before; or by the lock as it was held
+-- before
 abbrev pub ListsQuietly : DirSeen → DirSeen → Outcome → Type 0
-ListsQuietly old new (Ok text) = ListsStore old new text × (IsConforming new.trace → PrintsStore (state_after old.trace) text)
+ListsQuietly old new (Ok text) = ListsStore old new text × PrintsStore (state_after old.trace) text
 ListsQuietly old new (Err (Busy area)) = (area ≡ Images) × IsBusyElsewhere old.process Images Shared (state_after old.trace)
-ListsQuietly old new (Err (Damaged path)) = LacksPart path old new
+ListsQuietly old new (Err (Damaged path)) = LacksPart path old new × NamesDamage (state_after old.trace) path
 ListsQuietly old new (Err refusal) = ⊥
