@@ -1,5 +1,6 @@
 -- Which image of the store isn't whole, and what it lacks, by one state of the directory.
-use Rattle.std.specs.Prelude.{◌≡◌, ◌⊎◌, ℕ, Less, Some, List}
+use Rattle.std.specs.Prelude.{◌≡◌, ◌⊎◌, ℕ, Some, List}
+use Rattle.std.specs.declared.cmp.Ordering.TheVariants.{Less}
 use Rattle.std.specs.Ordering.{nat_cmp}
 use Rattle.std.specs.Cmp.Lexicographic.{slice_cmp}
 use Rattle.ac_types.specs.declared.image_id.ImageId.{ImageId}
