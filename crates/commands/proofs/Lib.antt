@@ -88,3 +88,4 @@ pub mod Words
 pub mod StoreKept
 pub mod PrepareStore
 pub mod StoreChosen
+pub mod OneReason

@@ -22,6 +22,7 @@ use Rattle.pod_build.specs.declared.error.BuildError.TheVariants as build
 use Rattle.pod_build.specs.Causes.{IsPartOf, During, FailsGate, FailsPlan, FailsMaking, FailsAfterPlan, IsRefused}
 use Rattle.pod_build.specs.Origins.{IsDamaged}
 use Rattle.pod_build.specs.Refusals.{gate_refusal, plan_refusal, IsMakeRefusal}
+use Rattle.pod_choice.specs.declared.choice.Choice.{Choice}
 use Rattle.pod_choice.specs.declared.error.ChoiceError.{ChoiceError}
 use Rattle.pod_choice.specs.declared.error.ChoiceError.TheVariants as choice
 use Rattle.pod_choice.specs.Choices as chosen
@@ -45,6 +46,7 @@ use Rattle.command_outcomes.specs.Moments.{DirSeen}
 use Rattle.commands.specs.Prepare.{RefusesPod}
 use Rattle.commands.specs.PrepareTable.{MakesPod, MakesNone, StoreRefuses, RefusesByStore}
 use Rattle.commands.specs.Wants.{Wants}
+use Rattle.commands.proofs.OneReason.{no_reason, one_reason}
 use Rattle.commands.proofs.Parts.{Part, lack_wider, lacks_wider, store_wider}
 
 part_of : {start end old new : DirAt} → IsPartOf start end old new → Part old start end new
@@ -71,10 +73,14 @@ module _ (refs : List ImageRef) (wishes : Wishes) (old new : DirAt) (stay : Imag
 
   module _ (observed : Bool) (t : observed ≡ true) where
     -- the references make none of the images that were read
-    none_of : {start end : DirAt} → IsPartOf start end old new → (reason : ChoiceError) (error : PlanError) → ((other : ChoiceError) → error ≡ choice_refusal other → other ≡ reason) →
+    none_of : {start end : DirAt} → IsPartOf start end old new → (reason : ChoiceError) (error : PlanError) → (reason ≡ choice.NoMemory → ⊥) → ((other : ChoiceError) → error ≡ choice_refusal other → other ≡ reason) →
         (images : List Stored) → ReadsStore images start end → IsNoChoice images refs wishes error → MakesNone refs wishes s reason
-    none_of p reason error one images read x =
-        (images, store_in p images read, subst (λ (r : ChoiceError). chosen.IsRefused images refs wishes r) (one x.reason x.is) x.refused)
+    none_of p reason error alive one images read x =
+        let refused = subst (λ (r : ChoiceError). chosen.IsRefused images refs wishes r) (one x.reason x.is) x.refused in
+        (images, store_in p images read, record { refused = refused; only = λ other is kept. one_reason images refs wishes other reason is refused kept alive })
+
+    pod_of : {start end : DirAt} → IsPartOf start end old new → (images : List Stored) → ReadsStore images start end → (pod : Choice) → chosen.IsChoice images refs wishes pod → MakesPod refs wishes s
+    pod_of p images read pod is = (images, store_in p images read, record { pod = pod; chosen = is; unrefused = no_reason images refs wishes pod is })
 
     one_place : (place : ℕ) (other : ChoiceError) → plan.NoMatch place ≡ choice_refusal other → other ≡ choice.NoMatch place
     one_place place (choice.NoMatch here) is = let same : here ≡ place = cc in ap choice.NoMatch same
@@ -88,24 +94,24 @@ module _ (refs : List ImageRef) (wishes : Wishes) (old new : DirAt) (stay : Imag
         by : LacksPart path start end ⊎ none.MakesNone observed refs wishes (plan.Damaged path) start end → IsFirstDamage path s ⊎ MakesPod refs wishes s
         by (inl (inl listed)) = inl (damage_in p path listed)
         by (inl (inr (images, read, among))) = absurd (none_among p images path (store_in p images read) among)
-        by (inr m) = inr (m.images, store_in p m.images (m.listed t), (m.none.choice, m.none.chosen))
-    no_plan p (plan.NoMatch place) m = none_of p (choice.NoMatch place) (plan.NoMatch place) (one_place place) m.images (m.listed t) m.none
-    no_plan p (plan.DepError fault) m = none_of p (choice.DepError fault) (plan.DepError fault) one m.images (m.listed t) m.none
+        by (inr m) = inr (pod_of p m.images (m.listed t) m.none.choice m.none.chosen)
+    no_plan p (plan.NoMatch place) m = none_of p (choice.NoMatch place) (plan.NoMatch place) (λ e. cc) (one_place place) m.images (m.listed t) m.none
+    no_plan p (plan.DepError fault) m = none_of p (choice.DepError fault) (plan.DepError fault) (λ e. cc) one m.images (m.listed t) m.none
       where
         one : (other : ChoiceError) → plan.DepError fault ≡ choice_refusal other → other ≡ choice.DepError fault
         one (choice.NoMatch here) is = cc
         one (choice.DepError here) is = let same : here ≡ fault = cc in ap choice.DepError same
         one (choice.GenError refusal) is = cc
         one choice.NoMemory is = cc
-    no_plan p (plan.GenError refusal) m = none_of p (choice.GenError refusal) (plan.GenError refusal) one m.images (m.listed t) m.none
+    no_plan p (plan.GenError refusal) m = none_of p (choice.GenError refusal) (plan.GenError refusal) (λ e. cc) one m.images (m.listed t) m.none
       where
         one : (other : ChoiceError) → plan.GenError refusal ≡ choice_refusal other → other ≡ choice.GenError refusal
         one (choice.NoMatch here) is = cc
         one (choice.DepError fault) is = cc
         one (choice.GenError here) is = let same : here ≡ refusal = cc in ap choice.GenError same
         one choice.NoMemory is = cc
-    no_plan p (plan.RenderError error) m = (m.images, store_in p m.images (m.listed t), (m.none.choice, m.none.chosen))
-    no_plan p (plan.ListingError error) m = (m.images, store_in p m.images (m.listed t), (m.none.choice, m.none.chosen))
+    no_plan p (plan.RenderError error) m = pod_of p m.images (m.listed t) m.none.choice m.none.chosen
+    no_plan p (plan.ListingError error) m = pod_of p m.images (m.listed t) m.none.choice m.none.chosen
     no_plan p plan.DirFault m = tt
     no_plan p plan.NoMemory m = tt
 
@@ -116,7 +122,7 @@ module _ (refs : List ImageRef) (wishes : Wishes) (old new : DirAt) (stay : Imag
 
     -- a plan is of a pod that the store makes
     planned_pod : {start end : DirAt} {now : ℕ} {token : List ℕ} {entries : List PlanEntry} → IsPartOf start end old new → PlansFaithfully refs wishes now token entries start end → MakesPod refs wishes s
-    planned_pod p x = (x.images, store_in p x.images x.listed, (x.choice, x.chosen))
+    planned_pod p x = pod_of p x.images x.listed x.choice x.chosen
 
     damaged : (entries : List PlanEntry) (place : ℕ) (error : BuildError) → MakesPod refs wishes s → IsDamaged entries place error → StoreRefuses refs wishes s error
     damaged entries place (build.Damaged path) pod is = inr pod

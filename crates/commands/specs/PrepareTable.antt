@@ -21,14 +21,24 @@ use Rattle.commands.specs.Wants.{Wants}
 abbrev pub OfStore : DirState → (List Stored → Type 0) → Type 0
 OfStore s P = (images : List Stored) × AreStore images s × P images
 
--- they make a pod for the references: of the best image for each, with the trees of their dependencies and its manifest
+-- they make a pod for the references: of the best image for each, with the trees of their dependencies and its manifest; and there is no
+-- reason to make none
+pub record IsPodOf (images : List Stored) (refs : List ImageRef) (wishes : Wishes) : Type 0 where
+  pub pod : Choice
+  pub chosen : IsChoice images refs wishes pod
+  pub unrefused : (reason : ChoiceError) → IsRefused images refs wishes reason → reason ≡ choice.NoMemory
+
 abbrev pub MakesPod : List ImageRef → Wishes → DirState → Type 0
-MakesPod refs wishes s = OfStore s (λ images. (pod : Choice) × IsChoice images refs wishes pod)
+MakesPod refs wishes s = OfStore s (λ images. IsPodOf images refs wishes)
 
 -- they make none for this reason, the first: a reference has no image; the tree of an image's dependencies has a fault; the manifest
--- is refused
+-- is refused. There is no other
+pub record IsReason (images : List Stored) (refs : List ImageRef) (wishes : Wishes) (reason : ChoiceError) : Type 0 where
+  pub refused : IsRefused images refs wishes reason
+  pub only : (other : ChoiceError) → IsRefused images refs wishes other → (other ≡ choice.NoMemory → ⊥) → other ≡ reason
+
 abbrev pub MakesNone : List ImageRef → Wishes → DirState → ChoiceError → Type 0
-MakesNone refs wishes s reason = OfStore s (λ images. IsRefused images refs wishes reason)
+MakesNone refs wishes s reason = OfStore s (λ images. IsReason images refs wishes reason)
 
 -- by the store: the first image that isn't whole lacks this part, or all are whole, and then they make no pod for this reason, or make
 -- one whose roots or files can't be made so
