@@ -1,5 +1,5 @@
 -- For one list of images there is one reason why references make no pod of them, and none where they make one.
-use Rattle.std.proofs.Common.{arith, ◌≡◌, ℕ, true, false, Option, Some, None, Ok, Err, IsSome, IsOk, List, [], ◌∷◌, ◌++◌, length, map, refl, sym, ap, subst, ◌∙◌}
+use Rattle.std.proofs.Common.{arith, ◌≡◌, ℕ, true, false, Option, Some, None, IsSome, IsOk, List, [], ◌∷◌, ◌++◌, length, map, refl, sym, ap, subst, ◌∙◌}
 use Rattle.std.specs.List.{All}
 use Rattle.std.proofs.lemmas.Grind.{common_steps}
 use Rattle.std.proofs.lemmas.List.Elements.{All-head, All-tail}

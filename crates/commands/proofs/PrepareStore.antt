@@ -1,9 +1,8 @@
 -- While the images stay as they are, a pod isn't prepared for what the store of the state before says.
-use Rattle.std.proofs.Common.{◌≡◌, ◌⊎◌, inl, inr, ℕ, Bool, true, List, ◌∷◌, refl, sym, ap, subst, ◌∙◌}
+use Rattle.std.proofs.Common.{◌≡◌, ◌⊎◌, inl, inr, ℕ, Bool, true, List, ◌∷◌, sym, ap, subst}
 use Rattle.std.specs.List.{AllByRecursion}
 use Rattle.ac_types.specs.declared.image_ref.ImageRef.{ImageRef}
 use Rattle.dep_match.specs.declared.stored.Stored.{Stored}
-use Rattle.dir_model.specs.declared.area.Area.TheVariants.{Embryo}
 use Rattle.dir_model.specs.declared.intent.Draw.{Draw}
 use Rattle.dir_model.specs.declared.pod.PodId.{PodId}
 use Rattle.dir_model.specs.State.{DirState}
@@ -19,7 +18,7 @@ use Rattle.image_reading.specs.Files.{IsNoManifest, most_of_manifest}
 use Rattle.image_reading.specs.Store.{ReadsStore, LacksListed}
 use Rattle.pod_build.specs.declared.error.BuildError.{BuildError}
 use Rattle.pod_build.specs.declared.error.BuildError.TheVariants as build
-use Rattle.pod_build.specs.Causes.{IsPartOf, During, FailsGate, FailsPlan, FailsMaking, FailsAfterPlan, IsRefused}
+use Rattle.pod_build.specs.Causes.{IsPartOf, IsRefused}
 use Rattle.pod_build.specs.Origins.{IsDamaged}
 use Rattle.pod_build.specs.Refusals.{gate_refusal, plan_refusal, IsMakeRefusal}
 use Rattle.pod_choice.specs.declared.choice.Choice.{Choice}

@@ -1,5 +1,5 @@
 -- Where nobody else steps, a process that changes no place in images leaves the images as they were at each moment.
-use Rattle.std.proofs.Common.{◌≡◌, ℕ, Bool, true, false, ◌&&◌, ◌||◌, bytes_eq, Option, Some, List, [], ◌∷◌, ◌++◌, append_assoc, refl, sym, ap, subst, ◌∙◌}
+use Rattle.std.proofs.Common.{◌≡◌, ℕ, Bool, true, false, ◌&&◌, ◌||◌, bytes_eq, Option, List, [], ◌∷◌, ◌++◌, append_assoc, refl, sym, ap, subst, ◌∙◌}
 use Rattle.std.specs.List.{AllByRecursion}
 use Rattle.dir_model.specs.declared.area.Area.{Area}
 use Rattle.dir_model.specs.declared.area.Area.TheVariants as area
@@ -17,7 +17,7 @@ use Rattle.dir_model.specs.Areas.{is_stage}
 use Rattle.dir_model.specs.State.{DirState, Namespace, empty_state, folder_at, spot_eq}
 use Rattle.dir_model.specs.Trace.{namespace_replied, state_after, state_next, states_next}
 use Rattle.dir_model.proofs.Chains.{states_next-append}
-use Rattle.dir_model.proofs.Lists.{all_left, and_left, and_right, same_rest}
+use Rattle.dir_model.proofs.Lists.{all_left, same_rest}
 use Rattle.dir_rules.specs.Standing.{is_in}
 use Rattle.folder_contents.proofs.Places.{located}
 use Rattle.folder_contents.proofs.Spots.{one_location}

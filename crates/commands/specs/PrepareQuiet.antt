@@ -33,7 +33,7 @@ pub record StandsPrepared {refs : List ImageRef} {wishes : Wishes} {me : ℕ} {d
 abbrev pub HasPrepared : Wants → PodId → DirSeen → DirSeen → Type 0
 HasPrepared wants draw old new =
     OfReferences wants.images (λ refs. (x : IsPrepared refs wants.wishes old.process draw Prepared old.trace new.trace) × StandsPrepared x (state_after new.trace)
-        × AreStore x.faithful.images (state_after old.trace))
+    × AreStore x.faithful.images (state_after old.trace))
 
 -- by a lock as it was held before, or by its own reads, and by the store of the state before
 abbrev pub PreparesQuietly : Wants → ℕ → Draw → DirSeen → DirSeen → Outcome → Type 0

@@ -57,7 +57,6 @@ use Rattle.rkt_cli.proofs.Judged.{judged_whole}
 use Rattle.command_outcomes.proofs.Seen.{rose_wider}
 use Rattle.rkt_cli.proofs.Outcomes.{rose_between, answered, WasAnswered}
 use Rattle.rkt_cli.proofs.Conforming.{begun_knows}
-use Rattle.lifecycle.specs.Executions.{IsConforming}
 use Rattle.rkt_cli.proofs.Listed.{listed_in_process, lacked_in_process}
 use Rattle.commands.proofs.StoreQuiet.{is_tame, lists_is_tame, at_tame, end_tame}
 use Rattle.commands.proofs.EndsQuiet.{unborn_before}
@@ -303,8 +302,7 @@ prepare_quiet wants now draw old new (Ok text) s u own = (
   λ conforming.
       let x = prepare_faithful wants now draw old new text (inl s) (u.observed refl) conforming in
       let ext = prepare_extends wants now draw (prepare_intent now draw) old new (Ok text) s u in
-      let unborn = unborn_before (prepare_intent now draw) (s.begins (u.observed refl)).begins in
-      (
+      let unborn = unborn_before (prepare_intent now draw) (s.begins (u.observed refl)).begins in (
         x.0,
         x.1,
         (

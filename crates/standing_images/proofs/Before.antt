@@ -1,6 +1,5 @@
 -- While the images stay as they are, what is read of them is so of the state before.
-use Rattle.std.proofs.Common.{arith, ◌≡◌, ◌<◌, ℕ, Bool, true, false, Option, Some, None, unwrap_or, is_some, List, [], ◌∷◌, ◌++◌, take, append_assoc, append-nil, refl, sym, ap, subst, ◌∙◌}
-use Rattle.std.specs.List.{AllByRecursion}
+use Rattle.std.proofs.Common.{arith, ◌≡◌, ◌<◌, ℕ, Bool, true, false, Option, Some, None, is_some, List, [], ◌∷◌, ◌++◌, take, append_assoc, refl, sym, ap, subst, ◌∙◌}
 use Rattle.std.specs.Prelude.{Contains}
 use Rattle.ac_types.specs.declared.store_key.StoreKey.{StoreKey}
 use Rattle.ac_types.specs.declared.image_id.ImageId.{ImageId}
@@ -9,22 +8,19 @@ use Rattle.dep_match.specs.declared.stored.Stored.{Stored}
 use Rattle.manifests.specs.declared.image_manifest.ImageManifest.{ImageManifest}
 use Rattle.dir_model.specs.declared.area.Area.TheVariants.{Images}
 use Rattle.dir_model.specs.declared.event.Event.{Event}
-use Rattle.dir_model.specs.declared.item.Item.{Item}
 use Rattle.dir_model.specs.declared.request.Request.{Request}
 use Rattle.dir_model.specs.declared.request.Reply.{Reply}
 use Rattle.dir_model.specs.declared.spot.Spot.{Spot}
-use Rattle.dir_model.specs.declared.tree.TreeEntry.{TreeEntry}
 use Rattle.dir_model.specs.State.{DirState, empty_state, folder_at}
 use Rattle.dir_model.specs.Trace.{states_next, state_after}
 use Rattle.dir_model.specs.Calls.{AtOwnStep, event}
 use Rattle.dir_model.specs.Listings.{has_name, item_names}
 use Rattle.dir_model.proofs.Chains.{states_next-append}
 use Rattle.dir_model.proofs.Lists.{all_weaker}
-use Rattle.dir_model.proofs.Moments.{some_number}
 use Rattle.dir_rules.specs.Standing.{is_in}
-use Rattle.dir_trait.specs.DirCalls.{DirAt, HeldBetween}
+use Rattle.dir_trait.specs.DirCalls.{DirAt}
 use Rattle.dir_laws.specs.Stretches.{StandsInArea}
-use Rattle.dir_files.specs.Reads.{inner_at, bytes_in, file_at, TellsFile, IsPiece, AreTold, WasMissing}
+use Rattle.dir_files.specs.Reads.{inner_at, bytes_in, file_at, TellsFile, IsPiece, AreTold}
 use Rattle.dir_files.specs.Listed.{Stretch, ShowsArea, ShowsDirectory}
 use Rattle.folder_contents.specs.Entries.{entries_in}
 use Rattle.gate_reading.specs.Areas.{is_image}
@@ -34,11 +30,11 @@ use Rattle.gate_reading.proofs.Listed.{throughout, sometime}
 use Rattle.gate_reading.proofs.PlainPaths.{plain_own}
 use Rattle.image_reading.specs.Within.{Within}
 use Rattle.image_reading.specs.Places.{image_spot, image_inner, manifest_name, id_name, IsAbsent, IsPresent}
-use Rattle.image_reading.specs.Files.{IsManifestOf, IsIdOf, ReadsFile, ReadsManifest, ReadsId, ReadsMoment, ShowsMarks, most_of_manifest, most_of_id}
+use Rattle.image_reading.specs.Files.{IsManifestOf, IsIdOf, ReadsFile, ReadsManifest, ReadsId, ShowsMarks, most_of_manifest, most_of_id}
 use Rattle.image_reading.specs.Images.{ReadsImage}
-use Rattle.image_reading.specs.Store.{keys, ReadsStore}
+use Rattle.image_reading.specs.Store.{ReadsStore}
 use Rattle.image_reading.proofs.Values.{id_front}
-use Rattle.standing_images.specs.Images.{SameImages, ImagesStay, HasFile, StandsSo, AreAll, KeysRise, AreStore}
+use Rattle.standing_images.specs.Images.{SameImages, ImagesStay, HasFile, StandsSo, KeysRise, AreStore}
 use Rattle.standing_images.proofs.AreaNames.{place, image_named}
 use Rattle.standing_images.proofs.Keys.{key_among, keys_rise}
 use Rattle.standing_images.proofs.Moments.{has_mark, is_newest}
@@ -139,7 +135,7 @@ module _ (old new : DirAt) (stay : ImagesStay old.trace new.trace) where
         i.folder,
         there,
         shows_names old.process w.first.trace w.last.trace (image_spot key) m.items d i (entries_in i.folder before.entries)
-        (λ a b is. (same a b is).trees (image_spot key) i.folder refl there),
+            (λ a b is. (same a b is).trees (image_spot key) i.folder refl there),
       )
 
   -- an image that was read stood so

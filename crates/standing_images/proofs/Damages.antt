@@ -1,12 +1,11 @@
 -- While the images stay as they are, the first damage that was read is that of the state before.
-use Rattle.std.proofs.Common.{◌≡◌, ◌⊎◌, inl, inr, ◌<◌, arith, ℕ, Bool, true, false, ◌||◌, bytes_eq, Option, Some, None, is_some, List, [], ◌∷◌, ◌++◌, take, refl, sym, ap, subst, ◌∙◌}
+use Rattle.std.proofs.Common.{◌≡◌, ◌⊎◌, inl, inr, ◌<◌, arith, ℕ, true, ◌||◌, bytes_eq, Option, Some, None, is_some, List, [], ◌∷◌, ◌++◌, take, refl, sym, ap, subst, ◌∙◌}
 use Rattle.std.specs.Prelude.{Contains}
-use Rattle.std.specs.List.{AllByRecursion, cons_option}
+use Rattle.std.specs.List.{cons_option}
 use Rattle.std.proofs.lemmas.List.Elements.{Contains-append_right, Contains-append_cases}
 use Rattle.ac_types.specs.declared.store_key.StoreKey.{StoreKey}
 use Rattle.ac_types.specs.Ids.{AreBytes, id_text, id_read}
 use Rattle.ac_types.proofs.IdTexts.{read_are}
-use Rattle.dep_match.specs.declared.stored.Stored.{Stored}
 use Rattle.manifests.specs.ImageData.{image_data}
 use Rattle.dir_model.specs.Listings.{has_name}
 use Rattle.dir_model.specs.State.{DirState, folder_at}
@@ -18,8 +17,8 @@ use Rattle.dir_files.specs.Reads.{file_at, WasMissing}
 use Rattle.gate_reading.specs.Files.{is_plain}
 use Rattle.lifecycle.proofs.Places.{same_name}
 use Rattle.image_reading.specs.declared.error.StoreError.TheVariants.{Damaged}
-use Rattle.image_reading.specs.Places.{some_key, key_of, keys_among, image_spot, image_inner, manifest_name, id_name, mark_name, IsAbsent}
-use Rattle.image_reading.specs.Files.{IsNoManifest, IsNoId, IsKeptOf, ReadsFile, ShowsMarks, LacksFile, LacksManifest, LacksId, LacksMoment, most_of_manifest, most_of_id}
+use Rattle.image_reading.specs.Places.{some_key, key_of, keys_among, image_spot, image_inner, manifest_name, id_name, mark_name}
+use Rattle.image_reading.specs.Files.{IsNoManifest, IsNoId, IsKeptOf, ReadsFile, LacksFile, LacksManifest, LacksId, LacksMoment, most_of_manifest, most_of_id}
 use Rattle.image_reading.specs.Images as read
 use Rattle.image_reading.specs.Images.{ReadsImage}
 use Rattle.image_reading.specs.Store.{keys, LacksListed}

@@ -1,5 +1,5 @@
 -- At one state one path is of the first damage, and where there is one the store isn't whole.
-use Rattle.std.proofs.Common.{◌≡◌, ◌⊎◌, inl, inr, ℕ, Less, Some, None, bytes_eq, Option, List, [], ◌∷◌, refl, sym, ap, subst, ◌∙◌}
+use Rattle.std.proofs.Common.{◌≡◌, ◌⊎◌, inl, inr, ℕ, Less, Some, List, [], ◌∷◌, refl, sym, ap, subst, ◌∙◌}
 use Rattle.std.specs.Prelude.{Contains}
 use Rattle.std.specs.Ordering.{nat_cmp, ordering_reverse, is_eq}
 use Rattle.std.specs.declared.cmp.Ordering.{Ordering}
@@ -15,8 +15,8 @@ use Rattle.manifests.specs.ImageData.{image_data}
 use Rattle.dir_model.specs.State.{DirState}
 use Rattle.image_reading.specs.Places.{mark_name}
 use Rattle.image_reading.specs.Store.{keys}
-use Rattle.standing_images.specs.Images.{HasFile, StandsSo, StandTogether, AreStore}
-use Rattle.standing_images.specs.Damage.{HasManifest, HasId, HasMoment, IsWhole, LacksPart, IsBefore, IsFirstDamage}
+use Rattle.standing_images.specs.Images.{StandsSo, StandTogether, AreStore}
+use Rattle.standing_images.specs.Damage.{HasMoment, IsWhole, LacksPart, IsBefore, IsFirstDamage}
 use Rattle.standing_images.proofs.Members.{contains_none, contains_cases}
 
 -- an image that stands so is whole
