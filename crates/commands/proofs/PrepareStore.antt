@@ -136,12 +136,12 @@ module _ (refs : List ImageRef) (wishes : Wishes) (old new : DirAt) (stay : Imag
     not_made draw entries make.Stray error pod is = subst (λ (e : BuildError). StoreRefuses refs wishes s e) (sym is) pod
     not_made draw entries make.NoMemory error pod is = subst (λ (e : BuildError). StoreRefuses refs wishes s e) (sym is) tt
 
-    pub store_refuses : {draw : Draw} {now : ℕ} (error : BuildError) → IsRefused observed refs wishes draw now error old new → StoreRefuses refs wishes s error
-    store_refuses error (inl x) = subst (λ (e : BuildError). StoreRefuses refs wishes s e) (sym x.1) (no_gate x.0)
-    store_refuses error (inr (inl x)) =
+    pub store_refuses : (draw : Draw) (now : ℕ) (error : BuildError) → IsRefused observed refs wishes draw now error old new → StoreRefuses refs wishes s error
+    store_refuses draw now error (inl x) = subst (λ (e : BuildError). StoreRefuses refs wishes s e) (sym x.1) (no_gate x.0)
+    store_refuses draw now error (inr (inl x)) =
         let fails = x.3 in
         subst (λ (e : BuildError). StoreRefuses refs wishes s e) (sym fails.1) (no_plan (x.2 t) fails.0 fails.2)
-    store_refuses {draw} error (inr (inr x)) =
+    store_refuses draw now error (inr (inr x)) =
         let planned = x.1 in
         let fails = x.2.3 in
         not_made draw.uuid x.0 fails.0 error (planned_pod (planned.2 t) (planned.3 t)) fails.1
@@ -150,4 +150,4 @@ module _ (refs : List ImageRef) (wishes : Wishes) (old new : DirAt) (stay : Imag
 pub refuses_by_store : (wants : Wants) (now : ℕ) (draw : Draw) (old new : DirSeen) (refusal : Refusal) → old.observed ≡ true → ImagesStay old.trace new.trace → RefusesPod wants now draw old new refusal →
     RefusesByStore wants refusal (state_after old.trace)
 refuses_by_store wants now draw old new refusal t stay x =
-    (x.error, x.is, (x.cause.0, x.cause.1, store_refuses x.cause.0 wants.wishes (shown_at old) (shown_at new) stay old.observed t x.error x.cause.2))
+    (x.error, x.is, (x.cause.0, x.cause.1, store_refuses x.cause.0 wants.wishes (shown_at old) (shown_at new) stay old.observed t draw now x.error x.cause.2))

@@ -81,7 +81,7 @@ module _ (seen observed : Bool) (wants : Wants) (address : List ℕ) (now : ℕ)
   pub run_made_left : Extends (in_process (makes_and_runs draw.uuid)) d.process old new → Quiet d.process old new → Grew old d.trace → CallStep d.process d'.trace Finish Done new → has_begun (state_after old).namespace d.process ≡ false → (intent : Intent) → Began Run draw now intent →
       Knows d (at_work intent [] nothing_made) → (x : MakesAndRuns seen observed wants address now draw d d' s s' answer) → Grew x.made.trace d'.trace → IsConforming new → HasMadeAndLeft wants d.process draw.uuid old new
   run_made_left ext quiet first finish unborn intent began knows x after conforming =
-      made_and_left wants draw.uuid ext quiet first after finish (λ y. chosen_of (record d { trace = old }) (record d { trace = new }) y (run_keeps draw.uuid ext quiet) unborn) (x.faithful t (conforming_at (grown_more after (grown_call finish)) conforming) intent [] began refl knows)
+      made_and_left wants draw.uuid ext quiet first after finish (λ refs y. chosen_of (record d { trace = old }) (record d { trace = new }) y (run_keeps draw.uuid ext quiet) unborn) (x.faithful t (conforming_at (grown_more after (grown_call finish)) conforming) intent [] began refl knows)
 
 -- and what was told of a run to its end: the marks and the statuses stand in the pod
 module _ (seen observed : Bool) (d d' : DirAt) (s s' : SpawnerAt) (told : Told) (t : seen ≡ true) (old new : List Event) (quiet : Quiet d.process old new) (approach : Approach) (intent : Intent) (begins : Opens approach intent d.process old d.trace)

@@ -103,9 +103,13 @@ pod_apart draw place is = by (spot_eq place (pod_at area.Embryo draw)) (spot_eq 
     by false false true e f g = at (pod_at area.Prepared draw) refl g
     by false false false e f g = rw (e, f, g) refl
 
+asked_make : (a : Bool) → ((a || false) || false) ≡ true → a ≡ true
+asked_make true h = refl
+asked_make false h = cc
+
 prepares_elsewhere : (draw : PodId) (request : Request) → prepares_pod draw request ≡ true → BringsElsewhere request
 prepares_elsewhere draw (MakeFolder new) h =
-    let e : spot_eq new (pod_at area.Embryo draw) ≡ true = or_false _ (or_false _ (or_false _ (or_false _ h))) in
+    let e = asked_make (spot_eq new (pod_at area.Embryo draw)) h in
     subst (λ (s : Spot). is_in area.Images s.area ≡ false) (sym (one_location new (pod_at area.Embryo draw) e)) refl
 prepares_elsewhere draw (MoveFolder from to) h =
     by (spot_eq from (pod_at area.Embryo draw)) (spot_eq to (pod_at area.Prepare draw)) (spot_eq from (pod_at area.Prepare draw)) (spot_eq to (pod_at area.Prepared draw)) refl refl h
@@ -136,7 +140,7 @@ run_apart draw place is = by place.area is
 
 run_elsewhere : (draw : PodId) (request : Request) → makes_and_runs draw request ≡ true → BringsElsewhere request
 run_elsewhere draw (MakeFolder new) h =
-    let e : spot_eq new (pod_at area.Embryo draw) ≡ true = or_false _ (or_false _ (or_false _ (or_false _ h))) in
+    let e = asked_make (spot_eq new (pod_at area.Embryo draw)) h in
     subst (λ (s : Spot). is_in area.Images s.area ≡ false) (sym (one_location new (pod_at area.Embryo draw) e)) refl
 run_elsewhere draw (MoveFolder from to) h =
     by (spot_eq from (pod_at area.Embryo draw)) (spot_eq to (pod_at area.Prepare draw)) (spot_eq from (pod_at area.Prepare draw)) (spot_eq to (pod_at area.Run draw)) refl refl h
