@@ -1,0 +1,30 @@
+-- One play after another.
+use Rattle.std.proofs.Common.{◌≡◌, ℕ, zero, suc, ◌+◌, List, [], ◌∷◌, ◌++◌, Result, Ok, Err, IfOk, refl, sym, ap, subst, arith}
+use Rattle.rkt_cli.specs.declared.stage.Stage.{Stage}
+use Rattle.rkt_cli.specs.declared.turn.Turn.{Turn}
+use Rattle.rkt_cli.specs.Plays.{empty_stage, Plays, Went}
+use Rattle.rkt_cli.specs.Turns.{imports, last_turns, prepares, runs_of, turns}
+use Rattle.demo_line.specs.Numbers.{count_below, is_run}
+
+pub plays_then : (first rest : List Turn) (a b c : Stage) → Plays first a b → Plays rest b c → Plays (first ++ rest) a c
+plays_then [] rest a b c same p = subst (λ (x : Stage). Plays rest x c) same p
+plays_then (turn ∷ turns) rest a b c (mid, went, more) p = (mid, went, plays_then turns rest mid b c more p)
+
+pub plays_one : (turn : Turn) (a b : Stage) → Went turn a b → Plays (turn ∷ []) a b
+plays_one turn a b went = (b, went, refl)
+
+one_more : (n : ℕ) → suc n ≡ n + 1
+one_more n = omega arith
+
+-- and a list of turns of all numbers below another, one number further
+pub plays_next : (all : ℕ → List Turn) (n : ℕ) (last : List Turn) (a b c : Stage) → all (suc n) ≡ all n ++ last → Plays (all n) a b → Plays last b c → Plays (all (n + 1)) a c
+plays_next all n last a b c is before after = subst (λ (k : ℕ). Plays (all k) a c) (one_more n) (subst (λ (l : List Turn). Plays l a c) (sym is) (plays_then (all n) last a b c before after))
+
+-- the imports, the prepares, the runs, and then what comes at the end
+pub plays_to_end : {Error : Type 0} (count runs : ℕ) (start a b c : Stage) (result : Result Stage Error) → start ≡ empty_stage → Plays (imports count) start a → Plays (prepares count) a b → Plays (runs_of count count) b c → runs ≡ count_below is_run count →
+    IfOk result (λ stage. Plays (last_turns (count + runs)) c stage) → IfOk result (λ stage. Plays (turns count) empty_stage stage)
+plays_to_end count runs start a b c (Ok stage) empty first second third ran last =
+    let begun : Plays (imports count ++ prepares count) empty_stage b = plays_then (imports count) (prepares count) empty_stage a b (subst (λ (s : Stage). Plays (imports count) s a) empty first) second in
+    let run : Plays ((imports count ++ prepares count) ++ runs_of count count) empty_stage c = plays_then (imports count ++ prepares count) (runs_of count count) empty_stage b c begun third in
+    plays_then ((imports count ++ prepares count) ++ runs_of count count) (last_turns (count + count_below is_run count)) empty_stage c stage run (subst (λ (k : ℕ). Plays (last_turns (count + k)) c stage) ran last)
+plays_to_end count runs start a b c (Err e) empty first second third ran last = tt
