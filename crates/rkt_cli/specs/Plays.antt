@@ -1,5 +1,5 @@
 -- What is promised of the demo: its commands were performed, each in a process of its own, on a data folder in memory that was empty.
-use Rattle.std.specs.Prelude.{◌≡◌, ℕ, ◌+◌, ◌==◌, Bool, true, if◌then◌else◌, List, [], ◌∷◌, Ok, None}
+use Rattle.std.specs.Prelude.{◌≡◌, ℕ, ◌+◌, ◌==◌, Bool, true, false, if◌then◌else◌, List, [], ◌∷◌, Ok, None}
 use Rattle.std.specs.List.{count_by}
 use Rattle.dir_model.specs.Local.{nothing_local}
 use Rattle.command_outcomes.specs.declared.told.Told.{Told}
