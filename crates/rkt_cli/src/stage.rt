@@ -1,10 +1,11 @@
 // The data folder of the demo, on which one command after the other is performed.
-ghost use Rattle.std.specs.Prelude.{◌≡◌, ℕ, ◌==◌, IfOk, IfSome};
+ghost use Rattle.std.specs.Prelude.{◌≡◌, ℕ, ◌==◌, false, IfOk, IfSome};
 ghost use Rattle.std.specs.List.{count_by};
 ghost use Rattle.dir_trait.specs.Local.{nothing_local};
 ghost use Rattle.dir_memory.specs.Memories.{passed_on};
 ghost use Rattle.command_outcomes.specs.declared.told.Told.{Told};
 ghost use Rattle.rkt_cli.specs.Plays.{failed_after, lines_of, Went, HasPassedOn};
+ghost use Rattle.rkt_cli.specs.Tasks.{is_demo};
 
 use crate::perform::perform;
 use crate::turn::Turn;
@@ -65,6 +66,7 @@ fn after(stage: Stage, told: &Told) -> Result<Stage, NoMemory>
 /// else is to hinder a command of the demo.
 pub(crate) fn play_turn(alloc: Global, stage: Stage, turn: Turn) -> Result<Stage, NoMemory>
     requires fresh { stage.dir.local ≡ nothing_local }
+    requires whole { is_demo turn.line ≡ false }
     ensures fresh { IfOk result (λ new. new.dir.local ≡ nothing_local) }
     ensures went { IfOk result (λ new. Went turn stage new) }
 {
