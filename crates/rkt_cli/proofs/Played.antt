@@ -1,8 +1,14 @@
 -- One play after another.
 use Rattle.std.proofs.Common.{◌≡◌, ℕ, zero, suc, ◌+◌, List, [], ◌∷◌, ◌++◌, Result, Ok, Err, IfOk, refl, sym, ap, subst, arith}
+use Rattle.dir_model.specs.Local.{nothing_local}
+use Rattle.command_outcomes.specs.declared.told.Told.{Told}
+use Rattle.dir_memory.specs.Memories.{Memory}
+use Rattle.dir_memory.specs.MemoryBundles.{BundleMemory}
+use Rattle.memory_spawner.specs.SpawnerMemories.{SpawnerMemory}
 use Rattle.rkt_cli.specs.declared.stage.Stage.{Stage}
 use Rattle.rkt_cli.specs.declared.turn.Turn.{Turn}
-use Rattle.rkt_cli.specs.Plays.{empty_stage, Plays, Went}
+use Rattle.rkt_cli.specs.Lookups.{Acts}
+use Rattle.rkt_cli.specs.Plays.{empty_stage, HasPassedOn, outside_of, Plays, spawner_seen, Went}
 use Rattle.rkt_cli.specs.Turns.{imports, last_turns, prepares, runs_of, turns}
 use Rattle.demo_line.specs.Numbers.{count_below, is_run}
 
@@ -28,3 +34,17 @@ plays_to_end count runs start a b c (Ok stage) empty first second third ran last
     let run : Plays ((imports count ++ prepares count) ++ runs_of count count) empty_stage c = plays_then (imports count ++ prepares count) (runs_of count count) empty_stage b c begun third in
     plays_then ((imports count ++ prepares count) ++ runs_of count count) (last_turns (count + count_below is_run count)) empty_stage c stage run (subst (λ (k : ℕ). Plays (last_turns (count + k)) c stage) ran last)
 plays_to_end count runs start a b c (Err e) empty first second third ran last = tt
+
+-- where a command was done, and the folder passed on
+module _ {Error : Type 0} (told : Told) (turn : Turn) (old : Stage) (dir : Memory) (bundle : BundleMemory) (spawner : SpawnerMemory) where
+  abbrev left : Stage
+  left = record old { dir = dir }
+
+  pub fresh_again : (result : Result Stage Error) → IfOk result (λ new. HasPassedOn told left new) → IfOk result (λ new. new.dir.local ≡ nothing_local)
+  fresh_again (Ok new) passed = ap (λ (d : Memory). d.local) passed.dir
+  fresh_again (Err e) passed = tt
+
+  pub went_on : (result : Result Stage Error) → Acts turn.line turn.now turn.draw (outside_of old.dir turn.bundle) (outside_of dir bundle) (spawner_seen turn.spawner) (spawner_seen spawner) (Ok told)
+      → IfOk result (λ new. HasPassedOn told left new) → IfOk result (λ new. Went turn old new)
+  went_on (Ok new) acts passed = record { told = told; dir = dir; bundle = bundle; spawner = spawner; acts = acts; passed = passed }
+  went_on (Err e) acts passed = tt
