@@ -36,15 +36,19 @@ plays_to_end count runs start a b c (Ok stage) empty first second third ran last
 plays_to_end count runs start a b c (Err e) empty first second third ran last = tt
 
 -- where a command was done, and the folder passed on
-module _ {Error : Type 0} (told : Told) (turn : Turn) (old : Stage) (dir : Memory) (bundle : BundleMemory) (spawner : SpawnerMemory) where
-  abbrev left : Stage
-  left = record old { dir = dir }
+pub fresh_again : {Error : Type 0} (told : Told) (old : Stage) (result : Result Stage Error) → IfOk result (λ new. HasPassedOn told old new) → IfOk result (λ new. new.dir.local ≡ nothing_local)
+fresh_again told old (Ok new) passed = ap (λ (d : Memory). d.local) passed.dir
+fresh_again told old (Err e) passed = tt
 
-  pub fresh_again : (result : Result Stage Error) → IfOk result (λ new. HasPassedOn told left new) → IfOk result (λ new. new.dir.local ≡ nothing_local)
-  fresh_again (Ok new) passed = ap (λ (d : Memory). d.local) passed.dir
-  fresh_again (Err e) passed = tt
+pub went_on : {Error : Type 0} (told : Told) (turn : Turn) (old : Stage) (dir : Memory) (bundle : BundleMemory) (spawner : SpawnerMemory) (result : Result Stage Error)
+    → Acts turn.line turn.now turn.draw (outside_of old.dir turn.bundle) (outside_of dir bundle) (spawner_seen turn.spawner) (spawner_seen spawner) (Ok told)
+    → IfOk result (λ new. HasPassedOn told (record old { dir = dir }) new) → IfOk result (λ new. Went turn old new)
+went_on told turn old dir bundle spawner (Ok new) acts passed = record { told = told; dir = dir; bundle = bundle; spawner = spawner; acts = acts; passed = passed }
+went_on told turn old dir bundle spawner (Err e) acts passed = tt
 
-  pub went_on : (result : Result Stage Error) → Acts turn.line turn.now turn.draw (outside_of old.dir turn.bundle) (outside_of dir bundle) (spawner_seen turn.spawner) (spawner_seen spawner) (Ok told)
-      → IfOk result (λ new. HasPassedOn told left new) → IfOk result (λ new. Went turn old new)
-  went_on (Ok new) acts passed = record { told = told; dir = dir; bundle = bundle; spawner = spawner; acts = acts; passed = passed }
-  went_on (Err e) acts passed = tt
+-- the last three of them
+pub plays_last : {Error : Type 0} (first second third x y z : Turn) (old a b : Stage) (result : Result Stage Error) → first ≡ x → second ≡ y → third ≡ z → Went first old a → Went second a b → IfOk result (λ new. Went third b new)
+    → IfOk result (λ new. Plays (x ∷ y ∷ z ∷ []) old new)
+plays_last first second third x y z old a b (Ok new) is then_is last_is went later last =
+    (a, subst (λ (t : Turn). Went t old a) is went, (b, subst (λ (t : Turn). Went t a b) then_is later, (new, subst (λ (t : Turn). Went t b new) last_is last, refl)))
+plays_last first second third x y z old a b (Err e) is then_is last_is went later last = tt
