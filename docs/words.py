@@ -457,7 +457,7 @@ def zsh_case(table, command):
     rules.append("'--help[tells its words, options and statuses]'")
     if plain:
         completer = {"folders": "_files -/", "files": "_files", "pods": f" _rkt_pods {command.said.get('areas', '')}",
-                     "images": " _rkt_images", "keys": " _rkt_keys"}[plain.rest]
+                     "images": " _rkt_images", "keys": " _rkt_keys", "nothing": " "}[plain.rest]
         place = "*" if command.said["words"].endswith("...") else "1"
         rules.append(f"'{place}:{plain.name}:{completer}'")
     return f"    ('{command.name}') _arguments {' '.join(rules)} ;;"

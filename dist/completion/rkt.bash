@@ -27,7 +27,7 @@ _rkt() {
     case $current$before in *=) return ;; esac
     case $before in --volume | --mount | --metadata | --grace-period | --expire-prepared) return ;; esac
     case $command in
-    '') words='image prepare run-prepared run list status cat-manifest rm gc validate help'; options='--help --version' ;;
+    '') words='image prepare run-prepared run list status cat-manifest rm gc validate demo help'; options='--help --version' ;;
     image) words='import list rm gc'; options=--help ;;
     'image import') options='--help'; case $current in -*) ;; *) _rkt_files -d "$current"; return ;; esac ;;
     'image list') options='--help' ;;
@@ -42,6 +42,7 @@ _rkt() {
     'rm') options='--help'; words=$(_rkt_pods prepare prepared run exited-garbage garbage) ;;
     'gc') options='--grace-period= --expire-prepared= --help' ;;
     'validate') options='--help'; case $current in -*) ;; *) _rkt_files -f "$current"; return ;; esac ;;
+    'demo') options='--help' ;;
     esac
     case $current in -*) words=$options ;; esac
     while IFS= read -r word; do COMPREPLY+=("$word"); done < <(compgen -W "$words" -- "$current")

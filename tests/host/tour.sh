@@ -19,6 +19,7 @@ worker_key='sha512-c{64}'
 
 # What each command that calls the program, or lists a folder, writes to both streams, in README's order.
 answers=(
+    'images=5 prepared=5 ran=2 failed=1 deleted=2 left=3 entries=16'
     "$base_key"
     "$worker_key"
     "$base_key example.com/base [0-9]+ $worker_key example.com/worker [0-9]+"

@@ -33,7 +33,7 @@ use Rattle.command_outcomes.specs.declared.refusal.Refusal.{Refusal}
 use Rattle.command_outcomes.specs.declared.refusal.Refusal.TheVariants as refusal
 use Rattle.command_outcomes.specs.Moments.{Outcome}
 use Rattle.command_outcomes.specs.Conforming.{shown_at}
-use Rattle.commands.specs.ImageList.{images_text, image_list_refusal, lists_images, lock_refusal, store_refusal, ImageListSays, WhereFree}
+use Rattle.commands.specs.ImageList.{images_text, image_list_refusal, lists_images, lock_refusal, store_refusal, FindsFree, ImageListSays, WhereFree}
 use Rattle.command_outcomes.proofs.Seen.{seen_at}
 use Rattle.commands.proofs.Parts.{Part, store_wider, lacks_wider}
 
@@ -109,15 +109,16 @@ module _ {V : Type 0} (items : V → List Stored) (observed : Bool) (a b c d : D
 
   pub list_says : (found : Result V StoreError) → Lists found → Refuses found → IfErr found (IsReadRefusal IsStorePath) → (observed ≡ true → Part a b c d) →
       IfOk found (λ v. observed ≡ true → ReadsStore (items v) b c) → IfErr found (λ e. observed ≡ true → LacksStore e b c) →
-      ((images : List Stored) → (observed ≡ true → ReadsStore images b c) → WhereFree (seen_at observed a) (IsConforming d.trace → StoodTogether images a.process a.trace d.trace)) → Says o
-  list_says (Ok v) (inl e) refuses at part read lacks stands = subst Says (sym e) (
-    record { images = items v; told = λ t. store_wider (shown_part observed (part t)) (items v) (read t); is = refl },
-    λ t s k free conforming. record { images = items v; is = refl; stood = stands (items v) read t s k free conforming },
+      ((images : List Stored) → (observed ≡ true → ReadsStore images b c) → WhereFree (seen_at observed a) (IsConforming d.trace → StoodTogether images a.process a.trace d.trace)) →
+      (observed ≡ true → FindsFree (seen_at observed a) (seen_at observed d)) → Says o
+  list_says (Ok v) (inl e) refuses at part read lacks stands free = subst Says (sym e) (
+    record { images = items v; free = free; told = λ t. store_wider (shown_part observed (part t)) (items v) (read t); is = refl },
+    λ t s k unheld conforming. record { images = items v; is = refl; stood = stands (items v) read t s k unheld conforming },
   )
-  list_says (Ok v) (inr e) refuses at part read lacks stands = subst Says (sym e) tt
-  list_says (Err (Damaged path)) lists e at part read lacks stands =
-      subst Says (sym e) (record { place = at; told = λ t. lacks_wider (shown_part observed (part t)) path (lacks t tt) })
-  list_says (Err error) lists e at part read lacks stands = subst Says (sym e) tt
+  list_says (Ok v) (inr e) refuses at part read lacks stands free = subst Says (sym e) tt
+  list_says (Err (Damaged path)) lists e at part read lacks stands free =
+      subst Says (sym e) (record { place = at; free = free; told = λ t. lacks_wider (shown_part observed (part t)) path (lacks t tt) })
+  list_says (Err error) lists e at part read lacks stands free = subst Says (sym e) tt
 
   pub list_refusals : (found : Result V StoreError) → Lists found → Refuses found → IfErr o (λ r. image_list_refusal r ≡ true)
   list_refusals (Ok v) (inl e) refuses = subst (λ (x : Outcome). IfErr x (λ r. image_list_refusal r ≡ true)) (sym e) tt

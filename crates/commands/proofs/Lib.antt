@@ -85,3 +85,7 @@ pub mod Unowned
 pub mod Untouched
 pub mod Whole
 pub mod Words
+pub mod StoreKept
+pub mod PrepareStore
+pub mod StoreChosen
+pub mod OneReason

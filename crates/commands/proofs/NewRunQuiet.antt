@@ -30,6 +30,7 @@ use Rattle.commands.proofs.NotesStand.{RemovesNothing}
 use Rattle.commands.proofs.Passing.{Leaves, is_unmarked, is_past, left_in_run, stood_before, moved_here}
 use Rattle.commands.specs.Wants.{Wants}
 use Rattle.pod_manifest.specs.Wishes.{Wishes}
+use Rattle.standing_images.specs.Images.{AreStore}
 
 module _ (draw : PodId) where
   -- its moves begin in embryo or in prepare, and lead to prepare or to run
@@ -79,8 +80,9 @@ module _ (draw : PodId) where
 
 -- and where it was made in a part of the process
 pub made_and_left : (wants : Wants) (draw : PodId) {me : ℕ} {old begun made ended new : List Event} → Extends (in_process (makes_and_runs draw)) me old new → Quiet me old new → Grew old begun → Grew made ended → CallStep me ended Finish Done new →
+    ((refs : List ImageRef) (y : IsPrepared refs wants.wishes me draw Run old new) → AreStore y.faithful.images (state_after old)) →
     OfReferences wants.images (λ refs. IsPrepared refs wants.wishes me draw Run begun made) → HasMadeAndLeft wants me draw old new
-made_and_left wants draw {me} {old} {begun} {made} {ended} {new} ext quiet first after finish x =
+made_and_left wants draw {me} {old} {begun} {made} {ended} {new} ext quiet first after finish chosen x =
     let last = grown_more after (grown_call finish) in
     let wide = prepared_wider first.more last.more first.grown last.grown x.2 in
-    (x.0, x.1, (wide, made_left draw ext quiet finish wide))
+    (x.0, x.1, (wide, made_left draw ext quiet finish wide, chosen x.0 wide))

@@ -99,7 +99,7 @@ module _ (touched : Spot → Bool) (asks : Request → Bool) (c : ChangesAt touc
   tree_step p s (RemoveDirIn i) Done folder place h at other = removed_apart s.namespace folder place i.spot i.path s.entries at (away i.spot place (c.fills (RemoveDirIn i) i.spot refl (or_false (asks (RemoveDirIn i)) h)) other)
   tree_step p s request reply folder place h at other = ap (entries_in folder) (append-nil s.entries)
 
-  trees_all : (me : ℕ) (s : DirState) (es : List Event) → AllByRecursion (λ e. e.process ≡ me) es → AllByRecursion (λ e. (is_foreign me e || in_process asks e.request) ≡ true) es →
+  pub trees_all : (me : ℕ) (s : DirState) (es : List Event) → AllByRecursion (λ e. e.process ≡ me) es → AllByRecursion (λ e. (is_foreign me e || in_process asks e.request) ≡ true) es →
       (folder : ℕ) (place : Spot) → IsPlace folder place s.namespace → touched place ≡ false → entries_in folder (states_next s es).entries ≡ entries_in folder s.entries
   trees_all me s [] own asked folder place at other = refl
   trees_all me s (e ∷ es) own asked folder place at other =

@@ -43,7 +43,7 @@ module _ {old first last new : DirAt} (p : Part old first last new) where
   file_wider : {inner : Inner} {most : ℕ} {P : List ℕ → Type 0} → ReadsFile inner most P first last → ReadsFile inner most P old new
   file_wider r = record { bytes = r.bytes; few = r.few; read = within_wider r.read; holds = r.holds }
 
-  lack_wider : (inner : Inner) (most : ℕ) (P : List ℕ → Type 0) → LacksFile inner most P first last → LacksFile inner most P old new
+  pub lack_wider : (inner : Inner) (most : ℕ) (P : List ℕ → Type 0) → LacksFile inner most P first last → LacksFile inner most P old new
   lack_wider inner most P (inl missing) = inl (held_wider _ missing)
   lack_wider inner most P (inr read) = inr (file_wider read)
 

@@ -1,5 +1,5 @@
 -- Where nobody else steps, what a whole process of `run-prepared` or `run` has told is told of the state before and of that which it leaves.
-use Rattle.std.proofs.Common.{◌≡◌, ℕ, Bool, true, List, [], Ok, refl, ap, subst, ◌∙◌}
+use Rattle.std.proofs.Common.{◌≡◌, ℕ, Bool, true, false, List, [], Ok, refl, ap, subst, ◌∙◌}
 use Rattle.dir_model.specs.declared.area.Area.TheVariants.{Run}
 use Rattle.dir_model.specs.declared.event.Event.{Event}
 use Rattle.dir_model.specs.declared.intent.Draw.{Draw}
@@ -9,6 +9,7 @@ use Rattle.dir_model.specs.declared.request.Request.TheVariants.{Finish}
 use Rattle.dir_model.specs.declared.request.Reply.TheVariants.{Done}
 use Rattle.dir_model.specs.Calls.{Extends, CallStep}
 use Rattle.dir_model.specs.Quiet.{Quiet, OwnsNothing}
+use Rattle.dir_model.specs.State.{has_begun}
 use Rattle.dir_model.specs.Trace.{state_after}
 use Rattle.dir_trait.specs.DirCalls.{DirAt}
 use Rattle.dir_trait.specs.Knowledge.{Knows}
@@ -35,6 +36,8 @@ use Rattle.commands.proofs.EndsQuiet.{early_part, ran_ends, unborn_before}
 use Rattle.commands.proofs.ClaimQuiet.{claimed_passed, claim_leaves, claim_removes, claim_notes}
 use Rattle.commands.proofs.ClaimTable.{none_why, wrong_why, lacking_why, busy_why, claimed_why}
 use Rattle.commands.proofs.ClaimBefore.{RefusedClaim, none_before, wrong_before, lacked_before, lock_before}
+use Rattle.commands.proofs.StoreChosen.{chosen_of}
+use Rattle.commands.proofs.StoreKept.{run_keeps}
 use Rattle.commands.proofs.NewRunQuiet.{made_and_left, run_leaves, run_removes, run_notes}
 use Rattle.commands.specs.Wants.{Wants}
 use Rattle.commands.specs.Opening.{Approach, Opens}
@@ -75,10 +78,10 @@ module _ (seen observed : Bool) (pod : PodId) (address : List ℕ) (d d' : DirAt
 
 module _ (seen observed : Bool) (wants : Wants) (address : List ℕ) (now : ℕ) (draw : Draw) (d d' : DirAt) (s s' : SpawnerAt) (answer : Answer) (t : seen ≡ true) (old new : List Event) where
   -- a pod that was made for its run, whatever came of it
-  pub run_made_left : Extends (in_process (makes_and_runs draw.uuid)) d.process old new → Quiet d.process old new → Grew old d.trace → CallStep d.process d'.trace Finish Done new → (intent : Intent) → Began Run draw now intent → Knows d (at_work intent [] nothing_made) →
-      (x : MakesAndRuns seen observed wants address now draw d d' s s' answer) → Grew x.made.trace d'.trace → IsConforming new → HasMadeAndLeft wants d.process draw.uuid old new
-  run_made_left ext quiet first finish intent began knows x after conforming =
-      made_and_left wants draw.uuid ext quiet first after finish (x.faithful t (conforming_at (grown_more after (grown_call finish)) conforming) intent [] began refl knows)
+  pub run_made_left : Extends (in_process (makes_and_runs draw.uuid)) d.process old new → Quiet d.process old new → Grew old d.trace → CallStep d.process d'.trace Finish Done new → has_begun (state_after old).namespace d.process ≡ false → (intent : Intent) → Began Run draw now intent →
+      Knows d (at_work intent [] nothing_made) → (x : MakesAndRuns seen observed wants address now draw d d' s s' answer) → Grew x.made.trace d'.trace → IsConforming new → HasMadeAndLeft wants d.process draw.uuid old new
+  run_made_left ext quiet first finish unborn intent began knows x after conforming =
+      made_and_left wants draw.uuid ext quiet first after finish (λ refs y. chosen_of (record d { trace = old }) (record d { trace = new }) y (run_keeps draw.uuid ext quiet) unborn) (x.faithful t (conforming_at (grown_more after (grown_call finish)) conforming) intent [] began refl knows)
 
 -- and what was told of a run to its end: the marks and the statuses stand in the pod
 module _ (seen observed : Bool) (d d' : DirAt) (s s' : SpawnerAt) (told : Told) (t : seen ≡ true) (old new : List Event) (quiet : Quiet d.process old new) (approach : Approach) (intent : Intent) (begins : Opens approach intent d.process old d.trace)

@@ -25,8 +25,10 @@ use Rattle.command_outcomes.specs.declared.refusal.Refusal.{Refusal}
 use Rattle.command_outcomes.specs.declared.refusal.Refusal.TheVariants.{NoMemory}
 use Rattle.command_outcomes.specs.Conforming.{shown_at}
 use Rattle.command_outcomes.specs.Moments.{Answer, DirSeen}
-use Rattle.commands.specs.PrepareRefusals.{IsSaid}
-use Rattle.commands.specs.Prepare.{pod_line}
+use Rattle.commands.specs.PrepareRefusals.{IsSaid, build_refusal}
+use Rattle.commands.specs.Prepare.{pod_line, RefusesPod}
+use Rattle.commands.proofs.PrepareStore.{refuses_by_store}
+use Rattle.commands.proofs.StoreKept.{run_keeps}
 use Rattle.commands.proofs.Sayings.{busy_of}
 use Rattle.commands.proofs.Whole.{refused_whole}
 use Rattle.commands.proofs.OwnSteps.{at_process, held_before, in_process}
@@ -78,10 +80,14 @@ module _ {seen : Bool} {wants : Wants} {now : ℕ} {draw : Draw} {d d' : DirAt} 
       left : HasOwnFolder draw.uuid intent [] d'
       left = x.left t intent [] began refl knows
 
+      why : x.is.0 ≡ build_refusal wants.images x.error → RefusesPod wants now draw old new r
+      why is = record { error = x.error; is = same ∙ is; cause = (x.cause.0, x.cause.1, whole) }
+
       by : IsSaid wants.images x.error x.is.0 → (r ≡ NoMemory) ⊎ IsUnmadeFor wants now draw old new r
       by (inr is) = inl (same ∙ is)
       by (inl is) = inr (record {
-        why = record { error = x.error; is = same ∙ is; cause = (x.cause.0, x.cause.1, whole) };
+        why = why is;
+        store = refuses_by_store wants now draw old new r (sym told ∙ t) (run_keeps draw.uuid ext quiet) (why is);
         held = λ area busy. held area (busy_of wants.images x.error area (sym (same ∙ is) ∙ busy));
         left = inr (record {
           begun = d.trace;

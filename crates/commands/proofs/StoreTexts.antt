@@ -3,20 +3,28 @@ use Rattle.std.proofs.Common.{◌≡◌, ℕ, true, codes, List, [], ◌∷◌, 
 use Rattle.std.specs.Fmt.{decimal}
 use Rattle.std.specs.List.{flat_map}
 use Rattle.ac_types.specs.Ids.{id_text}
+use Rattle.area_locks.specs.AreaLocks.{is_against, IsFreeElsewhere}
 use Rattle.dep_match.specs.declared.stored.Stored.{Stored}
 use Rattle.dep_match.specs.Copies.{StoredData, stored_data}
+use Rattle.dir_model.specs.declared.area.Area.TheVariants.{Images}
 use Rattle.dir_model.specs.declared.request.Request.{Request}
 use Rattle.dir_model.specs.declared.request.Request.TheVariants.{Begin, OpenArea, TryLock, Close, ListArea, ListIn, ReadIn, Finish}
+use Rattle.dir_model.specs.declared.spot.Mode.TheVariants.{Shared}
 use Rattle.dir_model.specs.Calls.{Extends}
 use Rattle.dir_model.specs.Quiet.{Quiet}
 use Rattle.dir_model.specs.State.{DirState}
 use Rattle.dir_model.specs.Trace.{state_after}
-use Rattle.standing_images.specs.Images.{AreStore}
+use Rattle.standing_images.specs.Images.{AreStore, ImagesStay}
 use Rattle.standing_images.specs.Laws.{leaves_store}
+use Rattle.standing_images.proofs.Before.{store_before}
+use Rattle.standing_images.proofs.Damages.{damage_before}
+use Rattle.standing_images.proofs.OneDamage.{one_damage}
 use Rattle.standing_images.proofs.OneStore.{one_store}
-use Rattle.standing_images.proofs.QuietStores.{quiet_store}
+use Rattle.standing_images.proofs.QuietStores.{images_stay}
+use Rattle.command_outcomes.specs.Conforming.{shown_at}
 use Rattle.command_outcomes.specs.Moments.{DirSeen}
-use Rattle.commands.specs.ImageList.{image_text, images_text, ListsStanding, PrintsStore}
+use Rattle.commands.specs.ImageList.{image_text, images_text, FindsFree, LacksPart, ListsStore, NamesDamage, PrintsStore, WhereUnheld}
+use Rattle.commands.proofs.Openings.{free_before}
 use Rattle.commands.proofs.StoreQuiet.{is_tame}
 
 -- a line is of what is seen of an image
@@ -42,7 +50,21 @@ tame_leaves (ReadIn inner at room) h = refl
 tame_leaves Finish h = refl
 tame_leaves request h = cc
 
-pub prints_store : (old new : DirSeen) (text : List ℕ) → ListsStanding old new text → Extends is_tame old.process old.trace new.trace → Quiet old.process old.trace new.trace → PrintsStore (state_after old.trace) text
-prints_store old new text x ext quiet =
-    let store = quiet_store is_tame tame_leaves x.stood ext quiet in
-    record { images = x.images; are = store; is = x.is; only = λ others are. x.is ∙ one_text (state_after old.trace) x.images others store are }
+module _ (old new : DirSeen) (told : old.observed ≡ true) (ext : Extends is_tame old.process old.trace new.trace) (quiet : Quiet old.process old.trace new.trace) where
+  stay : ImagesStay old.trace new.trace
+  stay = images_stay is_tame tame_leaves old.process ext quiet
+
+  -- no other process held the lock
+  unheld : FindsFree old new → IsFreeElsewhere old.process Images Shared (state_after old.trace)
+  unheld at = free_before (is_against Images Shared) at ext quiet
+
+  pub prints_store : (text : List ℕ) → ListsStore old new text → WhereUnheld old (λ s. PrintsStore s text)
+  prints_store text x =
+      let store = store_before (shown_at old) (shown_at new) stay x.images (x.told told) in
+      (unheld (x.free told), record { images = x.images; are = store; is = x.is; only = λ others are. x.is ∙ one_text (state_after old.trace) x.images others store are })
+
+  -- and where an image isn't whole, it names what the state before lacks
+  pub names_damage : (path : List ℕ) → LacksPart path old new → WhereUnheld old (λ s. NamesDamage s path)
+  names_damage path x =
+      let first = damage_before (shown_at old) (shown_at new) stay path (x.told told) in
+      (unheld (x.free told), record { is = first; only = λ other is. one_damage (state_after old.trace) path other first is })

@@ -12,7 +12,7 @@ use Rattle.dir_trait.specs.State.{DirState}
 use Rattle.dir_trait.specs.Trace.{state_after}
 use Rattle.dir_trait.specs.DirCalls.{HeldBetween}
 use Rattle.dir_trait.specs.Knowledge.{Knows}
-use Rattle.area_locks.specs.AreaLocks.{takes, is_free_of, IsBusyElsewhere}
+use Rattle.area_locks.specs.AreaLocks.{takes, is_free_of, IsBusyElsewhere, IsFreeElsewhere}
 use Rattle.area_locks.specs.declared.error.LockError.{LockError}
 use Rattle.area_locks.specs.declared.error.LockError.TheVariants as lock_error
 use Rattle.image_reading.specs.declared.error.StoreError.{StoreError}
@@ -20,6 +20,7 @@ use Rattle.image_reading.specs.declared.error.StoreError.TheVariants as store_er
 use Rattle.image_reading.specs.Looks.{reads_images}
 use Rattle.image_reading.specs.Store.{ReadsStore, LacksListed, IsStorePath}
 use Rattle.lifecycle.specs.Executions.{IsConforming}
+use Rattle.standing_images.specs.Damage.{IsFirstDamage}
 use Rattle.standing_images.specs.Images.{AreStore, StoodTogether}
 use Rattle.command_outcomes.specs.declared.refusal.Refusal.{Refusal}
 use Rattle.command_outcomes.specs.declared.refusal.Refusal.TheVariants.{Busy, DirFault, NoMemory, Damaged}
@@ -56,9 +57,14 @@ store_refusal (store_error.Damaged path) = Damaged path
 store_refusal store_error.DirFault = DirFault
 store_refusal error = NoMemory
 
--- it printed the images that it read
+-- no other process held the lock of the images exclusively at an own step
+abbrev pub FindsFree : DirSeen → DirSeen → Type 0
+FindsFree old new = HeldBetween (shown_at old) (shown_at new) (IsFreeElsewhere old.process Images Shared)
+
+-- it had that lock, and printed the images that it read
 pub record ListsStore (old new : DirSeen) (text : List ℕ) : Type 0 where
   pub images : List Stored
+  pub free : old.observed ≡ true → FindsFree old new
   pub told : old.observed ≡ true → ReadsStore images (shown_at old) (shown_at new)
   pub is : text ≡ images_text images
 
@@ -76,10 +82,11 @@ WhereFree old P = old.observed ≡ true → (s : Seen) → Knows (shown_at old) 
 abbrev pub IsHeldElsewhere : DirSeen → DirSeen → Type 0
 IsHeldElsewhere old new = HeldBetween (shown_at old) (shown_at new) (IsBusyElsewhere old.process Images Shared)
 
--- the path is of a part that wasn't there or had no reading, the first of its image, which is the first that isn't whole of
--- those that the listing of the area showed
+-- it had the lock, and the path is of a part that wasn't there or had no reading, the first of its image, which is the first that isn't
+-- whole of those that the listing of the area showed
 pub record LacksPart (path : List ℕ) (old new : DirSeen) : Type 0 where
   pub place : IsStorePath path
+  pub free : old.observed ≡ true → FindsFree old new
   pub told : old.observed ≡ true → LacksListed (store_error.Damaged path) (shown_at old) (shown_at new)
 
 -- what was told of the images, or of their lock
@@ -96,10 +103,19 @@ pub record PrintsStore (s : DirState) (text : List ℕ) : Type 0 where
   pub is : text ≡ images_text images
   pub only : (others : List Stored) → AreStore others s → text ≡ images_text others
 
--- what it comes to where nobody else steps: by its own reads, which where every process keeps the local rules are of the store as it was
--- before; or by the lock as it was held before
+-- the path is that of the first part that the store lacks: of its first image that isn't whole, in the byte order of their keys, the
+-- first of its manifest, its ID and its mark. No other path is
+pub record NamesDamage (s : DirState) (path : List ℕ) : Type 0 where
+  pub is : IsFirstDamage path s
+  pub only : (other : List ℕ) → IsFirstDamage other s → path ≡ other
+
+-- no other process holds the lock of the images exclusively, and this is so
+abbrev pub WhereUnheld : DirSeen → (DirState → Type 0) → Type 0
+WhereUnheld old P = IsFreeElsewhere old.process Images Shared (state_after old.trace) × P (state_after old.trace)
+
+-- what it comes to where nobody else steps: by the lock as it was held before; or by its own reads, which are of the store as it was before
 abbrev pub ListsQuietly : DirSeen → DirSeen → Outcome → Type 0
-ListsQuietly old new (Ok text) = ListsStore old new text × (IsConforming new.trace → PrintsStore (state_after old.trace) text)
+ListsQuietly old new (Ok text) = ListsStore old new text × WhereUnheld old (λ s. PrintsStore s text)
 ListsQuietly old new (Err (Busy area)) = (area ≡ Images) × IsBusyElsewhere old.process Images Shared (state_after old.trace)
-ListsQuietly old new (Err (Damaged path)) = LacksPart path old new
+ListsQuietly old new (Err (Damaged path)) = LacksPart path old new × WhereUnheld old (λ s. NamesDamage s path)
 ListsQuietly old new (Err refusal) = ⊥

@@ -47,3 +47,4 @@ pub mod ValidateCommand
 pub mod Wants
 pub mod SweepTable
 pub mod ClaimTable
+pub mod PrepareTable

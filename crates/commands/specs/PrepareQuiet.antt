@@ -17,8 +17,10 @@ use Rattle.command_outcomes.specs.declared.refusal.Refusal.TheVariants.{Busy, Di
 use Rattle.command_outcomes.specs.Moments.{DirSeen, Outcome}
 use Rattle.pod_build.specs.Preparations.{IsPrepared}
 use Rattle.pod_manifest.specs.Wishes.{Wishes}
+use Rattle.standing_images.specs.Images.{AreStore}
 use Rattle.commands.specs.References.{OfReferences}
 use Rattle.commands.specs.Prepare.{pod_line, RefusesPod}
+use Rattle.commands.specs.PrepareTable.{RefusesByStore}
 use Rattle.commands.specs.Wants.{Wants}
 
 -- a pod that was prepared so stands there still, with what its maker made
@@ -26,18 +28,20 @@ pub record StandsPrepared {refs : List ImageRef} {wishes : Wishes} {me : ℕ} {d
   pub stands : folder_at s.namespace (pod_at Prepared draw) ≡ Some x.folder
   pub holds : entries_in x.folder s.entries ≡ x.faithful.built.making.entries
 
--- of some references that its words are, the pod was prepared faithfully, and stands in the end as it was made
+-- of some references that its words are, the pod was prepared faithfully, of the images that are the store of the state before, and stands
+-- in the end as it was made
 abbrev pub HasPrepared : Wants → PodId → DirSeen → DirSeen → Type 0
 HasPrepared wants draw old new =
-    OfReferences wants.images (λ refs. (x : IsPrepared refs wants.wishes old.process draw Prepared old.trace new.trace) × StandsPrepared x (state_after new.trace))
+    OfReferences wants.images (λ refs. (x : IsPrepared refs wants.wishes old.process draw Prepared old.trace new.trace) × StandsPrepared x (state_after new.trace)
+    × AreStore x.faithful.images (state_after old.trace))
 
--- by its own reads, or by a lock as it was held before
+-- by a lock as it was held before, or by its own reads, and by the store of the state before
 abbrev pub PreparesQuietly : Wants → ℕ → Draw → DirSeen → DirSeen → Outcome → Type 0
 PreparesQuietly wants now draw old new (Ok text) = (text ≡ pod_line draw.uuid) × (IsConforming new.trace → HasPrepared wants draw.uuid old new)
 PreparesQuietly wants now draw old new (Err (Busy area)) = RefusesPod wants now draw old new (Busy area) × IsBusyElsewhere old.process area Shared (state_after old.trace)
 PreparesQuietly wants now draw old new (Err NoMemory) = ⊥
 PreparesQuietly wants now draw old new (Err DirFault) = ⊥
-PreparesQuietly wants now draw old new (Err refusal) = RefusesPod wants now draw old new refusal
+PreparesQuietly wants now draw old new (Err refusal) = RefusesPod wants now draw old new refusal × RefusesByStore wants refusal (state_after old.trace)
 
 -- where it makes and moves folders
 abbrev pub is_pod_place : PodId → Spot → Bool

@@ -29,10 +29,12 @@ use Rattle.pod_claim.specs.Requests.{in_prepared, in_run}
 use Rattle.commands.specs.ClaimTable.{claim_error, IsWhy}
 use Rattle.commands.specs.References.{OfReferences}
 use Rattle.commands.specs.Prepare.{RefusesPod, HasKeptFolder}
+use Rattle.commands.specs.PrepareTable.{RefusesByStore}
 use Rattle.commands.specs.Wants.{Wants}
 use Rattle.commands.specs.RemovalQuiet.{StandsNowhere, HasPhaseNow}
 use Rattle.spawner.specs.Conditions.{start_mark}
 use Rattle.stage1.specs.declared.end.AppEnd.{AppEnd}
+use Rattle.standing_images.specs.Images.{AreStore}
 use Rattle.stage1.specs.declared.error.RunError.{RunError}
 use Rattle.stage1.specs.Notes.{status_path, status_text}
 use Rattle.commands.specs.AppEnds.{app_lines}
@@ -63,9 +65,11 @@ pub record IsClaimHeld (pod : PodId) (which : Which) (me : ℕ) (s : DirState) :
   pub there : folder_at s.namespace (in_prepared pod) ≡ Some folder
   pub held : list_any (is_held_elsewhere me which folder) s.namespace.openings ≡ true
 
--- a pod that was made for this process was made faithfully, and its folder is left in run
+-- a pod that was made for this process was made faithfully, of the images that are the store of the state before, and its folder is left in
+-- run
 abbrev pub HasMadeAndLeft : Wants → ℕ → PodId → List Event → List Event → Type 0
-HasMadeAndLeft wants me draw old new = OfReferences wants.images (λ refs. (x : IsPrepared refs wants.wishes me draw area.Run old new) × IsLeftInRun draw x.folder new)
+HasMadeAndLeft wants me draw old new =
+    OfReferences wants.images (λ refs. (x : IsPrepared refs wants.wishes me draw area.Run old new) × IsLeftInRun draw x.folder new × AreStore x.faithful.images (state_after old))
 
 -- the mark of an app stands in the folder with this number, and the file of its status with that alone
 pub record HasEnded (folder : ℕ) (s : DirState) (end : AppEnd) : Type 0 where
@@ -97,9 +101,10 @@ UnclaimedFor pod error me old new = Unit {0}
 abbrev pub IsRunRefusal : PodId → Refusal → Type 0
 IsRunRefusal pod refusal = (error : RunError) × (refusal ≡ run_refusal pod error)
 
--- a pod wasn't made for its run, for this cause, by the reads of its process, or by a lock as another process held it before. By its own
--- answers the process left at most its own folder, in embryo or in prepare, without a lock
+-- a pod wasn't made for its run, for this cause, by the reads of its process and the store of the state before, or by a lock as another
+-- process held it before. By its own answers the process left at most its own folder, in embryo or in prepare, without a lock
 pub record IsUnmadeFor (wants : Wants) (now : ℕ) (draw : Draw) (old new : DirSeen) (refusal : Refusal) : Type 0 where
   pub why : RefusesPod wants now draw old new refusal
+  pub store : RefusesByStore wants refusal (state_after old.trace)
   pub held : (area : Area) → refusal ≡ Busy area → IsBusyElsewhere old.process area Shared (state_after old.trace)
   pub left : HasKeptFolder draw.uuid old new

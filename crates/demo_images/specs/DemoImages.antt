@@ -1,27 +1,16 @@
 -- The images of the demo: image i stands on image (i - 1) / 2, and each has a file of its own beside one that all have.
-use Rattle.std.specs.Prelude.{◌≡◌, ◌<◌, ◌/◌, ℕ, false, codes, List, [], ◌∷◌, ◌++◌, length, None, slice_index_or}
-use Rattle.std.specs.Fmt.{decimal}
+use Rattle.std.specs.Prelude.{◌≡◌, ◌<◌, ◌/◌, ℕ, false, List, [], ◌∷◌, length, None, slice_index_or}
 use Rattle.std.proofs.Common.{zero, suc}
 use Rattle.manifest_parts.specs.declared.dependency.Dependency.{Dependency}
 use Rattle.dep_match.specs.declared.stored.Stored.{Stored}
 use Rattle.path_map.specs.declared.entry.Entry.{Entry}
 use Rattle.path_map.specs.Entries.{Entries, is_directory, IsPathMap}
+pub use Rattle.demo_line.specs.Names.{demo_name, common_path, own_path}
 
 -- the image on which this one stands, above 0
 abbrev pub parent : ℕ → ℕ
 parent zero = zero
 parent (suc i) = i / 2
-
--- `demo/i` and the number
-abbrev pub demo_name : ℕ → List ℕ
-demo_name i = codes "demo/i" ++ decimal i
-
--- the file that all have, and `/d` and the number
-abbrev pub common_path : List ℕ
-common_path = codes "/common"
-
-abbrev pub own_path : ℕ → List ℕ
-own_path i = codes "/d" ++ decimal i
 
 -- a dependency on the image of this number: by its name alone
 pub record IsDependencyOn (i : ℕ) (d : Dependency) : Type 0 where

@@ -1,5 +1,4 @@
 -- What a failure means for a listener.
-use Rattle.std.specs.Prelude.{Bool, true, false}
 use Rattle.std.specs.declared.io.ErrorKind.{ErrorKind}
 use Rattle.std.specs.declared.io.ErrorKind.TheVariants.{OutOfMemory}
 use Rattle.listener.specs.declared.link.LinkError.{LinkError}

@@ -1,6 +1,6 @@
 // One connection of a network.
-ghost use Rattle.std.specs.Prelude.{◌≡◌, ◌<◌, ◌≤◌, ◌++◌, ◌∷◌, [], true, length, take, IfOk, OnOk, is_some};
-ghost use Rattle.host_listener.specs.Facts.{accepts, receives, sends, taken_for, Tells};
+ghost use Rattle.std.specs.Prelude.{◌≡◌, ◌<◌, ◌≤◌, ◌++◌, ◌∷◌, [], true, length, take, IfOk, option_map};
+ghost use Rattle.host_listener.specs.Facts.{accepts, receives, sends, taken_for, told_of, Tells};
 
 use crate::network::Network;
 use crate::refusals::{is_passing, refusal};
@@ -13,7 +13,7 @@ pub const PATIENCE: u64 = 10;
 
 // Takes the next connection, and asks again where that may help.
 fn accept_patiently<N: Network>(network: &mut N, listening: &N::Listening) -> io::Result<N::Stream>
-    ensures { N.observed ≡ true → Tells (N.facts network.old) (λ _. accepts) result (N.facts network.new) }
+    ensures { N.observed ≡ true → Tells (N.facts network.old) (λ stream. accepts (N.number stream)) result (N.facts network.new) }
 {
     'tries: for _ in 0..u64::MAX {
         match network.accept(listening) {
@@ -30,7 +30,7 @@ pub fn take_next<N: Network>(
     network: &mut N,
     listening: &N::Listening,
 ) -> Result<N::Stream, LinkError>
-    ensures { OnOk result (N.observed ≡ true → N.facts network.new ≡ N.facts network.old ++ taken_for PATIENCE) }
+    ensures { IfOk result (λ stream. N.observed ≡ true → N.facts network.new ≡ N.facts network.old ++ taken_for PATIENCE (N.number stream)) }
 {
     let stream = match accept_patiently(network, listening) {
         Ok(stream) => stream,
@@ -52,7 +52,8 @@ fn receive_part<N: Network>(
     room: &mut [u8],
 ) -> io::Result<usize>
     ensures most { IfOk result (λ n. n ≤ length room.new) }
-    ensures told { N.observed ≡ true → Tells (N.facts network.old) (λ n. receives (take n room.new)) result (N.facts network.new) }
+    ensures same { N.number stream.new ≡ N.number stream.old }
+    ensures told { N.observed ≡ true → Tells (N.facts network.old) (λ n. receives (N.number stream.old) (take n room.new)) result (N.facts network.new) }
 {
     'tries: for _ in 0..u64::MAX {
         match network.receive(stream, room) {
@@ -67,7 +68,8 @@ fn receive_part<N: Network>(
 /// Sends a part of the piece, and asks again where that may help.
 fn send_part<N: Network>(network: &mut N, stream: &mut N::Stream, piece: &[u8]) -> io::Result<usize>
     ensures most { IfOk result (λ n. n ≤ length piece.now) }
-    ensures told { N.observed ≡ true → Tells (N.facts network.old) (λ n. sends (take n piece.now)) result (N.facts network.new) }
+    ensures same { N.number stream.new ≡ N.number stream.old }
+    ensures told { N.observed ≡ true → Tells (N.facts network.old) (λ n. sends (N.number stream.old) (take n piece.now)) result (N.facts network.new) }
 {
     'tries: for _ in 0..u64::MAX {
         match network.send(stream, piece) {
@@ -86,8 +88,9 @@ pub fn receive<N: Network>(
     room: &mut [u8],
 ) -> Result<usize, LinkError>
     ensures most { IfOk result (λ n. n ≤ length room.new) }
-    ensures kept { is_some stream.new ≡ is_some stream.old }
-    ensures told { IfOk result (λ n. is_some stream.old ≡ true → N.observed ≡ true → N.facts network.new ≡ N.facts network.old ++ receives (take n room.new) ∷ []) }
+    ensures same { option_map N.number stream.new ≡ option_map N.number stream.old }
+    ensures told { IfOk result (λ n. N.observed ≡ true
+        → N.facts network.new ≡ N.facts network.old ++ told_of (option_map N.number stream.old) (λ number. receives number (take n room.new) ∷ [])) }
 {
     match stream {
         Some(stream) => match receive_part(network, stream, room) {
@@ -108,8 +111,9 @@ pub fn send<N: Network>(
     requires { 0 < length piece.now }
     ensures most { IfOk result (λ n. n ≤ length piece.now) }
     ensures some { IfOk result (λ n. 0 < n) }
-    ensures kept { is_some stream.new ≡ is_some stream.old }
-    ensures told { IfOk result (λ n. is_some stream.old ≡ true → N.observed ≡ true → N.facts network.new ≡ N.facts network.old ++ sends (take n piece.now) ∷ []) }
+    ensures same { option_map N.number stream.new ≡ option_map N.number stream.old }
+    ensures told { IfOk result (λ n. N.observed ≡ true
+        → N.facts network.new ≡ N.facts network.old ++ told_of (option_map N.number stream.old) (λ number. sends number (take n piece.now) ∷ [])) }
 {
     match stream {
         Some(stream) => match send_part(network, stream, piece) {

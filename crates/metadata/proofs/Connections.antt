@@ -1,24 +1,24 @@
 -- Connections that were served, one after the other.
-use Rattle.std.proofs.Common.{arith, ◌≡◌, inl, inr, ◌≤◌, ◌+◌, ℕ, Bool, true, Option, Some, None, option_map, Ok, Err, List, [], ◌∷◌, ◌++◌, length, refl, sym, ap, subst, ◌∙◌, append_assoc, append-nil}
+use Rattle.std.proofs.Common.{arith, ◌≡◌, inl, inr, ◌≤◌, ◌+◌, ℕ, Option, Some, None, option_map, Ok, Err, List, [], ◌∷◌, ◌++◌, length, refl, ap, subst, ◌∙◌}
 use Rattle.std.specs.Prelude.{IsErrOf, OnOk}
 use Rattle.dir_model.specs.Causes.{Rose}
 use Rattle.dir_trait.specs.DirCalls.{DirAt}
-use Rattle.image_reading.proofs.Widths.{within_self}
-use Rattle.listener.specs.Connections.{Connection, ListenerAt, fresh, ended, HangsUp, WritesText, read_on, written_on}
+use Rattle.listener.specs.Connections.{Connection, HungUp, ListenerAt, fresh, ended, HangsUp, WritesText, read_on, written_on}
 use Rattle.metadata_request.specs.Inputs.{unread_of, HasRead}
-use Rattle.pod_report.specs.Requests.{OnlyAsksFor}
 use Rattle.metadata.specs.declared.error.MetaError.{MetaError}
-use Rattle.metadata.specs.Looks.{looks_in_run}
 use Rattle.metadata.specs.Serving.{IsReplyTo, Serves, ServesAtMost}
-use Rattle.metadata.specs.Service.{Served, Owes, AreServed, first_of, first_fault, ServesThese, ServesUpTo}
-use Rattle.metadata.proofs.Wider.{Wider, wider_after, wider_before, within}
+use Rattle.metadata.specs.Service.{Served, Owes, ServesOne, ServesThese, first_of, first_fault}
 
--- a connection with this input, so much read of it, and this written
-conn : List ℕ → ℕ → List ℕ → Connection
-conn input read written = record { input = input; read = read; written = written }
+-- what is left of a connection that was served so
+pub record Leaves (key : List ℕ) (served : Served) (old new : ListenerAt) (from upto : DirAt) : Type 0 where
+  pub connection : Connection
+  pub past : new.past ≡ old.past ++ record { connection = connection; faults = new.faults } ∷ []
+  pub current : new.current ≡ None
+  pub address : new.address ≡ old.address
+  pub owes : Owes key connection served from upto
 
 -- what serving leaves of a connection that was new
-module _ (key input : List ℕ) (old taken served new : ListenerAt) (from upto : DirAt) (took : taken.current ≡ Some (fresh input)) (past : taken.past ≡ old.past) (ends : HangsUp served new) where
+module _ (key input : List ℕ) (old taken served new : ListenerAt) (from upto : DirAt) (took : taken.current ≡ Some (fresh input)) (past : taken.past ≡ old.past) (at : taken.address ≡ old.address) (ends : HangsUp served new) where
   left : (read : List ℕ) (mid : ListenerAt) → HasRead taken read mid → mid.current ≡ Some (record { input = input; read = 0 + length read; written = [] })
   left read mid has = has.current ∙ ap (option_map (read_on (length read))) took
 
@@ -26,62 +26,48 @@ module _ (key input : List ℕ) (old taken served new : ListenerAt) (from upto :
   whole_input = ap unread_of took
 
   -- it is the last that was hung up
-  these : (text : List ℕ) (read : ℕ) (result : Served) → served.current ≡ Some (record { input = input; read = read; written = [] ++ text }) → served.past ≡ old.past → Owes key (record { input = input; read = read; written = [] ++ text }) result from upto → ServesThese key (result ∷ []) old new from upto
-  these text read result now same owes =
+  these : (text : List ℕ) (read : ℕ) (result : Served) → served.current ≡ Some (record { input = input; read = read; written = [] ++ text }) → served.past ≡ old.past → served.address ≡ old.address → Owes key (record { input = input; read = read; written = [] ++ text }) result from upto → Leaves key result old new from upto
+  these text read result now same still owes =
       let c : Connection = record { input = input; read = read; written = [] ++ text } in
+      let last : HungUp = record { connection = c; faults = new.faults } in
       record {
-        connections = c ∷ [];
-        past = ends.past ∙ (ap (λ (o : Option Connection). ended served.past o) now ∙ ap (λ (l : List Connection). l ++ c ∷ []) same);
+        connection = c;
+        past = ends.past ∙ (ap (λ (o : Option Connection). ended new.faults served.past o) now ∙ ap (λ (l : List HungUp). l ++ last ∷ []) same);
         current = ends.current;
-        each = (within_self owes, tt);
+        address = ends.address ∙ still;
+        owes = owes;
       }
 
   written : (text read : List ℕ) (mid : ListenerAt) → HasRead taken read mid → WritesText mid text served → served.current ≡ Some (record { input = input; read = 0 + length read; written = [] ++ text })
   written text read mid has wrote = wrote.current ∙ ap (option_map (written_on text)) (left read mid has)
 
-  pub serves_whole : Serves key taken served from upto → ServesThese key (Ok tt ∷ []) old new from upto
-  serves_whole s =
-      these s.bytes (0 + length s.taken) (Ok tt) (written s.bytes s.taken s.between s.read s.written) (s.written.past ∙ (s.read.past ∙ past))
+  leaves_whole : Serves key taken served from upto → Leaves key (Ok tt) old new from upto
+  leaves_whole s =
+      these s.bytes (0 + length s.taken) (Ok tt) (written s.bytes s.taken s.between s.read s.written) (s.written.past ∙ (s.read.past ∙ past)) (s.written.address ∙ (s.read.address ∙ at))
       (subst (λ (i : List ℕ). IsReplyTo i key s.bytes from upto) whole_input s.reply)
 
-  pub serves_part : (e : MetaError) → ServesAtMost key taken served from upto → ServesThese key (Err e ∷ []) old new from upto
-  serves_part e (inr (read, has)) =
-      these [] (0 + length read) (Err e) (left read served has) (has.past ∙ past) (inl refl)
-  serves_part e (inl s) =
-      these s.written.part (0 + length s.taken) (Err e) (written s.written.part s.taken s.between s.read s.written.written) (s.written.written.past ∙ (s.read.past ∙ past))
+  pub leaves_part : (e : MetaError) → ServesAtMost key taken served from upto → Leaves key (Err e) old new from upto
+  leaves_part e (inr (read, has)) =
+      these [] (0 + length read) (Err e) (left read served has) (has.past ∙ past) (has.address ∙ at) (inl refl)
+  leaves_part e (inl s) =
+      these s.written.part (0 + length s.taken) (Err e) (written s.written.part s.taken s.between s.read s.written.written) (s.written.written.past ∙ (s.read.past ∙ past)) (s.written.written.address ∙ (s.read.address ∙ at))
       (inr (s.bytes, s.written.rest, subst (λ (i : List ℕ). IsReplyTo i key s.bytes from upto) whole_input s.reply, s.written.parted))
 
-  pub serves_so : (result : Served) → OnOk result (Serves key taken served from upto) → ServesAtMost key taken served from upto → ServesThese key (result ∷ []) old new from upto
-  serves_so (Ok done) whole part = serves_whole whole
-  serves_so (Err e) whole part = serves_part e part
+  pub leaves_so : (result : Served) → OnOk result (Serves key taken served from upto) → ServesAtMost key taken served from upto → Leaves key result old new from upto
+  leaves_so (Ok done) whole part = leaves_whole whole
+  leaves_so (Err e) whole part = leaves_part e part
 
--- no connection was taken
-pub serves_none : (key : List ℕ) (old new : ListenerAt) (from upto : DirAt) → new.past ≡ old.past → new.current ≡ old.current → old.current ≡ None → ServesThese key [] old new from upto
-serves_none key old new from upto past current none = record { connections = []; past = past ∙ sym (append-nil old.past); current = current ∙ none; each = tt }
+-- some, and then one more
+pub serves_then : (key : List ℕ) (results : List Served) (served : Served) (old mid new : ListenerAt) (a b c : DirAt) → ServesThese key results old mid a b → ServesOne key served mid new b c → ServesThese key (results ++ served ∷ []) old new a c
+serves_then key [] served old mid new a b c those one =
+    (new, c, subst (λ (l : ListenerAt). ServesOne key served l new a c) those.0 (subst (λ (d : DirAt). ServesOne key served mid new d c) those.1 one), (refl, refl))
+serves_then key (first ∷ more) served old mid new a b c those one =
+    (those.0, those.1, those.2, serves_then key more served those.0 mid new those.1 b c those.3 one)
 
--- of a longer time
-served_wider : {old first last new : DirAt} (w : Wider old first last new) (key : List ℕ) (cs : List Connection) (results : List Served) → AreServed key cs results first last → AreServed key cs results old new
-served_wider w key [] [] are = tt
-served_wider w key (c ∷ cs) (r ∷ rs) are = (within w are.0, served_wider w key cs rs are.1)
-served_wider w key [] (r ∷ rs) are = absurd are
-served_wider w key (c ∷ cs) [] are = absurd are
-
-served_append : (key : List ℕ) (cs ds : List Connection) (results more : List Served) (from upto : DirAt) → AreServed key cs results from upto → AreServed key ds more from upto → AreServed key (cs ++ ds) (results ++ more) from upto
-served_append key [] ds [] more from upto are also = also
-served_append key (c ∷ cs) ds (r ∷ rs) more from upto are also = (are.0, served_append key cs ds rs more from upto are.1 also)
-served_append key [] ds (r ∷ rs) more from upto are also = absurd are
-served_append key (c ∷ cs) ds [] more from upto are also = absurd are
-
--- some, and then others
-pub serves_more : {observed : Bool} (t : observed ≡ true) (key : List ℕ) (results more : List Served) (old mid new : ListenerAt) (a b c : DirAt) → OnlyAsksFor observed looks_in_run a b → OnlyAsksFor observed looks_in_run b c → ServesThese key results old mid a b → ServesThese key more mid new b c → ServesThese key (results ++ more) old new a c
-serves_more t key results more old mid new a b c ab bc first later = record {
-  connections = first.connections ++ later.connections;
-  past = later.past ∙ (ap (λ (l : List Connection). l ++ later.connections) first.past ∙ append_assoc old.past first.connections later.connections);
-  current = later.current;
-  each = served_append key first.connections later.connections results more a c
-      (served_wider (wider_before a b c (bc.extends t)) key first.connections results first.each)
-      (served_wider (wider_after a b c ab.same (ab.extends t)) key later.connections more later.each);
-}
+-- no connection is current behind them
+pub none_current : (key : List ℕ) (results : List Served) (old new : ListenerAt) (from upto : DirAt) → ServesThese key results old new from upto → old.current ≡ None → new.current ≡ None
+none_current key [] old new from upto those none = ap (λ (l : ListenerAt). l.current) those.0 ∙ none
+none_current key (served ∷ more) old new from upto those none = none_current key more those.0 new those.1 upto those.3 those.2.current
 
 -- the first fault, with one more
 pub fault_more : (results : List Served) (served : Served) → first_fault (results ++ served ∷ []) ≡ first_of (first_fault results) served
@@ -100,11 +86,3 @@ rose_still a b c rose after = omega arith
 pub first_cause : (first served : Served) (e : MetaError) (a b c : ℕ) → (IsErrOf first e → Rose a b) → (IsErrOf served e → Rose b c) → a ≤ b → b ≤ c → IsErrOf (first_of first served) e → Rose a c
 first_cause (Ok done) served e a b c first later ab bc is = rose_later a b c ab (later is)
 first_cause (Err f) served e a b c first later ab bc is = rose_still a b c (first is) bc
-
--- behind a bind
-pub serves_bound : (key : List ℕ) (count : ℕ) (result : Served) (old bound new : ListenerAt) (from upto : DirAt) → bound.past ≡ old.past → ServesUpTo key count result bound new from upto → ServesUpTo key count result old new from upto
-serves_bound key count result old bound new from upto same s = record {
-  results = s.results;
-  these = record { connections = s.these.connections; past = s.these.past ∙ ap (λ (l : List Connection). l ++ s.these.connections) same; current = s.these.current; each = s.these.each };
-  ends = s.ends;
-}

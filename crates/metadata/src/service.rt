@@ -4,7 +4,7 @@ ghost use Rattle.dir_model.specs.Causes.{Rose};
 ghost use Rattle.dir_model.specs.Local.{IsActive};
 ghost use Rattle.pod_report.specs.Requests.{HasNoPodOpen, OnlyAsksFor};
 ghost use Rattle.metadata.specs.Looks.{looks_in_run};
-ghost use Rattle.metadata.specs.Service.{first_of, IsRefusedLink, ServesNext, ServesUpTo};
+ghost use Rattle.metadata.specs.Service.{first_of, IsRefusedLink, ServesNext, ServesUpTo, ServesAt};
 
 use crate::connection::serve_one;
 use crate::error::{MetaError, link_fault};
@@ -21,7 +21,8 @@ fn first_of(first: Result<(), MetaError>, later: Result<(), MetaError>) -> Resul
     }
 }
 
-// Takes the next connection, serves it, and hangs it up. How it was served; or why there was none.
+// Takes the next connection, serves it, and hangs it up. How it was served, which is the listener's fault
+// wherever the listener failed at it; or why there was none.
 fn serve_next<L: Listener, D: Dir>(
     alloc: Global,
     link: &mut L,
@@ -39,10 +40,14 @@ fn serve_next<L: Listener, D: Dir>(
     ensures serves { L.observed ≡ true → D.observed ≡ true → (L.shown link.old).current ≡ None
         → ServesNext key.now result (L.shown link.old) (L.shown link.new) (D.shown dir.old) (D.shown dir.new) }
 {
+    let before = link.faults();
     match link.next(alloc) {
         Ok(()) => {
             let served = serve_one(alloc, link, dir, key);
             link.hang_up();
+            if link.faults() > before {
+                return Ok(Err(MetaError::LinkFault));
+            }
             Ok(served)
         }
         Err(error) => Err(link_fault(error)),
@@ -78,8 +83,9 @@ fn serve_many<L: Listener, D: Dir>(
 
 /// Listens at the address, takes so many connections, one after the other, and serves each: its request is
 /// read, its reply written, and it is hung up. What fails at one connection ends that connection alone; the
-/// first such fault is the answer in the end. Where the address or the next connection is refused, that ends
-/// it. No lock is held between connections.
+/// first such fault is the answer in the end, and it is the listener's wherever the listener failed at that
+/// connection. Where the address or the next connection is refused, that ends it, and is the answer. No lock
+/// is held between connections.
 ///
 /// `LinkFault` where the listener failed, `DirFault` where the directory failed, `NoMemory` where memory ran
 /// out.
@@ -98,7 +104,7 @@ pub fn serve<L: Listener, D: Dir>(
     ensures link_cause { IsErrOf result MetaError.LinkFault → Rose (L.shown link.old).faults (L.shown link.new).faults }
     ensures dir_cause { IsErrOf result MetaError.DirFault → Rose (D.shown dir.old).faults (D.shown dir.new).faults }
     ensures serves { L.observed ≡ true → D.observed ≡ true → (L.shown link.old).current ≡ None
-        → ServesUpTo key.now count result (L.shown link.old) (L.shown link.new) (D.shown dir.old) (D.shown dir.new) }
+        → ServesAt key.now address.now count result (L.shown link.old) (L.shown link.new) (D.shown dir.old) (D.shown dir.new) }
 {
     match link.bind(alloc, address) {
         Ok(()) => serve_many(alloc, link, dir, count, key),

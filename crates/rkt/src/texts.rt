@@ -21,6 +21,7 @@ usage:
   rkt rm POD                        removes a pod
   rkt gc [OPTION...]                removes pods that are dead or too old
   rkt validate FILE                 judges a manifest of App Container 0.8
+  rkt demo N                        shows the commands at work, in memory
   rkt COMMAND --help                tells its words, options and statuses
   rkt --help                        prints this, as rkt -h and rkt help do
   rkt --version                     prints the version
@@ -266,8 +267,25 @@ exit status: 0 done, 1 usage, 6 bad manifest, 9 directory fault,
   10 bundle fault, 12 output fault, 14 out of memory, 15 no file
 ";
 
+const DEMO: &str = "\
+usage: rkt demo N
+
+Plays the commands on a data folder in memory: imports N images, of which each
+but the first depends on an earlier one, prepares a pod of each, runs every
+third, where those of an odd number end with status 1, sweeps twice, half an
+hour of its own time apart, and lists what is left. It prints one line: images
+imported, pods prepared, pods run, apps with another status than 0, pods
+deleted, pods left, and the entries of all renderings. The real data folder is
+made where it is missing, and isn't used; no program is started.
+
+  N  how many images: 1 to 100, in decimal digits without a zero before others
+
+exit status: 0 done, 1 usage, 9 directory fault, 12 output fault,
+  14 out of memory
+";
+
 /// The text of each first word.
-pub const COMMANDS: [(&str, &str); 10] = [
+pub const COMMANDS: [(&str, &str); 11] = [
     ("image", IMAGE),
     ("prepare", PREPARE),
     ("run-prepared", RUN_PREPARED),
@@ -278,6 +296,7 @@ pub const COMMANDS: [(&str, &str); 10] = [
     ("rm", RM),
     ("gc", GC),
     ("validate", VALIDATE),
+    ("demo", DEMO),
 ];
 
 /// The text of each word behind `image`.

@@ -259,6 +259,7 @@ acted_apart observed l now draw a b u v s s' answer none apart same ran well spa
 -- such a command starts no apps
 pub well_apart : (l : Line) (now : ℕ) (draw : Draw) (a b : Inside) (answer : Answer) → uses_dir (any_task l) ≡ false → Came (task_of l draw.uuid) now draw a b answer → is_well answer ≡ true
 well_apart (line.Validate path) now draw a b answer apart came = came
+well_apart (line.Demo count) now draw a b answer apart came = came
 well_apart l now draw a b answer apart came = cc
 
 -- a look lists areas of pods alone

@@ -28,7 +28,7 @@ use Rattle.commands.proofs.ReportsKept.{lines_wider, manifest_wider, status_wide
 use Rattle.commands.specs.Status.{status_report}
 use Rattle.commands.proofs.ImageImports.{is_memory}
 use Rattle.rkt_cli.specs.Tasks.{Task}
-use Rattle.rkt_cli.specs.Tasks.{Status, PodList, CatManifest, Validate, ImageList, ImageImport, ImageRm, ImageGc, Prepare, RunPrepared, Run, Rm, Gc}
+use Rattle.rkt_cli.specs.Tasks.{Status, PodList, CatManifest, Validate, ImageList, ImageImport, ImageRm, ImageGc, Prepare, RunPrepared, Run, Rm, Gc, Demo}
 use Rattle.rkt_cli.specs.Commands.{command_in, intent_of, may}
 use Rattle.rkt_cli.specs.Promises.{RefusedFor}
 use Rattle.rkt_cli.specs.Runs.{Performs, RunOfLine, Unwritten}
@@ -211,6 +211,7 @@ module _ (now : ℕ) (draw : Draw) (old new : Moment) where
   own_cause (Run wants address) r plain own p came = run_refused wants r plain own came
   own_cause (Rm word pod) r plain own p came = rm_refused now draw old.outside new.outside pod r p plain own
   own_cause (Gc grace expire) r plain own p came = gc_refused now draw old.outside new.outside r p plain own
+  own_cause (Demo count) r plain own p came = let clash : false ≡ true = own_of (Demo count) r plain own in cc
 
   -- whichever it is
   its_cause : (line : Task) (r : Refusal) → may line r ≡ true → Refuses line r → Comes line r → (r ≡ SpawnFault → Rose old.spawner.shown.faults new.spawner.shown.faults) → RefusedFor (command_in line) now draw r old new

@@ -16,6 +16,10 @@ pub mod Causes
 pub mod Lawful
 pub mod Tellings
 pub mod ValidateRan
+pub mod DemoRan
+pub mod Within
+pub mod Played
+pub mod NoWishes
 pub mod QuietRun
 pub mod Completing
 pub mod Conforming

@@ -5,14 +5,14 @@ use Rattle.dir_model.specs.declared.area.Area.TheVariants.{Images}
 use Rattle.dir_model.specs.declared.intent.Draw.{Draw}
 use Rattle.dir_model.specs.declared.intent.Intent.{Intent}
 use Rattle.dir_model.specs.declared.spot.Mode.TheVariants.{Shared}
-use Rattle.area_locks.specs.AreaLocks.{IsBusyElsewhere}
+use Rattle.area_locks.specs.AreaLocks.{IsBusyElsewhere, IsFreeElsewhere}
 use Rattle.dir_trait.specs.DirCalls.{HeldBetween}
 use Rattle.rkt_cli.specs.Tasks.{Task}
 use Rattle.rkt_cli.specs.Tasks.{ImageList}
 use Rattle.command_outcomes.specs.declared.refusal.Refusal.TheVariants.{Busy, Damaged}
 use Rattle.command_outcomes.specs.Moments.{Outside, Outcome}
 use Rattle.command_outcomes.specs.Conforming.{shown_at, begun}
-use Rattle.commands.specs.ImageList.{ListsStanding, ListsStore, LacksPart, IsHeldElsewhere}
+use Rattle.commands.specs.ImageList.{FindsFree, ListsStanding, ListsStore, LacksPart, IsHeldElsewhere}
 use Rattle.rkt_cli.specs.Runs.{InProcess, Performs}
 use Rattle.commands.proofs.Parts.{Part, held_wider, store_wider, lacks_wider}
 use Rattle.commands.proofs.StoreStanding.{stood_in}
@@ -28,8 +28,13 @@ module _ {line : Task} {now : ℕ} {draw : Draw} {intent : Intent} {old new : Ou
       let last = finish_part s t any_call refl in
       record { earlier = first.more; later = last.more; same = s.me; begins = first.grown; ends = last.grown }
 
+  free_in_process : old.dir.observed ≡ true → FindsFree s.begun.dir s.ended.dir → FindsFree old.dir new.dir
+  free_in_process t free =
+      held_wider (process_part t) (IsFreeElsewhere old.dir.process Images Shared)
+      (subst (λ (me : ℕ). HeldBetween (shown_at s.begun.dir) (shown_at s.ended.dir) (IsFreeElsewhere me Images Shared)) s.me free)
+
   pub listed_in_process : {text : List ℕ} → ListsStore s.begun.dir s.ended.dir text → ListsStore old.dir new.dir text
-  listed_in_process says = record { images = says.images; told = λ t. store_wider (process_part t) says.images (says.told (s.told ∙ t)); is = says.is }
+  listed_in_process says = record { images = says.images; free = λ t. free_in_process t (says.free (s.told ∙ t)); told = λ t. store_wider (process_part t) says.images (says.told (s.told ∙ t)); is = says.is }
 
   -- the process's own look at their lock
   pub standing_in_process : {text : List ℕ} → ListsStanding s.begun.dir s.ended.dir text → old.dir.observed ≡ true → ListsStanding old.dir new.dir text
@@ -39,7 +44,7 @@ module _ {line : Task} {now : ℕ} {draw : Draw} {intent : Intent} {old new : Ou
   ended_conforms t conforming = let last = finish_part s t any_call refl in conforming_left s.ended.dir.trace last.more (subst IsConforming last.grown conforming)
 
   pub lacked_in_process : {path : List ℕ} → LacksPart path s.begun.dir s.ended.dir → LacksPart path old.dir new.dir
-  lacked_in_process {path} says = record { place = says.place; told = λ t. lacks_wider (process_part t) path (says.told (s.told ∙ t)) }
+  lacked_in_process {path} says = record { place = says.place; free = λ t. free_in_process t (says.free (s.told ∙ t)); told = λ t. lacks_wider (process_part t) path (says.told (s.told ∙ t)) }
 
 -- what was printed, or wasn't
 pub list_printed : (now : ℕ) (draw : Draw) (intent : Option Intent) (old new : Outside) (text : List ℕ) → Performs ImageList now draw intent old new (Ok text) → ListsStore old.dir new.dir text

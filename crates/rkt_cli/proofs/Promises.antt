@@ -17,13 +17,14 @@ use Rattle.commands.specs.PodList.{list_report}
 use Rattle.commands.specs.Status.{status_report}
 use Rattle.commands.specs.Validate.{ReadsFile, most_read}
 use Rattle.rkt_cli.specs.Tasks.{Task}
-use Rattle.rkt_cli.specs.Tasks.{Status, PodList, CatManifest, Validate, ImageList, ImageImport, ImageRm, ImageGc, Prepare, RunPrepared, Run, Rm, Gc}
+use Rattle.rkt_cli.specs.Tasks.{Status, PodList, CatManifest, Validate, ImageList, ImageImport, ImageRm, ImageGc, Prepare, RunPrepared, Run, Rm, Gc, Demo}
 use Rattle.rkt_cli.specs.Commands.{command_in, intent_of, looks, asks, runs_apps, ReadsOnly}
 use Rattle.rkt_cli.specs.Spawns.{CameBetween}
 use Rattle.rkt_cli.specs.Runs.{Performs, End, Unwritten, Printed, Reported, end_status, RunOfLine, RunOf, RunIs}
 use Rattle.rkt_cli.specs.Promises.{IsStatus, asks_all, Ends, EndsAs, IsRefused, Writes}
 use Rattle.rkt_cli.proofs.AppsRan.{run_prepared_printed, run_printed}
 use Rattle.rkt_cli.proofs.Causes.{cause_of}
+use Rattle.rkt_cli.proofs.DemoRan.{demo_text, does_demo}
 use Rattle.rkt_cli.proofs.Ends.{absurd_number, end_at, is_of_output, output_known, refusal_known, refusal_status, refusal_plain, from_end, from_command}
 use Rattle.rkt_cli.proofs.Grades.{plain_at, graded_known, graded_none, graded_same, either_false}
 use Rattle.rkt_cli.proofs.Imports.{import_printed}
@@ -59,6 +60,7 @@ prints_of ImageGc now draw intent old new text p a b answer is came = sweep_prin
 prints_of (Prepare wants) now draw intent old new text p a b answer is came = prepare_printed wants now draw intent old new text p
 prints_of (Rm word pod) now draw intent old new text p a b answer is came = rm_printed word pod now draw intent old new text p
 prints_of (Gc grace expire) now draw intent old new text p a b answer is came = gc_printed grace expire now draw intent old new text p
+prints_of (Demo count) now draw intent old new text p a b answer is came = demo_text count text (does_demo count now draw intent old new (Ok text) p)
 prints_of (RunPrepared word pod address) now draw None old new text p a b answer is came = let clash : true ≡ false = p.apart in cc
 prints_of (RunPrepared word pod address) now draw (Some intent) old new text p a b answer is came = run_prepared_printed word pod now draw intent a b answer text is came
 prints_of (Run wants address) now draw None old new text p a b answer is came = let clash : true ≡ false = p.apart in cc

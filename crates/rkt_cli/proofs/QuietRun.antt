@@ -29,7 +29,7 @@ use Rattle.image_removal.specs.Requests.{removes_at, sweeps}
 use Rattle.image_removal.proofs.Begun.{begun_removes}
 use Rattle.phase_read.specs.Read.{is_pod_spot}
 use Rattle.rkt_cli.specs.Tasks.{Task}
-use Rattle.rkt_cli.specs.Tasks.{Status, PodList, CatManifest, Validate, ImageList, ImageImport, ImageRm, ImageGc, Prepare, RunPrepared, Run, Rm, Gc}
+use Rattle.rkt_cli.specs.Tasks.{Status, PodList, CatManifest, Validate, ImageList, ImageImport, ImageRm, ImageGc, Prepare, RunPrepared, Run, Rm, Gc, Demo}
 use Rattle.command_outcomes.specs.declared.refusal.Refusal.TheVariants.{Busy, NoImage, NoPod, WrongPhase, NoManifest, PodBusy, DirFault, BundleFault, NoMemory, Damaged, Stray}
 use Rattle.command_outcomes.specs.Moments.{BundleSeen, DirSeen, Outside, Moment, Outcome}
 use Rattle.command_outcomes.specs.Ends.{is_own_end, IsUnchanged}
@@ -37,15 +37,16 @@ use Rattle.commands.specs.CatManifest.{cat_manifest_report}
 use Rattle.commands.specs.PodList.{list_report}
 use Rattle.commands.proofs.ReportsKept.{inspects_change, lines_stable, manifest_stable, status_stable, surveys_change, visits_change}
 use Rattle.pod_report.proofs.Going.{visits_survey}
+use Rattle.rkt_cli.proofs.DemoRan.{demo_own}
 use Rattle.rkt_cli.proofs.Reported.{report_leaves, report_quiet}
 use Rattle.commands.specs.Status.{status_report}
 use Rattle.pod_report.proofs.QuietSurvey.{inspect_calm, survey_calm}
-use Rattle.commands.specs.ImageList.{image_list_refusal, ListsQuietly, PrintsStore}
+use Rattle.commands.specs.ImageList.{image_list_refusal, ListsQuietly}
 use Rattle.commands.specs.ImageImport.{IsAreaHeld, LeavesImages, ImportsQuietly, is_building_place}
 use Rattle.commands.specs.NextState.{LeavesBeside, is_nowhere}
 use Rattle.commands.specs.ImageRm.{image_rm_refusal, is_removal_place, FindsBusy, RemovesQuietly}
 use Rattle.commands.specs.ImageGc.{is_swept_place, SweepsQuietly}
-use Rattle.command_outcomes.specs.Conforming.{begun}
+use Rattle.command_outcomes.specs.Conforming.{begun, shown_at}
 use Rattle.commands.specs.Answers.{inside_in, IsAnswer}
 use Rattle.commands.specs.Command.{intent_for}
 use Rattle.commands.specs.GcCommand.{gc_intent}
@@ -57,10 +58,13 @@ use Rattle.rkt_cli.proofs.Judged.{judged_whole}
 use Rattle.command_outcomes.proofs.Seen.{rose_wider}
 use Rattle.rkt_cli.proofs.Outcomes.{rose_between, answered, WasAnswered}
 use Rattle.rkt_cli.proofs.Conforming.{begun_knows}
-use Rattle.lifecycle.specs.Executions.{IsConforming}
-use Rattle.rkt_cli.proofs.Listed.{ended_conforms, listed_in_process, lacked_in_process, standing_in_process}
+use Rattle.rkt_cli.proofs.Listed.{listed_in_process, lacked_in_process}
 use Rattle.commands.proofs.StoreQuiet.{is_tame, lists_is_tame, at_tame, end_tame}
-use Rattle.commands.proofs.StoreTexts.{prints_store}
+use Rattle.commands.proofs.EndsQuiet.{unborn_before}
+use Rattle.commands.proofs.PrepareStore.{refuses_by_store}
+use Rattle.commands.proofs.StoreChosen.{chosen_of}
+use Rattle.commands.proofs.StoreKept.{prepare_keeps}
+use Rattle.commands.proofs.StoreTexts.{prints_store, names_damage}
 use Rattle.rkt_cli.proofs.StoreRan.{imports}
 use Rattle.rkt_cli.proofs.Imports.{import_printed, stored_in_process, import_refused}
 use Rattle.commands.proofs.ImagesKept.{images_kept, image_held}
@@ -156,18 +160,18 @@ busy_before now draw intent old new area s u =
     let first : IsBusyElsewhere me Images Shared (state_after s.begun.dir.trace) = found.1.others (is_against Images Shared) found.2 in
     subst (λ (p : ℕ). IsBusyElsewhere p Images Shared (state_after old.dir.trace)) s.me (subst (λ (x : DirState). IsBusyElsewhere me Images Shared x) (state ImageList now draw intent old new (Err (Busy area)) s u refl) first)
 
-list_quiet : (now : ℕ) (draw : Draw) (intent : Intent) (old new : Outside) (o : Outcome) → InProcess ImageList now draw intent old new o → Undisturbed ImageList old new → is_own_end o ≡ true → ListsQuietly old.dir new.dir o
-list_quiet now draw intent old new (Ok text) s u own = (listed_in_process s s.ran.says.0, λ conforming. by conforming)
-  where
-    t : old.dir.observed ≡ true
-    t = u.observed refl
+-- its own requests
+list_extends : (now : ℕ) (draw : Draw) (intent : Intent) (old new : Outside) (o : Outcome) → InProcess ImageList now draw intent old new o → Undisturbed ImageList old new → Extends is_tame old.dir.process old.dir.trace new.dir.trace
+list_extends now draw intent old new o s u = all_parts s (u.observed refl) is_tame refl (λ r h. no_looks ImageList refl r h) lists_is_tame refl
 
-    by : IsConforming new.dir.trace → PrintsStore (state_after old.dir.trace) text
-    by conforming =
-        let stands = s.ran.says.1 (s.told ∙ t) (begun intent) (begun_knows s t) refl (ended_conforms s t conforming) in
-        prints_store old.dir new.dir text (standing_in_process s stands t) (all_parts s t is_tame refl (λ r h. no_looks ImageList refl r h) lists_is_tame refl) (u.alone s.uses)
+list_quiet : (now : ℕ) (draw : Draw) (intent : Intent) (old new : Outside) (o : Outcome) → InProcess ImageList now draw intent old new o → Undisturbed ImageList old new → is_own_end o ≡ true → ListsQuietly old.dir new.dir o
+list_quiet now draw intent old new (Ok text) s u own =
+    let read = listed_in_process s s.ran.says.0 in
+    (read, prints_store old.dir new.dir (u.observed refl) (list_extends now draw intent old new (Ok text) s u) (u.alone refl) text read)
 list_quiet now draw intent old new (Err (Busy area)) s u own = (busy_area area s.ran.refusals, busy_before now draw intent old new area s u)
-list_quiet now draw intent old new (Err (Damaged path)) s u own = lacked_in_process s s.ran.says
+list_quiet now draw intent old new (Err (Damaged path)) s u own =
+    let lacks = lacked_in_process s s.ran.says in
+    (lacks, names_damage old.dir new.dir (u.observed refl) (list_extends now draw intent old new (Err (Damaged path)) s u) (u.alone refl) path lacks)
 list_quiet now draw intent old new (Err NoMemory) s u own = let clash : false ≡ true = own in cc
 list_quiet now draw intent old new (Err DirFault) s u own = let clash : false ≡ true = own in cc
 list_quiet now draw intent old new (Err BundleFault) s u own = let clash : false ≡ true = own in cc
@@ -298,13 +302,25 @@ prepare_quiet wants now draw old new (Ok text) s u own = (
   s.ran.says.0,
   λ conforming.
       let x = prepare_faithful wants now draw old new text (inl s) (u.observed refl) conforming in
-      (x.0, x.1, (x.2, pod_stands draw.uuid (prepare_extends wants now draw (prepare_intent now draw) old new (Ok text) s u) (u.alone refl) conforming x.2)),
+      let ext = prepare_extends wants now draw (prepare_intent now draw) old new (Ok text) s u in
+      let unborn = unborn_before (prepare_intent now draw) (s.begins (u.observed refl)).begins in (
+        x.0,
+        x.1,
+        (
+          x.2,
+          pod_stands draw.uuid ext (u.alone refl) conforming x.2,
+          chosen_of (shown_at old.dir) (shown_at new.dir) x.2 (prepare_keeps draw.uuid ext (u.alone refl)) unborn,
+        ),
+      ),
 )
 prepare_quiet wants now draw old new (Err (Busy area)) s u own = (prepare_refused wants now draw (Some (prepare_intent now draw)) old new (Busy area) refl (inl s), prepare_held wants now draw old new area s u)
 prepare_quiet wants now draw old new (Err NoMemory) s u own = let clash : false ≡ true = own in cc
 prepare_quiet wants now draw old new (Err DirFault) s u own = let clash : false ≡ true = own in cc
 prepare_quiet wants now draw old new (Err BundleFault) s u own = let clash : false ≡ true = own in cc
-prepare_quiet wants now draw old new (Err r) s u own = prepare_refused wants now draw (Some (prepare_intent now draw)) old new r refl (inl s)
+prepare_quiet wants now draw old new (Err r) s u own =
+    let why = prepare_refused wants now draw (Some (prepare_intent now draw)) old new r refl (inl s) in
+    let stay = prepare_keeps draw.uuid (prepare_extends wants now draw (prepare_intent now draw) old new (Err r) s u) (u.alone refl) in
+    (why, refuses_by_store wants now draw old.dir new.dir r (u.observed refl) stay why)
 
 -- `rm` and `gc`
 rm_quiet : {word : List ℕ} (pod : PodId) (now : ℕ) (draw : Draw) (old new : Outside) (o : Outcome) → InProcess (Rm word pod) now draw (rm_intent word now draw) old new o → Undisturbed (Rm word pod) old new → is_own_end o ≡ true → RemovesPodQuietly pod old.dir new.dir o
@@ -368,6 +384,7 @@ comes_of (Rm word pod) now draw intent old new o said s u own ran =
     rm_quiet pod now draw old new o (subst (λ (i : Intent). InProcess (Rm word pod) now draw i old new o) (let e : intent ≡ rm_intent word now draw = cc in e) s) u own
 comes_of (Gc grace expire) now draw intent old new o said s u own ran =
     gc_quiet now draw old new o (subst (λ (i : Intent). InProcess (Gc grace expire) now draw i old new o) (let e : intent ≡ gc_intent grace expire now draw = cc in e) s) u own
+comes_of (Demo count) now draw intent old new o said s u own ran = let clash : false ≡ true = s.uses in cc
 
 comes_apart : (line : Task) (now : ℕ) (draw : Draw) (old new : Outside) (o : Outcome) → Apart line now draw old new o → Undisturbed line old new → is_own_end o ≡ true → ComesQuietly line now draw old new o
 comes_apart (Status word pod) now draw old new o p u own = let clash : true ≡ false = p.apart in cc
@@ -383,6 +400,7 @@ comes_apart (RunPrepared word pod address) now draw old new o p u own = let clas
 comes_apart (Run wants address) now draw old new o p u own = let clash : true ≡ false = p.apart in cc
 comes_apart (Rm word pod) now draw old new o p u own = let clash : true ≡ false = p.apart in cc
 comes_apart (Gc grace expire) now draw old new o p u own = let clash : true ≡ false = p.apart in cc
+comes_apart (Demo count) now draw old new o p u own = demo_own count o p.ran.says own
 
 -- what each command leaves
 leaves_quietly : (line : Task) (now : ℕ) (draw : Draw) (intent : Intent) (old new : Outside) (o : Outcome) → InProcess line now draw intent old new o → Undisturbed line old new → LeavesQuietly line old.dir.process draw (state_after old.dir.trace) (state_after new.dir.trace)
@@ -414,6 +432,7 @@ leaves_quietly (RunPrepared word pod address) now draw intent old new o s u = be
 leaves_quietly (Run wants address) now draw intent old new o s u = beside (Run wants address) now draw intent old new o s u (is_pod_spot draw.uuid) (run_changes draw.uuid)
 leaves_quietly (Rm word pod) now draw intent old new o s u = beside (Rm word pod) now draw intent old new o s u (is_pod_spot pod) (rm_changes pod now)
 leaves_quietly (Gc grace expire) now draw intent old new o s u = beside (Gc grace expire) now draw intent old new o s u is_pods_place (gc_changes now)
+leaves_quietly (Demo count) now draw intent old new o s u = let clash : false ≡ true = s.uses in cc
 
 leaves_apart : (line : Task) (now : ℕ) (draw : Draw) (old new : Outside) (o : Outcome) → Apart line now draw old new o → LeavesQuietly line old.dir.process draw (state_after old.dir.trace) (state_after new.dir.trace)
 leaves_apart (Status word pod) now draw old new o p = let clash : true ≡ false = p.apart in cc
@@ -429,6 +448,7 @@ leaves_apart (RunPrepared word pod address) now draw old new o p = let clash : t
 leaves_apart (Run wants address) now draw old new o p = let clash : true ≡ false = p.apart in cc
 leaves_apart (Rm word pod) now draw old new o p = let clash : true ≡ false = p.apart in cc
 leaves_apart (Gc grace expire) now draw old new o p = let clash : true ≡ false = p.apart in cc
+leaves_apart (Demo count) now draw old new o p = ap (λ (d : DirSeen). state_after d.trace) p.dir
 
 abbrev IsQuiet : Task → ℕ → Draw → Outside → Outside → Outcome → Type 0
 IsQuiet line now draw old new o =

@@ -32,6 +32,7 @@ use Rattle.commands.specs.RunPrepared.{runs_prepared, ClaimsAndRuns, IsUnclaimed
 use Rattle.commands.specs.Run.{makes_and_runs, MakesAndRuns, NewRunSays, RunIsTold}
 use Rattle.commands.specs.RunQuiet.{HasPassed, HasMadeAndLeft, TellsItsEnds, UnclaimedFor, IsRunRefusal, IsUnmadeFor}
 use Rattle.commands.proofs.Claimed.{may_begin}
+use Rattle.commands.proofs.EndsQuiet.{unborn_before}
 use Rattle.commands.proofs.ClaimBefore.{RefusedClaim}
 use Rattle.commands.proofs.RunRefused.{same_refusal, claimed_refusal, made_refusal, unmade_refusal}
 use Rattle.commands.proofs.RanQuietly.{run_prepared_passed, run_prepared_unclaimed, run_prepared_ends, run_made_left, run_ends}
@@ -192,7 +193,8 @@ module _ (address : List ℕ) (wants : Wants) (now : ℕ) (draw : Draw) (a b : I
     left : MakesAndRuns x.begun.observed a.spawner.observed wants address now draw d d' a.spawner.shown b.spawner.shown answer → IsConforming b.dir.trace → HasMadeAndLeft wants d.process draw.uuid a.dir.trace b.dir.trace
     left m conforming =
         run_made_left x.begun.observed a.spawner.observed wants address now draw d d' a.spawner.shown b.spawner.shown answer sees a.dir.trace b.dir.trace (ext x t d d' x.came.begins x.came.ends) (alone x t d d' x.came.begins x.came.ends quiet)
-        (first x t d d' x.came.begins x.came.ends) (finish x t d d' x.came.begins x.came.ends) new_intent began knows m (m.then sees) conforming
+        (first x t d d' x.came.begins x.came.ends) (finish x t d d' x.came.begins x.came.ends)
+        (unborn_before new_intent (begin_there x t d d' x.came.begins x.came.ends).begins) new_intent began knows m (m.then sees) conforming
 
     there : HasMadeAndLeft wants d.process draw.uuid a.dir.trace b.dir.trace → HasMadeAndLeft wants a.dir.process draw.uuid a.dir.trace b.dir.trace
     there h = subst (λ (p : ℕ). HasMadeAndLeft wants p draw.uuid a.dir.trace b.dir.trace) (sym mine) h

@@ -29,12 +29,14 @@ use Rattle.rkt_cli.proofs.Reported.{report_seen, report_told}
 use Rattle.commands.specs.Status.{status_report}
 use Rattle.commands.specs.Validate.{sequential_validate}
 use Rattle.commands.specs.ValidateCommand.{TellsJudgement}
+use Rattle.rkt_cli.specs.DemoCommand.{EndsDemo, TellsDemo}
 use Rattle.rkt_cli.specs.Tasks.{Task}
-use Rattle.rkt_cli.specs.Tasks.{Status, PodList, CatManifest, Validate, ImageList, ImageImport, ImageRm, ImageGc, Prepare, RunPrepared, Run, Rm, Gc}
+use Rattle.rkt_cli.specs.Tasks.{Status, PodList, CatManifest, Validate, ImageList, ImageImport, ImageRm, ImageGc, Prepare, RunPrepared, Run, Rm, Gc, Demo}
 use Rattle.rkt_cli.specs.Commands.{command_in, intent_of, runs_apps, uses_dir}
 use Rattle.rkt_cli.specs.Runs.{InProcess, Performs, Printed, Reported, End, Unwritten, end_status, RunOf, RunIs}
 use Rattle.rkt_cli.proofs.BundleJudged.{import_judged}
 use Rattle.rkt_cli.proofs.Completing.{rm_ends, claim_ends}
+use Rattle.rkt_cli.proofs.DemoRan.{does_demo}
 use Rattle.rkt_cli.proofs.Ends.{absurd_number, end_at, from_command, from_end}
 use Rattle.rkt_cli.proofs.Grades.{unhurt}
 use Rattle.rkt_cli.proofs.Imports.{import_stored}
@@ -187,6 +189,18 @@ module _ (now : ℕ) (draw : Draw) (old new : Moment) (status : ℕ) where
     gone = λ t conforming. wrote (Gc grace expire) _ (λ text p. let swept = gc_done now draw old.outside new.outside text p t in record { swept = swept; deleted = gc_deleted (times_of now grace expire) swept.lines swept.swept conforming }) r;
   }
 
+  demo_tells : (count : ℕ) → Ran (Demo count) → TellsDemo count status old new
+  demo_tells count (inr n) = inl n.is
+  demo_tells count (inl r) = by (does_demo count now draw (intent_of (Demo count) now draw) old.outside new.outside r.outcome r.performs)
+    where
+      by : EndsDemo count r.outcome → TellsDemo count status old new
+      by (inr e) = inl (r.is ∙ ap end_status ((subst (λ (o : Outcome). Printed o old.out new.out r.end) e r.printed).refused.0))
+      by (inl e) = elim (answered r.outcome old new r.end status r.printed r.reported r.is) [
+        | inl x ↦ inl x
+        | inr (inl x) ↦ inr (inl x.0)
+        | inr (inr x) ↦ inr (inr (subst (λ (o : Outcome). IsAnswer o status old new) e x))
+      ]
+
 -- of each command
 pub tells : {task : Task} {now : ℕ} {draw : Draw} {old new : Moment} {status : ℕ} → RunIs task now draw old new status → (command_in task).tells now draw status old new
 tells {task} {now} {draw} {old} {new} {status} run = by task run
@@ -211,3 +225,4 @@ tells {task} {now} {draw} {old} {new} {status} run = by task run
     by (Run wants address) run = run.apps
     by (Rm word pod) run = alone (Rm word pod) run refl (rm_tells now draw old new run.plain pod run.ran)
     by (Gc grace expire) run = alone (Gc grace expire) run refl (gc_tells now draw old new run.plain run.ran)
+    by (Demo count) run = alone (Demo count) run refl (demo_tells now draw old new run.plain count run.ran)

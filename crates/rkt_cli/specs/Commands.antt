@@ -24,7 +24,8 @@ use Rattle.commands.specs.RmCommand.{rm_command}
 use Rattle.commands.specs.GcCommand.{gc_command}
 use Rattle.commands.specs.Opening.{Approach, looks_by}
 use Rattle.rkt_cli.specs.declared.line.Line.{Line}
-use Rattle.rkt_cli.specs.Tasks.{Task, Status, PodList, CatManifest, Validate, ImageList, ImageImport, ImageRm, ImageGc, Prepare, RunPrepared, Run, Rm, Gc, task_of}
+use Rattle.rkt_cli.specs.DemoCommand.{demo_command}
+use Rattle.rkt_cli.specs.Tasks.{Task, Status, PodList, CatManifest, Validate, ImageList, ImageImport, ImageRm, ImageGc, Prepare, RunPrepared, Run, Rm, Gc, Demo, task_of}
 
 abbrev pub command_in : Task → Command
 command_in (Status word pod) = status_command word pod
@@ -40,6 +41,7 @@ command_in (RunPrepared word pod address) = run_prepared_command word pod addres
 command_in (Run wants address) = run_command wants address
 command_in (Rm word pod) = rm_command word pod
 command_in (Gc grace expire) = gc_command grace expire
+command_in (Demo count) = demo_command count
 
 -- whether it works on the directory, whether it reads the bundle, and whether it starts apps
 abbrev pub uses_dir : Task → Bool

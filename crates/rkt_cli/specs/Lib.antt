@@ -1,5 +1,6 @@
 pub mod Lines
 pub mod Tasks
+pub mod DemoCommand
 pub mod Commands
 pub mod Spawns
 pub mod Runs
@@ -10,3 +11,5 @@ pub mod Phases
 pub mod Between
 pub mod Headlines
 pub mod Paths
+pub mod Turns
+pub mod Plays

@@ -1,5 +1,5 @@
 -- Which command the words are.
-use Rattle.std.specs.Prelude.{◌≡◌, ℕ, Option, Some, None, List, map, Result, Ok, Err, String, string_bytes}
+use Rattle.std.specs.Prelude.{◌≡◌, ◌≤◌, ℕ, Option, Some, None, List, map, Result, Ok, Err, String, string_bytes}
 use Rattle.std.specs.Global.{Global}
 use Rattle.rkt_words.specs.Lines.{line_of}
 use Rattle.rkt_words.specs.declared.error.WordsError.{WordsError}
@@ -9,7 +9,7 @@ use Rattle.rkt_words.specs.declared.line.Line.{Line as Words}
 use Rattle.rkt_words.specs.declared.line.Line.TheVariants as words
 use Rattle.commands.specs.Wants.{Wants}
 use Rattle.rkt_cli.specs.declared.line.Line.{Line}
-use Rattle.rkt_cli.specs.declared.line.Line.TheVariants.{Status, PodList, CatManifest, Validate, ImageList, ImageImport, ImageRm, ImageGc, Prepare, RunPrepared, Run, Rm, Gc}
+use Rattle.rkt_cli.specs.declared.line.Line.TheVariants.{Status, PodList, CatManifest, Validate, ImageList, ImageImport, ImageRm, ImageGc, Prepare, RunPrepared, Run, Rm, Gc, Demo}
 
 -- what a pod is to be made of
 abbrev pub wants_of : Asked → Wants
@@ -30,6 +30,7 @@ known_line (words.ImageImport path) = Some (ImageImport path)
 known_line words.ImageList = Some ImageList
 known_line (words.ImageRm key) = Some (ImageRm key)
 known_line words.ImageGc = Some ImageGc
+known_line (words.Demo count) = Some (Demo count)
 known_line words = None
 
 abbrev pub line_read : Result Words ℕ → Option Line
@@ -39,6 +40,11 @@ line_read (Err place) = None
 -- of the words as the program has them
 abbrev pub line_in : List (String Global) → Option Line
 line_in words = line_read (line_of (map string_bytes words))
+
+-- a demo has a hundred images at most
+abbrev pub IsWithin : Line → Type 0
+IsWithin (Demo count) = count ≤ 100
+IsWithin line = Unit {0}
 
 -- what was read is the line; usage says that there is none; memory may run out at any words
 abbrev pub IsReading : Option Line → Result Line WordsError → Type 0

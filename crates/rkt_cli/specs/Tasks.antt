@@ -1,5 +1,5 @@
 -- What a command line asks to be done, with the pod that its word means.
-use Rattle.std.specs.Prelude.{◌≡◌, ℕ, true, List, length, Option, Some, None, Ok}
+use Rattle.std.specs.Prelude.{◌≡◌, ℕ, Bool, true, false, List, length, Option, Some, None, Ok}
 use Rattle.ac_types.specs.declared.store_key.StoreKey.{StoreKey}
 use Rattle.dir_model.specs.declared.intent.Draw.{Draw}
 use Rattle.dir_model.specs.declared.pod.PodId.{PodId}
@@ -32,6 +32,7 @@ pub data Task : Type 0 where
   Run : Wants → List ℕ → Task
   Rm : List ℕ → PodId → Task
   Gc : ℕ → ℕ → Task
+  Demo : ℕ → Task
 
 -- the task of a line, where this is its pod
 abbrev pub task_of : Line → PodId → Task
@@ -48,6 +49,12 @@ task_of (line.RunPrepared word address) pod = RunPrepared word pod address
 task_of (line.Run wants address) pod = Run wants address
 task_of (line.Rm word) pod = Rm word pod
 task_of (line.Gc grace expire) pod = Gc grace expire
+task_of (line.Demo count) pod = Demo count
+
+-- the demo is no task for one process: it performs other commands
+abbrev pub is_demo : Line → Bool
+is_demo (line.Demo count) = true
+is_demo line = false
 
 -- the word by which a line names a pod
 abbrev pub word_of : Line → Option (List ℕ)

@@ -3,7 +3,7 @@ ghost use Rattle.std.specs.Option.{option_copied};
 ghost use Rattle.std.specs.Prelude.{◌≡◌, Some, IfOk, IfErr};
 ghost use Rattle.pod_manifest.specs.Wishes.{AreWishes};
 ghost use Rattle.rkt_words.specs.Wishes.{AsksWell, MayBeAsked};
-ghost use Rattle.rkt_cli.specs.Lines.{IsReading, known_line, line_in, wants_of};
+ghost use Rattle.rkt_cli.specs.Lines.{IsReading, IsWithin, known_line, line_in, wants_of};
 ghost use Rattle.rkt_cli.specs.Paths.{path_of};
 ghost use Rattle.rkt_cli.specs.Tasks.{word_of};
 
@@ -44,6 +44,8 @@ pub enum Line {
     /// `gc`: sweep pods; how long an exited one rests since it was marked, and a prepared one since it was made, in
     /// seconds.
     Gc(u64, u64),
+    /// `demo N`: play the demo of so many images, on a data folder of its own.
+    Demo(u32),
 }
 
 fn options_of(asked: &Asked) -> Result<Options, NoMemory>
@@ -108,18 +110,19 @@ fn known_line(alloc: Global, words: rkt_words::Line) -> Result<Line, WordsError>
         rkt_words::Line::ImageList => Ok(Line::ImageList),
         rkt_words::Line::ImageRm(key) => Ok(Line::ImageRm(key)),
         rkt_words::Line::ImageGc => Ok(Line::ImageGc),
+        rkt_words::Line::Demo(count) => Ok(Line::Demo(count)),
         rkt_words::Line::Metadata {
             address: _,
             count: _,
-        }
-        | rkt_words::Line::Demo(_) => Err(WordsError::Usage(0)),
+        } => Err(WordsError::Usage(0)),
     }
 }
 
 /// The command that the words are. `Usage` where they are none, or one that this program hasn't, with the place of the
 /// first word that can't be part of one; `NoMemory` at any words.
 pub fn read_line(alloc: Global, words: &[String]) -> Result<Line, WordsError>
-    ensures { IsReading (line_in words.now) result }
+    ensures line { IsReading (line_in words.now) result }
+    ensures few { IfOk result IsWithin }
 {
     match rkt_words::read_line(alloc, words) {
         Ok(line) => known_line(alloc, line),

@@ -12,7 +12,7 @@ ghost use Rattle.rkt_cli.specs.Commands.{uses_dir, reads_bundle, runs_apps, any_
 ghost use Rattle.rkt_cli.specs.Histories.{HandsOver, WhereKnown};
 ghost use Rattle.rkt_cli.specs.Lookups.{Acts};
 ghost use Rattle.rkt_cli.specs.Runs.{CommandRan};
-ghost use Rattle.rkt_cli.specs.Tasks.{MeansItsPod, task_of};
+ghost use Rattle.rkt_cli.specs.Tasks.{MeansItsPod, is_demo, task_of};
 
 use crate::line::Line;
 use crate::lookup::its_pod;
@@ -82,6 +82,7 @@ fn line_intent(line: &Line, now: u64, draw: &Draw) -> Option<Intent>
         Line::Run(_, _) => Some(intent_for(Kind::Run, PodPrefix::empty(), now, draw)),
         Line::Rm(word) => Some(intent_for(Kind::Rm, *word, now, draw)),
         Line::Gc(grace, expire) => Some(gc_intent(*grace, *expire, now, draw)),
+        Line::Demo(_) => None,
     }
 }
 
@@ -99,6 +100,7 @@ fn act_alone<D: Dir, B: Bundle>(
     requires ready { (D.shown dir.old).local.holdings ≡ [] }
     requires meant { MeansItsPod (task_of line.now pod) }
     requires alone { runs_apps (task_of line.now pod) ≡ false }
+    requires whole { is_demo line.now ≡ false }
     ensures local { (D.shown dir.new).local ≡ (D.shown dir.old).local }
     ensures apart { uses_dir (task_of line.now pod) ≡ false → dir.new ≡ dir.old }
     ensures unread { reads_bundle (task_of line.now pod) ≡ false → bundle.new ≡ bundle.old }
@@ -121,6 +123,7 @@ fn act_alone<D: Dir, B: Bundle>(
         Line::Rm(_) => rm(alloc, pod, now, dir),
         Line::Gc(grace, expire) => gc_pods(alloc, now, *grace, *expire, dir),
         Line::RunPrepared(_, _) | Line::Run(_, _) => unreachable!(),
+        Line::Demo(_) => unreachable!(),
     }
 }
 
@@ -149,6 +152,7 @@ fn act<D: Dir, B: Bundle, S: Spawner>(
     requires active { uses_dir (task_of line.now pod) ≡ true → IsActive (D.shown dir.old).local }
     requires ready { (D.shown dir.old).local.holdings ≡ [] }
     requires meant { MeansItsPod (task_of line.now pod) }
+    requires whole { is_demo line.now ≡ false }
     requires known { D.observed ≡ true → (intent : Intent) → intent_of (task_of line.now pod) now draw.now ≡ Some intent → Knows (D.shown dir.old) (begun intent) }
     ensures local { (D.shown dir.new).local ≡ (D.shown dir.old).local }
     ensures apart { uses_dir (task_of line.now pod) ≡ false → dir.new ≡ dir.old }
@@ -185,6 +189,7 @@ fn act_in_process<D: Dir, B: Bundle, S: Spawner>(
 ) -> Result<Told, Refusal>
     requires fresh { (D.shown dir.old).local ≡ nothing_local }
     requires uses { uses_dir (any_task line.now) ≡ true }
+    requires whole { is_demo line.now ≡ false }
     requires said { intent_in line.now now draw.now ≡ Some intent }
     ensures unread { reads_bundle (any_task line.now) ≡ false → bundle.new ≡ bundle.old }
     ensures unasked { runs_apps (any_task line.now) ≡ false → spawner.new ≡ spawner.old }
@@ -209,7 +214,8 @@ fn act_in_process<D: Dir, B: Bundle, S: Spawner>(
     }
 }
 
-/// Does what the line says, in a process of the directory where the command needs one.
+/// Does what the line says, in a process of the directory where the command needs one. The demo is none of these
+/// commands: it performs them.
 pub fn perform<D: Dir, B: Bundle, S: Spawner>(
     alloc: Global,
     line: &Line,
@@ -220,6 +226,7 @@ pub fn perform<D: Dir, B: Bundle, S: Spawner>(
     spawner: &mut S,
 ) -> Result<Told, Refusal>
     requires fresh { (D.shown dir.old).local ≡ nothing_local }
+    requires whole { is_demo line.now ≡ false }
     ensures apart { uses_dir (any_task line.now) ≡ false → dir.new ≡ dir.old }
     ensures unread { reads_bundle (any_task line.now) ≡ false → bundle.new ≡ bundle.old }
     ensures unasked { runs_apps (any_task line.now) ≡ false → spawner.new ≡ spawner.old }

@@ -11,8 +11,8 @@ ghost use Rattle.rkt_cli.specs.Lines.{line_in};
 ghost use Rattle.rkt_cli.specs.Headlines.{KeepsTheHeadline};
 ghost use Rattle.rkt_cli.specs.Promises.{IsStatus, IsOutput, IsOver, ReadsIn};
 
+use crate::command::carry_out;
 use crate::line::read_line;
-use crate::perform::perform;
 use crate::print::{print, refuse, report};
 use command_outcomes::Refusal;
 use dir_trait::{Bundle, Dir, Draw, Sink};
@@ -44,7 +44,7 @@ fn run<D: Dir, B: Bundle, S: Spawner, O: Sink, E: Sink>(
         Err(WordsError::Usage(_)) => refuse(alloc, err, &Refusal::Usage),
         Err(WordsError::NoMemory) => refuse(alloc, err, &Refusal::NoMemory),
         Ok(line) => {
-            let answer = perform(alloc, &line, now, draw, dir, bundle, spawner);
+            let answer = carry_out(alloc, &line, now, draw, dir, bundle, spawner);
             let end = print(alloc, out, answer);
             report(alloc, err, &end)
         }

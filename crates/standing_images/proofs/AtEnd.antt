@@ -1,5 +1,5 @@
 -- Up to the last own event of a stretch under the gate images stay, and what was read of a file is the file that stands then.
-use Rattle.std.proofs.Common.{◌≡◌, ◌<◌, ℕ, Bool, true, false, ◌||◌, Option, Some, None, List, [], ◌∷◌, ◌++◌, length, take, append_assoc, append-nil, refl, sym, ap, subst, ◌∙◌}
+use Rattle.std.proofs.Common.{◌≡◌, ◌<◌, ℕ, Bool, true, false, ◌||◌, Option, Some, None, List, [], ◌∷◌, ◌++◌, take, append_assoc, append-nil, refl, sym, ap, subst, ◌∙◌}
 use Rattle.std.specs.List.{AllByRecursion}
 use Rattle.ac_types.specs.declared.store_key.StoreKey.{StoreKey}
 use Rattle.dir_model.specs.declared.area.Area.TheVariants.{Images}
@@ -10,11 +10,10 @@ use Rattle.dir_model.specs.State.{folder_at}
 use Rattle.dir_model.specs.Trace.{state_after}
 use Rattle.dir_model.specs.Calls.{AtOwnStep, is_foreign}
 use Rattle.dir_model.proofs.Lists.{all_left, same_rest}
-use Rattle.dir_model.proofs.Moments.{at_within, at_grown}
 use Rattle.dir_rules.specs.declared.seen.Seen.{Seen}
 use Rattle.dir_rules.specs.Standing.{is_in}
 use Rattle.dir_trait.specs.DirCalls.{DirAt}
-use Rattle.dir_files.specs.Reads.{inner_at, bytes_in, file_at, TellsFile, IsPiece, Piece, joined, AreTold}
+use Rattle.dir_files.specs.Reads.{inner_at, bytes_in, file_at, TellsFile, IsPiece, AreTold}
 use Rattle.folder_contents.specs.Entries.{entries_in}
 use Rattle.folder_contents.specs.UnderGate.{keeps_handles, shares_images, KnowsAlong}
 use Rattle.gate_reading.specs.Gate.{HasGate, GoesOn}
@@ -26,7 +25,7 @@ use Rattle.image_reading.specs.Places.{image_inner, image_spot}
 use Rattle.image_reading.specs.Files.{ReadsFile}
 use Rattle.standing_images.proofs.LastSteps.{LastOwn}
 use Rattle.standing_images.proofs.SameFiles.{same_file}
-use Rattle.standing_images.proofs.Pieces.{ArePieces, told_grown, is_front}
+use Rattle.standing_images.proofs.Pieces.{all_told, is_front}
 
 module _ {asks : Request → Bool} {s : Seen} {old new : DirAt} (g : GoesOn asks s old new) (l : LastOwn old.process g.extends.more) where
   abbrev pub me : ℕ
@@ -115,18 +114,6 @@ module _ {asks : Request → Bool} {s : Seen} {old new : DirAt} (g : GoesOn asks
             subst P (same_file (state_after here) (state_after end) (inner_at spot path) folder there stays.0
             (ap (λ (h : List Event). entries_in folder (state_after h).entries) place ∙ sym stays.1)) told
 
-    all_told : (first x : List Event) → first ≡ old.trace ++ x → (pieces : List Piece) (last y : List Event) →
-        new.trace ≡ last ++ y → AreTold me (inner_at spot path) first pieces last → ArePieces last_file pieces
-    all_told first x begins [] last y ends told = tt
-    all_told first x begins (p ∷ earlier) last y ends told =
-        let e = told_grown me (inner_at spot path) first earlier told.earlier in
-        let m = at_grown told.told in
-        let from : told.between ≡ old.trace ++ (x ++ e.0) = e.1 ∙ (ap (λ (h : List Event). h ++ e.0) begins ∙ append_assoc old.trace x e.0) in
-        let to : new.trace ≡ told.between ++ (m.0 ++ y) = ends ∙ (ap (λ (h : List Event). h ++ y) m.1 ∙ append_assoc told.between m.0 y) in (
-          told_last (IsPiece (length (joined earlier)) p.room p.bytes) (λ none. none) (at_within (x ++ e.0) y from ends told.told),
-          all_told first x begins earlier told.between (m.0 ++ y) to told.earlier,
-        )
-
   -- what was read of a file of an image is the front of the file that stands there at the end
   pub file_front : (key : StoreKey) (name : List ℕ) (most : ℕ) (P : List ℕ → Type 0) → is_plain name ≡ true → 0 < most →
       ReadsFile (image_inner key name) most P old new →
@@ -136,5 +123,7 @@ module _ {asks : Request → Bool} {s : Seen} {old new : DirAt} (g : GoesOn asks
       let reads = w.told.reads in
       let told = subst (λ (p : ℕ). AreTold p (image_inner key name) w.first.trace reads.pieces w.last.trace) w.same reads.told in
       let f = is_front most r.bytes reads.pieces (file_at (state_after end) (image_inner key name)) some reads.whole r.few w.told.ended
-      (all_told (image_spot key) name refl plain w.first.trace w.earlier w.begins reads.pieces w.last.trace w.later w.ends told) in
+      (all_told me (image_inner key name) old.trace new.trace (file_at (state_after end) (image_inner key name))
+      (λ at room bytes step. told_last (image_spot key) name refl plain (IsPiece at room bytes) (λ none. none) step)
+      w.first.trace w.earlier w.begins reads.pieces w.last.trace w.later w.ends told) in
       (f.file, f.is, subst P f.front r.holds)

@@ -18,7 +18,7 @@ use Rattle.standing_images.proofs.Members.{contains_first, contains_more}
 key_back : (key : StoreKey) → AreBytes 32 key.bytes → key_of (id_text key.bytes) ≡ Some key
 key_back key are = ap some_key (text_read 32 key.bytes are)
 
-text_back : (name : List ℕ) (key : StoreKey) → key_of name ≡ Some key → id_text key.bytes ≡ name
+pub text_back : (name : List ℕ) (key : StoreKey) → key_of name ≡ Some key → id_text key.bytes ≡ name
 text_back name key named = by (id_read 32 name) refl named
   where
     by : (o : Option (List ℕ)) → id_read 32 name ≡ o → some_key o ≡ Some key → id_text key.bytes ≡ name

@@ -11,3 +11,8 @@ pub mod Keys
 pub mod Stores
 pub mod OneStore
 pub mod QuietStores
+pub mod AreaNames
+pub mod Shown
+pub mod Before
+pub mod OneDamage
+pub mod Damages

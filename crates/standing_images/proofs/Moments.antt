@@ -8,7 +8,7 @@ use Rattle.dir_model.specs.Listings.{has_name, item_names}
 use Rattle.dir_model.proofs.Lists.{or_last}
 use Rattle.lifecycle.proofs.Places.{name_same, same_name}
 use Rattle.folder_contents.specs.Entries.{entries_in}
-use Rattle.gate_reading.specs.Listings.{ShowsEntries}
+use Rattle.gate_reading.specs.Listings.{has_direct}
 use Rattle.image_reading.specs.Marks.{imported_moment, imported_moments, IsGreatest}
 use Rattle.standing_images.specs.Images.{HasMark}
 use Rattle.standing_images.proofs.Members.{contains_none, contains_cases}
@@ -65,13 +65,34 @@ not_later (x ∷ xs) most name moment all there is =
     by false other t None m a go = go a t
     by false other t (Some n) m a go = go a.1 t
 
+none_named : (items : List Item) (name : List ℕ) (moment : ℕ) → imported_moments items ≡ [] → has_name (item_names items) name ≡ true →
+    imported_moment name ≡ Some moment → ⊥
+none_named [] name moment none there is = cc
+none_named (x ∷ xs) name moment none there is =
+    by (bytes_eq x.name name) refl there (imported_moment x.name) refl none (λ n t. none_named xs name moment n t is)
+  where
+    by : (b : Bool) → bytes_eq x.name name ≡ b → (b || has_name (item_names xs) name) ≡ true → (o : Option ℕ) → imported_moment x.name ≡ o →
+        cons_option o (imported_moments xs) ≡ [] → (imported_moments xs ≡ [] → has_name (item_names xs) name ≡ true → ⊥) → ⊥
+    by true same t None m none go =
+        let no : None ≡ Some moment = sym m ∙ (ap imported_moment (name_same x.name name same) ∙ is) in cc
+    by true same t (Some n) m none go = cc
+    by false other t None m none go = go none t
+    by false other t (Some n) m none go = cc
+
 -- a listing of all that stands directly in a folder shows its marks
-module _ (folder : ℕ) (s : DirState) (items : List Item) (shown : ShowsEntries (entries_in folder s.entries) items) (moment : ℕ)
+module _ (folder : ℕ) (s : DirState) (items : List Item)
+    (names : (name : List ℕ) → has_name (item_names items) name ≡ has_direct (entries_in folder s.entries) name) (moment : ℕ)
     (greatest : IsGreatest (imported_moments items) moment) where
   pub has_mark : HasMark folder moment s
   has_mark =
       let n = shown_of items moment greatest.one in
-      record { name = n.name; is = n.is; there = sym (shown.names n.name) ∙ n.there }
+      record { name = n.name; is = n.is; there = sym (names n.name) ∙ n.there }
 
   pub is_newest : (other : ℕ) → HasMark folder other s → other ≤ moment
-  is_newest other m = not_later items moment m.name other greatest.most (shown.names m.name ∙ m.there) m.is
+  is_newest other m = not_later items moment m.name other greatest.most (names m.name ∙ m.there) m.is
+
+-- and where it shows none, none stands there
+pub none_shown : (folder : ℕ) (s : DirState) (items : List Item)
+    → ((name : List ℕ) → has_name (item_names items) name ≡ has_direct (entries_in folder s.entries) name) → imported_moments items ≡ [] →
+    (moment : ℕ) → HasMark folder moment s → ⊥
+none_shown folder s items names none moment m = none_named items m.name moment none (names m.name ∙ m.there) m.is

@@ -68,7 +68,7 @@ module _ (s : DirState) (a b : Stored) (x : StandsSo a s) (y : StandsSo b s) (sa
 
 -- lists of keys that rise
 
-none_below : (a b : List ℕ) → slice_cmp nat_cmp a b ≡ Less → slice_cmp nat_cmp b a ≡ Less → ⊥
+pub none_below : (a b : List ℕ) → slice_cmp nat_cmp a b ≡ Less → slice_cmp nat_cmp b a ≡ Less → ⊥
 none_below a b x y = let e : Less ≡ Greater = sym x ∙ (nat_list_cmp_total.antisymm a b ∙ ap ordering_reverse y) in cc
 
 above : (P : List ℕ → Type 0) (ks : List StoreKey) (k : StoreKey) → AllByRecursion P (map (λ (key : StoreKey). id_text key.bytes) ks) →
@@ -83,11 +83,11 @@ above P (j ∷ ks) k all there = by (contains_cases j ks k there) (λ t. above P
 abbrev Below : StoreKey → StoreKey → Type 0
 Below k j = slice_cmp nat_cmp (id_text k.bytes) (id_text j.bytes) ≡ Less
 
-later_above : (k : StoreKey) (ks : List StoreKey) (j : StoreKey) → KeysRise (k ∷ ks) → Contains ks j → Below k j
+pub later_above : (k : StoreKey) (ks : List StoreKey) (j : StoreKey) → KeysRise (k ∷ ks) → Contains ks j → Below k j
 unfolding IsStrictlySortedBy
 later_above k ks j rise there = above (λ (t : List ℕ). slice_cmp nat_cmp (id_text k.bytes) t ≡ Less) ks j rise.0 there
 
-rest_rise : (k : StoreKey) (ks : List StoreKey) → KeysRise (k ∷ ks) → KeysRise ks
+pub rest_rise : (k : StoreKey) (ks : List StoreKey) → KeysRise (k ∷ ks) → KeysRise ks
 unfolding IsStrictlySortedBy
 rest_rise k ks rise = rise.1
 

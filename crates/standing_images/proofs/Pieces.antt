@@ -2,8 +2,9 @@
 use Rattle.std.proofs.Common.{arith, ◌≡◌, ◌⊎◌, inl, inr, ◌<◌, ◌≤◌, ℕ, Option, Some, None, List, [], ◌∷◌, ◌++◌, length, take, append_assoc, append-nil, refl, sym, ap, subst, ◌∙◌}
 use Rattle.dir_model.specs.declared.event.Event.{Event}
 use Rattle.dir_model.specs.declared.item.Inner.{Inner}
-use Rattle.dir_model.proofs.Moments.{at_grown}
-use Rattle.dir_files.specs.Reads.{IsPiece, Piece, joined, AreTold, IsShort}
+use Rattle.dir_model.specs.Calls.{AtOwnStep}
+use Rattle.dir_model.proofs.Moments.{at_grown, at_within}
+use Rattle.dir_files.specs.Reads.{TellsFile, IsPiece, Piece, joined, AreTold, IsShort}
 use Rattle.standing_images.proofs.Fronts.{taken_past, next_first, short_whole}
 
 -- each is a piece of this file, where the earlier ones end
@@ -49,3 +50,18 @@ is_front most bytes [] found some whole few (inr short) are = absurd short
 is_front most bytes (p ∷ earlier) None some whole few ended are = absurd are.0
 is_front most bytes (p ∷ earlier) (Some file) some whole few ended are =
     record { file = file; is = refl; front = front_of most bytes (p ∷ earlier) file whole few ended are }
+
+-- what own steps told of pieces, each of one file
+pub all_told : (me : ℕ) (inner : Inner) (old new : List Event) (found : Option (List ℕ)) →
+    ((at room : ℕ) (bytes : List ℕ) → AtOwnStep me old new (TellsFile inner (IsPiece at room bytes)) → IsPiece at room bytes found) →
+    (first x : List Event) → first ≡ old ++ x → (pieces : List Piece) (last y : List Event) → new ≡ last ++ y →
+    AreTold me inner first pieces last → ArePieces found pieces
+all_told me inner old new found tell first x begins [] last y ends told = tt
+all_told me inner old new found tell first x begins (p ∷ earlier) last y ends told =
+    let e = told_grown me inner first earlier told.earlier in
+    let m = at_grown told.told in
+    let from : told.between ≡ old ++ (x ++ e.0) = e.1 ∙ (ap (λ (h : List Event). h ++ e.0) begins ∙ append_assoc old x e.0) in
+    let to : new ≡ told.between ++ (m.0 ++ y) = ends ∙ (ap (λ (h : List Event). h ++ y) m.1 ∙ append_assoc told.between m.0 y) in (
+      tell (length (joined earlier)) p.room p.bytes (at_within (x ++ e.0) y from ends told.told),
+      all_told me inner old new found tell first x begins earlier told.between (m.0 ++ y) to told.earlier,
+    )

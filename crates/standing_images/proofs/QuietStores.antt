@@ -24,7 +24,7 @@ use Rattle.gate_reading.specs.Listings.{has_direct}
 use Rattle.image_reading.specs.Looks.{reads_images}
 use Rattle.image_reading.specs.Places.{image_spot, image_inner, manifest_name, id_name}
 use Rattle.image_reading.specs.Store.{keys}
-use Rattle.standing_images.specs.Images.{HasFile, HasMark, StandsSo, StandTogether, AreAll, AreStore, StoodTogether}
+use Rattle.standing_images.specs.Images.{HasFile, HasMark, StandsSo, StandTogether, AreAll, AreStore, StoodTogether, SameImages, ImagesStay}
 use Rattle.standing_images.specs.Laws.{leaves_store}
 
 -- the same folders stand, and hold the same
@@ -108,6 +108,23 @@ module _ (asks : Request → Bool) (leaves : (request : Request) → asks reques
       ap (λ (h : List Event). state_after (h ++ at.step ∷ [])) at.begins
       ∙ (ap state_after (append_assoc old at.later (at.step ∷ [])) ∙ states_next-append empty_state old es) in
       back (state_after old) (states_next (state_after old) es) (same_along (state_after old) es own asked) (subst P here at.holds)
+
+  -- so the images stay as they are
+  pub images_stay : {old new : List Event} → Extends asks me old new → Quiet me old new → ImagesStay old new
+  images_stay {old} {new} e quiet more rest is =
+      let whole : new ≡ old ++ (more ++ rest) = is ∙ append_assoc old more rest in
+      let own : AllByRecursion (λ e. e.process ≡ me) more =
+      all_left (λ e. e.process ≡ me) more rest
+      (subst (λ (l : List Event). AllByRecursion (λ e. e.process ≡ me) l) (same_rest old quiet.more (more ++ rest) (sym quiet.grown ∙ whole)) quiet.own) in
+      let asked : AllByRecursion (λ e. (is_foreign me e || asks e.request) ≡ true) more =
+      all_left (λ e. (is_foreign me e || asks e.request) ≡ true) more rest
+      (subst (λ (l : List Event). AllByRecursion (λ e. (is_foreign me e || asks e.request) ≡ true) l)
+      (same_rest old e.more (more ++ rest) (sym e.grown ∙ whole)) e.asked) in
+      let same = same_along (state_after old) more own asked in
+      subst (λ (t : DirState). SameImages (state_after old) t) (sym (states_next-append empty_state old more)) (record {
+        places = λ spot is. ap (λ (places : List (Option Spot)). position (is_at spot) places) same.folders;
+        trees = λ spot folder is there. ap (entries_in folder) same.entries;
+      })
 
 -- what stands so in one state does in each with that store
 module _ (s t : DirState) (same : SameStore s t) where

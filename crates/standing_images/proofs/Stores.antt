@@ -56,7 +56,7 @@ too_long : (bytes : List ℕ) → nat_le (length bytes) 1048576 ≡ false → im
 unfolding image_manifest document
 too_long bytes long = rw long
 
-manifest_so : (bytes : List ℕ) → image_manifest (take 1048577 bytes) ≡ image_manifest bytes
+pub manifest_so : (bytes : List ℕ) → image_manifest (take 1048577 bytes) ≡ image_manifest bytes
 manifest_so bytes = by (nat_le (length bytes) 1048576) refl
   where
     by : (short : Bool) → nat_le (length bytes) 1048576 ≡ short → image_manifest (take 1048577 bytes) ≡ image_manifest bytes
@@ -86,8 +86,8 @@ module _ {asks : Request → Bool} {s : Seen} {old new : DirAt} (g : GoesOn asks
         here = i.1;
         manifest = manifest_stands image.key image.manifest r.manifest;
         id = id_stands image.key image.id r.id;
-        mark = has_mark i.0 (state_after (end g l)) r.moment.items i.2 image.moment r.moment.holds;
-        newest = is_newest i.0 (state_after (end g l)) r.moment.items i.2 image.moment r.moment.holds;
+        mark = has_mark i.0 (state_after (end g l)) r.moment.items i.2.names image.moment r.moment.holds;
+        newest = is_newest i.0 (state_after (end g l)) r.moment.items i.2.names image.moment r.moment.holds;
       }
 
   module _ (images : List Stored) (r : ReadsStore images old new) where

@@ -11,7 +11,10 @@ use Rattle.dir_model.specs.declared.area.Area.TheVariants.{Images}
 use Rattle.dir_model.specs.declared.event.Event.{Event}
 use Rattle.dir_model.specs.declared.request.Request.TheVariants.{ListArea}
 use Rattle.dir_model.specs.declared.request.Reply.TheVariants.{Begun}
+use Rattle.dir_model.specs.declared.spot.Spot.{Spot}
 use Rattle.dir_model.specs.State.{DirState, folder_at}
+use Rattle.dir_model.specs.Trace.{state_after}
+use Rattle.dir_rules.specs.Standing.{is_in}
 use Rattle.dir_model.specs.Calls.{AtOwnStep, event}
 use Rattle.dir_files.specs.Reads.{file_at}
 use Rattle.folder_contents.specs.Entries.{entries_in}
@@ -70,3 +73,14 @@ pub record AreStore (images : List Stored) (s : DirState) : Type 0 where
   pub together : StandTogether images s
   pub all : AreAll (keys images) s
   pub rise : KeysRise (keys images)
+
+-- the images are as they were: the same folders stand, and hold the same
+pub record SameImages (old new : DirState) : Type 0 where
+  pub places : (spot : Spot) → is_in Images spot.area ≡ true → folder_at new.namespace spot ≡ folder_at old.namespace spot
+  pub trees :
+      (spot : Spot) (folder : ℕ) → is_in Images spot.area ≡ true → folder_at old.namespace spot ≡ Some folder →
+      entries_in folder new.entries ≡ entries_in folder old.entries
+
+-- they are so at each moment between these two
+abbrev pub ImagesStay : List Event → List Event → Type 0
+ImagesStay old new = (more rest : List Event) → new ≡ (old ++ more) ++ rest → SameImages (state_after old) (state_after (old ++ more))

@@ -1,5 +1,5 @@
 -- The laws of images that stand together.
-use Rattle.std.specs.Prelude.{◌≡◌, Bool, true, false, not, ◌&&◌, List, map}
+use Rattle.std.specs.Prelude.{◌≡◌, ℕ, Bool, true, false, not, ◌&&◌, List, map}
 use Rattle.dep_match.specs.declared.stored.Stored.{Stored}
 use Rattle.dep_match.specs.Copies.{stored_data}
 use Rattle.dir_model.specs.declared.event.Event.{Event}
@@ -11,8 +11,10 @@ use Rattle.dir_rules.specs.declared.seen.Seen.{Seen}
 use Rattle.dir_trait.specs.DirCalls.{DirAt}
 use Rattle.gate_reading.specs.Gate.{GoesOn}
 use Rattle.image_reading.specs.Looks.{reads_images}
-use Rattle.image_reading.specs.Store.{ReadsStore}
-use Rattle.standing_images.specs.Images.{AreStore, StoodTogether}
+use Rattle.image_reading.specs.declared.error.StoreError.TheVariants.{Damaged}
+use Rattle.image_reading.specs.Store.{ReadsStore, LacksListed}
+use Rattle.standing_images.specs.Damage.{IsFirstDamage}
+use Rattle.standing_images.specs.Images.{AreStore, StoodTogether, ImagesStay}
 
 -- while a process has the gate, and asks for reads and listings of images alone, what it reads of the store stood there together
 abbrev pub StoresStand : List Event → Type 0
@@ -30,6 +32,26 @@ QuietStores trace =
 abbrev pub OneStore : List Event → Type 0
 OneStore trace =
     (xs ys : List Stored) → AreStore xs (state_after trace) → AreStore ys (state_after trace) → map stored_data xs ≡ map stored_data ys
+
+-- while the images stay as they are, the store that is read is that of the state before
+abbrev pub StoresBefore : List Event → Type 0
+StoresBefore trace =
+    (old new : DirAt) (images : List Stored) → new.trace ≡ trace → ImagesStay old.trace new.trace → ReadsStore images old new →
+    AreStore images (state_after old.trace)
+
+-- and so is the first damage
+abbrev pub DamagesBefore : List Event → Type 0
+DamagesBefore trace =
+    (old new : DirAt) (path : List ℕ) → new.trace ≡ trace → ImagesStay old.trace new.trace → LacksListed (Damaged path) old new →
+    IsFirstDamage path (state_after old.trace)
+
+-- after a trace one path is of the first damage
+abbrev pub OneDamage : List Event → Type 0
+OneDamage trace = (p q : List ℕ) → IsFirstDamage p (state_after trace) → IsFirstDamage q (state_after trace) → p ≡ q
+
+-- and where there is one, no list of images is the store
+abbrev pub DamagedIsNone : List Event → Type 0
+DamagedIsNone trace = (path : List ℕ) (images : List Stored) → IsFirstDamage path (state_after trace) → AreStore images (state_after trace) → ⊥
 
 abbrev pub is_append : Request → Bool
 is_append (AppendIn inner piece) = true

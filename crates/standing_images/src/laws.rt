@@ -1,5 +1,5 @@
 // The laws of images that stand together, each the contract of a function.
-ghost use Rattle.standing_images.specs.Laws.{StoresStand, QuietStores, OneStore};
+ghost use Rattle.standing_images.specs.Laws.{StoresStand, QuietStores, OneStore, StoresBefore, DamagesBefore, OneDamage, DamagedIsNone};
 
 use dir_model::History;
 
@@ -18,6 +18,25 @@ pub fn images(history: &History)
 /// what their manifests show.
 pub fn one_store(history: &History)
     ensures { OneStore history.now.items }
+{
+    let _events = history.as_slice();
+}
+
+/// While the images stay as they are, what a process reads of the store is so of the state before: the store
+/// itself, or the first part that isn't whole of those that it read.
+pub fn unchanged(history: &History)
+    ensures store { StoresBefore history.now.items }
+    ensures damage { DamagesBefore history.now.items }
+{
+    let _events = history.as_slice();
+}
+
+/// After a trace one path is that of the first damage: of the first image that isn't whole, in the byte order of
+/// the keys' texts, the first of its manifest, its ID and its mark that is missing or has no reading. Where there
+/// is one, no list of images is the store.
+pub fn one_damage(history: &History)
+    ensures one { OneDamage history.now.items }
+    ensures none { DamagedIsNone history.now.items }
 {
     let _events = history.as_slice();
 }

@@ -3,4 +3,4 @@
 
 mod laws;
 
-pub use laws::{images, one_store};
+pub use laws::{images, one_damage, one_store, unchanged};

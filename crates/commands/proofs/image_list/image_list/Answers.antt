@@ -1,5 +1,6 @@
 use Rattle.std.proofs.Common.{Err, subst, sym, ap, refl, ◌∙◌}
 use Rattle.dir_model.proofs.Chains.{extends_wider}
+use Rattle.dir_model.proofs.Moments.{at_before}
 use Rattle.area_locks.proofs.Locking.{locked_active}
 use Rattle.dir_model.specs.declared.area.Area.TheVariants.{Images}
 use Rattle.dir_model.specs.declared.spot.Mode.TheVariants.{Shared}
@@ -62,6 +63,8 @@ returns-in-Ok-clause-says g c =
     (list_part (D.shown c.args.dir.now) (D.shown c.lock_area.new.dir) (D.shown c.stored-found.new.dir) (D.shown c.unlock_area.new.dir) c.in-Ok.gate
     (c.lock_area.ensures.extends t) c.lock_area.ensures.same (c.stored-found.ensures.only.extends t) c.stored-found.ensures.only.same (c.unlock_area.ensures.extends t))
     (c.in-Ok.ensures.taken t s (record { tied = k.tied; handles = k.handles }) (record { free = free; kind = refl })) (c.stored-found.ensures.only.extends t) conforming images (read t))
+    (λ t. at_before (at_before (c.in-Ok.ensures.free t) c.lock_area.ensures.same (c.stored-found.ensures.only.extends t))
+    (c.stored-found.ensures.only.same ∙ c.lock_area.ensures.same) (c.unlock_area.ensures.extends t))
 
 pub returns-in-Err-clause-cause : goal.returns-in-Err-clause-cause
 returns-in-Err-clause-cause g c is = c.lock_area.ensures.cause (c.in-Err.is ∙ ap Err (lock_cause c.in-Err.error c.lock_refusal.result c.lock_refusal.ensures cc))

@@ -1,21 +1,20 @@
-use Rattle.std.proofs.Common.{arith, rules, ◌≡◌, ◌∙◌, inl, inr, Ok, Err, [], ◌∷◌, ◌++◌, List, refl, sym, ap, subst, length-append, append-nil}
+use Rattle.std.proofs.Common.{arith, rules, ◌≡◌, ◌∙◌, inl, inr, Ok, Err, [], ◌∷◌, ◌++◌, refl, sym, ap, subst, length-append}
+use Rattle.dir_trait.specs.DirCalls.{DirAt}
 use Rattle.metadata.specs.declared.error.MetaError.TheVariants.{LinkFault, DirFault}
 use Rattle.pod_report.proofs.Asking.{asks_none, asks_more}
 use Rattle.metadata.specs.Service.{Served, first_of, ServesThese}
-use Rattle.metadata.proofs.Connections.{serves_none, serves_more, fault_more, first_cause}
+use Rattle.metadata.proofs.Connections.{serves_then, none_current, fault_more, first_cause}
 use Rattle.metadata.proofs.service.serve_many.Goals as goal
 
 pub connections-init : goal.connections-init
 connections-init g c =
-    let D = g.D.Dir in
-    let L = g.L.Listener in
     record {
       few = omega arith;
       kept = omega arith;
       only = asks_none;
       link_cause = λ is. let e : Ok tt ≡ Err LinkFault = is in cc;
       dir_cause = λ is. let e : Ok tt ≡ Err DirFault = is in cc;
-      serves = λ l d none. ([], refl, refl, serves_none c.args.key.now (L.shown c.args.link.now) (L.shown c.args.link.now) (D.shown c.args.dir.now) (D.shown c.args.dir.now) refl refl none);
+      serves = λ l d none. ([], refl, refl, (refl, refl));
     }
 
 pub connections-preserved : goal.connections-preserved
@@ -33,11 +32,12 @@ connections-preserved g c =
       dir_cause = λ is. first_cause c.connections.first served DirFault (D.shown c.args.dir.now).faults (D.shown c.connections.dir).faults (D.shown c.serve_next.new.dir).faults i.dir_cause c.in-Ok.ensures.dir_cause i.only.faults e.only.faults (sym c.first_of-first.ensures ∙ is);
       serves = λ l d none.
           let s = i.serves l d none in
-          let long = length-append s.0 (served ∷ []) in (
+          let long = length-append s.0 (served ∷ []) in
+          let here = none_current c.args.key.now s.0 (L.shown c.args.link.now) (L.shown c.connections.link) (D.shown c.args.dir.now) (D.shown c.connections.dir) s.3 none in (
             s.0 ++ served ∷ [],
             omega (arith, long, s.1),
             c.first_of-first.ensures ∙ (ap (λ (f : Served). first_of f served) s.2 ∙ sym (fault_more s.0 served)),
-            serves_more d c.args.key.now s.0 (served ∷ []) (L.shown c.args.link.now) (L.shown c.connections.link) (L.shown c.serve_next.new.link) (D.shown c.args.dir.now) (D.shown c.connections.dir) (D.shown c.serve_next.new.dir) i.only e.only s.3 (c.in-Ok.ensures.serves l d s.3.current),
+            serves_then c.args.key.now s.0 served (L.shown c.args.link.now) (L.shown c.connections.link) (L.shown c.serve_next.new.link) (D.shown c.args.dir.now) (D.shown c.connections.dir) (D.shown c.serve_next.new.dir) s.3 (c.in-Ok.ensures.serves l d here),
           );
     }
 
@@ -48,19 +48,18 @@ pub returns-in-Err-clause-serves : goal.returns-in-Err-clause-serves
 returns-in-Err-clause-serves g c l d none =
     let D = g.D.Dir in
     let L = g.L.Listener in
-    let i = c.connections.invariant in
-    let e = c.serve_next.ensures in
-    let s = i.serves l d none in
-    let these = serves_more d c.args.key.now s.0 [] (L.shown c.args.link.now) (L.shown c.connections.link) (L.shown c.serve_next.new.link) (D.shown c.args.dir.now) (D.shown c.connections.dir) (D.shown c.serve_next.new.dir) i.only e.only s.3 (c.in-Err.ensures.serves l d s.3.current) in
-    let few = i.few in
+    let s = c.connections.invariant.serves l d none in
+    let here = none_current c.args.key.now s.0 (L.shown c.args.link.now) (L.shown c.connections.link) (D.shown c.args.dir.now) (D.shown c.connections.dir) s.3 none in
+    let refused = c.in-Err.ensures.serves l d here in
     record {
       results = s.0;
-      these = subst (λ (rs : List Served). ServesThese c.args.key.now rs (L.shown c.args.link.now) (L.shown c.serve_next.new.link) (D.shown c.args.dir.now) (D.shown c.serve_next.new.dir)) (append-nil s.0) these;
-      ends = inr (omega (arith, s.1, few), c.in-Err.ensures.refused);
+      last = L.shown c.connections.link;
+      these = subst (λ (at : DirAt). ServesThese c.args.key.now s.0 (L.shown c.args.link.now) (L.shown c.connections.link) (D.shown c.args.dir.now) at) (sym refused.1) s.3;
+      ends = inr (search rules, refused.0);
     }
 
 pub returns-clause-serves : goal.returns-clause-serves
 returns-clause-serves g c l d none =
-    let i = c.connections.invariant in
-    let s = i.serves l d none in
-    record { results = s.0; these = s.3; ends = inl (search rules, s.2) }
+    let L = g.L.Listener in
+    let s = c.connections.invariant.serves l d none in
+    record { results = s.0; last = L.shown c.connections.link; these = s.3; ends = inl (search rules, s.2, refl) }

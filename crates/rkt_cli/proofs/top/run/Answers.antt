@@ -11,13 +11,13 @@ use Rattle.rkt_cli.proofs.top.run.Goals as goal
 pub returns-in-Ok-clause-ran : goal.returns-in-Ok-clause-ran
 returns-in-Ok-clause-ran g c =
     subst (λ (l : Option Line). RunBetween g.D.Dir g.B.Bundle g.S.Spawner g.O.Sink g.E.Sink l c.args.now c.args.draw.now c.report.result
-    (c.args.dir.now, c.args.bundle.now, c.args.spawner.now, c.args.out.now, c.args.err.now) (c.perform-answer.new.dir, c.perform-answer.new.bundle, c.perform-answer.new.spawner, c.print-end.new.out, c.report.new.err)) (sym c.in-Ok.ensures)
-    (acted c.in-Ok.line c.args.now c.args.draw.now _ _ c.perform-answer.result c.print-end.result c.report.result c.report.ensures.status c.print-end.ensures.well
-    c.perform-answer.ensures.acts c.print-end.ensures.printed (kept_seen c.perform-answer.result (sink_at g.O.Sink) c.args.out.now c.print-end.new.out c.print-end.ensures.unwritten) c.report.ensures.said)
+    (c.args.dir.now, c.args.bundle.now, c.args.spawner.now, c.args.out.now, c.args.err.now) (c.carry_out-answer.new.dir, c.carry_out-answer.new.bundle, c.carry_out-answer.new.spawner, c.print-end.new.out, c.report.new.err)) (sym c.in-Ok.ensures.line)
+    (acted c.in-Ok.line c.args.now c.args.draw.now _ _ c.carry_out-answer.result c.print-end.result c.report.result c.report.ensures.status c.print-end.ensures.well
+    c.carry_out-answer.ensures.acts c.print-end.ensures.printed (kept_seen c.carry_out-answer.result (sink_at g.O.Sink) c.args.out.now c.print-end.new.out c.print-end.ensures.unwritten) c.report.ensures.said)
 
 pub returns-in-Err-Usage-clause-ran : goal.returns-in-Err-Usage-clause-ran
 returns-in-Err-Usage-clause-ran g c = not_read c.args.now c.args.draw.now _ _ _ (line_in c.args.words.now) (inl (record { is = c.refuse.ensures.status; outside = refl; spawner = refl; out = refl; reported = c.refuse.ensures.said }))
-    (subst (λ (e : WordsError). IsReading (line_in c.args.words.now) (Err e)) c.in-Err-Usage.field-0-is c.in-Err-Usage.ensures)
+    (subst (λ (e : WordsError). IsReading (line_in c.args.words.now) (Err e)) c.in-Err-Usage.field-0-is c.in-Err-Usage.ensures.line)
 
 pub returns-in-Err-NoMemory-clause-ran : goal.returns-in-Err-NoMemory-clause-ran
 returns-in-Err-NoMemory-clause-ran g c =

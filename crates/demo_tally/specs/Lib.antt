@@ -1,0 +1,2 @@
+pub mod TreeFiles
+pub mod Tallies

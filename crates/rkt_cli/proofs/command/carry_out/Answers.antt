@@ -1,0 +1,11 @@
+use Rattle.std.proofs.Common.{refl}
+use Rattle.command_outcomes.specs.Moments.{outside_at}
+use Rattle.rkt_cli.proofs.DemoRan.{demo_acts}
+use Rattle.rkt_cli.proofs.Makers.{apart_hands}
+use Rattle.rkt_cli.proofs.command.carry_out.Goals as goal
+
+pub returns-in-Demo-clause-makers : goal.returns-in-Demo-clause-makers
+returns-in-Demo-clause-makers g c t = apart_hands (g.D.Dir.shown c.args.dir.now) (g.D.Dir.shown c.args.dir.now) refl
+
+pub returns-in-Demo-clause-acts : goal.returns-in-Demo-clause-acts
+returns-in-Demo-clause-acts g c = demo_acts c.args.line.now c.in-Demo.count c.args.now c.args.draw.now _ _ c.played.result c.in-Demo.is c.played.ensures.ends c.played.ensures.well
