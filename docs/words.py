@@ -4,6 +4,7 @@
     python3 docs/words.py [FOLDER]
 
 the texts of --help, the marked parts of the man page, the completions, and the list of commands in README.md."""
+import itertools
 import os
 import re
 import sys
@@ -59,7 +60,7 @@ class Table:
         kind, _, rest = line.partition(" ")
         if kind in BEGIN_ROW:
             self.rows.append(Row(kind, rest))
-        elif kind in ("brief", "does", "options", "words", "areas", "exits", "more", "default"):
+        elif kind in ("says", "brief", "does", "options", "words", "areas", "exits", "more", "default"):
             self.rows[-1].said[kind] = rest
         else:
             sys.exit(f"docs/words.table: line {number}: no such word: {kind}")
@@ -80,10 +81,9 @@ class Table:
     def option_value(self, option):
         return self.options[option].rest
 
-    def plain_value(self, command):
-        """The value that stands for the plain words of a command."""
-        words = command.words_of("words")
-        return self.values[words[0].rstrip(".")] if words else None
+    def plain_values(self, command):
+        """The values that stand for the plain words of a command."""
+        return [self.values[word.rstrip(".")] for word in command.words_of("words")]
 
 
 # ---- synopses
@@ -127,9 +127,8 @@ def option_text(option):
 
 def value_rows(table, command):
     """The words of a command, its options, and the values of these."""
-    plain = table.plain_value(command)
     options = [table.options[o] for o in command.words_of("options")]
-    rows = [(plain.name, plain.text)] if plain else []
+    rows = [(plain.name, plain.text) for plain in table.plain_values(command)]
     rows += [(f"--{o.name}={o.rest}", option_text(o)) for o in options]
     names = dict.fromkeys(o.rest for o in options)
     return rows + [(name, table.values[name].text) for name in names]
@@ -192,7 +191,7 @@ def checked(name, lines, most):
 
 def helps(table):
     """The texts, by the words in front of --help."""
-    texts = {"": checked("rkt", main_help(table), 36), "image": checked("image", help_of_image(table), LINES)}
+    texts = {"": checked("rkt", main_help(table), 37), "image": checked("image", help_of_image(table), LINES)}
     for command in table.commands:
         texts[command.name] = checked(command.name, help_of(table, command), LINES)
     return texts
@@ -282,15 +281,26 @@ def man_values(table):
     return "".join(tagged(rf"\fI{v.name}\fR", " ".join([sentence(v.text)] + v.texts[1:])) for v in table.values.values())
 
 
+def roff_message(message):
+    """A message: values in italics, all else in bold."""
+    runs = itertools.groupby(message.split(), lambda word: "I" if word.isupper() else "B")
+    return " ".join(rf"\f{font}{roff(' '.join(words))}\fR" for font, words in runs)
+
+
 def man_exits(table):
-    """Each status with its text, behind its name where it has one name that the text doesn't begin with."""
-    named = {row.name: "" if row.name == "0" or "," in row.rest else sentence(row.rest) + " " for row in table.of("exit")}
-    return "".join(tagged(rf"\fB{row.name}\fR", named[row.name] + row.text) for row in table.of("exit"))
+    """Each status with its messages and its text."""
+    parts = []
+    for row in table.of("exit"):
+        messages = [roff_message(m) for m in row.said.get("says", "").split("|") if m.strip()]
+        said = ";\n".join(messages) + "\n.br\n" if messages else ""
+        parts.append(f".TP\n\\fB{row.name}\\fR\n{said}{roff(row.text)}\n")
+    return "".join(parts)
 
 
 def man_parts(table):
     """The marked parts of the man page, by their marks."""
-    parts = {"synopsis": man_synopsis(table), "options": man_options(table), "values": man_values(table), "exits": man_exits(table)}
+    title = f'.TH RKT 1 "2026-11-30" "rkt {table.alone("version")}" "User Commands"\n'
+    parts = {"title": title, "synopsis": man_synopsis(table), "options": man_options(table), "values": man_values(table), "exits": man_exits(table)}
     for command in table.commands:
         parts[f"command {command.name}"] = man_command(table, command)
         parts[f"statuses {command.name}"] = man_statuses(table, command)
@@ -419,8 +429,8 @@ _rkt "$@"
 
 
 def bash_completer(table, command):
-    plain = table.plain_value(command)
-    kind = plain.rest if plain else "nothing"
+    plain = table.plain_values(command)
+    kind = plain[0].rest if plain else "nothing"
     return {"folders": '_rkt_files -d "$current"', "files": '_rkt_files -f "$current"',
             "pods": f"words=$(_rkt_pods {command.said.get('areas', '')})", "images": 'words=$(_rkt_images "$program")',
             "keys": 'words=$(_rkt_keys)', "nothing": ":"}[kind]
@@ -452,13 +462,12 @@ def zsh_text(text):
 
 
 def zsh_case(table, command):
-    plain = table.plain_value(command)
     rules = [f"'--{o}=[{zsh_text(table.options[o].text)}]:{table.option_value(o)}: '" for o in command.words_of("options")]
     rules.append("'--help[tells its words, options and statuses]'")
-    if plain:
+    for number, plain in enumerate(table.plain_values(command), 1):
         completer = {"folders": "_files -/", "files": "_files", "pods": f" _rkt_pods {command.said.get('areas', '')}",
                      "images": " _rkt_images", "keys": " _rkt_keys", "nothing": " "}[plain.rest]
-        place = "*" if command.said["words"].endswith("...") else "1"
+        place = "*" if command.said["words"].endswith("...") else number
         rules.append(f"'{place}:{plain.name}:{completer}'")
     return f"    ('{command.name}') _arguments {' '.join(rules)} ;;"
 

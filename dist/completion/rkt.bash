@@ -27,7 +27,7 @@ _rkt() {
     case $current$before in *=) return ;; esac
     case $before in --volume | --mount | --metadata | --grace-period | --expire-prepared) return ;; esac
     case $command in
-    '') words='image prepare run-prepared run list status cat-manifest rm gc validate demo help'; options='--help --version' ;;
+    '') words='image prepare run-prepared run list status cat-manifest rm gc metadata-service validate demo help'; options='--help --version' ;;
     image) words='import list rm gc'; options=--help ;;
     'image import') options='--help'; case $current in -*) ;; *) _rkt_files -d "$current"; return ;; esac ;;
     'image list') options='--help' ;;
@@ -41,6 +41,7 @@ _rkt() {
     'cat-manifest') options='--help'; words=$(_rkt_pods prepare prepared run exited-garbage garbage) ;;
     'rm') options='--help'; words=$(_rkt_pods prepare prepared run exited-garbage garbage) ;;
     'gc') options='--grace-period= --expire-prepared= --help' ;;
+    'metadata-service') options='--help' ;;
     'validate') options='--help'; case $current in -*) ;; *) _rkt_files -f "$current"; return ;; esac ;;
     'demo') options='--help' ;;
     esac

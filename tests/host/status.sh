@@ -166,7 +166,7 @@ for word in --help --version; do
     in_folder "$tmp/alone" "$rkt" $word >/dev/null
     same "$word makes nothing" '' "$(ls -A "$tmp/alone")"
 done
-same '--version: the text' 'rkt 0.1.0' "$(cat "$tmp/out--version")"
+same '--version: the text' 'rkt 0.2.0' "$(cat "$tmp/out--version")"
 
 # Where the data folder is.
 mkdir "$tmp/here"

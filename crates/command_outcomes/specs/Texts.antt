@@ -11,7 +11,7 @@ use Rattle.dir_model.specs.declared.spot.Which.TheVariants.{Own, Claim}
 use Rattle.dir_model.specs.Pods.{pod_text}
 use Rattle.dir_model.specs.Areas.{phase_text}
 use Rattle.command_outcomes.specs.declared.refusal.Refusal.{Refusal}
-use Rattle.command_outcomes.specs.declared.refusal.Refusal.TheVariants.{Usage, NoPod, Ambiguous, Busy, BadManifest, NoImage, NoDependency, Cycle, Limit, DirFault, BundleFault, OutFault, NoMemory, NoFile, Conflict, Damaged, BadKind, Taken, WrongPhase, PodBusy, NoManifest, NoProgram, SpawnFault, Stray}
+use Rattle.command_outcomes.specs.declared.refusal.Refusal.TheVariants.{Usage, NoPod, Ambiguous, Busy, BadManifest, NoImage, NoDependency, Cycle, Limit, DirFault, BundleFault, OutFault, NoMemory, NoFile, Conflict, Damaged, BadKind, Taken, WrongPhase, PodBusy, NoManifest, NoProgram, SpawnFault, LinkFault, Stray}
 
 -- the exit status of a refusal
 abbrev pub status_of : Refusal → ℕ
@@ -30,6 +30,7 @@ status_of DirFault = 9
 status_of BundleFault = 10
 status_of SpawnFault = 11
 status_of OutFault = 12
+status_of LinkFault = 13
 status_of NoMemory = 14
 status_of (NoFile path) = 15
 status_of (Conflict key stored new) = 15
@@ -85,6 +86,7 @@ message DirFault = codes "rkt: directory fault\n"
 message BundleFault = codes "rkt: bundle fault\n"
 message SpawnFault = codes "rkt: spawner fault\n"
 message OutFault = codes "rkt: output fault\n"
+message LinkFault = codes "rkt: link fault\n"
 message NoMemory = codes "rkt: out of memory\n"
 message (NoFile path) = named_line (codes "rkt: no file: ") (shown path)
 message (Conflict key stored new) = (((((codes "rkt: conflict: " ++ key) ++ codes " ") ++ stored) ++ codes " ") ++ new) ++ codes "\n"

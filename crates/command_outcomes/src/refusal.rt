@@ -58,6 +58,8 @@ pub enum Refusal {
     NoProgram(Text, Text),
     /// The spawner failed.
     SpawnFault,
+    /// The listener failed.
+    LinkFault,
     /// The directory answered as if what is this process's own weren't.
     Stray,
 }
@@ -83,6 +85,7 @@ impl Refusal {
             Refusal::BundleFault => 10,
             Refusal::SpawnFault => 11,
             Refusal::OutFault => 12,
+            Refusal::LinkFault => 13,
             Refusal::NoMemory => 14,
             Refusal::NoFile(_) => 15,
             Refusal::Conflict(_, _, _) => 15,
@@ -108,6 +111,7 @@ impl Refusal {
             Refusal::BundleFault => Some("rkt: bundle fault\n"),
             Refusal::SpawnFault => Some("rkt: spawner fault\n"),
             Refusal::OutFault => Some("rkt: output fault\n"),
+            Refusal::LinkFault => Some("rkt: link fault\n"),
             Refusal::NoMemory => Some("rkt: out of memory\n"),
             Refusal::Stray => Some("rkt: stray reply\n"),
             Refusal::Ambiguous(_, _)

@@ -72,6 +72,7 @@ pub mod RmTable
 pub mod RunRefused
 pub mod SameReads
 pub mod Sayings
+pub mod ServiceOutcomes
 pub mod Starts
 pub mod StoreQuiet
 pub mod StoreStanding

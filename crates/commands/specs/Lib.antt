@@ -18,6 +18,8 @@ pub mod ImageRm
 pub mod ImageRmCommand
 pub mod Kept
 pub mod ListCommand
+pub mod MetadataCommand
+pub mod MetadataService
 pub mod NextState
 pub mod Opening
 pub mod Phases

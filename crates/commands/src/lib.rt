@@ -9,6 +9,7 @@ pub mod image_import;
 pub mod image_list;
 pub mod image_rm;
 pub mod list;
+pub mod metadata_service;
 pub mod prepare;
 mod prepare_refusals;
 pub mod rm;

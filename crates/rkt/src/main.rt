@@ -12,6 +12,7 @@ use crate::help::text_alone;
 use command_outcomes::Refusal;
 use dir_host::{HostBundle, HostSink, Outside, SetupError, assemble, find_root, read_words};
 use dir_trait::{Sink, SinkError, write_whole};
+use host_listener::HostListener;
 use host_spawner::HostSpawner;
 use rkt_cli::{named_path, read_line, refuse, rkt};
 use rkt_words::WordsError;
@@ -69,6 +70,7 @@ fn run<O: Sink, E: Sink>(
     let words = words?;
     let mut bundle = HostBundle::new(rt, path_of(rt.alloc(), words.as_slice())?);
     let mut spawner = HostSpawner::new(rt.alloc(), rt, find_root(rt)?);
+    let mut listener = HostListener::new(rt);
     Ok(rkt(
         rt.alloc(),
         words.as_slice(),
@@ -77,6 +79,7 @@ fn run<O: Sink, E: Sink>(
         &mut dir,
         &mut bundle,
         &mut spawner,
+        &mut listener,
         out,
         err,
     ))

@@ -1,38 +1,39 @@
 // What the program prints by itself. Written by docs/words.py from docs/words.table.
 
 /// What `--version` prints.
-pub const VERSION: &str = "rkt 0.1.0\n";
+pub const VERSION: &str = "rkt 0.2.0\n";
 
 /// What `--help` prints.
 pub const HELP: &str = "\
 rkt: pods in a folder, without a daemon
 
 usage:
-  rkt image import PATH             stores the image of the bundle at PATH
-  rkt image list                    lists the stored images
-  rkt image rm KEY                  takes an image away
-  rkt image gc                      takes away what killed image commands left
-  rkt prepare [OPTION...] IMAGE...  makes a pod of an app of each image
-  rkt run-prepared [OPTION...] POD  runs a prepared pod, once
-  rkt run [OPTION...] IMAGE...      makes a pod of images and runs it
-  rkt list                          prints the pods, with phases and apps
-  rkt status POD                    prints a pod's phase and how its apps ended
-  rkt cat-manifest POD              prints the manifest of a pod
-  rkt rm POD                        removes a pod
-  rkt gc [OPTION...]                removes pods that are dead or too old
-  rkt validate FILE                 judges a manifest of App Container 0.8
-  rkt demo N                        shows the commands at work, in memory
-  rkt COMMAND --help                tells its words, options and statuses
-  rkt --help                        prints this, as rkt -h and rkt help do
-  rkt --version                     prints the version
+  rkt image import PATH               stores the image of the bundle at PATH
+  rkt image list                      lists the stored images
+  rkt image rm KEY                    takes an image away
+  rkt image gc                        takes away what killed image commands left
+  rkt prepare [OPTION...] IMAGE...    makes a pod of an app of each image
+  rkt run-prepared [OPTION...] POD    runs a prepared pod, once
+  rkt run [OPTION...] IMAGE...        makes a pod of images and runs it
+  rkt list                            prints the pods, with phases and apps
+  rkt status POD                      prints a pod's phase and how apps ended
+  rkt cat-manifest POD                prints the manifest of a pod
+  rkt rm POD                          removes a pod
+  rkt gc [OPTION...]                  removes pods that are dead or too old
+  rkt metadata-service ADDRESS COUNT  tells apps of their pod, over HTTP
+  rkt validate FILE                   judges a manifest of App Container 0.8
+  rkt demo N                          shows the commands at work, in memory
+  rkt COMMAND --help                  tells its words, options and statuses
+  rkt --help                          prints this, as rkt -h and rkt help do
+  rkt --version                       prints the version
 
 The data folder is the one that RKT_DIR names, or rkt in the current folder
 where that is unset or empty. Whatever is missing of it is made.
 
 exit status:
-   0  done                              10  bundle fault: it can't be read
-   1  usage: words of no command        11  spawner fault: an app can't start
-   2  no such pod                       12  output fault: it can't be written
+   0  done                              11  spawner fault: an app can't start
+   1  usage: words of no command        12  output fault: it can't be written
+   2  no such pod                       13  link fault of the metadata service
    3  ambiguous: several pods           14  out of memory
    4  wrong phase of the pod            15  no file, damaged, bad kind, conflict
    5  busy: another holds a lock        16  an app ended with another status
@@ -40,6 +41,7 @@ exit status:
    7  no image, no dependency, cycle    18  no manifest of the pod
    8  limit passed                      19  no program of an app
    9  directory fault (data folder)     20  stray reply: another interfered
+  10  bundle fault: it can't be read
 ";
 
 const IMAGE: &str = "\
@@ -251,6 +253,24 @@ exit status: 0 done, 1 usage, 9 directory fault, 12 output fault,
   14 out of memory, 20 stray reply
 ";
 
+const METADATA_SERVICE: &str = "\
+usage: rkt metadata-service ADDRESS COUNT
+
+Listens at ADDRESS, takes COUNT connections, one after the other, answers one
+request of each as App Container's metadata service does, and hangs up. It
+prints nothing. An app asks below the address in its variable AC_METADATA_URL,
+as GET $AC_METADATA_URL/acMetadata/v1/pod/uuid, with the header Metadata-Flavor:
+AppContainer; the token in that address names its pod.
+A read and a write of a connection wait ten seconds at most. What fails at one
+connection ends that connection alone, and is told at the end.
+
+  ADDRESS  1 to 255 printable characters of ASCII, but no space and no /
+  COUNT    how many connections: 1 to 65535, in decimal digits without a zero
+           before others
+
+exit status: 0 done, 1 usage, 9 directory fault, 13 link fault, 14 out of memory
+";
+
 const VALIDATE: &str = "\
 usage: rkt validate FILE
 
@@ -285,7 +305,7 @@ exit status: 0 done, 1 usage, 9 directory fault, 12 output fault,
 ";
 
 /// The text of each first word.
-pub const COMMANDS: [(&str, &str); 11] = [
+pub const COMMANDS: [(&str, &str); 12] = [
     ("image", IMAGE),
     ("prepare", PREPARE),
     ("run-prepared", RUN_PREPARED),
@@ -295,6 +315,7 @@ pub const COMMANDS: [(&str, &str); 11] = [
     ("cat-manifest", CAT_MANIFEST),
     ("rm", RM),
     ("gc", GC),
+    ("metadata-service", METADATA_SERVICE),
     ("validate", VALIDATE),
     ("demo", DEMO),
 ];

@@ -273,7 +273,7 @@ pub kept_seen : {S : Type 0} (answer : Answer) (see : S → SinkSeen) (old new :
 kept_seen (Ok told) see old new kept = tt
 kept_seen (Err r) see old new kept = ap see kept
 
-refused_status : (end : Result Bool Refusal) (r : Refusal) → ◌≡◌ {A = End} (end_of_writing end) (Err r) → status_at end ≡ status_of r
+pub refused_status : (end : Result Bool Refusal) (r : Refusal) → ◌≡◌ {A = End} (end_of_writing end) (Err r) → status_at end ≡ status_of r
 refused_status (Ok well) r is = cc
 refused_status (Err q) r is = let same : q ≡ r = cc in ap status_of same
 

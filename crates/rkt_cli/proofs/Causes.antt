@@ -6,7 +6,7 @@ use Rattle.dir_model.specs.declared.intent.Draw.{Draw}
 use Rattle.dir_model.specs.declared.pod.PodId.{PodId}
 use Rattle.dir_model.specs.Causes.{Rose}
 use Rattle.command_outcomes.specs.declared.refusal.Refusal.{Refusal}
-use Rattle.command_outcomes.specs.declared.refusal.Refusal.TheVariants.{Usage, NoPod, Busy, NoImage, WrongPhase, PodBusy, NoManifest, Damaged, DirFault, BundleFault, SpawnFault, OutFault, NoMemory, Stray}
+use Rattle.command_outcomes.specs.declared.refusal.Refusal.TheVariants.{Usage, NoPod, Busy, NoImage, WrongPhase, PodBusy, NoManifest, Damaged, DirFault, BundleFault, SpawnFault, OutFault, NoMemory, LinkFault, Stray}
 use Rattle.command_outcomes.specs.Ends.{is_own_end}
 use Rattle.command_outcomes.specs.Moments.{Outside, Moment, Answer, outcome_of, Outcome}
 use Rattle.commands.specs.Answers.{inside_in}
@@ -28,7 +28,7 @@ use Rattle.commands.proofs.ReportsKept.{lines_wider, manifest_wider, status_wide
 use Rattle.commands.specs.Status.{status_report}
 use Rattle.commands.proofs.ImageImports.{is_memory}
 use Rattle.rkt_cli.specs.Tasks.{Task}
-use Rattle.rkt_cli.specs.Tasks.{Status, PodList, CatManifest, Validate, ImageList, ImageImport, ImageRm, ImageGc, Prepare, RunPrepared, Run, Rm, Gc, Demo}
+use Rattle.rkt_cli.specs.Tasks.{Status, PodList, CatManifest, Validate, ImageList, ImageImport, ImageRm, ImageGc, Prepare, RunPrepared, Run, Rm, Gc, Metadata, Demo}
 use Rattle.rkt_cli.specs.Commands.{command_in, intent_of, may}
 use Rattle.rkt_cli.specs.Promises.{RefusedFor}
 use Rattle.rkt_cli.specs.Runs.{Performs, RunOfLine, Unwritten}
@@ -157,6 +157,13 @@ own_of line OutFault plain own = let clash : true ≡ false = plain in cc
 own_of line Usage plain own = let clash : true ≡ false = plain in cc
 own_of line r plain own = own
 
+-- of the service it is the listener's fault
+service_refused : (address : List ℕ) (count : ℕ) (r : Refusal) → is_shared r ≡ false → may (Metadata address count) r ≡ true → r ≡ LinkFault
+service_refused address count LinkFault plain own = refl
+service_refused address count NoMemory plain own = let clash : true ≡ false = plain in cc
+service_refused address count DirFault plain own = let clash : true ≡ false = plain in cc
+service_refused address count r plain own = let clash : false ≡ true = own in cc
+
 module _ (now : ℕ) (draw : Draw) (old new : Moment) where
   abbrev Refuses : Task → Refusal → Type 0
   Refuses line r = Performs line now draw (intent_of line now draw) old.outside new.outside (Err r)
@@ -211,6 +218,7 @@ module _ (now : ℕ) (draw : Draw) (old new : Moment) where
   own_cause (Run wants address) r plain own p came = run_refused wants r plain own came
   own_cause (Rm word pod) r plain own p came = rm_refused now draw old.outside new.outside pod r p plain own
   own_cause (Gc grace expire) r plain own p came = gc_refused now draw old.outside new.outside r p plain own
+  own_cause (Metadata address count) r plain own p came = service_refused address count r plain own
   own_cause (Demo count) r plain own p came = let clash : false ≡ true = own_of (Demo count) r plain own in cc
 
   -- whichever it is
@@ -230,7 +238,7 @@ abbrev ending : Refusal → Outcome
 ending r = Err r
 
 -- the answer of a refused outcome
-refused_answer : (answer : Answer) (r : Refusal) → outcome_of answer ≡ Err r → answer ≡ Err r
+pub refused_answer : (answer : Answer) (r : Refusal) → outcome_of answer ≡ Err r → answer ≡ Err r
 refused_answer (Ok told) r is = let e : ◌≡◌ {A = Outcome} (Ok told.text) (Err r) = is in cc
 refused_answer (Err q) r is = let e : ◌≡◌ {A = Outcome} (Err q) (Err r) = is in let same : q ≡ r = cc in ap failing same
 

@@ -7,7 +7,7 @@ use Rattle.dir_model.specs.declared.spot.Which.{Which}
 use Rattle.dir_model.specs.declared.pod.PodId.{PodId}
 use Rattle.rkt_cli.specs.Tasks.{Task}
 use Rattle.command_outcomes.specs.declared.refusal.Refusal.{Refusal}
-use Rattle.command_outcomes.specs.declared.refusal.Refusal.TheVariants.{Usage, NoPod, Ambiguous, Busy, BadManifest, NoImage, NoDependency, Cycle, Limit, DirFault, BundleFault, OutFault, NoMemory, NoFile, Conflict, Damaged, BadKind, Taken, WrongPhase, PodBusy, NoManifest, NoProgram, SpawnFault, Stray}
+use Rattle.command_outcomes.specs.declared.refusal.Refusal.TheVariants.{Usage, NoPod, Ambiguous, Busy, BadManifest, NoImage, NoDependency, Cycle, Limit, DirFault, BundleFault, OutFault, NoMemory, NoFile, Conflict, Damaged, BadKind, Taken, WrongPhase, PodBusy, NoManifest, NoProgram, SpawnFault, LinkFault, Stray}
 use Rattle.command_outcomes.specs.Texts.{status_of}
 use Rattle.command_outcomes.specs.Moments.{SinkSeen, Outcome}
 use Rattle.rkt_cli.specs.Commands.{may}
@@ -19,7 +19,7 @@ absurd_number m n h apart = absurd (grind (arith, nat_tests))
 
 -- the end that a status stands for, but for those that name something
 abbrev pub end_of : ℕ → End
-end_of n = cond (n == 0) (Ok tt) (cond (n == 1) (Err Usage) (cond (n == 2) (Err NoPod) (cond (n == 9) (Err DirFault) (cond (n == 10) (Err BundleFault) (cond (n == 11) (Err SpawnFault) (cond (n == 12) (Err OutFault) (cond (n == 20) (Err Stray) (Err NoMemory))))))))
+end_of n = cond (n == 0) (Ok tt) (cond (n == 1) (Err Usage) (cond (n == 2) (Err NoPod) (cond (n == 9) (Err DirFault) (cond (n == 10) (Err BundleFault) (cond (n == 11) (Err SpawnFault) (cond (n == 12) (Err OutFault) (cond (n == 13) (Err LinkFault) (cond (n == 20) (Err Stray) (Err NoMemory)))))))))
 
 abbrev pub names : ℕ → Bool
 names n = (n == 3) || ((n == 4) || ((n == 5) || ((n == 6) || ((n == 7) || ((n == 8) || ((n == 15) || ((n == 17) || ((n == 18) || (n == 19)))))))))
@@ -32,6 +32,7 @@ end_again (Err DirFault) plain = refl
 end_again (Err BundleFault) plain = refl
 end_again (Err SpawnFault) plain = refl
 end_again (Err OutFault) plain = refl
+end_again (Err LinkFault) plain = refl
 end_again (Err NoMemory) plain = refl
 end_again (Err Stray) plain = refl
 end_again (Err r) plain = let clash : true ≡ false = plain in cc
@@ -139,6 +140,7 @@ refusal_known line (PodBusy pod which) allowed = refl
 refusal_known line (NoManifest pod) allowed = refl
 refusal_known line (NoProgram app word) allowed = refl
 refusal_known line SpawnFault allowed = refl
+refusal_known line LinkFault allowed = refl
 
 -- the others are the command's
 pub from_command : (o : Outcome) (old new : SinkSeen) (end : End) (r : Refusal) → Printed o old new end → end ≡ Err r → is_of_output r ≡ false → o ≡ Err r

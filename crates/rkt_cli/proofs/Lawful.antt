@@ -24,7 +24,7 @@ use Rattle.lifecycle.proofs.Draws.{standing_split}
 use Rattle.lifecycle.proofs.Handles.{nat_same}
 use Rattle.command_outcomes.specs.Moments.{DirSeen, Outside, Moment, Outcome}
 use Rattle.rkt_cli.specs.Tasks.{Task}
-use Rattle.rkt_cli.specs.Tasks.{Status, PodList, CatManifest, Validate, ImageList, ImageImport, ImageRm, ImageGc, Prepare, RunPrepared, Run, Rm, Gc, Demo}
+use Rattle.rkt_cli.specs.Tasks.{Status, PodList, CatManifest, Validate, ImageList, ImageImport, ImageRm, ImageGc, Prepare, RunPrepared, Run, Rm, Gc, Metadata, Demo}
 use Rattle.pod_lookup.specs.Looks.{lists_stages}
 use Rattle.commands.proofs.Starts.{look_extends, look_lists}
 use Rattle.rkt_cli.specs.Commands.{approach_in, asks, intent_of}
@@ -66,6 +66,7 @@ begins_once (RunPrepared word pod address) now draw intent = refl
 begins_once (Run wants address) now draw intent = refl
 begins_once (Rm word pod) now draw intent = refl
 begins_once (Gc grace expire) now draw intent = refl
+begins_once (Metadata address count) now draw intent = refl
 begins_once (Demo count) now draw intent = refl
 
 -- nor does a look
@@ -99,6 +100,7 @@ its_draw (RunPrepared word pod address) now draw intent is = with_draw draw _ in
 its_draw (Run wants address) now draw intent is = with_draw draw _ intent (record { identity = refl; token = refl }) is
 its_draw (Rm word pod) now draw intent is = with_draw draw _ intent (record { identity = refl; token = refl }) is
 its_draw (Gc grace expire) now draw intent is = with_draw draw _ intent (record { identity = refl; token = refl }) is
+its_draw (Metadata address count) now draw intent is = with_draw draw _ intent (record { identity = refl; token = refl }) is
 its_draw (Demo count) now draw intent is = cc
 
 same_intents : (a b : Intent) → ◌≡◌ {A = Option Intent} (Some a) (Some b) → a ≡ b

@@ -24,6 +24,9 @@ pub mod QuietRun
 pub mod Completing
 pub mod Conforming
 pub mod Ran
+pub mod ServiceRan
+pub mod Linked
+pub mod ServedAlone
 pub mod Reported
 pub mod StoreRan
 pub mod PodRan

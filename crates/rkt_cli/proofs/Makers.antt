@@ -43,6 +43,7 @@ use Rattle.rkt_cli.specs.Histories.{HandsOver, WhereKnown}
 use Rattle.rkt_cli.proofs.PodRan.{prepares}
 use Rattle.commands.specs.Wants.{Wants}
 use Rattle.pod_lookup.specs.Looks.{lists_stages}
+use Rattle.metadata.specs.Looks.{looks_in_run}
 use Rattle.pod_report.specs.Requests.{inspects, surveys, visits}
 use Rattle.pod_report.proofs.QuietSurvey.{inspect_calm}
 use Rattle.pod_report.proofs.Going.{visits_survey}
@@ -67,6 +68,9 @@ visits_none pod = spares (visits pod) (λ from to is. let clash : false ≡ true
 
 pub inspects_none : (pod : PodId) → HandsNothingOver (inspects pod)
 inspects_none pod = spares (inspects pod) (λ from to is. let clash : false ≡ true = inspect_calm pod (MoveFolder from to) is in cc)
+
+pub service_none : HandsNothingOver looks_in_run
+service_none = spares looks_in_run (λ from to is. cc)
 
 pub lists_none : HandsNothingOver lists_images
 lists_none = spares lists_images (λ from to is. cc)

@@ -1,5 +1,5 @@
 -- A pod of one image without wishes.
-use Rattle.std.proofs.Common.{arith, ◌≡◌, ◌&&◌, ℕ, Bool, true, false, bytes_eq, List, [], ◌∷◌, Ok, is_ok, sym, ap, ◌∙◌}
+use Rattle.std.proofs.Common.{arith, ◌≡◌, ◌&&◌, ℕ, Bool, true, false, bytes_eq, List, [], ◌∷◌, Ok, is_ok, ap}
 use Rattle.std.proofs.lemmas.Map.Keys.{IsDistinct-from_apart}
 use Rattle.ac_types.specs.References.{reference}
 use Rattle.ac_types.specs.declared.image_ref.ImageRef.{ImageRef}

@@ -15,7 +15,7 @@ use Rattle.rkt_cli.specs.Commands.{command_in, intent_of}
 use Rattle.rkt_cli.specs.Phases.{HadIn, NamesPhases, NamesTruePhases}
 use Rattle.rkt_cli.specs.Promises.{IsRunOf, RefusedFor}
 use Rattle.rkt_cli.specs.Runs.{Performs, RunIs}
-use Rattle.rkt_cli.specs.Tasks.{Task, Status, PodList, CatManifest, Validate, ImageList, ImageImport, ImageRm, ImageGc, Prepare, RunPrepared, Run, Rm, Gc, Demo}
+use Rattle.rkt_cli.specs.Tasks.{Task, Status, PodList, CatManifest, Validate, ImageList, ImageImport, ImageRm, ImageGc, Prepare, RunPrepared, Run, Rm, Gc, Metadata, Demo}
 use Rattle.rkt_cli.proofs.PodRemovals.{gc_done}
 use Rattle.rkt_cli.proofs.Promises.{ended, output_as}
 use Rattle.rkt_cli.proofs.Reported.{report_told}
@@ -40,6 +40,7 @@ module _ (now : ℕ) (draw : Draw) (old new : Moment) (t : old.outside.dir.obser
   text_named (RunPrepared word pod address) text p = tt
   text_named (Run wants address) text p = tt
   text_named (Rm word pod) text p = tt
+  text_named (Metadata address count) text p = tt
   text_named (Demo count) text p = tt
 
   -- in its refusal
@@ -59,6 +60,7 @@ module _ (now : ℕ) (draw : Draw) (old new : Moment) (t : old.outside.dir.obser
   refusal_named (Prepare wants) r cause = tt
   refusal_named (Run wants address) r cause = tt
   refusal_named (Gc grace expire) r cause = tt
+  refusal_named (Metadata address count) r cause = tt
   refusal_named (Demo count) r cause = tt
 
   named : {task : Task} {status : ℕ} → RunIs task now draw old new status → NamesTruePhases (command_in task) status old new

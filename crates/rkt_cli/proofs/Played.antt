@@ -1,5 +1,5 @@
 -- One play after another.
-use Rattle.std.proofs.Common.{◌≡◌, ℕ, zero, suc, ◌+◌, List, [], ◌∷◌, ◌++◌, Result, Ok, Err, IfOk, refl, sym, ap, subst, arith}
+use Rattle.std.proofs.Common.{◌≡◌, ℕ, suc, ◌+◌, List, [], ◌∷◌, ◌++◌, Result, Ok, Err, IfOk, refl, sym, ap, subst, arith}
 use Rattle.dir_model.specs.Local.{nothing_local}
 use Rattle.command_outcomes.specs.declared.told.Told.{Told}
 use Rattle.dir_memory.specs.Memories.{Memory}

@@ -17,7 +17,7 @@ use Rattle.commands.specs.PodList.{list_report}
 use Rattle.commands.specs.Status.{status_report}
 use Rattle.commands.specs.Validate.{ReadsFile, most_read}
 use Rattle.rkt_cli.specs.Tasks.{Task}
-use Rattle.rkt_cli.specs.Tasks.{Status, PodList, CatManifest, Validate, ImageList, ImageImport, ImageRm, ImageGc, Prepare, RunPrepared, Run, Rm, Gc, Demo}
+use Rattle.rkt_cli.specs.Tasks.{Status, PodList, CatManifest, Validate, ImageList, ImageImport, ImageRm, ImageGc, Prepare, RunPrepared, Run, Rm, Gc, Metadata, Demo}
 use Rattle.rkt_cli.specs.Commands.{command_in, intent_of, looks, asks, runs_apps, ReadsOnly}
 use Rattle.rkt_cli.specs.Spawns.{CameBetween}
 use Rattle.rkt_cli.specs.Runs.{Performs, End, Unwritten, Printed, Reported, end_status, RunOfLine, RunOf, RunIs}
@@ -34,6 +34,7 @@ use Rattle.rkt_cli.proofs.PodRan.{prepare_printed}
 use Rattle.rkt_cli.proofs.PodRemovals.{rm_printed, gc_printed}
 use Rattle.rkt_cli.proofs.Removals.{removal_printed, sweep_printed}
 use Rattle.rkt_cli.proofs.Reported.{report_printed}
+use Rattle.rkt_cli.proofs.ServiceRan.{service_printed}
 use Rattle.rkt_cli.proofs.Sessions.{all_parts}
 
 abbrev TaskPrints : Task → Draw → BundleSeen → List ℕ → Type 0
@@ -60,6 +61,7 @@ prints_of ImageGc now draw intent old new text p a b answer is came = sweep_prin
 prints_of (Prepare wants) now draw intent old new text p a b answer is came = prepare_printed wants now draw intent old new text p
 prints_of (Rm word pod) now draw intent old new text p a b answer is came = rm_printed word pod now draw intent old new text p
 prints_of (Gc grace expire) now draw intent old new text p a b answer is came = gc_printed grace expire now draw intent old new text p
+prints_of (Metadata address count) now draw intent old new text p a b answer is came = service_printed address count now draw intent old new text p
 prints_of (Demo count) now draw intent old new text p a b answer is came = demo_text count text (does_demo count now draw intent old new (Ok text) p)
 prints_of (RunPrepared word pod address) now draw None old new text p a b answer is came = let clash : true ≡ false = p.apart in cc
 prints_of (RunPrepared word pod address) now draw (Some intent) old new text p a b answer is came = run_prepared_printed word pod now draw intent a b answer text is came

@@ -29,16 +29,17 @@ use Rattle.image_removal.specs.Requests.{removes_at, sweeps}
 use Rattle.image_removal.proofs.Begun.{begun_removes}
 use Rattle.phase_read.specs.Read.{is_pod_spot}
 use Rattle.rkt_cli.specs.Tasks.{Task}
-use Rattle.rkt_cli.specs.Tasks.{Status, PodList, CatManifest, Validate, ImageList, ImageImport, ImageRm, ImageGc, Prepare, RunPrepared, Run, Rm, Gc, Demo}
+use Rattle.rkt_cli.specs.Tasks.{Status, PodList, CatManifest, Validate, ImageList, ImageImport, ImageRm, ImageGc, Prepare, RunPrepared, Run, Rm, Gc, Metadata, Demo}
 use Rattle.command_outcomes.specs.declared.refusal.Refusal.TheVariants.{Busy, NoImage, NoPod, WrongPhase, NoManifest, PodBusy, DirFault, BundleFault, NoMemory, Damaged, Stray}
 use Rattle.command_outcomes.specs.Moments.{BundleSeen, DirSeen, Outside, Moment, Outcome}
 use Rattle.command_outcomes.specs.Ends.{is_own_end, IsUnchanged}
 use Rattle.commands.specs.CatManifest.{cat_manifest_report}
 use Rattle.commands.specs.PodList.{list_report}
-use Rattle.commands.proofs.ReportsKept.{inspects_change, lines_stable, manifest_stable, status_stable, surveys_change, visits_change}
+use Rattle.commands.proofs.ReportsKept.{inspects_change, lines_stable, manifest_stable, service_calm, service_changes, status_stable, surveys_change, visits_change}
 use Rattle.pod_report.proofs.Going.{visits_survey}
 use Rattle.rkt_cli.proofs.DemoRan.{demo_own}
 use Rattle.rkt_cli.proofs.Reported.{report_leaves, report_quiet}
+use Rattle.rkt_cli.proofs.ServiceRan.{service_quiet}
 use Rattle.commands.specs.Status.{status_report}
 use Rattle.pod_report.proofs.QuietSurvey.{inspect_calm, survey_calm}
 use Rattle.commands.specs.ImageList.{image_list_refusal, ListsQuietly}
@@ -384,6 +385,7 @@ comes_of (Rm word pod) now draw intent old new o said s u own ran =
     rm_quiet pod now draw old new o (subst (λ (i : Intent). InProcess (Rm word pod) now draw i old new o) (let e : intent ≡ rm_intent word now draw = cc in e) s) u own
 comes_of (Gc grace expire) now draw intent old new o said s u own ran =
     gc_quiet now draw old new o (subst (λ (i : Intent). InProcess (Gc grace expire) now draw i old new o) (let e : intent ≡ gc_intent grace expire now draw = cc in e) s) u own
+comes_of (Metadata address count) now draw intent old new o said s u own ran = service_quiet address count o s.ran.says s.ran.refusals own
 comes_of (Demo count) now draw intent old new o said s u own ran = let clash : false ≡ true = s.uses in cc
 
 comes_apart : (line : Task) (now : ℕ) (draw : Draw) (old new : Outside) (o : Outcome) → Apart line now draw old new o → Undisturbed line old new → is_own_end o ≡ true → ComesQuietly line now draw old new o
@@ -400,6 +402,7 @@ comes_apart (RunPrepared word pod address) now draw old new o p u own = let clas
 comes_apart (Run wants address) now draw old new o p u own = let clash : true ≡ false = p.apart in cc
 comes_apart (Rm word pod) now draw old new o p u own = let clash : true ≡ false = p.apart in cc
 comes_apart (Gc grace expire) now draw old new o p u own = let clash : true ≡ false = p.apart in cc
+comes_apart (Metadata address count) now draw old new o p u own = let clash : true ≡ false = p.apart in cc
 comes_apart (Demo count) now draw old new o p u own = demo_own count o p.ran.says own
 
 -- what each command leaves
@@ -432,6 +435,10 @@ leaves_quietly (RunPrepared word pod address) now draw intent old new o s u = be
 leaves_quietly (Run wants address) now draw intent old new o s u = beside (Run wants address) now draw intent old new o s u (is_pod_spot draw.uuid) (run_changes draw.uuid)
 leaves_quietly (Rm word pod) now draw intent old new o s u = beside (Rm word pod) now draw intent old new o s u (is_pod_spot pod) (rm_changes pod now)
 leaves_quietly (Gc grace expire) now draw intent old new o s u = beside (Gc grace expire) now draw intent old new o s u is_pods_place (gc_changes now)
+leaves_quietly (Metadata address count) now draw intent old new o s u = record {
+  same = report_leaves s u service_calm;
+  beside = beside (Metadata address count) now draw intent old new o s u is_nowhere service_changes;
+}
 leaves_quietly (Demo count) now draw intent old new o s u = let clash : false ≡ true = s.uses in cc
 
 leaves_apart : (line : Task) (now : ℕ) (draw : Draw) (old new : Outside) (o : Outcome) → Apart line now draw old new o → LeavesQuietly line old.dir.process draw (state_after old.dir.trace) (state_after new.dir.trace)
@@ -448,6 +455,7 @@ leaves_apart (RunPrepared word pod address) now draw old new o p = let clash : t
 leaves_apart (Run wants address) now draw old new o p = let clash : true ≡ false = p.apart in cc
 leaves_apart (Rm word pod) now draw old new o p = let clash : true ≡ false = p.apart in cc
 leaves_apart (Gc grace expire) now draw old new o p = let clash : true ≡ false = p.apart in cc
+leaves_apart (Metadata address count) now draw old new o p = let clash : true ≡ false = p.apart in cc
 leaves_apart (Demo count) now draw old new o p = ap (λ (d : DirSeen). state_after d.trace) p.dir
 
 abbrev IsQuiet : Task → ℕ → Draw → Outside → Outside → Outcome → Type 0

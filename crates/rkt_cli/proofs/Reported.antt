@@ -49,7 +49,7 @@ use Rattle.rkt_cli.proofs.Sessions.{act_part, any_call, begin_any, begin_part, f
 pub none_open : (m : Local) → m.holdings ≡ [] → HasNoPodOpen m
 none_open m none name = ap (λ (hs : List Holding). list_any (λ h. is_own_of name h.target) hs) none
 
-worked : {observed : Bool} {asked : Request → Bool} {a b : DirAt} → OnlyAsksFor observed asked a b → Worked observed asked a b
+pub worked : {observed : Bool} {asked : Request → Bool} {a b : DirAt} → OnlyAsksFor observed asked a b → Worked observed asked a b
 worked only = record { same = only.same; faults = only.faults; local = only.local; extends = only.extends }
 
 list_own : (r : Refusal) → list_refusal r ≡ true → may PodList r ≡ true

@@ -19,6 +19,7 @@ use Rattle.commands.specs.ImageGcCommand.{TellsImageGc}
 use Rattle.commands.specs.ImageImportCommand.{IsBundleJudgement, TellsImport}
 use Rattle.commands.specs.ImageListCommand.{TellsImages}
 use Rattle.commands.specs.ImageRmCommand.{TellsImageRm}
+use Rattle.commands.specs.MetadataCommand.{WritesNothing}
 use Rattle.commands.specs.PrepareCommand.{TellsPrepare}
 use Rattle.commands.specs.RmCommand.{TellsRm}
 use Rattle.commands.specs.CatManifest.{cat_manifest_report}
@@ -31,7 +32,7 @@ use Rattle.commands.specs.Validate.{sequential_validate}
 use Rattle.commands.specs.ValidateCommand.{TellsJudgement}
 use Rattle.rkt_cli.specs.DemoCommand.{EndsDemo, TellsDemo}
 use Rattle.rkt_cli.specs.Tasks.{Task}
-use Rattle.rkt_cli.specs.Tasks.{Status, PodList, CatManifest, Validate, ImageList, ImageImport, ImageRm, ImageGc, Prepare, RunPrepared, Run, Rm, Gc, Demo}
+use Rattle.rkt_cli.specs.Tasks.{Status, PodList, CatManifest, Validate, ImageList, ImageImport, ImageRm, ImageGc, Prepare, RunPrepared, Run, Rm, Gc, Metadata, Demo}
 use Rattle.rkt_cli.specs.Commands.{command_in, intent_of, runs_apps, uses_dir}
 use Rattle.rkt_cli.specs.Runs.{InProcess, Performs, Printed, Reported, End, Unwritten, end_status, RunOf, RunIs}
 use Rattle.rkt_cli.proofs.BundleJudged.{import_judged}
@@ -48,6 +49,7 @@ use Rattle.rkt_cli.proofs.PodRemovals.{gc_done, rm_done, rm_printed}
 use Rattle.commands.specs.ImageGc.{HasEndedEarly}
 use Rattle.commands.specs.ImageRm.{removed_text, HasRemoved}
 use Rattle.rkt_cli.proofs.Removals.{removal_done, removal_printed, sweep_done, sweep_failed}
+use Rattle.rkt_cli.proofs.ServiceRan.{service_printed}
 use Rattle.commands.proofs.RmQuiet.{rm_removed}
 use Rattle.commands.proofs.GcFrom.{gc_deleted}
 use Rattle.commands.specs.Wants.{Wants}
@@ -189,6 +191,9 @@ module _ (now : ℕ) (draw : Draw) (old new : Moment) (status : ℕ) where
     gone = λ t conforming. wrote (Gc grace expire) _ (λ text p. let swept = gc_done now draw old.outside new.outside text p t in record { swept = swept; deleted = gc_deleted (times_of now grace expire) swept.lines swept.swept conforming }) r;
   }
 
+  service_tells : (address : List ℕ) (count : ℕ) → Ran (Metadata address count) → WritesNothing status old new
+  service_tells address count r = wrote (Metadata address count) _ (λ text p. service_printed address count now draw (intent_of (Metadata address count) now draw) old.outside new.outside text p) r
+
   demo_tells : (count : ℕ) → Ran (Demo count) → TellsDemo count status old new
   demo_tells count (inr n) = inl n.is
   demo_tells count (inl r) = by (does_demo count now draw (intent_of (Demo count) now draw) old.outside new.outside r.outcome r.performs)
@@ -225,4 +230,5 @@ tells {task} {now} {draw} {old} {new} {status} run = by task run
     by (Run wants address) run = run.apps
     by (Rm word pod) run = alone (Rm word pod) run refl (rm_tells now draw old new run.plain pod run.ran)
     by (Gc grace expire) run = alone (Gc grace expire) run refl (gc_tells now draw old new run.plain run.ran)
+    by (Metadata address count) run = alone (Metadata address count) run refl (service_tells now draw old new run.plain address count run.ran)
     by (Demo count) run = alone (Demo count) run refl (demo_tells now draw old new run.plain count run.ran)

@@ -20,12 +20,13 @@ use Rattle.commands.specs.ImageGcCommand.{image_gc_command}
 use Rattle.commands.specs.PrepareCommand.{prepare_command}
 use Rattle.commands.specs.RunPreparedCommand.{run_prepared_command}
 use Rattle.commands.specs.RunCommand.{run_command}
+use Rattle.commands.specs.MetadataCommand.{metadata_command}
 use Rattle.commands.specs.RmCommand.{rm_command}
 use Rattle.commands.specs.GcCommand.{gc_command}
 use Rattle.commands.specs.Opening.{Approach, looks_by}
 use Rattle.rkt_cli.specs.declared.line.Line.{Line}
 use Rattle.rkt_cli.specs.DemoCommand.{demo_command}
-use Rattle.rkt_cli.specs.Tasks.{Task, Status, PodList, CatManifest, Validate, ImageList, ImageImport, ImageRm, ImageGc, Prepare, RunPrepared, Run, Rm, Gc, Demo, task_of}
+use Rattle.rkt_cli.specs.Tasks.{Task, Status, PodList, CatManifest, Validate, ImageList, ImageImport, ImageRm, ImageGc, Prepare, RunPrepared, Run, Rm, Gc, Metadata, Demo, takes_links, task_of}
 
 abbrev pub command_in : Task → Command
 command_in (Status word pod) = status_command word pod
@@ -41,6 +42,7 @@ command_in (RunPrepared word pod address) = run_prepared_command word pod addres
 command_in (Run wants address) = run_command wants address
 command_in (Rm word pod) = rm_command word pod
 command_in (Gc grace expire) = gc_command grace expire
+command_in (Metadata address count) = metadata_command address count
 command_in (Demo count) = demo_command count
 
 -- whether it works on the directory, whether it reads the bundle, and whether it starts apps
@@ -71,6 +73,11 @@ reads_bundle_in (Some line) = reads_bundle (any_task line)
 abbrev pub runs_apps_in : Option Line → Bool
 runs_apps_in None = false
 runs_apps_in (Some line) = runs_apps (any_task line)
+
+-- whether it takes connections of the listener
+abbrev pub takes_links_in : Option Line → Bool
+takes_links_in None = false
+takes_links_in (Some line) = takes_links line
 
 -- what its process says when it begins
 abbrev pub intent_of : Task → ℕ → Draw → Option Intent

@@ -6,6 +6,8 @@ pub mod Spawns
 pub mod Runs
 pub mod Histories
 pub mod Lookups
+pub mod Links
+pub mod LinksAlone
 pub mod Promises
 pub mod Phases
 pub mod Between

@@ -9,32 +9,32 @@ use Rattle.rkt_words.specs.declared.line.Line.{Line as Words}
 use Rattle.rkt_words.specs.declared.line.Line.TheVariants as words
 use Rattle.commands.specs.Wants.{Wants}
 use Rattle.rkt_cli.specs.declared.line.Line.{Line}
-use Rattle.rkt_cli.specs.declared.line.Line.TheVariants.{Status, PodList, CatManifest, Validate, ImageList, ImageImport, ImageRm, ImageGc, Prepare, RunPrepared, Run, Rm, Gc, Demo}
+use Rattle.rkt_cli.specs.declared.line.Line.TheVariants.{Status, PodList, CatManifest, Validate, ImageList, ImageImport, ImageRm, ImageGc, Prepare, RunPrepared, Run, Rm, Gc, Metadata, Demo}
 
 -- what a pod is to be made of
 abbrev pub wants_of : Asked → Wants
 wants_of asked = record { images = asked.images; wishes = record { volumes = asked.volumes; mounts = asked.mounts } }
 
--- the line of a command that this program has
-abbrev pub known_line : Words → Option Line
-known_line (words.Status pod) = Some (Status pod)
-known_line words.List = Some PodList
-known_line (words.CatManifest pod) = Some (CatManifest pod)
-known_line (words.Prepare asked) = Some (Prepare (wants_of asked))
-known_line (words.Run asked address) = Some (Run (wants_of asked) address)
-known_line (words.RunPrepared pod address) = Some (RunPrepared pod address)
-known_line (words.Rm pod) = Some (Rm pod)
-known_line (words.Gc grace expire) = Some (Gc grace expire)
-known_line (words.Validate path) = Some (Validate path)
-known_line (words.ImageImport path) = Some (ImageImport path)
-known_line words.ImageList = Some ImageList
-known_line (words.ImageRm key) = Some (ImageRm key)
-known_line words.ImageGc = Some ImageGc
-known_line (words.Demo count) = Some (Demo count)
-known_line words = None
+-- the line of a command, with its values
+abbrev pub known_line : Words → Line
+known_line (words.Status pod) = Status pod
+known_line words.List = PodList
+known_line (words.CatManifest pod) = CatManifest pod
+known_line (words.Prepare asked) = Prepare (wants_of asked)
+known_line (words.Run asked address) = Run (wants_of asked) address
+known_line (words.RunPrepared pod address) = RunPrepared pod address
+known_line (words.Rm pod) = Rm pod
+known_line (words.Gc grace expire) = Gc grace expire
+known_line (words.Validate path) = Validate path
+known_line (words.ImageImport path) = ImageImport path
+known_line words.ImageList = ImageList
+known_line (words.ImageRm key) = ImageRm key
+known_line words.ImageGc = ImageGc
+known_line (words.Demo count) = Demo count
+known_line (words.Metadata address count) = Metadata address count
 
 abbrev pub line_read : Result Words ℕ → Option Line
-line_read (Ok words) = known_line words
+line_read (Ok words) = Some (known_line words)
 line_read (Err place) = None
 
 -- of the words as the program has them

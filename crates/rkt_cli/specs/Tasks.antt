@@ -32,6 +32,7 @@ pub data Task : Type 0 where
   Run : Wants → List ℕ → Task
   Rm : List ℕ → PodId → Task
   Gc : ℕ → ℕ → Task
+  Metadata : List ℕ → ℕ → Task
   Demo : ℕ → Task
 
 -- the task of a line, where this is its pod
@@ -49,12 +50,18 @@ task_of (line.RunPrepared word address) pod = RunPrepared word pod address
 task_of (line.Run wants address) pod = Run wants address
 task_of (line.Rm word) pod = Rm word pod
 task_of (line.Gc grace expire) pod = Gc grace expire
+task_of (line.Metadata address count) pod = Metadata address count
 task_of (line.Demo count) pod = Demo count
 
 -- the demo is no task for one process: it performs other commands
 abbrev pub is_demo : Line → Bool
 is_demo (line.Demo count) = true
 is_demo line = false
+
+-- whether it takes connections of a listener
+abbrev pub takes_links : Line → Bool
+takes_links (line.Metadata address count) = true
+takes_links line = false
 
 -- the word by which a line names a pod
 abbrev pub word_of : Line → Option (List ℕ)

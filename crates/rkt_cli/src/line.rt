@@ -14,7 +14,7 @@ use pod_manifest::Options;
 use rkt_words::{Asked, WordsError};
 use std::alloc::Global;
 
-/// A command with its words, of those that this program has.
+/// A command with its words.
 #[derive(Drop)]
 pub enum Line {
     /// `status POD`: print the phase of a pod.
@@ -44,6 +44,8 @@ pub enum Line {
     /// `gc`: sweep pods; how long an exited one rests since it was marked, and a prepared one since it was made, in
     /// seconds.
     Gc(u64, u64),
+    /// `metadata-service ADDRESS COUNT`: serve so many connections at that address.
+    Metadata(Text, u32),
     /// `demo N`: play the demo of so many images, on a data folder of its own.
     Demo(u32),
 }
@@ -94,7 +96,7 @@ fn run_line(alloc: Global, asked: &Asked, address: Text) -> Result<Line, WordsEr
 
 fn known_line(alloc: Global, words: rkt_words::Line) -> Result<Line, WordsError>
     requires { AsksWell words }
-    ensures { IsReading (known_line words) result }
+    ensures { IsReading (Some (known_line words)) result }
 {
     match words {
         rkt_words::Line::Status(pod) => Ok(Line::Status(pod)),
@@ -111,15 +113,12 @@ fn known_line(alloc: Global, words: rkt_words::Line) -> Result<Line, WordsError>
         rkt_words::Line::ImageRm(key) => Ok(Line::ImageRm(key)),
         rkt_words::Line::ImageGc => Ok(Line::ImageGc),
         rkt_words::Line::Demo(count) => Ok(Line::Demo(count)),
-        rkt_words::Line::Metadata {
-            address: _,
-            count: _,
-        } => Err(WordsError::Usage(0)),
+        rkt_words::Line::Metadata { address, count } => Ok(Line::Metadata(address, count)),
     }
 }
 
-/// The command that the words are. `Usage` where they are none, or one that this program hasn't, with the place of the
-/// first word that can't be part of one; `NoMemory` at any words.
+/// The command that the words are. `Usage` where they are none, with the place of the first word that can't be part of
+/// one; `NoMemory` at any words.
 pub fn read_line(alloc: Global, words: &[String]) -> Result<Line, WordsError>
     ensures line { IsReading (line_in words.now) result }
     ensures few { IfOk result IsWithin }

@@ -1,4 +1,4 @@
-// What a command line does to the directory, the bundle and the spawner.
+// What a command line does to the directory, the bundle, the spawner and the listener.
 ghost use Rattle.std.specs.Prelude.{◌≡◌, ◌⊎◌, true, false, Some, None, IsSome, IsNone, IsErrOf, []};
 ghost use Rattle.dir_model.specs.Causes.{Rose};
 ghost use Rattle.dir_model.specs.declared.intent.Intent.{Intent};
@@ -10,9 +10,10 @@ ghost use Rattle.commands.specs.Command.{intent_for};
 ghost use Rattle.commands.specs.GcCommand.{gc_intent};
 ghost use Rattle.rkt_cli.specs.Commands.{uses_dir, reads_bundle, runs_apps, any_task, intent_in, intent_of, Came};
 ghost use Rattle.rkt_cli.specs.Histories.{HandsOver, WhereKnown};
+ghost use Rattle.rkt_cli.specs.Links.{LinksBetween, LinksOf};
 ghost use Rattle.rkt_cli.specs.Lookups.{Acts};
 ghost use Rattle.rkt_cli.specs.Runs.{CommandRan};
-ghost use Rattle.rkt_cli.specs.Tasks.{MeansItsPod, is_demo, task_of};
+ghost use Rattle.rkt_cli.specs.Tasks.{MeansItsPod, is_demo, takes_links, task_of};
 
 use crate::line::Line;
 use crate::lookup::its_pod;
@@ -24,6 +25,7 @@ use commands::image_import::image_import;
 use commands::image_list::image_list;
 use commands::image_rm::image_rm;
 use commands::list::list;
+use commands::metadata_service::metadata_service;
 use commands::prepare::prepare_pod;
 use commands::rm::rm;
 use commands::run::run;
@@ -31,6 +33,7 @@ use commands::run_prepared::run_prepared;
 use commands::status::pod_status;
 use commands::validate::validate;
 use dir_trait::{Bundle, Dir, Draw, Intent, Kind, PodId, PodPrefix};
+use listener::Listener;
 use spawner::Spawner;
 use std::alloc::Global;
 
@@ -82,11 +85,12 @@ fn line_intent(line: &Line, now: u64, draw: &Draw) -> Option<Intent>
         Line::Run(_, _) => Some(intent_for(Kind::Run, PodPrefix::empty(), now, draw)),
         Line::Rm(word) => Some(intent_for(Kind::Rm, *word, now, draw)),
         Line::Gc(grace, expire) => Some(gc_intent(*grace, *expire, now, draw)),
+        Line::Metadata(_, _) => { Some(intent_for(Kind::Metadata, PodPrefix::empty(), now, draw)) }
         Line::Demo(_) => None,
     }
 }
 
-// A command that runs no apps, on the pod that its line means.
+// A command that runs no apps and takes no connections, on the pod that its line means.
 fn act_alone<D: Dir, B: Bundle>(
     alloc: Global,
     line: &Line,
@@ -100,6 +104,7 @@ fn act_alone<D: Dir, B: Bundle>(
     requires ready { (D.shown dir.old).local.holdings ≡ [] }
     requires meant { MeansItsPod (task_of line.now pod) }
     requires alone { runs_apps (task_of line.now pod) ≡ false }
+    requires unlinked { takes_links line.now ≡ false }
     requires whole { is_demo line.now ≡ false }
     ensures local { (D.shown dir.new).local ≡ (D.shown dir.old).local }
     ensures apart { uses_dir (task_of line.now pod) ≡ false → dir.new ≡ dir.old }
@@ -123,6 +128,7 @@ fn act_alone<D: Dir, B: Bundle>(
         Line::Rm(_) => rm(alloc, pod, now, dir),
         Line::Gc(grace, expire) => gc_pods(alloc, now, *grace, *expire, dir),
         Line::RunPrepared(_, _) | Line::Run(_, _) => unreachable!(),
+        Line::Metadata(_, _) => unreachable!(),
         Line::Demo(_) => unreachable!(),
     }
 }
@@ -139,7 +145,7 @@ fn all_well(outcome: Result<Output, Refusal>) -> Result<Told, Refusal>
 }
 
 // The command itself, on the pod that its line means.
-fn act<D: Dir, B: Bundle, S: Spawner>(
+fn act<D: Dir, B: Bundle, S: Spawner, L: Listener>(
     alloc: Global,
     line: &Line,
     pod: PodId,
@@ -148,6 +154,7 @@ fn act<D: Dir, B: Bundle, S: Spawner>(
     dir: &mut D,
     bundle: &mut B,
     spawner: &mut S,
+    listener: &mut L,
 ) -> Result<Told, Refusal>
     requires active { uses_dir (task_of line.now pod) ≡ true → IsActive (D.shown dir.old).local }
     requires ready { (D.shown dir.old).local.holdings ≡ [] }
@@ -165,19 +172,31 @@ fn act<D: Dir, B: Bundle, S: Spawner>(
         → WhereKnown (task_of line.now pod) now draw.now (D.shown dir.old) (HandsOver (D.shown dir.old) (D.shown dir.new)) }
     ensures ran { CommandRan (task_of line.now pod) now draw.now (outside_at D.Dir B.Bundle dir.old bundle.old) (outside_at D.Dir B.Bundle dir.new bundle.new) (outcome_of result) }
     ensures came { Came (task_of line.now pod) now draw.now (inside_at D.Dir S.Spawner dir.old spawner.old) (inside_at D.Dir S.Spawner dir.new spawner.new) result }
+    ensures unlinked { takes_links line.now ≡ false → listener.new ≡ listener.old }
+    ensures link_cause { IsErrOf result Refusal.LinkFault → Rose (L.shown listener.old).faults (L.shown listener.new).faults }
+    ensures serves { L.observed ≡ true → D.observed ≡ true → (L.shown listener.old).current ≡ None
+        → LinksBetween line.now draw.now result (L.shown listener.old) (L.shown listener.new) (D.shown dir.old) (D.shown dir.new) }
 {
     match line {
         Line::RunPrepared(_, address) => run_prepared(alloc, pod, address.as_str(), dir, spawner),
         Line::Run(wanted, address) => {
             run(alloc, wanted, address.as_str(), now, draw, dir, spawner)
         }
+        Line::Metadata(address, count) => all_well(metadata_service(
+            alloc,
+            address.as_str(),
+            *count,
+            &draw.key,
+            dir,
+            listener,
+        )),
         _ => all_well(act_alone(alloc, line, pod, now, draw, dir, bundle)),
     }
 }
 
 // A process begins, comes to the pod that the line means, does what it says, and finishes. Where it can't begin, it does
 // nothing more.
-fn act_in_process<D: Dir, B: Bundle, S: Spawner>(
+fn act_in_process<D: Dir, B: Bundle, S: Spawner, L: Listener>(
     alloc: Global,
     line: &Line,
     intent: Intent,
@@ -186,6 +205,7 @@ fn act_in_process<D: Dir, B: Bundle, S: Spawner>(
     dir: &mut D,
     bundle: &mut B,
     spawner: &mut S,
+    listener: &mut L,
 ) -> Result<Told, Refusal>
     requires fresh { (D.shown dir.old).local ≡ nothing_local }
     requires uses { uses_dir (any_task line.now) ≡ true }
@@ -196,12 +216,16 @@ fn act_in_process<D: Dir, B: Bundle, S: Spawner>(
     ensures makers { D.observed ≡ true → HandsOver (D.shown dir.old) (D.shown dir.new) }
     ensures acts { Acts line.now now draw.now (outside_at D.Dir B.Bundle dir.old bundle.old) (outside_at D.Dir B.Bundle dir.new bundle.new)
         (spawner_at S.Spawner spawner.old) (spawner_at S.Spawner spawner.new) result }
+    ensures unlinked { takes_links line.now ≡ false → listener.new ≡ listener.old }
+    ensures link_cause { IsErrOf result Refusal.LinkFault → Rose (L.shown listener.old).faults (L.shown listener.new).faults }
+    ensures serves { L.observed ≡ true → D.observed ≡ true → (L.shown listener.old).current ≡ None
+        → LinksOf line.now now draw.now result (L.shown listener.old) (L.shown listener.new) (D.shown dir.old) (D.shown dir.new) }
 {
     match dir.begin(alloc, intent) {
         Err(_) => Err(Refusal::NoMemory),
         Ok(()) => match its_pod(alloc, line, draw, dir) {
             Ok(pod) => {
-                let answer = act(alloc, line, pod, now, draw, dir, bundle, spawner);
+                let answer = act(alloc, line, pod, now, draw, dir, bundle, spawner, listener);
                 // Before anything is printed, so that a slow reader of the output keeps no process alive.
                 dir.finish();
                 answer
@@ -216,7 +240,7 @@ fn act_in_process<D: Dir, B: Bundle, S: Spawner>(
 
 /// Does what the line says, in a process of the directory where the command needs one. The demo is none of these
 /// commands: it performs them.
-pub fn perform<D: Dir, B: Bundle, S: Spawner>(
+pub fn perform<D: Dir, B: Bundle, S: Spawner, L: Listener>(
     alloc: Global,
     line: &Line,
     now: u64,
@@ -224,6 +248,7 @@ pub fn perform<D: Dir, B: Bundle, S: Spawner>(
     dir: &mut D,
     bundle: &mut B,
     spawner: &mut S,
+    listener: &mut L,
 ) -> Result<Told, Refusal>
     requires fresh { (D.shown dir.old).local ≡ nothing_local }
     requires whole { is_demo line.now ≡ false }
@@ -233,9 +258,19 @@ pub fn perform<D: Dir, B: Bundle, S: Spawner>(
     ensures makers { D.observed ≡ true → HandsOver (D.shown dir.old) (D.shown dir.new) }
     ensures acts { Acts line.now now draw.now (outside_at D.Dir B.Bundle dir.old bundle.old) (outside_at D.Dir B.Bundle dir.new bundle.new)
         (spawner_at S.Spawner spawner.old) (spawner_at S.Spawner spawner.new) result }
+    ensures unlinked { takes_links line.now ≡ false → listener.new ≡ listener.old }
+    ensures link_cause { IsErrOf result Refusal.LinkFault → Rose (L.shown listener.old).faults (L.shown listener.new).faults }
+    ensures serves { L.observed ≡ true → D.observed ≡ true → (L.shown listener.old).current ≡ None
+        → LinksOf line.now now draw.now result (L.shown listener.old) (L.shown listener.new) (D.shown dir.old) (D.shown dir.new) }
 {
     match line_intent(line, now, draw) {
-        Some(intent) => act_in_process(alloc, line, intent, now, draw, dir, bundle, spawner),
-        None => act(alloc, line, draw.uuid, now, draw, dir, bundle, spawner),
+        Some(intent) => {
+            act_in_process(
+                alloc, line, intent, now, draw, dir, bundle, spawner, listener,
+            )
+        }
+        None => act(
+            alloc, line, draw.uuid, now, draw, dir, bundle, spawner, listener,
+        ),
     }
 }

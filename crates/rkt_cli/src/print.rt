@@ -1,5 +1,5 @@
 // What is written, and the status.
-ghost use Rattle.std.specs.Prelude.{◌≡◌, IfOk, IfErr};
+ghost use Rattle.std.specs.Prelude.{◌≡◌, [], Ok, IfOk, IfErr};
 ghost use Rattle.command_outcomes.specs.Texts.{status_of};
 ghost use Rattle.command_outcomes.specs.Moments.{sink_at, outcome_of, is_well};
 ghost use Rattle.commands.specs.Answers.{Complained};
@@ -9,7 +9,7 @@ use command_outcomes::{Refusal, Told};
 use dir_trait::{Sink, SinkError, write_whole};
 use std::alloc::Global;
 
-/// Writes the text that is told, and answers whether all went well.
+/// Writes the text that is told, and answers whether all went well. Of an empty text nothing is asked of the output.
 pub fn print<O: Sink>(
     alloc: Global,
     out: &mut O,
@@ -18,9 +18,11 @@ pub fn print<O: Sink>(
     ensures printed { Printed (outcome_of answer) (sink_at O.Sink out.old) (sink_at O.Sink out.new) (end_of_writing result) }
     ensures well { IfOk result (λ well. well ≡ is_well answer) }
     ensures unwritten { IfErr answer (λ refusal. out.new ≡ out.old) }
+    ensures empty { IfOk answer (λ told. told.text ≡ [] → result ≡ Ok told.well) }
 {
     match answer {
         Err(refusal) => Err(refusal),
+        Ok(told) if told.text.as_slice().is_empty() => Ok(told.well),
         Ok(told) => match write_whole(alloc, out, told.text.as_slice()) {
             Ok(()) => Ok(told.well),
             Err(SinkError::Failed) => Err(Refusal::OutFault),

@@ -12,6 +12,7 @@ use crate::turn::Turn;
 use command_outcomes::Told;
 use dir_memory::MemoryDir;
 use dir_trait::NoMemory;
+use memory_listener::MemoryListener;
 use std::alloc::Global;
 
 /// The data folder before the next command, how many commands told so far that not all went well, and how many lines
@@ -72,6 +73,7 @@ pub(crate) fn play_turn(alloc: Global, stage: Stage, turn: Turn) -> Result<Stage
 {
     let mut stage = stage;
     let mut turn = turn;
+    let mut listener = MemoryListener::new(alloc);
     match perform(
         alloc,
         &turn.line,
@@ -80,6 +82,7 @@ pub(crate) fn play_turn(alloc: Global, stage: Stage, turn: Turn) -> Result<Stage
         &mut stage.dir,
         &mut turn.bundle,
         &mut turn.spawner,
+        &mut listener,
     ) {
         Ok(told) => after(stage, &told),
         Err(_) => Err(NoMemory),

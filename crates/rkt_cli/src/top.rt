@@ -5,9 +5,12 @@ ghost use Rattle.dir_trait.specs.Local.{nothing_local};
 ghost use Rattle.pod_build.specs.LegalExecutions.{IsLegal};
 ghost use Rattle.pod_roots.specs.Roots.{PodsReadAsMade};
 ghost use Rattle.rkt_cli.specs.Between.{EndedBetween, ToldBetween, PhasesBetween, QuietBetween, RunBetween};
-ghost use Rattle.rkt_cli.specs.Commands.{uses_dir_in, reads_bundle_in, runs_apps_in};
+ghost use Rattle.dir_model.specs.Causes.{Rose};
+ghost use Rattle.rkt_cli.specs.Commands.{uses_dir_in, reads_bundle_in, runs_apps_in, takes_links_in};
 ghost use Rattle.rkt_cli.specs.Histories.{HandsOver, StaysLawful};
 ghost use Rattle.rkt_cli.specs.Lines.{line_in};
+ghost use Rattle.rkt_cli.specs.Links.{LinksIn};
+ghost use Rattle.rkt_cli.specs.LinksAlone.{LinksAlone};
 ghost use Rattle.rkt_cli.specs.Headlines.{KeepsTheHeadline};
 ghost use Rattle.rkt_cli.specs.Promises.{IsStatus, IsOutput, IsOver, ReadsIn};
 
@@ -16,12 +19,13 @@ use crate::line::read_line;
 use crate::print::{print, refuse, report};
 use command_outcomes::Refusal;
 use dir_trait::{Bundle, Dir, Draw, Sink};
+use listener::Listener;
 use rkt_words::WordsError;
 use spawner::Spawner;
 use std::alloc::Global;
 
 // The run itself, told by one clause from which the others follow.
-fn run<D: Dir, B: Bundle, S: Spawner, O: Sink, E: Sink>(
+fn run<D: Dir, B: Bundle, S: Spawner, L: Listener, O: Sink, E: Sink>(
     alloc: Global,
     words: &[String],
     now: u64,
@@ -29,6 +33,7 @@ fn run<D: Dir, B: Bundle, S: Spawner, O: Sink, E: Sink>(
     dir: &mut D,
     bundle: &mut B,
     spawner: &mut S,
+    listener: &mut L,
     out: &mut O,
     err: &mut E,
 ) -> u8
@@ -38,13 +43,17 @@ fn run<D: Dir, B: Bundle, S: Spawner, O: Sink, E: Sink>(
     ensures apart { uses_dir_in (line_in words.now) ≡ false → dir.new ≡ dir.old }
     ensures unread { reads_bundle_in (line_in words.now) ≡ false → bundle.new ≡ bundle.old }
     ensures unasked { runs_apps_in (line_in words.now) ≡ false → spawner.new ≡ spawner.old }
+    ensures unlinked { takes_links_in (line_in words.now) ≡ false → listener.new ≡ listener.old }
+    ensures link_cause { result ≡ 13 → Rose (L.shown listener.old).faults (L.shown listener.new).faults }
+    ensures serves { L.observed ≡ true → D.observed ≡ true → (L.shown listener.old).current ≡ None
+        → LinksIn (line_in words.now) now draw.now result (L.shown listener.old) (L.shown listener.new) (D.shown dir.old) (D.shown dir.new) }
     ensures makers { D.observed ≡ true → HandsOver (D.shown dir.old) (D.shown dir.new) }
 {
     match read_line(alloc, words) {
         Err(WordsError::Usage(_)) => refuse(alloc, err, &Refusal::Usage),
         Err(WordsError::NoMemory) => refuse(alloc, err, &Refusal::NoMemory),
         Ok(line) => {
-            let answer = carry_out(alloc, &line, now, draw, dir, bundle, spawner);
+            let answer = carry_out(alloc, &line, now, draw, dir, bundle, spawner, listener);
             let end = print(alloc, out, answer);
             report(alloc, err, &end)
         }
@@ -56,7 +65,7 @@ fn run<D: Dir, B: Bundle, S: Spawner, O: Sink, E: Sink>(
 /// command, finishes the process, writes the command's text to `out` or the refusal to `err`, and
 /// answers the exit status. The clauses hold for every directory, bundle and sink, whatever other
 /// processes do between the calls.
-pub fn rkt<D: Dir, B: Bundle, S: Spawner, O: Sink, E: Sink>(
+pub fn rkt<D: Dir, B: Bundle, S: Spawner, L: Listener, O: Sink, E: Sink>(
     alloc: Global,
     words: &[String],
     now: u64,
@@ -64,6 +73,7 @@ pub fn rkt<D: Dir, B: Bundle, S: Spawner, O: Sink, E: Sink>(
     dir: &mut D,
     bundle: &mut B,
     spawner: &mut S,
+    listener: &mut L,
     out: &mut O,
     err: &mut E,
 ) -> u8
@@ -81,6 +91,12 @@ pub fn rkt<D: Dir, B: Bundle, S: Spawner, O: Sink, E: Sink>(
     ensures apart { uses_dir_in (line_in words.now) ≡ false → dir.new ≡ dir.old }
     ensures unread { reads_bundle_in (line_in words.now) ≡ false → bundle.new ≡ bundle.old }
     ensures unasked { runs_apps_in (line_in words.now) ≡ false → spawner.new ≡ spawner.old }
+    ensures unlinked { takes_links_in (line_in words.now) ≡ false → listener.new ≡ listener.old }
+    ensures link_cause { result ≡ 13 → Rose (L.shown listener.old).faults (L.shown listener.new).faults }
+    ensures serves { L.observed ≡ true → D.observed ≡ true → (L.shown listener.old).current ≡ None
+        → LinksIn (line_in words.now) now draw.now result (L.shown listener.old) (L.shown listener.new) (D.shown dir.old) (D.shown dir.new) }
+    ensures serves_alone { L.observed ≡ true → D.observed ≡ true → (L.shown listener.old).current ≡ None
+        → LinksAlone (line_in words.now) draw.now result (L.shown listener.old) (L.shown listener.new) (D.shown dir.old) (D.shown dir.new) }
     ensures reads { ReadsIn (line_in words.now) (bundle_at B.Bundle bundle.old) (bundle_at B.Bundle bundle.new) }
     ensures over { IsOver (line_in words.now) now draw.now result (D.shown dir.old).local (D.shown dir.new).local }
     ensures headline { D.observed ≡ true → KeepsTheHeadline (line_in words.now) now draw.now (D.shown dir.old) (D.shown dir.new) }
@@ -91,5 +107,7 @@ pub fn rkt<D: Dir, B: Bundle, S: Spawner, O: Sink, E: Sink>(
     ensures ran { RunBetween D.Dir B.Bundle S.Spawner O.Sink E.Sink (line_in words.now) now draw.now result
         (dir.old, bundle.old, spawner.old, out.old, err.old) (dir.new, bundle.new, spawner.new, out.new, err.new) }
 {
-    run(alloc, words, now, draw, dir, bundle, spawner, out, err)
+    run(
+        alloc, words, now, draw, dir, bundle, spawner, listener, out, err,
+    )
 }

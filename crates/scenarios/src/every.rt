@@ -1,5 +1,6 @@
 // A command that breaks at each of its calls in turn.
 use crate::before::Before;
+use crate::callers::{cut_all, put_written, slow_all};
 use crate::plan::{Interlude, Plan};
 use crate::printed::phase_of;
 use crate::run::{Command, Ended, command_of, run_next};
@@ -28,6 +29,9 @@ fn break_at(page: &mut Page, plan: &mut Plan, kind: &str, number: u64) {
         "spawn" => plan.faults.spawner = number,
         "write" => plan.faults.out = number,
         "complaint" => plan.faults.err = number,
+        "link" => plan.faults.link = number,
+        "cut" => cut_all(plan.callers.as_mut_slice(), number),
+        "pieces" => slow_all(plan.callers.as_mut_slice(), number),
         "before" => place_steps(plan.steps.as_mut_slice(), number),
         _ => page.unread(Unread::Word),
     }
@@ -117,12 +121,20 @@ fn add_store(page: &mut Page, stage: &mut Stage) {
     }
 }
 
-// How a command ended, in one line: the status, what it wrote, its apps, the pods that exist then, and how many
-// folders the store has.
+// What was written to each connection.
+fn add_replies(page: &mut Page, names: &ShortNames, ended: &Ended) {
+    for place in 0..ended.callers {
+        put_written(page, names, " | wrote ", &ended.listener, place);
+    }
+}
+
+// How a command ended, in one line: the status, what it wrote, to its connections too, its apps, the pods that exist
+// then, and how many folders the store has.
 fn add_summary(page: &mut Page, names: &ShortNames, stage: &mut Stage, ended: &Ended, number: u32) {
     page.tell(&ended.status);
     add_lines(page, ended.out.bytes.as_slice());
     add_lines(page, ended.err.bytes.as_slice());
+    add_replies(page, names, ended);
     if let Some(dir) = &stage.dir {
         let events = dir.history().as_slice();
         add_apps(page, events, ended.spawner.starts(), number);

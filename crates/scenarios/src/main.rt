@@ -1,11 +1,12 @@
-//! Plays a script of scenarios: commands of many processes on the data folder, the bundles and the programs
-//! in memory, among the steps of others. It prints the script again, with what really came in place of
+//! Plays a script of scenarios: commands of many processes on the data folder, the bundles, the programs and
+//! the connections in memory, among the steps of others. It prints the script again, with what really came in place of
 //! what the script expects.
 #![tactic(auto)]
 
 mod before;
 mod bundles;
 mod byte_sink;
+mod callers;
 mod changing;
 mod every;
 mod plan;

@@ -1,4 +1,5 @@
-// What the next command meets: steps of others, failing calls, a kill, how programs end.
+// What the next command meets: steps of others, failing calls, a kill, how programs end, connections.
+use crate::callers::{Caller, add_caller};
 use dir_trait::Request;
 use scripts::{Line, Page, ShortNames, Unread, request_of};
 use std::alloc::Global;
@@ -20,7 +21,7 @@ pub struct End {
 }
 
 /// What fails: the call with that number on the data folder, on the bundle, on the spawner, and the write to
-/// the output or to the error output. Nothing has the number 0.
+/// the output or to the error output, and the call on the listener. Nothing has the number 0.
 #[derive(Clone, Copy, Drop)]
 pub struct Faults {
     pub dir: u64,
@@ -28,6 +29,7 @@ pub struct Faults {
     pub spawner: u64,
     pub out: u64,
     pub err: u64,
+    pub link: u64,
     /// Before which call on the data folder the process is killed.
     pub stop: u64,
     /// From which read on the files of the bundle begin with another byte.
@@ -39,6 +41,7 @@ pub struct Faults {
 pub struct Plan {
     pub steps: Vec<Interlude>,
     pub ends: Vec<End>,
+    pub callers: Vec<Caller>,
     pub faults: Faults,
 }
 
@@ -48,12 +51,14 @@ impl Plan {
         Plan {
             steps: Vec::new(alloc),
             ends: Vec::new(alloc),
+            callers: Vec::new(alloc),
             faults: Faults {
                 dir: 0,
                 bundle: 0,
                 spawner: 0,
                 out: 0,
                 err: 0,
+                link: 0,
                 stop: 0,
                 change: 0,
             },
@@ -77,6 +82,7 @@ fn fault(page: &mut Page, faults: &mut Faults, line: &mut Line) {
         "spawn" => faults.spawner = line.number(page),
         "write" => faults.out = line.number(page),
         "complaint" => faults.err = line.number(page),
+        "link" => faults.link = line.number(page),
         _ => page.unread(Unread::Word),
     }
 }
@@ -110,8 +116,8 @@ fn add_step(
 }
 
 /// Takes in a line that says what the next command meets:
-/// `before CALL PROCESS REQUEST`, `inside CALL PROCESS REQUEST`, `fail call|read|spawn|write|complaint N`,
-/// `stop CALL`, `change READ`, `ends START STATUS`. Answers whether it is one. Refused where it can't be read.
+/// `before CALL PROCESS REQUEST`, `inside CALL PROCESS REQUEST`, `fail call|read|spawn|write|complaint|link N`,
+/// `stop CALL`, `change READ`, `ends START STATUS`, `connection MOST INPUT`. Answers whether it is one. Refused where it can't be read.
 pub fn planned(page: &mut Page, names: &ShortNames, plan: &mut Plan, line: &mut Line) -> bool {
     match line.word() {
         "before" => add_step(page, names, &mut plan.steps, false, line),
@@ -120,6 +126,7 @@ pub fn planned(page: &mut Page, names: &ShortNames, plan: &mut Plan, line: &mut 
         "stop" => plan.faults.stop = call(page, line),
         "change" => plan.faults.change = line.number(page),
         "ends" => add_end(page, &mut plan.ends, line),
+        "connection" => add_caller(page, names, &mut plan.callers, line),
         _ => return false,
     }
     true

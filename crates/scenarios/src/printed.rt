@@ -1,4 +1,5 @@
 // What is printed below a line.
+use crate::callers::put_written;
 use crate::run::{Command, Ended, run};
 use crate::seen::LOOKERS;
 use crate::stage::Stage;
@@ -57,7 +58,15 @@ fn print_starts(page: &mut Page, names: &ShortNames, spawner: &MemorySpawner) {
     }
 }
 
-/// Prints how a command ended: the status, what it wrote, and what it started.
+// What was written to each connection.
+fn print_replies(page: &mut Page, names: &ShortNames, ended: &Ended) {
+    for place in 0..ended.callers {
+        put_written(page, names, "  wrote ", &ended.listener, place);
+        page.put("\n");
+    }
+}
+
+/// Prints how a command ended: the status, what it wrote, what it started, and what it wrote to connections.
 pub fn print_ended(page: &mut Page, names: &ShortNames, ended: &Ended) {
     page.put("  ");
     page.tell(&ended.status);
@@ -66,6 +75,7 @@ pub fn print_ended(page: &mut Page, names: &ShortNames, ended: &Ended) {
     print_bytes(page, names, ended.err.bytes.as_slice(), out.is_empty());
     page.put("\n");
     print_starts(page, names, &ended.spawner);
+    print_replies(page, names, ended);
 }
 
 fn print_event(page: &mut Page, names: &ShortNames, event: &Event) {

@@ -4,11 +4,13 @@ ghost use Rattle.dir_trait.specs.Local.{nothing_local};
 
 use crate::bundles::{Put, bundle_of};
 use crate::byte_sink::ByteSink;
+use crate::callers::Caller;
 use crate::changing::ChangingBundle;
 use crate::plan::{End, Faults, Interlude, Plan};
 use crate::stage::Stage;
 use dir_memory::MemoryDir;
 use dir_trait::{Draw, NoMemory, PodId};
+use memory_listener::MemoryListener;
 use memory_spawner::MemorySpawner;
 use rkt_cli::rkt;
 use scripts::{Line, Page, ShortNames, Unread, pod_of, unfolded};
@@ -23,13 +25,15 @@ pub struct Command {
     pub words: Vec<String>,
 }
 
-/// How a command ended, what it wrote, and what it asked of the spawner.
+/// How a command ended, what it wrote, what it asked of the spawner, and how many connections it met.
 #[derive(Drop)]
 pub struct Ended {
     pub status: u8,
     pub out: ByteSink,
     pub err: ByteSink,
     pub spawner: MemorySpawner,
+    pub listener: MemoryListener,
+    pub callers: usize,
 }
 
 fn draw(pod: PodId) -> Draw {
@@ -132,13 +136,37 @@ fn spawner_for(alloc: Global, plan: &Plan) -> Result<MemorySpawner, NoMemory> {
     spawner.fail(alloc, plan.faults.spawner)
 }
 
-// The outputs and the spawner before the command.
+fn called(
+    alloc: Global,
+    listener: MemoryListener,
+    callers: &[Caller],
+) -> Result<MemoryListener, NoMemory> {
+    let mut listener = listener;
+    for caller in callers {
+        if caller.most > 0 {
+            listener = listener.connection(alloc, caller.input.as_slice(), caller.most)?;
+        }
+    }
+    Ok(listener)
+}
+
+fn listener_for(alloc: Global, plan: &Plan) -> Result<MemoryListener, NoMemory> {
+    let listener = called(alloc, MemoryListener::new(alloc), plan.callers.as_slice())?;
+    if plan.faults.link == 0 {
+        return Ok(listener);
+    }
+    listener.fail(alloc, plan.faults.link)
+}
+
+// The outputs, the spawner and the listener before the command.
 fn ready(alloc: Global, plan: &Plan) -> Result<Ended, NoMemory> {
     Ok(Ended {
         status: 0,
         out: ByteSink::new(alloc, plan.faults.out),
         err: ByteSink::new(alloc, plan.faults.err),
         spawner: spawner_for(alloc, plan)?,
+        listener: listener_for(alloc, plan)?,
+        callers: plan.callers.len(),
     })
 }
 
@@ -159,6 +187,7 @@ fn run_in(
         dir,
         bundle,
         &mut ended.spawner,
+        &mut ended.listener,
         &mut ended.out,
         &mut ended.err,
     );

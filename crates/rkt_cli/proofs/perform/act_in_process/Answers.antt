@@ -3,6 +3,7 @@ use Rattle.dir_trait.specs.Knowledge.{Knows}
 use Rattle.command_outcomes.specs.Conforming.{begun}
 use Rattle.rkt_cli.specs.Tasks.{task_of, word_of}
 use Rattle.rkt_cli.proofs.Acting.{acted_knows, acted_never, acted_vain, acted_whole, looked_by, same_intent, same_uses}
+use Rattle.rkt_cli.proofs.Linked.{links_never, links_vain, links_whole, vain_link}
 use Rattle.rkt_cli.proofs.Makers.{process_hands, vain_hands, never_begun_hands}
 use Rattle.rkt_cli.proofs.RunsRan.{begun_as}
 use Rattle.rkt_cli.proofs.perform.act_in_process.Goals as goal
@@ -51,3 +52,18 @@ returns-in-Err-clause-makers g c t run = never_begun_hands (c.in-Err.ensures.cal
 
 pub returns-in-Err-clause-acts : goal.returns-in-Err-clause-acts
 returns-in-Err-clause-acts g c = acted_never _ c.args.line.now c.args.now c.args.draw.now c.args.intent _ _ c.requires.said _ _ _ c.in-Err.ensures.refusals c.in-Err.ensures.called
+
+pub returns-in-Ok-its_pod-clause-serves : goal.returns-in-Ok-its_pod-clause-serves
+returns-in-Ok-its_pod-clause-serves g c l d none =
+    let D = g.D.Dir in
+    links_whole D.observed c.args.line.now c.args.now c.args.draw.now c.args.intent (D.shown c.args.dir.now) (D.shown c.begin.new.self) (D.shown c.its_pod.new.dir) c.requires.said c.in-Ok.ensures.called c.its_pod.ensures.comes d
+    (D.shown c.act-answer.new.dir) (D.shown c.finish.new.self) c.act-answer.result _ _ c.act-answer.ensures.ran.same c.finish.ensures.called (c.act-answer.ensures.serves l d none)
+
+pub returns-in-Err-its_pod-clause-serves : goal.returns-in-Err-its_pod-clause-serves
+returns-in-Err-its_pod-clause-serves g c l d none = links_vain c.args.line.now c.args.now c.args.draw.now c.in-Err-its_pod.refusal _ _ _ _ _ c.in-Err-its_pod.ensures.finds
+
+pub returns-in-Err-its_pod-clause-link_cause : goal.returns-in-Err-its_pod-clause-link_cause
+returns-in-Err-its_pod-clause-link_cause g c is = vain_link (word_of c.args.line.now) c.args.draw.now _ _ c.in-Err-its_pod.refusal c.in-Err-its_pod.ensures.finds is
+
+pub returns-in-Err-clause-serves : goal.returns-in-Err-clause-serves
+returns-in-Err-clause-serves g c l d none = links_never c.args.line.now c.args.now c.args.draw.now _ _ _

@@ -1,6 +1,7 @@
 use Rattle.std.proofs.Common.{◌∙◌, refl, sym, ap}
 use Rattle.rkt_cli.proofs.Acting.{acted_apart, same_uses, well_apart}
 use Rattle.command_outcomes.specs.Moments.{dir_at}
+use Rattle.rkt_cli.proofs.Linked.{links_apart}
 use Rattle.rkt_cli.proofs.Makers.{apart_hands}
 use Rattle.rkt_cli.proofs.perform.perform.Goals as goal
 
@@ -16,3 +17,6 @@ returns-in-None-clause-acts g c =
     let apart = c.in-None.ensures.none refl in
     acted_apart D.observed line c.args.now c.args.draw.now (D.shown c.args.dir.now) (D.shown c.act.new.dir) _ _ _ _ c.act.result (sym c.in-None.ensures.intent) apart (ap (dir_at D) (c.act.ensures.apart (same_uses line c.args.draw.now.uuid ∙ apart)))
     c.act.ensures.ran (well_apart line c.args.now c.args.draw.now _ _ c.act.result apart c.act.ensures.came) c.act.ensures.spawn_cause
+
+pub returns-in-None-clause-serves : goal.returns-in-None-clause-serves
+returns-in-None-clause-serves g c l d none = links_apart c.args.line.now c.args.now c.args.draw.now c.act.result _ _ _ _ (sym c.in-None.ensures.intent) (c.act.ensures.serves l d none)

@@ -1,4 +1,4 @@
-use Rattle.std.proofs.Common.{◌≡◌, Bool, true, false, if◌then◌else◌, List, [], ◌∷◌, ◌++◌, sym, ap, subst, ◌∙◌}
+use Rattle.std.proofs.Common.{◌≡◌, Bool, if◌then◌else◌, List, [], ◌∷◌, ◌++◌, sym, ap, subst, ◌∙◌}
 use Rattle.dir_trait.specs.Local.{nothing_local}
 use Rattle.rkt_cli.specs.declared.stage.Stage.{Stage}
 use Rattle.rkt_cli.specs.declared.turn.Turn.{Turn}

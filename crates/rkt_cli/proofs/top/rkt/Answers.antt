@@ -1,4 +1,5 @@
 use Rattle.rkt_cli.specs.Lines.{line_in}
+use Rattle.rkt_cli.proofs.ServedAlone.{links_alone}
 use Rattle.rkt_cli.proofs.Words as words
 use Rattle.pod_roots.proofs.Reading.{pods_read}
 use Rattle.headline.proofs.Holds.{headline_holds}
@@ -50,3 +51,7 @@ returns-clause-quiet g c = words.quietly c.args.now c.args.draw.now _ _ c.run.re
 
 pub returns-clause-lawful : goal.returns-clause-lawful
 returns-clause-lawful g c t = words.lawful c.args.now c.args.draw.now _ _ c.run.result (line_in c.args.words.now) c.run.ensures.ran t
+
+pub returns-clause-serves_alone : goal.returns-clause-serves_alone
+returns-clause-serves_alone g c l d none =
+    links_alone (line_in c.args.words.now) c.args.now c.args.draw.now c.run.result (g.L.Listener.shown c.args.listener.now) (g.L.Listener.shown c.run.new.listener) (g.D.Dir.shown c.args.dir.now) (g.D.Dir.shown c.run.new.dir) (c.run.ensures.serves l d none)
