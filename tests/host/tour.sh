@@ -1,12 +1,12 @@
 #!/usr/bin/env bash
-# A stranger's first steps: each command that README.md has under that heading, run as it stands there
-# on the built program, and the whole of what it writes. Only `make` is left out.
+# A stranger's first steps: each command of docs/FIRST-STEPS.md, run as it stands there on the built program, and the
+# whole of what it writes.
 set -u
 unset RKT_DIR
 cd "$(dirname "$0")/../.." || exit 1
 . tests/host/checks.bash
 
-readme=$PWD/README.md
+steps=$PWD/docs/FIRST-STEPS.md
 if ! command -v flock >/dev/null; then
     skip 'the tour: there is no flock'
     finish
@@ -17,7 +17,7 @@ uuid_text='[0-9a-f]{8}-[0-9a-f]{4}-4[0-9a-f]{3}-[89ab][0-9a-f]{3}-[0-9a-f]{12}'
 base_key='sha512-a{64}'
 worker_key='sha512-c{64}'
 
-# What each command that calls the program, or lists a folder, writes to both streams, in README's order.
+# What each command that calls the program, or lists a folder, writes to both streams, in the document's order.
 answers=(
     'images=5 prepared=5 ran=2 failed=1 deleted=2 left=3 entries=16'
     "$base_key"
@@ -44,7 +44,7 @@ answers=(
 )
 
 commands() {
-    sed -n '/^## First steps/,/^## Commands/p' "$readme" | sed -n 's/^    //p' | grep -v '^make' | sed 's/ *# .*//'
+    sed -n 's/^    //p' "$steps" | sed 's/ *# .*//'
 }
 
 mkdir -p "$tmp/tour/build"
