@@ -202,12 +202,14 @@ fn has_status(entries: &[Entry]) -> bool
 }
 
 fn has_later_mark(entries: &[Entry]) -> bool
-    ensures { result ≡ list_any (λ e. not (is_dir e.node) && is_later_mark e.path) entries.now }
+    ensures { result ≡ list_any (λ e. is_later_mark e.path) entries.now }
 {
-    entries.iter().any(|entry| !is_dir(&entry.node) && is_later_mark(entry.path.as_slice()))
+    entries
+        .iter()
+        .any(|entry| is_later_mark(entry.path.as_slice()))
 }
 
-// The maker has done its work, with an empty directory for statuses, and no later mark.
+// The maker has done its work, with an empty directory for statuses, and nothing that bears the name of a later mark.
 fn is_whole_pod(making: &MakingTable) -> bool
     ensures { result ≡ is_whole_pod (table_making making.now) }
 {

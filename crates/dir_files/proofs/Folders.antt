@@ -1,5 +1,5 @@
 -- A listing of a folder itself tells whether the folder stood there when it began.
-use Rattle.std.proofs.Common.{◌≡◌, inl, inr, ℕ, Bool, true, false, ◌&&◌, ◌==◌, cond, Option, Some, None, option_to_list, List, [], ◌∷◌, ◌++◌, append-nil, append_assoc, length, drop, find, refl, sym, ap, subst, ◌∙◌}
+use Rattle.std.proofs.Common.{◌≡◌, inl, inr, ℕ, Bool, true, false, ◌==◌, cond, Option, Some, None, List, [], ◌∷◌, ◌++◌, append_assoc, find, refl, sym, ap, subst, ◌∙◌, codes}
 use Rattle.std.specs.List.{AllByRecursion}
 use Rattle.dir_model.specs.declared.event.Event.{Event}
 use Rattle.dir_model.specs.declared.item.Inner.{Inner}
@@ -7,66 +7,28 @@ use Rattle.dir_model.specs.declared.item.Item.{Item}
 use Rattle.dir_model.specs.declared.spot.Spot.{Spot}
 use Rattle.dir_model.specs.declared.tree.Listed.TheVariants as listed
 use Rattle.dir_model.specs.declared.tree.OpenListing.{OpenListing}
-use Rattle.dir_model.specs.declared.tree.StartedApp.{StartedApp}
 use Rattle.dir_model.specs.declared.request.DirError.TheVariants.{Missing}
-use Rattle.dir_model.specs.declared.request.Request.{Request}
-use Rattle.dir_model.specs.declared.request.Request.TheVariants.{ListIn, MakeFileIn}
+use Rattle.dir_model.specs.declared.request.Request.TheVariants.{ListIn}
 use Rattle.dir_model.specs.declared.request.Reply.{Reply}
-use Rattle.dir_model.specs.declared.request.Reply.TheVariants.{Done, Begun, Items, Refused}
-use Rattle.dir_model.specs.Paths.{lies_below}
-use Rattle.dir_model.specs.State.{DirState, Namespace, empty_state, folder_at}
-use Rattle.dir_model.specs.Trace.{state_next, states_next, state_after, app_started, marked_app, is_mark}
-use Rattle.dir_model.specs.Trees.{items_in, mark_prefix, app_root, is_within, is_apps_own}
+use Rattle.dir_model.specs.declared.request.Reply.TheVariants.{Begun, Items, Refused}
+use Rattle.dir_model.specs.State.{DirState, Namespace, folder_at}
+use Rattle.dir_model.specs.Trace.{states_next, state_after}
+use Rattle.dir_model.specs.Trees.{items_in}
 use Rattle.dir_model.specs.Listings.{is_of, is_listing, begun_at, listing_of, shows_inside, shows_missing}
-use Rattle.dir_model.specs.Replies.{is_own_at, is_own_of, is_any_reply, is_late_reply, is_reply, is_state_reply}
+use Rattle.dir_model.specs.Replies.{is_own_of, is_any_reply, is_late_reply, is_reply, is_state_reply}
 use Rattle.dir_model.specs.Calls.{Listing, ListStep, AtOwnStep, event}
-use Rattle.dir_model.proofs.Lists.{not_true, any_last_not, and_false, same_self}
+use Rattle.dir_model.proofs.Lists.{not_true, same_self}
 use Rattle.dir_model.proofs.Allowed.{allowed_reply}
 use Rattle.dir_laws.proofs.Directories.{item_name, inside_now}
 use Rattle.dir_laws.proofs.Open.{open_along, find_own, is_self}
 use Rattle.dir_trait.specs.DirCalls.{DirAt, ListCall, HeldBetween}
 use Rattle.dir_files.specs.Reads.{inner_at}
 use Rattle.dir_files.proofs.Listings.{began, ended, of_others, last_is, opened, same_namespace}
-
-either_way : (b : Bool) → cond b false false ≡ false
-either_way true = refl
-either_way false = refl
+use Rattle.dir_laws.proofs.Apps.{not_apps_own}
 
 -- a started app's root is never the folder itself
-away : (app : List ℕ) → is_within (app_root app) [] ≡ false
-unfolding lies_below
-away app = either_way (length (app_root app) == 0)
-
-abbrev IsAway : ℕ → Option StartedApp → Type 0
-IsAway folder None = Unit {0}
-IsAway folder (Some a) = ((a.folder == folder) && is_within a.root []) ≡ false
-
-marked_away : (folder : ℕ) (o : Option ℕ) (path : List ℕ) → IsAway folder (marked_app o path)
-marked_away folder None path = tt
-marked_away folder (Some number) path = by (is_mark path)
-  where
-    by : (b : Bool) → IsAway folder (cond b (Some (record { folder = number; root = app_root (drop (length mark_prefix) path) })) None)
-    by true = ap (λ b. (number == folder) && b) (away (drop (length mark_prefix) path)) ∙ and_false (number == folder)
-    by false = tt
-
-started_away : (folder : ℕ) (n : Namespace) (request : Request) (reply : Reply) → IsAway folder (app_started n request reply)
-started_away folder n (MakeFileIn inner) Done = marked_away folder (folder_at n inner.spot) inner.path
-started_away folder n _ _ = tt
-
-one_more : (folder : ℕ) (apps : List StartedApp) (o : Option StartedApp) → IsAway folder o → is_apps_own apps folder [] ≡ false → is_apps_own (apps ++ option_to_list o) folder [] ≡ false
-one_more folder apps None away none = ap (λ (l : List StartedApp). is_apps_own l folder []) (append-nil apps) ∙ none
-one_more folder apps (Some a) away none = any_last_not (λ (x : StartedApp). (x.folder == folder) && is_within x.root []) apps a away ∙ none
-
-never_own : (folder : ℕ) (s : DirState) (es : List Event) → is_apps_own s.apps folder [] ≡ false → is_apps_own (states_next s es).apps folder [] ≡ false
-never_own folder s [] none = none
-never_own folder s (e ∷ es) none = never_own folder (state_next s e) es (one_more folder s.apps (app_started s.namespace e.request e.reply) (started_away folder s.namespace e.request e.reply) none)
-
 pub not_own : (spot : Spot) (h : List Event) → is_own_of (state_after h) (Some (inner_at spot [])) ≡ false
-not_own spot h = by (folder_at (state_after h).namespace spot)
-  where
-    by : (o : Option ℕ) → is_own_at (state_after h) [] o ≡ false
-    by None = refl
-    by (Some folder) = never_own folder empty_state h refl
+not_own spot h = not_apps_own (codes "stage1/") (λ app rest. refl) h (inner_at spot []) refl
 
 module _ (me : ℕ) (old new : List Event) (spot : Spot) (reply : Reply) (l : Listing me old (ListIn (inner_at spot [])) reply new) (timely : is_late_reply (ListIn (inner_at spot [])) reply ≡ false) where
   abbrev root : Inner

@@ -1,3 +1,4 @@
+pub mod Apps
 pub mod Areas
 pub mod Contents
 pub mod Directories

@@ -29,9 +29,9 @@ use Rattle.dir_memory.proofs.Meanwhile.{step_came}
 use Rattle.dir_memory.proofs.OpenListings.{listing_about}
 
 -- the own answer to what isn't a listing is one that the state allows
-pub own_allowed : (fails : Bool) (s : DirState) (p : ℕ) (request : Request) (reply : Reply) → may_step s p request ≡ true → is_listing_request request ≡ false → (fails ≡ true → is_fallible request ≡ true) → reply ≡ answer_or_failure fails s p request → is_allowed s (event p request reply) ≡ true
-own_allowed true s p request reply may plain fallible is = rw is (fault_allowed s p request Failed may plain (fallible refl) refl)
-own_allowed false s p request reply may plain fallible is = rw is (plain_allowed s p request may plain)
+pub own_allowed : (fails : Bool) (s : DirState) (p : ℕ) (request : Request) (reply : Reply) → may_step s p request ≡ true → is_listing s p ≡ false → is_listing_request request ≡ false → (fails ≡ true → is_fallible request ≡ true) → reply ≡ answer_or_failure fails s p request → is_allowed s (event p request reply) ≡ true
+own_allowed true s p request reply may none plain fallible is = rw is (fault_allowed s p request Failed may none plain (fallible refl) refl)
+own_allowed false s p request reply may none plain fallible is = rw is (plain_allowed s p request may none plain)
 
 -- a step of another process came, where it was possible
 pub taken : (r : Result (Unit {0}) NoMemory) (me : ℕ) (old new : List Event) (step : Planned) → (step.process == me) ≡ false → OnOk r (new ≡ old ++ cond (is_possible (state_after old) step.process step.request) (step_of (state_after old) step.process step.request) []) → OnErr r (new ≡ old) → Interlude me old new

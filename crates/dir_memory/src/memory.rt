@@ -209,6 +209,13 @@ impl MemoryDir {
         self.process
     }
 
+    /// How many calls with a number this process has made.
+    pub fn calls(&self) -> u64
+        ensures { result ≡ self.now.numbered }
+    {
+        self.numbered
+    }
+
     /// How often the folder failed so far.
     pub fn fault_count(&self) -> u64
         ensures { result ≡ self.now.faults }

@@ -126,6 +126,7 @@ pub fn own_step(
     request: Request,
 ) -> Result<Reply, NoMemory>
     requires may { may_step (state_after past.old.items) me request ≡ true }
+    requires none { is_listing (state_after past.old.items) me ≡ false }
     requires plain { is_listing_request request ≡ false }
     requires fallible { fails ≡ true → is_fallible request ≡ true }
     ensures reply { IfOk result (λ reply. reply ≡ answer_or_failure fails (state_after past.old.items) me request) }
@@ -168,6 +169,7 @@ pub fn one_step(
     request: Request,
 ) -> Result<Reply, NoMemory>
     requires may { may_step (state_after past.old.items) me request ≡ true }
+    requires none { is_listing (state_after past.old.items) me ≡ false }
     requires plain { is_listing_request request ≡ false }
     requires fallible { fails ≡ true → is_fallible request ≡ true }
     ensures reply { IfOk result (λ reply. reply ≡ answer_or_failure fails (state_after (with_steps me past.old.items (due (calls + 1) false pending.old.items))) me request) }

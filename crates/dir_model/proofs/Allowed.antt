@@ -6,6 +6,7 @@ use Rattle.dir_model.specs.declared.spot.Mode.{Mode}
 use Rattle.dir_model.specs.declared.spot.Spot.{Spot}
 use Rattle.dir_model.specs.declared.spot.Which.{Which}
 use Rattle.dir_model.specs.declared.request.DirError.TheVariants.{Missing, Exists, Locked}
+use Rattle.dir_model.specs.declared.event.Event.{Event}
 use Rattle.dir_model.specs.declared.request.Request.{Request}
 use Rattle.dir_model.specs.declared.request.Request.TheVariants.{Begin, MakeFolder, MoveFolder, Open, TryLock}
 use Rattle.dir_model.specs.declared.request.Reply.{Reply}
@@ -15,7 +16,7 @@ use Rattle.dir_model.specs.declared.request.DirError.{DirError}
 use Rattle.dir_model.specs.declared.tree.TreeEntry.{TreeEntry}
 use Rattle.dir_model.specs.State.{DirState, has_begun, lives, folder_at, stands, has_open}
 use Rattle.dir_model.specs.Replies.{is_locked, refused_in, open_refusal, refusal, is_error, is_reply}
-use Rattle.dir_model.specs.Calls.{is_allowed, may_step, event}
+use Rattle.dir_model.specs.Calls.{is_allowed, may_step, lists_on, event}
 use Rattle.dir_model.proofs.Lists.{and_left, and_right, not_true}
 
 -- a process begins once
@@ -52,10 +53,14 @@ pub record LockSays (s : DirState) (me : ℕ) (handle : Handle) (mode : Mode) (o
 module _ (s : DirState) (me : ℕ) where
   -- who took the step might, and its reply was the state's
   pub allowed_reply : (request : Request) (reply : Reply) → is_allowed s (event me request reply) ≡ true → is_reply s me request reply ≡ true
-  allowed_reply request reply allowed = and_right (may_step s me request) (is_reply s me request reply) allowed
+  allowed_reply request reply allowed = and_right (lists_on s me request) (is_reply s me request reply) (and_right (may_step s me request) (lists_on s me request && is_reply s me request reply) allowed)
 
   pub allowed_step : (request : Request) (reply : Reply) → is_allowed s (event me request reply) ≡ true → may_step s me request ≡ true
-  allowed_step request reply allowed = and_left (may_step s me request) (is_reply s me request reply) allowed
+  allowed_step request reply allowed = and_left (may_step s me request) (lists_on s me request && is_reply s me request reply) allowed
+
+  -- it had ended its last call
+  pub allowed_turn : (request : Request) (reply : Reply) → is_allowed s (event me request reply) ≡ true → lists_on s me request ≡ true
+  allowed_turn request reply allowed = and_left (lists_on s me request) (is_reply s me request reply) (and_right (may_step s me request) (lists_on s me request && is_reply s me request reply) allowed)
 
   pub begin_says : (intent : Intent) → is_allowed s (event me (Begin intent) Done) ≡ true → BeginSays s me
   begin_says intent allowed = record { unborn = not_true (has_begun s.namespace me) (allowed_step (Begin intent) Done allowed) }
@@ -127,3 +132,7 @@ module _ (s : DirState) (me : ℕ) where
     living = allowed_step (TryLock handle mode) (Refused Locked 0) allowed;
     told = locked_by (is_locked s.namespace me handle mode) (allowed_reply (TryLock handle mode) (Refused Locked 0) allowed);
   }
+
+-- who took the step might, and its reply was the state's: of an event
+pub allowed_parts : (s : DirState) (e : Event) → is_allowed s e ≡ true → (may_step s e.process e.request ≡ true) × (is_reply s e.process e.request e.reply ≡ true)
+allowed_parts s e allowed = (allowed_step s e.process e.request e.reply allowed, allowed_reply s e.process e.request e.reply allowed)

@@ -18,6 +18,7 @@ use Rattle.dir_model.specs.declared.request.Request.{Request}
 use Rattle.dir_model.specs.declared.request.Request.TheVariants.{Begin, MakeFolder, MoveFolder, Open, OpenArea, TryLock, Close, MakeDirIn, MakeFileIn, AppendIn, RemoveFileIn, RemoveDirIn, RemoveFolder, Finish, Kill}
 use Rattle.dir_model.specs.declared.request.Reply.{Reply}
 use Rattle.dir_model.specs.declared.request.Reply.TheVariants.{Done, Begun, Opened, Names, Items, Refused}
+use Rattle.dir_model.specs.Areas.{is_run_or_later}
 use Rattle.dir_model.specs.Locks.{target_of, is_handle}
 use Rattle.dir_model.specs.State.{Namespace, DirState, empty_state, is_at, folder_at}
 use Rattle.dir_model.specs.Paths.{is_slash}
@@ -103,8 +104,9 @@ abbrev pub marked_app : Option ℕ → List ℕ → Option StartedApp
 marked_app None path = None
 marked_app (Some folder) path = cond (is_mark path) (Some (record { folder = folder; root = app_root (drop (length mark_prefix) path) })) None
 
+-- an app is started in a pod that runs: what a maker names so before starts none
 abbrev pub app_started : Namespace → Request → Reply → Option StartedApp
-app_started n (MakeFileIn inner) Done = marked_app (folder_at n inner.spot) inner.path
+app_started n (MakeFileIn inner) Done = cond (is_run_or_later inner.spot.area) (marked_app (folder_at n inner.spot) inner.path) None
 app_started n _ _ = None
 
 -- a request that changes what stands in some directory or area

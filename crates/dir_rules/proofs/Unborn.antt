@@ -1,7 +1,7 @@
 -- A process that never began has seen nothing; so a begin keeps the tie.
 use Rattle.dir_model.specs.Paths.{is_well_formed}
 use Rattle.dir_model.proofs.Begun.{begun_stays}
-use Rattle.dir_model.proofs.Allowed.{allowed_step}
+use Rattle.dir_model.proofs.Allowed.{allowed_step, allowed_reply}
 use Rattle.std.proofs.Common.{arith, ◌≡◌, ◌⊎◌, inl, inr, ℕ, Bool, true, false, not, ◌&&◌, ◌||◌, ◌==◌, cond, List, [], ◌∷◌, refl, sym, ap, subst, ◌∙◌}
 use Rattle.std.proofs.lemmas.Bool.Decides.{nat_tests}
 use Rattle.dir_model.specs.declared.event.Event.{Event}
@@ -34,8 +34,8 @@ unborn_all me s es a = by (has_begun s.namespace me) refl
 -- an own event of a process that isn't begun after it can't be
 no_event : (me : ℕ) (s : DirState) (request : Request) (reply : Reply) → is_allowed s (event me request reply) ≡ true → has_begun (namespace_replied s.namespace me request reply) me ≡ false → ⊥
 no_event me s (Begin intent) Done allowed a = clash (has_begun (namespace_replied s.namespace me (Begin intent) Done) me) (any_last (λ q. q.process == me) s.namespace.begun (record { process = me; intent = intent }) (same_self me)) a
-no_event me s (Begin intent) (Refused error left) allowed a = clash ((left == 0) && false) (and_right _ _ allowed) (and_false (left == 0))
-no_event me s (Begin intent) _ allowed a = clash false (and_right _ _ allowed) refl
+no_event me s (Begin intent) (Refused error left) allowed a = clash ((left == 0) && false) (allowed_reply s me (Begin intent) (Refused error left) allowed) (and_false (left == 0))
+no_event me s (Begin intent) reply allowed a = clash false (allowed_reply s me (Begin intent) reply allowed) refl
 no_event me s request reply allowed a = clash (has_begun s.namespace me) (and_left (has_begun s.namespace me) (not (has_ended s.namespace me)) (and_right (is_well_formed request) (lives s.namespace me) (allowed_step s me request reply allowed))) (unborn_all me s (event me request reply ∷ []) a)
 
 saw_nothing : (me : ℕ) (st : DirState) (s : Seen) (e : Event) → is_allowed st e ≡ true → has_begun (state_next st e).namespace me ≡ false → s ≡ nothing_seen → saw me s e ≡ nothing_seen
@@ -83,5 +83,5 @@ pub refused_unseen : {me : ℕ} {old new : List Event} {intent : Intent} {error 
 refused_unseen {me} {old} {new} {intent} {error} {left} c = by c.own
   where
     by : TookPlace c.before me (Begin intent) (Refused error left) new ⊎ LeftNothing c.before me (Begin intent) (Refused error left) new → seen_of me new ≡ seen_of me old
-    by (inl t) = absurd (clash ((left == 0) && false) (and_right _ _ t.allowed) (and_false (left == 0)))
+    by (inl t) = absurd (clash ((left == 0) && false) (allowed_reply (state_after c.before) me (Begin intent) (Refused error left) t.allowed) (and_false (left == 0)))
     by (inr l) = ap (seen_of me) l.same ∙ meanwhile_unseen c.meanwhile

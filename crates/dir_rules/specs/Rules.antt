@@ -81,9 +81,9 @@ may_make_in s name _ = false
 abbrev pub is_all_done : Making → Bool
 is_all_done m = m.clean && is_empty m.unsynced
 
--- an empty directory for statuses, and no later mark
+-- an empty directory for statuses, and nothing that bears the name of a later mark
 abbrev pub is_whole_pod : Making → Bool
-is_whole_pod m = is_all_done m && (has_dir status_directory m.entries && (not (list_any (λ e. is_below_status e.path) m.entries) && not (list_any (λ e. not (is_dir e.node) && is_later_mark e.path) m.entries)))
+is_whole_pod m = is_all_done m && (has_dir status_directory m.entries && (not (list_any (λ e. is_below_status e.path) m.entries) && not (list_any (λ e. is_later_mark e.path) m.entries)))
 
 abbrev pub has_done : (Making → Bool) → Seen → Spot → Bool
 has_done test s spot = makes_at s.making spot && of_making test s.making

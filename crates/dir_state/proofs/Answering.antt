@@ -20,8 +20,9 @@ use Rattle.dir_model.specs.Trees.{content}
 use Rattle.dir_model.specs.Listings.{is_listing_request, is_listing}
 use Rattle.dir_model.specs.Replies.{is_error, refused_in, make_refusal, file_refusal, sync_refusal, dir_refusal, folder_refusal, open_refusal, refusal, is_reply, is_state_reply, is_any_reply, is_apps_request, asks_for_handle, asks_for_nothing, is_fallible, is_fault, may_refuse, most_left, piece_length, bytes_at}
 use Rattle.dir_model.specs.Calls.{may_step, is_allowed, event}
-use Rattle.dir_model.proofs.Lists.{and_both, not_true, or_true}
+use Rattle.dir_model.proofs.Lists.{and_left, not_true, or_true}
 use Rattle.dir_state.specs.Answers.{handle_at, free_handle, opened_or_refused, granted, answer_by, answer, is_met}
+use Rattle.dir_state.proofs.Turns.{allowed_by, met_turn, free_turn}
 
 -- what a search finds passes the test
 find_passes : (t : ℕ → Bool) (xs : List ℕ) (k : ℕ) → find t xs ≡ Some k → t k ≡ true
@@ -174,8 +175,8 @@ reply_plain s p request (Some error) plain is = reply_refused s p request error 
 reply_plain s p request None plain is = reply_granted s p request plain is
 
 pub not_listing : (s : DirState) (p : ℕ) (request : Request) → is_listing_request request ≡ true → is_met s p request ≡ true → is_listing s p ≡ false
-not_listing s p (ListArea area) asks met = not_true (is_listing s p) met
-not_listing s p (ListIn inner) asks met = not_true (is_listing s p) met
+not_listing s p (ListArea area) asks met = not_true (is_listing s p) (and_left (not (is_listing s p)) true met)
+not_listing s p (ListIn inner) asks met = not_true (is_listing s p) (and_left (not (is_listing s p)) true met)
 not_listing s p _ asks met = cc
 
 pub answer_is_reply : (s : DirState) (p : ℕ) (request : Request) → is_met s p request ≡ true → is_reply s p request (answer s p request) ≡ true
@@ -186,7 +187,7 @@ answer_is_reply s p request met = by (is_listing_request request) refl
     by false plain = reply_plain s p request (refusal s p request) plain refl
 
 pub answer_allowed : (s : DirState) (p : ℕ) (request : Request) → may_step s p request ≡ true → is_met s p request ≡ true → is_allowed s (event p request (answer s p request)) ≡ true
-answer_allowed s p request may met = and_both (may_step s p request) (is_reply s p request (answer s p request)) may (answer_is_reply s p request met)
+answer_allowed s p request may met = allowed_by s p request (answer s p request) may (met_turn s p request met) (answer_is_reply s p request met)
 
 fails : (request : Request) → is_fallible request ≡ true → may_refuse request Failed ≡ true
 fails (Begin intent) h = cc
@@ -208,10 +209,10 @@ fault_named request Failed fallible fault = fails request fallible
 fault_named request NoMemory fallible fault = runs_out request fallible
 fault_named request _ fallible fault = cc
 
--- a call that may fail may always be refused so, where it is no listing
-pub fault_allowed : (s : DirState) (p : ℕ) (request : Request) (error : DirError) → may_step s p request ≡ true → is_listing_request request ≡ false → is_fallible request ≡ true → is_fault error ≡ true → is_allowed s (event p request (Refused error 0)) ≡ true
-fault_allowed s p request error may plain fallible fault =
-    and_both (may_step s p request) (is_reply s p request (Refused error 0)) may
+-- a call that may fail may always be refused so, where it is no listing and none is open
+pub fault_allowed : (s : DirState) (p : ℕ) (request : Request) (error : DirError) → may_step s p request ≡ true → is_listing s p ≡ false → is_listing_request request ≡ false → is_fallible request ≡ true → is_fault error ≡ true → is_allowed s (event p request (Refused error 0)) ≡ true
+fault_allowed s p request error may none plain fallible fault =
+    allowed_by s p request (Refused error 0) may (free_turn s p request none)
     (cond_both (is_apps_request s request) (is_any_reply s p request (Refused error 0)) (is_state_reply s p request (Refused error 0))
     (any_refused s p request error plain (fault_named request error fallible fault)) (rw (plain, fallible, fault, none_left (most_left s request)) refl))
 
@@ -219,6 +220,6 @@ fault_allowed s p request error may plain fallible fault =
 pub asked_allowed : (s : DirState) (p : ℕ) (request copy : Request) (reply : Reply) → may_step s p request ≡ true → is_met s p request ≡ true → copy ≡ request → reply ≡ answer s p request → is_allowed s (event p copy reply) ≡ true
 asked_allowed s p request copy reply may met same is = rw (same, is) (answer_allowed s p request may met)
 
--- what isn't a listing needs no more than that the process may
-pub plain_allowed : (s : DirState) (p : ℕ) (request : Request) → may_step s p request ≡ true → is_listing_request request ≡ false → is_allowed s (event p request (answer s p request)) ≡ true
-plain_allowed s p request may plain = and_both (may_step s p request) (is_reply s p request (answer s p request)) may (rw plain (reply_plain s p request (refusal s p request) plain refl))
+-- what isn't a listing needs no more than that the process may and has none open
+pub plain_allowed : (s : DirState) (p : ℕ) (request : Request) → may_step s p request ≡ true → is_listing s p ≡ false → is_listing_request request ≡ false → is_allowed s (event p request (answer s p request)) ≡ true
+plain_allowed s p request may none plain = allowed_by s p request (answer s p request) may (free_turn s p request none) (rw plain (reply_plain s p request (refusal s p request) plain refl))

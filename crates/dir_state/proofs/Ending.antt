@@ -19,6 +19,7 @@ use Rattle.dir_model.specs.Replies.{is_reply, is_state_reply, is_any_reply, is_a
 use Rattle.dir_model.specs.Calls.{may_step, is_allowed, event}
 use Rattle.dir_model.proofs.Lists.{and_both, and_left, and_right, or_map, or_true, same_self, any_of_map}
 use Rattle.dir_state.specs.Answers.{in_order, kind_or_dir, item_named, items_in_order, shown, shown_of, listing_answer}
+use Rattle.dir_state.proofs.Turns.{allowed_by, end_turn}
 use Rattle.dir_state.proofs.Orders.{in_order_ascends, in_order_all, in_order_has}
 
 -- names
@@ -155,7 +156,7 @@ module _ (s : DirState) (p : ℕ) where
   end_is_reply request about = shown_reply request (listing_of s p) refl about
 
   pub end_allowed : (request : Request) → may_step s p request ≡ true → is_open_listing request (listing_of s p) ≡ true → is_allowed s (event p request (listing_answer s p)) ≡ true
-  end_allowed request may about = and_both (may_step s p request) (is_reply s p request (listing_answer s p)) may (end_is_reply request about)
+  end_allowed request may about = allowed_by s p request (listing_answer s p) may (end_turn s p request (listing_of s p) about) (end_is_reply request about)
 
   fails_by : (request : Request) (error : DirError) (o : Option OpenListing) → listing_of s p ≡ o → is_fault error ≡ true → is_open_listing request o ≡ true → is_reply s p request (Refused error 0) ≡ true
   fails_by (ListArea area) error o is fault about = and_both (is_fault error) (is_open_listing (ListArea area) (listing_of s p)) fault (ap (is_open_listing (ListArea area)) is ∙ about)
@@ -167,4 +168,4 @@ module _ (s : DirState) (p : ℕ) where
 
   -- and a listing may fail at its end
   pub end_fails : (request : Request) (error : DirError) → may_step s p request ≡ true → is_fault error ≡ true → is_open_listing request (listing_of s p) ≡ true → is_allowed s (event p request (Refused error 0)) ≡ true
-  end_fails request error may fault about = and_both (may_step s p request) (is_reply s p request (Refused error 0)) may (fails_by request error (listing_of s p) refl fault about)
+  end_fails request error may fault about = allowed_by s p request (Refused error 0) may (end_turn s p request (listing_of s p) about) (fails_by request error (listing_of s p) refl fault about)

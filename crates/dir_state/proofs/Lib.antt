@@ -1,5 +1,6 @@
 pub mod Contents
 pub mod Notes
+pub mod Turns
 pub mod Orders
 pub mod Answering
 pub mod Ending

@@ -1,5 +1,5 @@
 -- The answers that a directory gives which follows its state exactly.
-use Rattle.std.specs.Prelude.{ℕ, ◌+◌, ◌^◌, nat_lt, Bool, not, ◌&&◌, cond, Option, Some, None, is_some, List, [], ◌∷◌, length, find, map}
+use Rattle.std.specs.Prelude.{ℕ, ◌+◌, ◌^◌, nat_lt, Bool, true, not, ◌&&◌, ◌||◌, cond, Option, Some, None, is_some, List, [], ◌∷◌, length, find, map}
 use Rattle.std.specs.List.{list_any, range_with_len}
 use Rattle.std.specs.Ordering.{nat_cmp}
 use Rattle.std.specs.Cmp.Lexicographic.{slice_cmp}
@@ -24,7 +24,7 @@ use Rattle.dir_model.specs.State.{Namespace, DirState, folder_at, has_open}
 use Rattle.dir_model.specs.Trace.{state_next}
 use Rattle.dir_model.specs.Listings.{is_listing_request, is_listing, listing_of, item_names, is_named}
 use Rattle.dir_model.specs.Replies.{refusal, bytes_at}
-use Rattle.dir_model.specs.Calls.{may_step, event}
+use Rattle.dir_model.specs.Calls.{is_kill, may_step, event}
 
 -- the handle with this number, where handles go so far
 abbrev pub handle_at : Option ℕ → Option Handle
@@ -91,11 +91,15 @@ listing_answer s p = shown_of (listing_of s p)
 abbrev pub is_unlocked : ℕ → Handle → Opening → Bool
 is_unlocked p handle o = is_handle p handle o && not (is_some o.lock)
 
--- a lock is asked for by an open handle without one, an open handle is closed, and no listing is open
+-- a lock is asked for by an open handle without one, and an open handle is closed
+abbrev pub finds_handle : DirState → ℕ → Request → Bool
+finds_handle s p (TryLock handle mode) = list_any (is_unlocked p handle) s.namespace.openings
+finds_handle s p (Close handle) = has_open s.namespace p handle
+finds_handle s p _ = true
+
+-- no listing of the process is open, unless it is killed, and the handle is as it has to be
 abbrev pub is_met : DirState → ℕ → Request → Bool
-is_met s p (TryLock handle mode) = list_any (is_unlocked p handle) s.namespace.openings
-is_met s p (Close handle) = has_open s.namespace p handle
-is_met s p request = not (is_listing_request request && is_listing s p)
+is_met s p request = (is_kill request || not (is_listing s p)) && finds_handle s p request
 
 -- the process may take the step now
 abbrev pub is_possible : DirState → ℕ → Request → Bool

@@ -2,6 +2,7 @@
 ghost use Rattle.std.specs.Prelude.{◌≡◌, cond, take, drop, Some, None, IfOk};
 ghost use Rattle.dir_model.specs.Replies.{make_refusal, file_refusal, sync_refusal, dir_refusal, folder_refusal, open_refusal};
 ghost use Rattle.dir_model.specs.Paths.{is_well_formed};
+ghost use Rattle.dir_model.specs.Calls.{is_kill};
 ghost use Rattle.dir_state.specs.Answers.{opened_or_refused, shown};
 
 use crate::listings::{is_listing, items_in_order, names_in_order};
@@ -126,7 +127,7 @@ impl Table {
     ghost use Rattle.dir_model.specs.Replies.{refusal, bytes_at, refused_in, make_refusal, file_refusal, sync_refusal, dir_refusal, folder_refusal, open_refusal};
     ghost use Rattle.dir_model.specs.Calls.{may_step};
     ghost use Rattle.dir_state.specs.Parts.{table_state, namespace_of};
-    ghost use Rattle.dir_state.specs.Answers.{granted, answer_by, answer, listing_answer, is_met, is_possible};
+    ghost use Rattle.dir_state.specs.Answers.{granted, answer_by, answer, listing_answer, finds_handle, is_met, is_possible};
 
     fn move_refusal(&self, process: u32, from: &Spot, to: &Spot) -> Option<DirError>
         ensures { result ≡ refusal (table_state self.now) process (Request.MoveFolder from.now to.now) }
@@ -316,17 +317,30 @@ impl Table {
         self.may_step(process, request) && self.is_met(process, request)
     }
 
-    /// Whether a lock is asked for by an open handle without one, an open handle is closed, and no
-    /// listing is open where one is to begin.
-    pub fn is_met(&self, process: u32, request: &Request) -> bool
-        ensures { result ≡ is_met (table_state self.now) process request.now }
+    // Whether a lock is asked for by an open handle without one, and an open handle is closed.
+    fn finds_handle(&self, process: u32, request: &Request) -> bool
+        ensures { result ≡ finds_handle (table_state self.now) process request.now }
     {
         match request {
             Request::TryLock { handle, mode: _ } => self.namespace.has_unlocked(process, *handle),
             Request::Close(handle) => self.namespace.has_open(process, *handle),
-            _ => !(is_listing_request(request) && self.is_listing(process)),
+            _ => true,
         }
     }
+
+    /// Whether no listing of the process is open, unless it is killed, and the handle is as it has
+    /// to be.
+    pub fn is_met(&self, process: u32, request: &Request) -> bool
+        ensures { result ≡ is_met (table_state self.now) process request.now }
+    {
+        (is_kill(request) || !self.is_listing(process)) && self.finds_handle(process, request)
+    }
+}
+
+fn is_kill(request: &Request) -> bool
+    ensures { result ≡ is_kill request.now }
+{
+    matches!(request, Request::Kill)
 }
 
 fn rest_from(bytes: &[u8], at: u64) -> &[u8]

@@ -1,5 +1,6 @@
 // What an event brings, made before it comes.
 ghost use Rattle.std.specs.Prelude.{◌≡◌, ℕ, true, take, IfOk};
+ghost use Rattle.dir_model.specs.Areas.{is_run_or_later};
 ghost use Rattle.dir_model.specs.Trees.{app_root};
 ghost use Rattle.dir_model.specs.State.{DirState};
 ghost use Rattle.dir_model.specs.declared.request.Request.{Request};
@@ -54,6 +55,12 @@ fn app_root(alloc: Global, app: &[u8]) -> Result<Bytes, NoMemory>
     root.extend_from_slice(app)?;
     root.extend_from_slice(ROOT)?;
     Ok(Bytes::from_vec(root))
+}
+
+fn is_run_or_later(area: Area) -> bool
+    ensures { result ≡ is_run_or_later area }
+{
+    matches!(area, Area::Run | Area::ExitedGarbage | Area::Garbage)
 }
 
 fn marked_app(
@@ -143,15 +150,25 @@ impl Table {
         }
     }
 
+    // The app that a mark starts, in a pod that runs.
+    fn app_marked(&self, inner: &Inner) -> Result<Option<StartedApp>, NoMemory>
+        ensures { IfOk result (λ app. app ≡ app_started (namespace_of self.now.namespace) (Request.MakeFileIn inner.now) Reply.Done) }
+    {
+        if !is_run_or_later(inner.spot.area) {
+            return Ok(None);
+        }
+        marked_app(
+            self.alloc(),
+            self.namespace.folder_at(&inner.spot),
+            inner.path.as_slice(),
+        )
+    }
+
     fn app_started(&self, request: &Request, reply: &Reply) -> Result<Option<StartedApp>, NoMemory>
         ensures { IfOk result (λ app. app ≡ app_started (namespace_of self.now.namespace) request.now reply.now) }
     {
         match (request, reply) {
-            (Request::MakeFileIn(inner), Reply::Done) => marked_app(
-                self.alloc(),
-                self.namespace.folder_at(&inner.spot),
-                inner.path.as_slice(),
-            ),
+            (Request::MakeFileIn(inner), Reply::Done) => self.app_marked(inner),
             _ => Ok(None),
         }
     }

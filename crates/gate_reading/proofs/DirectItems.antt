@@ -14,7 +14,7 @@ use Rattle.lifecycle.proofs.Handles.{both}
 use Rattle.lifecycle.proofs.Places.{name_same}
 use Rattle.folder_contents.specs.Entries.{is_inside, entry_of, entries_in}
 use Rattle.gate_reading.specs.Listings.{has_direct, item_of, has_direct_item}
-use Rattle.gate_reading.proofs.PlainPaths.{not_empty}
+use Rattle.dir_laws.proofs.Apps.{not_empty}
 
 -- a file name is a path of one name
 no_slash : (bs : List ℕ) → list_all is_file_byte bs ≡ true → list_any is_slash bs ≡ false

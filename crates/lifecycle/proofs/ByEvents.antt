@@ -33,6 +33,7 @@ use Rattle.lifecycle.specs.Watch.{Watch, is_this, on_grip, gripped, is_exclusive
 use Rattle.lifecycle.proofs.SoundRuns.{step_sound}
 use Rattle.dir_model.specs.Paths.{is_well_formed}
 use Rattle.lifecycle.proofs.Handles.{is_due}
+use Rattle.dir_model.proofs.Allowed.{allowed_parts}
 
 abbrev grip : Opening → Grip
 grip o = record {
@@ -230,7 +231,7 @@ watch_is_from : (u : List ℕ) (es : List Event) (n : DirState) (s : PodState) �
 watch_is_from u [] n s sound run = refl
 watch_is_from u (e ∷ es) n s sound run =
     let x = both (is_allowed n e) (is_run_from (state_next n e) es) run in
-    let y = both (may_step n e.process e.request) (is_reply n e.process e.request e.reply) x.0 in
+    let y = allowed_parts n e x.0 in
     let next : watch_next u (record { state = s; grips = ours u n.namespace.openings }) e ≡ record
     { state = pod_state_next u n.namespace s e; grips = ours u (state_next n e).namespace.openings } =
     ap (λ (o : Option Transition). record {

@@ -43,6 +43,7 @@ use Rattle.lifecycle.proofs.Step.{removal_own, stands_from}
 use Rattle.lifecycle.proofs.Phases.{Reached, reached}
 use Rattle.lifecycle.proofs.Owners.{is_move_of, is_stay, stay_turn}
 use Rattle.dir_model.proofs.Lists.{and_both, or_last, same_self}
+use Rattle.dir_model.proofs.Allowed.{allowed_parts}
 
 -- each request was allowed
 pub allowed_at : (before : List Event) (p : ℕ) (request : Request) (reply : Reply) (later : List Event) →
@@ -83,7 +84,7 @@ reply_at before p request reply later run =
     let a = both (is_allowed (state_after before) (event p request reply))
     (is_run_from (state_next (state_after before) (event p request reply)) later)
     (run_from-right empty_state before (event p request reply ∷ later) run) in
-    (both (may_step (state_after before) p request) (is_reply (state_after before) p request reply) a.0).1
+    (allowed_parts (state_after before) (event p request reply) a.0).1
 
 due_at : (before : List Event) (p : ℕ) (request : Request) (reply : Reply) (later : List Event) →
     IsRun (before ++ event p request reply ∷ later) → is_due (state_after before).namespace p request ≡ true
@@ -91,7 +92,7 @@ due_at before p request reply later run =
     let a = both (is_allowed (state_after before) (event p request reply))
     (is_run_from (state_next (state_after before) (event p request reply)) later)
     (run_from-right empty_state before (event p request reply ∷ later) run) in
-    let b = both (may_step (state_after before) p request) (is_reply (state_after before) p request reply) a.0 in
+    let b = allowed_parts (state_after before) (event p request reply) a.0 in
     (both (is_well_formed request) (is_due (state_after before).namespace p request) b.0).1
 
 -- a removal in a pod whose folder stands there

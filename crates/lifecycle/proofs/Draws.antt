@@ -25,6 +25,7 @@ use Rattle.dir_model.specs.Pods.{pod_text}
 use Rattle.lifecycle.proofs.Places.{name_same}
 use Rattle.dir_rules.proofs.Tied.{conforms-left}
 use Rattle.dir_model.proofs.Lists.{not_true}
+use Rattle.dir_model.proofs.Allowed.{allowed_parts}
 
 pub standing_split : (p : ℕ) (s : Standing) (xs ys : List Event) → standing_from p s (xs ++ ys) ≡ standing_from p
     (standing_from p s xs) ys
@@ -73,7 +74,7 @@ intent_stays p (e ∷ es) n s run begun =
 
     may : is_due n.namespace e.process e.request ≡ true
     may = (both (is_well_formed e.request) (is_due n.namespace e.process e.request)
-        (both (may_step n e.process e.request) (is_reply n e.process e.request e.reply) a.0).0).1
+        (allowed_parts n e a.0).0).1
 
     not_begin : e.process ≡ p → (c : Bool) → is_begin e.request ≡ c → is_begin e.request ≡ false
     not_begin is false f = f
@@ -96,7 +97,7 @@ unborn_same p (e ∷ es) n s run un = unborn_same p es (state_next n e) (stood p
     a = both (is_allowed n e) (is_run_from (state_next n e) es) run
 
     b : (may_step n e.process e.request ≡ true) × (is_reply n e.process e.request e.reply ≡ true)
-    b = both (may_step n e.process e.request) (is_reply n e.process e.request e.reply) a.0
+    b = allowed_parts n e a.0
 
     on : (xs : List Event) (m : DirState) → has_begun m.namespace p ≡ true → has_begun (states_next m xs).namespace p ≡ true
     on [] m h = h

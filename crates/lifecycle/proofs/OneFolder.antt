@@ -18,6 +18,7 @@ use Rattle.lifecycle.proofs.Lists.{In}
 use Rattle.lifecycle.proofs.Handles.{both, clash, none_refused, refused_if}
 use Rattle.lifecycle.proofs.Places.{none_at, spot_right}
 use Rattle.lifecycle.proofs.Step.{stands_from}
+use Rattle.dir_model.proofs.Allowed.{allowed_parts}
 
 -- the folder with this number stands at the location
 abbrev pub on_place : Spot → Option (Option Spot) → Bool
@@ -127,7 +128,7 @@ single_from : (es : List Event) (n : DirState) → is_run_from n es ≡ true →
 single_from [] n run s = s
 single_from (e ∷ es) n run s =
     let a = both (is_allowed n e) (is_run_from (state_next n e) es) run in
-    let b = both (may_step n e.process e.request) (is_reply n e.process e.request e.reply) a.0 in
+    let b = allowed_parts n e a.0 in
     single_from es (state_next n e) a.1 (single_step n e.process e.request e.reply b.1 s)
 
 pub single : (trace : List Event) → IsRun trace → Single (state_after trace).namespace.folders

@@ -31,6 +31,7 @@ use Rattle.lifecycle.proofs.Makes.{absent_place}
 use Rattle.lifecycle.proofs.Lives.{begun_me, unborn_before, lived, saw_other, saw_me}
 use Rattle.lifecycle.proofs.Step.{Given, Stepped, stepped}
 use Rattle.dir_model.proofs.Lists.{not_true, same_self}
+use Rattle.dir_model.proofs.Allowed.{allowed_parts}
 
 -- the invariant, and that who hasn't begun knows nothing
 pub record Good (u : List ℕ) (n : DirState) (s : PodState) (σ : ℕ → Standing) : Type 0 where
@@ -144,7 +145,7 @@ pub given : (u : List ℕ) (n : DirState) (s : PodState) (σ : ℕ → Standing)
     ConformingFrom u n σ (e ∷ es) → Given u n s σ e.process e.request e.reply
 given u n s σ e es good conforming =
     let a = both (is_allowed n e) (is_run_from (state_next n e) es) conforming.run in
-    let b = both (may_step n e.process e.request) (is_reply n e.process e.request e.reply) a.0 in
+    let b = allowed_parts n e a.0 in
     let c = both (is_well_formed e.request) (is_due n.namespace e.process e.request) b.0 in
     record {
       inv = good.inv;

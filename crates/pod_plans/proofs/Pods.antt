@@ -299,20 +299,14 @@ module _ (now : ℕ) (token manifest : List ℕ) (images : List (List ℕ)) (app
   no_status : AllPlanned (λ b p. not (is_below_status p)) Whole
   no_status = whole_passes (λ b p. not (is_below_status p)) refl refl (each_passes images (λ b p. not (is_below_status p)) (λ app k. all_pass images app k (λ b p. not (is_below_status p)) refl (λ b rest. refl)) apps known)
 
-  abbrev is_mark : Bool → List ℕ → Bool
-  is_mark directory path = not directory && is_later_mark path
-
-  no_mark : AllPlanned (λ b p. not (is_mark b p)) Whole
-  no_mark = whole_passes (λ b p. not (is_mark b p)) (and_both (not (is_later_mark (created_mark now))) _ (ap not (not_later (created_mark now) refl)) refl) refl (each_passes images (λ b p. not (is_mark b p)) (λ app k. all_pass images app k (λ b p. not (is_mark b p)) refl (λ b rest. by b rest app.name)) apps known)
-    where
-      by : (b : Bool) (rest name : List ℕ) → not (is_mark b (app_root name ++ 47 ∷ rest)) ≡ true
-      by true rest name = refl
-      by false rest name = refl
+  no_mark : AllPlanned (λ b p. not (is_later_mark p)) Whole
+  no_mark = whole_passes (λ b p. not (is_later_mark p)) (and_both (not (is_later_mark (created_mark now))) _ (ap not (not_later (created_mark now) refl)) refl) refl
+      (each_passes images (λ b p. not (is_later_mark p)) (λ app k. all_pass images app k (λ b p. not (is_later_mark p)) refl (λ b rest. refl)) apps known)
 
   pub makes_whole : MakesWhole Whole
   makes_whole m done made =
-      and_both (is_all_done m) (has_dir status_directory m.entries && (not (list_any (λ e. is_below_status e.path) m.entries) && not (list_any (λ e. not (is_dir e.node) && is_later_mark e.path) m.entries))) done
-      (and_both (has_dir status_directory m.entries) (not (list_any (λ e. is_below_status e.path) m.entries) && not (list_any (λ e. not (is_dir e.node) && is_later_mark e.path) m.entries)) (has_directory status_directory Whole m.entries status_there made)
-      (and_both (not (list_any (λ e. is_below_status e.path) m.entries)) (not (list_any (λ e. not (is_dir e.node) && is_later_mark e.path) m.entries))
+      and_both (is_all_done m) (has_dir status_directory m.entries && (not (list_any (λ e. is_below_status e.path) m.entries) && not (list_any (λ e. is_later_mark e.path) m.entries))) done
+      (and_both (has_dir status_directory m.entries) (not (list_any (λ e. is_below_status e.path) m.entries) && not (list_any (λ e. is_later_mark e.path) m.entries)) (has_directory status_directory Whole m.entries status_there made)
+      (and_both (not (list_any (λ e. is_below_status e.path) m.entries)) (not (list_any (λ e. is_later_mark e.path) m.entries))
       (ap not (none_made (λ b p. is_below_status p) m.entries (made_passes (λ b p. not (is_below_status p)) Whole m.entries made no_status)))
-      (ap not (none_made is_mark m.entries (made_passes (λ b p. not (is_mark b p)) Whole m.entries made no_mark)))))
+      (ap not (none_made (λ b p. is_later_mark p) m.entries (made_passes (λ b p. not (is_later_mark p)) Whole m.entries made no_mark)))))

@@ -29,68 +29,12 @@ use Rattle.dir_rules.proofs.Looks.{same_bytes}
 use Rattle.folder_removal.proofs.Paths.{path_of}
 use Rattle.lifecycle.proofs.Handles.{clash}
 use Rattle.lifecycle.proofs.Places.{name_same}
-
--- each started app has its root at such a path
-abbrev Rooted : StartedApp → Type 0
-Rooted a = (app : List ℕ) × (a.root ≡ app_root app)
-
-marked_rooted : (o : Option ℕ) (path : List ℕ) → AllByRecursion Rooted (option_to_list (marked_app o path))
-marked_rooted None path = tt
-marked_rooted (Some folder) path = by (is_mark path)
-  where
-    by : (b : Bool) → AllByRecursion Rooted (option_to_list (cond b (Some (record { folder = folder; root = app_root (drop (length mark_prefix) path) })) None))
-    by true = ((drop (length mark_prefix) path, refl), tt)
-    by false = tt
-
-started_rooted : (n : Namespace) (request : Request) (reply : Reply) → AllByRecursion Rooted (option_to_list (app_started n request reply))
-started_rooted n (MakeFileIn i) Done = marked_rooted (folder_at n i.spot) i.path
-started_rooted n request reply = tt
-
-all_rooted : (s : DirState) (es : List Event) → AllByRecursion Rooted s.apps → AllByRecursion Rooted (states_next s es).apps
-all_rooted s [] a = a
-all_rooted s (e ∷ es) a = all_rooted (state_next s e) es (all_both Rooted s.apps (option_to_list (app_started s.namespace e.request e.reply)) a (started_rooted s.namespace e.request e.reply))
-
--- where all roots are
-abbrev is_staged : List ℕ → Bool
-is_staged path = starts_with nat_eq path (codes "stage1/rootfs/opt/")
-
-begun_so : (app rest path : List ℕ) → path ≡ app_root app ++ rest → is_staged path ≡ true
-begun_so app rest path is = subst (λ (q : List ℕ). is_staged q ≡ true) (sym is) refl
-
-pub some_length : (x : ℕ) (xs : List ℕ) → (length (x ∷ xs) == 0) ≡ false
-some_length x xs = grind (arith, nat_tests, common_steps)
-
--- what lies below a path begins with it
-pub below_front : (path q : List ℕ) → (length q == 0) ≡ false → lies_below path q ≡ true → path ≡ q ++ drop (length q) path
-unfolding lies_below
-below_front path q other h =
-    let parts : (starts_with nat_eq path q && (slice_index path (length q) == 47)) ≡ true =
-    sym (ap (λ b. cond b (not (length path == 0)) (starts_with nat_eq path q && (slice_index path (length q) == 47))) other) ∙ h in
-    (starts_is Decides-eqb path q _ refl).0 (and_left (starts_with nat_eq path q) (slice_index path (length q) == 47) parts)
-
-within_root : (app path : List ℕ) → is_within (app_root app) path ≡ true → is_staged path ≡ true
-within_root app path h = by (bytes_eq path (app_root app)) refl h
-  where
-    by : (b : Bool) → bytes_eq path (app_root app) ≡ b → (b || lies_below path (app_root app)) ≡ true → is_staged path ≡ true
-    by true is h = subst (λ (q : List ℕ). is_staged q ≡ true) (sym (name_same path (app_root app) is)) refl
-    by false is h = begun_so app (drop (length (app_root app)) path) path (below_front path (app_root app) (some_length 115 (drop 1 (app_root app))) h)
-
-unowned : (apps : List StartedApp) (folder : ℕ) (path : List ℕ) → AllByRecursion Rooted apps → is_staged path ≡ false → is_apps_own apps folder path ≡ false
-unowned [] folder path rooted off = refl
-unowned (a ∷ apps) folder path rooted off =
-    or_none ((a.folder == folder) && is_within a.root path) (is_apps_own apps folder path) (by (is_within a.root path) refl) (unowned apps folder path rooted.1 off)
-  where
-    by : (b : Bool) → is_within a.root path ≡ b → ((a.folder == folder) && b) ≡ false
-    by false e = and_false (a.folder == folder)
-    by true e = clash (is_staged path) (within_root rooted.0.0 path (subst (λ (r : List ℕ). is_within r path ≡ true) rooted.0.1 e)) off
+use Rattle.dir_laws.proofs.Apps.{not_apps_own}
 
 -- the statuses are at and below their directory
 pub status_own : (h : List Event) (inner : Inner) (rest : List ℕ) → inner.path ≡ status_directory ++ rest → is_own_of (state_after h) (Some inner) ≡ false
-status_own h inner rest is = by (folder_at (state_after h).namespace inner.spot)
-  where
-    by : (o : Option ℕ) → is_own_at (state_after h) inner.path o ≡ false
-    by None = refl
-    by (Some folder) = unowned (state_after h).apps folder inner.path (all_rooted empty_state h tt) (subst (λ (p : List ℕ). is_staged p ≡ false) (sym is) refl)
+status_own h inner rest is =
+    not_apps_own (codes "stage1/rootfs/opt/") (λ app rest. refl) h inner (subst (λ (p : List ℕ). starts_with nat_eq p (codes "stage1/rootfs/opt/") ≡ false) (sym is) refl)
 
 -- a file name is one name behind the directory
 no_slash : (bs : List ℕ) → list_all is_file_byte bs ≡ true → list_any is_slash bs ≡ false

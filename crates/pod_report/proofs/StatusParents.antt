@@ -29,7 +29,8 @@ use Rattle.dir_rules.specs.Marks.{status_directory}
 use Rattle.dir_rules.proofs.Looks.{same_bytes}
 use Rattle.lifecycle.proofs.Handles.{clash, none_refused, refused_unless}
 use Rattle.lifecycle.proofs.Places.{name_same}
-use Rattle.pod_report.proofs.StatusFiles.{status_own, some_length, below_front}
+use Rattle.pod_report.proofs.StatusFiles.{status_own}
+use Rattle.dir_laws.proofs.Apps.{not_empty, below_front}
 
 abbrev d : List ℕ
 d = status_directory
@@ -63,12 +64,12 @@ slash_front path a (b ∷ bs) is h = (bs, ap (λ (c : ℕ). c ∷ bs) (eqb-true 
 
 slash_of : (x : ℕ) (a path : List ℕ) → lies_below path (x ∷ a) ≡ true → (slice_index path (length (x ∷ a)) == 47) ≡ true
 unfolding lies_below
-slash_of x a path below = and_right (starts_with nat_eq path (x ∷ a)) (slice_index path (length (x ∷ a)) == 47) (sym (ap (λ b. cond b (not (length path == 0)) (starts_with nat_eq path (x ∷ a) && (slice_index path (length (x ∷ a)) == 47))) (some_length x a)) ∙ below)
+slash_of x a path below = and_right (starts_with nat_eq path (x ∷ a)) (slice_index path (length (x ∷ a)) == 47) (sym (ap (λ b. cond b (not (length path == 0)) (starts_with nat_eq path (x ∷ a) && (slice_index path (length (x ∷ a)) == 47))) (not_empty x a)) ∙ below)
 
 direct : (x : ℕ) (a path : List ℕ) → is_directly_in (x ∷ a) path ≡ true → Direct (x ∷ a) path
 direct x a path h =
     let below = and_left (lies_below path (x ∷ a)) (not (is_empty (behind (x ∷ a) path)) && not (list_any is_slash (behind (x ∷ a) path))) h in
-    let front = below_front path (x ∷ a) (some_length x a) below in
+    let front = below_front path (x ∷ a) (not_empty x a) below in
     let slash = slash_of x a path below in
     let rest = slash_front path (x ∷ a) (drop (length (x ∷ a)) path) front slash in
     record {
@@ -101,13 +102,13 @@ front_index (x ∷ a) more = front_index a more
 below_of : (x : ℕ) (a path more : List ℕ) → path ≡ (x ∷ a) ++ 47 ∷ more → lies_below path (x ∷ a) ≡ true
 unfolding lies_below
 below_of x a path more is =
-    ap (λ b. cond b (not (length path == 0)) (starts_with nat_eq path (x ∷ a) && (slice_index path (length (x ∷ a)) == 47))) (some_length x a)
+    ap (λ b. cond b (not (length path == 0)) (starts_with nat_eq path (x ∷ a) && (slice_index path (length (x ∷ a)) == 47))) (not_empty x a)
     ∙ and_both (starts_with nat_eq path (x ∷ a)) (slice_index path (length (x ∷ a)) == 47) ((starts_is Decides-eqb path (x ∷ a) _ refl).1 (47 ∷ more) is)
     (ap (λ (p : List ℕ). slice_index p (length (x ∷ a)) == 47) is ∙ front_index (x ∷ a) more)
 
 below_all : (x : ℕ) (xs : List ℕ) → lies_below (x ∷ xs) [] ≡ true
 unfolding lies_below
-below_all x xs = ap not (some_length x xs)
+below_all x xs = ap not (not_empty x xs)
 
 in_statuses : (path : List ℕ) → is_directly_in d path ≡ true → Direct d path
 in_statuses path h = direct 115 (drop 1 d) path h
@@ -121,7 +122,7 @@ within_child path c w h = or_last (bytes_eq c path) (lies_below c path) (by (byt
     under : (path : List ℕ) → lies_below d path ≡ true → lies_below c path ≡ true
     under [] l = subst (λ (p : List ℕ). lies_below p [] ≡ true) (sym x.is) (below_all 115 (drop 1 d ++ 47 ∷ x.name))
     under (y ∷ p) l =
-        let front : d ≡ (y ∷ p) ++ drop (length (y ∷ p)) d = below_front d (y ∷ p) (some_length y p) l in
+        let front : d ≡ (y ∷ p) ++ drop (length (y ∷ p)) d = below_front d (y ∷ p) (not_empty y p) l in
         let rest = slash_front d (y ∷ p) (drop (length (y ∷ p)) d) front (slash_of y p d l) in
         below_of y p c (rest.0 ++ 47 ∷ x.name) (x.is ∙ (ap (λ l. l ++ 47 ∷ x.name) (front ∙ ap (λ l. (y ∷ p) ++ l) rest.1) ∙ append_assoc (y ∷ p) (47 ∷ rest.0) (47 ∷ x.name)))
 
