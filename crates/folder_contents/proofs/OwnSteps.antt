@@ -21,10 +21,10 @@ use Rattle.dir_rules.specs.declared.seen.Entry.{Entry}
 use Rattle.dir_rules.specs.declared.seen.Making.{Making}
 use Rattle.dir_rules.specs.declared.seen.Seen.{Seen}
 use Rattle.dir_rules.specs.Marks.{parent}
-use Rattle.dir_rules.specs.Seen.{learned, makes_at, making_changed, with_entry, without_path, spoilt}
+use Rattle.dir_rules.specs.Seen.{learned, makes_at, is_making_area, making_changed, with_entry, without_path, spoilt}
 use Rattle.dir_rules.specs.Standing.{draws, holds_own}
-use Rattle.dir_rules.specs.LockRules.{may_move, may_move_between, may_remove}
-use Rattle.dir_rules.specs.Rules.{allows, may_bring, may_bring_between}
+use Rattle.dir_rules.specs.LockRules.{may_ask, may_move, may_move_between, may_remove}
+use Rattle.dir_rules.specs.Rules.{allows, may_bring, may_bring_between, may_append_in, has_file, makes_here, spares}
 use Rattle.dir_rules.specs.Conforms.{seen_replied}
 use Rattle.dir_model.proofs.Lists.{and_left, and_right}
 use Rattle.dir_model.proofs.Spots.{spot_self}
@@ -32,10 +32,11 @@ use Rattle.lifecycle.proofs.Handles.{Sound, both, clash, none_refused, refused_i
 use Rattle.lifecycle.proofs.Linked.{Linked}
 use Rattle.lifecycle.proofs.Places.{made_there, moved_there, none_stands, spot_turn}
 use Rattle.lifecycle.proofs.Step.{stands_from}
-use Rattle.folder_contents.specs.Entries.{entries_in}
+use Rattle.folder_contents.specs.Entries.{entries_in, SameNames}
 use Rattle.folder_contents.specs.Makers.{guards, is_guarded, StandsAsKnown}
 use Rattle.folder_contents.specs.UnderGate.{takes}
 use Rattle.folder_contents.proofs.Places.{untaken, stands_there}
+use Rattle.folder_contents.proofs.Names.{names_pushed, names_again}
 use Rattle.folder_contents.proofs.Entries.{placed_here, placed_away, removed_away}
 use Rattle.folder_contents.proofs.Spots.{is_changeable, apart, one_location}
 use Rattle.folder_contents.proofs.Untouched.{Site, dir_site, make_site, append_site, removal_area}
@@ -58,8 +59,28 @@ made_known st p spot is empty = record {
   folder = length st.namespace.folders;
   there = made_there st.namespace spot spot (none_stands st.namespace spot
       (refused_if (stands st.namespace spot) Exists (none_refused st p (MakeFolder spot) refl is))) (spot_self spot);
+  names = subst (λ (l : List Entry). SameNames l []) (sym (ap (entries_in (length st.namespace.folders)) (append-nil st.entries) ∙ empty)) (λ path. (refl, refl));
   same = λ clean. ap (entries_in (length st.namespace.folders)) (append-nil st.entries) ∙ empty;
 }
+
+-- where the entries of a folder are others, equal ones have the same names
+pub names_same : (xs ys ms : List Entry) → xs ≡ ys → SameNames ys ms → SameNames xs ms
+names_same xs ys ms is same = subst (λ (l : List Entry). SameNames l ms) (sym is) same
+
+-- an append is to a file that it made there
+appends : (g : Seen) (m : Making) (i : Inner) (piece : List ℕ) → is_making_area i.spot.area ≡ true →
+    allows (record g { making = Some m }) (AppendIn i piece) ≡ true → has_file i.path m.entries ≡ true
+appends g m i piece making may = by i.spot.area making
+    (and_left (may_append_in s i i.spot.area) (spares s i) (and_right (may_ask s.standing (AppendIn i piece)) (may_append_in s i i.spot.area && spares s i) may))
+  where
+    s : Seen
+    s = record g { making = Some m }
+
+    by : (a : Area) → is_making_area a ≡ true → may_append_in s i a ≡ true → has_file i.path m.entries ≡ true
+    by area.Embryo on h = and_right (makes_here s i.spot area.Embryo) (has_file i.path m.entries) h
+    by area.Prepare on h = and_right (makes_here s i.spot area.Prepare) (has_file i.path m.entries) h
+    by area.Incoming on h = and_right (makes_here s i.spot area.Incoming) (has_file i.path m.entries) h
+    by a on h = cc
 
 module _ (st : DirState) (p : ℕ) (s : Seen) (m : Making) (sound : Sound st.namespace)
     (linked : Linked p st.namespace s.standing) (fits : FitsIn s.standing m.spot.name m.spot.area)
@@ -76,18 +97,22 @@ module _ (st : DirState) (p : ℕ) (s : Seen) (m : Making) (sound : Sound st.nam
       is_reply st p request reply ≡ true → allows g request ≡ true → is_make request ≡ false →
       (is_changeable m.spot.area ≡ false → takes m.spot request reply ≡ false)
       → ((k : ℕ) → folder_at st.namespace m.spot ≡ Some k → is_changeable m.spot.area ≡ false →
+      SameNames (entries_in k st.entries) m.entries →
+      SameNames (entries_in k (state_next st (event p request reply)).entries) entries)
+      → ((k : ℕ) → folder_at st.namespace m.spot ≡ Some k → is_changeable m.spot.area ≡ false →
       (m.clean ≡ true → entries_in k st.entries ≡ m.entries) → clean ≡ true →
       entries_in k (state_next st (event p request reply)).entries ≡ entries)
       → is_guarded (seen_replied g request reply) m ≡ true →
       StandsAsKnown (state_next st (event p request reply))
       (record { spot = m.spot; clean = clean; entries = entries; unsynced = unsynced })
-  on request reply clean entries unsynced is may off free change guarded =
+  on request reply clean entries unsynced is may off free named change guarded =
       let before : guards g m.spot.name m.spot.area ≡ true =
       guard_before st p g sound linked m.spot.name m.spot.area request reply off fits is may guarded in
       let quiet = guarded_area g m.spot.name m.spot.area before in
       let w = known before in record {
         folder = w.folder;
         there = untaken st p request reply m.spot is (stands_there st.namespace m.spot w.folder w.there) (free quiet) ∙ w.there;
+        names = named w.folder w.there quiet w.names;
         same = change w.folder w.there quiet w.same;
       }
 
@@ -97,7 +122,9 @@ module _ (st : DirState) (p : ℕ) (s : Seen) (m : Making) (sound : Sound st.nam
       → ((k : ℕ) → entries_in k (state_next st (event p request reply)).entries ≡ entries_in k st.entries)
       → is_guarded (seen_replied g request reply) m ≡ true → StandsAsKnown (state_next st (event p request reply)) m
   still request reply is may off free same guarded =
-      on request reply m.clean m.entries m.unsynced is may off free (λ k at quiet was clean. same k ∙ was clean) guarded
+      on request reply m.clean m.entries m.unsynced is may off free
+      (λ k at quiet was. names_same (entries_in k (state_next st (event p request reply)).entries) (entries_in k st.entries) m.entries (same k) was)
+      (λ k at quiet was clean. same k ∙ was clean) guarded
 
   unmade : (k : ℕ) → entries_in k (st.entries ++ []) ≡ entries_in k st.entries
   unmade k = ap (entries_in k) (append-nil st.entries)
@@ -123,12 +150,17 @@ module _ (st : DirState) (p : ℕ) (s : Seen) (m : Making) (sound : Sound st.nam
       by true e = λ guarded.
           on request Done m.clean (m.entries ++ record { path = i.path; node = node } ∷ []) (directory ∷ m.unsynced) is may off
           (λ quiet. free)
+          (λ k there quiet was. subst (λ (l : List Entry). SameNames l (m.entries ++ record { path = i.path; node = node } ∷ []))
+          (sym (grown k ∙ placed_here st.namespace k m.spot i.spot i.path node st.entries there (and_left (spot_eq m.spot i.spot) _ e)))
+          (names_pushed (entries_in k st.entries) m.entries (record { path = i.path; node = node }) was))
           (λ k there quiet was clean. grown k
           ∙ (placed_here st.namespace k m.spot i.spot i.path node st.entries there (and_left (spot_eq m.spot i.spot) _ e)
           ∙ ap (λ (l : List Entry). l ++ record { path = i.path; node = node } ∷ []) (was clean)))
           guarded
       by false e = λ guarded.
           on request Done m.clean m.entries m.unsynced is may off (λ quiet. free)
+          (λ k there quiet was. names_same (entries_in k (state_next st (event p request Done)).entries) (entries_in k st.entries) m.entries
+          (grown k ∙ placed_away st.namespace k m.spot i.spot i.path node st.entries there (site i.spot false e at quiet refl)) was)
           (λ k there quiet was clean. grown k
           ∙ (placed_away st.namespace k m.spot i.spot i.path node st.entries there (site i.spot false e at quiet refl)
           ∙ was clean))
@@ -140,18 +172,24 @@ module _ (st : DirState) (p : ℕ) (s : Seen) (m : Making) (sound : Sound st.nam
       → ((k : ℕ) → folder_at st.namespace m.spot ≡ Some k → (spot_eq m.spot i.spot ≡ false) →
       entries_in k (state_next st (event p request (Refused error left))).entries ≡ entries_in k st.entries)
       → (is_changeable m.spot.area ≡ false → makes_at (Some m) i.spot ≡ false → spot_eq m.spot i.spot ≡ false)
+      → ((k : ℕ) → folder_at st.namespace m.spot ≡ Some k → makes_at (Some m) i.spot ≡ true →
+      SameNames (entries_in k st.entries) m.entries →
+      SameNames (entries_in k (state_next st (event p request (Refused error left))).entries) m.entries)
       → KnownOf (state_next st (event p request (Refused error left))) (seen_replied g request (Refused error left))
       (making_changed i.spot spoilt (Some m))
-  spoils request error left i is may off free same away = by (makes_at (Some m) i.spot) refl
+  spoils request error left i is may off free same away here = by (makes_at (Some m) i.spot) refl
     where
       by : (b : Bool) → makes_at (Some m) i.spot ≡ b →
           KnownOf (state_next st (event p request (Refused error left))) (seen_replied g request (Refused error left))
           (cond b (Some (spoilt m)) (Some m))
       by true e = λ guarded.
           on request (Refused error left) false m.entries m.unsynced is may off (λ quiet. free)
+          (λ k there quiet was. here k there e was)
           (λ k there quiet was clean. clash false clean refl) guarded
       by false e = λ guarded.
           on request (Refused error left) m.clean m.entries m.unsynced is may off (λ quiet. free)
+          (λ k there quiet was. names_same (entries_in k (state_next st (event p request (Refused error left))).entries) (entries_in k st.entries) m.entries
+          (same k there (away quiet e)) was)
           (λ k there quiet was clean. same k there (away quiet e) ∙ was clean) guarded
 
   synced : (i : Inner) → is_reply st p (SyncIn i) Done ≡ true → allows g (SyncIn i) ≡ true → After (SyncIn i) Done
@@ -160,6 +198,7 @@ module _ (st : DirState) (p : ℕ) (s : Seen) (m : Making) (sound : Sound st.nam
       by : (b : Bool) → KnownOf (state_next st (event p (SyncIn i) Done)) (seen_replied g (SyncIn i) Done)
           (cond b (Some (without_path i.path m)) (Some m))
       by true = λ guarded. on (SyncIn i) Done m.clean m.entries (without_path i.path m).unsynced is may refl (λ quiet. refl)
+          (λ k there quiet was. names_same (entries_in k (st.entries ++ [])) (entries_in k st.entries) m.entries (unmade k) was)
           (λ k there quiet was clean. unmade k ∙ was clean) guarded
       by false = still (SyncIn i) Done is may refl (λ quiet. refl) unmade
 
@@ -170,6 +209,7 @@ module _ (st : DirState) (p : ℕ) (s : Seen) (m : Making) (sound : Sound st.nam
       by : (b : Bool) → KnownOf (state_next st (event p (SyncIn i) (Refused error left)))
           (seen_replied g (SyncIn i) (Refused error left)) (cond b (Some (spoilt m)) (Some m))
       by true = λ guarded. on (SyncIn i) (Refused error left) false m.entries m.unsynced is may refl (λ quiet. refl)
+          (λ k there quiet was. names_same (entries_in k (st.entries ++ [])) (entries_in k st.entries) m.entries (unmade k) was)
           (λ k there quiet was clean. clash false clean refl) guarded
       by false = still (SyncIn i) (Refused error left) is may refl (λ quiet. refl) unmade
 
@@ -184,6 +224,20 @@ module _ (st : DirState) (p : ℕ) (s : Seen) (m : Making) (sound : Sound st.nam
       by true = unmade k
       by false = placed_away st.namespace k m.spot i.spot i.path (Piece (take left piece)) st.entries there off
 
+  left_here : (i : Inner) (piece : List ℕ) (left k : ℕ) → allows g (AppendIn i piece) ≡ true → folder_at st.namespace m.spot ≡ Some k →
+      makes_at (Some m) i.spot ≡ true → SameNames (entries_in k st.entries) m.entries →
+      SameNames (entries_in k (st.entries ++ option_to_list
+      (cond (left == 0) None (placed (folder_at st.namespace i.spot) i.path (Piece (take left piece)))))) m.entries
+  left_here i piece left k may there at was = by (left == 0)
+    where
+      by : (b : Bool) → SameNames (entries_in k (st.entries ++ option_to_list
+          (cond b None (placed (folder_at st.namespace i.spot) i.path (Piece (take left piece)))))) m.entries
+      by true = names_same (entries_in k (st.entries ++ [])) (entries_in k st.entries) m.entries (unmade k) was
+      by false = subst (λ (l : List Entry). SameNames l m.entries)
+          (sym (placed_here st.namespace k m.spot i.spot i.path (Piece (take left piece)) st.entries there (and_left (spot_eq m.spot i.spot) (is_making_area i.spot.area) at)))
+          (names_again (entries_in k st.entries) m.entries i.path (take left piece)
+          ((was i.path).0 ∙ appends g m i piece (and_right (spot_eq m.spot i.spot) (is_making_area i.spot.area) at) may) was)
+
   -- a removal is in another folder
   removed : (request : Request) (i : Inner) → is_reply st p request Done ≡ true → allows g request ≡ true →
       is_make request ≡ false → takes m.spot request Done ≡ false → may_remove s.standing i.spot ≡ true
@@ -192,6 +246,8 @@ module _ (st : DirState) (p : ℕ) (s : Seen) (m : Making) (sound : Sound st.nam
       → is_guarded (seen_replied g request Done) m ≡ true → StandsAsKnown (state_next st (event p request Done)) m
   removed request i is may off free rule same guarded =
       on request Done m.clean m.entries m.unsynced is may off (λ quiet. free)
+      (λ k there quiet was. names_same (entries_in k (state_next st (event p request Done)).entries) (entries_in k st.entries) m.entries
+      (same k there (apart m.spot i.spot quiet (removal_area s.standing i.spot rule))) was)
       (λ k there quiet was clean. same k there (apart m.spot i.spot quiet (removal_area s.standing i.spot rule)) ∙ was clean) guarded
 
   -- the folder is moved, or another
@@ -227,6 +283,7 @@ module _ (st : DirState) (p : ℕ) (s : Seen) (m : Making) (sound : Sound st.nam
             folder = w.folder;
             there = moved_there st.namespace to from to (none_stands st.namespace to (stands_from st p from to is).1) (spot_self to)
                 ∙ subst (λ (z : Spot). folder_at st.namespace z ≡ Some w.folder) same w.there;
+            names = names_same (entries_in w.folder (st.entries ++ [])) (entries_in w.folder st.entries) m.entries (unmade w.folder) w.names;
             same = λ clean. unmade w.folder ∙ w.same clean;
           }
 
@@ -270,36 +327,49 @@ module _ (st : DirState) (p : ℕ) (s : Seen) (m : Making) (sound : Sound st.nam
   own_step (MakeDirIn i) (Refused error left) is may empty =
       spoils (MakeDirIn i) error left i is may refl refl (λ k there off. unmade k)
       (λ quiet e. site i.spot false e (dir_site g i may) quiet refl)
+      (λ k there at was. names_same (entries_in k (st.entries ++ [])) (entries_in k st.entries) m.entries (unmade k) was)
   own_step (MakeFileIn i) (Refused error left) is may empty =
       spoils (MakeFileIn i) error left i is may refl refl (λ k there off. unmade k)
       (λ quiet e. site i.spot false e (make_site g i may) quiet refl)
+      (λ k there at was. names_same (entries_in k (st.entries ++ [])) (entries_in k st.entries) m.entries (unmade k) was)
   own_step (AppendIn i piece) (Refused error left) is may empty =
       spoils (AppendIn i piece) error left i is may refl refl (λ k there off. left_piece i piece left k there off)
       (λ quiet e. site i.spot false e (append_site g i piece may) quiet refl)
+      (λ k there at was. left_here i piece left k may there at was)
   own_step (SyncIn i) (Refused error left) is may empty = unsynced i error left is may
   own_step (MakeFolder spot) (Refused error left) is may empty = λ guarded. record {
     folder = (known guarded).folder;
     there = (known guarded).there;
+    names = names_same (entries_in (known guarded).folder (st.entries ++ [])) (entries_in (known guarded).folder st.entries) m.entries
+        (unmade (known guarded).folder) (known guarded).names;
     same = λ clean. unmade (known guarded).folder ∙ (known guarded).same clean;
   }
   own_step (MakeFolder spot) (Opened handle) is may empty = λ guarded. record {
     folder = (known guarded).folder;
     there = (known guarded).there;
+    names = names_same (entries_in (known guarded).folder (st.entries ++ [])) (entries_in (known guarded).folder st.entries) m.entries
+        (unmade (known guarded).folder) (known guarded).names;
     same = λ clean. unmade (known guarded).folder ∙ (known guarded).same clean;
   }
   own_step (MakeFolder spot) (Names names) is may empty = λ guarded. record {
     folder = (known guarded).folder;
     there = (known guarded).there;
+    names = names_same (entries_in (known guarded).folder (st.entries ++ [])) (entries_in (known guarded).folder st.entries) m.entries
+        (unmade (known guarded).folder) (known guarded).names;
     same = λ clean. unmade (known guarded).folder ∙ (known guarded).same clean;
   }
   own_step (MakeFolder spot) (Items items) is may empty = λ guarded. record {
     folder = (known guarded).folder;
     there = (known guarded).there;
+    names = names_same (entries_in (known guarded).folder (st.entries ++ [])) (entries_in (known guarded).folder st.entries) m.entries
+        (unmade (known guarded).folder) (known guarded).names;
     same = λ clean. unmade (known guarded).folder ∙ (known guarded).same clean;
   }
   own_step (MakeFolder spot) reply is may empty = λ guarded. record {
     folder = (known guarded).folder;
     there = (known guarded).there;
+    names = names_same (entries_in (known guarded).folder (st.entries ++ [])) (entries_in (known guarded).folder st.entries) m.entries
+        (unmade (known guarded).folder) (known guarded).names;
     same = λ clean. unmade (known guarded).folder ∙ (known guarded).same clean;
   }
   own_step request Done is may empty = still request Done is may refl (λ quiet. refl) unmade
