@@ -96,10 +96,10 @@ works_only f s k w = let x = f s k w in record { known = x.known; only = x.only;
 
 -- the whole
 module _ (spot : Spot) (tasks : List Task) {a b : DirAt} (area : is_removal_area spot.area ≡ true) (l : IsListed spot [] tasks a b) where
-  abbrev seen_root : Seen → Seen
+  abbrev pub seen_root : Seen → Seen
   seen_root s = seen_listed s (ListIn (record { spot = spot; path = [] })) (Items l.items)
 
-  at_work : (s : Seen) → MayDelete spot s → IsAtWork spot tasks (seen_root s)
+  pub at_work : (s : Seen) → MayDelete spot s → IsAtWork spot tasks (seen_root s)
   at_work s m = subst (λ (ts : List Task). IsAtWork spot ts (seen_root s)) (sym l.are) (after_list spot [] [] l.items s area (ready_at_root m) l.plain l.once)
 
   pub tries_tasks : {c : DirAt} → OnlyWorks spot tasks b c → OnlyTries spot a c

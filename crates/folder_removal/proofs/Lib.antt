@@ -7,3 +7,4 @@ pub mod Strays
 pub mod Knowing
 pub mod After
 pub mod Keeping
+pub mod Knew

@@ -261,7 +261,7 @@ module _ (spot : Spot) (xs : List Task) (t : Task) (s : Seen) (w : IsAtWork spot
   last_shown : s.items ≡ (w.others ++ map (shown_at spot) xs) ++ shown_at spot t ∷ []
   last_shown = w.items ∙ ap (λ (l : List ShownItem). w.others ++ l) (map-append (shown_at spot) xs (t ∷ [])) ∙ sym (append_assoc w.others (map (shown_at spot) xs) (shown_at spot t ∷ []))
 
-  shown_as : (test : ItemKind → Bool) → test t.kind ≡ true → shows test (task_inner spot t) s.items ≡ true
+  pub shown_as : (test : ItemKind → Bool) → test t.kind ≡ true → shows test (task_inner spot t) s.items ≡ true
   shown_as test is = ap (list_any (λ i. is_item_at (task_inner spot t) i && test i.kind)) last_shown ∙ any_last (λ i. is_item_at (task_inner spot t) i && test i.kind) (w.others ++ map (shown_at spot) xs) (shown_at spot t) (and_both _ _ (inner_self (task_inner spot t)) is)
 
   was_listed : t.listed ≡ true → list_any (inner_eq (task_inner spot t)) s.listed ≡ true

@@ -69,7 +69,7 @@ folder_stray {spot} {me} {other} {a} {b} {c} e stray first same last = record {
   last = subst (λ (p : ℕ). CallStep p b (RemoveFolder spot) (Refused e 0) c) same last;
 }
 
-in_time : (inner : Inner) (reply : Reply) → is_late_reply (ListIn inner) reply ≡ true → is_stray (ListIn inner) reply ≡ true → ⊥
+pub in_time : (inner : Inner) (reply : Reply) → is_late_reply (ListIn inner) reply ≡ true → is_stray (ListIn inner) reply ≡ true → ⊥
 in_time inner (Items items) late stray = cc
 in_time inner (Refused Missing left) late stray = let e : false ≡ true = sym (and_false (left == 0)) ∙ late in cc
 in_time inner (Refused _ left) late stray = cc

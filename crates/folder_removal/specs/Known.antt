@@ -1,26 +1,28 @@
 -- What a process knows on the way to a folder's deletion, and after it.
-use Rattle.std.specs.Prelude.{◌≡◌, ℕ, Bool, true, false, not, ◌||◌, List, [], ◌++◌, map, filter}
+use Rattle.std.specs.Prelude.{◌≡◌, ◌⊎◌, ℕ, Bool, true, false, not, ◌||◌, List, [], ◌++◌, map, filter}
 use Rattle.std.specs.List.{list_any, list_all}
 use Rattle.dir_model.specs.declared.item.Inner.{Inner}
+use Rattle.dir_model.specs.declared.event.Event.{Event}
 use Rattle.dir_model.specs.declared.item.Item.{Item}
 use Rattle.dir_model.specs.declared.spot.Spot.{Spot}
 use Rattle.dir_model.specs.declared.request.Request.{Request}
 use Rattle.dir_model.specs.declared.request.Request.TheVariants.{ListIn}
 use Rattle.dir_model.specs.declared.request.Reply.{Reply}
-use Rattle.dir_model.specs.declared.request.Reply.TheVariants.{Items}
+use Rattle.dir_model.specs.declared.request.Reply.TheVariants.{Items, Begun}
+use Rattle.dir_model.specs.Calls.{CallStep, ListStep}
 use Rattle.dir_trait.specs.State.{spot_eq}
 use Rattle.dir_rules.specs.declared.seen.Created.{Created}
 use Rattle.dir_rules.specs.declared.seen.ShownItem.{ShownItem}
 use Rattle.dir_rules.specs.declared.seen.Seen.{Seen}
 use Rattle.dir_rules.specs.LockRules.{may_remove}
 use Rattle.dir_rules.specs.Seen.{inner_eq, forget_listed, forget_items, moved_away}
-use Rattle.dir_rules.specs.Rules.{root_of, allows}
-use Rattle.dir_rules.specs.Conforms.{seen_replied, seen_listed}
+use Rattle.dir_rules.specs.Rules.{root_of, allows, shows, is_file_item}
+use Rattle.dir_rules.specs.Conforms.{seen_replied, seen_listed, IsTied}
 use Rattle.dir_trait.specs.DirCalls.{DirAt}
 use Rattle.dir_trait.specs.Knowledge.{Knows}
 use Rattle.folder_removal.specs.declared.task.Task.{Task}
 use Rattle.folder_removal.specs.Tasks.{task_of, has_plain_name, are_distinct, are_nested}
-use Rattle.folder_removal.specs.Removal.{task_inner, removal_of}
+use Rattle.folder_removal.specs.Removal.{task_inner, removal_of, deletes_at, is_stray}
 
 abbrev pub shown_at : Spot → Task → ShownItem
 shown_at spot t = record { inner = task_inner spot t; kind = t.kind }
@@ -120,3 +122,41 @@ Deletes spot old new = (s : Seen) → Knows old s → MayDelete spot s → Knows
 -- or nothing has changed but what is known of it
 abbrev pub OnlyTries : Spot → DirAt → DirAt → Type 0
 OnlyTries spot old new = (s : Seen) → Knows old s → MayDelete spot s → KnowsBut spot s new
+
+-- where it listed a directory, that was the folder itself, or a listing had shown it and it wasn't removed since
+abbrev pub IsDue : Seen → Request → Type 0
+IsDue s (ListIn inner) = (inner ≡ root_of inner.spot) ⊎ (shows (λ k. not (is_file_item k)) inner s.items ≡ true)
+IsDue s request = Unit {0}
+
+-- it had asked for this, and nothing else since: a listing had begun, or nothing had come
+abbrev pub HasAsked : Request → ℕ → List Event → List Event → Type 0
+HasAsked request me asked before = (before ≡ asked) ⊎ CallStep me asked request Begun before
+
+-- its last step was answered as what the lock keeps doesn't explain, and this is what it knew when it asked
+pub record StrayKnowing (spot : Spot) (me : ℕ) (new : List Event) : Type 0 where
+  pub asked : List Event
+  pub seen : Seen
+  pub knew : IsTied me asked seen
+  pub lock : may_remove seen.standing spot ≡ true
+  pub request : Request
+  pub reply : Reply
+  pub about : deletes_at spot request ≡ true
+  pub stray : is_stray request reply ≡ true
+  pub due : IsDue seen request
+  pub before : List Event
+  pub begun : HasAsked request me asked before
+  pub last : CallStep me before request reply new
+
+-- wherever it was at work there
+abbrev pub StrayAtWork : Spot → List Task → DirAt → DirAt → Type 0
+StrayAtWork spot tasks old new = (s : Seen) → Knows old s → IsAtWork spot tasks s → StrayKnowing spot old.process new.trace
+
+-- wherever the folder might be deleted
+abbrev pub StrayDeleting : Spot → DirAt → DirAt → Type 0
+StrayDeleting spot old new = (s : Seen) → Knows old s → MayDelete spot s → StrayKnowing spot old.process new.trace
+
+-- the directory was listed, which was answered so
+pub record ListedStray (inner : Inner) (me : ℕ) (old new : List Event) : Type 0 where
+  pub reply : Reply
+  pub stray : is_stray (ListIn inner) reply ≡ true
+  pub step : ListStep me old (ListIn inner) reply new

@@ -10,7 +10,7 @@ ghost use Rattle.folder_removal.specs.Tasks.{HasChildren};
 ghost use Rattle.folder_removal.specs.Weights.{weigh};
 ghost use Rattle.folder_removal.specs.Removal.{is_removal_area, deletes_at, spares_folders, KeepsFolders};
 ghost use Rattle.folder_removal.specs.Removal.{inner_at, lists_at, removal_of, ListsStray, RemovesStray, AsksRemoval, StrayTurn, AreShown, HandsOn, StrayAfter, EndsStray, EndsRemoved};
-ghost use Rattle.folder_removal.specs.Known.{Learns, IsListed, OnlyLists, OnlyRemoves, OnlyWorks, WorksOff, OnlyTries, Deletes};
+ghost use Rattle.folder_removal.specs.Known.{Learns, StrayAtWork, StrayDeleting, ListedStray, IsListed, OnlyLists, OnlyRemoves, OnlyWorks, WorksOff, OnlyTries, Deletes};
 
 use crate::error::{DeleteError, delete_error};
 use crate::task::{Task, add, children};
@@ -35,6 +35,7 @@ fn list<D: Dir>(
     ensures lists { D.observed ≡ true → ExtendsBy (lists_at spot.now) (D.shown dir.old) (D.shown dir.new) }
     ensures spares { D.observed ≡ true → ExtendsBy spares_folders (D.shown dir.old) (D.shown dir.new) }
     ensures stray { IsErrOf result DeleteError.Stray → D.observed ≡ true → ListsStray (inner_at spot.now path.now) (D.shown dir.old).process (D.shown dir.old).trace (D.shown dir.new).trace }
+    ensures asked { IsErrOf result DeleteError.Stray → D.observed ≡ true → ListedStray (inner_at spot.now path.now) (D.shown dir.old).process (D.shown dir.old).trace (D.shown dir.new).trace }
     ensures known { D.observed ≡ true → OnlyLists spot.now (D.shown dir.old) (D.shown dir.new) }
     ensures shown { IfOk result (λ tasks. D.observed ≡ true → AreShown spot.now tasks.items (D.shown dir.old).process (D.shown dir.old).trace (D.shown dir.new).trace) }
     ensures children { IfOk result (λ tasks. HasChildren path.now tasks.items) }
@@ -100,6 +101,7 @@ fn turn<D: Dir>(
     ensures extends { D.observed ≡ true → ExtendsBy (deletes_at spot.now) (D.shown dir.old) (D.shown dir.new) }
     ensures spares { D.observed ≡ true → ExtendsBy spares_folders (D.shown dir.old) (D.shown dir.new) }
     ensures stray { IsErrOf result DeleteError.Stray → D.observed ≡ true → StrayTurn spot.now task (D.shown dir.old).process (D.shown dir.old).trace (D.shown dir.new).trace }
+    ensures knew { IsErrOf result DeleteError.Stray → D.observed ≡ true → StrayAtWork spot.now (tasks.old.items ++ task ∷ []) (D.shown dir.old) (D.shown dir.new) }
     ensures at_hand { IfOk result (λ done. D.observed ≡ true → HandsOn spot.now (tasks.old.items ++ task ∷ []) tasks.new.items (D.shown dir.old) (D.shown dir.new)) }
     ensures known { D.observed ≡ true → OnlyWorks spot.now (tasks.old.items ++ task ∷ []) (D.shown dir.old) (D.shown dir.new) }
     ensures work { IfOk result (λ done. D.observed ≡ true → WorksOff spot.now (tasks.old.items ++ task ∷ []) tasks.new.items (D.shown dir.old) (D.shown dir.new)) }
@@ -129,6 +131,7 @@ fn empty<D: Dir>(
     ensures extends { D.observed ≡ true → ExtendsBy (deletes_at spot.now) (D.shown dir.old) (D.shown dir.new) }
     ensures spares { D.observed ≡ true → ExtendsBy spares_folders (D.shown dir.old) (D.shown dir.new) }
     ensures stray { IsErrOf result DeleteError.Stray → D.observed ≡ true → StrayAfter spot.now tasks.items (D.shown dir.old) (D.shown dir.new) }
+    ensures knew { IsErrOf result DeleteError.Stray → D.observed ≡ true → StrayAtWork spot.now tasks.items (D.shown dir.old) (D.shown dir.new) }
     ensures known { D.observed ≡ true → OnlyWorks spot.now tasks.items (D.shown dir.old) (D.shown dir.new) }
     ensures work { IfOk result (λ done. D.observed ≡ true → WorksOff spot.now tasks.items [] (D.shown dir.old) (D.shown dir.new)) }
 {
@@ -153,6 +156,7 @@ pub fn delete_folder<D: Dir>(alloc: Global, dir: &mut D, spot: Spot) -> Result<(
     ensures local { (D.shown dir.new).local ≡ (D.shown dir.old).local }
     ensures extends { D.observed ≡ true → ExtendsBy (deletes_at spot) (D.shown dir.old) (D.shown dir.new) }
     ensures stray { IsErrOf result DeleteError.Stray → D.observed ≡ true → EndsStray spot (D.shown dir.old) (D.shown dir.new) }
+    ensures knew { IsErrOf result DeleteError.Stray → D.observed ≡ true → StrayDeleting spot (D.shown dir.old) (D.shown dir.new) }
     ensures refused { IfErr result (λ error. D.observed ≡ true → OnlyTries spot (D.shown dir.old) (D.shown dir.new)) }
     ensures kept { IfErr result (λ error. D.observed ≡ true → KeepsFolders (D.shown dir.old) (D.shown dir.new)) }
     ensures deleted { IfOk result (λ done. D.observed ≡ true → Deletes spot (D.shown dir.old) (D.shown dir.new)) }

@@ -8,3 +8,6 @@ pub mod Ends
 pub mod Passing
 pub mod Begun
 pub mod Keeping
+pub mod Lawful
+pub mod Shown
+pub mod LawfulSweeps

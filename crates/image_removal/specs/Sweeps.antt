@@ -1,14 +1,16 @@
 -- What a sweep comes to.
-use Rattle.std.specs.Prelude.{◌≡◌, ◌⊎◌, ℕ, Bool, true, List, [], ◌∷◌, ◌++◌, map}
+use Rattle.std.specs.Prelude.{◌≡◌, ◌⊎◌, ℕ, Bool, true, false, List, [], ◌∷◌, ◌++◌, map}
 use Rattle.std.specs.List.{AllByRecursion}
 use Rattle.std.specs.List.Sorted.{IsStrictlySortedBy}
 use Rattle.std.specs.Ordering.{nat_cmp}
 use Rattle.std.specs.Cmp.Lexicographic.{slice_cmp}
 use Rattle.dir_model.specs.declared.area.Area.{Area}
 use Rattle.dir_model.specs.declared.event.Event.{Event}
-use Rattle.dir_model.specs.declared.request.Reply.TheVariants.{Done}
+use Rattle.dir_model.specs.declared.request.Reply.TheVariants.{Done, Names}
+use Rattle.dir_model.specs.declared.request.Request.TheVariants.{ListArea}
 use Rattle.dir_model.specs.declared.spot.Mode.TheVariants.{Exclusive}
-use Rattle.dir_model.specs.Calls.{Extends, AtOwnStep}
+use Rattle.dir_model.specs.Calls.{ListStep, Extends, AtOwnStep}
+use Rattle.dir_model.specs.Listings.{has_name}
 use Rattle.dir_model.specs.State.{DirState}
 use Rattle.dir_trait.specs.DirCalls.{DirAt}
 use Rattle.dir_files.specs.Listed.{ShowsArea}
@@ -86,6 +88,23 @@ Adds P before after = (added : List SweepLine) × (after ≡ before ++ added) ×
 pub record AddsLines (observed : Bool) (pass : Pass) (names : List (List ℕ)) (before after : List SweepLine) (old new : DirAt) : Type 0 where
   pub lines : after ≡ before ++ map (line_of pass) (uuids names)
   pub each : observed ≡ true → AllByRecursion (λ name. Called (deed_of pass name) Done old.process old.trace new.trace) (uuids names)
+
+-- the process has just listed the pass's area, which showed these names
+pub record HasListed (pass : Pass) (names : List (List ℕ)) (me : ℕ) (now : List Event) : Type 0 where
+  pub before : List Event
+  pub listing : ListStep me before (ListArea (area_of pass)) (Names names) now
+  pub shows : ShowsArea me before now (area_of pass) names
+  pub rise : IsStrictlySortedBy (slice_cmp nat_cmp) names
+
+-- such a listing showed this name, and since then the process dealt with others alone
+pub record WasListed (pass : Pass) (name : List ℕ) (me : ℕ) (now : List Event) : Type 0 where
+  pub names : List (List ℕ)
+  pub others : List (List ℕ)
+  pub then : List Event
+  pub listed : HasListed pass names me then
+  pub shown : has_name names name ≡ true
+  pub apart : has_name others name ≡ false
+  pub since : Extends (deals_with_some pass others) me then now
 
 -- between two moments
 abbrev pub SweepsBetween : Pass → DirAt → DirAt → List SweepLine → Type 0

@@ -1,10 +1,14 @@
 // The deletion of a folder in removed, under that area's lock.
-ghost use Rattle.std.specs.Prelude.{◌≡◌, ◌⊎◌, true, IfOk, IfErr};
+ghost use Rattle.std.specs.Prelude.{◌≡◌, ◌⊎◌, true, IfOk, IfErr, IsErrOf};
 ghost use Rattle.dir_model.specs.declared.request.Request.TheVariants.{RemoveFolder};
 ghost use Rattle.dir_model.specs.declared.request.Reply.TheVariants.{Done};
 ghost use Rattle.dir_trait.specs.Local.{IsActive};
 ghost use Rattle.folder_building.specs.Work.{Worked, either};
-ghost use Rattle.folder_removal.specs.Removal.{deletes_at, KeepsFolders};
+ghost use Rattle.dir_rules.specs.declared.seen.Seen.{Seen};
+ghost use Rattle.dir_trait.specs.Knowledge.{Knows};
+ghost use Rattle.folder_removal.specs.Known.{StrayKnowing};
+ghost use Rattle.folder_removal.specs.Removal.{deletes_at, KeepsFolders, EndsStray};
+ghost use Rattle.lifecycle.specs.Executions.{IsConforming};
 ghost use Rattle.image_removal.specs.Requests.{removed_spot, looks_at};
 ghost use Rattle.image_removal.specs.Calls.{Called};
 ghost use Rattle.image_removal.specs.Causes.{WorkCause};
@@ -31,6 +35,9 @@ pub(crate) fn delete<D: Dir>(alloc: Global, dir: &mut D, name: Name) -> Result<(
         → Called (RemoveFolder (removed_spot name)) Done (D.shown dir.old).process (D.shown dir.old).trace (D.shown dir.new).trace) }
     ensures stays { IfOk result (λ done. D.observed ≡ true → Stays (HoldsArea Area.Removed) StaysBare (D.shown dir.old) (D.shown dir.new)) }
     ensures left { IfErr result (λ e. D.observed ≡ true → Stays (HoldsArea Area.Removed) StaysConforming (D.shown dir.old) (D.shown dir.new)) }
+    ensures stray { IsErrOf result StoreError.Stray → D.observed ≡ true → EndsStray (removed_spot name) (D.shown dir.old) (D.shown dir.new) }
+    ensures knew { IsErrOf result StoreError.Stray → D.observed ≡ true → (s : Seen) → Knows (D.shown dir.old) s → HoldsArea Area.Removed s
+        → StrayKnowing (removed_spot name) (D.shown dir.old).process (D.shown dir.new).trace }
 {
     match delete_folder(alloc, dir, removed_spot(name)) {
         Ok(()) => Ok(()),
@@ -51,6 +58,8 @@ pub(crate) fn delete_if_there<D: Dir>(
     ensures gone { IfOk result (λ done. D.observed ≡ true
         → IsGone (removed_spot name) (D.shown dir.old).process (D.shown dir.old).trace (D.shown dir.new).trace) }
     ensures stays { D.observed ≡ true → Stays (HoldsArea Area.Removed) StaysConforming (D.shown dir.old) (D.shown dir.new) }
+    ensures lawful { IsErrOf result StoreError.Stray → D.observed ≡ true → (s : Seen) → Knows (D.shown dir.old) s → HoldsArea Area.Removed s
+        → IsConforming (D.shown dir.new).trace → ⊥ }
 {
     if is_there(alloc, dir, removed_spot(name))? {
         delete(alloc, dir, name)

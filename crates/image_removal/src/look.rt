@@ -1,5 +1,5 @@
 // Whether a folder stands at a location.
-ghost use Rattle.std.specs.Prelude.{◌≡◌, true, false, Ok, IfErr};
+ghost use Rattle.std.specs.Prelude.{◌≡◌, true, false, Ok, IfErr, IsErrOf};
 ghost use Rattle.dir_model.specs.State.{stands};
 ghost use Rattle.dir_trait.specs.Local.{IsActive};
 ghost use Rattle.dir_trait.specs.DirCalls.{HeldBetween};
@@ -30,6 +30,9 @@ pub(crate) fn is_there<D: Dir>(alloc: Global, dir: &mut D, spot: Spot) -> Result
     requires active { IsActive (D.shown dir.old).local }
     ensures worked { Worked D.observed (looks_at spot) (D.shown dir.old) (D.shown dir.new) }
     ensures cause { IfErr result (λ e. WorkCause D.observed e (D.shown dir.old) (D.shown dir.new)) }
+    ensures told { IsErrOf result StoreError.Stray → ⊥ }
+    ensures present { result ≡ Ok true → D.observed ≡ true
+        → HeldBetween (D.shown dir.old) (D.shown dir.new) (λ s. stands s.namespace spot ≡ true) }
     ensures absent { result ≡ Ok false → D.observed ≡ true
         → HeldBetween (D.shown dir.old) (D.shown dir.new) (λ s. stands s.namespace spot ≡ false) }
     ensures known { D.observed ≡ true → (s : Seen) → Knows (D.shown dir.old) s → Knows (D.shown dir.new) s }

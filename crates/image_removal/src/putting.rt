@@ -1,5 +1,5 @@
 // The moves to removed, under the lock of the area from which a folder goes.
-ghost use Rattle.std.specs.Prelude.{◌≡◌, true, Err, IfOk, IfErr};
+ghost use Rattle.std.specs.Prelude.{◌≡◌, true, Err, IfOk, IfErr, IsErrOf};
 ghost use Rattle.ac_types.specs.declared.store_key.StoreKey.{StoreKey};
 ghost use Rattle.dir_model.specs.Calls.{CallStep};
 ghost use Rattle.dir_model.specs.Causes.{Rose};
@@ -9,7 +9,10 @@ ghost use Rattle.dir_model.specs.declared.request.Reply.TheVariants.{Done, Refus
 ghost use Rattle.dir_trait.specs.Local.{IsActive};
 ghost use Rattle.dir_trait.specs.DirCalls.{HeldBetween};
 ghost use Rattle.folder_building.specs.Work.{Worked};
+ghost use Rattle.lifecycle.specs.Executions.{IsConforming};
 ghost use Rattle.image_reading.specs.Places.{image_spot, IsAbsent};
+ghost use Rattle.image_removal.specs.declared.pass.Pass.TheVariants.{PutAway};
+ghost use Rattle.image_removal.specs.Sweeps.{WasListed};
 ghost use Rattle.image_removal.specs.Requests.{incoming_spot, removed_spot, away_spot, puts_away, moves};
 ghost use Rattle.image_removal.specs.Calls.{Called};
 ghost use Rattle.image_removal.specs.Causes.{WorkCause, MoveCause};
@@ -37,6 +40,7 @@ pub(crate) fn put_image_away<D: Dir>(
     ensures moved { IfOk result (λ done. D.observed ≡ true
         → CallStep (D.shown dir.old).process (D.shown dir.old).trace (puts_away key draw) Done (D.shown dir.new).trace) }
     ensures stays { D.observed ≡ true → Stays (MayPutAway draw) StaysBare (D.shown dir.old) (D.shown dir.new) }
+    ensures lawful { IsErrOf result StoreError.Stray → D.observed ≡ true → IsConforming (D.shown dir.new).trace → ⊥ }
 {
     let from = spot_of(alloc, key)?;
     match dir.move_folder(alloc, from, away_spot(draw)) {
@@ -55,6 +59,8 @@ pub(crate) fn put_away<D: Dir>(alloc: Global, dir: &mut D, name: Name) -> Result
     ensures moved { IfOk result (λ done. D.observed ≡ true
         → CallStep (D.shown dir.old).process (D.shown dir.old).trace (MoveFolder (incoming_spot name) (removed_spot name)) Done (D.shown dir.new).trace) }
     ensures stays { D.observed ≡ true → Stays (HoldsArea Area.Incoming) StaysBare (D.shown dir.old) (D.shown dir.new) }
+    ensures lawful { IsErrOf result StoreError.Stray → D.observed ≡ true → WasListed PutAway name (D.shown dir.old).process (D.shown dir.old).trace
+        → IsConforming (D.shown dir.new).trace → ⊥ }
 {
     match dir.move_folder(alloc, incoming_spot(name), removed_spot(name)) {
         Ok(()) => Ok(()),

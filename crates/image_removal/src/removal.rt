@@ -1,11 +1,12 @@
 // The removal of an image.
-ghost use Rattle.std.specs.Prelude.{◌≡◌, true, IfOk, IfErr};
+ghost use Rattle.std.specs.Prelude.{◌≡◌, true, IfOk, IfErr, IsErrOf};
 ghost use Rattle.dir_rules.specs.declared.seen.Seen.{Seen};
 ghost use Rattle.dir_trait.specs.Local.{IsActive};
 ghost use Rattle.dir_trait.specs.Knowledge.{Knows};
 ghost use Rattle.area_locks.specs.AreaLocks.{is_free_of, IsBusy, IsBusyElsewhere};
 ghost use Rattle.folder_building.specs.Work.{Worked};
 ghost use Rattle.folder_removal.specs.Removal.{KeepsFolders};
+ghost use Rattle.lifecycle.specs.Executions.{IsConforming};
 ghost use Rattle.image_removal.specs.Requests.{away_spot, puts_away, deletes_away, removes_at};
 ghost use Rattle.image_removal.specs.Calls.{Called};
 ghost use Rattle.image_removal.specs.Causes.{lock_free, WorkCause, RemoveCause, BusyElsewhere};
@@ -38,6 +39,7 @@ fn put_away_locked<D: Dir>(
     ensures moved { IfOk result (λ done. D.observed ≡ true
         → Called (puts_away key draw) Done (D.shown dir.old).process (D.shown dir.old).trace (D.shown dir.new).trace) }
     ensures stays { D.observed ≡ true → Stays (MayRemove draw) StaysBare (D.shown dir.old) (D.shown dir.new) }
+    ensures lawful { IsErrOf result StoreError.Stray → D.observed ≡ true → IsConforming (D.shown dir.new).trace → ⊥ }
 {
     match lock_area(alloc, dir, Area::Images, Mode::Exclusive) {
         Ok(gate) => {
@@ -73,6 +75,8 @@ fn delete_if_free<D: Dir>(alloc: Global, dir: &mut D, draw: PodId) -> Result<(),
         → IsGoneUnless (IsBusyElsewhere (D.shown dir.old).process Area.Removed Mode.Exclusive) (away_spot draw)
         (D.shown dir.old).process (D.shown dir.old).trace (D.shown dir.new).trace) }
     ensures stays { D.observed ≡ true → Stays (MayPass Area.Removed) StaysConforming (D.shown dir.old) (D.shown dir.new) }
+    ensures lawful { IsErrOf result StoreError.Stray → D.observed ≡ true → (s : Seen) → Knows (D.shown dir.old) s → MayPass Area.Removed s
+        → IsConforming (D.shown dir.new).trace → ⊥ }
 {
     match lock_area(alloc, dir, Area::Removed, Mode::Exclusive) {
         Ok(gate) => {
@@ -109,6 +113,8 @@ pub fn remove<D: Dir>(
     ensures removed_unless_another { IfOk result (λ done. D.observed ≡ true → (s : Seen) → Knows (D.shown dir.old) s → MayRemove draw s
         → IsRemovedBetween (IsBusyElsewhere (D.shown dir.old).process Area.Removed Mode.Exclusive) key draw (D.shown dir.old) (D.shown dir.new)) }
     ensures conforms { D.observed ≡ true → Stays (MayRemove draw) StaysConforming (D.shown dir.old) (D.shown dir.new) }
+    ensures lawful { IsErrOf result StoreError.Stray → D.observed ≡ true → (s : Seen) → Knows (D.shown dir.old) s → MayRemove draw s
+        → IsConforming (D.shown dir.new).trace → ⊥ }
 {
     put_away_locked(alloc, dir, key, draw)?;
     delete_if_free(alloc, dir, draw)

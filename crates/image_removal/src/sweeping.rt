@@ -6,12 +6,13 @@ ghost use Rattle.dir_trait.specs.Local.{IsActive};
 ghost use Rattle.dir_trait.specs.Knowledge.{Knows};
 ghost use Rattle.area_locks.specs.AreaLocks.{is_free_of};
 ghost use Rattle.folder_building.specs.Work.{Worked};
+ghost use Rattle.lifecycle.specs.Executions.{IsConforming};
 ghost use Rattle.image_removal.specs.Requests.{sweeps};
 ghost use Rattle.image_removal.specs.Passes.{area_of, line_of, deed_of, deals_with, deals_with_some};
 ghost use Rattle.image_removal.specs.Calls.{Called};
 ghost use Rattle.image_removal.specs.Causes.{is_fault_refusal, WorkCause};
 ghost use Rattle.image_removal.specs.Ended.{EndsAtBetween, EndsAmongBetween, EndsListingBetween, EndsPassBetween, EndsSweepBetween};
-ghost use Rattle.image_removal.specs.Sweeps.{Adds, AddsLines, SweepsBetween, TriesBetween, PassedBetween, TriedBetween, IsSweptBetween, HasTriedBetween, BusyNow, BusyApart};
+ghost use Rattle.image_removal.specs.Sweeps.{Adds, AddsLines, HasListed, WasListed, SweepsBetween, TriesBetween, PassedBetween, TriedBetween, IsSweptBetween, HasTriedBetween, BusyNow, BusyApart};
 ghost use Rattle.image_removal.specs.Work.{HoldsArea, MayPass, MaySweep, StaysConforming, StaysBare, Stays};
 
 use crate::deletion::delete;
@@ -34,6 +35,8 @@ fn deal<D: Dir>(alloc: Global, dir: &mut D, pass: Pass, name: Name) -> Result<()
         → Called (deed_of pass name) Done (D.shown dir.old).process (D.shown dir.old).trace (D.shown dir.new).trace) }
     ensures stays { IfOk result (λ done. D.observed ≡ true → Stays (HoldsArea (area_of pass)) StaysBare (D.shown dir.old) (D.shown dir.new)) }
     ensures left { IfErr result (λ e. D.observed ≡ true → Stays (HoldsArea (area_of pass)) StaysConforming (D.shown dir.old) (D.shown dir.new)) }
+    ensures lawful { IsErrOf result StoreError.Stray → D.observed ≡ true → (s : Seen) → Knows (D.shown dir.old) s → HoldsArea (area_of pass) s
+        → WasListed pass name (D.shown dir.old).process (D.shown dir.old).trace → IsConforming (D.shown dir.new).trace → ⊥ }
 {
     match pass {
         Pass::PutAway => put_away(alloc, dir, name),
@@ -66,6 +69,8 @@ fn sweep_next<D: Dir>(
     ensures ended { IfErr result (λ e. D.observed ≡ true → EndsAtBetween pass name.now (D.shown dir.old) (D.shown dir.new)) }
     ensures stays { IfOk result (λ done. D.observed ≡ true → Stays (HoldsArea (area_of pass)) StaysBare (D.shown dir.old) (D.shown dir.new)) }
     ensures left { IfErr result (λ e. D.observed ≡ true → Stays (HoldsArea (area_of pass)) StaysConforming (D.shown dir.old) (D.shown dir.new)) }
+    ensures lawful { IsErrOf result StoreError.Stray → D.observed ≡ true → (s : Seen) → Knows (D.shown dir.old) s → HoldsArea (area_of pass) s
+        → WasListed pass name.now (D.shown dir.old).process (D.shown dir.old).trace → IsConforming (D.shown dir.new).trace → ⊥ }
 {
     if is_uuid(name) {
         deal(alloc, dir, pass, *name)?;
@@ -90,6 +95,8 @@ fn sweep_each<D: Dir>(
     ensures ended { IfErr result (λ e. D.observed ≡ true → EndsAmongBetween pass names.now (D.shown dir.old) (D.shown dir.new)) }
     ensures stays { IfOk result (λ done. D.observed ≡ true → Stays (HoldsArea (area_of pass)) StaysBare (D.shown dir.old) (D.shown dir.new)) }
     ensures left { IfErr result (λ e. D.observed ≡ true → Stays (HoldsArea (area_of pass)) StaysConforming (D.shown dir.old) (D.shown dir.new)) }
+    ensures lawful { IsErrOf result StoreError.Stray → D.observed ≡ true → (s : Seen) → Knows (D.shown dir.old) s → HoldsArea (area_of pass) s
+        → HasListed pass names.now (D.shown dir.old).process (D.shown dir.old).trace → IsConforming (D.shown dir.new).trace → ⊥ }
 {
     'names: for name in names {
         sweep_next(alloc, dir, pass, name, lines)?;
@@ -112,6 +119,8 @@ fn sweep_listed<D: Dir>(
     ensures ended { IfErr result (λ e. D.observed ≡ true → EndsListingBetween pass (D.shown dir.old) (D.shown dir.new)) }
     ensures stays { IfOk result (λ done. D.observed ≡ true → Stays (HoldsArea (area_of pass)) StaysBare (D.shown dir.old) (D.shown dir.new)) }
     ensures left { IfErr result (λ e. D.observed ≡ true → Stays (HoldsArea (area_of pass)) StaysConforming (D.shown dir.old) (D.shown dir.new)) }
+    ensures lawful { IsErrOf result StoreError.Stray → D.observed ≡ true → (s : Seen) → Knows (D.shown dir.old) s → HoldsArea (area_of pass) s
+        → IsConforming (D.shown dir.new).trace → ⊥ }
 {
     match names_of(alloc, dir, pass.area()) {
         Ok(names) => sweep_each(alloc, dir, pass, names.as_slice(), lines),
@@ -150,6 +159,8 @@ fn sweep_area<D: Dir>(
     ensures ended { IfErr result (λ e. D.observed ≡ true → EndsPassBetween pass (D.shown dir.old) (D.shown dir.new)) }
     ensures stays { IfOk result (λ done. D.observed ≡ true → Stays (MayPass (area_of pass)) StaysBare (D.shown dir.old) (D.shown dir.new)) }
     ensures left { IfErr result (λ e. D.observed ≡ true → Stays (MayPass (area_of pass)) StaysConforming (D.shown dir.old) (D.shown dir.new)) }
+    ensures lawful { IsErrOf result StoreError.Stray → D.observed ≡ true → (s : Seen) → Knows (D.shown dir.old) s → MayPass (area_of pass) s
+        → IsConforming (D.shown dir.new).trace → ⊥ }
 {
     match lock_area(alloc, dir, pass.area(), Mode::Exclusive) {
         Ok(gate) => {
@@ -177,6 +188,8 @@ fn sweep_both<D: Dir>(
     ensures tried { IfErr result (λ e. D.observed ≡ true → HasTriedBetween (D.shown dir.old) (D.shown dir.new)) }
     ensures ended { IfErr result (λ e. D.observed ≡ true → EndsSweepBetween (D.shown dir.old) (D.shown dir.new)) }
     ensures conforms { D.observed ≡ true → Stays MaySweep StaysConforming (D.shown dir.old) (D.shown dir.new) }
+    ensures lawful { IsErrOf result StoreError.Stray → D.observed ≡ true → (s : Seen) → Knows (D.shown dir.old) s → MaySweep s
+        → IsConforming (D.shown dir.new).trace → ⊥ }
 {
     sweep_area(alloc, dir, Pass::PutAway, lines)?;
     sweep_area(alloc, dir, Pass::Delete, lines)
@@ -201,6 +214,8 @@ pub fn sweep<D: Dir>(alloc: Global, dir: &mut D) -> Result<Vec<SweepLine>, Store
     ensures tried { IfErr result (λ e. D.observed ≡ true → HasTriedBetween (D.shown dir.old) (D.shown dir.new)) }
     ensures ended { IfErr result (λ e. D.observed ≡ true → EndsSweepBetween (D.shown dir.old) (D.shown dir.new)) }
     ensures conforms { D.observed ≡ true → Stays MaySweep StaysConforming (D.shown dir.old) (D.shown dir.new) }
+    ensures lawful { IsErrOf result StoreError.Stray → D.observed ≡ true → (s : Seen) → Knows (D.shown dir.old) s → MaySweep s
+        → IsConforming (D.shown dir.new).trace → ⊥ }
 {
     let mut lines = Vec::new(alloc);
     sweep_both(alloc, dir, &mut lines)?;

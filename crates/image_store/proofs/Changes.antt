@@ -1,5 +1,5 @@
 -- The make of the folder and its move: what they leave, and what their refusals rest on.
-use Rattle.std.proofs.Common.{◌≡◌, ◌⊎◌, ℕ, Bool, true, false, Some, None, Result, Ok, Err, IfErr, List, [], refl, sym, ap, subst, ◌∙◌, append-nil, inl, inr}
+use Rattle.std.proofs.Common.{◌≡◌, ◌⊎◌, ℕ, Bool, true, false, ◌||◌, Some, None, Result, Ok, Err, IfErr, List, [], refl, sym, ap, subst, ◌∙◌, append-nil, inl, inr}
 use Rattle.dir_model.specs.declared.event.Event.{Event}
 use Rattle.dir_model.specs.declared.pod.PodId.{PodId}
 use Rattle.dir_model.specs.declared.spot.Spot.{Spot}
@@ -9,10 +9,15 @@ use Rattle.dir_model.specs.declared.request.DirError.TheVariants as dir
 use Rattle.dir_model.specs.declared.request.Reply.{Reply}
 use Rattle.dir_model.specs.declared.request.Reply.TheVariants.{Done, Refused}
 use Rattle.dir_model.specs.declared.request.Request.{Request}
-use Rattle.dir_model.specs.declared.request.Request.TheVariants.{MakeFolder, MoveFolder}
+use Rattle.dir_model.specs.declared.request.Request.TheVariants.{MakeFolder, MoveFolder, MakeDirIn, MakeFileIn, AppendIn, SyncIn}
 use Rattle.dir_model.specs.Causes.{Rose}
 use Rattle.dir_model.specs.Calls.{Interference, TookPlace, LeftNothing, CallStep}
 use Rattle.dir_model.specs.Replies.{may_refuse, done_reply}
+use Rattle.dir_model.specs.State.{spot_eq}
+use Rattle.dir_model.specs.declared.area.Area.TheVariants.{Incoming}
+use Rattle.dir_model.proofs.Lists.{and_both}
+use Rattle.dir_rules.specs.Standing.{is_in}
+use Rattle.folder_contents.proofs.Spots.{one_location}
 use Rattle.dir_rules.specs.declared.seen.Entry.{Entry}
 use Rattle.dir_rules.specs.declared.seen.Seen.{Seen}
 use Rattle.dir_rules.specs.Conforms.{Agrees, IsTied}
@@ -21,25 +26,25 @@ use Rattle.dir_trait.specs.DirCalls.{DirAt, DirCall}
 use Rattle.dir_trait.specs.Knowledge.{Knows}
 use Rattle.dir_trait.proofs.Knowing.{knows_call}
 use Rattle.ac_types.specs.declared.store_key.StoreKey.{StoreKey}
-use Rattle.folder_building.specs.Work.{Worked, EndsStray, is_stray}
+use Rattle.folder_building.specs.Work.{Worked, EndsStray, either, builds_at, is_stray}
 use Rattle.folder_building.proofs.Working.{worked_call}
 use Rattle.image_reading.specs.declared.error.StoreError.TheVariants.{DirFault, Stray}
 use Rattle.image_reading.specs.Places.{image_spot}
 use Rattle.image_reading.specs.Within.{Within}
 use Rattle.image_reading.proofs.Widths.{within_self}
 use Rattle.image_store.specs.Refusals.{change_refusal, move_answer, is_change_refusal}
-use Rattle.image_store.specs.Requests.{building_spot, imports_at, is_stray_import}
+use Rattle.image_store.specs.Requests.{building_spot, imports_at, makes_image, is_of_incoming, is_stray_reply}
 use Rattle.image_store.specs.Work.{at_work, UnderBoth, From, FromFilled, holding, HasOwnFolder, HasMoved, IsPlaced, Unbrought}
 use Rattle.image_store.specs.Causes.{WasAnswered, WasStray, WasTaken, ChangeCause}
 use Rattle.image_store.proofs.Steps.{same_spot, made_seen, unmade_seen, moved_seen, unmoved_seen}
 
-asks_make : (spot : Spot) → imports_at spot (MakeFolder spot) ≡ true
+asks_make : (spot : Spot) → makes_image spot (MakeFolder spot) ≡ true
 asks_make spot = rw (same_spot spot) refl
 
 asks_move : (spot : Spot) (key : StoreKey) → imports_at spot (MoveFolder spot (image_spot key)) ≡ true
 asks_move spot key = rw (same_spot spot) refl
 
-pub worked_make : {observed : Bool} {spot : Spot} {old new : DirAt} (answer : Result (Unit {0}) DirError) → DirCall observed old (MakeFolder spot) (done_reply answer) new → Worked observed (imports_at spot) old new
+pub worked_make : {observed : Bool} {spot : Spot} {old new : DirAt} (answer : Result (Unit {0}) DirError) → DirCall observed old (MakeFolder spot) (done_reply answer) new → Worked observed (makes_image spot) old new
 worked_make {observed} {spot} (Ok done) c = worked_call (asks_make spot) refl c
 worked_make {observed} {spot} (Err error) c = worked_call (asks_make spot) refl c
 
@@ -51,22 +56,41 @@ worked_move {observed} {spot} key (Err error) c = worked_call (asks_move spot ke
 answered : {is : Request → Reply → Bool} {old new : DirAt} {request : Request} {reply : Reply} → is request reply ≡ true → CallStep old.process old.trace request reply new.trace → Within (WasAnswered is) old new
 answered {is} {old} {new} {request} {reply} so step = within_self (record { request = request; reply = reply; so = so; step = step })
 
-stray_more : (request : Request) (reply : Reply) → is_stray request reply ≡ true → is_stray_import request reply ≡ true
+stray_more : (request : Request) (reply : Reply) → is_stray request reply ≡ true → is_stray_reply request reply ≡ true
 stray_more (MakeFolder spot) reply is = cc
 stray_more (MoveFolder from to) reply is = cc
 stray_more request reply is = is
 
-pub was_stray : {asks : Request → Bool} {old new : DirAt} → EndsStray asks old new → WasStray old new
-was_stray {asks} {old} {new} w = record {
-  first = record old { trace = w.before };
-  last = new;
-  earlier = w.first.more;
-  later = [];
-  same = refl;
-  begins = w.first.grown;
-  ends = sym (append-nil new.trace);
-  told = record { request = w.request; reply = w.reply; so = stray_more w.request w.reply w.stray; step = w.last };
-}
+in_incoming : (draw : PodId) (spot : Spot) → spot_eq spot (building_spot draw) ≡ true → is_in Incoming spot.area ≡ true
+in_incoming draw spot is = subst (λ (s : Spot). is_in Incoming s.area ≡ true) (sym (one_location spot (building_spot draw) is)) refl
+
+-- of a request that changes the folder
+builds_there : (draw : PodId) (request : Request) → either (builds_at (building_spot draw)) (λ r. false) request ≡ true → is_of_incoming request ≡ true
+builds_there draw request is = by request (or_none_right (builds_at (building_spot draw) request) is)
+  where
+    or_none_right : (b : Bool) → (b || false) ≡ true → b ≡ true
+    or_none_right true h = refl
+    or_none_right false h = h
+
+    by : (request : Request) → builds_at (building_spot draw) request ≡ true → is_of_incoming request ≡ true
+    by (MakeDirIn inner) h = in_incoming draw inner.spot h
+    by (MakeFileIn inner) h = in_incoming draw inner.spot h
+    by (AppendIn inner piece) h = in_incoming draw inner.spot h
+    by (SyncIn inner) h = in_incoming draw inner.spot h
+    by request h = cc
+
+pub was_stray : (draw : PodId) {spot : Spot} {old new : DirAt} → spot ≡ building_spot draw → EndsStray (either (builds_at spot) (λ r. false)) old new → WasStray old new
+was_stray draw {spot} {old} {new} at e =
+    let w = subst (λ (s : Spot). EndsStray (either (builds_at s) (λ r. false)) old new) at e in record {
+      first = record old { trace = w.before };
+      last = new;
+      earlier = w.first.more;
+      later = [];
+      same = refl;
+      begins = w.first.grown;
+      ends = sym (append-nil new.trace);
+      told = record { request = w.request; reply = w.reply; so = and_both (is_of_incoming w.request) (is_stray_reply w.request w.reply) (builds_there draw w.request w.asked) (stray_more w.request w.reply w.stray); step = w.last };
+    }
 
 change_kind : (e : DirError) → is_change_refusal (change_refusal e) ≡ true
 change_kind Failed = refl
@@ -78,17 +102,17 @@ change_fault Failed is = refl
 change_fault dir.NoMemory is = cc
 change_fault e is = cc
 
-stray_make : (spot : Spot) (e : DirError) → may_refuse (MakeFolder spot) e ≡ true → change_refusal e ≡ Stray → is_stray_import (MakeFolder spot) (Refused e 0) ≡ true
+stray_make : (spot : Spot) (e : DirError) → may_refuse (MakeFolder spot) e ≡ true → change_refusal e ≡ Stray → is_stray_reply (MakeFolder spot) (Refused e 0) ≡ true
 stray_make spot Exists may is = refl
 stray_make spot Failed may is = cc
 stray_make spot dir.NoMemory may is = cc
 stray_make spot e may is = cc
 
-pub make_cause : {observed : Bool} {spot : Spot} {old new : DirAt} (e : DirError) → may_refuse (MakeFolder spot) e ≡ true → (e ≡ Failed → Rose old.faults new.faults) → DirCall observed old (MakeFolder spot) (Refused e 0) new → ChangeCause observed (change_refusal e) old new
-make_cause {observed} {spot} e may fault c = record {
+pub make_cause : {observed : Bool} {spot : Spot} {old new : DirAt} → spot.area ≡ Incoming → (e : DirError) → may_refuse (MakeFolder spot) e ≡ true → (e ≡ Failed → Rose old.faults new.faults) → DirCall observed old (MakeFolder spot) (Refused e 0) new → ChangeCause observed (change_refusal e) old new
+make_cause {observed} {spot} at e may fault c = record {
   kind = change_kind e;
   fault = λ is. fault (change_fault e is);
-  stray = λ is t. answered (stray_make spot e may is) (c.step t);
+  stray = λ is t. answered (and_both (is_in Incoming spot.area) (is_stray_reply (MakeFolder spot) (Refused e 0)) (ap (is_in Incoming) at) (stray_make spot e may is)) (c.step t);
 }
 
 -- what is known of the folder once it was made, or not
@@ -132,18 +156,18 @@ placed_by {observed} {draw} {old} {new} key t c intent hs entries imports under 
 pub unplaced_by : {observed : Bool} {draw : PodId} {old new : DirAt} (key : StoreKey) (e : DirError) → observed ≡ true → DirCall observed old (MoveFolder (building_spot draw) (image_spot key)) (Refused e 0) new → FromFilled draw old (λ intent hs entries. Knows new (at_work intent hs true (Some (holding (building_spot draw) entries))))
 unplaced_by {observed} {draw} {old} {new} key e t c intent hs entries imports under k = subst (λ (s : Seen). Knows new s) (unmoved_seen draw intent hs imports under entries (image_spot key) refl e) (knows_call t k refl refl c)
 
-stray_move : (from to : Spot) (e : DirError) → may_refuse (MoveFolder from to) e ≡ true → (e ≡ Exists → ⊥) → change_refusal e ≡ Stray → is_stray_import (MoveFolder from to) (Refused e 0) ≡ true
+stray_move : (from to : Spot) (e : DirError) → may_refuse (MoveFolder from to) e ≡ true → (e ≡ Exists → ⊥) → change_refusal e ≡ Stray → is_stray_reply (MoveFolder from to) (Refused e 0) ≡ true
 stray_move from to Missing may other is = refl
 stray_move from to Exists may other is = absurd (other refl)
 stray_move from to Failed may other is = cc
 stray_move from to dir.NoMemory may other is = cc
 stray_move from to e may other is = cc
 
-move_error : {observed : Bool} {from to : Spot} {old new : DirAt} (e : DirError) → may_refuse (MoveFolder from to) e ≡ true → (e ≡ Exists → ⊥) → (e ≡ Failed → Rose old.faults new.faults) → DirCall observed old (MoveFolder from to) (Refused e 0) new → ChangeCause observed (change_refusal e) old new
-move_error {observed} {from} {to} e may other fault c = record {
+move_error : {observed : Bool} {from to : Spot} {old new : DirAt} → is_of_incoming (MoveFolder from to) ≡ true → (e : DirError) → may_refuse (MoveFolder from to) e ≡ true → (e ≡ Exists → ⊥) → (e ≡ Failed → Rose old.faults new.faults) → DirCall observed old (MoveFolder from to) (Refused e 0) new → ChangeCause observed (change_refusal e) old new
+move_error {observed} {from} {to} at e may other fault c = record {
   kind = change_kind e;
   fault = λ is. fault (change_fault e is);
-  stray = λ is t. answered (stray_move from to e may other is) (c.step t);
+  stray = λ is t. answered (and_both (is_of_incoming (MoveFolder from to)) (is_stray_reply (MoveFolder from to) (Refused e 0)) at (stray_move from to e may other is)) (c.step t);
 }
 
 module _ (observed : Bool) (draw : PodId) (old new : DirAt) (key : StoreKey) where
@@ -152,14 +176,14 @@ module _ (observed : Bool) (draw : PodId) (old new : DirAt) (key : StoreKey) whe
 
   pub move_cause : (e : DirError) → may_refuse (MoveFolder (building_spot draw) (image_spot key)) e ≡ true → (e ≡ Failed → Rose old.faults new.faults) → Refusal e → IfErr (move_answer e) (λ x. ChangeCause observed x old new)
   move_cause Exists may fault c = tt
-  move_cause Missing may fault c = move_error Missing may (λ is. cc) fault c
+  move_cause Missing may fault c = move_error refl Missing may (λ is. cc) fault c
   move_cause NotEmpty may fault c = cc
   move_cause Locked may fault c = cc
-  move_cause Failed may fault c = move_error Failed may (λ is. cc) fault c
-  move_cause dir.NoMemory may fault c = move_error dir.NoMemory may (λ is. cc) fault c
+  move_cause Failed may fault c = move_error refl Failed may (λ is. cc) fault c
+  move_cause dir.NoMemory may fault c = move_error refl dir.NoMemory may (λ is. cc) fault c
 
   pub move_taken : (e : DirError) → Refusal e → move_answer e ≡ Ok true → observed ≡ true → WasTaken key old new
-  move_taken Exists c is t = answered (same_spot (image_spot key)) (c.step t)
+  move_taken Exists c is t = record { request = MoveFolder (building_spot draw) (image_spot key); reply = Refused Exists 0; so = same_spot (image_spot key); step = c.step t }
   move_taken e c is t = cc
 
   pub move_unplaced : (e : DirError) → move_answer e ≡ Ok false → ⊥

@@ -5,6 +5,7 @@ use Rattle.dir_model.specs.declared.intent.Intent.{Intent}
 use Rattle.dir_model.specs.declared.pod.PodId.{PodId}
 use Rattle.dir_model.specs.declared.spot.Spot.{Spot}
 use Rattle.dir_model.specs.declared.request.Request.{Request}
+use Rattle.dir_model.specs.declared.request.Request.TheVariants.{MakeFolder}
 use Rattle.dir_model.proofs.Lists.{or_last}
 use Rattle.dir_rules.specs.declared.standing.Held.{Held}
 use Rattle.dir_rules.specs.declared.seen.Making.{Making}
@@ -17,25 +18,30 @@ use Rattle.folder_building.specs.Making.{IsSite, MayFill, CarriesOut, Begins}
 use Rattle.folder_building.specs.Sources.{SourceAt}
 use Rattle.folder_building.specs.Work.{Worked, either, builds_at}
 use Rattle.folder_building.proofs.Working.{worked_wider}
-use Rattle.image_store.specs.Requests.{building_spot, takes_lock, brings, imports_at}
+use Rattle.image_store.specs.Requests.{building_spot, takes_lock, brings, imports_at, makes_image}
 use Rattle.image_reading.specs.Looks.{reads_images}
 use Rattle.image_store.specs.Work.{at_work, holding, HasOwnFolder, HasFilled}
 use Rattle.image_store.proofs.Steps.{same_spot}
 
--- the changes of its folder are among an import's requests
-pub builds_import : (spot : Spot) (request : Request) → builds_at spot request ≡ true → imports_at spot request ≡ true
-builds_import spot request is =
+-- the changes of its folder are among what is asked for to build an image, and that is among an import's requests
+builds_image : (spot : Spot) (request : Request) → builds_at spot request ≡ true → makes_image spot request ≡ true
+builds_image spot (MakeFolder here) is = cc
+builds_image spot request is = is
+
+pub makes_import : (spot : Spot) (request : Request) → makes_image spot request ≡ true → imports_at spot request ≡ true
+makes_import spot (MakeFolder here) is = rw is refl
+makes_import spot request is =
     or_last (takes_lock request) (reads_images request || (brings spot request || builds_at spot request))
     (or_last (reads_images request) (brings spot request || builds_at spot request) (or_last (brings spot request) (builds_at spot request) is))
 
-source_builds : (spot : Spot) (request : Request) → either (builds_at spot) (λ r. false) request ≡ true → imports_at spot request ≡ true
-source_builds spot request is = builds_import spot request (by (builds_at spot request) is)
+source_builds : (spot : Spot) (request : Request) → either (builds_at spot) (λ r. false) request ≡ true → makes_image spot request ≡ true
+source_builds spot request is = builds_image spot request (by (builds_at spot request) is)
   where
     by : (b : Bool) → (b || false) ≡ true → b ≡ true
     by true h = refl
     by false h = h
 
-pub worked_fill : {observed : Bool} (spot : Spot) {old new : DirAt} → Worked observed (either (builds_at spot) (λ r. false)) old new → Worked observed (imports_at spot) old new
+pub worked_fill : {observed : Bool} (spot : Spot) {old new : DirAt} → Worked observed (either (builds_at spot) (λ r. false)) old new → Worked observed (makes_image spot) old new
 worked_fill {observed} spot w = worked_wider (source_builds spot) w
 
 -- outside of pods no order is asked for

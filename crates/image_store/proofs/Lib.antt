@@ -6,5 +6,7 @@ mod Fillings
 mod Unlikes
 mod Refusals
 mod Placings
+pub mod Moving
 mod Outcomes
 mod Ends
+pub mod Lawful

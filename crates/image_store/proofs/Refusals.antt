@@ -8,7 +8,7 @@ use Rattle.dir_model.specs.Areas.{rank}
 use Rattle.dir_model.specs.Causes.{Rose}
 use Rattle.dir_model.proofs.Lists.{same_self}
 use Rattle.dir_rules.specs.Standing.{is_in}
-use Rattle.dir_trait.specs.DirCalls.{DirAt, HeldBetween}
+use Rattle.dir_trait.specs.DirCalls.{DirAt, ExtendsBy, HeldBetween}
 use Rattle.ac_types.specs.declared.store_key.StoreKey.{StoreKey}
 use Rattle.tree_digest.specs.declared.line.ListingLine.{ListingLine}
 use Rattle.area_locks.specs.declared.error.LockError.{LockError}
@@ -23,6 +23,7 @@ use Rattle.folder_building.specs.Sources.{UnlikeAt}
 use Rattle.folder_plans.specs.ImagePlans.{image_entries}
 use Rattle.image_reading.specs.declared.error.StoreError.{StoreError}
 use Rattle.image_reading.specs.declared.error.StoreError.TheVariants.{Busy, Damaged, IdConflict, BundleFault, DirFault, NoMemory, Stray}
+use Rattle.image_reading.specs.Looks.{reads_image}
 use Rattle.image_reading.specs.Places.{IsAbsent}
 use Rattle.image_reading.specs.Refusals.{IsReadRefusal, IsDigestPath}
 use Rattle.image_reading.specs.Images.{HasDigest, LacksStored}
@@ -132,13 +133,13 @@ change_placing {observed} {key} {digest} {e} x = record {
   stray = λ is t. inl (x.stray is t);
 }
 
-pub compare_placing : {observed : Bool} {key : StoreKey} {digest : List ℕ} {e : StoreError} {a b c : DirAt} → Follows observed a b → (observed ≡ true → WasTaken key a b) → CompareCause observed key digest e b c → PlaceCause observed key digest e a c
-compare_placing {observed} {key} {digest} {e} {a} {b} {c} ab taken x = record {
+pub compare_placing : {observed : Bool} {key : StoreKey} {digest : List ℕ} {e : StoreError} {a b c : DirAt} → Follows observed a b → (observed ≡ true → WasTaken key a b) → (observed ≡ true → ExtendsBy (reads_image key) b c) → CompareCause observed key digest e b c → PlaceCause observed key digest e a c
+compare_placing {observed} {key} {digest} {e} {a} {b} {c} ab taken reads x = record {
   kind = x.kind;
   fault = λ is. fault_after a b c ab (x.fault is);
   damaged = λ path is t. told_after a b c ab t (x.damaged path is t);
   conflict = λ other stored fresh is. conflict_after ab (x.conflict other stored fresh is);
-  stray = λ is t. inr (record { between = b; same = ab.same; taken = taken t; gone = x.gone is t });
+  stray = λ is t. inr (within_self (record { between = b; same = ab.same; taken = taken t; reads = reads t; gone = x.gone is t }));
 }
 
 change_fill : (e : StoreError) → is_change_refusal e ≡ true → is_fill_refusal e ≡ true

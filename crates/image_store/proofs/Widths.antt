@@ -1,5 +1,5 @@
 -- What came about in a part of a time came about in the whole.
-use Rattle.std.proofs.Common.{◌≡◌, ◌⊎◌, inl, inr, ◌≤◌, ℕ, Bool, true, List, sym, ◌∙◌}
+use Rattle.std.proofs.Common.{◌≡◌, ◌⊎◌, inl, inr, ◌≤◌, ℕ, Bool, true, List}
 use Rattle.dir_model.specs.declared.request.Request.{Request}
 use Rattle.dir_model.specs.Causes.{Rose}
 use Rattle.dir_model.specs.State.{DirState}
@@ -12,7 +12,7 @@ use Rattle.image_reading.specs.Within.{Within}
 use Rattle.image_reading.proofs.Widths.{within_after, within_before}
 use Rattle.bundle_image.proofs.Reading.{rose_later, rose_still}
 use Rattle.folder_building.specs.Work.{Worked}
-use Rattle.image_store.specs.Causes.{Source, Vanished, StrayCause, Conflicts, DamagedInTurn, FoundInTurn, LacksPart, UnlikeListed, ImportCause}
+use Rattle.image_store.specs.Causes.{Source, StrayCause, Conflicts, DamagedInTurn, FoundInTurn, LacksPart, UnlikeListed, ImportCause}
 
 -- calls, whatever they leave open
 pub record Follows (observed : Bool) (old new : DirAt) : Type 0 where
@@ -44,19 +44,13 @@ module _ {observed : Bool} (a b c : DirAt) (same : b.process ≡ a.process) (bc 
   pub told_before : {R : DirAt → DirAt → Type 0} → observed ≡ true → Within R a b → Within R a c
   told_before t w = within_before w (bc.extends t)
 
-vanished_after : {observed : Bool} {key : StoreKey} {a b c : DirAt} → observed ≡ true → Follows observed a b → Vanished key b c → Vanished key a c
-vanished_after {observed} {key} {a} {b} {c} t ab v = record { between = v.between; same = v.same ∙ ab.same; taken = told_after a b v.between ab t v.taken; gone = v.gone }
-
-vanished_before : {observed : Bool} {key : StoreKey} {a b c : DirAt} → observed ≡ true → b.process ≡ a.process → Vanished key a b → Follows observed b c → Vanished key a c
-vanished_before {observed} {key} {a} {b} {c} t same v bc = record { between = v.between; same = v.same; taken = v.taken; gone = held_before v.between b c (same ∙ sym v.same) bc t v.gone }
-
 pub stray_after : {observed : Bool} {key : StoreKey} {a b c : DirAt} → observed ≡ true → Follows observed a b → StrayCause key b c → StrayCause key a c
 stray_after {observed} {key} {a} {b} {c} t ab (inl w) = inl (told_after a b c ab t w)
-stray_after {observed} {key} {a} {b} {c} t ab (inr v) = inr (vanished_after t ab v)
+stray_after {observed} {key} {a} {b} {c} t ab (inr v) = inr (told_after a b c ab t v)
 
 pub stray_before : {observed : Bool} {key : StoreKey} {a b c : DirAt} → observed ≡ true → b.process ≡ a.process → StrayCause key a b → Follows observed b c → StrayCause key a c
 stray_before {observed} {key} {a} {b} {c} t same (inl w) bc = inl (told_before a b c same bc t w)
-stray_before {observed} {key} {a} {b} {c} t same (inr v) bc = inr (vanished_before t same v bc)
+stray_before {observed} {key} {a} {b} {c} t same (inr v) bc = inr (told_before a b c same bc t v)
 
 pub conflict_after : {observed : Bool} {key other : StoreKey} {digest stored fresh : List ℕ} {a b c : DirAt} → Follows observed a b → Conflicts observed key other digest stored fresh b c → Conflicts observed key other digest stored fresh a c
 conflict_after {observed} {key} {other} {digest} {stored} {fresh} {a} {b} {c} ab x = record { key_is = x.key_is; new_is = x.new_is; differ = x.differ; there = λ t. told_after a b c ab t (x.there t) }

@@ -16,7 +16,7 @@ use Rattle.dir_model.specs.Local.{Local}
 use Rattle.dir_model.specs.State.{spot_eq}
 use Rattle.dir_model.specs.Calls.{CallStep}
 use Rattle.dir_trait.specs.Bundles.{Tree, file_bytes, child_path}
-use Rattle.dir_trait.specs.DirCalls.{DirAt, HeldBetween}
+use Rattle.dir_trait.specs.DirCalls.{DirAt, ExtendsBy, HeldBetween}
 use Rattle.path_map.specs.declared.entry.Entry.TheVariants.{File}
 use Rattle.path_map.specs.declared.entry.Entry.{Entry}
 use Rattle.tree_digest.specs.declared.line.ListingLine.{ListingLine}
@@ -28,6 +28,7 @@ use Rattle.image_reading.specs.declared.error.StoreError.{StoreError}
 use Rattle.image_reading.specs.declared.error.StoreError.TheVariants.{Busy, Damaged, IdConflict, DirFault, Stray}
 use Rattle.image_reading.specs.Places.{image_spot, tree_name, IsAbsent, IsPresent}
 use Rattle.image_reading.specs.Within.{Within}
+use Rattle.image_reading.specs.Looks.{reads_image}
 use Rattle.image_reading.specs.Files.{LacksTree}
 use Rattle.image_reading.specs.Images.{HasDigest, LacksInTurn}
 use Rattle.image_store.specs.Refusals.{is_lock_refusal, is_look_refusal, is_change_refusal, is_fill_refusal, is_place_refusal}
@@ -144,7 +145,7 @@ is_refused_move key (MoveFolder from to) (Refused Exists left) = spot_eq to (ima
 is_refused_move key request reply = false
 
 abbrev pub WasTaken : StoreKey → DirAt → DirAt → Type 0
-WasTaken key old new = Within (WasAnswered (is_refused_move key)) old new
+WasTaken key old new = WasAnswered (is_refused_move key) old new
 
 -- where an image stood, it is damaged, another, or gone
 pub record CompareCause (observed : Bool) (key : StoreKey) (digest : List ℕ) (error : StoreError) (old new : DirAt) : Type 0 where
@@ -154,12 +155,16 @@ pub record CompareCause (observed : Bool) (key : StoreKey) (digest : List ℕ) (
   pub conflict : (other : StoreKey) (stored fresh : List ℕ) → error ≡ IdConflict other stored fresh → Conflicts observed key other digest stored fresh old new
   pub gone : error ≡ Stray → observed ≡ true → HeldBetween old new (IsAbsent key)
 
--- the move was refused so, and then no folder stood there
-pub record Vanished (key : StoreKey) (old new : DirAt) : Type 0 where
+-- the move was refused so, it asked for nothing more than reads of that image, and then no folder stood there
+pub record Vanishes (key : StoreKey) (old new : DirAt) : Type 0 where
   pub between : DirAt
   pub same : between.process ≡ old.process
   pub taken : WasTaken key old between
+  pub reads : ExtendsBy (reads_image key) between new
   pub gone : HeldBetween between new (IsAbsent key)
+
+abbrev pub Vanished : StoreKey → DirAt → DirAt → Type 0
+Vanished key old new = Within (Vanishes key) old new
 
 -- an answer came that the process's own folder doesn't explain, or the image vanished
 abbrev pub StrayCause : StoreKey → DirAt → DirAt → Type 0

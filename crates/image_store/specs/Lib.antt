@@ -4,3 +4,4 @@ pub mod Plans
 pub mod Work
 pub mod Causes
 pub mod Imports
+pub mod Moves

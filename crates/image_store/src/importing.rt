@@ -9,6 +9,7 @@ ghost use Rattle.image_store.specs.Refusals.{is_lock_refusal, is_work_refusal, i
 ghost use Rattle.image_store.specs.Requests.{building_spot, imports_at};
 ghost use Rattle.image_store.specs.Work.{UnderImages, UnderBoth, IsAlone, From};
 ghost use Rattle.image_store.specs.Causes.{source_at, BusyElsewhere, HadIncoming, WasThere, FoundInTurn, ImportCause};
+ghost use Rattle.image_store.specs.Moves.{Moves, MovesAtEnd};
 ghost use Rattle.image_store.specs.Imports.{key_of, digest_of, IsOf, OfBundle, IsRefused, ComesInTurn, Leaves, LeavesAtEnd, IsImported};
 
 use crate::building::build;
@@ -44,6 +45,7 @@ fn build_and_place<D: Dir, B: Bundle>(
 ) -> Result<bool, StoreError>
     requires active { IsActive (D.shown dir.old).local }
     ensures worked { Worked D.observed (imports_at (building_spot draw)) (D.shown dir.old) (D.shown dir.new) }
+    ensures still { D.observed ≡ true → Moves (building_spot draw) (key_of image.now) result (D.shown dir.old) (D.shown dir.new) }
     ensures bundle { (B.shown bundle.old).faults ≤ (B.shown bundle.new).faults }
     ensures bundle_cause { IsErrOf result StoreError.BundleFault → Rose (B.shown bundle.old).faults (B.shown bundle.new).faults }
     ensures cause { IfErr result (λ e. ImportCause is_work_refusal D.observed (source_at B.observed (B.shown bundle.old).tree path.now)
@@ -69,6 +71,7 @@ fn import_new<D: Dir, B: Bundle>(
 ) -> Result<bool, StoreError>
     requires active { IsActive (D.shown dir.old).local }
     ensures worked { Worked D.observed (imports_at (building_spot draw)) (D.shown dir.old) (D.shown dir.new) }
+    ensures still { D.observed ≡ true → Moves (building_spot draw) (key_of image.now) result (D.shown dir.old) (D.shown dir.new) }
     ensures bundle { (B.shown bundle.old).faults ≤ (B.shown bundle.new).faults }
     ensures bundle_cause { IsErrOf result StoreError.BundleFault → Rose (B.shown bundle.old).faults (B.shown bundle.new).faults }
     ensures cause { IfErr result (λ e. ImportCause is_import_refusal D.observed (source_at B.observed (B.shown bundle.old).tree path.now)
@@ -99,6 +102,7 @@ fn import_or_find<D: Dir, B: Bundle>(
 ) -> Result<bool, StoreError>
     requires active { IsActive (D.shown dir.old).local }
     ensures worked { Worked D.observed (imports_at (building_spot draw)) (D.shown dir.old) (D.shown dir.new) }
+    ensures still { D.observed ≡ true → Moves (building_spot draw) (key_of image.now) result (D.shown dir.old) (D.shown dir.new) }
     ensures bundle { (B.shown bundle.old).faults ≤ (B.shown bundle.new).faults }
     ensures bundle_cause { IsErrOf result StoreError.BundleFault → Rose (B.shown bundle.old).faults (B.shown bundle.new).faults }
     ensures cause { IfErr result (λ e. ImportCause is_import_refusal D.observed (source_at B.observed (B.shown bundle.old).tree path.now)
@@ -131,6 +135,7 @@ fn import_locked<D: Dir, B: Bundle>(
 ) -> Result<bool, StoreError>
     requires active { IsActive (D.shown dir.old).local }
     ensures worked { Worked D.observed (imports_at (building_spot draw)) (D.shown dir.old) (D.shown dir.new) }
+    ensures still { D.observed ≡ true → Moves (building_spot draw) (key_of image.now) result (D.shown dir.old) (D.shown dir.new) }
     ensures bundle { (B.shown bundle.old).faults ≤ (B.shown bundle.new).faults }
     ensures bundle_cause { IsErrOf result StoreError.BundleFault → Rose (B.shown bundle.old).faults (B.shown bundle.new).faults }
     ensures cause { IfErr result (λ e. ImportCause is_import_refusal D.observed (source_at B.observed (B.shown bundle.old).tree path.now)
@@ -161,6 +166,7 @@ fn import_image<D: Dir, B: Bundle>(
 ) -> Result<bool, StoreError>
     requires active { IsActive (D.shown dir.old).local }
     ensures worked { Worked D.observed (imports_at (building_spot draw)) (D.shown dir.old) (D.shown dir.new) }
+    ensures still { D.observed ≡ true → Moves (building_spot draw) (key_of image.now) result (D.shown dir.old) (D.shown dir.new) }
     ensures bundle { (B.shown bundle.old).faults ≤ (B.shown bundle.new).faults }
     ensures bundle_cause { IsErrOf result StoreError.BundleFault → Rose (B.shown bundle.old).faults (B.shown bundle.new).faults }
     ensures cause { IfErr result (λ e. ImportCause is_import_refusal D.observed (source_at B.observed (B.shown bundle.old).tree path.now)
@@ -193,8 +199,8 @@ fn import_image<D: Dir, B: Bundle>(
 /// `Busy` with incoming. Under that lock `Damaged` with a path of the bundle, where a file is missing or
 /// isn't what the listing says. `Damaged` and `IdConflict` once more, where another importer was first.
 /// `BundleFault`, `DirFault` and `NoMemory` where the bundle or the directory failed or memory ran out, and
-/// `Stray` where the directory's answers contradict what this process made. A refused import holds no
-/// lock, and leaves at most its folder in incoming.
+/// `Stray` where the directory's answers contradict what this process made: never while every process
+/// keeps the local rules. A refused import holds no lock, and leaves at most its folder in incoming.
 pub fn import<D: Dir, B: Bundle>(
     alloc: Global,
     dir: &mut D,
@@ -205,6 +211,8 @@ pub fn import<D: Dir, B: Bundle>(
 ) -> Result<Imported, StoreError>
     requires active { IsActive (D.shown dir.old).local }
     ensures worked { Worked D.observed (imports_at (building_spot draw)) (D.shown dir.old) (D.shown dir.new) }
+    ensures still { D.observed ≡ true → MovesAtEnd (building_spot draw) result (D.shown dir.old) (D.shown dir.new) }
+    ensures lawful { IsErrOf result StoreError.Stray → D.observed ≡ true → IsConforming (D.shown dir.new).trace → ⊥ }
     ensures bundle { (B.shown bundle.old).faults ≤ (B.shown bundle.new).faults }
     ensures bundle_cause { IsErrOf result StoreError.BundleFault → Rose (B.shown bundle.old).faults (B.shown bundle.new).faults }
     ensures refused { IfErr result (λ e. IsRefused D.observed (source_at B.observed (B.shown bundle.old).tree path.now) e (D.shown dir.old) (D.shown dir.new)) }

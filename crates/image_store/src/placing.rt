@@ -9,6 +9,7 @@ ghost use Rattle.image_store.specs.Refusals.{move_answer};
 ghost use Rattle.image_store.specs.Requests.{building_spot, imports_at};
 ghost use Rattle.image_store.specs.Work.{at_work, holding, FromFilled, IsPlaced, Unbrought};
 ghost use Rattle.image_store.specs.Causes.{ChangeCause, WasTaken, WasThere, CompareCause, PlaceCause};
+ghost use Rattle.image_store.specs.Moves.{Moves};
 
 use crate::building::building_spot;
 use crate::error::change_refusal;
@@ -32,6 +33,7 @@ fn move_answer(error: DirError) -> Result<bool, StoreError>
 fn bring<D: Dir>(alloc: Global, dir: &mut D, draw: PodId, key: StoreKey) -> Result<bool, StoreError>
     requires active { IsActive (D.shown dir.old).local }
     ensures worked { Worked D.observed (imports_at (building_spot draw)) (D.shown dir.old) (D.shown dir.new) }
+    ensures still { D.observed ≡ true → Moves (building_spot draw) key result (D.shown dir.old) (D.shown dir.new) }
     ensures cause { IfErr result (λ e. ChangeCause D.observed e (D.shown dir.old) (D.shown dir.new)) }
     ensures taken { result ≡ Ok true → D.observed ≡ true → WasTaken key (D.shown dir.old) (D.shown dir.new) }
     ensures placed { result ≡ Ok false → D.observed ≡ true → FromFilled draw (D.shown dir.old)
@@ -79,6 +81,7 @@ pub(crate) fn place<D: Dir>(
 ) -> Result<bool, StoreError>
     requires active { IsActive (D.shown dir.old).local }
     ensures worked { Worked D.observed (imports_at (building_spot draw)) (D.shown dir.old) (D.shown dir.new) }
+    ensures still { D.observed ≡ true → Moves (building_spot draw) key result (D.shown dir.old) (D.shown dir.new) }
     ensures cause { IfErr result (λ e. PlaceCause D.observed key digest.now e (D.shown dir.old) (D.shown dir.new)) }
     ensures there { result ≡ Ok true → D.observed ≡ true → WasThere key digest.now (D.shown dir.old) (D.shown dir.new) }
     ensures placed { result ≡ Ok false → D.observed ≡ true → FromFilled draw (D.shown dir.old)

@@ -1,3 +1,4 @@
 mod Parts
 mod Working
 mod Faithful
+pub mod Lawful

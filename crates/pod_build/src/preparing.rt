@@ -64,8 +64,9 @@ fn prepare_under_lock<D: Dir>(
 /// of the pod's manifest. `RenderError` and `ListingError` for the first root that is too large. `Busy` with
 /// embryo. `Taken` where a folder with that name stands in embryo. `Damaged` with the path of a file of the store
 /// that is missing or isn't what its image's listing says, while it is copied. `DirFault` and `NoMemory` where the
-/// directory failed or memory ran out, and `Stray` where the directory's answers contradict what this process made.
-/// A refused call holds no lock, and leaves nothing, or its folder in embryo or in prepare.
+/// directory failed or memory ran out, and `Stray` where the directory's answers contradict what this process made:
+/// never while every process keeps the local rules. A refused call holds no lock, and leaves nothing, or its folder in
+/// embryo or in prepare.
 pub fn prepare<D: Dir>(
     alloc: Global,
     dir: &mut D,
@@ -93,6 +94,7 @@ pub fn prepare<D: Dir>(
         (λ intent hs. KnowsPrepared draw.now.uuid (target keep_owner) intent (held_with draw.now.uuid built []) (D.shown dir.new))) }
     ensures left { IfErr result (λ e. D.observed ≡ true → From (Began (target keep_owner) draw.now now) IsAlone nothing_made (D.shown dir.old)
         (λ intent hs. HasOwnFolder draw.now.uuid intent hs (D.shown dir.new))) }
+    ensures lawful { IsErrOf result BuildError.Stray → D.observed ≡ true → IsConforming (D.shown dir.new).trace → ⊥ }
 {
     match lock_area(alloc, dir, Area::Images, Mode::Shared) {
         Ok(gate) => {

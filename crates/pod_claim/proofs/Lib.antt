@@ -9,3 +9,4 @@ pub mod Parts
 pub mod Reading
 pub mod Elsewhere
 pub mod Outcomes
+pub mod Lawful

@@ -1,5 +1,5 @@
 // A prepared pod is claimed.
-ghost use Rattle.std.specs.Prelude.{◌≡◌, true, false, IfOk, IfErr};
+ghost use Rattle.std.specs.Prelude.{◌≡◌, true, false, IfOk, IfErr, IsErrOf};
 ghost use Rattle.dir_trait.specs.Local.{IsActive, has_own_open};
 ghost use Rattle.dir_trait.specs.Knowledge.{LookedInto};
 ghost use Rattle.dir_trait.specs.Pods.{pod_text};
@@ -36,8 +36,9 @@ fn owned(pod: PodId, own: Handle) -> Owned
 /// running or deleting is another process's. `NoManifest` where its
 /// folder stands in prepared without the file `pod`. `Busy` where another process holds the activation
 /// lock, or its own lock. `Stray` where the pod was found in prepared twice, and both times its folder was
-/// missing there after that, or where another folder has its place in run. `DirFault` and `NoMemory`
-/// where the directory failed or memory ran out. A refused call moves nothing.
+/// missing there after that, or where another folder has its place in run: never while every process keeps
+/// the local rules. `DirFault` and `NoMemory` where the directory failed or memory ran out. A refused call
+/// moves nothing.
 pub fn claim<D: Dir>(alloc: Global, dir: &mut D, pod: PodId) -> Result<Owned, ClaimError>
     requires active { IsActive (D.shown dir.old).local }
     requires alone { has_own_open (D.shown dir.old).local (pod_text pod.bytes) ≡ false }
@@ -58,6 +59,7 @@ pub fn claim<D: Dir>(alloc: Global, dir: &mut D, pod: PodId) -> Result<Owned, Cl
     ensures left { IfErr result (λ e. Leaves D.observed MayClaim (D.shown dir.old) (λ s. LookedInto s (D.shown dir.new))) }
     ensures complete { IfErr result (λ e. Leaves D.observed MayClaim (D.shown dir.old)
         (λ s. IsConforming (D.shown dir.new).trace → IsFreeThroughout pod (D.shown dir.old) (D.shown dir.new) → IsFailure e)) }
+    ensures lawful { IsErrOf result ClaimError.Stray → D.observed ≡ true → IsConforming (D.shown dir.new).trace → ⊥ }
 {
     match attempt(alloc, dir, pod) {
         Ok(own) => Ok(owned(pod, own)),

@@ -13,3 +13,4 @@ pub mod Sweeps
 pub mod Ending
 pub mod Begun
 pub mod Untouched
+pub mod Lawful

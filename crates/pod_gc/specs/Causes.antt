@@ -10,7 +10,8 @@ use Rattle.phase_read.specs.declared.found.LookError.{LookError}
 use Rattle.phase_read.specs.declared.found.LookError.TheVariants as look
 use Rattle.pod_steps.specs.declared.setback.Setback.{Setback}
 use Rattle.pod_steps.specs.declared.setback.Setback.TheVariants as stop
-use Rattle.pod_steps.specs.Causes.{WasStray}
+use Rattle.dir_rules.specs.declared.seen.Seen.{Seen}
+use Rattle.pod_steps.specs.Causes.{WasStray, BreaksRules, ByApp}
 use Rattle.pod_gc.specs.declared.error.GcError.{GcError}
 use Rattle.pod_gc.specs.declared.error.GcError.TheVariants.{DirFault, Stray, NoMemory}
 use Rattle.pod_gc.specs.declared.line.Deed.{Deed}
@@ -47,3 +48,11 @@ deed_of (Err stop) deed = Err (step_fault stop)
 pub record GcCause (observed : Bool) (error : GcError) (old new : DirAt) : Type 0 where
   pub fault : error ≡ DirFault → Rose old.faults new.faults
   pub stray : error ≡ Stray → observed ≡ true → WasStray old.process old.trace new.trace
+
+-- it is stray only where some process doesn't keep the local rules
+abbrev pub NeverStray : Bool → GcError → DirAt → Type 0
+NeverStray observed error new = error ≡ Stray → BreaksRules observed new
+
+-- or only where a started app wrote on
+abbrev pub StrayByApp : Bool → GcError → (Seen → Type 0) → DirAt → DirAt → Type 0
+StrayByApp observed error May old new = error ≡ Stray → ByApp observed May old new

@@ -149,6 +149,7 @@ pub(crate) fn marked_at<D: Dir>(
     requires marks { counts_time area ≡ true }
     ensures worked { Worked D.observed (lists_marks pod area) (D.shown dir.old) (D.shown dir.new) }
     ensures cause { IfErr result (λ e. GcCause D.observed e (D.shown dir.old) (D.shown dir.new)) }
+    ensures never { IfErr result (λ e. e ≡ GcError.Stray → ⊥) }
     ensures shown { IfOk result (λ found. IfSome found (λ moment. D.observed ≡ true
         → Showed pod area text.now moment (D.shown dir.old).process (D.shown dir.old).trace (D.shown dir.new).trace)) }
     ensures there { IfOk result (λ found. IfSome found (λ moment. D.observed ≡ true

@@ -12,7 +12,7 @@ ghost use Rattle.pod_steps.specs.Holding.{KeepsReady, Stays};
 ghost use Rattle.pod_removal.specs.Requests.{is_garbage_place, removes};
 ghost use Rattle.pod_removal.specs.Holding.{MayRemove};
 ghost use Rattle.pod_gc.specs.Requests.{deals_with};
-ghost use Rattle.pod_gc.specs.Causes.{GcCause};
+ghost use Rattle.pod_gc.specs.Causes.{GcCause, NeverStray, StrayByApp};
 ghost use Rattle.pod_gc.specs.Marks.{is_young, is_ripe};
 ghost use Rattle.pod_gc.specs.Deeds.{DeedCause, refused_lock, LeavesWhere, MarksFirst, LetBe, WaitsOr, RestsBy, WaitsBy, RestedSo, WaitedSo, Dealt};
 
@@ -30,6 +30,7 @@ fn deal_embryo<D: Dir>(alloc: Global, dir: &mut D, pod: PodId) -> Result<Deed, G
     requires active { IsActive (D.shown dir.old).local }
     ensures worked { Worked D.observed (moves pod area.Embryo area.Garbage) (D.shown dir.old) (D.shown dir.new) }
     ensures cause { IfErr result (λ e. GcCause D.observed e (D.shown dir.old) (D.shown dir.new)) }
+    ensures lawful { IfErr result (λ e. NeverStray D.observed e (D.shown dir.new)) }
     ensures deed { IfOk result (λ deed. D.observed ≡ true → DeedCause pod area.Embryo deed (D.shown dir.old).process (D.shown dir.old).trace (D.shown dir.new).trace) }
     ensures calm { IfOk result (λ deed. (which : Which) → refused_lock deed ≡ Some which → ⊥) }
     ensures let_be { IfOk result (λ deed. LetBe D.observed pod area.Embryo deed (D.shown dir.old) (D.shown dir.new)) }
@@ -44,6 +45,7 @@ fn deal_prepare<D: Dir>(alloc: Global, dir: &mut D, pod: PodId, now: u64) -> Res
     requires active { IsActive (D.shown dir.old).local }
     ensures worked { Worked D.observed (deals_with pod now area.Prepare) (D.shown dir.old) (D.shown dir.new) }
     ensures cause { IfErr result (λ e. GcCause D.observed e (D.shown dir.old) (D.shown dir.new)) }
+    ensures lawful { IfErr result (λ e. NeverStray D.observed e (D.shown dir.new)) }
     ensures deed { IfOk result (λ deed. D.observed ≡ true → DeedCause pod area.Prepare deed (D.shown dir.old).process (D.shown dir.old).trace (D.shown dir.new).trace) }
     ensures another { IfOk result (λ deed. LeavesWhere D.observed (MayRemove now) pod area.Prepare deed (D.shown dir.old) (D.shown dir.new)) }
     ensures let_be { IfOk result (λ deed. LetBe D.observed pod area.Prepare deed (D.shown dir.old) (D.shown dir.new)) }
@@ -67,6 +69,7 @@ fn deal_waiting<D: Dir>(
     requires active { IsActive (D.shown dir.old).local }
     ensures worked { Worked D.observed (removes pod times.now) (D.shown dir.old) (D.shown dir.new) }
     ensures cause { IfErr result (λ e. GcCause D.observed e (D.shown dir.old) (D.shown dir.new)) }
+    ensures lawful { IfErr result (λ e. NeverStray D.observed e (D.shown dir.new)) }
     ensures deed { IfOk result (λ deed. WaitsOr D.observed pod deed (D.shown dir.old) (D.shown dir.new)) }
     ensures aged { IfOk result (λ deed. WaitsBy (is_ripe times.now times.expire created) deed) }
     ensures another { IfOk result (λ deed. LeavesWhere D.observed (Ripens pod created times.now times.expire) pod area.Prepared deed (D.shown dir.old) (D.shown dir.new)) }
@@ -91,6 +94,7 @@ fn deal_prepared<D: Dir>(
     requires active { IsActive (D.shown dir.old).local }
     ensures worked { Worked D.observed (deals_with pod times.now area.Prepared) (D.shown dir.old) (D.shown dir.new) }
     ensures cause { IfErr result (λ e. GcCause D.observed e (D.shown dir.old) (D.shown dir.new)) }
+    ensures lawful { IfErr result (λ e. NeverStray D.observed e (D.shown dir.new)) }
     ensures deed { IfOk result (λ deed. D.observed ≡ true → DeedCause pod area.Prepared deed (D.shown dir.old).process (D.shown dir.old).trace (D.shown dir.new).trace) }
     ensures aged { IfOk result (λ deed. D.observed ≡ true → WaitedSo times pod deed (D.shown dir.old).process (D.shown dir.old).trace (D.shown dir.new).trace) }
     ensures another { IfOk result (λ deed. LeavesWhere D.observed (MaySweep times.now times.expire) pod area.Prepared deed (D.shown dir.old) (D.shown dir.new)) }
@@ -108,6 +112,7 @@ fn deal_run<D: Dir>(alloc: Global, dir: &mut D, pod: PodId, now: u64) -> Result<
     requires active { IsActive (D.shown dir.old).local }
     ensures worked { Worked D.observed (deals_with pod now area.Run) (D.shown dir.old) (D.shown dir.new) }
     ensures cause { IfErr result (λ e. GcCause D.observed e (D.shown dir.old) (D.shown dir.new)) }
+    ensures lawful { IfErr result (λ e. NeverStray D.observed e (D.shown dir.new)) }
     ensures deed { IfOk result (λ deed. D.observed ≡ true → DeedCause pod area.Run deed (D.shown dir.old).process (D.shown dir.old).trace (D.shown dir.new).trace) }
     ensures another { IfOk result (λ deed. LeavesWhere D.observed (MayRemove now) pod area.Run deed (D.shown dir.old) (D.shown dir.new)) }
     ensures marked { IfOk result (λ deed. D.observed ≡ true → MarksFirst pod now deed (D.shown dir.old) (D.shown dir.new)) }
@@ -132,6 +137,7 @@ fn deal_rested<D: Dir>(
     requires active { IsActive (D.shown dir.old).local }
     ensures worked { Worked D.observed (deals_with pod times.now area.ExitedGarbage) (D.shown dir.old) (D.shown dir.new) }
     ensures cause { IfErr result (λ e. GcCause D.observed e (D.shown dir.old) (D.shown dir.new)) }
+    ensures lawful { IfErr result (λ e. StrayByApp D.observed e (MayRemove times.now) (D.shown dir.old) (D.shown dir.new)) }
     ensures deed { IfOk result (λ deed. D.observed ≡ true → DeedCause pod area.ExitedGarbage deed (D.shown dir.old).process (D.shown dir.old).trace (D.shown dir.new).trace) }
     ensures aged { IfOk result (λ deed. RestsBy (is_young times.now times.grace marked) deed) }
     ensures another { IfOk result (λ deed. LeavesWhere D.observed (MayRemove times.now) pod area.ExitedGarbage deed (D.shown dir.old) (D.shown dir.new)) }
@@ -156,6 +162,7 @@ fn deal_exited_garbage<D: Dir>(
     requires active { IsActive (D.shown dir.old).local }
     ensures worked { Worked D.observed (deals_with pod times.now area.ExitedGarbage) (D.shown dir.old) (D.shown dir.new) }
     ensures cause { IfErr result (λ e. GcCause D.observed e (D.shown dir.old) (D.shown dir.new)) }
+    ensures lawful { IfErr result (λ e. StrayByApp D.observed e (MayRemove times.now) (D.shown dir.old) (D.shown dir.new)) }
     ensures deed { IfOk result (λ deed. D.observed ≡ true → DeedCause pod area.ExitedGarbage deed (D.shown dir.old).process (D.shown dir.old).trace (D.shown dir.new).trace) }
     ensures aged { IfOk result (λ deed. D.observed ≡ true → RestedSo times pod deed (D.shown dir.old).process (D.shown dir.old).trace (D.shown dir.new).trace) }
     ensures another { IfOk result (λ deed. LeavesWhere D.observed (MayRemove times.now) pod area.ExitedGarbage deed (D.shown dir.old) (D.shown dir.new)) }
@@ -180,6 +187,7 @@ fn deal_garbage<D: Dir>(
     requires garbage { is_garbage_place area ≡ true }
     ensures worked { Worked D.observed (deals_with pod now area) (D.shown dir.old) (D.shown dir.new) }
     ensures cause { IfErr result (λ e. GcCause D.observed e (D.shown dir.old) (D.shown dir.new)) }
+    ensures lawful { IfErr result (λ e. StrayByApp D.observed e (MayRemove now) (D.shown dir.old) (D.shown dir.new)) }
     ensures deed { IfOk result (λ deed. D.observed ≡ true → DeedCause pod area deed (D.shown dir.old).process (D.shown dir.old).trace (D.shown dir.new).trace) }
     ensures ends { IfOk result (λ deed. (phase : Phase) → deed ≡ Deed.Kept phase → ⊥) }
     ensures another { IfOk result (λ deed. LeavesWhere D.observed (MayRemove now) pod area deed (D.shown dir.old) (D.shown dir.new)) }
@@ -202,6 +210,7 @@ pub(crate) fn deal<D: Dir>(
     requires stage { is_stage area ≡ true }
     ensures worked { Worked D.observed (deals_with pod times.now area) (D.shown dir.old) (D.shown dir.new) }
     ensures cause { IfErr result (λ e. GcCause D.observed e (D.shown dir.old) (D.shown dir.new)) }
+    ensures lawful { IfErr result (λ e. StrayByApp D.observed e (MayPass area times.now times.expire) (D.shown dir.old) (D.shown dir.new)) }
     ensures dealt { IfOk result (λ deed. D.observed ≡ true → Dealt times pod area deed (D.shown dir.old).process (D.shown dir.old).trace (D.shown dir.new).trace) }
     ensures another { IfOk result (λ deed. LeavesWhere D.observed (MayPass area times.now times.expire) pod area deed (D.shown dir.old) (D.shown dir.new)) }
     ensures ready { D.observed ≡ true → Stays (MayPass area times.now times.expire) (D.shown dir.old) (λ s. KeepsReady s (D.shown dir.new)) }

@@ -31,6 +31,7 @@ pub(crate) fn kept<D: Dir>(
     requires active { IsActive (D.shown dir.old).local }
     ensures worked { Worked D.observed (looks_at pod area) (D.shown dir.old) (D.shown dir.new) }
     ensures cause { IfErr result (λ e. GcCause D.observed e (D.shown dir.old) (D.shown dir.new)) }
+    ensures never { IfErr result (λ e. e ≡ GcError.Stray → ⊥) }
     ensures said { IfOk result (λ deed. SaysThere D.observed pod area phase deed (D.shown dir.old) (D.shown dir.new)) }
     ensures peeks { D.observed ≡ true → ExtendsBy (peeks_at pod area) (D.shown dir.old) (D.shown dir.new) }
     ensures known { D.observed ≡ true → OnlyLooks (D.shown dir.old) (D.shown dir.new) }
@@ -47,6 +48,7 @@ pub(crate) fn kept_exited<D: Dir>(alloc: Global, dir: &mut D, pod: PodId) -> Res
     requires active { IsActive (D.shown dir.old).local }
     ensures worked { Worked D.observed (looks_at pod area.ExitedGarbage) (D.shown dir.old) (D.shown dir.new) }
     ensures cause { IfErr result (λ e. GcCause D.observed e (D.shown dir.old) (D.shown dir.new)) }
+    ensures never { IfErr result (λ e. e ≡ GcError.Stray → ⊥) }
     ensures deed { IfOk result (λ deed. D.observed ≡ true → DeedCause pod area.ExitedGarbage deed (D.shown dir.old).process (D.shown dir.old).trace (D.shown dir.new).trace) }
     ensures rests { IfOk result (λ deed. DoesNothing deed) }
     ensures another { IfOk result (λ deed. (now : ℕ) → LeavesWhere D.observed (MayRemove now) pod area.ExitedGarbage deed (D.shown dir.old) (D.shown dir.new)) }

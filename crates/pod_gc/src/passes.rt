@@ -5,7 +5,7 @@ ghost use Rattle.dir_trait.specs.Local.{IsActive};
 ghost use Rattle.folder_building.specs.Work.{Worked};
 ghost use Rattle.pod_steps.specs.Holding.{KeepsReady, Stays};
 ghost use Rattle.pod_gc.specs.Requests.{sweeps};
-ghost use Rattle.pod_gc.specs.Causes.{GcCause};
+ghost use Rattle.pod_gc.specs.Causes.{GcCause, StrayByApp};
 ghost use Rattle.pod_gc.specs.Sweeping.{MayPass, MaySweepAll};
 ghost use Rattle.pod_gc.specs.Told.{deals_with_some, AddsTold, AddsShown, AddsPassed};
 ghost use Rattle.pod_gc.specs.Ended.{EndsAtPod, EndsAmongBetween, EndsListingBetween, EndsPassBetween};
@@ -42,6 +42,7 @@ fn deal_next<D: Dir>(
     requires stage { is_stage place ≡ true }
     ensures worked { Worked D.observed (deals_with_some times.now place (name.now ∷ [])) (D.shown dir.old) (D.shown dir.new) }
     ensures cause { IfErr result (λ e. GcCause D.observed e (D.shown dir.old) (D.shown dir.new)) }
+    ensures lawful { IfErr result (λ e. StrayByApp D.observed e (MayPass place times.now times.expire) (D.shown dir.old) (D.shown dir.new)) }
     ensures told { IfOk result (λ done. D.observed ≡ true → AddsTold times place (name.now ∷ []) (D.shown dir.old) (D.shown dir.new) lines.old.items lines.new.items) }
     ensures ended { IfErr result (λ e. D.observed ≡ true → EndsAtPod times.now place name.now (D.shown dir.old).process (D.shown dir.old).trace (D.shown dir.new).trace) }
     ensures ready { D.observed ≡ true → Stays (MayPass place times.now times.expire) (D.shown dir.old) (λ s. KeepsReady s (D.shown dir.new)) }
@@ -68,6 +69,7 @@ fn deal_each<D: Dir>(
     requires stage { is_stage place ≡ true }
     ensures worked { Worked D.observed (deals_with_some times.now place names.now) (D.shown dir.old) (D.shown dir.new) }
     ensures cause { IfErr result (λ e. GcCause D.observed e (D.shown dir.old) (D.shown dir.new)) }
+    ensures lawful { IfErr result (λ e. StrayByApp D.observed e (MayPass place times.now times.expire) (D.shown dir.old) (D.shown dir.new)) }
     ensures told { IfOk result (λ done. D.observed ≡ true → AddsTold times place names.now (D.shown dir.old) (D.shown dir.new) lines.old.items lines.new.items) }
     ensures ended { IfErr result (λ e. D.observed ≡ true → EndsAmongBetween times place names.now (D.shown dir.old) (D.shown dir.new)) }
     ensures ready { D.observed ≡ true → Stays (MayPass place times.now times.expire) (D.shown dir.old) (λ s. KeepsReady s (D.shown dir.new)) }
@@ -90,6 +92,7 @@ fn pass_listed<D: Dir>(
     requires stage { is_stage place ≡ true }
     ensures worked { Worked D.observed (sweeps times.now) (D.shown dir.old) (D.shown dir.new) }
     ensures cause { IfErr result (λ e. GcCause D.observed e (D.shown dir.old) (D.shown dir.new)) }
+    ensures lawful { IfErr result (λ e. StrayByApp D.observed e (MayPass place times.now times.expire) (D.shown dir.old) (D.shown dir.new)) }
     ensures told { IfOk result (λ done. D.observed ≡ true → AddsShown times place (D.shown dir.old) (D.shown dir.new) lines.old.items lines.new.items) }
     ensures ended { IfErr result (λ e. D.observed ≡ true → EndsListingBetween times place (D.shown dir.old) (D.shown dir.new)) }
     ensures ready { D.observed ≡ true → Stays (MayPass place times.now times.expire) (D.shown dir.old) (λ s. KeepsReady s (D.shown dir.new)) }
@@ -110,6 +113,7 @@ fn pass_embryo<D: Dir>(
     requires active { IsActive (D.shown dir.old).local }
     ensures worked { Worked D.observed (sweeps times.now) (D.shown dir.old) (D.shown dir.new) }
     ensures cause { IfErr result (λ e. GcCause D.observed e (D.shown dir.old) (D.shown dir.new)) }
+    ensures lawful { IfErr result (λ e. StrayByApp D.observed e (MaySweepAll times.now times.expire) (D.shown dir.old) (D.shown dir.new)) }
     ensures told { IfOk result (λ done. D.observed ≡ true → AddsPassed times Area.Embryo (D.shown dir.old) (D.shown dir.new) lines.old.items lines.new.items) }
     ensures ended { IfErr result (λ e. D.observed ≡ true → EndsPassBetween times Area.Embryo (D.shown dir.old) (D.shown dir.new)) }
     ensures ready { D.observed ≡ true → Stays (MaySweepAll times.now times.expire) (D.shown dir.old) (λ s. KeepsReady s (D.shown dir.new)) }
@@ -145,6 +149,7 @@ pub(crate) fn pass<D: Dir>(
     requires stage { is_stage place ≡ true }
     ensures worked { Worked D.observed (sweeps times.now) (D.shown dir.old) (D.shown dir.new) }
     ensures cause { IfErr result (λ e. GcCause D.observed e (D.shown dir.old) (D.shown dir.new)) }
+    ensures lawful { IfErr result (λ e. StrayByApp D.observed e (MaySweepAll times.now times.expire) (D.shown dir.old) (D.shown dir.new)) }
     ensures told { IfOk result (λ done. D.observed ≡ true → AddsPassed times place (D.shown dir.old) (D.shown dir.new) lines.old.items lines.new.items) }
     ensures ended { IfErr result (λ e. D.observed ≡ true → EndsPassBetween times place (D.shown dir.old) (D.shown dir.new)) }
     ensures ready { D.observed ≡ true → Stays (MaySweepAll times.now times.expire) (D.shown dir.old) (λ s. KeepsReady s (D.shown dir.new)) }

@@ -1,10 +1,12 @@
 // The sweep of dead pods.
-ghost use Rattle.std.specs.Prelude.{◌≡◌, true, IfOk, IfErr};
+ghost use Rattle.std.specs.Prelude.{◌≡◌, true, IfOk, IfErr, IsErrOf};
 ghost use Rattle.dir_trait.specs.Local.{IsActive};
 ghost use Rattle.folder_building.specs.Work.{Worked};
+ghost use Rattle.impossible_replies.specs.Replies.{AppWroteOn};
+ghost use Rattle.lifecycle.specs.Executions.{IsConforming};
 ghost use Rattle.pod_steps.specs.Holding.{KeepsReady, Stays};
 ghost use Rattle.pod_gc.specs.Requests.{sweeps};
-ghost use Rattle.pod_gc.specs.Causes.{GcCause};
+ghost use Rattle.pod_gc.specs.Causes.{GcCause, StrayByApp};
 ghost use Rattle.pod_gc.specs.Sweeping.{MaySweepAll};
 ghost use Rattle.pod_gc.specs.Told.{places, AddsSwept, IsSweptBetween};
 ghost use Rattle.pod_gc.specs.Ended.{EndsSweepBetween};
@@ -35,6 +37,7 @@ fn pass_each<D: Dir>(
     requires active { IsActive (D.shown dir.old).local }
     ensures worked { Worked D.observed (sweeps times.now) (D.shown dir.old) (D.shown dir.new) }
     ensures cause { IfErr result (λ e. GcCause D.observed e (D.shown dir.old) (D.shown dir.new)) }
+    ensures lawful { IfErr result (λ e. StrayByApp D.observed e (MaySweepAll times.now times.expire) (D.shown dir.old) (D.shown dir.new)) }
     ensures swept { IfOk result (λ done. D.observed ≡ true → AddsSwept times places (D.shown dir.old) (D.shown dir.new) lines.old.items lines.new.items) }
     ensures ended { IfErr result (λ e. D.observed ≡ true → EndsSweepBetween times (D.shown dir.old) (D.shown dir.new)) }
     ensures ready { D.observed ≡ true → Stays (MaySweepAll times.now times.expire) (D.shown dir.old) (λ s. KeepsReady s (D.shown dir.new)) }
@@ -52,8 +55,8 @@ fn pass_each<D: Dir>(
 /// least `grace`, or where it has no mark; in garbage each is deleted. A pod that another process holds is
 /// let be.
 ///
-/// `Stray` where the directory's answers contradict each other or what a lock keeps; `DirFault` where it
-/// failed; `NoMemory` where memory ran out. Then each pod is whole or in a garbage place. No lock is held
+/// `Stray` where the directory's answers contradict each other or what a lock keeps: while every process
+/// keeps the local rules, only where a program that outlived its pod writes on; `DirFault` where it failed; `NoMemory` where memory ran out. Then each pod is whole or in a garbage place. No lock is held
 /// afterwards.
 pub fn gc<D: Dir>(
     alloc: Global,
@@ -65,6 +68,8 @@ pub fn gc<D: Dir>(
     requires active { IsActive (D.shown dir.old).local }
     ensures worked { Worked D.observed (sweeps now) (D.shown dir.old) (D.shown dir.new) }
     ensures cause { IfErr result (λ e. GcCause D.observed e (D.shown dir.old) (D.shown dir.new)) }
+    ensures lawful { IsErrOf result GcError.Stray → D.observed ≡ true → Stays (MaySweepAll now expire) (D.shown dir.old) (λ s. IsConforming (D.shown dir.new).trace
+        → AppWroteOn (D.shown dir.old).process (D.shown dir.old).trace (D.shown dir.new).trace) }
     ensures swept { IfOk result (λ lines. D.observed ≡ true
         → IsSweptBetween (record { now = now; grace = grace; expire = expire }) (D.shown dir.old) (D.shown dir.new) lines.items) }
     ensures ended { IfErr result (λ e. D.observed ≡ true

@@ -1,7 +1,7 @@
 -- Single calls of the making: what they leave, and what their refusals rest on.
-use Rattle.std.proofs.Common.{◌≡◌, ◌⊎◌, inl, inr, ℕ, Bool, true, false, Some, None, Result, Ok, Err, List, [], cond, refl, sym, ap, subst, ◌∙◌, append-nil, arith}
+use Rattle.std.proofs.Common.{◌≡◌, ◌⊎◌, inl, inr, ℕ, Bool, true, Some, Result, Ok, Err, List, [], refl, sym, ap, subst, ◌∙◌, append-nil, arith}
 use Rattle.dir_model.specs.declared.area.Area.{Area}
-use Rattle.dir_model.specs.declared.area.Area.TheVariants.{Embryo, Prepare}
+use Rattle.dir_model.specs.declared.area.Area.TheVariants.{Embryo, Prepare, Prepared, Run}
 use Rattle.dir_model.specs.declared.event.Event.{Event}
 use Rattle.dir_model.specs.declared.intent.Intent.{Intent}
 use Rattle.dir_model.specs.declared.pod.PodId.{PodId}
@@ -19,7 +19,7 @@ use Rattle.dir_model.specs.declared.request.Request.TheVariants.{MakeFolder, Mov
 use Rattle.dir_model.specs.Calls.{CallStep, Interference, TookPlace, LeftNothing}
 use Rattle.dir_model.specs.Causes.{Rose}
 use Rattle.dir_model.specs.Replies.{may_refuse, done_reply}
-use Rattle.dir_model.proofs.Lists.{and_both}
+use Rattle.dir_model.proofs.Lists.{and_both, or_last}
 use Rattle.dir_rules.specs.declared.seen.Entry.{Entry}
 use Rattle.dir_rules.specs.declared.seen.Seen.{Seen}
 use Rattle.dir_rules.specs.Conforms.{Agrees, IsTied}
@@ -40,10 +40,11 @@ use Rattle.folder_building.specs.Work.{Worked, EndsStray, is_stray, builds_at, e
 use Rattle.folder_building.proofs.Working.{worked_call, at_spot}
 use Rattle.pod_making.specs.declared.error.MakeError.TheVariants.{Busy, Taken, Unlike, DirFault, Stray}
 use Rattle.pod_making.specs.Refusals.{change_refusal, lock_refusal, make_refusal, build_refusal}
-use Rattle.pod_making.specs.Requests.{pod_at, begins_pod, hands_pod, fills_pod, shows_taken, shows_changed, is_taken}
+use Rattle.pod_making.specs.Requests.{pod_at, begins_pod, hands_pod, hands_on, fills_pod, shows_taken, shows_changed, is_taken}
 use Rattle.pod_making.specs.Progress.{holding}
-use Rattle.pod_making.specs.Causes.{ShowsTaken, LosesPod, is_copied, IsCopiedAt, WorkCause, MakeCause}
+use Rattle.pod_making.specs.Causes.{WasOpenedThere, ShowsTaken, LosesPod, is_copied, IsCopiedAt, WorkCause, MakeCause}
 use Rattle.pod_making.specs.Makings.{HasMoved}
+use Rattle.pod_making.specs.Handovers.{is_handed_to}
 use Rattle.dir_model.proofs.Chains.{nothing_yet, and_call}
 use Rattle.pod_making.proofs.Times.{Follows, answered_self}
 
@@ -110,8 +111,8 @@ change_cause {observed} {draw} {old} {new} e fault = record {
 }
 
 -- the answer shows that another took the folder in embryo
-pub shows_call : {draw : PodId} {me : ℕ} {old new : List Event} (request : Request) (reply : Reply) → shows_taken draw request reply ≡ true → CallStep me old request reply new → ShowsTaken draw me old new
-shows_call {draw} {me} {old} {new} request reply shows step = record { before = old; after = new; later = []; request = request; reply = reply; since = nothing_yet; shows = shows; step = step; ends = sym (append-nil new) }
+pub shows_call : {draw : PodId} {me : ℕ} {old new : List Event} (request : Request) (reply : Reply) → WasOpenedThere draw me old request → shows_taken draw request reply ≡ true → CallStep me old request reply new → ShowsTaken draw me old new
+shows_call {draw} {me} {old} {new} request reply lock shows step = record { before = old; after = new; later = []; request = request; reply = reply; since = nothing_yet; lock = lock; shows = shows; step = step; ends = sym (append-nil new) }
 
 pub taken_move : (draw : PodId) (to : Spot) (e : DirError) → may_refuse (MoveFolder (pod_at Embryo draw) to) e ≡ true → change_refusal e ≡ Stray → shows_taken draw (MoveFolder (pod_at Embryo draw) to) (Refused e 0) ≡ true
 taken_move draw to Missing may is = at_spot (pod_at Embryo draw)
@@ -121,12 +122,18 @@ taken_move draw to dir.NoMemory may is = cc
 taken_move draw to e may is = cc
 
 -- or moved it from prepare, or has its place
-pub changed_move : (draw : PodId) (to : Spot) (e : DirError) → may_refuse (MoveFolder (pod_at Prepare draw) to) e ≡ true → change_refusal e ≡ Stray → shows_changed draw (MoveFolder (pod_at Prepare draw) to) (Refused e 0) ≡ true
-changed_move draw to Missing may is = at_spot (pod_at Prepare draw)
-changed_move draw to Exists may is = at_spot (pod_at Prepare draw)
-changed_move draw to Failed may is = cc
-changed_move draw to dir.NoMemory may is = cc
-changed_move draw to e may is = cc
+handed_on : (draw : PodId) (to : Area) → is_handed_to to ≡ true → hands_on draw (MoveFolder (pod_at Prepare draw) (pod_at to draw)) ≡ true
+handed_on draw Prepared is = rw (asks_hand draw Prepared) refl
+handed_on draw Run is = or_last _ _ (asks_hand draw Run)
+handed_on draw to is = cc
+
+pub changed_move : (draw : PodId) (to : Area) (e : DirError) → is_handed_to to ≡ true → may_refuse (MoveFolder (pod_at Prepare draw) (pod_at to draw)) e ≡ true → change_refusal e ≡ Stray
+    → shows_changed draw (MoveFolder (pod_at Prepare draw) (pod_at to draw)) (Refused e 0) ≡ true
+changed_move draw to Missing on may is = handed_on draw to on
+changed_move draw to Exists on may is = handed_on draw to on
+changed_move draw to Failed on may is = cc
+changed_move draw to dir.NoMemory on may is = cc
+changed_move draw to e on may is = cc
 
 pub taken_open : (draw : PodId) (e : DirError) → may_refuse (Open (pod_at Embryo draw) which.Own) e ≡ true → change_refusal e ≡ Stray → shows_taken draw (Open (pod_at Embryo draw) which.Own) (Refused e 0) ≡ true
 taken_open draw Missing may is = at_spot (pod_at Embryo draw)

@@ -6,3 +6,4 @@ pub mod Handing
 pub mod Knowing
 pub mod Outcomes
 pub mod Begun
+pub mod Lawful

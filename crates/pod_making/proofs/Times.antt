@@ -1,5 +1,5 @@
 -- What came about in a part of a time came about in the whole.
-use Rattle.std.proofs.Common.{◌≡◌, ◌⊎◌, inl, inr, ◌≤◌, ℕ, Bool, true, List, [], ◌∷◌, ◌++◌, refl, sym, ap, subst, ◌∙◌, append-nil, append_assoc, arith}
+use Rattle.std.proofs.Common.{◌≡◌, inl, inr, ◌≤◌, ℕ, Bool, true, List, [], ◌∷◌, ◌++◌, refl, sym, ap, subst, ◌∙◌, append-nil, append_assoc, arith}
 use Rattle.dir_model.specs.declared.event.Event.{Event}
 use Rattle.dir_model.specs.declared.intent.Intent.{Intent}
 use Rattle.dir_model.specs.declared.pod.PodId.{PodId}
@@ -105,7 +105,7 @@ cause_before {observed} {draw} {plan} {e} {a} {b} {c} same w bc = record {
 pub taken_after : {draw : PodId} {me other : ℕ} {a b c : List Event} → Extends (locks_own draw) me a b → other ≡ me → ShowsTaken draw other b c → ShowsTaken draw me a c
 taken_after {draw} {me} {other} {a} {b} {c} ab same w =
     let v = subst (λ (p : ℕ). ShowsTaken draw p b c) same w in
-    record { before = v.before; after = v.after; later = v.later; request = v.request; reply = v.reply; since = and_more ab refl v.since; shows = v.shows; step = v.step; ends = v.ends }
+    record { before = v.before; after = v.after; later = v.later; request = v.request; reply = v.reply; since = and_more ab refl v.since; lock = v.lock; shows = v.shows; step = v.step; ends = v.ends }
 
 pub taken_before : {draw : PodId} {asks : Request → Bool} {me other : ℕ} {a b c : List Event} → ShowsTaken draw me a b → Extends asks other b c → ShowsTaken draw me a c
 taken_before w bc = record {
@@ -115,6 +115,7 @@ taken_before w bc = record {
   request = w.request;
   reply = w.reply;
   since = w.since;
+  lock = w.lock;
   shows = w.shows;
   step = w.step;
   ends = bc.grown ∙ (ap (λ h. h ++ bc.more) w.ends ∙ append_assoc w.after w.later bc.more);

@@ -5,9 +5,10 @@ use Rattle.dir_model.specs.declared.event.Event.{Event}
 use Rattle.dir_model.specs.declared.pod.PodId.{PodId}
 use Rattle.dir_model.specs.declared.spot.Mode.TheVariants.{Shared}
 use Rattle.dir_model.specs.declared.request.Reply.{Reply}
-use Rattle.dir_model.specs.declared.request.Reply.TheVariants.{Done}
+use Rattle.dir_model.specs.declared.request.Reply.TheVariants.{Done, Opened}
 use Rattle.dir_model.specs.declared.request.Request.{Request}
-use Rattle.dir_model.specs.declared.request.Request.TheVariants.{MakeFolder}
+use Rattle.dir_model.specs.declared.request.Request.TheVariants.{MakeFolder, Open, TryLock}
+use Rattle.dir_model.specs.declared.spot.Which.TheVariants.{Own}
 use Rattle.dir_model.specs.Calls.{CallStep, Extends}
 use Rattle.dir_model.specs.Causes.{Rose}
 use Rattle.dir_trait.specs.DirCalls.{DirAt, HeldBetween}
@@ -38,6 +39,11 @@ pub record WasAnswered (answers : Request → Reply → Bool) (me : ℕ) (old ne
 abbrev pub MakesEmbryo : PodId → DirAt → DirAt → Type 0
 MakesEmbryo draw old new = CallStep old.process old.trace (MakeFolder (pod_at Embryo draw)) Done new.trace
 
+-- where a lock was asked for, the call just before opened it: the folder's own, in embryo
+abbrev pub WasOpenedThere : PodId → ℕ → List Event → Request → Type 0
+WasOpenedThere draw me before (TryLock handle mode) = (earlier : List Event) × CallStep me earlier (Open (pod_at Embryo draw) Own) (Opened handle) before
+WasOpenedThere draw me before request = Unit {0}
+
 -- nothing but its own lock was asked for, and then an answer showed that another took the folder in embryo
 pub record ShowsTaken (draw : PodId) (me : ℕ) (old new : List Event) : Type 0 where
   pub before : List Event
@@ -46,6 +52,7 @@ pub record ShowsTaken (draw : PodId) (me : ℕ) (old new : List Event) : Type 0 
   pub request : Request
   pub reply : Reply
   pub since : Extends (locks_own draw) me old before
+  pub lock : WasOpenedThere draw me before request
   pub shows : shows_taken draw request reply ≡ true
   pub step : CallStep me before request reply after
   pub ends : new ≡ after ++ later

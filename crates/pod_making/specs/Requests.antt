@@ -1,7 +1,7 @@
 -- What the maker of a pod asks the directory for, and which answers its own making doesn't explain.
 use Rattle.std.specs.Prelude.{Bool, true, false, ◌&&◌}
 use Rattle.dir_model.specs.declared.area.Area.{Area}
-use Rattle.dir_model.specs.declared.area.Area.TheVariants.{Embryo, Prepare}
+use Rattle.dir_model.specs.declared.area.Area.TheVariants.{Embryo, Prepare, Prepared, Run}
 use Rattle.dir_model.specs.declared.pod.PodId.{PodId}
 use Rattle.dir_model.specs.declared.spot.Mode.TheVariants.{Exclusive}
 use Rattle.dir_model.specs.declared.spot.Spot.{Spot}
@@ -67,10 +67,14 @@ abbrev pub is_brought : PodId → Request → Reply → Bool
 is_brought draw (MoveFolder from to) Done = spot_eq from (pod_at Embryo draw) && spot_eq to (pod_at Prepare draw)
 is_brought draw request reply = false
 
+-- its move from there to prepared or to run
+abbrev pub hands_on : PodId → Request → Bool
+hands_on draw = either (hands_pod draw Prepared) (hands_pod draw Run)
+
 -- an answer that shows that another changed it there, or moved it, or that its place is taken
 abbrev pub shows_changed : PodId → Request → Reply → Bool
-shows_changed draw (MoveFolder from to) (Refused Missing left) = spot_eq from (pod_at Prepare draw)
-shows_changed draw (MoveFolder from to) (Refused Exists left) = spot_eq from (pod_at Prepare draw)
+shows_changed draw (MoveFolder from to) (Refused Missing left) = hands_on draw (MoveFolder from to)
+shows_changed draw (MoveFolder from to) (Refused Exists left) = hands_on draw (MoveFolder from to)
 shows_changed draw request reply = fills_pod draw request && is_stray request reply
 
 -- the making of the folder in embryo, refused since a folder stands there

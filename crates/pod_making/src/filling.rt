@@ -10,7 +10,7 @@ ghost use Rattle.pod_making.specs.Progress.{at_work, in_prepare};
 ghost use Rattle.pod_making.specs.Work.{MayMake, Owns, From, HasOwnFolder};
 ghost use Rattle.pod_making.specs.Causes.{WorkCause, LosesPod};
 ghost use Rattle.pod_making.specs.Makings.{HasFilled, FromFilled, IsHanded, HasMade};
-ghost use Rattle.pod_making.specs.Handovers.{HandsOverMade};
+ghost use Rattle.pod_making.specs.Handovers.{is_handed_to, HandsOverMade};
 
 use crate::error::{MakeError, build_refusal, change_refusal};
 use crate::place::pod_at;
@@ -46,6 +46,7 @@ fn fill<D: Dir>(
 // Moves the folder on.
 fn hand_over<D: Dir>(alloc: Global, dir: &mut D, draw: PodId, to: Area) -> Result<(), MakeError>
     requires active { IsActive (D.shown dir.old).local }
+    requires handed { is_handed_to to ≡ true }
     ensures worked { Worked D.observed (hands_pod draw to) (D.shown dir.old) (D.shown dir.new) }
     ensures cause { IfErr result (λ e. WorkCause D.observed draw [] e (D.shown dir.old) (D.shown dir.new)) }
     ensures stray { IsErrOf result MakeError.Stray → D.observed ≡ true → LosesPod draw (D.shown dir.old) (D.shown dir.new) }
@@ -74,6 +75,7 @@ pub(crate) fn finish_pod<D: Dir>(
 ) -> Result<(), MakeError>
     requires active { IsActive (D.shown dir.old).local }
     requires plan { is_plan plan.now ≡ true }
+    requires handed { is_handed_to to ≡ true }
     ensures worked { Worked D.observed (finishes_pod draw to) (D.shown dir.old) (D.shown dir.new) }
     ensures cause { IfErr result (λ e. WorkCause D.observed draw plan.now e (D.shown dir.old) (D.shown dir.new)) }
     ensures stray { IsErrOf result MakeError.Stray → D.observed ≡ true → LosesPod draw (D.shown dir.old) (D.shown dir.new) }

@@ -1,6 +1,7 @@
 // A pod is made, for prepared or for run.
-ghost use Rattle.std.specs.Prelude.{◌≡◌, Some, ◌∷◌, IfOk, IfErr, true};
+ghost use Rattle.std.specs.Prelude.{◌≡◌, Some, ◌∷◌, IfOk, IfErr, IsErrOf, true};
 ghost use Rattle.dir_trait.specs.Local.{IsActive, IsUnopened};
+ghost use Rattle.lifecycle.specs.Executions.{IsConforming};
 ghost use Rattle.folder_building.specs.Plans.{is_plan};
 ghost use Rattle.folder_building.specs.Work.{Worked};
 ghost use Rattle.pod_making.specs.Requests.{makes_pod};
@@ -29,7 +30,7 @@ use std::alloc::Global;
 /// plan whose file in images was missing at a read, or of which what was read isn't what the plan asks
 /// for. `DirFault` and `NoMemory` where the directory failed or memory ran out, and `Stray` where an
 /// answer showed that another process took the folder that this one had made in embryo, or changed it in
-/// prepare. A refused call holds no lock, and leaves nothing, or its folder in embryo or in prepare.
+/// prepare: never while every process keeps the local rules. A refused call holds no lock, and leaves nothing, or its folder in embryo or in prepare.
 pub fn make_prepared<D: Dir>(
     alloc: Global,
     dir: &mut D,
@@ -48,6 +49,7 @@ pub fn make_prepared<D: Dir>(
         (λ intent hs. HandsOverMade draw plan.now intent (D.shown dir.old) (D.shown dir.new)) }
     ensures left { IfErr result (λ e. D.observed ≡ true → From (MayMake Area.Prepared plan.now draw) (UnderImages draw) nothing_made (D.shown dir.old)
         (λ intent hs. HasOwnFolder draw intent hs (D.shown dir.new))) }
+    ensures lawful { IsErrOf result MakeError.Stray → D.observed ≡ true → IsConforming (D.shown dir.new).trace → ⊥ }
 {
     let own = begin_pod(alloc, dir, draw)?;
     let result = finish_pod(alloc, dir, draw, plan, Area::Prepared);
@@ -78,6 +80,7 @@ pub fn make_running<D: Dir>(
         (λ intent hs. HandsOverMade draw plan.now intent (D.shown dir.old) (D.shown dir.new)) }
     ensures left { IfErr result (λ e. D.observed ≡ true → From (MayMake Area.Run plan.now draw) (UnderImages draw) nothing_made (D.shown dir.old)
         (λ intent hs. HasOwnFolder draw intent hs (D.shown dir.new))) }
+    ensures lawful { IsErrOf result MakeError.Stray → D.observed ≡ true → IsConforming (D.shown dir.new).trace → ⊥ }
 {
     let own = begin_pod(alloc, dir, draw)?;
     match finish_pod(alloc, dir, draw, plan, Area::Run) {

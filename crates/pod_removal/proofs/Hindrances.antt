@@ -119,7 +119,7 @@ only_failures {observed} {pod} {a} {c} error.Stray t x another conforming free =
   where
     by : WasStray a.process a.trace c.trace ⊎ MissedTimes 6 pod a.process a.trace c.trace → IsFailure error.Stray a.process a.trace c.trace
     by (inl stray) = inr (inr (refl, stray))
-    by (inr missed) = absurd (never_missed pod a.process a.trace c.trace conforming free missed)
+    by (inr missed) = absurd (never_missed pod a.process a.trace c.trace conforming missed)
 only_failures error.NoMemory t x another conforming free = inr (inl refl)
 
 pub refused_so : (observed : Bool) (pod : PodId) (now : ℕ) (a c : DirAt) (r : Result (Unit {0}) RemoveError) → IfErr r (λ e. RemoveCause observed pod e a c)

@@ -11,3 +11,4 @@ pub mod Finding
 pub mod Hindrances
 pub mod Unread
 pub mod Onward
+pub mod Lawful

@@ -1,4 +1,4 @@
--- A pod only goes forward through its places: one that exists throughout isn't missed six times.
+-- A pod only goes forward through its places, so it isn't found and then missed six times.
 use Rattle.std.proofs.Common.{◌≡◌, ◌≤◌, ◌⊎◌, inl, inr, ℕ, zero, suc, nat_le, Bool, true, false, is_some, Option, Some, List, [], ◌∷◌, ◌++◌, append_assoc, append-nil, refl, sym, ap, subst, ◌∙◌, arith}
 use Rattle.std.proofs.lemmas.Bool.Decides.{nat_tests}
 use Rattle.dir_model.specs.declared.area.Area.{Area}
@@ -13,23 +13,17 @@ use Rattle.dir_model.specs.declared.request.Reply.{Reply}
 use Rattle.dir_model.specs.declared.request.Reply.TheVariants.{Done}
 use Rattle.dir_model.specs.declared.spot.Spot.{Spot}
 use Rattle.dir_model.specs.Areas.{rank, is_stage, phase_in}
-use Rattle.dir_model.specs.Calls.{AtOwnStep, CallStep, TookPlace, LeftNothing, event, may_step}
-use Rattle.dir_model.specs.Pods.{pod_text}
-use Rattle.dir_model.specs.State.{DirState, stands, empty_state}
+use Rattle.dir_model.specs.Calls.{AtOwnStep, CallStep, TookPlace, LeftNothing, event}
+use Rattle.dir_model.specs.State.{DirState, stands, folder_at, empty_state}
 use Rattle.dir_model.specs.Trace.{state_next, state_after}
 use Rattle.dir_model.proofs.Chains.{states_next-append}
-use Rattle.dir_model.proofs.Lists.{and_right}
-use Rattle.dir_model.proofs.Moments.{at_grown, at_weaker}
+use Rattle.dir_model.proofs.Moments.{at_grown, at_weaker, some_number}
 use Rattle.dir_model.proofs.Spots.{spot_self}
 use Rattle.folder_contents.proofs.Spots.{one_area}
-use Rattle.lifecycle.specs.declared.machine.PodState.{PodState}
-use Rattle.lifecycle.specs.declared.machine.PodState.TheVariants.{Absent, Gone}
 use Rattle.lifecycle.specs.Executions.{IsConforming}
-use Rattle.lifecycle.specs.PodMachine.{exists, phase_of_state, pod_state, pod_phase}
 use Rattle.lifecycle.proofs.Draws.{conforming_left}
-use Rattle.lifecycle.proofs.EveryPod.{stands_where_it_exists}
 use Rattle.lifecycle.proofs.Places.{none_stands, moved_there}
-use Rattle.lifecycle.proofs.Stays.{forward}
+use Rattle.lifecycle.proofs.Stays.{forward, stays_between}
 use Rattle.lifecycle.proofs.Step.{stands_from}
 use Rattle.phase_read.specs.Read.{pod_spot, WasFound, stages_before}
 use Rattle.phase_read.proofs.InTurn.{left_out_grown}
@@ -40,7 +34,7 @@ use Rattle.pod_steps.specs.Causes.{IsAbsentAt}
 use Rattle.pod_removal.specs.Requests.{is_removable, aside, place_of}
 use Rattle.pod_removal.specs.Found.{is_moved, PutAway}
 use Rattle.pod_removal.specs.Removals.{MissedOnItsWay, FoundThenMissed, MissedTimes}
-use Rattle.pod_removal.specs.Hindrances.{IsRemovable, IsDeletedBy, IsUnhindered, IsUnhinderedThroughout}
+use Rattle.dir_model.proofs.Allowed.{allowed_reply}
 
 -- places and phases
 
@@ -83,13 +77,15 @@ unmoved_place kind.Exited is = cc
 unmoved_place kind.ExitedGarbage is = refl
 unmoved_place p is = refl
 
-exists_by : (s : PodState) (p : Phase) → phase_of_state s ≡ Some p → exists s ≡ true
-exists_by Absent p is = cc
-exists_by Gone p is = cc
-exists_by s p is = refl
-
 five_at_most : (a : Area) → is_stage a ≡ true → 6 ≤ rank a → ⊥
 five_at_most a is far = grind (arith, nat_tests)
+
+at_most_five : (a : Area) → is_stage a ≡ true → rank a ≤ 5
+at_most_five a is = by (nat_le (rank a) 5) refl
+  where
+    by : (b : Bool) → nat_le (rank a) 5 ≡ b → rank a ≤ 5
+    by true le = grind (arith, nat_tests)
+    by false le = absurd (five_at_most a is (grind (arith, nat_tests)))
 
 -- after its own move it stands where it goes
 moved_stands : (me : ℕ) (from to : Spot) (a b : List Event) → CallStep me a (MoveFolder from to) Done b → stands (state_after b).namespace to ≡ true
@@ -102,7 +98,7 @@ moved_stands me from to a b s = by s.own
     by (inr left) = let clash : false ≡ true = left.late in cc
     by (inl took) =
         let w = state_after s.before in
-        let stood = stands_from w me from to (and_right (may_step w me (MoveFolder from to)) _ took.allowed) in
+        let stood = stands_from w me from to (allowed_reply w me (MoveFolder from to) Done took.allowed) in
         let next : state_after b ≡ state_next w e = ap state_after took.grown ∙ states_next-append empty_state s.before (e ∷ []) in
         subst (λ (z : DirState). stands z.namespace to ≡ true) (sym next)
         (ap (λ (o : Option ℕ). is_some o) (moved_there w.namespace to from to (none_stands w.namespace to stood.1) (spot_self to)) ∙ stood.0)
@@ -156,7 +152,11 @@ record Stood (pod : PodId) (far : ℕ) (upto : List Event) : Type 0 where
   pub there : stands (state_after moment).namespace (pod_spot pod place) ≡ true
   pub reached : far ≤ rank place
 
-module _ (pod : PodId) (me : ℕ) (a c : List Event) (conforming : IsConforming c) (free : IsUnhinderedThroughout pod me a c) where
+-- wherever it stands after this trace and up to the end, that is so far along
+record Past (pod : PodId) (far : ℕ) (upto c : List Event) : Type 0 where
+  pub on : (then after end : List Event) (place : Area) → then ≡ upto ++ after → c ≡ then ++ end → is_stage place ≡ true → stands (state_after then).namespace (pod_spot pod place) ≡ true → far ≤ rank place
+
+module _ (pod : PodId) (me : ℕ) (a c : List Event) (conforming : IsConforming c) where
   -- later it stands there or further
   onward : {far : ℕ} {upto : List Event} (x : Stood pod far upto) (now more rest : List Event) (place : Area) → now ≡ upto ++ more → c ≡ now ++ rest → is_stage place ≡ true
       → stands (state_after now).namespace (pod_spot pod place) ≡ true → far ≤ rank place
@@ -167,56 +167,54 @@ module _ (pod : PodId) (me : ℕ) (a c : List Event) (conforming : IsConforming 
       (subst (λ (h : List Event). stands (state_after h).namespace (pod_spot pod place) ≡ true) is there) in
       omega (arith, on, x.reached)
 
-  -- where it exists, it stands somewhere
-  somewhere : (now rest : List Event) → c ≡ now ++ rest → IsUnhindered pod me a now → (place : Area) × (is_stage place ≡ true) × (stands (state_after now).namespace (pod_spot pod place) ≡ true)
-  somewhere now rest whole here = by here.exists
+  -- where it stood and then was missed, it stands no more
+  missed_past : {b : List Event} (place : Area) (moment : List Event) {upto : List Event} (more rest : List Event) → upto ≡ moment ++ more → c ≡ b ++ rest → is_stage place ≡ true
+      → stands (state_after moment).namespace (pod_spot pod place) ≡ true → AtOwnStep me upto b (IsAbsentAt pod place) → Past pod (suc (rank place)) b c
+  missed_past {b} place moment {upto} more rest upto_is whole stage there at = record { on = beyond }
     where
-      law : IsConforming now
-      law = conforming_left now rest (subst IsConforming whole conforming)
+      now : List Event
+      now = at.before ++ at.step ∷ []
 
-      at : (p : Phase) → pod_phase (pod_text pod.bytes) now ≡ Some p → (place : Area) × (is_stage place ≡ true) × (stands (state_after now).namespace (pod_spot pod place) ≡ true)
-      at p is = (stands_where_it_exists (pod_text pod.bytes) now law).somewhere (exists_by (pod_state (pod_text pod.bytes) now) p is)
+      since : List Event
+      since = more ++ (at.later ++ at.step ∷ [])
 
-      by : IsRemovable pod now ⊎ IsDeletedBy pod me now → (place : Area) × (is_stage place ≡ true) × (stands (state_after now).namespace (pod_spot pod place) ≡ true)
-      by (inl x) = at x.phase x.is
-      by (inr x) = at kind.Deleting x.is
+      now_is : now ≡ moment ++ since
+      now_is = ap (λ (h : List Event). h ++ at.step ∷ []) (at.begins ∙ ap (λ (h : List Event). h ++ at.later) upto_is) ∙ simp append_assoc
 
-  -- missed at its place, it stands further along
-  further : {upto b : List Event} (place : Area) (rest : List Event) → c ≡ b ++ rest → Grew a upto → is_stage place ≡ true → (x : Stood pod (rank place) upto) → AtOwnStep me upto b (IsAbsentAt pod place) → Stood pod (suc (rank place)) b
-  further {upto} {b} place rest whole grew stage x at =
-      let now = at.before ++ at.step ∷ [] in
-      let whole_now : c ≡ now ++ (at.rest ++ rest) = whole ∙ (ap (λ (h : List Event). h ++ rest) at.ends ∙ append_assoc now at.rest rest) in
-      let begins : at.before ≡ a ++ (grew.more ++ at.later) = at.begins ∙ (ap (λ (h : List Event). h ++ at.later) grew.grown ∙ append_assoc a grew.more at.later) in
-      let here = free at.before (grew.more ++ at.later) (at.rest ++ rest) at.step begins whole_now at.own in
-      let some = somewhere now (at.rest ++ rest) whole_now here in
-      let later : now ≡ upto ++ (at.later ++ at.step ∷ []) = ap (λ (h : List Event). h ++ at.step ∷ []) at.begins ∙ append_assoc upto at.later (at.step ∷ []) in
-      let on : rank place ≤ rank some.0 = onward x now (at.later ++ at.step ∷ []) (at.rest ++ rest) some.0 later whole_now some.1 some.2 in
-      record {
-        moment = now;
-        more = at.rest;
-        upto_is = at.ends;
-        place = some.0;
-        stage = some.1;
-        there = some.2;
-        reached = past (rank place) (rank some.0) on (λ same. apart some.0 now some.2 (one_area place some.0 same) at.holds);
-      }
-    where
-      past : (n m : ℕ) → n ≤ m → (n ≡ m → ⊥) → suc n ≤ m
-      past n m on other = by (nat_le (suc n) m) refl
+      beyond : (then after end : List Event) (other : Area) → then ≡ b ++ after → c ≡ then ++ end → is_stage other ≡ true → stands (state_after then).namespace (pod_spot pod other) ≡ true → suc (rank place) ≤ rank other
+      beyond then after end other then_is ends other_stage stood = past (rank place) (rank other) on (λ same. apart (one_area place other same))
         where
-          by : (b : Bool) → nat_le (suc n) m ≡ b → suc n ≤ m
-          by true is = grind (arith, nat_tests)
-          by false is = absurd (other (grind (arith, nat_tests)))
+          from_now : then ≡ now ++ (at.rest ++ after)
+          from_now = then_is ∙ (ap (λ (h : List Event). h ++ after) at.ends ∙ append_assoc now at.rest after)
 
-      apart : (y : Area) (now : List Event) → stands (state_after now).namespace (pod_spot pod y) ≡ true → place ≡ y → IsAbsentAt pod place (state_after now) → ⊥
-      apart y now there same absent =
-          let clash : true ≡ false = sym there ∙ (ap (λ (z : Area). stands (state_after now).namespace (pod_spot pod z)) (sym same) ∙ absent) in cc
+          from_moment : then ≡ moment ++ (since ++ (at.rest ++ after))
+          from_moment = from_now ∙ (ap (λ (h : List Event). h ++ (at.rest ++ after)) now_is ∙ append_assoc moment since (at.rest ++ after))
 
-  at_less : {n m : ℕ} {b : List Event} → n ≤ m → Stood pod m b → Stood pod n b
-  at_less {n} {m} less x = record { moment = x.moment; more = x.more; upto_is = x.upto_is; place = x.place; stage = x.stage; there = x.there; reached = omega (arith, less, x.reached) }
+          on : rank place ≤ rank other
+          on = forward moment (since ++ (at.rest ++ after)) (pod_spot pod place) (pod_spot pod other) (subst IsConforming from_moment (conforming_left then end (subst IsConforming ends conforming))) stage other_stage refl there
+              (subst (λ (h : List Event). stands (state_after h).namespace (pod_spot pod other) ≡ true) from_moment stood)
+
+          apart : place ≡ other → ⊥
+          apart same =
+              let k = some_number (folder_at (state_after moment).namespace (pod_spot pod place)) there in
+              let parts : then ≡ (moment ++ since) ++ (at.rest ++ after) = from_now ∙ ap (λ (h : List Event). h ++ (at.rest ++ after)) now_is in
+              let all : c ≡ ((moment ++ since) ++ (at.rest ++ after)) ++ end = ends ∙ ap (λ (h : List Event). h ++ end) parts in
+              let again : stands (state_after then).namespace (pod_spot pod place) ≡ true = ap (λ (z : Area). stands (state_after then).namespace (pod_spot pod z)) same ∙ stood in
+              let still = stays_between c conforming (pod_spot pod place) k.0 moment since (at.rest ++ after) end (at_most_five place stage) all k.1 (subst (λ (h : List Event). stands (state_after h).namespace (pod_spot pod place) ≡ true) parts again) in
+              let clash : true ≡ false = sym (ap (λ (o : Option ℕ). is_some o) (ap (λ (h : List Event). folder_at (state_after h).namespace (pod_spot pod place)) now_is ∙ still)) ∙ at.holds in cc
+
+          past : (n m : ℕ) → n ≤ m → (n ≡ m → ⊥) → suc n ≤ m
+          past n m on other = by (nat_le (suc n) m) refl
+            where
+              by : (b : Bool) → nat_le (suc n) m ≡ b → suc n ≤ m
+              by true is = grind (arith, nat_tests)
+              by false is = absurd (other (grind (arith, nat_tests)))
+
+  at_less : {n m : ℕ} {b : List Event} → n ≤ m → Past pod m b c → Past pod n b c
+  at_less {n} {m} {b} less x = record { on = λ then after end other later whole stage there. let far = x.on then after end other later whole stage there in omega (arith, less, far) }
 
   -- one miss
-  module _ (start b rest : List Event) (whole : c ≡ b ++ rest) (grew : Grew a start) (f : FoundThenMissed pod me start b) where
+  module _ (start b rest : List Event) (whole : c ≡ b ++ rest) (f : FoundThenMissed pod me start b) where
     abbrev out : (more : List Event) × (f.read.between ≡ start ++ more)
     out = left_out_grown pod me start f.read.between (stages_before f.area) f.read.earlier
 
@@ -240,28 +238,27 @@ module _ (pod : PodId) (me : ℕ) (a c : List Event) (conforming : IsConforming 
       reached = omega arith;
     }
 
-    to_found : Grew a f.between
-    to_found = grown_with grew (grown_with (record { more = out.0; grown = out.1 }) (grown_at at))
-
     from_found : Grew f.between b
     from_found = grown_missed pod f.phase f.way
 
-    found_far : {far : ℕ} → Stood pod far start → far ≤ rank (place_of f.phase)
+    found_far : {far : ℕ} → Past pod far start c → far ≤ rank (place_of f.phase)
     found_far x =
         let later : at.before ++ at.step ∷ [] ≡ start ++ (out.0 ++ (at.later ++ at.step ∷ [])) =
         ap (λ (h : List Event). h ++ at.step ∷ []) (at.begins ∙ ap (λ (h : List Event). h ++ at.later) out.1) ∙ simp append_assoc in
         let rest_is : c ≡ (at.before ++ at.step ∷ []) ++ (at.rest ++ (from_found.more ++ rest)) =
         whole ∙ (ap (λ (h : List Event). h ++ rest) (from_found.grown ∙ ap (λ (h : List Event). h ++ from_found.more) at.ends) ∙ simp append_assoc) in
-        onward x (at.before ++ at.step ∷ []) (out.0 ++ (at.later ++ at.step ∷ [])) (at.rest ++ (from_found.more ++ rest)) (place_of f.phase) later rest_is (stage_place f.phase) stood.there
+        x.on (at.before ++ at.step ∷ []) (out.0 ++ (at.later ++ at.step ∷ [])) (at.rest ++ (from_found.more ++ rest)) (place_of f.phase) later rest_is (stage_place f.phase) stood.there
 
-    missed_far : Stood pod (suc (rank (place_of f.phase))) b
+    missed_far : Past pod (suc (rank (place_of f.phase))) b c
     missed_far = by f.way
       where
-        aside_far : (moved : List Event) → PutAway pod f.phase me f.between moved → AtOwnStep me moved b (IsAbsentAt pod (aside f.phase)) → (m : Bool) → is_moved f.phase ≡ m → Stood pod (suc (rank (place_of f.phase))) b
-        aside_far moved put absent false is =
-            further (place_of f.phase) rest whole to_found (stage_place f.phase) stood
-            (subst (λ (h : List Event). AtOwnStep me h b (IsAbsentAt pod (place_of f.phase))) (put.still is) (subst (λ (x : Area). AtOwnStep me moved b (IsAbsentAt pod x)) (unmoved_place f.phase is) absent))
-        aside_far moved put absent true is =
+        here_missed : AtOwnStep me f.between b (IsAbsentAt pod (place_of f.phase)) → Past pod (suc (rank (place_of f.phase))) b c
+        here_missed absent = missed_past (place_of f.phase) stood.moment stood.more rest stood.upto_is whole (stage_place f.phase) stood.there absent
+
+        aside_missed : (moved : List Event) → PutAway pod f.phase me f.between moved → AtOwnStep me moved b (IsAbsentAt pod (aside f.phase)) → (m : Bool) → is_moved f.phase ≡ m → Past pod (suc (rank (place_of f.phase))) b c
+        aside_missed moved put absent false is =
+            here_missed (subst (λ (h : List Event). AtOwnStep me h b (IsAbsentAt pod (place_of f.phase))) (put.still is) (subst (λ (x : Area). AtOwnStep me moved b (IsAbsentAt pod x)) (unmoved_place f.phase is) absent))
+        aside_missed moved put absent true is =
             let did = (put.moved is).each in
             let after = did.1 in
             let step = did.3 in
@@ -274,33 +271,31 @@ module _ (pod : PodId) (me : ℕ) (a c : List Event) (conforming : IsConforming 
             let rest_is : c ≡ after ++ (from_after.more ++ (from_absent.more ++ rest)) =
             whole ∙ (ap (λ (h : List Event). h ++ rest) (from_absent.grown ∙ ap (λ (h : List Event). h ++ from_absent.more) from_after.grown) ∙ simp append_assoc) in
             let on : rank (place_of f.phase) ≤ rank (aside f.phase) = onward stood after (to_before.more ++ took.more) (from_after.more ++ (from_absent.more ++ rest)) (aside f.phase) later rest_is (stage_aside f.phase) arrived in
-            let there : Stood pod (rank (aside f.phase)) moved = record { moment = after; more = from_after.more; upto_is = from_after.grown; place = aside f.phase; stage = stage_aside f.phase; there = arrived; reached = omega arith } in
-            at_less (omega (arith, on)) (further (aside f.phase) rest whole (grown_with to_found (grown_put pod f.phase put)) (stage_aside f.phase) there absent)
+            at_less (omega (arith, on)) (missed_past (aside f.phase) after from_after.more rest from_after.grown whole (stage_aside f.phase) arrived absent)
 
-        by : AtOwnStep me f.between b (IsAbsentAt pod (place_of f.phase)) ⊎ ((moved : List Event) × PutAway pod f.phase me f.between moved × AtOwnStep me moved b (IsAbsentAt pod (aside f.phase))) → Stood pod (suc (rank (place_of f.phase))) b
-        by (inl absent) = further (place_of f.phase) rest whole to_found (stage_place f.phase) stood absent
-        by (inr x) = aside_far x.0 x.1 x.2 (is_moved f.phase) refl
+        by : AtOwnStep me f.between b (IsAbsentAt pod (place_of f.phase)) ⊎ ((moved : List Event) × PutAway pod f.phase me f.between moved × AtOwnStep me moved b (IsAbsentAt pod (aside f.phase))) → Past pod (suc (rank (place_of f.phase))) b c
+        by (inl absent) = here_missed absent
+        by (inr x) = aside_missed x.0 x.1 x.2 (is_moved f.phase) refl
 
-  grown_times : (n : ℕ) (b rest : List Event) → MissedTimes n pod me a b → Grew a b
-  grown_times zero b rest m = m
-  grown_times (suc n) b rest m =
-      let f = m.2 in
-      grown_with (grown_times n m.0 rest m.1) (grown_with (grown_with (record { more = (left_out_grown pod me m.0 f.read.between (stages_before f.area) f.read.earlier).0; grown = (left_out_grown pod me m.0 f.read.between (stages_before f.area) f.read.earlier).1 })
-      (grown_at (found_moment (pod_spot pod f.area) f.phase f.read.found).at)) (grown_missed pod f.phase f.way))
+  grown_found : (start b : List Event) → FoundThenMissed pod me start b → Grew start b
+  grown_found start b f =
+      let out = left_out_grown pod me start f.read.between (stages_before f.area) f.read.earlier in
+      grown_with (grown_with (record { more = out.0; grown = out.1 }) (grown_at (found_moment (pod_spot pod f.area) f.phase f.read.found).at)) (grown_missed pod f.phase f.way)
 
   -- each miss finds it further along
-  missed_onward : (n : ℕ) (b rest : List Event) → c ≡ b ++ rest → MissedTimes (suc n) pod me a b → Stood pod (suc (suc n)) b
-  missed_onward zero b rest whole m = at_less (omega (arith, late_place m.2.phase)) (missed_far m.0 b rest whole (grown_times zero m.0 rest m.1) m.2)
+  missed_onward : (n : ℕ) (b rest : List Event) → c ≡ b ++ rest → MissedTimes (suc n) pod me a b → Past pod (suc (suc n)) b c
+  missed_onward zero b rest whole m = at_less (omega (arith, late_place m.2.phase)) (missed_far m.0 b rest whole m.2)
   missed_onward (suc n) b rest whole m =
       let f = m.2 in
-      let grew = grown_times (suc n) m.0 rest m.1 in
-      let step : Grew m.0 b = grown_with (grown_with (record { more = (left_out_grown pod me m.0 f.read.between (stages_before f.area) f.read.earlier).0; grown = (left_out_grown pod me m.0 f.read.between (stages_before f.area) f.read.earlier).1 })
-      (grown_at (found_moment (pod_spot pod f.area) f.phase f.read.found).at)) (grown_missed pod f.phase f.way) in
+      let step : Grew m.0 b = grown_found m.0 b f in
       let before = missed_onward n m.0 (step.more ++ rest) (whole ∙ (ap (λ (h : List Event). h ++ rest) step.grown ∙ append_assoc m.0 step.more rest)) m.1 in
-      let far = found_far m.0 b rest whole grew f before in
-      at_less (omega (arith, far)) (missed_far m.0 b rest whole grew f)
+      let far = found_far m.0 b rest whole f before in
+      at_less (omega (arith, far)) (missed_far m.0 b rest whole f)
 
   pub never_missed : MissedTimes 6 pod me a c → ⊥
   never_missed m =
-      let x = missed_onward 5 c [] (sym (append-nil c)) m in
-      five_at_most x.place x.stage (omega (arith, x.reached))
+      let f = m.2 in
+      let step : Grew m.0 c = grown_found m.0 c f in
+      let before = missed_onward 4 m.0 step.more step.grown m.1 in
+      let far = found_far m.0 c [] (sym (append-nil c)) f before in
+      five_at_most (place_of f.phase) (stage_place f.phase) (omega (arith, far))

@@ -304,7 +304,7 @@ way_longer pod p bc (inr x) = inr (x.0, x.1, at_part grown_none refl bc x.2)
 missed_longer : {pod : PodId} {me : ℕ} {a b c : List Event} → FoundThenMissed pod me a b → Grew b c → FoundThenMissed pod me a c
 missed_longer {pod} f bc = record { between = f.between; phase = f.phase; area = f.area; removable = f.removable; read = f.read; missed = at_part grown_none refl bc f.missed; way = way_longer pod f.phase bc f.way }
 
-missed_first : (pod : PodId) (me : ℕ) (a b c : List Event) (n : ℕ) → FoundThenMissed pod me a b → MissedTimes n pod me b c → MissedTimes (suc n) pod me a c
+pub missed_first : (pod : PodId) (me : ℕ) (a b c : List Event) (n : ℕ) → FoundThenMissed pod me a b → MissedTimes n pod me b c → MissedTimes (suc n) pod me a c
 missed_first pod me a b c zero f m = (a, grown_none, missed_longer f m)
 missed_first pod me a b c (suc n) f m = (m.0, missed_first pod me a b m.0 n f m.1, m.2)
 

@@ -9,6 +9,7 @@ use Rattle.dir_model.specs.Calls.{Extends, AtOwnStep}
 use Rattle.dir_model.specs.Causes.{Rose}
 use Rattle.dir_model.specs.Replies.{is_look_at}
 use Rattle.dir_trait.specs.DirCalls.{DirAt, HeldBetween}
+use Rattle.impossible_replies.specs.Replies.{AppWroteOn}
 use Rattle.lifecycle.specs.Executions.{IsConforming}
 use Rattle.phase_read.specs.declared.found.Found.TheVariants.{At, Gone}
 use Rattle.phase_read.specs.Read.{is_pod_spot, IsReading}
@@ -23,9 +24,11 @@ use Rattle.pod_removal.specs.declared.error.RemoveError.TheVariants.{NoPod, Wron
 use Rattle.pod_steps.specs.declared.setback.Setback.{Setback}
 use Rattle.pod_steps.specs.declared.setback.Setback.TheVariants as setback
 use Rattle.pod_removal.specs.Requests.{is_removable, aside, place_of}
+use Rattle.pod_removal.specs.Holding.{MayRemovePod}
 use Rattle.pod_removal.specs.Found.{PutAway}
 use Rattle.pod_removal.specs.Setbacks.{refusal}
-use Rattle.pod_steps.specs.Causes.{IsAbsentAt, WasStray}
+use Rattle.pod_steps.specs.Causes.{IsAbsentAt, WasStray, ByApp}
+use Rattle.pod_steps.specs.Holding.{Stays}
 use Rattle.pod_removal.specs.Causes.{MissedOnTheWay, IsDeleted, IsBusyAt}
 
 -- a place that is empty ends the round, and everything else that sets it back the removal
@@ -109,6 +112,15 @@ pub record LaterCause (observed : Bool) (pod : PodId) (error : RemoveError) (old
   pub manifest : error ≡ NoManifest → observed ≡ true → IsConforming new.trace → HeldBetween old new (LacksManifest pod)
   pub named : (other : PodId) (which : Which) → error ≡ Busy other which → other ≡ pod
   pub stray : error ≡ Stray → observed ≡ true → WasStray old.process old.trace new.trace ⊎ MissedTimes 5 pod old.process old.trace new.trace
+
+-- a stray round is one by what a started app wrote
+abbrev pub RoundByApp : Bool → PodId → ℕ → RemoveError → DirAt → DirAt → Type 0
+RoundByApp observed pod now error old new = error ≡ Stray → ByApp observed (MayRemovePod pod now) old new
+
+-- so are the later ones, or the pod was missed in each
+abbrev pub LaterByApp : Bool → PodId → ℕ → RemoveError → DirAt → DirAt → Type 0
+LaterByApp observed pod now error old new = error ≡ Stray → observed ≡ true
+    → Stays (MayRemovePod pod now) old (λ s. IsConforming new.trace → AppWroteOn old.process old.trace new.trace ⊎ MissedTimes 5 pod old.process old.trace new.trace)
 
 -- a pod isn't removed for one of these causes
 pub record RemoveCause (observed : Bool) (pod : PodId) (error : RemoveError) (old new : DirAt) : Type 0 where

@@ -14,7 +14,7 @@ ghost use Rattle.phase_read.specs.Read.{pod_spot};
 ghost use Rattle.pod_removal.specs.Requests.{removes, marks_at, puts_aside};
 ghost use Rattle.pod_steps.specs.Holding.{KeepsReady, Stays};
 ghost use Rattle.pod_removal.specs.Holding.{MayRemove, MayMark, Marked};
-ghost use Rattle.pod_steps.specs.Causes.{Stopped, IsAbsentAt, BusyElsewhere, Did};
+ghost use Rattle.pod_steps.specs.Causes.{Stopped, NeverStray, IsAbsentAt, BusyElsewhere, Did};
 ghost use Rattle.pod_steps.specs.Taking.{TakesNothing};
 ghost use Rattle.pod_removal.specs.Causes.{BusyByPeeks, IsMarkedBetween, MarkedFirst};
 
@@ -25,7 +25,7 @@ use std::alloc::Global;
 
 /// Moves an aborted prepare to garbage, once its own lock was had shared in prepare. `Missing` where it
 /// doesn't stand in prepare; `Busy` where another process holds its own lock exclusively; `Stray` where
-/// another folder has its place in garbage.
+/// another folder has its place in garbage, which isn't so while every process keeps the local rules.
 pub fn discard_aborted<D: Dir>(
     alloc: Global,
     dir: &mut D,
@@ -36,6 +36,7 @@ pub fn discard_aborted<D: Dir>(
     ensures worked { Worked D.observed (removes pod now) (D.shown dir.old) (D.shown dir.new) }
     ensures reads { ReadsAtMost 0 D.observed pod (D.shown dir.old) (D.shown dir.new) }
     ensures stopped { IfErr result (λ e. Stopped D.observed pod (IsAbsentAt pod area.Prepare) e (D.shown dir.old) (D.shown dir.new)) }
+    ensures lawful { IfErr result (λ e. NeverStray D.observed e (D.shown dir.new)) }
     ensures named { IfErr result (λ e. (which : Which) → e ≡ Setback.Busy which → which ≡ Own) }
     ensures another { IfErr result (λ e. D.observed ≡ true → Stays (MayRemove now) (D.shown dir.old)
         (λ s. BusyElsewhere pod area.Prepare mode.Shared e (D.shown dir.old) (D.shown dir.new))) }
@@ -59,6 +60,7 @@ fn mark<D: Dir>(alloc: Global, dir: &mut D, pod: PodId, now: u64) -> Result<(), 
     requires active { IsActive (D.shown dir.old).local }
     ensures worked { Worked D.observed (marks_at pod now) (D.shown dir.old) (D.shown dir.new) }
     ensures stopped { IfErr result (λ e. Stopped D.observed pod (IsAbsentAt pod area.Run) e (D.shown dir.old) (D.shown dir.new)) }
+    ensures never { IfErr result (λ e. e ≡ Setback.Stray → ⊥) }
     ensures calm { IfErr result (λ e. (which : Which) → e ≡ Setback.Busy which → ⊥) }
     ensures marked { IfOk result (λ done. D.observed ≡ true → Stays (MayMark pod now) (D.shown dir.old) (λ s. Marked pod s (D.shown dir.new))) }
     ensures noted { IfOk result (λ done. D.observed ≡ true → IsMarkedBetween pod now (D.shown dir.old) (D.shown dir.new)) }
@@ -77,7 +79,8 @@ fn mark<D: Dir>(alloc: Global, dir: &mut D, pod: PodId, now: u64) -> Result<(), 
 
 /// Marks an exited pod with the moment and moves it to exited-garbage, once its own lock was had shared
 /// in run. `Missing` where it doesn't stand in run; `Busy` where another process holds its own lock
-/// exclusively; `Stray` where another folder has its place in exited-garbage.
+/// exclusively; `Stray` where another folder has its place in exited-garbage, which isn't so while every
+/// process keeps the local rules.
 pub fn retire_exited<D: Dir>(
     alloc: Global,
     dir: &mut D,
@@ -88,6 +91,7 @@ pub fn retire_exited<D: Dir>(
     ensures worked { Worked D.observed (removes pod now) (D.shown dir.old) (D.shown dir.new) }
     ensures reads { ReadsAtMost 0 D.observed pod (D.shown dir.old) (D.shown dir.new) }
     ensures stopped { IfErr result (λ e. Stopped D.observed pod (IsAbsentAt pod area.Run) e (D.shown dir.old) (D.shown dir.new)) }
+    ensures lawful { IfErr result (λ e. NeverStray D.observed e (D.shown dir.new)) }
     ensures named { IfErr result (λ e. (which : Which) → e ≡ Setback.Busy which → which ≡ Own) }
     ensures another { IfErr result (λ e. D.observed ≡ true → Stays (MayRemove now) (D.shown dir.old)
         (λ s. BusyElsewhere pod area.Run mode.Shared e (D.shown dir.old) (D.shown dir.new))) }

@@ -8,8 +8,9 @@ ghost use Rattle.phase_read.specs.Often.{ReadsAtMost};
 ghost use Rattle.pod_removal.specs.Requests.{is_removable, aside, removes};
 ghost use Rattle.pod_steps.specs.Holding.{KeepsReady, Stays};
 ghost use Rattle.pod_removal.specs.Holding.{MayRemovePod};
+ghost use Rattle.pod_steps.specs.Causes.{NeverStray, StrayByApp};
 ghost use Rattle.pod_removal.specs.Causes.{StoppedFound, BusyAny, IsDeleted};
-ghost use Rattle.pod_removal.specs.Removals.{round_of, WentRound, RoundCause, RefusedByAnother};
+ghost use Rattle.pod_removal.specs.Removals.{round_of, WentRound, RoundCause, RoundByApp, RefusedByAnother};
 ghost use Rattle.pod_removal.specs.Found.{RoundWent, RoundRefused, PutWhere, TakenWhere, MissedHere, MissedWhere, RefusedHere, RefusedWhere};
 
 use crate::aside::{discard_aborted, retire_exited};
@@ -69,6 +70,7 @@ fn put_away<D: Dir>(
     ensures worked { Worked D.observed (removes pod now) (D.shown dir.old) (D.shown dir.new) }
     ensures reads { ReadsAtMost 0 D.observed pod (D.shown dir.old) (D.shown dir.new) }
     ensures stopped { IfErr result (λ e. StoppedFound D.observed pod phase e (D.shown dir.old) (D.shown dir.new)) }
+    ensures lawful { IfErr result (λ e. NeverStray D.observed e (D.shown dir.new)) }
     ensures another { IfErr result (λ e. D.observed ≡ true → Stays (MayRemovePod pod now) (D.shown dir.old)
         (λ s. BusyAny pod e (D.shown dir.old) (D.shown dir.new))) }
     ensures put { IfOk result (λ done. PutWhere D.observed pod phase (D.shown dir.old) (D.shown dir.new)) }
@@ -98,6 +100,7 @@ fn remove_found<D: Dir>(
     ensures worked { Worked D.observed (removes pod now) (D.shown dir.old) (D.shown dir.new) }
     ensures reads { ReadsAtMost 0 D.observed pod (D.shown dir.old) (D.shown dir.new) }
     ensures stopped { IfErr result (λ e. StoppedFound D.observed pod phase e (D.shown dir.old) (D.shown dir.new)) }
+    ensures lawful { IfErr result (λ e. StrayByApp D.observed e (MayRemovePod pod now) (D.shown dir.old) (D.shown dir.new)) }
     ensures another { IfErr result (λ e. D.observed ≡ true → Stays (MayRemovePod pod now) (D.shown dir.old)
         (λ s. BusyAny pod e (D.shown dir.old) (D.shown dir.new))) }
     ensures removed { IfOk result (λ done. D.observed ≡ true
@@ -137,6 +140,7 @@ pub(crate) fn attempt<D: Dir>(
     ensures reads { ReadsAtMost 1 D.observed pod (D.shown dir.old) (D.shown dir.new) }
     ensures went { IfOk result (λ round. D.observed ≡ true → WentRound pod round (D.shown dir.old) (D.shown dir.new)) }
     ensures cause { IfErr result (λ e. RoundCause D.observed pod e (D.shown dir.old) (D.shown dir.new)) }
+    ensures lawful { IfErr result (λ e. RoundByApp D.observed pod now e (D.shown dir.old) (D.shown dir.new)) }
     ensures another { IfErr result (λ e. D.observed ≡ true → Stays (MayRemovePod pod now) (D.shown dir.old) (λ s. RefusedByAnother pod e (D.shown dir.old) (D.shown dir.new))) }
     ensures round { IfOk result (λ round. D.observed ≡ true → RoundWent pod round (D.shown dir.old) (D.shown dir.new)) }
     ensures refused { IfErr result (λ e. D.observed ≡ true → Stays (MayRemovePod pod now) (D.shown dir.old) (λ s. RoundRefused pod e (D.shown dir.old) (D.shown dir.new))) }

@@ -9,13 +9,14 @@ ghost use Rattle.dir_model.specs.State.{stands};
 ghost use Rattle.dir_trait.specs.DirCalls.{HeldBetween};
 ghost use Rattle.dir_trait.specs.Local.{IsActive};
 ghost use Rattle.folder_building.specs.Work.{Worked};
+ghost use Rattle.folder_removal.specs.Known.{StrayKnowing};
 ghost use Rattle.folder_removal.specs.Removal.{KeepsFolders};
 ghost use Rattle.phase_read.specs.Often.{ReadsAtMost};
 ghost use Rattle.phase_read.specs.Read.{pod_spot};
 ghost use Rattle.pod_removal.specs.Requests.{is_garbage_place, deletes_in, removes};
 ghost use Rattle.pod_steps.specs.Holding.{KeepsReady, Stays};
 ghost use Rattle.pod_removal.specs.Holding.{MayRemove, HasOwn, KeepsBut};
-ghost use Rattle.pod_steps.specs.Causes.{Stopped, IsAbsentAt, BusyElsewhere, FreeWhere, Did};
+ghost use Rattle.pod_steps.specs.Causes.{Stopped, StrayByApp, IsAbsentAt, BusyElsewhere, FreeWhere, Did};
 ghost use Rattle.pod_removal.specs.Causes.{BusyByLooks, StoppedDeleting, MissedUntaken};
 
 use dir_trait::{Area, Dir, PodId, Which};
@@ -35,6 +36,8 @@ fn delete_standing<D: Dir>(
     requires garbage { is_garbage_place area ≡ true }
     ensures worked { Worked D.observed (deletes_in pod area) (D.shown dir.old) (D.shown dir.new) }
     ensures stopped { IfErr result (λ e. StoppedDeleting D.observed (pod_spot pod area) e (D.shown dir.old) (D.shown dir.new)) }
+    ensures knew { IfErr result (λ e. e ≡ Setback.Stray → D.observed ≡ true → Stays (HasOwn pod area) (D.shown dir.old)
+        (λ s. StrayKnowing (pod_spot pod area) (D.shown dir.old).process (D.shown dir.new).trace)) }
     ensures calm { IfErr result (λ e. (which : Which) → e ≡ Setback.Busy which → ⊥) }
     ensures done { IfOk result (λ done. D.observed ≡ true
         → Did (RemoveFolder (pod_spot pod area)) Done (D.shown dir.old).process (D.shown dir.old).trace (D.shown dir.new).trace) }
@@ -59,6 +62,7 @@ fn delete_if_there<D: Dir>(
     requires garbage { is_garbage_place area ≡ true }
     ensures worked { Worked D.observed (deletes_in pod area) (D.shown dir.old) (D.shown dir.new) }
     ensures stopped { IfErr result (λ e. Stopped D.observed pod (IsAbsentAt pod area) e (D.shown dir.old) (D.shown dir.new)) }
+    ensures lawful { IfErr result (λ e. StrayByApp D.observed e (HasOwn pod area) (D.shown dir.old) (D.shown dir.new)) }
     ensures calm { IfErr result (λ e. (which : Which) → e ≡ Setback.Busy which → ⊥) }
     ensures still { IfErr result (λ e. MissedUntaken D.observed e (D.shown dir.old) (D.shown dir.new)) }
     ensures stood { IfErr result (λ e. e ≡ Setback.Stray → D.observed ≡ true
@@ -78,7 +82,8 @@ fn delete_if_there<D: Dir>(
 /// Deletes a pod that stands in a garbage place, while this process holds its own lock exclusively, by a
 /// handle that it opened there. `Missing` where the pod doesn't stand there, or doesn't any more once the
 /// lock is had; `Busy` where another process holds its own lock; `Stray` where the directory's answers
-/// contradict what the lock keeps, as where a program that outlived its pod writes on.
+/// contradict what the lock keeps: while every process keeps the local rules, only where a program that
+/// outlived its pod writes on.
 pub fn delete_at<D: Dir>(
     alloc: Global,
     dir: &mut D,
@@ -91,6 +96,7 @@ pub fn delete_at<D: Dir>(
     ensures worked { Worked D.observed (removes pod now) (D.shown dir.old) (D.shown dir.new) }
     ensures reads { ReadsAtMost 0 D.observed pod (D.shown dir.old) (D.shown dir.new) }
     ensures stopped { IfErr result (λ e. Stopped D.observed pod (IsAbsentAt pod area) e (D.shown dir.old) (D.shown dir.new)) }
+    ensures lawful { IfErr result (λ e. StrayByApp D.observed e (MayRemove now) (D.shown dir.old) (D.shown dir.new)) }
     ensures another { IfErr result (λ e. D.observed ≡ true → Stays (MayRemove now) (D.shown dir.old)
         (λ s. BusyElsewhere pod area mode.Exclusive e (D.shown dir.old) (D.shown dir.new))) }
     ensures done { IfOk result (λ done. D.observed ≡ true

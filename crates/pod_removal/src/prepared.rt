@@ -15,7 +15,7 @@ ghost use Rattle.pod_steps.specs.Requests.{looks_at};
 ghost use Rattle.pod_removal.specs.Requests.{removes, puts_aside};
 ghost use Rattle.pod_steps.specs.Holding.{KeepsReady, Stays};
 ghost use Rattle.pod_removal.specs.Holding.{MayDiscard, UnderClaim};
-ghost use Rattle.pod_steps.specs.Causes.{Stopped, IsAbsentAt, FreeWhere, Did};
+ghost use Rattle.pod_steps.specs.Causes.{Stopped, NeverStray, IsAbsentAt, FreeWhere, Did};
 ghost use Rattle.pod_steps.specs.Taking.{TakesNothing};
 ghost use Rattle.pod_removal.specs.Causes.{StopsAlone, StoppedAlone, BusyInPrepared, BusyByLooks};
 
@@ -36,6 +36,7 @@ fn discard_under_claim<D: Dir>(
     ensures worked { Worked D.observed (removes pod now) (D.shown dir.old) (D.shown dir.new) }
     ensures reads { ReadsAtMost 0 D.observed pod (D.shown dir.old) (D.shown dir.new) }
     ensures stopped { IfErr result (λ e. Stopped D.observed pod (IsAbsentAt pod area.Prepared) e (D.shown dir.old) (D.shown dir.new)) }
+    ensures lawful { IfErr result (λ e. NeverStray D.observed e (D.shown dir.new)) }
     ensures another { IfErr result (λ e. D.observed ≡ true → Stays (UnderClaim pod now) (D.shown dir.old)
         (λ s. BusyInPrepared pod e (D.shown dir.old) (D.shown dir.new))) }
     ensures done { IfOk result (λ done. D.observed ≡ true → Did (MoveFolder (pod_spot pod area.Prepared) (pod_spot pod area.Garbage)) Done
@@ -68,7 +69,7 @@ fn without_claim<D: Dir>(alloc: Global, dir: &mut D, pod: PodId) -> Setback
 /// nobody runs the pod meanwhile; under it its own lock was had shared. The removal is one that is asked
 /// for. `Missing` where the pod doesn't stand in prepared; `NoManifest` where it stands there without the
 /// file `pod`; `Busy` where another process holds the activation lock, or its own exclusively; `Stray`
-/// where another folder has its place in garbage.
+/// where another folder has its place in garbage, which isn't so while every process keeps the local rules.
 pub fn discard_prepared<D: Dir>(
     alloc: Global,
     dir: &mut D,
@@ -79,6 +80,7 @@ pub fn discard_prepared<D: Dir>(
     ensures worked { Worked D.observed (removes pod now) (D.shown dir.old) (D.shown dir.new) }
     ensures reads { ReadsAtMost 0 D.observed pod (D.shown dir.old) (D.shown dir.new) }
     ensures stopped { IfErr result (λ e. StoppedAlone D.observed pod e (D.shown dir.old) (D.shown dir.new)) }
+    ensures lawful { IfErr result (λ e. NeverStray D.observed e (D.shown dir.new)) }
     ensures another { IfErr result (λ e. D.observed ≡ true → Stays (MayDiscard pod now) (D.shown dir.old)
         (λ s. BusyInPrepared pod e (D.shown dir.old) (D.shown dir.new))) }
     ensures done { IfOk result (λ done. D.observed ≡ true → Did (MoveFolder (pod_spot pod area.Prepared) (pod_spot pod area.Garbage)) Done

@@ -1,5 +1,5 @@
 // A pod is removed.
-ghost use Rattle.std.specs.Prelude.{◌≡◌, true, false, IfOk, IfErr};
+ghost use Rattle.std.specs.Prelude.{◌≡◌, true, false, IfOk, IfErr, IsErrOf};
 ghost use Rattle.dir_trait.specs.Local.{IsActive, has_own_open};
 ghost use Rattle.dir_trait.specs.Pods.{pod_text};
 ghost use Rattle.folder_building.specs.Work.{Worked};
@@ -8,9 +8,10 @@ ghost use Rattle.phase_read.specs.Often.{ReadsAtMost};
 ghost use Rattle.pod_removal.specs.Requests.{removes};
 ghost use Rattle.pod_steps.specs.Holding.{KeepsReady, Stays};
 ghost use Rattle.pod_removal.specs.Holding.{MayRemovePod};
+ghost use Rattle.impossible_replies.specs.Replies.{AppWroteOn};
 ghost use Rattle.lifecycle.specs.Executions.{IsConforming};
 ghost use Rattle.pod_removal.specs.Hindrances.{IsUnhinderedThroughout, IsFailure};
-ghost use Rattle.pod_removal.specs.Removals.{RemovedBetween, RemovedLater, RemoveCause, LaterCause, RefusedByAnother};
+ghost use Rattle.pod_removal.specs.Removals.{RemovedBetween, RemovedLater, RemoveCause, LaterCause, LaterByApp, RefusedByAnother};
 ghost use Rattle.pod_removal.specs.Found.{RemovedFirst, RefusedFirst};
 
 use crate::attempt::{Round, attempt};
@@ -27,6 +28,7 @@ fn remove_later<D: Dir>(alloc: Global, dir: &mut D, pod: PodId, now: u64) -> Res
     ensures reads { ReadsAtMost 5 D.observed pod (D.shown dir.old) (D.shown dir.new) }
     ensures removed { IfOk result (λ done. D.observed ≡ true → RemovedLater pod (D.shown dir.old) (D.shown dir.new)) }
     ensures cause { IfErr result (λ e. LaterCause D.observed pod e (D.shown dir.old) (D.shown dir.new)) }
+    ensures lawful { IfErr result (λ e. LaterByApp D.observed pod now e (D.shown dir.old) (D.shown dir.new)) }
     ensures another { IfErr result (λ e. D.observed ≡ true → Stays (MayRemovePod pod now) (D.shown dir.old) (λ s. RefusedByAnother pod e (D.shown dir.old) (D.shown dir.new))) }
     ensures kept { IfErr result (λ e. D.observed ≡ true → KeepsFolders (D.shown dir.old) (D.shown dir.new)) }
     ensures ready { D.observed ≡ true → Stays (MayRemovePod pod now) (D.shown dir.old) (λ s. KeepsReady s (D.shown dir.new)) }
@@ -49,7 +51,8 @@ fn remove_later<D: Dir>(alloc: Global, dir: &mut D, pod: PodId, now: u64) -> Res
 /// Refused in this order, and then the pod is whole or in a garbage place, and no folder was deleted. `NoPod` where there is none.
 /// `WrongPhase` where it is an embryo, or another process makes, runs or deletes it. `NoManifest` where it stands in
 /// prepared without the file `pod`. `Busy` where another process holds its activation lock or its own.
-/// `Stray` where the directory's answers contradict each other or what a lock keeps. `DirFault` and
+/// `Stray` where the directory's answers contradict each other or what a lock keeps: while every process
+/// keeps the local rules, only where a program that outlived its pod writes on. `DirFault` and
 /// `NoMemory` where the directory failed or memory ran out. No lock is held afterwards.
 pub fn remove_pod<D: Dir>(
     alloc: Global,
@@ -63,6 +66,8 @@ pub fn remove_pod<D: Dir>(
     ensures reads { ReadsAtMost 6 D.observed pod (D.shown dir.old) (D.shown dir.new) }
     ensures removed { IfOk result (λ done. D.observed ≡ true → RemovedBetween pod (D.shown dir.old) (D.shown dir.new)) }
     ensures cause { IfErr result (λ e. RemoveCause D.observed pod e (D.shown dir.old) (D.shown dir.new)) }
+    ensures lawful { IsErrOf result RemoveError.Stray → D.observed ≡ true → Stays (MayRemovePod pod now) (D.shown dir.old) (λ s. IsConforming (D.shown dir.new).trace
+        → AppWroteOn (D.shown dir.old).process (D.shown dir.old).trace (D.shown dir.new).trace) }
     ensures another { IfErr result (λ e. D.observed ≡ true → Stays (MayRemovePod pod now) (D.shown dir.old) (λ s. RefusedByAnother pod e (D.shown dir.old) (D.shown dir.new))) }
     ensures first { IfOk result (λ done. D.observed ≡ true → RemovedFirst pod (D.shown dir.old) (D.shown dir.new)) }
     ensures refused { IfErr result (λ e. D.observed ≡ true → Stays (MayRemovePod pod now) (D.shown dir.old) (λ s. RefusedFirst pod e (D.shown dir.old) (D.shown dir.new))) }

@@ -4,3 +4,4 @@ pub mod Calls
 pub mod Within
 pub mod Knowing
 pub mod Taking
+pub mod Lawful

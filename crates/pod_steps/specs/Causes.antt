@@ -18,10 +18,14 @@ use Rattle.dir_model.specs.Locks.{is_folder, opposes}
 use Rattle.dir_model.specs.Replies.{refused_in, open_refusal}
 use Rattle.dir_model.specs.State.{DirState, folder_at, stands}
 use Rattle.dir_trait.specs.DirCalls.{DirAt, HeldBetween}
+use Rattle.dir_rules.specs.declared.seen.Seen.{Seen}
 use Rattle.folder_removal.specs.Removal.{is_stray, WasCalledFor}
+use Rattle.impossible_replies.specs.Replies.{AppWroteOn}
+use Rattle.lifecycle.specs.Executions.{IsConforming}
 use Rattle.phase_read.specs.Read.{pod_spot}
 use Rattle.pod_claim.specs.Causes.{is_lock}
 use Rattle.pod_claim.specs.Work.{InOrder}
+use Rattle.pod_steps.specs.Holding.{Stays}
 use Rattle.pod_steps.specs.declared.setback.Setback.{Setback}
 use Rattle.pod_steps.specs.declared.setback.Setback.TheVariants.{Missing, NoManifest, Busy, DirFault, Stray}
 
@@ -61,6 +65,22 @@ pub record Stopped (observed : Bool) (pod : PodId) (Missed : DirState → Type 0
   pub missing : stop ≡ Missing → observed ≡ true → HeldBetween old new Missed
   pub manifest : stop ≡ NoManifest → ⊥
   pub stray : stop ≡ Stray → observed ≡ true → WasStray old.process old.trace new.trace
+
+-- some process doesn't keep the local rules
+abbrev pub BreaksRules : Bool → DirAt → Type 0
+BreaksRules observed new = observed ≡ true → IsConforming new.trace → ⊥
+
+-- or, for a process that knew this, a started app wrote on
+abbrev pub ByApp : Bool → (Seen → Type 0) → DirAt → DirAt → Type 0
+ByApp observed May old new = observed ≡ true → Stays May old (λ s. IsConforming new.trace → AppWroteOn old.process old.trace new.trace)
+
+-- it is stray only where some process doesn't keep them
+abbrev pub NeverStray : Bool → Setback → DirAt → Type 0
+NeverStray observed stop new = stop ≡ Stray → BreaksRules observed new
+
+-- or only where a started app wrote on
+abbrev pub StrayByApp : Bool → Setback → (Seen → Type 0) → DirAt → DirAt → Type 0
+StrayByApp observed stop May old new = stop ≡ Stray → ByApp observed May old new
 
 -- another process holds this lock of the folder with this number, in a mode that conflicts
 abbrev pub is_held_against : ℕ → Which → Mode → ℕ → Opening → Bool

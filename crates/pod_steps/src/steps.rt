@@ -5,6 +5,7 @@ ghost use Rattle.dir_model.specs.declared.spot.Which.{Which};
 ghost use Rattle.dir_model.specs.declared.spot.Which.TheVariants.{Own};
 ghost use Rattle.dir_model.specs.declared.request.Request.TheVariants.{MoveFolder};
 ghost use Rattle.dir_model.specs.declared.request.Reply.TheVariants.{Done};
+ghost use Rattle.dir_model.specs.Areas.{is_stage};
 ghost use Rattle.dir_trait.specs.Local.{IsActive, IsUnopened};
 ghost use Rattle.dir_trait.specs.DirCalls.{ExtendsBy, LockToldBetween};
 ghost use Rattle.dir_trait.specs.Knowledge.{Knows};
@@ -12,7 +13,7 @@ ghost use Rattle.folder_building.specs.Work.{Worked};
 ghost use Rattle.phase_read.specs.Read.{pod_spot};
 ghost use Rattle.pod_steps.specs.Requests.{looks_at, peeks_at, moves};
 ghost use Rattle.pod_steps.specs.Holding.{Went, and_taken, with_lock, MayLook, MayTake, MayMove, LooksFree, KeepsReady, Stays};
-ghost use Rattle.pod_steps.specs.Causes.{Stopped, CannotOpenAt, IsAbsentAt, BusyElsewhere, FreeWhere, Did};
+ghost use Rattle.pod_steps.specs.Causes.{Stopped, NeverStray, CannotOpenAt, IsAbsentAt, BusyElsewhere, FreeWhere, Did};
 ghost use Rattle.pod_steps.specs.Taking.{TakesNothing};
 
 use crate::place::pod_spot;
@@ -28,6 +29,7 @@ pub fn probe<D: Dir>(alloc: Global, dir: &mut D, pod: PodId, area: Area) -> Resu
     ensures worked { Worked D.observed (looks_at pod area) (D.shown dir.old) (D.shown dir.new) }
     ensures peeks { D.observed ≡ true → ExtendsBy (peeks_at pod area) (D.shown dir.old) (D.shown dir.new) }
     ensures stopped { IfErr result (λ e. Stopped D.observed pod (IsAbsentAt pod area) e (D.shown dir.old) (D.shown dir.new)) }
+    ensures never { IfErr result (λ e. e ≡ Setback.Stray → ⊥) }
     ensures named { IfErr result (λ e. (which : Which) → e ≡ Setback.Busy which → which ≡ Own) }
     ensures another { IfErr result (λ e. D.observed ≡ true → Stays (MayLook pod area) (D.shown dir.old)
         (λ s. BusyElsewhere pod area mode.Shared e (D.shown dir.old) (D.shown dir.new))) }
@@ -63,6 +65,7 @@ pub fn take<D: Dir>(
     ensures went { Went D.observed (looks_at pod area) (and_taken (D.shown dir.old).local pod area which result) (D.shown dir.old) (D.shown dir.new) }
     ensures unopened { IfOk result (λ handle. IsUnopened (D.shown dir.old).local handle) }
     ensures stopped { IfErr result (λ e. Stopped D.observed pod (CannotOpenAt pod area which) e (D.shown dir.old) (D.shown dir.new)) }
+    ensures never { IfErr result (λ e. e ≡ Setback.Stray → ⊥) }
     ensures named { IfErr result (λ e. (other : Which) → e ≡ Setback.Busy other → other ≡ which) }
     ensures another { IfErr result (λ e. D.observed ≡ true → Stays (MayTake pod area which) (D.shown dir.old)
         (λ s. BusyElsewhere pod area mode.Exclusive e (D.shown dir.old) (D.shown dir.new))) }
@@ -84,7 +87,8 @@ pub fn take<D: Dir>(
 }
 
 /// Moves the pod to a garbage place. `Missing` where it doesn't stand at the place from which it goes;
-/// `Stray` where another folder has its garbage place.
+/// `Stray` where another folder has its garbage place, which no pod meets while every process keeps the
+/// local rules.
 pub fn put_aside<D: Dir>(
     alloc: Global,
     dir: &mut D,
@@ -95,6 +99,7 @@ pub fn put_aside<D: Dir>(
     requires active { IsActive (D.shown dir.old).local }
     ensures worked { Worked D.observed (moves pod from to) (D.shown dir.old) (D.shown dir.new) }
     ensures stopped { IfErr result (λ e. Stopped D.observed pod (IsAbsentAt pod from) e (D.shown dir.old) (D.shown dir.new)) }
+    ensures lawful { IfErr result (λ e. is_stage from ≡ true → NeverStray D.observed e (D.shown dir.new)) }
     ensures calm { IfErr result (λ e. (which : Which) → e ≡ Setback.Busy which → ⊥) }
     ensures done { IfOk result (λ done. D.observed ≡ true
         → Did (MoveFolder (pod_spot pod from) (pod_spot pod to)) Done (D.shown dir.old).process (D.shown dir.old).trace (D.shown dir.new).trace) }

@@ -18,3 +18,4 @@ mod Fresh
 mod Stops
 mod Held
 mod Closed
+pub mod Lawful

@@ -1,8 +1,9 @@
 // A pod is run.
-ghost use Rattle.std.specs.Prelude.{◌≡◌, ◌++◌, ◌∷◌, [], true, length, IfOk, IfErr};
+ghost use Rattle.std.specs.Prelude.{◌≡◌, ◌++◌, ◌∷◌, [], true, length, IfOk, IfErr, IsErrOf};
 ghost use Rattle.std.specs.List.{AllByRecursion};
 ghost use Rattle.dir_model.specs.declared.spot.Spot.{Spot};
 ghost use Rattle.dir_model.specs.Local.{IsActive, IsOpen, without};
+ghost use Rattle.lifecycle.specs.Executions.{IsConforming};
 ghost use Rattle.folder_building.specs.Work.{Worked};
 ghost use Rattle.pod_ownership.specs.Running.{RunsPod};
 ghost use Rattle.stage1.specs.Notes.{anything, notes_at, StaysAble};
@@ -186,6 +187,7 @@ pub fn run_pod<D: Dir, S: Spawner>(
     ensures ran { IfOk result (λ ends. HasRun D.observed S.observed owned.pod owned.own address.now ends.items (D.shown dir.old) (D.shown dir.new) (S.shown spawner.old) (S.shown spawner.new)) }
     ensures refused { IfErr result (λ e. IsRefusedRun D.observed S.observed owned.pod address.now e (D.shown dir.old) (D.shown dir.new) (S.shown spawner.old) (S.shown spawner.new)) }
     ensures keeps { D.observed ≡ true → KeepsToEnd owned.pod owned.own (D.shown dir.old) (D.shown dir.new) }
+    ensures lawful { IsErrOf result RunError.Stray → D.observed ≡ true → IsConforming (D.shown dir.new).trace → ⊥ }
 {
     let result = run_held(alloc, dir, spawner, owned.pod, address);
     dir.close(owned.own);

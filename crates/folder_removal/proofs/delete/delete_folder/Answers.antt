@@ -13,6 +13,7 @@ use Rattle.folder_removal.proofs.Steps.{err_any}
 use Rattle.folder_removal.proofs.Strays.{folder_stray, stray_folder, listing_stray, root_at_hand, stray_emptied}
 use Rattle.folder_removal.proofs.Knowing.{tries_tasks, tries_folder, deletes}
 use Rattle.folder_removal.proofs.delete.delete_folder.Goals as goal
+use Rattle.folder_removal.proofs.Knew.{root_lists, emptying_knew, folder_knew}
 
 pub returns-in_err-empty-clause-extends : goal.returns-in_err-empty-clause-extends
 returns-in_err-empty-clause-extends g c t = and_more (c.list.ensures.extends t) c.list.ensures.same (c.empty.ensures.extends t)
@@ -80,3 +81,19 @@ returns-in_err-empty-clause-kept g c =
 pub returns-in-Err-clause-kept : goal.returns-in-Err-clause-kept
 returns-in-Err-clause-kept g c t =
     kept_more (kept_spared (and_more (c.list.ensures.spares t) c.list.ensures.same (c.empty.ensures.spares t))) (c.empty.ensures.same ∙ c.list.ensures.same) (kept_call refl (c.in-Err.ensures.called.step t))
+
+pub returns-in_err-tasks-clause-knew : goal.returns-in_err-tasks-clause-knew
+returns-in_err-tasks-clause-knew g c h t =
+    let k : IsErrOf c.list.result Stray = grind (arith, common_steps, h, c.from_residual.ensures, c.in_err-tasks.is) in
+    root_lists c.args.spot (g.D.Dir.shown c.args.dir.now) (g.D.Dir.shown c.list.new.dir) (c.list.ensures.asked k t)
+
+pub returns-in_err-empty-clause-knew : goal.returns-in_err-empty-clause-knew
+returns-in_err-empty-clause-knew g c h t =
+    let k : IsErrOf c.empty.result Stray = grind (arith, common_steps, h, c.from_residual-in_err-empty.ensures, c.in_err-empty.is) in
+    emptying_knew c.args.spot c.in_ok-tasks.tasks.items (g.D.Dir.shown c.args.dir.now) (g.D.Dir.shown c.list.new.dir) (g.D.Dir.shown c.empty.new.dir) c.requires.area (c.in_ok-tasks.ensures.listed t) c.list.ensures.same (c.empty.ensures.knew k t)
+
+pub returns-in-Err-clause-knew : goal.returns-in-Err-clause-knew
+returns-in-Err-clause-knew g c h t =
+    let is : c.delete_error.result ≡ Stray = cc in
+    folder_knew c.args.spot c.in_ok-tasks.tasks.items (g.D.Dir.shown c.args.dir.now) (g.D.Dir.shown c.list.new.dir) (g.D.Dir.shown c.empty.new.dir) c.requires.area (c.in_ok-tasks.ensures.listed t) c.list.ensures.same (g.D.Dir.shown c.remove_folder.new.self) c.in-Err.error
+    (stray_folder c.args.spot c.in-Err.error c.in-Err.ensures.refusals (c.delete_error.ensures.stray is)) (c.in_ok-empty.ensures.work t) c.empty.ensures.same (c.in-Err.ensures.called.step t)

@@ -7,6 +7,7 @@ use Rattle.folder_removal.specs.Known.{WorksOff}
 use Rattle.folder_removal.proofs.Strays.{hands_more, stray_more}
 use Rattle.folder_removal.proofs.Knowing.{works_none, works_more, works_then, works_only}
 use Rattle.folder_removal.proofs.delete.empty.Goals as goal
+use Rattle.folder_removal.proofs.Knew.{knew_then}
 
 pub tasks-init : goal.tasks-init
 tasks-init g c = record {
@@ -56,3 +57,8 @@ returns-clause-work g c t =
 
 pub returns-in_err-turn-clause-spares : goal.returns-in_err-turn-clause-spares
 returns-in_err-turn-clause-spares g c t = and_more (c.tasks.invariant.spares t) c.tasks.invariant.same (c.turn.ensures.spares t)
+
+pub returns-in_err-turn-clause-knew : goal.returns-in_err-turn-clause-knew
+returns-in_err-turn-clause-knew g c h t =
+    let k : IsErrOf c.turn.result Stray = search (rules, h, c.from_residual.ensures, c.in_err-turn.is) in
+    knew_then (g.D.Dir.shown c.args.dir.now) (g.D.Dir.shown c.tasks.dir) (g.D.Dir.shown c.turn.new.dir) c.tasks.invariant.same (rw c.in-Some.ensures.items at (c.tasks.invariant.known t)) (c.turn.ensures.knew k t)

@@ -13,6 +13,7 @@ use Rattle.folder_removal.proofs.Steps.{asks_listing, ok_more}
 use Rattle.folder_removal.proofs.Strays.{stray_list, stray_listing, listing_shown}
 use Rattle.folder_removal.proofs.Knowing.{lists_only}
 use Rattle.folder_removal.proofs.delete.list.Goals as goal
+use Rattle.folder_removal.proofs.Knew.{listed_stray}
 
 pub returns-in-Ok-clause-extends : goal.returns-in-Ok-clause-extends
 returns-in-Ok-clause-extends g c t = list_extends (asks_listing c.args.spot.now c.args.path.now) (c.list_in.ensures.called.step t)
@@ -70,3 +71,12 @@ returns-in-Ok-clause-lists g c t = list_extends (spot_self c.args.spot.now) (c.l
 
 pub returns-in-Err-clause-lists : goal.returns-in-Err-clause-lists
 returns-in-Err-clause-lists g c t = list_extends (spot_self c.args.spot.now) (c.list_in.ensures.called.step t)
+
+pub returns-in-Ok-clause-asked : goal.returns-in-Ok-clause-asked
+returns-in-Ok-clause-asked g c h t = listed_stray (inner_at c.args.spot.now c.args.path.now) (Items c.in-Ok.items) (rw c.as_slice.ensures at (c.children.ensures.stray h)) (c.in-Ok.ensures.called.step t)
+
+pub returns-in-Err-clause-asked : goal.returns-in-Err-clause-asked
+returns-in-Err-clause-asked g c h t =
+    let at : Inner = inner_at c.args.spot.now c.args.path.now in
+    let is : c.delete_error.result ≡ Stray = cc in
+    listed_stray at (Refused c.in-Err.error 0) (stray_listing at c.in-Err.error c.in-Err.ensures.refusals (c.delete_error.ensures.stray is)) (c.in-Err.ensures.called.step t)

@@ -11,6 +11,7 @@ use Rattle.folder_removal.proofs.Strays.{turn_listed, turn_removed}
 use Rattle.folder_removal.proofs.Weights.{listed_less, removed_less}
 use Rattle.folder_removal.proofs.Knowing.{lists_off, removes_off, tries_removal}
 use Rattle.folder_removal.proofs.delete.turn.Goals as goal
+use Rattle.folder_removal.proofs.Knew.{turn_lists, turn_removes}
 
 pub returns-in_ok-children-clause-known : goal.returns-in_ok-children-clause-known
 returns-in_ok-children-clause-known g c t s k w = c.list.ensures.known t s k
@@ -88,3 +89,11 @@ returns-else-is_unlisted-clause-work g c =
 
 pub returns-else-is_unlisted-clause-less : goal.returns-else-is_unlisted-clause-less
 returns-else-is_unlisted-clause-less g c = ok_any (λ done. weigh c.args.tasks.now.items < weigh (c.args.tasks.now.items ++ c.args.task ∷ [])) c.remove.result (λ done. removed_less c.args.tasks.now.items c.args.task)
+
+pub returns-in_err-children-clause-knew : goal.returns-in_err-children-clause-knew
+returns-in_err-children-clause-knew g c h t =
+    let k : IsErrOf c.list.result Stray = search (rules, h, c.from_residual.ensures, c.in_err-children.is) in
+    turn_lists c.args.spot.now c.args.tasks.now.items c.args.task (g.D.Dir.shown c.args.dir.now) (g.D.Dir.shown c.list.new.dir) (sym c.if-is_unlisted.ensures) (rw c.as_str.ensures.text at (c.list.ensures.asked k t))
+
+pub returns-else-is_unlisted-clause-knew : goal.returns-else-is_unlisted-clause-knew
+returns-else-is_unlisted-clause-knew g c h t = turn_removes c.args.spot.now c.args.tasks.now.items c.args.task (g.D.Dir.shown c.args.dir.now) (g.D.Dir.shown c.remove.new.dir) (c.remove.ensures.stray h t)

@@ -1,4 +1,4 @@
-use Rattle.std.proofs.Common.{◌≡◌, false, inr, Ok, ap, subst, true}
+use Rattle.std.proofs.Common.{◌≡◌, false, inr, Ok, rules, ap, subst, true}
 use Rattle.dir_model.specs.declared.spot.Spot.{Spot}
 use Rattle.dir_model.specs.State.{stands}
 use Rattle.dir_trait.specs.DirCalls.{HeldBetween}
@@ -8,11 +8,16 @@ use Rattle.folder_building.proofs.Copying.{err_more}
 use Rattle.folder_removal.specs.Removal.{deletes_at}
 use Rattle.image_removal.specs.Requests.{removed_spot, looks_at}
 use Rattle.image_removal.specs.Causes.{WorkCause}
+use Rattle.image_reading.specs.declared.error.StoreError.TheVariants.{Stray}
 use Rattle.image_removal.proofs.Times.{follows_work, work_after}
 use Rattle.folder_removal.specs.Removal.{KeepsFolders}
 use Rattle.folder_removal.proofs.Keeping.{kept_more}
 use Rattle.folder_removal.proofs.Steps.{err_any}
 use Rattle.image_removal.proofs.Keeping.{kept_looking}
+use Rattle.image_removal.proofs.Lawful.{of_error, found_never}
+use Rattle.image_removal.proofs.Passing.{either_conforms}
+use Rattle.image_removal.specs.Work.{HoldsArea}
+use Rattle.dir_model.specs.declared.area.Area.TheVariants.{Removed}
 use Rattle.image_removal.proofs.deletion.delete_if_there.Goals as goal
 
 pub returns-in_err-is_there-clause-worked : goal.returns-in_err-is_there-clause-worked
@@ -62,3 +67,23 @@ returns-then-branch-clause-kept g c =
     let D = g.D.Dir in
     err_more (λ e. D.observed ≡ true → KeepsFolders (D.shown c.is_there.new.dir) (D.shown c.delete.new.dir)) (λ e. D.observed ≡ true → KeepsFolders (D.shown c.args.dir.now) (D.shown c.delete.new.dir)) c.delete.result
     (λ e kept t. kept_more (kept_looking c.removed_spot.result (c.is_there.ensures.worked.extends t)) c.is_there.ensures.worked.same (kept t)) c.delete.ensures.kept
+
+pub returns-in_err-is_there-clause-lawful : goal.returns-in_err-is_there-clause-lawful
+returns-in_err-is_there-clause-lawful g c is t s k may conforming = c.is_there.ensures.told (search (rules, is, c.from_residual.ensures, c.in_err-is_there.is))
+
+pub returns-then-branch-clause-lawful : goal.returns-then-branch-clause-lawful
+returns-then-branch-clause-lawful g c is t s k may conforming =
+    let D = g.D.Dir in
+    let old = D.shown c.args.dir.now in
+    let mid = D.shown c.is_there.new.dir in
+    let new = D.shown c.delete.new.dir in
+    found_never c.args.name old mid new t
+    (subst (λ (spot : Spot). Worked D.observed (looks_at spot) old mid) c.removed_spot.ensures c.is_there.ensures.worked)
+    (subst (λ (spot : Spot). HeldBetween old mid (λ z. stands z.namespace spot ≡ true)) c.removed_spot.ensures (c.in_ok-is_there.ensures.present (ap Ok c.if-branch.true) t))
+    c.delete.ensures.worked (of_error (λ e. D.observed ≡ true → KeepsFolders mid new) c.delete.result Stray is c.delete.ensures.kept t)
+    (c.delete.ensures.stray is t) (c.delete.ensures.knew is t s (c.is_there.ensures.known t s k) may) conforming
+
+pub returns-then-branch-clause-stays : goal.returns-then-branch-clause-stays
+returns-then-branch-clause-stays g c t s k may =
+    let D = g.D.Dir in
+    either_conforms (HoldsArea Removed) D.observed (D.shown c.is_there.new.dir) (D.shown c.delete.new.dir) c.delete.result c.delete.ensures.stays c.delete.ensures.left t s (c.is_there.ensures.known t s k) may

@@ -1,10 +1,12 @@
-use Rattle.std.proofs.Common.{Ok, Err, ap, sym, subst}
+use Rattle.std.proofs.Common.{◌≡◌, ◌∙◌, Ok, Err, ap, sym, subst}
 use Rattle.image_reading.specs.declared.error.StoreError.{StoreError}
 use Rattle.image_removal.specs.Requests.{incoming_spot, removed_spot}
 use Rattle.image_removal.specs.Causes.{WorkCause}
 use Rattle.image_removal.proofs.Causes.{sweep_cause}
 use Rattle.image_removal.proofs.Knowing.{swept_stays}
 use Rattle.image_removal.proofs.Ends.{worked_move, with_spots}
+use Rattle.image_reading.specs.declared.error.StoreError.TheVariants.{Stray}
+use Rattle.image_removal.proofs.LawfulSweeps.{put_away_never}
 use Rattle.image_removal.proofs.putting.put_away.Goals as goal
 
 pub returns-in-Ok-clause-worked : goal.returns-in-Ok-clause-worked
@@ -28,3 +30,8 @@ returns-in-Err-clause-cause g c =
 pub returns-in-Err-clause-stays : goal.returns-in-Err-clause-stays
 returns-in-Err-clause-stays g c t s k may =
     swept_stays s c.args.name may (Err c.in-Err.error) t k (with_spots c.incoming_spot.ensures c.removed_spot.ensures c.in-Err.ensures.called)
+
+pub returns-in-Err-clause-lawful : goal.returns-in-Err-clause-lawful
+returns-in-Err-clause-lawful g c is t shown conforming =
+    let same : c.change_refusal.result ≡ Stray = cc in
+    put_away_never c.args.name c.in-Err.error c.in-Err.ensures.refusals (sym c.change_refusal.ensures ∙ same) t (with_spots c.incoming_spot.ensures c.removed_spot.ensures c.in-Err.ensures.called) shown conforming

@@ -1,10 +1,12 @@
-use Rattle.std.proofs.Common.{Ok, Err, ap, sym, subst}
+use Rattle.std.proofs.Common.{◌≡◌, Ok, Err, ap, sym, subst}
 use Rattle.image_reading.specs.declared.error.StoreError.{StoreError}
+use Rattle.image_reading.specs.declared.error.StoreError.TheVariants.{Stray}
 use Rattle.image_reading.specs.Places.{image_spot}
 use Rattle.image_removal.specs.Requests.{away_spot}
 use Rattle.image_removal.specs.Causes.{MoveCause}
 use Rattle.image_removal.proofs.Causes.{move_cause}
 use Rattle.image_removal.proofs.Knowing.{moved_stays}
+use Rattle.image_removal.proofs.Lawful.{met_never}
 use Rattle.image_removal.proofs.Ends.{worked_move, with_spots}
 use Rattle.image_removal.proofs.putting.put_image_away.Goals as goal
 
@@ -30,3 +32,13 @@ returns-in-Err-clause-cause g c =
 pub returns-in-Err-clause-stays : goal.returns-in-Err-clause-stays
 returns-in-Err-clause-stays g c t s k may =
     moved_stays s c.args.key c.args.draw may (Err c.in-Err.error) t k (with_spots c.in_ok-from.ensures.spot c.away_spot.ensures c.in-Err.ensures.called)
+
+pub returns-in-Err-clause-lawful : goal.returns-in-Err-clause-lawful
+returns-in-Err-clause-lawful g c is t conforming =
+    let D = g.D.Dir in
+    let same : c.move_refusal.result ≡ Stray = cc in
+    let cause : MoveCause D.observed c.args.key c.args.draw c.move_refusal.result (D.shown c.args.dir.now) (D.shown c.move_folder.new.self) =
+    subst (λ (e : StoreError). MoveCause D.observed c.args.key c.args.draw e (D.shown c.args.dir.now) (D.shown c.move_folder.new.self)) (sym c.move_refusal.ensures)
+    (move_cause c.args.key c.args.draw c.in-Err.error c.in-Err.ensures.refusals (λ is. c.in-Err.ensures.cause (ap Err is))
+    (with_spots c.in_ok-from.ensures.spot c.away_spot.ensures c.in-Err.ensures.called)) in
+    met_never c.args.key c.args.draw (cause.stray same t) conforming

@@ -21,6 +21,7 @@ use Rattle.folder_removal.specs.Removal.{KeepsFolders}
 use Rattle.folder_removal.proofs.Keeping.{kept_more}
 use Rattle.folder_removal.proofs.Steps.{err_any}
 use Rattle.image_removal.proofs.Keeping.{kept_taking, kept_closing}
+use Rattle.image_removal.proofs.Lawful.{conforming_part, free_never}
 use Rattle.image_removal.proofs.removal.delete_if_free.Goals as goal
 
 pub returns-in-Ok-clause-worked : goal.returns-in-Ok-clause-worked
@@ -144,3 +145,10 @@ pub returns-in-Err-clause-kept : goal.returns-in-Err-clause-kept
 returns-in-Err-clause-kept g c =
     let D = g.D.Dir in
     err_any (λ e. D.observed ≡ true → KeepsFolders (D.shown c.args.dir.now) (D.shown c.lock_area.new.dir)) c.lock_free.result (λ e t. kept_taking Removed Exclusive (c.lock_area.ensures.extends t))
+
+pub returns-in-Ok-clause-lawful : goal.returns-in-Ok-clause-lawful
+returns-in-Ok-clause-lawful g c is t s k may conforming =
+    c.delete_if_there-result.ensures.lawful is t _ (c.in-Ok.ensures.taken t s k (may_lock_removed may)) (holds_now Removed s c.in-Ok.gate may.bare) (conforming_part (c.unlock_area.ensures.extends t) conforming)
+
+pub returns-in-Err-clause-lawful : goal.returns-in-Err-clause-lawful
+returns-in-Err-clause-lawful g c is t s k may conforming = free_never c.in-Err.error (sym c.lock_free.ensures ∙ is)

@@ -22,6 +22,8 @@ use Rattle.image_removal.proofs.Keeping.{kept_taking, kept_moving, kept_closing}
 use Rattle.dir_model.specs.declared.spot.Mode.TheVariants.{Exclusive}
 use Rattle.image_reading.specs.Places.{image_spot}
 use Rattle.image_removal.specs.Requests.{away_spot}
+use Rattle.image_reading.specs.declared.error.StoreError.TheVariants.{Stray}
+use Rattle.image_removal.proofs.Lawful.{conforming_part, lock_never}
 use Rattle.image_removal.proofs.removal.put_away_locked.Goals as goal
 
 pub returns-in-Ok-clause-worked : goal.returns-in-Ok-clause-worked
@@ -112,3 +114,11 @@ returns-in-Ok-clause-kept g c t =
 pub returns-in-Err-clause-kept : goal.returns-in-Err-clause-kept
 returns-in-Err-clause-kept g c t =
     kept_taking Images Exclusive (c.lock_area.ensures.extends t)
+
+pub returns-in-Ok-clause-lawful : goal.returns-in-Ok-clause-lawful
+returns-in-Ok-clause-lawful g c is t conforming = c.put_image_away-result.ensures.lawful is t (conforming_part (c.unlock_area.ensures.extends t) conforming)
+
+pub returns-in-Err-clause-lawful : goal.returns-in-Err-clause-lawful
+returns-in-Err-clause-lawful g c is t conforming =
+    let same : c.lock_refusal.result ≡ Stray = cc in
+    lock_never Images c.in-Err.error (sym c.lock_refusal.ensures ∙ same)

@@ -109,3 +109,11 @@ returns-clause-kept g c =
     let D = g.D.Dir in
     err_more (λ e. D.observed ≡ true → KeepsFolders (D.shown c.put_away_locked.new.dir) (D.shown c.delete_if_free.new.dir)) (λ e. D.observed ≡ true → KeepsFolders (D.shown c.args.dir.now) (D.shown c.delete_if_free.new.dir)) c.delete_if_free.result
     (λ e kept t. kept_more (c.put_away_locked.ensures.kept t) c.put_away_locked.ensures.worked.same (kept t)) c.delete_if_free.ensures.kept
+
+pub returns-in_err-put_away_locked-clause-lawful : goal.returns-in_err-put_away_locked-clause-lawful
+returns-in_err-put_away_locked-clause-lawful g c is t s k may conforming = c.put_away_locked.ensures.lawful (search (rules, is, c.from_residual.ensures, c.in_err-put_away_locked.is)) t conforming
+
+pub returns-clause-lawful : goal.returns-clause-lawful
+returns-clause-lawful g c is t s k may conforming =
+    let x = c.put_away_locked.ensures.stays t s k may in
+    c.delete_if_free.ensures.lawful is t x.known x.knows (pass_still (removal_pass may) x) conforming

@@ -13,6 +13,11 @@ use Rattle.image_removal.specs.Work.{HoldsArea, StaysConforming, StaysBare, Stay
 use Rattle.image_removal.proofs.Times.{called_self}
 use Rattle.image_removal.proofs.Knowing.{stays_conform}
 use Rattle.image_removal.proofs.Ends.{ok_any, err_any}
+use Rattle.folder_removal.specs.Removal.{KeepsFolders}
+use Rattle.image_reading.specs.declared.error.StoreError.TheVariants.{Stray}
+use Rattle.image_removal.specs.Sweeps.{WasListed}
+use Rattle.image_removal.proofs.Lawful.{of_error}
+use Rattle.image_removal.proofs.LawfulSweeps.{deleted_never}
 use Rattle.image_removal.proofs.sweeping.deal.Goals as goal
 
 pub returns-in-PutAway-clause-done : goal.returns-in-PutAway-clause-done
@@ -56,3 +61,18 @@ returns-in-Delete-clause-left g c =
     let D = g.D.Dir in
     subst (λ (p : Pass). IfErr c.delete.result (λ e. D.observed ≡ true → Stays (HoldsArea (area_of p)) StaysConforming (D.shown c.args.dir.now) (D.shown c.delete.new.dir)))
     (sym c.in-Delete.is) c.delete.ensures.left
+
+pub returns-in-PutAway-clause-lawful : goal.returns-in-PutAway-clause-lawful
+returns-in-PutAway-clause-lawful g c is t s k may shown conforming =
+    let D = g.D.Dir in
+    let old = D.shown c.args.dir.now in
+    c.put_away.ensures.lawful is t (subst (λ (p : Pass). WasListed p c.args.name old.process old.trace) c.in-PutAway.is shown) conforming
+
+pub returns-in-Delete-clause-lawful : goal.returns-in-Delete-clause-lawful
+returns-in-Delete-clause-lawful g c is t s k may shown conforming =
+    let D = g.D.Dir in
+    let old = D.shown c.args.dir.now in
+    let new = D.shown c.delete.new.dir in
+    deleted_never c.args.name (subst (λ (p : Pass). WasListed p c.args.name old.process old.trace) c.in-Delete.is shown)
+    (of_error (λ e. D.observed ≡ true → KeepsFolders old new) c.delete.result Stray is c.delete.ensures.kept t)
+    (c.delete.ensures.stray is t) (c.delete.ensures.knew is t s k (subst (λ (p : Pass). HoldsArea (area_of p) s) c.in-Delete.is may)) conforming

@@ -1,4 +1,4 @@
-use Rattle.std.proofs.Common.{◌≡◌, [], ◌∷◌, ◌++◌, true, Some, inl, inr, Err, ap, refl, sym, subst}
+use Rattle.std.proofs.Common.{false, ◌≡◌, [], ◌∷◌, ◌++◌, true, Some, inl, inr, Err, ap, refl, sym, subst}
 use Rattle.dir_model.specs.declared.area.Area.{Area}
 use Rattle.dir_model.specs.declared.spot.Mode.TheVariants.{Exclusive}
 use Rattle.dir_model.specs.Calls.{Extends}
@@ -20,6 +20,9 @@ use Rattle.image_removal.proofs.Names.{takes_sweep}
 use Rattle.image_removal.proofs.Ends.{ok_any, err_any}
 use Rattle.image_removal.proofs.Passing.{under_lock, line_cause}
 use Rattle.image_removal.specs.Ended.{EndsListing, EndsListingBetween, EndsPassBetween}
+use Rattle.image_reading.specs.declared.error.StoreError.TheVariants.{Stray}
+use Rattle.image_removal.specs.Causes.{is_fault_refusal}
+use Rattle.image_removal.proofs.Lawful.{conforming_part, of_error}
 use Rattle.image_removal.proofs.sweeping.sweep_area.Goals as goal
 
 pub returns-in-Ok-clause-worked : goal.returns-in-Ok-clause-worked
@@ -257,3 +260,18 @@ returns-in-Err-clause-ended g c =
     let new = D.shown c.lock_area.new.dir in
     err_any (D.observed ≡ true → EndsPassBetween c.args.pass old new) c.busy_line.result
     (λ t. inr (subst (λ (a : Area). Extends (takes a Exclusive) old.process old.trace new.trace) c.area.ensures (c.lock_area.ensures.extends t)))
+
+pub returns-in-Ok-clause-lawful : goal.returns-in-Ok-clause-lawful
+returns-in-Ok-clause-lawful g c is t s k may conforming =
+    let D = g.D.Dir in
+    let pass = c.args.pass in
+    let h = c.in-Ok.gate in
+    let mid = D.shown c.lock_area.new.dir in
+    let taken = subst (λ (a : Area). Knows mid (with_gate s h a (Some Exclusive))) c.area.ensures
+    (c.in-Ok.ensures.taken t s k (subst (λ (a : Area). MayLock s a Exclusive) (sym c.area.ensures) (may_lock_pass pass may))) in
+    c.sweep_listed-result.ensures.lawful is t _ taken (holds_now (area_of pass) s h may.bare) (conforming_part (c.unlock_area.ensures.extends t) conforming)
+
+pub returns-in-Err-clause-lawful : goal.returns-in-Err-clause-lawful
+returns-in-Err-clause-lawful g c is t s k may conforming =
+    let e : false ≡ true = of_error (λ e. is_fault_refusal e ≡ true) c.busy_line.result Stray is c.busy_line.ensures.kind in
+    cc

@@ -108,3 +108,11 @@ returns-in_err-sweep_area-clause-tried g c =
     err_same (λ e. D.observed ≡ true → HasTriedBetween old new) c.sweep_area.result c.from_residual.result (λ e h. search (rules, h, c.from_residual.ensures, c.in_err-sweep_area.is))
     (err_more (λ e. D.observed ≡ true → TriedBetween PutAway old new) (λ e. D.observed ≡ true → HasTriedBetween old new) c.sweep_area.result
     (λ e tried t. record { between = new.trace; puts_away = tried t; deletes = tried_none Delete old.process new.trace }) c.sweep_area.ensures.tried)
+
+pub returns-in_err-sweep_area-clause-lawful : goal.returns-in_err-sweep_area-clause-lawful
+returns-in_err-sweep_area-clause-lawful g c is t s k may conforming = c.sweep_area.ensures.lawful (search (rules, is, c.from_residual.ensures, c.in_err-sweep_area.is)) t s k (first_pass may) conforming
+
+pub returns-clause-lawful : goal.returns-clause-lawful
+returns-clause-lawful g c is t s k may conforming =
+    let x = c.in_ok-sweep_area.ensures.stays t s k (first_pass may) in
+    c.sweep_area-2.ensures.lawful is t x.known x.knows (pass_still (second_pass may) x) conforming

@@ -14,6 +14,13 @@ use Rattle.dir_model.proofs.Chains.{nothing_yet, and_more, extends_wider}
 use Rattle.dir_trait.specs.DirCalls.{ExtendsBy}
 use Rattle.image_removal.specs.Ended.{EndsAt, EndsAtBetween, EndsAmongBetween}
 use Rattle.image_removal.proofs.Names.{some_left, some_right}
+use Rattle.std.specs.List.Sorted.{IsStrictlySortedBy}
+use Rattle.std.specs.Ordering.{nat_cmp}
+use Rattle.std.specs.Cmp.Lexicographic.{slice_cmp}
+use Rattle.dir_model.specs.Listings.{has_name}
+use Rattle.image_removal.specs.Sweeps.{WasListed}
+use Rattle.image_removal.proofs.Knowing.{holds_still}
+use Rattle.image_removal.proofs.LawfulSweeps.{shown_among, apart_from}
 use Rattle.image_removal.proofs.sweeping.sweep_each.Goals as goal
 
 pub names-init : goal.names-init
@@ -100,3 +107,27 @@ returns-in_err-sweep_next-clause-ended g c =
       ends = subst (λ (me : ℕ). EndsAt pass name me mid.trace new.trace) inv.worked.same (ends t);
     })
     c.sweep_next.ensures.ended)
+
+pub returns-in_err-sweep_next-clause-lawful : goal.returns-in_err-sweep_next-clause-lawful
+returns-in_err-sweep_next-clause-lawful g c is t s k may listed conforming =
+    let D = g.D.Dir in
+    let names = c.args.names.now in
+    let i = c.names.name-index in
+    let name = c.name-item.result in
+    let old = D.shown c.args.dir.now in
+    let mid = D.shown c.names.dir in
+    let inv = c.names.invariant in
+    let more : take (i + 1) names ≡ take i names ++ name ∷ [] = take_more names i name c.names-test.true ∙ ap (λ l. take i names ++ l ∷ []) (sym c.name-item.is) in
+    let parts : take i names ++ name ∷ drop (i + 1) names ≡ names =
+    sym (append_assoc (take i names) (name ∷ []) (drop (i + 1) names)) ∙ (ap (λ (l : List (List ℕ)). l ++ drop (i + 1) names) (sym more) ∙ take-append-drop (i + 1) names) in
+    let x = inv.stays t s k may in
+    let shown : WasListed c.args.pass name old.process mid.trace = record {
+      names = names;
+      others = take i names;
+      then = old.trace;
+      listed = listed;
+      shown = subst (λ (l : List (List ℕ)). has_name l name ≡ true) parts (shown_among (take i names) (drop (i + 1) names) name);
+      apart = apart_from (take i names) (drop (i + 1) names) name (subst (IsStrictlySortedBy (slice_cmp nat_cmp)) (sym parts) listed.rise);
+      since = inv.so_far t;
+    } in
+    c.sweep_next.ensures.lawful (search (rules, is, c.from_residual.ensures, c.in_err-sweep_next.is)) t x.known x.knows (holds_still may x) (subst (λ (me : ℕ). WasListed c.args.pass name me mid.trace) (sym inv.worked.same) shown) conforming

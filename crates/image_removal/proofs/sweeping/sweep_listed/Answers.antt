@@ -1,4 +1,4 @@
-use Rattle.std.proofs.Common.{◌≡◌, ℕ, List, true, inl, inr, Ok, Err, ap, sym, subst}
+use Rattle.std.proofs.Common.{◌∙◌, ◌≡◌, ℕ, List, true, inl, inr, Ok, Err, ap, sym, subst}
 use Rattle.dir_model.specs.declared.area.Area.{Area}
 use Rattle.dir_model.specs.declared.request.Request.TheVariants.{ListArea}
 use Rattle.dir_model.specs.declared.request.Reply.TheVariants.{Names, Refused}
@@ -20,6 +20,10 @@ use Rattle.image_removal.proofs.Names.{lists_sweep, some_sweep}
 use Rattle.image_removal.proofs.Ends.{err_any}
 use Rattle.image_removal.proofs.Passing.{works_at_shown, adds_swept}
 use Rattle.image_removal.specs.Ended.{EndsAmong, EndsAmongBetween, EndsListingBetween}
+use Rattle.image_reading.specs.declared.error.StoreError.TheVariants.{Stray}
+use Rattle.image_removal.specs.Sweeps.{HasListed}
+use Rattle.image_removal.proofs.Knowing.{holds_still}
+use Rattle.image_removal.proofs.LawfulSweeps.{list_never}
 use Rattle.image_removal.proofs.sweeping.sweep_listed.Goals as goal
 
 pub returns-in-Ok-clause-worked : goal.returns-in-Ok-clause-worked
@@ -149,3 +153,26 @@ returns-in-Err-clause-ended g c t =
     let D = g.D.Dir in
     let listing = subst (λ (a : Area). ListCall D.observed (D.shown c.args.dir.now) (ListArea a) (Refused c.in-Err.error 0) (D.shown c.names_of.new.dir)) c.area.ensures c.in-Err.ensures.called in
     inr (only_lists (area_of c.args.pass) (listing.step t))
+
+pub returns-in-Ok-clause-lawful : goal.returns-in-Ok-clause-lawful
+returns-in-Ok-clause-lawful g c is t s k may conforming =
+    let D = g.D.Dir in
+    let pass = c.args.pass in
+    let names = c.in-Ok.names in
+    let old = D.shown c.args.dir.now in
+    let mid = D.shown c.names_of.new.dir in
+    let listing = subst (λ (a : Area). ListCall D.observed old (ListArea a) (Names names) mid) c.area.ensures c.in-Ok.ensures.called in
+    let x = list_stays pass (Ok names) t listing s k may in
+    let listed : HasListed pass names old.process mid.trace = record {
+      before = old.trace;
+      listing = listing.step t;
+      shows = subst (λ (a : Area). ShowsAreaBetween old mid a names) c.area.ensures (c.in-Ok.ensures.shows t);
+      rise = c.in-Ok.ensures.ordered;
+    } in
+    c.sweep_each.ensures.lawful is t x.known x.knows (holds_still may x)
+    (subst (λ (ns : List (List ℕ)). HasListed pass ns mid.process mid.trace) (sym c.as_slice.ensures) (subst (λ (me : ℕ). HasListed pass names me mid.trace) (sym listing.same) listed)) conforming
+
+pub returns-in-Err-clause-lawful : goal.returns-in-Err-clause-lawful
+returns-in-Err-clause-lawful g c is t s k may conforming =
+    let same : c.change_refusal.result ≡ Stray = cc in
+    list_never c.area.result c.in-Err.error c.in-Err.ensures.refusals (sym c.change_refusal.ensures ∙ same)

@@ -7,6 +7,8 @@ use Rattle.image_removal.proofs.Knowing.{stays_conform}
 use Rattle.image_removal.proofs.Ends.{ok_any, err_any}
 use Rattle.image_removal.proofs.Names.{alone_uuid}
 use Rattle.image_removal.specs.Ended.{EndsAtBetween}
+use Rattle.image_reading.specs.declared.error.StoreError.TheVariants.{Stray, NoMemory}
+use Rattle.image_removal.proofs.Lawful.{of_error}
 use Rattle.image_removal.proofs.sweeping.sweep_next.Goals as goal
 
 pub returns-in_err-deal-clause-worked : goal.returns-in_err-deal-clause-worked
@@ -43,3 +45,11 @@ returns-in_ok-deal-clause-ended g c =
     let D = g.D.Dir in
     err_any (D.observed ≡ true → EndsAtBetween c.args.pass c.args.name.now (D.shown c.args.dir.now) (D.shown c.deal.new.dir)) c.push.result
     (λ t. record { uuid = sym c.is_uuid.ensures ∙ c.if-is_uuid.true; turn = c.deal.ensures.worked.extends t })
+
+pub returns-in_err-deal-clause-lawful : goal.returns-in_err-deal-clause-lawful
+returns-in_err-deal-clause-lawful g c is t s k may shown conforming = c.deal.ensures.lawful (search (rules, is, c.from_residual.ensures, c.in_err-deal.is)) t s k may shown conforming
+
+pub returns-in_ok-deal-clause-lawful : goal.returns-in_ok-deal-clause-lawful
+returns-in_ok-deal-clause-lawful g c is t s k may shown conforming =
+    let e : Stray ≡ NoMemory = of_error (λ e. e ≡ NoMemory) c.push.result Stray is c.push.ensures.memory in
+    cc

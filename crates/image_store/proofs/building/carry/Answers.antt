@@ -5,6 +5,7 @@ use Rattle.image_store.specs.Work.{UnderBoth, From, holding, HasOwnFolder}
 use Rattle.image_store.specs.Causes.{source_at, FillCause}
 use Rattle.image_store.proofs.Widths.{follows_work}
 use Rattle.image_store.proofs.Refusals.{fill_after}
+use Rattle.folder_building.proofs.Working.{worked_more}
 use Rattle.image_store.proofs.building.carry.Goals as goal
 
 pub returns-clause-cause : goal.returns-clause-cause
@@ -21,3 +22,6 @@ returns-clause-left g c =
     err_more (λ e. D.observed ≡ true → From c.args.draw UnderBoth true (Some (holding (building_spot c.args.draw) [])) (D.shown c.make_folder.new.dir) (λ intent hs. HasOwnFolder c.args.draw intent hs (D.shown c.fill.new.dir)))
     (λ e. D.observed ≡ true → From c.args.draw UnderBoth false None (D.shown c.args.dir.now) (λ intent hs. HasOwnFolder c.args.draw intent hs (D.shown c.fill.new.dir))) c.fill.result
     (λ e f t intent hs imports under k. f t intent hs imports under (c.in_ok-make_folder.ensures.made t intent hs imports under k)) c.fill.ensures.left
+
+pub returns-clause-worked : goal.returns-clause-worked
+returns-clause-worked g c = worked_more c.make_folder.ensures.worked c.fill.ensures.worked

@@ -31,4 +31,4 @@ returns-in-Err-clause-left g c t intent hs imports under k = has_begun c.args.dr
 pub returns-in-Err-clause-cause : goal.returns-in-Err-clause-cause
 returns-in-Err-clause-cause g c =
     fill_cause (g.B.Bundle.shown c.args.bundle.now).faults _ (source_at g.B.Bundle.observed (g.B.Bundle.shown c.args.bundle.now).tree c.args.path.now) c.args.plan.now c.in-Err.error c.build_refusal.result c.build_refusal.ensures
-    (λ is. c.in-Err.ensures.fault (ap Err is)) (λ place is. c.in-Err.ensures.unlike place (ap Err is)) (λ is t. was_stray (c.in-Err.ensures.stray (ap Err is) t))
+    (λ is. c.in-Err.ensures.fault (ap Err is)) (λ place is. c.in-Err.ensures.unlike place (ap Err is)) (λ is t. was_stray c.args.draw c.building_spot-spot.ensures (c.in-Err.ensures.stray (ap Err is) t))

@@ -27,7 +27,7 @@ pub returns-in-Err-clause-cause : goal.returns-in-Err-clause-cause
 returns-in-Err-clause-cause g c =
     let D = g.D.Dir in
     subst (λ (x : StoreError). ChangeCause D.observed x (D.shown c.args.dir.now) (D.shown c.make_folder.new.self)) (sym c.change_refusal.ensures)
-    (make_cause c.in-Err.error c.in-Err.ensures.refusals (λ is. c.in-Err.ensures.cause (ap Err is)) c.in-Err.ensures.called)
+    (make_cause (ap (λ (s : Spot). s.area) c.building_spot-spot.ensures) c.in-Err.error c.in-Err.ensures.refusals (λ is. c.in-Err.ensures.cause (ap Err is)) c.in-Err.ensures.called)
 
 pub returns-in-Err-clause-left : goal.returns-in-Err-clause-left
 returns-in-Err-clause-left g c t =

@@ -11,6 +11,11 @@ use Rattle.image_store.proofs.Widths.{follows_work, cause_after}
 use Rattle.image_store.proofs.Refusals.{build_import, place_import}
 use Rattle.image_store.proofs.Placings.{same_key}
 use Rattle.image_store.proofs.Outcomes.{placed_leaves}
+use Rattle.folder_building.proofs.Working.{worked_more, worked_wider}
+use Rattle.image_store.specs.Requests.{building_spot}
+use Rattle.image_store.specs.Moves.{Moves}
+use Rattle.image_store.proofs.Fillings.{makes_import}
+use Rattle.image_store.proofs.Moving.{moves_none, moves_after, nothing_built}
 use Rattle.image_store.proofs.importing.build_and_place.Goals as goal
 
 pub returns-in_err-build-clause-cause : goal.returns-in_err-build-clause-cause
@@ -42,3 +47,26 @@ returns-clause-leaves g c t =
     placed_leaves c.args.draw c.args.now c.args.image.now c.place.result t (follows_work c.build.ensures.worked)
     (subst (λ (k : StoreKey). c.place.result ≡ Ok false → D.observed ≡ true → FromFilled c.args.draw mid (λ intent hs entries. IsPlaced c.args.draw (image_spot k) intent hs entries mid new)) (same_key c.of.result c.args.image.now c.of.ensures) c.place.ensures.placed)
     c.place.ensures.left (c.in_ok-build.ensures.done t)
+
+pub returns-in_err-build-clause-worked : goal.returns-in_err-build-clause-worked
+returns-in_err-build-clause-worked g c = worked_wider (makes_import (building_spot c.args.draw)) c.build.ensures.worked
+
+pub returns-clause-worked : goal.returns-clause-worked
+returns-clause-worked g c = worked_more (worked_wider (makes_import (building_spot c.args.draw)) c.build.ensures.worked) c.place.ensures.worked
+
+pub returns-in_err-build-clause-still : goal.returns-in_err-build-clause-still
+returns-in_err-build-clause-still g c t =
+    let D = g.D.Dir in
+    moves_none (building_spot c.args.draw) (key_of c.args.image.now) c.from_residual.result (D.shown c.args.dir.now) (D.shown c.build.new.dir) (λ is. search (rules, is, c.from_residual.ensures, c.in_err-build.is))
+    (nothing_built (building_spot c.args.draw) c.build.ensures.worked t)
+
+pub returns-clause-still : goal.returns-clause-still
+returns-clause-still g c t =
+    let D = g.D.Dir in
+    let spot = building_spot c.args.draw in
+    let key = key_of c.args.image.now in
+    let old = D.shown c.args.dir.now in
+    let mid = D.shown c.build.new.dir in
+    let new = D.shown c.place.new.dir in
+    moves_after spot key c.place.result old mid new c.build.ensures.worked.same (nothing_built spot c.build.ensures.worked t)
+    (subst (λ (k : StoreKey). Moves spot k c.place.result mid new) (same_key c.of.result c.args.image.now c.of.ensures) (c.place.ensures.still t))

@@ -1,6 +1,7 @@
-use Rattle.std.proofs.Common.{◌≡◌, true, inr, rules, sym, subst, ◌∙◌}
+use Rattle.std.proofs.Common.{◌≡◌, true, inr, rules, refl, sym, subst, ◌∙◌}
 use Rattle.folder_building.proofs.Copying.{err_more}
 use Rattle.image_reading.specs.declared.error.StoreError.{StoreError}
+use Rattle.image_reading.specs.declared.error.StoreError.TheVariants.{Stray}
 use Rattle.image_reading.proofs.Results.{err_same}
 use Rattle.image_store.specs.Refusals.{is_import_refusal}
 use Rattle.image_store.specs.Causes.{source_at, is_late, FoundInTurn, ImportCause}
@@ -8,6 +9,7 @@ use Rattle.image_store.specs.Imports.{key_of, digest_of, IsRefused, ComesInTurn}
 use Rattle.image_store.proofs.Refusals.{bundle_early, bundle_sound}
 use Rattle.image_store.proofs.Placings.{same_key}
 use Rattle.image_store.proofs.Ends.{cause_before_reads, turn_before_reads, brought_is_imported}
+use Rattle.image_store.proofs.Lawful.{of_error, no_stray_cause}
 use Rattle.image_store.proofs.importing.import.Goals as goal
 
 pub returns-in_err-there-in-Ok-clause-refused : goal.returns-in_err-there-in-Ok-clause-refused
@@ -56,3 +58,13 @@ returns-in_ok-there-in-Ok-clause-imported g c fresh t conforms intent hs imports
             (c.in_ok-there-in-Ok.ensures.leaves t intent hs imports alone k),
       ),
     )
+
+pub returns-in_err-there-in-Ok-clause-lawful : goal.returns-in_err-there-in-Ok-clause-lawful
+returns-in_err-there-in-Ok-clause-lawful g c is t conforming =
+    let D = g.D.Dir in
+    let B = g.B.Bundle in
+    let read = source_at B.observed (B.shown c.read_bundle.new.bundle).tree c.args.path.now in
+    let image = c.in-Ok.image in
+    let cause = of_error (λ e. ImportCause is_import_refusal D.observed read (key_of image) (digest_of image) image.listing e (D.shown c.args.dir.now) (D.shown c.import_image.new.dir)) c.import_image.result Stray
+    (search (rules, is, c.from_residual.ensures, c.in_err-there-in-Ok.is)) c.import_image.ensures.cause in
+    no_stray_cause conforming (cause.stray refl t)

@@ -17,6 +17,7 @@ use Rattle.image_store.proofs.Widths.{cause_after, cause_before, turn_within}
 use Rattle.image_store.proofs.Locked.{Shares, GivesBack, follows_share, follows_back, share_images, worked_refused, worked_under, under_images}
 use Rattle.image_store.proofs.Refusals.{lock_importing, lock_in_turn}
 use Rattle.image_store.proofs.Outcomes.{elsewhere_after, elsewhere_before, given_leaves}
+use Rattle.image_store.proofs.Moving.{moves_under}
 use Rattle.image_store.proofs.importing.import_locked.Goals as goal
 
 pub returns-in_err-gate-clause-worked : goal.returns-in_err-gate-clause-worked
@@ -103,3 +104,15 @@ returns-clause-leaves g c t intent hs imports alone k =
     (λ seen fresh known. c.unlock_area.ensures.given t seen Images refl fresh known) intent hs (number_is_new h k c.in_ok-gate.ensures.unopened)
     (c.import_or_find-result.ensures.leaves t intent (on_gate h Images (Some Shared) ∷ hs) imports (subst (λ (l : List Held). UnderImages (on_gate h Images (Some Shared) ∷ l)) (sym alone) (under_images h))
     (c.in_ok-gate.ensures.taken t (at_work intent hs false None) k (ap (λ (l : List Held). not (is_open_on (Gate Images) l)) alone)))
+
+pub returns-clause-still : goal.returns-clause-still
+returns-clause-still g c t =
+    let D = g.D.Dir in
+    let h = c.in_ok-gate.gate in
+    let old = D.shown c.args.dir.now in
+    let mid = D.shown c.share.new.dir in
+    let late = D.shown c.import_or_find-result.new.dir in
+    let new = D.shown c.unlock_area.new.dir in
+    let s : Shares D.observed Images h old mid = record { same = c.share.ensures.same; faults = c.share.ensures.faults; held = c.in_ok-gate.ensures.held; unopened = c.in_ok-gate.ensures.unopened; extends = c.share.ensures.extends } in
+    let b : GivesBack D.observed h late new = record { same = c.unlock_area.ensures.same; faultless = c.unlock_area.ensures.faultless; local = c.unlock_area.ensures.local; extends = c.unlock_area.ensures.extends } in
+    moves_under (building_spot c.args.draw) (key_of c.args.image.now) c.import_or_find-result.result old mid late new t s c.import_or_find-result.ensures.worked.same b (c.import_or_find-result.ensures.still t)

@@ -14,6 +14,7 @@ use Rattle.image_store.proofs.Widths.{cause_after, cause_before}
 use Rattle.image_store.proofs.Locked.{Shares, GivesBack, follows_share, follows_back, share_incoming, worked_refused, worked_under, got_locked, lock_is_apart, under_both}
 use Rattle.image_store.proofs.Refusals.{lock_importing, work_importing}
 use Rattle.image_store.proofs.Outcomes.{given_leaves}
+use Rattle.image_store.proofs.Moving.{moves_under}
 use Rattle.image_store.proofs.importing.import_new.Goals as goal
 
 pub returns-in_err-gate-clause-worked : goal.returns-in_err-gate-clause-worked
@@ -82,3 +83,15 @@ returns-clause-leaves g c t intent hs imports under k =
     given_leaves c.args.draw c.args.now c.args.image.now Incoming h c.build_and_place-result.result t (follows_share s) (follows_back b)
     (λ seen fresh known. c.unlock_area.ensures.given t seen Incoming refl fresh known) intent hs (number_is_new h k c.in_ok-gate.ensures.unopened)
     (c.build_and_place-result.ensures.leaves t intent (on_gate h Incoming (Some Shared) ∷ hs) imports (under_both hs h under) (c.in_ok-gate.ensures.taken t (at_work intent hs false None) k (ap not under.free)))
+
+pub returns-clause-still : goal.returns-clause-still
+returns-clause-still g c t =
+    let D = g.D.Dir in
+    let h = c.in_ok-gate.gate in
+    let old = D.shown c.args.dir.now in
+    let mid = D.shown c.share.new.dir in
+    let late = D.shown c.build_and_place-result.new.dir in
+    let new = D.shown c.unlock_area.new.dir in
+    let s : Shares D.observed Incoming h old mid = record { same = c.share.ensures.same; faults = c.share.ensures.faults; held = c.in_ok-gate.ensures.held; unopened = c.in_ok-gate.ensures.unopened; extends = c.share.ensures.extends } in
+    let b : GivesBack D.observed h late new = record { same = c.unlock_area.ensures.same; faultless = c.unlock_area.ensures.faultless; local = c.unlock_area.ensures.local; extends = c.unlock_area.ensures.extends } in
+    moves_under (building_spot c.args.draw) (key_of c.args.image.now) c.build_and_place-result.result old mid late new t s c.build_and_place-result.ensures.worked.same b (c.build_and_place-result.ensures.still t)

@@ -5,6 +5,8 @@ use Rattle.image_store.specs.Requests.{building_spot}
 use Rattle.image_store.specs.Work.{at_work, holding, FromFilled, Unbrought}
 use Rattle.image_store.specs.Causes.{ChangeCause}
 use Rattle.image_store.proofs.Changes.{with_spots, worked_move, placed_by, move_cause, move_taken, move_left}
+use Rattle.image_store.specs.Moves.{Moves}
+use Rattle.image_store.proofs.Moving.{moved_done, answered_not}
 use Rattle.image_store.proofs.placing.bring.Goals as goal
 
 pub returns-in-Ok-clause-worked : goal.returns-in-Ok-clause-worked
@@ -36,3 +38,14 @@ returns-in-Err-clause-left g c =
     let new = D.shown c.move_folder.new.self in
     subst (λ (r : Result Bool StoreError). Unbrought r (D.observed ≡ true → FromFilled c.args.draw old (λ intent hs entries. Knows new (at_work intent hs true (Some (holding (building_spot c.args.draw) entries)))))) (sym c.move_answer.ensures)
     (move_left D.observed c.args.draw old new c.args.key c.in-Err.error (with_spots c.building_spot-from.ensures c.in_ok-to.ensures.spot c.in-Err.ensures.called))
+
+pub returns-in-Ok-clause-still : goal.returns-in-Ok-clause-still
+returns-in-Ok-clause-still g c t = moved_done (building_spot c.args.draw) c.args.key t (with_spots c.building_spot-from.ensures c.in_ok-to.ensures.spot c.in-Ok.ensures.called)
+
+pub returns-in-Err-clause-still : goal.returns-in-Err-clause-still
+returns-in-Err-clause-still g c t =
+    let D = g.D.Dir in
+    let old = D.shown c.args.dir.now in
+    let new = D.shown c.move_folder.new.self in
+    subst (λ (r : Result Bool StoreError). Moves (building_spot c.args.draw) c.args.key r old new) (sym c.move_answer.ensures)
+    (answered_not (building_spot c.args.draw) c.args.key c.in-Err.error old new t (with_spots c.building_spot-from.ensures c.in_ok-to.ensures.spot c.in-Err.ensures.called))

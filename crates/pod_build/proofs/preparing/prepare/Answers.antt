@@ -26,6 +26,7 @@ use Rattle.pod_making.proofs.Handing.{none_handed, handed_after, handed_before, 
 use Rattle.pod_build.specs.FaithfulBuild.{IsFaithfulBuild, HandsOverFaithfully}
 use Rattle.pod_build.proofs.Working.{locks_hand_none, close_takes}
 use Rattle.dir_model.proofs.Chains.{extends_wider}
+use Rattle.pod_build.proofs.Lawful.{refused_stray}
 use Rattle.pod_build.proofs.preparing.prepare.Goals as goal
 
 pub returns-in-Ok-clause-went : goal.returns-in-Ok-clause-went
@@ -185,3 +186,13 @@ returns-in-Ok-clause-makers g c t run intent hs began alone k =
     let whole : HandsOverFaithfully b.process b.trace late.trace = hands_faithfully {under = under} (run_until cd run) began refl known planned in
     let first : HandsOverFaithfully a.process a.trace late.trace = handed_after (λ me. IsFaithfulBuild me) (locks_hand_none Images Shared) ab c.lock_area.ensures.same bc whole in
     handed_before {P = IsFaithfulBuild a.process} (follow_on ab c.lock_area.ensures.same bc) first (c.prepare_under_lock-result.ensures.went.same ∙ c.lock_area.ensures.same) (locks_hand_none Images Shared) cd
+
+pub returns-in-Ok-clause-lawful : goal.returns-in-Ok-clause-lawful
+returns-in-Ok-clause-lawful g c is t conforming =
+    let D = g.D.Dir in
+    refused_stray c.args.refs.now c.args.options.now c.args.draw.now c.args.now (D.shown c.args.dir.now) (D.shown c.unlock_area.new.dir) c.prepare_under_lock-result.result (returns-in-Ok-clause-refused g c) is t conforming
+
+pub returns-in-Err-clause-lawful : goal.returns-in-Err-clause-lawful
+returns-in-Err-clause-lawful g c is t conforming =
+    let D = g.D.Dir in
+    refused_stray c.args.refs.now c.args.options.now c.args.draw.now c.args.now (D.shown c.args.dir.now) (D.shown c.lock_area.new.dir) (Err c.gate_refusal.result) (returns-in-Err-clause-refused g c) is t conforming

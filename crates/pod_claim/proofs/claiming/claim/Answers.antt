@@ -1,8 +1,9 @@
-use Rattle.std.proofs.Common.{refl, sym, ap, subst, arith}
+use Rattle.std.proofs.Common.{◌≡◌, refl, sym, ap, subst, arith}
 use Rattle.dir_model.specs.Local.{Local, IsUnopened}
 use Rattle.pod_ownership.specs.declared.owned.Owned.{Owned}
 use Rattle.pod_ownership.specs.Running.{IsOwned}
 use Rattle.pod_claim.specs.declared.error.ClaimError.{ClaimError}
+use Rattle.pod_claim.specs.declared.error.ClaimError.TheVariants.{Stray}
 use Rattle.pod_claim.specs.Holding.{MayClaim}
 use Rattle.pod_claim.specs.Work.{TookBoth, Leaves}
 use Rattle.pod_claim.specs.Causes.{ClaimCause}
@@ -13,6 +14,7 @@ use Rattle.pod_claim.specs.Elsewhere.{MetOwner}
 use Rattle.pod_claim.proofs.Times.{both_had}
 use Rattle.pod_claim.proofs.Traces.{grown_by, grown_none}
 use Rattle.pod_claim.proofs.Elsewhere.{met_once, met_twice}
+use Rattle.pod_claim.proofs.Lawful.{never_stray}
 use Rattle.phase_read.proofs.Often.{reads_more, reads_within}
 use Rattle.pod_claim.proofs.claiming.claim.Goals as goal
 
@@ -162,3 +164,15 @@ pub returns-in-Ok-attempt-clause-alone : goal.returns-in-Ok-attempt-clause-alone
 returns-in-Ok-attempt-clause-alone g c t =
     let e = rw c.in-Err-Missing.field-0-is at c.in-Err-Missing.ensures in
     both_had (grown_by (e.went.extends t)) e.went.same grown_none (c.in-Ok-attempt.ensures.alone t)
+
+-- no stray answer comes where every process keeps the rules
+
+pub returns-in-Err-Refused-clause-lawful : goal.returns-in-Err-Refused-clause-lawful
+returns-in-Err-Refused-clause-lawful g c is t conforming =
+    let same : c.in-Err-Refused.error ≡ Stray = cc in
+    never_stray (returns-in-Err-Refused-clause-cause g c) same t conforming
+
+pub returns-in-Err-clause-lawful : goal.returns-in-Err-clause-lawful
+returns-in-Err-clause-lawful g c is t conforming =
+    let same : c.last_refusal.result ≡ Stray = cc in
+    never_stray (returns-in-Err-clause-cause g c) same t conforming

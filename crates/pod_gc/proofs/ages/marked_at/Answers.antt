@@ -4,6 +4,7 @@ use Rattle.pod_gc.specs.declared.error.GcError.{GcError}
 use Rattle.pod_gc.specs.Causes.{GcCause}
 use Rattle.pod_gc.specs.Marks.{moment_among}
 use Rattle.pod_gc.proofs.Marking.{with_root, worked_listing, showed, listed_none, listed_there, listing_cause, ready_listed, notes_mark}
+use Rattle.pod_gc.proofs.Lawful.{listing_never}
 use Rattle.pod_gc.proofs.ages.marked_at.Goals as goal
 
 pub returns-in-Ok-clause-worked : goal.returns-in-Ok-clause-worked
@@ -50,3 +51,6 @@ returns-in-Err-clause-ready g c t now = ready_listed c.args.pod c.args.area (Err
 
 pub returns-in-Ok-clause-there : goal.returns-in-Ok-clause-there
 returns-in-Ok-clause-there g c t = listed_there c.args.pod c.args.area (with_root c.args.pod c.args.area c.pod_spot.ensures c.in-Ok.ensures.called) t
+
+pub returns-in-Err-clause-never : goal.returns-in-Err-clause-never
+returns-in-Err-clause-never g c is = listing_never c.pod_spot.result [] c.in-Err.error (λ is. search (rules, is, c.in-Err.error-is)) c.in-Err.ensures.refusals (sym c.listing_fault.ensures ∙ is)

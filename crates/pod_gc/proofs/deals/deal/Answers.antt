@@ -10,6 +10,8 @@ use Rattle.pod_gc.specs.Requests.{deals_with}
 use Rattle.pod_gc.specs.Deeds.{DeedCause, refused_lock, LetBe, WaitedSo, RestedSo, Dealt, LeavesWhere, LeavesToAnother, MarksFirst}
 use Rattle.pod_gc.specs.Sweeping.{MaySweep, MayPass}
 use Rattle.pod_gc.proofs.Dealing.{embryo_deal, dealt_at, both_ok, all_ok, may_embryo, embryo_left}
+use Rattle.folder_building.proofs.Copying.{err_more}
+use Rattle.pod_gc.specs.Causes.{NeverStray, StrayByApp}
 use Rattle.pod_gc.proofs.deals.deal.Goals as goal
 
 pub returns-in-Embryo-clause-worked : goal.returns-in-Embryo-clause-worked
@@ -155,3 +157,45 @@ returns-in-Garbage-clause-another g c =
 
 pub returns-in-Garbage-clause-ready : goal.returns-in-Garbage-clause-ready
 returns-in-Garbage-clause-ready g c t s k m = c.deal_garbage.ensures.ready t s k m.sweeps.may
+
+pub returns-in-Embryo-clause-lawful : goal.returns-in-Embryo-clause-lawful
+returns-in-Embryo-clause-lawful g c =
+    let D = g.D.Dir in
+    let old = D.shown c.args.dir.now in
+    let new = D.shown c.deal_embryo.new.dir in
+    err_more (λ e. NeverStray D.observed e new) (λ e. StrayByApp D.observed e (MayPass c.args.area c.args.times.now c.args.times.expire) old new) c.deal_embryo.result (λ e never is t s k m conforming. absurd (never is t conforming)) c.deal_embryo.ensures.lawful
+
+pub returns-in-Prepare-clause-lawful : goal.returns-in-Prepare-clause-lawful
+returns-in-Prepare-clause-lawful g c =
+    let D = g.D.Dir in
+    let old = D.shown c.args.dir.now in
+    let new = D.shown c.deal_prepare.new.dir in
+    err_more (λ e. NeverStray D.observed e new) (λ e. StrayByApp D.observed e (MayPass c.args.area c.args.times.now c.args.times.expire) old new) c.deal_prepare.result (λ e never is t s k m conforming. absurd (never is t conforming)) c.deal_prepare.ensures.lawful
+
+pub returns-in-Prepared-clause-lawful : goal.returns-in-Prepared-clause-lawful
+returns-in-Prepared-clause-lawful g c =
+    let D = g.D.Dir in
+    let old = D.shown c.args.dir.now in
+    let new = D.shown c.deal_prepared.new.dir in
+    err_more (λ e. NeverStray D.observed e new) (λ e. StrayByApp D.observed e (MayPass c.args.area c.args.times.now c.args.times.expire) old new) c.deal_prepared.result (λ e never is t s k m conforming. absurd (never is t conforming)) c.deal_prepared.ensures.lawful
+
+pub returns-in-Run-clause-lawful : goal.returns-in-Run-clause-lawful
+returns-in-Run-clause-lawful g c =
+    let D = g.D.Dir in
+    let old = D.shown c.args.dir.now in
+    let new = D.shown c.deal_run.new.dir in
+    err_more (λ e. NeverStray D.observed e new) (λ e. StrayByApp D.observed e (MayPass c.args.area c.args.times.now c.args.times.expire) old new) c.deal_run.result (λ e never is t s k m conforming. absurd (never is t conforming)) c.deal_run.ensures.lawful
+
+pub returns-in-ExitedGarbage-clause-lawful : goal.returns-in-ExitedGarbage-clause-lawful
+returns-in-ExitedGarbage-clause-lawful g c =
+    let D = g.D.Dir in
+    let old = D.shown c.args.dir.now in
+    let new = D.shown c.deal_exited_garbage.new.dir in
+    err_more (λ e. StrayByApp D.observed e (MayRemove c.args.times.now) old new) (λ e. StrayByApp D.observed e (MayPass c.args.area c.args.times.now c.args.times.expire) old new) c.deal_exited_garbage.result (λ e x is t s k m conforming. x is t s k m.sweeps.may conforming) c.deal_exited_garbage.ensures.lawful
+
+pub returns-in-Garbage-clause-lawful : goal.returns-in-Garbage-clause-lawful
+returns-in-Garbage-clause-lawful g c =
+    let D = g.D.Dir in
+    let old = D.shown c.args.dir.now in
+    let new = D.shown c.deal_garbage.new.dir in
+    err_more (λ e. StrayByApp D.observed e (MayRemove c.args.times.now) old new) (λ e. StrayByApp D.observed e (MayPass c.args.area c.args.times.now c.args.times.expire) old new) c.deal_garbage.result (λ e x is t s k m conforming. x is t s k m.sweeps.may conforming) c.deal_garbage.ensures.lawful

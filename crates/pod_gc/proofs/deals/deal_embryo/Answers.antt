@@ -23,6 +23,11 @@ use Rattle.pod_removal.proofs.CallKinds.{moves_aside}
 use Rattle.pod_removal.proofs.Stages.{ok_all}
 use Rattle.pod_gc.specs.Requests.{moves_on, may_be_busy}
 use Rattle.pod_gc.proofs.Untouched.{moved_on, owns_elsewhere, step_let_be}
+use Rattle.pod_steps.specs.Causes.{BreaksRules}
+use Rattle.pod_gc.specs.Causes.{NeverStray}
+use Rattle.pod_gc.proofs.Lawful.{step_stray}
+use Rattle.dir_model.specs.Areas.{is_stage}
+use Rattle.pod_steps.specs.Causes as steps
 use Rattle.pod_gc.proofs.deals.deal_embryo.Goals as goal
 
 pub returns-clause-cause : goal.returns-clause-cause
@@ -71,3 +76,11 @@ returns-clause-let_be g c =
     (err_more (λ e. TakesNothing D.observed old new) (λ e. MissedUntaken D.observed e old new) c.put_aside-answer.result (λ e x is. x) c.put_aside-answer.ensures.still)
     (ok_all (λ done. (to : Area) → Moved area.Garbage ≡ Moved to → D.observed ≡ true → ExtendsBy (moves_on c.args.pod area.Embryo to) old new) c.put_aside-answer.result
     (λ done to is t. moved_on c.args.pod area.Embryo area.Garbage (extends_wider (moves_aside c.args.pod area.Embryo area.Garbage) (c.put_aside-answer.ensures.worked.extends t)) to is)))
+
+pub returns-clause-lawful : goal.returns-clause-lawful
+returns-clause-lawful g c =
+    let D = g.D.Dir in
+    let new = D.shown c.put_aside-answer.new.dir in
+    subst (λ (x : Result Deed GcError). IfErr x (λ e. NeverStray D.observed e new)) (sym c.deed_of.ensures)
+    (step_stray (BreaksRules D.observed new) (Moved area.Garbage) c.put_aside-answer.result
+    (err_more (λ e. is_stage area.Embryo ≡ true → steps.NeverStray D.observed e new) (λ e. steps.NeverStray D.observed e new) c.put_aside-answer.result (λ e x. x refl) c.put_aside-answer.ensures.lawful))

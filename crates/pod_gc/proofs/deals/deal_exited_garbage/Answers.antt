@@ -10,6 +10,10 @@ use Rattle.pod_gc.specs.Marks.{Showed, is_young}
 use Rattle.pod_gc.specs.Deeds.{DeedCause, RestsBy, RestedSo, LetBe, LeavesWhere}
 use Rattle.pod_gc.proofs.Steps.{lists_deal, cause_after, rested_so, deed_later, busy_later, ready_later, gone_deed, left_gone}
 use Rattle.pod_gc.proofs.Untouched.{let_left, took_lists, let_listed}
+use Rattle.pod_gc.specs.declared.error.GcError.TheVariants as fault
+use Rattle.pod_gc.specs.Causes.{StrayByApp}
+use Rattle.pod_removal.proofs.Rounds.{may_kept}
+use Rattle.pod_gc.proofs.Lawful.{by_app_later}
 use Rattle.pod_gc.proofs.deals.deal_exited_garbage.Goals as goal
 
 pub returns-in_err-marked-clause-worked : goal.returns-in_err-marked-clause-worked
@@ -92,3 +96,20 @@ returns-in-Some-clause-let_be g c =
 
 pub returns-in-None-clause-let_be : goal.returns-in-None-clause-let_be
 returns-in-None-clause-let_be g c t = let_left (took_lists c.args.pod area.ExitedGarbage (c.marked_at.ensures.worked.extends t))
+
+pub returns-in_err-marked-clause-lawful : goal.returns-in_err-marked-clause-lawful
+returns-in_err-marked-clause-lawful g c =
+    let D = g.D.Dir in
+    let old = D.shown c.args.dir.now in
+    let new = D.shown c.marked_at.new.dir in
+    err_same (λ e. StrayByApp D.observed e (MayRemove c.args.times.now) old new) c.marked_at.result c.from_residual.result (λ e h. search (rules, h, c.from_residual.ensures, c.in_err-marked.is))
+    (err_more (λ e. e ≡ fault.Stray → ⊥) (λ e. StrayByApp D.observed e (MayRemove c.args.times.now) old new) c.marked_at.result (λ e never is. absurd (never is)) c.marked_at.ensures.never)
+
+pub returns-in-Some-clause-lawful : goal.returns-in-Some-clause-lawful
+returns-in-Some-clause-lawful g c =
+    let D = g.D.Dir in
+    let old = D.shown c.args.dir.now in
+    let mid = D.shown c.marked_at.new.dir in
+    let new = D.shown c.deal_rested.new.dir in
+    err_more (λ e. StrayByApp D.observed e (MayRemove c.args.times.now) mid new) (λ e. StrayByApp D.observed e (MayRemove c.args.times.now) old new) c.deal_rested.result
+    (λ e x is. by_app_later new (λ s z. may_kept) (follows_work c.marked_at.ensures.worked) (λ t. c.marked_at.ensures.ready t c.args.times.now) (x is)) c.deal_rested.ensures.lawful

@@ -24,6 +24,9 @@ use Rattle.pod_steps.specs.declared.setback.Setback.TheVariants as stop
 use Rattle.dir_model.specs.declared.spot.Which.{Which}
 use Rattle.pod_gc.specs.Requests.{moves_on, may_be_busy}
 use Rattle.pod_gc.proofs.Untouched.{garbage_busy, step_let_be, BusyByOwn}
+use Rattle.pod_steps.specs.Causes.{ByApp}
+use Rattle.pod_gc.specs.Causes.{StrayByApp}
+use Rattle.pod_gc.proofs.Lawful.{step_stray}
 use Rattle.pod_gc.proofs.deals.deal_garbage.Goals as goal
 
 pub returns-clause-worked : goal.returns-clause-worked
@@ -76,3 +79,11 @@ returns-clause-let_be g c =
     (err_more (λ e. (which : Which) → e ≡ stop.Busy which → which ≡ Own) (λ e. BusyByOwn c.args.area e) c.delete_at-answer.result (λ e named which is garbage. named which is) c.delete_at-answer.ensures.named)
     c.delete_at-answer.ensures.still
     (ok_all (λ done. (to : Area) → Deleted ≡ Moved to → D.observed ≡ true → ExtendsBy (moves_on c.args.pod c.args.area to) old new) c.delete_at-answer.result (λ done to is t. cc)))
+
+pub returns-clause-lawful : goal.returns-clause-lawful
+returns-clause-lawful g c =
+    let D = g.D.Dir in
+    let old = D.shown c.args.dir.now in
+    let new = D.shown c.delete_at-answer.new.dir in
+    subst (λ (x : Result Deed GcError). IfErr x (λ e. StrayByApp D.observed e (MayRemove c.args.now) old new)) (sym c.deed_of.ensures)
+    (step_stray (ByApp D.observed (MayRemove c.args.now) old new) Deleted c.delete_at-answer.result c.delete_at-answer.ensures.lawful)

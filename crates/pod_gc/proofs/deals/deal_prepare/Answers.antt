@@ -12,6 +12,10 @@ use Rattle.pod_gc.specs.Causes.{GcCause}
 use Rattle.pod_gc.specs.Deeds.{DeedCause, SaysThere, LetBe, LeavesWhere}
 use Rattle.pod_gc.proofs.Steps.{removes_deal, looks_deal, set_stopped, cause_moved, step_deed, step_cause, step_another, said_deed, said_refused, cause_after, ready_looked, said_unbusy, left_moved}
 use Rattle.pod_gc.proofs.Untouched.{let_moved, let_refused, step_let_be, peeked_looks, owns_elsewhere}
+use Rattle.pod_gc.specs.declared.error.GcError.TheVariants as fault
+use Rattle.pod_steps.specs.Causes.{BreaksRules}
+use Rattle.pod_gc.specs.Causes.{NeverStray}
+use Rattle.pod_gc.proofs.Lawful.{step_stray}
 use Rattle.pod_gc.proofs.deals.deal_prepare.Goals as goal
 
 pub returns-in-Ok-clause-worked : goal.returns-in-Ok-clause-worked
@@ -101,3 +105,15 @@ returns-in-Err-clause-let_be g c =
     subst (λ (x : Result Deed GcError). IfOk x (λ deed. LetBe D.observed c.args.pod area.Prepare deed old new)) (sym c.deed_of.ensures)
     (step_let_be D.observed c.args.pod area.Prepare (Moved area.Garbage) old new refl (λ is. cc) (Err c.in-Err.stop)
     (peeked_looks c.args.pod area.Prepare old new c.in-Err.ensures.peeks) (λ which is. search (rules, is, c.in-Err.stop-is)) (owns_elsewhere area.Prepare (Err c.in-Err.stop) refl) (λ is. c.in-Err.ensures.still) tt)
+
+pub returns-in-Err-Busy-clause-lawful : goal.returns-in-Err-Busy-clause-lawful
+returns-in-Err-Busy-clause-lawful g c =
+    let D = g.D.Dir in
+    err_more (λ e. e ≡ fault.Stray → ⊥) (λ e. NeverStray D.observed e (D.shown c.kept.new.dir)) c.kept.result (λ e never is. absurd (never is)) c.kept.ensures.never
+
+pub returns-in-Err-clause-lawful : goal.returns-in-Err-clause-lawful
+returns-in-Err-clause-lawful g c =
+    let D = g.D.Dir in
+    let new = D.shown c.discard_aborted.new.dir in
+    subst (λ (x : Result Deed GcError). IfErr x (λ e. NeverStray D.observed e new)) (sym c.deed_of.ensures)
+    (step_stray (BreaksRules D.observed new) (Moved area.Garbage) (Err c.in-Err.stop) c.in-Err.ensures.lawful)

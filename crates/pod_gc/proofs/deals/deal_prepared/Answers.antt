@@ -18,6 +18,8 @@ use Rattle.pod_gc.specs.Sweeping.{MaySweep, NotesMark, Ripens}
 use Rattle.pod_gc.proofs.Steps.{lists_deal, removes_deal, cause_after, gone_deed, left_gone}
 use Rattle.pod_gc.proofs.Waiting.{gone_waiting, waited_so, waited_deed, ready_waited, busy_waited}
 use Rattle.pod_gc.proofs.Untouched.{let_left, took_lists, let_listed}
+use Rattle.pod_gc.specs.declared.error.GcError.TheVariants as fault
+use Rattle.pod_gc.specs.Causes.{NeverStray}
 use Rattle.pod_gc.proofs.deals.deal_prepared.Goals as goal
 
 pub returns-in_err-created-clause-worked : goal.returns-in_err-created-clause-worked
@@ -108,3 +110,10 @@ returns-in-Some-clause-let_be g c =
 
 pub returns-in-None-clause-let_be : goal.returns-in-None-clause-let_be
 returns-in-None-clause-let_be g c t = let_left (took_lists c.args.pod area.Prepared (c.marked_at.ensures.worked.extends t))
+
+pub returns-in_err-created-clause-lawful : goal.returns-in_err-created-clause-lawful
+returns-in_err-created-clause-lawful g c =
+    let D = g.D.Dir in
+    let new = D.shown c.marked_at.new.dir in
+    err_same (λ e. NeverStray D.observed e new) c.marked_at.result c.from_residual.result (λ e h. search (rules, h, c.from_residual.ensures, c.in_err-created.is))
+    (err_more (λ e. e ≡ fault.Stray → ⊥) (λ e. NeverStray D.observed e new) c.marked_at.result (λ e never is. absurd (never is)) c.marked_at.ensures.never)

@@ -11,6 +11,9 @@ use Rattle.pod_gc.specs.Marks.{is_young}
 use Rattle.pod_gc.specs.Deeds.{DoesNothing, RestsBy, LetBe, LeavesWhere}
 use Rattle.pod_gc.proofs.Steps.{looks_deal, rests_young, rests_over}
 use Rattle.pod_gc.proofs.Untouched.{let_looked}
+use Rattle.folder_building.proofs.Copying.{err_more}
+use Rattle.pod_gc.specs.declared.error.GcError.TheVariants as fault
+use Rattle.pod_gc.specs.Causes.{StrayByApp}
 use Rattle.pod_gc.proofs.deals.deal_rested.Goals as goal
 
 pub returns-then-is_young-clause-worked : goal.returns-then-is_young-clause-worked
@@ -44,3 +47,8 @@ returns-then-is_young-clause-let_be g c =
     let new = D.shown c.kept_exited.new.dir in
     ok_more (λ deed. (which : Which) → deed ≡ Busy which → ⊥) (λ deed. LetBe D.observed c.args.pod area.ExitedGarbage deed old new) c.kept_exited.result
     (λ deed calm t. let_looked (c.kept_exited.ensures.worked.extends t) calm) c.kept_exited.ensures.calm
+
+pub returns-then-is_young-clause-lawful : goal.returns-then-is_young-clause-lawful
+returns-then-is_young-clause-lawful g c =
+    let D = g.D.Dir in
+    err_more (λ e. e ≡ fault.Stray → ⊥) (λ e. StrayByApp D.observed e (MayRemove c.args.times.now) (D.shown c.args.dir.now) (D.shown c.kept_exited.new.dir)) c.kept_exited.result (λ e never is. absurd (never is)) c.kept_exited.ensures.never

@@ -13,6 +13,10 @@ use Rattle.pod_gc.specs.Causes.{GcCause, deed_of}
 use Rattle.pod_gc.specs.Deeds.{DeedCause, SaysThere, LetBe, LeavesWhere, MarksFirst}
 use Rattle.pod_gc.proofs.Steps.{removes_deal, looks_deal, set_stopped, cause_moved, step_deed, step_cause, step_another, said_deed, said_refused, cause_after, ready_looked, said_unbusy, left_moved, said_unmoved, step_unmoved}
 use Rattle.pod_gc.proofs.Untouched.{let_moved, let_refused, step_let_be, peeked_looks, owns_elsewhere}
+use Rattle.pod_gc.specs.declared.error.GcError.TheVariants as fault
+use Rattle.pod_steps.specs.Causes.{BreaksRules}
+use Rattle.pod_gc.specs.Causes.{NeverStray}
+use Rattle.pod_gc.proofs.Lawful.{step_stray}
 use Rattle.pod_gc.proofs.deals.deal_run.Goals as goal
 
 pub returns-in-Ok-clause-worked : goal.returns-in-Ok-clause-worked
@@ -119,3 +123,15 @@ returns-in-Err-clause-marked g c =
     let new = D.shown c.retire_exited.new.dir in
     subst (λ (x : Result Deed GcError). IfOk x (λ deed. D.observed ≡ true → MarksFirst c.args.pod c.args.now deed old new)) (sym c.deed_of.ensures)
     (ok_more (λ deed. (to : Area) → deed ≡ Moved to → ⊥) (λ deed. D.observed ≡ true → MarksFirst c.args.pod c.args.now deed old new) (deed_of (Err c.in-Err.stop) (Moved area.ExitedGarbage)) (λ deed never t to is. absurd (never to is)) (step_unmoved (Moved area.ExitedGarbage) c.in-Err.stop))
+
+pub returns-in-Err-Busy-clause-lawful : goal.returns-in-Err-Busy-clause-lawful
+returns-in-Err-Busy-clause-lawful g c =
+    let D = g.D.Dir in
+    err_more (λ e. e ≡ fault.Stray → ⊥) (λ e. NeverStray D.observed e (D.shown c.kept.new.dir)) c.kept.result (λ e never is. absurd (never is)) c.kept.ensures.never
+
+pub returns-in-Err-clause-lawful : goal.returns-in-Err-clause-lawful
+returns-in-Err-clause-lawful g c =
+    let D = g.D.Dir in
+    let new = D.shown c.retire_exited.new.dir in
+    subst (λ (x : Result Deed GcError). IfErr x (λ e. NeverStray D.observed e new)) (sym c.deed_of.ensures)
+    (step_stray (BreaksRules D.observed new) (Moved area.ExitedGarbage) (Err c.in-Err.stop) c.in-Err.ensures.lawful)

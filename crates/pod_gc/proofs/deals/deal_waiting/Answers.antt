@@ -33,6 +33,9 @@ use Rattle.dir_trait.specs.DirCalls.{ExtendsBy, LockToldBetween}
 use Rattle.pod_removal.specs.Requests.{puts_aside}
 use Rattle.pod_gc.specs.Requests.{moves_on, may_be_busy}
 use Rattle.pod_gc.proofs.Untouched.{let_looked, moved_on, step_let_be, owns_elsewhere}
+use Rattle.pod_steps.specs.Causes.{BreaksRules}
+use Rattle.pod_gc.specs.Causes.{NeverStray}
+use Rattle.pod_gc.proofs.Lawful.{step_stray}
 use Rattle.pod_gc.proofs.deals.deal_waiting.Goals as goal
 
 pub returns-then-is_ripe-clause-cause : goal.returns-then-is_ripe-clause-cause
@@ -107,3 +110,10 @@ returns-then-is_ripe-clause-let_be g c =
 
 pub returns-else-is_ripe-clause-let_be : goal.returns-else-is_ripe-clause-let_be
 returns-else-is_ripe-clause-let_be g c t = let_looked nothing_yet (λ which is. cc)
+
+pub returns-then-is_ripe-clause-lawful : goal.returns-then-is_ripe-clause-lawful
+returns-then-is_ripe-clause-lawful g c =
+    let D = g.D.Dir in
+    let new = D.shown c.discard_prepared-answer.new.dir in
+    subst (λ (x : Result Deed GcError). IfErr x (λ e. NeverStray D.observed e new)) (sym c.deed_of.ensures)
+    (step_stray (BreaksRules D.observed new) (Moved area.Garbage) c.discard_prepared-answer.result c.discard_prepared-answer.ensures.lawful)

@@ -3,6 +3,7 @@ use Rattle.pod_removal.proofs.Looking.{worked_look}
 use Rattle.pod_gc.specs.declared.error.GcError.{GcError}
 use Rattle.pod_gc.specs.Causes.{GcCause}
 use Rattle.pod_gc.proofs.Steps.{says_there, says_gone, look_cause, peeks_here}
+use Rattle.pod_gc.proofs.Lawful.{look_never}
 use Rattle.pod_gc.proofs.kept.kept.Goals as goal
 
 pub returns-in-Ok-true-clause-worked : goal.returns-in-Ok-true-clause-worked
@@ -38,3 +39,6 @@ returns-in-Ok-false-clause-peeks g c = peeks_here c.args.pod c.args.area (g.D.Di
 
 pub returns-in-Err-clause-peeks : goal.returns-in-Err-clause-peeks
 returns-in-Err-clause-peeks g c = peeks_here c.args.pod c.args.area (g.D.Dir.shown c.args.dir.now) (g.D.Dir.shown c.look.new.dir) c.pod_spot.ensures c.look.ensures.extends
+
+pub returns-in-Err-clause-never : goal.returns-in-Err-clause-never
+returns-in-Err-clause-never g c is = look_never c.in-Err.error (sym c.look_fault.ensures ∙ is)

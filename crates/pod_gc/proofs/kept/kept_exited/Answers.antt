@@ -13,6 +13,8 @@ use Rattle.pod_gc.specs.declared.line.Deed.TheVariants.{Left, Busy}
 use Rattle.pod_gc.specs.Causes.{deed_of, GcCause}
 use Rattle.pod_gc.specs.Deeds.{DeedCause, SaysThere, DoesNothing, refused_lock, LeavesWhere}
 use Rattle.pod_gc.proofs.Steps.{set_stopped, step_deed, step_cause, step_rests, step_calm, step_another, said_deed, said_calm, said_refused, said_rests, said_unbusy, cause_after, ready_probed, ready_unprobed, ready_looked, looks_resting}
+use Rattle.pod_gc.specs.declared.error.GcError.TheVariants as fault
+use Rattle.pod_gc.proofs.Lawful.{step_stray}
 use Rattle.pod_gc.proofs.kept.kept_exited.Goals as goal
 
 pub returns-in-Ok-clause-worked : goal.returns-in-Ok-clause-worked
@@ -128,3 +130,6 @@ returns-in-Err-clause-another g c =
     subst (λ (x : Result Deed GcError). IfOk x (λ deed. (now : ℕ) → LeavesWhere D.observed (MayRemove now) c.args.pod area.ExitedGarbage deed old new)) (sym c.deed_of.ensures)
     (all_ok_at (deed_of (Err c.in-Err.stop) Left) (λ (now : ℕ) (deed : Deed). LeavesWhere D.observed (MayRemove now) c.args.pod area.ExitedGarbage deed old new)
     (λ now. step_another D.observed c.args.pod area.ExitedGarbage Left old new (MayRemove now) (λ which is. cc) (λ p is. cc) (Err c.in-Err.stop) (λ t s k m which is. search (rules, is, c.in-Err.stop-is))))
+
+pub returns-in-Err-clause-never : goal.returns-in-Err-clause-never
+returns-in-Err-clause-never g c = subst (λ (x : Result Deed GcError). IfErr x (λ e. e ≡ fault.Stray → ⊥)) (sym c.deed_of.ensures) (step_stray ⊥ Left (Err c.in-Err.stop) c.in-Err.ensures.never)

@@ -11,6 +11,10 @@ use Rattle.pod_gc.proofs.InTurn.{pass_none, pass_more}
 use Rattle.pod_gc.proofs.Telling.{adds_none, adds_more, some_among}
 use Rattle.pod_gc.specs.Ended.{EndsAtPod, EndsAmongBetween}
 use Rattle.pod_gc.proofs.Ending.{ends_among}
+use Rattle.pod_gc.specs.Causes.{StrayByApp}
+use Rattle.pod_gc.specs.Sweeping.{MayPass}
+use Rattle.pod_gc.proofs.InTurn.{pass_kept}
+use Rattle.pod_gc.proofs.Lawful.{by_app_later}
 use Rattle.pod_gc.proofs.passes.deal_each.Goals as goal
 
 pub names-init : goal.names-init
@@ -82,3 +86,12 @@ returns-in_err-deal_next-clause-ended g c =
     (err_more (λ e. D.observed ≡ true → EndsAtPod times.now place name mid.process mid.trace new.trace) (λ e. D.observed ≡ true → EndsAmongBetween times place names old new) c.deal_next.result
     (λ e x t. ends_among old mid new times place names (take i names) (drop (i + 1) names) name c.args.lines.now.items c.names.lines.items (sym whole ∙ append_assoc (take i names) (name ∷ []) (drop (i + 1) names)) inv.worked.same (inv.told t) (x t))
     c.deal_next.ensures.ended)
+
+pub returns-in_err-deal_next-clause-lawful : goal.returns-in_err-deal_next-clause-lawful
+returns-in_err-deal_next-clause-lawful g c =
+    let D = g.D.Dir in
+    let old = D.shown c.args.dir.now in
+    let mid = D.shown c.names.dir in
+    let new = D.shown c.deal_next.new.dir in
+    err_same (λ e. StrayByApp D.observed e (MayPass c.args.place c.args.times.now c.args.times.expire) old new) c.deal_next.result c.from_residual.result (λ e h. search (rules, h, c.from_residual.ensures, c.in_err-deal_next.is))
+    (err_more (λ e. StrayByApp D.observed e (MayPass c.args.place c.args.times.now c.args.times.expire) mid new) (λ e. StrayByApp D.observed e (MayPass c.args.place c.args.times.now c.args.times.expire) old new) c.deal_next.result (λ e x is. by_app_later new (λ s z. pass_kept) (follows_work c.names.invariant.worked) c.names.invariant.ready (x is)) c.deal_next.ensures.lawful)

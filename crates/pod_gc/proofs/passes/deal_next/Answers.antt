@@ -10,6 +10,9 @@ use Rattle.pod_gc.specs.Told.{AddsTold}
 use Rattle.pod_gc.proofs.InTurn.{no_memory, pass_none}
 use Rattle.pod_gc.proofs.Telling.{alone_pod, adds_pod, adds_other}
 use Rattle.pod_gc.proofs.Ending.{whenever}
+use Rattle.pod_gc.specs.Causes.{StrayByApp}
+use Rattle.pod_gc.specs.Sweeping.{MayPass}
+use Rattle.pod_gc.proofs.Lawful.{memory_never}
 use Rattle.pod_gc.proofs.passes.deal_next.Goals as goal
 
 pub returns-in-None-clause-worked : goal.returns-in-None-clause-worked
@@ -64,3 +67,14 @@ returns-in_err-deed-in-Some-clause-ended g c =
 pub returns-in_ok-deed-in-Some-clause-ended : goal.returns-in_ok-deed-in-Some-clause-ended
 returns-in_ok-deed-in-Some-clause-ended g c =
     whenever c.push.result (λ t. record { pod = c.in-Some.id; name_is = search (rules, c.parse.ensures.is, c.as_str.ensures, c.in-Some.is); turn = c.deal.ensures.worked.extends t })
+
+pub returns-in_err-deed-in-Some-clause-lawful : goal.returns-in_err-deed-in-Some-clause-lawful
+returns-in_err-deed-in-Some-clause-lawful g c =
+    let D = g.D.Dir in
+    err_same (λ e. StrayByApp D.observed e (MayPass c.args.place c.args.times.now c.args.times.expire) (D.shown c.args.dir.now) (D.shown c.deal.new.dir)) c.deal.result c.from_residual.result
+    (λ e h. search (rules, h, c.from_residual.ensures, c.in_err-deed-in-Some.is)) c.deal.ensures.lawful
+
+pub returns-in_ok-deed-in-Some-clause-lawful : goal.returns-in_ok-deed-in-Some-clause-lawful
+returns-in_ok-deed-in-Some-clause-lawful g c =
+    let D = g.D.Dir in
+    err_more (λ e. e ≡ fault.NoMemory) (λ e. StrayByApp D.observed e (MayPass c.args.place c.args.times.now c.args.times.expire) (D.shown c.args.dir.now) (D.shown c.deal.new.dir)) c.push.result (λ e memory is. absurd (memory_never memory is)) c.push.ensures.memory

@@ -11,6 +11,12 @@ use Rattle.pod_gc.specs.Told.{AddsShown, AddsPassed}
 use Rattle.pod_gc.proofs.Gates.{ready_under, ready_same, worked_gate, worked_locked, lock_cause, adds_gate, adds_gated}
 use Rattle.pod_gc.specs.Ended.{EndsListingBetween, EndsPassBetween}
 use Rattle.pod_gc.proofs.Ending.{whenever, ends_gate}
+use Rattle.pod_gc.specs.declared.error.GcError.TheVariants as fault
+use Rattle.pod_gc.specs.Causes.{StrayByApp}
+use Rattle.pod_gc.specs.Sweeping.{MayPass, MaySweepAll}
+use Rattle.pod_steps.proofs.Lawful.{by_app_part}
+use Rattle.pod_gc.proofs.Gates.{follows_lock}
+use Rattle.pod_gc.proofs.Lawful.{memory_never, lock_never, gate_passes, follows_unlock}
 use Rattle.pod_gc.proofs.passes.pass_embryo.Goals as goal
 
 pub returns-in-Ok-clause-worked : goal.returns-in-Ok-clause-worked
@@ -101,3 +107,23 @@ returns-in-Err-Busy-clause-ended g c = whenever c.push.result (λ t. inr (c.lock
 
 pub returns-in-Err-clause-ended : goal.returns-in-Err-clause-ended
 returns-in-Err-clause-ended g c t = inr (c.lock_area.ensures.extends t)
+
+pub returns-in-Ok-clause-lawful : goal.returns-in-Ok-clause-lawful
+returns-in-Ok-clause-lawful g c =
+    let D = g.D.Dir in
+    let l = c.lock_area.ensures in
+    let u = c.unlock_area.ensures in
+    let old = D.shown c.args.dir.now in
+    let mid = D.shown c.lock_area.new.dir in
+    let late = D.shown c.pass_listed-result.new.dir in
+    let new = D.shown c.unlock_area.new.dir in
+    err_more (λ e. StrayByApp D.observed e (MayPass Embryo c.args.times.now c.args.times.expire) mid late) (λ e. StrayByApp D.observed e (MaySweepAll c.args.times.now c.args.times.expire) old new) c.pass_listed-result.result
+    (λ e x is. by_app_part (follows_lock {a = old} {b = mid} l.same l.faults l.extends) (follows_unlock {c = late} {d = new} c.in-Ok.gate u.same u.faultless u.extends) (gate_passes c.in-Ok.gate c.in-Ok.ensures.taken) (x is)) c.pass_listed-result.ensures.lawful
+
+pub returns-in-Err-Busy-clause-lawful : goal.returns-in-Err-Busy-clause-lawful
+returns-in-Err-Busy-clause-lawful g c =
+    let D = g.D.Dir in
+    err_more (λ e. e ≡ fault.NoMemory) (λ e. StrayByApp D.observed e (MaySweepAll c.args.times.now c.args.times.expire) (D.shown c.args.dir.now) (D.shown c.lock_area.new.dir)) c.push.result (λ e memory is. absurd (memory_never memory is)) c.push.ensures.memory
+
+pub returns-in-Err-clause-lawful : goal.returns-in-Err-clause-lawful
+returns-in-Err-clause-lawful g c is = absurd (lock_never c.in-Err.error (sym c.lock_fault.ensures ∙ is))

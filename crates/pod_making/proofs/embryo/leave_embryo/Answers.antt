@@ -43,4 +43,4 @@ returns-in-Err-clause-stray g c h t =
     let is : c.change_refusal.result ≡ Stray = cc in
     let may = subst (λ (s : Spot). may_refuse (MoveFolder s c.pod_at-to.result) e ≡ true) c.pod_at-from.ensures c.in-Err.ensures.refusals in
     let asks = subst (λ (s : Spot). may_refuse (MoveFolder (pod_at Embryo c.args.draw) s) e ≡ true) c.pod_at-to.ensures may in
-    shows_call (MoveFolder (pod_at Embryo c.args.draw) (pod_at Prepare c.args.draw)) (Refused e 0) (taken_move c.args.draw (pod_at Prepare c.args.draw) e asks (sym c.change_refusal.ensures ∙ is)) ((with_spots c.pod_at-from.ensures c.pod_at-to.ensures c.in-Err.ensures.called).step t)
+    shows_call (MoveFolder (pod_at Embryo c.args.draw) (pod_at Prepare c.args.draw)) (Refused e 0) tt (taken_move c.args.draw (pod_at Prepare c.args.draw) e asks (sym c.change_refusal.ensures ∙ is)) ((with_spots c.pod_at-from.ensures c.pod_at-to.ensures c.in-Err.ensures.called).step t)

@@ -1,7 +1,8 @@
-use Rattle.std.proofs.Common.{◌≡◌, true, Err, refl, ap, sym, subst, ◌∙◌}
+use Rattle.std.proofs.Common.{◌≡◌, ℕ, true, Err, refl, ap, sym, subst, ◌∙◌}
 use Rattle.dir_model.specs.declared.area.Area.TheVariants.{Embryo}
-use Rattle.dir_model.specs.declared.request.Reply.TheVariants.{Refused}
+use Rattle.dir_model.specs.declared.request.Reply.TheVariants.{Opened, Refused}
 use Rattle.dir_model.specs.declared.spot.Spot.{Spot}
+use Rattle.dir_model.specs.Calls.{CallStep}
 use Rattle.dir_model.specs.Replies.{may_refuse}
 use Rattle.dir_model.proofs.Chains.{nothing_yet, and_call}
 use Rattle.folder_building.proofs.Working.{at_spot}
@@ -9,11 +10,12 @@ use Rattle.pod_making.specs.declared.error.MakeError.TheVariants.{Stray}
 use Rattle.pod_making.specs.Requests.{pod_at}
 use Rattle.dir_model.specs.declared.opening.Target.TheVariants.{Own}
 use Rattle.dir_model.specs.declared.request.Request.TheVariants.{Open, TryLock}
+use Rattle.dir_model.specs.declared.spot.Mode.TheVariants.{Exclusive}
 use Rattle.dir_model.specs.declared.spot.Which.TheVariants as which
 use Rattle.dir_model.specs.Local.{Local, IsUnlocked}
 use Rattle.dir_model.proofs.Holdings.{unlocked_new}
 use Rattle.pod_making.specs.declared.error.MakeError.{MakeError}
-use Rattle.pod_making.specs.Causes.{WorkCause}
+use Rattle.pod_making.specs.Causes.{WasOpenedThere, WorkCause}
 use Rattle.pod_making.proofs.Calls.{with_spot, change_cause, shows_call, taken_open, taken_lock, follows_call}
 use Rattle.pod_making.proofs.Knowing.{knows_locked, knows_unlocked, knows_unopened}
 use Rattle.pod_making.proofs.Outcomes.{follows_close, went_locked, went_unlocked, went_unopened}
@@ -77,14 +79,18 @@ returns-in-Err-try_lock-clause-stray g c h t =
     let is : c.change_refusal.result ≡ Stray = cc in
     let opens = with_spot (λ s. Open s which.Own) c.pod_at-spot.ensures c.in-Ok.ensures.called in
     let asks = c.in-Err-try_lock.ensures in
+    let D = g.D.Dir in
+    let old = D.shown c.args.dir.now in
+    let mid = D.shown c.«open».new.self in
+    let lock : WasOpenedThere c.args.draw mid.process mid.trace (TryLock c.in-Ok.own Exclusive) = (old.trace, subst (λ (p : ℕ). CallStep p old.trace (Open (pod_at Embryo c.args.draw) which.Own) (Opened c.in-Ok.own) mid.trace) (sym opens.same) (opens.step t)) in
     taken_before (taken_after (and_call nothing_yet refl (at_spot (pod_at Embryo c.args.draw)) (opens.step t)) opens.same
-    (shows_call (TryLock c.in-Ok.own _) (Refused e 0) (taken_lock c.args.draw c.in-Ok.own e asks.refusals (sym c.change_refusal.ensures ∙ is)) (asks.called.step t)))
+    (shows_call (TryLock c.in-Ok.own _) (Refused e 0) lock (taken_lock c.args.draw c.in-Ok.own e asks.refusals (sym c.change_refusal.ensures ∙ is)) (asks.called.step t)))
     ((follows_close c.close.ensures.faultless c.close.ensures.called).extends t)
 
 pub returns-in-Err-clause-stray : goal.returns-in-Err-clause-stray
 returns-in-Err-clause-stray g c h t =
     let e = c.in-Err.error in
     let is : c.change_refusal-in-Err.result ≡ Stray = cc in
-    shows_call (Open (pod_at Embryo c.args.draw) which.Own) (Refused e 0)
+    shows_call (Open (pod_at Embryo c.args.draw) which.Own) (Refused e 0) tt
     (taken_open c.args.draw e (subst (λ (s : Spot). may_refuse (Open s which.Own) e ≡ true) c.pod_at-spot.ensures c.in-Err.ensures.refusals) (sym c.change_refusal-in-Err.ensures ∙ is))
     ((with_spot (λ s. Open s which.Own) c.pod_at-spot.ensures c.in-Err.ensures.called).step t)

@@ -44,4 +44,4 @@ returns-in-Err-clause-stray g c h t =
     let is : c.change_refusal.result ≡ Stray = cc in
     let may = subst (λ (s : Spot). may_refuse (MoveFolder s c.pod_at-there.result) e ≡ true) c.pod_at-from.ensures c.in-Err.ensures.refusals in
     let asks = subst (λ (s : Spot). may_refuse (MoveFolder (pod_at Prepare c.args.draw) s) e ≡ true) c.pod_at-there.ensures may in
-    answered_self (shows_changed c.args.draw) (changed_move c.args.draw (pod_at c.args.to c.args.draw) e asks (sym c.change_refusal.ensures ∙ is)) ((with_spots c.pod_at-from.ensures c.pod_at-there.ensures c.in-Err.ensures.called).step t)
+    answered_self (shows_changed c.args.draw) (changed_move c.args.draw c.args.to e c.requires.handed asks (sym c.change_refusal.ensures ∙ is)) ((with_spots c.pod_at-from.ensures c.pod_at-there.ensures c.in-Err.ensures.called).step t)

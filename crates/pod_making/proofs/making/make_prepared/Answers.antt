@@ -14,6 +14,7 @@ use Rattle.pod_making.proofs.Knowing.{owns_images, own_back, made_free}
 use Rattle.pod_making.proofs.Outcomes.{err_same, err_with, held_is, follows_close, went_worked, went_closed, begins_makes, finishes_makes, worked_residual}
 use Rattle.pod_making.proofs.Times.{follows_went, calm_cause, cause_after, cause_before, brought_changed, own_before, make_planned, went_wider, worked_went}
 use Rattle.pod_making.proofs.Handing.{none_handed, handed_after, handed_close, follow_on, begins_hand_none}
+use Rattle.pod_making.proofs.Lawful.{refused_stray}
 use Rattle.pod_making.proofs.making.make_prepared.Goals as goal
 
 pub returns-in_err-own-clause-worked : goal.returns-in_err-own-clause-worked
@@ -91,3 +92,13 @@ returns-clause-whole g c t intent hs may under k =
     (handed_after (λ me. KnewMade me draw plan intent) (begins_hand_none draw) (c.begin_pod.ensures.went.extends t) c.begin_pod.ensures.went.same (c.finish_pod-result.ensures.worked.extends t)
     (c.finish_pod-result.ensures.whole t intent (own_held draw own (Some Exclusive) ∷ hs) may (owns_images own under) (c.in_ok-own.ensures.held t intent hs (is_maker_of may) under k)))
     (c.close.ensures.called.step t)
+
+pub returns-in_err-own-clause-lawful : goal.returns-in_err-own-clause-lawful
+returns-in_err-own-clause-lawful g c is t conforming =
+    let D = g.D.Dir in
+    refused_stray c.args.draw c.args.plan.now (D.shown c.args.dir.now) (D.shown c.begin_pod.new.dir) c.from_residual.result (returns-in_err-own-clause-cause g c) is t conforming
+
+pub returns-clause-lawful : goal.returns-clause-lawful
+returns-clause-lawful g c is t conforming =
+    let D = g.D.Dir in
+    refused_stray c.args.draw c.args.plan.now (D.shown c.args.dir.now) (D.shown c.close.new.self) c.finish_pod-result.result (returns-clause-cause g c) is t conforming

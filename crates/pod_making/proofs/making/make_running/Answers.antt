@@ -4,6 +4,7 @@ use Rattle.dir_model.specs.declared.spot.Mode.TheVariants.{Exclusive}
 use Rattle.area_locks.proofs.Locking.{number_is_new}
 use Rattle.folder_building.proofs.Copying.{err_more}
 use Rattle.folder_building.proofs.Working.{worked_wider}
+use Rattle.pod_making.specs.declared.error.MakeError.TheVariants.{Stray}
 use Rattle.pod_making.specs.Progress.{own_held}
 use Rattle.pod_making.specs.Causes.{MakeCause}
 use Rattle.pod_making.specs.Handovers.{KnewMade}
@@ -12,6 +13,7 @@ use Rattle.pod_making.proofs.Knowing.{owns_images, own_back, made_kept, runs_pod
 use Rattle.pod_making.proofs.Outcomes.{err_same, held_is, follows_close, went_worked, went_closed, went_as, went_residual, begins_makes, finishes_makes, worked_residual}
 use Rattle.pod_making.proofs.Times.{follows_went, nothing_follows, calm_cause, cause_after, cause_before, brought_changed, own_before, make_planned, went_wider}
 use Rattle.pod_making.proofs.Handing.{none_handed, handed_after, handed_close, follow_on, begins_hand_none}
+use Rattle.pod_making.proofs.Lawful.{never_stray, refused_stray}
 use Rattle.pod_making.proofs.making.make_running.Goals as goal
 
 pub returns-in_err-own-clause-went : goal.returns-in_err-own-clause-went
@@ -91,3 +93,13 @@ returns-in-Err-clause-whole g c t intent hs may under k =
     (handed_after (λ me. KnewMade me draw plan intent) (begins_hand_none draw) (c.begin_pod.ensures.went.extends t) c.begin_pod.ensures.went.same (c.finish_pod.ensures.worked.extends t)
     (c.finish_pod.ensures.whole t intent (own_held draw own (Some Exclusive) ∷ hs) may (owns_images own under) (c.in_ok-own.ensures.held t intent hs (is_maker_of may) under k)))
     (c.close.ensures.called.step t)
+
+pub returns-in_err-own-clause-lawful : goal.returns-in_err-own-clause-lawful
+returns-in_err-own-clause-lawful g c is t conforming =
+    let D = g.D.Dir in
+    refused_stray c.args.draw c.args.plan.now (D.shown c.args.dir.now) (D.shown c.begin_pod.new.dir) c.from_residual.result (returns-in_err-own-clause-cause g c) is t conforming
+
+pub returns-in-Err-clause-lawful : goal.returns-in-Err-clause-lawful
+returns-in-Err-clause-lawful g c is t conforming =
+    let same : c.in-Err.error ≡ Stray = cc in
+    never_stray (returns-in-Err-clause-cause g c) same t conforming

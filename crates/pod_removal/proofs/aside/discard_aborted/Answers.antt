@@ -25,6 +25,8 @@ use Rattle.pod_steps.specs.Taking.{TakesNothing}
 use Rattle.pod_steps.proofs.Taking.{took_looks, took_more}
 use Rattle.phase_read.proofs.Often.{reads_more}
 use Rattle.pod_removal.proofs.Unread.{unread_looks, unread_move}
+use Rattle.pod_steps.specs.Causes.{NeverStray}
+use Rattle.dir_model.specs.Areas.{is_stage}
 use Rattle.pod_removal.proofs.aside.discard_aborted.Goals as goal
 
 pub returns-in_err-probe-clause-worked : goal.returns-in_err-probe-clause-worked
@@ -146,3 +148,15 @@ returns-in_err-probe-clause-reads g c = unread_looks c.args.pod Prepare 0 refl c
 
 pub returns-clause-reads : goal.returns-clause-reads
 returns-clause-reads g c = reads_more 0 (omega arith) (unread_looks c.args.pod Prepare 0 refl c.probe.ensures.worked) c.probe.ensures.worked.same (unread_move c.args.pod Prepare Garbage c.put_aside.ensures.worked)
+
+pub returns-in_err-probe-clause-lawful : goal.returns-in_err-probe-clause-lawful
+returns-in_err-probe-clause-lawful g c =
+    let D = g.D.Dir in
+    err_same (λ e. NeverStray D.observed e (D.shown c.probe.new.dir)) c.probe.result c.from_residual.result (λ e h. search (rules, h, c.from_residual.ensures, c.in_err-probe.is))
+    (err_more (λ e. e ≡ stop.Stray → ⊥) (λ e. NeverStray D.observed e (D.shown c.probe.new.dir)) c.probe.result (λ e never is t conforming. never is) c.probe.ensures.never)
+
+pub returns-clause-lawful : goal.returns-clause-lawful
+returns-clause-lawful g c =
+    let D = g.D.Dir in
+    let new = D.shown c.put_aside.new.dir in
+    err_more (λ e. is_stage Prepare ≡ true → NeverStray D.observed e new) (λ e. NeverStray D.observed e new) c.put_aside.result (λ e x. x refl) c.put_aside.ensures.lawful

@@ -8,6 +8,7 @@ use Rattle.pod_steps.specs.Causes.{Stopped, IsAbsentAt}
 use Rattle.pod_steps.proofs.Knowing.{never_busy}
 use Rattle.pod_removal.proofs.MarkNames.{marked_is_path}
 use Rattle.pod_removal.proofs.Marking.{with_mark, noted_marked, noted_already, worked_mark, knows_marked, knows_there, ready_mark, mark_stops}
+use Rattle.pod_removal.proofs.Lawful.{mark_never}
 use Rattle.pod_removal.proofs.aside.mark.Goals as goal
 
 pub returns-in-Err-clause-worked : goal.returns-in-Err-clause-worked
@@ -66,3 +67,7 @@ pub returns-in-Err-Exists-clause-noted : goal.returns-in-Err-Exists-clause-noted
 returns-in-Err-Exists-clause-noted g c =
     let e = rw c.in-Err-Exists.field-0-is at c.in-Err-Exists.ensures in
     noted_already c.args.pod c.args.now (with_mark c.args.pod c.args.now c.pod_spot.ensures (c.as_str.ensures ∙ c.in-Ok.ensures) e.called)
+
+pub returns-clause-never : goal.returns-clause-never
+returns-clause-never g c is =
+    mark_never (record { spot = c.pod_spot.result; path = c.as_str.result.now }) c.in-Err-make_file_in.error (λ is. search (rules, is, c.in-Err-make_file_in.error-is)) c.in-Err-make_file_in.ensures.refusals (sym c.set_back.ensures ∙ is)

@@ -14,6 +14,8 @@ use Rattle.pod_removal.proofs.Finding.{round_went, round_refused, look_unrefused
 use Rattle.phase_read.proofs.Often.{reads_more}
 use Rattle.folder_removal.specs.Removal.{KeepsFolders}
 use Rattle.pod_removal.proofs.Unread.{kept_read, kept_round}
+use Rattle.pod_removal.specs.Removals.{RoundByApp}
+use Rattle.pod_removal.proofs.Lawful.{round_by_app, look_by_app}
 use Rattle.pod_removal.proofs.attempt.attempt.Goals as goal
 
 pub returns-then-is_removable-clause-worked : goal.returns-then-is_removable-clause-worked
@@ -158,3 +160,22 @@ returns-else-is_removable-clause-kept g c t =
 pub returns-in-Err-clause-kept : goal.returns-in-Err-clause-kept
 returns-in-Err-clause-kept g c t =
     kept_read c.args.pod (c.read_phase.ensures.extends t)
+
+pub returns-then-is_removable-clause-lawful : goal.returns-then-is_removable-clause-lawful
+returns-then-is_removable-clause-lawful g c =
+    let D = g.D.Dir in
+    let r = c.read_phase.ensures in
+    let old = D.shown c.args.dir.now in
+    let mid = D.shown c.read_phase.new.dir in
+    let new = D.shown c.remove_found.new.dir in
+    subst (λ (x : Result Round RemoveError). IfErr x (λ y. RoundByApp D.observed c.args.pod c.args.now y old new)) (sym c.round_of.ensures)
+    (round_by_app old mid new c.args.pod c.args.now (follows_work (worked_read c.args.pod c.args.now old mid r.same r.faults r.local r.extends)) r.known c.remove_found.result c.remove_found.ensures.lawful)
+
+pub returns-else-is_removable-clause-lawful : goal.returns-else-is_removable-clause-lawful
+returns-else-is_removable-clause-lawful g c is = cc
+
+pub returns-in-Err-clause-lawful : goal.returns-in-Err-clause-lawful
+returns-in-Err-clause-lawful g c =
+    let D = g.D.Dir in
+    subst (λ (x : RemoveError). RoundByApp D.observed c.args.pod c.args.now x (D.shown c.args.dir.now) (D.shown c.read_phase.new.dir)) (sym (c.refusal.ensures ∙ ap (λ (x : Setback). refusal c.args.pod x) c.look_setback.ensures))
+    (look_by_app (D.shown c.args.dir.now) (D.shown c.read_phase.new.dir) c.args.pod c.args.now c.in-Err.error)

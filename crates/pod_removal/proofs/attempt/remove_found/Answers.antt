@@ -24,6 +24,8 @@ use Rattle.phase_read.proofs.Often.{reads_more}
 use Rattle.folder_removal.specs.Removal.{KeepsFolders}
 use Rattle.folder_removal.proofs.Keeping.{kept_more}
 use Rattle.pod_removal.proofs.Unread.{kept_aside}
+use Rattle.pod_steps.specs.Causes.{NeverStray, StrayByApp}
+use Rattle.pod_steps.proofs.Lawful.{by_app_part}
 use Rattle.pod_removal.proofs.attempt.remove_found.Goals as goal
 
 pub delete_at-requires-clause-garbage : goal.delete_at-requires-clause-garbage
@@ -138,3 +140,20 @@ returns-clause-kept g c =
     let D = g.D.Dir in
     err_more (λ e. D.observed ≡ true → KeepsFolders (D.shown c.put_away.new.dir) (D.shown c.delete_at.new.dir)) (λ e. D.observed ≡ true → KeepsFolders (D.shown c.args.dir.now) (D.shown c.delete_at.new.dir)) c.delete_at.result
     (λ e kept t. kept_more (kept_aside c.args.pod c.args.phase (c.in_ok-put_away.ensures.put t)) c.put_away.ensures.worked.same (kept t)) c.delete_at.ensures.kept
+
+pub returns-in_err-put_away-clause-lawful : goal.returns-in_err-put_away-clause-lawful
+returns-in_err-put_away-clause-lawful g c =
+    let D = g.D.Dir in
+    let old = D.shown c.args.dir.now in
+    let new = D.shown c.put_away.new.dir in
+    err_same (λ e. StrayByApp D.observed e (MayRemovePod c.args.pod c.args.now) old new) c.put_away.result c.from_residual.result (λ e h. search (rules, h, c.from_residual.ensures, c.in_err-put_away.is))
+    (err_more (λ e. NeverStray D.observed e new) (λ e. StrayByApp D.observed e (MayRemovePod c.args.pod c.args.now) old new) c.put_away.result (λ e never is t s k m conforming. absurd (never is t conforming)) c.put_away.ensures.lawful)
+
+pub returns-clause-lawful : goal.returns-clause-lawful
+returns-clause-lawful g c =
+    let D = g.D.Dir in
+    let old = D.shown c.args.dir.now in
+    let mid = D.shown c.put_away.new.dir in
+    let new = D.shown c.delete_at.new.dir in
+    err_more (λ e. StrayByApp D.observed e (MayRemove c.args.now) mid new) (λ e. StrayByApp D.observed e (MayRemovePod c.args.pod c.args.now) old new) c.delete_at.result
+    (λ e x is. by_app_part (follows_work c.put_away.ensures.worked) (follows_none {a = new}) (λ t s k m. let z = c.put_away.ensures.ready t s k m in (z.known, z.knows, (may_pod_kept z.keeps m).may)) (x is)) c.delete_at.ensures.lawful

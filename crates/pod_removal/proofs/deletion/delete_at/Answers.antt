@@ -27,6 +27,10 @@ use Rattle.pod_removal.proofs.Unread.{unread_took, unread_delete, garbage_rank}
 use Rattle.folder_removal.specs.Removal.{KeepsFolders}
 use Rattle.folder_removal.proofs.Keeping.{kept_more, kept_call}
 use Rattle.pod_removal.proofs.Unread.{kept_looks}
+use Rattle.pod_steps.specs.Causes.{StrayByApp}
+use Rattle.pod_steps.proofs.Lawful.{by_app_part}
+use Rattle.pod_removal.specs.Holding.{HasOwn}
+use Rattle.pod_removal.proofs.Lawful.{owns_taken}
 use Rattle.pod_removal.proofs.deletion.delete_at.Goals as goal
 
 pub returns-in_err-own-clause-worked : goal.returns-in_err-own-clause-worked
@@ -155,3 +159,21 @@ returns-clause-kept g c =
     err_more (λ e. D.observed ≡ true → KeepsFolders (D.shown c.take.new.dir) (D.shown c.delete_if_there-result.new.dir)) (λ e. D.observed ≡ true → KeepsFolders (D.shown c.args.dir.now) (D.shown c.close.new.self)) c.delete_if_there-result.result
     (λ e kept t. kept_more (kept_more (kept_looks c.args.pod c.args.area (c.take.ensures.went.extends t)) c.take.ensures.went.same (kept t)) (c.delete_if_there-result.ensures.worked.same ∙ c.take.ensures.went.same) (kept_call refl (c.close.ensures.called.step t)))
     c.delete_if_there-result.ensures.kept
+
+pub returns-in_err-own-clause-lawful : goal.returns-in_err-own-clause-lawful
+returns-in_err-own-clause-lawful g c =
+    let D = g.D.Dir in
+    let old = D.shown c.args.dir.now in
+    let new = D.shown c.take.new.dir in
+    err_same (λ e. StrayByApp D.observed e (MayRemove c.args.now) old new) c.take.result c.from_residual.result (λ e h. search (rules, h, c.from_residual.ensures, c.in_err-own.is))
+    (err_more (λ e. e ≡ stop.Stray → ⊥) (λ e. StrayByApp D.observed e (MayRemove c.args.now) old new) c.take.result (λ e never is. absurd (never is)) c.take.ensures.never)
+
+pub returns-clause-lawful : goal.returns-clause-lawful
+returns-clause-lawful g c =
+    let D = g.D.Dir in
+    let old = D.shown c.args.dir.now in
+    let mid = D.shown c.take.new.dir in
+    let late = D.shown c.delete_if_there-result.new.dir in
+    let new = D.shown c.close.new.self in
+    err_more (λ e. StrayByApp D.observed e (HasOwn c.args.pod c.args.area) mid late) (λ e. StrayByApp D.observed e (MayRemove c.args.now) old new) c.delete_if_there-result.result
+    (λ e x is. by_app_part (follows_went c.take.ensures.went) (follows_call c.close.ensures.called) (owns_taken c.args.pod c.args.area c.requires.garbage c.in_ok-own.ensures.unopened c.in_ok-own.ensures.held) (x is)) c.delete_if_there-result.ensures.lawful

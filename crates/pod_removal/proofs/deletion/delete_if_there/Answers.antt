@@ -19,6 +19,13 @@ use Rattle.pod_steps.proofs.Taking.{took_looks}
 use Rattle.folder_removal.specs.Removal.{KeepsFolders}
 use Rattle.folder_removal.proofs.Keeping.{kept_more}
 use Rattle.pod_removal.proofs.Unread.{kept_looks}
+use Rattle.folder_removal.specs.Known.{StrayKnowing}
+use Rattle.pod_steps.specs.Holding.{Stays}
+use Rattle.pod_steps.specs.Causes.{StrayByApp}
+use Rattle.pod_removal.specs.Holding.{HasOwn}
+use Rattle.pod_removal.proofs.Stages.{err_both}
+use Rattle.pod_removal.proofs.Lawful.{deletion_by_app}
+use Rattle.dir_model.specs.State.{spot_eq}
 use Rattle.pod_removal.proofs.deletion.delete_if_there.Goals as goal
 
 pub returns-in-Ok-true-clause-worked : goal.returns-in-Ok-true-clause-worked
@@ -138,3 +145,24 @@ returns-in-Err-clause-kept g c t =
     let l = c.look.ensures in
     let w = worked_look c.args.pod c.args.area (D.shown c.args.dir.now) (D.shown c.look.new.dir) c.pod_spot.ensures l.same l.faults l.local l.extends in
     kept_looks c.args.pod c.args.area (w.extends t)
+
+pub returns-in-Ok-true-clause-lawful : goal.returns-in-Ok-true-clause-lawful
+returns-in-Ok-true-clause-lawful g c =
+    let D = g.D.Dir in
+    let l = c.look.ensures in
+    let old = D.shown c.args.dir.now in
+    let mid = D.shown c.look.new.dir in
+    let new = D.shown c.delete_standing.new.dir in
+    let told = rw c.in-Ok-true.field-0-test at c.in-Ok-true.ensures in
+    let w = worked_look c.args.pod c.args.area old mid c.pod_spot.ensures l.same l.faults l.local l.extends in
+    err_both (λ e. StoppedDeleting D.observed (pod_spot c.args.pod c.args.area) e mid new × (D.observed ≡ true → KeepsFolders mid new))
+    (λ e. e ≡ Setback.Stray → D.observed ≡ true → Stays (HasOwn c.args.pod c.args.area) mid (λ s. StrayKnowing (pod_spot c.args.pod c.args.area) mid.process new.trace))
+    (λ e. StrayByApp D.observed e (HasOwn c.args.pod c.args.area) old new) c.delete_standing.result
+    (λ e x knew. deletion_by_app c.args.pod c.args.area (spot_eq c.pod_spot.result) c.requires.garbage (follows_work w)
+    (λ t. subst (λ (spot : Spot). HeldBetween old mid (λ (s : DirState). stands s.namespace spot ≡ true)) c.pod_spot.ensures (told.there t)) (λ t. l.extends t) (λ t. l.known t) x.0 x.1 knew)
+    (err_both (λ e. StoppedDeleting D.observed (pod_spot c.args.pod c.args.area) e mid new) (λ e. D.observed ≡ true → KeepsFolders mid new) (λ e. StoppedDeleting D.observed (pod_spot c.args.pod c.args.area) e mid new × (D.observed ≡ true → KeepsFolders mid new)) c.delete_standing.result
+    (λ e x kept. (x, kept)) c.delete_standing.ensures.stopped c.delete_standing.ensures.kept)
+    c.delete_standing.ensures.knew
+
+pub returns-in-Err-clause-lawful : goal.returns-in-Err-clause-lawful
+returns-in-Err-clause-lawful g c is = absurd (look_no_stray c.in-Err.error (sym c.look_setback.ensures ∙ is))

@@ -6,6 +6,7 @@ use Rattle.phase_read.specs.Read.{pod_spot}
 use Rattle.pod_steps.specs.Setbacks.{delete_setback}
 use Rattle.pod_removal.proofs.Deleting.{place_deletes, worked_delete, delete_stops, delete_calm, deed_removed, known_deleted, known_tried}
 use Rattle.pod_removal.specs.Causes.{StoppedDeleting}
+use Rattle.pod_removal.proofs.Lawful.{knows_stray}
 use Rattle.pod_removal.proofs.deletion.delete_standing.Goals as goal
 
 pub delete_folder-requires-clause-area : goal.delete_folder-requires-clause-area
@@ -41,3 +42,7 @@ returns-in-Err-clause-calm g c which is = delete_calm c.in-Err.error which (sym 
 
 pub returns-in-Err-clause-known : goal.returns-in-Err-clause-known
 returns-in-Err-clause-known g c t = known_tried c.pod_spot.ensures c.requires.garbage (c.in-Err.ensures.refused t)
+
+pub returns-in-Err-clause-knew : goal.returns-in-Err-clause-knew
+returns-in-Err-clause-knew g c is =
+    knows_stray (g.D.Dir.shown c.args.dir.now) (g.D.Dir.shown c.delete_folder.new.dir) c.in-Err.error c.pod_spot.ensures c.requires.garbage (λ stray t. c.delete_folder.ensures.knew (c.in-Err.is ∙ ap Err stray) t) (sym c.delete_setback.ensures ∙ is)

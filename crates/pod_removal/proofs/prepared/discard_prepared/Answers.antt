@@ -27,6 +27,9 @@ use Rattle.pod_steps.proofs.Taking.{took_looks, took_more, took_closed}
 use Rattle.phase_read.proofs.Often.{reads_more}
 use Rattle.phase_read.proofs.Often.{unread_call}
 use Rattle.pod_removal.proofs.Unread.{unread_took, unread_looks}
+use Rattle.pod_steps.specs.Causes.{NeverStray}
+use Rattle.pod_steps.proofs.Lawful.{breaks_part}
+use Rattle.pod_removal.proofs.Lawful.{alone_never}
 use Rattle.pod_removal.proofs.prepared.discard_prepared.Goals as goal
 
 pub returns-in-Ok-clause-worked : goal.returns-in-Ok-clause-worked
@@ -174,3 +177,15 @@ returns-in-Err-Missing-clause-reads g c = reads_more 0 (omega arith) (unread_too
 
 pub returns-in-Err-clause-reads : goal.returns-in-Err-clause-reads
 returns-in-Err-clause-reads g c = unread_took c.args.pod Prepared 1 refl c.take.ensures.went
+
+pub returns-in-Ok-clause-lawful : goal.returns-in-Ok-clause-lawful
+returns-in-Ok-clause-lawful g c =
+    let D = g.D.Dir in
+    err_more (λ e. NeverStray D.observed e (D.shown c.discard_under_claim-result.new.dir)) (λ e. NeverStray D.observed e (D.shown c.close.new.self)) c.discard_under_claim-result.result
+    (λ e x is. breaks_part (follows_call c.close.ensures.called) (x is)) c.discard_under_claim-result.ensures.lawful
+
+pub returns-in-Err-Missing-clause-lawful : goal.returns-in-Err-Missing-clause-lawful
+returns-in-Err-Missing-clause-lawful g c = alone_never c.without_claim.ensures.stopped
+
+pub returns-in-Err-clause-lawful : goal.returns-in-Err-clause-lawful
+returns-in-Err-clause-lawful g c is t conforming = c.in-Err.ensures.never is

@@ -18,6 +18,8 @@ use Rattle.folder_removal.specs.Removal.{KeepsFolders}
 use Rattle.folder_removal.proofs.Keeping.{kept_more}
 use Rattle.pod_removal.proofs.Unread.{kept_missed}
 use Rattle.pod_removal.specs.Found.{RoundWent}
+use Rattle.pod_removal.specs.Removals.{RoundByApp, LaterByApp}
+use Rattle.pod_removal.proofs.Lawful.{later_by_app, missed_by_app}
 use Rattle.pod_removal.proofs.removal.remove_later.Goals as goal
 
 pub rounds-init : goal.rounds-init
@@ -130,3 +132,21 @@ returns-in_err-attempt-clause-kept g c =
 pub returns-clause-kept : goal.returns-clause-kept
 returns-clause-kept g c t =
     c.rounds.invariant.kept t
+
+pub returns-in_err-attempt-clause-lawful : goal.returns-in_err-attempt-clause-lawful
+returns-in_err-attempt-clause-lawful g c =
+    let D = g.D.Dir in
+    let old = D.shown c.args.dir.now in
+    let mid = D.shown c.rounds.dir in
+    let new = D.shown c.attempt.new.dir in
+    err_same (λ e. LaterByApp D.observed c.args.pod c.args.now e old new) c.attempt.result c.from_residual.result (λ e h. search (rules, h, c.from_residual.ensures, c.in_err-attempt.is))
+    (err_more (λ e. RoundByApp D.observed c.args.pod c.args.now e mid new) (λ e. LaterByApp D.observed c.args.pod c.args.now e old new) c.attempt.result
+    (λ e x. later_by_app old mid new (follows_work c.rounds.invariant.worked) c.rounds.invariant.ready x) c.attempt.ensures.lawful)
+
+pub returns-clause-lawful : goal.returns-clause-lawful
+returns-clause-lawful g c =
+    let D = g.D.Dir in
+    let old = D.shown c.args.dir.now in
+    let new = D.shown c.rounds.dir in
+    let five : c.rounds._round ≡ 5 = omega (arith, c.rounds-test.false, c.rounds.auto._round-end) in
+    missed_by_app old new (λ t. subst (λ (n : ℕ). MissedTimes n c.args.pod old.process old.trace new.trace) five (c.rounds.invariant.missed t))

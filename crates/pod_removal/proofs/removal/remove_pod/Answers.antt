@@ -15,6 +15,8 @@ use Rattle.phase_read.proofs.Often.{reads_more, reads_within}
 use Rattle.folder_removal.specs.Removal.{KeepsFolders}
 use Rattle.folder_removal.proofs.Keeping.{kept_more}
 use Rattle.pod_removal.proofs.Unread.{kept_read, kept_missed}
+use Rattle.pod_removal.specs.Removals.{RoundByApp}
+use Rattle.pod_removal.proofs.Lawful.{removed_by_app, removed_later_by_app}
 use Rattle.pod_removal.proofs.removal.remove_pod.Goals as goal
 
 pub returns-in_err-attempt-clause-cause : goal.returns-in_err-attempt-clause-cause
@@ -154,3 +156,17 @@ returns-in-Missed-clause-kept g c =
     let mid = D.shown c.attempt.new.dir in
     err_more (λ e. D.observed ≡ true → KeepsFolders (D.shown c.attempt.new.dir) (D.shown c.remove_later.new.dir)) (λ e. D.observed ≡ true → KeepsFolders (D.shown c.args.dir.now) (D.shown c.remove_later.new.dir)) c.remove_later.result
     (λ e kept t. kept_more (kept_missed c.args.pod (subst (λ (y : Round). RoundWent c.args.pod y old mid) c.in-Missed.is (c.in_ok-attempt.ensures.round t))) c.attempt.ensures.worked.same (kept t)) c.remove_later.ensures.kept
+
+pub returns-in_err-attempt-clause-lawful : goal.returns-in_err-attempt-clause-lawful
+returns-in_err-attempt-clause-lawful g c =
+    let D = g.D.Dir in
+    removed_by_app (D.shown c.args.dir.now) (D.shown c.attempt.new.dir) c.from_residual.result
+    (err_same (λ e. RoundByApp D.observed c.args.pod c.args.now e (D.shown c.args.dir.now) (D.shown c.attempt.new.dir)) c.attempt.result c.from_residual.result
+    (λ e h. search (rules, h, c.from_residual.ensures, c.in_err-attempt.is)) c.attempt.ensures.lawful)
+
+pub returns-in-Missed-clause-lawful : goal.returns-in-Missed-clause-lawful
+returns-in-Missed-clause-lawful g c =
+    let D = g.D.Dir in
+    let old = D.shown c.args.dir.now in
+    let mid = D.shown c.attempt.new.dir in
+    removed_later_by_app old mid (D.shown c.remove_later.new.dir) (follows_work c.attempt.ensures.worked) c.attempt.ensures.ready (λ t. subst (λ (y : Round). WentRound c.args.pod y old mid) c.in-Missed.is (c.in_ok-attempt.ensures.went t)) c.remove_later.result c.remove_later.ensures.lawful

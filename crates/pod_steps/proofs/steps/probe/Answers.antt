@@ -10,6 +10,7 @@ use Rattle.pod_steps.specs.declared.setback.Setback.{Setback}
 use Rattle.pod_steps.specs.Causes.{Stopped, IsAbsentAt}
 use Rattle.pod_steps.proofs.Calls.{worked_tried, worked_unopened, peeked_tried, peeked_unopened, lock_stops, own_stops, stops_part, follows_call}
 use Rattle.pod_steps.proofs.Knowing.{busy_probe, lock_named, never_busy, knows_probed, knows_unprobed, knows_unopened, told_probed, told_busy}
+use Rattle.pod_steps.proofs.Lawful.{lock_never, open_never}
 use Rattle.pod_steps.proofs.steps.probe.Goals as goal
 
 pub try_lock-answer-requires-clause-unlocked : goal.try_lock-answer-requires-clause-unlocked
@@ -84,3 +85,9 @@ returns-in-Err-answer-clause-peeks g c = peeked_tried c.args.pod c.args.area c.t
 
 pub returns-in-Err-clause-peeks : goal.returns-in-Err-clause-peeks
 returns-in-Err-clause-peeks g c = peeked_unopened c.args.pod c.args.area c.in-Err.error (with_spot (λ s. Open s Own) c.pod_spot.ensures c.in-Err.ensures.called)
+
+pub returns-in-Err-answer-clause-never : goal.returns-in-Err-answer-clause-never
+returns-in-Err-answer-clause-never g c is = lock_never Own c.in-Ok.handle Shared c.in-Err-answer.error c.in-Err-answer.ensures.refusals (sym c.lock_setback.ensures ∙ is)
+
+pub returns-in-Err-clause-never : goal.returns-in-Err-clause-never
+returns-in-Err-clause-never g c is = open_never c.pod_spot.result Own c.in-Err.error c.in-Err.ensures.refusals (sym c.set_back.ensures ∙ is)

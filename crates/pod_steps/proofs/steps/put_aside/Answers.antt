@@ -6,6 +6,8 @@ use Rattle.pod_steps.specs.Causes.{Stopped, IsAbsentAt}
 use Rattle.pod_steps.proofs.Calls.{worked_move, move_stops}
 use Rattle.pod_steps.proofs.Knowing.{never_busy, ready_moved, ready_unmoved}
 use Rattle.pod_steps.proofs.Taking.{took_call}
+use Rattle.pod_steps.proofs.Lawful.{move_lawful}
+use Rattle.pod_steps.specs.Causes.{NeverStray}
 use Rattle.pod_steps.proofs.steps.put_aside.Goals as goal
 
 pub returns-in-Ok-clause-worked : goal.returns-in-Ok-clause-worked
@@ -34,3 +36,9 @@ returns-in-Err-clause-calm g c which is = never_busy c.in-Err.error which (sym c
 
 pub returns-in-Err-clause-still : goal.returns-in-Err-clause-still
 returns-in-Err-clause-still g c t = took_call refl ((with_spots c.pod_spot.ensures c.pod_spot-2.ensures c.in-Err.ensures.called).step t)
+
+pub returns-in-Err-clause-lawful : goal.returns-in-Err-clause-lawful
+returns-in-Err-clause-lawful g c stage =
+    let D = g.D.Dir in
+    subst (λ (x : Setback). NeverStray D.observed x (D.shown c.move_folder.new.self)) (sym c.set_back.ensures)
+    (move_lawful c.args.pod c.args.from c.args.to c.in-Err.error c.in-Err.ensures.refusals (with_spots c.pod_spot.ensures c.pod_spot-2.ensures c.in-Err.ensures.called) stage)

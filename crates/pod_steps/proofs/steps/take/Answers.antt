@@ -9,6 +9,7 @@ use Rattle.pod_steps.specs.declared.setback.Setback.{Setback}
 use Rattle.pod_steps.specs.Causes.{Stopped, CannotOpenAt}
 use Rattle.pod_steps.proofs.Calls.{went_taken, went_tried, went_unopened, lock_stops, open_stops, stops_part, follows_call}
 use Rattle.pod_steps.proofs.Knowing.{free_taken, busy_take, lock_named, never_busy, knows_taken, knows_untaken, knows_unlocked}
+use Rattle.pod_steps.proofs.Lawful.{lock_never, open_never}
 use Rattle.pod_steps.proofs.steps.take.Goals as goal
 
 pub try_lock-requires-clause-unlocked : goal.try_lock-requires-clause-unlocked
@@ -65,3 +66,9 @@ returns-in-Err-clause-named g c other is = absurd (never_busy c.in-Err.error oth
 
 pub returns-in-Ok-try_lock-clause-free : goal.returns-in-Ok-try_lock-clause-free
 returns-in-Ok-try_lock-clause-free g c = free_taken c.args.pod c.args.area c.args.which Exclusive (with_spot (λ s. Open s c.args.which) c.pod_spot.ensures c.in-Ok.ensures.called) c.in-Ok-try_lock.ensures.called
+
+pub returns-in-Err-try_lock-clause-never : goal.returns-in-Err-try_lock-clause-never
+returns-in-Err-try_lock-clause-never g c is = lock_never c.args.which c.in-Ok.handle Exclusive c.in-Err-try_lock.error c.in-Err-try_lock.ensures.refusals (sym c.lock_setback.ensures ∙ is)
+
+pub returns-in-Err-clause-never : goal.returns-in-Err-clause-never
+returns-in-Err-clause-never g c is = open_never c.pod_spot.result c.args.which c.in-Err.error c.in-Err.ensures.refusals (sym c.set_back.ensures ∙ is)

@@ -1,4 +1,4 @@
-use Rattle.std.proofs.Common.{arith, sym, ap, subst, ◌∙◌}
+use Rattle.std.proofs.Common.{arith, IfErr, sym, ap, subst, ◌∙◌}
 use Rattle.dir_model.specs.Local.{IsActive, IsOpen, Local, without}
 use Rattle.dir_model.specs.declared.request.Request.TheVariants.{Close}
 use Rattle.dir_model.specs.declared.request.Reply.TheVariants.{Done}
@@ -6,6 +6,8 @@ use Rattle.dir_model.proofs.Lists.{same_self}
 use Rattle.dir_model.proofs.Chains.{and_call, extends_wider, step_extends}
 use Rattle.folder_building.proofs.Working.{in_first, in_second}
 use Rattle.stage1.specs.Runs.{closes, runs_pod, HasRunHeld, HasRun, IsRefusedRun}
+use Rattle.stage1.specs.declared.error.RunError.TheVariants.{Stray}
+use Rattle.stage1.proofs.Lawful.{never_stray}
 use Rattle.stage1.proofs.Closed.{refused_closed}
 use Rattle.stage1.proofs.Results.{if_ok, if_err}
 use Rattle.stage1.proofs.Closed.{keeps_closed}
@@ -61,3 +63,24 @@ returns-clause-refused g c =
 
 pub returns-clause-keeps : goal.returns-clause-keeps
 returns-clause-keeps g c t = keeps_closed c.args.owned.pod c.args.owned.own t (c.run_held-result.ensures.keeps t) c.close.ensures.called
+
+pub returns-clause-lawful : goal.returns-clause-lawful
+returns-clause-lawful g c h t conforming =
+    let D = g.D.Dir in
+    let S = g.S.Spawner in
+    let pod = c.args.owned.pod in
+    let own = c.args.owned.own in
+    let old = D.shown c.args.dir.now in
+    let mid = D.shown c.run_held-result.new.dir in
+    let new = D.shown c.close.new.self in
+    let s = S.shown c.args.spawner.now in
+    let s' = S.shown c.run_held-result.new.spawner in
+    let w = c.run_held-result.ensures.worked in
+    let k = c.close.ensures.called in
+    let refused : IsRefusedRun D.observed S.observed pod c.args.address.now Stray old mid s s' =
+    subst (λ r. IfErr r (λ e. IsRefusedRun D.observed S.observed pod c.args.address.now e old mid s s')) h c.run_held-result.ensures.refused in
+    let stopped : IsRefusedRun D.observed S.observed pod c.args.address.now Stray old new s s' =
+    refused_closed old mid new pod w.same k.faults (λ t. step_extends (closes own) mid.process mid.trace (Close own) Done new.trace (same_self own.number) (k.step t)) Stray s s' refused in
+    never_stray pod own old new (c.requires.runs t)
+    (and_call (extends_wider (in_second (closes own) (runs_pod pod)) (w.extends t)) w.same (in_first (closes own) (runs_pod pod) (Close own) (same_self own.number)) (k.step t))
+    conforming (stopped.cause t)
