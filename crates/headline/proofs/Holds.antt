@@ -7,6 +7,7 @@ use Rattle.lifecycle.specs.Executions.{IsConforming}
 use Rattle.lifecycle.proofs.Draws.{conforming_left}
 use Rattle.lifecycle.proofs.EveryPod.{transitions_are_enabled, stands_where_it_exists, place_tells_phase, held_by_its_owner, names_one_folder, goes_forward, removed_by_its_owner, sweeps_are_asked}
 use Rattle.lifecycle.proofs.Looking.{locks_tell_phases, misses_tell_gone}
+use Rattle.impossible_replies.proofs.Impossible.{none_impossible, foreign_are_apps}
 use Rattle.pod_build.specs.LegalExecutions.{IsLegal}
 use Rattle.pod_roots.proofs.Standing.{legal_before, makers_are, pods_stand, apps_start}
 use Rattle.headline.specs.Headline.{Headline, HeadlineHolds, HasOneOwner}
@@ -37,6 +38,7 @@ headline_at trace legal =
       removals = λ name. removed_by_its_owner name trace c;
       sweeps = sweeps_are_asked trace c;
       roots = record { stand = pods_stand trace legal; start = apps_start trace legal };
+      replies = record { none = none_impossible trace c; apps = foreign_are_apps trace c };
     }
 
 -- and at each moment of it
