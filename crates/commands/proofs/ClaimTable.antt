@@ -1,5 +1,5 @@
 -- Where nobody else steps, a claim is refused for what the state before asks for.
-use Rattle.std.proofs.Common.{◌≡◌, ◌&&◌, ◌==◌, ◌||◌, ℕ, Bool, true, false, not, cond, bytes_eq, codes, Option, Some, None, is_some, List, [], ◌∷◌, ◌++◌, refl, sym, ap, subst, ◌∙◌}
+use Rattle.std.proofs.Common.{◌≡◌, ◌&&◌, ◌==◌, ◌||◌, ℕ, Bool, true, false, not, cond, bytes_eq, codes, Option, Some, None, is_some, List, [], ◌∷◌, refl, sym, ap, subst, ◌∙◌}
 use Rattle.std.specs.List.{list_any}
 use Rattle.dir_model.specs.declared.area.Area.TheVariants as area
 use Rattle.dir_model.specs.declared.area.Phase.{Phase}
@@ -14,7 +14,6 @@ use Rattle.dir_model.specs.declared.spot.Mode.TheVariants.{Shared, Exclusive}
 use Rattle.dir_model.specs.declared.spot.Which.{Which}
 use Rattle.dir_model.specs.declared.spot.Which.TheVariants.{Own, Claim}
 use Rattle.dir_model.specs.declared.tree.TreeEntry.{TreeEntry}
-use Rattle.dir_model.specs.declared.request.DirError.{DirError}
 use Rattle.dir_model.specs.declared.request.DirError.TheVariants.{Missing}
 use Rattle.dir_model.specs.declared.request.Request.{Request}
 use Rattle.dir_model.specs.declared.request.Request.TheVariants.{MakeDirIn, MakeFileIn, AppendIn, RemoveFileIn, RemoveDirIn}
@@ -22,7 +21,7 @@ use Rattle.dir_model.specs.declared.request.Reply.{Reply}
 use Rattle.dir_model.specs.Calls.{event, is_kill, Extends, AtOwnStep}
 use Rattle.dir_model.specs.Locks.{is_folder, opposes}
 use Rattle.dir_model.specs.Quiet.{Quiet}
-use Rattle.dir_model.specs.State.{DirState, folder_at, spot_eq, stands}
+use Rattle.dir_model.specs.State.{DirState, folder_at, spot_eq}
 use Rattle.dir_model.specs.Trace.{state_after, state_next}
 use Rattle.dir_model.specs.Trees.{is_dir, is_file_entry, has_file}
 use Rattle.dir_model.proofs.Lists.{and_left}

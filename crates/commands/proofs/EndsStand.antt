@@ -39,7 +39,7 @@ use Rattle.stage1.proofs.Appends.{count, count_more}
 use Rattle.commands.specs.RunQuiet.{HasEnded}
 use Rattle.commands.proofs.NotesStand.{RemovesNothing, file_stands, bytes_stand}
 use Rattle.commands.proofs.Passing.{Leaves}
-use Rattle.commands.proofs.Unowned.{IsOutside, mark_outside, status_outside, no_app_owns}
+use Rattle.commands.proofs.Unowned.{IsOutside, mark_outside, status_outside, never_owned}
 
 -- what a step was by which something was done
 inner_is : (a b : Inner) → inner_eq a b ≡ true → a ≡ b
@@ -132,7 +132,7 @@ module _ (pod : PodId) (asks : Request → Bool) (l : Leaves (in_run pod) asks) 
     there_after = subst (λ (s : DirState). folder_at s.namespace (in_run pod) ≡ Some k) here there
 
     unowned : (j : ℕ) → is_apps_own (state_after b).apps j path ≡ false
-    unowned j = no_app_owns b j path outside
+    unowned j = never_owned b j path outside
 
     made : has_file (state_after new).entries k path ≡ true
     made = subst (λ (s : DirState). has_file s.entries k path ≡ true) (sym here) (file_stands pod asks l none me path k (state_after b) a runs unowned own_after.1 asked_after.1 there_after)

@@ -8,12 +8,12 @@ use Rattle.dir_model.specs.declared.spot.Spot.{Spot}
 use Rattle.dir_model.specs.declared.request.Request.TheVariants.{MoveFolder}
 use Rattle.dir_model.specs.declared.request.Reply.TheVariants.{Done}
 use Rattle.dir_model.specs.Areas.{is_stage}
-use Rattle.dir_model.specs.Calls.{event, may_step, CallStep, TookPlace, LeftNothing, Extends}
+use Rattle.dir_model.specs.Calls.{event, CallStep, TookPlace, LeftNothing, Extends}
 use Rattle.dir_model.specs.Quiet.{Quiet}
 use Rattle.dir_model.specs.State.{DirState, folder_at, stands}
 use Rattle.dir_model.specs.Trace.{state_after, state_next}
+use Rattle.dir_model.proofs.Allowed.{allowed_reply}
 use Rattle.dir_model.proofs.Chains.{state_after-push}
-use Rattle.dir_model.proofs.Lists.{and_right}
 use Rattle.dir_model.proofs.Moments.{some_number}
 use Rattle.dir_model.proofs.Spots.{spot_self}
 use Rattle.lifecycle.specs.Executions.{IsConforming}
@@ -59,7 +59,7 @@ moved_by from to me old new did = by s.own
     by (inr left) = let clash : false ≡ true = left.late in cc
     by (inl took) =
         let w = state_after s.before in
-        let stood = stands_from w me from to (and_right (may_step w me (MoveFolder from to)) _ took.allowed) in
+        let stood = stands_from w me from to (allowed_reply w me (MoveFolder from to) Done took.allowed) in
         let f = some_number (folder_at w.namespace from) stood.0 in
         let next : state_after did.each.1 ≡ state_next w e = ap state_after took.grown ∙ state_after-push s.before e in
         record {

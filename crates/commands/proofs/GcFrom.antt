@@ -10,12 +10,13 @@ use Rattle.dir_model.specs.declared.pod.PodId.{PodId}
 use Rattle.dir_model.specs.declared.request.Request.TheVariants.{MoveFolder}
 use Rattle.dir_model.specs.declared.request.Reply.TheVariants.{Done}
 use Rattle.dir_model.specs.Areas.{is_stage}
-use Rattle.dir_model.specs.Calls.{event, may_step, CallStep, TookPlace, LeftNothing, Extends}
+use Rattle.dir_model.specs.Calls.{event, CallStep, TookPlace, LeftNothing, Extends}
 use Rattle.dir_model.specs.Pods.{pod_text}
 use Rattle.dir_model.specs.Quiet.{Quiet, OwnsNothing}
 use Rattle.dir_model.specs.State.{Namespace}
 use Rattle.dir_model.specs.Trace.{state_after}
-use Rattle.dir_model.proofs.Lists.{and_right, all_weaker}
+use Rattle.dir_model.proofs.Allowed.{allowed_reply}
+use Rattle.dir_model.proofs.Lists.{all_weaker}
 use Rattle.dir_rules.proofs.Looks.{same_bytes}
 use Rattle.dir_rules.specs.Standing.{is_of}
 use Rattle.lifecycle.specs.declared.machine.PodState.{PodState}
@@ -153,7 +154,7 @@ moved_then pod place me old new moves did conforming = by s.own
     by (inr left) = let clash : false ≡ true = left.late in cc
     by (inl took) =
         let then : IsConforming (s.before ++ e ∷ []) = subst IsConforming took.grown (conforming_left did.each.1 did.each.4.more (subst IsConforming did.each.4.grown conforming)) in
-        let there = (stands_from (state_after s.before) me (pod_spot pod place) (pod_spot pod (goes_to place)) (and_right (may_step (state_after s.before) me (MoveFolder (pod_spot pod place) (pod_spot pod (goes_to place)))) _ took.allowed)).0 in
+        let there = (stands_from (state_after s.before) me (pod_spot pod place) (pod_spot pod (goes_to place)) (allowed_reply (state_after s.before) me (MoveFolder (pod_spot pod place) (pod_spot pod (goes_to place))) Done took.allowed)).0 in
         let its : is_of u (pod_spot pod place) ≡ true = ap (λ b. b && bytes_eq u u) (move_stage place moves) ∙ same_bytes u in
         let at = (stands_exists u s.before (pod_spot pod place) (conforming_left s.before (e ∷ []) then) its there).1 in
         let may = enabled_each u s.before e [] then (turn_to place) (goes_turn place pod (state_after s.before).namespace (pod_state u s.before) me) in

@@ -15,7 +15,7 @@ use Rattle.dir_model.specs.declared.request.Request.TheVariants.{MakeFolder, Mov
 use Rattle.dir_model.specs.declared.request.Reply.{Reply}
 use Rattle.dir_model.specs.declared.request.Reply.TheVariants.{Done}
 use Rattle.dir_model.specs.Areas.{rank, is_stage}
-use Rattle.dir_model.specs.Calls.{event, is_kill, may_step, CallStep, TookPlace, LeftNothing, Extends}
+use Rattle.dir_model.specs.Calls.{event, is_kill, CallStep, TookPlace, LeftNothing, Extends}
 use Rattle.dir_model.specs.Listings.{has_name}
 use Rattle.dir_model.specs.Pods.{pod_of}
 use Rattle.dir_model.specs.Quiet.{Quiet}
@@ -45,6 +45,7 @@ use Rattle.commands.proofs.OwnSteps.{in_process, forward, same_folders}
 use Rattle.commands.proofs.GcQuiet.{pod_back, shown_grown, passed_grown, passes_grown}
 use Rattle.commands.proofs.GcTells.{found_from, any_from, stays, and_before, closed, tells_after}
 use Rattle.commands.proofs.GcTurn.{quiet_between, later_apart, turn_after, turn_before}
+use Rattle.dir_model.proofs.Allowed.{allowed_reply}
 
 -- a move brings no folder away from where it goes
 
@@ -86,7 +87,7 @@ moved_stands me from to a b s = by s.own
     by (inr left) = let clash : false ≡ true = left.late in cc
     by (inl took) =
         let w = state_after s.before in
-        let stood = stands_from w me from to (and_right (may_step w me (MoveFolder from to)) _ took.allowed) in
+        let stood = stands_from w me from to (allowed_reply w me (MoveFolder from to) Done took.allowed) in
         let next : state_after b ≡ state_next w e = ap state_after took.grown ∙ states_next-append empty_state s.before (e ∷ []) in
         subst (λ (z : DirState). stands z.namespace to ≡ true) (sym next)
         (ap (λ (o : Option ℕ). is_some o) (moved_there w.namespace to from to (none_stands w.namespace to stood.1) (spot_self to)) ∙ stood.0)

@@ -16,17 +16,18 @@ use Rattle.dir_model.specs.declared.request.Request.TheVariants.{MakeFolder, Mov
 use Rattle.dir_model.specs.declared.request.Reply.{Reply}
 use Rattle.dir_model.specs.declared.request.Reply.TheVariants.{Done, Names}
 use Rattle.dir_model.specs.Areas.{rank, is_stage}
-use Rattle.dir_model.specs.Calls.{event, is_kill, is_foreign, may_step, CallStep, TookPlace, LeftNothing, Extends}
+use Rattle.dir_model.specs.Calls.{event, is_kill, is_foreign, CallStep, TookPlace, LeftNothing, Extends}
 use Rattle.dir_model.specs.Listings.{has_name}
 use Rattle.dir_model.specs.Pods.{pod_text, pod_of, is_pod_text, bytes_read}
 use Rattle.dir_model.specs.Quiet.{Quiet}
 use Rattle.dir_model.specs.State.{Namespace, DirState, empty_state, is_at, spot_eq, folder_at, stands}
 use Rattle.dir_model.specs.Trace.{state_after, state_next, states_next, namespace_replied}
 use Rattle.dir_model.specs.Trees.{names_in}
+use Rattle.dir_model.proofs.Allowed.{allowed_reply}
 use Rattle.dir_model.proofs.Chains.{states_next-append, state_after-push}
 use Rattle.dir_model.proofs.Hex.{parsed_back}
 use Rattle.dir_model.proofs.PodTexts.{passes_text}
-use Rattle.dir_model.proofs.Lists.{and_right, or_left_false, or_right_false, all_both, all_right, all_weaker, same_rest}
+use Rattle.dir_model.proofs.Lists.{or_left_false, or_right_false, all_both, all_right, all_weaker, same_rest}
 use Rattle.dir_rules.proofs.Looks.{same_bytes}
 use Rattle.dir_rules.specs.Standing.{is_garbage}
 use Rattle.dir_laws.specs.Stretches.{Throughout, StandsInArea}
@@ -298,7 +299,7 @@ stood_moved pod place to me old new did = by s.own
       s.before,
       grown_more did.each.2 (record { more = s.meanwhile.others; grown = s.meanwhile.grown }),
       grown_more (record { more = e ∷ []; grown = took.grown }) did.each.4,
-      (stands_from (state_after s.before) me (pod_spot pod place) (pod_spot pod to) (and_right (may_step (state_after s.before) me (MoveFolder (pod_spot pod place) (pod_spot pod to))) _ took.allowed)).0,
+      (stands_from (state_after s.before) me (pod_spot pod place) (pod_spot pod to) (allowed_reply (state_after s.before) me (MoveFolder (pod_spot pod place) (pod_spot pod to)) Done took.allowed)).0,
     )
 
 -- how far the trace has grown

@@ -20,6 +20,7 @@ use Rattle.image_reading.specs.Places.{image_spot}
 use Rattle.image_store.specs.declared.importing.Imported.{Imported}
 use Rattle.image_store.specs.Causes.{Source, WasThere, BusyElsewhere}
 use Rattle.image_store.specs.Imports.{key_of, digest_of, IsOf, OfBundle, IsRefused, ComesInTurn, IsImported, Leaves, LeavesAtEnd}
+use Rattle.image_store.specs.Moves.{Moves, MovesAtEnd}
 use Rattle.image_store.specs.Refusals.{bundle_refusal, is_import_refusal}
 use Rattle.image_store.specs.Requests.{building_spot}
 use Rattle.image_store.specs.Work.{IsImport, IsAlone, From, at_work}
@@ -183,6 +184,9 @@ module _ (observed : Bool) (a b : DirAt) where
     abbrev Says : Outcome → Type 0
     Says o = ImageImportSays path now draw (beside old before) (beside new after) o
 
+    abbrev Still : Result Imported StoreError → Type 0
+    Still answer = observed ≡ true → MovesAtEnd (building_spot draw) answer a b
+
     abbrev There : Imported → Type 0
     There done = OfBundle source (λ image. (done.key ≡ key_of image) × (done.there ≡ true → observed ≡ true → WasThere (key_of image) (digest_of image) a b))
 
@@ -190,30 +194,30 @@ module _ (observed : Bool) (a b : DirAt) where
     Brought done = done.there ≡ false → observed ≡ true → IsConforming b.trace → From draw IsAlone false None a
         (λ intent hs. OfBundle source (λ image. (done.key ≡ key_of image) × IsImported a.process (building_spot draw) (image_spot done.key) (IsOf image now) a.trace b.trace))
 
-    stored : (done : Imported) → There done → Brought done → observed ≡ true → IsConforming b.trace → (intent : Intent) → IsImport draw intent → Knows (shown_at old) (begun intent) →
+    stored : (done : Imported) → There done → Brought done → Still (Ok done) → observed ≡ true → IsConforming b.trace → (intent : Intent) → IsImport draw intent → Knows (shown_at old) (begun intent) →
         StoresImage path now draw (beside old before) (beside new after) (key_line done.key)
-    stored done there brought t conforming intent is k = by done.there refl
+    stored done there brought still t conforming intent is k = by done.there refl
       where
         by : (b : Bool) → done.there ≡ b → StoresImage path now draw (beside old before) (beside new after) (key_line done.key)
-        by true at = (there.0, there.1, (ap key_line there.2.0, inl (within_wider (seen_span.part t) (there.2.1 at t))))
+        by true at = (there.0, there.1, (ap key_line there.2.0, inl (within_wider (seen_span.part t) (there.2.1 at t), subst (λ (was : Bool). Moves (building_spot draw) done.key (Ok was) a b) at (still t))))
         by false at =
             let x = brought at t conforming intent [] is refl (at_begin intent k) in
             (x.0, x.1, (ap key_line x.2.0, inr (subst (λ (key : StoreKey). IsImported a.process (building_spot draw) (image_spot key) (IsOf x.0 now) a.trace b.trace) x.2.0 x.2.1)))
 
-    pub printed_says : (done : Imported) (o : Outcome) → (o ≡ Ok (key_line done.key)) ⊎ (o ≡ Err NoMemory) → There done → Brought done → Says o
-    printed_says done o (inl e) there brought = subst Says (sym e) (record {
+    pub printed_says : (done : Imported) (o : Outcome) → (o ≡ Ok (key_line done.key)) ⊎ (o ≡ Err NoMemory) → There done → Brought done → Still (Ok done) → Says o
+    printed_says done o (inl e) there brought still = subst Says (sym e) (record {
       key = (there.0, there.1, ap key_line there.2.0);
-      stores = λ t conforming intent is k. stored done there brought t conforming intent is k;
+      stores = λ t conforming intent is k. stored done there brought still t conforming intent is k;
     })
-    printed_says done o (inr e) there brought = subst Says (sym e) tt
+    printed_says done o (inr e) there brought still = subst Says (sym e) tt
 
     refusal_says : (r : Refusal) → RefusesImage path (beside old before) (beside new after) r × IsHeldFrom draw r old new → Says (Err r)
     refusal_says NoMemory x = tt
     refusal_says r x = x
 
-    pub refused_says : (e : StoreError) (r : Refusal) → IsSaidOf e r → IsRefused observed source e a b → ComesInTurn observed source e a b → (observed ≡ true → From draw IsAlone false None a (λ intent hs. BusyElsewhere e a b)) → Says (Err r)
-    refused_says e r (inr is) refused turn another = subst (λ (x : Refusal). Says (Err x)) (sym is) tt
-    refused_says e r (inl is) refused turn another = refusal_says r (
-      record { error = e; is = is; cause = refused_wider seen_span source e refused; turn = turn_wider seen_span source e turn },
+    pub refused_says : (e : StoreError) (r : Refusal) → IsSaidOf e r → IsRefused observed source e a b → ComesInTurn observed source e a b → Still (Err e) → (observed ≡ true → From draw IsAlone false None a (λ intent hs. BusyElsewhere e a b)) → Says (Err r)
+    refused_says e r (inr is) refused turn still another = subst (λ (x : Refusal). Says (Err x)) (sym is) tt
+    refused_says e r (inl is) refused turn still another = refusal_says r (
+      record { error = e; is = is; cause = refused_wider seen_span source e refused; turn = turn_wider seen_span source e turn; still = still },
       λ area busy t intent import k. another t intent [] import refl (at_begin intent k) area (busy_of e area (sym is ∙ busy)),
     )

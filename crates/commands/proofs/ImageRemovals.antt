@@ -23,6 +23,7 @@ use Rattle.command_outcomes.specs.Conforming.{shown_at}
 use Rattle.commands.specs.ImageRm.{removal_refusal, IsRemovalSaid, FindsBusy, ImageRmSays}
 use Rattle.commands.specs.ImageGc.{sweep_texts, ImageGcSays, EndsEarly}
 use Rattle.image_removal.specs.Ended.{EndsSweepBetween}
+use Rattle.commands.specs.Strays.{NeverComes}
 use Rattle.command_outcomes.proofs.Seen.{seen_at}
 
 -- why an image wasn't removed, and what is said of it
@@ -33,8 +34,11 @@ module _ (observed : Bool) (a b : DirAt) (key : StoreKey) (draw : PodId) where
   abbrev Another : StoreError → Type 0
   Another e = observed ≡ true → (s : Seen) → Knows a s → MayRemove draw s → BusyElsewhere e a b
 
-  said : (e : StoreError) → RemoveCause observed key draw e a b → Another e → Says (Err (removal_refusal e))
-  said (store_error.Busy area) cause another = λ t s k may. by area (cause.busy area refl) t s k may another
+  abbrev Lawful : StoreError → Type 0
+  Lawful e = e ≡ store_error.Stray → observed ≡ true → (s : Seen) → Knows a s → MayRemove draw s → NeverComes b.trace
+
+  said : (e : StoreError) → RemoveCause observed key draw e a b → Another e → Lawful e → Says (Err (removal_refusal e))
+  said (store_error.Busy area) cause another lawful = λ t s k may. by area (cause.busy area refl) t s k may another
     where
       by : (here : Area) → (here ≡ Images) × (observed ≡ true → WasBusy a b) → observed ≡ true → (s : Seen) → Knows (shown_at (seen_at observed a)) s → MayRemove draw s → Another (store_error.Busy here) →
           FindsBusy a.process a.trace b.trace
@@ -42,15 +46,15 @@ module _ (observed : Bool) (a b : DirAt) (key : StoreKey) (draw : PodId) where
         held = subst (λ (q : Area). HeldBetween a b (IsBusyElsewhere a.process q Exclusive)) x.0 (another t s (record { tied = k.tied; handles = k.handles }) may here refl);
         only = (x.1 t).only;
       }
-  said (store_error.NoImage other) cause another = let f = cause.absent other refl in record { is = ap (λ (q : StoreKey). id_text q.bytes) f.0; found = f.1 }
-  said store_error.DirFault cause another = tt
-  said store_error.NoMemory cause another = tt
-  said store_error.Stray cause another = λ t. cause.stray refl t
-  said e cause another = let clash : false ≡ true = cause.kind in cc
+  said (store_error.NoImage other) cause another lawful = let f = cause.absent other refl in record { is = ap (λ (q : StoreKey). id_text q.bytes) f.0; found = f.1 }
+  said store_error.DirFault cause another lawful = tt
+  said store_error.NoMemory cause another lawful = tt
+  said store_error.Stray cause another lawful = (λ t. cause.stray refl t, λ t s k may. lawful refl t s (record { tied = k.tied; handles = k.handles }) may)
+  said e cause another lawful = let clash : false ≡ true = cause.kind in cc
 
-  pub refused_says : (e : StoreError) (r : Refusal) → IsRemovalSaid e r → RemoveCause observed key draw e a b → Another e → Says (Err r)
-  refused_says e r (inr is) cause another = subst (λ (x : Refusal). Says (Err x)) (sym is) tt
-  refused_says e r (inl is) cause another = subst (λ (x : Refusal). Says (Err x)) (sym is) (said e cause another)
+  pub refused_says : (e : StoreError) (r : Refusal) → IsRemovalSaid e r → RemoveCause observed key draw e a b → Another e → Lawful e → Says (Err r)
+  refused_says e r (inr is) cause another lawful = subst (λ (x : Refusal). Says (Err x)) (sym is) tt
+  refused_says e r (inl is) cause another lawful = subst (λ (x : Refusal). Says (Err x)) (sym is) (said e cause another lawful)
 
 -- what a sweep printed, or why it ended early
 module _ (observed : Bool) (a b : DirAt) where
@@ -62,11 +66,14 @@ module _ (observed : Bool) (a b : DirAt) where
   swept_says lines o (inr e) swept = subst SweepSays (sym e) tt
   swept_says lines o (inl e) swept = subst SweepSays (sym e) (record { lines = lines; is = refl; swept = λ t s k may. swept t s (record { tied = k.tied; handles = k.handles }) may })
 
-  early : (e : StoreError) → WorkCause observed e a b → (observed ≡ true → EndsEarly a.process a.trace b.trace) → SweepSays (Err (removal_refusal e))
-  early store_error.DirFault cause ends = ends
-  early store_error.NoMemory cause ends = tt
-  early store_error.Stray cause ends = λ t. record { stray = cause.stray refl t; early = ends t }
-  early e cause ends = let clash : false ≡ true = cause.kind in cc
+  abbrev SweepLawful : StoreError → Type 0
+  SweepLawful e = e ≡ store_error.Stray → observed ≡ true → (s : Seen) → Knows a s → MaySweep s → NeverComes b.trace
 
-  pub early_says : (e : StoreError) (r : Refusal) → r ≡ removal_refusal e → WorkCause observed e a b → (observed ≡ true → HasTriedBetween a b) → (observed ≡ true → EndsSweepBetween a b) → SweepSays (Err r)
-  early_says e r is cause tried ended = subst (λ (x : Refusal). SweepSays (Err x)) (sym is) (early e cause (λ t. record { tried = tried t; ended = ended t }))
+  early : (e : StoreError) → WorkCause observed e a b → (observed ≡ true → EndsEarly a.process a.trace b.trace) → SweepLawful e → SweepSays (Err (removal_refusal e))
+  early store_error.DirFault cause ends lawful = ends
+  early store_error.NoMemory cause ends lawful = tt
+  early store_error.Stray cause ends lawful = (λ t. record { stray = cause.stray refl t; early = ends t }, λ t s k may. lawful refl t s (record { tied = k.tied; handles = k.handles }) may)
+  early e cause ends lawful = let clash : false ≡ true = cause.kind in cc
+
+  pub early_says : (e : StoreError) (r : Refusal) → r ≡ removal_refusal e → WorkCause observed e a b → (observed ≡ true → HasTriedBetween a b) → (observed ≡ true → EndsSweepBetween a b) → SweepLawful e → SweepSays (Err r)
+  early_says e r is cause tried ended lawful = subst (λ (x : Refusal). SweepSays (Err x)) (sym is) (early e cause (λ t. record { tried = tried t; ended = ended t }) lawful)

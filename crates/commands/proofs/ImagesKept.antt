@@ -1,5 +1,5 @@
 -- Where nobody else steps, a process that imports an image leaves each image in place and as it is, and the new one as it brought it.
-use Rattle.std.proofs.Common.{◌≡◌, ℕ, Bool, true, false, not, ◌||◌, ◌==◌, Some, List, [], ◌∷◌, ◌++◌, append-nil, append_assoc, refl, sym, ap, subst, ◌∙◌}
+use Rattle.std.proofs.Common.{◌≡◌, ℕ, Bool, true, false, not, ◌||◌, ◌==◌, Option, Some, None, List, [], ◌∷◌, ◌++◌, append-nil, append_assoc, refl, sym, ap, subst, ◌∙◌}
 use Rattle.std.specs.List.{AllByRecursion}
 use Rattle.ac_types.specs.declared.store_key.StoreKey.{StoreKey}
 use Rattle.dir_model.specs.declared.event.Event.{Event}
@@ -13,17 +13,19 @@ use Rattle.dir_model.specs.Calls.{event, is_foreign, is_kill, Extends}
 use Rattle.dir_model.specs.Quiet.{Quiet}
 use Rattle.dir_model.specs.State.{folder_at, spot_eq}
 use Rattle.dir_model.specs.Trace.{state_after}
-use Rattle.dir_model.proofs.Lists.{all_right, same_rest, same_self}
+use Rattle.dir_model.proofs.Lists.{all_left, all_right, same_rest, same_self}
 use Rattle.lifecycle.specs.Executions.{IsConforming}
 use Rattle.lifecycle.proofs.Draws.{conforming_left}
 use Rattle.folder_contents.specs.Entries.{entries_in}
 use Rattle.folder_contents.specs.Handing.{then_moved}
 use Rattle.folder_contents.specs.UnderGate.{takes}
 use Rattle.folder_contents.proofs.Along.{happens}
+use Rattle.lifecycle.proofs.Places.{none_stands}
+use Rattle.lifecycle.proofs.Step.{stands_from}
 use Rattle.folder_contents.proofs.Spots.{one_location}
 use Rattle.folder_contents.proofs.Unmoved.{unmoved}
 use Rattle.bundle_image.specs.declared.image.BundleImage.{BundleImage}
-use Rattle.image_reading.specs.Places.{image_spot}
+use Rattle.image_reading.specs.Places.{image_spot, IsAbsent}
 use Rattle.image_store.specs.Imports.{key_of, IsOf, IsImported}
 use Rattle.image_store.specs.Requests.{building_spot}
 use Rattle.commands.specs.ImageImport.{KeepsImages, HoldsImage}
@@ -97,3 +99,32 @@ module _ {me : ℕ} (draw : PodId) {old new : List Event} (ext : Extends (is_mod
       let s = stands_on me draw (key_of image) i.folder first i.later (subst IsConforming whole conforming) mine asked i.stands in
       let t = subst (λ (h : List Event). Stands (key_of image) i.folder first h) (sym whole) s in
       record { folder = i.folder; stands = t.0; holds = subst (IsOf image now) (sym t.1) i.holds }
+
+  -- which wasn't there before
+  pub none_held : (image : BundleImage) (now : ℕ) → IsImported me (building_spot draw) (image_spot (key_of image)) (IsOf image now) old new → IsAbsent (key_of image) (state_after old)
+  none_held image now i = by (folder_at (state_after old).namespace to) refl
+    where
+      to : Spot
+      to = image_spot (key_of image)
+
+      step : Event
+      step = event me (MoveFolder (building_spot draw) to) Done
+
+      parted : ext.more ≡ i.meanwhile ++ step ∷ i.later
+      parted = same_rest old ext.more (i.meanwhile ++ step ∷ i.later)
+          (sym ext.grown ∙ (i.moved ∙ (ap (λ (h : List Event). h ++ step ∷ i.later) i.begins ∙ append_assoc old i.meanwhile (step ∷ i.later))))
+
+      up_to : IsConforming (i.before ++ step ∷ [])
+      up_to = conforming_left (i.before ++ step ∷ []) i.later (subst IsConforming (i.moved ∙ sym (append_assoc i.before (step ∷ []) i.later)) conforming)
+
+      free : folder_at (state_after i.before).namespace to ≡ None
+      free = none_stands (state_after i.before).namespace to (stands_from (state_after i.before) me (building_spot draw) to (happens i.before step up_to).is).1
+
+      by : (o : Option ℕ) → folder_at (state_after old).namespace to ≡ o → o ≡ None
+      by None at = refl
+      by (Some folder) at =
+          let mine = all_left _ i.meanwhile (step ∷ i.later) (subst (λ (l : List Event). AllByRecursion (λ e. e.process ≡ me) l) parted own) in
+          let asked = all_left _ i.meanwhile (step ∷ i.later) (subst (λ (l : List Event). AllByRecursion (λ e. (is_foreign me e || is_modest (building_spot draw) e.request) ≡ true) l) parted ext.asked) in
+          let s = stands_on me draw (key_of image) folder old i.meanwhile (subst IsConforming i.begins (happens i.before step up_to).conforming) mine asked at in
+          let clash : Some folder ≡ None = sym (subst (λ (h : List Event). folder_at (state_after h).namespace to ≡ Some folder) (sym i.begins) s.0) ∙ free in
+          cc

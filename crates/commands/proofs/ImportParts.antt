@@ -14,7 +14,7 @@ use Rattle.area_locks.specs.AreaLocks.{IsBusy}
 use Rattle.tree_digest.specs.declared.line.ListingLine.{ListingLine}
 use Rattle.image_reading.specs.declared.error.StoreError.{StoreError}
 use Rattle.image_reading.specs.Places.{IsAbsent}
-use Rattle.image_store.specs.Causes.{Source, LacksPart, UnlikeListed, Conflicts, Vanished, StrayCause, DamagedInTurn, ImportCause}
+use Rattle.image_store.specs.Causes.{Source, LacksPart, UnlikeListed, Conflicts, StrayCause, DamagedInTurn, ImportCause}
 use Rattle.image_store.specs.Imports.{key_of, IsRefused, ComesInTurn, IsImported}
 use Rattle.commands.proofs.Parts.{Part, within_wider, held_wider}
 
@@ -32,15 +32,9 @@ rose_within : (a b c d : ℕ) → a ≤ b → Rose b c → c ≤ d → Rose a d
 rose_within a b c d ab rose cd = omega arith
 
 module _ {old first last new : DirAt} (p : Part old first last new) where
-  vanished_wider : {key : StoreKey} → Vanished key first last → Vanished key old new
-  vanished_wider {key} v =
-      let begins : Part old first v.between v.between = record { earlier = p.earlier; later = []; same = p.same; begins = p.begins; ends = sym (append-nil v.between.trace) } in
-      let ends : Part v.between v.between last new = record { earlier = []; later = p.later; same = refl; begins = sym (append-nil v.between.trace); ends = p.ends } in
-      record { between = v.between; same = v.same ∙ p.same; taken = within_wider begins v.taken; gone = held_wider ends (IsAbsent key) v.gone }
-
   pub stray_wider : {key : StoreKey} → StrayCause key first last → StrayCause key old new
   stray_wider {key} (inl w) = inl (within_wider p w)
-  stray_wider {key} (inr v) = inr (vanished_wider v)
+  stray_wider {key} (inr v) = inr (within_wider p v)
 
   pub imported_wider : {from to : Spot} {P : List Entry → Type 0} → IsImported first.process from to P first.trace last.trace → IsImported old.process from to P old.trace new.trace
   imported_wider {from} {to} {P} i =

@@ -38,6 +38,10 @@ pub mod ImageRemovals
 pub mod ImagesKept
 pub mod ImportParts
 pub mod ImportQuiet
+pub mod ImportStays
+pub mod ImportStanding
+pub mod ImportRefusals
+pub mod ImportComes
 pub mod Lacking
 pub mod LateTurns
 pub mod Manifests
@@ -87,6 +91,10 @@ pub mod Untouched
 pub mod Whole
 pub mod Words
 pub mod StoreKept
+pub mod TakenBefore
+pub mod NodesStand
+pub mod RootsBefore
+pub mod FilesBefore
 pub mod PrepareStore
 pub mod StoreChosen
 pub mod OneReason

@@ -13,7 +13,6 @@ use Rattle.pod_choice.specs.declared.error.ChoiceError.{ChoiceError}
 use Rattle.pod_choice.specs.declared.error.ChoiceError.TheVariants as choice
 use Rattle.pod_choice.specs.Choices.{best_of, ArePicks, AreTrees, IsChoice, IsRefused, IsTreeFault, IsUnmatched}
 use Rattle.pod_choice.proofs.Mapped.{all_ok, all_some}
-use Rattle.pod_manifest.specs.declared.gen_error.GenError.{GenError}
 use Rattle.pod_manifest.specs.Generation.{first_refusal}
 use Rattle.pod_manifest.specs.Wishes.{Wishes}
 

@@ -40,7 +40,7 @@ module _ {old first last new : DirAt} (p : Part old first last new) where
   pub held_wider : (P : DirState → Type 0) → HeldBetween first last P → HeldBetween old new P
   held_wider P held = at_within {P = P} p.earlier p.later p.begins p.ends (subst (λ (me : ℕ). AtOwnStep me first.trace last.trace P) p.same held)
 
-  file_wider : {inner : Inner} {most : ℕ} {P : List ℕ → Type 0} → ReadsFile inner most P first last → ReadsFile inner most P old new
+  pub file_wider : {inner : Inner} {most : ℕ} {P : List ℕ → Type 0} → ReadsFile inner most P first last → ReadsFile inner most P old new
   file_wider r = record { bytes = r.bytes; few = r.few; read = within_wider r.read; holds = r.holds }
 
   pub lack_wider : (inner : Inner) (most : ℕ) (P : List ℕ → Type 0) → LacksFile inner most P first last → LacksFile inner most P old new

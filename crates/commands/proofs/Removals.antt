@@ -8,6 +8,7 @@ use Rattle.pod_removal.specs.declared.error.RemoveError.TheVariants as error
 use Rattle.pod_removal.specs.Holding.{MayRemovePod}
 use Rattle.pod_removal.specs.Removals.{RemoveCause, RefusedByAnother}
 use Rattle.pod_removal.specs.Found.{RefusedFirst}
+use Rattle.commands.specs.Strays.{ComesOfApp}
 use Rattle.command_outcomes.specs.declared.refusal.Refusal.{Refusal}
 use Rattle.command_outcomes.specs.declared.refusal.Refusal.TheVariants.{DirFault}
 use Rattle.command_outcomes.specs.Moments.{Outcome}
@@ -33,20 +34,23 @@ module _ (observed : Bool) (a b : DirAt) (pod : PodId) (now : ℕ) where
   abbrev First : RemoveError → Type 0
   First e = observed ≡ true → Stays (MayRemovePod pod now) a (λ s. RefusedFirst pod e a b)
 
-  said : (e : RemoveError) → RemoveCause observed pod e a b → Another e → First e → Says (Err (remove_refusal pod e))
-  said error.NoPod cause another first = λ t. cause.nowhere refl t
-  said (error.WrongPhase phase) cause another first = record {
+  abbrev Lawful : RemoveError → Type 0
+  Lawful e = e ≡ error.Stray → observed ≡ true → Stays (MayRemovePod pod now) a (λ s. ComesOfApp a.process a.trace b.trace)
+
+  said : (e : RemoveError) → RemoveCause observed pod e a b → Another e → First e → Lawful e → Says (Err (remove_refusal pod e))
+  said error.NoPod cause another first lawful = λ t. cause.nowhere refl t
+  said (error.WrongPhase phase) cause another first lawful = record {
     was = λ t conforming. cause.phase phase refl t conforming;
     owner = λ t s k may conforming. (another t s (record { tied = k.tied; handles = k.handles }) may).owner conforming phase refl;
   }
-  said error.NoManifest cause another first = (refl, λ t conforming. cause.manifest refl t conforming)
-  said (error.Busy other which) cause another first =
+  said error.NoManifest cause another first lawful = (refl, λ t conforming. cause.manifest refl t conforming)
+  said (error.Busy other which) cause another first lawful =
       let same : other ≡ pod = cause.named other which refl in
       let named : error.Busy other which ≡ error.Busy pod which = ap (λ (p : PodId). error.Busy p which) same in
       (same, λ t s k may. record { busy = (another t s (record { tied = k.tied; handles = k.handles }) may).busy which named; first = first t s (record { tied = k.tied; handles = k.handles }) may which named })
-  said error.DirFault cause another first = tt
-  said error.Stray cause another first = λ t. cause.stray refl t
-  said error.NoMemory cause another first = tt
+  said error.DirFault cause another first lawful = tt
+  said error.Stray cause another first lawful = (λ t. cause.stray refl t, λ t s k may. lawful refl t s (record { tied = k.tied; handles = k.handles }) may)
+  said error.NoMemory cause another first lawful = tt
 
-  pub refused_says : (e : RemoveError) (r : Refusal) → r ≡ remove_refusal pod e → RemoveCause observed pod e a b → Another e → First e → Says (Err r)
-  refused_says e r is cause another first = subst (λ (x : Refusal). Says (Err x)) (sym is) (said e cause another first)
+  pub refused_says : (e : RemoveError) (r : Refusal) → r ≡ remove_refusal pod e → RemoveCause observed pod e a b → Another e → First e → Lawful e → Says (Err r)
+  refused_says e r is cause another first lawful = subst (λ (x : Refusal). Says (Err x)) (sym is) (said e cause another first lawful)

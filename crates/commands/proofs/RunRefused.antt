@@ -9,7 +9,7 @@ use Rattle.dir_model.specs.declared.spot.Mode.TheVariants.{Shared}
 use Rattle.dir_model.specs.Calls.{Extends, is_begin, is_finish, AtOwnStep}
 use Rattle.dir_model.specs.Quiet.{Quiet}
 use Rattle.dir_model.specs.Trace.{state_after}
-use Rattle.dir_rules.specs.Conforms.{IsTied}
+use Rattle.dir_rules.specs.Conforms.{Conforms, IsTied}
 use Rattle.dir_trait.specs.DirCalls.{DirAt}
 use Rattle.dir_trait.specs.Knowledge.{Knows}
 use Rattle.area_locks.specs.AreaLocks.{is_against, IsBusyElsewhere}
@@ -29,6 +29,7 @@ use Rattle.commands.specs.PrepareRefusals.{IsSaid, build_refusal}
 use Rattle.commands.specs.Prepare.{pod_line, RefusesPod}
 use Rattle.commands.proofs.PrepareStore.{refuses_by_store}
 use Rattle.commands.proofs.StoreKept.{run_keeps}
+use Rattle.commands.proofs.TakenBefore.{finished_keeps, run_elsewhere, taken_before}
 use Rattle.commands.proofs.Sayings.{busy_of}
 use Rattle.commands.proofs.Whole.{refused_whole}
 use Rattle.commands.proofs.OwnSteps.{at_process, held_before, in_process}
@@ -80,6 +81,9 @@ module _ {seen : Bool} {wants : Wants} {now : ℕ} {draw : Draw} {d d' : DirAt} 
       left : HasOwnFolder draw.uuid intent [] d'
       left = x.left t intent [] began refl knows
 
+      conforms : Conforms old.process new.trace
+      conforms = finished_keeps ends (subst (λ (p : ℕ). Conforms p d'.trace) (stays ∙ mine) (left.knows.tied.conforms refl))
+
       why : x.is.0 ≡ build_refusal wants.images x.error → RefusesPod wants now draw old new r
       why is = record { error = x.error; is = same ∙ is; cause = (x.cause.0, x.cause.1, whole) }
 
@@ -87,7 +91,8 @@ module _ {seen : Bool} {wants : Wants} {now : ℕ} {draw : Draw} {d d' : DirAt} 
       by (inr is) = inl (same ∙ is)
       by (inl is) = inr (record {
         why = why is;
-        store = refuses_by_store wants now draw old new r (sym told ∙ t) (run_keeps draw.uuid ext quiet) (why is);
+        store = refuses_by_store wants now draw old new r (sym told ∙ t) (run_keeps draw.uuid ext quiet)
+            (taken_before draw.uuid (in_process (makes_and_runs draw.uuid)) (run_elsewhere draw.uuid) (shown_at old) (shown_at new) ext quiet conforms) (why is);
         held = λ area busy. held area (busy_of wants.images x.error area (sym (same ∙ is) ∙ busy));
         left = inr (record {
           begun = d.trace;

@@ -1,5 +1,5 @@
 -- What came of the service, and what is said of it.
-use Rattle.std.proofs.Common.{◌≡◌, true, [], Ok, Err, IfErr, IfOk, IsErrOf, refl, sym, subst, ◌∙◌}
+use Rattle.std.proofs.Common.{◌≡◌, true, [], Ok, Err, IfErr, IsErrOf, refl, sym, subst, ◌∙◌}
 use Rattle.metadata.specs.declared.error.MetaError.{MetaError}
 use Rattle.metadata.specs.declared.error.MetaError.TheVariants as service
 use Rattle.metadata.specs.Service.{Served}

@@ -1,5 +1,5 @@
 -- Where nobody else steps, the lines of a sweep of the store are those of the state before.
-use Rattle.std.proofs.Common.{◌≡◌, ◌⊎◌, inl, inr, ℕ, Bool, true, false, not, ◌&&◌, ◌||◌, ◌==◌, cond, bytes_eq, is_some, Less, Greater, Option, Some, None, List, [], ◌∷◌, ◌++◌, map, append-nil, refl, sym, ap, subst, ◌∙◌, append_assoc, ◌+◌}
+use Rattle.std.proofs.Common.{◌≡◌, inl, inr, ℕ, Bool, true, false, not, ◌&&◌, ◌||◌, ◌==◌, cond, bytes_eq, is_some, Less, Greater, Option, Some, None, List, [], ◌∷◌, ◌++◌, map, refl, sym, ap, subst, ◌∙◌, append_assoc, ◌+◌}
 use Rattle.std.specs.List.{list_any, position_from, AllByRecursion}
 use Rattle.std.proofs.lemmas.Iterator.Adapters.{position_from-zero}
 use Rattle.std.specs.List.Sorted.{IsStrictlySortedBy}
@@ -16,17 +16,15 @@ use Rattle.dir_model.specs.declared.request.Request.{Request}
 use Rattle.dir_model.specs.declared.request.Request.TheVariants.{MakeFolder, MoveFolder, ListArea, RemoveFolder}
 use Rattle.dir_model.specs.declared.request.Reply.{Reply}
 use Rattle.dir_model.specs.declared.request.Reply.TheVariants.{Done, Names}
-use Rattle.dir_model.specs.Areas.{rank}
-use Rattle.dir_model.specs.State.{Namespace, DirState, empty_state, spot_eq, is_at, folder_at, stands}
+use Rattle.dir_model.specs.State.{Namespace, DirState, empty_state, spot_eq, is_at, stands}
 use Rattle.dir_model.specs.Trace.{state_after, state_next, moved, namespace_replied}
 use Rattle.dir_model.specs.Trees.{names_in}
 use Rattle.dir_model.specs.Listings.{has_name}
-use Rattle.dir_model.specs.Calls.{event, is_begin, is_finish, is_foreign, is_kill, Extends, AtOwnStep}
+use Rattle.dir_model.specs.Calls.{event, is_begin, is_foreign, is_kill, Extends, AtOwnStep}
 use Rattle.dir_model.specs.Quiet.{Quiet}
-use Rattle.dir_model.proofs.Lists.{all_left, all_right, all_map, same_rest, same_self, or_last, and_false}
+use Rattle.dir_model.proofs.Lists.{all_left, all_right, same_rest, same_self, or_last, and_false}
 use Rattle.dir_model.proofs.Chains.{states_next-append, and_more, extends_wider}
 use Rattle.dir_model.proofs.Moments.{at_within}
-use Rattle.dir_rules.specs.Standing.{is_in}
 use Rattle.dir_laws.specs.Stretches.{Sometime, StandsInArea}
 use Rattle.dir_files.specs.Listed.{ShowsArea}
 use Rattle.area_locks.specs.AreaLocks.{takes, is_against, IsBusyElsewhere, IsFreeElsewhere}
@@ -45,7 +43,7 @@ use Rattle.commands.proofs.OwnSteps.{in_process}
 use Rattle.commands.proofs.Openings.{free_before}
 use Rattle.commands.proofs.RemovalQuiet.{held_before}
 use Rattle.commands.proofs.RemovalEnds.{NoneAt, after_move, Upto, upto_more, kept_between, Leaves, folders_same}
-use Rattle.commands.proofs.SweepEnds.{place_in, putting, Dealt, named_at, none_of, throughout_same, quiet_part, nothing_more, none_left, moves_elsewhere, puts, never, upto_passed, first_pass, to_between, from_between}
+use Rattle.commands.proofs.SweepEnds.{place_in, putting, Dealt, named_at, none_of, throughout_same, nothing_more, none_left, moves_elsewhere, puts, never, upto_passed, first_pass, to_between, from_between}
 
 -- names
 

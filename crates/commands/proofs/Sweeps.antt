@@ -11,6 +11,7 @@ use Rattle.pod_gc.specs.Ended.{EndsSweepBetween}
 use Rattle.command_outcomes.specs.declared.refusal.Refusal.{Refusal}
 use Rattle.command_outcomes.specs.declared.refusal.Refusal.TheVariants.{DirFault, NoMemory}
 use Rattle.command_outcomes.specs.Moments.{Outcome, dir_seen}
+use Rattle.commands.specs.Strays.{ComesOfApp}
 use Rattle.commands.specs.Gc.{lines_text, sweep_refusal, gc_refusal, SweepsInPart, WhereSweeping, GcSays}
 
 pub sweep_fault : (e : GcError) → sweep_refusal e ≡ DirFault → e ≡ error.DirFault
@@ -37,10 +38,13 @@ module _ (observed : Bool) (a b : DirAt) (times : Times) where
   in_part : times.now ≤ 18446744073709551615 → (observed ≡ true → EndsSweepBetween times a b) → WhereSweeping times (dir_seen observed a) (SweepsInPart times a.process a.trace b.trace)
   in_part moment ended t s k may = record { from = a; can = (s, record { tied = k.tied; handles = k.handles }, may); ended = ended t; moment = moment }
 
-  early : (e : GcError) → GcCause observed e a b → WhereSweeping times (dir_seen observed a) (SweepsInPart times a.process a.trace b.trace) → Says (Err (sweep_refusal e))
-  early error.DirFault cause part = part
-  early error.NoMemory cause part = λ t s k may. inl (part t s k may)
-  early error.Stray cause part = (λ t. cause.stray refl t, part)
+  abbrev Lawful : GcError → Type 0
+  Lawful e = e ≡ error.Stray → WhereSweeping times (dir_seen observed a) (ComesOfApp a.process a.trace b.trace)
 
-  pub early_says : times.now ≤ 18446744073709551615 → (e : GcError) (r : Refusal) → r ≡ sweep_refusal e → GcCause observed e a b → (observed ≡ true → EndsSweepBetween times a b) → Says (Err r)
-  early_says moment e r is cause ended = subst (λ (x : Refusal). Says (Err x)) (sym is) (early e cause (in_part moment ended))
+  early : (e : GcError) → GcCause observed e a b → WhereSweeping times (dir_seen observed a) (SweepsInPart times a.process a.trace b.trace) → Lawful e → Says (Err (sweep_refusal e))
+  early error.DirFault cause part lawful = part
+  early error.NoMemory cause part lawful = λ t s k may. inl (part t s k may)
+  early error.Stray cause part lawful = (λ t. cause.stray refl t, part, lawful refl)
+
+  pub early_says : times.now ≤ 18446744073709551615 → (e : GcError) (r : Refusal) → r ≡ sweep_refusal e → GcCause observed e a b → (observed ≡ true → EndsSweepBetween times a b) → Lawful e → Says (Err r)
+  early_says moment e r is cause ended lawful = subst (λ (x : Refusal). Says (Err x)) (sym is) (early e cause (in_part moment ended) lawful)

@@ -16,6 +16,8 @@ use Rattle.command_outcomes.specs.Moments.{Answer}
 use Rattle.commands.specs.AppEnds.{told_of}
 use Rattle.commands.specs.RunRefusals.{run_refusal, IsRunSaid, apps_refusal}
 use Rattle.commands.specs.AppRuns.{RunSays}
+use Rattle.stage1.specs.declared.error.RunError.TheVariants.{Stray}
+use Rattle.commands.specs.Strays.{NeverComes}
 
 -- of what a refusal was said
 run_fault : (pod : PodId) (e : RunError) → run_refusal pod e ≡ DirFault → e ≡ run.DirFault
@@ -77,5 +79,5 @@ module _ (seen observed : Bool) (owned : Owned) (address : List ℕ) (d d' : Dir
   ran_says front ends a (inl is) ran = subst (λ (x : Answer). RunSays seen observed owned address front d d' s s' x) (sym is) (record { ends = ends; is = refl; ran = ran })
   ran_says front ends a (inr is) ran = subst (λ (x : Answer). RunSays seen observed owned address front d d' s s' x) (sym is) (inr (record { is = refl; ends = ends; ran = ran }))
 
-  pub stopped_says : (front : List ℕ) (e : RunError) (r : Refusal) → IsRunSaid owned.pod e r → IsRefusedRun seen observed owned.pod address e d d' s s' → RunSays seen observed owned address front d d' s s' (refusing r)
-  stopped_says front e r said x = inl (record { error = e; is = (r, refl, said); refused = x })
+  pub stopped_says : (front : List ℕ) (e : RunError) (r : Refusal) → IsRunSaid owned.pod e r → IsRefusedRun seen observed owned.pod address e d d' s s' → (e ≡ Stray → seen ≡ true → NeverComes d'.trace) → RunSays seen observed owned address front d d' s s' (refusing r)
+  stopped_says front e r said x lawful = inl (record { error = e; is = (r, refl, said); refused = x; lawful = lawful })

@@ -1,5 +1,5 @@
 -- Where nothing hinders the removal of a pod, `rm` is refused for a failure alone.
-use Rattle.std.proofs.Common.{◌≡◌, inl, inr, ℕ, true, false, Ok, Err, IfErr, List, [], ◌∷◌, ◌++◌, sym, ap, subst, ◌∙◌, append_assoc, append-nil}
+use Rattle.std.proofs.Common.{◌≡◌, ℕ, true, false, Ok, Err, IfErr, List, [], ◌∷◌, ◌++◌, sym, ap, subst, ◌∙◌, append_assoc, append-nil}
 use Rattle.dir_model.specs.declared.event.Event.{Event}
 use Rattle.dir_model.specs.declared.pod.PodId.{PodId}
 use Rattle.dir_model.specs.Calls.{is_finish, Extends}
@@ -8,7 +8,6 @@ use Rattle.lifecycle.specs.Executions.{IsConforming}
 use Rattle.lifecycle.proofs.Draws.{conforming_left}
 use Rattle.pod_removal.specs.Hindrances.{IsUnhinderedThroughout}
 use Rattle.pod_removal.proofs.Hindrances.{never_gone, never_wrong, never_lacking, never_held}
-use Rattle.pod_removal.proofs.Onward.{never_missed}
 use Rattle.command_outcomes.specs.declared.refusal.Refusal.{Refusal}
 use Rattle.command_outcomes.specs.declared.refusal.Refusal.TheVariants.{NoPod, WrongPhase, NoManifest, PodBusy, DirFault, Stray, NoMemory}
 use Rattle.command_outcomes.specs.Moments.{DirSeen, Outcome}
@@ -22,7 +21,7 @@ rm_complete pod now old new (WrongPhase p) may says t s k m conforming free = ab
 rm_complete pod now old new (NoManifest other) may says t s k m conforming free = absurd (never_lacking pod old.process old.trace new.trace free (says.1 t conforming))
 rm_complete pod now old new (PodBusy other which) may says t s k m conforming free = absurd (never_held pod old.process old.trace new.trace free which (says.1 t s k m).busy)
 rm_complete pod now old new DirFault may says t s k m conforming free = tt
-rm_complete pod now old new Stray may says t s k m conforming free = elim (says t) [ inl stray ↦ stray | inr missed ↦ absurd (never_missed pod old.process old.trace new.trace conforming free missed) ]
+rm_complete pod now old new Stray may says t s k m conforming free = says.1 t s k m conforming
 rm_complete pod now old new NoMemory may says t s k m conforming free = tt
 rm_complete pod now old new r may says t s k m conforming free = let clash : false ≡ true = may in cc
 

@@ -1,5 +1,5 @@
 -- The run of a pod that a process owns, and what is told of it.
-use Rattle.std.specs.Prelude.{◌≡◌, ◌⊎◌, ℕ, Bool, List, Ok, Err}
+use Rattle.std.specs.Prelude.{◌≡◌, ◌⊎◌, ℕ, Bool, true, List, Ok, Err}
 use Rattle.dir_trait.specs.DirCalls.{DirAt}
 use Rattle.spawner.specs.Calls.{SpawnerAt}
 use Rattle.pod_ownership.specs.declared.owned.Owned.{Owned}
@@ -12,6 +12,8 @@ use Rattle.command_outcomes.specs.declared.told.Told.{Told}
 use Rattle.command_outcomes.specs.Moments.{Answer, Inside, dir_seen}
 use Rattle.commands.specs.AppEnds.{told_of}
 use Rattle.commands.specs.RunRefusals.{IsRunSaid}
+use Rattle.commands.specs.Strays.{NeverComes}
+use Rattle.stage1.specs.declared.error.RunError.TheVariants.{Stray}
 
 -- the pod was run to its end, with this address of the metadata service, and this is told after the text
 pub record IsRun (seen observed : Bool) (owned : Owned) (address front : List ℕ) (d d' : DirAt) (s s' : SpawnerAt) (told : Told) : Type 0 where
@@ -30,6 +32,7 @@ pub record IsStopped (seen observed : Bool) (owned : Owned) (address : List ℕ)
   pub error : RunError
   pub is : (refusal : Refusal) × (answer ≡ Err refusal) × IsRunSaid owned.pod error refusal
   pub refused : IsRefusedRun seen observed owned.pod address error d d' s s'
+  pub lawful : error ≡ Stray → seen ≡ true → NeverComes d'.trace
 
 abbrev pub RunSays : Bool → Bool → Owned → List ℕ → List ℕ → DirAt → DirAt → SpawnerAt → SpawnerAt → Answer → Type 0
 RunSays seen observed owned address front d d' s s' (Ok told) = IsRun seen observed owned address front d d' s s' told

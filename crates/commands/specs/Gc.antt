@@ -27,6 +27,7 @@ use Rattle.command_outcomes.specs.Moments.{DirSeen, Outcome}
 use Rattle.command_outcomes.specs.Conforming.{shown_at}
 use Rattle.command_outcomes.specs.Ends.{is_common}
 use Rattle.command_outcomes.specs.Meanwhile.{Meanwhile}
+use Rattle.commands.specs.Strays.{ComesOfApp}
 
 -- the moment of a sweep, and the times over which pods rest
 abbrev pub times_of : ℕ → ℕ → ℕ → Times
@@ -107,7 +108,8 @@ pub record SweepsPods (times : Times) (old new : DirSeen) (text : List ℕ) : Ty
 -- what was told of the pods, and what was done with them where it was refused
 abbrev pub GcSays : Times → DirSeen → DirSeen → Outcome → Type 0
 GcSays times old new (Ok text) = SweepsPods times old new text
-GcSays times old new (Err Stray) = (old.observed ≡ true → WasStray old.process old.trace new.trace) × WhereSweeping times old (SweepsInPart times old.process old.trace new.trace)
+GcSays times old new (Err Stray) =
+    (old.observed ≡ true → WasStray old.process old.trace new.trace) × WhereSweeping times old (SweepsInPart times old.process old.trace new.trace) × WhereSweeping times old (ComesOfApp old.process old.trace new.trace)
 GcSays times old new (Err NoMemory) = WhereSweeping times old (SweepsInPart times old.process old.trace new.trace ⊎ SweepsUntold times old.process old.trace new.trace)
 GcSays times old new (Err refusal) = WhereSweeping times old (SweepsInPart times old.process old.trace new.trace)
 

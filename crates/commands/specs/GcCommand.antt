@@ -17,14 +17,16 @@ use Rattle.commands.specs.Gc.{times_of, gc_refusal, lines_text, names_kept, GcSa
 use Rattle.commands.specs.RemovalHistory.{SweepsForGood}
 use Rattle.commands.specs.RemovalQuiet.{SweepsPodsQuietly, is_pods_place}
 use Rattle.commands.specs.NextState.{LeavesBeside}
+use Rattle.commands.specs.Strays.{ComesOfApp}
+use Rattle.command_outcomes.specs.Meanwhile.{Meanwhile}
 
 -- what its process says when it begins: how long an exited pod rests since it was marked, and a prepared one since it was made, in seconds
 abbrev pub gc_intent : ℕ → ℕ → ℕ → Draw → Intent
 gc_intent grace expire now draw = record { kind = kind.Gc; word = []; now = now; grace = grace; expire = expire; draw = draw.uuid; token = draw.token }
 
--- an answer came that what the locks keep doesn't explain
+-- an answer came that what the locks keep doesn't explain; where every process keeps the local rules, since a started app wrote on
 abbrev pub RefusesGc : Refusal → DirSeen → DirSeen → Type 0
-RefusesGc Stray old new = old.observed ≡ true → HasMetStrayInPods old new
+RefusesGc Stray old new = old.observed ≡ true → HasMetStrayInPods old new × Meanwhile ComesOfApp old.process old.trace new.trace
 RefusesGc refusal old new = ⊥
 
 -- with status 0 and 12 a sweep made its six passes, with 14 it may have; with another status than 0 and 12 it ended early, or with 14 it

@@ -27,6 +27,7 @@ use Rattle.command_outcomes.specs.Conforming.{shown_at}
 use Rattle.command_outcomes.specs.Ends.{is_common}
 use Rattle.command_outcomes.specs.Meanwhile.{Meanwhile}
 use Rattle.commands.specs.SweepTable.{AreSweepLines}
+use Rattle.commands.specs.Strays.{NeverComes}
 
 -- the line that it prints of a folder, or of an area whose lock another process holds
 abbrev pub sweep_text : SweepLine → List ℕ
@@ -56,16 +57,20 @@ pub record StrayInSweep (me : ℕ) (old new : List Event) : Type 0 where
   pub stray : WasStray me old new
   pub early : EndsEarly me old new
 
+-- it is so where the process has begun to sweep
+abbrev pub WhereSweeping : DirSeen → Type 0 → Type 0
+WhereSweeping old P = old.observed ≡ true → (s : Seen) → Knows (shown_at old) s → MaySweep s → P
+
 -- it printed the lines of what it did, where the process has begun to sweep
 pub record SweepsStore (old new : DirSeen) (text : List ℕ) : Type 0 where
   pub lines : List SweepLine
   pub is : text ≡ sweep_texts lines
-  pub swept : old.observed ≡ true → (s : Seen) → Knows (shown_at old) s → MaySweep s → Sweeps lines old.process old.trace new.trace
+  pub swept : WhereSweeping old (Sweeps lines old.process old.trace new.trace)
 
 -- what was told of the two areas
 abbrev pub ImageGcSays : DirSeen → DirSeen → Outcome → Type 0
 ImageGcSays old new (Ok text) = SweepsStore old new text
-ImageGcSays old new (Err Stray) = old.observed ≡ true → StrayInSweep old.process old.trace new.trace
+ImageGcSays old new (Err Stray) = (old.observed ≡ true → StrayInSweep old.process old.trace new.trace) × WhereSweeping old (NeverComes new.trace)
 ImageGcSays old new (Err DirFault) = old.observed ≡ true → EndsEarly old.process old.trace new.trace
 ImageGcSays old new (Err refusal) = Unit {0}
 
@@ -98,7 +103,7 @@ pub record PrintsSweep (me : ℕ) (s : DirState) (text : List ℕ) : Type 0 wher
 -- answers
 abbrev pub SweepsQuietly : DirSeen → DirSeen → Outcome → Type 0
 SweepsQuietly old new (Ok text) = HasSwept old new text × PrintsSweep old.process (state_after old.trace) text × LeavesNoFolder Incoming old new × LeavesNoFolder Removed old new
-SweepsQuietly old new (Err Stray) = HasMetStrayInSweep old new
+SweepsQuietly old new (Err Stray) = HasMetStrayInSweep old new × NeverComes new.trace
 SweepsQuietly old new (Err refusal) = ⊥
 
 -- where it moves and removes folders

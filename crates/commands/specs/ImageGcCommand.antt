@@ -12,10 +12,11 @@ use Rattle.commands.specs.Phases.{names_none}
 use Rattle.commands.specs.Command.{Command, nothing, alone, intent_for, WhereObserved}
 use Rattle.commands.specs.ImageGc.{image_gc_refusal, sweep_texts, is_swept_place, HasEndedEarly, HasMetStrayInSweep, HasSwept, ImageGcSays, SweepsQuietly}
 use Rattle.commands.specs.NextState.{LeavesBeside}
+use Rattle.commands.specs.Strays.{NeverComes}
 
--- an answer came that what the locks keep doesn't explain
+-- an answer came that what the locks keep doesn't explain; where every process keeps the local rules, none comes
 abbrev pub RefusesImageGc : Refusal → DirSeen → DirSeen → Type 0
-RefusesImageGc Stray old new = old.observed ≡ true → HasMetStrayInSweep old new
+RefusesImageGc Stray old new = old.observed ≡ true → HasMetStrayInSweep old new × NeverComes new.trace
 RefusesImageGc refusal old new = ⊥
 
 -- with status 0 it wrote the lines of what it did; with 9 it ended early, and did nothing after the pass that failed

@@ -23,9 +23,10 @@ use Rattle.folder_contents.specs.Entries.{entries_in}
 use Rattle.bundle_image.specs.declared.image.BundleImage.{BundleImage}
 use Rattle.image_reading.specs.declared.error.StoreError.{StoreError}
 use Rattle.image_reading.specs.declared.error.StoreError.TheVariants as store_error
-use Rattle.image_reading.specs.Places.{image_spot}
+use Rattle.image_reading.specs.Places.{image_spot, IsAbsent}
 use Rattle.image_store.specs.Causes.{Source, source_at, WasThere}
 use Rattle.image_store.specs.Imports.{key_of, digest_of, IsOf, OfBundle, IsRefused, ComesInTurn, IsImported}
+use Rattle.image_store.specs.Moves.{MovedNothing}
 use Rattle.image_store.specs.Refusals.{is_import_area}
 use Rattle.image_store.specs.Requests.{building_spot}
 use Rattle.image_store.specs.Work.{IsImport}
@@ -34,6 +35,8 @@ use Rattle.command_outcomes.specs.declared.refusal.Refusal.TheVariants.{Busy, Ba
 use Rattle.command_outcomes.specs.Moments.{DirSeen, BundleSeen, Outside, Outcome}
 use Rattle.command_outcomes.specs.Conforming.{shown_at, begun}
 use Rattle.command_outcomes.specs.Ends.{is_common}
+use Rattle.standing_images.specs.Images.{SameImages}
+use Rattle.commands.specs.ImageImportTable.{HasOneDigest, RefusesByStanding}
 use Rattle.commands.specs.NextState.{LeavesBeside}
 
 -- the line that it prints: the image's key
@@ -92,11 +95,11 @@ IsSaidOf error refusal = (refusal ≡ import_refusal error) ⊎ (refusal ≡ NoM
 abbrev pub source_of : List ℕ → BundleSeen → Source
 source_of path bundle = source_at bundle.observed bundle.tree path
 
--- the image was there with its digest, or by an own move its folder came there, and just after that it holds the image, imported
--- at that moment
+-- the image was there with its digest, and nothing was moved into images; or by an own move its folder came there, and just after
+-- that it holds the image, imported at that moment
 abbrev pub IsStored : BundleImage → ℕ → PodId → DirSeen → DirSeen → Type 0
 IsStored image now draw old new =
-    WasThere (key_of image) (digest_of image) (shown_at old) (shown_at new)
+    (WasThere (key_of image) (digest_of image) (shown_at old) (shown_at new) × MovedNothing old.process old.trace new.trace)
     ⊎ IsImported old.process (building_spot draw) (image_spot (key_of image)) (IsOf image now) old.trace new.trace
 
 -- the text is the line of the image that the bundle says
@@ -116,12 +119,13 @@ pub record ImportsImage (path : List ℕ) (now : ℕ) (draw : PodId) (old new : 
   pub key : PrintsKey path old.bundle text
   pub stores : old.dir.observed ≡ true → IsConforming new.dir.trace → WhereBegun draw old.dir (StoresImage path now draw old new text)
 
--- why it imported nothing, which came in its turn, and that this is what is said
+-- why it imported nothing, which came in its turn, and that this is what is said; and it moved nothing into images
 pub record RefusesImage (path : List ℕ) (old new : Outside) (refusal : Refusal) : Type 0 where
   pub error : StoreError
   pub is : refusal ≡ import_refusal error
   pub cause : IsRefused old.dir.observed (source_of path old.bundle) error (shown_at old.dir) (shown_at new.dir)
   pub turn : ComesInTurn old.dir.observed (source_of path old.bundle) error (shown_at old.dir) (shown_at new.dir)
+  pub still : old.dir.observed ≡ true → MovedNothing old.dir.process old.dir.trace new.dir.trace
 
 -- where a lock was refused, another process held it exclusively at an own step
 abbrev pub IsAreaHeld : Area → DirSeen → DirSeen → Type 0
@@ -148,25 +152,35 @@ pub record HoldsImage (image : BundleImage) (now : ℕ) (s : DirState) : Type 0 
   pub stands : folder_at s.namespace (image_spot (key_of image)) ≡ Some folder
   pub holds : IsOf image now (entries_in folder s.entries)
 
+-- the image stood there before with its digest, and every image is as it was; or none stood at its key, and in the end the folder
+-- there holds it
+abbrev pub ComesStored : BundleImage → ℕ → DirSeen → DirSeen → Type 0
+ComesStored image now old new =
+    (WasThere (key_of image) (digest_of image) (shown_at old) (shown_at new) × HasOneDigest (key_of image) (digest_of image) (state_after old.trace)
+    × SameImages (state_after old.trace) (state_after new.trace))
+    ⊎ (IsAbsent (key_of image) (state_after old.trace) × HoldsImage image now (state_after new.trace))
+
 -- the images are as they were, but that the one that the bundle says was brought there, where it wasn't
-pub record AddsImage (path : List ℕ) (now : ℕ) (draw : PodId) (old new : Outside) (text : List ℕ) : Type 0 where
-  pub stores : OfBundle (source_of path old.bundle) (λ image. (text ≡ key_line (key_of image))
-      × (WasThere (key_of image) (digest_of image) (shown_at old.dir) (shown_at new.dir) ⊎ HoldsImage image now (state_after new.dir.trace)))
+pub record AddsImage (path : List ℕ) (now : ℕ) (old new : Outside) (text : List ℕ) : Type 0 where
+  pub stores : OfBundle (source_of path old.bundle) (λ image. (text ≡ key_line (key_of image)) × ComesStored image now old.dir new.dir)
   pub keeps : KeepsImages (state_after old.dir.trace) (state_after new.dir.trace)
 
--- the images are as they were
-abbrev pub LeavesImages : DirSeen → DirSeen → Type 0
-LeavesImages old new = IsConforming new.trace → KeepsImages (state_after old.trace) (state_after new.trace)
+-- the images are as they were, and what is said of them is so of the state before
+pub record RefusesQuietly (path : List ℕ) (old new : Outside) (refusal : Refusal) : Type 0 where
+  pub why : RefusesImage path old new refusal
+  pub same : SameImages (state_after old.dir.trace) (state_after new.dir.trace)
+  pub stands : RefusesByStanding (source_of path old.bundle) refusal (state_after old.dir.trace)
 
--- what it comes to where nobody else steps: by the bundle and by its own reads, or by a lock as it was held before
+-- what it comes to where nobody else steps: by the bundle, by the image at its key as the state before has it, or by a lock as it was
+-- held before. No answer is stray where every process keeps the local rules
 abbrev pub ImportsQuietly : List ℕ → ℕ → PodId → Outside → Outside → Outcome → Type 0
-ImportsQuietly path now draw old new (Ok text) = PrintsKey path old.bundle text × (IsConforming new.dir.trace → AddsImage path now draw old new text)
-ImportsQuietly path now draw old new (Err (Busy area)) =
-    RefusesImage path old new (Busy area) × LeavesImages old.dir new.dir × IsBusyElsewhere old.dir.process area Shared (state_after old.dir.trace)
+ImportsQuietly path now draw old new (Ok text) = PrintsKey path old.bundle text × (IsConforming new.dir.trace → AddsImage path now old new text)
+ImportsQuietly path now draw old new (Err (Busy area)) = RefusesQuietly path old new (Busy area) × IsBusyElsewhere old.dir.process area Shared (state_after old.dir.trace)
 ImportsQuietly path now draw old new (Err NoMemory) = ⊥
 ImportsQuietly path now draw old new (Err DirFault) = ⊥
 ImportsQuietly path now draw old new (Err BundleFault) = ⊥
-ImportsQuietly path now draw old new (Err refusal) = RefusesImage path old new refusal × LeavesImages old.dir new.dir
+ImportsQuietly path now draw old new (Err Stray) = RefusesQuietly path old new Stray × (IsConforming new.dir.trace → ⊥)
+ImportsQuietly path now draw old new (Err refusal) = RefusesQuietly path old new refusal
 
 -- where it makes a folder and whence it moves it
 abbrev pub is_building_place : PodId → Spot → Bool

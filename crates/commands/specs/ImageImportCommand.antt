@@ -8,8 +8,9 @@ use Rattle.dir_model.specs.declared.intent.Draw.{Draw}
 use Rattle.dir_model.specs.declared.intent.Kind.TheVariants as kind
 use Rattle.image_store.specs.Refusals.{bundle_refusal}
 use Rattle.image_store.specs.Requests.{building_spot, imports_at}
+use Rattle.lifecycle.specs.Executions.{IsConforming}
 use Rattle.command_outcomes.specs.declared.refusal.Refusal.{Refusal}
-use Rattle.command_outcomes.specs.declared.refusal.Refusal.TheVariants.{Busy}
+use Rattle.command_outcomes.specs.declared.refusal.Refusal.TheVariants.{Busy, Stray}
 use Rattle.command_outcomes.specs.Moments.{Outside, Moment}
 use Rattle.commands.specs.Answers.{IsAnswer, WritesOf}
 use Rattle.commands.specs.Opening.{directly}
@@ -17,12 +18,13 @@ use Rattle.commands.specs.Phases.{names_none}
 use Rattle.commands.specs.Command.{Command, reading, alone, intent_for, WhereAllKeepRules}
 use Rattle.commands.specs.ImageImport.{image_import_refusal, import_refusal, ImageImportSays, ImportsQuietly, IsAreaHeld, LeavesOthers, PrintsKey, RefusesImage, StoresImage}
 
--- the bundle's first fault, or what the store has or lacks, in its turn; and where a lock was refused, another process held it
--- exclusively at an own step
+-- the bundle's first fault, or what the store has or lacks, in its turn; where a lock was refused, another process held it
+-- exclusively at an own step; and no answer is stray where every process keeps the local rules
 pub record RefusesImport (path : List ℕ) (refusal : Refusal) (old new : Outside) : Type 0 where
   pub own : image_import_refusal refusal ≡ true
   pub why : RefusesImage path old new refusal
   pub held : (area : Area) → refusal ≡ Busy area → old.dir.observed ≡ true → IsAreaHeld area old.dir new.dir
+  pub lawful : refusal ≡ Stray → old.dir.observed ≡ true → IsConforming new.dir.trace → ⊥
 
 -- the bundle's first fault was answered, or the bundle has an image; or the bundle failed, or memory ran out
 abbrev pub IsBundleJudgement : List ℕ → ℕ → Moment → Moment → Type 0

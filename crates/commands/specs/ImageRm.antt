@@ -27,6 +27,7 @@ use Rattle.command_outcomes.specs.Moments.{DirSeen, Outcome}
 use Rattle.command_outcomes.specs.Conforming.{shown_at}
 use Rattle.command_outcomes.specs.Ends.{is_common}
 use Rattle.command_outcomes.specs.Meanwhile.{Meanwhile}
+use Rattle.commands.specs.Strays.{NeverComes}
 
 -- the line that it prints
 abbrev pub removed_text : StoreKey → List ℕ
@@ -79,7 +80,7 @@ abbrev pub ImageRmSays : StoreKey → PodId → DirSeen → DirSeen → Outcome 
 ImageRmSays key draw old new (Ok text) = RemovesImage key draw old new text
 ImageRmSays key draw old new (Err (Busy area)) = WhereRemoving draw old (FindsBusy old.process old.trace new.trace)
 ImageRmSays key draw old new (Err (NoImage named)) = FindsNoImage key draw old new named
-ImageRmSays key draw old new (Err Stray) = old.observed ≡ true → StrayRemoval key draw old.process old.trace new.trace
+ImageRmSays key draw old new (Err Stray) = (old.observed ≡ true → StrayRemoval key draw old.process old.trace new.trace) × WhereRemoving draw old (NeverComes new.trace)
 ImageRmSays key draw old new (Err refusal) = Unit {0}
 
 -- of a whole process: that it removed the image, that it found none, that it met an answer which the locks don't explain
@@ -103,7 +104,7 @@ abbrev pub RemovesQuietly : StoreKey → PodId → DirSeen → DirSeen → Outco
 RemovesQuietly key draw old new (Ok text) = (text ≡ removed_text key) × HasRemoved key draw old new × LeavesNone key draw old new
 RemovesQuietly key draw old new (Err (Busy area)) = (area ≡ Images) × IsBusyElsewhere old.process Images Exclusive (state_after old.trace)
 RemovesQuietly key draw old new (Err (NoImage named)) = (named ≡ id_text key.bytes) × HasFoundNone key draw old new × IsAbsent key (state_after old.trace)
-RemovesQuietly key draw old new (Err Stray) = HasMetStray key draw old new
+RemovesQuietly key draw old new (Err Stray) = HasMetStray key draw old new × NeverComes new.trace
 RemovesQuietly key draw old new (Err refusal) = ⊥
 
 -- where it moves and removes folders: the image's place, and its own in removed

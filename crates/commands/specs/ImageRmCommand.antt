@@ -17,13 +17,15 @@ use Rattle.commands.specs.Phases.{names_none}
 use Rattle.commands.specs.Command.{Command, nothing, alone, intent_for, WhereObserved}
 use Rattle.commands.specs.ImageRm.{image_rm_refusal, removed_text, is_removal_place, FindsBusy, HasFoundNone, HasMetStray, HasRemoved, ImageRmSays, RemovesQuietly}
 use Rattle.commands.specs.NextState.{LeavesBeside}
+use Rattle.commands.specs.Strays.{NeverComes}
 
 -- another process held the lock of the images at an own step, and nothing but that lock was asked for; no image had the key when its
--- own move was answered so; or an answer came that what the locks keep doesn't explain
+-- own move was answered so; or an answer came that what the locks keep doesn't explain, which doesn't come where every process keeps the
+-- local rules
 abbrev pub RefusesImageRm : StoreKey → Draw → Refusal → DirSeen → DirSeen → Type 0
 RefusesImageRm key draw (Busy Images) old new = old.observed ≡ true → Meanwhile FindsBusy old.process old.trace new.trace
 RefusesImageRm key draw (NoImage named) old new = (named ≡ id_text key.bytes) × (old.observed ≡ true → HasFoundNone key draw.uuid old new)
-RefusesImageRm key draw Stray old new = old.observed ≡ true → HasMetStray key draw.uuid old new
+RefusesImageRm key draw Stray old new = old.observed ≡ true → HasMetStray key draw.uuid old new × NeverComes new.trace
 RefusesImageRm key draw refusal old new = ⊥
 
 -- with status 0 it wrote that the image is removed, and removed it. Where it isn't done, it removed no folder

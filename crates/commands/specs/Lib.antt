@@ -12,6 +12,7 @@ pub mod ImageGc
 pub mod ImageGcCommand
 pub mod ImageImport
 pub mod ImageImportCommand
+pub mod ImageImportTable
 pub mod ImageList
 pub mod ImageListCommand
 pub mod ImageRm
@@ -33,6 +34,7 @@ pub mod RemovalHistory
 pub mod RemovalQuiet
 pub mod RemovalTable
 pub mod Report
+pub mod Strays
 pub mod Rm
 pub mod RmCommand
 pub mod Run

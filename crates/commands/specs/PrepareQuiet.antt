@@ -13,7 +13,7 @@ use Rattle.dir_trait.specs.Trace.{state_after}
 use Rattle.area_locks.specs.AreaLocks.{IsBusyElsewhere}
 use Rattle.lifecycle.specs.Executions.{IsConforming}
 use Rattle.pod_making.specs.Requests.{pod_at}
-use Rattle.command_outcomes.specs.declared.refusal.Refusal.TheVariants.{Busy, DirFault, NoMemory}
+use Rattle.command_outcomes.specs.declared.refusal.Refusal.TheVariants.{Busy, DirFault, Stray, NoMemory}
 use Rattle.command_outcomes.specs.Moments.{DirSeen, Outcome}
 use Rattle.pod_build.specs.Preparations.{IsPrepared}
 use Rattle.pod_manifest.specs.Wishes.{Wishes}
@@ -21,6 +21,7 @@ use Rattle.standing_images.specs.Images.{AreStore}
 use Rattle.commands.specs.References.{OfReferences}
 use Rattle.commands.specs.Prepare.{pod_line, RefusesPod}
 use Rattle.commands.specs.PrepareTable.{RefusesByStore}
+use Rattle.commands.specs.Strays.{NeverComes}
 use Rattle.commands.specs.Wants.{Wants}
 
 -- a pod that was prepared so stands there still, with what its maker made
@@ -41,6 +42,7 @@ PreparesQuietly wants now draw old new (Ok text) = (text ≡ pod_line draw.uuid)
 PreparesQuietly wants now draw old new (Err (Busy area)) = RefusesPod wants now draw old new (Busy area) × IsBusyElsewhere old.process area Shared (state_after old.trace)
 PreparesQuietly wants now draw old new (Err NoMemory) = ⊥
 PreparesQuietly wants now draw old new (Err DirFault) = ⊥
+PreparesQuietly wants now draw old new (Err Stray) = RefusesPod wants now draw old new Stray × NeverComes new.trace
 PreparesQuietly wants now draw old new (Err refusal) = RefusesPod wants now draw old new refusal × RefusesByStore wants refusal (state_after old.trace)
 
 -- where it makes and moves folders

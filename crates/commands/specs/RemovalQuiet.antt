@@ -37,11 +37,14 @@ use Rattle.pod_gc.specs.Deeds.{refused_lock}
 use Rattle.pod_gc.specs.Marks.{is_young, is_ripe}
 use Rattle.pod_gc.specs.Requests.{goes_to, moves_pods, lets_be, may_be_busy}
 use Rattle.command_outcomes.specs.declared.refusal.Refusal.TheVariants.{NoPod, WrongPhase, NoManifest, PodBusy, Stray}
+use Rattle.command_outcomes.specs.Meanwhile.{Meanwhile}
 use Rattle.command_outcomes.specs.Moments.{DirSeen, Outcome}
 use Rattle.commands.specs.Rm.{removed_text, HasRemovedPod, HasFoundNoPod, HasFoundWrong, HasFoundNoManifest, HasFoundBusy, HasMetStrayAtPod}
 use Rattle.commands.specs.Gc.{HasSweptPods, HasMetStrayInPods}
 use Rattle.commands.specs.RemovalTable.{moment_at, deed_when_moved, removal_refusal, ByTable}
 use Rattle.commands.specs.GcLines.{HasLine, AreTheLinesOf}
+use Rattle.commands.specs.Opening.{OnceFound}
+use Rattle.commands.specs.Strays.{ComesOfApp}
 
 -- no folder of the pod stands at any of its six places
 abbrev pub StandsNowhere : PodId → DirState → Type 0
@@ -86,7 +89,7 @@ RemovesPodQuietly pod old new (Err (NoManifest other)) =
 RemovesPodQuietly pod old new (Err (PodBusy other which)) =
     (other ≡ pod) × HasFoundBusy pod which old new × IsHeldNow (is_pod_spot pod) which old.process (state_after old.trace)
     × (IsConforming new.trace → removal_refusal old.process pod (state_after old.trace) ≡ Some (PodBusy pod which))
-RemovesPodQuietly pod old new (Err Stray) = HasMetStrayAtPod pod old new
+RemovesPodQuietly pod old new (Err Stray) = HasMetStrayAtPod pod old new × OnceFound ComesOfApp old.process old.trace new.trace
 RemovesPodQuietly pod old new (Err refusal) = ⊥
 
 -- where a sweep moves and removes folders. A removal does so at the pod's places (`is_pod_spot`)
@@ -236,5 +239,5 @@ pub record SweepsSo (times : Times) (old new : DirSeen) (text : List ℕ) : Type
 
 abbrev pub SweepsPodsQuietly : Times → DirSeen → DirSeen → Outcome → Type 0
 SweepsPodsQuietly times old new (Ok text) = SweepsSo times old new text
-SweepsPodsQuietly times old new (Err Stray) = HasMetStrayInPods old new
+SweepsPodsQuietly times old new (Err Stray) = HasMetStrayInPods old new × Meanwhile ComesOfApp old.process old.trace new.trace
 SweepsPodsQuietly times old new (Err refusal) = ⊥

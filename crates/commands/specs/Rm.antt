@@ -28,6 +28,8 @@ use Rattle.command_outcomes.specs.Moments.{DirSeen, Outcome}
 use Rattle.command_outcomes.specs.Conforming.{shown_at}
 use Rattle.command_outcomes.specs.Ends.{is_common}
 use Rattle.commands.specs.Opening.{OnceFound}
+use Rattle.impossible_replies.specs.Replies.{AppWroteOn}
+use Rattle.commands.specs.Strays.{ComesOfApp}
 
 -- the line that it prints
 abbrev pub removed_text : PodId → List ℕ
@@ -98,14 +100,14 @@ RmSays pod now old new (Err NoPod) = old.observed ≡ true → FoundNone pod old
 RmSays pod now old new (Err (WrongPhase phase)) = FindsWrong pod now phase old new
 RmSays pod now old new (Err (NoManifest other)) = (other ≡ pod) × (old.observed ≡ true → HadNoManifest pod old.process old.trace new.trace)
 RmSays pod now old new (Err (PodBusy other which)) = (other ≡ pod) × WhereRemoving pod now old (FindsPodBusy pod which old.process old.trace new.trace)
-RmSays pod now old new (Err Stray) = old.observed ≡ true → MeetsStray pod old.process old.trace new.trace
+RmSays pod now old new (Err Stray) = (old.observed ≡ true → MeetsStray pod old.process old.trace new.trace) × WhereRemoving pod now old (ComesOfApp old.process old.trace new.trace)
 RmSays pod now old new (Err refusal) = Unit {0}
 
--- the directory failed, memory ran out, or an own answer was one that what the locks keep doesn't explain
+-- the directory failed, memory ran out, or a started app wrote on that had outlived its owner
 abbrev pub FailsFor : Refusal → ℕ → List Event → List Event → Type 0
 FailsFor DirFault me old new = Unit {0}
 FailsFor NoMemory me old new = Unit {0}
-FailsFor Stray me old new = WasStray me old new
+FailsFor Stray me old new = AppWroteOn me old new
 FailsFor refusal me old new = ⊥
 
 -- in a conforming execution in which nothing hinders the pod's removal, only a failure refuses it

@@ -10,7 +10,6 @@ use Rattle.command_outcomes.specs.declared.refusal.Refusal.{Refusal}
 use Rattle.command_outcomes.specs.declared.refusal.Refusal.TheVariants.{NoPod, WrongPhase, NoManifest, PodBusy, Stray}
 use Rattle.command_outcomes.specs.Moments.{DirSeen, Moment}
 use Rattle.commands.specs.Answers.{WritesOf}
-use Rattle.pod_steps.specs.Causes.{WasStray}
 use Rattle.commands.specs.Kept.{KeepsRefused, RemovesNoneUnlessDone}
 use Rattle.commands.specs.Opening.{OnceFound, approach_of}
 use Rattle.commands.specs.Phases.{names_refused}
@@ -19,25 +18,28 @@ use Rattle.commands.specs.RemovalHistory.{IsRemovedBetween}
 use Rattle.commands.specs.RemovalQuiet.{RemovesPodQuietly}
 use Rattle.commands.specs.Rm.{rm_refusal, removed_text, HasFoundBusy, HasFoundNoManifest, HasFoundNoPod, HasFoundWrong, HasMetStrayAtPod, HasRemovedPod, RmSays}
 use Rattle.commands.specs.NextState.{LeavesBeside}
+use Rattle.impossible_replies.specs.Replies.{AppWroteOn}
+use Rattle.commands.specs.Strays.{ComesOfApp}
 
 -- the pod was found nowhere; it had this phase at an own event, which doesn't allow its removal, by another process's doing where that
 -- phase has an owner; it stood in prepared without its manifest; another process held that lock of it; or an answer came that what the
--- locks keep doesn't explain, or the pod was found and missed six times
+-- locks keep doesn't explain, or the pod was found and missed six times, but where every process keeps the local rules only that a started
+-- app wrote on
 abbrev pub RefusesRm : PodId → Refusal → DirSeen → DirSeen → Type 0
 RefusesRm pod NoPod old new = old.observed ≡ true → HasFoundNoPod pod old new
 RefusesRm pod (WrongPhase phase) old new = old.observed ≡ true → HasFoundWrong pod phase old new
 RefusesRm pod (NoManifest other) old new = (other ≡ pod) × (old.observed ≡ true → HasFoundNoManifest pod old new)
 RefusesRm pod (PodBusy other which) old new = (other ≡ pod) × (old.observed ≡ true → HasFoundBusy pod which old new)
-RefusesRm pod Stray old new = old.observed ≡ true → HasMetStrayAtPod pod old new
+RefusesRm pod Stray old new = old.observed ≡ true → HasMetStrayAtPod pod old new × OnceFound ComesOfApp old.process old.trace new.trace
 RefusesRm pod refusal old new = ⊥
 
--- how a removal of a pod ends that nothing hinders: it is done, or the directory failed, its line wasn't written or memory ran out; or an
--- own answer was one that what the locks keep doesn't explain
+-- how a removal of a pod ends that nothing hinders: it is done, or the directory failed, its line wasn't written or memory ran out; or a
+-- started app wrote on that had outlived its owner
 abbrev pub is_removal_end : ℕ → Bool
 is_removal_end status = list_any (λ n. n == status) (0 ∷ 9 ∷ 12 ∷ 14 ∷ [])
 
 abbrev pub EndsUnhindered : ℕ → DirSeen → DirSeen → Type 0
-EndsUnhindered status old new = (is_removal_end status ≡ true) ⊎ ((status ≡ 20) × OnceFound WasStray old.process old.trace new.trace)
+EndsUnhindered status old new = (is_removal_end status ≡ true) ⊎ ((status ≡ 20) × AppWroteOn old.process old.trace new.trace)
 
 -- with status 0 it wrote that the pod is removed, and removed it, or found it gone after it had been there. Where every process keeps the
 -- local rules, the pod existed then at a moment of the call, and is gone at its end, for good; and if nothing hinders its removal after any

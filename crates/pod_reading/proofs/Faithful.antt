@@ -132,6 +132,10 @@ module _ {observed : Bool} (told : observed ≡ true) {old new : DirAt} (images 
       listed = listed;
       choice = p.choice;
       chosen = p.chosen;
+      manifests = manifests;
+      roots = p.roots;
+      rooted = subst (λ (b : Bool). AreRoots b images old new p.choice.trees p.roots) told p.rooted;
+      planned = p.planned;
       makes = λ entries made. record {
         kind = manifest_good;
         apps = map files_of (apps_of manifests p.choice p.roots);

@@ -1,5 +1,5 @@
 -- What a faithful pod is: one that is made of images that its maker read itself.
-use Rattle.std.specs.Prelude.{◌≡◌, ℕ, ◌<◌, Some, Ok, List, length, slice_get}
+use Rattle.std.specs.Prelude.{◌≡◌, ℕ, true, ◌<◌, Some, Ok, List, length, slice_get}
 use Rattle.std.specs.List.{AllZip}
 use Rattle.ac_types.specs.declared.image_ref.ImageRef.{ImageRef}
 use Rattle.ac_types.specs.declared.store_key.StoreKey.{StoreKey}
@@ -25,6 +25,9 @@ use Rattle.pod_manifest.specs.Wishes.{Wishes}
 use Rattle.pod_choice.specs.declared.choice.Choice.{Choice}
 use Rattle.pod_choice.specs.Choices.{IsChoice}
 use Rattle.pod_plans.specs.Pods.{AppFiles, IsPod}
+use Rattle.pod_reading.specs.declared.root.Root.{Root}
+use Rattle.pod_reading.specs.Roots.{AreRoots}
+use Rattle.pod_reading.specs.Plans.{IsPlanOf}
 
 -- what a maker read in the store: the images that it listed, and of which bytes a manifest is and which lines a listing,
 -- by the image's key
@@ -79,10 +82,15 @@ read_between images old new = record {
   tree = λ key lines. ReadsTree key lines old new;
 }
 
--- wherever the plan is carried out, the folder is the pod that the references make of the images that were read
+-- it is the plan of the pod that the references make of the images that were read, and wherever it is carried out, the folder is that
+-- pod
 pub record PlansFaithfully (refs : List ImageRef) (options : Wishes) (now : ℕ) (token : List ℕ) (plan : List PlanEntry) (old new : DirAt) : Type 0 where
   pub images : List Stored
   pub listed : ReadsStore images old new
   pub choice : Choice
   pub chosen : IsChoice images refs options choice
+  pub manifests : List (List ℕ)
+  pub roots : List Root
+  pub rooted : AreRoots true images old new choice.trees roots
+  pub planned : IsPlanOf images manifests choice roots now token plan
   pub makes : (entries : List Entry) → AreMade plan entries → IsPodOf (read_between images old new) (pod_data choice.manifest) now token entries

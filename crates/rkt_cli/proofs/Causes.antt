@@ -34,6 +34,7 @@ use Rattle.rkt_cli.specs.Promises.{RefusedFor}
 use Rattle.rkt_cli.specs.Runs.{Performs, RunOfLine, Unwritten}
 use Rattle.rkt_cli.specs.Spawns.{CameBetween}
 use Rattle.rkt_cli.proofs.Ends.{from_end}
+use Rattle.commands.proofs.ImportRefusals.{refusal_lawful}
 use Rattle.rkt_cli.proofs.Imports.{import_refused, import_busy}
 use Rattle.rkt_cli.proofs.Listed.{list_lacked, list_busy}
 use Rattle.rkt_cli.proofs.Outcomes.{fault_cause, bundle_cause, refusals_of, does_validate}
@@ -98,19 +99,20 @@ module _ (now : ℕ) (draw : Draw) (old new : Outside) where
     own = import_own path r plain own;
     why = import_refused path now draw (intent_of (ImageImport path) now draw) old new r (no_memory r plain) p;
     held = λ area is t. import_busy path now draw old new area (subst (λ (q : Refusal). Fails (ImageImport path) q) is p) t;
+    lawful = refusal_lawful path old new r (import_refused path now draw (intent_of (ImageImport path) now draw) old new r (no_memory r plain) p);
   }
 
   removal_refused : (key : StoreKey) (r : Refusal) → Fails (ImageRm key) r → is_shared r ≡ false → may (ImageRm key) r ≡ true → RefusesImageRm key draw r old.dir new.dir
   removal_refused key (Busy Images) p plain own = removal_busy key now draw old new Images p
   removal_refused key (Busy area) p plain own = let clash : false ≡ true = own in cc
   removal_refused key (NoImage named) p plain own = (removal_unnamed key now draw (intent_of (ImageRm key) now draw) old new named p, removal_none key now draw (intent_of (ImageRm key) now draw) old new named p)
-  removal_refused key Stray p plain own = removal_stray key now draw (intent_of (ImageRm key) now draw) old new p
+  removal_refused key Stray p plain own = removal_stray key now draw old new p
   removal_refused key NoMemory p plain own = let clash : true ≡ false = plain in cc
   removal_refused key DirFault p plain own = let clash : true ≡ false = plain in cc
   removal_refused key r p plain own = let clash : false ≡ true = own in cc
 
   sweep_refused : (r : Refusal) → Fails ImageGc r → is_shared r ≡ false → may ImageGc r ≡ true → RefusesImageGc r old.dir new.dir
-  sweep_refused Stray p plain own = sweep_stray now draw (intent_of ImageGc now draw) old new p
+  sweep_refused Stray p plain own = sweep_stray now draw old new p
   sweep_refused NoMemory p plain own = let clash : true ≡ false = plain in cc
   sweep_refused DirFault p plain own = let clash : true ≡ false = plain in cc
   sweep_refused r p plain own = let clash : false ≡ true = own in cc
@@ -136,13 +138,13 @@ module _ (now : ℕ) (draw : Draw) (old new : Outside) where
   rm_refused pod (WrongPhase phase) p plain own = rm_wrong pod now draw old new phase p
   rm_refused {word = word} pod (NoManifest other) p plain own = rm_bare word pod now draw (intent_of (Rm word pod) now draw) old new other p
   rm_refused pod (PodBusy other which) p plain own = rm_busy pod now draw old new other which p
-  rm_refused {word = word} pod Stray p plain own = rm_stray word pod now draw (intent_of (Rm word pod) now draw) old new p
+  rm_refused {word = word} pod Stray p plain own = rm_stray {word = word} pod now draw old new p
   rm_refused pod NoMemory p plain own = let clash : true ≡ false = plain in cc
   rm_refused pod DirFault p plain own = let clash : true ≡ false = plain in cc
   rm_refused pod r p plain own = let clash : false ≡ true = own in cc
 
   gc_refused : {grace : ℕ} {expire : ℕ} (r : Refusal) → Fails (Gc grace expire) r → is_shared r ≡ false → may (Gc grace expire) r ≡ true → RefusesGc r old.dir new.dir
-  gc_refused {grace = grace} {expire = expire} Stray p plain own = gc_stray grace expire now draw (intent_of (Gc grace expire) now draw) old new p
+  gc_refused {grace = grace} {expire = expire} Stray p plain own = gc_stray {grace = grace} {expire = expire} now draw old new p
   gc_refused NoMemory p plain own = let clash : true ≡ false = plain in cc
   gc_refused DirFault p plain own = let clash : true ≡ false = plain in cc
   gc_refused r p plain own = let clash : false ≡ true = own in cc

@@ -30,7 +30,8 @@ use Rattle.rkt_cli.specs.Tasks.{RunPrepared, Rm}
 use Rattle.commands.specs.Answers.{inside_in}
 use Rattle.commands.specs.Command.{intent_for}
 use Rattle.commands.specs.RmCommand.{is_removal_end, EndsUnhindered}
-use Rattle.pod_steps.specs.Causes.{WasStray}
+use Rattle.impossible_replies.specs.Replies.{AppWroteOn}
+use Rattle.rkt_cli.proofs.Strays.{once_wrote}
 use Rattle.rkt_cli.proofs.Removals.{once_found}
 use Rattle.commands.specs.RunPreparedCommand.{is_unfree_status}
 use Rattle.rkt_cli.specs.Commands.{may, intent_of}
@@ -72,7 +73,7 @@ module _ (word : List ℕ) (pod : PodId) (now : ℕ) (draw : Draw) (old new : Mo
   failed : (r : Refusal) (s : InProcess (Rm word pod) now draw (rm_intent word now draw) old.outside new.outside (Err r)) → FailsFor r s.begun.dir.process s.begun.dir.trace s.ended.dir.trace → Ends (status_of r)
   failed DirFault s is = inl refl
   failed NoMemory s is = inl refl
-  failed Stray s is = inr (refl, once_found WasStray s t is)
+  failed Stray s is = inr (refl, once_wrote (once_found AppWroteOn s t is))
   failed r s is = absurd is
 
   ended : (o : Outcome) (end : End) → Performs (Rm word pod) now draw (intent_of (Rm word pod) now draw) old.outside new.outside o → Printed o old.out new.out end → Ends (end_status end)

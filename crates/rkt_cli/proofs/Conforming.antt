@@ -45,11 +45,15 @@ begun_knows {line} {now} {draw} {intent} {old} {new} {o} s t = record {
 }
 
 module _ (line : Task) (now : ℕ) (draw : Draw) (old new : Outside) (o : Outcome) (t : old.dir.observed ≡ true) where
-  begun_keeps : (intent : Intent) → InProcess line now draw intent old new o → KeepsConforming old.dir new.dir
-  begun_keeps intent s before =
+  -- a process that began has kept the rules when it has ended
+  pub process_conforms : (intent : Intent) → InProcess line now draw intent old new o → Conforms old.dir.process new.dir.trace
+  process_conforms intent s =
       let kept : KeepsRules s.ended.dir = s.keeps t (begun_knows s t) in
       let after : IsTied s.ended.dir.process new.dir.trace (seen_replied kept.known Finish Done) = tied_call kept.knows.tied refl refl refl (s.finishes t) in
       subst (λ (me : ℕ). Conforms me new.dir.trace) (s.ran.same ∙ s.me) (after.conforms kept.kept)
+
+  begun_keeps : (intent : Intent) → InProcess line now draw intent old new o → KeepsConforming old.dir new.dir
+  begun_keeps intent s before = process_conforms intent s
 
   never_keeps : (intent : Intent) → NeverBegan intent old new o → KeepsConforming old.dir new.dir
   never_keeps intent n before = ap (λ (f : Seen). f.kept) (refused_unseen (n.step t)) ∙ before

@@ -1,16 +1,20 @@
 -- What `image import` tells of the whole run.
-use Rattle.std.proofs.Common.{arith, ◌≡◌, inl, inr, ◌≤◌, ℕ, Bool, true, false, List, [], Option, Some, None, Ok, Err, refl, sym, ap, subst, ◌∙◌}
+use Rattle.std.proofs.Common.{arith, ◌≡◌, inl, inr, ◌≤◌, ℕ, Bool, true, false, not, List, [], Option, Some, None, Ok, Err, refl, sym, ap, subst, ◌∙◌}
 use Rattle.dir_model.specs.declared.area.Area.{Area}
 use Rattle.dir_model.specs.declared.intent.Draw.{Draw}
 use Rattle.dir_model.specs.declared.intent.Intent.{Intent}
 use Rattle.dir_model.specs.declared.intent.Kind.TheVariants as kind
 use Rattle.dir_model.specs.declared.spot.Mode.TheVariants.{Shared}
+use Rattle.dir_model.specs.declared.request.Request.{Request}
+use Rattle.dir_model.proofs.Lists.{not_true}
 use Rattle.dir_trait.specs.DirCalls.{HeldBetween}
 use Rattle.area_locks.specs.AreaLocks.{IsBusyElsewhere}
 use Rattle.lifecycle.specs.Executions.{IsConforming}
 use Rattle.lifecycle.proofs.Draws.{conforming_left}
 use Rattle.bundle_image.specs.declared.image.BundleImage.{BundleImage}
 use Rattle.image_store.specs.Imports.{IsRefused, ComesInTurn}
+use Rattle.image_store.specs.Moves.{MovedNothing}
+use Rattle.image_store.proofs.Moving.{is_move, nothing_by, nothing_more}
 use Rattle.rkt_cli.specs.Tasks.{ImageImport}
 use Rattle.command_outcomes.specs.declared.refusal.Refusal.{Refusal}
 use Rattle.command_outcomes.specs.declared.refusal.Refusal.TheVariants.{Busy, NoMemory}
@@ -23,7 +27,7 @@ use Rattle.commands.specs.ImageImport.{source_of, IsStored, PrintsKey, StoresIma
 use Rattle.commands.proofs.Parts.{within_wider, held_wider}
 use Rattle.commands.proofs.ImportParts.{Span, refused_wider, turn_wider, imported_wider}
 use Rattle.rkt_cli.proofs.Listed.{process_part}
-use Rattle.rkt_cli.proofs.Sessions.{any_call, finish_part}
+use Rattle.rkt_cli.proofs.Sessions.{any_call, begin_part, finish_part, no_looks}
 use Rattle.rkt_cli.proofs.Conforming.{begun_knows}
 use Rattle.rkt_cli.proofs.StoreRan.{imports}
 use Rattle.commands.proofs.ImageImports.{is_memory}
@@ -35,6 +39,14 @@ module _ {path : List ℕ} {now : ℕ} {draw : Draw} {intent : Intent} {old new 
   process_span : Span old.dir.observed (shown_at old.dir) (shown_at s.begun.dir) (shown_at s.ended.dir) (shown_at new.dir)
   process_span = record { part = λ t. process_part s t; before = s.risen; after = still s.ended.dir.faults new.dir.faults s.faults }
 
+  -- its begin and its finish move nothing
+  moved_wider : old.dir.observed ≡ true → MovedNothing s.begun.dir.process s.begun.dir.trace s.ended.dir.trace → MovedNothing old.dir.process old.dir.trace new.dir.trace
+  moved_wider t x =
+      let asks : Request → Bool = λ r. not (is_move r) in
+      let off = λ (r : Request) (h : not (is_move r) ≡ true). not_true (is_move r) h in
+      nothing_more (nothing_by asks off (begin_part s t asks refl (λ r h. no_looks (ImageImport path) refl r h)))
+      (nothing_more (subst (λ (me : ℕ). MovedNothing me s.begun.dir.trace s.ended.dir.trace) s.me x) (nothing_by asks off (finish_part s t asks refl)))
+
   refused_in_process : (r : Refusal) → RefusesImage path s.begun s.ended r → RefusesImage path old new r
   refused_in_process r x = record {
     error = x.error;
@@ -45,10 +57,11 @@ module _ {path : List ℕ} {now : ℕ} {draw : Draw} {intent : Intent} {old new 
     turn = turn_wider process_span (source_of path old.bundle) x.error
         (subst (λ (b : BundleSeen). ComesInTurn old.dir.observed (source_of path b) x.error (shown_at s.begun.dir) (shown_at s.ended.dir)) s.bundle_before
         (subst (λ (told : Bool). ComesInTurn told (source_of path s.begun.bundle) x.error (shown_at s.begun.dir) (shown_at s.ended.dir)) s.told x.turn));
+    still = λ t. moved_wider t (x.still (s.told ∙ t));
   }
 
   stored_wider : old.dir.observed ≡ true → (image : BundleImage) → IsStored image now draw.uuid s.begun.dir s.ended.dir → IsStored image now draw.uuid old.dir new.dir
-  stored_wider t image (inl there) = inl (within_wider (process_part s t) there)
+  stored_wider t image (inl there) = inl (within_wider (process_part s t) there.0, moved_wider t there.1)
   stored_wider t image (inr came) = inr (imported_wider (process_part s t) came)
 
   conforms_before : old.dir.observed ≡ true → IsConforming new.dir.trace → IsConforming s.ended.dir.trace

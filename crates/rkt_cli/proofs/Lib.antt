@@ -40,3 +40,4 @@ pub mod Meanings
 pub mod Words
 pub mod Acting
 pub mod Looked
+pub mod Strays

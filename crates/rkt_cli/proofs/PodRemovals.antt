@@ -39,6 +39,9 @@ use Rattle.rkt_cli.proofs.Removals.{meanwhile, once_found}
 use Rattle.rkt_cli.proofs.Conforming.{begun_knows}
 use Rattle.pod_gc.specs.declared.ages.Times.{Times}
 use Rattle.rkt_cli.specs.Tasks.{IsMeant}
+use Rattle.commands.specs.Strays.{ComesOfApp}
+use Rattle.commands.specs.Opening.{OnceFound}
+use Rattle.command_outcomes.specs.Meanwhile.{Meanwhile}
 
 abbrev pub rm_intent : List ℕ → ℕ → Draw → Intent
 rm_intent word now draw = intent_for kind.Rm word now draw
@@ -81,10 +84,13 @@ rm_none word pod now draw (Some intent) old new t (inl s) = once_found (FoundNon
 rm_none word pod now draw (Some intent) old new t (inr n) = unbegun NoPod refl n.is
 rm_none word pod now draw None old new t p = unused p.apart
 
-pub rm_stray : (word : List ℕ) (pod : PodId) (now : ℕ) (draw : Draw) (intent : Option Intent) (old new : Outside) → Performs (Rm word pod) now draw intent old new (Err Stray) → old.dir.observed ≡ true → HasMetStrayAtPod pod old.dir new.dir
-rm_stray word pod now draw (Some intent) old new (inl s) t = once_found (MeetsStray pod) s t (s.ran.says.0 (s.told ∙ t))
-rm_stray word pod now draw (Some intent) old new (inr n) t = unbegun Stray refl n.is
-rm_stray word pod now draw None old new p t = unused p.apart
+pub rm_stray : {word : List ℕ} (pod : PodId) (now : ℕ) (draw : Draw) (old new : Outside) → Performs (Rm word pod) now draw (intent_of (Rm word pod) now draw) old new (Err Stray) → old.dir.observed ≡ true →
+    HasMetStrayAtPod pod old.dir new.dir × OnceFound ComesOfApp old.dir.process old.dir.trace new.dir.trace
+rm_stray {word = word} pod now draw old new (inl s) t = (
+  once_found (MeetsStray pod) s t (s.ran.says.0.0 (s.told ∙ t)),
+  once_found ComesOfApp s t (s.ran.says.0.1 (s.told ∙ t) (begun (rm_intent word now draw)) (begun_knows s t) (begun_removes now draw s.meant)),
+)
+rm_stray pod now draw old new (inr n) t = unbegun Stray refl n.is
 
 pub rm_bare : (word : List ℕ) (pod : PodId) (now : ℕ) (draw : Draw) (intent : Option Intent) (old new : Outside) (bare : PodId) → Performs (Rm word pod) now draw intent old new (Err (NoManifest bare)) → (bare ≡ pod) × (old.dir.observed ≡ true → HasFoundNoManifest pod old.dir new.dir)
 rm_bare word pod now draw (Some intent) old new bare (inl s) = (s.ran.says.0.0, λ t. once_found (HadNoManifest pod) s t (s.ran.says.0.1 (s.told ∙ t)))
@@ -117,10 +123,13 @@ gc_done {grace = grace} {expire = expire} now draw old new text (inl s) t = reco
 }
 gc_done now draw old new text (inr n) t = untold text n.is
 
-pub gc_stray : (grace expire : ℕ) (now : ℕ) (draw : Draw) (intent : Option Intent) (old new : Outside) → Performs (Gc grace expire) now draw intent old new (Err Stray) → old.dir.observed ≡ true → HasMetStrayInPods old.dir new.dir
-gc_stray grace expire now draw (Some intent) old new (inl s) t = meanwhile WasStray refl s t (s.ran.says.0 (s.told ∙ t))
-gc_stray grace expire now draw (Some intent) old new (inr n) t = unbegun Stray refl n.is
-gc_stray grace expire now draw None old new p t = unused p.apart
+pub gc_stray : {grace : ℕ} {expire : ℕ} (now : ℕ) (draw : Draw) (old new : Outside) → Performs (Gc grace expire) now draw (intent_of (Gc grace expire) now draw) old new (Err Stray) → old.dir.observed ≡ true →
+    HasMetStrayInPods old.dir new.dir × Meanwhile ComesOfApp old.dir.process old.dir.trace new.dir.trace
+gc_stray {grace = grace} {expire = expire} now draw old new (inl s) t = (
+  meanwhile WasStray refl s t (s.ran.says.0 (s.told ∙ t)),
+  meanwhile ComesOfApp refl s t (s.ran.says.2 (s.told ∙ t) (begun (gc_intent grace expire now draw)) (begun_knows s t) (begun_sweeps now draw)),
+)
+gc_stray now draw old new (inr n) t = unbegun Stray refl n.is
 
 -- and what was done where the lines weren't told
 pub gc_passes : {grace : ℕ} {expire : ℕ} (now : ℕ) (draw : Draw) (old new : Outside) (text : List ℕ) → Performs (Gc grace expire) now draw (intent_of (Gc grace expire) now draw) old new (Ok text) → old.dir.observed ≡ true → HasMadePasses (times_of now grace expire) old.dir new.dir

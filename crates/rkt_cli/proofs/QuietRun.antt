@@ -30,6 +30,7 @@ use Rattle.image_removal.proofs.Begun.{begun_removes}
 use Rattle.phase_read.specs.Read.{is_pod_spot}
 use Rattle.rkt_cli.specs.Tasks.{Task}
 use Rattle.rkt_cli.specs.Tasks.{Status, PodList, CatManifest, Validate, ImageList, ImageImport, ImageRm, ImageGc, Prepare, RunPrepared, Run, Rm, Gc, Metadata, Demo}
+use Rattle.command_outcomes.specs.declared.refusal.Refusal.{Refusal}
 use Rattle.command_outcomes.specs.declared.refusal.Refusal.TheVariants.{Busy, NoImage, NoPod, WrongPhase, NoManifest, PodBusy, DirFault, BundleFault, NoMemory, Damaged, Stray}
 use Rattle.command_outcomes.specs.Moments.{BundleSeen, DirSeen, Outside, Moment, Outcome}
 use Rattle.command_outcomes.specs.Ends.{is_own_end, IsUnchanged}
@@ -43,7 +44,7 @@ use Rattle.rkt_cli.proofs.ServiceRan.{service_quiet}
 use Rattle.commands.specs.Status.{status_report}
 use Rattle.pod_report.proofs.QuietSurvey.{inspect_calm, survey_calm}
 use Rattle.commands.specs.ImageList.{image_list_refusal, ListsQuietly}
-use Rattle.commands.specs.ImageImport.{IsAreaHeld, LeavesImages, ImportsQuietly, is_building_place}
+use Rattle.commands.specs.ImageImport.{IsAreaHeld, ImportsQuietly, RefusesQuietly, is_building_place}
 use Rattle.commands.specs.NextState.{LeavesBeside, is_nowhere}
 use Rattle.commands.specs.ImageRm.{image_rm_refusal, is_removal_place, FindsBusy, RemovesQuietly}
 use Rattle.commands.specs.ImageGc.{is_swept_place, SweepsQuietly}
@@ -58,17 +59,22 @@ use Rattle.rkt_cli.proofs.Grades.{graded_same}
 use Rattle.rkt_cli.proofs.Judged.{judged_whole}
 use Rattle.command_outcomes.proofs.Seen.{rose_wider}
 use Rattle.rkt_cli.proofs.Outcomes.{rose_between, answered, WasAnswered}
-use Rattle.rkt_cli.proofs.Conforming.{begun_knows}
+use Rattle.rkt_cli.proofs.Conforming.{begun_knows, process_conforms}
 use Rattle.rkt_cli.proofs.Listed.{listed_in_process, lacked_in_process}
 use Rattle.commands.proofs.StoreQuiet.{is_tame, lists_is_tame, at_tame, end_tame}
 use Rattle.commands.proofs.EndsQuiet.{unborn_before}
 use Rattle.commands.proofs.PrepareStore.{refuses_by_store}
 use Rattle.commands.proofs.StoreChosen.{chosen_of}
 use Rattle.commands.proofs.StoreKept.{prepare_keeps}
+use Rattle.commands.proofs.TakenBefore.{prepare_elsewhere, taken_before}
 use Rattle.commands.proofs.StoreTexts.{prints_store, names_damage}
 use Rattle.rkt_cli.proofs.StoreRan.{imports}
+use Rattle.rkt_cli.proofs.Strays.{pod_never}
 use Rattle.rkt_cli.proofs.Imports.{import_printed, stored_in_process, import_refused}
-use Rattle.commands.proofs.ImagesKept.{images_kept, image_held}
+use Rattle.commands.proofs.ImageImports.{is_memory}
+use Rattle.commands.proofs.ImagesKept.{images_kept}
+use Rattle.commands.proofs.ImportComes.{comes_stored, refuses_quietly}
+use Rattle.commands.proofs.ImportRefusals.{refusal_lawful}
 use Rattle.commands.specs.Prepare.{prepares_pod, IsAreaHeld as IsPodAreaHeld}
 use Rattle.commands.specs.PrepareQuiet.{PreparesQuietly, is_pod_place}
 use Rattle.rkt_cli.proofs.PodKept.{pod_stands}
@@ -196,28 +202,33 @@ import_extends : (path : List ℕ) (now : ℕ) (draw : Draw) (intent : Intent) (
     Extends (is_modest (building_spot draw.uuid)) old.dir.process old.dir.trace new.dir.trace
 import_extends path now draw intent old new o s u = all_parts s (u.observed refl) (is_modest (building_spot draw.uuid)) refl (λ r h. cc) (imports_is_modest (building_spot draw.uuid)) refl
 
-import_keeps_images : (path : List ℕ) (now : ℕ) (draw : Draw) (intent : Intent) (old new : Outside) (o : Outcome) → InProcess (ImageImport path) now draw intent old new o → Undisturbed (ImageImport path) old new →
-    LeavesImages old.dir new.dir
-import_keeps_images path now draw intent old new o s u conforming = images_kept draw.uuid (import_extends path now draw intent old new o s u) (u.alone refl) conforming
+import_refuses : (path : List ℕ) (now : ℕ) (draw : Draw) (intent : Intent) (old new : Outside) (r : Refusal) → is_memory r ≡ false → InProcess (ImageImport path) now draw intent old new (Err r) → Undisturbed (ImageImport path) old new →
+    RefusesQuietly path old new r
+import_refuses path now draw intent old new r other s u =
+    refuses_quietly path draw.uuid old new r (u.observed refl) (import_extends path now draw intent old new (Err r) s u) (u.alone refl) (import_refused path now draw (Some intent) old new r other (inl s))
 
 import_quiet : (path : List ℕ) (now : ℕ) (draw : Draw) (intent : Intent) (old new : Outside) (o : Outcome) (said : intent_of (ImageImport path) now draw ≡ Some intent) → InProcess (ImageImport path) now draw intent old new o →
     Undisturbed (ImageImport path) old new → is_own_end o ≡ true → ImportsQuietly path now draw.uuid old new o
 import_quiet path now draw intent old new (Ok text) said s u own = (
   import_printed path now draw (Some intent) old new text (inl s),
-  λ conforming. record {
-    stores =
-        let x = stored_in_process path now draw intent old new text said s (u.observed refl) conforming in
-        (x.0, x.1, (x.2.0, elim x.2.1 [ inl there ↦ inl there | inr came ↦ inr (image_held draw.uuid (import_extends path now draw intent old new (Ok text) s u) (u.alone refl) conforming x.0 now came) ]));
-    keeps = import_keeps_images path now draw intent old new (Ok text) s u conforming;
-  },
+  λ conforming.
+      let ext = import_extends path now draw intent old new (Ok text) s u in
+      let x = stored_in_process path now draw intent old new text said s (u.observed refl) conforming in
+      record {
+        stores = (x.0, x.1, (x.2.0, comes_stored draw.uuid old.dir new.dir ext (u.alone refl) conforming x.0 now x.2.1));
+        keeps = images_kept draw.uuid ext (u.alone refl) conforming;
+      },
 )
 import_quiet path now draw intent old new (Err (Busy area)) said s u own =
     let held = s.ran.says.1 area refl (s.told ∙ u.observed refl) intent (imports path now draw intent said) (begun_knows s (u.observed refl)) in
-    (import_refused path now draw (Some intent) old new (Busy area) refl (inl s), import_keeps_images path now draw intent old new (Err (Busy area)) s u, import_held_before path now draw intent old new area s u held)
+    (import_refuses path now draw intent old new (Busy area) refl s u, import_held_before path now draw intent old new area s u held)
 import_quiet path now draw intent old new (Err NoMemory) said s u own = let clash : false ≡ true = own in cc
 import_quiet path now draw intent old new (Err DirFault) said s u own = let clash : false ≡ true = own in cc
 import_quiet path now draw intent old new (Err BundleFault) said s u own = let clash : false ≡ true = own in cc
-import_quiet path now draw intent old new (Err r) said s u own = (import_refused path now draw (Some intent) old new r refl (inl s), import_keeps_images path now draw intent old new (Err r) s u)
+import_quiet path now draw intent old new (Err Stray) said s u own =
+    let x = import_refuses path now draw intent old new Stray refl s u in
+    (x, λ conforming. refusal_lawful path old new Stray x.why refl (u.observed refl) conforming)
+import_quiet path now draw intent old new (Err r) said s u own = import_refuses path now draw intent old new r refl s u
 
 import_owned : (path : List ℕ) (now : ℕ) (draw : Draw) (intent : Intent) (old new : Outside) (o : Outcome) → InProcess (ImageImport path) now draw intent old new o → Undisturbed (ImageImport path) old new →
     (folder : ℕ) → is_owned (state_after new.dir.trace).namespace folder ≡ is_owned (state_after old.dir.trace).namespace folder
@@ -257,7 +268,7 @@ removal_quiet key now draw old new (Err (Busy area)) s u own = (removal_area are
 removal_quiet key now draw old new (Err (NoImage named)) s u own =
     let found = removal_none key now draw (Some (removal_intent now draw)) old new named (inl s) (u.observed refl) in
     (s.ran.says.0.is, found, none_before key draw.uuid (u.alone refl) found)
-removal_quiet key now draw old new (Err Stray) s u own = removal_stray key now draw (Some (removal_intent now draw)) old new (inl s) (u.observed refl)
+removal_quiet key now draw old new (Err Stray) s u own = removal_stray key now draw old new (inl s) (u.observed refl)
 removal_quiet key now draw old new (Err NoMemory) s u own = let clash : false ≡ true = own in cc
 removal_quiet key now draw old new (Err DirFault) s u own = let clash : false ≡ true = own in cc
 removal_quiet key now draw old new (Err BundleFault) s u own = let clash : false ≡ true = own in cc
@@ -270,7 +281,7 @@ sweep_quiet now draw old new (Ok text) s u own =
     let done = sweep_done now draw old new text (inl s) (u.observed refl) in
     let ext : Extends (in_process sweeps) old.dir.process old.dir.trace new.dir.trace = all_in_process s (u.observed refl) in
     (done, prints_lines ext (u.alone refl) done.swept text done.is, incoming_left ext (u.alone refl) done.swept, removed_left ext (u.alone refl) done.swept)
-sweep_quiet now draw old new (Err Stray) s u own = sweep_stray now draw (Some (intent_for kind.ImageGc [] now draw)) old new (inl s) (u.observed refl)
+sweep_quiet now draw old new (Err Stray) s u own = sweep_stray now draw old new (inl s) (u.observed refl)
 sweep_quiet now draw old new (Err NoMemory) s u own = let clash : false ≡ true = own in cc
 sweep_quiet now draw old new (Err DirFault) s u own = let clash : false ≡ true = own in cc
 sweep_quiet now draw old new (Err BundleFault) s u own = let clash : false ≡ true = own in cc
@@ -318,10 +329,16 @@ prepare_quiet wants now draw old new (Err (Busy area)) s u own = (prepare_refuse
 prepare_quiet wants now draw old new (Err NoMemory) s u own = let clash : false ≡ true = own in cc
 prepare_quiet wants now draw old new (Err DirFault) s u own = let clash : false ≡ true = own in cc
 prepare_quiet wants now draw old new (Err BundleFault) s u own = let clash : false ≡ true = own in cc
+prepare_quiet wants now draw old new (Err Stray) s u own =
+    let why = prepare_refused wants now draw (Some (prepare_intent now draw)) old new Stray refl (inl s) in
+    (why, pod_never now draw wants old.dir new.dir why (u.observed refl))
 prepare_quiet wants now draw old new (Err r) s u own =
     let why = prepare_refused wants now draw (Some (prepare_intent now draw)) old new r refl (inl s) in
-    let stay = prepare_keeps draw.uuid (prepare_extends wants now draw (prepare_intent now draw) old new (Err r) s u) (u.alone refl) in
-    (why, refuses_by_store wants now draw old.dir new.dir r (u.observed refl) stay why)
+    let ext = prepare_extends wants now draw (prepare_intent now draw) old new (Err r) s u in
+    let stay = prepare_keeps draw.uuid ext (u.alone refl) in
+    let conforms = process_conforms (Prepare wants) now draw old new (Err r) (u.observed refl) (prepare_intent now draw) s in
+    let taken = taken_before draw.uuid (in_process (prepares_pod draw.uuid)) (prepare_elsewhere draw.uuid) (shown_at old.dir) (shown_at new.dir) ext (u.alone refl) conforms in
+    (why, refuses_by_store wants now draw old.dir new.dir r (u.observed refl) stay taken why)
 
 -- `rm` and `gc`
 rm_quiet : {word : List ℕ} (pod : PodId) (now : ℕ) (draw : Draw) (old new : Outside) (o : Outcome) → InProcess (Rm word pod) now draw (rm_intent word now draw) old new o → Undisturbed (Rm word pod) old new → is_own_end o ≡ true → RemovesPodQuietly pod old.dir new.dir o
@@ -347,7 +364,7 @@ rm_quiet {word = word} pod now draw old new o s u own = by o s own
     by (Err (PodBusy other which)) s own =
         let x = rm_busy pod now draw old new other which (inl s) in
         rm_busy_quietly pod now old.dir new.dir (ext (Err (PodBusy other which)) s) quiet (idle s t quiet) other which x.0 (x.1 t)
-    by {word = word} (Err Stray) s own = rm_stray word pod now draw (Some (rm_intent word now draw)) old new (inl s) t
+    by {word = word} (Err Stray) s own = rm_stray {word = word} pod now draw old new (inl s) t
     by (Err NoMemory) s own = let clash : false ≡ true = own in cc
     by (Err DirFault) s own = let clash : false ≡ true = own in cc
     by (Err BundleFault) s own = let clash : false ≡ true = own in cc
@@ -359,7 +376,7 @@ gc_quiet {grace = grace} {expire = expire} now draw old new (Ok text) s u own =
     let t = u.observed refl in
     let quiet = u.alone refl in
     gc_swept_quietly (times_of now grace expire) old.dir new.dir text (all_in_process s t) quiet (idle s t quiet) (gc_done now draw old new text (inl s) t)
-gc_quiet {grace = grace} {expire = expire} now draw old new (Err Stray) s u own = gc_stray grace expire now draw (Some (gc_intent grace expire now draw)) old new (inl s) (u.observed refl)
+gc_quiet {grace = grace} {expire = expire} now draw old new (Err Stray) s u own = gc_stray {grace = grace} {expire = expire} now draw old new (inl s) (u.observed refl)
 gc_quiet now draw old new (Err NoMemory) s u own = let clash : false ≡ true = own in cc
 gc_quiet now draw old new (Err DirFault) s u own = let clash : false ≡ true = own in cc
 gc_quiet now draw old new (Err BundleFault) s u own = let clash : false ≡ true = own in cc

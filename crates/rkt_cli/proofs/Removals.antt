@@ -7,7 +7,7 @@ use Rattle.dir_model.specs.declared.event.Event.{Event}
 use Rattle.dir_model.specs.declared.intent.Draw.{Draw}
 use Rattle.dir_model.specs.declared.intent.Intent.{Intent}
 use Rattle.dir_model.specs.declared.intent.Kind.TheVariants as kind
-use Rattle.dir_model.specs.Calls.{is_begin, is_finish}
+use Rattle.dir_model.specs.Calls.{is_begin, is_finish, Extends}
 use Rattle.image_removal.specs.declared.pass.SweepLine.{SweepLine}
 use Rattle.image_removal.specs.Causes.{StrayRemoval, FoundNone}
 use Rattle.image_removal.proofs.Begun.{begun_removes, begun_sweeps}
@@ -27,6 +27,9 @@ use Rattle.rkt_cli.proofs.Conforming.{begun_knows}
 use Rattle.commands.specs.Opening.{directly, OnceFound}
 use Rattle.commands.proofs.Starts.{open_extends}
 use Rattle.rkt_cli.specs.Commands.{approach_in}
+use Rattle.commands.specs.Strays.{NeverComes}
+use Rattle.lifecycle.proofs.Draws.{conforming_left}
+use Rattle.lifecycle.specs.Executions.{IsConforming}
 
 -- what was so of the command is so of the process between its begin and its finish
 pub meanwhile : {task : Task} {now : ℕ} {draw : Draw} {intent : Intent} {old new : Outside} {o : Outcome} (P : ℕ → List Event → List Event → Type 0) → approach_in task ≡ directly → (s : InProcess task now draw intent old new o) → old.dir.observed ≡ true →
@@ -83,10 +86,18 @@ removal_none key now draw (Some intent) old new named (inl s) t = meanwhile (Fou
 removal_none key now draw (Some intent) old new named (inr n) t = let e = n.is in cc
 removal_none key now draw None old new named p t = let clash : true ≡ false = p.apart in cc
 
-pub removal_stray : (key : StoreKey) (now : ℕ) (draw : Draw) (intent : Option Intent) (old new : Outside) → Performs (ImageRm key) now draw intent old new (Err Stray) → old.dir.observed ≡ true → HasMetStray key draw.uuid old.dir new.dir
-removal_stray key now draw (Some intent) old new (inl s) t = meanwhile (StrayRemoval key draw.uuid) refl s t (s.ran.says.0 (s.told ∙ t))
-removal_stray key now draw (Some intent) old new (inr n) t = let e = n.is in cc
-removal_stray key now draw None old new p t = let clash : true ≡ false = p.apart in cc
+-- what doesn't come in a part of a conforming history doesn't come in the whole
+never_in_part : {me : ℕ} {ended new : List Event} → Extends is_finish me ended new → NeverComes ended → NeverComes new
+never_in_part {me} {ended} {new} x never conforming = never (conforming_left ended x.more (subst IsConforming x.grown conforming))
+
+pub removal_stray : (key : StoreKey) (now : ℕ) (draw : Draw) (old new : Outside) → Performs (ImageRm key) now draw (intent_of (ImageRm key) now draw) old new (Err Stray) → old.dir.observed ≡ true →
+    HasMetStray key draw.uuid old.dir new.dir × NeverComes new.dir.trace
+removal_stray key now draw old new (inl s) t =
+    let intent = intent_for kind.ImageRm [] now draw in (
+      meanwhile (StrayRemoval key draw.uuid) refl s t (s.ran.says.0.0 (s.told ∙ t)),
+      never_in_part (finish_part s t is_finish refl) (s.ran.says.0.1 (s.told ∙ t) (begun intent) (begun_knows s t) (begun_removes intent draw.uuid refl refl)),
+    )
+removal_stray key now draw old new (inr n) t = let e = n.is in cc
 
 -- `image gc`: what was printed
 pub sweep_printed : (now : ℕ) (draw : Draw) (intent : Option Intent) (old new : Outside) (text : List ℕ) → Performs ImageGc now draw intent old new (Ok text) → (lines : List SweepLine) × (text ≡ sweep_texts lines)
@@ -105,10 +116,13 @@ sweep_done now draw old new text (inl s) t =
     }
 sweep_done now draw old new text (inr n) t = let e = n.is in cc
 
-pub sweep_stray : (now : ℕ) (draw : Draw) (intent : Option Intent) (old new : Outside) → Performs ImageGc now draw intent old new (Err Stray) → old.dir.observed ≡ true → HasMetStrayInSweep old.dir new.dir
-sweep_stray now draw (Some intent) old new (inl s) t = meanwhile StrayInSweep refl s t (s.ran.says (s.told ∙ t))
-sweep_stray now draw (Some intent) old new (inr n) t = let e = n.is in cc
-sweep_stray now draw None old new p t = let clash : true ≡ false = p.apart in cc
+pub sweep_stray : (now : ℕ) (draw : Draw) (old new : Outside) → Performs ImageGc now draw (intent_of ImageGc now draw) old new (Err Stray) → old.dir.observed ≡ true → HasMetStrayInSweep old.dir new.dir × NeverComes new.dir.trace
+sweep_stray now draw old new (inl s) t =
+    let intent = intent_for kind.ImageGc [] now draw in (
+      meanwhile StrayInSweep refl s t (s.ran.says.0 (s.told ∙ t)),
+      never_in_part (finish_part s t is_finish refl) (s.ran.says.1 (s.told ∙ t) (begun intent) (begun_knows s t) (begun_sweeps intent refl)),
+    )
+sweep_stray now draw old new (inr n) t = let e = n.is in cc
 
 -- a sweep whose directory failed ended early
 pub sweep_failed : (now : ℕ) (draw : Draw) (intent : Option Intent) (old new : Outside) → Performs ImageGc now draw intent old new (Err DirFault) → old.dir.observed ≡ true → HasEndedEarly old.dir new.dir

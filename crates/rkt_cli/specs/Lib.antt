@@ -15,3 +15,4 @@ pub mod Headlines
 pub mod Paths
 pub mod Turns
 pub mod Plays
+pub mod Strays

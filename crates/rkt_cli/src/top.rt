@@ -13,6 +13,7 @@ ghost use Rattle.rkt_cli.specs.Links.{LinksIn};
 ghost use Rattle.rkt_cli.specs.LinksAlone.{LinksAlone};
 ghost use Rattle.rkt_cli.specs.Headlines.{KeepsTheHeadline};
 ghost use Rattle.rkt_cli.specs.Promises.{IsStatus, IsOutput, IsOver, ReadsIn};
+ghost use Rattle.rkt_cli.specs.Strays.{StraysOfApps};
 
 use crate::command::carry_out;
 use crate::line::read_line;
@@ -101,6 +102,7 @@ pub fn rkt<D: Dir, B: Bundle, S: Spawner, L: Listener, O: Sink, E: Sink>(
     ensures over { IsOver (line_in words.now) now draw.now result (D.shown dir.old).local (D.shown dir.new).local }
     ensures headline { D.observed ≡ true → KeepsTheHeadline (line_in words.now) now draw.now (D.shown dir.old) (D.shown dir.new) }
     ensures lawful { D.observed ≡ true → StaysLawful draw.now (dir_at D.Dir dir.old) (dir_at D.Dir dir.new) }
+    ensures strays { D.observed ≡ true → StraysOfApps (line_in words.now) result (dir_at D.Dir dir.old) (dir_at D.Dir dir.new) }
     ensures as_made { D.observed ≡ true → IsLegal (D.shown dir.new).trace → PodsReadAsMade (D.shown dir.new).trace }
     ensures quiet { QuietBetween D.Dir B.Bundle S.Spawner O.Sink E.Sink (line_in words.now) now draw.now result
         (dir.old, bundle.old, spawner.old, out.old, err.old) (dir.new, bundle.new, spawner.new, out.new, err.new) }

@@ -1,4 +1,4 @@
-use Rattle.std.proofs.Common.{◌≡◌}
+use Rattle.std.proofs.Common.{◌≡◌, Err, ap}
 use Rattle.command_outcomes.specs.declared.refusal.Refusal.TheVariants.{DirFault, SpawnFault}
 use Rattle.commands.proofs.Told.{said_allowed, telling_allowed, telling_no_fault, telling_no_spawn, run_cause, spawn_cause, ran_says, stopped_says}
 use Rattle.commands.proofs.running.run_owned.Goals as goal
@@ -40,3 +40,4 @@ returns-in-Err-clause-says g c =
     let D = g.D.Dir in
     let S = g.S.Spawner in
     stopped_says D.observed S.observed c.args.owned c.args.address.now (D.shown c.args.dir.now) (D.shown c.run_pod.new.dir) (S.shown c.args.spawner.now) (S.shown c.run_pod.new.spawner) c.args.text c.in-Err.error c.run_refusal.result c.run_refusal.ensures c.in-Err.ensures.refused
+    (λ is t conforming. c.in-Err.ensures.lawful (ap Err is) t conforming)

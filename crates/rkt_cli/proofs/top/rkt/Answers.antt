@@ -5,6 +5,7 @@ use Rattle.pod_roots.proofs.Reading.{pods_read}
 use Rattle.headline.proofs.Holds.{headline_holds}
 use Rattle.rkt_cli.proofs.Headlines.{run_begins}
 use Rattle.rkt_cli.proofs.Phases.{phases}
+use Rattle.rkt_cli.proofs.Strays.{strays}
 use Rattle.rkt_cli.proofs.top.rkt.Goals as goal
 
 pub returns-clause-statuses : goal.returns-clause-statuses
@@ -55,3 +56,7 @@ returns-clause-lawful g c t = words.lawful c.args.now c.args.draw.now _ _ c.run.
 pub returns-clause-serves_alone : goal.returns-clause-serves_alone
 returns-clause-serves_alone g c l d none =
     links_alone (line_in c.args.words.now) c.args.now c.args.draw.now c.run.result (g.L.Listener.shown c.args.listener.now) (g.L.Listener.shown c.run.new.listener) (g.D.Dir.shown c.args.dir.now) (g.D.Dir.shown c.run.new.dir) (c.run.ensures.serves l d none)
+
+pub returns-clause-strays : goal.returns-clause-strays
+returns-clause-strays g c t =
+    strays c.args.now c.args.draw.now _ _ c.run.result (line_in c.args.words.now) t (words.ended c.args.now c.args.draw.now _ _ c.run.result (line_in c.args.words.now) c.run.ensures.ran)
