@@ -8,7 +8,7 @@ use crate::seen::see;
 use crate::stage::Stage;
 use conformance::keeps_rules;
 use dir_trait::{Area, Event, PodId, Reply, Request};
-use scripts::{Line, Page, ShortNames, Unread, area_text, phase_text};
+use scripts::{Line, Page, ShortNames, Unread, area_text, number_of, phase_text};
 use std::str;
 
 // The steps of others that have no call of their own come before that one.
@@ -33,6 +33,7 @@ fn break_at(page: &mut Page, plan: &mut Plan, kind: &str, number: u64) {
         "cut" => cut_all(plan.callers.as_mut_slice(), number),
         "pieces" => slow_all(plan.callers.as_mut_slice(), number),
         "before" => place_steps(plan.steps.as_mut_slice(), number),
+        "short" => plan.faults.short = Some(number as usize),
         _ => page.unread(Unread::Word),
     }
 }
@@ -232,14 +233,34 @@ fn print_range(
     print_calls(page, names, first, to, how.as_str());
 }
 
+// The number of the last call on the data folder that the first command makes where nothing breaks.
+fn last_call(page: &mut Page, names: &ShortNames, before: &Before, commands: &[Command]) -> u64 {
+    let mut told = Page::new(page.alloc());
+    if let Some(stage) = before.stage(&mut told, names) {
+        let mut stage = stage;
+        if let Some(command) = commands.first() {
+            let _ended = run_next(&mut told, &mut stage, command);
+        }
+        if let Some(dir) = &stage.dir {
+            return dir.calls();
+        }
+    }
+    0
+}
+
 /// Plays a line `each KIND FROM TO at NOW: WORDS`, of which `each` was read: the command after the lines, in
 /// a world of its own for each number, at which the call of that kind breaks, or before which the steps of
 /// others come that were planned before call 0; behind ` ; ` further commands that come then. Prints how
-/// they ended, a line for numbers in a row with which they ended in the same way.
+/// they ended, a line for numbers in a row with which they ended in the same way. `last` in place of the second
+/// number is that of the last call on the data folder.
 pub fn print_each(page: &mut Page, names: &ShortNames, before: &Before, line: &mut Line) {
     let kind = line.word();
     let from = line.number(page);
-    let to = line.number(page);
+    let last = line.word();
     let commands = commands_of(page, names, line.rest());
+    let to = match last {
+        "last" => last_call(page, names, before, commands.as_slice()),
+        _ => number_of(page, last),
+    };
     print_range(page, names, before, commands.as_slice(), kind, (from, to));
 }

@@ -34,6 +34,8 @@ pub struct Faults {
     pub stop: u64,
     /// From which read on the files of the bundle begin with another byte.
     pub change: u64,
+    /// After how many bytes those files of the bundle end that are to end early.
+    pub short: Option<usize>,
 }
 
 /// What the next command meets.
@@ -61,6 +63,7 @@ impl Plan {
                 link: 0,
                 stop: 0,
                 change: 0,
+                short: None,
             },
         }
     }
