@@ -93,7 +93,7 @@ pub record ClaimMove (pod : PodId) (me : ℕ) (old new : List Event) : Type 0 wh
   pub begins : before ≡ old ++ meanwhile
   pub moved : new ≡ before ++ event me (MoveFolder (in_prepared pod) (in_run pod)) Done ∷ later
 
-claim_move : {pod : PodId} {own : Handle} {me : ℕ} {old begun claimed new : List Event} → Grew old begun → TookBoth pod own me begun claimed → Grew claimed new → ClaimMove pod me old new
+pub claim_move : {pod : PodId} {own : Handle} {me : ℕ} {old begun claimed new : List Event} → Grew old begun → TookBoth pod own me begun claimed → Grew claimed new → ClaimMove pod me old new
 claim_move {pod} {own} {me} {old} {begun} {claimed} {new} first took last =
     let a = took.order.each in
     let b = a.4 in

@@ -99,7 +99,7 @@ module _ (pod : PodId) (asks early : Request → Bool) (l : Leaves (in_run pod) 
       let its = all_right (λ x. x.process ≡ me) first.more z.more (subst (λ (es : List Event). AllByRecursion (λ x. x.process ≡ me) es) (same_rest old quiet.more (first.more ++ z.more) (sym quiet.grown ∙ whole)) quiet.own) in
       let asked = all_right (λ x. (is_foreign me x || in_process asks x.request) ≡ true) first.more z.more
       (subst (λ (es : List Event). AllByRecursion (λ x. (is_foreign me x || in_process asks x.request) ≡ true) es) (same_rest old ext.more (first.more ++ z.more) (sym ext.grown ∙ whole)) ext.asked) in
-      let read = r.ran.read t in
+      let read = (r.ran.loads t).found in
       let few : (i : Inner) → count me i z.more ≤ 1 =
       λ i.
       let all : count me i new ≡ count me i c.trace + count me i z.more = ap (count me i) z.grown ∙ count_more me i c.trace z.more in

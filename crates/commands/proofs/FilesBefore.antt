@@ -1,9 +1,9 @@
--- While the images stay as they are, a file that couldn't be copied for a pod was lacking in the state before.
-use Rattle.std.proofs.Common.{arith, ◌≡◌, ◌⊎◌, inl, inr, ◌<◌, ◌≤◌, ℕ, zero, suc, true, Option, Some, None, Ok, option_map, List, [], ◌∷◌, ◌++◌, length, map, take, codes, append_assoc, refl, sym, ap, subst, ◌∙◌}
-use Rattle.std.specs.Prelude.{Contains, slice_index_or}
+-- While the images stay as they are, a file that couldn't be copied for a pod was the first of its plan that was lacking in the state before.
+use Rattle.std.proofs.Common.{arith, ◌≡◌, ◌⊎◌, inl, inr, ◌<◌, ◌≤◌, ℕ, zero, suc, true, Option, Some, None, Ok, option_map, List, [], ◌∷◌, ◌++◌, length, map, take, codes, refl, sym, ap, subst, ◌∙◌}
+use Rattle.std.specs.Prelude.{slice_index_or}
 use Rattle.std.specs.List.{All, AllByRecursion, cons_option, flat_map, slice_get}
 use Rattle.std.proofs.lemmas.Grind.{common_steps}
-use Rattle.std.proofs.lemmas.List.Elements.{All-head, All-tail, All-map, Contains-append_right}
+use Rattle.std.proofs.lemmas.List.Elements.{All-head, All-tail}
 use Rattle.sha2.specs.Sha512.{sha512}
 use Rattle.ac_types.specs.declared.store_key.StoreKey.{StoreKey}
 use Rattle.ac_types.specs.Ids.{id_text}
@@ -16,16 +16,16 @@ use Rattle.dir_model.specs.declared.item.Inner.{Inner}
 use Rattle.dir_model.specs.State.{DirState}
 use Rattle.dir_model.specs.Trace.{state_after}
 use Rattle.dir_model.specs.Trees.{app_root}
-use Rattle.dir_model.proofs.Lists.{all_both}
+use Rattle.dir_model.proofs.Lists.{all_left, all_right}
 use Rattle.dir_trait.specs.DirCalls.{DirAt}
-use Rattle.dir_files.specs.Reads.{AreTold, IsPiece, IsShort, WasMissing, file_at}
+use Rattle.dir_files.specs.Reads.{AreTold, IsPiece, IsShort, Reads, WasMissing, file_at}
 use Rattle.folder_building.specs.declared.plan.PlanEntry.{PlanEntry}
 use Rattle.folder_building.specs.declared.plan.Content.TheVariants.{Copied, Directory}
 use Rattle.folder_building.specs.Sources.{in_image, in_images}
-use Rattle.folder_building.specs.Stored.{LacksAt, LacksContent, ReadsOther}
+use Rattle.folder_building.specs.Stored.{HadContent, LacksAt, LacksContent, ReadsLike, ReadsOther}
 use Rattle.folder_plans.specs.ImagePlans.{given_file}
 use Rattle.gate_reading.proofs.PlainPaths.{plain_rootfs}
-use Rattle.image_reading.specs.Places.{image_inner}
+use Rattle.image_reading.specs.Places.{IsPresent, image_inner}
 use Rattle.manifests.specs.declared.runtime_app.RuntimeApp.{RuntimeApp}
 use Rattle.materialize.specs.Materialized.{below}
 use Rattle.materialize.specs.TreePlans.{content_of, entry_at as plan_entry}
@@ -41,15 +41,16 @@ use Rattle.pod_plans.specs.PodFiles.{shared_directories}
 use Rattle.pod_plans.specs.PodPlans.{app_entries, head_entries, image_at, image_of, pod_entries, root_entries}
 use Rattle.pod_reading.specs.Plans.{app_with, apps_with, folders}
 use Rattle.pod_reading.specs.Roots.{AreRoots, IsRoot, node_key}
-use Rattle.pod_reading.proofs.Zips.{each_at, head_of, tail_of}
+use Rattle.pod_reading.proofs.Zips.{head_of, tail_of}
 use Rattle.render.specs.Assembly.{IsAssembly, own_whitelist}
-use Rattle.render.specs.Layers.{is_file_at}
+use Rattle.render.specs.Layers.{is_file_at, source_at}
+use Rattle.render.specs.declared.rendering.Rendering.{Rendering}
 use Rattle.standing_images.specs.Images.{AreStore, ImagesStay}
 use Rattle.standing_images.proofs.Before.{told_before}
-use Rattle.standing_images.proofs.Members.{contains_first}
 use Rattle.standing_images.proofs.Pieces.{ArePieces, IsFront, all_told, is_front}
 use Rattle.tree_digest.specs.declared.line.ListingLine.{ListingLine}
-use Rattle.commands.specs.PrepareTable.{LacksBytes, LacksFile, root_file}
+use Rattle.tree_digest.specs.Listings.{lines_of}
+use Rattle.commands.specs.PrepareTable.{CanCopy, CanCopyAll, CanCopyRoot, HasBytes, HasSources, LacksBytes, LacksFile, root_file}
 use Rattle.commands.proofs.NodesStand.{node_stands}
 use Rattle.commands.proofs.Parts.{Part, held_wider}
 use Rattle.commands.proofs.RootsBefore.{entries_before}
@@ -110,6 +111,20 @@ module _ (old new : DirAt) (stay : ImagesStay old.trace new.trace) {begun ended 
         let same : bytes ≡ f.file = cc in
         whole_front read f.file f.front ∙ sym same
 
+    -- the pieces that were read are of that file
+    are_pieces : {bytes : List ℕ} (r : Reads here begun ended bytes) → ArePieces found r.pieces
+    are_pieces r =
+        all_told old.process here old.trace new.trace found
+        (λ at room piece step. told_before old.process old.trace new.trace stay key (root_file file) (IsPiece at room piece) (plain_rootfs file) step)
+        begun.trace q.earlier q.begins r.pieces ended.trace q.later q.ends
+        (subst (λ (m : ℕ). AreTold m here begun.trace r.pieces ended.trace) q.same r.told)
+
+    has_bytes : (size : ℕ) (sha : List ℕ) → ReadsLike here size sha begun ended → HasBytes key (root_file file) size sha s
+    has_bytes size sha r =
+        let f = is_front (suc (length r.bytes)) r.bytes r.reads.pieces found (omega arith) r.reads.whole (omega arith) (inr r.ended) (are_pieces r.reads) in
+        let same : r.bytes ≡ f.file = whole_front r.bytes f.file f.front in
+        record { bytes = r.bytes; there = f.is ∙ ap Some (sym same); sized = r.sized; hashed = r.hashed }
+
     lacks_bytes : (size : ℕ) (sha : List ℕ) → WasMissing here begun ended ⊎ ReadsOther here size sha begun ended → LacksBytes key (root_file file) size sha s
     lacks_bytes size sha (inl missing) bytes there long digest =
         let none : found ≡ None = told_before old.process old.trace new.trace stay key (root_file file) (λ f. f ≡ None) (plain_rootfs file) (held_wider q _ missing) in
@@ -117,123 +132,327 @@ module _ (old new : DirAt) (stay : ImagesStay old.trace new.trace) {begun ended 
         cc
     lacks_bytes size sha (inr r) bytes there long digest = by r.other
       where
-        are : ArePieces found r.reads.pieces
-        are = all_told old.process here old.trace new.trace found
-            (λ at room piece step. told_before old.process old.trace new.trace stay key (root_file file) (IsPiece at room piece) (plain_rootfs file) step)
-            begun.trace q.earlier q.begins r.reads.pieces ended.trace q.later q.ends
-            (subst (λ (m : ℕ). AreTold m here begun.trace r.reads.pieces ended.trace) q.same r.reads.told)
-
         by : (size < length r.bytes) ⊎ (IsShort r.reads.pieces × (length r.bytes ≡ size → sha512 r.bytes ≡ sha → ⊥)) → ⊥
         by (inl more) =
-            too_long size r.bytes bytes more (is_front (length r.bytes) r.bytes r.reads.pieces found (omega (arith, more)) r.reads.whole (omega arith) (inl refl) are) there long
+            too_long size r.bytes bytes more (is_front (length r.bytes) r.bytes r.reads.pieces found (omega (arith, more)) r.reads.whole (omega arith) (inl refl) (are_pieces r.reads)) there long
         by (inr short) =
-            let read = read_whole r.bytes bytes (is_front (suc (length r.bytes)) r.bytes r.reads.pieces found (omega arith) r.reads.whole (omega arith) (inr short.0) are) there in
+            let read = read_whole r.bytes bytes (is_front (suc (length r.bytes)) r.bytes r.reads.pieces found (omega arith) r.reads.whole (omega arith) (inr short.0) (are_pieces r.reads)) there in
             short.1 (ap length read ∙ long) (ap sha512 read ∙ digest)
 
-  module _ {start end : DirAt} (p : Part old start end new) (images : List Stored) (are_all : AreStore images s) (trees : List DepTree) (path : List ℕ) where
-    abbrev Lacking : Type 0
-    Lacking = (tree : DepTree) × Contains trees tree × LacksFile images path s tree
-
+  module _ {start end : DirAt} (p : Part old start end new) (images : List Stored) (are_all : AreStore images s) (path : List ℕ) where
     abbrev fs : List (List ℕ)
     fs = folders images
 
-    -- an entry whose copy is lacking tells it
-    abbrev pub Tells : PlanEntry → Type 0
-    Tells e = LacksContent in_images e.content begun ended → path ≡ origin_path e → Lacking
+    abbrev Had : PlanEntry → Type 0
+    Had e = HadContent in_images e.content begun ended
 
-    abbrev copied : PodApp → List ℕ → ℕ → List ℕ → PlanEntry
-    copied app file size sha = plan_entry (below (app_root app.name) file) (Copied (record { folder = image_of fs app file; path = root_file file }) size sha)
+    abbrev Lacks : PlanEntry → Type 0
+    Lacks e = LacksContent in_images e.content begun ended
 
-    abbrev TellsLine : PodApp → ListingLine → Type 0
-    TellsLine app l = (meta : Meta) (size : ℕ) (sha : List ℕ) → l.entry ≡ File meta size sha → Tells (copied app l.path size sha)
+    -- the first of some entries that wasn't copied
+    pub record First (es : List PlanEntry) : Type 0 where
+      pub before : List PlanEntry
+      pub entry : PlanEntry
+      pub rest : List PlanEntry
+      pub is : es ≡ before ++ entry ∷ rest
+      pub earlier : AllByRecursion Had before
+      pub lacks : Lacks entry
+      pub from : path ≡ origin_path entry
 
-    root_tells : (app : PodApp) (lines : List ListingLine) → All (TellsLine app) lines → AllByRecursion Tells (root_entries fs app lines)
-    root_tells app [] all = tt
-    root_tells app (l ∷ lines) all = by l.entry refl (root_tells app lines (All-tail (TellsLine app) l lines all))
+    first_none : First [] → ⊥
+    first_none f = by f.before f.is
       where
-        by : (e : Entry) → l.entry ≡ e → AllByRecursion Tells (root_entries fs app lines)
-            → AllByRecursion Tells (cons_option (option_map (plan_entry (below (app_root app.name) l.path)) (content_of (image_of fs app l.path) (below (codes "rootfs") l.path) e)) (root_entries fs app lines))
-        by (Dir meta) is rest = ((λ lacks from. absurd lacks), rest)
-        by (File meta size sha) is rest = (All-head (TellsLine app) l lines all meta size sha is, rest)
-        by (Link meta target) is rest = rest
+        by : (before : List PlanEntry) → [] ≡ before ++ f.entry ∷ f.rest → ⊥
+        by [] is = cc
+        by (x ∷ before) is = cc
 
-    app_tells : (app : PodApp) → All (TellsLine app) app.listing → AllByRecursion Tells (app_entries fs app)
-    app_tells app all = ((λ lacks from. absurd lacks), ((λ lacks from. absurd lacks), ((λ lacks from. absurd lacks), ((λ lacks from. absurd lacks), ((λ lacks from. absurd lacks), root_tells app app.listing all)))))
+    head_or : (e : PlanEntry) (es : List PlanEntry) → First (e ∷ es) → (Lacks e × (path ≡ origin_path e)) ⊎ (Had e × First es)
+    head_or e es f = by f.before f.is f.earlier
+      where
+        by : (before : List PlanEntry) → e ∷ es ≡ before ++ f.entry ∷ f.rest → AllByRecursion Had before → (Lacks e × (path ≡ origin_path e)) ⊎ (Had e × First es)
+        by [] is had =
+            let same : f.entry ≡ e = cc in
+            inl (subst Lacks same f.lacks, f.from ∙ ap origin_path same)
+        by (x ∷ before) is had =
+            let same : x ≡ e = cc in
+            let others : es ≡ before ++ f.entry ∷ f.rest = cc in
+            inr (subst Had same had.0, record { before = before; entry = f.entry; rest = f.rest; is = others; earlier = had.1; lacks = f.lacks; from = f.from })
 
-    directories_tell : (paths : List (List ℕ)) → AllByRecursion Tells (map (λ place. plan_entry place Directory) paths)
-    directories_tell [] = tt
-    directories_tell (place ∷ paths) = ((λ lacks from. absurd lacks), directories_tell paths)
+    part_or : (xs ys : List PlanEntry) → First (xs ++ ys) → First xs ⊎ (AllByRecursion Had xs × First ys)
+    part_or [] ys f = inr (tt, f)
+    part_or (x ∷ xs) ys f = by (λ g. part_or xs ys g) (head_or x (xs ++ ys) f)
+      where
+        more : Had x → First xs ⊎ (AllByRecursion Had xs × First ys) → First (x ∷ xs) ⊎ (AllByRecursion Had (x ∷ xs) × First ys)
+        more had (inl g) = inl (record { before = x ∷ g.before; entry = g.entry; rest = g.rest; is = ap (λ (l : List PlanEntry). x ∷ l) g.is; earlier = (had, g.earlier); lacks = g.lacks; from = g.from })
+        more had (inr g) = inr ((had, g.0), g.1)
 
-    apps_tell : (apps : List PodApp) → AllByRecursion (λ app. AllByRecursion Tells (app_entries fs app)) apps → AllByRecursion Tells (flat_map (app_entries fs) apps)
-    apps_tell [] each = tt
-    apps_tell (app ∷ apps) each = all_both Tells (app_entries fs app) (flat_map (app_entries fs) apps) each.0 (apps_tell apps each.1)
+        by : (First (xs ++ ys) → First xs ⊎ (AllByRecursion Had xs × First ys)) → (Lacks x × (path ≡ origin_path x)) ⊎ (Had x × First (xs ++ ys)) → First (x ∷ xs) ⊎ (AllByRecursion Had (x ∷ xs) × First ys)
+        by rest (inl l) = inl (record { before = []; entry = x; rest = xs; is = refl; earlier = tt; lacks = l.0; from = l.1 })
+        by rest (inr r) = more r.0 (rest r.1)
 
-    pub plan_tells : (now : ℕ) (token text : List ℕ) (apps : List PodApp) → AllByRecursion (λ app. AllByRecursion Tells (app_entries fs app)) apps → AllByRecursion Tells (pod_entries now token text fs apps)
-    plan_tells now token text apps each =
-        all_both Tells (head_entries now token) (flat_map (app_entries fs) apps ++ given_file (codes "pod") text ∷ [])
-        ((λ lacks from. absurd lacks), ((λ lacks from. absurd lacks), directories_tell shared_directories))
-        (all_both Tells (flat_map (app_entries fs) apps) (given_file (codes "pod") text ∷ []) (apps_tell apps each) ((λ lacks from. absurd lacks), tt))
+    -- what isn't copied is passed over
+    past : (e : PlanEntry) (es : List PlanEntry) → First (e ∷ es) → (Lacks e → ⊥) → First es
+    past e es f never = by (head_or e es f)
+      where
+        by : (Lacks e × (path ≡ origin_path e)) ⊎ (Had e × First es) → First es
+        by (inl l) = absurd (never l.0)
+        by (inr r) = r.1
 
-    -- a file of a root
-    module _ (lead after : List DepTree) (tree : DepTree) (split : trees ≡ lead ++ tree ∷ after) (place : ℕ) (known : place < length images) (made : dependency_tree images place ≡ Ok tree.nodes)
+    no_directories : (paths : List (List ℕ)) → First (map (λ place. plan_entry place Directory) paths) → ⊥
+    no_directories [] f = first_none f
+    no_directories (place ∷ paths) f = no_directories paths (past (plan_entry place Directory) (map (λ place. plan_entry place Directory) paths) f (λ l. l))
+
+    pub plan_first : (now : ℕ) (token text : List ℕ) (apps : List PodApp) → First (pod_entries now token text fs apps) → First (flat_map (app_entries fs) apps)
+    plan_first now token text apps f = by (part_or (head_entries now token) (flat_map (app_entries fs) apps ++ last ∷ []) f)
+      where
+        last : PlanEntry
+        last = given_file (codes "pod") text
+
+        ends : First (flat_map (app_entries fs) apps) ⊎ (AllByRecursion Had (flat_map (app_entries fs) apps) × First (last ∷ [])) → First (flat_map (app_entries fs) apps)
+        ends (inl g) = g
+        ends (inr g) = absurd (first_none (past last [] g.1 (λ l. l)))
+
+        by : First (head_entries now token) ⊎ (AllByRecursion Had (head_entries now token) × First (flat_map (app_entries fs) apps ++ last ∷ [])) → First (flat_map (app_entries fs) apps)
+        by (inl g) = absurd (no_directories shared_directories (past _ _ (past _ _ g (λ l. l)) (λ l. l)))
+        by (inr g) = ends (part_or (flat_map (app_entries fs) apps) (last ∷ []) g.1)
+
+    -- the root of an app
+    module _ (tree : DepTree) (place : ℕ) (known : place < length images) (made : dependency_tree images place ≡ Ok tree.nodes)
         (root : _) (is : IsRoot true images start end tree root) (named : RuntimeApp) (manifest : List ℕ) where
       abbrev app : PodApp
       app = app_with named manifest root
 
-      file_tells : (file : List ℕ) (entry : Entry) → entry_at root.rendering.map file ≡ Some entry → TellsLine app (record { path = file; entry = entry })
-      file_tells file entry at meta size sha kind lacks from =
-          let there : entry_at root.rendering.map file ≡ Some (File meta size sha) = at ∙ ap Some kind in
-          let x = is.rendered.sources file (ap is_file_at there) in
+      abbrev r : Rendering
+      r = root.rendering
+
+      abbrev sourced : HasSources images tree r s
+      sourced = record {
+        root = record {
+          own = is.rendered.own;
+          each = λ n below. entries_before old new stay p true refl (node_key images tree.nodes n) (is.rendered.own n) (is.rendered.read n below);
+          few = is.rendered.few;
+          rendered = is.rendered.rendering;
+        };
+        put = is.rendered.sourced;
+      }
+
+      abbrev copied : List ℕ → ℕ → List ℕ → PlanEntry
+      copied file size sha = plan_entry (below (app_root app.name) file) (Copied (record { folder = image_of fs app file; path = root_file file }) size sha)
+
+      abbrev Listed : List ℕ × Entry → Type 0
+      Listed e = entry_at r.map e.0 ≡ Some e.1
+
+      -- the image that a file is from
+      record From (file : List ℕ) : Type 0 where
+        node : ℕ
+        within : node < length tree.nodes
+        stands : IsPresent (node_key images tree.nodes node) s
+        from : source_at r file ≡ Some (node_at tree.nodes node).image
+        listed : entry_at (is.rendered.own node) file ≡ entry_at r.map file
+        folder : image_of fs app file ≡ Some (id_text (node_key images tree.nodes node).bytes)
+
+      from_image : (file : List ℕ) → is_file_at (entry_at r.map file) ≡ true → From file
+      from_image file there =
+          let x = is.rendered.sources file there in
           let ordered = tree_ordered images place tree.nodes known made in
           let inside = ordered.images x.0 (record { image = 0; children = [] }) x.1 in
-          let folder : image_of fs app file ≡ Some (id_text (node_key images tree.nodes x.0).bytes) = ap (image_at fs) x.2 ∙ folder_there images (node_at tree.nodes x.0).image inside in (
-            tree,
-            subst (λ (ts : List DepTree). Contains ts tree) (sym split) (Contains-append_right lead (tree ∷ after) tree (contains_first tree after)),
+          record {
+            node = x.0;
+            within = x.1;
+            stands = node_stands images s are_all tree.nodes ordered x.0 x.1;
+            from = x.2;
+            listed = x.3;
+            folder = ap (image_at fs) x.2 ∙ folder_there images (node_at tree.nodes x.0).image inside;
+          }
+
+      abbrev inner_of : ℕ → List ℕ → Inner
+      inner_of node file = image_inner (node_key images tree.nodes node) (root_file file)
+
+      can_copy : (file : List ℕ) (meta : Meta) (size : ℕ) (sha : List ℕ) → Listed (file, File meta size sha) → Had (copied file size sha) → CanCopy images r s file (File meta size sha)
+      can_copy file meta size sha there had =
+          let x = from_image file (ap is_file_at there) in
+          ((node_at tree.nodes x.node).image, x.from, has_bytes (node_key images tree.nodes x.node) file size sha (had (inner_of x.node file) (ap (in_image (root_file file)) x.folder)))
+
+      can_copy_all : (m : Entries) → All Listed m → AllByRecursion Had (root_entries fs app (lines_of m)) → CanCopyAll images r s m
+      can_copy_all [] listed had = tt
+      can_copy_all (e ∷ m) listed had = by (λ more. can_copy_all m (All-tail Listed e m listed) more) e.1 (All-head Listed e m listed) had
+        where
+          by : (AllByRecursion Had (root_entries fs app (lines_of m)) → CanCopyAll images r s m) → (entry : Entry) → entry_at r.map e.0 ≡ Some entry
+              → AllByRecursion Had (cons_option (option_map (plan_entry (below (app_root app.name) e.0)) (content_of (image_of fs app e.0) (below (codes "rootfs") e.0) entry)) (root_entries fs app (lines_of m)))
+              → CanCopy images r s e.0 entry × CanCopyAll images r s m
+          by rest (Dir meta) there had = (tt, rest had.1)
+          by rest (File meta size sha) there had = (can_copy e.0 meta size sha there had.0, rest had.1)
+          by rest (Link meta target) there had = (tt, rest had)
+
+      -- the first file of a part of the root that wasn't copied
+      record LacksIn (m : Entries) : Type 0 where
+        before : Entries
+        file : List ℕ
+        meta : Meta
+        size : ℕ
+        sha : List ℕ
+        after : Entries
+        split : m ≡ before ++ (file, File meta size sha) ∷ after
+        earlier : CanCopyAll images r s before
+        wanted : entry_at r.map file ≡ Some (File meta size sha)
+        lacks : Lacks (copied file size sha)
+        from : path ≡ origin_path (copied file size sha)
+
+      lacks_first : (m : Entries) → All Listed m → First (root_entries fs app (lines_of m)) → LacksIn m
+      lacks_first [] listed f = absurd (first_none f)
+      lacks_first (e ∷ m) listed f = by (λ g. lacks_first m (All-tail Listed e m listed) g) e.1 refl (All-head Listed e m listed) f
+        where
+          others : List PlanEntry
+          others = root_entries fs app (lines_of m)
+
+          next : CanCopy images r s e.0 e.1 → LacksIn m → LacksIn (e ∷ m)
+          next can l = record {
+            before = e ∷ l.before;
+            file = l.file;
+            meta = l.meta;
+            size = l.size;
+            sha = l.sha;
+            after = l.after;
+            split = ap (λ (es : Entries). e ∷ es) l.split;
+            earlier = (can, l.earlier);
+            wanted = l.wanted;
+            lacks = l.lacks;
+            from = l.from;
+          }
+
+          here_or : (First others → LacksIn m) → (meta : Meta) (size : ℕ) (sha : List ℕ) → e.1 ≡ File meta size sha → entry_at r.map e.0 ≡ Some (File meta size sha)
+              → (Lacks (copied e.0 size sha) × (path ≡ origin_path (copied e.0 size sha))) ⊎ (Had (copied e.0 size sha) × First others) → LacksIn (e ∷ m)
+          here_or rest meta size sha kind there (inl l) = record {
+            before = [];
+            file = e.0;
+            meta = meta;
+            size = size;
+            sha = sha;
+            after = m;
+            split = ap (λ (x : Entry). (e.0, x) ∷ m) kind;
+            earlier = tt;
+            wanted = there;
+            lacks = l.0;
+            from = l.1;
+          }
+          here_or rest meta size sha kind there (inr g) = next (subst (λ (x : Entry). CanCopy images r s e.0 x) (sym kind) (can_copy e.0 meta size sha there g.0)) (rest g.1)
+
+          by : (First others → LacksIn m) → (entry : Entry) → e.1 ≡ entry → entry_at r.map e.0 ≡ Some entry
+              → First (cons_option (option_map (plan_entry (below (app_root app.name) e.0)) (content_of (image_of fs app e.0) (below (codes "rootfs") e.0) entry)) others) → LacksIn (e ∷ m)
+          by rest (Dir meta) kind there f = next (subst (λ (x : Entry). CanCopy images r s e.0 x) (sym kind) tt) (rest (past _ others f (λ l. l)))
+          by rest (File meta size sha) kind there f = here_or rest meta size sha kind there (head_or (copied e.0 size sha) others f)
+          by rest (Link meta target) kind there f = next (subst (λ (x : Entry). CanCopy images r s e.0 x) (sym kind) tt) (rest f)
+
+      all_listed : All Listed r.map
+      all_listed = all_in_list (λ file entry. entry_at r.map file ≡ Some entry) r.map (root_map tree r.map (own_whitelist tree.nodes images) is.rendered.own is.rendered.rendering).rising (λ file entry there. there)
+
+      lacks_file : LacksIn r.map → LacksFile images path s tree
+      lacks_file l =
+          let x = from_image l.file (ap is_file_at l.wanted) in
+          record {
+            rendering = r;
+            sourced = sourced;
+            before = l.before;
+            file = l.file;
+            meta = l.meta;
+            size = l.size;
+            sha = l.sha;
+            after = l.after;
+            split = l.split;
+            earlier = l.earlier;
+            wanted = l.wanted;
+            node = x.node;
+            within = x.within;
+            stands = x.stands;
+            from = x.from;
+            listed = x.listed ∙ l.wanted;
+            is = l.from ∙ ap (λ (o : Option (List ℕ)). path_in o (root_file l.file)) x.folder;
+            lacks = lacks_bytes (node_key images tree.nodes x.node) l.file l.size l.sha (l.lacks (inner_of x.node l.file) (ap (in_image (root_file l.file)) x.folder));
+          }
+
+      app_lacks : First (app_entries fs app) → LacksFile images path s tree
+      app_lacks f =
+          lacks_file (lacks_first r.map all_listed (subst (λ (ls : List ListingLine). First (root_entries fs app ls)) is.listing
+          (past _ _ (past _ _ (past _ _ (past _ _ (past _ _ f (λ l. l)) (λ l. l)) (λ l. l)) (λ l. l)) (λ l. l))))
+
+      app_has : AllByRecursion Had (app_entries fs app) → CanCopyRoot images s tree
+      app_has had = (r, sourced, can_copy_all r.map all_listed (subst (λ (ls : List ListingLine). AllByRecursion Had (root_entries fs app ls)) is.listing had.1.1.1.1.1))
+
+    -- the first tree with such a file
+    pub record FirstTree (trees : List DepTree) : Type 0 where
+      pub before : List DepTree
+      pub tree : DepTree
+      pub after : List DepTree
+      pub split : trees ≡ before ++ tree ∷ after
+      pub earlier : AllByRecursion (CanCopyRoot images s) before
+      pub lacks : LacksFile images path s tree
+
+    pub apps_first : (manifests : List (List ℕ)) (picks : List ℕ) (named : List RuntimeApp) (roots : _) (ts : List DepTree) → All (λ i. i < length images) picks → AreTrees images picks ts → AreRoots true images start end ts roots
+        → First (flat_map (app_entries fs) (apps_with manifests picks named roots)) → FirstTree ts
+    apps_first manifests [] named roots ts within are rooted f = absurd (first_none f)
+    apps_first manifests (k ∷ picks) [] roots ts within are rooted f = absurd (first_none f)
+    apps_first manifests (k ∷ picks) (a ∷ named) [] ts within are rooted f = absurd (first_none f)
+    apps_first manifests (k ∷ picks) (a ∷ named) (root ∷ roots) [] within are rooted f = absurd rooted
+    apps_first manifests (k ∷ picks) (a ∷ named) (root ∷ roots) (t ∷ ts) within are rooted f =
+        by (λ more. apps_first manifests picks named roots ts (All-tail (λ i. i < length images) k picks within)
+        (tail_of (dependency_tree images k) (Ok t.nodes) (map (dependency_tree images) picks) (map (λ (x : DepTree). Ok x.nodes) ts) are) rooted.1 more)
+        (part_or (app_entries fs one) (flat_map (app_entries fs) (apps_with manifests picks named roots)) f)
+      where
+        manifest : List ℕ
+        manifest = slice_index_or manifests k []
+
+        one : PodApp
+        one = app_with a manifest root
+
+        known : k < length images
+        known = All-head (λ i. i < length images) k picks within
+
+        made : dependency_tree images k ≡ Ok t.nodes
+        made = head_of (dependency_tree images k) (Ok t.nodes) (map (dependency_tree images) picks) (map (λ (x : DepTree). Ok x.nodes) ts) are
+
+        by : (First (flat_map (app_entries fs) (apps_with manifests picks named roots)) → FirstTree ts) → First (app_entries fs one) ⊎ (AllByRecursion Had (app_entries fs one) × First (flat_map (app_entries fs) (apps_with manifests picks named roots))) → FirstTree (t ∷ ts)
+        by rest (inl g) = record { before = []; tree = t; after = ts; split = refl; earlier = tt; lacks = app_lacks t k known made root rooted.0 a manifest g }
+        by rest (inr g) =
+            let x = rest g.1 in
             record {
-              whole = root.rendering.map;
-              root = record {
-                own = is.rendered.own;
-                each = λ n below. entries_before old new stay p true refl (node_key images tree.nodes n) (is.rendered.own n) (is.rendered.read n below);
-                rendered = is.rendered.rendering;
-              };
-              file = file;
-              meta = meta;
-              size = size;
-              sha = sha;
-              wanted = there;
-              node = x.0;
-              within = x.1;
-              stands = node_stands images s are_all tree.nodes ordered x.0 x.1;
-              listed = x.3 ∙ there;
-              is = from ∙ ap (λ (o : Option (List ℕ)). path_in o (root_file file)) folder;
-              lacks = lacks_bytes (node_key images tree.nodes x.0) file size sha (lacks (image_inner (node_key images tree.nodes x.0) (root_file file)) (ap (in_image (root_file file)) folder));
-            },
-          )
+              before = t ∷ x.before;
+              tree = x.tree;
+              after = x.after;
+              split = ap (λ (l : List DepTree). t ∷ l) x.split;
+              earlier = (app_has t k known made root rooted.0 a manifest g.0, x.earlier);
+              lacks = x.lacks;
+            }
 
-      root_app_tells : AllByRecursion Tells (app_entries fs app)
-      root_app_tells =
-          app_tells app (subst (λ (ls : List ListingLine). All (TellsLine app) ls) (sym is.listing)
-          (All-map (TellsLine app) (λ (e : List ℕ × Entry). record { path = e.0; entry = e.1 }) root.rendering.map
-          (all_in_list (λ file entry. TellsLine app (record { path = file; entry = entry })) root.rendering.map (root_map tree root.rendering.map (own_whitelist tree.nodes images) is.rendered.own is.rendered.rendering).rising file_tells)))
+    -- where each was copied, all of each root can be
+    pub plan_copied : (now : ℕ) (token text : List ℕ) (apps : List PodApp) → AllByRecursion Had (pod_entries now token text fs apps) → AllByRecursion Had (flat_map (app_entries fs) apps)
+    plan_copied now token text apps had =
+        let last : PlanEntry = given_file (codes "pod") text in
+        all_left Had (flat_map (app_entries fs) apps) (last ∷ []) (all_right Had (head_entries now token) (flat_map (app_entries fs) apps ++ last ∷ []) had)
 
-    pub each_app_tells : (manifests : List (List ℕ)) (lead : List DepTree) (picks : List ℕ) (named : List RuntimeApp) (roots : _) (ts : List DepTree) → trees ≡ lead ++ ts → All (λ i. i < length images) picks → AreTrees images picks ts → AreRoots true images start end ts roots
-        → AllByRecursion (λ app. AllByRecursion Tells (app_entries fs app)) (apps_with manifests picks named roots)
-    each_app_tells manifests lead [] named roots ts split within are rooted = tt
-    each_app_tells manifests lead (k ∷ picks) [] roots ts split within are rooted = tt
-    each_app_tells manifests lead (k ∷ picks) (a ∷ named) [] ts split within are rooted = tt
-    each_app_tells manifests lead (k ∷ picks) (a ∷ named) (root ∷ roots) [] split within are rooted = absurd rooted
-    each_app_tells manifests lead (k ∷ picks) (a ∷ named) (root ∷ roots) (t ∷ ts) split within are rooted = (
-      root_app_tells lead ts t split k (All-head (λ i. i < length images) k picks within)
-          (head_of (dependency_tree images k) (Ok t.nodes) (map (dependency_tree images) picks) (map (λ (x : DepTree). Ok x.nodes) ts) are) root rooted.0 a (slice_index_or manifests k []),
-      each_app_tells manifests (lead ++ t ∷ []) picks named roots ts (split ∙ sym (append_assoc lead (t ∷ []) ts)) (All-tail (λ i. i < length images) k picks within)
-          (tail_of (dependency_tree images k) (Ok t.nodes) (map (dependency_tree images) picks) (map (λ (x : DepTree). Ok x.nodes) ts) are) rooted.1,
-    )
+    pub apps_copied : (manifests : List (List ℕ)) (picks : List ℕ) (named : List RuntimeApp) (roots : _) (ts : List DepTree) → length named ≡ length picks → All (λ i. i < length images) picks → AreTrees images picks ts → AreRoots true images start end ts roots
+        → AllByRecursion Had (flat_map (app_entries fs) (apps_with manifests picks named roots)) → AllByRecursion (CanCopyRoot images s) ts
+    apps_copied manifests [] named roots [] many within are rooted had = tt
+    apps_copied manifests [] named roots (t ∷ ts) many within are rooted had = cc
+    apps_copied manifests (k ∷ picks) [] roots ts many within are rooted had = cc
+    apps_copied manifests (k ∷ picks) (a ∷ named) roots [] many within are rooted had = cc
+    apps_copied manifests (k ∷ picks) (a ∷ named) [] (t ∷ ts) many within are rooted had = absurd rooted
+    apps_copied manifests (k ∷ picks) (a ∷ named) (root ∷ roots) (t ∷ ts) many within are rooted had =
+        let manifest : List ℕ = slice_index_or manifests k [] in
+        let first = app_entries fs (app_with a manifest root) in
+        let others = flat_map (app_entries fs) (apps_with manifests picks named roots) in
+        let known = All-head (λ i. i < length images) k picks within in
+        let made = head_of (dependency_tree images k) (Ok t.nodes) (map (dependency_tree images) picks) (map (λ (x : DepTree). Ok x.nodes) ts) are in
+        let fewer : length named ≡ length picks = cc in (
+          app_has t k known made root rooted.0 a manifest (all_left Had first others had),
+          apps_copied manifests picks named roots ts fewer (All-tail (λ i. i < length images) k picks within)
+              (tail_of (dependency_tree images k) (Ok t.nodes) (map (dependency_tree images) picks) (map (λ (x : DepTree). Ok x.nodes) ts) are) rooted.1 (all_right Had first others had),
+        )
 
-    -- so the entry that wasn't copied does
-    pub copy_lacking : (plan : List PlanEntry) (place : ℕ) → AllByRecursion Tells plan → IsOriginAt plan place path → LacksAt in_images plan place begun ended → Lacking
-    copy_lacking plan place tell at lacks =
+    -- the entry that wasn't copied is the first
+    pub copy_first : (plan : List PlanEntry) (place : ℕ) → IsOriginAt plan place path → LacksAt in_images plan place begun ended → First plan
+    copy_first plan place at lacks =
         let there : slice_get plan place ≡ Some lacks.entry =
         ap (λ (l : List PlanEntry). slice_get l place) lacks.is ∙ (ap (λ n. slice_get (lacks.before ++ lacks.entry ∷ lacks.rest) n) (sym lacks.place) ∙ at_place lacks.before lacks.rest lacks.entry) in
         let both : Some at.entry ≡ Some lacks.entry = sym at.there ∙ there in
         let same : at.entry ≡ lacks.entry = cc in
-        each_at Tells plan place lacks.entry tell there lacks.lacks (at.from ∙ ap origin_path same)
+        record { before = lacks.before; entry = lacks.entry; rest = lacks.rest; is = lacks.is; earlier = lacks.earlier; lacks = lacks.lacks; from = at.from ∙ ap origin_path same }

@@ -40,7 +40,8 @@ use Rattle.commands.specs.RemovalQuiet.{AgedAsBefore}
 use Rattle.commands.specs.RemovalTable.{moment_in, moment_at}
 use Rattle.commands.proofs.OwnSteps.{in_process, forward, back_from, quiet_part, own_first}
 use Rattle.commands.proofs.FolderItems.{ShowedThen, showed_then}
-use Rattle.commands.proofs.GcQuiet.{pod_back, shown_grown, passed_grown, passes_grown}
+use Rattle.commands.proofs.GcQuiet.{shown_grown, passed_grown, passes_grown}
+use Rattle.pod_lookup.proofs.Names.{text_back}
 use Rattle.commands.proofs.GcTells.{shown_stands, stands_named}
 use Rattle.commands.proofs.GcTurn.{quiet_between, earlier_apart}
 use Rattle.commands.proofs.GcPlaces.{Elsewhere, passed_elsewhere, passes_elsewhere}
@@ -126,7 +127,7 @@ module _ (Can : Type 0) (times : Times) (me : ℕ) (old new : List Event) (quiet
         let on = held_on Can times me old new quiet conforming here refl k items in
         let listed = on (lists area.ExitedGarbage) a t.listed t.only_lists (λ r h. lists_off here area.ExitedGarbage r h) to_a more held in
         let sorted = subst (λ (ns : List (List ℕ)). IsStrictlySortedBy (slice_cmp nat_cmp) ns) x.names_are t.ordered in
-        let unshown = subst (λ (n : List ℕ). has_name x.earlier n ≡ false) (sym (pod_back x.name x.shown x.name_is)) (earlier_apart x.earlier x.name x.later sorted) in
+        let unshown = subst (λ (n : List ℕ). has_name x.earlier n ≡ false) (sym (text_back x.name x.shown x.name_is)) (earlier_apart x.earlier x.name x.later sorted) in
         on (deals_with_some times.now area.ExitedGarbage x.earlier) t.listed x.from x.first (λ r h. deals_off here times.now area.ExitedGarbage refl x.earlier unshown me r h) (grown_more to_a (grown_by t.only_lists)) last listed
 
     -- what its own listing showed stood there when the pass began

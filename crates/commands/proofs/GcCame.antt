@@ -42,7 +42,8 @@ use Rattle.commands.specs.GcLines.{HasLine}
 use Rattle.commands.specs.RemovalQuiet.{leaves_there, StandsAfter, SaysMoved, CameSo}
 use Rattle.commands.proofs.OwnSteps.{in_process, history_from, forward}
 use Rattle.commands.proofs.LateTurns.{is_late, late_turn, sweeps_late}
-use Rattle.commands.proofs.GcQuiet.{pod_back, shown_grown, passes_grown, each_line, each_shown, moved_apart, stood_back}
+use Rattle.commands.proofs.GcQuiet.{shown_grown, passes_grown, each_line, each_shown, moved_apart, stood_back}
+use Rattle.pod_lookup.proofs.Names.{text_back}
 use Rattle.commands.proofs.GcTells.{and_after, taken, told_in, begun_stands, gc_tells}
 use Rattle.commands.proofs.GcTurn.{stood_listed}
 use Rattle.commands.proofs.GcEnds.{later_leaves, finished, gc_stays}
@@ -258,10 +259,10 @@ module _ (times : Times) (lines : List GcLine) {me : ℕ} {old new : List Event}
       by place place_stage stood aside to_h from_h there (inl e) = inl (subst (λ (p : Area). stands (state_after old).namespace (pod_spot x.shown p) ≡ true) e stood)
       by place place_stage stood aside to_h from_h there (inr y) = elim (gc_tells times lines ext quiet m conforming x.name x.shown place x.name_is place_stage stood) [
         | inl has ↦ inr (says x.shown here place aside y.0 stage place_stage t.listed to_h from_h there y.1 has)
-        | inr gate ↦ elim (embryo_line x.name x.shown x.name_is (subst (λ (n : List ℕ). stands (state_after old).namespace (record { area = area.Embryo; name = n }) ≡ true) (pod_back x.name x.shown x.name_is) (subst (λ (p : Area). stands (state_after old).namespace (pod_spot x.shown p) ≡ true) gate.0 stood))) [
+        | inr gate ↦ elim (embryo_line x.name x.shown x.name_is (subst (λ (n : List ℕ). stands (state_after old).namespace (record { area = area.Embryo; name = n }) ≡ true) (text_back x.name x.shown x.name_is) (subst (λ (p : Area). stands (state_after old).namespace (pod_spot x.shown p) ≡ true) gate.0 stood))) [
           | inl has ↦ inr (says x.shown here place aside y.0 stage place_stage t.listed to_h from_h there y.1 (subst (λ (p : Area). HasLine p x.shown lines) (sym gate.0) has))
           | inr ends ↦ absurd (not_back x.shown here place aside y.0 stage place_stage t.listed to_h from_h there
-              (subst (λ (p : Area). stands (state_after new).namespace (pod_spot x.shown p) ≡ true) (sym gate.0) (subst (λ (n : List ℕ). stands (state_after new).namespace (record { area = area.Embryo; name = n }) ≡ true) (sym (pod_back x.name x.shown x.name_is)) ends)))
+              (subst (λ (p : Area). stands (state_after new).namespace (pod_spot x.shown p) ≡ true) (sym gate.0) (subst (λ (n : List ℕ). stands (state_after new).namespace (record { area = area.Embryo; name = n }) ≡ true) (sym (text_back x.name x.shown x.name_is)) ends)))
         ]
       ]
 

@@ -34,7 +34,8 @@ use Rattle.commands.specs.Gc.{Sweeps}
 use Rattle.commands.specs.RemovalQuiet.{leaves_there, StandsAfter}
 use Rattle.commands.proofs.OwnSteps.{in_process, quiet_part, forward, same_folders}
 use Rattle.commands.proofs.LateTurns.{sweeps_late}
-use Rattle.commands.proofs.GcQuiet.{pod_back, shown_grown, passed_grown, passes_grown}
+use Rattle.commands.proofs.GcQuiet.{shown_grown, passed_grown, passes_grown}
+use Rattle.pod_lookup.proofs.Names.{text_back}
 use Rattle.commands.proofs.GcTells.{passes_over, closed}
 use Rattle.commands.proofs.GcTurn.{quiet_between, turn_after, turn_before, stood_until, stood_since, untaken_through}
 
@@ -109,7 +110,7 @@ module _ (times : Times) {me : ℕ} {old new : List Event} (ext : Extends (in_pr
         told : (line : GcLine) → IsTold Can times here t.names line me t.listed b → StandsAfter new line
         told line x pod is leaves =
             let same : x.shown ≡ pod = let e : Some x.shown ≡ Some pod = sym x.pod_is ∙ is in cc in
-            let back = pod_back x.name x.shown x.name_is in
+            let back = text_back x.name x.shown x.name_is in
             let there = subst (λ (n : List ℕ). stands (state_after b).namespace (record { area = here; name = n }) ≡ true) back (pass_leaves here stage ls a b to_a from_b t line x leaves) in
             let ends = subst (λ (n : List ℕ). stands (state_after new).namespace (record { area = here; name = n }) ≡ true) (sym back) (keeps x.name x.shown x.name_is there) in
             subst (λ (p : Area). stands (state_after new).namespace (pod_spot pod p) ≡ true) (sym x.place_is) (subst (λ (q : PodId). stands (state_after new).namespace (pod_spot q here) ≡ true) same ends)

@@ -1,5 +1,5 @@
 -- Where nobody else steps, a pod that a sweep moved has a line of the place to which it was moved.
-use Rattle.std.proofs.Common.{◌≡◌, ◌⊎◌, inl, inr, ◌||◌, ◌==◌, ℕ, Bool, true, false, cond, map, Option, Some, is_some, List, [], ◌∷◌, ◌++◌, refl, sym, ap, subst, ◌∙◌}
+use Rattle.std.proofs.Common.{◌≡◌, inl, inr, ◌||◌, ◌==◌, ℕ, Bool, true, false, cond, map, Option, Some, is_some, List, [], ◌∷◌, ◌++◌, refl, sym, ap, subst, ◌∙◌}
 use Rattle.std.specs.List.{list_any, AllByRecursion}
 use Rattle.std.specs.List.Sorted.{IsStrictlySortedBy}
 use Rattle.std.specs.Ordering.{nat_cmp}
@@ -15,18 +15,15 @@ use Rattle.dir_model.specs.declared.request.Request.TheVariants.{MakeFolder, Mov
 use Rattle.dir_model.specs.declared.request.Reply.{Reply}
 use Rattle.dir_model.specs.declared.request.Reply.TheVariants.{Done}
 use Rattle.dir_model.specs.Areas.{rank, is_stage}
-use Rattle.dir_model.specs.Calls.{event, is_kill, CallStep, TookPlace, LeftNothing, Extends}
+use Rattle.dir_model.specs.Calls.{is_kill, Extends}
 use Rattle.dir_model.specs.Listings.{has_name}
 use Rattle.dir_model.specs.Pods.{pod_of}
 use Rattle.dir_model.specs.Quiet.{Quiet}
-use Rattle.dir_model.specs.State.{DirState, empty_state, is_at, spot_eq, stands}
-use Rattle.dir_model.specs.Trace.{moved, state_after, state_next, namespace_replied}
-use Rattle.dir_model.proofs.Chains.{states_next-append}
+use Rattle.dir_model.specs.State.{DirState, is_at, spot_eq, stands}
+use Rattle.dir_model.specs.Trace.{moved, state_after, namespace_replied}
 use Rattle.dir_model.proofs.Lists.{and_right, all_both, all_weaker}
-use Rattle.dir_model.proofs.Spots.{spot_self}
 use Rattle.lifecycle.specs.Executions.{IsConforming}
-use Rattle.lifecycle.proofs.Places.{spot_turn, none_stands, moved_there}
-use Rattle.lifecycle.proofs.Step.{stands_from}
+use Rattle.lifecycle.proofs.Places.{spot_turn}
 use Rattle.phase_read.specs.Read.{pod_spot}
 use Rattle.pod_claim.specs.Work.{Grew}
 use Rattle.pod_claim.proofs.Traces.{grown_none, grown_more, grown_by, grown_call}
@@ -42,10 +39,11 @@ use Rattle.commands.specs.Gc.{Sweeps}
 use Rattle.commands.specs.GcLines.{HasLine}
 use Rattle.commands.specs.RemovalQuiet.{GoesOnSo}
 use Rattle.commands.proofs.OwnSteps.{in_process, forward, same_folders}
-use Rattle.commands.proofs.GcQuiet.{pod_back, shown_grown, passed_grown, passes_grown}
+use Rattle.commands.proofs.GcQuiet.{shown_grown, passed_grown, passes_grown}
+use Rattle.pod_lookup.proofs.Names.{text_back}
 use Rattle.commands.proofs.GcTells.{found_from, any_from, stays, and_before, closed, tells_after}
 use Rattle.commands.proofs.GcTurn.{quiet_between, later_apart, turn_after, turn_before}
-use Rattle.dir_model.proofs.Allowed.{allowed_reply}
+use Rattle.pod_removal.proofs.Onward.{moved_stands}
 
 -- a move brings no folder away from where it goes
 
@@ -76,22 +74,6 @@ on_leaves pod here to me s (MoveFolder a b) reply h there = there
 on_leaves pod here to me s (RemoveFolder gone) reply h there = cc
 on_leaves pod here to me s request reply h there = ap (λ (fs : List (Option Spot)). stands (record s.namespace { folders = fs }) (pod_spot pod to)) (same_folders me s.namespace request reply refl (λ handle. refl)) ∙ there
 
--- after its own move it stands where it goes
-pub moved_stands : (me : ℕ) (from to : Spot) (a b : List Event) → CallStep me a (MoveFolder from to) Done b → stands (state_after b).namespace to ≡ true
-moved_stands me from to a b s = by s.own
-  where
-    e : Event
-    e = event me (MoveFolder from to) Done
-
-    by : TookPlace s.before me (MoveFolder from to) Done b ⊎ LeftNothing s.before me (MoveFolder from to) Done b → stands (state_after b).namespace to ≡ true
-    by (inr left) = let clash : false ≡ true = left.late in cc
-    by (inl took) =
-        let w = state_after s.before in
-        let stood = stands_from w me from to (allowed_reply w me (MoveFolder from to) Done took.allowed) in
-        let next : state_after b ≡ state_next w e = ap state_after took.grown ∙ states_next-append empty_state s.before (e ∷ []) in
-        subst (λ (z : DirState). stands z.namespace to ≡ true) (sym next)
-        (ap (λ (o : Option ℕ). is_some o) (moved_there w.namespace to from to (none_stands w.namespace to stood.1) (spot_self to)) ∙ stood.0)
-
 -- and so until the end of the pass
 module _ {Can : Type 0} {times : Times} {here : Area} {ls : List GcLine} {me : ℕ} {old a b new : List Event} (stage : is_stage here ≡ true) (quiet : Quiet me old new) (to_a : Grew old a) (from_b : Grew b new) (t : TellsShown Can times here ls me a b) {line : GcLine} (x : IsTold Can times here t.names line me t.listed b) (to : Area) (deed : line.deed ≡ Moved to) where
   abbrev there_spot : Spot
@@ -114,7 +96,7 @@ module _ {Can : Type 0} {times : Times} {here : Area} {ls : List GcLine} {me : �
   pub stands_on : stands (state_after b).namespace there_spot ≡ true
   stands_on =
       let sorted = subst (λ (ns : List (List ℕ)). IsStrictlySortedBy (slice_cmp nat_cmp) ns) x.names_are t.ordered in
-      let unshown = subst (λ (n : List ℕ). has_name x.later n ≡ false) (sym (pod_back x.name x.shown x.name_is)) (later_apart x.earlier x.name x.later sorted) in
+      let unshown = subst (λ (n : List ℕ). has_name x.later n ≡ false) (sym (text_back x.name x.shown x.name_is)) (later_apart x.earlier x.name x.later sorted) in
       forward (λ s. stands s.namespace there_spot ≡ true) (deals_with_some times.now here x.later) me (λ s request reply h q. stays times.now here stage x.later there_spot unshown me s request reply h q) x.upto
       grown_none (grown_by x.last) x.last (quiet_between quiet (grown_more first (grown_by turn)) (grown_by x.last) from_b) (stands_upto (turn_before stage quiet to_a from_b t x))
 
@@ -147,7 +129,7 @@ module _ (Can : Type 0) (times : Times) (me : ℕ) (old new : List Event) (quiet
       let same : x.shown ≡ pod = let e : Some x.shown ≡ Some pod = sym x.pod_is ∙ is in cc in
       let c = x.dealt.cause.moved to deed in
       let there = stands_on stage quiet to_a from_b t x to deed in
-      let named = subst (λ (n : List ℕ). stands (state_after b).namespace (record { area = to; name = n }) ≡ true) (pod_back x.name x.shown x.name_is) there in
+      let named = subst (λ (n : List ℕ). stands (state_after b).namespace (record { area = to; name = n }) ≡ true) (text_back x.name x.shown x.name_is) there in
       let has = its c.0 x.name x.shown x.name_is (subst (λ (p : Area). stands (state_after b).namespace (record { area = p; name = x.name }) ≡ true) c.1 named) in
       subst (λ (p : Area). HasLine p pod lines) (sym c.1) (subst (λ (q : PodId). HasLine (goes_to here) q lines) same has)
 

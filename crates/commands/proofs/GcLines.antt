@@ -16,7 +16,7 @@ use Rattle.pod_gc.specs.declared.line.GcLine.{GcLine}
 use Rattle.pod_gc.specs.Told.{and_pod, pods_of, IsTold, Passed}
 use Rattle.commands.specs.Gc.{subject_text}
 use Rattle.commands.specs.GcLines.{HasLine}
-use Rattle.commands.proofs.GcQuiet.{pod_back}
+use Rattle.pod_lookup.proofs.Names.{text_back}
 
 -- two facts of each
 pub all_zip : {X : Type 0} (P Q R : X → Type 0) (f : (x : X) → P x → Q x → R x) (xs : List X) → AllByRecursion P xs → AllByRecursion Q xs → AllByRecursion R xs
@@ -84,7 +84,7 @@ abbrev subjects : List GcLine → List (List ℕ)
 subjects ls = map (λ (l : GcLine). subject_text l.pod l.place) ls
 
 subject_is : (l : GcLine) (n : List ℕ) (p : PodId) → pod_of n ≡ Some p → l.pod ≡ Some p → subject_text l.pod l.place ≡ n
-subject_is l n p named is = ap (λ (o : Option PodId). subject_text o l.place) is ∙ pod_back n p named
+subject_is l n p named is = ap (λ (o : Option PodId). subject_text o l.place) is ∙ text_back n p named
 
 all_subjects : (P : List ℕ → Type 0) (ns : List (List ℕ)) (ls : List GcLine) → map (λ (l : GcLine). l.pod) ls ≡ map (λ (p : PodId). Some p) (pods_of ns) → AllByRecursion P ns → AllByRecursion P (subjects ls)
 all_subjects P [] [] are all = tt

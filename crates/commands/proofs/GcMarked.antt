@@ -43,7 +43,8 @@ use Rattle.commands.proofs.OneNumber.{one_number}
 use Rattle.commands.proofs.Lacking.{any_left}
 use Rattle.commands.proofs.MarkMoments.{IsSince, young_since, marked_since, mark_entry}
 use Rattle.commands.proofs.Untouched.{Holds, deals_off}
-use Rattle.commands.proofs.GcQuiet.{pod_back, passed_grown, passes_grown}
+use Rattle.commands.proofs.GcQuiet.{passed_grown, passes_grown}
+use Rattle.pod_lookup.proofs.Names.{text_back}
 use Rattle.commands.proofs.GcTurn.{quiet_between, later_apart, turn_after, turn_before}
 use Rattle.commands.proofs.GcGoes.{stands_upto}
 use Rattle.commands.proofs.GcPlaces.{passed_elsewhere, passes_elsewhere}
@@ -112,7 +113,7 @@ module _ (times : Times) (lines : List GcLine) {me : ℕ} {old new : List Event}
     pub pass_rests : RestsSince x.shown times.now (state_after b)
     pass_rests =
         let sorted = subst (λ (ns : List (List ℕ)). IsStrictlySortedBy (slice_cmp nat_cmp) ns) x.names_are t.ordered in
-        let unshown = subst (λ (n : List ℕ). has_name x.later n ≡ false) (sym (pod_back x.name x.shown x.name_is)) (later_apart x.earlier x.name x.later sorted) in
+        let unshown = subst (λ (n : List ℕ). has_name x.later n ≡ false) (sym (text_back x.name x.shown x.name_is)) (later_apart x.earlier x.name x.later sorted) in
         let spot = pod_spot x.shown area.ExitedGarbage in
         let held = held_on Can times me old new quiet conforming spot refl mk.folder marks (deals_with_some times.now area.Run x.later) x.upto b x.last (λ r h. deals_off spot times.now area.Run refl x.later unshown me r h)
         (grown_more first (grown_by turn)) from_b (stands_there, refl) in

@@ -17,7 +17,7 @@ use Rattle.pod_gc.specs.Told.{places}
 use Rattle.pod_lookup.proofs.InOrder.{one_order}
 use Rattle.commands.specs.Gc.{subject_text}
 use Rattle.commands.specs.GcLines.{HasLine, is_gated, deed_in_pass, IsPassLine, ArePassLines, GatedOr, IsPassOf, ArePassesOf, IsSweepOf}
-use Rattle.commands.proofs.GcQuiet.{pod_back}
+use Rattle.pod_lookup.proofs.Names.{text_back}
 use Rattle.commands.proofs.GcTells.{same_text}
 
 -- the lines of one pass
@@ -30,7 +30,7 @@ module _ (place : Area) (deeds : PodId → Option Deed) where
   Line = IsPassLine place deeds
 
   subject_is : (l : GcLine) (x : Line l) → subject_text l.pod l.place ≡ x.name
-  subject_is l x = ap (λ (o : Option PodId). subject_text o l.place) x.pod_is ∙ pod_back x.name x.pod x.name_is
+  subject_is l x = ap (λ (o : Option PodId). subject_text o l.place) x.pod_is ∙ text_back x.name x.pod x.name_is
 
   -- which a line's uuid tells
   one_line : (k l : GcLine) → Line k → Line l → subject_text k.pod k.place ≡ subject_text l.pod l.place → k ≡ l
@@ -71,7 +71,7 @@ module _ (place : Area) (deeds : PodId → Option Deed) where
   asked_named : (ks ls : List GcLine) → ArePassLines place deeds ks → ArePassLines place deeds ls → (n : List ℕ) → has_name (subjects ks) n ≡ true → has_name (subjects ls) n ≡ true
   asked_named ks ls x y n named =
       let k = named_line n ks x.each named in
-      let text : pod_text k.1.pod.bytes ≡ n = pod_back k.1.name k.1.pod k.1.name_is ∙ (sym (subject_is k.0 k.1) ∙ k.2) in
+      let text : pod_text k.1.pod.bytes ≡ n = text_back k.1.name k.1.pod k.1.name_is ∙ (sym (subject_is k.0 k.1) ∙ k.2) in
       subst (λ (z : List ℕ). has_name (subjects ls) z ≡ true) text (line_named k.1.pod ls (y.all k.1.name k.1.pod k.0.deed k.1.name_is k.1.deed_is))
 
   one_pass : (ks ls : List GcLine) → ArePassLines place deeds ks → ArePassLines place deeds ls → ks ≡ ls

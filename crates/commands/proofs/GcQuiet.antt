@@ -1,5 +1,5 @@
 -- What `gc` comes to where nobody else steps.
-use Rattle.std.proofs.Common.{◌≡◌, ◌⊎◌, inl, inr, ◌+◌, ℕ, Bool, true, false, ◌&&◌, ◌||◌, ◌==◌, cond, bytes_eq, option_map, map, Option, Some, None, is_some, List, [], ◌∷◌, ◌++◌, append-nil, append_assoc, refl, sym, ap, subst, ◌∙◌}
+use Rattle.std.proofs.Common.{◌≡◌, ◌⊎◌, inl, inr, ◌+◌, ℕ, Bool, true, false, ◌&&◌, ◌||◌, ◌==◌, cond, bytes_eq, map, Option, Some, None, is_some, List, [], ◌∷◌, ◌++◌, append-nil, append_assoc, refl, sym, ap, subst, ◌∙◌}
 use Rattle.std.specs.List.{list_any, position_from, cons_option, AllByRecursion}
 use Rattle.std.proofs.lemmas.Iterator.Adapters.{position_from-zero}
 use Rattle.std.proofs.lemmas.Slice.Eq.{bytes_eq-Decides}
@@ -18,15 +18,13 @@ use Rattle.dir_model.specs.declared.request.Reply.TheVariants.{Done, Names}
 use Rattle.dir_model.specs.Areas.{rank, is_stage}
 use Rattle.dir_model.specs.Calls.{event, is_kill, is_foreign, CallStep, TookPlace, LeftNothing, Extends}
 use Rattle.dir_model.specs.Listings.{has_name}
-use Rattle.dir_model.specs.Pods.{pod_text, pod_of, is_pod_text, bytes_read}
+use Rattle.dir_model.specs.Pods.{pod_text, pod_of}
 use Rattle.dir_model.specs.Quiet.{Quiet}
 use Rattle.dir_model.specs.State.{Namespace, DirState, empty_state, is_at, spot_eq, folder_at, stands}
 use Rattle.dir_model.specs.Trace.{state_after, state_next, states_next, namespace_replied}
 use Rattle.dir_model.specs.Trees.{names_in}
 use Rattle.dir_model.proofs.Allowed.{allowed_reply}
 use Rattle.dir_model.proofs.Chains.{states_next-append, state_after-push}
-use Rattle.dir_model.proofs.Hex.{parsed_back}
-use Rattle.dir_model.proofs.PodTexts.{passes_text}
 use Rattle.dir_model.proofs.Lists.{or_left_false, or_right_false, all_both, all_right, all_weaker, same_rest}
 use Rattle.dir_rules.proofs.Looks.{same_bytes}
 use Rattle.dir_rules.specs.Standing.{is_garbage}
@@ -60,16 +58,9 @@ use Rattle.commands.specs.RemovalQuiet.{is_lasting_phase, KeptAsBefore, MovedAsB
 use Rattle.commands.proofs.OwnSteps.{in_process, back_from, own_asked, quiet_part, own_first, forward, at_process, same_folders, held_before}
 use Rattle.commands.proofs.LateTurns.{is_lasting, lasting_back, sweeps_late, embryo_apart, or_false}
 use Rattle.commands.proofs.RmBefore.{event_weaker, has_phase_now}
+use Rattle.pod_lookup.proofs.Names.{text_back}
 
 -- names and pods
-
-pub pod_back : (name : List ℕ) (pod : PodId) → pod_of name ≡ Some pod → pod_text pod.bytes ≡ name
-pod_back name pod is = by (is_pod_text name) refl (bytes_read name) refl is
-  where
-    by : (b : Bool) → is_pod_text name ≡ b → (o : Option (List ℕ)) → bytes_read name ≡ o → cond b (option_map (λ bytes. record { bytes = bytes }) o) None ≡ Some pod → pod_text pod.bytes ≡ name
-    by true text (Some u) read is = let same : u ≡ pod.bytes = cc in ap pod_text (sym same) ∙ parsed_back name u (passes_text name text) (sym read)
-    by true text None read is = cc
-    by false text o read is = cc
 
 none_from : (t : Option Spot → Bool) (i : ℕ) (xs : List (Option Spot)) → list_any t xs ≡ false → position_from t i xs ≡ None
 none_from t i [] none = refl
@@ -230,7 +221,7 @@ module _ (Can : Type 0) (times : Times) (lines : List GcLine) (me : ℕ) (locked
       let l = x.1 in
       let same : l.shown ≡ pod = let e : Some l.shown ≡ Some pod = sym l.pod_is ∙ x.2 in cc in
       let y = deed_leaves times l.shown x.0.deed me l.from l.upto l.dealt in
-      subst (λ (n : List ℕ). NoneSince n t.listed done) (ap (λ (p : PodId). pod_text p.bytes) same ∙ pod_back name pod its) (record { at = y.at; first = grown_more (grown_by l.first) y.first; last = grown_more y.last (grown_by l.last); none = y.none })
+      subst (λ (n : List ℕ). NoneSince n t.listed done) (ap (λ (p : PodId). pod_text p.bytes) same ∙ text_back name pod its) (record { at = y.at; first = grown_more (grown_by l.first) y.first; last = grown_more y.last (grown_by l.last); none = y.none })
 
   none_since : NoneSince name t.listed done
   none_since = by (has_name (names_in area.Embryo (state_after t.listed).namespace.folders) name) refl

@@ -48,7 +48,8 @@ use Rattle.commands.specs.Gc.{Sweeps}
 use Rattle.commands.specs.GcLines.{HasLine}
 use Rattle.commands.proofs.OwnSteps.{in_process, quiet_part, own_first, forward, same_folders, held_before}
 use Rattle.commands.proofs.LateTurns.{or_either}
-use Rattle.commands.proofs.GcQuiet.{pod_back, named_at, Leaves, lists_leave, leaves_same, shown_in, shown_grown, passed_grown, passes_grown}
+use Rattle.commands.proofs.GcQuiet.{named_at, Leaves, lists_leave, leaves_same, shown_in, shown_grown, passed_grown, passes_grown}
+use Rattle.pod_lookup.proofs.Names.{text_back}
 
 -- where a folder of this name is at an area, one stands there
 
@@ -81,7 +82,7 @@ named_stands s a name there =
 -- the folders that a pass deals with have names that its listing showed
 
 named_by : (n name : List ℕ) (p : PodId) (ns : List (List ℕ)) → pod_of n ≡ Some p → pod_text p.bytes ≡ name → has_name (n ∷ ns) name ≡ true
-named_by n name p ns is same = ap (λ b. b || has_name ns name) (subst (λ (x : List ℕ). bytes_eq n x ≡ true) (sym (pod_back n p is) ∙ same) (same_bytes n))
+named_by n name p ns is same = ap (λ b. b || has_name ns name) (subst (λ (x : List ℕ). bytes_eq n x ≡ true) (sym (text_back n p is) ∙ same) (same_bytes n))
 
 pub same_text : (a b : List ℕ) → bytes_eq a b ≡ true → a ≡ b
 same_text a b is = (bytes_eq-Decides a b).0 is
@@ -367,7 +368,7 @@ module _ (times : Times) (lines : List GcLine) {me : ℕ} {old new : List Event}
       HasLine place pod lines ⊎ ((place ≡ area.Embryo) × IsBusyElsewhere me area.Embryo Exclusive (state_after old))
   gc_tells name pod place its stage there =
       let here : stands (state_after old).namespace (record { area = place; name = name }) ≡ true =
-      subst (λ (n : List ℕ). stands (state_after old).namespace (record { area = place; name = n }) ≡ true) (pod_back name pod its) there in
+      subst (λ (n : List ℕ). stands (state_after old).namespace (record { area = place; name = n }) ≡ true) (text_back name pod its) there in
       elim (says name pod its place stage (begun_stands (record { area = place; name = name }) here)) [
         | inl x ↦ inl x
         | inr y ↦ inr (y.0, held_before (is_against area.Embryo Exclusive) (at_part y.1.3 refl (grown_more y.1.5 finish) (y.1.4.another m.so.can)) ext quiet)

@@ -30,7 +30,7 @@ use Rattle.pod_gc.specs.declared.line.GcLine.{GcLine}
 use Rattle.pod_gc.specs.Told.{deals_with_some, IsTold, TellsShown}
 use Rattle.commands.proofs.OwnSteps.{in_process, own_asked, own_part, asked_part, own_first, quiet_part, forward, same_folders}
 use Rattle.commands.proofs.LateTurns.{Late, or_false}
-use Rattle.commands.proofs.GcQuiet.{pod_back}
+use Rattle.pod_lookup.proofs.Names.{text_back}
 use Rattle.commands.proofs.GcTells.{same_text, stands_named, shown_stands, stays}
 
 -- a part of a quiet time
@@ -132,7 +132,7 @@ module _ {Can : Type 0} {times : Times} {here : Area} {ls : List GcLine} {me : �
   turn_before = grown_more (grown_by x.last) from_b
 
   at_name : (s : DirState) → stands s.namespace (record { area = here; name = x.name }) ≡ true → stands s.namespace its_spot ≡ true
-  at_name s there = subst (λ (n : List ℕ). stands s.namespace (record { area = here; name = n }) ≡ true) (sym (pod_back x.name x.shown x.name_is)) there
+  at_name s there = subst (λ (n : List ℕ). stands s.namespace (record { area = here; name = n }) ≡ true) (sym (text_back x.name x.shown x.name_is)) there
 
   pub stood_listed : stands (state_after t.listed).namespace its_spot ≡ true
   stood_listed =
@@ -144,7 +144,7 @@ module _ {Can : Type 0} {times : Times} {here : Area} {ls : List GcLine} {me : �
   pub stood_until : Grew x.from new → stands (state_after x.from).namespace its_spot ≡ true
   stood_until rest =
       let sorted = subst (λ (ns : List (List ℕ)). IsStrictlySortedBy (slice_cmp nat_cmp) ns) x.names_are t.ordered in
-      let unshown = subst (λ (n : List ℕ). has_name x.earlier n ≡ false) (sym (pod_back x.name x.shown x.name_is)) (earlier_apart x.earlier x.name x.later sorted) in
+      let unshown = subst (λ (n : List ℕ). has_name x.earlier n ≡ false) (sym (text_back x.name x.shown x.name_is)) (earlier_apart x.earlier x.name x.later sorted) in
       forward (λ s. stands s.namespace its_spot ≡ true) (deals_with_some times.now here x.earlier) me (λ s request reply h q. stays times.now here stage x.earlier its_spot unshown me s request reply h q) t.listed
       grown_none (grown_by x.first) x.first (quiet_between quiet (grown_more to_a to_listed) (grown_by x.first) rest) stood_listed
 
@@ -152,6 +152,6 @@ module _ {Can : Type 0} {times : Times} {here : Area} {ls : List GcLine} {me : �
   pub stood_since : Grew x.from x.upto → stands (state_after x.upto).namespace its_spot ≡ true → stands (state_after b).namespace its_spot ≡ true
   stood_since turn there =
       let sorted = subst (λ (ns : List (List ℕ)). IsStrictlySortedBy (slice_cmp nat_cmp) ns) x.names_are t.ordered in
-      let unshown = subst (λ (n : List ℕ). has_name x.later n ≡ false) (sym (pod_back x.name x.shown x.name_is)) (later_apart x.earlier x.name x.later sorted) in
+      let unshown = subst (λ (n : List ℕ). has_name x.later n ≡ false) (sym (text_back x.name x.shown x.name_is)) (later_apart x.earlier x.name x.later sorted) in
       forward (λ s. stands s.namespace its_spot ≡ true) (deals_with_some times.now here x.later) me (λ s request reply h q. stays times.now here stage x.later its_spot unshown me s request reply h q) x.upto
       grown_none (grown_by x.last) x.last (quiet_between quiet (grown_more turn_after turn) (grown_by x.last) from_b) there

@@ -7,6 +7,7 @@ pub mod Claimed
 pub mod EndsQuiet
 pub mod EndsStand
 mod Files
+pub mod FolderHolds
 pub mod FolderItems
 pub mod GcAged
 pub mod GcArrived
@@ -53,12 +54,14 @@ pub mod NamedPhases
 pub mod NextState
 pub mod NotesStand
 pub mod OneNumber
+pub mod OneStart
 pub mod Openings
 pub mod OwnSteps
 pub mod Parts
 pub mod Passing
 pub mod PlacesKept
 pub mod Prepares
+pub mod RanByFolder
 pub mod RanQuietly
 pub mod RemovalEnds
 pub mod RemovalQuiet
@@ -73,14 +76,18 @@ pub mod RmLacking
 pub mod RmQuiet
 pub mod RmRounds
 pub mod RmTable
+pub mod RunFolder
 pub mod RunRefused
 pub mod SameReads
+pub mod SeenImages
 pub mod Sayings
 pub mod ServiceOutcomes
 pub mod Starts
+pub mod StartsTold
 pub mod StoreQuiet
 pub mod StoreStanding
 pub mod StoreTexts
+pub mod StrayAnswers
 pub mod SweepEnds
 pub mod SweepLines
 pub mod Sweeps
@@ -98,3 +105,7 @@ pub mod FilesBefore
 pub mod PrepareStore
 pub mod StoreChosen
 pub mod OneReason
+pub mod OneRefusal
+pub mod OneRoot
+pub mod OneSource
+pub mod Firsts

@@ -32,7 +32,7 @@ use Rattle.pod_report.specs.Snapshot.{IsLine}
 use Rattle.pod_report.specs.Visits.{IsPhase}
 use Rattle.command_outcomes.specs.declared.refusal.Refusal.TheVariants.{WrongPhase}
 use Rattle.command_outcomes.specs.Meanwhile.{Meanwhile}
-use Rattle.command_outcomes.specs.Moments.{DirSeen, Inside}
+use Rattle.command_outcomes.specs.Moments.{DirSeen, Inside, SpawnerSeen}
 use Rattle.commands.specs.AppsTold.{WithinProcess}
 use Rattle.commands.specs.Gc.{HasSweptPods, NamesKept, Sweeps, names_kept}
 use Rattle.commands.specs.Opening.{Approach}
@@ -95,7 +95,10 @@ module _ (pod : PodId) (phase : Phase) (address : List ℕ) {approach : Approach
       had (x.cause.phase phase is (w.told ∙ t) (subst IsConforming (sym (ap (λ (d : DirSeen). d.trace) w.came.ends)) (before_finish last conforming))).was
 
   never_claimed : {seen observed : Bool} {s s' : SpawnerAt} {X : Type 0} → ClaimsAndRuns seen observed pod address from to s s' (Err (WrongPhase phase)) → X
-  never_claimed x = elim (claimed_refusal (WrongPhase phase) x) [ inl e ↦ cc | inr e ↦ never_run pod phase e.0 e.1 ]
+  never_claimed {observed = observed} {s = s} {s' = s'} x =
+      let before : SpawnerSeen = record { observed = observed; shown = s } in
+      let after : SpawnerSeen = record { observed = observed; shown = s' } in
+      elim (claimed_refusal before after (WrongPhase phase) x) [ inl e ↦ cc | inr e ↦ never_run pod phase e.0 e.1 ]
 
   came_upon : AtOwnEvent from.process from.trace to.trace (IsPhase pod phase)
   came_upon = elim w.came.so [ inl x ↦ never_claimed x | inr x ↦ unclaimed x ]

@@ -1,17 +1,20 @@
 -- Where nobody else steps, a pod that a process made for its run is left in run.
-use Rattle.std.proofs.Common.{◌≡◌, ◌⊎◌, inl, inr, ℕ, Bool, true, false, ◌&&◌, ◌||◌, Some, List, refl, sym, subst, ◌∙◌}
+use Rattle.std.proofs.Common.{◌≡◌, ◌⊎◌, inl, inr, ℕ, Bool, true, false, ◌&&◌, ◌||◌, Some, List, [], ◌∷◌, ◌++◌, append_assoc, refl, sym, ap, subst, ◌∙◌}
 use Rattle.ac_types.specs.declared.image_ref.ImageRef.{ImageRef}
-use Rattle.dir_model.specs.declared.area.Area.TheVariants.{Embryo, Prepare, Run}
+use Rattle.dir_model.specs.declared.area.Area.TheVariants.{Embryo, Images, Prepare, Run}
 use Rattle.dir_model.specs.declared.event.Event.{Event}
 use Rattle.dir_model.specs.declared.pod.PodId.{PodId}
+use Rattle.dir_model.specs.declared.spot.Mode.TheVariants.{Shared}
 use Rattle.dir_model.specs.declared.spot.Spot.{Spot}
 use Rattle.dir_model.specs.declared.request.Request.TheVariants.{MoveFolder, Finish}
 use Rattle.dir_model.specs.declared.request.Reply.TheVariants.{Done}
-use Rattle.dir_model.specs.Calls.{Extends, CallStep}
+use Rattle.dir_model.specs.Calls.{event, Extends, CallStep}
 use Rattle.dir_model.specs.Quiet.{Quiet}
 use Rattle.dir_model.specs.State.{spot_eq, folder_at}
 use Rattle.dir_model.specs.Trace.{state_after}
 use Rattle.dir_model.proofs.Moments.{some_number}
+use Rattle.area_locks.specs.AreaLocks.{IsFreeElsewhere}
+use Rattle.folder_contents.specs.Handing.{then_moved}
 use Rattle.folder_contents.proofs.Spots.{one_location}
 use Rattle.lifecycle.specs.PodMachine.{arrival}
 use Rattle.pod_build.specs.Preparations.{IsPrepared}
@@ -19,10 +22,11 @@ use Rattle.pod_build.specs.Requests.{prepares}
 use Rattle.pod_claim.specs.Requests.{in_run}
 use Rattle.pod_claim.specs.Work.{Grew}
 use Rattle.pod_claim.proofs.Traces.{grown_more, grown_call}
-use Rattle.commands.proofs.Whole.{prepared_wider}
-use Rattle.commands.specs.References.{OfReferences}
+use Rattle.commands.proofs.Whole.{prepared_move, prepared_wider}
+use Rattle.commands.specs.References.{AreReferences, OfReferences}
 use Rattle.pod_making.specs.Requests.{pod_at}
 use Rattle.commands.proofs.OwnSteps.{in_process}
+use Rattle.commands.specs.PrepareTable.{NothingRefuses}
 use Rattle.commands.specs.Run.{makes_and_runs}
 use Rattle.commands.specs.RunQuiet.{IsLeftInRun, HasMadeAndLeft}
 use Rattle.commands.proofs.EndsQuiet.{MakesNoNote}
@@ -78,11 +82,19 @@ module _ (draw : PodId) where
       let same : Some x.folder ≡ Some k.0 = sym x.stands ∙ (moved_here draw (makes_and_runs draw) run_leaves me old new x.before x.later from ext quiet x.meanwhile x.begins x.moved finish.run ∙ k.1) in
       left_in_run draw (makes_and_runs draw) run_leaves me old new x.before x.later from ext quiet x.meanwhile x.begins x.moved finish.run x.folder (is_past finish) (k.1 ∙ sym same)
 
--- and where it was made in a part of the process
+-- and where it was made in a part of the process: its move is in that part
+abbrev pub MadeUntil : Wants → ℕ → PodId → List Event → List Event → List Event → Type 0
+MadeUntil wants me draw old made new =
+    (x : HasMadeAndLeft wants me draw old new) × ((tail : List Event) × (made ≡ then_moved x.2.0.before me (pod_at Prepare draw) (pod_at Run draw) ++ tail))
+
 pub made_and_left : (wants : Wants) (draw : PodId) {me : ℕ} {old begun made ended new : List Event} → Extends (in_process (makes_and_runs draw)) me old new → Quiet me old new → Grew old begun → Grew made ended → CallStep me ended Finish Done new →
-    ((refs : List ImageRef) (y : IsPrepared refs wants.wishes me draw Run old new) → AreStore y.faithful.images (state_after old)) →
-    OfReferences wants.images (λ refs. IsPrepared refs wants.wishes me draw Run begun made) → HasMadeAndLeft wants me draw old new
-made_and_left wants draw {me} {old} {begun} {made} {ended} {new} ext quiet first after finish chosen x =
+    ((refs : List ImageRef) (y : IsPrepared refs wants.wishes me draw Run old new) → AreStore y.faithful.images (state_after old)) → IsFreeElsewhere me Images Shared (state_after old) → ((refs : List ImageRef) → AreReferences wants.images refs → NothingRefuses me draw refs wants.wishes (state_after old)) →
+    OfReferences wants.images (λ refs. IsPrepared refs wants.wishes me draw Run begun made) → MadeUntil wants me draw old made new
+made_and_left wants draw {me} {old} {begun} {made} {ended} {new} ext quiet first after finish chosen free unrefused x =
     let last = grown_more after (grown_call finish) in
-    let wide = prepared_wider first.more last.more first.grown last.grown x.2 in
-    (x.0, x.1, (wide, made_left draw ext quiet finish wide, chosen x.0 wide))
+    let wide = prepared_wider {a = old} {c = made} first.more last.more first.grown last.grown x.2 in
+    let same : wide.before ≡ x.2.before = prepared_move old begun made new first.more last.more first.grown last.grown x.2 in
+    let step = event me (MoveFolder (pod_at Prepare draw) (pod_at Run draw)) Done in
+    let parted : made ≡ (wide.before ++ step ∷ []) ++ x.2.later =
+    x.2.moved ∙ (sym (append_assoc x.2.before (step ∷ []) x.2.later) ∙ ap (λ (h : List Event). (h ++ step ∷ []) ++ x.2.later) (sym same)) in
+    ((x.0, x.1, (wide, made_left draw ext quiet finish wide, chosen x.0 wide, free, unrefused x.0 x.1)), (x.2.later, parted))

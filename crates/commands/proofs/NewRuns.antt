@@ -33,7 +33,7 @@ use Rattle.pod_build.specs.declared.error.BuildError.{BuildError}
 use Rattle.pod_build.specs.declared.making.Built.{Built}
 use Rattle.pod_build.specs.declared.making.Built.TheVariants as built
 use Rattle.pod_build.specs.Answers.{IsAnswer, with_built, held_with}
-use Rattle.pod_build.specs.Causes.{IsRefused, IsHeldElsewhere}
+use Rattle.pod_build.specs.Causes.{IsRefused, IsHeldElsewhere, IsMadeByPlan, FindsImagesFree}
 use Rattle.pod_build.specs.Preparations.{Began, IsAlone, KnowsPrepared, IsPrepared}
 use Rattle.pod_build.specs.Requests.{prepares}
 use Rattle.stage1.specs.Keeping.{IsFresh, KeepsToEnd}
@@ -177,14 +177,16 @@ never_spawns r known is = cc
 
 -- what is told
 module _ (seen observed : Bool) (wants : Wants) (address : List ℕ) (now : ℕ) (draw : Draw) (a c : DirAt) (s s' : SpawnerAt) (answer : Answer) where
-  pub made_says : (refs : List ImageRef) (b : DirAt) (owned : Owned) → AreReferences wants.images refs → IsOwned draw.uuid a.local owned → b.process ≡ a.process → (seen ≡ true → ExtendsBy (prepares draw.uuid area.Run) a b) → (seen ≡ true → KnowsMade draw now owned a b)
+  pub made_says : (refs : List ImageRef) (b : DirAt) (owned : Owned) → AreReferences wants.images refs → IsOwned draw.uuid a.local owned → b.process ≡ a.process → FindsImagesFree seen a b → IsMadeByPlan seen refs wants.wishes draw now a b → (seen ≡ true → ExtendsBy (prepares draw.uuid area.Run) a b) → (seen ≡ true → KnowsMade draw now owned a b)
       → (seen ≡ true → IsConforming b.trace → From (Began area.Run draw now) IsAlone nothing_made a (λ intent hs. IsPrepared refs wants.wishes a.process draw.uuid area.Run a.trace b.trace))
       → (seen ≡ true → Grew b.trace c.trace) → RunSays seen observed owned address (pod_line draw.uuid) b c s s' answer → NewRunSays seen observed wants address now draw a c s s' answer
-  made_says refs b owned are is same asked knows prepared then says = inl (record {
+  made_says refs b owned are is same free planned asked knows prepared then says = inl (record {
     made = b;
     owned = owned;
     is_owned = is;
     same = same;
+    free = free;
+    planned = (refs, are, planned);
     asked = asked;
     knows = knows;
     faithful = λ t conforming intent hs began alone k. (refs, are, prepared t conforming intent hs began alone k);

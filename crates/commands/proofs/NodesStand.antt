@@ -44,10 +44,14 @@ module _ (count : ℕ) (nodes : List DepNode) (ordered : IsOrderedTree count nod
   down_within zero n inside = tt
   down_within (suc levels) n inside = (inside, children_within n (top_down nodes levels) (down_within levels) (node_at nodes n).children (ordered.children n inside))
 
+  -- each that comes in the order in which listings are wanted is a node
+  pub all_within : AllByRecursion Within (all_down nodes 0)
+  all_within = down_within (length nodes - 0) 0 ordered.top
+
   -- a node that comes in the order in which listings are wanted is one
   pub comes_within : (first : List ℕ) (next : ℕ) (others : List ℕ) → all_down nodes 0 ≡ first ++ next ∷ others → next < length nodes
   comes_within first next others is =
-      let all = subst (λ (ns : List ℕ). AllByRecursion Within ns) is (down_within (length nodes - 0) 0 ordered.top) in
+      let all = subst (λ (ns : List ℕ). AllByRecursion Within ns) is all_within in
       (all_right Within first (next ∷ others) all).0
 
 -- its image stands

@@ -74,7 +74,7 @@ module _ (images : List Stored) (refs : List ImageRef) (wishes : Wishes) where
   never_faulty picks fault trees x are =
       faulty picks fault x (good_at HasTree x.before x.pick x.after (subst (λ (l : List ℕ). All HasTree l) x.is (all_ok (dependency_tree images) (λ (t : DepTree). t.nodes) picks trees are)))
 
-  one_pick : (a b : List ℕ) → ArePicks images refs a → ArePicks images refs b → a ≡ b
+  pub one_pick : (a b : List ℕ) → ArePicks images refs a → ArePicks images refs b → a ≡ b
   one_pick a b x y = one_some a b (sym x ∙ y)
 
   one_fault : (a b : List ℕ) (f g : DepError) → a ≡ b → IsTreeFault images a f → IsTreeFault images b g → f ≡ g

@@ -1,16 +1,15 @@
--- While the images stay as they are, a pod isn't prepared for what the store of the state before says.
-use Rattle.std.proofs.Common.{◌≡◌, ◌⊎◌, inl, inr, ℕ, Bool, true, List, [], ◌∷◌, refl, sym, ap, subst}
+-- While the images stay as they are, a pod isn't prepared for what the locks and the store of the state before say.
+use Rattle.std.proofs.Common.{◌≡◌, ◌⊎◌, inl, inr, ℕ, Bool, true, List, [], ◌∷◌, length, refl, sym, ap, subst, ◌∙◌}
 use Rattle.std.specs.List.{AllByRecursion}
 use Rattle.ac_types.specs.declared.image_ref.ImageRef.{ImageRef}
 use Rattle.dep_match.specs.declared.dep_tree.DepTree.{DepTree}
 use Rattle.dep_match.specs.declared.stored.Stored.{Stored}
 use Rattle.render.specs.declared.render_error.RenderError.TheVariants as render
 use Rattle.dir_model.specs.declared.intent.Draw.{Draw}
-use Rattle.dir_model.specs.declared.pod.PodId.{PodId}
 use Rattle.dir_model.specs.State.{DirState}
 use Rattle.dir_model.specs.Trace.{state_after}
 use Rattle.dir_model.proofs.Lists.{all_right}
-use Rattle.dir_trait.specs.DirCalls.{DirAt}
+use Rattle.dir_trait.specs.DirCalls.{DirAt, HeldBetween}
 use Rattle.area_locks.specs.declared.error.LockError.{LockError}
 use Rattle.area_locks.specs.declared.error.LockError.TheVariants as lock
 use Rattle.folder_building.specs.declared.plan.PlanEntry.{PlanEntry}
@@ -20,9 +19,9 @@ use Rattle.image_reading.specs.Files.{IsNoManifest, most_of_manifest}
 use Rattle.image_reading.specs.Store.{ReadsStore, LacksListed}
 use Rattle.pod_build.specs.declared.error.BuildError.{BuildError}
 use Rattle.pod_build.specs.declared.error.BuildError.TheVariants as build
-use Rattle.pod_build.specs.Causes.{IsPartOf, IsRefused}
+use Rattle.pod_build.specs.Causes.{IsMadeByPlan, IsPartOf, IsRefused}
 use Rattle.folder_building.specs.Sources.{in_images}
-use Rattle.folder_building.specs.Stored.{LacksAt}
+use Rattle.folder_building.specs.Stored.{HadContents, LacksAt}
 use Rattle.pod_build.specs.Origins.{IsDamaged}
 use Rattle.pod_build.specs.Refusals.{gate_refusal, plan_refusal, IsMakeRefusal}
 use Rattle.pod_choice.specs.declared.choice.Choice.{Choice}
@@ -32,7 +31,7 @@ use Rattle.pod_choice.specs.Choices as chosen
 use Rattle.pod_choice.specs.Choices.{AreTrees}
 use Rattle.pod_making.specs.declared.error.MakeError.{MakeError}
 use Rattle.pod_making.specs.declared.error.MakeError.TheVariants as make
-use Rattle.pod_making.specs.Causes.{MakeCause, WasTaken}
+use Rattle.pod_making.specs.Causes.{HasMadeFolder, MakeCause}
 use Rattle.pod_manifest.specs.Wishes.{Wishes}
 use Rattle.pod_reading.specs.declared.error.PlanError.{PlanError}
 use Rattle.pod_reading.specs.declared.error.PlanError.TheVariants as plan
@@ -40,7 +39,7 @@ use Rattle.pod_reading.specs.FaithfulPods.{PlansFaithfully}
 use Rattle.pod_reading.specs.NoPlans as none
 use Rattle.pod_reading.specs.NoPlans.{IsNoPlan}
 use Rattle.pod_reading.specs.Plans.{apps_of}
-use Rattle.pod_reading.proofs.Ready.{picks_within}
+use Rattle.pod_reading.proofs.Ready.{is_ready, picks_within}
 use Rattle.pod_reading.specs.Refusals.{IsNoChoice, LacksAmong, LacksPart, choice_refusal}
 use Rattle.pod_reading.specs.RootRefusals.{IsFirstRootFault}
 use Rattle.standing_images.specs.Damage.{IsFirstDamage}
@@ -52,21 +51,34 @@ use Rattle.command_outcomes.specs.declared.refusal.Refusal.{Refusal}
 use Rattle.command_outcomes.specs.Conforming.{shown_at}
 use Rattle.command_outcomes.specs.Moments.{DirSeen}
 use Rattle.commands.specs.Prepare.{RefusesPod}
-use Rattle.commands.specs.PrepareTable.{FailsRoot, HasLargeListing, IsPodWithRoots, IsTaken, LacksCopied, LacksListing, MakesNoRoot, MakesNone, MakesPod, MakesRoots, PassesLimit, RefusesByStore, StoreRefuses}
+use Rattle.commands.specs.References.{AreReferences, OfReferences}
+use Rattle.commands.specs.PrepareTable.{FailsRoot, HasLargeListing, IsPodWithRoots, LacksCopied, LacksListing, MakesNoRoot, MakesNone, MakesPod, MakesRoots, NothingRefuses, PassesLimit, StoreRefuses, LocksRefuse, Refuses, RefusesByState}
 use Rattle.commands.specs.Wants.{Wants}
+use Rattle.commands.proofs.Words.{one_references}
 use Rattle.commands.proofs.OneReason.{no_reason, one_reason}
-use Rattle.commands.proofs.FilesBefore.{Tells, copy_lacking, each_app_tells, plan_tells}
+use Rattle.commands.proofs.FilesBefore.{First, apps_copied, apps_first, copy_first, plan_copied, plan_first}
 use Rattle.commands.proofs.Parts.{Part, lack_wider, lacks_wider, store_wider}
 use Rattle.commands.proofs.NodesStand.{tree_among}
-use Rattle.commands.proofs.TakenBefore.{taken_wider}
+use Rattle.commands.proofs.TakenBefore.{EmbryoBefore}
 use Rattle.commands.proofs.RootsBefore.{lacks_before, many_before, large_before, roots_before}
+use Rattle.dir_model.specs.declared.area.Area.{Area}
+use Rattle.dir_model.specs.declared.area.Area.TheVariants.{Embryo, Images}
+use Rattle.dir_model.specs.declared.pod.PodId.{PodId}
+use Rattle.dir_model.specs.declared.spot.Mode.TheVariants.{Shared}
+use Rattle.area_locks.specs.AreaLocks.{IsBusyElsewhere, IsFreeElsewhere}
+use Rattle.command_outcomes.specs.declared.refusal.Refusal.TheVariants.{Busy}
+use Rattle.commands.specs.PrepareRefusals.{build_refusal}
+use Rattle.commands.proofs.OneRefusal.{CanMake, none_refuses, one_refusal}
 
 part_of : {start end old new : DirAt} → IsPartOf start end old new → Part old start end new
 part_of p = record { earlier = p.before; later = p.after; same = p.same; begins = p.begins; ends = p.ends }
 
-module _ (refs : List ImageRef) (wishes : Wishes) (old new : DirAt) (stay : ImagesStay old.trace new.trace) where
+module _ (refs : List ImageRef) (wishes : Wishes) (draw : Draw) (old new : DirAt) (stay : ImagesStay old.trace new.trace) where
   abbrev s : DirState
   s = state_after old.trace
+
+  abbrev ByStore : BuildError → Type 0
+  ByStore error = StoreRefuses old.process draw.uuid refs wishes s error
 
   -- what was read in a part of the time
   store_in : {start end : DirAt} → IsPartOf start end old new → (images : List Stored) → ReadsStore images start end → AreStore images s
@@ -113,10 +125,10 @@ module _ (refs : List ImageRef) (wishes : Wishes) (old new : DirAt) (stay : Imag
     one_place place (choice.GenError refusal) is = cc
     one_place place choice.NoMemory is = cc
 
-    no_plan : {start end : DirAt} → IsPartOf start end old new → (reason : PlanError) → IsNoPlan observed refs wishes start end reason → StoreRefuses refs wishes s (plan_refusal reason)
+    no_plan : {start end : DirAt} → IsPartOf start end old new → (reason : PlanError) → IsNoPlan observed refs wishes start end reason → ByStore (plan_refusal reason)
     no_plan {start} {end} p (plan.Damaged path) x = by (x t)
       where
-        by : LacksPart path start end ⊎ none.MakesNone observed refs wishes (plan.Damaged path) start end → IsFirstDamage path s ⊎ (MakesNoRoot refs wishes s (λ images. LacksListing images path) ⊎ LacksCopied refs wishes path s)
+        by : LacksPart path start end ⊎ none.MakesNone observed refs wishes (plan.Damaged path) start end → IsFirstDamage path s ⊎ (MakesNoRoot refs wishes s (λ images. LacksListing images path) ⊎ LacksCopied old.process draw.uuid refs wishes path s)
         by (inl (inl listed)) = inl (damage_in p path listed)
         by (inl (inr (images, read, among))) = absurd (none_among p images path (store_in p images read) among)
         by (inr m) =
@@ -157,7 +169,7 @@ module _ (refs : List ImageRef) (wishes : Wishes) (old new : DirAt) (stay : Imag
     no_plan p plan.DirFault m = tt
     no_plan p plan.NoMemory m = tt
 
-    no_gate : (reason : LockError) → StoreRefuses refs wishes s (gate_refusal reason)
+    no_gate : (reason : LockError) → ByStore (gate_refusal reason)
     no_gate lock.Busy = tt
     no_gate lock.DirFault = tt
     no_gate lock.NoMemory = tt
@@ -174,37 +186,129 @@ module _ (refs : List ImageRef) (wishes : Wishes) (old new : DirAt) (stay : Imag
 
     -- a file of the plan couldn't be copied
     module _ {now : ℕ} {token : List ℕ} (entries : List PlanEntry) {start end begun ended : DirAt} (p : IsPartOf start end old new) (x : PlansFaithfully refs wishes now token entries start end) (q : IsPartOf begun ended old new) where
-      damaged : (place : ℕ) (error : BuildError) → IsDamaged entries place error → LacksAt in_images entries place begun ended → StoreRefuses refs wishes s error
-      damaged place (build.Damaged path) is lacks =
-          let tells = subst (λ (es : List PlanEntry). AllByRecursion (Tells old new stay (part_of q) (part_of p) x.images (store_in p x.images x.listed) x.choice.trees path) es) (sym x.planned.entries)
-          (plan_tells old new stay (part_of q) (part_of p) x.images (store_in p x.images x.listed) x.choice.trees path now token x.planned.text (apps_of x.manifests x.choice x.roots)
-          (each_app_tells old new stay (part_of q) (part_of p) x.images (store_in p x.images x.listed) x.choice.trees path x.manifests [] x.choice.picks x.choice.manifest.apps x.roots x.choice.trees refl (picks_within x.images refs x.choice.picks x.chosen.0) x.chosen.1.dependencies x.rooted)) in
-          let l = copy_lacking old new stay (part_of q) (part_of p) x.images (store_in p x.images x.listed) x.choice.trees path entries place tells is lacks in
-          inr (inr (x.images, store_in p x.images x.listed, record { is = with_roots p x; tree = l.0; among = l.1; lacks = l.2 }))
-      damaged place build.NoMemory is lacks = tt
-      damaged place error is lacks = absurd is
+      damaged : (place : ℕ) (error : BuildError) → EmbryoBefore draw.uuid old new → IsDamaged entries place error → HasMadeFolder draw.uuid begun ended → LacksAt in_images entries place begun ended → ByStore error
+      damaged place (build.Damaged path) told is makes lacks =
+          let here = store_in p x.images x.listed in
+          let f = copy_first old new stay (part_of q) (part_of p) x.images here path entries place is lacks in
+          let apps = plan_first old new stay (part_of q) (part_of p) x.images here path now token x.planned.text (apps_of x.manifests x.choice x.roots)
+          (subst (λ (es : List PlanEntry). First old new stay (part_of q) (part_of p) x.images here path es) x.planned.entries f) in
+          let l = apps_first old new stay (part_of q) (part_of p) x.images here path x.manifests x.choice.picks x.choice.manifest.apps x.roots x.choice.trees (picks_within x.images refs x.choice.picks x.chosen.0) x.chosen.1.dependencies x.rooted apps in
+          inr (inr (record {
+            free = told.free _ begun ended (part_of q) makes;
+            untaken = told.untaken begun ended (part_of q) makes;
+            fails = (x.images, here, record { is = with_roots p x; before = l.before; tree = l.tree; after = l.after; split = l.split; earlier = l.earlier; lacks = l.lacks });
+          }))
+      damaged place build.NoMemory told is makes lacks = tt
+      damaged place error told is makes lacks = absurd is
 
-      not_made : (draw : PodId) → (WasTaken draw old new → IsTaken draw s) → (reason : MakeError) (error : BuildError) → IsMakeRefusal entries draw reason error → MakeCause observed draw entries reason begun ended → StoreRefuses refs wishes s error
-      not_made draw stood make.Busy error is cause = subst (λ (e : BuildError). StoreRefuses refs wishes s e) (sym is) tt
-      not_made draw stood make.Taken error is cause = subst (λ (e : BuildError). StoreRefuses refs wishes s e) (sym is) (planned_pod p x, stood (taken_wider draw (part_of q) (cause.taken refl t)))
-      not_made draw stood (make.Unlike place) error is cause = damaged place error is (cause.lacks place refl t)
-      not_made draw stood make.DirFault error is cause = subst (λ (e : BuildError). StoreRefuses refs wishes s e) (sym is) tt
-      not_made draw stood make.Stray error is cause = subst (λ (e : BuildError). StoreRefuses refs wishes s e) (sym is) (planned_pod p x)
-      not_made draw stood make.NoMemory error is cause = subst (λ (e : BuildError). StoreRefuses refs wishes s e) (sym is) tt
+      not_made : EmbryoBefore draw.uuid old new → (reason : MakeError) (error : BuildError) → IsMakeRefusal entries draw.uuid reason error → MakeCause observed draw.uuid entries reason begun ended → ByStore error
+      not_made told make.Busy error is cause = subst (λ (e : BuildError). ByStore e) (sym is) (planned_pod p x)
+      not_made told make.Taken error is cause =
+          let taken = cause.taken refl t in
+          subst (λ (e : BuildError). ByStore e) (sym is) (refl, record { free = told.free _ begun ended (part_of q) taken; taken = told.taken begun ended (part_of q) taken; makes = planned_pod p x })
+      not_made told (make.Unlike place) error is cause = damaged place error told is (cause.made place refl t) (cause.lacks place refl t)
+      not_made told make.DirFault error is cause = subst (λ (e : BuildError). ByStore e) (sym is) tt
+      not_made told make.Stray error is cause = subst (λ (e : BuildError). ByStore e) (sym is) (planned_pod p x)
+      not_made told make.NoMemory error is cause = subst (λ (e : BuildError). ByStore e) (sym is) tt
 
-    pub store_refuses : (draw : Draw) (now : ℕ) (error : BuildError) → (WasTaken draw.uuid old new → IsTaken draw.uuid s) → IsRefused observed refs wishes draw now error old new → StoreRefuses refs wishes s error
-    store_refuses draw now error stood (inl x) = subst (λ (e : BuildError). StoreRefuses refs wishes s e) (sym x.1) (no_gate x.0)
-    store_refuses draw now error stood (inr (inl x)) =
+    pub store_refuses : (now : ℕ) (error : BuildError) → EmbryoBefore draw.uuid old new → IsRefused observed refs wishes draw now error old new → ByStore error
+    store_refuses now error told (inl x) = subst (λ (e : BuildError). ByStore e) (sym x.1) (no_gate x.0)
+    store_refuses now error told (inr (free, inl x)) =
         let fails = x.3 in
-        subst (λ (e : BuildError). StoreRefuses refs wishes s e) (sym fails.1) (no_plan (x.2 t) fails.0 fails.2)
-    store_refuses draw now error stood (inr (inr x)) =
+        subst (λ (e : BuildError). ByStore e) (sym fails.1) (no_plan (x.2 t) fails.0 fails.2)
+    store_refuses now error told (inr (free, inr x)) =
         let planned = x.1 in
         let making = x.2 in
         let fails = making.3 in
-        not_made x.0 (planned.2 t) (planned.3 t) (making.2 t) draw.uuid stood fails.0 error fails.1 fails.2
+        not_made x.0 (planned.2 t) (planned.3 t) (making.2 t) told fails.0 error fails.1 fails.2
 
--- what is said of the words, where a name that was taken was taken before
-pub refuses_by_store : (wants : Wants) (now : ℕ) (draw : Draw) (old new : DirSeen) (refusal : Refusal) → old.observed ≡ true → ImagesStay old.trace new.trace →
-    (WasTaken draw.uuid (shown_at old) (shown_at new) → IsTaken draw.uuid (state_after old.trace)) → RefusesPod wants now draw old new refusal → RefusesByStore wants refusal (state_after old.trace)
-refuses_by_store wants now draw old new refusal t stay stood x =
-    (x.error, x.is, (x.cause.0, x.cause.1, store_refuses x.cause.0 wants.wishes (shown_at old) (shown_at new) stay old.observed t draw now x.error stood x.cause.2))
+    -- made by a plan, it could be made, and nothing refuses it
+    can_make : (now : ℕ) → EmbryoBefore draw.uuid old new → IsFreeElsewhere old.process Images Shared s → IsMadeByPlan observed refs wishes draw now old new → CanMake refs wishes draw.uuid s old.process
+    can_make now told gate (entries, planned, making) =
+        let p = planned.2 t in
+        let x = planned.3 t in
+        let q = making.2 t in
+        let followed = making.3 t in
+        let here = store_in p x.images x.listed in
+        let had = plan_copied old new stay (part_of q) (part_of p) x.images here [] now draw.token x.planned.text (apps_of x.manifests x.choice x.roots)
+        (subst (λ (es : List PlanEntry). HadContents in_images es making.0 making.1) x.planned.entries followed.1) in
+        let ready = is_ready refs wishes x.choice x.chosen (length x.images) refl true planned.0 planned.1 x.roots x.rooted in
+        record {
+          gate = gate;
+          free = told.free _ making.0 making.1 (part_of q) followed.0;
+          untaken = told.untaken making.0 making.1 (part_of q) followed.0;
+          images = x.images;
+          are = here;
+          is = with_roots p x;
+          copied = apps_copied old new stay (part_of q) (part_of p) x.images here [] x.manifests x.choice.picks x.choice.manifest.apps x.roots x.choice.trees ready.named ready.within x.chosen.1.dependencies x.rooted had;
+        }
+
+    pub made_unrefused : (now : ℕ) → EmbryoBefore draw.uuid old new → IsFreeElsewhere old.process Images Shared s → IsMadeByPlan observed refs wishes draw now old new → NothingRefuses old.process draw.uuid refs wishes s
+    made_unrefused now told gate made = none_refuses refs wishes draw.uuid s old.process (can_make now told gate made)
+
+    -- and the locks, by who held them before
+    abbrev Unheld : Type 0
+    Unheld = IsFreeElsewhere old.process Images Shared s
+
+    gate_says : (reason : LockError) → ((area : Area) → gate_refusal reason ≡ build.Busy area → IsBusyElsewhere old.process area Shared s) → LocksRefuse old.process s (gate_refusal reason)
+    gate_says lock.Busy held = held Images refl
+    gate_says lock.DirFault held = tt
+    gate_says lock.NoMemory held = tt
+
+    plan_says : (reason : PlanError) → Unheld → LocksRefuse old.process s (plan_refusal reason)
+    plan_says (plan.Damaged path) free = free
+    plan_says (plan.NoMatch place) free = free
+    plan_says (plan.DepError fault) free = free
+    plan_says (plan.GenError refusal) free = free
+    plan_says (plan.RenderError error) free = free
+    plan_says (plan.ListingError error) free = free
+    plan_says plan.DirFault free = tt
+    plan_says plan.NoMemory free = tt
+
+    copy_says : (entries : List PlanEntry) (place : ℕ) (error : BuildError) → IsDamaged entries place error → Unheld → LocksRefuse old.process s error
+    copy_says entries place (build.Damaged path) is free = free
+    copy_says entries place build.NoMemory is free = tt
+    copy_says entries place error is free = absurd is
+
+    make_says : (entries : List PlanEntry) (pod : PodId) (reason : MakeError) (error : BuildError) → IsMakeRefusal entries pod reason error → Unheld → ((area : Area) → error ≡ build.Busy area → IsBusyElsewhere old.process area Shared s) →
+        LocksRefuse old.process s error
+    make_says entries pod make.Busy error is free held = subst (λ (e : BuildError). LocksRefuse old.process s e) (sym is) (free, held Embryo is)
+    make_says entries pod make.Taken error is free held = subst (λ (e : BuildError). LocksRefuse old.process s e) (sym is) free
+    make_says entries pod (make.Unlike place) error is free held = copy_says entries place error is free
+    make_says entries pod make.DirFault error is free held = subst (λ (e : BuildError). LocksRefuse old.process s e) (sym is) tt
+    make_says entries pod make.Stray error is free held = subst (λ (e : BuildError). LocksRefuse old.process s e) (sym is) free
+    make_says entries pod make.NoMemory error is free held = subst (λ (e : BuildError). LocksRefuse old.process s e) (sym is) tt
+
+    pub locks_refuse : (now : ℕ) (error : BuildError) → (HeldBetween old new (IsFreeElsewhere old.process Images Shared) → Unheld) → ((area : Area) → error ≡ build.Busy area → IsBusyElsewhere old.process area Shared s) →
+        IsRefused observed refs wishes draw now error old new → LocksRefuse old.process s error
+    locks_refuse now error free held (inl x) = subst (λ (e : BuildError). LocksRefuse old.process s e) (sym x.1) (gate_says x.0 (λ area is. held area (x.1 ∙ is)))
+    locks_refuse now error free held (inr (found, inl x)) = subst (λ (e : BuildError). LocksRefuse old.process s e) (sym x.3.1) (plan_says x.3.0 (free (found t)))
+    locks_refuse now error free held (inr (found, inr x)) = make_says x.0 draw.uuid x.2.3.0 error x.2.3.1 (free (found t)) held
+
+-- what is said of the words, where the making of the folder tells of embryo before, and locks that were had or refused were free or held before
+pub refuses_by_state : (wants : Wants) (now : ℕ) (draw : Draw) (old new : DirSeen) (refusal : Refusal) → old.observed ≡ true → ImagesStay old.trace new.trace →
+    EmbryoBefore draw.uuid (shown_at old) (shown_at new) →
+    (HeldBetween (shown_at old) (shown_at new) (IsFreeElsewhere old.process Images Shared) → IsFreeElsewhere old.process Images Shared (state_after old.trace)) →
+    ((area : Area) → refusal ≡ Busy area → IsBusyElsewhere old.process area Shared (state_after old.trace)) →
+    RefusesPod wants now draw old new refusal → RefusesByState wants draw.uuid refusal old.process (state_after old.trace)
+refuses_by_state wants now draw old new refusal t stay told free held x = record {
+  error = x.error;
+  is = x.is;
+  refs = x.cause.0;
+  are = x.cause.1;
+  refuses = refuses;
+  only = one_refusal x.cause.0 wants.wishes draw.uuid (state_after old.trace) old.process x.error refuses;
+}
+  where
+    refuses : Refuses old.process draw.uuid x.cause.0 wants.wishes (state_after old.trace) x.error
+    refuses = (
+      locks_refuse x.cause.0 wants.wishes draw (shown_at old) (shown_at new) stay old.observed t now x.error free (λ area is. held area (x.is ∙ ap (λ (e : BuildError). build_refusal wants.images e) is)) x.cause.2,
+      store_refuses x.cause.0 wants.wishes draw (shown_at old) (shown_at new) stay old.observed t now x.error told x.cause.2,
+    )
+
+-- and that nothing refuses them, where a pod of theirs was made by a plan
+pub words_unrefused : (wants : Wants) (now : ℕ) (draw : Draw) (old new : DirAt) (observed : Bool) → observed ≡ true → ImagesStay old.trace new.trace → EmbryoBefore draw.uuid old new → IsFreeElsewhere old.process Images Shared (state_after old.trace) →
+    OfReferences wants.images (λ refs. IsMadeByPlan observed refs wants.wishes draw now old new) → (refs : List ImageRef) → AreReferences wants.images refs → NothingRefuses old.process draw.uuid refs wants.wishes (state_after old.trace)
+words_unrefused wants now draw old new observed t stay told gate made refs are =
+    subst (λ (rs : List ImageRef). NothingRefuses old.process draw.uuid rs wants.wishes (state_after old.trace)) (one_references wants.images made.0 refs made.1 are)
+    (made_unrefused made.0 wants.wishes draw old new stay observed t now told gate made.2)

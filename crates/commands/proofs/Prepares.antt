@@ -31,7 +31,7 @@ use Rattle.pod_build.specs.declared.making.Built.{Built}
 use Rattle.pod_build.specs.declared.making.Built.TheVariants as built
 use Rattle.pod_build.specs.Answers.{IsAnswer, with_built, held_with}
 use Rattle.pod_build.specs.Requests.{prepares}
-use Rattle.pod_build.specs.Causes.{IsPartOf, IsRefused, IsHeldElsewhere}
+use Rattle.pod_build.specs.Causes.{IsPartOf, IsRefused, IsHeldElsewhere, IsMadeByPlan, FindsImagesFree}
 use Rattle.pod_build.specs.Preparations.{Began, IsAlone, KnowsPrepared, IsPrepared}
 use Rattle.command_outcomes.specs.declared.refusal.Refusal.{Refusal}
 use Rattle.command_outcomes.specs.declared.refusal.Refusal.TheVariants.{DirFault, NoMemory}
@@ -62,8 +62,11 @@ part_seen observed p = record { same = p.same; before = p.before; begins = p.beg
 refused_seen : (observed : Bool) {refs : List ImageRef} {options : Wishes} (draw : Draw) {now : ℕ} {e : BuildError} {a b : DirAt} → IsRefused observed refs options draw now e a b
     → IsRefused observed refs options draw now e (shown_at (seen_at observed a)) (shown_at (seen_at observed b))
 refused_seen observed draw (inl x) = inl x
-refused_seen observed draw (inr (inl x)) = inr (inl (x.0, x.1, λ t. part_seen observed (x.2 t), x.3))
-refused_seen observed draw (inr (inr x)) = inr (inr (x.0, (x.1.0, x.1.1, λ t. part_seen observed (x.1.2 t), x.1.3), (x.2.0, x.2.1, λ t. part_seen observed (x.2.2 t), x.2.3)))
+refused_seen observed draw (inr (free, inl x)) = inr (free, inl (x.0, x.1, λ t. part_seen observed (x.2 t), x.3))
+refused_seen observed draw (inr (free, inr x)) = inr (free, inr (x.0, (x.1.0, x.1.1, λ t. part_seen observed (x.1.2 t), x.1.3), (x.2.0, x.2.1, λ t. part_seen observed (x.2.2 t), x.2.3)))
+
+made_seen : (observed : Bool) {refs : List ImageRef} {options : Wishes} (draw : Draw) {now : ℕ} {a b : DirAt} → IsMadeByPlan observed refs options draw now a b → IsMadeByPlan observed refs options draw now (shown_at (seen_at observed a)) (shown_at (seen_at observed b))
+made_seen observed draw x = (x.0, (x.1.0, x.1.1, λ t. part_seen observed (x.1.2 t), x.1.3), (x.2.0, x.2.1, λ t. part_seen observed (x.2.2 t), x.2.3))
 
 -- what it asks for, and what is open
 prepare_in : (draw : PodId) (r : Request) → prepares draw Prepared r ≡ true → prepares_pod draw r ≡ true
@@ -151,15 +154,17 @@ nothing_says observed a wants now draw = inl (λ t intent began k. record { prog
 
 -- what is told of a pod that was prepared, by what came of the sync
 pub synced_says : (observed : Bool) (a b c : DirAt) (wants : Wants) (refs : List ImageRef) (now : ℕ) (draw : Draw) (line : List ℕ) (made : Built) (o : Outcome) → b.process ≡ a.process → AreReferences wants.images refs → IsAnswer false draw.uuid a.local made
-    → (observed ≡ true → ExtendsBy (prepares draw.uuid Prepared) a b) → (observed ≡ true → KnowsMade draw now made a b)
+    → FindsImagesFree observed a b → IsMadeByPlan observed refs wants.wishes draw now a b → (observed ≡ true → ExtendsBy (prepares draw.uuid Prepared) a b) → (observed ≡ true → KnowsMade draw now made a b)
     → (observed ≡ true → IsConforming b.trace → From (Began Prepared draw now) IsAlone nothing_made a (λ intent hs. IsPrepared refs wants.wishes a.process draw.uuid Prepared a.trace b.trace))
     → line ≡ pod_line draw.uuid → SyncSays line observed b c o → PrepareSays wants now draw (seen_at observed a) (seen_at observed c) o
-synced_says observed a b c wants refs now draw line made o same are answer extends knows prepared line_is says = by o says
+synced_says observed a b c wants refs now draw line made o same are answer free planned extends knows prepared line_is says = by o says
   where
     brings : (reply : Reply) → DirCall observed b (SyncArea Prepared) reply c → BringsPod wants now draw reply (seen_at observed a) (seen_at observed c)
     brings reply call = record {
       brought = seen_at observed b;
       same = same;
+      free = free;
+      planned = (refs, are, made_seen observed draw planned);
       extends = extends;
       knows = λ t intent began k. let x = free_knows a.local draw.uuid intent made answer (knows t intent [] began refl (at_begin observed intent k)) in (x.0, knows_seen observed x.1);
       faithful = λ t conforming intent began k. (refs, are, prepared t conforming intent [] began refl (at_begin observed intent k));

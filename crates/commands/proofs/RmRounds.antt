@@ -47,7 +47,8 @@ use Rattle.commands.proofs.FolderItems.{changed}
 use Rattle.commands.proofs.Manifests.{had_manifest}
 use Rattle.commands.proofs.RmLacking.{removes_aside}
 use Rattle.commands.proofs.GcTurn.{quiet_between, untaken_at}
-use Rattle.commands.proofs.GcGoes.{on_leaves, moved_stands}
+use Rattle.commands.proofs.GcGoes.{on_leaves}
+use Rattle.pod_removal.proofs.Onward.{moved_stands, stage_place}
 use Rattle.commands.proofs.GcArrived.{moved_by}
 use Rattle.commands.proofs.GcLocks.{turn_free}
 
@@ -76,13 +77,6 @@ unmoved_place kind.Prepared is = cc
 unmoved_place kind.Exited is = cc
 unmoved_place kind.ExitedGarbage is = refl
 unmoved_place p is = refl
-
-pub place_stage : (p : Phase) → is_stage (place_of p) ≡ true
-place_stage kind.AbortedPrepare = refl
-place_stage kind.Prepared = refl
-place_stage kind.Exited = refl
-place_stage kind.ExitedGarbage = refl
-place_stage p = refl
 
 pub aside_stage : (p : Phase) → is_stage (aside p) ≡ true
 aside_stage kind.Exited = refl
@@ -231,7 +225,7 @@ module _ (pod : PodId) (now : ℕ) {me : ℕ} {old new : List Event} (ext : Exte
       by : (c : Bool) → is_moved p ≡ c → (h : List Event) × Grew h new × (folder_at (state_after h).namespace (pod_spot pod (aside p)) ≡ Some k)
       by true is =
           let y = moved_by (pod_spot pod (place_of p)) (pod_spot pod (aside p)) me a b (put.moved is) in
-          let one = one_number new conforming (pod_spot pod (place_of p)) (place_stage p) old y.before to_new (grown_more y.rest from_b) k y.folder at y.was in
+          let one = one_number new conforming (pod_spot pod (place_of p)) (stage_place p) old y.before to_new (grown_more y.rest from_b) k y.folder at y.was in
           (y.after, grown_more y.last from_b, y.is ∙ ap Some (sym one))
       by false is = (old, to_new, subst (λ (x : Area). folder_at s.namespace (pod_spot pod x) ≡ Some k) (unmoved_place p is) at)
 

@@ -46,7 +46,8 @@ use Rattle.commands.proofs.GcTable.{held_at}
 use Rattle.commands.proofs.GcLocks.{turn_held}
 use Rattle.commands.proofs.Manifests.{had_manifest}
 use Rattle.commands.proofs.RmLacking.{removes_aside}
-use Rattle.commands.proofs.RmRounds.{waits_there, place_stage, aside_stage, rm_changed_off, found_before, found_place, found_folder, folder_aside, put_grown, never_missed, claim_free, own_free}
+use Rattle.commands.proofs.RmRounds.{waits_there, aside_stage, rm_changed_off, found_before, found_place, found_folder, folder_aside, put_grown, never_missed, claim_free, own_free}
+use Rattle.pod_removal.proofs.Onward.{stage_place}
 
 -- what one state asks for
 
@@ -181,7 +182,7 @@ module _ (pod : PodId) (now : ℕ) {me : ℕ} {old new : List Event} (ext : Exte
             let upto = grown_more (held_grown f.between x y.held) from_x in
             let first = to_read (WasRefused pod which) f in
             let k = found_folder pod now ext quiet idle conforming begun begins (WasRefused pod which) x f upto in
-            let held = turn_held ext quiet conforming first from_x pod (place_of p) (place_stage p) k.0 old to_new k.1 which (asked_mode which) y.held in
+            let held = turn_held ext quiet conforming first from_x pod (place_of p) (stage_place p) k.0 old to_new k.1 which (asked_mode which) y.held in
             answer (WasRefused pod which) f upto (Some (PodBusy pod which)) (at_place w is p f.removable k.0 k.1 first y held)
           where
             at_place : (w : Which) → which ≡ w → (p : Phase) → is_removable p ≡ true → (k : ℕ) → folder_at s.namespace (pod_spot pod (place_of p)) ≡ Some k → Grew old f.between → RefusedAt pod p which me f.between x → is_held_in me which (asked_mode which) (Some k) s ≡ true → place_refusal me pod (place_of p) s ≡ Some (PodBusy pod which)

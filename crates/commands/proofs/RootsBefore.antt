@@ -1,5 +1,5 @@
 -- While the images stay as they are, the listings that were read for the roots of a pod are those of the state before.
-use Rattle.std.proofs.Common.{arith, ◌≡◌, ◌<◌, ℕ, Bool, true, List, [], ◌∷◌, length, refl}
+use Rattle.std.proofs.Common.{arith, ◌≡◌, ◌<◌, ℕ, Bool, true, List, [], ◌∷◌, ◌++◌, length, refl, subst}
 use Rattle.std.specs.List.{AllByRecursion}
 use Rattle.ac_types.specs.declared.store_key.StoreKey.{StoreKey}
 use Rattle.dep_match.specs.declared.dep_tree.DepNode.{DepNode}
@@ -18,6 +18,7 @@ use Rattle.pod_reading.specs.Roots.{times, node_key, HasRead, IsRendered, AreRoo
 use Rattle.pod_reading.specs.RootRefusals as refusals
 use Rattle.pod_reading.proofs.Times.{times_here}
 use Rattle.render.specs.declared.rendering.Rendering.{Rendering}
+use Rattle.tree_digest.specs.Listings.{IsListing}
 use Rattle.tree_digest.specs.declared.listing_error.ListingError.{ListingError}
 use Rattle.standing_images.specs.Images.{AreStore, ImagesStay}
 use Rattle.standing_images.proofs.Before.{front_before}
@@ -55,13 +56,14 @@ module _ (old new : DirAt) (stay : ImagesStay old.trace new.trace) {start end : 
     rendered_before tree r x = record {
       own = x.own;
       each = λ n inside. entries_before (node_key images tree.nodes n) (x.own n) (x.read n inside);
+      few = x.few;
       rendered = x.rendering;
     }
 
     pub roots_before : (trees : List DepTree) (roots : _) → AreRoots observed images start end trees roots → AllByRecursion (HasRoot images s) trees
     roots_before [] roots are = tt
     roots_before (tree ∷ trees) [] are = absurd are
-    roots_before (tree ∷ trees) (root ∷ roots) are = ((root.rendering.map, rendered_before tree root.rendering are.0.rendered), roots_before trees roots are.1)
+    roots_before (tree ∷ trees) (root ∷ roots) are = ((root.rendering.map, rendered_before tree root.rendering are.0.rendered, subst IsListing are.0.listing are.0.kind), roots_before trees roots are.1)
 
     -- why there is no root
     pub lacks_before : (tree : DepTree) (path : List ℕ) → IsOrderedTree (length images) tree.nodes → AreStore images s → refusals.LacksNext observed images tree.nodes path start end → LacksListing images path s tree
@@ -71,6 +73,7 @@ module _ (old new : DirAt) (stay : ImagesStay old.trace new.trace) {start end : 
       others = x.others;
       own = x.own;
       earlier = have_before tree.nodes x.first (x.next ∷ x.others) x.own x.read;
+      few = x.few;
       within = comes_within (length images) tree.nodes ordered x.first x.next x.others x.read.order;
       stands = node_stands images s are tree.nodes ordered x.next (comes_within (length images) tree.nodes ordered x.first x.next x.others x.read.order);
       is = x.lacks.0;
@@ -78,7 +81,15 @@ module _ (old new : DirAt) (stay : ImagesStay old.trace new.trace) {start end : 
     }
 
     pub many_before : (tree : DepTree) → refusals.HasTooMany observed images tree.nodes start end → HasTooMany images s tree
-    many_before tree x = record { first = x.first; others = x.others; own = x.own; listed = have_before tree.nodes x.first x.others x.own x.read; many = x.many }
+    many_before tree x = record {
+      first = x.first;
+      next = x.next;
+      others = x.others;
+      own = x.own;
+      listed = have_before tree.nodes (x.first ++ x.next ∷ []) x.others x.own x.read;
+      few = x.few;
+      many = x.many;
+    }
 
     pub large_before : (tree : DepTree) (error : ListingError) → refusals.HasLargeListing observed images tree.nodes error start end → HasLargeListing images error s tree
     large_before tree error x = record { whole = x.rendering.map; root = rendered_before tree x.rendering x.rendered; large = x.large }

@@ -1,7 +1,7 @@
 -- Where nobody else steps: why `run` is refused, and `run-prepared` of a pod that was claimed.
 use Rattle.std.proofs.Common.{◌≡◌, ◌⊎◌, inl, inr, ℕ, Bool, true, List, [], Err, refl, sym, ap, subst, ◌∙◌}
 use Rattle.dir_model.specs.declared.area.Area.{Area}
-use Rattle.dir_model.specs.declared.area.Area.TheVariants.{Run}
+use Rattle.dir_model.specs.declared.area.Area.TheVariants.{Images, Run}
 use Rattle.dir_model.specs.declared.intent.Draw.{Draw}
 use Rattle.dir_model.specs.declared.intent.Intent.{Intent}
 use Rattle.dir_model.specs.declared.pod.PodId.{PodId}
@@ -21,13 +21,16 @@ use Rattle.pod_ownership.specs.declared.owned.Owned.{Owned}
 use Rattle.pod_making.specs.Work.{HasOwnFolder}
 use Rattle.spawner.specs.Calls.{SpawnerAt}
 use Rattle.stage1.specs.declared.error.RunError.{RunError}
+use Rattle.stage1.specs.declared.error.RunError.TheVariants.{Stray}
+use Rattle.stage1.specs.Runs.{IsRefusedRun}
 use Rattle.command_outcomes.specs.declared.refusal.Refusal.{Refusal}
 use Rattle.command_outcomes.specs.declared.refusal.Refusal.TheVariants.{NoMemory}
 use Rattle.command_outcomes.specs.Conforming.{shown_at}
-use Rattle.command_outcomes.specs.Moments.{Answer, DirSeen}
+use Rattle.command_outcomes.specs.Moments.{Answer, DirSeen, SpawnerSeen}
 use Rattle.commands.specs.PrepareRefusals.{IsSaid, build_refusal}
 use Rattle.commands.specs.Prepare.{pod_line, RefusesPod}
-use Rattle.commands.proofs.PrepareStore.{refuses_by_store}
+use Rattle.commands.proofs.Openings.{free_before}
+use Rattle.commands.proofs.PrepareStore.{refuses_by_state}
 use Rattle.commands.proofs.StoreKept.{run_keeps}
 use Rattle.commands.proofs.TakenBefore.{finished_keeps, run_elsewhere, taken_before}
 use Rattle.commands.proofs.Sayings.{busy_of}
@@ -37,26 +40,35 @@ use Rattle.commands.specs.RunRefusals.{run_refusal, IsRunSaid}
 use Rattle.commands.specs.Run.{makes_and_runs, MakesAndRuns, IsUnmade}
 use Rattle.commands.specs.RunPrepared.{ClaimsAndRuns}
 use Rattle.commands.specs.AppRuns.{RunSays}
-use Rattle.commands.specs.RunQuiet.{IsRunRefusal, IsUnmadeFor}
+use Rattle.commands.specs.RunQuiet.{IsUnmadeFor}
+use Rattle.commands.specs.Strays.{NeverComes}
+use Rattle.commands.proofs.StrayAnswers.{pod_never}
 use Rattle.commands.specs.Wants.{Wants}
 
 pub same_refusal : (r q : Refusal) → ◌≡◌ {A = Answer} (Err r) (Err q) → r ≡ q
 same_refusal r q is = cc
 
--- a pod that its process runs
-says_refusal : {seen observed : Bool} {owned : Owned} {address : List ℕ} {d d' : DirAt} {s s' : SpawnerAt} (front : List ℕ) (pod : PodId) (r : Refusal) → owned.pod ≡ pod → RunSays seen observed owned address front d d' s s' (Err r) → (r ≡ NoMemory) ⊎ IsRunRefusal pod r
-says_refusal {owned = owned} front pod r its (inl w) = said w.error w.is.0 (same_refusal r w.is.0 w.is.1) w.is.2
+-- a pod that its process runs was refused so from this moment on, for this cause of the run
+abbrev pub WasStopped : Bool → PodId → List ℕ → Refusal → DirAt → DirAt → SpawnerSeen → SpawnerSeen → Type 0
+WasStopped seen pod address r d d' so sn =
+    (error : RunError) × (r ≡ run_refusal pod error) × IsRefusedRun seen so.observed pod address error d d' so.shown sn.shown × (error ≡ Stray → seen ≡ true → NeverComes d'.trace)
+
+says_refusal : {seen : Bool} (so sn : SpawnerSeen) {owned : Owned} {address : List ℕ} {d d' : DirAt} (front : List ℕ) (pod : PodId) (r : Refusal) → owned.pod ≡ pod → RunSays seen so.observed owned address front d d' so.shown sn.shown (Err r) →
+    (r ≡ NoMemory) ⊎ WasStopped seen pod address r d d' so sn
+says_refusal {seen} so sn {owned} {address} {d} {d'} front pod r its (inl w) = said w.is.0 (same_refusal r w.is.0 w.is.1) w.is.2
   where
-    said : (error : RunError) (q : Refusal) → r ≡ q → IsRunSaid owned.pod error q → (r ≡ NoMemory) ⊎ IsRunRefusal pod r
-    said error q is (inl told) = inr (error, is ∙ (told ∙ ap (λ (p : PodId). run_refusal p error) its))
-    said error q is (inr told) = inl (is ∙ told)
-says_refusal front pod r its (inr w) = inl (same_refusal r NoMemory w.is)
+    said : (q : Refusal) → r ≡ q → IsRunSaid owned.pod w.error q → (r ≡ NoMemory) ⊎ WasStopped seen pod address r d d' so sn
+    said q is (inl told) =
+        inr (w.error, is ∙ (told ∙ ap (λ (p : PodId). run_refusal p w.error) its), subst (λ (p : PodId). IsRefusedRun seen so.observed p address w.error d d' so.shown sn.shown) its w.refused, w.lawful)
+    said q is (inr told) = inl (is ∙ told)
+says_refusal so sn front pod r its (inr w) = inl (same_refusal r NoMemory w.is)
 
-pub claimed_refusal : {seen observed : Bool} {pod : PodId} {address : List ℕ} {d d' : DirAt} {s s' : SpawnerAt} (r : Refusal) → ClaimsAndRuns seen observed pod address d d' s s' (Err r) → (r ≡ NoMemory) ⊎ IsRunRefusal pod r
-claimed_refusal {pod = pod} r x = says_refusal [] pod r x.is_owned.is x.says
+pub claimed_refusal : {seen : Bool} (so sn : SpawnerSeen) {pod : PodId} {address : List ℕ} {d d' : DirAt} (r : Refusal) (x : ClaimsAndRuns seen so.observed pod address d d' so.shown sn.shown (Err r)) → (r ≡ NoMemory) ⊎ WasStopped seen pod address r x.claimed d' so sn
+claimed_refusal so sn {pod = pod} r x = says_refusal so sn [] pod r x.is_owned.is x.says
 
-pub made_refusal : {seen observed : Bool} {wants : Wants} {address : List ℕ} {now : ℕ} {draw : Draw} {d d' : DirAt} {s s' : SpawnerAt} (r : Refusal) → MakesAndRuns seen observed wants address now draw d d' s s' (Err r) → (r ≡ NoMemory) ⊎ IsRunRefusal draw.uuid r
-made_refusal {draw = draw} r x = says_refusal (pod_line draw.uuid) draw.uuid r x.is_owned.is x.says
+pub made_refusal : {seen : Bool} (so sn : SpawnerSeen) {wants : Wants} {address : List ℕ} {now : ℕ} {draw : Draw} {d d' : DirAt} (r : Refusal) (x : MakesAndRuns seen so.observed wants address now draw d d' so.shown sn.shown (Err r)) →
+    (r ≡ NoMemory) ⊎ WasStopped seen draw.uuid address r x.made d' so sn
+made_refusal so sn {draw = draw} r x = says_refusal so sn (pod_line draw.uuid) draw.uuid r x.is_owned.is x.says
 
 -- and one that wasn't, for what is seen of the directory before and in the end
 module _ {seen : Bool} {wants : Wants} {now : ℕ} {draw : Draw} {d d' : DirAt} {s s' : SpawnerAt} (old new : DirSeen) (told : seen ≡ old.observed) (t : seen ≡ true) (mine : d.process ≡ old.process) (stays : d'.process ≡ d.process)
@@ -91,9 +103,11 @@ module _ {seen : Bool} {wants : Wants} {now : ℕ} {draw : Draw} {d d' : DirAt} 
       by (inr is) = inl (same ∙ is)
       by (inl is) = inr (record {
         why = why is;
-        store = refuses_by_store wants now draw old new r (sym told ∙ t) (run_keeps draw.uuid ext quiet)
-            (taken_before draw.uuid (in_process (makes_and_runs draw.uuid)) (run_elsewhere draw.uuid) (shown_at old) (shown_at new) ext quiet conforms) (why is);
+        state = refuses_by_state wants now draw old new r (sym told ∙ t) (run_keeps draw.uuid ext quiet)
+            (taken_before draw.uuid (in_process (makes_and_runs draw.uuid)) (run_elsewhere draw.uuid) (shown_at old) (shown_at new) ext quiet conforms)
+            (λ at. free_before (is_against Images Shared) at ext quiet) (λ area busy. held area (busy_of wants.images x.error area (sym (same ∙ is) ∙ busy))) (why is);
         held = λ area busy. held area (busy_of wants.images x.error area (sym (same ∙ is) ∙ busy));
+        lawful = λ stray. pod_never now draw wants old new (subst (λ (q : Refusal). RefusesPod wants now draw old new q) stray (why is)) (sym told ∙ t);
         left = inr (record {
           begun = d.trace;
           ended = d'.trace;

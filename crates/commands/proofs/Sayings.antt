@@ -135,8 +135,8 @@ make_area entries draw make.NoMemory area is = cc
 
 pub busy_area : {observed : Bool} {refs : List ImageRef} {options : Wishes} (draw : Draw) {now : ℕ} {e : BuildError} {a b : DirAt} → IsRefused observed refs options draw now e a b → (area : Area) → e ≡ build.Busy area → prepare_refusal (Busy area) ≡ true
 busy_area draw (inl x) area is = gate_area x.0 area (sym is ∙ x.1)
-busy_area draw (inr (inl x)) area is = plan_area x.3.0 area (sym is ∙ x.3.1)
-busy_area draw (inr (inr x)) area is = make_area x.0 draw.uuid x.2.3.0 area (subst (λ (error : BuildError). IsMakeRefusal x.0 draw.uuid x.2.3.0 error) is x.2.3.1)
+busy_area draw (inr (free, inl x)) area is = plan_area x.3.0 area (sym is ∙ x.3.1)
+busy_area draw (inr (free, inr x)) area is = make_area x.0 draw.uuid x.2.3.0 area (subst (λ (error : BuildError). IsMakeRefusal x.0 draw.uuid x.2.3.0 error) is x.2.3.1)
 
 -- so each is one that the command may have
 error_allowed : (words : List (List ℕ)) (e : BuildError) → ((area : Area) → e ≡ build.Busy area → prepare_refusal (Busy area) ≡ true) → prepare_refusal (build_refusal words e) ≡ true
@@ -187,8 +187,8 @@ plan_place words observed refs options a b plan.NoMemory place are is x = cc
 pub no_match_within : (words : List (List ℕ)) (observed : Bool) (refs : List ImageRef) (options : Wishes) (draw : Draw) {now : ℕ} {e : BuildError} {a b : DirAt} → AreReferences words refs → IsRefused observed refs options draw now e a b
     → (place : ℕ) → e ≡ build.NoMatch place → place < length words
 no_match_within words observed refs options draw are (inl x) place is = gate_place x.0 place (sym is ∙ x.1)
-no_match_within words observed refs options draw are (inr (inl x)) place is = plan_place words observed refs options x.0 x.1 x.3.0 place are (sym is ∙ x.3.1) x.3.2
-no_match_within words observed refs options draw are (inr (inr x)) place is = make_place x.0 draw.uuid x.2.3.0 place (subst (λ (error : BuildError). IsMakeRefusal x.0 draw.uuid x.2.3.0 error) is x.2.3.1)
+no_match_within words observed refs options draw are (inr (free, inl x)) place is = plan_place words observed refs options x.0 x.1 x.3.0 place are (sym is ∙ x.3.1) x.3.2
+no_match_within words observed refs options draw are (inr (free, inr x)) place is = make_place x.0 draw.uuid x.2.3.0 place (subst (λ (error : BuildError). IsMakeRefusal x.0 draw.uuid x.2.3.0 error) is x.2.3.1)
 
 -- the name that is taken is the drawn one
 gate_pod : (reason : LockError) (pod : PodId) {X : Type 0} → build.Taken pod ≡ gate_refusal reason → X
@@ -230,5 +230,5 @@ taken_own {wants} {now} {draw} {pod} x = by x.cause.2
 
     by : {observed : Bool} {a b : DirAt} → IsRefused observed x.cause.0 wants.wishes draw now x.error a b → pod ≡ draw.uuid
     by (inl y) = gate_pod y.0 pod (sym is ∙ y.1)
-    by (inr (inl y)) = plan_pod y.3.0 pod (sym is ∙ y.3.1)
-    by (inr (inr y)) = make_pod y.0 draw.uuid y.2.3.0 pod (subst (λ (error : BuildError). IsMakeRefusal y.0 draw.uuid y.2.3.0 error) is y.2.3.1)
+    by (inr (free, inl y)) = plan_pod y.3.0 pod (sym is ∙ y.3.1)
+    by (inr (free, inr y)) = make_pod y.0 draw.uuid y.2.3.0 pod (subst (λ (error : BuildError). IsMakeRefusal y.0 draw.uuid y.2.3.0 error) is y.2.3.1)

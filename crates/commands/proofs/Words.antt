@@ -1,5 +1,5 @@
 -- The references that words are.
-use Rattle.std.proofs.Common.{arith, ◌≡◌, ◌∙◌, ◌<◌, ◌+◌, ℕ, List, ◌∷◌, ◌++◌, [], length, take, Some, Ok, sym, ap, subst}
+use Rattle.std.proofs.Common.{arith, ◌≡◌, ◌∙◌, ◌<◌, ◌+◌, ℕ, List, ◌∷◌, ◌++◌, [], length, take, Some, Ok, refl, sym, ap, subst}
 use Rattle.std.specs.List.{slice_get}
 use Rattle.std.proofs.lemmas.List.{take_more}
 use Rattle.std.proofs.lemmas.Option.{get_or_from_slice_get, slice_get_within}
@@ -23,3 +23,15 @@ pub place_within : {images : List Stored} (words : List (List ℕ)) (refs : List
 place_within {images} words refs {place} are x =
     subst (λ (n : ℕ). place < n) (mapped_length reference Ok words refs are)
     (subst (λ (l : List ImageRef). place < length l) (sym x.is) (subst (λ (n : ℕ). n < length (x.before ++ x.wanted ∷ x.after)) (sym x.at) (before_end x.before x.after x.wanted)))
+
+-- words are one list of references
+pub one_references : (words : List (List ℕ)) (xs ys : List ImageRef) → AreReferences words xs → AreReferences words ys → xs ≡ ys
+one_references [] [] [] x y = refl
+one_references [] (r ∷ xs) ys x y = cc
+one_references [] [] (r ∷ ys) x y = cc
+one_references (w ∷ words) [] ys x y = cc
+one_references (w ∷ words) (r ∷ xs) [] x y = cc
+one_references (w ∷ words) (r ∷ xs) (q ∷ ys) x y =
+    let same : r ≡ q = cc in
+    let rest = one_references words xs ys (cc) (cc) in
+    ap (λ (z : ImageRef). z ∷ xs) same ∙ ap (λ (zs : List ImageRef). q ∷ zs) rest

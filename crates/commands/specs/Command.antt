@@ -43,7 +43,7 @@ pub record Command : Type 1 where
   -- what it tells with each status: by its own answers, and of the histories of pods and images
   pub tells : ℕ → Draw → ℕ → Moment → Moment → Type 0
   -- what it answers where nobody else steps
-  pub quiet : ℕ → Draw → Outside → Outside → Outcome → Type 0
+  pub quiet : ℕ → Draw → Moment → Moment → Outcome → Type 0
   -- and what this process leaves in the directory then
   pub leaves : ℕ → Draw → DirState → DirState → Type 0
   -- what is told of it between its begin and its finish

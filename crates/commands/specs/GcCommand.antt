@@ -57,7 +57,7 @@ gc_command grace expire = record {
   refused_for = λ now draw refusal old new. RefusesGc refusal old.outside.dir new.outside.dir;
   names = names_kept;
   tells = λ now draw status old new. TellsGc (times_of now grace expire) status old new;
-  quiet = λ now draw old new o. SweepsPodsQuietly (times_of now grace expire) old.dir new.dir o;
+  quiet = λ now draw old new o. SweepsPodsQuietly (times_of now grace expire) old.outside.dir new.outside.dir o;
   leaves = λ me draw old new. LeavesBeside is_pods_place me old new;
   says = alone (λ now draw old new o. GcSays (times_of now grace expire) old.dir new.dir o);
 }

@@ -36,7 +36,7 @@ image_gc_command = record {
   refused_for = λ now draw refusal old new. RefusesImageGc refusal old.outside.dir new.outside.dir;
   names = names_none;
   tells = λ now draw status old new. TellsImageGc status old new;
-  quiet = λ now draw old new o. SweepsQuietly old.dir new.dir o;
+  quiet = λ now draw old new o. SweepsQuietly old.outside.dir new.outside.dir o;
   leaves = λ me draw old new. LeavesBeside is_swept_place me old new;
   says = alone (λ now draw old new o. ImageGcSays old.dir new.dir o);
 }

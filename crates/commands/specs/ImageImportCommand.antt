@@ -51,7 +51,7 @@ image_import_command path = record {
   refused_for = λ now draw refusal old new. RefusesImport path refusal old.outside new.outside;
   names = names_none;
   tells = λ now draw status old new. TellsImport path now draw status old new;
-  quiet = λ now draw old new o. ImportsQuietly path now draw.uuid old new o;
+  quiet = λ now draw old new o. ImportsQuietly path now draw.uuid old.outside new.outside o;
   leaves = λ me draw old new. LeavesOthers draw.uuid me old new;
   says = alone (λ now draw old new o. ImageImportSays path now draw.uuid old new o);
 }

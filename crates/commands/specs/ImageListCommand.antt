@@ -37,7 +37,7 @@ image_list_command = record {
   refused_for = λ now draw refusal old new. RefusesImageList refusal old.outside.dir new.outside.dir;
   names = names_none;
   tells = λ now draw status old new. TellsImages status old new;
-  quiet = λ now draw old new o. ListsQuietly old.dir new.dir o;
+  quiet = λ now draw old new o. ListsQuietly old.outside.dir new.outside.dir o;
   leaves = λ me draw old new. LeavesAll me old new;
   says = alone (λ now draw old new o. ImageListSays old.dir new.dir o);
 }

@@ -45,7 +45,7 @@ image_rm_command key = record {
   refused_for = λ now draw refusal old new. RefusesImageRm key draw refusal old.outside.dir new.outside.dir;
   names = names_none;
   tells = λ now draw status old new. TellsImageRm key draw status old new;
-  quiet = λ now draw old new o. RemovesQuietly key draw.uuid old.dir new.dir o;
+  quiet = λ now draw old new o. RemovesQuietly key draw.uuid old.outside.dir new.outside.dir o;
   leaves = λ me draw old new. LeavesBeside (is_removal_place key draw.uuid) me old new;
   says = alone (λ now draw old new o. ImageRmSays key draw.uuid old.dir new.dir o × KeepsRefused old.dir new.dir o);
 }

@@ -41,6 +41,7 @@ pub mod Run
 pub mod RunCommand
 pub mod RunPrepared
 pub mod RunPreparedCommand
+pub mod RunTable
 pub mod RunQuiet
 pub mod RunRefusals
 pub mod Status

@@ -27,7 +27,7 @@ use Rattle.pod_making.specs.Progress.{Progress, at_work, handed}
 use Rattle.pod_making.specs.Work.{IsOwnFolder, HasOwnFolder}
 use Rattle.pod_build.specs.declared.error.BuildError.{BuildError}
 use Rattle.pod_build.specs.Requests.{prepares}
-use Rattle.pod_build.specs.Causes.{IsRefused}
+use Rattle.pod_build.specs.Causes.{IsRefused, IsMadeByPlan, FindsImagesFree}
 use Rattle.pod_build.specs.Preparations.{Began, KnowsPrepared, IsPrepared}
 use Rattle.command_outcomes.specs.declared.refusal.Refusal.{Refusal}
 use Rattle.command_outcomes.specs.declared.refusal.Refusal.TheVariants.{Busy, DirFault, NoMemory}
@@ -69,11 +69,13 @@ WhereBegun draw now old P = (intent : Intent) → Began area.Prepared draw now i
 abbrev pub IsFaithful : Wants → PodId → DirSeen → DirSeen → Type 0
 IsFaithful wants draw old new = OfReferences wants.images (λ refs. IsPrepared refs wants.wishes old.process draw area.Prepared old.trace new.trace)
 
--- by its own answers it brought the pod to prepared; and where every process keeps the local rules, the pod was prepared
--- faithfully. Then it asked that the area be synced, which was answered so
+-- by its own answers it brought the pod to prepared, by the plan that the store gave, and had the lock of images, which no other process held
+-- exclusively; and where every process keeps the local rules, the pod was prepared faithfully. Then it asked that the area be synced, which was answered so
 pub record BringsPod (wants : Wants) (now : ℕ) (draw : Draw) (reply : Reply) (old new : DirSeen) : Type 0 where
   pub brought : DirSeen
   pub same : brought.process ≡ old.process
+  pub free : FindsImagesFree old.observed (shown_at old) (shown_at brought)
+  pub planned : OfReferences wants.images (λ refs. IsMadeByPlan old.observed refs wants.wishes draw now (shown_at old) (shown_at brought))
   pub extends : old.observed ≡ true → Extends (prepares draw.uuid area.Prepared) old.process old.trace brought.trace
   pub knows : old.observed ≡ true → WhereBegun draw now old (λ intent. KnowsPrepared draw.uuid area.Prepared intent [] (shown_at brought))
   pub faithful : old.observed ≡ true → IsConforming brought.trace → WhereBegun draw now old (λ intent. IsFaithful wants draw.uuid old brought)

@@ -55,7 +55,7 @@ prepare_command wants = record {
   refused_for = λ now draw refusal old new. RefusesPrepare wants now draw refusal old.outside.dir new.outside.dir;
   names = names_none;
   tells = λ now draw status old new. TellsPrepare wants draw status old new;
-  quiet = λ now draw old new o. PreparesQuietly wants now draw old.dir new.dir o;
+  quiet = λ now draw old new o. PreparesQuietly wants now draw old.outside.dir new.outside.dir o;
   leaves = λ me draw old new. LeavesBeside (is_pod_place draw.uuid) me old new;
   says = alone (λ now draw old new o. PrepareSays wants now draw old.dir new.dir o);
 }

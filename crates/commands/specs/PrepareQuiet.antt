@@ -1,6 +1,6 @@
 -- What `prepare` comes to, and leaves, where nobody else steps.
 use Rattle.std.specs.Prelude.{◌≡◌, ℕ, Bool, ◌||◌, List, Ok, Err, Some}
-use Rattle.dir_model.specs.declared.area.Area.TheVariants.{Embryo, Prepare, Prepared}
+use Rattle.dir_model.specs.declared.area.Area.TheVariants.{Embryo, Images, Prepare, Prepared}
 use Rattle.dir_model.specs.declared.intent.Draw.{Draw}
 use Rattle.dir_model.specs.declared.pod.PodId.{PodId}
 use Rattle.dir_model.specs.declared.spot.Mode.TheVariants.{Shared}
@@ -10,7 +10,7 @@ use Rattle.dir_model.specs.declared.event.Event.{Event}
 use Rattle.dir_trait.specs.State.{DirState, folder_at, spot_eq}
 use Rattle.folder_contents.specs.Entries.{entries_in}
 use Rattle.dir_trait.specs.Trace.{state_after}
-use Rattle.area_locks.specs.AreaLocks.{IsBusyElsewhere}
+use Rattle.area_locks.specs.AreaLocks.{IsBusyElsewhere, IsFreeElsewhere}
 use Rattle.lifecycle.specs.Executions.{IsConforming}
 use Rattle.pod_making.specs.Requests.{pod_at}
 use Rattle.command_outcomes.specs.declared.refusal.Refusal.TheVariants.{Busy, DirFault, Stray, NoMemory}
@@ -20,7 +20,7 @@ use Rattle.pod_manifest.specs.Wishes.{Wishes}
 use Rattle.standing_images.specs.Images.{AreStore}
 use Rattle.commands.specs.References.{OfReferences}
 use Rattle.commands.specs.Prepare.{pod_line, RefusesPod}
-use Rattle.commands.specs.PrepareTable.{RefusesByStore}
+use Rattle.commands.specs.PrepareTable.{NothingRefuses, RefusesByState}
 use Rattle.commands.specs.Strays.{NeverComes}
 use Rattle.commands.specs.Wants.{Wants}
 
@@ -30,20 +30,24 @@ pub record StandsPrepared {refs : List ImageRef} {wishes : Wishes} {me : ℕ} {d
   pub holds : entries_in x.folder s.entries ≡ x.faithful.built.making.entries
 
 -- of some references that its words are, the pod was prepared faithfully, of the images that are the store of the state before, and stands
--- in the end as it was made
+-- in the end as it was made; and nothing refused them
 abbrev pub HasPrepared : Wants → PodId → DirSeen → DirSeen → Type 0
 HasPrepared wants draw old new =
     OfReferences wants.images (λ refs. (x : IsPrepared refs wants.wishes old.process draw Prepared old.trace new.trace) × StandsPrepared x (state_after new.trace)
-    × AreStore x.faithful.images (state_after old.trace))
+    × AreStore x.faithful.images (state_after old.trace) × NothingRefuses old.process draw refs wants.wishes (state_after old.trace))
 
--- by a lock as it was held before, or by its own reads, and by the store of the state before
+-- by its own reads, and by the state before: by a lock that another process holds, or by the store, where nobody else holds that of
+-- images exclusively
 abbrev pub PreparesQuietly : Wants → ℕ → Draw → DirSeen → DirSeen → Outcome → Type 0
-PreparesQuietly wants now draw old new (Ok text) = (text ≡ pod_line draw.uuid) × (IsConforming new.trace → HasPrepared wants draw.uuid old new)
-PreparesQuietly wants now draw old new (Err (Busy area)) = RefusesPod wants now draw old new (Busy area) × IsBusyElsewhere old.process area Shared (state_after old.trace)
+PreparesQuietly wants now draw old new (Ok text) =
+    (text ≡ pod_line draw.uuid) × IsFreeElsewhere old.process Images Shared (state_after old.trace) × (IsConforming new.trace → HasPrepared wants draw.uuid old new)
+PreparesQuietly wants now draw old new (Err (Busy area)) =
+    RefusesPod wants now draw old new (Busy area) × IsBusyElsewhere old.process area Shared (state_after old.trace)
+    × RefusesByState wants draw.uuid (Busy area) old.process (state_after old.trace)
 PreparesQuietly wants now draw old new (Err NoMemory) = ⊥
 PreparesQuietly wants now draw old new (Err DirFault) = ⊥
 PreparesQuietly wants now draw old new (Err Stray) = RefusesPod wants now draw old new Stray × NeverComes new.trace
-PreparesQuietly wants now draw old new (Err refusal) = RefusesPod wants now draw old new refusal × RefusesByStore wants refusal (state_after old.trace)
+PreparesQuietly wants now draw old new (Err refusal) = RefusesPod wants now draw old new refusal × RefusesByState wants draw.uuid refusal old.process (state_after old.trace)
 
 -- where it makes and moves folders
 abbrev pub is_pod_place : PodId → Spot → Bool

@@ -70,7 +70,7 @@ report_command kind word approach r = record {
   refused_for = λ now draw refusal old new. RefusesReport r refusal old new;
   names = r.names;
   tells = λ now draw status old new. WritesReport r status old new;
-  quiet = λ now draw old new o. IsConforming new.dir.trace → r.quiet (state_after old.dir.trace) o;
+  quiet = λ now draw old new o. IsConforming new.outside.dir.trace → r.quiet (state_after old.outside.dir.trace) o;
   leaves = λ me draw old new. LeavesAll me old new;
   says = alone (λ now draw old new o. ReportSays r old.dir new.dir o);
 }

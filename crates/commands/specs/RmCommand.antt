@@ -62,7 +62,7 @@ rm_command word pod = record {
   refused_for = λ now draw refusal old new. RefusesRm pod refusal old.outside.dir new.outside.dir;
   names = names_refused pod;
   tells = λ now draw status old new. TellsRm pod status old new;
-  quiet = λ now draw old new o. RemovesPodQuietly pod old.dir new.dir o;
+  quiet = λ now draw old new o. RemovesPodQuietly pod old.outside.dir new.outside.dir o;
   leaves = λ me draw old new. LeavesBeside (is_pod_spot pod) me old new;
   says = alone (λ now draw old new o. RmSays pod now old.dir new.dir o × KeepsRefused old.dir new.dir o);
 }

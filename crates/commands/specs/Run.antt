@@ -18,7 +18,7 @@ use Rattle.pod_claim.specs.Work.{Grew}
 use Rattle.pod_making.specs.Work.{From, HasOwnFolder}
 use Rattle.pod_build.specs.declared.error.BuildError.{BuildError}
 use Rattle.pod_build.specs.Requests.{prepares}
-use Rattle.pod_build.specs.Causes.{IsRefused, IsHeldElsewhere}
+use Rattle.pod_build.specs.Causes.{IsRefused, IsHeldElsewhere, IsMadeByPlan, FindsImagesFree}
 use Rattle.pod_build.specs.Preparations.{Began, IsAlone, KnowsPrepared, IsPrepared}
 use Rattle.stage1.specs.Runs.{runs_pod}
 use Rattle.command_outcomes.specs.declared.refusal.Refusal.{Refusal}
@@ -42,13 +42,15 @@ CanRun draw now d = (intent : Intent) × Began area.Run draw now intent × Knows
 abbrev pub WhereMaking : Draw → ℕ → DirAt → Type 0 → Type 0
 WhereMaking draw now d P = From (Began area.Run draw now) IsAlone nothing_made d (λ intent hs. P)
 
--- the pod was prepared, and brought to run with its lock kept: by own answers, and faithfully where every process keeps the local
--- rules; and then it was run, of which this is told
+-- the pod was prepared by the plan that the store gave, and brought to run with its lock kept: by own answers, with the lock of images, which
+-- no other process held exclusively, and faithfully where every process keeps the local rules; and then it was run, of which this is told
 pub record MakesAndRuns (seen observed : Bool) (wants : Wants) (address : List ℕ) (now : ℕ) (draw : Draw) (d d' : DirAt) (s s' : SpawnerAt) (answer : Answer) : Type 0 where
   pub made : DirAt
   pub owned : Owned
   pub is_owned : IsOwned draw.uuid d.local owned
   pub same : made.process ≡ d.process
+  pub free : FindsImagesFree seen d made
+  pub planned : OfReferences wants.images (λ refs. IsMadeByPlan seen refs wants.wishes draw now d made)
   pub asked : seen ≡ true → ExtendsBy (prepares draw.uuid area.Run) d made
   pub knows : seen ≡ true → From (Began area.Run draw now) IsAlone nothing_made d (λ intent hs. KnowsPrepared draw.uuid area.Run intent (own_held draw.uuid owned.own (Some Exclusive) ∷ []) made)
   pub faithful : seen ≡ true → IsConforming made.trace → WhereMaking draw now d (OfReferences wants.images (λ refs. IsPrepared refs wants.wishes d.process draw.uuid area.Run d.trace made.trace))

@@ -5,6 +5,7 @@ use Rattle.dir_model.specs.declared.intent.Draw.{Draw}
 use Rattle.dir_model.specs.declared.intent.Intent.{Intent}
 use Rattle.dir_model.specs.declared.intent.Kind.TheVariants as kind
 use Rattle.dir_model.specs.declared.pod.PodId.{PodId}
+use Rattle.lifecycle.specs.Executions.{IsConforming}
 use Rattle.phase_read.specs.Read.{is_pod_spot}
 use Rattle.pod_claim.specs.Claims.{IsFreeThroughout}
 use Rattle.pod_claim.specs.declared.error.ClaimError.{ClaimError}
@@ -12,7 +13,7 @@ use Rattle.stage1.specs.declared.end.AppEnd.{AppEnd}
 use Rattle.command_outcomes.specs.declared.refusal.Refusal.{Refusal}
 use Rattle.command_outcomes.specs.declared.refusal.Refusal.TheVariants.{NoMemory}
 use Rattle.command_outcomes.specs.Conforming.{shown_at}
-use Rattle.command_outcomes.specs.Moments.{DirSeen, Moment, Outcome}
+use Rattle.command_outcomes.specs.Moments.{Inside, Moment, Outcome}
 use Rattle.commands.specs.Answers.{inside_in}
 use Rattle.commands.specs.AppEnds.{app_lines}
 use Rattle.commands.specs.AppsTold.{WithinProcess, CameSo, TellsApps}
@@ -20,8 +21,9 @@ use Rattle.commands.specs.Opening.{approach_of}
 use Rattle.commands.specs.Phases.{names_refused}
 use Rattle.commands.specs.Command.{Command, nothing, running, intent_for, WhereAllKeepRules}
 use Rattle.commands.specs.RunPrepared.{runs_prepared, RunPreparedSays}
-use Rattle.commands.specs.RunQuiet.{HasPassed, IsRunRefusal, TellsItsEnds, UnclaimedFor}
+use Rattle.commands.specs.RunQuiet.{HasPassed, TellsItsEnds, UnclaimedFor, held_before}
 use Rattle.commands.specs.RunRefusals.{run_prepared_refusal, claim_refusal}
+use Rattle.commands.specs.RunTable.{IsRefusedFor, RunsAll, StoppedFor}
 use Rattle.commands.specs.NextState.{LeavesBeside}
 
 abbrev pub run_prepared_intent : List ℕ → ℕ → Draw → Intent
@@ -43,11 +45,17 @@ pub record TellsRunPrepared (word : List ℕ) (pod : PodId) (address : List ℕ)
   pub complete : WhereAllKeepRules old new (IsFreeThroughout pod (shown_at old.outside.dir) (shown_at new.outside.dir) → is_unfree_status status ≡ false)
 
 -- the pod waited in prepared before and is left in run, without an owner, and the mark and the status of each app whose line is told stand
--- there; where it is refused for a cause of the run it is left so too, or it wasn't claimed, for a cause in the state before
-abbrev pub PassesQuietly : PodId → DirSeen → DirSeen → Outcome → Type 0
-PassesQuietly pod old new (Ok text) = HasPassed pod old.process old.trace new.trace × TellsItsEnds pod [] new.trace text
-PassesQuietly pod old new (Err NoMemory) = Unit {0}
-PassesQuietly pod old new (Err refusal) = IsRunRefusal pod refusal × HasPassed pod old.process old.trace new.trace ⊎ ((error : ClaimError) × (refusal ≡ claim_refusal pod error) × UnclaimedFor pod error old.process old.trace new.trace)
+-- there; its apps were those of what its folder held before. Where it is refused for a cause of the run it is left so too, by what its
+-- folder held; or it wasn't claimed, for a cause in the state before
+abbrev pub PassesQuietly : PodId → List ℕ → Inside → Inside → Outcome → Type 0
+PassesQuietly pod address old new (Ok text) =
+    (x : HasPassed pod old.dir.process old.dir.trace new.dir.trace) × (y : TellsItsEnds pod [] new.dir.trace text)
+    × (IsConforming new.dir.trace → RunsAll pod address (held_before x) y.ends old.spawner new.spawner)
+PassesQuietly pod address old new (Err NoMemory) = Unit {0}
+PassesQuietly pod address old new (Err refusal) =
+    ((x : HasPassed pod old.dir.process old.dir.trace new.dir.trace)
+    × IsRefusedFor pod refusal new.dir.trace (λ error. StoppedFor pod address (held_before x) error old.spawner new.spawner))
+    ⊎ ((error : ClaimError) × (refusal ≡ claim_refusal pod error) × UnclaimedFor pod error old.dir.process old.dir.trace new.dir.trace)
 
 -- it looks for the pod, asks for its locks and for its move to run, reads it there and makes its notes
 abbrev pub run_prepared_command : List ℕ → PodId → List ℕ → Command
@@ -61,7 +69,7 @@ run_prepared_command word pod address = record {
   refused_for = λ now draw refusal old new. RefusesRun word pod address now draw refusal old new;
   names = names_refused pod;
   tells = λ now draw status old new. TellsRunPrepared word pod address now draw status old new;
-  quiet = λ now draw old new o. PassesQuietly pod old.dir new.dir o;
+  quiet = λ now draw old new o. PassesQuietly pod address (inside_in old) (inside_in new) o;
   leaves = λ me draw old new. LeavesBeside (is_pod_spot pod) me old new;
   says = running (λ now draw. RunPreparedSays pod address);
 }

@@ -1,6 +1,7 @@
 -- What `run-prepared` and `run` come to, and leave, where nobody else steps.
 use Rattle.std.specs.Prelude.{◌≡◌, ℕ, true, false, Some, None, List, ◌++◌}
 use Rattle.std.specs.List.{AllByRecursion, list_any}
+use Rattle.ac_types.specs.declared.image_ref.ImageRef.{ImageRef}
 use Rattle.dir_model.specs.declared.area.Area.{Area}
 use Rattle.dir_model.specs.declared.area.Area.TheVariants as area
 use Rattle.dir_model.specs.declared.area.Phase.{Phase}
@@ -11,17 +12,20 @@ use Rattle.dir_model.specs.declared.pod.PodId.{PodId}
 use Rattle.dir_model.specs.declared.spot.Mode.TheVariants.{Shared}
 use Rattle.dir_model.specs.declared.spot.Which.{Which}
 use Rattle.dir_model.specs.Trees.{content, has_file}
+use Rattle.dir_rules.specs.declared.seen.Entry.{Entry}
 use Rattle.dir_trait.specs.State.{DirState, folder_at, is_owned}
 use Rattle.dir_trait.specs.Trace.{state_after}
+use Rattle.folder_contents.specs.Entries.{entries_in}
 use Rattle.lifecycle.specs.Executions.{IsConforming}
 use Rattle.phase_read.specs.declared.found.Found.TheVariants.{At}
 use Rattle.phase_read.specs.Exact.{IsInPhase}
 use Rattle.phase_read.specs.Sequential.{sequential_read}
-use Rattle.area_locks.specs.AreaLocks.{IsBusyElsewhere}
+use Rattle.area_locks.specs.AreaLocks.{IsBusyElsewhere, IsFreeElsewhere}
 use Rattle.command_outcomes.specs.declared.refusal.Refusal.{Refusal}
-use Rattle.command_outcomes.specs.declared.refusal.Refusal.TheVariants.{Busy}
+use Rattle.command_outcomes.specs.declared.refusal.Refusal.TheVariants.{Busy, Stray}
 use Rattle.command_outcomes.specs.Moments.{DirSeen}
 use Rattle.pod_build.specs.Preparations.{IsPrepared}
+use Rattle.pod_manifest.specs.Wishes.{Wishes}
 use Rattle.pod_claim.specs.declared.error.ClaimError.{ClaimError}
 use Rattle.pod_claim.specs.declared.error.ClaimError.TheVariants as claim
 use Rattle.pod_claim.specs.Causes.{LacksManifest, is_held_elsewhere}
@@ -29,16 +33,15 @@ use Rattle.pod_claim.specs.Requests.{in_prepared, in_run}
 use Rattle.commands.specs.ClaimTable.{claim_error, IsWhy}
 use Rattle.commands.specs.References.{OfReferences}
 use Rattle.commands.specs.Prepare.{RefusesPod, HasKeptFolder}
-use Rattle.commands.specs.PrepareTable.{RefusesByStore}
+use Rattle.commands.specs.PrepareTable.{NothingRefuses, RefusesByState}
 use Rattle.commands.specs.Wants.{Wants}
 use Rattle.commands.specs.RemovalQuiet.{StandsNowhere, HasPhaseNow}
 use Rattle.spawner.specs.Conditions.{start_mark}
 use Rattle.stage1.specs.declared.end.AppEnd.{AppEnd}
 use Rattle.standing_images.specs.Images.{AreStore}
-use Rattle.stage1.specs.declared.error.RunError.{RunError}
 use Rattle.stage1.specs.Notes.{status_path, status_text}
 use Rattle.commands.specs.AppEnds.{app_lines}
-use Rattle.commands.specs.RunRefusals.{run_refusal}
+use Rattle.commands.specs.Strays.{NeverComes}
 
 -- the pod stands in this area and has this phase: by its history, and by the first area in which it stands and its lock there
 pub record IsPhaseAt (pod : PodId) (phase : Phase) (area : Area) (trace : List Event) : Type 0 where
@@ -65,11 +68,19 @@ pub record IsClaimHeld (pod : PodId) (which : Which) (me : ℕ) (s : DirState) :
   pub there : folder_at s.namespace (in_prepared pod) ≡ Some folder
   pub held : list_any (is_held_elsewhere me which folder) s.namespace.openings ≡ true
 
--- a pod that was made for this process was made faithfully, of the images that are the store of the state before, and its folder is left in
--- run
+-- a pod that was made for this process was made faithfully, of the images that are the store of the state before, whose lock nobody else
+-- held exclusively then, and its folder is left in run; and nothing refused the references
 abbrev pub HasMadeAndLeft : Wants → ℕ → PodId → List Event → List Event → Type 0
 HasMadeAndLeft wants me draw old new =
-    OfReferences wants.images (λ refs. (x : IsPrepared refs wants.wishes me draw area.Run old new) × IsLeftInRun draw x.folder new × AreStore x.faithful.images (state_after old))
+    OfReferences wants.images (λ refs. (x : IsPrepared refs wants.wishes me draw area.Run old new) × IsLeftInRun draw x.folder new × AreStore x.faithful.images (state_after old)
+    × IsFreeElsewhere me area.Images Shared (state_after old) × NothingRefuses me draw refs wants.wishes (state_after old))
+
+-- what the folder of a claimed pod held in the state before, and what the maker of a pod made in its folder
+abbrev pub held_before : {pod : PodId} {me : ℕ} {old new : List Event} → HasPassed pod me old new → List Entry
+held_before {old = old} x = entries_in x.folder (state_after old).entries
+
+abbrev pub made_by : {refs : List ImageRef} {wishes : Wishes} {me : ℕ} {draw : PodId} {to : Area} {old new : List Event} → IsPrepared refs wishes me draw to old new → List Entry
+made_by x = x.faithful.built.making.entries
 
 -- the mark of an app stands in the folder with this number, and the file of its status with that alone
 pub record HasEnded (folder : ℕ) (s : DirState) (end : AppEnd) : Type 0 where
@@ -89,22 +100,20 @@ pub record TellsItsEnds (pod : PodId) (front : List ℕ) (trace : List Event) (t
   pub is : text ≡ front ++ app_lines ends
   pub stand : HasItsEnds pod ends trace
 
--- why a pod isn't claimed, by the state before, which asks for this and for nothing else
+-- why a pod isn't claimed, by the state before, which asks for this and for nothing else. No stray answer comes
 abbrev pub UnclaimedFor : PodId → ClaimError → ℕ → List Event → List Event → Type 0
 UnclaimedFor pod claim.NoPod me old new = IsConforming new → StandsNowhere pod (state_after old) × IsWhy pod claim.NoPod me (state_after old)
 UnclaimedFor pod (claim.WrongPhase phase) me old new = IsConforming new → HasPhaseNow pod phase old × IsWhy pod (claim.WrongPhase phase) me (state_after old)
 UnclaimedFor pod claim.NoManifest me old new = IsConforming new → LacksManifest pod (state_after old) × IsWhy pod claim.NoManifest me (state_after old)
 UnclaimedFor pod (claim.Busy other which) me old new = (other ≡ pod) × IsClaimHeld pod which me (state_after old) × (IsConforming new → IsWhy pod (claim.Busy pod which) me (state_after old))
+UnclaimedFor pod claim.Stray me old new = NeverComes new
 UnclaimedFor pod error me old new = Unit {0}
 
--- this refusal is one of the run of this pod
-abbrev pub IsRunRefusal : PodId → Refusal → Type 0
-IsRunRefusal pod refusal = (error : RunError) × (refusal ≡ run_refusal pod error)
-
--- a pod wasn't made for its run, for this cause, by the reads of its process and the store of the state before, or by a lock as another
--- process held it before. By its own answers the process left at most its own folder, in embryo or in prepare, without a lock
+-- a pod wasn't made for its run, for this cause, by the reads of its process and the locks and the store of the state before; where a lock
+-- was refused, another process held it before. By its own answers the process left at most its own folder, in embryo or in prepare, without a lock
 pub record IsUnmadeFor (wants : Wants) (now : ℕ) (draw : Draw) (old new : DirSeen) (refusal : Refusal) : Type 0 where
   pub why : RefusesPod wants now draw old new refusal
-  pub store : RefusesByStore wants refusal (state_after old.trace)
+  pub state : RefusesByState wants draw.uuid refusal old.process (state_after old.trace)
   pub held : (area : Area) → refusal ≡ Busy area → IsBusyElsewhere old.process area Shared (state_after old.trace)
+  pub lawful : refusal ≡ Stray → NeverComes new.trace
   pub left : HasKeptFolder draw.uuid old new

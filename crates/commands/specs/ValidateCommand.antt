@@ -31,7 +31,7 @@ validate_command path = record {
   refused_for = λ now draw refusal old new. (validate_refusal refusal ≡ true) × ValidateSays path old.outside.bundle (Err refusal);
   names = names_none;
   tells = λ now draw status old new. TellsJudgement path status old new;
-  quiet = λ now draw old new o. o ≡ sequential_validate path old.bundle.tree;
+  quiet = λ now draw old new o. o ≡ sequential_validate path old.outside.bundle.tree;
   leaves = λ me draw old new. new ≡ old;
   says = alone (λ now draw old new o. is_own_end o ≡ true → ValidateSays path old.bundle o);
 }

@@ -1,6 +1,6 @@
 -- What the reads of a file of the data folder tell of longer times, and of the whole file.
 use Rattle.std.proofs.Common.{◌≡◌, ◌⊎◌, inl, inr, ◌≤◌, ◌<◌, ◌↔◌, ℕ, ◌+◌, ◌-◌, Bool, true, false, IsTrue, Option, Some, IsErrOf, Result, Err, get_or, take, drop, List, [], ◌∷◌, ◌++◌, length, refl, sym, ap, subst, ◌∙◌, arith}
-use Rattle.std.proofs.lemmas.List.{drop_more, take-append-drop, length-append, length-take-le}
+use Rattle.std.proofs.lemmas.List.{drop_more, take_more, take-append-drop, length-append, length-take-le}
 use Rattle.sha2.specs.Sha512.{sha512}
 use Rattle.dir_model.specs.declared.event.Event.{Event}
 use Rattle.dir_model.specs.declared.item.Inner.{Inner}
@@ -11,6 +11,7 @@ use Rattle.dir_model.specs.declared.request.Request.TheVariants.{ReadIn}
 use Rattle.dir_model.specs.declared.request.Reply.TheVariants.{Read}
 use Rattle.dir_model.specs.Calls.{Extends, AtOwnStep}
 use Rattle.dir_model.specs.Replies.{may_refuse, is_fault, read_reply}
+use Rattle.dir_model.proofs.Lists.{all_push, all_weaker}
 use Rattle.dir_model.proofs.Moments.{at_after, at_before}
 use Rattle.dir_trait.specs.DirCalls.{DirAt, DirCall, ExtendsBy, HeldBetween}
 use Rattle.tree_digest.specs.declared.file_check.FileCheck.{FileCheck}
@@ -24,7 +25,7 @@ use Rattle.folder_building.specs.declared.plan.Content.TheVariants.{Directory, G
 use Rattle.folder_building.specs.Work.{Worked}
 use Rattle.folder_building.proofs.Reading.{image_path}
 use Rattle.folder_building.specs.Sources.{in_image}
-use Rattle.folder_building.specs.Stored.{OfStored, WasGone, Sees, ReadsPast, EndsCopy, ReadsOther, WasUnlike, LacksContent, LacksAt}
+use Rattle.folder_building.specs.Stored.{OfStored, WasGone, Sees, ReadsPast, EndsCopy, ReadsOther, WasUnlike, WasLike, HadContent, HadContents, LacksContent, LacksAt}
 
 -- a read was refused without a fault, so nothing stands there
 refused_missing : (inner : Inner) (at room : ℕ) (e : DirError) → may_refuse (ReadIn inner at room) e ≡ true → is_fault e ≡ false → e ≡ Missing
@@ -58,6 +59,11 @@ told_until : {asks : Request → Bool} (inner : Inner) {other me : ℕ} (old : L
 told_until inner old x [] some told same = absurd (some refl)
 told_until inner old x (p ∷ earlier) some told same = record { between = told.between; earlier = told.earlier; told = at_before told.told same x }
 
+-- where its end was read, something was
+short_some : (pieces : List Piece) → IsShort pieces → pieces ≡ [] → ⊥
+short_some [] short none = short
+short_some (p ∷ pieces) short none = cc
+
 -- where a file was told to be other than it should, something was read
 some_read : (size : ℕ) (P : Type 0) (bytes : List ℕ) (pieces : List Piece) → bytes ≡ joined pieces → (size < length bytes) ⊎ (IsShort pieces × P) → pieces ≡ [] → ⊥
 some_read size P bytes pieces whole (inl more) none = let long : size < length (joined pieces) = subst (λ (bs : List ℕ). size < length bs) whole more in by pieces none long
@@ -65,11 +71,7 @@ some_read size P bytes pieces whole (inl more) none = let long : size < length (
     by : (ps : List Piece) → ps ≡ [] → size < length (joined ps) → ⊥
     by [] none long = omega (arith, long)
     by (p ∷ ps) none long = cc
-some_read size P bytes pieces whole (inr ended) none = by pieces none ended.0
-  where
-    by : (ps : List Piece) → ps ≡ [] → IsShort ps → ⊥
-    by [] none short = short
-    by (p ∷ ps) none short = cc
+some_read size P bytes pieces whole (inr ended) none = short_some pieces ended.0 none
 
 module _ {asks : Request → Bool} (a b : DirAt) (x : ExtendsBy asks a b) (same : b.process ≡ a.process) where
   other_after : {inner : Inner} {size : ℕ} {sha : List ℕ} (c : DirAt) → ReadsOther inner size sha b c → ReadsOther inner size sha a c
@@ -91,8 +93,27 @@ module _ {asks : Request → Bool} (a b : DirAt) (x : ExtendsBy asks a b) (same 
   content_after stored (Given bytes) c h = h
   content_after stored (Copied origin size sha) c h = unlike_after c h
 
+  pub like_after : {stored : Option Inner} {size : ℕ} {sha : List ℕ} (c : DirAt) → WasLike stored size sha b c → WasLike stored size sha a c
+  like_after {stored} {size} {sha} c l inner is =
+      let r = l inner is in
+      record {
+        bytes = r.bytes;
+        reads = record { pieces = r.reads.pieces; whole = r.reads.whole; told = told_from a b x same inner c.trace r.reads.pieces (short_some r.reads.pieces r.ended) r.reads.told };
+        ended = r.ended;
+        sized = r.sized;
+        hashed = r.hashed;
+      }
+
+  had_after : (stored : Origin → Option Inner) (content : Content) (c : DirAt) → HadContent stored content b c → HadContent stored content a c
+  had_after stored Directory c h = h
+  had_after stored (Given bytes) c h = h
+  had_after stored (Copied origin size sha) c h = like_after c h
+
+  pub all_had_after : (stored : Origin → Option Inner) (plan : List PlanEntry) (c : DirAt) → HadContents stored plan b c → HadContents stored plan a c
+  all_had_after stored plan c h = all_weaker (λ (e : PlanEntry). HadContent stored e.content b c) (λ (e : PlanEntry). HadContent stored e.content a c) (λ e had. had_after stored e.content c had) plan h
+
   pub lacks_after : {stored : Origin → Option Inner} {plan : List PlanEntry} {n : ℕ} (c : DirAt) → LacksAt stored plan n b c → LacksAt stored plan n a c
-  lacks_after {stored} c l = record { before = l.before; entry = l.entry; rest = l.rest; is = l.is; place = l.place; lacks = content_after stored l.entry.content c l.lacks }
+  lacks_after {stored} c l = record { before = l.before; entry = l.entry; rest = l.rest; is = l.is; place = l.place; earlier = all_had_after stored l.before c l.earlier; lacks = content_after stored l.entry.content c l.lacks }
 
 module _ {asks : Request → Bool} (b c : DirAt) (x : ExtendsBy asks b c) where
   other_before : {inner : Inner} {size : ℕ} {sha : List ℕ} {a : DirAt} → b.process ≡ a.process → ReadsOther inner size sha a b → ReadsOther inner size sha a c
@@ -114,8 +135,27 @@ module _ {asks : Request → Bool} (b c : DirAt) (x : ExtendsBy asks b c) where
   content_before stored (Given bytes) a same h = h
   content_before stored (Copied origin size sha) a same h = unlike_before a same h
 
+  like_before : {stored : Option Inner} {size : ℕ} {sha : List ℕ} (a : DirAt) → b.process ≡ a.process → WasLike stored size sha a b → WasLike stored size sha a c
+  like_before {stored} {size} {sha} a same l inner is =
+      let r = l inner is in
+      record {
+        bytes = r.bytes;
+        reads = record { pieces = r.reads.pieces; whole = r.reads.whole; told = told_until inner a.trace x r.reads.pieces (short_some r.reads.pieces r.ended) r.reads.told same };
+        ended = r.ended;
+        sized = r.sized;
+        hashed = r.hashed;
+      }
+
+  had_before : (stored : Origin → Option Inner) (content : Content) (a : DirAt) → b.process ≡ a.process → HadContent stored content a b → HadContent stored content a c
+  had_before stored Directory a same h = h
+  had_before stored (Given bytes) a same h = h
+  had_before stored (Copied origin size sha) a same h = like_before a same h
+
+  pub all_had_before : (stored : Origin → Option Inner) (plan : List PlanEntry) (a : DirAt) → b.process ≡ a.process → HadContents stored plan a b → HadContents stored plan a c
+  all_had_before stored plan a same h = all_weaker (λ (e : PlanEntry). HadContent stored e.content a b) (λ (e : PlanEntry). HadContent stored e.content a c) (λ e had. had_before stored e.content a same had) plan h
+
   pub lacks_before : {stored : Origin → Option Inner} {plan : List PlanEntry} {n : ℕ} {a : DirAt} → b.process ≡ a.process → LacksAt stored plan n a b → LacksAt stored plan n a c
-  lacks_before {stored} {a = a} same l = record { before = l.before; entry = l.entry; rest = l.rest; is = l.is; place = l.place; lacks = content_before stored l.entry.content a same l.lacks }
+  lacks_before {stored} {a = a} same l = record { before = l.before; entry = l.entry; rest = l.rest; is = l.is; place = l.place; earlier = all_had_before stored l.before a same l.earlier; lacks = content_before stored l.entry.content a same l.lacks }
 
 -- one read in images
 image_same : (name path : List ℕ) (folder : Option (List ℕ)) (inner : Inner) → folder ≡ Some name → in_image path folder ≡ Some inner → image_path name path ≡ inner
@@ -192,14 +232,29 @@ unlike_ended {stored} {more} {check} {size} {sha} {at} {a} {b} matches over seen
       other = inr (s.ended over, λ long hashed. let found : matches ≡ true = (says size sha s.bytes s.taken).1 (long, hashed) in let clash : true ≡ false = sym found ∙ never in cc);
     })
 
+-- or it matches
+pub like_ended : {stored : Option Inner} {more : Bool} {check : FileCheck} {size : ℕ} {sha : List ℕ} {at : ℕ} {a b : DirAt} (matches : Bool) → more ≡ false → SeenSoFar stored more check size sha at a b → ((k : ℕ) (s message : List ℕ) → HasTaken check k s message → (IsTrue matches ↔ ((length message ≡ k) × (sha512 message ≡ s)))) → matches ≡ true → WasLike stored size sha a b
+like_ended {stored} {more} {check} {size} {sha} {at} {a} {b} matches over seen says found inner is =
+    let s = seen inner is in
+    let fits = (says size sha s.bytes s.taken).0 found in
+    record { bytes = s.bytes; reads = s.reads; ended = s.ended over; sized = fits.0; hashed = fits.1 }
+
+-- one entry more had its file
+pub had_next : {observed : Bool} {asks more : Request → Bool} (stored : Origin → Option Inner) (plan : List PlanEntry) (i : ℕ) (e : PlanEntry) (a b c : DirAt) → i < length plan → e ≡ get_or plan i e → observed ≡ true → Worked observed asks a b → Worked observed more b c → HadContents stored (take i plan) a b → HadContent stored e.content b c
+    → HadContents stored (take (i + 1) plan) a c
+had_next stored plan i e a b c within is t w x had one =
+    subst (λ (xs : List PlanEntry). HadContents stored xs a c) (sym (take_more plan i e within ∙ ap (λ (y : PlanEntry). take i plan ++ y ∷ []) (sym is)))
+    (all_push (λ (y : PlanEntry). HadContent stored y.content a c) (take i plan) e (all_had_before b c (x.extends t) stored (take i plan) a w.same had) (had_after a b (w.extends t) w.same stored e.content c one))
+
 -- the entry whose file it is
-pub lacks_at : {observed : Bool} {asks : Request → Bool} (stored : Origin → Option Inner) (plan : List PlanEntry) (i : ℕ) (e : PlanEntry) (a b c : DirAt) → i < length plan → e ≡ get_or plan i e → (n : ℕ) → n ≡ i → observed ≡ true → Worked observed asks a b → LacksContent stored e.content b c → LacksAt stored plan n a c
-lacks_at stored plan i e a b c within is n at t w lacks = record {
+pub lacks_at : {observed : Bool} {asks more : Request → Bool} (stored : Origin → Option Inner) (plan : List PlanEntry) (i : ℕ) (e : PlanEntry) (a b c : DirAt) → i < length plan → e ≡ get_or plan i e → (n : ℕ) → n ≡ i → observed ≡ true → Worked observed asks a b → Worked observed more b c → HadContents stored (take i plan) a b → LacksContent stored e.content b c → LacksAt stored plan n a c
+lacks_at stored plan i e a b c within is n at t w x had lacks = record {
   before = take i plan;
   entry = e;
   rest = drop (i + 1) plan;
   is = sym (take-append-drop i plan) ∙ ap (λ (xs : List PlanEntry). take i plan ++ xs) (drop_more plan i e within ∙ ap (λ (y : PlanEntry). y ∷ drop (i + 1) plan) (sym is));
   place = length-take-le i plan (omega (arith, within)) ∙ sym at;
+  earlier = all_had_before b c (x.extends t) stored (take i plan) a w.same had;
   lacks = content_after a b (w.extends t) w.same stored e.content c lacks;
 }
 

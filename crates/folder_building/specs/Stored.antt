@@ -1,5 +1,6 @@
 -- What the reads of a file of the data folder told while it was copied.
 use Rattle.std.specs.Prelude.{◌≡◌, ◌⊎◌, ◌<◌, ℕ, Option, Some, List, ◌∷◌, ◌++◌, length}
+use Rattle.std.specs.List.{AllByRecursion}
 use Rattle.sha2.specs.Sha512.{sha512}
 use Rattle.dir_model.specs.declared.item.Inner.{Inner}
 use Rattle.dir_trait.specs.DirCalls.{DirAt, HeldBetween}
@@ -41,17 +42,39 @@ pub record ReadsOther (inner : Inner) (size : ℕ) (sha : List ℕ) (old new : D
 abbrev pub WasUnlike : Option Inner → ℕ → List ℕ → DirAt → DirAt → Type 0
 WasUnlike stored size sha old new = OfStored stored (λ inner. WasMissing inner old new ⊎ ReadsOther inner size sha old new)
 
--- the file of a plan's entry was
+-- it was read to its end, and has this size and SHA-512
+pub record ReadsLike (inner : Inner) (size : ℕ) (sha : List ℕ) (old new : DirAt) : Type 0 where
+  pub bytes : List ℕ
+  pub reads : Reads inner old new bytes
+  pub ended : IsShort reads.pieces
+  pub sized : length bytes ≡ size
+  pub hashed : sha512 bytes ≡ sha
+
+abbrev pub WasLike : Option Inner → ℕ → List ℕ → DirAt → DirAt → Type 0
+WasLike stored size sha old new = OfStored stored (λ inner. ReadsLike inner size sha old new)
+
+-- the file of a plan's entry was, where one is copied
+abbrev pub HadContent : (Origin → Option Inner) → Content → DirAt → DirAt → Type 0
+HadContent stored Directory old new = Unit {0}
+HadContent stored (Given bytes) old new = Unit {0}
+HadContent stored (Copied origin size sha) old new = WasLike (stored origin) size sha old new
+
+-- those of all entries of a plan were
+abbrev pub HadContents : (Origin → Option Inner) → List PlanEntry → DirAt → DirAt → Type 0
+HadContents stored plan old new = AllByRecursion (λ e. HadContent stored e.content old new) plan
+
+-- the file of a plan's entry was missing, or is another
 abbrev pub LacksContent : (Origin → Option Inner) → Content → DirAt → DirAt → Type 0
 LacksContent stored Directory old new = ⊥
 LacksContent stored (Given bytes) old new = ⊥
 LacksContent stored (Copied origin size sha) old new = WasUnlike (stored origin) size sha old new
 
--- the one of the entry with this number
+-- the one of the entry with this number. Those of the entries before it were as the plan asks
 pub record LacksAt (stored : Origin → Option Inner) (plan : List PlanEntry) (n : ℕ) (old new : DirAt) : Type 0 where
   pub before : List PlanEntry
   pub entry : PlanEntry
   pub rest : List PlanEntry
   pub is : plan ≡ before ++ entry ∷ rest
   pub place : length before ≡ n
+  pub earlier : HadContents stored before old new
   pub lacks : LacksContent stored entry.content old new

@@ -5,7 +5,7 @@ ghost use Rattle.dir_trait.specs.Paths.{is_path};
 ghost use Rattle.dir_trait.specs.Local.{IsActive};
 ghost use Rattle.folder_building.specs.Work.{Worked, EndsStray, builds_at, either};
 ghost use Rattle.folder_building.specs.Sources.{Same, IsUnlike, UnlikeContent, UnlikeAt, IsLike, LikeContent, AreLike};
-ghost use Rattle.folder_building.specs.Stored.{WasUnlike, LacksContent, LacksAt};
+ghost use Rattle.folder_building.specs.Stored.{WasLike, WasUnlike, HadContent, HadContents, LacksContent, LacksAt};
 ghost use Rattle.folder_building.specs.Making.{Adds, Tries, FillsWith, Begins, CarriesOut};
 ghost use Rattle.folder_building.specs.Changes.{Makes, Refuses, Syncs, Unsyncs, Gives, Takes, TriesFile, TriesUnder, SyncsAll, UnsyncsAll};
 ghost use Rattle.folder_building.specs.Plans.{is_plan, has_origin};
@@ -124,6 +124,7 @@ fn add_copied<D: Dir, S: Source>(
     ensures stray { IsErrOf result BuildError.Stray → D.observed ≡ true
         → EndsStray (either (builds_at spot.now) (S.shown source.old).asks) (D.shown dir.old) (D.shown dir.new) }
     ensures like { IfOk result (λ done. IsLike (S.shown source.old) origin.now size sha) }
+    ensures had { IfOk result (λ done. D.observed ≡ true → WasLike (S.stored origin.now) size sha (D.shown dir.old) (D.shown dir.new)) }
     ensures done { IfOk result (λ done. Takes D.observed (S.shown source.old) spot.now path.now size sha (D.shown dir.old) (D.shown dir.new)) }
     ensures refused { IfErr result (λ e. D.observed ≡ true → TriesUnder (S.shown source.old) spot.now path.now (D.shown dir.old) (D.shown dir.new)) }
 {
@@ -152,6 +153,7 @@ fn add<D: Dir, S: Source>(
     ensures stray { IsErrOf result BuildError.Stray → D.observed ≡ true
         → EndsStray (either (builds_at spot.now) (S.shown source.old).asks) (D.shown dir.old) (D.shown dir.new) }
     ensures like { IfOk result (λ done. LikeContent (S.shown source.old) entry.now.content) }
+    ensures had { IfOk result (λ done. D.observed ≡ true → HadContent S.stored entry.now.content (D.shown dir.old) (D.shown dir.new)) }
     ensures done { IfOk result (λ done. Adds D.observed (S.shown source.old) spot.now entry.now (D.shown dir.old) (D.shown dir.new)) }
     ensures refused { IfErr result (λ e. D.observed ≡ true → Tries (S.shown source.old) spot.now entry.now (D.shown dir.old) (D.shown dir.new)) }
 {
@@ -184,6 +186,7 @@ fn add_all<D: Dir, S: Source>(
     ensures stray { IsErrOf result BuildError.Stray → D.observed ≡ true
         → EndsStray (either (builds_at spot.now) (S.shown source.old).asks) (D.shown dir.old) (D.shown dir.new) }
     ensures like { IfOk result (λ done. AreLike (S.shown source.old) plan.now) }
+    ensures had { IfOk result (λ done. D.observed ≡ true → HadContents S.stored plan.now (D.shown dir.old) (D.shown dir.new)) }
     ensures done { IfOk result (λ done. FillsWith D.observed (S.shown source.old) spot.now plan.now plan.now (D.shown dir.old) (D.shown dir.new)) }
     ensures refused { IfErr result (λ e. D.observed ≡ true → Begins (S.shown source.old) spot.now plan.now (D.shown dir.old) (D.shown dir.new)) }
 {
@@ -223,8 +226,8 @@ fn sync_all<D: Dir>(
 /// entry of the plan asks for, in their order, and then syncs every file, every directory and the
 /// folder itself. Each path of the plan is new, and its directory comes before it. A file that is
 /// copied is read to its end and checked by size and SHA-512 while it is copied: `Unlike` with the
-/// entry's number where it was missing at a read, or where what was read differs or goes on behind its
-/// size. `Stray` where the directory answered a change as if the folder weren't this process's own.
+/// number of the first entry whose file was missing at a read, or of which what was read differs or goes
+/// on behind its size. `Stray` where the directory answered a change as if the folder weren't this process's own.
 /// `SourceFault` where the source failed, `DirFault` where the directory did, `NoMemory` where memory ran
 /// out. A refused call leaves a beginning of the plan.
 pub fn carry_out<D: Dir, S: Source>(
@@ -245,6 +248,7 @@ pub fn carry_out<D: Dir, S: Source>(
     ensures stray { IsErrOf result BuildError.Stray → D.observed ≡ true
         → EndsStray (either (builds_at spot) (S.shown source.old).asks) (D.shown dir.old) (D.shown dir.new) }
     ensures like { IfOk result (λ done. AreLike (S.shown source.old) plan.now) }
+    ensures had { IfOk result (λ done. D.observed ≡ true → HadContents S.stored plan.now (D.shown dir.old) (D.shown dir.new)) }
     ensures done { IfOk result (λ done. CarriesOut D.observed (S.shown source.old) spot plan.now (D.shown dir.old) (D.shown dir.new)) }
     ensures refused { IfErr result (λ e. D.observed ≡ true → Begins (S.shown source.old) spot plan.now (D.shown dir.old) (D.shown dir.new)) }
 {

@@ -6,7 +6,7 @@ ghost use Rattle.dir_trait.specs.Local.{IsActive};
 ghost use Rattle.folder_building.specs.Work.{Worked, EndsStray, builds_at, either};
 ghost use Rattle.tree_digest.specs.FileChecks.{HasTaken};
 ghost use Rattle.folder_building.specs.Sources.{Same, ReadsOn, Reads, IsLonger, IsUnlike, IsLike};
-ghost use Rattle.folder_building.specs.Stored.{Sees, EndsCopy, WasUnlike};
+ghost use Rattle.folder_building.specs.Stored.{Sees, EndsCopy, WasLike, WasUnlike};
 ghost use Rattle.folder_building.specs.Making.{Appends, Writes, CopiesOn, Copies, Spoils, SpoilsUnder};
 
 use crate::error::{BuildError, build_error};
@@ -199,6 +199,7 @@ pub fn copy<D: Dir, S: Source>(
     ensures stray { IsErrOf result BuildError.Stray → D.observed ≡ true
         → EndsStray (either (builds_at spot.now) (S.shown source.old).asks) (D.shown dir.old) (D.shown dir.new) }
     ensures like { IfOk result (λ done. IsLike (S.shown source.old) origin.now size sha) }
+    ensures had { IfOk result (λ done. D.observed ≡ true → WasLike (S.stored origin.now) size sha (D.shown dir.old) (D.shown dir.new)) }
     ensures done { IfOk result (λ done. Copies D.observed (S.shown source.old) spot.now path.now size sha (D.shown dir.old) (D.shown dir.new)) }
     ensures refused { IfErr result (λ e. D.observed ≡ true → SpoilsUnder (S.shown source.old) spot.now path.now (D.shown dir.old) (D.shown dir.new)) }
 {

@@ -28,7 +28,7 @@ Root = codes "rootfs"
 abbrev tree_of : List ListingLine → List PlanEntry
 tree_of lines = tree_entries Root None Root lines
 
-absolute : (done lines : List ListingLine) → AllFollow done lines → AllByRecursion (λ l. IsAbsPath l.path) lines
+pub absolute : (done lines : List ListingLine) → AllFollow done lines → AllByRecursion (λ l. IsAbsPath l.path) lines
 absolute done [] f = tt
 absolute done (l ∷ lines) f = (f.0.line.path, absolute (done ++ l ∷ []) lines f.1)
 

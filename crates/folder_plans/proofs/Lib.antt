@@ -1,3 +1,3 @@
-mod Made
-mod Marks
-mod Images
+pub mod Made
+pub mod Marks
+pub mod Images

@@ -15,6 +15,7 @@ use Rattle.materialize.specs.Materialized.{file_bytes, has_bytes}
 use Rattle.materialize.specs.TreePlans.{entry_at}
 use Rattle.materialize.proofs.Among.{made_both}
 use Rattle.folder_plans.specs.ImagePlans.{given_file}
+use Rattle.materialize.proofs.Made.{filter_both, pieces_bytes}
 
 -- a plan after another
 pub plan_both : (before xs ys : List PlanEntry) → is_plan_after before xs ≡ true → is_plan_after (before ++ xs) ys ≡ true → is_plan_after before (xs ++ ys) ≡ true
@@ -66,7 +67,7 @@ none_passes t (e ∷ es) h = by (t e.path) (and_left (not (t e.path)) (list_all 
 abbrev pub is_elsewhere : List ℕ → List ℕ → Bool
 is_elsewhere path other = not (bytes_eq other path)
 
-filter_none : (path : List ℕ) (entries : List Entry) → list_any (is_at path) entries ≡ false → filter (is_at path) entries ≡ []
+pub filter_none : (path : List ℕ) (entries : List Entry) → list_any (is_at path) entries ≡ false → filter (is_at path) entries ≡ []
 filter_none path [] none = refl
 filter_none path (e ∷ es) none = by (is_at path e) none (filter_none path es)
   where
@@ -74,35 +75,23 @@ filter_none path (e ∷ es) none = by (is_at path e) none (filter_none path es)
     by true h rest = cc
     by false h rest = rest h
 
-filter_more : (path : List ℕ) (xs ys : List Entry) → filter (is_at path) (xs ++ ys) ≡ filter (is_at path) xs ++ filter (is_at path) ys
-filter_more path [] ys = refl
-filter_more path (x ∷ xs) ys = by (is_at path x) (filter_more path xs ys)
-  where
-    by : (b : Bool) → filter (is_at path) (xs ++ ys) ≡ filter (is_at path) xs ++ filter (is_at path) ys → cond b (x ∷ filter (is_at path) (xs ++ ys)) (filter (is_at path) (xs ++ ys)) ≡ cond b (x ∷ filter (is_at path) xs) (filter (is_at path) xs) ++ filter (is_at path) ys
-    by true rest = ap (λ es. x ∷ es) rest
-    by false rest = rest
-
 pub same_path : (path : List ℕ) → bytes_eq path path ≡ true
 same_path path = (bytes_eq-Decides path path).1 refl
 
-filter_own : (path : List ℕ) (pieces : List (List ℕ)) → filter (is_at path) (pieces_at path pieces) ≡ pieces_at path pieces
+pub filter_own : (path : List ℕ) (pieces : List (List ℕ)) → filter (is_at path) (pieces_at path pieces) ≡ pieces_at path pieces
 filter_own path [] = refl
 filter_own path (p ∷ ps) = rw (same_path path) (ap (λ rest. piece_at path p ∷ rest) (filter_own path ps))
 
-bytes_of_pieces : (path : List ℕ) (pieces : List (List ℕ)) → flat_map (λ (e : Entry). bytes_of e.node) (pieces_at path pieces) ≡ concat pieces
-bytes_of_pieces path [] = refl
-bytes_of_pieces path (p ∷ ps) = ap (λ bs. p ++ bs) (bytes_of_pieces path ps)
-
 bytes_own : (path : List ℕ) (pieces : List (List ℕ)) → file_bytes path (file_at path pieces) ≡ concat pieces
-bytes_own path pieces = rw (same_path path) (ap (flat_map (λ (e : Entry). bytes_of e.node)) (filter_own path pieces) ∙ bytes_of_pieces path pieces)
+bytes_own path pieces = rw (same_path path) (ap (flat_map (λ (e : Entry). bytes_of e.node)) (filter_own path pieces) ∙ pieces_bytes path pieces)
 
 bytes_among : (path : List ℕ) (xs ys zs : List Entry) → list_any (is_at path) xs ≡ false → list_any (is_at path) zs ≡ false → file_bytes path (xs ++ (ys ++ zs)) ≡ file_bytes path ys
 bytes_among path xs ys zs a b =
     ap (flat_map (λ (e : Entry). bytes_of e.node))
-    (filter_more path xs (ys ++ zs) ∙ (ap (λ l. l ++ filter (is_at path) (ys ++ zs)) (filter_none path xs a)
-    ∙ (filter_more path ys zs ∙ (ap (λ l. filter (is_at path) ys ++ l) (filter_none path zs b) ∙ append-nil (filter (is_at path) ys)))))
+    (filter_both path xs (ys ++ zs) ∙ (ap (λ l. l ++ filter (is_at path) (ys ++ zs)) (filter_none path xs a)
+    ∙ (filter_both path ys zs ∙ (ap (λ l. filter (is_at path) ys ++ l) (filter_none path zs b) ∙ append-nil (filter (is_at path) ys)))))
 
-there_among : (path : List ℕ) (xs zs : List Entry) (pieces : List (List ℕ)) → has_file path (xs ++ (file_at path pieces ++ zs)) ≡ true
+pub there_among : (path : List ℕ) (xs zs : List Entry) (pieces : List (List ℕ)) → has_file path (xs ++ (file_at path pieces ++ zs)) ≡ true
 there_among path xs zs pieces =
     list_any-append (λ e. not (is_dir e.node) && bytes_eq e.path path) xs (file_at path pieces ++ zs)
     ∙ or_last (has_file path xs) (has_file path (file_at path pieces ++ zs)) (rw (same_path path) refl)

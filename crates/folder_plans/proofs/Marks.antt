@@ -12,19 +12,19 @@ use Rattle.dir_rules.specs.Marks.{has_slash, parent, digits}
 use Rattle.folder_plans.specs.ImagePlans.{imported_mark}
 
 -- a byte of a plain name
-record IsPlain (b : ℕ) : Type 0 where
-  no_slash : (b == 47) ≡ false
-  no_nul : (b == 0) ≡ false
-  ascii : b < 128
+pub record IsPlain (b : ℕ) : Type 0 where
+  pub no_slash : (b == 47) ≡ false
+  pub no_nul : (b == 0) ≡ false
+  pub ascii : b < 128
 
-plain_digit : (n : ℕ) → n < 10 → IsPlain (48 + n)
+pub plain_digit : (n : ℕ) → n < 10 → IsPlain (48 + n)
 plain_digit n small = record { no_slash = grind (arith, nat_tests); no_nul = grind (arith, nat_tests); ascii = omega (arith, small) }
 
-plain_digits : (k n : ℕ) → AllByRecursion IsPlain (digits k n)
+pub plain_digits : (k n : ℕ) → AllByRecursion IsPlain (digits k n)
 plain_digits zero n = tt
 plain_digits (suc k) n = all_push IsPlain (digits k (n / 10)) (48 + n % 10) (plain_digits k (n / 10)) (plain_digit (n % 10) (mod-lt n (omega arith)))
 
-letter : (b : ℕ) → (b == 47) ≡ false → (b == 0) ≡ false → b < 128 → IsPlain b
+pub letter : (b : ℕ) → (b == 47) ≡ false → (b == 0) ≡ false → b < 128 → IsPlain b
 letter b s n a = record { no_slash = s; no_nul = n; ascii = a }
 
 plain_front : AllByRecursion IsPlain (codes "imported-")
@@ -33,11 +33,11 @@ plain_front = (letter 105 refl refl (omega arith), (letter 109 refl refl (omega 
 plain_mark : (now : ℕ) → AllByRecursion IsPlain (imported_mark now)
 plain_mark now = all_both IsPlain (codes "imported-") (digits 20 now) plain_front (plain_digits 20 now)
 
-no_slashes : (bs : List ℕ) → AllByRecursion IsPlain bs → has_slash bs ≡ false
+pub no_slashes : (bs : List ℕ) → AllByRecursion IsPlain bs → has_slash bs ≡ false
 no_slashes [] p = refl
 no_slashes (b ∷ bs) p = or_none (is_slash b) (has_slash bs) p.0.no_slash (no_slashes bs p.1)
 
-file_bytes : (bs : List ℕ) → AllByRecursion IsPlain bs → list_all is_file_byte bs ≡ true
+pub file_bytes : (bs : List ℕ) → AllByRecursion IsPlain bs → list_all is_file_byte bs ≡ true
 file_bytes [] p = refl
 file_bytes (b ∷ bs) p = and_both (is_file_byte b) (list_all is_file_byte bs) (rw (p.0.no_slash, p.0.no_nul) refl) (file_bytes bs p.1)
 

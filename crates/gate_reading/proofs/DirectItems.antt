@@ -17,14 +17,14 @@ use Rattle.gate_reading.specs.Listings.{has_direct, item_of, has_direct_item}
 use Rattle.dir_laws.proofs.Apps.{not_empty}
 
 -- a file name is a path of one name
-no_slash : (bs : List ℕ) → list_all is_file_byte bs ≡ true → list_any is_slash bs ≡ false
+pub no_slash : (bs : List ℕ) → list_all is_file_byte bs ≡ true → list_any is_slash bs ≡ false
 no_slash [] h = refl
 no_slash (b ∷ bs) h =
     or_none (is_slash b) (list_any is_slash bs)
     (not_true (b == 47) (and_left (not (b == 47)) (not (b == 0)) (and_left (is_file_byte b) (list_all is_file_byte bs) h)))
     (no_slash bs (and_right (is_file_byte b) (list_all is_file_byte bs) h))
 
-below_all : (x : ℕ) (xs : List ℕ) → lies_below (x ∷ xs) [] ≡ true
+pub below_all : (x : ℕ) (xs : List ℕ) → lies_below (x ∷ xs) [] ≡ true
 unfolding lies_below
 below_all x xs = ap not (not_empty x xs)
 

@@ -65,7 +65,7 @@ item_named es item h =
     (λ e is. and_left (bytes_eq e.path item.name) _ is) es
     (and_right (is_file_name item.name) (list_any (λ e. is_item item (item_of e)) es) h))
 
-same_test : (a b : Bool) → (a ≡ true → b ≡ true) → (b ≡ true → a ≡ true) → a ≡ b
+pub same_test : (a b : Bool) → (a ≡ true → b ≡ true) → (b ≡ true → a ≡ true) → a ≡ b
 same_test true b f g = sym (f refl)
 same_test false true f g = g refl
 same_test false false f g = refl

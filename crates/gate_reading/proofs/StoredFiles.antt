@@ -28,7 +28,7 @@ use Rattle.gate_reading.proofs.PlainPaths.{plain_own}
 abbrev is_file_at : List ℕ → Entry → Bool
 is_file_at path e = bytes_eq e.path path && not (is_dir e.node)
 
-has_file_is : (k : ℕ) (path : List ℕ) (es : List TreeEntry) → has_file es k path ≡ list_any (is_file_at path) (entries_in k es)
+pub has_file_is : (k : ℕ) (path : List ℕ) (es : List TreeEntry) → has_file es k path ≡ list_any (is_file_at path) (entries_in k es)
 has_file_is k path [] = refl
 has_file_is k path (x ∷ es) = by (x.folder == k) (has_file_is k path es)
   where
@@ -38,10 +38,10 @@ has_file_is k path (x ∷ es) = by (x.folder == k) (has_file_is k path es)
     by true go = ap (λ b. (bytes_eq x.path path && not (is_dir x.node)) || b) go
     by false go = go
 
-abbrev told : List ℕ → List Entry → Option (List ℕ)
+abbrev pub told : List ℕ → List Entry → Option (List ℕ)
 told path es = cond (list_any (is_file_at path) es) (Some (file_bytes path es)) None
 
-file_told : (k : ℕ) (path : List ℕ) (es : List TreeEntry) → bytes_in es path (Some k) ≡ told path (entries_in k es)
+pub file_told : (k : ℕ) (path : List ℕ) (es : List TreeEntry) → bytes_in es path (Some k) ≡ told path (entries_in k es)
 file_told k path es = ap (λ b. cond b (Some (content es k path)) None) (has_file_is k path es)
     ∙ ap (λ (l : List ℕ). cond (list_any (is_file_at path) (entries_in k es)) (Some l) None) (content_is k path es)
 

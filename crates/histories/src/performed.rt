@@ -6,7 +6,7 @@ use crate::steps::{process_of, whole_request};
 use conformance::keeps_rules;
 use dir_memory::MemoryDir;
 use dir_trait::{Dir, Event, Intent, Kind, NoMemory, Phase, PodId, PodPrefix, Reply, Request};
-use lifecycle::replay;
+use impossible_replies::replay;
 use phase_read::{Found, LookError, read_phase};
 use scripts::{Page, ShortNames, Unread, print_reply};
 use std::alloc::Global;

@@ -57,8 +57,9 @@ use Rattle.image_removal.specs.Requests.{incoming_spot, removed_spot}
 use Rattle.image_removal.specs.Causes.{change_refusal}
 use Rattle.image_removal.specs.Passes.{is_uuid, uuids, deals_with, deals_with_some}
 use Rattle.image_removal.specs.Sweeps.{WasListed}
+use Rattle.impossible_replies.proofs.StrayDeletions.{listing_knew, same_front, stray_step}
 use Rattle.image_removal.proofs.Lawful.{no_app_away}
-use Rattle.image_removal.proofs.Shown.{same_front, leaves_there, LeavesIt, shown_stands}
+use Rattle.image_removal.proofs.Shown.{leaves_there, LeavesIt, shown_stands}
 
 -- names in strict order are apart
 pub shown_among : (before later : List (List ℕ)) (name : List ℕ) → has_name (before ++ name ∷ later) name ≡ true
@@ -71,24 +72,6 @@ apart_from [] later name rise = refl
 apart_from (x ∷ before) later name rise =
     let less = (all_right (λ y. slice_cmp nat_cmp x y ≡ Less) before (name ∷ later) rise.0).0 in
     ap (λ b. b || has_name before name) (sym (is_eq-slice_cmp x name) ∙ ap is_eq less) ∙ apart_from before later name rise.1
-
--- such an answer is told by a step
-stray_late : (request : Request) (reply : Reply) → is_stray request reply ≡ true → is_late_reply request reply ≡ true → ⊥
-stray_late (ListIn i) (Refused Missing left) stray late = too_late (ListIn i) (Refused Missing left) refl late
-stray_late (RemoveFileIn i) (Refused Missing left) stray late = too_late (RemoveFileIn i) (Refused Missing left) refl late
-stray_late (RemoveDirIn i) (Refused Missing left) stray late = too_late (RemoveDirIn i) (Refused Missing left) refl late
-stray_late (RemoveDirIn i) (Refused NotEmpty left) stray late = too_late (RemoveDirIn i) (Refused NotEmpty left) refl late
-stray_late (RemoveFolder s) (Refused Missing left) stray late = too_late (RemoveFolder s) (Refused Missing left) refl late
-stray_late (RemoveFolder s) (Refused NotEmpty left) stray late = too_late (RemoveFolder s) (Refused NotEmpty left) refl late
-stray_late (ListIn i) (Items items) stray late = cc
-stray_late request reply stray late = cc
-
-took : {me : ℕ} {old new : List Event} (request : Request) (reply : Reply) → is_stray request reply ≡ true → (c : CallStep me old request reply new) → new ≡ c.before ++ event me request reply ∷ []
-took {me} {old} {new} request reply stray c = by c.own
-  where
-    by : TookPlace c.before me request reply new ⊎ LeftNothing c.before me request reply new → new ≡ c.before ++ event me request reply ∷ []
-    by (inl t) = t.grown
-    by (inr left) = absurd (stray_late request reply stray left.late)
 
 -- what deals with others leaves the folder
 deals_leave : (others : List (List ℕ)) (name : List ℕ) (request : Request) (reply : Reply) → has_name others name ≡ false → deals_with_some Delete others request ≡ true → leaves_there (removed_spot name) request reply ≡ true
@@ -129,13 +112,13 @@ module _ {me : ℕ} {from new : List Event} (name : List ℕ) (shown : WasListed
   last = event me k.request k.reply
 
   grown : new ≡ h ++ last ∷ []
-  grown = took k.request k.reply k.stray k.last
+  grown = stray_step k.request k.reply k.stray k.last
 
   abbrev deleted : List Event
   deleted = w.first.more ++ w.last.meanwhile.others
 
   begins : h ≡ from ++ deleted
-  begins = same_front h w.last.before last (event me w.request w.reply) (sym grown ∙ took w.request w.reply w.stray w.last)
+  begins = same_front h w.last.before last (event me w.request w.reply) (sym grown ∙ stray_step w.request w.reply w.stray w.last)
       ∙ (w.last.meanwhile.grown ∙ (ap (λ l. l ++ w.last.meanwhile.others) w.first.grown ∙ append_assoc from w.first.more w.last.meanwhile.others))
 
   abbrev since : List Event
@@ -189,18 +172,8 @@ module _ {me : ℕ} {from new : List Event} (name : List ℕ) (shown : WasListed
       x : Steps h me (ListIn inner) (Refused Missing left)
       x = steps h e law refl refl
 
-      tied : HasAsked (ListIn inner) me k.asked k.before → (z : Seen) × (IsTied me k.before z × ((z.items ≡ k.seen.items) × (z.standing ≡ k.seen.standing)))
-      tied (inl same) = (k.seen, (subst (λ l. IsTied me l k.seen) (sym same) k.knew, (refl, refl)))
-      tied (inr c) = (seen_replied k.seen (ListIn inner) Begun, (tied_call k.knew refl refl refl c, (refl, refl)))
-
       knew : ((seen_of me h).items ≡ k.seen.items) × ((seen_of me h).standing ≡ k.seen.standing)
-      knew =
-          let z = tied has in
-          let a = z.1.0.living (lived_meanwhile k.last.meanwhile x.living) in
-          let same : seen_of me h ≡ seen_of me k.before = meanwhile_unseen k.last.meanwhile in (
-            ap (λ (s : Seen). s.items) same ∙ (sym (ap (λ (s : Seen). s.items) a.same) ∙ z.1.1.0),
-            ap (λ (s : Seen). s.standing) same ∙ (sym (ap (λ (s : Seen). s.standing) a.same) ∙ z.1.1.1),
-          )
+      knew = listing_knew inner k.seen k.knew has k.last.meanwhile x.living
 
       there : (f : ℕ) × KeptAt me spot f h
       there =

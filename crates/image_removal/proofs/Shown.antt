@@ -41,9 +41,10 @@ use Rattle.folder_contents.proofs.Along.{happens}
 use Rattle.folder_contents.proofs.Places.{untaken, stands_there}
 use Rattle.impossible_replies.proofs.Alongside.{Steps, steps}
 use Rattle.impossible_replies.proofs.Earlier.{lives_earlier}
-use Rattle.impossible_replies.proofs.KeptFolders.{leaves_folders, IsQuiet, KeptAt, folder_kept}
+use Rattle.impossible_replies.proofs.KeptFolders.{leaves_folders, IsQuiet, KeptAt, folder_kept, noted_missing, some_same}
 use Rattle.impossible_replies.proofs.LongItems.{in_filter_map}
 use Rattle.impossible_replies.proofs.Removals.{missing_by}
+use Rattle.impossible_replies.proofs.StrayDeletions.{same_front}
 use Rattle.impossible_replies.proofs.Told.{listing_from}
 use Rattle.image_removal.specs.Requests.{removed_spot}
 
@@ -71,17 +72,6 @@ named_stands s name named = by (stands s.namespace (removed_spot name)) refl
 -- steps of others alone
 abbrev pub Others : ℕ → List Event → Type 0
 Others me es = AllByRecursion (λ e. is_foreign me e ≡ true) es
-
-pub same_front : {X : Type 0} (xs ys : List X) (x y : X) → xs ++ x ∷ [] ≡ ys ++ y ∷ [] → xs ≡ ys
-same_front [] [] x y e = refl
-same_front [] (b ∷ []) x y e = cc
-same_front [] (b ∷ c ∷ ys) x y e = cc
-same_front (a ∷ []) [] x y e = cc
-same_front (a ∷ b ∷ xs) [] x y e = cc
-same_front (a ∷ xs) (b ∷ ys) x y e =
-    let heads : a ≡ b = cc in
-    let tails : xs ++ x ∷ [] ≡ ys ++ y ∷ [] = cc in
-    ap (λ l. a ∷ l) (same_front xs ys x y tails) ∙ ap (λ z. z ∷ ys) heads
 
 -- after the one own step come those of others
 after_own : (me : ℕ) (xs ys us vs : List Event) (a b : Event) → is_foreign me a ≡ false → Others me us → Others me vs → xs ++ a ∷ ys ≡ us ++ b ∷ vs → Others me ys
@@ -126,14 +116,6 @@ same_standing spot k request reply on = cc
 never_begins : (spot : Spot) (request : Request) (reply : Reply) → leaves_there spot request reply ≡ true → not (is_begin request) ≡ true
 never_begins spot (Begin intent) reply on = cc
 never_begins spot request reply on = refl
-
-noted_missing : (st : DirState) (inner : Inner) (l : Listed) → missing_by inner (noted st l) ≡ missing_by inner l
-noted_missing st inner (listed.Area a through ever) = refl
-noted_missing st inner (listed.Missing here) = refl
-noted_missing st inner (listed.Inside here f through ever) = refl
-
-some_same : {X : Type 0} {x y : X} → Some x ≡ Some y → x ≡ y
-some_same e = cc
 
 begun_own : (st : DirState) (q : ℕ) (request : Request) (l : OpenListing) → begun st q request ≡ Some l → (l.process ≡ q) × (is_kill request ≡ false)
 begun_own st q (ListArea a) l is = (cc, refl)

@@ -22,11 +22,6 @@ use Rattle.lifecycle.proofs.Handles.{both, clash}
 use Rattle.folder_contents.proofs.Spots.{one_location}
 use Rattle.impossible_replies.proofs.Movers.{starts, moved_as}
 
-pub no_remover : (k : Kind) → is_maker k ≡ true → is_remover k ≡ true → ⊥
-no_remover kind.Prepare h j = cc
-no_remover kind.Run h j = cc
-no_remover k h j = cc
-
 pub no_starter : (k : Kind) → starts k ≡ true → is_remover k ≡ true → ⊥
 no_starter kind.Run h j = cc
 no_starter kind.RunPrepared h j = cc

@@ -28,7 +28,7 @@ use Rattle.lifecycle.specs.Executions.{IsConforming}
 use Rattle.lifecycle.proofs.Handles.{clash}
 use Rattle.folder_contents.proofs.Along.{conforming_to}
 use Rattle.folder_contents.proofs.Handed.{brought, asked}
-use Rattle.folder_contents.proofs.Guards.{kinds_apart}
+use Rattle.folder_contents.proofs.Guards.{kinds_apart, no_remover}
 use Rattle.impossible_replies.specs.Replies.{NoneIsImpossible, ForeignWritesAreApps, is_of_making}
 use Rattle.impossible_replies.proofs.Alongside.{Steps}
 use Rattle.impossible_replies.proofs.Apps.{making_plain}
@@ -43,7 +43,7 @@ use Rattle.impossible_replies.proofs.Removals.{removal_fine, directory_found}
 use Rattle.impossible_replies.proofs.Incoming.{Known, all_known, deleted_stands}
 use Rattle.impossible_replies.proofs.Citing.{is_building, building_its}
 use Rattle.impossible_replies.proofs.Movers.{starts}
-use Rattle.impossible_replies.proofs.Brought.{no_remover, no_starter, brought_as, owned_at}
+use Rattle.impossible_replies.proofs.Brought.{no_starter, brought_as, owned_at}
 use Rattle.impossible_replies.proofs.Noting.{is_noting, noting_plain, noting_fine}
 
 module _ (h : List Event) (p : ℕ) (conforming : IsConforming h) (known : Known (state_after h) p (seen_of p h)) (knows : Told (state_after h) p (seen_of p h)) where

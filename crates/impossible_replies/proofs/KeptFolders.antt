@@ -170,10 +170,10 @@ idle_takes spot (Begin intent) reply on = refl
 idle_takes spot Kill reply on = refl
 idle_takes spot request reply on = cc
 
-some_same : {X : Type 0} {x y : X} → Some x ≡ Some y → x ≡ y
+pub some_same : {X : Type 0} {x y : X} → Some x ≡ Some y → x ≡ y
 some_same e = cc
 
-noted_missing : (st : DirState) (inner : Inner) (l : Listed) → missing_by inner (noted st l) ≡ missing_by inner l
+pub noted_missing : (st : DirState) (inner : Inner) (l : Listed) → missing_by inner (noted st l) ≡ missing_by inner l
 noted_missing st inner (listed.Area a through ever) = refl
 noted_missing st inner (listed.Missing here) = refl
 noted_missing st inner (listed.Inside here f through ever) = refl

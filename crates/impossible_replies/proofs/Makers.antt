@@ -47,7 +47,7 @@ use Rattle.folder_contents.proofs.Places.{stands_there}
 use Rattle.folder_contents.proofs.Untouched.{removal_area}
 use Rattle.folder_contents.proofs.Knowledge.{FitsIn, Fits, apt}
 use Rattle.folder_contents.proofs.Known.{makers_know}
-use Rattle.folder_contents.proofs.Guards.{kinds_apart}
+use Rattle.folder_contents.proofs.Guards.{kinds_apart, no_remover}
 use Rattle.folder_contents.proofs.Handed.{brought, asked}
 use Rattle.impossible_replies.specs.Replies.{is_of_making}
 use Rattle.impossible_replies.proofs.Fits.{closes_fit}
@@ -60,11 +60,6 @@ no_gc : (k : Kind) → is_maker k ≡ true → is_gc k ≡ true → ⊥
 no_gc kind.Prepare h j = cc
 no_gc kind.Run h j = cc
 no_gc k h j = cc
-
-no_remover : (k : Kind) → is_maker k ≡ true → is_remover k ≡ true → ⊥
-no_remover kind.Prepare h j = cc
-no_remover kind.Run h j = cc
-no_remover k h j = cc
 
 no_closer : (k : Kind) → is_import k ≡ true → may_hold_gate k area.Incoming ≡ true → ⊥
 no_closer kind.ImageImport h j = cc

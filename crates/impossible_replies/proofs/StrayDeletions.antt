@@ -65,7 +65,7 @@ never_both true h = cc
 never_both false h = cc
 
 -- such an answer is told by a step
-stray_told : (request : Request) (reply : Reply) → is_stray request reply ≡ true → is_late_reply request reply ≡ true → ⊥
+pub stray_told : (request : Request) (reply : Reply) → is_stray request reply ≡ true → is_late_reply request reply ≡ true → ⊥
 stray_told (ListIn i) (Refused Missing left) stray late = never_both (left == 0) late
 stray_told (RemoveFileIn i) (Refused Missing left) stray late = never_both (left == 0) late
 stray_told (RemoveDirIn i) (Refused Missing left) stray late = never_both (left == 0) late
@@ -75,14 +75,14 @@ stray_told (RemoveFolder s) (Refused NotEmpty left) stray late = never_both (lef
 stray_told (ListIn i) (Items items) stray late = cc
 stray_told request reply stray late = cc
 
-stray_step : {me : ℕ} {old new : List Event} (request : Request) (reply : Reply) → is_stray request reply ≡ true → (c : CallStep me old request reply new) → new ≡ c.before ++ event me request reply ∷ []
+pub stray_step : {me : ℕ} {old new : List Event} (request : Request) (reply : Reply) → is_stray request reply ≡ true → (c : CallStep me old request reply new) → new ≡ c.before ++ event me request reply ∷ []
 stray_step {me} {old} {new} request reply stray c = by c.own
   where
     by : TookPlace c.before me request reply new ⊎ LeftNothing c.before me request reply new → new ≡ c.before ++ event me request reply ∷ []
     by (inl took) = took.grown
     by (inr left) = absurd (stray_told request reply stray left.late)
 
-same_front : {X : Type 0} (xs ys : List X) (x y : X) → xs ++ x ∷ [] ≡ ys ++ y ∷ [] → xs ≡ ys
+pub same_front : {X : Type 0} (xs ys : List X) (x y : X) → xs ++ x ∷ [] ≡ ys ++ y ∷ [] → xs ≡ ys
 same_front [] [] x y e = refl
 same_front [] (b ∷ []) x y e = cc
 same_front [] (b ∷ c ∷ ys) x y e = cc
@@ -98,7 +98,7 @@ all_two P Q R f [] ps qs = tt
 all_two P Q R f (x ∷ xs) ps qs = (f x ps.0 qs.0, all_two P Q R f xs ps.1 qs.1)
 
 -- what was known when a listing was asked for is what the events before its end say
-listing_knew : {me : ℕ} {asked before h : List Event} (inner : Inner) (s : Seen) → IsTied me asked s → HasAsked (ListIn inner) me asked before → Interference me before h → lives (state_after h).namespace me ≡ true →
+pub listing_knew : {me : ℕ} {asked before h : List Event} (inner : Inner) (s : Seen) → IsTied me asked s → HasAsked (ListIn inner) me asked before → Interference me before h → lives (state_after h).namespace me ≡ true →
     ((seen_of me h).items ≡ s.items) × ((seen_of me h).standing ≡ s.standing)
 listing_knew {me} {asked} {before} {h} inner s tied has m living = by has
   where

@@ -104,7 +104,7 @@ pub some_shared : (l : Option Mode) → is_shared l ≡ true → is_some l ≡ t
 some_shared (Some m) h = refl
 some_shared None h = cc
 
-shared_or_not : {X : Type 0} (l : Option Mode) → is_shared l ≡ true → is_exclusive l ≡ true → X
+pub shared_or_not : {X : Type 0} (l : Option Mode) → is_shared l ≡ true → is_exclusive l ≡ true → X
 shared_or_not (Some Shared) h k = cc
 shared_or_not (Some Exclusive) h k = cc
 shared_or_not None h k = cc

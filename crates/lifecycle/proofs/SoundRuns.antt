@@ -16,11 +16,11 @@ use Rattle.lifecycle.proofs.Lists.{in_filter, no_less}
 use Rattle.lifecycle.proofs.Handles.{Sound, fewer, more, lock_sound, lock_free, open_fresh, gate_fresh, is_due, both}
 use Rattle.dir_model.proofs.Lists.{and_both, any_push, not_true}
 
-grown_by : {X : Type 0} (xs : List X) (y : X) → length xs ≤ length (xs ++ y ∷ [])
+pub grown_by : {X : Type 0} (xs : List X) (y : X) → length xs ≤ length (xs ++ y ∷ [])
 grown_by [] y = omega arith
 grown_by (x ∷ xs) y = omega (arith, grown_by xs y)
 
-mapped_by : {X : Type 0} (f : X → X) (xs : List X) → length xs ≤ length (map f xs)
+pub mapped_by : {X : Type 0} (f : X → X) (xs : List X) → length xs ≤ length (map f xs)
 mapped_by f [] = omega arith
 mapped_by f (x ∷ xs) = omega (arith, mapped_by f xs)
 

@@ -12,4 +12,4 @@ pub use grip::Grip;
 pub use laws::{beginnings, folders, readings, removals, some_execution, transitions};
 pub use machine::{PodState, Transition};
 pub use one_pod::replay_pod;
-pub use pods::{PodEntry, PodMachine, replay};
+pub use pods::{PodEntry, PodMachine, pods_after};

@@ -44,7 +44,7 @@ filter_none path (e ∷ es) none = by (is_at path e) none (filter_none path es)
     by true h rest = cc
     by false h rest = rest h
 
-filter_both : (path : List ℕ) (xs ys : List Entry) → filter (is_at path) (xs ++ ys) ≡ filter (is_at path) xs ++ filter (is_at path) ys
+pub filter_both : (path : List ℕ) (xs ys : List Entry) → filter (is_at path) (xs ++ ys) ≡ filter (is_at path) xs ++ filter (is_at path) ys
 filter_both path [] ys = refl
 filter_both path (x ∷ xs) ys = by (is_at path x) (filter_both path xs ys)
   where
@@ -95,7 +95,7 @@ pieces_of : (path : List ℕ) (pieces : List (List ℕ)) → AllOf path (pieces_
 pieces_of path [] = tt
 pieces_of path (p ∷ ps) = (refl, pieces_of path ps)
 
-pieces_bytes : (path : List ℕ) (pieces : List (List ℕ)) → flat_map (λ (e : Entry). bytes_of e.node) (pieces_at path pieces) ≡ concat pieces
+pub pieces_bytes : (path : List ℕ) (pieces : List (List ℕ)) → flat_map (λ (e : Entry). bytes_of e.node) (pieces_at path pieces) ≡ concat pieces
 pieces_bytes path [] = refl
 pieces_bytes path (p ∷ ps) = ap (λ bs. p ++ bs) (pieces_bytes path ps)
 

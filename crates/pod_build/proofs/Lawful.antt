@@ -52,8 +52,8 @@ made_never {observed} {draw} {entries} {start} {end} {old} {new} fails part t co
 
 pub never_refused : {observed : Bool} {refs : List ImageRef} {options : Wishes} (draw : Draw) {now : ℕ} {old new : DirAt} → IsRefused observed refs options draw now Stray old new → observed ≡ true → IsConforming new.trace → ⊥
 never_refused draw (inl gate) t conforming = gate_never gate.0 gate.1
-never_refused draw (inr (inl x)) t conforming = plan_never x.3.0 x.3.1
-never_refused draw (inr (inr x)) t conforming = made_never x.2.3 x.2.2 t conforming
+never_refused draw (inr (free, inl x)) t conforming = plan_never x.3.0 x.3.1
+never_refused draw (inr (free, inr x)) t conforming = made_never x.2.3 x.2.2 t conforming
 
 pub refused_stray : {observed : Bool} (refs : List ImageRef) (options : Wishes) (draw : Draw) (now : ℕ) (old new : DirAt) (r : Result Built BuildError) → IfErr r (λ e. IsRefused observed refs options draw now e old new) → IsErrOf r Stray
     → observed ≡ true → IsConforming new.trace → ⊥

@@ -6,7 +6,7 @@ use Rattle.dir_trait.specs.DirCalls.{DirAt}
 use Rattle.pod_manifest.specs.Wishes.{Wishes}
 use Rattle.pod_making.proofs.Times.{Follows}
 use Rattle.pod_build.specs.declared.error.BuildError.{BuildError}
-use Rattle.pod_build.specs.Causes.{IsPartOf, During, IsRefusedUnderLock}
+use Rattle.pod_build.specs.Causes.{IsPartOf, During, IsMadeByPlan, IsRefusedUnderLock}
 
 -- a part of what lies in the whole
 pub part_within : {observed : Bool} {s e a b c d : DirAt} → observed ≡ true → Follows observed a b → Follows observed c d → IsPartOf s e b c → IsPartOf s e a d
@@ -42,3 +42,8 @@ pub refused_within : {observed : Bool} {refs : List ImageRef} {options : Wishes}
     → IsRefusedUnderLock observed refs options draw now e b c → IsRefusedUnderLock observed refs options draw now e a d
 refused_within draw ab cd (inl x) = inl (x.0, x.1, λ t. part_within t ab cd (x.2 t), x.3)
 refused_within draw ab cd (inr x) = inr (x.0, (x.1.0, x.1.1, λ t. part_within t ab cd (x.1.2 t), x.1.3), (x.2.0, x.2.1, λ t. part_within t ab cd (x.2.2 t), x.2.3))
+
+-- and a making by a plan
+pub made_within : {observed : Bool} {refs : List ImageRef} {options : Wishes} (draw : Draw) {now : ℕ} {a b c d : DirAt} → Follows observed a b → Follows observed c d → IsMadeByPlan observed refs options draw now b c
+    → IsMadeByPlan observed refs options draw now a d
+made_within draw ab cd x = (x.0, (x.1.0, x.1.1, λ t. part_within t ab cd (x.1.2 t), x.1.3), (x.2.0, x.2.1, λ t. part_within t ab cd (x.2.2 t), x.2.3))

@@ -26,7 +26,7 @@ use Rattle.dir_rules.specs.LockRules.{is_open_on}
 use Rattle.dir_rules.specs.Conforms.{seen_replied}
 use Rattle.dir_trait.specs.DirCalls.{DirAt, HeldBetween, ExtendsBy}
 use Rattle.dir_trait.specs.Knowledge.{Knows}
-use Rattle.area_locks.specs.AreaLocks.{takes, closes, and_lock, on_gate, with_gate, shared_given, MayLock, IsBusyElsewhere}
+use Rattle.area_locks.specs.AreaLocks.{takes, closes, and_lock, on_gate, with_gate, shared_given, MayLock, IsBusyElsewhere, IsFreeElsewhere}
 use Rattle.area_locks.specs.declared.error.LockError.{LockError}
 use Rattle.area_locks.specs.declared.error.LockError.TheVariants as lock
 use Rattle.area_locks.proofs.Locking.{unlocked_same}
@@ -54,7 +54,7 @@ use Rattle.pod_build.specs.declared.making.Built.{Built}
 use Rattle.pod_build.specs.declared.making.Built.TheVariants as built
 use Rattle.pod_build.specs.Answers.{target, IsAnswer, with_built, held_with}
 use Rattle.pod_build.specs.Refusals.{gate_refusal, plan_refusal, IsMakeRefusal}
-use Rattle.pod_build.specs.Causes.{FailsMaking, IsHeldElsewhere}
+use Rattle.pod_build.specs.Causes.{FailsMaking, FindsImagesFree, IsHeldElsewhere}
 use Rattle.pod_build.specs.Requests.{prepares, prepares_under_lock}
 use Rattle.pod_build.specs.Preparations.{Began, IsAlone, HasGateAlone}
 
@@ -142,6 +142,11 @@ knows_read {a} {b} {intent} {hs} gate alone still k = subst (λ (l : List Held).
 pub elsewhere_within : {observed : Bool} {e : BuildError} (a b c d : DirAt) → observed ≡ true → Follows observed a b → c.process ≡ b.process → Follows observed c d → IsHeldElsewhere e b c → IsHeldElsewhere e a d
 elsewhere_within {observed} {e} a b c d t ab same cd x area is =
     at_before (at_after (ab.extends t) ab.same (subst (λ (me : ℕ). HeldBetween b c (IsBusyElsewhere me area Shared)) ab.same (x area is))) (same ∙ ab.same) (cd.extends t)
+
+-- and the lock of images, which was free
+pub free_within : {observed : Bool} {first last : Request → Bool} (a b c d : DirAt) → b.process ≡ a.process → c.process ≡ b.process → (observed ≡ true → ExtendsBy first b c) → (observed ≡ true → ExtendsBy last c d)
+    → (observed ≡ true → HeldBetween a b (IsFreeElsewhere a.process Images Shared)) → FindsImagesFree observed a d
+free_within a b c d ab bc first last free t = at_before (at_before (free t) ab (first t)) (bc ∙ ab) (last t)
 
 -- the lock of images is given back
 module _ (a b c d : DirAt) (gate : Handle) (draw : PodId) (unopened : IsUnopened a.local gate) (lock_is : b.local ≡ and_lock a.local gate Images Shared) (close_is : d.local ≡ without c.local gate) where

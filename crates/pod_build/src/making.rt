@@ -6,7 +6,7 @@ ghost use Rattle.pod_making.specs.Requests.{makes_pod};
 ghost use Rattle.pod_making.specs.Progress.{nothing_made};
 ghost use Rattle.pod_making.specs.Work.{MayMake, UnderImages, From, HasOwnFolder, Went};
 ghost use Rattle.pod_build.specs.Answers.{target, with_built, held_with, IsAnswer};
-ghost use Rattle.pod_build.specs.Causes.{FailsMaking, IsHeldElsewhere};
+ghost use Rattle.pod_build.specs.Causes.{FailsMaking, FollowsPlan, IsHeldElsewhere};
 ghost use Rattle.pod_making.specs.Makings.{HasMade};
 ghost use Rattle.pod_making.specs.Handovers.{HandsOverMade};
 
@@ -41,6 +41,7 @@ pub(crate) fn make<D: Dir>(
     ensures refused { IfErr result (λ e. FailsMaking D.observed draw plan.now e (D.shown dir.old) (D.shown dir.new)) }
     ensures another { IfErr result (λ e. D.observed ≡ true → From (MayMake (target keep_owner) plan.now draw) (UnderImages draw) nothing_made (D.shown dir.old)
         (λ intent hs. IsHeldElsewhere e (D.shown dir.old) (D.shown dir.new))) }
+    ensures followed { IfOk result (λ built. D.observed ≡ true → FollowsPlan draw plan.now (D.shown dir.old) (D.shown dir.new)) }
     ensures made { IfOk result (λ built. D.observed ≡ true → From (MayMake (target keep_owner) plan.now draw) (UnderImages draw) nothing_made (D.shown dir.old)
         (λ intent hs. HasMade draw (target keep_owner) plan.now intent (held_with draw built hs) (D.shown dir.old) (D.shown dir.new))) }
     ensures whole { D.observed ≡ true → From (MayMake (target keep_owner) plan.now draw) (UnderImages draw) nothing_made (D.shown dir.old)

@@ -9,7 +9,7 @@ ghost use Rattle.pod_making.specs.Progress.{nothing_made};
 ghost use Rattle.pod_making.specs.Work.{From, HasOwnFolder, Went};
 ghost use Rattle.pod_build.specs.Requests.{prepares, prepares_under_lock};
 ghost use Rattle.pod_build.specs.Answers.{target, with_built, held_with, IsAnswer};
-ghost use Rattle.pod_build.specs.Causes.{IsRefused, IsRefusedUnderLock, IsHeldElsewhere};
+ghost use Rattle.pod_build.specs.Causes.{IsRefused, IsRefusedUnderLock, IsHeldElsewhere, IsMadeByPlan, FindsImagesFree};
 ghost use Rattle.pod_build.specs.Preparations.{Began, IsAlone, HasGateAlone, HasPrepared, KnowsPrepared, HandsOverPlanned, IsHandedOver, IsPrepared, MakesFaithfully};
 
 use crate::error::{BuildError, gate_refusal, plan_refusal};
@@ -40,6 +40,7 @@ fn prepare_under_lock<D: Dir>(
     ensures refused { IfErr result (λ e. IsRefusedUnderLock D.observed refs.now options.now draw.now now e (D.shown dir.old) (D.shown dir.new)) }
     ensures another { IfErr result (λ e. D.observed ≡ true → From (Began (target keep_owner) draw.now now) (HasGateAlone gate) nothing_made (D.shown dir.old)
         (λ intent hs. IsHeldElsewhere e (D.shown dir.old) (D.shown dir.new))) }
+    ensures planned { IfOk result (λ built. IsMadeByPlan D.observed refs.now options.now draw.now now (D.shown dir.old) (D.shown dir.new)) }
     ensures prepared { IfOk result (λ built. D.observed ≡ true → From (Began (target keep_owner) draw.now now) (HasGateAlone gate) nothing_made (D.shown dir.old)
         (λ intent hs. HasPrepared refs.now options.now draw.now now (target keep_owner) intent (held_with draw.now.uuid built hs) (D.shown dir.old) (D.shown dir.new))) }
     ensures whole { D.observed ≡ true → From (Began (target keep_owner) draw.now now) (HasGateAlone gate) nothing_made (D.shown dir.old)
@@ -80,9 +81,11 @@ pub fn prepare<D: Dir>(
     ensures went { Went D.observed (prepares draw.now.uuid (target keep_owner)) (with_built (D.shown dir.old).local draw.now.uuid result) (D.shown dir.old) (D.shown dir.new) }
     ensures answer { IfOk result (IsAnswer keep_owner draw.now.uuid (D.shown dir.old).local) }
     ensures fault { IsErrOf result BuildError.DirFault → Rose (D.shown dir.old).faults (D.shown dir.new).faults }
+    ensures free { IfOk result (λ built. FindsImagesFree D.observed (D.shown dir.old) (D.shown dir.new)) }
     ensures refused { IfErr result (λ e. IsRefused D.observed refs.now options.now draw.now now e (D.shown dir.old) (D.shown dir.new)) }
     ensures another { IfErr result (λ e. D.observed ≡ true → From (Began (target keep_owner) draw.now now) IsAlone nothing_made (D.shown dir.old)
         (λ intent hs. IsHeldElsewhere e (D.shown dir.old) (D.shown dir.new))) }
+    ensures planned { IfOk result (λ built. IsMadeByPlan D.observed refs.now options.now draw.now now (D.shown dir.old) (D.shown dir.new)) }
     ensures prepared { IfOk result (λ built. D.observed ≡ true → IsConforming (D.shown dir.new).trace
         → From (Began (target keep_owner) draw.now now) IsAlone nothing_made (D.shown dir.old)
         (λ intent hs. IsPrepared refs.now options.now (D.shown dir.old).process draw.now.uuid (target keep_owner) (D.shown dir.old).trace (D.shown dir.new).trace)) }

@@ -109,7 +109,7 @@ missing_by : (r : DirError) → is_error Missing (Some r) ≡ true → Some r �
 missing_by Missing is = refl
 missing_by _ is = cc
 
-is_missing : (o : Option DirError) → is_error Missing o ≡ true → o ≡ Some Missing
+pub is_missing : (o : Option DirError) → is_error Missing o ≡ true → o ≡ Some Missing
 is_missing None is = cc
 is_missing (Some r) is = missing_by r is
 
@@ -121,7 +121,7 @@ pub missed_open : {me : ℕ} {old new : List Event} (pod : PodId) (which : Which
 missed_open {me} {old} {new} pod which s = step_at me old (Open (in_prepared pod) which) (Refused Missing 0) new (CannotOpen pod which) refl refl
     (λ s allowed. cannot_open s me pod which (allowed_reply s me (Open (in_prepared pod) which) (Refused Missing 0) allowed)) s
 
-from_missing : (b to : Bool) → is_error Missing (cond b (cond to (Some Exists) None) (Some Missing)) ≡ true → b ≡ false
+pub from_missing : (b to : Bool) → is_error Missing (cond b (cond to (Some Exists) None) (Some Missing)) ≡ true → b ≡ false
 from_missing true true is = cc
 from_missing true false is = cc
 from_missing false to is = refl

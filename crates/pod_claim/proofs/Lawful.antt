@@ -21,7 +21,7 @@ use Rattle.pod_claim.specs.Work.{Grew}
 use Rattle.pod_claim.specs.Causes.{IsAbsent, MissedTwice, WasBarred, ClaimCause}
 use Rattle.pod_claim.proofs.Reading.{Moment, later_is, reading_grew}
 
-conforms_before : {a b : List Event} → Grew a b → IsConforming b → IsConforming a
+pub conforms_before : {a b : List Event} → Grew a b → IsConforming b → IsConforming a
 conforms_before {a} {b} g conforming = conforming_left a g.more (subst IsConforming g.grown conforming)
 
 grew_at : {me : ℕ} {a b : List Event} {P : DirState → Type 0} → AtOwnStep me a b P → Grew a b

@@ -82,7 +82,7 @@ pub follows_taken : {observed : Bool} {pod : PodId} {n : ℕ} {l : Local} {a b :
 follows_taken w still = record { same = w.same; faults = w.faults; grown = λ t. record { more = (w.extends t).more; grown = (w.extends t).grown }; still = still }
 
 -- Own can't be opened where no folder stands
-none_there : (es : List TreeEntry) (o : Option ℕ) → refused_in (open_refusal Own) es o ≡ Some Missing → is_some o ≡ false
+pub none_there : (es : List TreeEntry) (o : Option ℕ) → refused_in (open_refusal Own) es o ≡ Some Missing → is_some o ≡ false
 none_there es None is = refl
 none_there es (Some folder) is = cc
 

@@ -46,7 +46,7 @@ off_one Claim spot (target.Gate a) is = cc
 pub off : (which : Which) (spot : Spot) (hs : List Held) → list_any is_on_folder hs ≡ false → is_open_on (target_of spot which) hs ≡ false
 off which spot hs apart = any_fewer (λ h. is_same_target (target_of spot which) h.target) is_on_folder (λ h is. off_one which spot h.target is) hs apart
 
-kind_one : (which : Which) (t : Target) → is_lock which t ≡ true → not (is_gate t) ≡ true
+pub kind_one : (which : Which) (t : Target) → is_lock which t ≡ true → not (is_gate t) ≡ true
 kind_one Own (target.Own here) is = refl
 kind_one Own (target.Claim here) is = cc
 kind_one Own (target.Gate a) is = cc
@@ -58,7 +58,7 @@ none_kind : (which : Which) (hs : List Held) → list_any is_on_folder hs ≡ fa
 none_kind which hs apart = any_fewer (λ h. is_lock which h.target) is_on_folder (λ h is. kind_one which h.target is) hs apart
 
 -- what changes handles on folders alone changes none of its
-map_gates : (f : Held → Held) → ((h : Held) → not (is_gate h.target) ≡ false → f h ≡ h) → (hs : List Held) → list_any is_on_folder hs ≡ false → map f hs ≡ hs
+pub map_gates : (f : Held → Held) → ((h : Held) → not (is_gate h.target) ≡ false → f h ≡ h) → (hs : List Held) → list_any is_on_folder hs ≡ false → map f hs ≡ hs
 map_gates f same [] apart = refl
 map_gates f same (h ∷ hs) apart = by (not (is_gate h.target)) refl apart (λ rest. map_gates f same hs rest)
   where
@@ -71,7 +71,7 @@ gate_own name (target.Own spot) g = cc
 gate_own name (target.Claim spot) g = cc
 gate_own name (target.Gate a) g = refl
 
-gate_cover : (h : Handle) (whole : List Held) (t : Target) → not (is_gate t) ≡ false → gives_up_cover h whole t ≡ false
+pub gate_cover : (h : Handle) (whole : List Held) (t : Target) → not (is_gate t) ≡ false → gives_up_cover h whole t ≡ false
 gate_cover h whole (target.Own spot) g = cc
 gate_cover h whole (target.Claim spot) g = cc
 gate_cover h whole (target.Gate a) g = refl

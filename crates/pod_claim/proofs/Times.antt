@@ -39,7 +39,7 @@ at_part {me} {other} {a} {b} {c} {d} {P} ab same cd at = at_within ab.more cd.mo
 pub deeds_part : {me other : ℕ} {a b c d : List Event} {deeds : List Deed} → Grew a b → other ≡ me → Grew c d → InOrder other b c deeds → InOrder me a d deeds
 deeds_part {me} {other} {a} {b} {c} {d} {deeds} ab same cd o = deeds_before (deeds_after ab (subst (λ (p : ℕ). InOrder p b c deeds) same o)) cd
 
-alone_part : {pod : PodId} {me other : ℕ} {a b c d : List Event} → Grew a b → other ≡ me → Grew c d → OpensOwnAlone pod other b c → OpensOwnAlone pod me a d
+pub alone_part : {pod : PodId} {me other : ℕ} {a b c d : List Event} → Grew a b → other ≡ me → Grew c d → OpensOwnAlone pod other b c → OpensOwnAlone pod me a d
 alone_part ab same cd o = record { between = o.between; closed = at_part ab same grown_none o.closed; there = at_part grown_none same cd o.there }
 
 pub held_part : {pod : PodId} {which : Which} {me other : ℕ} {a b c d : List Event} → Grew a b → other ≡ me → Grew c d → HeldByAnother pod which other b c → HeldByAnother pod which me a d

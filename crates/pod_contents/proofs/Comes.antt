@@ -1,5 +1,5 @@
 -- What stands in prepared and in run was handed over by its maker, and lasts.
-use Rattle.std.proofs.Common.{arith, ◌≡◌, ◌⊎◌, inl, inr, ◌<◌, ℕ, Bool, true, false, Option, Some, None, unwrap_or, List, [], ◌∷◌, ◌++◌, append_assoc, refl, sym, ap, subst, ◌∙◌}
+use Rattle.std.proofs.Common.{◌≡◌, ◌⊎◌, inl, inr, ◌<◌, ℕ, Bool, true, false, Some, None, unwrap_or, List, [], ◌∷◌, ◌++◌, append_assoc, refl, sym, ap, subst, ◌∙◌}
 use Rattle.dir_model.specs.declared.area.Area.{Area}
 use Rattle.dir_model.specs.declared.area.Area.TheVariants.{Prepare, Prepared, Run}
 use Rattle.dir_model.specs.declared.event.Event.{Event}
@@ -8,7 +8,7 @@ use Rattle.dir_model.specs.declared.request.Request.{Request}
 use Rattle.dir_model.specs.declared.request.Request.TheVariants.{MakeFolder, MoveFolder, RemoveFolder, Open, OpenArea}
 use Rattle.dir_model.specs.declared.request.Reply.{Reply}
 use Rattle.dir_model.specs.declared.request.Reply.TheVariants.{Done, Opened, Refused}
-use Rattle.dir_model.specs.State.{Namespace, DirState, folder_at, spot_eq}
+use Rattle.dir_model.specs.State.{DirState, folder_at, spot_eq}
 use Rattle.dir_model.specs.Trace.{state_after, namespace_replied}
 use Rattle.dir_model.specs.Calls.{is_kill, event}
 use Rattle.dir_model.proofs.Chains.{state_after-push}
@@ -28,18 +28,13 @@ use Rattle.folder_contents.proofs.Handed.{brought, handed}
 use Rattle.folder_contents.proofs.Spots.{one_location}
 use Rattle.pod_contents.specs.Filled.{is_filled, lasting, lasting_after, IsFilled, PodsAreFilled}
 use Rattle.pod_contents.proofs.Steps.{lasts}
+use Rattle.folder_contents.proofs.LeftThere.{none_found}
 
 -- how a folder comes to stand at a location: it stood there, was made there, or was moved there
 abbrev Came : Spot → ℕ → DirState → Request → Reply → Type 0
 Came spot folder st request reply =
     (folder_at st.namespace spot ≡ Some folder) ⊎
     ((new : Spot) × ((new ≡ spot) × ((request ≡ MakeFolder new) ⊎ ((from : Spot) × ((request ≡ MoveFolder from new) × (reply ≡ Done))))))
-
-none_found : {X : Type 0} (o : Option ℕ) (folder : ℕ) → o ≡ None → o ≡ Some folder → X
-none_found o folder e f = absurd (never (sym e ∙ f))
-  where
-    never : None ≡ Some folder → ⊥
-    never h = cc
 
 came : (st : DirState) (p : ℕ) (request : Request) (reply : Reply) (spot : Spot) (folder : ℕ) →
     folder_at (namespace_replied st.namespace p request reply) spot ≡ Some folder → Came spot folder st request reply

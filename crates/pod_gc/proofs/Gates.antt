@@ -21,8 +21,8 @@ use Rattle.area_locks.proofs.Locking.{unlocked_same}
 use Rattle.folder_building.specs.Work.{Worked}
 use Rattle.pod_steps.specs.Holding.{is_in_garbage, Keeps, KeepsReady, Stays}
 use Rattle.pod_steps.proofs.Calls.{Follows}
-use Rattle.pod_steps.proofs.Knowing.{new_number}
-use Rattle.pod_steps.proofs.Seen.{none_of_filter}
+use Rattle.pod_claim.proofs.Knowing.{new_number}
+use Rattle.pod_claim.proofs.OwnOpenings.{none_fails}
 use Rattle.pod_claim.proofs.Traces.{grown_by}
 use Rattle.pod_gc.specs.declared.ages.Times.{Times}
 use Rattle.pod_gc.specs.declared.line.Deed.TheVariants.{BusyGate}
@@ -52,7 +52,7 @@ module _ (s z : Seen) (h : Handle) (k : Keeps (with_gate s h Embryo (Some Exclus
   inside = ap (λ (hs : List Held). let r : Seen = record z { standing = record z.standing { holdings = hs } } in r) k.holdings
 
   given_keeps : Keeps s (exclusive_given Embryo Inner)
-  given_keeps = record { intent = k.intent; holdings = refl; kept = k.kept; bare = none_of_filter is_in_garbage _ z.items k.bare }
+  given_keeps = record { intent = k.intent; holdings = refl; kept = k.kept; bare = none_fails is_in_garbage _ z.items k.bare }
 
 pub ready_under : {now expire : ℕ} {a b c d : DirAt} {h : Handle} → IsUnopened a.local h → ((s : Seen) → Knows a s → MayLock s Embryo Exclusive → Knows b (with_gate s h Embryo (Some Exclusive)))
     → Stays (MayPass Embryo now expire) b (λ s. KeepsReady s c)

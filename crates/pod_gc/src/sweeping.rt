@@ -56,8 +56,8 @@ fn pass_each<D: Dir>(
 /// let be.
 ///
 /// `Stray` where the directory's answers contradict each other or what a lock keeps: while every process
-/// keeps the local rules, only where a program that outlived its pod writes on; `DirFault` where it failed; `NoMemory` where memory ran out. Then each pod is whole or in a garbage place. No lock is held
-/// afterwards.
+/// keeps the local rules, only where a program that outlived its pod writes on; `DirFault` where it failed;
+/// `NoMemory` where memory ran out. Then each pod is whole or in a garbage place. No lock is held afterwards.
 pub fn gc<D: Dir>(
     alloc: Global,
     dir: &mut D,

@@ -24,10 +24,10 @@ use Rattle.dir_rules.specs.declared.seen.Entry.{Entry}
 use Rattle.dir_rules.specs.declared.seen.Seen.{Seen}
 use Rattle.dir_rules.specs.Conforms.{Agrees, IsTied}
 use Rattle.dir_rules.proofs.Tied.{meanwhile_unseen, lived_meanwhile}
-use Rattle.dir_trait.specs.DirCalls.{DirAt, DirCall, HeldBetween}
+use Rattle.dir_trait.specs.DirCalls.{DirAt, DirCall, ExtendsBy, HeldBetween}
 use Rattle.area_locks.specs.declared.error.LockError.{LockError}
 use Rattle.area_locks.specs.declared.error.LockError.TheVariants as lock
-use Rattle.area_locks.specs.AreaLocks.{IsBusy}
+use Rattle.area_locks.specs.AreaLocks.{IsBusy, takes}
 use Rattle.folder_building.specs.declared.error.BuildError.{BuildError}
 use Rattle.folder_building.specs.declared.error.BuildError.TheVariants as build
 use Rattle.folder_building.specs.declared.plan.PlanEntry.{PlanEntry}
@@ -40,13 +40,13 @@ use Rattle.folder_building.specs.Work.{Worked, EndsStray, is_stray, builds_at, e
 use Rattle.folder_building.proofs.Working.{worked_call, at_spot}
 use Rattle.pod_making.specs.declared.error.MakeError.TheVariants.{Busy, Taken, Unlike, DirFault, Stray}
 use Rattle.pod_making.specs.Refusals.{change_refusal, lock_refusal, make_refusal, build_refusal}
-use Rattle.pod_making.specs.Requests.{pod_at, begins_pod, hands_pod, hands_on, fills_pod, shows_taken, shows_changed, is_taken}
+use Rattle.pod_making.specs.Requests.{pod_at, begins_pod, hands_pod, hands_on, fills_pod, shows_taken, shows_changed, area_before}
 use Rattle.pod_making.specs.Progress.{holding}
-use Rattle.pod_making.specs.Causes.{WasOpenedThere, ShowsTaken, LosesPod, is_copied, IsCopiedAt, WorkCause, MakeCause}
+use Rattle.pod_making.specs.Causes.{WasOpenedThere, ShowsTaken, LosesPod, is_copied, IsCopiedAt, WorkCause, EmbryoCause, MakeCause}
 use Rattle.pod_making.specs.Makings.{HasMoved}
 use Rattle.pod_making.specs.Handovers.{is_handed_to}
 use Rattle.dir_model.proofs.Chains.{nothing_yet, and_call}
-use Rattle.pod_making.proofs.Times.{Follows, answered_self}
+use Rattle.pod_making.proofs.Times.{Follows, embryo_cause, nothing_follows}
 
 -- the same call, by what its spots are
 pub with_spot : {observed : Bool} {old new : DirAt} {a b : Spot} {reply : Reply} (request : Spot → Request) → a ≡ b → DirCall observed old (request a) reply new → DirCall observed old (request b) reply new
@@ -55,6 +55,15 @@ with_spot {observed} {old} {new} {a} {b} {reply} request is c = subst (λ (s : S
 pub with_spots : {observed : Bool} {old new : DirAt} {from from' to to' : Spot} {reply : Reply} → from ≡ from' → to ≡ to' → DirCall observed old (MoveFolder from to) reply new → DirCall observed old (MoveFolder from' to') reply new
 with_spots {observed} {old} {new} {from} {from'} {to} {to'} {reply} a b c =
     subst (λ (t : Spot). DirCall observed old (MoveFolder from' t) reply new) b (subst (λ (f : Spot). DirCall observed old (MoveFolder f to) reply new) a c)
+
+-- a spot, by what its area is
+pub in_area : {spot : Spot} {area here : Area} (draw : PodId) → spot ≡ pod_at area draw → area ≡ here → spot ≡ pod_at here draw
+in_area draw at is = at ∙ ap (λ (a : Area). pod_at a draw) is
+
+pub before_handed : (to : Area) → is_handed_to to ≡ true → area_before to ≡ Prepare
+before_handed Prepared is = refl
+before_handed Run is = refl
+before_handed to is = cc
 
 -- one call follows
 pub follows_call : {observed : Bool} {request : Request} {reply : Reply} {a b : DirAt} → DirCall observed a request reply b → Follows observed a b
@@ -101,11 +110,11 @@ change_fault dir.NoMemory is = cc
 change_fault e is = cc
 
 -- a call on what this process has made was refused
-pub change_cause : {observed : Bool} {draw : PodId} {old new : DirAt} (e : DirError) → (e ≡ Failed → Rose old.faults new.faults) → WorkCause observed draw [] (change_refusal e) old new
-change_cause {observed} {draw} {old} {new} e fault = record {
+pub change_cause : {observed : Bool} {old new : DirAt} (e : DirError) → (e ≡ Failed → Rose old.faults new.faults) → WorkCause observed [] (change_refusal e) old new
+change_cause {observed} {old} {new} e fault = record {
   calm = change_calm e;
+  untaken = change_untaken e;
   fault = λ is. fault (change_fault e is);
-  taken = λ is. absurd (change_untaken e is);
   unlike = λ place is. absurd (change_like e place is);
   lacks = λ place is. absurd (change_like e place is);
 }
@@ -158,20 +167,23 @@ module _ (observed : Bool) (draw : PodId) (old new : DirAt) where
   abbrev Refusal : DirError → Type 0
   Refusal e = DirCall observed old (MakeFolder (pod_at Embryo draw)) (Refused e 0) new
 
-  pub make_cause : (e : DirError) → (e ≡ Failed → Rose old.faults new.faults) → Refusal e → WorkCause observed draw [] (make_refusal e) old new
-  make_cause Exists fault c = record { calm = λ is. cc; fault = λ is. cc; taken = λ is t. answered_self (is_taken draw) (at_spot (pod_at Embryo draw)) (c.step t); unlike = λ place is. cc; lacks = λ place is. cc }
-  make_cause Missing fault c = change_cause Missing fault
-  make_cause NotEmpty fault c = change_cause NotEmpty fault
-  make_cause Locked fault c = change_cause Locked fault
-  make_cause Failed fault c = change_cause Failed fault
-  make_cause dir.NoMemory fault c = change_cause dir.NoMemory fault
+  changed : (e : DirError) → (e ≡ Failed → Rose old.faults new.faults) → EmbryoCause observed draw (change_refusal e) old new
+  changed e fault = embryo_cause nothing_follows (change_cause e fault)
+
+  pub make_cause : (e : DirError) → (e ≡ Failed → Rose old.faults new.faults) → Refusal e → EmbryoCause observed draw (make_refusal e) old new
+  make_cause Exists fault c = record { calm = λ is. cc; fault = λ is. cc; taken = λ is t. record { after = new.trace; later = []; asks = c.step t; ends = sym (append-nil new.trace) }; like = λ place is. cc }
+  make_cause Missing fault c = changed Missing fault
+  make_cause NotEmpty fault c = changed NotEmpty fault
+  make_cause Locked fault c = changed Locked fault
+  make_cause Failed fault c = changed Failed fault
+  make_cause dir.NoMemory fault c = changed dir.NoMemory fault
 
 -- the lock of embryo was refused
-pub lock_cause : {observed : Bool} {draw : PodId} {old new : DirAt} (e : LockError) → (e ≡ lock.Busy → observed ≡ true → HeldBetween old new (IsBusy Embryo Shared)) → (e ≡ lock.DirFault → Rose old.faults new.faults)
+pub lock_cause : {observed : Bool} {draw : PodId} {old new : DirAt} (e : LockError) → (e ≡ lock.Busy → observed ≡ true → HeldBetween old new (IsBusy Embryo Shared)) → (observed ≡ true → ExtendsBy (takes Embryo Shared) old new) → (e ≡ lock.DirFault → Rose old.faults new.faults)
     → MakeCause observed draw [] (lock_refusal e) old new
-lock_cause lock.Busy busy fault = record { busy = λ is. busy refl; fault = λ is. cc; taken = λ is. cc; unlike = λ place is. cc; lacks = λ place is. cc; stray = λ is. cc }
-lock_cause lock.DirFault busy fault = record { busy = λ is. cc; fault = λ is. fault refl; taken = λ is. cc; unlike = λ place is. cc; lacks = λ place is. cc; stray = λ is. cc }
-lock_cause lock.NoMemory busy fault = record { busy = λ is. cc; fault = λ is. cc; taken = λ is. cc; unlike = λ place is. cc; lacks = λ place is. cc; stray = λ is. cc }
+lock_cause lock.Busy busy alone fault = record { busy = λ is. busy refl; alone = λ is. alone; fault = λ is. cc; taken = λ is. cc; unlike = λ place is. cc; made = λ place is. cc; lacks = λ place is. cc; stray = λ is. cc }
+lock_cause lock.DirFault busy alone fault = record { busy = λ is. cc; alone = λ is. cc; fault = λ is. fault refl; taken = λ is. cc; unlike = λ place is. cc; made = λ place is. cc; lacks = λ place is. cc; stray = λ is. cc }
+lock_cause lock.NoMemory busy alone fault = record { busy = λ is. cc; alone = λ is. cc; fault = λ is. cc; taken = λ is. cc; unlike = λ place is. cc; made = λ place is. cc; lacks = λ place is. cc; stray = λ is. cc }
 
 -- the folder wasn't filled
 changed_more : (draw : PodId) (request : Request) (reply : Reply) → fills_pod draw request ≡ true → is_stray request reply ≡ true → shows_changed draw request reply ≡ true
@@ -241,12 +253,12 @@ build_stray build.NoMemory is = cc
 never_rose : Rose 0 0 → ⊥
 never_rose r = omega (arith, r)
 
-pub fill_cause : {observed : Bool} {draw : PodId} {old new : DirAt} (plan : List PlanEntry) (source : SourceAt) (e : BuildError) → (e ≡ build.DirFault → Rose old.faults new.faults) → (e ≡ build.SourceFault → Rose 0 0)
-    → ((place : ℕ) → e ≡ build.Unlike place → UnlikeAt source plan place) → ((place : ℕ) → e ≡ build.Unlike place → observed ≡ true → LacksAt in_images plan place old new) → WorkCause observed draw plan (build_refusal e) old new
-fill_cause {observed} {draw} {old} {new} plan source e fault failed unlike lacks = record {
+pub fill_cause : {observed : Bool} {old new : DirAt} (plan : List PlanEntry) (source : SourceAt) (e : BuildError) → (e ≡ build.DirFault → Rose old.faults new.faults) → (e ≡ build.SourceFault → Rose 0 0)
+    → ((place : ℕ) → e ≡ build.Unlike place → UnlikeAt source plan place) → ((place : ℕ) → e ≡ build.Unlike place → observed ≡ true → LacksAt in_images plan place old new) → WorkCause observed plan (build_refusal e) old new
+fill_cause {observed} {old} {new} plan source e fault failed unlike lacks = record {
   calm = build_calm e;
+  untaken = build_untaken e;
   fault = λ is. by (build_fault e is);
-  taken = λ is. absurd (build_untaken e is);
   unlike = λ place is. copied_at (unlike place (build_like e place is));
   lacks = λ place is. lacks place (build_like e place is);
 }

@@ -1,8 +1,10 @@
 -- What came about in a part of a time came about in the whole.
 use Rattle.std.proofs.Common.{◌≡◌, inl, inr, ◌≤◌, ℕ, Bool, true, List, [], ◌∷◌, ◌++◌, refl, sym, ap, subst, ◌∙◌, append-nil, append_assoc, arith}
 use Rattle.dir_model.specs.declared.event.Event.{Event}
+use Rattle.dir_model.specs.declared.area.Area.TheVariants.{Embryo}
 use Rattle.dir_model.specs.declared.intent.Intent.{Intent}
 use Rattle.dir_model.specs.declared.pod.PodId.{PodId}
+use Rattle.dir_model.specs.declared.spot.Mode.TheVariants.{Shared}
 use Rattle.dir_model.specs.declared.spot.Spot.{Spot}
 use Rattle.dir_model.specs.declared.request.Request.{Request}
 use Rattle.dir_model.specs.declared.request.Request.TheVariants.{MoveFolder}
@@ -12,18 +14,20 @@ use Rattle.dir_model.specs.Calls.{CallStep, Extends, event}
 use Rattle.dir_model.specs.Causes.{Rose}
 use Rattle.dir_model.specs.Local.{Local}
 use Rattle.dir_model.proofs.Chains.{nothing_yet, and_more, extends_wider}
+use Rattle.dir_model.proofs.Moments.{at_before}
 use Rattle.dir_rules.specs.declared.seen.Entry.{Entry}
-use Rattle.dir_trait.specs.DirCalls.{DirAt, ExtendsBy}
+use Rattle.dir_trait.specs.DirCalls.{DirAt, ExtendsBy, HeldBetween}
 use Rattle.folder_building.specs.declared.plan.PlanEntry.{PlanEntry}
 use Rattle.folder_building.specs.Work.{Worked}
 use Rattle.pod_making.specs.declared.error.MakeError.{MakeError}
 use Rattle.pod_making.specs.declared.error.MakeError.TheVariants.{Stray}
+use Rattle.area_locks.specs.AreaLocks.{IsFreeElsewhere, takes}
 use Rattle.folder_building.specs.Sources.{in_images}
 use Rattle.folder_building.specs.Stored.{LacksAt}
 use Rattle.folder_building.proofs.Stored.{lacks_after, lacks_before}
-use Rattle.pod_making.specs.Requests.{locks_own, is_taken, is_brought, shows_changed}
+use Rattle.pod_making.specs.Requests.{locks_own, is_brought, shows_changed}
 use Rattle.pod_making.specs.Work.{Went}
-use Rattle.pod_making.specs.Causes.{WasAnswered, IsCopiedAt, WorkCause, MakeCause, ShowsTaken, LosesEmbryo, WasTakenMade, WasThenAnswered, MakesEmbryo, BringsPod, LosesPod, LosesOwn}
+use Rattle.pod_making.specs.Causes.{WasAnswered, IsCopiedAt, WorkCause, EmbryoCause, MakeCause, AsksFirst, AsksFolder, HasMadeFolder, ShowsTaken, LosesEmbryo, WasTakenMade, WasThenAnswered, MakesEmbryo, BringsPod, LosesPod, LosesOwn}
 use Rattle.pod_making.specs.Makings.{HasMoved}
 
 -- calls, whatever they leave open
@@ -83,20 +87,20 @@ answered_before answers {asks} {me} {other} {a} {b} {c} w bc = record {
 }
 
 -- the cause of a refusal
-pub cause_after : {observed : Bool} {draw : PodId} {plan : List PlanEntry} {e : MakeError} {a b c : DirAt} → Follows observed a b → WorkCause observed draw plan e b c → WorkCause observed draw plan e a c
-cause_after {observed} {draw} {plan} {e} {a} {b} {c} ab w = record {
+pub cause_after : {observed : Bool} {plan : List PlanEntry} {e : MakeError} {a b c : DirAt} → Follows observed a b → WorkCause observed plan e b c → WorkCause observed plan e a c
+cause_after {observed} {plan} {e} {a} {b} {c} ab w = record {
   calm = w.calm;
+  untaken = w.untaken;
   fault = λ is. rose_later a.faults b.faults c.faults ab.faults (w.fault is);
-  taken = λ is t. answered_after (is_taken draw) (ab.extends t) ab.same (w.taken is t);
   unlike = w.unlike;
   lacks = λ place is t. lacks_after a b (ab.extends t) ab.same c (w.lacks place is t);
 }
 
-pub cause_before : {observed : Bool} {draw : PodId} {plan : List PlanEntry} {e : MakeError} {a b c : DirAt} → b.process ≡ a.process → WorkCause observed draw plan e a b → Follows observed b c → WorkCause observed draw plan e a c
-cause_before {observed} {draw} {plan} {e} {a} {b} {c} same w bc = record {
+pub cause_before : {observed : Bool} {plan : List PlanEntry} {e : MakeError} {a b c : DirAt} → b.process ≡ a.process → WorkCause observed plan e a b → Follows observed b c → WorkCause observed plan e a c
+cause_before {observed} {plan} {e} {a} {b} {c} same w bc = record {
   calm = w.calm;
+  untaken = w.untaken;
   fault = λ is. rose_still a.faults b.faults c.faults (w.fault is) bc.faults;
-  taken = λ is t. answered_before (is_taken draw) (w.taken is t) (bc.extends t);
   unlike = w.unlike;
   lacks = λ place is t. lacks_before b c (bc.extends t) same (w.lacks place is t);
 }
@@ -171,14 +175,59 @@ none_lacking place u = by u.before u.is
     by [] is = cc
     by (x ∷ xs) is = cc
 
-pub cause_planned : {observed : Bool} {draw : PodId} {e : MakeError} {a b : DirAt} (plan : List PlanEntry) → WorkCause observed draw [] e a b → WorkCause observed draw plan e a b
-cause_planned plan w = record { calm = w.calm; fault = w.fault; taken = w.taken; unlike = λ place is. absurd (none_copied place (w.unlike place is)); lacks = λ place is t. absurd (none_lacking place (w.lacks place is t)) }
+pub cause_planned : {observed : Bool} {e : MakeError} {a b : DirAt} (plan : List PlanEntry) → WorkCause observed [] e a b → WorkCause observed plan e a b
+cause_planned plan w = record { calm = w.calm; untaken = w.untaken; fault = w.fault; unlike = λ place is. absurd (none_copied place (w.unlike place is)); lacks = λ place is t. absurd (none_lacking place (w.lacks place is t)) }
 
 pub make_planned : {observed : Bool} {draw : PodId} {e : MakeError} {a b : DirAt} (plan : List PlanEntry) → MakeCause observed draw [] e a b → MakeCause observed draw plan e a b
-make_planned plan w = record { busy = w.busy; fault = w.fault; taken = w.taken; unlike = λ place is. absurd (none_copied place (w.unlike place is)); lacks = λ place is t. absurd (none_lacking place (w.lacks place is t)); stray = w.stray }
+make_planned plan w = record {
+  busy = w.busy;
+  alone = w.alone;
+  fault = w.fault;
+  taken = w.taken;
+  unlike = λ place is. absurd (none_copied place (w.unlike place is));
+  made = w.made;
+  lacks = λ place is t. absurd (none_lacking place (w.lacks place is t));
+  stray = w.stray;
+}
 
-pub calm_cause : {observed : Bool} {draw : PodId} {plan : List PlanEntry} {e : MakeError} {a b : DirAt} → (e ≡ Stray → observed ≡ true → LosesOwn draw a b) → WorkCause observed draw plan e a b → MakeCause observed draw plan e a b
-calm_cause stray w = record { busy = λ is. absurd (w.calm is); fault = w.fault; taken = w.taken; unlike = w.unlike; lacks = w.lacks; stray = stray }
+-- its first call was to make the folder
+first_before : {draw : PodId} {reply : Reply} {asks : Request → Bool} {me other : ℕ} {a b c : List Event} → AsksFirst draw reply me a b → Extends asks other b c → AsksFirst draw reply me a c
+first_before w bc = record { after = w.after; later = w.later ++ bc.more; asks = w.asks; ends = bc.grown ∙ (ap (λ h. h ++ bc.more) w.ends ∙ append_assoc w.after w.later bc.more) }
+
+pub folder_before : {draw : PodId} {reply : Reply} {asks : Request → Bool} (a b c : DirAt) → AsksFolder draw reply a b → b.process ≡ a.process → ExtendsBy asks b c → AsksFolder draw reply a c
+folder_before a b c w same bc = record { free = at_before w.free same bc; locked = w.locked; locks = w.locks; first = first_before w.first bc }
+
+-- the lock of embryo was had before
+abbrev HadLock : DirAt → DirAt → Type 0
+HadLock a b = HeldBetween a b (IsFreeElsewhere a.process Embryo Shared)
+
+pub folder_asked : {draw : PodId} {reply : Reply} {asks : Request → Bool} (a b c : DirAt) → HadLock a b → ExtendsBy (takes Embryo Shared) a b → b.process ≡ a.process → ExtendsBy asks b c → AsksFirst draw reply b.process b.trace c.trace → AsksFolder draw reply a c
+folder_asked {draw} {reply} a b c free locks same bc first = record { free = at_before free same bc; locked = b.trace; locks = locks; first = subst (λ (me : ℕ). AsksFirst draw reply me b.trace c.trace) same first }
+
+-- the causes of longer parts
+pub embryo_cause : {observed : Bool} {draw : PodId} {e : MakeError} {a b c : DirAt} → Follows observed a b → WorkCause observed [] e b c → EmbryoCause observed draw e a c
+embryo_cause {observed} {draw} {e} {a} {b} {c} ab w = record {
+  calm = w.calm;
+  fault = λ is. rose_later a.faults b.faults c.faults ab.faults (w.fault is);
+  taken = λ is. absurd (w.untaken is);
+  like = λ place is. none_copied place (w.unlike place is);
+}
+
+pub locked_cause : {observed : Bool} {draw : PodId} {e : MakeError} (a b c d : DirAt) → Follows observed a b → (observed ≡ true → HadLock a b) → (observed ≡ true → ExtendsBy (takes Embryo Shared) a b) → Follows observed b c → Follows observed c d
+    → (e ≡ Stray → observed ≡ true → LosesOwn draw a d) → EmbryoCause observed draw e b c → MakeCause observed draw [] e a d
+locked_cause a b c d ab free locks bc cd stray w = record {
+  busy = λ is. absurd (w.calm is);
+  alone = λ is. absurd (w.calm is);
+  fault = λ is. rose_still a.faults c.faults d.faults (rose_later a.faults b.faults c.faults ab.faults (w.fault is)) cd.faults;
+  taken = λ is t. folder_before a c d (folder_asked a b c (free t) (locks t) ab.same (bc.extends t) (w.taken is t)) (bc.same ∙ ab.same) (cd.extends t);
+  unlike = λ place is. absurd (w.like place is);
+  made = λ place is. absurd (w.like place is);
+  lacks = λ place is. absurd (w.like place is);
+  stray = stray;
+}
+
+pub calm_cause : {observed : Bool} {draw : PodId} {plan : List PlanEntry} {e : MakeError} {a b : DirAt} → (observed ≡ true → HasMadeFolder draw a b) → (e ≡ Stray → observed ≡ true → LosesOwn draw a b) → WorkCause observed plan e a b → MakeCause observed draw plan e a b
+calm_cause made stray w = record { busy = λ is. absurd (w.calm is); alone = λ is. absurd (w.calm is); fault = w.fault; taken = λ is. absurd (w.untaken is); unlike = w.unlike; made = λ place is. made; lacks = w.lacks; stray = stray }
 
 -- work after work, and what is open then
 pub went_after : {observed : Bool} {asks : Request → Bool} {a b c : DirAt} (after : Local → Local) → Worked observed asks a b → Went observed asks (after b.local) b c → Went observed asks (after a.local) a c

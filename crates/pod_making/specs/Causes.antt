@@ -5,14 +5,15 @@ use Rattle.dir_model.specs.declared.event.Event.{Event}
 use Rattle.dir_model.specs.declared.pod.PodId.{PodId}
 use Rattle.dir_model.specs.declared.spot.Mode.TheVariants.{Shared}
 use Rattle.dir_model.specs.declared.request.Reply.{Reply}
-use Rattle.dir_model.specs.declared.request.Reply.TheVariants.{Done, Opened}
+use Rattle.dir_model.specs.declared.request.DirError.TheVariants.{Exists}
+use Rattle.dir_model.specs.declared.request.Reply.TheVariants.{Done, Opened, Refused}
 use Rattle.dir_model.specs.declared.request.Request.{Request}
 use Rattle.dir_model.specs.declared.request.Request.TheVariants.{MakeFolder, Open, TryLock}
 use Rattle.dir_model.specs.declared.spot.Which.TheVariants.{Own}
 use Rattle.dir_model.specs.Calls.{CallStep, Extends}
 use Rattle.dir_model.specs.Causes.{Rose}
 use Rattle.dir_trait.specs.DirCalls.{DirAt, HeldBetween}
-use Rattle.area_locks.specs.AreaLocks.{IsBusy, IsBusyElsewhere}
+use Rattle.area_locks.specs.AreaLocks.{IsBusy, IsBusyElsewhere, IsFreeElsewhere, takes}
 use Rattle.folder_building.specs.declared.plan.PlanEntry.{PlanEntry}
 use Rattle.folder_building.specs.declared.plan.Content.{Content}
 use Rattle.folder_building.specs.declared.plan.Content.TheVariants.{Copied}
@@ -20,7 +21,7 @@ use Rattle.pod_making.specs.declared.error.MakeError.{MakeError}
 use Rattle.pod_making.specs.declared.error.MakeError.TheVariants.{Busy, Taken, Unlike, DirFault, Stray}
 use Rattle.folder_building.specs.Sources.{in_images}
 use Rattle.folder_building.specs.Stored.{LacksAt}
-use Rattle.pod_making.specs.Requests.{pod_at, locks_own, shows_taken, is_brought, shows_changed, is_taken}
+use Rattle.pod_making.specs.Requests.{pod_at, locks_own, shows_taken, is_brought, shows_changed}
 
 -- an own step was answered in this manner
 pub record WasAnswered (answers : Request → Reply → Bool) (me : ℕ) (old new : List Event) : Type 0 where
@@ -87,9 +88,37 @@ LosesPod draw old new = WasAnswered (shows_changed draw) old.process old.trace n
 abbrev pub LosesOwn : PodId → DirAt → DirAt → Type 0
 LosesOwn draw old new = WasTakenMade draw old.process old.trace new.trace ⊎ WasThenAnswered (is_brought draw) (shows_changed draw) old.process old.trace new.trace
 
--- its own making of the folder was refused, since one stood there
+-- nothing was asked for but the lock of embryo
+abbrev pub AsksLockAlone : DirAt → DirAt → Type 0
+AsksLockAlone old new = Extends (takes Embryo Shared) old.process old.trace new.trace
+
+-- its first own call, the making of the folder in embryo, was answered so
+pub record AsksFirst (draw : PodId) (reply : Reply) (me : ℕ) (old new : List Event) : Type 0 where
+  pub after : List Event
+  pub later : List Event
+  pub asks : CallStep me old (MakeFolder (pod_at Embryo draw)) reply after
+  pub ends : new ≡ after ++ later
+
+abbrev pub MakesFirst : PodId → DirAt → DirAt → Type 0
+MakesFirst draw old new = AsksFirst draw Done old.process old.trace new.trace
+
+abbrev pub MeetsFirst : PodId → DirAt → DirAt → Type 0
+MeetsFirst draw old new = AsksFirst draw (Refused Exists 0) old.process old.trace new.trace
+
+-- at an own step no other process held the lock of embryo exclusively. Nothing was asked for but that lock, and then the making of the
+-- folder was answered so
+pub record AsksFolder (draw : PodId) (reply : Reply) (old new : DirAt) : Type 0 where
+  pub free : HeldBetween old new (IsFreeElsewhere old.process Embryo Shared)
+  pub locked : List Event
+  pub locks : Extends (takes Embryo Shared) old.process old.trace locked
+  pub first : AsksFirst draw reply old.process locked new.trace
+
+-- it was answered Ok, or refused since a folder stood there
+abbrev pub HasMadeFolder : PodId → DirAt → DirAt → Type 0
+HasMadeFolder draw old new = AsksFolder draw Done old new
+
 abbrev pub WasTaken : PodId → DirAt → DirAt → Type 0
-WasTaken draw old new = WasAnswered (is_taken draw) old.process old.trace new.trace
+WasTaken draw old new = AsksFolder draw (Refused Exists 0) old new
 
 abbrev pub is_copied : Content → Bool
 is_copied (Copied origin size sha) = true
@@ -104,20 +133,29 @@ pub record IsCopiedAt (plan : List PlanEntry) (place : ℕ) : Type 0 where
   pub counted : length before ≡ place
   pub copied : is_copied entry.content ≡ true
 
--- a part of the making that doesn't take the lock of embryo ends for one of these causes
-pub record WorkCause (observed : Bool) (draw : PodId) (plan : List PlanEntry) (error : MakeError) (old new : DirAt) : Type 0 where
+-- a part of the making that neither takes the lock of embryo nor makes the folder ends for one of these causes
+pub record WorkCause (observed : Bool) (plan : List PlanEntry) (error : MakeError) (old new : DirAt) : Type 0 where
   pub calm : error ≡ Busy → ⊥
+  pub untaken : error ≡ Taken → ⊥
   pub fault : error ≡ DirFault → Rose old.faults new.faults
-  pub taken : error ≡ Taken → observed ≡ true → WasTaken draw old new
   pub unlike : (place : ℕ) → error ≡ Unlike place → IsCopiedAt plan place
   pub lacks : (place : ℕ) → error ≡ Unlike place → observed ≡ true → LacksAt in_images plan place old new
+
+-- the folder isn't made in embryo, or not brought to prepare, for one of these causes
+pub record EmbryoCause (observed : Bool) (draw : PodId) (error : MakeError) (old new : DirAt) : Type 0 where
+  pub calm : error ≡ Busy → ⊥
+  pub fault : error ≡ DirFault → Rose old.faults new.faults
+  pub taken : error ≡ Taken → observed ≡ true → MeetsFirst draw old new
+  pub like : (place : ℕ) → error ≡ Unlike place → ⊥
 
 -- a pod isn't made for one of these causes
 pub record MakeCause (observed : Bool) (draw : PodId) (plan : List PlanEntry) (error : MakeError) (old new : DirAt) : Type 0 where
   pub busy : error ≡ Busy → observed ≡ true → HeldBetween old new (IsBusy Embryo Shared)
+  pub alone : error ≡ Busy → observed ≡ true → AsksLockAlone old new
   pub fault : error ≡ DirFault → Rose old.faults new.faults
   pub taken : error ≡ Taken → observed ≡ true → WasTaken draw old new
   pub unlike : (place : ℕ) → error ≡ Unlike place → IsCopiedAt plan place
+  pub made : (place : ℕ) → error ≡ Unlike place → observed ≡ true → HasMadeFolder draw old new
   pub lacks : (place : ℕ) → error ≡ Unlike place → observed ≡ true → LacksAt in_images plan place old new
   pub stray : error ≡ Stray → observed ≡ true → LosesOwn draw old new
 

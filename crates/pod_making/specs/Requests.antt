@@ -21,6 +21,11 @@ use Rattle.folder_building.specs.Work.{either, builds_at, is_stray}
 abbrev pub pod_at : Area → PodId → Spot
 pod_at area draw = record { area = area; name = pod_text draw.bytes }
 
+-- from which area the maker moves the pod to this one: it goes from embryo to prepare, and from there to prepared or to run
+abbrev pub area_before : Area → Area
+area_before Prepare = Embryo
+area_before area = Prepare
+
 -- the lock of embryo, the folder there, its own lock, and its move to prepare
 abbrev pub begins_pod : PodId → Request → Bool
 begins_pod draw (OpenArea area) = is_in Embryo area
@@ -76,8 +81,3 @@ abbrev pub shows_changed : PodId → Request → Reply → Bool
 shows_changed draw (MoveFolder from to) (Refused Missing left) = hands_on draw (MoveFolder from to)
 shows_changed draw (MoveFolder from to) (Refused Exists left) = hands_on draw (MoveFolder from to)
 shows_changed draw request reply = fills_pod draw request && is_stray request reply
-
--- the making of the folder in embryo, refused since a folder stands there
-abbrev pub is_taken : PodId → Request → Reply → Bool
-is_taken draw (MakeFolder spot) (Refused Exists left) = spot_eq spot (pod_at Embryo draw)
-is_taken draw request reply = false

@@ -7,10 +7,10 @@ ghost use Rattle.dir_trait.specs.DirCalls.{ExtendsBy};
 ghost use Rattle.pod_making.specs.Requests.{begins_pod, locks_own};
 ghost use Rattle.pod_making.specs.Progress.{at_work, nothing_made, in_embryo, in_prepare, own_held, with_own};
 ghost use Rattle.pod_making.specs.Work.{IsMaker, UnderImages, UnderBoth, Owns, From, HasOwnFolder, Went};
-ghost use Rattle.pod_making.specs.Causes.{WorkCause, MakeCause, BusyElsewhere, MakesEmbryo, LosesEmbryo, BringsPod, LosesOwn};
+ghost use Rattle.pod_making.specs.Causes.{WorkCause, EmbryoCause, MakeCause, BusyElsewhere, MakesEmbryo, MakesFirst, HasMadeFolder, LosesEmbryo, BringsPod, LosesOwn};
 
 use crate::error::{MakeError, change_refusal, lock_refusal, make_refusal};
-use crate::place::pod_at;
+use crate::place::{area_before, pod_at};
 use area_locks::{lock_area, unlock_area};
 use dir_trait::{Area, Dir, Handle, Mode, PodId, Which};
 use std::alloc::Global;
@@ -19,7 +19,7 @@ use std::alloc::Global;
 fn make_embryo<D: Dir>(alloc: Global, dir: &mut D, draw: PodId) -> Result<(), MakeError>
     requires active { IsActive (D.shown dir.old).local }
     ensures worked { Worked D.observed (begins_pod draw) (D.shown dir.old) (D.shown dir.new) }
-    ensures cause { IfErr result (λ e. WorkCause D.observed draw [] e (D.shown dir.old) (D.shown dir.new)) }
+    ensures cause { IfErr result (λ e. EmbryoCause D.observed draw e (D.shown dir.old) (D.shown dir.new)) }
     ensures plain { IsErrOf result MakeError.Stray → ⊥ }
     ensures makes { IfOk result (λ done. D.observed ≡ true → MakesEmbryo draw (D.shown dir.old) (D.shown dir.new)) }
     ensures made { IfOk result (λ done. D.observed ≡ true → From (IsMaker draw) (UnderBoth draw) nothing_made (D.shown dir.old)
@@ -39,7 +39,7 @@ fn lock_own<D: Dir>(alloc: Global, dir: &mut D, draw: PodId) -> Result<Handle, M
     requires active { IsActive (D.shown dir.old).local }
     ensures went { Went D.observed (begins_pod draw) (with_own (D.shown dir.old).local draw result) (D.shown dir.old) (D.shown dir.new) }
     ensures unopened { IfOk result (λ own. IsUnopened (D.shown dir.old).local own) }
-    ensures cause { IfErr result (λ e. WorkCause D.observed draw [] e (D.shown dir.old) (D.shown dir.new)) }
+    ensures cause { IfErr result (λ e. WorkCause D.observed [] e (D.shown dir.old) (D.shown dir.new)) }
     ensures stray { IsErrOf result MakeError.Stray → D.observed ≡ true → LosesEmbryo draw (D.shown dir.old) (D.shown dir.new) }
     ensures locks { IfOk result (λ own. D.observed ≡ true → ExtendsBy (locks_own draw) (D.shown dir.old) (D.shown dir.new)) }
     ensures held { IfOk result (λ own. D.observed ≡ true → From (IsMaker draw) (UnderBoth draw) (in_embryo draw) (D.shown dir.old)
@@ -64,7 +64,7 @@ fn lock_own<D: Dir>(alloc: Global, dir: &mut D, draw: PodId) -> Result<Handle, M
 fn leave_embryo<D: Dir>(alloc: Global, dir: &mut D, draw: PodId) -> Result<(), MakeError>
     requires active { IsActive (D.shown dir.old).local }
     ensures worked { Worked D.observed (begins_pod draw) (D.shown dir.old) (D.shown dir.new) }
-    ensures cause { IfErr result (λ e. WorkCause D.observed draw [] e (D.shown dir.old) (D.shown dir.new)) }
+    ensures cause { IfErr result (λ e. WorkCause D.observed [] e (D.shown dir.old) (D.shown dir.new)) }
     ensures stray { IsErrOf result MakeError.Stray → D.observed ≡ true → LosesEmbryo draw (D.shown dir.old) (D.shown dir.new) }
     ensures brings { IfOk result (λ done. D.observed ≡ true → BringsPod draw (D.shown dir.old) (D.shown dir.new)) }
     ensures moved { IfOk result (λ done. D.observed ≡ true → From (IsMaker draw) (Owns draw) (in_embryo draw) (D.shown dir.old)
@@ -72,7 +72,7 @@ fn leave_embryo<D: Dir>(alloc: Global, dir: &mut D, draw: PodId) -> Result<(), M
     ensures left { IfErr result (λ e. D.observed ≡ true → From (IsMaker draw) (Owns draw) (in_embryo draw) (D.shown dir.old)
         (λ intent hs. Knows (D.shown dir.new) (at_work intent hs (in_embryo draw)))) }
 {
-    let from = pod_at(Area::Embryo, draw);
+    let from = pod_at(area_before(Area::Prepare), draw);
     let to = pod_at(Area::Prepare, draw);
     match dir.move_folder(alloc, from, to) {
         Ok(()) => Ok(()),
@@ -85,7 +85,7 @@ fn take_out<D: Dir>(alloc: Global, dir: &mut D, draw: PodId) -> Result<Handle, M
     requires active { IsActive (D.shown dir.old).local }
     ensures went { Went D.observed (begins_pod draw) (with_own (D.shown dir.old).local draw result) (D.shown dir.old) (D.shown dir.new) }
     ensures unopened { IfOk result (λ own. IsUnopened (D.shown dir.old).local own) }
-    ensures cause { IfErr result (λ e. WorkCause D.observed draw [] e (D.shown dir.old) (D.shown dir.new)) }
+    ensures cause { IfErr result (λ e. WorkCause D.observed [] e (D.shown dir.old) (D.shown dir.new)) }
     ensures stray { IsErrOf result MakeError.Stray → D.observed ≡ true → LosesEmbryo draw (D.shown dir.old) (D.shown dir.new) }
     ensures brings { IfOk result (λ own. D.observed ≡ true → BringsPod draw (D.shown dir.old) (D.shown dir.new)) }
     ensures held { IfOk result (λ own. D.observed ≡ true → From (IsMaker draw) (UnderBoth draw) (in_embryo draw) (D.shown dir.old)
@@ -108,8 +108,9 @@ fn make_and_take_out<D: Dir>(alloc: Global, dir: &mut D, draw: PodId) -> Result<
     requires active { IsActive (D.shown dir.old).local }
     ensures went { Went D.observed (begins_pod draw) (with_own (D.shown dir.old).local draw result) (D.shown dir.old) (D.shown dir.new) }
     ensures unopened { IfOk result (λ own. IsUnopened (D.shown dir.old).local own) }
-    ensures cause { IfErr result (λ e. WorkCause D.observed draw [] e (D.shown dir.old) (D.shown dir.new)) }
+    ensures cause { IfErr result (λ e. EmbryoCause D.observed draw e (D.shown dir.old) (D.shown dir.new)) }
     ensures stray { IsErrOf result MakeError.Stray → D.observed ≡ true → LosesOwn draw (D.shown dir.old) (D.shown dir.new) }
+    ensures first { IfOk result (λ own. D.observed ≡ true → MakesFirst draw (D.shown dir.old) (D.shown dir.new)) }
     ensures brings { IfOk result (λ own. D.observed ≡ true → BringsPod draw (D.shown dir.old) (D.shown dir.new)) }
     ensures held { IfOk result (λ own. D.observed ≡ true → From (IsMaker draw) (UnderBoth draw) nothing_made (D.shown dir.old)
         (λ intent hs. Knows (D.shown dir.new) (at_work intent (own_held draw own (Some Mode.Exclusive) ∷ hs) (in_prepare draw [])))) }
@@ -131,6 +132,7 @@ pub(crate) fn begin_pod<D: Dir>(
     ensures went { Went D.observed (begins_pod draw) (with_own (D.shown dir.old).local draw result) (D.shown dir.old) (D.shown dir.new) }
     ensures unopened { IfOk result (λ own. IsUnopened (D.shown dir.old).local own) }
     ensures cause { IfErr result (λ e. MakeCause D.observed draw [] e (D.shown dir.old) (D.shown dir.new)) }
+    ensures begins { IfOk result (λ own. D.observed ≡ true → HasMadeFolder draw (D.shown dir.old) (D.shown dir.new)) }
     ensures brings { IfOk result (λ own. D.observed ≡ true → BringsPod draw (D.shown dir.old) (D.shown dir.new)) }
     ensures another { IfErr result (λ e. D.observed ≡ true → From (IsMaker draw) (UnderImages draw) nothing_made (D.shown dir.old)
         (λ intent hs. BusyElsewhere e (D.shown dir.old) (D.shown dir.new))) }

@@ -4,6 +4,8 @@ ghost use Rattle.dir_trait.specs.Local.{IsActive};
 ghost use Rattle.dir_trait.specs.Knowledge.{Knows};
 ghost use Rattle.folder_building.specs.declared.plan.PlanEntry.{PlanEntry};
 ghost use Rattle.folder_building.specs.Plans.{is_plan};
+ghost use Rattle.folder_building.specs.Sources.{in_images};
+ghost use Rattle.folder_building.specs.Stored.{HadContents};
 ghost use Rattle.folder_building.specs.Work.{Worked};
 ghost use Rattle.pod_making.specs.Requests.{fills_pod, hands_pod, finishes_pod};
 ghost use Rattle.pod_making.specs.Progress.{at_work, in_prepare};
@@ -13,7 +15,7 @@ ghost use Rattle.pod_making.specs.Makings.{HasFilled, FromFilled, IsHanded, HasM
 ghost use Rattle.pod_making.specs.Handovers.{is_handed_to, HandsOverMade};
 
 use crate::error::{MakeError, build_refusal, change_refusal};
-use crate::place::pod_at;
+use crate::place::{area_before, pod_at};
 use dir_trait::{Area, Dir, PodId};
 use folder_building::{PlanEntry, StoreSource, carry_out};
 use std::alloc::Global;
@@ -28,8 +30,9 @@ fn fill<D: Dir>(
     requires active { IsActive (D.shown dir.old).local }
     requires plan { is_plan plan.now ≡ true }
     ensures worked { Worked D.observed (fills_pod draw) (D.shown dir.old) (D.shown dir.new) }
-    ensures cause { IfErr result (λ e. WorkCause D.observed draw plan.now e (D.shown dir.old) (D.shown dir.new)) }
+    ensures cause { IfErr result (λ e. WorkCause D.observed plan.now e (D.shown dir.old) (D.shown dir.new)) }
     ensures stray { IsErrOf result MakeError.Stray → D.observed ≡ true → LosesPod draw (D.shown dir.old) (D.shown dir.new) }
+    ensures had { IfOk result (λ done. D.observed ≡ true → HadContents in_images plan.now (D.shown dir.old) (D.shown dir.new)) }
     ensures filled { IfOk result (λ done. D.observed ≡ true → (to : Area) → From (MayMake to plan.now draw) (Owns draw) (in_prepare draw []) (D.shown dir.old)
         (λ intent hs. HasFilled plan.now draw intent hs (D.shown dir.new))) }
     ensures left { IfErr result (λ e. D.observed ≡ true → (to : Area) → From (MayMake to plan.now draw) (Owns draw) (in_prepare draw []) (D.shown dir.old)
@@ -48,7 +51,7 @@ fn hand_over<D: Dir>(alloc: Global, dir: &mut D, draw: PodId, to: Area) -> Resul
     requires active { IsActive (D.shown dir.old).local }
     requires handed { is_handed_to to ≡ true }
     ensures worked { Worked D.observed (hands_pod draw to) (D.shown dir.old) (D.shown dir.new) }
-    ensures cause { IfErr result (λ e. WorkCause D.observed draw [] e (D.shown dir.old) (D.shown dir.new)) }
+    ensures cause { IfErr result (λ e. WorkCause D.observed [] e (D.shown dir.old) (D.shown dir.new)) }
     ensures stray { IsErrOf result MakeError.Stray → D.observed ≡ true → LosesPod draw (D.shown dir.old) (D.shown dir.new) }
     ensures handed { IfOk result (λ done. D.observed ≡ true → (plan : List PlanEntry) → FromFilled to plan draw (D.shown dir.old)
         (λ intent hs entries. IsHanded draw to intent hs entries (D.shown dir.old) (D.shown dir.new))) }
@@ -57,7 +60,7 @@ fn hand_over<D: Dir>(alloc: Global, dir: &mut D, draw: PodId, to: Area) -> Resul
     ensures left { IfErr result (λ e. D.observed ≡ true → (plan : List PlanEntry) → FromFilled to plan draw (D.shown dir.old)
         (λ intent hs entries. Knows (D.shown dir.new) (at_work intent hs (in_prepare draw entries)))) }
 {
-    let from = pod_at(Area::Prepare, draw);
+    let from = pod_at(area_before(to), draw);
     let there = pod_at(to, draw);
     match dir.move_folder(alloc, from, there) {
         Ok(()) => Ok(()),
@@ -77,8 +80,9 @@ pub(crate) fn finish_pod<D: Dir>(
     requires plan { is_plan plan.now ≡ true }
     requires handed { is_handed_to to ≡ true }
     ensures worked { Worked D.observed (finishes_pod draw to) (D.shown dir.old) (D.shown dir.new) }
-    ensures cause { IfErr result (λ e. WorkCause D.observed draw plan.now e (D.shown dir.old) (D.shown dir.new)) }
+    ensures cause { IfErr result (λ e. WorkCause D.observed plan.now e (D.shown dir.old) (D.shown dir.new)) }
     ensures stray { IsErrOf result MakeError.Stray → D.observed ≡ true → LosesPod draw (D.shown dir.old) (D.shown dir.new) }
+    ensures had { IfOk result (λ done. D.observed ≡ true → HadContents in_images plan.now (D.shown dir.old) (D.shown dir.new)) }
     ensures made { IfOk result (λ done. D.observed ≡ true → From (MayMake to plan.now draw) (Owns draw) (in_prepare draw []) (D.shown dir.old)
         (λ intent hs. HasMade draw to plan.now intent hs (D.shown dir.old) (D.shown dir.new))) }
     ensures whole { D.observed ≡ true → From (MayMake to plan.now draw) (Owns draw) (in_prepare draw []) (D.shown dir.old)

@@ -3,11 +3,13 @@ ghost use Rattle.std.specs.Prelude.{◌≡◌, Some, ◌∷◌, IfOk, IfErr, IsE
 ghost use Rattle.dir_trait.specs.Local.{IsActive, IsUnopened};
 ghost use Rattle.lifecycle.specs.Executions.{IsConforming};
 ghost use Rattle.folder_building.specs.Plans.{is_plan};
+ghost use Rattle.folder_building.specs.Sources.{in_images};
+ghost use Rattle.folder_building.specs.Stored.{HadContents};
 ghost use Rattle.folder_building.specs.Work.{Worked};
 ghost use Rattle.pod_making.specs.Requests.{makes_pod};
 ghost use Rattle.pod_making.specs.Progress.{nothing_made, own_held};
 ghost use Rattle.pod_making.specs.Work.{MayMake, UnderImages, From, HasOwnFolder, Went};
-ghost use Rattle.pod_making.specs.Causes.{MakeCause, BusyElsewhere};
+ghost use Rattle.pod_making.specs.Causes.{MakeCause, BusyElsewhere, HasMadeFolder};
 ghost use Rattle.pod_making.specs.Makings.{HasMade, with_owned};
 ghost use Rattle.pod_making.specs.Handovers.{HandsOverMade};
 ghost use Rattle.pod_ownership.specs.Running.{IsOwned, RunsPod};
@@ -26,7 +28,7 @@ use std::alloc::Global;
 /// and every sync was answered Ok. The caller holds the lock of images.
 ///
 /// Refused in this order. `Busy` where another process holds the lock of embryo exclusively. `Taken`
-/// where a folder with the pod's name stands in embryo. `Unlike` with the number of an entry of the
+/// where a folder with the pod's name stands in embryo. `Unlike` with the number of the first entry of the
 /// plan whose file in images was missing at a read, or of which what was read isn't what the plan asks
 /// for. `DirFault` and `NoMemory` where the directory failed or memory ran out, and `Stray` where an
 /// answer showed that another process took the folder that this one had made in embryo, or changed it in
@@ -43,6 +45,8 @@ pub fn make_prepared<D: Dir>(
     ensures cause { IfErr result (λ e. MakeCause D.observed draw plan.now e (D.shown dir.old) (D.shown dir.new)) }
     ensures another { IfErr result (λ e. D.observed ≡ true → From (MayMake Area.Prepared plan.now draw) (UnderImages draw) nothing_made (D.shown dir.old)
         (λ intent hs. BusyElsewhere e (D.shown dir.old) (D.shown dir.new))) }
+    ensures begins { IfOk result (λ done. D.observed ≡ true → HasMadeFolder draw (D.shown dir.old) (D.shown dir.new)) }
+    ensures had { IfOk result (λ done. D.observed ≡ true → HadContents in_images plan.now (D.shown dir.old) (D.shown dir.new)) }
     ensures made { IfOk result (λ done. D.observed ≡ true → From (MayMake Area.Prepared plan.now draw) (UnderImages draw) nothing_made (D.shown dir.old)
         (λ intent hs. HasMade draw Area.Prepared plan.now intent hs (D.shown dir.old) (D.shown dir.new))) }
     ensures whole { D.observed ≡ true → From (MayMake Area.Prepared plan.now draw) (UnderImages draw) nothing_made (D.shown dir.old)
@@ -74,6 +78,8 @@ pub fn make_running<D: Dir>(
         (λ intent hs. BusyElsewhere e (D.shown dir.old) (D.shown dir.new))) }
     ensures runs { IfOk result (λ owned. D.observed ≡ true → From (MayMake Area.Run plan.now draw) (UnderImages draw) nothing_made (D.shown dir.old)
         (λ intent hs. RunsPod draw (D.shown dir.new))) }
+    ensures begins { IfOk result (λ done. D.observed ≡ true → HasMadeFolder draw (D.shown dir.old) (D.shown dir.new)) }
+    ensures had { IfOk result (λ done. D.observed ≡ true → HadContents in_images plan.now (D.shown dir.old) (D.shown dir.new)) }
     ensures made { IfOk result (λ owned. D.observed ≡ true → From (MayMake Area.Run plan.now draw) (UnderImages draw) nothing_made (D.shown dir.old)
         (λ intent hs. HasMade draw Area.Run plan.now intent (own_held draw owned.own (Some Mode.Exclusive) ∷ hs) (D.shown dir.old) (D.shown dir.new))) }
     ensures whole { D.observed ≡ true → From (MayMake Area.Run plan.now draw) (UnderImages draw) nothing_made (D.shown dir.old)

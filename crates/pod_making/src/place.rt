@@ -1,6 +1,6 @@
 // Where a pod stands.
 ghost use Rattle.std.specs.Prelude.{◌≡◌};
-ghost use Rattle.pod_making.specs.Requests.{pod_at};
+ghost use Rattle.pod_making.specs.Requests.{area_before, pod_at};
 
 use dir_trait::{Area, PodId, Spot};
 
@@ -11,5 +11,15 @@ pub(crate) fn pod_at(area: Area, draw: PodId) -> Spot
     Spot {
         area,
         name: draw.name(),
+    }
+}
+
+/// From which area the maker moves the pod to this one. It leaves embryo once.
+pub(crate) fn area_before(to: Area) -> Area
+    ensures { result ≡ area_before to }
+{
+    match to {
+        Area::Prepare => Area::Embryo,
+        _ => Area::Prepare,
     }
 }

@@ -13,7 +13,7 @@ use Rattle.path_map.specs.declared.entry.Entry.{Entry as TreeEntry}
 use Rattle.path_map.specs.declared.entry.Entry.TheVariants.{Dir, File, Link}
 use Rattle.path_map.specs.Paths.{IsAbsPath}
 use Rattle.tree_digest.specs.declared.line.ListingLine.{ListingLine}
-use Rattle.tree_digest.specs.Listings.{listing_text, IsListing, AllFollow}
+use Rattle.tree_digest.specs.Listings.{listing_text, IsListing}
 use Rattle.folder_building.specs.declared.plan.PlanEntry.{PlanEntry}
 use Rattle.folder_building.specs.declared.plan.Content.TheVariants.{Directory, Given}
 use Rattle.folder_building.specs.Plans.{outline, follows, is_plan, is_plan_after, is_among, AreMade}
@@ -30,6 +30,7 @@ use Rattle.pod_plans.specs.Pods.{files_of, HasApp}
 use Rattle.pod_plans.proofs.Names.{IsAppName, app_name, plain_path, plain_behind}
 use Rattle.pod_plans.proofs.Under.{not_below, not_at, not_within, not_below_itself, under_behind, front_not_under, belongs, same_app, info_belongs, manifest_belongs, stage_belongs, tree_belongs, root_belongs, below_root_belongs, not_under_root, not_same}
 use Rattle.pod_plans.proofs.Plans.{directory_stays, directory_last, comes_next, IsIn, in_left, in_right, is_directory, AllPlanned, planned_both, planned_as, made_passes, none_made, same_path, has_given, has_directory}
+use Rattle.folder_plans.proofs.Images.{absolute}
 
 -- what the call answers
 module _ (images : List (List ℕ)) (app : PodApp) {T E : Type 0} (items : T → List PlanEntry) (r : Result T E) where
@@ -56,10 +57,6 @@ module _ (images : List (List ℕ)) (app : PodApp) {T E : Type 0} (items : T →
         makes = subst (λ (p : List ℕ). MakesTree p app.listing (root_entries images app app.listing)) is m;
       }
       both (Err e) c m = tt
-
-absolute : (done lines : List ListingLine) → AllFollow done lines → AllByRecursion (λ l. IsAbsPath l.path) lines
-absolute done [] f = tt
-absolute done (l ∷ lines) f = (f.0.line.path, absolute (done ++ l ∷ []) lines f.1)
 
 -- tests of paths
 abbrev pub AllOutside : (List ℕ → Bool) → List PlanEntry → Type 0

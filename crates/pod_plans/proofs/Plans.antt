@@ -1,5 +1,5 @@
 -- Plans in parts, and what they made, by the paths of their entries.
-use Rattle.std.proofs.Common.{◌≡◌, ℕ, Bool, true, false, not, ◌&&◌, ◌||◌, nat_le, bytes_eq, cond, List, [], ◌∷◌, ◌++◌, length, filter, refl, sym, ap, subst, ◌∙◌, append_assoc, append-nil}
+use Rattle.std.proofs.Common.{◌≡◌, ℕ, Bool, true, false, not, ◌&&◌, ◌||◌, nat_le, bytes_eq, List, [], ◌∷◌, ◌++◌, length, filter, refl, sym, ap, subst, ◌∙◌, append_assoc, append-nil}
 use Rattle.std.specs.List.{list_any, list_all, flat_map, concat}
 use Rattle.std.proofs.lemmas.Slice.Eq.{bytes_eq-Decides}
 use Rattle.std.proofs.lemmas.List.{map-append}
@@ -14,13 +14,15 @@ use Rattle.dir_rules.specs.Rules.{has_path, has_dir, has_file, is_in_directory, 
 use Rattle.folder_building.specs.declared.plan.PlanEntry.{PlanEntry}
 use Rattle.folder_building.specs.declared.plan.Content.{Content}
 use Rattle.folder_building.specs.declared.plan.Content.TheVariants.{Directory, Given, Copied}
-use Rattle.folder_building.specs.Plans.{is_file, is_at, piece_at, pieces_at, file_at, directory_at, outline, outline_of, has_origin, follows, is_plan, is_plan_after, is_among, IsMadeAs, AreMade}
+use Rattle.folder_building.specs.Plans.{is_file, is_at, pieces_at, file_at, directory_at, outline, outline_of, has_origin, follows, is_plan, is_plan_after, is_among, IsMadeAs, AreMade}
 use Rattle.materialize.specs.Materialized.{file_bytes, has_bytes}
 use Rattle.materialize.specs.TreePlans.{entry_at}
 use Rattle.materialize.proofs.Among.{made_both}
 use Rattle.materialize.proofs.FilePaths.{parent_of}
 use Rattle.folder_plans.specs.ImagePlans.{given_file}
 use Rattle.pod_plans.proofs.Under.{not_same}
+use Rattle.folder_plans.proofs.Made.{filter_none, there_among, filter_own}
+use Rattle.materialize.proofs.Made.{pieces_bytes}
 
 -- plans in parts
 
@@ -158,38 +160,17 @@ none_planned path (e ∷ es) h = by (bytes_eq e.path path) h (none_planned path 
 made_elsewhere : (path : List ℕ) (plan : List PlanEntry) (entries : List Entry) → AreMade plan entries → is_among path plan ≡ false → list_any (is_at path) entries ≡ false
 made_elsewhere path plan entries m h = none_made (λ b p. bytes_eq p path) entries (made_passes (λ b p. not (bytes_eq p path)) plan entries m (none_planned path plan h))
 
-filter_none : (path : List ℕ) (entries : List Entry) → list_any (is_at path) entries ≡ false → filter (is_at path) entries ≡ []
-filter_none path [] none = refl
-filter_none path (e ∷ es) none = by (is_at path e) none (filter_none path es)
-  where
-    by : (b : Bool) → (b || list_any (is_at path) es) ≡ false → (list_any (is_at path) es ≡ false → filter (is_at path) es ≡ []) → cond b (e ∷ filter (is_at path) es) (filter (is_at path) es) ≡ []
-    by true h rest = cc
-    by false h rest = rest h
-
 pub same_path : (path : List ℕ) → bytes_eq path path ≡ true
 same_path path = (bytes_eq-Decides path path).1 refl
 
-filter_own : (path : List ℕ) (pieces : List (List ℕ)) → filter (is_at path) (pieces_at path pieces) ≡ pieces_at path pieces
-filter_own path [] = refl
-filter_own path (p ∷ ps) = rw (same_path path) (ap (λ rest. piece_at path p ∷ rest) (filter_own path ps))
-
-bytes_of_pieces : (path : List ℕ) (pieces : List (List ℕ)) → flat_map (λ (e : Entry). bytes_of e.node) (pieces_at path pieces) ≡ concat pieces
-bytes_of_pieces path [] = refl
-bytes_of_pieces path (p ∷ ps) = ap (λ bs. p ++ bs) (bytes_of_pieces path ps)
-
 bytes_own : (path : List ℕ) (pieces : List (List ℕ)) → file_bytes path (file_at path pieces) ≡ concat pieces
-bytes_own path pieces = rw (same_path path) (ap (flat_map (λ (e : Entry). bytes_of e.node)) (filter_own path pieces) ∙ bytes_of_pieces path pieces)
+bytes_own path pieces = rw (same_path path) (ap (flat_map (λ (e : Entry). bytes_of e.node)) (filter_own path pieces) ∙ pieces_bytes path pieces)
 
 bytes_among : (path : List ℕ) (xs ys zs : List Entry) → list_any (is_at path) xs ≡ false → list_any (is_at path) zs ≡ false → file_bytes path (xs ++ (ys ++ zs)) ≡ file_bytes path ys
 bytes_among path xs ys zs a b =
     ap (flat_map (λ (e : Entry). bytes_of e.node))
     (filter-append (is_at path) xs (ys ++ zs) ∙ (ap (λ l. l ++ filter (is_at path) (ys ++ zs)) (filter_none path xs a)
     ∙ (filter-append (is_at path) ys zs ∙ (ap (λ l. filter (is_at path) ys ++ l) (filter_none path zs b) ∙ append-nil (filter (is_at path) ys)))))
-
-file_among : (path : List ℕ) (xs zs : List Entry) (pieces : List (List ℕ)) → has_file path (xs ++ (file_at path pieces ++ zs)) ≡ true
-file_among path xs zs pieces =
-    list_any-append (λ e. not (is_dir e.node) && bytes_eq e.path path) xs (file_at path pieces ++ zs)
-    ∙ or_last (has_file path xs) (has_file path (file_at path pieces ++ zs)) (rw (same_path path) refl)
 
 -- a file with given bytes of a plan that was carried out
 pub has_given : (path bytes : List ℕ) (plan : List PlanEntry) (entries : List Entry) → is_plan plan ≡ true → IsIn (given_file path bytes) plan → AreMade plan entries → has_bytes path bytes entries ≡ true
@@ -208,7 +189,7 @@ has_given path bytes plan entries whole i made =
     let same : file_bytes path (m.front ++ (file_at path f.first.pieces ++ f.rest)) ≡ bytes = bytes_among path m.front (file_at path f.first.pieces) f.rest before after ∙ (bytes_own path f.first.pieces ∙ f.first.fits) in
     subst (λ (l : List Entry). has_bytes path bytes l ≡ true) (sym is)
     (and_both (has_file path (m.front ++ (file_at path f.first.pieces ++ f.rest))) (bytes_eq (file_bytes path (m.front ++ (file_at path f.first.pieces ++ f.rest))) bytes)
-    (file_among path m.front f.rest f.first.pieces) ((bytes_eq-Decides (file_bytes path (m.front ++ (file_at path f.first.pieces ++ f.rest))) bytes).1 same))
+    (there_among path m.front f.rest f.first.pieces) ((bytes_eq-Decides (file_bytes path (m.front ++ (file_at path f.first.pieces ++ f.rest))) bytes).1 same))
 
 -- a directory
 pub has_directory : (path : List ℕ) (plan : List PlanEntry) (entries : List Entry) → IsIn (entry_at path Directory) plan → AreMade plan entries → has_dir path entries ≡ true

@@ -30,7 +30,7 @@ use Rattle.render.specs.declared.render_error.RenderError.{RenderError as Render
 use Rattle.pod_reading.specs.declared.error.PlanError.{PlanError}
 use Rattle.pod_reading.specs.declared.error.PlanError.TheVariants.{Damaged, RenderError, DirFault, NoMemory}
 use Rattle.pod_reading.specs.Readings.{KnowsTree}
-use Rattle.pod_reading.specs.Roots.{times, ComesOnce, node_key, HasRead, entries_together, LaysNext, IsRendered}
+use Rattle.pod_reading.specs.Roots.{times, ComesOnce, node_key, HasRead, entries_together, AreFew, LaysNext, IsRendered}
 use Rattle.pod_reading.specs.Refusals.{IsLack, LacksTreeAt, store_refusal, render_refusal}
 use Rattle.pod_reading.specs.RootRefusals.{IsLayRefusal, IsRenderingRefusal}
 use Rattle.pod_reading.proofs.Times.{times_both, times_here, by_number, with_own, own_here, own_other, sum_same, comes_first, push_other, push_apart}
@@ -121,12 +121,17 @@ module _ {observed : Bool} (images : List Stored) (nodes : List DepNode) where
           (before.read n (subst (λ (k : ℕ). 0 < k) (push_other next n first apart) h)));
     }
 
+    -- those before it have as many as they had
+    pub together_before : entries_together (with_own own next map) first ≡ entries_together own first
+    together_before =
+        let size : (ℕ → Entries) → ℕ → ℕ = λ f n. length (f n) in
+        sum_same (size (with_own own next map)) (size own) first (λ n h. ap (λ (es : Entries). length es) (own_other own next map n (push_apart next first fresh n h)))
+
     pub together_more : entries_together (with_own own next map) (first ++ next ∷ []) ≡ entries_together own first + length map
     together_more =
         let size : (ℕ → Entries) → ℕ → ℕ = λ f n. length (f n) in
         sum_by_push (size (with_own own next map)) first next
-        ∙ ap (λ (k : ℕ). k + length (with_own own next map next))
-        (sum_same (size (with_own own next map)) (size own) first (λ n h. ap (λ (es : Entries). length es) (own_other own next map n (push_apart next first fresh n h))))
+        ∙ ap (λ (k : ℕ). k + length (with_own own next map next)) together_before
         ∙ ap (λ (es : Entries). entries_together own first + length es) (own_here own next map)
 
     -- what agrees with it agrees with what was read before
@@ -179,16 +184,19 @@ module _ {observed : Bool} (images : List Stored) (nodes : List DepNode) where
             others = left.0;
             own = far.own;
             read = before_next left.0 left.1;
+            few = omega (arith, far.room);
             lacks = tree_lack_since t (node_key images nodes plan.next) path c ab (subst (λ (k : StoreKey). LacksTreeAt k path b c) key_is (h t));
           }
       laid_refused none (RenderError TooManyEntries) h =
           let left = some_left plan sound none in
           let before = before_next left.0 left.1 in
           record {
-            first = far.first ++ plan.next ∷ [];
+            first = far.first;
+            next = plan.next;
             others = left.0;
             own = with_own far.own plan.next h.0;
             read = read_more once far.first left.0 far.own plan.next inside h.0 before (known_since h.0 h.1);
+            few = omega (arith, together_before once far.first left.0 far.own plan.next inside h.0 before, far.room);
             many = omega (arith, together_more once far.first left.0 far.own plan.next inside h.0 before, far.room, h.2);
           }
       laid_refused none (RenderError render.NoMemory) h = absurd h
@@ -198,10 +206,15 @@ module _ {observed : Bool} (images : List Stored) (nodes : List DepNode) where
 
   -- all are laid: the rendering
   module _ {a b : DirAt} (once : ComesOnce nodes) (plan : Plan) (same : plan.nodes ≡ nodes) (far : IsLaidTo observed images nodes plan a b) (done : nodes_left plan ≡ []) where
+    all : all_down nodes 0 ≡ far.first
+    all = far.read.order ∙ (ap (λ (xs : List ℕ). far.first ++ xs) done ∙ append-nil far.first)
+
     all_read : (n : ℕ) → n < length nodes → KnowsTree observed (node_key images nodes n) (far.own n) a b
     all_read n inside =
-        let all : all_down nodes 0 ≡ far.first = far.read.order ∙ (ap (λ (xs : List ℕ). far.first ++ xs) done ∙ append-nil far.first) in
         far.read.read n (omega (arith, subst (λ (xs : List ℕ). times n xs ≡ 1) all (once n inside)))
+
+    all_few : AreFew far.own (all_down nodes 0)
+    all_few = subst (λ (xs : List ℕ). AreFew far.own xs) (sym all) (omega (arith, far.room))
 
     stands : PlanStands (own_whitelist nodes images) far.own plan
     stands = far.stands far.own (λ n h. refl)
@@ -214,6 +227,7 @@ module _ {observed : Bool} (images : List Stored) (nodes : List DepNode) where
     rendered r assembly put sources = record {
       own = far.own;
       read = all_read;
+      few = all_few;
       rendering = subst (λ (ns : List DepNode). IsAssembly ns (own_whitelist nodes images) far.own (length ns) 0 r.map) same (assembly (own_whitelist nodes images) far.own stands);
       sourced = subst (λ (ns : List DepNode). IsPut ns (own_whitelist nodes images) far.own (length ns) 0 r) same (put (own_whitelist nodes images) far.own stands);
       sources = subst (λ (ns : List DepNode). HasNodeSources ns far.own (entry_at r.map) (source_at r)) same

@@ -3,7 +3,7 @@ use Rattle.std.proofs.Common.{◌≡◌, ◌⊎◌, inl, inr, ℕ, ◌<◌, ◌+
 use Rattle.path_map.specs.Entries.{Entries, entry_at}
 use Rattle.path_map.specs.Overlay.{made_directory}
 use Rattle.path_map.specs.declared.entry.Entry.{Entry}
-use Rattle.tree_digest.specs.Listings.{IsListable, AreListable, lines_of}
+use Rattle.tree_digest.specs.Listings.{IsListable, IsListing, AreListable, lines_of}
 use Rattle.dep_match.specs.declared.dep_tree.DepNode.{DepNode}
 use Rattle.dep_match.specs.declared.dep_tree.DepTree.{DepTree}
 use Rattle.dep_match.specs.declared.stored.Stored.{Stored}
@@ -44,11 +44,13 @@ module _ (observed : Bool) (images : List Stored) {asks : Request → Bool} {Kee
     rendered = record {
       own = is.rendered.own;
       read = λ n inside. tree_later (node_key images tree.nodes n) (is.rendered.own n) (is.rendered.read n inside) bc;
+      few = is.rendered.few;
       rendering = is.rendered.rendering;
       sourced = is.rendered.sourced;
       sources = is.rendered.sources;
     };
     listing = is.listing;
+    kind = is.kind;
   }
 
   pub roots_later : OnlyAsks observed asks Keeps b c → (trees : List DepTree) (roots : List Root) → AreRoots observed images a b trees roots → AreRoots observed images a c trees roots
@@ -58,13 +60,14 @@ module _ (observed : Bool) (images : List Stored) {asks : Request → Bool} {Kee
   rendered_since ab nodes r is = record {
     own = is.own;
     read = λ n inside. tree_since (node_key images nodes n) (is.own n) ab (is.read n inside);
+    few = is.few;
     rendering = is.rendering;
     sourced = is.sourced;
     sources = is.sources;
   }
 
   pub root_since : OnlyAsks observed asks Keeps a b → (tree : DepTree) (root : Root) → IsRoot observed images b c tree root → IsRoot observed images a c tree root
-  root_since ab tree root is = record { rendered = rendered_since ab tree.nodes root.rendering is.rendered; listing = is.listing }
+  root_since ab tree root is = record { rendered = rendered_since ab tree.nodes root.rendering is.rendered; listing = is.listing; kind = is.kind }
 
   pub roots_since : OnlyAsks observed asks Keeps a b → (trees : List DepTree) (roots : List Root) → AreRoots observed images b c trees roots → AreRoots observed images a c trees roots
   roots_since ab trees roots are = zip_weaker (IsRoot observed images b c) (IsRoot observed images a c) (root_since ab) trees roots are
@@ -81,12 +84,21 @@ module _ (observed : Bool) (images : List Stored) {asks : Request → Bool} {Kee
         others = l.others;
         own = l.own;
         read = read_since ab nodes l.first (l.next ∷ l.others) l.own l.read;
+        few = l.few;
         lacks = tree_lack_since t (node_key images nodes l.next) path c ab l.lacks;
       }
   refusal_since ab nodes (NoMatch place) h = absurd h
   refusal_since ab nodes (DepError fault) h = absurd h
   refusal_since ab nodes (GenError refusal) h = absurd h
-  refusal_since ab nodes (RenderError TooManyEntries) h = record { first = h.first; others = h.others; own = h.own; read = read_since ab nodes h.first h.others h.own h.read; many = h.many }
+  refusal_since ab nodes (RenderError TooManyEntries) h = record {
+    first = h.first;
+    next = h.next;
+    others = h.others;
+    own = h.own;
+    read = read_since ab nodes (h.first ++ h.next ∷ []) h.others h.own h.read;
+    few = h.few;
+    many = h.many;
+  }
   refusal_since ab nodes (RenderError render.NoMemory) h = absurd h
   refusal_since ab nodes (ListingError error) h = record { rendering = h.rendering; rendered = rendered_since ab nodes h.rendering h.rendered; large = h.large }
   refusal_since ab nodes DirFault h = tt
@@ -106,10 +118,12 @@ module _ (observed : Bool) (images : List Stored) {asks : Request → Bool} {Kee
   }
 
 -- ---- one root
-pub root_made : (observed : Bool) (images : List Stored) (a b : DirAt) (tree : DepTree) (r : Rendering) (root : Root) → IsRendered observed images tree.nodes r a b → root.rendering ≡ r → root.listing ≡ lines_of r.map → IsRoot observed images a b tree root
-root_made observed images a b tree r root is same listing = record {
+pub root_made : (observed : Bool) (images : List Stored) (a b : DirAt) (tree : DepTree) (r : Rendering) (root : Root) → IsRendered observed images tree.nodes r a b → root.rendering ≡ r → root.listing ≡ lines_of r.map → IsListing root.listing
+    → IsRoot observed images a b tree root
+root_made observed images a b tree r root is same listing kind = record {
   rendered = subst (λ (x : Rendering). IsRendered observed images tree.nodes x a b) (sym same) is;
   listing = listing ∙ ap (λ (x : Rendering). lines_of x.map) (sym same);
+  kind = kind;
 }
 
 module _ (observed : Bool) (images : List Stored) (nodes : List DepNode) (a b : DirAt) where

@@ -1,5 +1,5 @@
 -- Why there is no root.
-use Rattle.std.specs.Prelude.{◌≡◌, ℕ, ◌<◌, Bool, true, List, ◌∷◌, ◌++◌, length}
+use Rattle.std.specs.Prelude.{◌≡◌, ℕ, ◌<◌, Bool, true, List, [], ◌∷◌, ◌++◌, length}
 use Rattle.ac_types.specs.declared.store_key.StoreKey.{StoreKey}
 use Rattle.path_map.specs.Entries.{Entries}
 use Rattle.tree_digest.specs.Listings.{lines_of, IsTooLarge}
@@ -17,7 +17,7 @@ use Rattle.pod_reading.specs.declared.error.PlanError.TheVariants.{Damaged, Rend
 use Rattle.pod_reading.specs.declared.root.Root.{Root}
 use Rattle.pod_reading.specs.Readings.{KnowsTree}
 use Rattle.pod_reading.specs.Refusals.{LacksTreeAt}
-use Rattle.pod_reading.specs.Roots.{node_key, HasRead, entries_together, IsRendered, AreRoots}
+use Rattle.pod_reading.specs.Roots.{node_key, HasRead, entries_together, AreFew, IsRendered, AreRoots}
 
 -- the listing isn't there or has no reading; or it has more entries than the plan has room for; or the directory failed,
 -- or memory ran out
@@ -28,22 +28,27 @@ IsLayRefusal observed key plan DirFault old new = Unit {0}
 IsLayRefusal observed key plan NoMemory old new = Unit {0}
 IsLayRefusal observed key plan error old new = ⊥
 
--- listings of the first nodes were read, and that of the next node's image isn't there or has no reading
+-- listings of the first nodes were read, which have few enough entries together, and that of the next node's image isn't
+-- there or has no reading
 pub record LacksNext (observed : Bool) (images : List Stored) (nodes : List DepNode) (path : List ℕ) (old new : DirAt) : Type 0 where
   pub first : List ℕ
   pub next : ℕ
   pub others : List ℕ
   pub own : ℕ → Entries
   pub read : HasRead observed images nodes first (next ∷ others) own old new
+  pub few : AreFew own first
   pub lacks : LacksTreeAt (node_key images nodes next) path old new
 
--- listings of the first nodes were read, of all of them maybe, and they have too many entries together
+-- listings of the first nodes were read, which have few enough entries together, and then that of the next, maybe the last
+-- of all, and with it they have too many
 pub record HasTooMany (observed : Bool) (images : List Stored) (nodes : List DepNode) (old new : DirAt) : Type 0 where
   pub first : List ℕ
+  pub next : ℕ
   pub others : List ℕ
   pub own : ℕ → Entries
-  pub read : HasRead observed images nodes first others own old new
-  pub many : MAX_ENTRIES < entries_together own first
+  pub read : HasRead observed images nodes (first ++ next ∷ []) others own old new
+  pub few : AreFew own first
+  pub many : MAX_ENTRIES < entries_together own (first ++ next ∷ [])
 
 -- a tree has no rendering: a listing is lacking, or there are too many entries; or the directory failed, or memory ran out
 abbrev pub IsRenderingRefusal : Bool → List Stored → List DepNode → PlanError → DirAt → DirAt → Type 0

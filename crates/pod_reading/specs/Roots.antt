@@ -1,16 +1,17 @@
 -- The roots of apps, by the listings that were read for them.
-use Rattle.std.specs.Prelude.{◌≡◌, ℕ, ◌<◌, ◌+◌, ◌==◌, Bool, List, [], ◌∷◌, ◌++◌, length, if◌then◌else◌}
+use Rattle.std.specs.Prelude.{◌≡◌, ℕ, ◌<◌, ◌≤◌, ◌+◌, ◌==◌, Bool, List, [], ◌∷◌, ◌++◌, length, if◌then◌else◌}
 use Rattle.std.specs.List.{AllZip, sum_by}
 use Rattle.ac_types.specs.declared.store_key.StoreKey.{StoreKey}
 use Rattle.path_map.specs.declared.listed.Listed.{Listed}
 use Rattle.path_map.specs.Entries.{Entries, entry_at}
-use Rattle.tree_digest.specs.Listings.{lines_of}
+use Rattle.tree_digest.specs.Listings.{IsListing, lines_of}
 use Rattle.dep_match.specs.declared.dep_tree.DepNode.{DepNode}
 use Rattle.dep_match.specs.declared.dep_tree.DepTree.{DepTree}
 use Rattle.dep_match.specs.declared.stored.Stored.{Stored}
 use Rattle.dep_match.specs.Dependencies.{key_at}
 use Rattle.dep_match.specs.TreeOrder.{node_at}
 use Rattle.render.specs.declared.plan.Plan.{Plan}
+use Rattle.render.specs.declared.refusals.TheConstants.{MAX_ENTRIES}
 use Rattle.render.specs.declared.rendering.Rendering.{Rendering}
 use Rattle.render.specs.Assembly.{own_whitelist, IsAssembly}
 use Rattle.render.specs.Layers.{source_at}
@@ -44,6 +45,10 @@ pub record HasRead (observed : Bool) (images : List Stored) (nodes : List DepNod
 abbrev pub entries_together : (ℕ → Entries) → List ℕ → ℕ
 entries_together own nodes = sum_by (λ n. length (own n)) nodes
 
+-- they are few enough for one root
+abbrev pub AreFew : (ℕ → Entries) → List ℕ → Type 0
+AreFew own nodes = entries_together own nodes ≤ MAX_ENTRIES
+
 -- a map was laid as the next of a plan
 pub record Lays (before : Plan) (map : Entries) (after : Plan) : Type 0 where
   pub sound : IsPlan after
@@ -58,19 +63,21 @@ pub record LaysNext (observed : Bool) (key : StoreKey) (before after : Plan) (ol
   pub known : KnowsTree observed key map old new
   pub lays : Lays before map after
 
--- the rendering of an image with these nodes, where each has a listing that was read of its image, with the images that
--- its files are from
+-- the rendering of an image with these nodes, where each has a listing that was read of its image, and they have few
+-- enough entries together; with the images that its files are from
 pub record IsRendered (observed : Bool) (images : List Stored) (nodes : List DepNode) (r : Rendering) (old new : DirAt) : Type 0 where
   pub own : ℕ → Entries
   pub read : (n : ℕ) → n < length nodes → KnowsTree observed (node_key images nodes n) (own n) old new
+  pub few : AreFew own (all_down nodes 0)
   pub rendering : IsAssembly nodes (own_whitelist nodes images) own (length nodes) 0 r.map
   pub sourced : IsPut nodes (own_whitelist nodes images) own (length nodes) 0 r
   pub sources : HasNodeSources nodes own (entry_at r.map) (source_at r)
 
--- the root of an image with this tree: that, and the listing of it
+-- the root of an image with this tree: that, and the listing of it, which isn't too large
 pub record IsRoot (observed : Bool) (images : List Stored) (old new : DirAt) (tree : DepTree) (root : Root) : Type 0 where
   pub rendered : IsRendered observed images tree.nodes root.rendering old new
   pub listing : root.listing ≡ lines_of root.rendering.map
+  pub kind : IsListing root.listing
 
 -- the root of each image, in order
 abbrev pub AreRoots : Bool → List Stored → DirAt → DirAt → List DepTree → List Root → Type 0

@@ -2,7 +2,7 @@
 ghost use Rattle.std.specs.Prelude.{◌≡◌, length, IfOk, IfErr, IsErrOf};
 ghost use Rattle.std.specs.List.{All};
 ghost use Rattle.path_map.specs.Entries.{entry_at};
-ghost use Rattle.tree_digest.specs.Listings.{AreListable, lines_of};
+ghost use Rattle.tree_digest.specs.Listings.{AreListable, IsListing, lines_of};
 ghost use Rattle.dep_match.specs.TreeOrder.{IsOrderedTree};
 ghost use Rattle.dir_model.specs.Causes.{Rose};
 ghost use Rattle.dir_model.specs.Local.{IsActive};
@@ -33,10 +33,15 @@ fn listed(alloc: Global, rendering: Rendering) -> Result<Root, PlanError>
     requires listable { AreListable (entry_at rendering.map) }
     ensures rendering { IfOk result (λ root. root.rendering ≡ rendering) }
     ensures listing { IfOk result (λ root. root.listing ≡ lines_of rendering.map) }
+    ensures kind { IfOk result (λ root. IsListing root.listing) }
     ensures refused { IfErr result (IsListingRefusal rendering.map) }
 {
     match Listing::of_map(alloc, rendering.map()) {
-        Ok(listing) => Ok(Root { rendering, listing }),
+        Ok(listing) => {
+            // The clause of `as_slice` says that its lines are a listing.
+            let _lines = listing.as_slice();
+            Ok(Root { rendering, listing })
+        }
         Err(error) => Err(listing_refusal(error)),
     }
 }

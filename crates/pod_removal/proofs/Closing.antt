@@ -2,7 +2,6 @@
 use Rattle.std.proofs.Common.{◌≡◌, Bool, true, false, not, ◌&&◌, ◌||◌, cond, List, [], ◌∷◌, map, filter, refl, ap, ◌∙◌}
 use Rattle.std.specs.List.{list_any}
 use Rattle.dir_model.specs.declared.area.Area.TheVariants.{Embryo}
-use Rattle.dir_model.specs.declared.opening.Target.{Target}
 use Rattle.dir_model.specs.declared.opening.Target.TheVariants as target
 use Rattle.dir_model.specs.declared.spot.Handle.{Handle}
 use Rattle.dir_model.specs.declared.request.Request.TheVariants.{Close}
@@ -11,13 +10,14 @@ use Rattle.dir_model.specs.Pods.{pod_text}
 use Rattle.dir_model.proofs.Lists.{same_self}
 use Rattle.dir_rules.specs.declared.standing.Held.{Held}
 use Rattle.dir_rules.specs.declared.seen.Seen.{Seen}
-use Rattle.dir_rules.specs.Standing.{is_number, is_gate_shared, gives_up, gives_up_cover, recover, intends, holds_own}
+use Rattle.dir_rules.specs.Standing.{is_number, is_gate_shared, gives_up, recover, intends, holds_own}
 use Rattle.dir_rules.specs.Rules.{is_gate}
 use Rattle.dir_rules.specs.Conforms.{seen_replied}
 use Rattle.dir_rules.proofs.Looks.{Fresh, none_given}
 use Rattle.pod_claim.specs.Holding.{is_on_folder}
 use Rattle.pod_steps.specs.Holding.{is_in_garbage, IsBare, Keeps}
-use Rattle.pod_steps.proofs.Seen.{none_of_filter}
+use Rattle.pod_claim.proofs.OwnOpenings.{none_fails}
+use Rattle.pod_claim.proofs.Seen.{map_gates, gate_cover}
 
 none_dropped : (c : Handle) (hs : List Held) → Fresh c hs → filter (λ h. not (is_number c h)) hs ≡ hs
 none_dropped c [] f = refl
@@ -27,20 +27,6 @@ none_dropped c (x ∷ hs) f = by (is_number c x) f (λ r. none_dropped c hs r)
         → cond (not b) (x ∷ filter (λ y. not (is_number c y)) hs) (filter (λ y. not (is_number c y)) hs) ≡ x ∷ hs
     by true f go = cc
     by false f go = ap (λ (r : List Held). x ∷ r) (go f)
-
--- what changes handles on folders alone changes none on areas
-map_gates : (f : Held → Held) → ((h : Held) → not (is_gate h.target) ≡ false → f h ≡ h) → (hs : List Held) → list_any is_on_folder hs ≡ false → map f hs ≡ hs
-map_gates f same [] apart = refl
-map_gates f same (h ∷ hs) apart = by (not (is_gate h.target)) refl apart (λ rest. map_gates f same hs rest)
-  where
-    by : (b : Bool) → not (is_gate h.target) ≡ b → (b || list_any is_on_folder hs) ≡ false → (list_any is_on_folder hs ≡ false → map f hs ≡ hs) → map f (h ∷ hs) ≡ h ∷ hs
-    by true is rest go = cc
-    by false is rest go = ap (λ (x : Held). x ∷ map f hs) (same h is) ∙ ap (λ (l : List Held). h ∷ l) (go rest)
-
-gate_cover : (h : Handle) (whole : List Held) (t : Target) → not (is_gate t) ≡ false → gives_up_cover h whole t ≡ false
-gate_cover h whole (target.Own spot) g = cc
-gate_cover h whole (target.Claim spot) g = cc
-gate_cover h whole (target.Gate a) g = refl
 
 recovered : (c : Handle) (whole : List Held) (h : Held) → not (is_gate h.target) ≡ false → recover c whole h ≡ h
 recovered c whole h g = ap (λ b. let r : Held = record h { covered = not b && h.covered } in r) (gate_cover c whole h.target g)
@@ -76,5 +62,5 @@ module _ (x : Held) (base known : Seen) (fresh : Fresh x.handle base.standing.ho
     intent = intent;
     holdings = given_holdings;
     kept = given_kept ∙ kept;
-    bare = none_of_filter is_in_garbage _ known.items bare;
+    bare = none_fails is_in_garbage _ known.items bare;
   }

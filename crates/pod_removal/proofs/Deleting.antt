@@ -1,5 +1,5 @@
 -- What a process may do that holds a pod's Own in a garbage place, and what it knows once that is given up.
-use Rattle.std.proofs.Common.{◌≡◌, ◌≤◌, ℕ, Bool, true, false, not, ◌||◌, cond, Option, Some, None, is_some, List, [], ◌∷◌, ◌++◌, filter, refl, sym, ap, subst, ◌∙◌, arith}
+use Rattle.std.proofs.Common.{◌≡◌, ◌≤◌, ℕ, Bool, true, false, not, ◌||◌, cond, Some, List, [], ◌∷◌, ◌++◌, filter, refl, sym, ap, subst, ◌∙◌, arith}
 use Rattle.std.specs.List.{list_any}
 use Rattle.dir_model.specs.declared.area.Area.{Area}
 use Rattle.dir_model.specs.declared.area.Area.TheVariants.{Prepared, ExitedGarbage, Garbage}
@@ -9,7 +9,6 @@ use Rattle.dir_model.specs.declared.spot.Mode.TheVariants.{Exclusive}
 use Rattle.dir_model.specs.declared.spot.Spot.{Spot}
 use Rattle.dir_model.specs.declared.spot.Which.{Which}
 use Rattle.dir_model.specs.declared.spot.Which.TheVariants.{Own}
-use Rattle.dir_model.specs.declared.tree.TreeEntry.{TreeEntry}
 use Rattle.dir_model.specs.declared.request.DirError.TheVariants.{Missing}
 use Rattle.dir_model.specs.declared.request.Request.{Request}
 use Rattle.dir_model.specs.declared.request.Request.TheVariants.{Close, MoveFolder, RemoveFolder, ListIn, RemoveFileIn, RemoveDirIn}
@@ -18,7 +17,6 @@ use Rattle.dir_model.specs.declared.request.Reply.TheVariants.{Done}
 use Rattle.dir_model.specs.Areas.{rank}
 use Rattle.dir_model.specs.Causes.{Rose}
 use Rattle.dir_model.specs.Local.{IsUnopened}
-use Rattle.dir_model.specs.Replies.{refused_in, open_refusal}
 use Rattle.dir_model.specs.State.{DirState, spot_eq, folder_at, stands}
 use Rattle.dir_model.proofs.Chains.{and_call, and_more, extends_wider}
 use Rattle.dir_model.proofs.Lists.{or_last, any_fewer, same_self}
@@ -54,14 +52,15 @@ use Rattle.pod_steps.specs.Requests.{looks_at}
 use Rattle.pod_steps.specs.Holding.{Went, and_lock, on_lock, with_lock, is_in_garbage, IsBare, MayTake, Keeps, KeepsReady, Stays}
 use Rattle.pod_steps.specs.Causes.{Stopped, IsAbsentAt, CannotOpenAt, Did, is_stray_answer}
 use Rattle.pod_steps.proofs.Calls.{rose_later, lock_closed}
-use Rattle.pod_steps.proofs.Knowing.{new_number}
-use Rattle.pod_steps.proofs.Seen.{none_of_filter}
+use Rattle.pod_claim.proofs.Knowing.{new_number}
+use Rattle.pod_claim.proofs.OwnOpenings.{none_fails}
 use Rattle.pod_removal.specs.Requests.{is_garbage_place, deletes_in, removes}
 use Rattle.pod_removal.specs.Causes.{is_missing, StoppedDeleting}
 use Rattle.pod_removal.specs.Holding.{MayRemove, HasOwn, KeepsBut}
 use Rattle.pod_removal.proofs.CallKinds.{looks_remove}
 use Rattle.pod_removal.proofs.Closing.{given_holdings, given_kept}
 use Rattle.pod_removal.proofs.Stages.{none_kind, same_ready}
+use Rattle.pod_claim.proofs.Parts.{none_there}
 
 -- the two garbage places
 
@@ -164,14 +163,10 @@ delete_calm delete.NoMemory which is = cc
 pub deed_removed : {spot : Spot} (pod : PodId) (a : Area) (old new : DirAt) → spot ≡ pod_spot pod a → EndsRemoved spot old new → Did (RemoveFolder (pod_spot pod a)) Done old.process old.trace new.trace
 deed_removed {spot} pod a old new is w = subst (λ (s : Spot). Did (RemoveFolder s) Done old.process old.trace new.trace) is (deeds_after (grown_by w.first) (one_deed w.last))
 
-absent_own : (es : List TreeEntry) (o : Option ℕ) → refused_in (open_refusal Own) es o ≡ Some Missing → is_some o ≡ false
-absent_own es None is = refl
-absent_own es (Some folder) is = cc
-
 pub own_stopped : {observed : Bool} {e : Setback} {old new : DirAt} (pod : PodId) (a : Area) → Stopped observed pod (CannotOpenAt pod a Own) e old new → Stopped observed pod (IsAbsentAt pod a) e old new
 own_stopped pod a x = record {
   fault = x.fault;
-  missing = λ is t. at_weaker (IsAbsentAt pod a) (λ s h. absent_own s.entries (folder_at s.namespace (pod_spot pod a)) h) (x.missing is t);
+  missing = λ is t. at_weaker (IsAbsentAt pod a) (λ s h. none_there s.entries (folder_at s.namespace (pod_spot pod a)) h) (x.missing is t);
   manifest = x.manifest;
   stray = x.stray;
 }
@@ -228,7 +223,7 @@ but_deleted {pod} {a} {s} bare d = record {
   intent = ap (λ (x : Seen). x.standing.intent) d.is.same;
   holdings = ap (λ (x : Seen). x.standing.holdings) d.is.same;
   kept = ap (λ (x : Seen). x.kept) d.is.same;
-  others = ap (λ (x : Seen). list_any is_in_garbage (forget_items (pod_spot pod a) x.items)) d.is.same ∙ none_of_filter is_in_garbage _ (forget_items (pod_spot pod a) s.items) (none_of_filter is_in_garbage _ s.items bare);
+  others = ap (λ (x : Seen). list_any is_in_garbage (forget_items (pod_spot pod a) x.items)) d.is.same ∙ none_fails is_in_garbage _ (forget_items (pod_spot pod a) s.items) (none_fails is_in_garbage _ s.items bare);
   knows = d.knows;
 }
 
@@ -238,7 +233,7 @@ but_tried {pod} {a} {s} bare d = record {
   intent = ap (λ (x : Seen). x.standing.intent) d.only.same;
   holdings = ap (λ (x : Seen). x.standing.holdings) d.only.same;
   kept = ap (λ (x : Seen). x.kept) d.only.same;
-  others = ap (λ (l : List ShownItem). list_any is_in_garbage l) d.only.items ∙ none_of_filter is_in_garbage _ s.items bare;
+  others = ap (λ (l : List ShownItem). list_any is_in_garbage l) d.only.items ∙ none_fails is_in_garbage _ s.items bare;
   knows = d.knows;
 }
 
@@ -271,7 +266,7 @@ known_looked {pod} {a} looks s k h =
       intent = ap (λ (y : Seen). y.standing.intent) x.looked.same;
       holdings = ap (λ (y : Seen). y.standing.holdings) x.looked.same;
       kept = ap (λ (y : Seen). y.kept) x.looked.same;
-      others = ap (λ (y : Seen). list_any is_in_garbage (forget_items (pod_spot pod a) y.items)) x.looked.same ∙ none_of_filter is_in_garbage _ s.items (has_bare h);
+      others = ap (λ (y : Seen). list_any is_in_garbage (forget_items (pod_spot pod a) y.items)) x.looked.same ∙ none_fails is_in_garbage _ s.items (has_bare h);
       knows = x.knows;
     }
 

@@ -30,7 +30,8 @@ use Rattle.pod_steps.specs.Holding.{Went, and_lock, on_lock, with_lock, with_loo
 use Rattle.pod_steps.specs.Causes.{Stopped, IsAbsentAt, CannotOpenAt, BusyElsewhere}
 use Rattle.pod_steps.proofs.Calls.{Follows}
 use Rattle.pod_steps.proofs.Within.{held_within}
-use Rattle.pod_steps.proofs.Knowing.{new_number, knows_as}
+use Rattle.pod_steps.proofs.Knowing.{knows_as}
+use Rattle.pod_claim.proofs.Knowing.{new_number}
 use Rattle.pod_removal.specs.Requests.{removes}
 use Rattle.pod_removal.specs.Holding.{MayDiscard, UnderClaim}
 use Rattle.pod_removal.specs.Causes.{is_look_setback, StopsAlone, StoppedAlone, BusyInPrepared, BusyByLooks}

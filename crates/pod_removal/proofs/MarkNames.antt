@@ -1,48 +1,24 @@
 -- The name of a remover's mark: a path of one name, outside every started app's root.
 use Rattle.std.proofs.Common.{◌≡◌, ◌+◌, ◌/◌, ◌%◌, ◌<◌, ◌==◌, ℕ, zero, suc, true, false, not, codes, List, [], ◌∷◌, ◌++◌, length, refl, ap, arith}
-use Rattle.std.specs.List.{list_all, AllByRecursion}
+use Rattle.std.specs.List.{AllByRecursion}
 use Rattle.std.specs.Str.{IsAscii}
 use Rattle.std.proofs.lemmas.Bool.Decides.{nat_tests}
 use Rattle.std.proofs.lemmas.Grind.{common_steps}
 use Rattle.std.proofs.lemmas.List.Sums.{AllPass-from_list_all}
 use Rattle.std.proofs.lemmas.Str.{IsUtf8-from_ascii}
-use native.Mathlib.Nat.{mod-lt}
 use Rattle.dir_model.specs.Names.{is_file_byte, IsFileName}
-use Rattle.dir_model.specs.Paths.{is_slash, is_path, is_directly_in, lies_below}
-use Rattle.dir_model.proofs.Lists.{and_both, or_none, all_both, all_push}
+use Rattle.dir_model.specs.Paths.{is_path, is_directly_in, lies_below}
+use Rattle.dir_model.proofs.Lists.{and_both, all_both}
 use Rattle.dir_rules.specs.Marks.{has_slash, digits, marked_mark}
 use Rattle.folder_removal.proofs.Paths.{path_of}
 use Rattle.gate_reading.specs.Files.{is_plain}
-
--- a byte of a plain name
-record IsPlain (b : ℕ) : Type 0 where
-  no_slash : (b == 47) ≡ false
-  no_nul : (b == 0) ≡ false
-  ascii : b < 128
-
-plain_digit : (n : ℕ) → n < 10 → IsPlain (48 + n)
-plain_digit n small = record { no_slash = grind (arith, nat_tests); no_nul = grind (arith, nat_tests); ascii = omega (arith, small) }
-
-plain_digits : (k n : ℕ) → AllByRecursion IsPlain (digits k n)
-plain_digits zero n = tt
-plain_digits (suc k) n = all_push IsPlain (digits k (n / 10)) (48 + n % 10) (plain_digits k (n / 10)) (plain_digit (n % 10) (mod-lt n (omega arith)))
-
-letter : (b : ℕ) → (b == 47) ≡ false → (b == 0) ≡ false → b < 128 → IsPlain b
-letter b s n a = record { no_slash = s; no_nul = n; ascii = a }
+use Rattle.folder_plans.proofs.Marks.{IsPlain, file_bytes, plain_digits, no_slashes, letter}
 
 plain_front : AllByRecursion IsPlain (codes "marked-")
 plain_front = (letter 109 refl refl (omega arith), (letter 97 refl refl (omega arith), (letter 114 refl refl (omega arith), (letter 107 refl refl (omega arith), (letter 101 refl refl (omega arith), (letter 100 refl refl (omega arith), (letter 45 refl refl (omega arith), tt)))))))
 
 plain_mark : (now : ℕ) → AllByRecursion IsPlain (marked_mark now)
 plain_mark now = all_both IsPlain (codes "marked-") (digits 20 now) plain_front (plain_digits 20 now)
-
-no_slashes : (bs : List ℕ) → AllByRecursion IsPlain bs → has_slash bs ≡ false
-no_slashes [] p = refl
-no_slashes (b ∷ bs) p = or_none (is_slash b) (has_slash bs) p.0.no_slash (no_slashes bs p.1)
-
-file_bytes : (bs : List ℕ) → AllByRecursion IsPlain bs → list_all is_file_byte bs ≡ true
-file_bytes [] p = refl
-file_bytes (b ∷ bs) p = and_both (is_file_byte b) (list_all is_file_byte bs) (rw (p.0.no_slash, p.0.no_nul) refl) (file_bytes bs p.1)
 
 ascii : (bs : List ℕ) → AllByRecursion IsPlain bs → IsAscii bs
 ascii [] p i = omega arith

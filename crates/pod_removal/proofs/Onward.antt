@@ -58,7 +58,7 @@ late_place kind.Exited = omega arith
 late_place kind.ExitedGarbage = omega arith
 late_place p = omega arith
 
-stage_place : (p : Phase) → is_stage (place_of p) ≡ true
+pub stage_place : (p : Phase) → is_stage (place_of p) ≡ true
 stage_place kind.AbortedPrepare = refl
 stage_place kind.Prepared = refl
 stage_place kind.Exited = refl
@@ -88,7 +88,7 @@ at_most_five a is = by (nat_le (rank a) 5) refl
     by false le = absurd (five_at_most a is (grind (arith, nat_tests)))
 
 -- after its own move it stands where it goes
-moved_stands : (me : ℕ) (from to : Spot) (a b : List Event) → CallStep me a (MoveFolder from to) Done b → stands (state_after b).namespace to ≡ true
+pub moved_stands : (me : ℕ) (from to : Spot) (a b : List Event) → CallStep me a (MoveFolder from to) Done b → stands (state_after b).namespace to ≡ true
 moved_stands me from to a b s = by s.own
   where
     e : Event

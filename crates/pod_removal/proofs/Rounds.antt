@@ -45,7 +45,7 @@ use Rattle.pod_claim.specs.Work.{Grew}
 use Rattle.pod_claim.specs.Elsewhere.{is_owned_phase, IsOwnedElsewhere}
 use Rattle.pod_claim.proofs.Elsewhere.{met_elsewhere}
 use Rattle.pod_claim.proofs.Reading.{found_prepared as read_prepared, lacks_manifest}
-use Rattle.pod_claim.proofs.Times.{at_part, deeds_part}
+use Rattle.pod_claim.proofs.Times.{at_part, deeds_part, alone_part}
 use Rattle.pod_claim.proofs.Traces.{grown_none}
 use Rattle.pod_steps.specs.declared.setback.Setback.{Setback}
 use Rattle.pod_steps.specs.declared.setback.Setback.TheVariants as stop
@@ -113,9 +113,6 @@ found_waiting {observed} {pod} p is x = record {
   manifest = x.manifest;
   stray = x.stray;
 }
-
-alone_part : {pod : PodId} {me other : ℕ} {a b c d : List Event} → Grew a b → other ≡ me → Grew c d → OpensOwnAlone pod other b c → OpensOwnAlone pod me a d
-alone_part ab same cd o = record { between = o.between; closed = at_part ab same grown_none o.closed; there = at_part grown_none same cd o.there }
 
 pub found_part : {observed : Bool} {pod : PodId} {p : Phase} {e : Setback} {a b c d : DirAt} → Follows observed a b → Follows observed c d → StoppedFound observed pod p e b c → StoppedFound observed pod p e a d
 found_part {observed} {pod} {p} {e} {a} {b} {c} {d} ab cd x = record {

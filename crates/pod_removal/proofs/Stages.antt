@@ -1,24 +1,23 @@
 -- What a process may do at a dead pod, and what it knows once that is done.
-use Rattle.std.proofs.Common.{◌≡◌, ℕ, true, false, not, Result, Ok, Err, IfOk, IfErr, List, refl, subst}
+use Rattle.std.proofs.Common.{◌≡◌, ℕ, false, Result, Ok, Err, IfOk, IfErr, List, refl, subst}
 use Rattle.std.specs.List.{list_any}
 use Rattle.dir_model.specs.declared.area.Area.TheVariants.{Prepare, Run, Garbage}
-use Rattle.dir_model.specs.declared.opening.Target.{Target}
 use Rattle.dir_model.specs.declared.opening.Target.TheVariants as target
 use Rattle.dir_model.specs.declared.pod.PodId.{PodId}
 use Rattle.dir_model.specs.declared.spot.Which.{Which}
-use Rattle.dir_model.specs.declared.spot.Which.TheVariants.{Own, Claim}
+use Rattle.dir_model.specs.declared.spot.Which.TheVariants.{Own}
 use Rattle.dir_model.specs.Pods.{pod_text}
 use Rattle.dir_model.proofs.Lists.{any_fewer}
 use Rattle.dir_rules.specs.declared.standing.Held.{Held}
 use Rattle.dir_rules.specs.declared.seen.Seen.{Seen}
-use Rattle.dir_rules.specs.Rules.{is_gate, is_deleting}
+use Rattle.dir_rules.specs.Rules.{is_deleting}
 use Rattle.dir_rules.proofs.Looks.{same_bytes, deletes_none}
 use Rattle.dir_trait.specs.DirCalls.{DirAt}
 use Rattle.dir_trait.specs.Knowledge.{Knows}
 use Rattle.phase_read.specs.Read.{pod_spot}
 use Rattle.pod_claim.specs.Causes.{is_lock}
 use Rattle.pod_claim.specs.Holding.{is_on_folder}
-use Rattle.pod_claim.proofs.Seen.{off}
+use Rattle.pod_claim.proofs.Seen.{off, kind_one}
 use Rattle.pod_steps.specs.Holding.{MayLook, LooksFree, with_look, MayMove, KeepsReady, Stays}
 use Rattle.pod_removal.specs.Holding.{MayRemove}
 
@@ -37,15 +36,6 @@ err_all P (Err e) f = f e
 pub ok_all : {A E : Type 0} (P : A → Type 0) (r : Result A E) → ((a : A) → P a) → IfOk r P
 ok_all P (Ok a) f = f a
 ok_all P (Err e) f = tt
-
--- a process that has only locks of areas
-kind_one : (which : Which) (t : Target) → is_lock which t ≡ true → not (is_gate t) ≡ true
-kind_one Own (target.Own here) is = refl
-kind_one Own (target.Claim here) is = cc
-kind_one Own (target.Gate a) is = cc
-kind_one Claim (target.Claim here) is = refl
-kind_one Claim (target.Own here) is = cc
-kind_one Claim (target.Gate a) is = cc
 
 pub none_kind : (which : Which) (hs : List Held) → list_any is_on_folder hs ≡ false → list_any (λ h. is_lock which h.target) hs ≡ false
 none_kind which hs apart = any_fewer (λ h. is_lock which h.target) is_on_folder (λ h is. kind_one which h.target is) hs apart

@@ -2,7 +2,6 @@
 use Rattle.std.proofs.Common.{◌≡◌, inl, inr, ℕ, Bool, true, false, ◌||◌, bytes_eq, None, List, [], ◌∷◌, ◌++◌, refl, sym, ap, ◌∙◌, append_assoc}
 use Rattle.std.specs.List.{list_any, flat_map, AllByRecursion}
 use Rattle.std.proofs.lemmas.Slice.Eq.{bytes_eq-Decides}
-use Rattle.dir_model.specs.declared.area.Area.{Area}
 use Rattle.dir_model.specs.declared.event.Event.{Event}
 use Rattle.dir_model.specs.declared.pod.PodId.{PodId}
 use Rattle.dir_model.specs.Areas.{is_stage}
@@ -19,13 +18,13 @@ use Rattle.lifecycle.specs.Readings.{WasPhase}
 use Rattle.lifecycle.proofs.Phases.{stands_exists}
 use Rattle.phase_read.specs.Read.{stages}
 use Rattle.pod_lookup.specs.Pods.{pod_names, is_pod_name, pods_standing, KeepsFolders}
-use Rattle.pod_lookup.proofs.AreaNames.{area_named}
 use Rattle.pod_lookup.proofs.InOrder.{Rising, one_order}
 use Rattle.pod_lookup.proofs.Names.{named_are}
-use Rattle.pod_lookup.proofs.Shown.{any_parts, conforms}
+use Rattle.pod_lookup.proofs.Shown.{conforms}
 use Rattle.pod_report.specs.declared.line.PodLine.{PodLine}
 use Rattle.pod_report.specs.Snapshot.{lined, IsPartOf, TellsPods, LinesStanding}
 use Rattle.pod_report.proofs.Telling.{never_both, part_sorted}
+use Rattle.pod_lookup.proofs.Still.{stand_in}
 
 pub any_with : {X : Type 0} (P : X → Type 0) (t : X → Bool) (xs : List X) → AllByRecursion P xs → list_any t xs ≡ true → (x : X) × P x × (t x ≡ true)
 any_with P t [] all h = cc
@@ -50,14 +49,6 @@ in_part xs (y ∷ ys) name (inr (rest, is, p)) h = by (bytes_eq y name) (λ k. i
     by : (b : Bool) → (has_name rest name ≡ true → has_name ys name ≡ true) → (b || has_name rest name) ≡ true → (b || has_name ys name) ≡ true
     by true go h = refl
     by false go h = go h
-
--- the names of the folders that stand in some areas
-stand_in : (n : Namespace) (name : List ℕ) (areas : List Area) → has_name (flat_map (λ area. names_in area n.folders) areas) name ≡ list_any (λ area. stands n (place_in name area)) areas
-stand_in n name [] = refl
-stand_in n name (a ∷ areas) =
-    any_parts (λ n. bytes_eq n name) (names_in a n.folders) (flat_map (λ area. names_in area n.folders) areas)
-    ∙ (ap (λ b. b || has_name (flat_map (λ area. names_in area n.folders) areas) name) (area_named n a name)
-    ∙ ap (λ b. stands n (place_in name a) || b) (stand_in n name areas))
 
 -- one of the pods that stand has a folder somewhere
 pub standing_there : (n : Namespace) (name : List ℕ) → has_name (pod_names (pods_standing n)) name ≡ true → list_any (λ area. stands n (place_in name area)) stages ≡ true

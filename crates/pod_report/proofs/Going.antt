@@ -14,8 +14,7 @@ use Rattle.lifecycle.specs.Executions.{IsConforming}
 use Rattle.phase_read.specs.Exact.{AtOwnEvent, IsNowhere}
 use Rattle.phase_read.proofs.Exact.{event_within}
 use Rattle.pod_lookup.specs.Looks.{lists_stages}
-use Rattle.pod_lookup.proofs.Shown.{conforms}
-use Rattle.pod_report.proofs.Ages.{ages_on}
+use Rattle.pod_lookup.proofs.Shown.{conforms, ages_on}
 use Rattle.pod_report.specs.declared.visit.Visit.{Visit}
 use Rattle.pod_report.specs.Requests.{OnlyAsksFor, visits, surveys}
 use Rattle.pod_report.specs.Rounds.{HasLeft}

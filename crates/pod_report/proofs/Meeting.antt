@@ -26,8 +26,7 @@ use Rattle.phase_read.specs.Exact.{AtOwnEvent, IsInPhase, IsNowhere}
 use Rattle.phase_read.proofs.Exact.{event_within}
 use Rattle.lifecycle.proofs.Looking.{past, off_place, ended_at, gone_phase}
 use Rattle.pod_lookup.proofs.OneByOne.{stage_of}
-use Rattle.pod_lookup.proofs.Shown.{conforms}
-use Rattle.pod_report.proofs.Ages.{ages_on}
+use Rattle.pod_lookup.proofs.Shown.{conforms, ages_on}
 use Rattle.pod_report.specs.declared.sight.Sight.{Sight}
 use Rattle.pod_report.specs.declared.sight.Sight.TheVariants.{Moved, Lacking, Manifest}
 use Rattle.pod_report.specs.declared.attempt.Round.TheVariants.{Missed}

@@ -34,7 +34,7 @@ use Rattle.pod_report.proofs.SequentialEnds.{ends_are, end_is, end_told, names, 
 use Rattle.pod_report.proofs.SequentialReads.{gone_is, there_is}
 use Rattle.pod_report.proofs.StatusMeeting.{same_number, item_named}
 
-same_test : (a b : Bool) → (a ≡ true → b ≡ true) → (b ≡ true → a ≡ true) → a ≡ b
+pub same_test : (a b : Bool) → (a ≡ true → b ≡ true) → (b ≡ true → a ≡ true) → a ≡ b
 same_test true b f g = sym (f refl)
 same_test false true f g = g refl
 same_test false false f g = refl

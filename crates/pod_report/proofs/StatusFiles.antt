@@ -1,48 +1,32 @@
 -- Status files: they are no started app's own, and the directory of statuses shows them.
-use Rattle.std.proofs.Common.{arith, ◌≡◌, ◌≤◌, ◌<◌, ℕ, zero, suc, nat_lt, Bool, true, false, not, ◌&&◌, ◌||◌, ◌==◌, cond, bytes_eq, nat_eq, Option, Some, None, option_to_list, List, [], ◌∷◌, ◌++◌, length, drop, slice_index, codes, refl, sym, ap, subst, ◌∙◌}
-use Rattle.std.specs.List.{list_any, list_all, cons_option, AllByRecursion, starts_with}
+use Rattle.std.proofs.Common.{arith, ◌≡◌, ◌≤◌, ◌<◌, ℕ, zero, suc, nat_lt, Bool, true, false, not, ◌&&◌, ◌||◌, ◌==◌, cond, bytes_eq, nat_eq, Option, Some, None, List, [], ◌∷◌, ◌++◌, length, codes, refl, sym, ap, subst, ◌∙◌}
+use Rattle.std.specs.List.{list_any, list_all, cons_option, starts_with}
 use Rattle.std.specs.Str.{is_utf8, IsAscii}
-use Rattle.std.proofs.lemmas.Bool.Decides.{Decides-eqb, nat_tests}
-use Rattle.std.proofs.lemmas.Grind.{common_steps}
+use Rattle.std.proofs.lemmas.Bool.Decides.{nat_tests}
 use Rattle.std.proofs.lemmas.List.Sums.{AllPass-from_list_all}
-use Rattle.std.proofs.lemmas.Slice.Eq.{starts_is}
 use Rattle.std.proofs.lemmas.Str.{IsUtf8-from_ascii}
 use Rattle.dir_model.specs.declared.event.Event.{Event}
 use Rattle.dir_model.specs.declared.item.Inner.{Inner}
 use Rattle.dir_model.specs.declared.item.Item.{Item}
-use Rattle.dir_model.specs.declared.tree.StartedApp.{StartedApp}
 use Rattle.dir_model.specs.declared.tree.TreeEntry.{TreeEntry}
-use Rattle.dir_model.specs.declared.request.Request.{Request}
-use Rattle.dir_model.specs.declared.request.Request.TheVariants.{MakeFileIn}
-use Rattle.dir_model.specs.declared.request.Reply.{Reply}
-use Rattle.dir_model.specs.declared.request.Reply.TheVariants.{Done}
 use Rattle.dir_model.specs.Listings.{is_named}
 use Rattle.dir_model.specs.Names.{is_file_byte, IsFileName}
 use Rattle.dir_model.specs.Paths.{is_slash, is_empty, is_file_name, is_path, lies_below, is_directly_in, behind}
-use Rattle.dir_model.specs.Replies.{is_own_at, is_own_of}
-use Rattle.dir_model.specs.State.{Namespace, DirState, empty_state, folder_at}
-use Rattle.dir_model.specs.Trace.{is_mark, marked_app, app_started, state_next, states_next, state_after}
-use Rattle.dir_model.specs.Trees.{is_within, mark_prefix, app_root, is_apps_own, is_dir, is_entry, is_file_entry, has_file, is_child, item_in, items_in, kind_of}
-use Rattle.dir_model.proofs.Lists.{and_left, and_right, and_both, and_false, or_none, or_last, not_true, all_both}
+use Rattle.dir_model.specs.Replies.{is_own_of}
+use Rattle.dir_model.specs.Trace.{state_after}
+use Rattle.dir_model.specs.Trees.{is_dir, is_entry, is_file_entry, has_file, is_child, item_in, items_in, kind_of}
+use Rattle.dir_model.proofs.Lists.{and_left, and_right, and_both, or_last}
 use Rattle.dir_rules.specs.Marks.{status_directory}
 use Rattle.dir_rules.proofs.Looks.{same_bytes}
 use Rattle.folder_removal.proofs.Paths.{path_of}
-use Rattle.lifecycle.proofs.Handles.{clash}
 use Rattle.lifecycle.proofs.Places.{name_same}
 use Rattle.dir_laws.proofs.Apps.{not_apps_own}
+use Rattle.gate_reading.proofs.DirectItems.{no_slash}
 
 -- the statuses are at and below their directory
 pub status_own : (h : List Event) (inner : Inner) (rest : List ℕ) → inner.path ≡ status_directory ++ rest → is_own_of (state_after h) (Some inner) ≡ false
 status_own h inner rest is =
     not_apps_own (codes "stage1/rootfs/opt/") (λ app rest. refl) h inner (subst (λ (p : List ℕ). starts_with nat_eq p (codes "stage1/rootfs/opt/") ≡ false) (sym is) refl)
-
--- a file name is one name behind the directory
-no_slash : (bs : List ℕ) → list_all is_file_byte bs ≡ true → list_any is_slash bs ≡ false
-no_slash [] h = refl
-no_slash (b ∷ bs) h =
-    or_none (is_slash b) (list_any is_slash bs)
-    (not_true (b == 47) (and_left (not (b == 47)) (not (b == 0)) (and_left (is_file_byte b) (list_all is_file_byte bs) h)))
-    (no_slash bs (and_right (is_file_byte b) (list_all is_file_byte bs) h))
 
 pub name_plain : (app : List ℕ) → is_file_name app ≡ true → list_any is_slash app ≡ false
 name_plain app name =

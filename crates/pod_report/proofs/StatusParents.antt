@@ -31,6 +31,7 @@ use Rattle.lifecycle.proofs.Handles.{clash, none_refused, refused_unless}
 use Rattle.lifecycle.proofs.Places.{name_same}
 use Rattle.pod_report.proofs.StatusFiles.{status_own}
 use Rattle.dir_laws.proofs.Apps.{not_empty, below_front}
+use Rattle.gate_reading.proofs.DirectItems.{below_all}
 
 abbrev d : List ℕ
 d = status_directory
@@ -105,10 +106,6 @@ below_of x a path more is =
     ap (λ b. cond b (not (length path == 0)) (starts_with nat_eq path (x ∷ a) && (slice_index path (length (x ∷ a)) == 47))) (not_empty x a)
     ∙ and_both (starts_with nat_eq path (x ∷ a)) (slice_index path (length (x ∷ a)) == 47) ((starts_is Decides-eqb path (x ∷ a) _ refl).1 (47 ∷ more) is)
     (ap (λ (p : List ℕ). slice_index p (length (x ∷ a)) == 47) is ∙ front_index (x ∷ a) more)
-
-below_all : (x : ℕ) (xs : List ℕ) → lies_below (x ∷ xs) [] ≡ true
-unfolding lies_below
-below_all x xs = ap not (not_empty x xs)
 
 in_statuses : (path : List ℕ) → is_directly_in d path ≡ true → Direct d path
 in_statuses path h = direct 115 (drop 1 d) path h

@@ -1,5 +1,5 @@
 -- Single calls at a pod: what they leave open, and what their refusals rest on.
-use Rattle.std.proofs.Common.{◌≡◌, ◌≤◌, ◌||◌, ℕ, Bool, true, false, cond, Option, Some, None, Result, Ok, Err, List, [], ◌∷◌, ◌++◌, map, refl, sym, ap, ◌∙◌, append-nil, arith, subst}
+use Rattle.std.proofs.Common.{◌≡◌, ◌≤◌, ◌||◌, ℕ, Bool, true, false, cond, Some, None, Result, Ok, Err, List, [], ◌∷◌, ◌++◌, map, refl, sym, ap, ◌∙◌, append-nil, arith, subst}
 use Rattle.dir_model.specs.declared.area.Area.{Area}
 use Rattle.dir_model.specs.declared.event.Event.{Event}
 use Rattle.dir_model.specs.declared.pod.PodId.{PodId}
@@ -42,6 +42,7 @@ use Rattle.pod_steps.specs.Holding.{Went, and_lock}
 use Rattle.folder_removal.specs.Removal.{WasCalledFor}
 use Rattle.folder_removal.proofs.Strays.{called_within}
 use Rattle.pod_steps.specs.Causes.{Stopped, IsAbsentAt, CannotOpenAt, WasStray}
+use Rattle.pod_claim.proofs.Calls.{from_missing, is_missing}
 
 -- the calls are of their kind
 pub asks_open : (pod : PodId) (a : Area) (which : Which) → looks_at pod a (Open (pod_spot pod a) which) ≡ true
@@ -127,10 +128,6 @@ missing_by : (r : DirError) → is_error Missing (Some r) ≡ true → Some r �
 missing_by Missing is = refl
 missing_by _ is = cc
 
-is_missing : (o : Option DirError) → is_error Missing o ≡ true → o ≡ Some Missing
-is_missing None is = cc
-is_missing (Some r) is = missing_by r is
-
 cannot_open : (s : DirState) (pod : PodId) (a : Area) (which : Which) → is_error Missing (refused_in (open_refusal which) s.entries (folder_at s.namespace (pod_spot pod a))) ≡ true
     → refused_in (open_refusal which) (s.entries ++ []) (folder_at s.namespace (pod_spot pod a)) ≡ Some Missing
 cannot_open s pod a which is = ap (λ (es : List TreeEntry). refused_in (open_refusal which) es (folder_at s.namespace (pod_spot pod a))) (append-nil s.entries) ∙ is_missing _ is
@@ -138,11 +135,6 @@ cannot_open s pod a which is = ap (λ (es : List TreeEntry). refused_in (open_re
 pub missed_open : {me : ℕ} {old new : List Event} (pod : PodId) (a : Area) (which : Which) → CallStep me old (Open (pod_spot pod a) which) (Refused Missing 0) new → AtOwnStep me old new (CannotOpenAt pod a which)
 missed_open {me} {old} {new} pod a which s = step_at me old (Open (pod_spot pod a) which) (Refused Missing 0) new (CannotOpenAt pod a which) refl refl
     (λ s allowed. cannot_open s pod a which (allowed_reply s me (Open (pod_spot pod a) which) (Refused Missing 0) allowed)) s
-
-from_missing : (b to : Bool) → is_error Missing (cond b (cond to (Some Exists) None) (Some Missing)) ≡ true → b ≡ false
-from_missing true true is = cc
-from_missing true false is = cc
-from_missing false to is = refl
 
 pub missed_move : {me : ℕ} {old new : List Event} (pod : PodId) (from to : Area) → CallStep me old (MoveFolder (pod_spot pod from) (pod_spot pod to)) (Refused Missing 0) new → AtOwnStep me old new (IsAbsentAt pod from)
 missed_move {me} {old} {new} pod from to s = step_at me old (MoveFolder (pod_spot pod from) (pod_spot pod to)) (Refused Missing 0) new (IsAbsentAt pod from) refl refl

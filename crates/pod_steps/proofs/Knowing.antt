@@ -13,11 +13,10 @@ use Rattle.dir_model.specs.declared.request.DirError.TheVariants as dir
 use Rattle.dir_model.specs.declared.request.Request.TheVariants.{Open, TryLock, MoveFolder, Close}
 use Rattle.dir_model.specs.declared.request.Reply.TheVariants.{Done, Opened, Refused}
 use Rattle.dir_model.specs.Calls.{CallStep}
-use Rattle.dir_model.specs.Local.{IsUnopened, is_number}
+use Rattle.dir_model.specs.Local.{IsUnopened}
 use Rattle.dir_model.proofs.LockTold.{told_free, told_held}
 use Rattle.dir_rules.specs.declared.seen.Seen.{Seen}
 use Rattle.dir_rules.specs.Conforms.{IsTied}
-use Rattle.dir_rules.proofs.Looks.{Fresh}
 use Rattle.dir_trait.specs.DirCalls.{DirAt, DirCall, LockToldBetween}
 use Rattle.dir_trait.specs.Knowledge.{Knows}
 use Rattle.dir_trait.proofs.Knowing.{knows_call}
@@ -30,9 +29,7 @@ use Rattle.pod_steps.specs.Causes.{HeldByAnother, FreeWhere, BusyElsewhere}
 use Rattle.pod_steps.proofs.Opposed.{asked_on, held_step, free_step}
 use Rattle.pod_steps.proofs.Within.{held_within, told_within}
 use Rattle.pod_steps.proofs.Seen.{probed, not_probed, not_opened, lock_opened, lock_unopened, lock_had, lock_refused, lock_given, moved_keeps, unmoved}
-
-pub new_number : {d : DirAt} {s : Seen} (h : Handle) → Knows d s → IsUnopened d.local h → Fresh h s.standing.holdings
-new_number h k unopened = k.handles (is_number h) ∙ unopened
+use Rattle.pod_claim.proofs.Knowing.{new_number}
 
 pub knows_as : {d : DirAt} {a b : Seen} → a ≡ b → Knows d a → Knows d b
 knows_as {d} is k = subst (λ (s : Seen). Knows d s) is k

@@ -1,6 +1,5 @@
 -- What a process knows that looks at a pod's lock, takes one, moves the pod, and gives the lock up.
-use Rattle.std.proofs.Common.{◌≡◌, ℕ, Bool, true, false, not, ◌&&◌, ◌||◌, cond, Option, Some, None, List, [], ◌∷◌, map, filter, refl, ap, ◌∙◌}
-use Rattle.std.specs.List.{list_any}
+use Rattle.std.proofs.Common.{◌≡◌, ℕ, Bool, true, false, not, ◌&&◌, ◌||◌, Option, Some, None, List, [], ◌∷◌, map, refl, ap, ◌∙◌}
 use Rattle.dir_model.specs.declared.area.Area.{Area}
 use Rattle.dir_model.specs.declared.area.Area.TheVariants as area
 use Rattle.dir_model.specs.declared.opening.Target.TheVariants as target
@@ -28,17 +27,9 @@ use Rattle.dir_rules.specs.Conforms.{seen_replied}
 use Rattle.dir_rules.proofs.Looks.{Fresh, Plain, closed_plain, newest_found, newest_locked, alone_newest}
 use Rattle.phase_read.specs.Read.{pod_spot}
 use Rattle.pod_steps.specs.Holding.{on_lock, and_held, with_lock, covers, MayLook, MayTake, MayMove, with_look, Keeps, is_in_garbage}
+use Rattle.pod_claim.proofs.OwnOpenings.{none_fails}
 
 -- lists
-
-pub none_of_filter : {X : Type 0} (t q : X → Bool) (xs : List X) → list_any t xs ≡ false → list_any t (filter q xs) ≡ false
-none_of_filter t q [] none = refl
-none_of_filter t q (x ∷ xs) none = by (t x) (q x) refl none (λ rest. none_of_filter t q xs rest)
-  where
-    by : (a b : Bool) → t x ≡ a → (a || list_any t xs) ≡ false → (list_any t xs ≡ false → list_any t (filter q xs) ≡ false) → list_any t (cond b (x ∷ filter q xs) (filter q xs)) ≡ false
-    by true b is n go = cc
-    by false true is n go = ap (λ c. c || list_any t (filter q xs)) is ∙ go n
-    by false false is n go = go n
 
 -- Own was asked for shared, at any place
 
@@ -184,7 +175,7 @@ module _ (pod : PodId) (from to : Area) (z : Seen) (may : MayMove pod from to z)
     intent = refl;
     holdings = uncovers_none (pod_spot pod from) z.standing.holdings may.alone;
     kept = ap (λ b. b && z.kept) may.allowed;
-    bare = none_of_filter is_in_garbage _ z.items may.bare;
+    bare = none_fails is_in_garbage _ z.items may.bare;
   }
 
   pub unmoved : (error : DirError) → seen_replied z (MoveFolder (pod_spot pod from) (pod_spot pod to)) (Refused error 0) ≡ z

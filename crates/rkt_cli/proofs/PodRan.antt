@@ -1,7 +1,7 @@
 -- What `prepare` owes between its begin and its finish, and what it tells of the whole run.
 use Rattle.std.proofs.Common.{◌≡◌, inl, inr, ℕ, Bool, true, false, List, [], append-nil, Option, Some, None, Ok, Err, IfErr, IsErrOf, refl, sym, ap, subst, ◌∙◌}
 use Rattle.dir_model.specs.declared.area.Area.{Area}
-use Rattle.dir_model.specs.declared.area.Area.TheVariants.{Prepared}
+use Rattle.dir_model.specs.declared.area.Area.TheVariants.{Images, Prepared}
 use Rattle.dir_model.specs.declared.intent.Draw.{Draw}
 use Rattle.dir_model.specs.declared.intent.Intent.{Intent}
 use Rattle.dir_model.specs.declared.intent.Kind.TheVariants as kind
@@ -12,12 +12,14 @@ use Rattle.dir_model.specs.declared.spot.Mode.TheVariants.{Shared}
 use Rattle.dir_model.specs.Calls.{Extends}
 use Rattle.dir_model.specs.Causes.{Rose}
 use Rattle.dir_model.proofs.Chains.{step_extends}
+use Rattle.dir_model.proofs.Moments.{at_before}
 use Rattle.dir_rules.specs.Conforms.{IsTied}
 use Rattle.dir_trait.specs.DirCalls.{DirAt, HeldBetween}
-use Rattle.area_locks.specs.AreaLocks.{IsBusyElsewhere}
+use Rattle.area_locks.specs.AreaLocks.{IsBusyElsewhere, IsFreeElsewhere}
 use Rattle.folder_building.specs.Work.{Worked}
 use Rattle.lifecycle.specs.Executions.{IsConforming}
 use Rattle.lifecycle.proofs.Draws.{conforming_left}
+use Rattle.pod_build.specs.Causes.{IsMadeByPlan}
 use Rattle.pod_build.specs.Preparations.{Began}
 use Rattle.pod_making.specs.Progress.{at_work, handed}
 use Rattle.rkt_cli.specs.Tasks.{Task}
@@ -29,8 +31,8 @@ use Rattle.command_outcomes.specs.Moments.{BundleSeen, Outside, Outcome}
 use Rattle.command_outcomes.proofs.Seen.{seen_at, beside}
 use Rattle.commands.specs.PrepareRefusals.{prepare_refusal}
 use Rattle.commands.specs.Prepare.{pod_line, prepares_pod, IsFaithful, BringsPod, LeavesFolder, RefusesPod, IsAreaHeld, IsHeldFrom, Syncs, HasBrought, HasSynced, KeepsFolder, HasKeptFolder, PrepareSays}
-use Rattle.commands.proofs.Whole.{refuses_whole, faithful_wider}
-use Rattle.commands.proofs.Parts.{held_wider}
+use Rattle.commands.proofs.Whole.{refuses_whole, faithful_wider, made_whole}
+use Rattle.commands.proofs.Parts.{Part, held_wider}
 use Rattle.commands.specs.Command.{intent_for}
 use Rattle.rkt_cli.specs.Commands.{intent_of, may}
 use Rattle.rkt_cli.specs.Runs.{CommandRan, InProcess, Performs}
@@ -39,6 +41,7 @@ use Rattle.rkt_cli.proofs.Sessions.{any_call, begin_any, finish_part}
 use Rattle.rkt_cli.proofs.Conforming.{begun_knows}
 use Rattle.rkt_cli.proofs.Removals.{meanwhile}
 use Rattle.rkt_cli.proofs.Ran.{ran}
+use Rattle.commands.specs.References.{OfReferences}
 use Rattle.commands.specs.Wants.{Wants}
 
 abbrev pub prepare_intent : ℕ → Draw → Intent
@@ -82,6 +85,25 @@ module _ {wants : Wants} {now : ℕ} {draw : Draw} {intent : Intent} {old new : 
   module _ (said : Began Prepared draw now intent) (t : old.dir.observed ≡ true) {reply : Reply} (x : BringsPod wants now draw reply s.begun.dir s.ended.dir) where
     sync_part : Extends any_call s.begun.dir.process x.brought.trace s.ended.dir.trace
     sync_part = step_extends any_call s.begun.dir.process x.brought.trace (SyncArea Prepared) reply s.ended.dir.trace refl (x.synced (s.told ∙ t))
+
+    -- no other process held the lock of images when it took it
+    pub free_in_process : HeldBetween (shown_at old.dir) (shown_at new.dir) (IsFreeElsewhere old.dir.process Images Shared)
+    free_in_process =
+        let made : HeldBetween (shown_at s.begun.dir) (shown_at s.ended.dir) (IsFreeElsewhere s.begun.dir.process Images Shared) = at_before (x.free (s.told ∙ t)) refl sync_part in
+        held_wider (process_part s t) (IsFreeElsewhere old.dir.process Images Shared)
+        (subst (λ (me : ℕ). HeldBetween (shown_at s.begun.dir) (shown_at s.ended.dir) (IsFreeElsewhere me Images Shared)) s.me made)
+
+    -- by the plan that the store gave
+    pub planned_in_process : OfReferences wants.images (λ refs. IsMadeByPlan old.dir.observed refs wants.wishes draw now (shown_at old.dir) (shown_at new.dir))
+    planned_in_process =
+        let brought : Part (shown_at s.begun.dir) (shown_at s.begun.dir) (shown_at x.brought) (shown_at s.ended.dir) =
+        record { earlier = []; later = sync_part.more; same = refl; begins = sym (append-nil s.begun.dir.trace); ends = sync_part.grown } in
+        let made = made_whole draw {b = shown_at s.begun.dir} {c = shown_at x.brought} (λ seen. brought) x.planned.2 in (
+          x.planned.0,
+          x.planned.1,
+          made_whole draw {b = shown_at s.begun.dir} {c = shown_at s.ended.dir} (λ seen. process_part s t)
+              (subst (λ (seen : Bool). IsMadeByPlan seen x.planned.0 wants.wishes draw now (shown_at s.begun.dir) (shown_at s.ended.dir)) s.told made),
+        )
 
     pub faithful_in_process : IsConforming new.dir.trace → IsFaithful wants draw.uuid old.dir new.dir
     faithful_in_process conforming =

@@ -1,6 +1,6 @@
 -- Where nobody else steps and nothing fails, a run gives what the state and the bundle before it say.
 use Rattle.std.proofs.Common.{◌≡◌, ◌⊎◌, inl, inr, ℕ, Bool, true, false, List, [], Option, Some, None, Ok, Err, refl, sym, ap, subst, ◌∙◌}
-use Rattle.area_locks.specs.AreaLocks.{is_against, IsBusyElsewhere}
+use Rattle.area_locks.specs.AreaLocks.{is_against, IsBusyElsewhere, IsFreeElsewhere}
 use Rattle.dir_model.specs.declared.area.Area.{Area}
 use Rattle.ac_types.specs.declared.store_key.StoreKey.{StoreKey}
 use Rattle.dir_model.specs.declared.area.Area.TheVariants.{Images}
@@ -63,22 +63,26 @@ use Rattle.rkt_cli.proofs.Conforming.{begun_knows, process_conforms}
 use Rattle.rkt_cli.proofs.Listed.{listed_in_process, lacked_in_process}
 use Rattle.commands.proofs.StoreQuiet.{is_tame, lists_is_tame, at_tame, end_tame}
 use Rattle.commands.proofs.EndsQuiet.{unborn_before}
-use Rattle.commands.proofs.PrepareStore.{refuses_by_store}
+use Rattle.commands.proofs.PrepareStore.{refuses_by_state, words_unrefused}
+use Rattle.commands.proofs.Openings.{free_before}
 use Rattle.commands.proofs.StoreChosen.{chosen_of}
 use Rattle.commands.proofs.StoreKept.{prepare_keeps}
 use Rattle.commands.proofs.TakenBefore.{prepare_elsewhere, taken_before}
 use Rattle.commands.proofs.StoreTexts.{prints_store, names_damage}
 use Rattle.rkt_cli.proofs.StoreRan.{imports}
-use Rattle.rkt_cli.proofs.Strays.{pod_never}
+use Rattle.commands.proofs.StrayAnswers.{pod_never}
 use Rattle.rkt_cli.proofs.Imports.{import_printed, stored_in_process, import_refused}
 use Rattle.commands.proofs.ImageImports.{is_memory}
 use Rattle.commands.proofs.ImagesKept.{images_kept}
 use Rattle.commands.proofs.ImportComes.{comes_stored, refuses_quietly}
 use Rattle.commands.proofs.ImportRefusals.{refusal_lawful}
-use Rattle.commands.specs.Prepare.{prepares_pod, IsAreaHeld as IsPodAreaHeld}
+use Rattle.commands.specs.Prepare.{prepares_pod, RefusesPod, IsAreaHeld as IsPodAreaHeld}
 use Rattle.commands.specs.PrepareQuiet.{PreparesQuietly, is_pod_place}
+use Rattle.commands.specs.PrepareTable.{NothingRefuses, RefusesByState}
+use Rattle.commands.specs.References.{AreReferences}
+use Rattle.ac_types.specs.declared.image_ref.ImageRef.{ImageRef}
 use Rattle.rkt_cli.proofs.PodKept.{pod_stands}
-use Rattle.rkt_cli.proofs.PodRan.{prepare_intent, began, prepare_faithful, prepare_refused}
+use Rattle.rkt_cli.proofs.PodRan.{prepare_intent, began, free_in_process, planned_in_process, prepare_faithful, prepare_refused}
 use Rattle.rkt_cli.proofs.Removals.{removal_done, removal_none, removal_stray, sweep_done, sweep_stray}
 use Rattle.commands.proofs.RemovalEnds.{removal_ends, none_before}
 use Rattle.commands.proofs.SweepEnds.{incoming_left, removed_left}
@@ -308,10 +312,36 @@ prepare_extends : (wants : Wants) (now : ℕ) (draw : Draw) (intent : Intent) (o
     Extends (in_process (prepare_asks draw)) old.dir.process old.dir.trace new.dir.trace
 prepare_extends wants now draw intent old new o s u = all_in_process s (u.observed refl)
 
+-- why it was refused, by the state before
+prepare_by_state : (wants : Wants) (now : ℕ) (draw : Draw) (old new : Outside) (r : Refusal) (s : InProcess (Prepare wants) now draw (prepare_intent now draw) old new (Err r)) → Undisturbed (Prepare wants) old new →
+    ((area : Area) → r ≡ Busy area → IsBusyElsewhere old.dir.process area Shared (state_after old.dir.trace)) → RefusesPod wants now draw old.dir new.dir r → RefusesByState wants draw.uuid r old.dir.process (state_after old.dir.trace)
+prepare_by_state wants now draw old new r s u held why =
+    let ext = prepare_extends wants now draw (prepare_intent now draw) old new (Err r) s u in
+    let conforms = process_conforms (Prepare wants) now draw old new (Err r) (u.observed refl) (prepare_intent now draw) s in
+    refuses_by_state wants now draw old.dir new.dir r (u.observed refl) (prepare_keeps draw.uuid ext (u.alone refl))
+    (taken_before draw.uuid (in_process (prepares_pod draw.uuid)) (prepare_elsewhere draw.uuid) (shown_at old.dir) (shown_at new.dir) ext (u.alone refl) conforms)
+    (λ at. free_before (is_against Images Shared) at ext (u.alone refl)) held why
+
+-- where it was prepared, nobody else held the lock of images before, and nothing refused its references
+prepare_free : (wants : Wants) (now : ℕ) (draw : Draw) (old new : Outside) (text : List ℕ) → InProcess (Prepare wants) now draw (prepare_intent now draw) old new (Ok text) → Undisturbed (Prepare wants) old new →
+    IsFreeElsewhere old.dir.process Images Shared (state_after old.dir.trace)
+prepare_free wants now draw old new text s u =
+    free_before (is_against Images Shared) (free_in_process s (began now draw) (u.observed refl) s.ran.says.1) (prepare_extends wants now draw (prepare_intent now draw) old new (Ok text) s u) (u.alone refl)
+
+prepare_unrefused : (wants : Wants) (now : ℕ) (draw : Draw) (old new : Outside) (text : List ℕ) → InProcess (Prepare wants) now draw (prepare_intent now draw) old new (Ok text) → Undisturbed (Prepare wants) old new →
+    (refs : List ImageRef) → AreReferences wants.images refs → NothingRefuses old.dir.process draw.uuid refs wants.wishes (state_after old.dir.trace)
+prepare_unrefused wants now draw old new text s u =
+    let ext = prepare_extends wants now draw (prepare_intent now draw) old new (Ok text) s u in
+    let conforms = process_conforms (Prepare wants) now draw old new (Ok text) (u.observed refl) (prepare_intent now draw) s in
+    words_unrefused wants now draw (shown_at old.dir) (shown_at new.dir) old.dir.observed (u.observed refl) (prepare_keeps draw.uuid ext (u.alone refl))
+    (taken_before draw.uuid (in_process (prepares_pod draw.uuid)) (prepare_elsewhere draw.uuid) (shown_at old.dir) (shown_at new.dir) ext (u.alone refl) conforms)
+    (prepare_free wants now draw old new text s u) (planned_in_process s (began now draw) (u.observed refl) s.ran.says.1)
+
 prepare_quiet : (wants : Wants) (now : ℕ) (draw : Draw) (old new : Outside) (o : Outcome) → InProcess (Prepare wants) now draw (prepare_intent now draw) old new o → Undisturbed (Prepare wants) old new → is_own_end o ≡ true →
     PreparesQuietly wants now draw old.dir new.dir o
 prepare_quiet wants now draw old new (Ok text) s u own = (
   s.ran.says.0,
+  prepare_free wants now draw old new text s u,
   λ conforming.
       let x = prepare_faithful wants now draw old new text (inl s) (u.observed refl) conforming in
       let ext = prepare_extends wants now draw (prepare_intent now draw) old new (Ok text) s u in
@@ -322,10 +352,14 @@ prepare_quiet wants now draw old new (Ok text) s u own = (
           x.2,
           pod_stands draw.uuid ext (u.alone refl) conforming x.2,
           chosen_of (shown_at old.dir) (shown_at new.dir) x.2 (prepare_keeps draw.uuid ext (u.alone refl)) unborn,
+          prepare_unrefused wants now draw old new text s u x.0 x.1,
         ),
       ),
 )
-prepare_quiet wants now draw old new (Err (Busy area)) s u own = (prepare_refused wants now draw (Some (prepare_intent now draw)) old new (Busy area) refl (inl s), prepare_held wants now draw old new area s u)
+prepare_quiet wants now draw old new (Err (Busy area)) s u own =
+    let why = prepare_refused wants now draw (Some (prepare_intent now draw)) old new (Busy area) refl (inl s) in
+    let held = prepare_held wants now draw old new area s u in
+    (why, held, prepare_by_state wants now draw old new (Busy area) s u (λ other is. let same : area ≡ other = cc in subst (λ (a : Area). IsBusyElsewhere old.dir.process a Shared (state_after old.dir.trace)) same held) why)
 prepare_quiet wants now draw old new (Err NoMemory) s u own = let clash : false ≡ true = own in cc
 prepare_quiet wants now draw old new (Err DirFault) s u own = let clash : false ≡ true = own in cc
 prepare_quiet wants now draw old new (Err BundleFault) s u own = let clash : false ≡ true = own in cc
@@ -334,11 +368,7 @@ prepare_quiet wants now draw old new (Err Stray) s u own =
     (why, pod_never now draw wants old.dir new.dir why (u.observed refl))
 prepare_quiet wants now draw old new (Err r) s u own =
     let why = prepare_refused wants now draw (Some (prepare_intent now draw)) old new r refl (inl s) in
-    let ext = prepare_extends wants now draw (prepare_intent now draw) old new (Err r) s u in
-    let stay = prepare_keeps draw.uuid ext (u.alone refl) in
-    let conforms = process_conforms (Prepare wants) now draw old new (Err r) (u.observed refl) (prepare_intent now draw) s in
-    let taken = taken_before draw.uuid (in_process (prepares_pod draw.uuid)) (prepare_elsewhere draw.uuid) (shown_at old.dir) (shown_at new.dir) ext (u.alone refl) conforms in
-    (why, refuses_by_store wants now draw old.dir new.dir r (u.observed refl) stay taken why)
+    (why, prepare_by_state wants now draw old new r s u (λ area is. cc) why)
 
 -- `rm` and `gc`
 rm_quiet : {word : List ℕ} (pod : PodId) (now : ℕ) (draw : Draw) (old new : Outside) (o : Outcome) → InProcess (Rm word pod) now draw (rm_intent word now draw) old new o → Undisturbed (Rm word pod) old new → is_own_end o ≡ true → RemovesPodQuietly pod old.dir new.dir o
@@ -383,33 +413,33 @@ gc_quiet now draw old new (Err BundleFault) s u own = let clash : false ≡ true
 gc_quiet now draw old new (Err r) s u own = let clash : false ≡ true = s.ran.refusals in cc
 
 -- each command
-comes_of : (line : Task) (now : ℕ) (draw : Draw) (intent : Intent) (old new : Outside) (o : Outcome) → intent_of line now draw ≡ Some intent → InProcess line now draw intent old new o → Undisturbed line old new → is_own_end o ≡ true → RunsQuietly line now draw old.dir new.dir o → ComesQuietly line now draw old new o
+comes_of : (line : Task) (now : ℕ) (draw : Draw) (intent : Intent) (old new : Moment) (o : Outcome) → intent_of line now draw ≡ Some intent → InProcess line now draw intent old.outside new.outside o → Undisturbed line old.outside new.outside → is_own_end o ≡ true → RunsQuietly line now draw (inside_in old) (inside_in new) o → ComesQuietly line now draw old new o
 comes_of (Status word pod) now draw intent old new o said s u own ran = report_quiet s u (status_report pod) (λ me s t w. status_stable me s t w pod) s.ran.says own
 comes_of PodList now draw intent old new o said s u own ran = report_quiet s u list_report lines_stable s.ran.says own
 comes_of (CatManifest word pod) now draw intent old new o said s u own ran = report_quiet s u (cat_manifest_report pod) (λ me s t w. manifest_stable me s t w pod) s.ran.says own
 comes_of (Validate path) now draw intent old new o said s u own ran = let clash : false ≡ true = s.uses in cc
-comes_of ImageList now draw intent old new o said s u own ran = list_quiet now draw intent old new o s u own
-comes_of (ImageImport path) now draw intent old new o said s u own ran = import_quiet path now draw intent old new o said s u own
+comes_of ImageList now draw intent old new o said s u own ran = list_quiet now draw intent old.outside new.outside o s u own
+comes_of (ImageImport path) now draw intent old new o said s u own ran = import_quiet path now draw intent old.outside new.outside o said s u own
 comes_of (ImageRm key) now draw intent old new o said s u own ran =
-    removal_quiet key now draw old new o (subst (λ (i : Intent). InProcess (ImageRm key) now draw i old new o) (let e : intent ≡ removal_intent now draw = cc in e) s) u own
+    removal_quiet key now draw old.outside new.outside o (subst (λ (i : Intent). InProcess (ImageRm key) now draw i old.outside new.outside o) (let e : intent ≡ removal_intent now draw = cc in e) s) u own
 comes_of ImageGc now draw intent old new o said s u own ran =
-    sweep_quiet now draw old new o (subst (λ (i : Intent). InProcess ImageGc now draw i old new o) (let e : intent ≡ intent_for kind.ImageGc [] now draw = cc in e) s) u own
+    sweep_quiet now draw old.outside new.outside o (subst (λ (i : Intent). InProcess ImageGc now draw i old.outside new.outside o) (let e : intent ≡ intent_for kind.ImageGc [] now draw = cc in e) s) u own
 comes_of (Prepare wants) now draw intent old new o said s u own ran =
-    prepare_quiet wants now draw old new o (subst (λ (i : Intent). InProcess (Prepare wants) now draw i old new o) (let e : intent ≡ prepare_intent now draw = cc in e) s) u own
+    prepare_quiet wants now draw old.outside new.outside o (subst (λ (i : Intent). InProcess (Prepare wants) now draw i old.outside new.outside o) (let e : intent ≡ prepare_intent now draw = cc in e) s) u own
 comes_of (RunPrepared word pod address) now draw intent old new o said s u own ran = ran
 comes_of (Run wants address) now draw intent old new o said s u own ran = ran
 comes_of (Rm word pod) now draw intent old new o said s u own ran =
-    rm_quiet pod now draw old new o (subst (λ (i : Intent). InProcess (Rm word pod) now draw i old new o) (let e : intent ≡ rm_intent word now draw = cc in e) s) u own
+    rm_quiet pod now draw old.outside new.outside o (subst (λ (i : Intent). InProcess (Rm word pod) now draw i old.outside new.outside o) (let e : intent ≡ rm_intent word now draw = cc in e) s) u own
 comes_of (Gc grace expire) now draw intent old new o said s u own ran =
-    gc_quiet now draw old new o (subst (λ (i : Intent). InProcess (Gc grace expire) now draw i old new o) (let e : intent ≡ gc_intent grace expire now draw = cc in e) s) u own
+    gc_quiet now draw old.outside new.outside o (subst (λ (i : Intent). InProcess (Gc grace expire) now draw i old.outside new.outside o) (let e : intent ≡ gc_intent grace expire now draw = cc in e) s) u own
 comes_of (Metadata address count) now draw intent old new o said s u own ran = service_quiet address count o s.ran.says s.ran.refusals own
 comes_of (Demo count) now draw intent old new o said s u own ran = let clash : false ≡ true = s.uses in cc
 
-comes_apart : (line : Task) (now : ℕ) (draw : Draw) (old new : Outside) (o : Outcome) → Apart line now draw old new o → Undisturbed line old new → is_own_end o ≡ true → ComesQuietly line now draw old new o
+comes_apart : (line : Task) (now : ℕ) (draw : Draw) (old new : Moment) (o : Outcome) → Apart line now draw old.outside new.outside o → Undisturbed line old.outside new.outside → is_own_end o ≡ true → ComesQuietly line now draw old new o
 comes_apart (Status word pod) now draw old new o p u own = let clash : true ≡ false = p.apart in cc
 comes_apart PodList now draw old new o p u own = let clash : true ≡ false = p.apart in cc
 comes_apart (CatManifest word pod) now draw old new o p u own = let clash : true ≡ false = p.apart in cc
-comes_apart (Validate path) now draw old new o p u own = let s = p.ran.says own in s.is ∙ judged_whole path s.found (file_bytes (old.bundle.tree path)) (s.told (u.bundle_observed refl))
+comes_apart (Validate path) now draw old new o p u own = let s = p.ran.says own in s.is ∙ judged_whole path s.found (file_bytes (old.outside.bundle.tree path)) (s.told (u.bundle_observed refl))
 comes_apart ImageList now draw old new o p u own = let clash : true ≡ false = p.apart in cc
 comes_apart (ImageImport path) now draw old new o p u own = let clash : true ≡ false = p.apart in cc
 comes_apart (ImageRm key) now draw old new o p u own = let clash : true ≡ false = p.apart in cc
@@ -475,16 +505,20 @@ leaves_apart (Gc grace expire) now draw old new o p = let clash : true ≡ false
 leaves_apart (Metadata address count) now draw old new o p = let clash : true ≡ false = p.apart in cc
 leaves_apart (Demo count) now draw old new o p = ap (λ (d : DirSeen). state_after d.trace) p.dir
 
-abbrev IsQuiet : Task → ℕ → Draw → Outside → Outside → Outcome → Type 0
+abbrev IsQuiet : Task → ℕ → Draw → Moment → Moment → Outcome → Type 0
 IsQuiet line now draw old new o =
     (o ≡ Err NoMemory)
-    ⊎ (ComesQuietly line now draw old new o × LeavesQuietly line old.dir.process draw (state_after old.dir.trace) (state_after new.dir.trace))
+    ⊎ (ComesQuietly line now draw old new o × LeavesQuietly line old.outside.dir.process draw (state_after old.outside.dir.trace) (state_after new.outside.dir.trace))
 
-performs_quiet : (line : Task) (now : ℕ) (draw : Draw) (intent : Option Intent) (old new : Outside) (o : Outcome) → intent_of line now draw ≡ intent → Performs line now draw intent old new o → Undisturbed line old new → ((OwnsNothing old.dir.process (state_after old.dir.trace).namespace) → RunsQuietly line now draw old.dir new.dir o) → IsQuiet line now draw old new o
+performs_quiet : (line : Task) (now : ℕ) (draw : Draw) (intent : Option Intent) (old new : Moment) (o : Outcome) → intent_of line now draw ≡ intent → Performs line now draw intent old.outside new.outside o → Undisturbed line old.outside new.outside →
+    ((OwnsNothing old.outside.dir.process (state_after old.outside.dir.trace).namespace) → RunsQuietly line now draw (inside_in old) (inside_in new) o) → IsQuiet line now draw old new o
 performs_quiet line now draw (Some intent) old new o said (inr n) u ran = inl n.is
 performs_quiet line now draw (Some intent) old new o said (inl s) u ran =
-    elim (ends_own line now draw intent old new o s u) [ inl e ↦ inl e | inr own ↦ inr (comes_of line now draw intent old new o said s u own (ran (idle s (u.observed s.uses) (u.alone s.uses))), leaves_quietly line now draw intent old new o s u) ]
-performs_quiet line now draw None old new o said p u ran = elim (own_end line now draw old new o p.ran u) [ inl e ↦ inl e | inr own ↦ inr (comes_apart line now draw old new o p u own, leaves_apart line now draw old new o p) ]
+    let a = old.outside in
+    let b = new.outside in
+    elim (ends_own line now draw intent a b o s u) [ inl e ↦ inl e | inr own ↦ inr (comes_of line now draw intent old new o said s u own (ran (idle s (u.observed s.uses) (u.alone s.uses))), leaves_quietly line now draw intent a b o s u) ]
+performs_quiet line now draw None old new o said p u ran =
+    elim (own_end line now draw old.outside new.outside o p.ran u) [ inl e ↦ inl e | inr own ↦ inr (comes_apart line now draw old new o p u own, leaves_apart line now draw old.outside new.outside o p) ]
 
 -- a command that starts apps works on the directory
 runs_use : (line : Task) → runs_apps line ≡ true → uses_dir line ≡ true
@@ -501,15 +535,15 @@ said_quiet o old new status (inr (inr x)) works = inr x
 module _ (now : ℕ) (draw : Draw) (old new : Moment) (status : ℕ) where
   -- what is told of a run of apps
   ran_quietly : (line : Task) → (r : RunOfLine line now draw (intent_of line now draw) old new status) → Undisturbed line old.outside new.outside →
-      OwnsNothing old.outside.dir.process (state_after old.outside.dir.trace).namespace → RunsQuietly line now draw old.outside.dir new.outside.dir r.outcome
-  ran_quietly line r u idle = subst (λ (o : Outcome). RunsQuietly line now draw old.outside.dir new.outside.dir o) (sym r.outcome_is)
+      OwnsNothing old.outside.dir.process (state_after old.outside.dir.trace).namespace → RunsQuietly line now draw (inside_in old) (inside_in new) r.outcome
+  ran_quietly line r u idle = subst (λ (o : Outcome). RunsQuietly line now draw (inside_in old) (inside_in new) o) (sym r.outcome_is)
       (runs_quietly line now draw (inside_in old) (inside_in new) r.answer (λ runs. u.observed (runs_use line runs)) (λ runs. u.alone (runs_use line runs)) (λ runs. idle) r.came)
 
   quiet_of : (task : Task) → RunOf task now draw old new status → Undisturbed task old.outside new.outside → Works old.out new.out → (status ≡ 14) ⊎ IsPlainAnswer task now draw status old new
   quiet_of task (inr n) u works = inl n.is
-  quiet_of task (inl r) u works = by (performs_quiet task now draw (intent_of task now draw) old.outside new.outside r.outcome refl r.performs u (ran_quietly task r u))
+  quiet_of task (inl r) u works = by (performs_quiet task now draw (intent_of task now draw) old new r.outcome refl r.performs u (ran_quietly task r u))
     where
-      by : IsQuiet task now draw old.outside new.outside r.outcome → (status ≡ 14) ⊎ IsPlainAnswer task now draw status old new
+      by : IsQuiet task now draw old new r.outcome → (status ≡ 14) ⊎ IsPlainAnswer task now draw status old new
       by (inl e) = inl (r.is ∙ ap end_status ((subst (λ (o : Outcome). Printed o old.out new.out r.end) e r.printed).refused.0))
       by (inr (comes, left)) = elim (said_quiet r.outcome old new status (answered r.outcome old new r.end status r.printed r.reported r.is) works) [ inl x ↦ inl x | inr x ↦ inr (r.outcome, comes, x, left) ]
 

@@ -30,12 +30,15 @@ use Rattle.pod_making.specs.Progress.{at_work, nothing_made}
 use Rattle.commands.specs.AppsTold.{WithinProcess}
 use Rattle.commands.specs.RunPrepared.{runs_prepared, ClaimsAndRuns, IsUnclaimed, RunPreparedSays}
 use Rattle.commands.specs.Run.{makes_and_runs, MakesAndRuns, NewRunSays, RunIsTold}
-use Rattle.commands.specs.RunQuiet.{HasPassed, HasMadeAndLeft, TellsItsEnds, UnclaimedFor, IsRunRefusal, IsUnmadeFor}
+use Rattle.commands.specs.Prepare.{pod_line}
+use Rattle.commands.specs.RunQuiet.{HasPassed, HasMadeAndLeft, TellsItsEnds, UnclaimedFor, IsUnmadeFor, held_before, made_by}
+use Rattle.commands.specs.RunTable.{IsRefusedFor, RunsAll, StoppedFor}
 use Rattle.commands.proofs.Claimed.{may_begin}
 use Rattle.commands.proofs.EndsQuiet.{unborn_before}
 use Rattle.commands.proofs.ClaimBefore.{RefusedClaim}
-use Rattle.commands.proofs.RunRefused.{same_refusal, claimed_refusal, made_refusal, unmade_refusal}
-use Rattle.commands.proofs.RanQuietly.{run_prepared_passed, run_prepared_unclaimed, run_prepared_ends, run_made_left, run_ends}
+use Rattle.commands.proofs.NewRunQuiet.{MadeUntil}
+use Rattle.commands.proofs.RunRefused.{WasStopped, same_refusal, claimed_refusal, made_refusal, unmade_refusal}
+use Rattle.commands.proofs.RanQuietly.{run_prepared_passed, run_prepared_unclaimed, run_prepared_ends, run_prepared_stopped, run_made_left, run_ends, run_stopped}
 use Rattle.commands.proofs.OwnSteps.{in_process, asks_in_process, lists_in_process}
 use Rattle.rkt_cli.specs.Tasks.{Task}
 use Rattle.rkt_cli.specs.Tasks.{RunPrepared, Run}
@@ -49,19 +52,24 @@ use Rattle.commands.specs.Opening.{Approach, directly, approach_of, looks_by, Op
 use Rattle.commands.proofs.Starts.{look_lists, open_extends, opening_extends}
 
 -- what is told of a run of apps where nobody else steps, by what came between its begin and its finish
-passed_refused : (pod : PodId) (old new : DirSeen) (r : Refusal) → HasPassed pod old.process old.trace new.trace → (r ≡ NoMemory) ⊎ IsRunRefusal pod r → PassesQuietly pod old new (Err r)
-passed_refused pod old new NoMemory h why = tt
-passed_refused pod old new r h (inl is) = cc
-passed_refused pod old new r h (inr one) = inl (one, h)
+abbrev Passed : PodId → Inside → Inside → ℕ → Type 0
+Passed pod a b p = HasPassed pod p a.dir.trace b.dir.trace
 
-of_passed : (pod : PodId) (old new : DirSeen) (answer : Answer) → HasPassed pod old.process old.trace new.trace → ((told : Told) → answer ≡ Ok told → TellsItsEnds pod [] new.trace told.text) → ((r : Refusal) → answer ≡ Err r → (r ≡ NoMemory) ⊎ IsRunRefusal pod r) →
-    PassesQuietly pod old new (outcome_of answer)
-of_passed pod old new (Ok told) h ends why = (h, ends told refl)
-of_passed pod old new (Err r) h ends why = passed_refused pod old new r h (why r refl)
+abbrev ToldEnds : PodId → List ℕ → Inside → Inside → List ℕ → ℕ → Type 0
+ToldEnds pod address a b text p =
+    (x : Passed pod a b p) × (y : TellsItsEnds pod [] b.dir.trace text) × (IsConforming b.dir.trace → RunsAll pod address (held_before x) y.ends a.spawner b.spawner)
 
-of_refused : (pod : PodId) (old new : DirSeen) (r : Refusal) (error : ClaimError) → r ≡ claim_refusal pod error → UnclaimedFor pod error old.process old.trace new.trace → PassesQuietly pod old new (Err r)
-of_refused pod old new NoMemory error is u = tt
-of_refused pod old new r error is u = inr (error, is, u)
+abbrev ToldWhy : PodId → List ℕ → Inside → Inside → Refusal → ℕ → Type 0
+ToldWhy pod address a b r p = (x : Passed pod a b p) × IsRefusedFor pod r b.dir.trace (λ error. StoppedFor pod address (held_before x) error a.spawner b.spawner)
+
+of_stopped : (pod : PodId) (address : List ℕ) (a b : Inside) (r : Refusal) → (r ≡ NoMemory) ⊎ ToldWhy pod address a b r a.dir.process → PassesQuietly pod address a b (Err r)
+of_stopped pod address a b NoMemory why = tt
+of_stopped pod address a b r (inl is) = cc
+of_stopped pod address a b r (inr why) = inl why
+
+of_refused : (pod : PodId) (address : List ℕ) (a b : Inside) (r : Refusal) (error : ClaimError) → r ≡ claim_refusal pod error → UnclaimedFor pod error a.dir.process a.dir.trace b.dir.trace → PassesQuietly pod address a b (Err r)
+of_refused pod address a b NoMemory error is u = tt
+of_refused pod address a b r error is u = inr (error, is, u)
 
 module _ {approach : Approach} {asks : Request → Bool} {P : Inside → Inside → Type 0} {intent : Intent} {a b : Inside} (x : WithinProcess approach asks P intent a b) (t : a.dir.observed ≡ true) where
   abbrev me : ℕ
@@ -121,43 +129,80 @@ module _ (word address : List ℕ) (pod : PodId) (now : ℕ) (draw : Draw) (a b 
   abbrev its_intent : Intent
   its_intent = intent_for kind.RunPrepared word now draw
 
-  passed_in : WithinProcess (approach_of word) (runs_prepared pod) (λ p q. RunPreparedSays pod address p q answer) its_intent a b → PassesQuietly pod a.dir b.dir (outcome_of answer)
-  passed_in x = by x.came.so
+  abbrev CameIn : Answer → Type 0
+  CameIn z = WithinProcess (approach_of word) (runs_prepared pod) (λ p q. RunPreparedSays pod address p q z) its_intent a b
+
+  module _ {z : Answer} (x : CameIn z) where
+    abbrev from : DirAt
+    from = x.came.from
+
+    abbrev to : DirAt
+    to = x.came.to
+
+    abbrev saw : x.begun.observed ≡ true
+    saw = seen x t from to x.came.begins x.came.ends
+
+    abbrev its_own : a.dir.process ≡ from.process
+    its_own = me_is x t from to x.came.begins x.came.ends
+
+    abbrev Ran : Type 0
+    Ran = ClaimsAndRuns x.begun.observed a.spawner.observed pod address from to a.spawner.shown b.spawner.shown z
+
+    has_passed : Ran → HasPassed pod from.process a.dir.trace b.dir.trace
+    has_passed c =
+        run_prepared_passed x.begun.observed a.spawner.observed pod address from to a.spawner.shown b.spawner.shown z saw a.dir.trace b.dir.trace (ext x t from to x.came.begins x.came.ends) (alone x t from to x.came.begins x.came.ends quiet)
+        (first x t from to x.came.begins x.came.ends) (finish x t from to x.came.begins x.came.ends) c (c.then saw)
+
+    refused_claim : RefusedClaim pod from.process a.dir.trace from.trace to.trace b.dir.trace
+    refused_claim =
+        subst (λ (k : List Event). RefusedClaim pod from.process a.dir.trace from.trace k b.dir.trace) (to_is x t from to x.came.begins x.came.ends)
+        (subst (λ (h : List Event). RefusedClaim pod from.process a.dir.trace h x.ended.trace b.dir.trace) (from_is x t from to x.came.begins x.came.ends)
+        (subst (λ (p : ℕ). RefusedClaim pod p a.dir.trace x.begun.trace x.ended.trace b.dir.trace) its_own
+        (record { begins = open_extends (x.begins t); works = act_ext x t; finishes = finish_ext x t is_finish refl; whole = whole_ext x t; quiet = quiet })))
+
+    unclaimed : (c : IsUnclaimed x.begun.observed pod from to a.spawner.shown b.spawner.shown z) → PassesQuietly pod address a b (outcome_of z)
+    unclaimed c =
+        let u = run_prepared_unclaimed x.begun.observed a.spawner.observed pod address from to a.spawner.shown b.spawner.shown z saw a.dir.trace b.dir.trace refused_claim
+        (subst (λ (p : ℕ). OwnsNothing p (state_after a.dir.trace).namespace) its_own idle)
+        (just_begun its_intent, knows_there x t from to x.came.begins x.came.ends, may_begin its_intent refl) c in
+        subst (λ (w : Answer). PassesQuietly pod address a b (outcome_of w)) (sym c.is)
+        (of_refused pod address a b (claim_refusal pod c.error) c.error refl (subst (λ (p : ℕ). UnclaimedFor pod c.error p a.dir.trace b.dir.trace) (sym its_own) u))
+
+  passed_told : (told : Told) (x : CameIn (Ok told)) → Ran x → PassesQuietly pod address a b (Ok told.text)
+  passed_told told x c =
+      let h = has_passed x c in
+      let r = run_prepared_ends x.begun.observed a.spawner b.spawner (from x) (to x) (saw x) a.dir.trace b.dir.trace (alone x t (from x) (to x) x.came.begins x.came.ends quiet)
+      (approach_of word) its_intent (begin_there x t (from x) (to x) x.came.begins x.came.ends) (stays x t (from x) (to x) x.came.begins x.came.ends) (first x t (from x) (to x) x.came.begins x.came.ends) (finish x t (from x) (to x) x.came.begins x.came.ends)
+      pod address (ext x t (from x) (to x) x.came.begins x.came.ends) h told c in
+      subst (ToldEnds pod address a b told.text) (sym (its_own x)) (h, r.0, r.1)
+
+  passed_stopped : (r : Refusal) (x : CameIn (Err r)) → Ran x → PassesQuietly pod address a b (Err r)
+  passed_stopped r x c = of_stopped pod address a b r (by (claimed_refusal a.spawner b.spawner r c))
     where
-      d : DirAt
-      d = x.came.from
+      by : (r ≡ NoMemory) ⊎ WasStopped x.begun.observed pod address r c.claimed (to x) a.spawner b.spawner → (r ≡ NoMemory) ⊎ ToldWhy pod address a b r a.dir.process
+      by (inl is) = inl is
+      by (inr w) =
+          let h = has_passed x c in
+          let why = run_prepared_stopped x.begun.observed a.spawner b.spawner (from x) (to x) (saw x) a.dir.trace b.dir.trace (alone x t (from x) (to x) x.came.begins x.came.ends quiet)
+          (approach_of word) its_intent (begin_there x t (from x) (to x) x.came.begins x.came.ends) (stays x t (from x) (to x) x.came.begins x.came.ends) (first x t (from x) (to x) x.came.begins x.came.ends) (finish x t (from x) (to x) x.came.begins x.came.ends)
+          pod address (ext x t (from x) (to x) x.came.begins x.came.ends) h c r w in
+          inr (subst (ToldWhy pod address a b r) (sym (its_own x)) (h, why))
 
-      d' : DirAt
-      d' = x.came.to
+  passed_in : (z : Answer) → CameIn z → PassesQuietly pod address a b (outcome_of z)
+  passed_in (Ok told) x = by x.came.so
+    where
+      by : Ran x ⊎ IsUnclaimed x.begun.observed pod (from x) (to x) a.spawner.shown b.spawner.shown (Ok told) → PassesQuietly pod address a b (Ok told.text)
+      by (inl c) = passed_told told x c
+      by (inr c) = unclaimed x c
+  passed_in (Err r) x = by x.came.so
+    where
+      by : Ran x ⊎ IsUnclaimed x.begun.observed pod (from x) (to x) a.spawner.shown b.spawner.shown (Err r) → PassesQuietly pod address a b (Err r)
+      by (inl c) = passed_stopped r x c
+      by (inr c) = unclaimed x c
 
-      refused : RefusedClaim pod a.dir.process a.dir.trace x.begun.trace x.ended.trace b.dir.trace
-      refused = record { begins = open_extends (x.begins t); works = act_ext x t; finishes = finish_ext x t is_finish refl; whole = whole_ext x t; quiet = quiet }
-
-      refused_there : RefusedClaim pod d.process a.dir.trace d.trace d'.trace b.dir.trace
-      refused_there =
-          subst (λ (k : List Event). RefusedClaim pod d.process a.dir.trace d.trace k b.dir.trace) (to_is x t d d' x.came.begins x.came.ends)
-          (subst (λ (h : List Event). RefusedClaim pod d.process a.dir.trace h x.ended.trace b.dir.trace) (from_is x t d d' x.came.begins x.came.ends)
-          (subst (λ (p : ℕ). RefusedClaim pod p a.dir.trace x.begun.trace x.ended.trace b.dir.trace) (me_is x t d d' x.came.begins x.came.ends) refused))
-
-      by : ClaimsAndRuns x.begun.observed a.spawner.observed pod address d d' a.spawner.shown b.spawner.shown answer ⊎ IsUnclaimed x.begun.observed pod d d' a.spawner.shown b.spawner.shown answer → PassesQuietly pod a.dir b.dir (outcome_of answer)
-      by (inl c) =
-          let passed = run_prepared_passed x.begun.observed a.spawner.observed pod address d d' a.spawner.shown b.spawner.shown answer (seen x t d d' x.came.begins x.came.ends) a.dir.trace b.dir.trace (ext x t d d' x.came.begins x.came.ends) (alone x t d d' x.came.begins x.came.ends quiet)
-          (first x t d d' x.came.begins x.came.ends) (finish x t d d' x.came.begins x.came.ends) c (c.then (seen x t d d' x.came.begins x.came.ends)) in
-          of_passed pod a.dir b.dir answer (subst (λ (p : ℕ). HasPassed pod p a.dir.trace b.dir.trace) (sym (me_is x t d d' x.came.begins x.came.ends)) passed)
-          (λ told is. run_prepared_ends x.begun.observed a.spawner.observed d d' a.spawner.shown b.spawner.shown told (seen x t d d' x.came.begins x.came.ends) a.dir.trace b.dir.trace (alone x t d d' x.came.begins x.came.ends quiet)
-          (approach_of word) its_intent (begin_there x t d d' x.came.begins x.came.ends) (stays x t d d' x.came.begins x.came.ends) (finish x t d d' x.came.begins x.came.ends) pod address (ext x t d d' x.came.begins x.came.ends)
-          (subst (λ (z : Answer). ClaimsAndRuns x.begun.observed a.spawner.observed pod address d d' a.spawner.shown b.spawner.shown z) is c) passed)
-          (λ r is. claimed_refusal r (subst (λ (z : Answer). ClaimsAndRuns x.begun.observed a.spawner.observed pod address d d' a.spawner.shown b.spawner.shown z) is c))
-      by (inr c) =
-          let u = run_prepared_unclaimed x.begun.observed a.spawner.observed pod address d d' a.spawner.shown b.spawner.shown answer (seen x t d d' x.came.begins x.came.ends) a.dir.trace b.dir.trace refused_there
-          (subst (λ (p : ℕ). OwnsNothing p (state_after a.dir.trace).namespace) (me_is x t d d' x.came.begins x.came.ends) idle)
-          (just_begun its_intent, knows_there x t d d' x.came.begins x.came.ends, may_begin its_intent refl) c in
-          subst (λ (z : Answer). PassesQuietly pod a.dir b.dir (outcome_of z)) (sym c.is)
-          (of_refused pod a.dir b.dir (claim_refusal pod c.error) c.error refl (subst (λ (p : ℕ). UnclaimedFor pod c.error p a.dir.trace b.dir.trace) (sym (me_is x t d d' x.came.begins x.came.ends)) u))
-
-  pub passes : CameBetween (RunPrepared word pod address) now draw (Some its_intent) a b answer → PassesQuietly pod a.dir b.dir (outcome_of answer)
-  passes (inl x) = passed_in x
-  passes (inr x) = subst (λ (z : Answer). PassesQuietly pod a.dir b.dir (outcome_of z)) (sym x.0) tt
+  pub passes : CameBetween (RunPrepared word pod address) now draw (Some its_intent) a b answer → PassesQuietly pod address a b (outcome_of answer)
+  passes (inl x) = passed_in answer x
+  passes (inr x) = subst (λ (z : Answer). PassesQuietly pod address a b (outcome_of z)) (sym x.0) tt
 
 -- an answer isn't both
 ok_not_err : {X : Type 0} (told : Told) (r : Refusal) → ◌≡◌ {A = Answer} (Ok told) (Err r) → X
@@ -190,14 +235,11 @@ module _ (address : List ℕ) (wants : Wants) (now : ℕ) (draw : Draw) (a b : I
     knows : Knows d (at_work new_intent [] nothing_made)
     knows = let k = knows_there x t d d' x.came.begins x.came.ends in record { tied = k.tied; handles = k.handles }
 
-    left : MakesAndRuns x.begun.observed a.spawner.observed wants address now draw d d' a.spawner.shown b.spawner.shown answer → IsConforming b.dir.trace → HasMadeAndLeft wants d.process draw.uuid a.dir.trace b.dir.trace
-    left m conforming =
+    made_until : (m : MakesAndRuns x.begun.observed a.spawner.observed wants address now draw d d' a.spawner.shown b.spawner.shown answer) → IsConforming b.dir.trace → MadeUntil wants d.process draw.uuid a.dir.trace m.made.trace b.dir.trace
+    made_until m conforming =
         run_made_left x.begun.observed a.spawner.observed wants address now draw d d' a.spawner.shown b.spawner.shown answer sees a.dir.trace b.dir.trace (ext x t d d' x.came.begins x.came.ends) (alone x t d d' x.came.begins x.came.ends quiet)
         (first x t d d' x.came.begins x.came.ends) (finish x t d d' x.came.begins x.came.ends)
         (unborn_before new_intent (begin_there x t d d' x.came.begins x.came.ends).begins) new_intent began knows m (m.then sees) conforming
-
-    there : HasMadeAndLeft wants d.process draw.uuid a.dir.trace b.dir.trace → HasMadeAndLeft wants a.dir.process draw.uuid a.dir.trace b.dir.trace
-    there h = subst (λ (p : ℕ). HasMadeAndLeft wants p draw.uuid a.dir.trace b.dir.trace) (sym mine) h
 
     begins : Extends is_begin a.dir.process a.dir.trace d.trace
     begins = subst (λ (h : List Event). Extends is_begin a.dir.process a.dir.trace h) (from_is x t d d' x.came.begins x.came.ends) (begin_ext x t is_begin refl (λ r h. cc))
@@ -205,24 +247,31 @@ module _ (address : List ℕ) (wants : Wants) (now : ℕ) (draw : Draw) (a b : I
     ends : Extends is_finish a.dir.process d'.trace b.dir.trace
     ends = subst (λ (h : List Event). Extends is_finish a.dir.process h b.dir.trace) (to_is x t d d' x.came.begins x.came.ends) (finish_ext x t is_finish refl)
 
-  made_in : (told : Told) → MadeIn (Ok told) → LeavesMade wants now draw a.dir b.dir (Ok told.text)
+  abbrev MadeEnds : List ℕ → ℕ → Type 0
+  MadeEnds text p =
+      (x : HasMadeAndLeft wants p draw.uuid a.dir.trace b.dir.trace) × (y : TellsItsEnds draw.uuid (pod_line draw.uuid) b.dir.trace text) × RunsAll draw.uuid address (made_by x.2.0) y.ends a.spawner b.spawner
+
+  abbrev MadeWhy : Refusal → ℕ → Type 0
+  MadeWhy r p = IsRefusedFor draw.uuid r b.dir.trace (λ error. (x : HasMadeAndLeft wants p draw.uuid a.dir.trace b.dir.trace) × StoppedFor draw.uuid address (made_by x.2.0) error a.spawner b.spawner)
+
+  made_in : (told : Told) → MadeIn (Ok told) → LeavesMade wants address now draw a b (Ok told.text)
   made_in told x = by x.came.so
     where
-      by : NewRunSays x.begun.observed a.spawner.observed wants address now draw (d x) (d' x) a.spawner.shown b.spawner.shown (Ok told) → LeavesMade wants now draw a.dir b.dir (Ok told.text)
+      by : NewRunSays x.begun.observed a.spawner.observed wants address now draw (d x) (d' x) a.spawner.shown b.spawner.shown (Ok told) → LeavesMade wants address now draw a b (Ok told.text)
       by (inl m) conforming =
-          let h = left x m conforming in (
-            there x h,
-            run_ends x.begun.observed a.spawner.observed (d x) (d' x) a.spawner.shown b.spawner.shown told (sees x) a.dir.trace b.dir.trace (alone x t (d x) (d' x) x.came.begins x.came.ends quiet)
-                directly new_intent (begin_there x t (d x) (d' x) x.came.begins x.came.ends) (stays x t (d x) (d' x) x.came.begins x.came.ends) (finish x t (d x) (d' x) x.came.begins x.came.ends) wants address now draw (ext x t (d x) (d' x) x.came.begins x.came.ends) m h,
-          )
+          let h = made_until x m conforming in
+          let r = run_ends x.begun.observed a.spawner b.spawner (d x) (d' x) (sees x) a.dir.trace b.dir.trace (alone x t (d x) (d' x) x.came.begins x.came.ends quiet)
+          directly new_intent (begin_there x t (d x) (d' x) x.came.begins x.came.ends) (stays x t (d x) (d' x) x.came.begins x.came.ends) (first x t (d x) (d' x) x.came.begins x.came.ends) (finish x t (d x) (d' x) x.came.begins x.came.ends)
+          wants address now draw (ext x t (d x) (d' x) x.came.begins x.came.ends) told m h conforming in
+          subst (MadeEnds told.text) (sym (mine x)) (h.0, r.0, r.1)
       by (inr (inl u)) conforming = ok_not_err told u.is.0 u.is.1
       by (inr (inr u)) conforming = ok_not_err told NoMemory u.is
 
   -- why it was refused
   abbrev IsWhy : Refusal → Type 0
-  IsWhy r = IsRunRefusal draw.uuid r × (IsConforming b.dir.trace → HasMadeAndLeft wants a.dir.process draw.uuid a.dir.trace b.dir.trace) ⊎ IsUnmadeFor wants now draw a.dir b.dir r
+  IsWhy r = MadeWhy r a.dir.process ⊎ IsUnmadeFor wants now draw a.dir b.dir r
 
-  of_why : (r : Refusal) → (r ≡ NoMemory) ⊎ IsWhy r → LeavesMade wants now draw a.dir b.dir (Err r)
+  of_why : (r : Refusal) → (r ≡ NoMemory) ⊎ IsWhy r → LeavesMade wants address now draw a b (Err r)
   of_why NoMemory why = tt
   of_why r (inl is) = cc
   of_why r (inr why) = why
@@ -230,26 +279,34 @@ module _ (address : List ℕ) (wants : Wants) (now : ℕ) (draw : Draw) (a b : I
   refused_in : (r : Refusal) → MadeIn (Err r) → (r ≡ NoMemory) ⊎ IsWhy r
   refused_in r x = by x.came.so
     where
+      ran : (m : MakesAndRuns x.begun.observed a.spawner.observed wants address now draw (d x) (d' x) a.spawner.shown b.spawner.shown (Err r)) → (r ≡ NoMemory) ⊎ WasStopped x.begun.observed draw.uuid address r m.made (d' x) a.spawner b.spawner → (r ≡ NoMemory) ⊎ IsWhy r
+      ran m (inl is) = inl is
+      ran m (inr w) =
+          inr (inl (subst (MadeWhy r) (sym (mine x))
+          (run_stopped x.begun.observed a.spawner b.spawner (d x) (d' x) (sees x) a.dir.trace b.dir.trace (alone x t (d x) (d' x) x.came.begins x.came.ends quiet)
+          directly new_intent (begin_there x t (d x) (d' x) x.came.begins x.came.ends) (stays x t (d x) (d' x) x.came.begins x.came.ends) (first x t (d x) (d' x) x.came.begins x.came.ends) (finish x t (d x) (d' x) x.came.begins x.came.ends)
+          wants address now draw (ext x t (d x) (d' x) x.came.begins x.came.ends) m r (made_until x m) w)))
+
       by : NewRunSays x.begun.observed a.spawner.observed wants address now draw (d x) (d' x) a.spawner.shown b.spawner.shown (Err r) → (r ≡ NoMemory) ⊎ IsWhy r
-      by (inl m) = elim (made_refusal r m) [ inl is ↦ inl is | inr one ↦ inr (inl (one, λ conforming. there x (left x m conforming))) ]
+      by (inl m) = ran m (made_refusal a.spawner b.spawner r m)
       by (inr (inl u)) = elim (unmade_refusal a.dir b.dir x.told (sees x) (sym (mine x)) (stays x t (d x) (d' x) x.came.begins x.came.ends) (whole_ext x t) quiet (begins x) (ends x) new_intent (began x) (knows x) r u) [ inl is ↦ inl is | inr why ↦ inr (inr why) ]
       by (inr (inr u)) = inl (same_refusal r NoMemory u.is)
 
-  pub made : (answer : Answer) → CameBetween (Run wants address) now draw (Some new_intent) a b answer → LeavesMade wants now draw a.dir b.dir (outcome_of answer)
+  pub made : (answer : Answer) → CameBetween (Run wants address) now draw (Some new_intent) a b answer → LeavesMade wants address now draw a b (outcome_of answer)
   made (Ok told) (inl x) = made_in told x
   made (Ok told) (inr x) = ok_not_err told NoMemory x.0
   made (Err r) (inl x) = of_why r (refused_in r x)
   made (Err r) (inr x) = of_why r (inl (same_refusal r NoMemory x.0))
 
 -- what a command that starts apps comes to
-abbrev pub RunsQuietly : Task → ℕ → Draw → DirSeen → DirSeen → Outcome → Type 0
-RunsQuietly (RunPrepared word pod address) now draw old new o = PassesQuietly pod old new o
-RunsQuietly (Run wants address) now draw old new o = LeavesMade wants now draw old new o
-RunsQuietly line now draw old new o = Unit {0}
+abbrev pub RunsQuietly : Task → ℕ → Draw → Inside → Inside → Outcome → Type 0
+RunsQuietly (RunPrepared word pod address) now draw a b o = PassesQuietly pod address a b o
+RunsQuietly (Run wants address) now draw a b o = LeavesMade wants address now draw a b o
+RunsQuietly line now draw a b o = Unit {0}
 
 -- of each command
 pub runs_quietly : (line : Task) (now : ℕ) (draw : Draw) (a b : Inside) (answer : Answer) → (runs_apps line ≡ true → a.dir.observed ≡ true) → (runs_apps line ≡ true → Quiet a.dir.process a.dir.trace b.dir.trace) →
-    (runs_apps line ≡ true → OwnsNothing a.dir.process (state_after a.dir.trace).namespace) → CameBetween line now draw (intent_of line now draw) a b answer → RunsQuietly line now draw a.dir b.dir (outcome_of answer)
+    (runs_apps line ≡ true → OwnsNothing a.dir.process (state_after a.dir.trace).namespace) → CameBetween line now draw (intent_of line now draw) a b answer → RunsQuietly line now draw a b (outcome_of answer)
 runs_quietly (RunPrepared word pod address) now draw a b answer t quiet idle came = passes word address pod now draw a b answer (t refl) (quiet refl) (idle refl) came
 runs_quietly (Run wants address) now draw a b answer t quiet idle came = made address wants now draw a b (t refl) (quiet refl) answer came
 runs_quietly line now draw a b answer t quiet idle came = tt

@@ -11,9 +11,8 @@ use Rattle.dir_trait.specs.DirCalls.{DirAt}
 use Rattle.pod_build.specs.Causes.{IsRefused}
 use Rattle.pod_ownership.specs.declared.owned.Owned.{Owned}
 use Rattle.spawner.specs.Calls.{SpawnerAt}
-use Rattle.command_outcomes.specs.Conforming.{shown_at}
 use Rattle.commands.specs.AppsTold.{WithinProcess}
-use Rattle.commands.specs.Prepare.{pod_line, RefusesPod}
+use Rattle.commands.specs.Prepare.{pod_line}
 use Rattle.commands.specs.References.{OfReferences}
 use Rattle.commands.specs.Run.{IsUnmade, NewRunSays}
 use Rattle.commands.specs.RunCommand.{RefusesNewRun}
@@ -24,12 +23,6 @@ use Rattle.rkt_cli.specs.Runs.{RunOfNothing}
 use Rattle.dir_model.specs.Calls.{Extends}
 use Rattle.dir_model.specs.Calls.{is_finish}
 use Rattle.dir_model.proofs.Chains.{step_extends}
-use Rattle.dep_match.specs.declared.dep_error.DepError.{DepError}
-use Rattle.dep_match.specs.declared.dep_error.DepError.TheVariants as dep
-use Rattle.pod_manifest.specs.declared.gen_error.GenError.{GenError}
-use Rattle.pod_manifest.specs.declared.gen_error.GenError.TheVariants as gen
-use Rattle.render.specs.declared.render_error.RenderError.{RenderError}
-use Rattle.render.specs.declared.render_error.RenderError.TheVariants as render
 use Rattle.tree_digest.specs.declared.listing_error.ListingError.{ListingError}
 use Rattle.tree_digest.specs.declared.listing_error.ListingError.TheVariants as listing
 use Rattle.lifecycle.specs.Executions.{IsConforming}
@@ -41,14 +34,7 @@ use Rattle.phase_read.specs.declared.found.LookError.TheVariants as lookup
 use Rattle.image_reading.specs.declared.error.StoreError.{StoreError}
 use Rattle.image_reading.specs.declared.error.StoreError.TheVariants as store
 use Rattle.image_store.proofs.Lawful as imports
-use Rattle.pod_build.specs.declared.error.BuildError.{BuildError}
-use Rattle.pod_build.specs.declared.error.BuildError.TheVariants as build
-use Rattle.pod_build.proofs.Lawful.{never_refused}
-use Rattle.pod_claim.specs.declared.error.ClaimError.{ClaimError}
-use Rattle.pod_claim.specs.declared.error.ClaimError.TheVariants as claim
 use Rattle.pod_claim.proofs.Lawful as claims
-use Rattle.stage1.specs.declared.error.RunError.{RunError}
-use Rattle.stage1.specs.declared.error.RunError.TheVariants as run
 use Rattle.command_outcomes.specs.declared.refusal.Refusal.{Refusal}
 use Rattle.command_outcomes.specs.declared.refusal.Refusal.TheVariants.{Usage, NoPod, Ambiguous, WrongPhase, Busy, PodBusy, BadManifest, NoImage, NoDependency, Cycle, Limit, DirFault, BundleFault, SpawnFault, OutFault, LinkFault, NoMemory, NoFile, Conflict, Damaged, BadKind, Taken, NoManifest, NoProgram, Stray}
 use Rattle.command_outcomes.specs.Meanwhile.{Meanwhile}
@@ -58,9 +44,10 @@ use Rattle.command_outcomes.specs.Texts.{status_of}
 use Rattle.commands.specs.AppRuns.{RunSays}
 use Rattle.commands.specs.ImageImport.{import_refusal}
 use Rattle.commands.specs.Opening.{Approach, OnceFound}
-use Rattle.commands.specs.PrepareRefusals.{build_refusal, IsSaid}
-use Rattle.commands.specs.RunRefusals.{claim_refusal, run_refusal, IsRunSaid}
-use Rattle.commands.specs.Strays.{ComesOfApp, NeverComes}
+use Rattle.commands.specs.PrepareRefusals.{IsSaid}
+use Rattle.commands.specs.RunRefusals.{claim_refusal, IsRunSaid}
+use Rattle.commands.specs.Strays.{ComesOfApp}
+use Rattle.commands.proofs.StrayAnswers.{built, build_stray, claim_stray, pod_never, run_stray}
 use Rattle.rkt_cli.specs.declared.line.Line.{Line}
 use Rattle.rkt_cli.specs.declared.line.Line.TheVariants as line
 use Rattle.rkt_cli.specs.Commands.{command_in, runs_apps}
@@ -122,64 +109,6 @@ import_stray store.DirFault is = cc
 import_stray store.NoMemory is = cc
 import_stray store.Stray is = refl
 
-build_stray : (words : List (List ℕ)) (e : BuildError) → Stray ≡ build_refusal words e → e ≡ build.Stray
-build_stray words (build.Busy area) is = cc
-build_stray words (build.Damaged path) is = cc
-build_stray words (build.NoMatch place) is = cc
-build_stray words (build.DepError fault) is = by fault is
-  where
-    by : (fault : DepError) → Stray ≡ build_refusal words (build.DepError fault) → build.DepError fault ≡ build.Stray
-    by (dep.NoDependency name) is = cc
-    by (dep.Cycle key) is = cc
-    by dep.TooDeep is = cc
-    by dep.TooMany is = cc
-    by dep.NoMemory is = cc
-build_stray words (build.GenError refusal) is = by refusal is
-  where
-    by : (refusal : GenError) → Stray ≡ build_refusal words (build.GenError refusal) → build.GenError refusal ≡ build.Stray
-    by gen.TooManyApps is = cc
-    by (gen.NoApp name) is = cc
-    by (gen.NoExec name) is = cc
-    by (gen.AppTwice name) is = cc
-    by (gen.NoVolume name) is = cc
-    by gen.NoMemory is = cc
-build_stray words (build.RenderError refusal) is = by refusal is
-  where
-    by : (refusal : RenderError) → Stray ≡ build_refusal words (build.RenderError refusal) → build.RenderError refusal ≡ build.Stray
-    by render.TooManyEntries is = cc
-    by render.NoMemory is = cc
-build_stray words (build.ListingError refusal) is = by refusal is
-  where
-    by : (refusal : ListingError) → Stray ≡ build_refusal words (build.ListingError refusal) → build.ListingError refusal ≡ build.Stray
-    by (listing.TooMany limit) is = cc
-    by (listing.BadLine n) is = cc
-    by (listing.NotSorted n) is = cc
-    by (listing.NoParent n) is = cc
-    by (listing.FileTooLong n) is = cc
-    by listing.NoMemory is = cc
-build_stray words (build.Taken pod) is = cc
-build_stray words build.DirFault is = cc
-build_stray words build.NoMemory is = cc
-build_stray words build.Stray is = refl
-
-claim_stray : (pod : PodId) (e : ClaimError) → Stray ≡ claim_refusal pod e → e ≡ claim.Stray
-claim_stray pod claim.NoPod is = cc
-claim_stray pod (claim.WrongPhase phase) is = cc
-claim_stray pod claim.NoManifest is = cc
-claim_stray pod (claim.Busy other which) is = cc
-claim_stray pod claim.DirFault is = cc
-claim_stray pod claim.NoMemory is = cc
-claim_stray pod claim.Stray is = refl
-
-run_stray : (pod : PodId) (e : RunError) → Stray ≡ run_refusal pod e → e ≡ run.Stray
-run_stray pod run.NoManifest is = cc
-run_stray pod (run.Damaged path) is = cc
-run_stray pod (run.NoProgram app word) is = cc
-run_stray pod run.SpawnFault is = cc
-run_stray pod run.DirFault is = cc
-run_stray pod run.NoMemory is = cc
-run_stray pod run.Stray is = refl
-
 -- two answers that are refused the same are refused so
 refused_same : (a b : Refusal) → ◌≡◌ {A = Answer} (Err a) (Err b) → a ≡ b
 refused_same a b is = cc
@@ -209,15 +138,6 @@ run_says_stray seen observed owned address front d d' s s' (inl x) t conforming 
     by (inl said) = x.lawful (run_stray owned.pod x.error (same ∙ said)) t conforming
     by (inr none) = let e : Stray ≡ NoMemory = same ∙ none in cc
 run_says_stray seen observed owned address front d d' s s' (inr x) t conforming = let e : Stray ≡ NoMemory = refused_same Stray NoMemory x.is in cc
-
--- a pod isn't made for a stray answer
-module _ (now : ℕ) (draw : Draw) where
-  built : (wants : Wants) (error : BuildError) {a b : DirAt} → OfReferences wants.images (λ refs. IsRefused true refs wants.wishes draw now error a b) → error ≡ build.Stray → IsConforming b.trace → ⊥
-  built wants error {a} {b} cause same part = never_refused draw (subst (λ (e : BuildError). IsRefused true cause.0 wants.wishes draw now e a b) same cause.2) refl part
-
-  pub pod_never : (wants : Wants) (old new : DirSeen) → RefusesPod wants now draw old new Stray → old.observed ≡ true → NeverComes new.trace
-  pod_never wants old new r told conforming = built wants r.error (subst (λ (b : Bool). OfReferences wants.images (λ refs. IsRefused b refs wants.wishes draw now r.error (shown_at old) (shown_at new))) told r.cause)
-      (build_stray wants.images r.error r.is) conforming
 
 -- task by task
 module _ (now : ℕ) (draw : Draw) (status : ℕ) (old new : Moment) (told : old.outside.dir.observed ≡ true) (conforming : IsConforming new.outside.dir.trace) (is : status ≡ 20) where

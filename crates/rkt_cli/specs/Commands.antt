@@ -7,7 +7,7 @@ use Rattle.dir_model.specs.declared.request.Request.{Request}
 use Rattle.dir_trait.specs.State.{DirState}
 use Rattle.command_outcomes.specs.declared.refusal.Refusal.{Refusal}
 use Rattle.command_outcomes.specs.declared.refusal.Refusal.TheVariants.{Usage, DirFault, BundleFault, SpawnFault, OutFault, NoMemory}
-use Rattle.command_outcomes.specs.Moments.{BundleSeen, Outside, Inside, Outcome, Answer, is_well}
+use Rattle.command_outcomes.specs.Moments.{BundleSeen, Outside, Inside, Moment, Outcome, Answer, is_well}
 use Rattle.commands.specs.Command.{Command, Saying, alone, running, begins_any, reads_any, starts_any, IsRead}
 use Rattle.commands.specs.StatusCommand.{status_command}
 use Rattle.commands.specs.ListCommand.{list_command}
@@ -128,7 +128,7 @@ abbrev pub ReadsOnly : Task → BundleSeen → BundleSeen → Type 0
 ReadsOnly task = IsRead (command_in task).reads
 
 -- what it comes to where nobody else steps, and what it leaves then
-abbrev pub ComesQuietly : Task → ℕ → Draw → Outside → Outside → Outcome → Type 0
+abbrev pub ComesQuietly : Task → ℕ → Draw → Moment → Moment → Outcome → Type 0
 ComesQuietly task = (command_in task).quiet
 
 abbrev pub LeavesQuietly : Task → ℕ → Draw → DirState → DirState → Type 0

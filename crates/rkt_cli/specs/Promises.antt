@@ -146,7 +146,7 @@ Works old new = Rose old.faults new.faults → ⊥
 abbrev pub IsPlainAnswer : Task → ℕ → Draw → ℕ → Moment → Moment → Type 0
 IsPlainAnswer task now draw plain old new =
     (o : Outcome)
-    × (command_in task).quiet now draw old.outside new.outside o
+    × (command_in task).quiet now draw old new o
     × IsAnswer o plain old new
     × (command_in task).leaves old.outside.dir.process draw (state_after old.outside.dir.trace) (state_after new.outside.dir.trace)
 

@@ -5,7 +5,7 @@ use crate::seen::LOOKERS;
 use crate::stage::Stage;
 use conformance::keeps_rules;
 use dir_trait::{Event, Phase, PodId};
-use lifecycle::replay;
+use impossible_replies::replay;
 use memory_spawner::MemorySpawner;
 use scripts::{Page, ShortNames, phase_text, print_reply, print_request};
 use spawner::Words;

@@ -5,6 +5,7 @@ use Rattle.dir_model.specs.declared.request.Request.{Request}
 use Rattle.dir_model.specs.declared.request.Request.TheVariants.{Close}
 use Rattle.dir_model.specs.declared.request.Reply.TheVariants.{Done}
 use Rattle.dir_model.specs.declared.spot.Handle.{Handle}
+use Rattle.dir_model.proofs.Chains.{and_more, extends_wider}
 use Rattle.dir_model.proofs.Lists.{and_both}
 use Rattle.dir_rules.specs.declared.standing.Standing.{Standing}
 use Rattle.dir_rules.specs.Conforms.{seen_replied}
@@ -18,11 +19,12 @@ use Rattle.pod_launches.specs.declared.error.LoadError.TheVariants as load
 use Rattle.pod_launches.proofs.Later.{load_later}
 use Rattle.stage1.specs.declared.error.RunError.{RunError}
 use Rattle.stage1.specs.declared.error.RunError.TheVariants.{NoManifest, Damaged, NoProgram, SpawnFault, DirFault, Stray, NoMemory}
-use Rattle.stage1.specs.Runs.{RefusedFor, IsRefusedRun}
+use Rattle.stage1.specs.Runs.{reads_or_closes, RefusedFor, IsRefusedRun}
 use Rattle.stage1.proofs.Causes.{rose_before, stray_before}
+use Rattle.stage1.proofs.Starting.{any_later}
 use Rattle.stage1.specs.Keeping.{KeepsRules, KeepsToEnd}
 
-module _ {seen : Bool} {asks : Request → Bool} (a b c : DirAt) (pod : PodId) (same : b.process ≡ a.process) (faults : b.faults ≤ c.faults) (more : seen ≡ true → ExtendsBy asks b c) where
+module _ {seen : Bool} {asks : Request → Bool} (a b c : DirAt) (pod : PodId) (same : b.process ≡ a.process) (faults : b.faults ≤ c.faults) (more : seen ≡ true → ExtendsBy asks b c) (reads : (r : Request) → asks r ≡ true → reads_or_closes r ≡ true) where
   cause_later : (e : RunError) (s s' : SpawnerAt) → RefusedFor seen pod e a b s s' → RefusedFor seen pod e a c s s'
   cause_later NoManifest s s' is = λ t. load_later b c (more t) a same pod load.NoManifest (is t)
   cause_later (Damaged path) s s' is = λ t. load_later b c (more t) a same pod (load.Damaged path) (is t)
@@ -33,7 +35,7 @@ module _ {seen : Bool} {asks : Request → Bool} (a b c : DirAt) (pod : PodId) (
   cause_later NoMemory s s' is = tt
 
   pub refused_closed : {observed : Bool} {address : List ℕ} (e : RunError) (s s' : SpawnerAt) → IsRefusedRun seen observed pod address e a b s s' → IsRefusedRun seen observed pod address e a c s s'
-  refused_closed e s s' r = record { cause = cause_later e s s' r.cause; early = r.early; starts = r.starts; read = r.read; cut = r.cut }
+  refused_closed {observed} {address} e s s' r = record { cause = cause_later e s s' r.cause; early = r.early; unchanged = λ early t. and_more (r.unchanged early t) same (extends_wider {asks = asks} {asks' = reads_or_closes} reads (more t)); starts = r.starts; loads = λ t. any_later a b c same (more t) pod address r.starts (r.loads t); cut = r.cut }
 
 -- the close keeps the rules too
 pub keeps_closed : {observed : Bool} {a b c : DirAt} (pod : PodId) (own : Handle) → observed ≡ true → KeepsRules pod a b → DirCall observed b (Close own) Done c → KeepsToEnd pod own a c

@@ -7,7 +7,7 @@ use Rattle.dir_model.specs.Causes.{Rose}
 use Rattle.dir_model.specs.Local.{IsActive}
 use Rattle.dir_model.specs.Pods.{pod_text}
 use Rattle.dir_model.proofs.Lists.{all_weaker}
-use Rattle.dir_trait.specs.DirCalls.{DirAt}
+use Rattle.dir_trait.specs.DirCalls.{DirAt, ExtendsBy}
 use Rattle.folder_building.specs.Work.{Worked}
 use Rattle.folder_building.proofs.Working.{worked_more, worked_wider, in_first, in_second}
 use Rattle.pod_ownership.specs.Running.{RunsPod}
@@ -23,14 +23,14 @@ use Rattle.pod_launches.specs.Starts.{IsPlacedIn, ReadsStarts}
 use Rattle.pod_launches.specs.Refusals.{LoadCause}
 use Rattle.stage1.specs.declared.error.RunError.{RunError}
 use Rattle.stage1.specs.declared.error.RunError.TheVariants.{NoManifest, Damaged, NoProgram, SpawnFault, DirFault, Stray, NoMemory}
-use Rattle.stage1.specs.Asking.{Asks}
 use Rattle.stage1.specs.Cutting.{IsCutShort}
-use Rattle.stage1.specs.Notes.{notes_at}
+use Rattle.stage1.specs.Notes.{anything, notes_at}
 use Rattle.stage1.specs.Beginnings.{IsInRun, AreAt, RunsEach}
 use Rattle.stage1.specs.Refusals.{load_refusal, WasStrayIn}
 use Rattle.stage1.specs.Runs.{runs_pod, StopCause, RefusedFor, is_early, IsRefusedRun}
 use Rattle.stage1.proofs.Asked.{asks_none}
 use Rattle.stage1.proofs.Causes.{rose_after, stray_after}
+use Rattle.stage1.proofs.Starting.{loads, only_reads}
 use Rattle.stage1.proofs.Whole.{cut_nothing}
 
 module _ (pod : PodId) (starts : List AppStart) (placed : AllByRecursion (IsPlacedIn pod) starts) where
@@ -64,18 +64,19 @@ stop_wider pod DirFault d mid new s s' o is = rose_after d.faults mid.faults new
 stop_wider pod Stray d mid new s s' o is = λ t. subst (λ (p : ℕ). WasStrayIn p d.trace new.trace) o.same (stray_after mid.process d.trace mid.trace new.trace (o.extends t).more (o.extends t).grown (is t))
 stop_wider pod NoMemory d mid new s s' o is = tt
 
-not_early : (seen observed : Bool) (e : RunError) (mid new : DirAt) (s s' : SpawnerAt) → StopCause seen e mid new s s' → is_early e ≡ true → Asks observed s [] s'
-not_early seen observed NoManifest mid new s s' is early = absurd is
-not_early seen observed (Damaged path) mid new s s' is early = absurd is
-not_early seen observed (NoProgram app word) mid new s s' is early = absurd is
-not_early seen observed e mid new s s' is early = cc
+not_early : (seen : Bool) (e : RunError) (mid new : DirAt) (s s' : SpawnerAt) → StopCause seen e mid new s s' → is_early e ≡ true → ⊥
+not_early seen NoManifest mid new s s' is early = is
+not_early seen (Damaged path) mid new s s' is early = is
+not_early seen (NoProgram app word) mid new s s' is early = is
+not_early seen e mid new s s' is early = cc
 
-pub refused_run : {seen observed : Bool} (pod : PodId) (address : List ℕ) (starts : List AppStart) (e : RunError) (d mid new : DirAt) (s s' : SpawnerAt) → OnlyReadsPod seen pod d mid → (seen ≡ true → ReadsStarts pod address starts d mid) → StopCause seen e mid new s s' → IsCutShort observed starts s s' → IsRefusedRun seen observed pod address e d new s s'
-refused_run {seen} {observed} pod address starts e d mid new s s' o read is cut = record {
+pub refused_run : {seen observed : Bool} (pod : PodId) (address : List ℕ) (starts : List AppStart) (e : RunError) (d mid new : DirAt) (s s' : SpawnerAt) → OnlyReadsPod seen pod d mid → (seen ≡ true → ExtendsBy anything mid new) → (seen ≡ true → ReadsStarts pod address starts d mid) → StopCause seen e mid new s s' → IsCutShort observed starts s s' → IsRefusedRun seen observed pod address e d new s s'
+refused_run {seen} {observed} pod address starts e d mid new s s' o more read is cut = record {
   cause = stop_wider pod e d mid new s s' o is;
-  early = not_early seen observed e mid new s s' is;
+  early = λ early. absurd (not_early seen e mid new s s' is early);
+  unchanged = λ early t. absurd (not_early seen e mid new s s' is early);
   starts = starts;
-  read = λ t. inr (mid, read t);
+  loads = λ t. inr (loads pod address starts d mid new t o (read t) (more t));
   cut = cut;
 }
 
@@ -87,5 +88,12 @@ load_cause pod (load.NoProgram app word) d new s rose lacks = lacks
 load_cause pod load.DirFault d new s rose lacks = rose refl
 load_cause pod load.NoMemory d new s rose lacks = tt
 
-pub refused_load : {seen observed : Bool} (pod : PodId) (address : List ℕ) (e : LoadError) (d new : DirAt) (s : SpawnerAt) → (e ≡ load.DirFault → Rose d.faults new.faults) → (seen ≡ true → LoadCause pod e d new) → IsRefusedRun seen observed pod address (load_refusal e) d new s s
-refused_load pod address e d new s rose lacks = record { cause = load_cause pod e d new s rose lacks; early = λ t. asks_none; starts = []; read = λ t. inl refl; cut = cut_nothing [] }
+pub refused_load : {seen observed : Bool} (pod : PodId) (address : List ℕ) (e : LoadError) (d new : DirAt) (s : SpawnerAt) → OnlyReadsPod seen pod d new → (e ≡ load.DirFault → Rose d.faults new.faults) → (seen ≡ true → LoadCause pod e d new) → IsRefusedRun seen observed pod address (load_refusal e) d new s s
+refused_load pod address e d new s o rose lacks = record {
+  cause = load_cause pod e d new s rose lacks;
+  early = λ t. asks_none;
+  unchanged = λ early. only_reads pod o;
+  starts = [];
+  loads = λ t. inl refl;
+  cut = cut_nothing [];
+}

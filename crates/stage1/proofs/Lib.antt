@@ -16,6 +16,7 @@ mod Rests
 mod Times
 mod Fresh
 mod Stops
+pub mod Starting
 mod Held
 mod Closed
 pub mod Lawful

@@ -2,7 +2,7 @@
 use Rattle.std.specs.Prelude.{◌≡◌, ◌≤◌, ◌⊎◌, ℕ, ◌==◌, Bool, true, false, List, [], ◌∷◌, ◌++◌, map}
 use Rattle.dir_model.specs.declared.pod.PodId.{PodId}
 use Rattle.dir_model.specs.declared.request.Request.{Request}
-use Rattle.dir_model.specs.declared.request.Request.TheVariants.{Close}
+use Rattle.dir_model.specs.declared.request.Request.TheVariants.{Close, ReadIn}
 use Rattle.dir_model.specs.declared.request.Reply.TheVariants.{Done}
 use Rattle.dir_model.specs.Causes.{Rose}
 use Rattle.dir_model.specs.declared.spot.Handle.{Handle}
@@ -26,7 +26,7 @@ use Rattle.stage1.specs.Asking.{Asks}
 use Rattle.stage1.specs.Cutting.{IsCutShort}
 use Rattle.stage1.specs.Beginnings.{AreMarked}
 use Rattle.stage1.specs.Keeping.{AppendsOnce}
-use Rattle.stage1.specs.Notes.{notes_at, WroteStatus}
+use Rattle.stage1.specs.Notes.{anything, notes_at, WroteStatus}
 
 -- reads, notes, and the close of the handle
 abbrev pub closes : Handle → Request → Bool
@@ -82,11 +82,18 @@ pub record HasRunStarts (seen observed : Bool) (starts : List AppStart) (ends : 
   pub marked : seen ≡ true → AreMarked d starts
   pub wrote : seen ≡ true → AreWrittenAll d starts statuses
 
+-- the apps of a pod start so by what was read of it, before anything else was asked for
+pub record LoadsStarts (pod : PodId) (address : List ℕ) (starts : List AppStart) (d d' : DirAt) : Type 0 where
+  pub loaded : DirAt
+  pub same : loaded.process ≡ d.process
+  pub reads : ExtendsBy (reads_pod pod) d loaded
+  pub found : ReadsStarts pod address starts d loaded
+  pub then : ExtendsBy anything loaded d'
+
 -- the apps of a pod were run by what was read of it; to each file at most one append was asked for
 pub record HasRunHeld (seen observed : Bool) (pod : PodId) (address : List ℕ) (ends : List AppEnd) (d d' : DirAt) (s s' : SpawnerAt) : Type 0 where
   pub starts : List AppStart
-  pub loaded : DirAt
-  pub read : seen ≡ true → ReadsStarts pod address starts d loaded
+  pub loads : seen ≡ true → LoadsStarts pod address starts d d'
   pub ran : HasRunStarts seen observed starts ends d' s s'
   pub once : seen ≡ true → AppendsOnce d d'
 
@@ -118,10 +125,17 @@ is_early (Damaged path) = true
 is_early (NoProgram app word) = true
 is_early error = false
 
--- the pod wasn't run to its end: whatever was started was waited for
+-- reads, and closes of handles
+abbrev pub reads_or_closes : Request → Bool
+reads_or_closes (ReadIn inner at room) = true
+reads_or_closes (Close handle) = true
+reads_or_closes _ = false
+
+-- the pod wasn't run to its end: whatever was started was waited for. What was refused so early was refused by reads
 pub record IsRefusedRun (seen observed : Bool) (pod : PodId) (address : List ℕ) (error : RunError) (d d' : DirAt) (s s' : SpawnerAt) : Type 0 where
   pub cause : RefusedFor seen pod error d d' s s'
   pub early : is_early error ≡ true → Asks observed s [] s'
+  pub unchanged : is_early error ≡ true → seen ≡ true → ExtendsBy reads_or_closes d d'
   pub starts : List AppStart
-  pub read : seen ≡ true → (starts ≡ []) ⊎ ((loaded : DirAt) × ReadsStarts pod address starts d loaded)
+  pub loads : seen ≡ true → (starts ≡ []) ⊎ LoadsStarts pod address starts d d'
   pub cut : IsCutShort observed starts s s'

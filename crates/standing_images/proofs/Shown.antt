@@ -19,6 +19,7 @@ use Rattle.folder_contents.specs.Entries.{entries_in}
 use Rattle.gate_reading.specs.Listings.{has_direct, item_of, has_direct_item}
 use Rattle.gate_reading.proofs.DirectItems.{named_direct, item_direct}
 use Rattle.gate_reading.proofs.Listed.{throughout, sometime}
+use Rattle.gate_reading.proofs.ImageItems.{same_test}
 
 any_named : (item : Item) (es : List Entry) → list_any (λ e. is_item item (item_of e)) es ≡ true → list_any (λ e. bytes_eq e.path item.name) es ≡ true
 any_named item [] h = cc
@@ -51,11 +52,6 @@ shown_so P (x ∷ xs) each name h = by (bytes_eq x.name name) refl h (λ l. show
         (has_name (item_names xs) name ≡ true → P name) → P name
     by true is h go = subst P (name_same x.name name is) first
     by false is h go = go h
-
-same_test : (a b : Bool) → (a ≡ true → b ≡ true) → (b ≡ true → a ≡ true) → a ≡ b
-same_test true b f g = sym (f refl)
-same_test false true f g = g refl
-same_test false false f g = refl
 
 -- a listing in whose whole time a folder had these entries shows their names
 pub shows_names : (p : ℕ) (old new : List Event) (spot : Spot) (items : List Item) (d : ShowsDirectory p old new (inner_at spot []) items) →

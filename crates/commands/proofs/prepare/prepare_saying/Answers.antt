@@ -30,7 +30,7 @@ pub returns-in-Ok-clause-says : goal.returns-in-Ok-clause-says
 returns-in-Ok-clause-says g c =
     let D = g.D.Dir in
     synced_says D.observed (D.shown c.args.dir.now) (D.shown c.prepare.new.dir) (D.shown c.sync_saying.new.dir) c.args.wanted.now c.refs.result.now c.args.now c.args.draw.now c.args.line c.in-Ok.field-0 c.sync_saying.result
-    c.prepare.ensures.went.same c.refs.ensures c.in-Ok.ensures.answer c.prepare.ensures.went.extends c.in-Ok.ensures.knows (rw c.options.ensures at c.in-Ok.ensures.prepared) c.requires.line c.sync_saying.ensures.says
+    c.prepare.ensures.went.same c.refs.ensures c.in-Ok.ensures.answer c.in-Ok.ensures.free (rw c.options.ensures at c.in-Ok.ensures.planned) c.prepare.ensures.went.extends c.in-Ok.ensures.knows (rw c.options.ensures at c.in-Ok.ensures.prepared) c.requires.line c.sync_saying.ensures.says
 
 pub returns-in-Err-clause-worked : goal.returns-in-Err-clause-worked
 returns-in-Err-clause-worked g c = prepare_worked c.args.draw.now.uuid c.prepare.result c.prepare.ensures.answer c.prepare.ensures.went

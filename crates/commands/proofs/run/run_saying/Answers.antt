@@ -65,7 +65,7 @@ returns-in-Ok-clause-says g c =
     let b = D.shown c.prepare.new.dir in
     made_says D.observed S.observed c.args.wanted.now c.args.address.now c.args.now c.args.draw.now a (D.shown c.run_owned.new.dir) (S.shown c.args.spawner.now) (S.shown c.run_owned.new.spawner) c.run_owned.result c.refs.result.now b c.kept.result c.refs.ensures
     (kept_owned c.args.draw.now.uuid a.local c.in-Ok.built c.kept.result c.kept.ensures c.in-Ok.ensures.answer)
-    c.prepare.ensures.went.same c.prepare.ensures.went.extends
+    c.prepare.ensures.went.same c.in-Ok.ensures.free (rw c.options.ensures at c.in-Ok.ensures.planned) c.prepare.ensures.went.extends
     (λ t. made_knows c.args.draw.now c.args.now c.in-Ok.built c.kept.result a b c.kept.ensures (c.in-Ok.ensures.knows t))
     (rw c.options.ensures at c.in-Ok.ensures.prepared) (λ t. grown_by (c.run_owned.ensures.went.extends t)) (rw c.requires.line at c.run_owned.ensures.says)
 

@@ -1,5 +1,6 @@
 use Rattle.std.proofs.Common.{◌≡◌, true, false}
 use Rattle.folder_building.specs.Sources.{IsLike, LikeContent}
+use Rattle.folder_building.specs.Stored.{WasLike, HadContent}
 use Rattle.folder_building.specs.Making.{Adds}
 use Rattle.folder_building.specs.Changes.{Makes, Gives, Takes}
 use Rattle.folder_building.proofs.Copying.{worked_here, stray_here, ok_more, ok_any}
@@ -64,3 +65,18 @@ returns-in-Directory-clause-like g c = ok_any c.make_dir.result (rw c.in-Directo
 
 pub returns-in-Given-clause-like : goal.returns-in-Given-clause-like
 returns-in-Given-clause-like g c = ok_any c.add_given.result (rw c.in-Given.is tt)
+
+pub returns-in-Copied-clause-had : goal.returns-in-Copied-clause-had
+returns-in-Copied-clause-had g c =
+    let D = g.D.Dir in
+    let S = g.S.Source in
+    let old = D.shown c.args.dir.now in
+    let new = D.shown c.add_copied.new.dir in
+    ok_more (λ done. D.observed ≡ true → WasLike (S.stored c.in-Copied.origin) c.in-Copied.size c.in-Copied.sha old new) (λ done. D.observed ≡ true → HadContent S.stored c.args.entry.now.content old new) c.add_copied.result
+    (λ done f t. rw c.in-Copied.is (f t)) c.add_copied.ensures.had
+
+pub returns-in-Directory-clause-had : goal.returns-in-Directory-clause-had
+returns-in-Directory-clause-had g c = ok_any c.make_dir.result (λ t. rw c.in-Directory.is tt)
+
+pub returns-in-Given-clause-had : goal.returns-in-Given-clause-had
+returns-in-Given-clause-had g c = ok_any c.add_given.result (λ t. rw c.in-Given.is tt)

@@ -1,18 +1,19 @@
-use Rattle.std.proofs.Common.{IsErrOf, rules, refl, subst, List, ◌∙◌}
+use Rattle.std.proofs.Common.{◌≡◌, true, IsErrOf, rules, refl, subst, List, ◌∙◌}
 use Rattle.std.proofs.lemmas.List.{take_all}
 use Rattle.folder_building.specs.declared.plan.PlanEntry.{PlanEntry}
 use Rattle.folder_building.specs.declared.error.BuildError.TheVariants.{Stray, Unlike}
 use Rattle.folder_building.specs.Sources.{AreLike}
+use Rattle.folder_building.specs.Stored.{HadContents}
 use Rattle.folder_building.specs.Making.{FillsWith}
 use Rattle.folder_building.proofs.Working.{worked_none, worked_more}
 use Rattle.folder_building.proofs.Strays.{stray_after}
 use Rattle.folder_building.proofs.Copying.{same_none, same_more, worked_same, stray_same, err_any}
 use Rattle.folder_building.proofs.Filling.{fills_none, fills_next, begins_next, planned_path, planned_origin, unlike_at, like_next}
-use Rattle.folder_building.proofs.Stored.{lacks_at}
+use Rattle.folder_building.proofs.Stored.{had_next, lacks_at}
 use Rattle.folder_building.proofs.build.add_all.Goals as goal
 
 pub entries-init : goal.entries-init
-entries-init g c = record { place = refl; same = same_none; like = tt; worked = worked_none; filled = fills_none g.D.Dir.observed (g.S.Source.shown c.args.source.now) c.args.spot.now c.args.plan.now }
+entries-init g c = record { place = refl; same = same_none; like = tt; had = λ t. tt; worked = worked_none; filled = fills_none g.D.Dir.observed (g.S.Source.shown c.args.source.now) c.args.spot.now c.args.plan.now }
 
 pub add-requires-clause-active : goal.add-requires-clause-active
 add-requires-clause-active g c = rw c.entries.invariant.worked.local c.requires.active
@@ -32,6 +33,7 @@ entries-preserved g c =
       place = rw i.place refl;
       same = same_more i.same c.add.ensures.same;
       like = like_next (S.shown c.args.source.now) (S.shown c.entries.source) c.args.plan.now c.entries.entry-index c.entry-item.result c.entries-test.true c.entry-item.is i.same i.like c.in_ok-add.ensures.like;
+      had = λ t. had_next S.stored c.args.plan.now c.entries.entry-index c.entry-item.result (D.shown c.args.dir.now) (D.shown c.entries.dir) (D.shown c.add.new.dir) c.entries-test.true c.entry-item.is t i.worked c.add.ensures.worked (i.had t) (c.in_ok-add.ensures.had t);
       worked = worked_more i.worked (worked_same c.args.spot.now i.same c.add.ensures.worked);
       filled = fills_next D.observed (S.shown c.args.source.now) c.args.spot.now c.args.plan.now c.entries.entry-index c.entry-item.result c.entries-test.true c.entry-item.is c.requires.plan i.same i.filled c.in_ok-add.ensures.done;
     }
@@ -72,7 +74,12 @@ returns-in_err-add-clause-lacks g c n h t =
     let i = c.entries.invariant in
     let k : IsErrOf c.add.result (Unlike n) = search (rules, h, c.from_residual.ensures, c.in_err-add.is) in
     let why = c.add.ensures.unlike n k in
-    lacks_at g.S.Source.stored c.args.plan.now c.entries.entry-index c.entry-item.result (g.D.Dir.shown c.args.dir.now) (g.D.Dir.shown c.entries.dir) (g.D.Dir.shown c.add.new.dir) c.entries-test.true c.entry-item.is n (why.0 ∙ i.place) t i.worked (c.add.ensures.lacks n k t)
+    lacks_at g.S.Source.stored c.args.plan.now c.entries.entry-index c.entry-item.result (g.D.Dir.shown c.args.dir.now) (g.D.Dir.shown c.entries.dir) (g.D.Dir.shown c.add.new.dir) c.entries-test.true c.entry-item.is n (why.0 ∙ i.place) t i.worked c.add.ensures.worked (i.had t) (c.add.ensures.lacks n k t)
 
 pub returns-clause-like : goal.returns-clause-like
 returns-clause-like g c = subst (λ (xs : List PlanEntry). AreLike (g.S.Source.shown c.args.source.now) xs) (take_all c.entries.entry-index c.args.plan.now c.entries-test.false) c.entries.invariant.like
+
+pub returns-clause-had : goal.returns-clause-had
+returns-clause-had g c t =
+    let D = g.D.Dir in
+    subst (λ (xs : List PlanEntry). HadContents g.S.Source.stored xs (D.shown c.args.dir.now) (D.shown c.entries.dir)) (take_all c.entries.entry-index c.args.plan.now c.entries-test.false) (c.entries.invariant.had t)

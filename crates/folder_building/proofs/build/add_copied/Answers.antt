@@ -1,12 +1,13 @@
 use Rattle.std.proofs.Common.{◌≡◌, true, IsErrOf, rules}
 use Rattle.folder_building.specs.declared.error.BuildError.TheVariants.{Stray}
+use Rattle.folder_building.specs.Stored.{WasLike}
 use Rattle.folder_building.specs.Making.{Copies, SpoilsUnder}
 use Rattle.folder_building.specs.Changes.{Takes, TriesUnder}
 use Rattle.folder_building.proofs.Working.{worked_more}
 use Rattle.folder_building.proofs.Strays.{stray_after}
 use Rattle.folder_building.proofs.Pieces.{file_spoilt}
 use Rattle.folder_building.proofs.Copying.{worked_here, stray_here, ok_more, err_more, takes_file}
-use Rattle.folder_building.proofs.Stored.{unlike_after}
+use Rattle.folder_building.proofs.Stored.{unlike_after, like_after}
 use Rattle.folder_building.proofs.build.add_copied.Goals as goal
 
 pub returns-in_err-make_file-clause-worked : goal.returns-in_err-make_file-clause-worked
@@ -48,3 +49,13 @@ returns-clause-refused g c =
 
 pub returns-clause-lacks : goal.returns-clause-lacks
 returns-clause-lacks g c n h t = unlike_after (g.D.Dir.shown c.args.dir.now) (g.D.Dir.shown c.make_file.new.dir) (c.make_file.ensures.worked.extends t) c.make_file.ensures.worked.same (g.D.Dir.shown c.copy.new.dir) (c.copy.ensures.lacks n h t)
+
+pub returns-clause-had : goal.returns-clause-had
+returns-clause-had g c =
+    let D = g.D.Dir in
+    let stored = g.S.Source.stored c.args.origin.now in
+    let old = D.shown c.args.dir.now in
+    let mid = D.shown c.make_file.new.dir in
+    let new = D.shown c.copy.new.dir in
+    ok_more (λ done. D.observed ≡ true → WasLike stored c.args.size c.args.sha mid new) (λ done. D.observed ≡ true → WasLike stored c.args.size c.args.sha old new) c.copy.result
+    (λ done f t. like_after old mid (c.make_file.ensures.worked.extends t) c.make_file.ensures.worked.same new (f t)) c.copy.ensures.had

@@ -3,8 +3,9 @@ use Rattle.folder_building.specs.Making.{CarriesOut, Begins}
 use Rattle.folder_building.specs.Changes.{SyncsAll, UnsyncsAll}
 use Rattle.folder_building.proofs.Working.{worked_more}
 use Rattle.folder_building.proofs.Strays.{stray_after}
-use Rattle.folder_building.proofs.Copying.{worked_here, stray_here, ok_more, err_more}
+use Rattle.folder_building.proofs.Copying.{worked_here, stray_here, ok_more, ok_any, err_more}
 use Rattle.folder_building.proofs.Filling.{carries_out, begins_after}
+use Rattle.folder_building.proofs.Stored.{all_had_before}
 use Rattle.folder_building.proofs.build.carry_out.Goals as goal
 
 pub returns-clause-worked : goal.returns-clause-worked
@@ -34,3 +35,8 @@ returns-clause-refused g c =
     let mid = D.shown c.add_all.new.dir in
     let new = D.shown c.sync_all.new.dir in
     err_more (λ e. D.observed ≡ true → UnsyncsAll c.args.spot plan mid new) (λ e. D.observed ≡ true → Begins source c.args.spot plan old new) c.sync_all.result (λ e f t. begins_after D.observed source c.args.spot plan old mid new t c.in_ok-add_all.ensures.done (f t)) c.sync_all.ensures.refused
+
+pub returns-clause-had : goal.returns-clause-had
+returns-clause-had g c =
+    let D = g.D.Dir in
+    ok_any c.sync_all.result (λ t. all_had_before (D.shown c.add_all.new.dir) (D.shown c.sync_all.new.dir) (c.sync_all.ensures.worked.extends t) g.S.Source.stored c.args.plan.now (D.shown c.args.dir.now) c.add_all.ensures.worked.same (c.in_ok-add_all.ensures.had t))

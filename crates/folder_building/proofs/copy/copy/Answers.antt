@@ -5,7 +5,7 @@ use Rattle.folder_building.proofs.Working.{worked_none, worked_more}
 use Rattle.folder_building.proofs.Strays.{stray_after}
 use Rattle.folder_building.proofs.Pieces.{under_spoils, under_given_up}
 use Rattle.folder_building.proofs.Copying.{same_none, same_more, worked_same, stray_same, copies_none, copies_more, copies_all, err_any, front_none, front_more, longer_unlike, ended_unlike, ended_like, short}
-use Rattle.folder_building.proofs.Stored.{seen_none, seen_more, unlike_past, unlike_ended}
+use Rattle.folder_building.proofs.Stored.{seen_none, seen_more, unlike_past, unlike_ended, like_ended}
 use Rattle.folder_building.proofs.copy.copy.Goals as goal
 
 pub pieces-init : goal.pieces-init
@@ -85,3 +85,6 @@ returns-clause-lacks g c n h t = unlike_ended c.matches.result c.pieces-test.fal
 
 pub returns-then-matches-clause-like : goal.returns-then-matches-clause-like
 returns-then-matches-clause-like g c = ended_like (g.S.Source.shown c.args.source.now) c.args.origin.now c.pieces.more c.pieces.check c.args.size c.args.sha c.pieces.at c.matches.result c.pieces-test.false c.pieces.invariant.front c.matches.ensures c.if-matches.true
+
+pub returns-then-matches-clause-had : goal.returns-then-matches-clause-had
+returns-then-matches-clause-had g c t = like_ended c.matches.result c.pieces-test.false (c.pieces.invariant.seen t) c.matches.ensures c.if-matches.true

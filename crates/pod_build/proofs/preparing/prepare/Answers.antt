@@ -9,18 +9,18 @@ use Rattle.dir_trait.specs.Knowledge.{Knows}
 use Rattle.lifecycle.specs.Executions.{IsConforming}
 use Rattle.area_locks.specs.AreaLocks.{takes, closes, on_gate}
 use Rattle.area_locks.proofs.Locking.{number_is_new}
-use Rattle.folder_building.proofs.Copying.{ok_more, err_more}
+use Rattle.folder_building.proofs.Copying.{ok_any, ok_more, err_more}
 use Rattle.pod_making.specs.Progress.{at_work, nothing_made}
 use Rattle.pod_making.specs.Work.{From, HasOwnFolder}
 use Rattle.pod_making.proofs.Knowing.{has_nothing}
 use Rattle.pod_making.proofs.Times.{Follows}
 use Rattle.pod_build.specs.declared.error.BuildError.{BuildError}
 use Rattle.pod_build.specs.Answers.{target, held_with, IsAnswer}
-use Rattle.pod_build.specs.Causes.{IsRefused, IsRefusedUnderLock, IsHeldElsewhere}
+use Rattle.pod_build.specs.Causes.{IsMadeByPlan, IsRefused, IsRefusedUnderLock, IsHeldElsewhere}
 use Rattle.pod_build.specs.Preparations.{Began, IsAlone, HasGateAlone, HasPrepared, KnowsPrepared, IsHandedOver, IsPrepared}
 use Rattle.dir_model.specs.Calls.{IsRun}
-use Rattle.pod_build.proofs.Parts.{refused_within}
-use Rattle.pod_build.proofs.Working.{ok_with, went_back, went_refused, hands_to, knows_back, left_back, may_lock, gate_elsewhere, elsewhere_within}
+use Rattle.pod_build.proofs.Parts.{made_within, refused_within}
+use Rattle.pod_build.proofs.Working.{ok_with, went_back, went_refused, hands_to, knows_back, left_back, may_lock, gate_elsewhere, elsewhere_within, free_within}
 use Rattle.pod_build.proofs.Faithful.{is_handed_over, is_prepared, hands_faithfully}
 use Rattle.pod_making.proofs.Handing.{none_handed, handed_after, handed_before, follow_on, run_until}
 use Rattle.pod_build.specs.FaithfulBuild.{IsFaithfulBuild, HandsOverFaithfully}
@@ -37,6 +37,15 @@ returns-in-Ok-clause-went g c =
     went_back (D.shown c.args.dir.now) (D.shown c.lock_area.new.dir) (D.shown c.prepare_under_lock-result.new.dir) (D.shown c.unlock_area.new.dir) c.in-Ok.gate c.args.draw.now.uuid c.in-Ok.ensures.unopened c.in-Ok.ensures.held c.unlock_area.ensures.local (target c.args.keep_owner) c.args.keep_owner c.prepare_under_lock-result.result c.prepare_under_lock-result.ensures.answer ab cd
     c.lock_area.ensures.extends c.unlock_area.ensures.extends c.prepare_under_lock-result.ensures.went
 
+pub returns-in-Ok-clause-free : goal.returns-in-Ok-clause-free
+returns-in-Ok-clause-free g c =
+    let D = g.D.Dir in
+    let a = D.shown c.args.dir.now in
+    let b = D.shown c.lock_area.new.dir in
+    let late = D.shown c.prepare_under_lock-result.new.dir in
+    let d = D.shown c.unlock_area.new.dir in
+    ok_any c.prepare_under_lock-result.result (free_within {observed = D.observed} a b late d c.lock_area.ensures.same c.prepare_under_lock-result.ensures.went.same c.prepare_under_lock-result.ensures.went.extends c.unlock_area.ensures.extends c.in-Ok.ensures.free)
+
 pub returns-in-Ok-clause-refused : goal.returns-in-Ok-clause-refused
 returns-in-Ok-clause-refused g c =
     let D = g.D.Dir in
@@ -49,7 +58,24 @@ returns-in-Ok-clause-refused g c =
     let ab : Follows D.observed a b = record { same = c.lock_area.ensures.same; faults = c.lock_area.ensures.faults; asks = takes Images Shared; extends = c.lock_area.ensures.extends } in
     let cd : Follows D.observed late d = record { same = c.unlock_area.ensures.same; faults = omega (arith, c.unlock_area.ensures.faultless); asks = closes c.in-Ok.gate; extends = c.unlock_area.ensures.extends } in
     err_more (λ e. IsRefusedUnderLock D.observed refs options c.args.draw.now c.args.now e b late) (λ e. IsRefused D.observed refs options c.args.draw.now c.args.now e a d) c.prepare_under_lock-result.result
-    (λ e x. inr (refused_within c.args.draw.now ab cd x)) c.prepare_under_lock-result.ensures.refused
+    (λ e x. inr (
+      free_within {observed = D.observed} a b late d c.lock_area.ensures.same c.prepare_under_lock-result.ensures.went.same c.prepare_under_lock-result.ensures.went.extends c.unlock_area.ensures.extends c.in-Ok.ensures.free,
+      refused_within c.args.draw.now ab cd x,
+    )) c.prepare_under_lock-result.ensures.refused
+
+pub returns-in-Ok-clause-planned : goal.returns-in-Ok-clause-planned
+returns-in-Ok-clause-planned g c =
+    let D = g.D.Dir in
+    let refs = c.args.refs.now in
+    let options = c.args.options.now in
+    let a = D.shown c.args.dir.now in
+    let b = D.shown c.lock_area.new.dir in
+    let late = D.shown c.prepare_under_lock-result.new.dir in
+    let d = D.shown c.unlock_area.new.dir in
+    let ab : Follows D.observed a b = record { same = c.lock_area.ensures.same; faults = c.lock_area.ensures.faults; asks = takes Images Shared; extends = c.lock_area.ensures.extends } in
+    let cd : Follows D.observed late d = record { same = c.unlock_area.ensures.same; faults = omega (arith, c.unlock_area.ensures.faultless); asks = closes c.in-Ok.gate; extends = c.unlock_area.ensures.extends } in
+    ok_more (λ built. IsMadeByPlan D.observed refs options c.args.draw.now c.args.now b late) (λ built. IsMadeByPlan D.observed refs options c.args.draw.now c.args.now a d) c.prepare_under_lock-result.result
+    (λ built x. made_within c.args.draw.now ab cd x) c.prepare_under_lock-result.ensures.planned
 
 pub returns-in-Ok-clause-another : goal.returns-in-Ok-clause-another
 returns-in-Ok-clause-another g c =

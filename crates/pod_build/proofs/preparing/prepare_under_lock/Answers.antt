@@ -8,7 +8,7 @@ use Rattle.pod_making.specs.Makings.{HasMade}
 use Rattle.pod_making.proofs.Knowing.{has_nothing}
 use Rattle.pod_making.proofs.Times.{nothing_follows, follows_went}
 use Rattle.pod_build.specs.Answers.{target, held_with}
-use Rattle.pod_build.specs.Causes.{FailsPlan, FailsMaking, IsRefusedUnderLock, IsHeldElsewhere}
+use Rattle.pod_build.specs.Causes.{FailsPlan, FailsMaking, FollowsPlan, IsMadeByPlan, IsRefusedUnderLock, IsHeldElsewhere}
 use Rattle.pod_build.specs.Preparations.{Began, HasGateAlone, HasPrepared, ReadsThenMakes}
 use Rattle.pod_build.proofs.Parts.{during_first, during_last}
 use Rattle.pod_build.proofs.Working.{follows_reads, went_reads, went_under, worked_reads, may_make, under_images, knows_read, elsewhere_within}
@@ -50,6 +50,22 @@ returns-in-Ok-clause-another g c =
     (λ e x t intent hs began alone k. elsewhere_within old mid new new t (follows_reads c.plan_pod.ensures.only) c.make.ensures.went.same nothing_follows
     (x t intent hs (subst (λ (plan : List PlanEntry). MayMake to plan draw.uuid intent) (sym c.deref.ensures.value) (may_make began c.in-Ok.ensures.turn c.in-Ok.ensures.whole)) (under_images draw.uuid c.args.gate alone) (knows_read c.args.gate alone (c.plan_pod.ensures.known t) k)))
     c.make.ensures.another
+
+pub returns-in-Ok-clause-planned : goal.returns-in-Ok-clause-planned
+returns-in-Ok-clause-planned g c =
+    let D = g.D.Dir in
+    let old = D.shown c.args.dir.now in
+    let mid = D.shown c.plan_pod.new.dir in
+    let new = D.shown c.make.new.dir in
+    let draw = c.args.draw.now in
+    let plan = c.in-Ok.plan.items in
+    ok_more (λ built. D.observed ≡ true → FollowsPlan draw.uuid c.deref.result.now mid new) (λ built. IsMadeByPlan D.observed c.args.refs.now c.args.options.now draw c.args.now old new) c.make.result
+    (λ built x. (
+      plan,
+      during_first (λ a b. D.observed ≡ true → PlansFaithfully c.args.refs.now c.args.options.now c.args.now draw.token plan a b) (follows_went c.make.ensures.went) (λ t. c.in-Ok.ensures.faithful t),
+      during_last (λ a b. D.observed ≡ true → FollowsPlan draw.uuid plan a b) (follows_reads c.plan_pod.ensures.only)
+          (subst (λ (entries : List PlanEntry). D.observed ≡ true → FollowsPlan draw.uuid entries mid new) c.deref.ensures.value x),
+    )) c.make.ensures.followed
 
 pub returns-in-Ok-clause-prepared : goal.returns-in-Ok-clause-prepared
 returns-in-Ok-clause-prepared g c =

@@ -11,8 +11,8 @@ use Rattle.pod_making.specs.Progress.{at_work, nothing_made, in_prepare, own_hel
 use Rattle.pod_making.specs.Work.{IsMaker, UnderImages, UnderBoth, From, HasOwnFolder}
 use Rattle.pod_making.specs.declared.error.MakeError.{MakeError}
 use Rattle.pod_making.specs.Requests.{is_brought}
-use Rattle.pod_making.specs.Causes.{WorkCause, MakeCause, BringsPod}
-use Rattle.pod_making.proofs.Times.{Follows, cause_after, cause_before, calm_cause, own_after, own_before, answered_after, answered_before}
+use Rattle.pod_making.specs.Causes.{EmbryoCause, MakeCause, MakesFirst, HasMadeFolder, BringsPod}
+use Rattle.pod_making.proofs.Times.{Follows, follows_went, locked_cause, folder_asked, folder_before, own_after, own_before, answered_after, answered_before}
 use Rattle.pod_making.proofs.Calls.{lock_cause}
 use Rattle.pod_making.proofs.Knowing.{has_nothing, under_both, may_lock, gate_back, gate_back_after}
 use Rattle.pod_making.proofs.Outcomes.{Shares, GivesBack, went_refused, went_under, ok_both, err_with, apart_from}
@@ -64,7 +64,7 @@ pub returns-in-Err-clause-cause : goal.returns-in-Err-clause-cause
 returns-in-Err-clause-cause g c =
     let D = g.D.Dir in
     subst (λ (x : MakeError). MakeCause D.observed c.args.draw [] x (D.shown c.args.dir.now) (D.shown c.lock_area.new.dir)) (sym c.lock_refusal.ensures)
-    (lock_cause c.in-Err.error (λ is. c.in-Err.ensures.busy (ap Err is)) (λ is. c.in-Err.ensures.cause (ap Err is)))
+    (lock_cause c.in-Err.error (λ is. c.in-Err.ensures.busy (ap Err is)) c.lock_area.ensures.extends (λ is. c.in-Err.ensures.cause (ap Err is)))
 
 pub returns-in-Ok-clause-cause : goal.returns-in-Ok-clause-cause
 returns-in-Ok-clause-cause g c =
@@ -77,9 +77,9 @@ returns-in-Ok-clause-cause g c =
     let still = c.unlock_area.ensures.faultless in
     let locks : Follows D.observed old mid = record { same = c.lock_area.ensures.same; faults = c.lock_area.ensures.faults; asks = _; extends = c.lock_area.ensures.extends } in
     let gives : Follows D.observed late new = record { same = c.unlock_area.ensures.same; faults = omega (arith, still); asks = _; extends = c.unlock_area.ensures.extends } in
-    err_with (λ e. WorkCause D.observed draw [] e mid late) (λ e. MakeCause D.observed draw [] e old new) c.make_and_take_out-result.result
-    (λ e was x. calm_cause (λ is t. own_before old late new (own_after old mid late (locks.extends t) locks.same (c.make_and_take_out-result.ensures.stray (was ∙ ap Err is) t)) (gives.extends t))
-    (cause_before (c.make_and_take_out-result.ensures.went.same ∙ locks.same) (cause_after locks x) gives))
+    err_with (λ e. EmbryoCause D.observed draw e mid late) (λ e. MakeCause D.observed draw [] e old new) c.make_and_take_out-result.result
+    (λ e was x. locked_cause old mid late new locks c.in-Ok.ensures.free c.lock_area.ensures.extends (follows_went c.make_and_take_out-result.ensures.went) gives
+    (λ is t. own_before old late new (own_after old mid late (locks.extends t) locks.same (c.make_and_take_out-result.ensures.stray (was ∙ ap Err is) t)) (gives.extends t)) x)
     c.make_and_take_out-result.ensures.cause
 
 pub returns-in-Ok-clause-brings : goal.returns-in-Ok-clause-brings
@@ -88,3 +88,17 @@ returns-in-Ok-clause-brings g c =
     let draw = c.args.draw in
     ok_more (λ (own : Handle). D.observed ≡ true → BringsPod draw (D.shown c.lock_area.new.dir) (D.shown c.make_and_take_out-result.new.dir)) (λ (own : Handle). D.observed ≡ true → BringsPod draw (D.shown c.args.dir.now) (D.shown c.unlock_area.new.dir)) c.make_and_take_out-result.result
     (λ own f t. answered_before (is_brought draw) (answered_after (is_brought draw) (c.lock_area.ensures.extends t) c.lock_area.ensures.same (f t)) (c.unlock_area.ensures.extends t)) c.make_and_take_out-result.ensures.brings
+
+pub returns-in-Ok-clause-begins : goal.returns-in-Ok-clause-begins
+returns-in-Ok-clause-begins g c =
+    let D = g.D.Dir in
+    let draw = c.args.draw in
+    let old = D.shown c.args.dir.now in
+    let mid = D.shown c.lock_area.new.dir in
+    let late = D.shown c.make_and_take_out-result.new.dir in
+    let new = D.shown c.unlock_area.new.dir in
+    let went = c.make_and_take_out-result.ensures.went in
+    let same = c.lock_area.ensures.same in
+    ok_more (λ (own : Handle). D.observed ≡ true → MakesFirst draw mid late) (λ (own : Handle). D.observed ≡ true → HasMadeFolder draw old new) c.make_and_take_out-result.result
+    (λ own f t. folder_before old late new (folder_asked old mid late (c.in-Ok.ensures.free t) (c.lock_area.ensures.extends t) same (went.extends t) (f t)) (went.same ∙ same) (c.unlock_area.ensures.extends t))
+    c.make_and_take_out-result.ensures.first

@@ -45,10 +45,10 @@ returns-in-Err-try_lock-clause-cause g c =
     let D = g.D.Dir in
     let e = c.in-Err-try_lock.error in
     let asks = c.in-Err-try_lock.ensures in
-    subst (λ (x : MakeError). WorkCause D.observed c.args.draw _ x (D.shown c.args.dir.now) (D.shown c.close.new.self)) (sym c.change_refusal.ensures)
+    subst (λ (x : MakeError). WorkCause D.observed _ x (D.shown c.args.dir.now) (D.shown c.close.new.self)) (sym c.change_refusal.ensures)
     (cause_before (asks.called.same ∙ c.in-Ok.ensures.called.same)
     (cause_after (follows_call c.in-Ok.ensures.called)
-    (change_cause {draw = c.args.draw} e (λ is. asks.cause (ap Err is))))
+    (change_cause e (λ is. asks.cause (ap Err is))))
     (follows_close c.close.ensures.faultless c.close.ensures.called))
 
 pub returns-in-Err-try_lock-clause-left : goal.returns-in-Err-try_lock-clause-left
@@ -62,8 +62,8 @@ pub returns-in-Err-clause-cause : goal.returns-in-Err-clause-cause
 returns-in-Err-clause-cause g c =
     let D = g.D.Dir in
     let e = c.in-Err.error in
-    subst (λ (x : MakeError). WorkCause D.observed c.args.draw _ x (D.shown c.args.dir.now) (D.shown c.«open».new.self)) (sym c.change_refusal-in-Err.ensures)
-    (change_cause {draw = c.args.draw} e (λ is. c.in-Err.ensures.cause (ap Err is)))
+    subst (λ (x : MakeError). WorkCause D.observed _ x (D.shown c.args.dir.now) (D.shown c.«open».new.self)) (sym c.change_refusal-in-Err.ensures)
+    (change_cause e (λ is. c.in-Err.ensures.cause (ap Err is)))
 
 pub returns-in-Err-clause-left : goal.returns-in-Err-clause-left
 returns-in-Err-clause-left g c t = knows_unopened {draw = c.args.draw} c.in-Err.error t (with_spot (λ s. Open s which.Own) c.pod_at-spot.ensures c.in-Err.ensures.called)

@@ -1,12 +1,12 @@
 use Rattle.std.proofs.Common.{◌≡◌, true, [], IsErrOf, rules}
 use Rattle.dir_model.specs.declared.spot.Handle.{Handle}
-use Rattle.folder_building.proofs.Copying.{ok_more, err_more}
+use Rattle.folder_building.proofs.Copying.{ok_any, ok_more, err_more}
 use Rattle.pod_making.specs.declared.error.MakeError.TheVariants.{Stray}
 use Rattle.pod_making.specs.Requests.{is_brought}
-use Rattle.pod_making.specs.Causes.{WorkCause, BringsPod}
+use Rattle.pod_making.specs.Causes.{WorkCause, EmbryoCause, BringsPod}
 use Rattle.dir_model.specs.Local.{Local}
 use Rattle.pod_making.specs.Progress.{with_own}
-use Rattle.pod_making.proofs.Times.{went_after, made_taken, answered_after, follows_work, cause_after}
+use Rattle.pod_making.proofs.Times.{went_after, made_taken, answered_after, follows_work, embryo_cause}
 use Rattle.pod_making.proofs.embryo.make_and_take_out.Goals as goal
 
 pub returns-clause-went : goal.returns-clause-went
@@ -30,4 +30,8 @@ pub returns-clause-cause : goal.returns-clause-cause
 returns-clause-cause g c =
     let D = g.D.Dir in
     let new = D.shown c.take_out.new.dir in
-    err_more (λ e. WorkCause D.observed c.args.draw [] e (D.shown c.make_embryo.new.dir) new) (λ e. WorkCause D.observed c.args.draw [] e (D.shown c.args.dir.now) new) c.take_out.result (λ e x. cause_after (follows_work c.make_embryo.ensures.worked) x) c.take_out.ensures.cause
+    err_more (λ e. WorkCause D.observed [] e (D.shown c.make_embryo.new.dir) new) (λ e. EmbryoCause D.observed c.args.draw e (D.shown c.args.dir.now) new) c.take_out.result (λ e x. embryo_cause (follows_work c.make_embryo.ensures.worked) x) c.take_out.ensures.cause
+
+pub returns-clause-first : goal.returns-clause-first
+returns-clause-first g c =
+    ok_any c.take_out.result (λ t. let x = c.take_out.ensures.went.extends t in record { after = (g.D.Dir.shown c.make_embryo.new.dir).trace; later = x.more; asks = c.in_ok-make_embryo.ensures.makes t; ends = x.grown })

@@ -2,7 +2,7 @@ use Rattle.std.proofs.Common.{◌≡◌, Ok, Err, ap, sym, subst, ◌∙◌}
 use Rattle.dir_model.specs.declared.request.Request.TheVariants.{MakeFolder}
 use Rattle.pod_making.specs.declared.error.MakeError.{MakeError}
 use Rattle.pod_making.specs.declared.error.MakeError.TheVariants.{Stray}
-use Rattle.pod_making.specs.Causes.{WorkCause}
+use Rattle.pod_making.specs.Causes.{EmbryoCause}
 use Rattle.pod_making.proofs.Calls.{with_spot, worked_make, make_cause, make_plain}
 use Rattle.pod_making.proofs.Knowing.{knows_made, knows_unmade}
 use Rattle.pod_making.proofs.embryo.make_embryo.Goals as goal
@@ -20,7 +20,7 @@ pub returns-in-Err-clause-cause : goal.returns-in-Err-clause-cause
 returns-in-Err-clause-cause g c =
     let D = g.D.Dir in
     let e = c.in-Err.error in
-    subst (λ (x : MakeError). WorkCause D.observed c.args.draw _ x (D.shown c.args.dir.now) (D.shown c.make_folder.new.self)) (sym c.make_refusal.ensures)
+    subst (λ (x : MakeError). EmbryoCause D.observed c.args.draw x (D.shown c.args.dir.now) (D.shown c.make_folder.new.self)) (sym c.make_refusal.ensures)
     (make_cause D.observed c.args.draw (D.shown c.args.dir.now) (D.shown c.make_folder.new.self) e (λ is. c.in-Err.ensures.cause (ap Err is)) (with_spot MakeFolder c.pod_at-spot.ensures c.in-Err.ensures.called))
 
 pub returns-in-Err-clause-left : goal.returns-in-Err-clause-left

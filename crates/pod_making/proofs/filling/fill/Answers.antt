@@ -29,7 +29,7 @@ pub returns-in-Err-clause-cause : goal.returns-in-Err-clause-cause
 returns-in-Err-clause-cause g c =
     let D = g.D.Dir in
     let e = c.in-Err.error in
-    subst (λ (x : MakeError). WorkCause D.observed c.args.draw c.args.plan.now x (D.shown c.args.dir.now) (D.shown c.carry_out.new.dir)) (sym c.build_refusal.ensures)
+    subst (λ (x : MakeError). WorkCause D.observed c.args.plan.now x (D.shown c.args.dir.now) (D.shown c.carry_out.new.dir)) (sym c.build_refusal.ensures)
     (fill_cause c.args.plan.now _ e (λ is. c.in-Err.ensures.fault (ap Err is)) (λ is. c.in-Err.ensures.source (ap Err is)) (λ place is. c.in-Err.ensures.unlike place (ap Err is)) (λ place is t. c.in-Err.ensures.lacks place (ap Err is) t))
 
 pub returns-in-Err-clause-stray : goal.returns-in-Err-clause-stray
@@ -37,3 +37,6 @@ returns-in-Err-clause-stray g c h t =
     let D = g.D.Dir in
     let is : c.build_refusal.result ≡ Stray = cc in
     pod_changed c.args.draw c.pod_at-spot.result (D.shown c.args.dir.now) (D.shown c.carry_out.new.dir) c.pod_at-spot.ensures (c.in-Err.ensures.stray (ap Err (build_stray c.in-Err.error (sym c.build_refusal.ensures ∙ is))) t)
+
+pub returns-in-Ok-clause-had : goal.returns-in-Ok-clause-had
+returns-in-Ok-clause-had g c = c.in-Ok.ensures.had

@@ -3,7 +3,9 @@ use Rattle.folder_building.specs.declared.plan.PlanEntry.{PlanEntry}
 use Rattle.dir_model.specs.declared.area.Area.{Area}
 use Rattle.dir_trait.specs.Knowledge.{Knows}
 use Rattle.pod_making.specs.Handovers.{KnewMade}
-use Rattle.folder_building.proofs.Copying.{ok_more, err_more}
+use Rattle.folder_building.specs.Sources.{in_images}
+use Rattle.folder_building.proofs.Copying.{ok_any, ok_more, err_more}
+use Rattle.folder_building.proofs.Stored.{all_had_before}
 use Rattle.folder_building.proofs.Working.{worked_more, worked_wider}
 use Rattle.pod_making.specs.Progress.{at_work, in_prepare}
 use Rattle.pod_making.specs.Work.{MayMake, Owns, From, HasOwnFolder}
@@ -41,7 +43,7 @@ returns-clause-cause g c =
     let draw = c.args.draw in
     let plan = c.args.plan.now in
     let new = D.shown c.hand_over.new.dir in
-    err_more (λ e. WorkCause D.observed draw [] e (D.shown c.fill.new.dir) new) (λ e. WorkCause D.observed draw plan e (D.shown c.args.dir.now) new) c.hand_over.result
+    err_more (λ e. WorkCause D.observed [] e (D.shown c.fill.new.dir) new) (λ e. WorkCause D.observed plan e (D.shown c.args.dir.now) new) c.hand_over.result
     (λ e x. cause_after (follows_work c.fill.ensures.worked) (cause_planned plan x)) c.hand_over.ensures.cause
 
 pub returns-clause-made : goal.returns-clause-made
@@ -89,3 +91,8 @@ returns-in_err-fill-clause-stray g c h t =
 
 pub returns-clause-stray : goal.returns-clause-stray
 returns-clause-stray g c h t = answered_after (shows_changed c.args.draw) (c.fill.ensures.worked.extends t) c.fill.ensures.worked.same (c.hand_over.ensures.stray h t)
+
+pub returns-clause-had : goal.returns-clause-had
+returns-clause-had g c =
+    let D = g.D.Dir in
+    ok_any c.hand_over.result (λ t. all_had_before (D.shown c.fill.new.dir) (D.shown c.hand_over.new.dir) (c.hand_over.ensures.worked.extends t) in_images c.args.plan.now (D.shown c.args.dir.now) c.fill.ensures.worked.same (c.in_ok-fill.ensures.had t))

@@ -2,7 +2,10 @@ use Rattle.std.proofs.Common.{◌≡◌, true, Some, Err, ap, Ok, [], ◌∷◌,
 use Rattle.dir_model.specs.declared.area.Area.TheVariants.{Prepared}
 use Rattle.dir_model.specs.declared.spot.Mode.TheVariants.{Exclusive}
 use Rattle.area_locks.proofs.Locking.{number_is_new}
-use Rattle.folder_building.proofs.Copying.{ok_more, err_more}
+use Rattle.folder_building.specs.Sources.{in_images}
+use Rattle.folder_building.specs.Stored.{HadContents}
+use Rattle.folder_building.proofs.Copying.{ok_any, ok_more, err_more}
+use Rattle.folder_building.proofs.Stored.{all_had_after, all_had_before}
 use Rattle.folder_building.proofs.Working.{worked_wider}
 use Rattle.pod_making.specs.Progress.{nothing_made, in_prepare, own_held}
 use Rattle.pod_making.specs.Work.{MayMake, UnderImages, Owns, From, HasOwnFolder}
@@ -12,7 +15,7 @@ use Rattle.pod_making.specs.Handovers.{KnewMade}
 use Rattle.pod_making.proofs.Steps.{is_maker_of}
 use Rattle.pod_making.proofs.Knowing.{owns_images, own_back, made_free}
 use Rattle.pod_making.proofs.Outcomes.{err_same, err_with, held_is, follows_close, went_worked, went_closed, begins_makes, finishes_makes, worked_residual}
-use Rattle.pod_making.proofs.Times.{follows_went, calm_cause, cause_after, cause_before, brought_changed, own_before, make_planned, went_wider, worked_went}
+use Rattle.pod_making.proofs.Times.{follows_went, calm_cause, cause_after, cause_before, folder_before, brought_changed, own_before, make_planned, went_wider, worked_went}
 use Rattle.pod_making.proofs.Handing.{none_handed, handed_after, handed_close, follow_on, begins_hand_none}
 use Rattle.pod_making.proofs.Lawful.{refused_stray}
 use Rattle.pod_making.proofs.making.make_prepared.Goals as goal
@@ -43,8 +46,8 @@ returns-clause-cause g c =
     let mid = D.shown c.begin_pod.new.dir in
     let late = D.shown c.finish_pod-result.new.dir in
     let closes = follows_close c.close.ensures.faultless c.close.ensures.called in
-    err_with (λ e. WorkCause D.observed c.args.draw plan e mid late) (λ e. MakeCause D.observed c.args.draw plan e (D.shown c.args.dir.now) (D.shown c.close.new.self)) c.finish_pod-result.result
-    (λ e was x. calm_cause (λ is t. own_before (D.shown c.args.dir.now) late (D.shown c.close.new.self) (brought_changed (D.shown c.args.dir.now) mid late (c.in_ok-own.ensures.brings t) c.begin_pod.ensures.went.same (c.finish_pod-result.ensures.stray (was ∙ ap Err is) t)) (closes.extends t)) (cause_before (c.finish_pod-result.ensures.worked.same ∙ c.begin_pod.ensures.went.same) (cause_after (follows_went c.begin_pod.ensures.went) x) (follows_close c.close.ensures.faultless c.close.ensures.called)))
+    err_with (λ e. WorkCause D.observed plan e mid late) (λ e. MakeCause D.observed c.args.draw plan e (D.shown c.args.dir.now) (D.shown c.close.new.self)) c.finish_pod-result.result
+    (λ e was x. calm_cause (λ t. folder_before (D.shown c.args.dir.now) late (D.shown c.close.new.self) (folder_before (D.shown c.args.dir.now) mid late (c.in_ok-own.ensures.begins t) c.begin_pod.ensures.went.same (c.finish_pod-result.ensures.worked.extends t)) (c.finish_pod-result.ensures.worked.same ∙ c.begin_pod.ensures.went.same) (closes.extends t)) (λ is t. own_before (D.shown c.args.dir.now) late (D.shown c.close.new.self) (brought_changed (D.shown c.args.dir.now) mid late (c.in_ok-own.ensures.brings t) c.begin_pod.ensures.went.same (c.finish_pod-result.ensures.stray (was ∙ ap Err is) t)) (closes.extends t)) (cause_before (c.finish_pod-result.ensures.worked.same ∙ c.begin_pod.ensures.went.same) (cause_after (follows_went c.begin_pod.ensures.went) x) (follows_close c.close.ensures.faultless c.close.ensures.called)))
     c.finish_pod-result.ensures.cause
 
 pub returns-clause-made : goal.returns-clause-made
@@ -102,3 +105,26 @@ pub returns-clause-lawful : goal.returns-clause-lawful
 returns-clause-lawful g c is t conforming =
     let D = g.D.Dir in
     refused_stray c.args.draw c.args.plan.now (D.shown c.args.dir.now) (D.shown c.close.new.self) c.finish_pod-result.result (returns-clause-cause g c) is t conforming
+
+pub returns-clause-begins : goal.returns-clause-begins
+returns-clause-begins g c =
+    let D = g.D.Dir in
+    let old = D.shown c.args.dir.now in
+    let mid = D.shown c.begin_pod.new.dir in
+    let late = D.shown c.finish_pod-result.new.dir in
+    let new = D.shown c.close.new.self in
+    let closes = follows_close c.close.ensures.faultless c.close.ensures.called in
+    ok_any c.finish_pod-result.result (λ t. folder_before old late new (folder_before old mid late (c.in_ok-own.ensures.begins t) c.begin_pod.ensures.went.same (c.finish_pod-result.ensures.worked.extends t)) (c.finish_pod-result.ensures.worked.same ∙ c.begin_pod.ensures.went.same) (closes.extends t))
+
+pub returns-clause-had : goal.returns-clause-had
+returns-clause-had g c =
+    let D = g.D.Dir in
+    let plan = c.args.plan.now in
+    let old = D.shown c.args.dir.now in
+    let mid = D.shown c.begin_pod.new.dir in
+    let late = D.shown c.finish_pod-result.new.dir in
+    let new = D.shown c.close.new.self in
+    let closes = follows_close c.close.ensures.faultless c.close.ensures.called in
+    ok_more (λ done. D.observed ≡ true → HadContents in_images plan mid late) (λ done. D.observed ≡ true → HadContents in_images plan old new) c.finish_pod-result.result
+    (λ done f t. all_had_after old mid (c.begin_pod.ensures.went.extends t) c.begin_pod.ensures.went.same in_images plan new (all_had_before late new (closes.extends t) in_images plan mid c.finish_pod-result.ensures.worked.same (f t)))
+    c.finish_pod-result.ensures.had

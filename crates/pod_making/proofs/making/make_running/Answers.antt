@@ -2,7 +2,9 @@ use Rattle.std.proofs.Common.{◌≡◌, Some, Err, ap, Ok, [], ◌∷◌, refl,
 use Rattle.dir_model.specs.declared.area.Area.TheVariants.{Run}
 use Rattle.dir_model.specs.declared.spot.Mode.TheVariants.{Exclusive}
 use Rattle.area_locks.proofs.Locking.{number_is_new}
+use Rattle.folder_building.specs.Sources.{in_images}
 use Rattle.folder_building.proofs.Copying.{err_more}
+use Rattle.folder_building.proofs.Stored.{all_had_after}
 use Rattle.folder_building.proofs.Working.{worked_wider}
 use Rattle.pod_making.specs.declared.error.MakeError.TheVariants.{Stray}
 use Rattle.pod_making.specs.Progress.{own_held}
@@ -11,7 +13,7 @@ use Rattle.pod_making.specs.Handovers.{KnewMade}
 use Rattle.pod_making.proofs.Steps.{is_maker_of}
 use Rattle.pod_making.proofs.Knowing.{owns_images, own_back, made_kept, runs_pod}
 use Rattle.pod_making.proofs.Outcomes.{err_same, held_is, follows_close, went_worked, went_closed, went_as, went_residual, begins_makes, finishes_makes, worked_residual}
-use Rattle.pod_making.proofs.Times.{follows_went, nothing_follows, calm_cause, cause_after, cause_before, brought_changed, own_before, make_planned, went_wider}
+use Rattle.pod_making.proofs.Times.{follows_went, nothing_follows, calm_cause, cause_after, cause_before, folder_before, brought_changed, own_before, make_planned, went_wider}
 use Rattle.pod_making.proofs.Handing.{none_handed, handed_after, handed_close, follow_on, begins_hand_none}
 use Rattle.pod_making.proofs.Lawful.{never_stray, refused_stray}
 use Rattle.pod_making.proofs.making.make_running.Goals as goal
@@ -63,7 +65,8 @@ pub returns-in-Err-clause-cause : goal.returns-in-Err-clause-cause
 returns-in-Err-clause-cause g c =
     let D = g.D.Dir in
     let closes = follows_close c.close.ensures.faultless c.close.ensures.called in
-    calm_cause (λ is t. own_before (D.shown c.args.dir.now) (D.shown c.finish_pod.new.dir) (D.shown c.close.new.self) (brought_changed (D.shown c.args.dir.now) (D.shown c.begin_pod.new.dir) (D.shown c.finish_pod.new.dir) (c.in_ok-own.ensures.brings t) c.begin_pod.ensures.went.same (c.in-Err.ensures.stray (ap Err is) t)) (closes.extends t)) (cause_before (c.finish_pod.ensures.worked.same ∙ c.begin_pod.ensures.went.same) (cause_after (follows_went c.begin_pod.ensures.went) c.in-Err.ensures.cause) (follows_close c.close.ensures.faultless c.close.ensures.called))
+    calm_cause (λ t. folder_before (D.shown c.args.dir.now) (D.shown c.finish_pod.new.dir) (D.shown c.close.new.self) (folder_before (D.shown c.args.dir.now) (D.shown c.begin_pod.new.dir) (D.shown c.finish_pod.new.dir) (c.in_ok-own.ensures.begins t) c.begin_pod.ensures.went.same (c.finish_pod.ensures.worked.extends t)) (c.finish_pod.ensures.worked.same ∙ c.begin_pod.ensures.went.same) (closes.extends t))
+    (λ is t. own_before (D.shown c.args.dir.now) (D.shown c.finish_pod.new.dir) (D.shown c.close.new.self) (brought_changed (D.shown c.args.dir.now) (D.shown c.begin_pod.new.dir) (D.shown c.finish_pod.new.dir) (c.in_ok-own.ensures.brings t) c.begin_pod.ensures.went.same (c.in-Err.ensures.stray (ap Err is) t)) (closes.extends t)) (cause_before (c.finish_pod.ensures.worked.same ∙ c.begin_pod.ensures.went.same) (cause_after (follows_went c.begin_pod.ensures.went) c.in-Err.ensures.cause) (follows_close c.close.ensures.faultless c.close.ensures.called))
 
 pub returns-in-Err-clause-left : goal.returns-in-Err-clause-left
 returns-in-Err-clause-left g c t intent hs may under k =
@@ -103,3 +106,13 @@ pub returns-in-Err-clause-lawful : goal.returns-in-Err-clause-lawful
 returns-in-Err-clause-lawful g c is t conforming =
     let same : c.in-Err.error ≡ Stray = cc in
     never_stray (returns-in-Err-clause-cause g c) same t conforming
+
+pub returns-in-Ok-clause-begins : goal.returns-in-Ok-clause-begins
+returns-in-Ok-clause-begins g c t =
+    let D = g.D.Dir in
+    folder_before (D.shown c.args.dir.now) (D.shown c.begin_pod.new.dir) (D.shown c.finish_pod.new.dir) (c.in_ok-own.ensures.begins t) c.begin_pod.ensures.went.same (c.finish_pod.ensures.worked.extends t)
+
+pub returns-in-Ok-clause-had : goal.returns-in-Ok-clause-had
+returns-in-Ok-clause-had g c t =
+    let D = g.D.Dir in
+    all_had_after (D.shown c.args.dir.now) (D.shown c.begin_pod.new.dir) (c.begin_pod.ensures.went.extends t) c.begin_pod.ensures.went.same in_images c.args.plan.now (D.shown c.finish_pod.new.dir) (c.in-Ok.ensures.had t)

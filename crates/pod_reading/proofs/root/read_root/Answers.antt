@@ -1,8 +1,8 @@
 use Rattle.std.proofs.Common.{◌≡◌, length}
-use Rattle.tree_digest.specs.Listings.{lines_of}
+use Rattle.tree_digest.specs.Listings.{IsListing, lines_of}
 use Rattle.pod_reading.specs.Roots.{IsRoot}
 use Rattle.pod_reading.specs.RootRefusals.{IsListingRefusal, IsRootRefusal}
-use Rattle.pod_reading.proofs.Results.{ok_both, if_err}
+use Rattle.pod_reading.proofs.Results.{ok_three, if_err}
 use Rattle.pod_reading.proofs.Rooted.{rendered_listable, root_made, listing_refused, rendering_refused}
 use Rattle.pod_reading.proofs.root.read_root.Goals as goal
 
@@ -16,8 +16,9 @@ returns-in-Ok-clause-root g c =
     let D = g.D.Dir in
     let old = D.shown c.args.dir.now in
     let new = D.shown c.read_rendering.new.dir in
-    ok_both (λ root. root.rendering ≡ c.in-Ok.rendering) (λ root. root.listing ≡ lines_of c.in-Ok.rendering.map) (IsRoot D.observed c.args.images.now old new c.args.tree.now) c.listed.result
-    (λ root same listing. root_made D.observed c.args.images.now old new c.args.tree.now c.in-Ok.rendering root c.in-Ok.ensures.rendered same listing) c.listed.ensures.rendering c.listed.ensures.listing
+    ok_three (λ root. root.rendering ≡ c.in-Ok.rendering) (λ root. root.listing ≡ lines_of c.in-Ok.rendering.map) (λ root. IsListing root.listing) (IsRoot D.observed c.args.images.now old new c.args.tree.now) c.listed.result
+    (λ root same listing kind. root_made D.observed c.args.images.now old new c.args.tree.now c.in-Ok.rendering root c.in-Ok.ensures.rendered same listing kind)
+    c.listed.ensures.rendering c.listed.ensures.listing c.listed.ensures.kind
 
 pub returns-in-Ok-clause-refused : goal.returns-in-Ok-clause-refused
 returns-in-Ok-clause-refused g c =

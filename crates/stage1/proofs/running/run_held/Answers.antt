@@ -8,6 +8,7 @@ use Rattle.stage1.specs.declared.error.RunError.{RunError}
 use Rattle.stage1.specs.Cutting.{IsCutShort}
 use Rattle.stage1.specs.Runs.{HasRunStarts, HasRunHeld, StopCause, IsRefusedRun}
 use Rattle.stage1.proofs.Results.{if_ok, if_errs}
+use Rattle.stage1.proofs.Starting.{loads}
 use Rattle.stage1.proofs.Held.{in_run, at_run, runs_each, still_runs, worked_reads, worked_runs, refused_run, refused_load}
 use Rattle.stage1.specs.Keeping.{Keeps, all_times}
 use Rattle.stage1.proofs.Fresh.{keeps_reads, keeps_run, once_run}
@@ -42,8 +43,7 @@ returns-in-Ok-clause-ran g c =
     if_ok (λ ends. HasRunStarts D.observed S.observed c.deref.result.now ends.items new s s') (λ ends. HasRunHeld D.observed S.observed c.args.pod c.args.address.now ends.items old new s s') c.run_starts.result
     (λ ends ran. record {
       starts = c.in-Ok.apps.items;
-      loaded = D.shown c.pod_launches.new.dir;
-      read = c.in-Ok.ensures.read;
+      loads = λ t. loads c.args.pod c.args.address.now c.in-Ok.apps.items old (D.shown c.pod_launches.new.dir) new t c.pod_launches.ensures.only (c.in-Ok.ensures.read t) (c.run_starts.ensures.went.extends t);
       ran = subst (λ (l : List AppStart). HasRunStarts D.observed S.observed l ends.items new s s') c.deref.ensures.value ran;
       once = λ t. once_run c.args.pod c.args.address.now c.in-Ok.apps.items t c.in-Ok.ensures.placed c.pod_launches.ensures.only (c.in-Ok.ensures.read t)
           (subst (λ (l : List AppStart). Keeps (all_times l) (D.shown c.pod_launches.new.dir) new) c.deref.ensures.value (c.run_starts.ensures.keeps t));
@@ -59,7 +59,7 @@ returns-in-Ok-clause-refused g c =
     let s = S.shown c.args.spawner.now in
     let s' = S.shown c.run_starts.new.spawner in
     if_errs (λ e. IsCutShort S.observed c.deref.result.now s s') (λ e. StopCause D.observed e mid new s s') (λ e. IsRefusedRun D.observed S.observed c.args.pod c.args.address.now e old new s s') c.run_starts.result
-    (λ e cut is. refused_run c.args.pod c.args.address.now c.in-Ok.apps.items e old mid new s s' c.pod_launches.ensures.only c.in-Ok.ensures.read is (subst (λ (l : List AppStart). IsCutShort S.observed l s s') c.deref.ensures.value cut)) c.run_starts.ensures.cut c.run_starts.ensures.cause
+    (λ e cut is. refused_run c.args.pod c.args.address.now c.in-Ok.apps.items e old mid new s s' c.pod_launches.ensures.only c.run_starts.ensures.went.extends c.in-Ok.ensures.read is (subst (λ (l : List AppStart). IsCutShort S.observed l s s') c.deref.ensures.value cut)) c.run_starts.ensures.cut c.run_starts.ensures.cause
 
 pub returns-in-Err-clause-worked : goal.returns-in-Err-clause-worked
 returns-in-Err-clause-worked g c = worked_reads c.args.pod c.pod_launches.ensures.only
@@ -71,7 +71,7 @@ returns-in-Err-clause-refused g c =
     let old = D.shown c.args.dir.now in
     let new = D.shown c.pod_launches.new.dir in
     let s = S.shown c.args.spawner.now in
-    subst (λ (e : RunError). IsRefusedRun D.observed S.observed c.args.pod c.args.address.now e old new s s) (sym c.load_refusal.ensures) (refused_load c.args.pod c.args.address.now c.in-Err.error old new s (λ is. c.in-Err.ensures.cause (ap Err is)) c.in-Err.ensures.lacks)
+    subst (λ (e : RunError). IsRefusedRun D.observed S.observed c.args.pod c.args.address.now e old new s s) (sym c.load_refusal.ensures) (refused_load c.args.pod c.args.address.now c.in-Err.error old new s c.pod_launches.ensures.only (λ is. c.in-Err.ensures.cause (ap Err is)) c.in-Err.ensures.lacks)
 
 pub returns-in-Ok-clause-keeps : goal.returns-in-Ok-clause-keeps
 returns-in-Ok-clause-keeps g c t =

@@ -9,6 +9,7 @@ use Rattle.stage1.specs.Runs.{closes, runs_pod, HasRunHeld, HasRun, IsRefusedRun
 use Rattle.stage1.specs.declared.error.RunError.TheVariants.{Stray}
 use Rattle.stage1.proofs.Lawful.{never_stray}
 use Rattle.stage1.proofs.Closed.{refused_closed}
+use Rattle.stage1.proofs.Starting.{a_close}
 use Rattle.stage1.proofs.Results.{if_ok, if_err}
 use Rattle.stage1.proofs.Closed.{keeps_closed}
 use Rattle.stage1.proofs.running.run_pod.Goals as goal
@@ -58,7 +59,7 @@ returns-clause-refused g c =
     let s' = S.shown c.run_held-result.new.spawner in
     let k = c.close.ensures.called in
     if_err (λ e. IsRefusedRun D.observed S.observed pod c.args.address.now e old mid s s') (λ e. IsRefusedRun D.observed S.observed pod c.args.address.now e old new s s') c.run_held-result.result
-    (λ e r. refused_closed old mid new pod c.run_held-result.ensures.worked.same k.faults (λ t. step_extends (closes own) mid.process mid.trace (Close own) Done new.trace (same_self own.number) (k.step t)) e s s' r)
+    (λ e r. refused_closed old mid new pod c.run_held-result.ensures.worked.same k.faults (λ t. step_extends (closes own) mid.process mid.trace (Close own) Done new.trace (same_self own.number) (k.step t)) (a_close own) e s s' r)
     c.run_held-result.ensures.refused
 
 pub returns-clause-keeps : goal.returns-clause-keeps
@@ -80,7 +81,7 @@ returns-clause-lawful g c h t conforming =
     let refused : IsRefusedRun D.observed S.observed pod c.args.address.now Stray old mid s s' =
     subst (λ r. IfErr r (λ e. IsRefusedRun D.observed S.observed pod c.args.address.now e old mid s s')) h c.run_held-result.ensures.refused in
     let stopped : IsRefusedRun D.observed S.observed pod c.args.address.now Stray old new s s' =
-    refused_closed old mid new pod w.same k.faults (λ t. step_extends (closes own) mid.process mid.trace (Close own) Done new.trace (same_self own.number) (k.step t)) Stray s s' refused in
+    refused_closed old mid new pod w.same k.faults (λ t. step_extends (closes own) mid.process mid.trace (Close own) Done new.trace (same_self own.number) (k.step t)) (a_close own) Stray s s' refused in
     never_stray pod own old new (c.requires.runs t)
     (and_call (extends_wider (in_second (closes own) (runs_pod pod)) (w.extends t)) w.same (in_first (closes own) (runs_pod pod) (Close own) (same_self own.number)) (k.step t))
     conforming (stopped.cause t)
