@@ -193,18 +193,18 @@ module _ (refs : List ImageRef) (wishes : Wishes) (draw : PodId) (s : DirState) 
     made : MakesOf images trees
     fault : FailsAt images trees e
 
-  -- it comes after the store gave the pod and its roots: of the making, which begins with the lock of embryo
-  abbrev FollowsPlan : BuildError → Type 0
-  FollowsPlan (build.Busy Embryo) = IsBusyElsewhere me Embryo Shared s × MakesRoots refs wishes s
-  FollowsPlan (build.Taken pod) = (pod ≡ draw) × LacksName me draw refs wishes s
-  FollowsPlan (build.Damaged path) = LacksCopied me draw refs wishes path s
-  FollowsPlan error = ⊥
+  -- it comes where the store gave the pod and its roots: of the making, which begins with the lock of embryo
+  abbrev ComesWithPlan : BuildError → Type 0
+  ComesWithPlan (build.Busy Embryo) = IsBusyElsewhere me Embryo Shared s × MakesRoots refs wishes s
+  ComesWithPlan (build.Taken pod) = (pod ≡ draw) × LacksName me draw refs wishes s
+  ComesWithPlan (build.Damaged path) = LacksCopied me draw refs wishes path s
+  ComesWithPlan error = ⊥
 
   record PodFollows (images : List Stored) (e : BuildError) : Type 0 where
     trees : List DepTree
     made : MakesOf images trees
     rooted : AllByRecursion (HasRoot images s) trees
-    follows : FollowsPlan e
+    follows : ComesWithPlan e
 
   abbrev Kind : List Stored → BuildError → Type 0
   Kind images e = Reason images e ⊎ (RootFails images e ⊎ PodFollows images e)
@@ -218,7 +218,7 @@ module _ (refs : List ImageRef) (wishes : Wishes) (draw : PodId) (s : DirState) 
   reasons : (images : List Stored) (reason : ChoiceError) → (reason ≡ choice.NoMemory → ⊥) → IsReason images refs wishes reason → Reason images (chosen_refusal reason)
   reasons images reason told x = record { reason = reason; is = refl; told = told; refused = x.refused }
 
-  follows : (images : List Stored) (e : BuildError) → IsPodWithRoots images refs wishes s → FollowsPlan e → PodFollows images e
+  follows : (images : List Stored) (e : BuildError) → IsPodWithRoots images refs wishes s → ComesWithPlan e → PodFollows images e
   follows images e p f = record { trees = p.made.pod.trees; made = made_of images p.made; rooted = p.rooted; follows = f }
 
   verdict : (e : BuildError) → IsTold e → IsFreeElsewhere me Images Shared s → LocksRefuse me s e → StoreRefuses me draw refs wishes s e → Verdict e
@@ -339,7 +339,7 @@ module _ (refs : List ImageRef) (wishes : Wishes) (draw : PodId) (s : DirState) 
       let b = y.fails in
       two_files a.0 p q (file_fails a.0 p a.2) (file_same b.0 a.0 (one_store s b.0 a.0 b.1 a.1) q (file_fails b.0 q b.2))
 
-  two_follow : (e f : BuildError) → FollowsPlan e → FollowsPlan f → e ≡ f
+  two_follow : (e f : BuildError) → ComesWithPlan e → ComesWithPlan f → e ≡ f
   two_follow (build.Busy Embryo) (build.Busy Embryo) x y = refl
   two_follow (build.Busy Embryo) (build.Taken pod) x y = let clash : false ≡ true = sym y.1.free ∙ x.0 in cc
   two_follow (build.Busy Embryo) (build.Damaged path) x y = let clash : false ≡ true = sym y.free ∙ x.0 in cc
@@ -403,7 +403,7 @@ module _ (refs : List ImageRef) (wishes : Wishes) (draw : PodId) (s : DirState) 
     pub copied : AllByRecursion (CanCopyRoot images s) is.made.pod.trees
 
   module _ (m : CanMake) where
-    never_follows : (e : BuildError) → FollowsPlan e → ⊥
+    never_follows : (e : BuildError) → ComesWithPlan e → ⊥
     never_follows (build.Busy Embryo) x = let clash : false ≡ true = sym m.free ∙ x.0 in cc
     never_follows (build.Taken pod) x = never_both x.1.taken m.untaken
     never_follows (build.Damaged path) x =

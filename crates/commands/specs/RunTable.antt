@@ -82,7 +82,7 @@ pub record AreStartsOf (pod : PodId) (address : List ℕ) (es : List Entry) (sta
   pub listed : HoldsListings es manifest.apps roots
   pub start : StartSo pod address token manifest.apps roots starts
 
--- there is no manifest, or none that has a reading; and so on
+-- no file stands there that is a manifest, a token, or a listing of the root of this app
 abbrev pub LacksManifest : List Entry → Type 0
 LacksManifest es = (manifest : PodData) → HoldsManifest es manifest → ⊥
 
