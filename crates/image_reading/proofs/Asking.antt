@@ -45,7 +45,7 @@ use Rattle.image_reading.specs.Looks.{reads_image, reads_images, OnlyReadsImage,
 left_step : {me : ℕ} {old new : List Event} {request : Request} {reply : Reply} → Unlisted me old request reply new → CallStep me old request reply new
 left_step u = record { before = u.before; meanwhile = u.meanwhile; own = inr u.late; run = u.run }
 
-list_extends : {asks : Request → Bool} {me : ℕ} {old new : List Event} {request : Request} {reply : Reply} → asks request ≡ true → ListStep me old request reply new → Extends asks me old new
+pub list_extends : {asks : Request → Bool} {me : ℕ} {old new : List Event} {request : Request} {reply : Reply} → asks request ≡ true → ListStep me old request reply new → Extends asks me old new
 list_extends {asks} {me} {old} {new} {request} {reply} asked (inl l) =
     extends_more asks me old l.between new (step_extends asks me old request Begun l.between asked l.begins) (step_extends asks me l.between request reply new asked l.ends)
 list_extends {asks} {me} {old} {new} {request} {reply} asked (inr u) = step_extends asks me old request reply new asked (left_step u)

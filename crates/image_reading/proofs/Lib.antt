@@ -2,6 +2,7 @@ pub mod Results
 pub mod Widths
 pub mod Stays
 pub mod Asking
+pub mod Trees
 pub mod Holding
 pub mod Places
 pub mod Values

@@ -2,6 +2,7 @@ pub mod Within
 pub mod Places
 pub mod Marks
 pub mod Looks
+pub mod Trees
 pub mod Refusals
 pub mod Files
 pub mod Images

@@ -1,11 +1,12 @@
 // The manifest, the ID and the listing of an image.
-ghost use Rattle.std.specs.Prelude.{◌≡◌, ◌<◌, ◌≤◌, ℕ, List, true, length, take, IfSome, IfOk, IfErr, IsErrOf, IsSomeAnd, MatchOption, MatchResult};
+ghost use Rattle.std.specs.Prelude.{◌≡◌, ◌<◌, ◌≤◌, ℕ, List, true, false, bytes_eq, length, take, IfSome, IfOk, IfErr, IsErrOf, IsSomeAnd, MatchOption, MatchResult};
 ghost use Rattle.dir_model.specs.Causes.{Rose};
 ghost use Rattle.dir_model.specs.Paths.{is_path};
 ghost use Rattle.dir_model.specs.Local.{IsActive};
 ghost use Rattle.dir_files.specs.Reads.{ReadsUp, WasMissing, StaysBetween};
 ghost use Rattle.image_reading.specs.Places.{image_inner, stored_path, manifest_name, id_name, tree_name};
 ghost use Rattle.image_reading.specs.Looks.{OnlyReadsImage};
+ghost use Rattle.image_reading.specs.Trees.{ReadsNoTrees};
 ghost use Rattle.image_reading.specs.Refusals.{IsOutside, IsReadRefusal, IsDamaged};
 ghost use Rattle.image_reading.specs.Files.{IsKeptOf, IsNoManifest, IsIdOf, IsNoId, IsListingOf, IsNoListing, ReadsKept, LacksManifest, ReadsId, LacksId, ReadsTree, LacksTree};
 
@@ -48,6 +49,7 @@ pub(crate) fn read_part<D: Dir>(
     requires most { 0 < most }
     ensures cause { IsErrOf result StoreError.DirFault → Rose (D.shown dir.old).faults (D.shown dir.new).faults }
     ensures only { OnlyReadsImage D.observed key (D.shown dir.old) (D.shown dir.new) }
+    ensures trees { bytes_eq name.now tree_name ≡ false → ReadsNoTrees D.observed (D.shown dir.old) (D.shown dir.new) }
     ensures refusals { IfErr result IsOutside }
     ensures most { IfOk result (λ found. IfSome found (λ bytes. length bytes.items ≤ most)) }
     ensures read { IfOk result (λ found. D.observed ≡ true → MatchOption found
@@ -73,6 +75,7 @@ pub fn read_manifest<D: Dir>(
     requires active { IsActive (D.shown dir.old).local }
     ensures cause { IsErrOf result StoreError.DirFault → Rose (D.shown dir.old).faults (D.shown dir.new).faults }
     ensures only { OnlyReadsImage D.observed key (D.shown dir.old) (D.shown dir.new) }
+    ensures trees { ReadsNoTrees D.observed (D.shown dir.old) (D.shown dir.new) }
     ensures refusals { IfErr result (IsReadRefusal (λ path. path ≡ stored_path key manifest_name)) }
     ensures read { IfOk result (λ kept. D.observed ≡ true → ReadsKept key kept (D.shown dir.old) (D.shown dir.new)) }
     ensures damaged { IfErr result (λ e. IsDamaged e → D.observed ≡ true → LacksManifest key (D.shown dir.old) (D.shown dir.new)) }
@@ -93,6 +96,7 @@ pub fn read_id<D: Dir>(alloc: Global, dir: &mut D, key: StoreKey) -> Result<Imag
     requires active { IsActive (D.shown dir.old).local }
     ensures cause { IsErrOf result StoreError.DirFault → Rose (D.shown dir.old).faults (D.shown dir.new).faults }
     ensures only { OnlyReadsImage D.observed key (D.shown dir.old) (D.shown dir.new) }
+    ensures trees { ReadsNoTrees D.observed (D.shown dir.old) (D.shown dir.new) }
     ensures refusals { IfErr result (IsReadRefusal (λ path. path ≡ stored_path key id_name)) }
     ensures read { IfOk result (λ id. D.observed ≡ true → ReadsId key id (D.shown dir.old) (D.shown dir.new)) }
     ensures damaged { IfErr result (λ e. IsDamaged e → D.observed ≡ true → LacksId key (D.shown dir.old) (D.shown dir.new)) }

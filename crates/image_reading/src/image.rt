@@ -3,6 +3,7 @@ ghost use Rattle.std.specs.Prelude.{◌≡◌, true, IfOk, IfErr, IsErrOf};
 ghost use Rattle.dir_model.specs.Causes.{Rose};
 ghost use Rattle.dir_model.specs.Local.{IsActive};
 ghost use Rattle.image_reading.specs.Looks.{OnlyReadsImage};
+ghost use Rattle.image_reading.specs.Trees.{ReadsNoTrees};
 ghost use Rattle.image_reading.specs.Refusals.{IsReadRefusal, IsImagePath};
 ghost use Rattle.image_reading.specs.Images.{ReadsImage, LacksImage};
 
@@ -20,6 +21,7 @@ pub fn read_image<D: Dir>(alloc: Global, dir: &mut D, key: StoreKey) -> Result<S
     requires active { IsActive (D.shown dir.old).local }
     ensures cause { IsErrOf result StoreError.DirFault → Rose (D.shown dir.old).faults (D.shown dir.new).faults }
     ensures only { OnlyReadsImage D.observed key (D.shown dir.old) (D.shown dir.new) }
+    ensures trees { ReadsNoTrees D.observed (D.shown dir.old) (D.shown dir.new) }
     ensures refusals { IfErr result (IsReadRefusal (IsImagePath key)) }
     ensures key { IfOk result (λ image. image.key ≡ key) }
     ensures read { IfOk result (λ image. D.observed ≡ true → ReadsImage image (D.shown dir.old) (D.shown dir.new)) }

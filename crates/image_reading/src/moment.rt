@@ -6,6 +6,7 @@ ghost use Rattle.dir_trait.specs.DirCalls.{HeldBetween};
 ghost use Rattle.dir_files.specs.Listed.{ShowsDirectoryBetween};
 ghost use Rattle.image_reading.specs.Places.{image_inner, stored_path, mark_name, IsPresent, IsAbsent};
 ghost use Rattle.image_reading.specs.Looks.{OnlyReadsImage};
+ghost use Rattle.image_reading.specs.Trees.{ReadsNoTrees};
 ghost use Rattle.image_reading.specs.Refusals.{IsOutside, IsReadRefusal, IsDamaged};
 ghost use Rattle.image_reading.specs.Files.{ReadsMoment, LacksMoment};
 
@@ -26,6 +27,7 @@ pub(crate) fn read_items<D: Dir>(
     requires active { IsActive (D.shown dir.old).local }
     ensures cause { IsErrOf result StoreError.DirFault → Rose (D.shown dir.old).faults (D.shown dir.new).faults }
     ensures only { OnlyReadsImage D.observed key (D.shown dir.old) (D.shown dir.new) }
+    ensures trees { ReadsNoTrees D.observed (D.shown dir.old) (D.shown dir.new) }
     ensures refusals { IfErr result IsOutside }
     ensures there { IfOk result (λ found. D.observed ≡ true
         → MatchOption found (HeldBetween (D.shown dir.old) (D.shown dir.new) (IsAbsent key)) (λ items. HeldBetween (D.shown dir.old) (D.shown dir.new) (IsPresent key))) }
@@ -66,6 +68,7 @@ pub fn read_moment<D: Dir>(alloc: Global, dir: &mut D, key: StoreKey) -> Result<
     requires active { IsActive (D.shown dir.old).local }
     ensures cause { IsErrOf result StoreError.DirFault → Rose (D.shown dir.old).faults (D.shown dir.new).faults }
     ensures only { OnlyReadsImage D.observed key (D.shown dir.old) (D.shown dir.new) }
+    ensures trees { ReadsNoTrees D.observed (D.shown dir.old) (D.shown dir.new) }
     ensures refusals { IfErr result (IsReadRefusal (λ path. path ≡ stored_path key mark_name)) }
     ensures read { IfOk result (λ moment. D.observed ≡ true → ReadsMoment key moment (D.shown dir.old) (D.shown dir.new)) }
     ensures damaged { IfErr result (λ e. IsDamaged e → D.observed ≡ true → LacksMoment key (D.shown dir.old) (D.shown dir.new)) }

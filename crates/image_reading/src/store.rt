@@ -6,6 +6,7 @@ ghost use Rattle.dir_model.specs.Local.{IsActive};
 ghost use Rattle.dir_trait.specs.DirCalls.{HeldBetween};
 ghost use Rattle.image_reading.specs.Places.{IsAbsent, key_of};
 ghost use Rattle.image_reading.specs.Looks.{OnlyReadsImage, OnlyReadsImages, HoldsImages, KnowsStill, KnowsStillNamed};
+ghost use Rattle.image_reading.specs.Trees.{ReadsNoTrees};
 ghost use Rattle.image_reading.specs.Refusals.{IsReadRefusal, IsTreeRefusal, IsDamaged};
 ghost use Rattle.image_reading.specs.Files.{ReadsTree, LacksStoredTree};
 ghost use Rattle.image_reading.specs.Store.{AddsImage, AreRead, ReadsStore, IsStorePath, LacksNamed, LacksFirst, LacksStore};
@@ -32,6 +33,7 @@ fn read_next<D: Dir>(
     requires active { IsActive (D.shown dir.old).local }
     ensures cause { IsErrOf result StoreError.DirFault → Rose (D.shown dir.old).faults (D.shown dir.new).faults }
     ensures only { OnlyReadsImages D.observed (D.shown dir.old) (D.shown dir.new) }
+    ensures trees { ReadsNoTrees D.observed (D.shown dir.old) (D.shown dir.new) }
     ensures refusals { IfErr result (IsReadRefusal IsStorePath) }
     ensures read { IfOk result (λ done. D.observed ≡ true → AddsImage (key_of name.now) images.old.items images.new.items (D.shown dir.old) (D.shown dir.new)) }
     ensures damaged { IfErr result (λ e. IsDamaged e → D.observed ≡ true → LacksNamed (key_of name.now) e (D.shown dir.old) (D.shown dir.new)) }
@@ -50,6 +52,7 @@ fn read_each<D: Dir>(alloc: Global, dir: &mut D, names: &[Name]) -> Result<Vec<S
     requires active { IsActive (D.shown dir.old).local }
     ensures cause { IsErrOf result StoreError.DirFault → Rose (D.shown dir.old).faults (D.shown dir.new).faults }
     ensures only { OnlyReadsImages D.observed (D.shown dir.old) (D.shown dir.new) }
+    ensures trees { ReadsNoTrees D.observed (D.shown dir.old) (D.shown dir.new) }
     ensures refusals { IfErr result (IsReadRefusal IsStorePath) }
     ensures read { IfOk result (λ images. D.observed ≡ true → AreRead names.now images.items (D.shown dir.old) (D.shown dir.new)) }
     ensures damaged { IfErr result (λ e. IsDamaged e → D.observed ≡ true → LacksFirst names.now e (D.shown dir.old) (D.shown dir.new)) }
@@ -69,6 +72,7 @@ pub fn stored<D: Dir>(alloc: Global, dir: &mut D, gate: Handle) -> Result<Vec<St
     requires held { HoldsImages (D.shown dir.old).local gate }
     ensures cause { IsErrOf result StoreError.DirFault → Rose (D.shown dir.old).faults (D.shown dir.new).faults }
     ensures only { OnlyReadsImages D.observed (D.shown dir.old) (D.shown dir.new) }
+    ensures trees { ReadsNoTrees D.observed (D.shown dir.old) (D.shown dir.new) }
     ensures known { D.observed ≡ true → KnowsStillNamed (D.shown dir.old) (D.shown dir.new) }
     ensures refusals { IfErr result (IsReadRefusal IsStorePath) }
     ensures listed { IfOk result (λ images. D.observed ≡ true → ReadsStore images.items (D.shown dir.old) (D.shown dir.new)) }

@@ -6,6 +6,7 @@ pub mod Again
 pub mod Times
 pub mod Once
 pub mod Laid
+pub mod PickedTrees
 pub mod Rooted
 pub mod Ready
 pub mod Picked

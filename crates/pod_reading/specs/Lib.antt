@@ -5,3 +5,4 @@ pub mod RootRefusals
 pub mod NoPlans
 pub mod Plans
 pub mod FaithfulPods
+pub mod PickedTrees

@@ -3,6 +3,7 @@ ghost use Rattle.std.specs.Prelude.{◌≡◌, [], true, IfOk, IfErr, IsErrOf};
 ghost use Rattle.dir_model.specs.Causes.{Rose};
 ghost use Rattle.dir_model.specs.Local.{IsActive};
 ghost use Rattle.image_reading.specs.Looks.{OnlyReadsImages, HoldsImages, KnowsStillNamed};
+ghost use Rattle.image_reading.specs.Trees.{ReadsNoTrees};
 ghost use Rattle.pod_reading.specs.Readings.{with_manifest, Adds, ReadsNext, AreReadAgain, ReadsImages};
 ghost use Rattle.pod_reading.specs.Refusals.{IsLack, LacksManifestAt, LacksAmong, LacksPart};
 
@@ -57,6 +58,7 @@ fn read_next<D: Dir>(
     requires active { IsActive (D.shown dir.old).local }
     ensures cause { IsErrOf result StoreError.DirFault → Rose (D.shown dir.old).faults (D.shown dir.new).faults }
     ensures only { OnlyReadsImages D.observed (D.shown dir.old) (D.shown dir.new) }
+    ensures trees { ReadsNoTrees D.observed (D.shown dir.old) (D.shown dir.new) }
     ensures read { IfOk result (λ done. ReadsNext D.observed listed.now read.old read.new (D.shown dir.old) (D.shown dir.new)) }
     ensures lacks { IfErr result (IsLack D.observed (λ path. LacksManifestAt listed.now.key path (D.shown dir.old) (D.shown dir.new))) }
 {
@@ -75,6 +77,7 @@ fn read_each<D: Dir>(
     requires active { IsActive (D.shown dir.old).local }
     ensures cause { IsErrOf result StoreError.DirFault → Rose (D.shown dir.old).faults (D.shown dir.new).faults }
     ensures only { OnlyReadsImages D.observed (D.shown dir.old) (D.shown dir.new) }
+    ensures trees { ReadsNoTrees D.observed (D.shown dir.old) (D.shown dir.new) }
     ensures read { IfOk result (λ read. AreReadAgain D.observed listed.now read (D.shown dir.old) (D.shown dir.new)) }
     ensures lacks { IfErr result (IsLack D.observed (λ path. LacksAmong listed.now path (D.shown dir.old) (D.shown dir.new))) }
 {
@@ -98,6 +101,7 @@ pub(crate) fn read_images<D: Dir>(
     requires held { HoldsImages (D.shown dir.old).local gate }
     ensures cause { IsErrOf result StoreError.DirFault → Rose (D.shown dir.old).faults (D.shown dir.new).faults }
     ensures only { OnlyReadsImages D.observed (D.shown dir.old) (D.shown dir.new) }
+    ensures trees { ReadsNoTrees D.observed (D.shown dir.old) (D.shown dir.new) }
     ensures known { D.observed ≡ true → KnowsStillNamed (D.shown dir.old) (D.shown dir.new) }
     ensures read { IfOk result (λ read. ReadsImages D.observed read (D.shown dir.old) (D.shown dir.new)) }
     ensures lacks { IfErr result (IsLack D.observed (λ path. LacksPart path (D.shown dir.old) (D.shown dir.new))) }

@@ -1,5 +1,5 @@
 // The rendering of an image's tree, of listings that are read one after the other.
-ghost use Rattle.std.specs.Prelude.{◌≡◌, ◌<◌, None, length, IfOk, IfErr, IsErrOf};
+ghost use Rattle.std.specs.Prelude.{◌≡◌, ◌<◌, ◌∷◌, [], None, length, IfOk, IfErr, IsErrOf};
 ghost use Rattle.path_map.specs.Entries.{entry_at, IsPathMap};
 ghost use Rattle.tree_digest.specs.Listings.{AreListable, entries_of};
 ghost use Rattle.dep_match.specs.TreeOrder.{IsOrderedTree};
@@ -7,8 +7,10 @@ ghost use Rattle.render.specs.PlanStates.{IsPlan};
 ghost use Rattle.dir_model.specs.Causes.{Rose};
 ghost use Rattle.dir_model.specs.Local.{IsActive};
 ghost use Rattle.image_reading.specs.Looks.{OnlyReadsImage, OnlyReadsImages};
+ghost use Rattle.image_reading.specs.Trees.{ReadsTreesOf};
 ghost use Rattle.pod_reading.specs.Readings.{KnowsTree};
 ghost use Rattle.pod_reading.specs.Roots.{ComesOnce, LaysNext, IsRendered};
+ghost use Rattle.pod_reading.specs.PickedTrees.{node_keys};
 ghost use Rattle.pod_reading.specs.Refusals.{IsLack, LacksTreeAt};
 ghost use Rattle.pod_reading.specs.RootRefusals.{IsLayRefusal, IsRenderingRefusal};
 
@@ -61,6 +63,7 @@ fn lay_next<D: Dir>(
     requires wanted { plan.whole ≡ None }
     ensures cause { IsErrOf result PlanError.DirFault → Rose (D.shown dir.old).faults (D.shown dir.new).faults }
     ensures only { OnlyReadsImages D.observed (D.shown dir.old) (D.shown dir.new) }
+    ensures trees { ReadsTreesOf D.observed (key ∷ []) (D.shown dir.old) (D.shown dir.new) }
     ensures laid { IfOk result (λ new. LaysNext D.observed key plan new (D.shown dir.old) (D.shown dir.new)) }
     ensures refused { IfErr result (λ e. IsLayRefusal D.observed key plan e (D.shown dir.old) (D.shown dir.new)) }
 {
@@ -83,6 +86,7 @@ pub(crate) fn read_rendering<D: Dir>(
     requires once { ComesOnce tree.now.nodes }
     ensures cause { IsErrOf result PlanError.DirFault → Rose (D.shown dir.old).faults (D.shown dir.new).faults }
     ensures only { OnlyReadsImages D.observed (D.shown dir.old) (D.shown dir.new) }
+    ensures trees { ReadsTreesOf D.observed (node_keys images.now tree.now.nodes) (D.shown dir.old) (D.shown dir.new) }
     ensures rendered { IfOk result (λ r. IsRendered D.observed images.now tree.now.nodes r (D.shown dir.old) (D.shown dir.new)) }
     ensures refused { IfErr result (λ e. IsRenderingRefusal D.observed images.now tree.now.nodes e (D.shown dir.old) (D.shown dir.new)) }
 {

@@ -7,11 +7,13 @@ ghost use Rattle.dir_model.specs.Causes.{Rose};
 ghost use Rattle.dir_model.specs.Local.{IsActive};
 ghost use Rattle.folder_building.specs.Plans.{is_plan};
 ghost use Rattle.image_reading.specs.Looks.{OnlyReadsImages, HoldsImages, KnowsStillNamed};
+ghost use Rattle.image_reading.specs.Trees.{ReadsTreesOf};
 ghost use Rattle.pod_choice.specs.Choices.{IsChoice};
 ghost use Rattle.pod_manifest.specs.Wishes.{AreWishes};
 ghost use Rattle.pod_plans.specs.PodPlans.{ComesInTurn, MakesWhole};
 ghost use Rattle.pod_reading.specs.Plans.{PlansChoice};
 ghost use Rattle.pod_reading.specs.FaithfulPods.{PlansFaithfully};
+ghost use Rattle.pod_reading.specs.PickedTrees.{tree_keys, ReadsAtMostChosen, ReadsAtMostPicked};
 ghost use Rattle.pod_reading.specs.RootRefusals.{IsRootsRefusal};
 ghost use Rattle.pod_reading.specs.NoPlans.{IsNoPlan, IsUnplanned};
 
@@ -43,6 +45,7 @@ fn plan_chosen<D: Dir>(
     requires ordered { All (λ t. IsOrderedTree (length read.now.images.items) t.nodes) choice.trees }
     ensures cause { IsErrOf result PlanError.DirFault → Rose (D.shown dir.old).faults (D.shown dir.new).faults }
     ensures only { OnlyReadsImages D.observed (D.shown dir.old) (D.shown dir.new) }
+    ensures trees { ReadsTreesOf D.observed (tree_keys read.now.images.items choice.trees) (D.shown dir.old) (D.shown dir.new) }
     ensures made { IfOk result (λ plan. PlansChoice D.observed read.now.images.items read.now.manifests.items refs.now options.now now token.now plan.items (D.shown dir.old) (D.shown dir.new)) }
     ensures plan { IfOk result (λ plan. is_plan plan.items ≡ true) }
     ensures turn { IfOk result (λ plan. ComesInTurn now plan.items) }
@@ -70,6 +73,7 @@ fn plan_read<D: Dir>(
     requires whole { length read.now.manifests.items ≡ length read.now.images.items }
     ensures cause { IsErrOf result PlanError.DirFault → Rose (D.shown dir.old).faults (D.shown dir.new).faults }
     ensures only { OnlyReadsImages D.observed (D.shown dir.old) (D.shown dir.new) }
+    ensures trees { ReadsAtMostChosen D.observed read.now.images.items refs.now options.now (D.shown dir.old) (D.shown dir.new) }
     ensures made { IfOk result (λ plan. PlansChoice D.observed read.now.images.items read.now.manifests.items refs.now options.now now token.now plan.items (D.shown dir.old) (D.shown dir.new)) }
     ensures plan { IfOk result (λ plan. is_plan plan.items ≡ true) }
     ensures turn { IfOk result (λ plan. ComesInTurn now plan.items) }
@@ -107,6 +111,7 @@ pub fn plan_pod<D: Dir>(
     requires held { HoldsImages (D.shown dir.old).local gate }
     ensures cause { IsErrOf result PlanError.DirFault → Rose (D.shown dir.old).faults (D.shown dir.new).faults }
     ensures only { OnlyReadsImages D.observed (D.shown dir.old) (D.shown dir.new) }
+    ensures trees { ReadsAtMostPicked D.observed refs.now options.now (D.shown dir.old) (D.shown dir.new) }
     ensures known { D.observed ≡ true → KnowsStillNamed (D.shown dir.old) (D.shown dir.new) }
     ensures refused { IfErr result (IsNoPlan D.observed refs.now options.now (D.shown dir.old) (D.shown dir.new)) }
     ensures made { IfOk result (λ plan. (images : List Stored) × (manifests : List (List ℕ))

@@ -7,7 +7,9 @@ ghost use Rattle.dep_match.specs.TreeOrder.{IsOrderedTree};
 ghost use Rattle.dir_model.specs.Causes.{Rose};
 ghost use Rattle.dir_model.specs.Local.{IsActive};
 ghost use Rattle.image_reading.specs.Looks.{OnlyReadsImages};
+ghost use Rattle.image_reading.specs.Trees.{ReadsTreesOf};
 ghost use Rattle.pod_reading.specs.Roots.{ComesOnce, IsRoot, AreRoots};
+ghost use Rattle.pod_reading.specs.PickedTrees.{node_keys, tree_keys};
 ghost use Rattle.pod_reading.specs.RootRefusals.{IsListingRefusal, IsRootRefusal, IsRootsRefusal};
 
 use crate::error::{PlanError, listing_refusal};
@@ -58,6 +60,7 @@ fn read_root<D: Dir>(
     requires once { ComesOnce tree.now.nodes }
     ensures cause { IsErrOf result PlanError.DirFault → Rose (D.shown dir.old).faults (D.shown dir.new).faults }
     ensures only { OnlyReadsImages D.observed (D.shown dir.old) (D.shown dir.new) }
+    ensures trees { ReadsTreesOf D.observed (node_keys images.now tree.now.nodes) (D.shown dir.old) (D.shown dir.new) }
     ensures root { IfOk result (λ root. IsRoot D.observed images.now (D.shown dir.old) (D.shown dir.new) tree.now root) }
     ensures refused { IfErr result (λ e. IsRootRefusal D.observed images.now tree.now.nodes e (D.shown dir.old) (D.shown dir.new)) }
 {
@@ -79,6 +82,7 @@ pub(crate) fn read_roots<D: Dir>(
     requires once { All (λ t. ComesOnce t.nodes) trees.now }
     ensures cause { IsErrOf result PlanError.DirFault → Rose (D.shown dir.old).faults (D.shown dir.new).faults }
     ensures only { OnlyReadsImages D.observed (D.shown dir.old) (D.shown dir.new) }
+    ensures trees { ReadsTreesOf D.observed (tree_keys images.now trees.now) (D.shown dir.old) (D.shown dir.new) }
     ensures roots { IfOk result (λ roots. AreRoots D.observed images.now (D.shown dir.old) (D.shown dir.new) trees.now roots) }
     ensures refused { IfErr result (λ e. IsRootsRefusal D.observed images.now trees.now e (D.shown dir.old) (D.shown dir.new)) }
 {

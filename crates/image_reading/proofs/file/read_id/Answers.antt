@@ -1,4 +1,4 @@
-use Rattle.std.proofs.Common.{◌≡◌, ◌≤◌, ◌∙◌, ℕ, length, List, true, sym, subst}
+use Rattle.std.proofs.Common.{◌≡◌, ◌≤◌, ◌∙◌, ℕ, length, List, true, refl, sym, subst}
 use Rattle.dir_files.specs.Reads.{ReadsUp}
 use Rattle.image_reading.specs.Places.{image_inner, stored_path, id_name}
 use Rattle.image_reading.specs.Files.{IsIdOf, IsNoId, most_of_id}
@@ -37,3 +37,12 @@ returns-in-Ok-Some-clause-whole g c t file stays =
     let read : D.observed ≡ true → ReadsUp inner most_of_id (D.shown c.args.dir.now) (D.shown c.read_part.new.dir) c.deref.result.now = λ t. subst (λ (b : List ℕ). ReadsUp inner most_of_id (D.shown c.args.dir.now) (D.shown c.read_part.new.dir) b) (sym c.deref.ensures.value) (e.read t) in
     some_whole inner most_of_id (D.shown c.args.dir.now) (D.shown c.read_part.new.dir) c.deref.result.now few read (IsIdOf c.args.key) (IsNoId c.args.key) c.id_of.result (stored_path c.args.key id_name) c.id_of.ensures.ok c.id_of.ensures.fault
     file (c.deref.ensures.value ∙ e.whole t file stays) (id_front c.args.key file) (no_id_front c.args.key file)
+
+pub returns-in-Ok-Some-clause-trees : goal.returns-in-Ok-Some-clause-trees
+returns-in-Ok-Some-clause-trees g c = c.read_part.ensures.trees refl
+
+pub returns-in-Ok-None-clause-trees : goal.returns-in-Ok-None-clause-trees
+returns-in-Ok-None-clause-trees g c = c.read_part.ensures.trees refl
+
+pub returns-in-Err-clause-trees : goal.returns-in-Err-clause-trees
+returns-in-Err-clause-trees g c = c.read_part.ensures.trees refl

@@ -1,3 +1,4 @@
+use Rattle.std.proofs.Common.{refl}
 use Rattle.image_reading.specs.Places.{image_inner, stored_path, manifest_name}
 use Rattle.image_reading.specs.Files.{IsKeptOf, IsNoManifest, most_of_manifest}
 use Rattle.image_reading.proofs.Places.{manifest_path}
@@ -26,3 +27,12 @@ returns-in-Ok-Some-clause-whole g c t file stays =
     let e = rw c.in-Ok-Some.field-0-is at c.in-Ok-Some.ensures in
     some_whole (image_inner c.args.key manifest_name) most_of_manifest (D.shown c.args.dir.now) (D.shown c.read_part.new.dir) c.in-Ok-Some.bytes.items e.most e.read IsKeptOf IsNoManifest c.manifest_of.result (stored_path c.args.key manifest_name) c.manifest_of.ensures.ok c.manifest_of.ensures.fault
     file (e.whole t file stays) (manifest_front file) (no_manifest_front file)
+
+pub returns-in-Ok-Some-clause-trees : goal.returns-in-Ok-Some-clause-trees
+returns-in-Ok-Some-clause-trees g c = c.read_part.ensures.trees refl
+
+pub returns-in-Ok-None-clause-trees : goal.returns-in-Ok-None-clause-trees
+returns-in-Ok-None-clause-trees g c = c.read_part.ensures.trees refl
+
+pub returns-in-Err-clause-trees : goal.returns-in-Err-clause-trees
+returns-in-Err-clause-trees g c = c.read_part.ensures.trees refl

@@ -5,6 +5,7 @@ use Rattle.image_reading.specs.Files.{LacksManifest, LacksId, LacksMoment}
 use Rattle.image_reading.specs.Images.{LacksImage}
 use Rattle.image_reading.proofs.Results.{err_same, err_both}
 use Rattle.image_reading.proofs.Asking.{image_more}
+use Rattle.image_reading.proofs.Trees.{trees_more}
 use Rattle.image_reading.proofs.Widths.{file_after, file_before, marks_after}
 use Rattle.image_reading.proofs.Images.{manifest_kept, lacks_first, lacks_second, lacks_third, id_lack_after, moment_lack_after}
 use Rattle.image_reading.proofs.image.read_image.Goals as goal
@@ -62,3 +63,12 @@ returns-clause-read g c t =
       id = file_before t (file_after t c.read_manifest.ensures.only (c.in_ok-id.ensures.read t)) c.read_moment.ensures.only;
       moment = marks_after t (image_more key c.read_manifest.ensures.only c.read_id.ensures.only) (c.in_ok-moment.ensures.read t);
     }
+
+pub returns-in_err-id-clause-trees : goal.returns-in_err-id-clause-trees
+returns-in_err-id-clause-trees g c = trees_more c.read_manifest.ensures.trees c.read_id.ensures.trees
+
+pub returns-in_err-moment-clause-trees : goal.returns-in_err-moment-clause-trees
+returns-in_err-moment-clause-trees g c = trees_more (trees_more c.read_manifest.ensures.trees c.read_id.ensures.trees) c.read_moment.ensures.trees
+
+pub returns-clause-trees : goal.returns-clause-trees
+returns-clause-trees g c = trees_more (trees_more c.read_manifest.ensures.trees c.read_id.ensures.trees) c.read_moment.ensures.trees

@@ -5,11 +5,12 @@ use Rattle.image_reading.specs.Refusals.{IsDamaged}
 use Rattle.image_reading.specs.Store.{LacksNamed, LacksFirst}
 use Rattle.image_reading.proofs.Results.{if_err, err_same}
 use Rattle.image_reading.proofs.Asking.{images_none, images_more}
+use Rattle.image_reading.proofs.Trees.{trees_none, trees_more}
 use Rattle.image_reading.proofs.Stores.{are_start, are_added, lacks_next}
 use Rattle.image_reading.proofs.store.read_each.Goals as goal
 
 pub names-init : goal.names-init
-names-init g c = record { only = images_none; read = λ t. are_start _ _ refl (search rules) }
+names-init g c = record { only = images_none; trees = trees_none; read = λ t. are_start _ _ refl (search rules) }
 
 pub returns-in_err-read_next-clause-damaged : goal.returns-in_err-read_next-clause-damaged
 returns-in_err-read_next-clause-damaged g c =
@@ -34,5 +35,9 @@ names-preserved g c =
     let more : take (i + 1) names ≡ take i names ++ name ∷ [] = take_more names i name c.names-test.true ∙ ap (λ l. take i names ++ l ∷ []) (sym c.name-item.is) in
     record {
       only = images_more c.names.invariant.only c.read_next.ensures.only;
+      trees = trees_more c.names.invariant.trees c.read_next.ensures.trees;
       read = λ t. are_added t (take i names) c.names.images.items (take (i + 1) names) name more c.names.invariant.only (c.names.invariant.read t) c.read_next.ensures.only (key_of name) c.read_next.new.images.items refl (c.in_ok-read_next.ensures.read t);
     }
+
+pub returns-in_err-read_next-clause-trees : goal.returns-in_err-read_next-clause-trees
+returns-in_err-read_next-clause-trees g c = trees_more c.names.invariant.trees c.read_next.ensures.trees

@@ -1,8 +1,11 @@
 use Rattle.std.proofs.Common.{◌≡◌, true, ℕ, List, subst}
+use Rattle.dir_model.specs.declared.area.Area.TheVariants.{Images}
+use Rattle.dir_model.specs.Replies.{names_reply}
 use Rattle.image_reading.specs.Refusals.{IsDamaged}
 use Rattle.image_reading.specs.Store.{AreRead, ReadsStore, LacksFirst, LacksStore}
 use Rattle.image_reading.proofs.Results.{if_ok, if_err, not_outside}
 use Rattle.image_reading.proofs.Asking.{images_more, images_names}
+use Rattle.image_reading.proofs.Trees.{trees_more, no_tree_names}
 use Rattle.image_reading.proofs.Holding.{knows_images}
 use Rattle.image_reading.proofs.Widths.{within_self, told_before}
 use Rattle.image_reading.proofs.Stores.{are_after, first_after}
@@ -53,3 +56,9 @@ returns-in-Ok-clause-known g c t = knows_images c.args.gate c.requires.held (ima
 
 pub returns-in-Err-clause-known : goal.returns-in-Err-clause-known
 returns-in-Err-clause-known g c t = knows_images c.args.gate c.requires.held (images_names c.names_of.result c.names_of.ensures.called) t
+
+pub returns-in-Ok-clause-trees : goal.returns-in-Ok-clause-trees
+returns-in-Ok-clause-trees g c = trees_more (no_tree_names Images (names_reply c.names_of.result) c.names_of.ensures.called) c.read_each.ensures.trees
+
+pub returns-in-Err-clause-trees : goal.returns-in-Err-clause-trees
+returns-in-Err-clause-trees g c = no_tree_names Images (names_reply c.names_of.result) c.names_of.ensures.called
