@@ -2,7 +2,7 @@
 use crate::rows::{Row, plan_of};
 use dir_trait::Name;
 use folder_building::{Content, Origin, PlanEntry};
-use materialize::tree_plan;
+use folder_building::tree_plan;
 use scripts::{Line, Page, ShortNames, Unread};
 use tree_digest::Listing;
 

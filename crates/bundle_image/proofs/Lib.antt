@@ -1,3 +1,4 @@
+pub mod FilePieces
 pub mod Reading
 pub mod Paths
 pub mod Ways

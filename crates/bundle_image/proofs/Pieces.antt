@@ -3,7 +3,7 @@ use Rattle.std.proofs.Common.{arith, ◌≡◌, inl, inr, ◌≤◌, ◌<◌, �
 use Rattle.std.proofs.lemmas.Bool.{cases_lt}
 use Rattle.std.proofs.lemmas.Grind.{common_steps}
 use Rattle.dir_trait.specs.Bundles.{Fills}
-use Rattle.bundle_read.specs.Fronts.{IsBegun, IsFront}
+use Rattle.bundle_image.specs.Fronts.{IsBegun, IsFront}
 use Rattle.bundle_image.specs.declared.file_sum.FileSum.{FileSum}
 use Rattle.bundle_image.specs.FileSums.{IsSumOf}
 use Rattle.bundle_image.specs.Links.{IsTargetOf}

@@ -3,7 +3,7 @@ use Rattle.std.specs.Prelude.{◌≡◌, ℕ, ◌<◌, ◌≤◌, Bool, true, Li
 use Rattle.sha2.specs.Hashers.{Holds512}
 use Rattle.sha2.specs.Sha512.{sha512}
 use Rattle.tree_digest.specs.declared.refusals.TheConstants.{MAX_FILE}
-use Rattle.bundle_read.specs.Fronts.{IsBegun, IsFront}
+use Rattle.bundle_image.specs.Fronts.{IsBegun, IsFront}
 use Rattle.bundle_image.specs.declared.file_sum.FileSum.{FileSum}
 use Rattle.bundle_image.specs.declared.file_sum.Hashing.{Hashing}
 

@@ -10,7 +10,7 @@ ghost use Rattle.bundle_image.specs.Heads.{file_at, IsManifestOf, IsManifestFaul
 use crate::place::child;
 use crate::refusal::{BundleRefusal, bundle_refusal, listing_refusal, short_of_memory};
 use ac_types::{BadId, ImageId, ReadError, Text};
-use bundle_read::read_file;
+use crate::read_file;
 use dir_trait::{Bundle, BundleError};
 use manifests::{ImageManifest, read_image};
 use std::alloc::Global;

@@ -2,6 +2,7 @@
 #![tactic(auto)]
 
 mod entry;
+mod file;
 mod file_sum;
 mod head;
 mod image;
@@ -13,5 +14,6 @@ mod refusal;
 mod task;
 mod walk;
 
+pub use file::read_file;
 pub use image::{BundleImage, read_bundle};
 pub use refusal::BundleRefusal;

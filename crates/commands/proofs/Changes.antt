@@ -19,10 +19,10 @@ use Rattle.image_reading.specs.Places.{image_spot}
 use Rattle.image_removal.specs.Requests.{away_spot, removes_at, sweeps}
 use Rattle.image_store.specs.Requests.{building_spot, imports_at}
 use Rattle.phase_read.specs.Read.{is_pod_spot, pod_spot}
-use Rattle.pod_claim.specs.Requests.{in_prepared, in_run}
+use Rattle.pod_locks.specs.ClaimRequests.{in_prepared, in_run}
 use Rattle.pod_gc.specs.Requests.{sweeps as sweeps_pods}
-use Rattle.pod_making.specs.Requests.{pod_at}
-use Rattle.pod_removal.specs.Requests.{removes}
+use Rattle.pod_build.specs.MakingRequests.{pod_at}
+use Rattle.pod_gc.specs.RemovalRequests.{removes}
 use Rattle.commands.specs.ImageGc.{is_swept_place}
 use Rattle.commands.specs.ImageList.{lists_images}
 use Rattle.commands.specs.ImageImport.{is_building_place}

@@ -35,12 +35,12 @@ use Rattle.lifecycle.proofs.Phases.{stands_exists}
 use Rattle.lifecycle.proofs.Stays.{machine_append}
 use Rattle.phase_read.specs.Exact.{AtOwnEvent, IsNowhere}
 use Rattle.phase_read.specs.Read.{pod_spot}
-use Rattle.pod_claim.specs.Causes.{LacksManifest, HeldByAnother, WasWrong, is_lock}
-use Rattle.pod_claim.specs.Elsewhere.{is_owned_phase, IsOwnedElsewhere}
-use Rattle.pod_claim.specs.Requests.{in_prepared}
-use Rattle.pod_claim.specs.Work.{Grew, MovedNothing, is_ok_move}
-use Rattle.pod_claim.proofs.Times.{at_part}
-use Rattle.pod_claim.proofs.Traces.{grown_more, grown_by}
+use Rattle.pod_locks.specs.ClaimCauses.{LacksManifest, HeldByAnother, WasWrong, is_lock}
+use Rattle.pod_locks.specs.Elsewhere.{is_owned_phase, IsOwnedElsewhere}
+use Rattle.pod_locks.specs.ClaimRequests.{in_prepared}
+use Rattle.pod_locks.specs.Work.{Grew, MovedNothing, is_ok_move}
+use Rattle.pod_locks.proofs.Times.{at_part}
+use Rattle.pod_locks.proofs.Traces.{grown_more, grown_by}
 use Rattle.commands.specs.RemovalQuiet.{StandsNowhere, HasPhaseNow}
 use Rattle.commands.specs.Opening.{opens}
 use Rattle.commands.proofs.OwnSteps.{in_process, own_asked, at_process, event_process, back_at, history_back, held_before}

@@ -25,9 +25,9 @@ use Rattle.lifecycle.specs.PodMachine.{pod_state, arrival, is_place}
 use Rattle.lifecycle.proofs.Opens.{prepared_is}
 use Rattle.lifecycle.proofs.Phases.{stands_exists}
 use Rattle.lifecycle.proofs.Places.{moved_away}
-use Rattle.pod_claim.specs.Requests.{in_prepared, in_run, claims}
-use Rattle.pod_claim.specs.Work.{Grew, TookBoth}
-use Rattle.pod_claim.proofs.Traces.{grown_more, grown_call}
+use Rattle.pod_locks.specs.ClaimRequests.{in_prepared, in_run, claims}
+use Rattle.pod_locks.specs.Work.{Grew, TookBoth}
+use Rattle.pod_locks.proofs.Traces.{grown_more, grown_call}
 use Rattle.commands.proofs.OwnSteps.{in_process, back_from, same_folders}
 use Rattle.commands.proofs.LateTurns.{or_false}
 use Rattle.commands.specs.RunPrepared.{runs_prepared}

@@ -3,17 +3,17 @@ use Rattle.std.proofs.Common.{◌≡◌, inl, inr, ℕ, Bool, true, List, [], Ok
 use Rattle.dir_model.specs.declared.pod.PodId.{PodId}
 use Rattle.dir_trait.specs.DirCalls.{DirAt, ExtendsBy}
 use Rattle.spawner.specs.Calls.{SpawnerAt}
-use Rattle.pod_ownership.specs.declared.owned.Owned.{Owned}
-use Rattle.pod_ownership.specs.Running.{IsOwned}
-use Rattle.pod_claim.specs.declared.error.ClaimError.{ClaimError}
-use Rattle.pod_claim.specs.declared.error.ClaimError.TheVariants as claim
-use Rattle.pod_claim.specs.Causes.{ClaimCause, HadBothAlone}
+use Rattle.pod_locks.specs.declared.owned.Owned.{Owned}
+use Rattle.pod_locks.specs.Running.{IsOwned}
+use Rattle.pod_locks.specs.declared.claim_error.ClaimError.{ClaimError}
+use Rattle.pod_locks.specs.declared.claim_error.ClaimError.TheVariants as claim
+use Rattle.pod_locks.specs.ClaimCauses.{ClaimCause, HadBothAlone}
 use Rattle.lifecycle.specs.Executions.{IsConforming}
-use Rattle.pod_claim.specs.Claims.{RefusedByAnother, IsFreeThroughout, IsFailure}
-use Rattle.pod_claim.specs.Elsewhere.{MetOwner}
-use Rattle.pod_claim.specs.Holding.{MayClaim}
-use Rattle.pod_claim.specs.Requests.{claims}
-use Rattle.pod_claim.specs.Work.{Grew, Leaves, MovedNothing, TookBoth}
+use Rattle.pod_locks.specs.Claims.{RefusedByAnother, IsFreeThroughout, IsFailure}
+use Rattle.pod_locks.specs.Elsewhere.{MetOwner}
+use Rattle.pod_locks.specs.ClaimHolding.{MayClaim}
+use Rattle.pod_locks.specs.ClaimRequests.{claims}
+use Rattle.pod_locks.specs.Work.{Grew, Leaves, MovedNothing, TookBoth}
 use Rattle.command_outcomes.specs.declared.refusal.Refusal.{Refusal}
 use Rattle.command_outcomes.specs.declared.refusal.Refusal.TheVariants.{NoPod, WrongPhase, PodBusy, DirFault, SpawnFault}
 use Rattle.command_outcomes.specs.Moments.{Answer, Inside, dir_seen, SpawnerSeen}

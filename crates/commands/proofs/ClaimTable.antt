@@ -30,14 +30,14 @@ use Rattle.lifecycle.specs.Executions.{IsConforming}
 use Rattle.phase_read.specs.declared.found.Found.TheVariants.{At}
 use Rattle.folder_contents.proofs.Spots.{one_location}
 use Rattle.phase_read.specs.Sequential.{sequential_read}
-use Rattle.pod_claim.specs.declared.error.ClaimError.{ClaimError}
-use Rattle.pod_claim.specs.declared.error.ClaimError.TheVariants.{NoPod, WrongPhase, NoManifest, Busy}
-use Rattle.pod_claim.specs.Causes.{is_prepared, is_lock, is_held_elsewhere, LacksManifest, OpensThere, HeldByAnother, HadAlone, HadBothAlone, HadClaim}
-use Rattle.pod_claim.specs.Requests.{in_prepared, in_run}
-use Rattle.pod_claim.specs.Work.{Grew}
-use Rattle.pod_claim.proofs.Times.{at_part}
-use Rattle.pod_claim.proofs.Traces.{grown_more}
-use Rattle.pod_steps.specs.Causes.{is_held_against}
+use Rattle.pod_locks.specs.declared.claim_error.ClaimError.{ClaimError}
+use Rattle.pod_locks.specs.declared.claim_error.ClaimError.TheVariants.{NoPod, WrongPhase, NoManifest, Busy}
+use Rattle.pod_locks.specs.ClaimCauses.{is_prepared, is_lock, is_held_elsewhere, LacksManifest, OpensThere, HeldByAnother, HadAlone, HadBothAlone, HadClaim}
+use Rattle.pod_locks.specs.ClaimRequests.{in_prepared, in_run}
+use Rattle.pod_locks.specs.Work.{Grew}
+use Rattle.pod_locks.proofs.Times.{at_part}
+use Rattle.pod_locks.proofs.Traces.{grown_more}
+use Rattle.pod_locks.specs.Causes.{is_held_against}
 use Rattle.commands.specs.ClaimTable.{waiting_error, found_error, claim_error, IsWhy}
 use Rattle.commands.specs.RemovalQuiet.{StandsNowhere, HasPhaseNow}
 use Rattle.commands.specs.RemovalTable.{is_held_in, is_held_at, has_manifest}

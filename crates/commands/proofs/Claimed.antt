@@ -21,15 +21,15 @@ use Rattle.dir_rules.specs.Standing.{is_run_prepared, is_gate_shared, gives_up, 
 use Rattle.dir_trait.specs.DirCalls.{DirAt, ExtendsBy}
 use Rattle.dir_trait.specs.Knowledge.{Knows, LookedInto}
 use Rattle.folder_building.specs.Work.{Worked}
-use Rattle.pod_ownership.specs.declared.owned.Owned.{Owned}
-use Rattle.pod_ownership.specs.Running.{IsOwned, RunsPod}
-use Rattle.pod_claim.specs.Requests.{claims}
-use Rattle.pod_claim.specs.Holding.{MayClaim, and_lock, with_pod}
-use Rattle.pod_claim.specs.declared.error.ClaimError.{ClaimError}
-use Rattle.pod_claim.specs.Claims.{HasPod, and_owned}
-use Rattle.pod_claim.specs.Work.{Leaves}
-use Rattle.pod_claim.specs.Work as claiming
-use Rattle.pod_claim.proofs.Seen.{runs_pod}
+use Rattle.pod_locks.specs.declared.owned.Owned.{Owned}
+use Rattle.pod_locks.specs.Running.{IsOwned, RunsPod}
+use Rattle.pod_locks.specs.ClaimRequests.{claims}
+use Rattle.pod_locks.specs.ClaimHolding.{MayClaim, and_lock, with_pod}
+use Rattle.pod_locks.specs.declared.claim_error.ClaimError.{ClaimError}
+use Rattle.pod_locks.specs.Claims.{HasPod, and_owned}
+use Rattle.pod_locks.specs.Work.{Leaves}
+use Rattle.pod_locks.specs.Work as claiming
+use Rattle.pod_locks.proofs.ClaimSeen.{runs_pod}
 use Rattle.stage1.specs.Keeping.{IsFresh, KeepsToEnd}
 use Rattle.stage1.specs.Runs.{Went, closes, runs_and_closes}
 use Rattle.stage1.specs.Runs as stage1

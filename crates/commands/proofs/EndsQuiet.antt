@@ -22,9 +22,9 @@ use Rattle.dir_trait.specs.DirCalls.{DirAt}
 use Rattle.folder_building.specs.Making.{inner_at}
 use Rattle.folder_building.specs.Work.{either}
 use Rattle.lifecycle.proofs.Handles.{clash}
-use Rattle.pod_claim.specs.Requests.{in_run}
-use Rattle.pod_claim.specs.Work.{Grew}
-use Rattle.pod_claim.proofs.Traces.{grown_more, grown_call}
+use Rattle.pod_locks.specs.ClaimRequests.{in_run}
+use Rattle.pod_locks.specs.Work.{Grew}
+use Rattle.pod_locks.proofs.Traces.{grown_more, grown_call}
 use Rattle.commands.proofs.OwnSteps.{in_process}
 use Rattle.spawner.specs.Calls.{SpawnerAt}
 use Rattle.stage1.specs.declared.end.AppEnd.{AppEnd}

@@ -24,10 +24,10 @@ use Rattle.folder_contents.proofs.Spots.{one_location}
 use Rattle.lifecycle.proofs.Handles.{nat_same}
 use Rattle.lifecycle.proofs.Places.{name_same}
 use Rattle.manifests.specs.declared.runtime_app.RuntimeApp.{RuntimeApp}
-use Rattle.pod_claim.specs.Requests.{in_run}
-use Rattle.pod_launches.specs.declared.start.AppStart.{AppStart}
-use Rattle.pod_launches.specs.Places.{root_of}
-use Rattle.pod_launches.specs.Starts.{AreStarts}
+use Rattle.pod_locks.specs.ClaimRequests.{in_run}
+use Rattle.stage1.specs.declared.start.AppStart.{AppStart}
+use Rattle.stage1.specs.AppPlaces.{root_of}
+use Rattle.stage1.specs.Starts.{AreStarts}
 use Rattle.commands.proofs.OwnSteps.{in_process}
 use Rattle.spawner.specs.declared.call.RootPlace.{RootPlace}
 use Rattle.spawner.specs.Conditions.{start_mark, did, is_done}

@@ -23,25 +23,25 @@ use Rattle.folder_building.specs.declared.plan.PlanEntry.{PlanEntry}
 use Rattle.folder_building.specs.declared.plan.Content.TheVariants.{Copied, Directory}
 use Rattle.folder_building.specs.Sources.{in_image, in_images}
 use Rattle.folder_building.specs.Stored.{HadContent, LacksAt, LacksContent, ReadsLike, ReadsOther}
-use Rattle.folder_plans.specs.ImagePlans.{given_file}
+use Rattle.folder_building.specs.ImagePlans.{given_file}
 use Rattle.gate_reading.proofs.PlainPaths.{plain_rootfs}
 use Rattle.image_reading.specs.Places.{IsPresent, image_inner}
 use Rattle.manifests.specs.declared.runtime_app.RuntimeApp.{RuntimeApp}
-use Rattle.materialize.specs.Materialized.{below}
-use Rattle.materialize.specs.TreePlans.{content_of, entry_at as plan_entry}
+use Rattle.folder_building.specs.Materialized.{below}
+use Rattle.folder_building.specs.TreePlans.{content_of, entry_at as plan_entry}
 use Rattle.path_map.specs.declared.entry.Entry.{Entry}
 use Rattle.path_map.specs.declared.entry.Entry.TheVariants.{Dir, File, Link}
 use Rattle.path_map.specs.declared.entry.Meta.{Meta}
 use Rattle.path_map.specs.Entries.{Entries, IsPathMap, entry_at}
 use Rattle.path_map.proofs.EachEntries.{all_in_list}
 use Rattle.pod_build.specs.Origins.{IsOriginAt, origin_path, path_in}
-use Rattle.pod_choice.specs.Choices.{AreTrees}
-use Rattle.pod_plans.specs.declared.pod_app.PodApp.{PodApp}
-use Rattle.pod_plans.specs.PodFiles.{shared_directories}
-use Rattle.pod_plans.specs.PodPlans.{app_entries, head_entries, image_at, image_of, pod_entries, root_entries}
-use Rattle.pod_reading.specs.Plans.{app_with, apps_with, folders}
-use Rattle.pod_reading.specs.Roots.{AreRoots, IsRoot, node_key}
-use Rattle.pod_reading.proofs.Zips.{head_of, tail_of}
+use Rattle.pod_plan.specs.Choices.{AreTrees}
+use Rattle.pod_plan.specs.declared.pod_app.PodApp.{PodApp}
+use Rattle.pod_plan.specs.PodFiles.{shared_directories}
+use Rattle.pod_plan.specs.PodPlans.{app_entries, head_entries, image_at, image_of, pod_entries, root_entries}
+use Rattle.pod_plan.specs.Plans.{app_with, apps_with, folders}
+use Rattle.pod_plan.specs.Roots.{AreRoots, IsRoot, node_key}
+use Rattle.pod_plan.proofs.Zips.{head_of, tail_of}
 use Rattle.render.specs.Assembly.{IsAssembly, own_whitelist}
 use Rattle.render.specs.Layers.{is_file_at, source_at}
 use Rattle.render.specs.declared.rendering.Rendering.{Rendering}

@@ -28,8 +28,8 @@ use Rattle.dir_files.specs.Listed.{Stretch, ShowsInside, ShowsDirectory}
 use Rattle.gate_reading.proofs.PlainPaths.{plain_own}
 use Rattle.lifecycle.proofs.Numbers.{one_spot}
 use Rattle.phase_read.specs.Read.{pod_spot}
-use Rattle.pod_claim.specs.Work.{Grew}
-use Rattle.pod_gc.specs.Marks.{moment_among}
+use Rattle.pod_locks.specs.Work.{Grew}
+use Rattle.pod_gc.specs.Ages.{moment_among}
 use Rattle.pod_gc.specs.Requests.{lists_marks}
 use Rattle.commands.proofs.OwnSteps.{own_asked}
 use Rattle.commands.proofs.MarkTimes.{same_moment, item_named}

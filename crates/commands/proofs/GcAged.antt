@@ -20,17 +20,17 @@ use Rattle.dir_model.specs.State.{folder_at, stands}
 use Rattle.dir_model.specs.Trace.{state_after}
 use Rattle.dir_model.specs.Trees.{items_in}
 use Rattle.dir_model.proofs.Lists.{and_left, all_both, all_weaker}
-use Rattle.area_locks.specs.AreaLocks.{takes, closes}
+use Rattle.dir_files.specs.AreaLocks.{takes, closes}
 use Rattle.lifecycle.specs.Executions.{IsConforming}
 use Rattle.lifecycle.proofs.Draws.{conforming_left}
 use Rattle.lifecycle.proofs.Stays.{one_folder}
 use Rattle.phase_read.specs.Read.{pod_spot}
-use Rattle.pod_claim.specs.Work.{Grew}
-use Rattle.pod_claim.proofs.Traces.{grown_none, grown_more, grown_by}
+use Rattle.pod_locks.specs.Work.{Grew}
+use Rattle.pod_locks.proofs.Traces.{grown_none, grown_more, grown_by}
 use Rattle.pod_gc.specs.declared.ages.Times.{Times}
 use Rattle.pod_gc.specs.declared.line.GcLine.{GcLine}
 use Rattle.pod_gc.specs.Deeds.{is_tried, ShowedAge, RestsBy}
-use Rattle.pod_gc.specs.Marks.{moment_among, Showed, is_young}
+use Rattle.pod_gc.specs.Ages.{moment_among, Showed, is_young}
 use Rattle.pod_gc.specs.Requests.{lists, lists_marks, sweeps}
 use Rattle.pod_gc.specs.Sweeping.{MaySweepAll}
 use Rattle.pod_gc.specs.Told.{Knew, deals_with_some, IsTold, TellsShown, Passed, ArePassed, places}

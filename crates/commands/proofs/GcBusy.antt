@@ -18,11 +18,11 @@ use Rattle.dir_model.proofs.Chains.{nothing_yet, extends_more, extends_wider}
 use Rattle.dir_model.proofs.Lists.{and_left, and_right, and_both}
 use Rattle.dir_rules.proofs.Looks.{same_bytes}
 use Rattle.dir_rules.specs.Standing.{is_garbage}
-use Rattle.area_locks.specs.AreaLocks.{takes, closes}
+use Rattle.dir_files.specs.AreaLocks.{takes, closes}
 use Rattle.lifecycle.proofs.Makes.{of_same}
 use Rattle.phase_read.specs.Read.{is_pod_spot}
-use Rattle.pod_claim.specs.Work.{Grew}
-use Rattle.pod_claim.proofs.Traces.{grown_more, grown_by}
+use Rattle.pod_locks.specs.Work.{Grew}
+use Rattle.pod_locks.proofs.Traces.{grown_more, grown_by}
 use Rattle.pod_gc.specs.declared.ages.Times.{Times}
 use Rattle.pod_gc.specs.declared.line.GcLine.{GcLine}
 use Rattle.pod_gc.specs.Requests.{lists, deals_with, sweeps}

@@ -11,8 +11,8 @@ use Rattle.dir_model.specs.Calls.{Extends}
 use Rattle.dir_model.specs.Quiet.{Quiet}
 use Rattle.dir_model.proofs.Lists.{and_both, same_self}
 use Rattle.dir_rules.specs.Standing.{is_in}
-use Rattle.pod_claim.specs.Work.{Grew}
-use Rattle.pod_removal.specs.Requests.{is_garbage_place}
+use Rattle.pod_locks.specs.Work.{Grew}
+use Rattle.pod_gc.specs.RemovalRequests.{is_garbage_place}
 use Rattle.pod_gc.specs.declared.ages.Times.{Times}
 use Rattle.pod_gc.specs.declared.line.Deed.{Deed}
 use Rattle.pod_gc.specs.declared.line.Deed.TheVariants.{Moved, Deleted, Kept, Busy, BusyGate, Left}

@@ -29,9 +29,9 @@ use Rattle.lifecycle.proofs.Draws.{conforming_left}
 use Rattle.lifecycle.proofs.Phases.{enabled_each, stands_exists}
 use Rattle.lifecycle.proofs.Step.{stands_from}
 use Rattle.phase_read.specs.Read.{pod_spot}
-use Rattle.pod_claim.specs.Work.{Grew}
-use Rattle.pod_claim.proofs.Traces.{grown_more, grown_by}
-use Rattle.pod_steps.specs.Causes.{Did}
+use Rattle.pod_locks.specs.Work.{Grew}
+use Rattle.pod_locks.proofs.Traces.{grown_more, grown_by}
+use Rattle.pod_locks.specs.Causes.{Did}
 use Rattle.pod_gc.specs.declared.ages.Times.{Times}
 use Rattle.pod_gc.specs.declared.line.GcLine.{GcLine}
 use Rattle.pod_gc.specs.Requests.{goes_to, moves_pods, sweeps}
@@ -42,7 +42,7 @@ use Rattle.commands.specs.RemovalQuiet.{swept_phase, SweptAsBefore, GoneAfter}
 use Rattle.commands.specs.RemovalHistory.{IsDeletedSo, IsRemovedBetween}
 use Rattle.commands.proofs.OwnSteps.{in_process, history_from}
 use Rattle.commands.proofs.LateTurns.{is_late, late_turn, sweeps_late}
-use Rattle.pod_removal.proofs.Rounds.{garbage_stage}
+use Rattle.pod_gc.proofs.Rounds.{garbage_stage}
 use Rattle.commands.proofs.RmQuiet.{did_remove, did_exist, gone_after, gone_nowhere}
 use Rattle.commands.proofs.RmFrom.{owns_nothing}
 use Rattle.commands.proofs.RmBefore.{has_phase_now}

@@ -25,9 +25,9 @@ use Rattle.dir_model.proofs.Lists.{and_right, all_both, all_weaker}
 use Rattle.lifecycle.specs.Executions.{IsConforming}
 use Rattle.lifecycle.proofs.Places.{spot_turn}
 use Rattle.phase_read.specs.Read.{pod_spot}
-use Rattle.pod_claim.specs.Work.{Grew}
-use Rattle.pod_claim.proofs.Traces.{grown_none, grown_more, grown_by, grown_call}
-use Rattle.pod_steps.specs.Causes.{Did}
+use Rattle.pod_locks.specs.Work.{Grew}
+use Rattle.pod_locks.proofs.Traces.{grown_none, grown_more, grown_by, grown_call}
+use Rattle.pod_locks.specs.Causes.{Did}
 use Rattle.pod_gc.specs.declared.ages.Times.{Times}
 use Rattle.pod_gc.specs.declared.line.Deed.TheVariants.{Moved}
 use Rattle.pod_gc.specs.declared.line.GcLine.{GcLine}
@@ -43,7 +43,7 @@ use Rattle.commands.proofs.GcQuiet.{shown_grown, passed_grown, passes_grown}
 use Rattle.pod_lookup.proofs.Names.{text_back}
 use Rattle.commands.proofs.GcTells.{found_from, any_from, stays, and_before, closed, tells_after}
 use Rattle.commands.proofs.GcTurn.{quiet_between, later_apart, turn_after, turn_before}
-use Rattle.pod_removal.proofs.Onward.{moved_stands}
+use Rattle.pod_gc.proofs.Onward.{moved_stands}
 
 -- a move brings no folder away from where it goes
 

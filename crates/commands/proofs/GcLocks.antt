@@ -23,11 +23,11 @@ use Rattle.dir_model.proofs.Lists.{any_fewer}
 use Rattle.dir_model.proofs.Moments.{at_grown, at_weaker}
 use Rattle.lifecycle.specs.Executions.{IsConforming}
 use Rattle.phase_read.specs.Read.{pod_spot}
-use Rattle.pod_claim.specs.Causes.{is_lock}
-use Rattle.pod_claim.specs.Work.{Grew}
-use Rattle.pod_claim.proofs.Times.{at_part}
-use Rattle.pod_claim.proofs.Traces.{grown_more}
-use Rattle.pod_steps.specs.Causes.{OpensAt, is_held_against, HeldByAnother, FreeOfOthers}
+use Rattle.pod_locks.specs.ClaimCauses.{is_lock}
+use Rattle.pod_locks.specs.Work.{Grew}
+use Rattle.pod_locks.proofs.Times.{at_part}
+use Rattle.pod_locks.proofs.Traces.{grown_more}
+use Rattle.pod_locks.specs.Causes.{OpensAt, is_held_against, HeldByAnother, FreeOfOthers}
 use Rattle.pod_gc.specs.declared.ages.Times.{Times}
 use Rattle.pod_gc.specs.declared.line.Deed.{Deed}
 use Rattle.pod_gc.specs.declared.line.Deed.TheVariants.{Moved, Deleted, Busy}

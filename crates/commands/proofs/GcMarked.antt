@@ -24,14 +24,14 @@ use Rattle.dir_model.proofs.Moments.{some_number}
 use Rattle.dir_rules.specs.Marks.{marked_mark}
 use Rattle.lifecycle.specs.Executions.{IsConforming}
 use Rattle.phase_read.specs.Read.{pod_spot}
-use Rattle.pod_claim.specs.Work.{Grew}
-use Rattle.pod_claim.proofs.Traces.{grown_more, grown_by}
-use Rattle.pod_removal.specs.Causes.{MarkedFirst}
+use Rattle.pod_locks.specs.Work.{Grew}
+use Rattle.pod_locks.proofs.Traces.{grown_more, grown_by}
+use Rattle.pod_gc.specs.RemovalCauses.{MarkedFirst}
 use Rattle.pod_gc.specs.declared.ages.Times.{Times}
 use Rattle.pod_gc.specs.declared.line.Deed.TheVariants.{Moved}
 use Rattle.pod_gc.specs.declared.line.GcLine.{GcLine}
 use Rattle.pod_gc.specs.Deeds.{ShowedAge, RestsBy}
-use Rattle.pod_gc.specs.Marks.{moment_among, is_young}
+use Rattle.pod_gc.specs.Ages.{moment_among, is_young}
 use Rattle.pod_gc.specs.Requests.{moves_on, sweeps}
 use Rattle.pod_gc.specs.Sweeping.{MaySweepAll}
 use Rattle.pod_gc.specs.Told.{Knew, deals_with_some, IsTold, TellsShown, ArePassed, places}

@@ -30,7 +30,7 @@ use Rattle.dir_rules.proofs.Looks.{same_bytes}
 use Rattle.dir_rules.specs.Standing.{is_garbage}
 use Rattle.dir_laws.specs.Stretches.{Throughout, StandsInArea}
 use Rattle.dir_files.specs.Listed.{ShowsArea}
-use Rattle.area_locks.specs.AreaLocks.{is_against, IsBusyElsewhere}
+use Rattle.dir_files.specs.AreaLocks.{is_against, IsBusyElsewhere}
 use Rattle.lifecycle.specs.declared.machine.PodState.{PodState}
 use Rattle.lifecycle.specs.declared.machine.PodState.TheVariants as state
 use Rattle.lifecycle.specs.PodMachine.{pod_state, phase_of_state}
@@ -40,10 +40,10 @@ use Rattle.lifecycle.proofs.Step.{stands_from}
 use Rattle.lifecycle.proofs.Places.{none_stands, moved_away, moved_elsewhere, removed_there, removed_elsewhere}
 use Rattle.phase_read.specs.Read.{pod_spot}
 use Rattle.phase_read.proofs.Exact.{event_within}
-use Rattle.pod_claim.specs.Work.{Grew}
-use Rattle.pod_claim.proofs.Times.{at_part}
-use Rattle.pod_claim.proofs.Traces.{grown_none, grown_more, grown_by, grown_call}
-use Rattle.pod_steps.specs.Causes.{Did}
+use Rattle.pod_locks.specs.Work.{Grew}
+use Rattle.pod_locks.proofs.Times.{at_part}
+use Rattle.pod_locks.proofs.Traces.{grown_none, grown_more, grown_by, grown_call}
+use Rattle.pod_locks.specs.Causes.{Did}
 use Rattle.pod_gc.specs.declared.ages.Times.{Times}
 use Rattle.pod_gc.specs.declared.line.Deed.{Deed}
 use Rattle.pod_gc.specs.declared.line.Deed.TheVariants.{Moved, Deleted, Kept, Busy, BusyGate, Left}

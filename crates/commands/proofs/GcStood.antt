@@ -10,8 +10,8 @@ use Rattle.dir_model.specs.Quiet.{Quiet}
 use Rattle.dir_model.specs.State.{stands}
 use Rattle.dir_model.specs.Trace.{state_after}
 use Rattle.phase_read.specs.Read.{pod_spot}
-use Rattle.pod_claim.specs.Work.{Grew}
-use Rattle.pod_claim.proofs.Traces.{grown_more, grown_by}
+use Rattle.pod_locks.specs.Work.{Grew}
+use Rattle.pod_locks.proofs.Traces.{grown_more, grown_by}
 use Rattle.pod_gc.specs.declared.ages.Times.{Times}
 use Rattle.pod_gc.specs.declared.line.GcLine.{GcLine}
 use Rattle.pod_gc.specs.Requests.{moves_pods, sweeps}

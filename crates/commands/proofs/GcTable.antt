@@ -19,14 +19,14 @@ use Rattle.dir_model.proofs.Moments.{some_number}
 use Rattle.dir_rules.specs.Standing.{is_in}
 use Rattle.lifecycle.specs.Executions.{IsConforming}
 use Rattle.phase_read.specs.Read.{pod_spot}
-use Rattle.pod_claim.specs.Work.{Grew}
-use Rattle.pod_removal.specs.Requests.{is_garbage_place}
+use Rattle.pod_locks.specs.Work.{Grew}
+use Rattle.pod_gc.specs.RemovalRequests.{is_garbage_place}
 use Rattle.pod_gc.specs.declared.ages.Times.{Times}
 use Rattle.pod_gc.specs.declared.line.Deed.{Deed}
 use Rattle.pod_gc.specs.declared.line.Deed.TheVariants.{Moved, Deleted, Kept, Busy, BusyGate, Left}
 use Rattle.pod_gc.specs.declared.line.GcLine.{GcLine}
 use Rattle.pod_gc.specs.Deeds.{WaitsBy, RestsBy}
-use Rattle.pod_gc.specs.Marks.{is_young, is_ripe}
+use Rattle.pod_gc.specs.Ages.{is_young, is_ripe}
 use Rattle.pod_gc.specs.Requests.{sweeps}
 use Rattle.command_outcomes.specs.Meanwhile.{Meanwhile}
 use Rattle.commands.specs.Gc.{Sweeps}

@@ -27,16 +27,16 @@ use Rattle.dir_model.proofs.Lists.{and_left, and_right, or_last, all_right, same
 use Rattle.dir_rules.proofs.Looks.{same_bytes}
 use Rattle.dir_laws.specs.Stretches.{Sometime, StandsInArea}
 use Rattle.dir_files.specs.Listed.{ShowsArea}
-use Rattle.area_locks.specs.AreaLocks.{takes, closes, is_against, IsBusyElsewhere}
+use Rattle.dir_files.specs.AreaLocks.{takes, closes, is_against, IsBusyElsewhere}
 use Rattle.lifecycle.specs.Executions.{IsConforming}
 use Rattle.lifecycle.proofs.Draws.{conforming_left}
 use Rattle.lifecycle.proofs.Places.{moved_elsewhere, removed_elsewhere}
 use Rattle.lifecycle.proofs.Stays.{one_folder}
 use Rattle.phase_read.specs.Read.{pod_spot}
-use Rattle.pod_claim.specs.Work.{Grew}
-use Rattle.pod_claim.proofs.Times.{at_part}
-use Rattle.pod_claim.proofs.Traces.{grown_none, grown_more, grown_by}
-use Rattle.pod_steps.specs.Requests.{moves}
+use Rattle.pod_locks.specs.Work.{Grew}
+use Rattle.pod_locks.proofs.Times.{at_part}
+use Rattle.pod_locks.proofs.Traces.{grown_none, grown_more, grown_by}
+use Rattle.pod_locks.specs.Requests.{moves}
 use Rattle.pod_gc.specs.declared.ages.Times.{Times}
 use Rattle.pod_gc.specs.declared.line.GcLine.{GcLine}
 use Rattle.pod_gc.specs.Requests.{lists, deals_with, sweeps}

@@ -22,9 +22,9 @@ use Rattle.dir_model.proofs.Chains.{states_next-append}
 use Rattle.dir_model.proofs.Lists.{or_last, all_left, all_right, same_rest}
 use Rattle.dir_rules.proofs.Looks.{same_bytes}
 use Rattle.phase_read.specs.Read.{pod_spot}
-use Rattle.pod_claim.specs.Work.{Grew}
-use Rattle.pod_claim.proofs.Traces.{grown_none, grown_more, grown_by}
-use Rattle.pod_steps.specs.Taking.{takes_away, TookNothing}
+use Rattle.pod_locks.specs.Work.{Grew}
+use Rattle.pod_locks.proofs.Traces.{grown_none, grown_more, grown_by}
+use Rattle.pod_locks.specs.Taking.{takes_away, TookNothing}
 use Rattle.pod_gc.specs.declared.ages.Times.{Times}
 use Rattle.pod_gc.specs.declared.line.GcLine.{GcLine}
 use Rattle.pod_gc.specs.Told.{deals_with_some, IsTold, TellsShown}

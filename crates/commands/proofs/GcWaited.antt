@@ -21,14 +21,14 @@ use Rattle.dir_model.specs.Trees.{items_in}
 use Rattle.dir_model.proofs.Lists.{and_left, all_weaker}
 use Rattle.dir_rules.specs.Standing.{is_in}
 use Rattle.phase_read.specs.Read.{pod_spot}
-use Rattle.pod_claim.specs.Work.{Grew}
-use Rattle.pod_claim.proofs.Traces.{grown_more}
-use Rattle.pod_steps.specs.Causes.{IsAbsentAt}
+use Rattle.pod_locks.specs.Work.{Grew}
+use Rattle.pod_locks.proofs.Traces.{grown_more}
+use Rattle.pod_locks.specs.Causes.{IsAbsentAt}
 use Rattle.pod_gc.specs.declared.ages.Times.{Times}
 use Rattle.pod_gc.specs.declared.line.Deed.TheVariants.{Left}
 use Rattle.pod_gc.specs.declared.line.GcLine.{GcLine}
 use Rattle.pod_gc.specs.Deeds.{is_tried, ShowedAge, WaitedSo, WaitsBy}
-use Rattle.pod_gc.specs.Marks.{moment_among, Showed, is_ripe}
+use Rattle.pod_gc.specs.Ages.{moment_among, Showed, is_ripe}
 use Rattle.pod_gc.specs.Requests.{sweeps}
 use Rattle.pod_gc.specs.Told.{IsTold, TellsShown}
 use Rattle.command_outcomes.specs.Meanwhile.{Meanwhile}

@@ -14,15 +14,15 @@ use Rattle.dir_model.specs.State.{DirState, stands}
 use Rattle.dir_model.specs.Trace.{state_after}
 use Rattle.dir_model.proofs.Lists.{and_left, and_right, and_both, or_last, all_left, all_right, all_both, all_weaker, same_self}
 use Rattle.dir_rules.specs.Standing.{is_in}
-use Rattle.area_locks.specs.AreaLocks.{is_against}
+use Rattle.dir_files.specs.AreaLocks.{is_against}
 use Rattle.lifecycle.specs.Executions.{IsConforming}
 use Rattle.lifecycle.proofs.Draws.{conforming_left}
 use Rattle.lifecycle.proofs.Stays.{one_folder}
 use Rattle.phase_read.specs.Read.{pod_spot}
-use Rattle.pod_claim.specs.Work.{Grew}
-use Rattle.pod_claim.proofs.Times.{at_part}
-use Rattle.pod_claim.proofs.Traces.{grown_none, grown_more, grown_by}
-use Rattle.pod_removal.specs.Requests.{is_garbage_place}
+use Rattle.pod_locks.specs.Work.{Grew}
+use Rattle.pod_locks.proofs.Times.{at_part}
+use Rattle.pod_locks.proofs.Traces.{grown_none, grown_more, grown_by}
+use Rattle.pod_gc.specs.RemovalRequests.{is_garbage_place}
 use Rattle.pod_gc.specs.declared.ages.Times.{Times}
 use Rattle.pod_gc.specs.declared.line.Deed.{Deed}
 use Rattle.pod_gc.specs.declared.line.Deed.TheVariants.{Moved, Deleted, Kept, Busy, BusyGate, Left}

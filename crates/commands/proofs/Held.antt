@@ -19,11 +19,11 @@ use Rattle.dir_model.specs.State.{Namespace, DirState, is_at, spot_eq, folder_at
 use Rattle.dir_model.specs.Trace.{state_after, namespace_replied, moved, removed}
 use Rattle.dir_model.proofs.Moments.{at_grown, at_weaker}
 use Rattle.phase_read.specs.Read.{pod_spot}
-use Rattle.pod_claim.specs.Causes.{is_lock}
-use Rattle.pod_claim.specs.Work.{Grew}
-use Rattle.pod_claim.proofs.Times.{at_part}
-use Rattle.pod_claim.proofs.Traces.{grown_more}
-use Rattle.pod_removal.specs.Causes.{IsBusyAt}
+use Rattle.pod_locks.specs.ClaimCauses.{is_lock}
+use Rattle.pod_locks.specs.Work.{Grew}
+use Rattle.pod_locks.proofs.Times.{at_part}
+use Rattle.pod_locks.proofs.Traces.{grown_more}
+use Rattle.pod_gc.specs.RemovalCauses.{IsBusyAt}
 use Rattle.commands.specs.RemovalQuiet.{IsHeldNow}
 use Rattle.commands.proofs.OwnSteps.{in_process, back_at, same_folders, held_before}
 use Rattle.commands.proofs.LateTurns.{Late, or_false}

@@ -18,10 +18,10 @@ use Rattle.dir_rules.specs.Standing.{is_known, closes_gate, is_gate_exclusive, i
 use Rattle.dir_rules.specs.LockRules.{is_same_target}
 use Rattle.dir_trait.specs.DirCalls.{DirAt, ExtendsBy}
 use Rattle.dir_trait.specs.Knowledge.{Knows}
-use Rattle.area_locks.specs.AreaLocks.{takes, closes, and_lock, with_gate, is_free_of, shared_given}
-use Rattle.area_locks.specs.declared.error.LockError.{LockError}
-use Rattle.area_locks.specs.declared.error.LockError.TheVariants as lock_error
-use Rattle.area_locks.proofs.Locking.{locked_by, locked_open}
+use Rattle.dir_files.specs.AreaLocks.{takes, closes, and_lock, with_gate, is_free_of, shared_given}
+use Rattle.dir_files.specs.declared.lock_error.LockError.{LockError}
+use Rattle.dir_files.specs.declared.lock_error.LockError.TheVariants as lock_error
+use Rattle.dir_files.proofs.Locking.{locked_by, locked_open}
 use Rattle.image_reading.specs.declared.error.StoreError.{StoreError}
 use Rattle.image_reading.specs.declared.error.StoreError.TheVariants.{Damaged, DirFault}
 use Rattle.image_reading.specs.Looks.{reads_images, is_images_lock, HoldsImages, KnowsStillNamed}

@@ -9,7 +9,7 @@ use Rattle.dir_model.specs.declared.pod.PodId.{PodId}
 use Rattle.dir_rules.specs.declared.seen.Seen.{Seen}
 use Rattle.dir_trait.specs.DirCalls.{DirAt, HeldBetween}
 use Rattle.dir_trait.specs.Knowledge.{Knows}
-use Rattle.area_locks.specs.AreaLocks.{IsBusyElsewhere}
+use Rattle.dir_files.specs.AreaLocks.{IsBusyElsewhere}
 use Rattle.image_reading.specs.declared.error.StoreError.{StoreError}
 use Rattle.image_reading.specs.declared.error.StoreError.TheVariants as store_error
 use Rattle.image_removal.specs.declared.pass.SweepLine.{SweepLine}

@@ -10,7 +10,7 @@ use Rattle.dir_model.specs.Calls.{event}
 use Rattle.dir_model.specs.Causes.{Rose}
 use Rattle.dir_rules.specs.declared.seen.Entry.{Entry}
 use Rattle.dir_trait.specs.DirCalls.{DirAt}
-use Rattle.area_locks.specs.AreaLocks.{IsBusy}
+use Rattle.dir_files.specs.AreaLocks.{IsBusy}
 use Rattle.tree_digest.specs.declared.line.ListingLine.{ListingLine}
 use Rattle.image_reading.specs.declared.error.StoreError.{StoreError}
 use Rattle.image_reading.specs.Places.{IsAbsent}

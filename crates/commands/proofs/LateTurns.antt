@@ -26,7 +26,7 @@ use Rattle.lifecycle.specs.PodMachine.{pod_state, turned, enabled, leads, if_so,
 use Rattle.lifecycle.proofs.Makes.{of_same}
 use Rattle.phase_read.specs.Exact.{AtOwnEvent}
 use Rattle.phase_read.specs.Read.{pod_spot, is_pod_spot}
-use Rattle.pod_removal.specs.Requests.{removes, goes_aside}
+use Rattle.pod_gc.specs.RemovalRequests.{removes, goes_aside}
 use Rattle.pod_gc.specs.Requests.{sweeps}
 use Rattle.commands.specs.RemovalQuiet.{is_pods_place}
 use Rattle.commands.proofs.OwnSteps.{in_process, history_back}

@@ -12,8 +12,8 @@ use Rattle.dir_model.proofs.Lists.{and_left, and_right, not_true, or_left_false,
 use Rattle.dir_rules.specs.Marks.{digits, marked_mark, number_of}
 use Rattle.dir_rules.specs.Seen.{later}
 use Rattle.dir_rules.proofs.Looks.{same_bytes}
-use Rattle.pod_removal.proofs.MarkNames.{marked_is_path, marked_directly}
-use Rattle.pod_gc.specs.Marks.{mark_moment, moment_among, is_young}
+use Rattle.pod_gc.proofs.MarkNames.{marked_is_path, marked_directly}
+use Rattle.pod_gc.specs.Ages.{mark_moment, moment_among, is_young}
 use Rattle.pod_gc.proofs.Moments.{marked}
 use Rattle.commands.proofs.LateTurns.{or_either}
 use Rattle.commands.proofs.GcTells.{same_text}

@@ -7,7 +7,7 @@ use Rattle.dir_model.proofs.Lists.{and_left, and_both, or_last, same_self}
 use Rattle.dir_rules.specs.Seen.{later}
 use Rattle.dir_rules.proofs.Looks.{same_bytes}
 use Rattle.lifecycle.proofs.Places.{name_same}
-use Rattle.pod_gc.specs.Marks.{mark_moment, moment_among}
+use Rattle.pod_gc.specs.Ages.{mark_moment, moment_among}
 use Rattle.pod_gc.proofs.Moments.{later_more}
 
 both_most : (a b : ℕ) → nat_le a b ≡ true → nat_le b a ≡ true → b ≡ a

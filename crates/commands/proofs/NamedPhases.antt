@@ -18,10 +18,10 @@ use Rattle.lifecycle.specs.Executions.{IsConforming}
 use Rattle.lifecycle.proofs.Draws.{conforming_left}
 use Rattle.phase_read.specs.Exact.{AtOwnEvent, IsInPhase}
 use Rattle.phase_read.proofs.Exact.{event_within}
-use Rattle.pod_claim.specs.declared.error.ClaimError.{ClaimError}
-use Rattle.pod_claim.specs.declared.error.ClaimError.TheVariants as claim
-use Rattle.pod_claim.specs.Work.{Grew}
-use Rattle.pod_claim.proofs.Traces.{grown_more, grown_by}
+use Rattle.pod_locks.specs.declared.claim_error.ClaimError.{ClaimError}
+use Rattle.pod_locks.specs.declared.claim_error.ClaimError.TheVariants as claim
+use Rattle.pod_locks.specs.Work.{Grew}
+use Rattle.pod_locks.proofs.Traces.{grown_more, grown_by}
 use Rattle.stage1.specs.declared.error.RunError.{RunError}
 use Rattle.stage1.specs.declared.error.RunError.TheVariants as run
 use Rattle.pod_gc.specs.declared.ages.Times.{Times}

@@ -13,18 +13,18 @@ use Rattle.dir_model.specs.Quiet.{Quiet}
 use Rattle.dir_model.specs.State.{spot_eq, folder_at}
 use Rattle.dir_model.specs.Trace.{state_after}
 use Rattle.dir_model.proofs.Moments.{some_number}
-use Rattle.area_locks.specs.AreaLocks.{IsFreeElsewhere}
+use Rattle.dir_files.specs.AreaLocks.{IsFreeElsewhere}
 use Rattle.folder_contents.specs.Handing.{then_moved}
 use Rattle.folder_contents.proofs.Spots.{one_location}
 use Rattle.lifecycle.specs.PodMachine.{arrival}
 use Rattle.pod_build.specs.Preparations.{IsPrepared}
 use Rattle.pod_build.specs.Requests.{prepares}
-use Rattle.pod_claim.specs.Requests.{in_run}
-use Rattle.pod_claim.specs.Work.{Grew}
-use Rattle.pod_claim.proofs.Traces.{grown_more, grown_call}
+use Rattle.pod_locks.specs.ClaimRequests.{in_run}
+use Rattle.pod_locks.specs.Work.{Grew}
+use Rattle.pod_locks.proofs.Traces.{grown_more, grown_call}
 use Rattle.commands.proofs.Whole.{prepared_move, prepared_wider}
 use Rattle.commands.specs.References.{AreReferences, OfReferences}
-use Rattle.pod_making.specs.Requests.{pod_at}
+use Rattle.pod_build.specs.MakingRequests.{pod_at}
 use Rattle.commands.proofs.OwnSteps.{in_process}
 use Rattle.commands.specs.PrepareTable.{NothingRefuses}
 use Rattle.commands.specs.Run.{makes_and_runs}

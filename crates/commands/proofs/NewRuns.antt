@@ -22,16 +22,16 @@ use Rattle.dir_trait.specs.DirCalls.{DirAt, ExtendsBy}
 use Rattle.spawner.specs.Calls.{SpawnerAt}
 use Rattle.folder_building.specs.Work.{Worked}
 use Rattle.lifecycle.specs.Executions.{IsConforming}
-use Rattle.pod_ownership.specs.declared.owned.Owned.{Owned}
-use Rattle.pod_ownership.specs.Running.{IsOwned, RunsPod}
-use Rattle.pod_claim.specs.Work.{Grew}
-use Rattle.pod_making.specs.Progress.{at_work, nothing_made, handed, own_held, and_own}
-use Rattle.pod_making.specs.Work.{From, HasOwnFolder}
-use Rattle.pod_making.specs.Work as making
-use Rattle.pod_making.proofs.Handing.{HandsNothingOver}
+use Rattle.pod_locks.specs.declared.owned.Owned.{Owned}
+use Rattle.pod_locks.specs.Running.{IsOwned, RunsPod}
+use Rattle.pod_locks.specs.Work.{Grew}
+use Rattle.pod_build.specs.Progress.{at_work, nothing_made, handed, own_held, and_own}
+use Rattle.pod_build.specs.Work.{From, HasOwnFolder}
+use Rattle.pod_build.specs.Work as making
+use Rattle.pod_build.proofs.Handing.{HandsNothingOver}
 use Rattle.pod_build.specs.declared.error.BuildError.{BuildError}
-use Rattle.pod_build.specs.declared.making.Built.{Built}
-use Rattle.pod_build.specs.declared.making.Built.TheVariants as built
+use Rattle.pod_build.specs.declared.built.Built.{Built}
+use Rattle.pod_build.specs.declared.built.Built.TheVariants as built
 use Rattle.pod_build.specs.Answers.{IsAnswer, with_built, held_with}
 use Rattle.pod_build.specs.Causes.{IsRefused, IsHeldElsewhere, IsMadeByPlan, FindsImagesFree}
 use Rattle.pod_build.specs.Preparations.{Began, IsAlone, KnowsPrepared, IsPrepared}

@@ -12,10 +12,10 @@ use Rattle.dep_match.proofs.OrderedTrees.{tree_ordered}
 use Rattle.dir_model.specs.State.{DirState}
 use Rattle.dir_model.proofs.Lists.{all_both, all_right}
 use Rattle.image_reading.specs.Places.{IsPresent}
-use Rattle.pod_choice.specs.Choices.{AreTrees}
-use Rattle.pod_reading.specs.Roots.{node_key}
-use Rattle.pod_reading.proofs.Keys.{key_there}
-use Rattle.pod_reading.proofs.Zips.{each_at, found_at, head_of, tail_of}
+use Rattle.pod_plan.specs.Choices.{AreTrees}
+use Rattle.pod_plan.specs.Roots.{node_key}
+use Rattle.pod_plan.proofs.Keys.{key_there}
+use Rattle.pod_plan.proofs.Zips.{each_at, found_at, head_of, tail_of}
 use Rattle.render.specs.Orders.{all_down, from_last, top_down}
 use Rattle.standing_images.specs.Images.{AreStore, StandsSo}
 

@@ -27,7 +27,7 @@ use Rattle.folder_building.specs.Making.{inner_at}
 use Rattle.lifecycle.proofs.Handles.{clash, nat_same}
 use Rattle.lifecycle.proofs.Numbers.{one_spot}
 use Rattle.lifecycle.proofs.Places.{name_same, same_name}
-use Rattle.pod_claim.specs.Requests.{in_run}
+use Rattle.pod_locks.specs.ClaimRequests.{in_run}
 use Rattle.stage1.specs.Keeping.{appends_to, is_append}
 use Rattle.stage1.proofs.Appends.{count}
 use Rattle.commands.proofs.OwnSteps.{in_process, own_asked}

@@ -8,7 +8,7 @@ use Rattle.dir_model.specs.State.{folder_at, stands}
 use Rattle.dir_model.specs.Trace.{state_after}
 use Rattle.lifecycle.specs.Executions.{IsConforming}
 use Rattle.lifecycle.proofs.Stays.{stays_between}
-use Rattle.pod_claim.specs.Work.{Grew}
+use Rattle.pod_locks.specs.Work.{Grew}
 
 at_most : (n m : ℕ) → nat_le n m ≡ true → n ≤ m
 at_most n m l = grind (arith, nat_tests)

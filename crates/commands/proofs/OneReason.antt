@@ -8,11 +8,11 @@ use Rattle.dep_match.specs.declared.dep_error.DepError.{DepError}
 use Rattle.dep_match.specs.declared.dep_tree.DepTree.{DepTree}
 use Rattle.dep_match.specs.declared.stored.Stored.{Stored}
 use Rattle.dep_match.specs.Dependencies.{dependency_tree}
-use Rattle.pod_choice.specs.declared.choice.Choice.{Choice}
-use Rattle.pod_choice.specs.declared.error.ChoiceError.{ChoiceError}
-use Rattle.pod_choice.specs.declared.error.ChoiceError.TheVariants as choice
-use Rattle.pod_choice.specs.Choices.{best_of, ArePicks, AreTrees, IsChoice, IsRefused, IsTreeFault, IsUnmatched}
-use Rattle.pod_choice.proofs.Mapped.{all_ok, all_some}
+use Rattle.pod_plan.specs.declared.choice.Choice.{Choice}
+use Rattle.pod_plan.specs.declared.choice_error.ChoiceError.{ChoiceError}
+use Rattle.pod_plan.specs.declared.choice_error.ChoiceError.TheVariants as choice
+use Rattle.pod_plan.specs.Choices.{best_of, ArePicks, AreTrees, IsChoice, IsRefused, IsTreeFault, IsUnmatched}
+use Rattle.pod_plan.proofs.Mapped.{all_ok, all_some}
 use Rattle.pod_manifest.specs.Generation.{first_refusal}
 use Rattle.pod_manifest.specs.Wishes.{Wishes}
 

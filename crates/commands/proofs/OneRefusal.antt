@@ -5,7 +5,7 @@ use Rattle.std.specs.List.{AllByRecursion}
 use Rattle.std.proofs.Math.Path.{fun_ext}
 use Rattle.ac_types.specs.declared.image_ref.ImageRef.{ImageRef}
 use Rattle.ac_types.specs.declared.store_key.StoreKey.{StoreKey}
-use Rattle.area_locks.specs.AreaLocks.{IsBusyElsewhere, IsFreeElsewhere}
+use Rattle.dir_files.specs.AreaLocks.{IsBusyElsewhere, IsFreeElsewhere}
 use Rattle.dep_match.specs.declared.dep_error.DepError.{DepError}
 use Rattle.dep_match.specs.declared.dep_tree.DepNode.{DepNode}
 use Rattle.dep_match.specs.declared.dep_tree.DepTree.{DepTree}
@@ -25,13 +25,13 @@ use Rattle.path_map.specs.declared.listed.Listed.{Listed}
 use Rattle.path_map.specs.Entries.{Entries}
 use Rattle.pod_build.specs.declared.error.BuildError.{BuildError}
 use Rattle.pod_build.specs.declared.error.BuildError.TheVariants as build
-use Rattle.pod_choice.specs.declared.error.ChoiceError.{ChoiceError}
-use Rattle.pod_choice.specs.declared.error.ChoiceError.TheVariants as choice
-use Rattle.pod_choice.specs.Choices.{ArePicks, AreTrees}
-use Rattle.pod_choice.specs.Choices as chosen
+use Rattle.pod_plan.specs.declared.choice_error.ChoiceError.{ChoiceError}
+use Rattle.pod_plan.specs.declared.choice_error.ChoiceError.TheVariants as choice
+use Rattle.pod_plan.specs.Choices.{ArePicks, AreTrees}
+use Rattle.pod_plan.specs.Choices as chosen
 use Rattle.pod_manifest.specs.Wishes.{Wishes}
-use Rattle.pod_reading.specs.Roots.{node_key}
-use Rattle.pod_reading.proofs.Ready.{picks_within}
+use Rattle.pod_plan.specs.Roots.{node_key}
+use Rattle.pod_plan.proofs.Ready.{picks_within}
 use Rattle.render.specs.Assembly.{IsAssembly}
 use Rattle.render.specs.Plans.{IsPut}
 use Rattle.render.specs.declared.rendering.Rendering.{Rendering}

@@ -20,7 +20,7 @@ use Rattle.path_map.specs.Whitelist.{whitelisted}
 use Rattle.path_map.proofs.Rising.{same_from_tree}
 use Rattle.pod_build.specs.declared.error.BuildError.{BuildError}
 use Rattle.pod_build.specs.declared.error.BuildError.TheVariants as build
-use Rattle.pod_reading.specs.Roots.{node_key, entries_together, AreFew}
+use Rattle.pod_plan.specs.Roots.{node_key, entries_together, AreFew}
 use Rattle.render.specs.Assembly.{IsAssembly, empty_tree, laid, layered, own_whitelist}
 use Rattle.render.specs.Orders.{all_down}
 use Rattle.render.specs.declared.refusals.TheConstants.{MAX_ENTRIES}

@@ -17,7 +17,7 @@ use Rattle.path_map.specs.declared.listed.Listed.{Listed}
 use Rattle.path_map.specs.Entries.{Entries, entry_at}
 use Rattle.path_map.specs.Whitelist.{whitelisted}
 use Rattle.path_map.proofs.Rising.{same_from_tree}
-use Rattle.pod_reading.specs.Roots.{node_key}
+use Rattle.pod_plan.specs.Roots.{node_key}
 use Rattle.render.specs.Assembly.{empty_tree, laid, layered, own_whitelist}
 use Rattle.render.specs.Layers.{is_file_at, layered_origins, maps_of, no_origins, source_at}
 use Rattle.render.specs.Origins.{OriginMap, laid_origins, origin_at}

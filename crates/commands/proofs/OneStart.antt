@@ -11,10 +11,10 @@ use Rattle.listing_laws.proofs.OneText.{no_two_listings_have_one_text}
 use Rattle.manifests.specs.PodData.{PodData, RuntimeAppData}
 use Rattle.manifests.specs.PodForm.{pod_manifest}
 use Rattle.path_map.specs.Entries.{Tree}
-use Rattle.pod_launches.specs.declared.error.LoadError.{LoadError}
-use Rattle.pod_launches.specs.declared.error.LoadError.TheVariants.{NoManifest, Damaged, NoProgram, DirFault, NoMemory}
-use Rattle.pod_launches.specs.declared.start.AppStart.{AppStart}
-use Rattle.pod_launches.specs.Places.{tree_path, told_path}
+use Rattle.stage1.specs.declared.load_error.LoadError.{LoadError}
+use Rattle.stage1.specs.declared.load_error.LoadError.TheVariants.{NoManifest, Damaged, NoProgram, DirFault, NoMemory}
+use Rattle.stage1.specs.declared.start.AppStart.{AppStart}
+use Rattle.stage1.specs.AppPlaces.{tree_path, told_path}
 use Rattle.tree_digest.specs.declared.line.ListingLine.{ListingLine}
 use Rattle.commands.specs.RunTable.{HoldsFile, HoldsManifest, HoldsToken, HoldsListing, HoldsListings, StartsSo, StartSo, AreStartsOf, FirstUnlisted, FirstMissing, HasNoStarts, SameStart, SameStarts, AreTheStarts, IsWhyNone, tree_of}
 

@@ -19,8 +19,8 @@ use Rattle.dir_model.specs.Quiet.{Quiet}
 use Rattle.dir_model.specs.State.{Namespace}
 use Rattle.dir_model.specs.Trace.{state_after, namespace_replied, locked, opened, opened_gate}
 use Rattle.dir_model.proofs.Lists.{and_left, and_right, any_push, any_filter, any_map}
-use Rattle.pod_claim.specs.Causes.{is_lock}
-use Rattle.pod_steps.specs.Causes.{is_held_against}
+use Rattle.pod_locks.specs.ClaimCauses.{is_lock}
+use Rattle.pod_locks.specs.Causes.{is_held_against}
 use Rattle.commands.proofs.OwnSteps.{back_at, elsewhere, mine_only, same_openings}
 
 not_mine : (me : ℕ) (test : Opening → Bool) (h : Handle) (o : Opening) → elsewhere me test o ≡ true → not (is_handle me h o) ≡ true

@@ -23,7 +23,7 @@ use Rattle.lifecycle.specs.PodMachine.{turned, transition, pod_state_next, pod_s
 use Rattle.lifecycle.proofs.Stays.{machine_append}
 use Rattle.phase_read.specs.Exact.{AtOwnEvent}
 use Rattle.phase_read.proofs.Exact.{event_within}
-use Rattle.pod_claim.specs.Work.{Grew}
+use Rattle.pod_locks.specs.Work.{Grew}
 use Rattle.pod_lookup.specs.Looks.{lists_stages}
 use Rattle.commands.specs.Opening.{opens}
 

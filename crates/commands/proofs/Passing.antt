@@ -34,7 +34,7 @@ use Rattle.lifecycle.specs.Executions.{IsConforming}
 use Rattle.lifecycle.proofs.Phases.{enabled_each, stands_exists, phase_of_place}
 use Rattle.lifecycle.proofs.Places.{made_elsewhere, moved_there, moved_elsewhere}
 use Rattle.lifecycle.proofs.Stays.{machine_append}
-use Rattle.pod_claim.specs.Requests.{in_run}
+use Rattle.pod_locks.specs.ClaimRequests.{in_run}
 use Rattle.phase_read.specs.declared.found.Found.{Found}
 use Rattle.phase_read.specs.declared.found.Found.TheVariants.{At, Gone}
 use Rattle.phase_read.specs.Read.{pod_spot}

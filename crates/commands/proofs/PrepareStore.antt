@@ -10,8 +10,8 @@ use Rattle.dir_model.specs.State.{DirState}
 use Rattle.dir_model.specs.Trace.{state_after}
 use Rattle.dir_model.proofs.Lists.{all_right}
 use Rattle.dir_trait.specs.DirCalls.{DirAt, HeldBetween}
-use Rattle.area_locks.specs.declared.error.LockError.{LockError}
-use Rattle.area_locks.specs.declared.error.LockError.TheVariants as lock
+use Rattle.dir_files.specs.declared.lock_error.LockError.{LockError}
+use Rattle.dir_files.specs.declared.lock_error.LockError.TheVariants as lock
 use Rattle.folder_building.specs.declared.plan.PlanEntry.{PlanEntry}
 use Rattle.image_reading.specs.declared.error.StoreError.TheVariants as store
 use Rattle.image_reading.specs.Places.{image_inner, manifest_name}
@@ -24,24 +24,24 @@ use Rattle.folder_building.specs.Sources.{in_images}
 use Rattle.folder_building.specs.Stored.{HadContents, LacksAt}
 use Rattle.pod_build.specs.Origins.{IsDamaged}
 use Rattle.pod_build.specs.Refusals.{gate_refusal, plan_refusal, IsMakeRefusal}
-use Rattle.pod_choice.specs.declared.choice.Choice.{Choice}
-use Rattle.pod_choice.specs.declared.error.ChoiceError.{ChoiceError}
-use Rattle.pod_choice.specs.declared.error.ChoiceError.TheVariants as choice
-use Rattle.pod_choice.specs.Choices as chosen
-use Rattle.pod_choice.specs.Choices.{AreTrees}
-use Rattle.pod_making.specs.declared.error.MakeError.{MakeError}
-use Rattle.pod_making.specs.declared.error.MakeError.TheVariants as make
-use Rattle.pod_making.specs.Causes.{HasMadeFolder, MakeCause}
+use Rattle.pod_plan.specs.declared.choice.Choice.{Choice}
+use Rattle.pod_plan.specs.declared.choice_error.ChoiceError.{ChoiceError}
+use Rattle.pod_plan.specs.declared.choice_error.ChoiceError.TheVariants as choice
+use Rattle.pod_plan.specs.Choices as chosen
+use Rattle.pod_plan.specs.Choices.{AreTrees}
+use Rattle.pod_build.specs.declared.make_error.MakeError.{MakeError}
+use Rattle.pod_build.specs.declared.make_error.MakeError.TheVariants as make
+use Rattle.pod_build.specs.MakingCauses.{HasMadeFolder, MakeCause}
 use Rattle.pod_manifest.specs.Wishes.{Wishes}
-use Rattle.pod_reading.specs.declared.error.PlanError.{PlanError}
-use Rattle.pod_reading.specs.declared.error.PlanError.TheVariants as plan
-use Rattle.pod_reading.specs.FaithfulPods.{PlansFaithfully}
-use Rattle.pod_reading.specs.NoPlans as none
-use Rattle.pod_reading.specs.NoPlans.{IsNoPlan}
-use Rattle.pod_reading.specs.Plans.{apps_of}
-use Rattle.pod_reading.proofs.Ready.{is_ready, picks_within}
-use Rattle.pod_reading.specs.Refusals.{IsNoChoice, LacksAmong, LacksPart, choice_refusal}
-use Rattle.pod_reading.specs.RootRefusals.{IsFirstRootFault}
+use Rattle.pod_plan.specs.declared.plan_error.PlanError.{PlanError}
+use Rattle.pod_plan.specs.declared.plan_error.PlanError.TheVariants as plan
+use Rattle.pod_plan.specs.FaithfulPods.{PlansFaithfully}
+use Rattle.pod_plan.specs.NoPlans as none
+use Rattle.pod_plan.specs.NoPlans.{IsNoPlan}
+use Rattle.pod_plan.specs.Plans.{apps_of}
+use Rattle.pod_plan.proofs.Ready.{is_ready, picks_within}
+use Rattle.pod_plan.specs.PlanRefusals.{IsNoChoice, LacksAmong, LacksPart, choice_refusal}
+use Rattle.pod_plan.specs.RootRefusals.{IsFirstRootFault}
 use Rattle.standing_images.specs.Damage.{IsFirstDamage}
 use Rattle.standing_images.specs.Images.{AreStore, ImagesStay, StandsSo}
 use Rattle.standing_images.proofs.Before.{store_before}
@@ -65,7 +65,7 @@ use Rattle.dir_model.specs.declared.area.Area.{Area}
 use Rattle.dir_model.specs.declared.area.Area.TheVariants.{Embryo, Images}
 use Rattle.dir_model.specs.declared.pod.PodId.{PodId}
 use Rattle.dir_model.specs.declared.spot.Mode.TheVariants.{Shared}
-use Rattle.area_locks.specs.AreaLocks.{IsBusyElsewhere, IsFreeElsewhere}
+use Rattle.dir_files.specs.AreaLocks.{IsBusyElsewhere, IsFreeElsewhere}
 use Rattle.command_outcomes.specs.declared.refusal.Refusal.TheVariants.{Busy}
 use Rattle.commands.specs.PrepareRefusals.{build_refusal}
 use Rattle.commands.proofs.OneRefusal.{CanMake, none_refuses, one_refusal}

@@ -23,12 +23,12 @@ use Rattle.dir_trait.proofs.Knowing.{knows_call}
 use Rattle.folder_building.specs.Work.{Worked}
 use Rattle.lifecycle.specs.Executions.{IsConforming}
 use Rattle.pod_manifest.specs.Wishes.{Wishes}
-use Rattle.pod_making.specs.Progress.{at_work, nothing_made, handed}
-use Rattle.pod_making.specs.Work.{From, HasOwnFolder, Went}
-use Rattle.pod_making.proofs.Handing.{HandsNothingOver}
+use Rattle.pod_build.specs.Progress.{at_work, nothing_made, handed}
+use Rattle.pod_build.specs.Work.{From, HasOwnFolder, Went}
+use Rattle.pod_build.proofs.Handing.{HandsNothingOver}
 use Rattle.pod_build.specs.declared.error.BuildError.{BuildError}
-use Rattle.pod_build.specs.declared.making.Built.{Built}
-use Rattle.pod_build.specs.declared.making.Built.TheVariants as built
+use Rattle.pod_build.specs.declared.built.Built.{Built}
+use Rattle.pod_build.specs.declared.built.Built.TheVariants as built
 use Rattle.pod_build.specs.Answers.{IsAnswer, with_built, held_with}
 use Rattle.pod_build.specs.Requests.{prepares}
 use Rattle.pod_build.specs.Causes.{IsPartOf, IsRefused, IsHeldElsewhere, IsMadeByPlan, FindsImagesFree}

@@ -24,15 +24,15 @@ use Rattle.lifecycle.specs.Executions.{IsConforming}
 use Rattle.lifecycle.proofs.Draws.{conforming_left}
 use Rattle.pod_build.specs.Preparations.{IsPrepared}
 use Rattle.pod_build.specs.Requests.{prepares}
-use Rattle.pod_claim.specs.Requests.{claims, in_prepared, in_run}
-use Rattle.pod_claim.specs.Work.{Grew, TookBoth}
-use Rattle.pod_claim.proofs.Traces.{grown_call, grown_more}
+use Rattle.pod_locks.specs.ClaimRequests.{claims, in_prepared, in_run}
+use Rattle.pod_locks.specs.Work.{Grew, TookBoth}
+use Rattle.pod_locks.proofs.Traces.{grown_call, grown_more}
 use Rattle.pod_files.specs.Places.{run_spot}
-use Rattle.pod_launches.specs.declared.error.LoadError.{LoadError}
-use Rattle.pod_launches.specs.declared.error.LoadError.TheVariants as load
-use Rattle.pod_launches.specs.declared.start.AppStart.{AppStart}
-use Rattle.pod_launches.specs.Refusals.{LoadCause}
-use Rattle.pod_making.specs.Requests.{pod_at}
+use Rattle.stage1.specs.declared.load_error.LoadError.{LoadError}
+use Rattle.stage1.specs.declared.load_error.LoadError.TheVariants as load
+use Rattle.stage1.specs.declared.start.AppStart.{AppStart}
+use Rattle.stage1.specs.LoadRefusals.{LoadCause}
+use Rattle.pod_build.specs.MakingRequests.{pod_at}
 use Rattle.pod_manifest.specs.Wishes.{Wishes}
 use Rattle.stage1.specs.declared.end.AppEnd.{AppEnd}
 use Rattle.stage1.specs.declared.error.RunError.{RunError}

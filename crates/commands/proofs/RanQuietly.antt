@@ -15,19 +15,19 @@ use Rattle.dir_model.specs.Trace.{state_after}
 use Rattle.dir_model.proofs.Moments.{at_within}
 use Rattle.dir_trait.specs.DirCalls.{DirAt}
 use Rattle.dir_trait.specs.Knowledge.{Knows}
-use Rattle.area_locks.specs.AreaLocks.{is_against, IsFreeElsewhere}
+use Rattle.dir_files.specs.AreaLocks.{is_against, IsFreeElsewhere}
 use Rattle.spawner.specs.Calls.{SpawnerAt}
 use Rattle.lifecycle.specs.Executions.{IsConforming}
 use Rattle.pod_build.specs.Causes.{IsMadeByPlan}
 use Rattle.pod_build.specs.Preparations.{Began}
 use Rattle.pod_build.specs.Requests.{prepares}
-use Rattle.pod_claim.specs.declared.error.ClaimError.{ClaimError}
-use Rattle.pod_claim.specs.declared.error.ClaimError.TheVariants as claim
-use Rattle.pod_claim.specs.Requests.{claims}
-use Rattle.pod_claim.specs.Work.{Grew}
-use Rattle.pod_claim.proofs.Lawful.{never_stray}
-use Rattle.pod_claim.proofs.Traces.{grown_more, grown_call, grown_by}
-use Rattle.pod_making.specs.Progress.{at_work, nothing_made}
+use Rattle.pod_locks.specs.declared.claim_error.ClaimError.{ClaimError}
+use Rattle.pod_locks.specs.declared.claim_error.ClaimError.TheVariants as claim
+use Rattle.pod_locks.specs.ClaimRequests.{claims}
+use Rattle.pod_locks.specs.Work.{Grew}
+use Rattle.pod_locks.proofs.ClaimLawful.{never_stray}
+use Rattle.pod_locks.proofs.Traces.{grown_more, grown_call, grown_by}
+use Rattle.pod_build.specs.Progress.{at_work, nothing_made}
 use Rattle.command_outcomes.specs.declared.refusal.Refusal.{Refusal}
 use Rattle.command_outcomes.specs.declared.told.Told.{Told}
 use Rattle.command_outcomes.specs.Moments.{Answer, SpawnerSeen}
@@ -55,7 +55,7 @@ use Rattle.commands.proofs.RanByFolder.{KeepsHeld, claimed_keeps, made_keeps, ru
 use Rattle.commands.proofs.RunRefused.{WasStopped}
 use Rattle.commands.specs.Wants.{Wants}
 use Rattle.commands.specs.Opening.{Approach, Opens}
-use Rattle.pod_claim.proofs.Lawful.{conforms_before}
+use Rattle.pod_locks.proofs.ClaimLawful.{conforms_before}
 
 module _ (seen observed : Bool) (pod : PodId) (address : List ℕ) (d d' : DirAt) (s s' : SpawnerAt) (answer : Answer) (t : seen ≡ true) (old new : List Event) where
   -- a pod that was claimed, whatever came of its run

@@ -20,7 +20,7 @@ use Rattle.dir_model.specs.Quiet.{Quiet}
 use Rattle.dir_model.proofs.Lists.{and_left, or_last, all_left, all_right, all_both, all_map, same_rest, same_self}
 use Rattle.dir_model.proofs.Chains.{states_next-append, state_after-push}
 use Rattle.dir_model.proofs.Moments.{at_within}
-use Rattle.area_locks.specs.AreaLocks.{takes, is_against, IsBusyElsewhere}
+use Rattle.dir_files.specs.AreaLocks.{takes, is_against, IsBusyElsewhere}
 use Rattle.folder_contents.proofs.Spots.{one_location}
 use Rattle.image_reading.specs.Places.{image_spot, IsAbsent}
 use Rattle.image_removal.specs.Calls.{Called}

@@ -2,12 +2,12 @@
 use Rattle.std.proofs.Common.{◌≡◌, Bool, true, Err, ℕ, refl, sym, ap, subst}
 use Rattle.dir_model.specs.declared.pod.PodId.{PodId}
 use Rattle.dir_trait.specs.DirCalls.{DirAt}
-use Rattle.pod_steps.specs.Holding.{Stays}
-use Rattle.pod_removal.specs.declared.error.RemoveError.{RemoveError}
-use Rattle.pod_removal.specs.declared.error.RemoveError.TheVariants as error
-use Rattle.pod_removal.specs.Holding.{MayRemovePod}
-use Rattle.pod_removal.specs.Removals.{RemoveCause, RefusedByAnother}
-use Rattle.pod_removal.specs.Found.{RefusedFirst}
+use Rattle.pod_locks.specs.Holding.{Stays}
+use Rattle.pod_gc.specs.declared.remove_error.RemoveError.{RemoveError}
+use Rattle.pod_gc.specs.declared.remove_error.RemoveError.TheVariants as error
+use Rattle.pod_gc.specs.RemovalHolding.{MayRemovePod}
+use Rattle.pod_gc.specs.Removals.{RemoveCause, RefusedByAnother}
+use Rattle.pod_gc.specs.Found.{RefusedFirst}
 use Rattle.commands.specs.Strays.{ComesOfApp}
 use Rattle.command_outcomes.specs.declared.refusal.Refusal.{Refusal}
 use Rattle.command_outcomes.specs.declared.refusal.Refusal.TheVariants.{DirFault}

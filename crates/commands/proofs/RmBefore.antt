@@ -29,8 +29,8 @@ use Rattle.phase_read.specs.declared.found.Found.TheVariants.{At}
 use Rattle.phase_read.specs.Read.{pod_spot, is_pod_spot}
 use Rattle.phase_read.specs.Sequential.{sequential_read, found_in}
 use Rattle.phase_read.specs.Exact.{AtOwnEvent}
-use Rattle.pod_claim.specs.Elsewhere.{IsOwnedElsewhere}
-use Rattle.pod_removal.specs.Requests.{removes}
+use Rattle.pod_locks.specs.Elsewhere.{IsOwnedElsewhere}
+use Rattle.pod_gc.specs.RemovalRequests.{removes}
 use Rattle.commands.specs.Opening.{OnceFound}
 use Rattle.commands.specs.Rm.{FindsPodBusy, WasSo, WasOwned}
 use Rattle.commands.specs.RemovalQuiet.{HasPhaseNow, IsHeldNow}

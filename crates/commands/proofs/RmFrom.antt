@@ -36,8 +36,8 @@ use Rattle.lifecycle.proofs.Phases.{exists_stands, stands_exists}
 use Rattle.lifecycle.proofs.Places.{moved_elsewhere, removed_elsewhere}
 use Rattle.lifecycle.proofs.Run.{good}
 use Rattle.phase_read.specs.Read.{pod_spot}
-use Rattle.pod_claim.proofs.Traces.{grown_none}
-use Rattle.pod_removal.specs.Requests.{is_removable, removes}
+use Rattle.pod_locks.proofs.Traces.{grown_none}
+use Rattle.pod_gc.specs.RemovalRequests.{is_removable, removes}
 use Rattle.commands.specs.Opening.{OnceFound}
 use Rattle.commands.specs.Rm.{Removes}
 use Rattle.commands.specs.RemovalQuiet.{IsRemovableNow}

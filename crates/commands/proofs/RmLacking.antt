@@ -7,8 +7,8 @@ use Rattle.dir_model.specs.Quiet.{Quiet}
 use Rattle.dir_model.specs.Trace.{state_after}
 use Rattle.lifecycle.specs.Executions.{IsConforming}
 use Rattle.lifecycle.proofs.Draws.{conforming_left}
-use Rattle.pod_claim.specs.Causes.{LacksManifest}
-use Rattle.pod_removal.specs.Requests.{removes}
+use Rattle.pod_locks.specs.ClaimCauses.{LacksManifest}
+use Rattle.pod_gc.specs.RemovalRequests.{removes}
 use Rattle.commands.specs.Opening.{OnceFound}
 use Rattle.commands.specs.Rm.{HadNoManifest}
 use Rattle.commands.proofs.OwnSteps.{in_process, back_at, at_process}

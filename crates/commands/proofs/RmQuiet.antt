@@ -34,12 +34,12 @@ use Rattle.lifecycle.proofs.Phases.{enabled_each, stands_exists}
 use Rattle.lifecycle.proofs.Stays.{machine_append}
 use Rattle.phase_read.specs.Read.{pod_spot, is_pod_spot, stages, LeftOut, WasFound, IsFound}
 use Rattle.phase_read.proofs.InTurn.{left_out_grown}
-use Rattle.pod_claim.specs.Work.{Grew}
-use Rattle.pod_claim.proofs.Times.{at_part}
-use Rattle.pod_claim.proofs.Traces.{grown_none, grown_more, grown_call}
-use Rattle.pod_steps.specs.Causes.{Did}
-use Rattle.pod_removal.specs.Causes.{IsDeleted}
-use Rattle.pod_removal.specs.Removals.{FoundNone, FoundThenEnded}
+use Rattle.pod_locks.specs.Work.{Grew}
+use Rattle.pod_locks.proofs.Times.{at_part}
+use Rattle.pod_locks.proofs.Traces.{grown_none, grown_more, grown_call}
+use Rattle.pod_locks.specs.Causes.{Did}
+use Rattle.pod_gc.specs.RemovalCauses.{IsDeleted}
+use Rattle.pod_gc.specs.Removals.{FoundNone, FoundThenEnded}
 use Rattle.commands.specs.Opening.{OnceFound}
 use Rattle.commands.specs.Rm.{Removes}
 use Rattle.commands.specs.RemovalQuiet.{StandsNowhere, IsGoneForGood}

@@ -30,11 +30,11 @@ use Rattle.phase_read.specs.declared.found.Found.TheVariants.{At, Gone}
 use Rattle.phase_read.specs.Read.{pod_spot, is_pod_spot}
 use Rattle.phase_read.specs.Sequential.{sequential_read, or_in, found_in}
 use Rattle.phase_read.proofs.Quiet.{read_quiet}
-use Rattle.pod_claim.specs.Work.{Grew}
-use Rattle.pod_claim.proofs.Times.{at_part}
-use Rattle.pod_claim.proofs.Traces.{grown_none, grown_more, grown_by, grown_call}
-use Rattle.pod_removal.specs.Requests.{is_removable, aside, place_of, puts_aside, removes}
-use Rattle.pod_removal.specs.Found.{is_moved, HadClaim, PutAway, TakenAway, MissedAt, WasMissed, FoundAnd, MissedFirst}
+use Rattle.pod_locks.specs.Work.{Grew}
+use Rattle.pod_locks.proofs.Times.{at_part}
+use Rattle.pod_locks.proofs.Traces.{grown_none, grown_more, grown_by, grown_call}
+use Rattle.pod_gc.specs.RemovalRequests.{is_removable, aside, place_of, puts_aside, removes}
+use Rattle.pod_gc.specs.Found.{is_moved, HadClaim, PutAway, TakenAway, MissedAt, WasMissed, FoundAnd, MissedFirst}
 use Rattle.pod_gc.specs.Requests.{lists_marks, moves_on}
 use Rattle.commands.specs.RemovalTable.{is_held_in}
 use Rattle.commands.proofs.OwnSteps.{in_process, forward}
@@ -48,7 +48,7 @@ use Rattle.commands.proofs.Manifests.{had_manifest}
 use Rattle.commands.proofs.RmLacking.{removes_aside}
 use Rattle.commands.proofs.GcTurn.{quiet_between, untaken_at}
 use Rattle.commands.proofs.GcGoes.{on_leaves}
-use Rattle.pod_removal.proofs.Onward.{moved_stands, stage_place}
+use Rattle.pod_gc.proofs.Onward.{moved_stands, stage_place}
 use Rattle.commands.proofs.GcArrived.{moved_by}
 use Rattle.commands.proofs.GcLocks.{turn_free}
 

@@ -26,14 +26,14 @@ use Rattle.phase_read.specs.declared.found.Found.{Found}
 use Rattle.phase_read.specs.declared.found.Found.TheVariants.{At, Gone}
 use Rattle.phase_read.specs.Read.{pod_spot}
 use Rattle.phase_read.specs.Sequential.{sequential_read, found_in}
-use Rattle.pod_claim.specs.Causes.{LacksManifest, is_lock}
-use Rattle.pod_claim.specs.Work.{Grew}
-use Rattle.pod_claim.proofs.Times.{at_part}
-use Rattle.pod_claim.proofs.Traces.{grown_more, grown_by}
-use Rattle.pod_steps.specs.Causes.{is_held_against, HeldByAnother}
-use Rattle.pod_removal.specs.Requests.{is_removable, aside, place_of, removes}
-use Rattle.pod_removal.specs.Causes.{asked_mode}
-use Rattle.pod_removal.specs.Found.{HadClaim, TakenAway, RefusedAt, RefusedAside, WasRefused, FoundAnd}
+use Rattle.pod_locks.specs.ClaimCauses.{LacksManifest, is_lock}
+use Rattle.pod_locks.specs.Work.{Grew}
+use Rattle.pod_locks.proofs.Times.{at_part}
+use Rattle.pod_locks.proofs.Traces.{grown_more, grown_by}
+use Rattle.pod_locks.specs.Causes.{is_held_against, HeldByAnother}
+use Rattle.pod_gc.specs.RemovalRequests.{is_removable, aside, place_of, removes}
+use Rattle.pod_gc.specs.RemovalCauses.{asked_mode}
+use Rattle.pod_gc.specs.Found.{HadClaim, TakenAway, RefusedAt, RefusedAside, WasRefused, FoundAnd}
 use Rattle.command_outcomes.specs.declared.refusal.Refusal.{Refusal}
 use Rattle.command_outcomes.specs.declared.refusal.Refusal.TheVariants.{NoPod, WrongPhase, NoManifest, PodBusy}
 use Rattle.commands.specs.Opening.{OnceFound, opens}
@@ -47,7 +47,7 @@ use Rattle.commands.proofs.GcLocks.{turn_held}
 use Rattle.commands.proofs.Manifests.{had_manifest}
 use Rattle.commands.proofs.RmLacking.{removes_aside}
 use Rattle.commands.proofs.RmRounds.{waits_there, aside_stage, rm_changed_off, found_before, found_place, found_folder, folder_aside, put_grown, never_missed, claim_free, own_free}
-use Rattle.pod_removal.proofs.Onward.{stage_place}
+use Rattle.pod_gc.proofs.Onward.{stage_place}
 
 -- what one state asks for
 

@@ -13,10 +13,10 @@ use Rattle.image_reading.specs.Places.{image_inner, tree_name}
 use Rattle.image_reading.specs.Files.{IsListingOf, IsNoListing, most_of_tree}
 use Rattle.image_reading.proofs.Values.{tree_front}
 use Rattle.path_map.specs.Entries.{Entries}
-use Rattle.pod_reading.specs.Readings.{KnowsTree}
-use Rattle.pod_reading.specs.Roots.{times, node_key, HasRead, IsRendered, AreRoots}
-use Rattle.pod_reading.specs.RootRefusals as refusals
-use Rattle.pod_reading.proofs.Times.{times_here}
+use Rattle.pod_plan.specs.Readings.{KnowsTree}
+use Rattle.pod_plan.specs.Roots.{times, node_key, HasRead, IsRendered, AreRoots}
+use Rattle.pod_plan.specs.RootRefusals as refusals
+use Rattle.pod_plan.proofs.Times.{times_here}
 use Rattle.render.specs.declared.rendering.Rendering.{Rendering}
 use Rattle.tree_digest.specs.Listings.{IsListing}
 use Rattle.tree_digest.specs.declared.listing_error.ListingError.{ListingError}

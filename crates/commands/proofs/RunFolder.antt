@@ -25,7 +25,7 @@ use Rattle.folder_building.specs.Work.{either}
 use Rattle.folder_contents.specs.Entries.{entries_in}
 use Rattle.impossible_replies.proofs.Apps.{no_app}
 use Rattle.lifecycle.specs.Executions.{IsConforming}
-use Rattle.pod_claim.specs.Requests.{in_run}
+use Rattle.pod_locks.specs.ClaimRequests.{in_run}
 use Rattle.pod_files.specs.Places.{run_spot}
 use Rattle.stage1.specs.Runs.{reads_or_closes}
 use Rattle.commands.proofs.EndsQuiet.{since_begin}

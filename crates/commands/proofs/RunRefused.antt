@@ -12,13 +12,13 @@ use Rattle.dir_model.specs.Trace.{state_after}
 use Rattle.dir_rules.specs.Conforms.{Conforms, IsTied}
 use Rattle.dir_trait.specs.DirCalls.{DirAt}
 use Rattle.dir_trait.specs.Knowledge.{Knows}
-use Rattle.area_locks.specs.AreaLocks.{is_against, IsBusyElsewhere}
+use Rattle.dir_files.specs.AreaLocks.{is_against, IsBusyElsewhere}
 use Rattle.pod_build.specs.declared.error.BuildError.TheVariants as build
 use Rattle.pod_build.specs.Causes.{IsRefused}
 use Rattle.pod_build.specs.Preparations.{Began}
-use Rattle.pod_making.specs.Progress.{at_work, nothing_made}
-use Rattle.pod_ownership.specs.declared.owned.Owned.{Owned}
-use Rattle.pod_making.specs.Work.{HasOwnFolder}
+use Rattle.pod_build.specs.Progress.{at_work, nothing_made}
+use Rattle.pod_locks.specs.declared.owned.Owned.{Owned}
+use Rattle.pod_build.specs.Work.{HasOwnFolder}
 use Rattle.spawner.specs.Calls.{SpawnerAt}
 use Rattle.stage1.specs.declared.error.RunError.{RunError}
 use Rattle.stage1.specs.declared.error.RunError.TheVariants.{Stray}

@@ -6,8 +6,8 @@ use Rattle.dir_model.specs.declared.area.Area.TheVariants.{Embryo, Images}
 use Rattle.dir_model.specs.declared.intent.Draw.{Draw}
 use Rattle.dir_model.specs.declared.pod.PodId.{PodId}
 use Rattle.dir_trait.specs.DirCalls.{DirAt}
-use Rattle.area_locks.specs.declared.error.LockError.{LockError}
-use Rattle.area_locks.specs.declared.error.LockError.TheVariants as lock
+use Rattle.dir_files.specs.declared.lock_error.LockError.{LockError}
+use Rattle.dir_files.specs.declared.lock_error.LockError.TheVariants as lock
 use Rattle.folder_building.specs.declared.plan.PlanEntry.{PlanEntry}
 use Rattle.dep_match.specs.declared.stored.Stored.{Stored}
 use Rattle.dep_match.specs.declared.dep_error.DepError.{DepError}
@@ -19,15 +19,15 @@ use Rattle.render.specs.declared.render_error.RenderError.{RenderError}
 use Rattle.render.specs.declared.render_error.RenderError.TheVariants as render
 use Rattle.tree_digest.specs.declared.listing_error.ListingError.{ListingError}
 use Rattle.tree_digest.specs.declared.listing_error.ListingError.TheVariants as listing
-use Rattle.pod_choice.specs.declared.error.ChoiceError.{ChoiceError}
-use Rattle.pod_choice.specs.declared.error.ChoiceError.TheVariants as choice
-use Rattle.pod_choice.specs.Choices.{IsUnmatched, IsRefused as IsNoPod}
-use Rattle.pod_reading.specs.declared.error.PlanError.{PlanError}
-use Rattle.pod_reading.specs.declared.error.PlanError.TheVariants as plan
-use Rattle.pod_reading.specs.Refusals.{choice_refusal, IsNoChoice}
-use Rattle.pod_reading.specs.NoPlans.{IsNoPlan}
-use Rattle.pod_making.specs.declared.error.MakeError.{MakeError}
-use Rattle.pod_making.specs.declared.error.MakeError.TheVariants as make
+use Rattle.pod_plan.specs.declared.choice_error.ChoiceError.{ChoiceError}
+use Rattle.pod_plan.specs.declared.choice_error.ChoiceError.TheVariants as choice
+use Rattle.pod_plan.specs.Choices.{IsUnmatched, IsRefused as IsNoPod}
+use Rattle.pod_plan.specs.declared.plan_error.PlanError.{PlanError}
+use Rattle.pod_plan.specs.declared.plan_error.PlanError.TheVariants as plan
+use Rattle.pod_plan.specs.PlanRefusals.{choice_refusal, IsNoChoice}
+use Rattle.pod_plan.specs.NoPlans.{IsNoPlan}
+use Rattle.pod_build.specs.declared.make_error.MakeError.{MakeError}
+use Rattle.pod_build.specs.declared.make_error.MakeError.TheVariants as make
 use Rattle.pod_build.specs.declared.error.BuildError.{BuildError}
 use Rattle.pod_build.specs.declared.error.BuildError.TheVariants as build
 use Rattle.pod_build.specs.Refusals.{gate_refusal, plan_refusal, IsMakeRefusal}

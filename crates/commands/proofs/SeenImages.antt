@@ -25,9 +25,9 @@ use Rattle.dep_match.specs.declared.stored.Stored.{Stored}
 use Rattle.dep_match.specs.Copies.{StoredData, stored_data}
 use Rattle.dep_match.specs.Dependencies.{and_then, branches, dependencies_at, dependency_tree, key_at, next_image, subtree, unless_faulty, with_root}
 use Rattle.dep_match.specs.Selection.{best_match, digits_of, has_id, has_label, matches_dependency}
-use Rattle.pod_choice.specs.declared.error.ChoiceError.{ChoiceError}
-use Rattle.pod_choice.specs.declared.error.ChoiceError.TheVariants as choice
-use Rattle.pod_choice.specs.Choices.{best_of, ArePicks, AreTrees, IsRefused, IsTreeFault, IsUnmatched}
+use Rattle.pod_plan.specs.declared.choice_error.ChoiceError.{ChoiceError}
+use Rattle.pod_plan.specs.declared.choice_error.ChoiceError.TheVariants as choice
+use Rattle.pod_plan.specs.Choices.{best_of, ArePicks, AreTrees, IsRefused, IsTreeFault, IsUnmatched}
 use Rattle.pod_manifest.specs.AppNames.{app_name}
 use Rattle.pod_manifest.specs.Generation.{app_fault, first_fault, first_refusal, mount_fault, name_of, picked, words_fault}
 use Rattle.pod_manifest.specs.Wishes.{Wishes}

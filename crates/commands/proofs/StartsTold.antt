@@ -32,13 +32,13 @@ use Rattle.manifests.specs.declared.runtime_app.RuntimeApp.{RuntimeApp}
 use Rattle.manifests.specs.PodData.{PodData, pod_data, runtime_app_data}
 use Rattle.path_map.specs.Entries.{Entries, entry_at}
 use Rattle.pod_files.specs.Files.{IsManifestOf, IsNoManifest, IsNoToken, IsTokenOf, LacksManifest as LacksManifestRead, LacksToken as LacksTokenRead, ReadsManifest, ReadsToken, is_digit, is_token, most_of_token}
-use Rattle.pod_launches.specs.declared.error.LoadError.{LoadError}
-use Rattle.pod_launches.specs.declared.error.LoadError.TheVariants.{NoManifest, Damaged, NoProgram, DirFault, NoMemory}
-use Rattle.pod_launches.specs.declared.start.AppStart.{AppStart}
-use Rattle.pod_launches.specs.Files.{AreRoots, IsRootOf, LacksRoot, ReadsRoot}
-use Rattle.pod_launches.specs.Places.{manifest_name, pod_file, run_spot, told_path, token_name, tree_path}
-use Rattle.pod_launches.specs.Refusals.{FirstLacks, InTurn, LacksListing as LacksListingRead, LacksProgram, LacksStarts, LoadCause}
-use Rattle.pod_launches.specs.Starts.{AreStarts, IsStart, ReadsStarts}
+use Rattle.stage1.specs.declared.load_error.LoadError.{LoadError}
+use Rattle.stage1.specs.declared.load_error.LoadError.TheVariants.{NoManifest, Damaged, NoProgram, DirFault, NoMemory}
+use Rattle.stage1.specs.declared.start.AppStart.{AppStart}
+use Rattle.stage1.specs.AppFiles.{AreRoots, IsRootOf, LacksRoot, ReadsRoot}
+use Rattle.stage1.specs.AppPlaces.{manifest_name, pod_file, run_spot, told_path, token_name, tree_path}
+use Rattle.stage1.specs.LoadRefusals.{FirstLacks, InTurn, LacksListing as LacksListingRead, LacksProgram, LacksStarts, LoadCause}
+use Rattle.stage1.specs.Starts.{AreStarts, IsStart, ReadsStarts}
 use Rattle.pod_report.proofs.Reading.{same_reading}
 use Rattle.standing_images.proofs.Pieces.{all_told, is_front, told_grown}
 use Rattle.tree_digest.specs.declared.line.ListingLine.{ListingLine}

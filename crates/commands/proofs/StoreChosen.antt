@@ -16,7 +16,7 @@ use Rattle.dir_model.proofs.Lists.{and_left}
 use Rattle.dir_trait.specs.DirCalls.{DirAt}
 use Rattle.lifecycle.proofs.Handles.{clash}
 use Rattle.pod_build.specs.Preparations.{IsPrepared}
-use Rattle.pod_making.specs.Requests.{pod_at}
+use Rattle.pod_build.specs.MakingRequests.{pod_at}
 use Rattle.pod_manifest.specs.Wishes.{Wishes}
 use Rattle.standing_images.specs.Images.{AreStore, ImagesStay}
 use Rattle.standing_images.proofs.Before.{store_before}

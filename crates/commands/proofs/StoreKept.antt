@@ -24,7 +24,7 @@ use Rattle.folder_contents.proofs.Spots.{one_location}
 use Rattle.lifecycle.proofs.Handles.{clash}
 use Rattle.lifecycle.proofs.Places.{made_elsewhere, moved_elsewhere, removed_elsewhere}
 use Rattle.phase_read.specs.Read.{is_pod_spot}
-use Rattle.pod_making.specs.Requests.{pod_at}
+use Rattle.pod_build.specs.MakingRequests.{pod_at}
 use Rattle.standing_images.specs.Images.{SameImages, ImagesStay}
 use Rattle.commands.specs.Prepare.{prepares_pod}
 use Rattle.commands.specs.PrepareQuiet.{is_pod_place}

@@ -8,7 +8,7 @@ use Rattle.dir_rules.specs.declared.seen.Seen.{Seen}
 use Rattle.dir_trait.specs.DirCalls.{DirAt, ExtendsBy}
 use Rattle.dir_trait.specs.Knowledge.{Knows}
 use Rattle.lifecycle.specs.Executions.{IsConforming}
-use Rattle.area_locks.specs.AreaLocks.{with_gate}
+use Rattle.dir_files.specs.AreaLocks.{with_gate}
 use Rattle.image_reading.specs.Looks.{reads_images}
 use Rattle.image_reading.specs.Store.{ReadsStore}
 use Rattle.standing_images.specs.Images.{StoodTogether}

@@ -3,7 +3,7 @@ use Rattle.std.proofs.Common.{◌≡◌, ℕ, true, codes, List, [], ◌∷◌, 
 use Rattle.std.specs.Fmt.{decimal}
 use Rattle.std.specs.List.{flat_map}
 use Rattle.ac_types.specs.Ids.{id_text}
-use Rattle.area_locks.specs.AreaLocks.{is_against, IsFreeElsewhere}
+use Rattle.dir_files.specs.AreaLocks.{is_against, IsFreeElsewhere}
 use Rattle.dep_match.specs.declared.stored.Stored.{Stored}
 use Rattle.dep_match.specs.Copies.{StoredData, stored_data}
 use Rattle.dir_model.specs.declared.area.Area.TheVariants.{Images}

@@ -10,8 +10,8 @@ use Rattle.pod_build.specs.declared.error.BuildError.{BuildError}
 use Rattle.pod_build.specs.declared.error.BuildError.TheVariants as build
 use Rattle.pod_build.specs.Causes.{IsRefused}
 use Rattle.pod_build.proofs.Lawful.{never_refused}
-use Rattle.pod_claim.specs.declared.error.ClaimError.{ClaimError}
-use Rattle.pod_claim.specs.declared.error.ClaimError.TheVariants as claim
+use Rattle.pod_locks.specs.declared.claim_error.ClaimError.{ClaimError}
+use Rattle.pod_locks.specs.declared.claim_error.ClaimError.TheVariants as claim
 use Rattle.pod_manifest.specs.declared.gen_error.GenError.{GenError}
 use Rattle.pod_manifest.specs.declared.gen_error.GenError.TheVariants as gen
 use Rattle.render.specs.declared.render_error.RenderError.{RenderError}

@@ -24,7 +24,7 @@ use Rattle.dir_model.proofs.Moments.{at_within}
 use Rattle.dir_rules.specs.Standing.{is_in}
 use Rattle.dir_laws.specs.Stretches.{Throughout, StandsInArea}
 use Rattle.dir_files.specs.Listed.{ShowsArea}
-use Rattle.area_locks.specs.AreaLocks.{takes, is_against, IsBusyElsewhere}
+use Rattle.dir_files.specs.AreaLocks.{takes, is_against, IsBusyElsewhere}
 use Rattle.folder_removal.specs.Removal.{deletes_at}
 use Rattle.image_removal.specs.declared.pass.SweepLine.{SweepLine}
 use Rattle.image_removal.specs.Calls.{Called}

@@ -27,7 +27,7 @@ use Rattle.dir_model.proofs.Chains.{states_next-append, and_more, extends_wider}
 use Rattle.dir_model.proofs.Moments.{at_within}
 use Rattle.dir_laws.specs.Stretches.{Sometime, StandsInArea}
 use Rattle.dir_files.specs.Listed.{ShowsArea}
-use Rattle.area_locks.specs.AreaLocks.{takes, is_against, IsBusyElsewhere, IsFreeElsewhere}
+use Rattle.dir_files.specs.AreaLocks.{takes, is_against, IsBusyElsewhere, IsFreeElsewhere}
 use Rattle.folder_contents.proofs.Spots.{one_location}
 use Rattle.image_removal.specs.declared.pass.Pass.{Pass}
 use Rattle.image_removal.specs.declared.pass.Pass.TheVariants.{PutAway, Delete}

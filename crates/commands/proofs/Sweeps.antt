@@ -2,8 +2,8 @@
 use Rattle.std.proofs.Common.{◌≡◌, ◌≤◌, ◌⊎◌, inl, inr, Bool, true, Ok, Err, List, refl, sym, subst}
 use Rattle.dir_trait.specs.DirCalls.{DirAt}
 use Rattle.pod_gc.specs.declared.ages.Times.{Times}
-use Rattle.pod_gc.specs.declared.error.GcError.{GcError}
-use Rattle.pod_gc.specs.declared.error.GcError.TheVariants as error
+use Rattle.pod_gc.specs.declared.gc_error.GcError.{GcError}
+use Rattle.pod_gc.specs.declared.gc_error.GcError.TheVariants as error
 use Rattle.pod_gc.specs.declared.line.GcLine.{GcLine}
 use Rattle.pod_gc.specs.Causes.{GcCause}
 use Rattle.pod_gc.specs.Told.{IsSweptBetween}

@@ -32,15 +32,15 @@ use Rattle.dir_rules.specs.Rules.{may_change}
 use Rattle.dir_rules.specs.Standing.{find_held, is_in, looked_by, standing_replied}
 use Rattle.dir_rules.proofs.Tied.{conforms-left, seen_after-append, was_allowed}
 use Rattle.dir_trait.specs.DirCalls.{DirAt, HeldBetween}
-use Rattle.area_locks.specs.AreaLocks.{IsFreeElsewhere, is_against}
+use Rattle.dir_files.specs.AreaLocks.{IsFreeElsewhere, is_against}
 use Rattle.folder_building.proofs.Working.{at_spot}
 use Rattle.folder_contents.proofs.Spots.{one_location}
 use Rattle.impossible_replies.proofs.Refusals.{made_already}
 use Rattle.lifecycle.proofs.Makes.{made_by}
 use Rattle.lifecycle.proofs.Places.{made_elsewhere, moved_away, moved_elsewhere, none_stands}
 use Rattle.lifecycle.proofs.Handles.{none_refused, refused_if}
-use Rattle.pod_making.specs.Causes.{AsksFolder, HasMadeFolder, WasTaken}
-use Rattle.pod_making.specs.Requests.{pod_at}
+use Rattle.pod_build.specs.MakingCauses.{AsksFolder, HasMadeFolder, WasTaken}
+use Rattle.pod_build.specs.MakingRequests.{pod_at}
 use Rattle.commands.specs.Prepare.{prepares_pod}
 use Rattle.commands.specs.PrepareTable.{IsTaken, IsUntaken}
 use Rattle.commands.specs.Run.{makes_and_runs}

@@ -4,7 +4,7 @@ use Rattle.dir_model.specs.declared.pod.PodId.{PodId}
 use Rattle.dir_model.specs.Causes.{Rose}
 use Rattle.dir_trait.specs.DirCalls.{DirAt}
 use Rattle.spawner.specs.Calls.{SpawnerAt}
-use Rattle.pod_ownership.specs.declared.owned.Owned.{Owned}
+use Rattle.pod_locks.specs.declared.owned.Owned.{Owned}
 use Rattle.stage1.specs.declared.end.AppEnd.{AppEnd}
 use Rattle.stage1.specs.declared.error.RunError.{RunError}
 use Rattle.stage1.specs.declared.error.RunError.TheVariants as run

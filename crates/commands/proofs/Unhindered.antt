@@ -6,8 +6,8 @@ use Rattle.dir_model.specs.Calls.{is_finish, Extends}
 use Rattle.dir_model.proofs.Moments.{at_within}
 use Rattle.lifecycle.specs.Executions.{IsConforming}
 use Rattle.lifecycle.proofs.Draws.{conforming_left}
-use Rattle.pod_removal.specs.Hindrances.{IsUnhinderedThroughout}
-use Rattle.pod_removal.proofs.Hindrances.{never_gone, never_wrong, never_lacking, never_held}
+use Rattle.pod_gc.specs.Hindrances.{IsUnhinderedThroughout}
+use Rattle.pod_gc.proofs.Hindrances.{never_gone, never_wrong, never_lacking, never_held}
 use Rattle.command_outcomes.specs.declared.refusal.Refusal.{Refusal}
 use Rattle.command_outcomes.specs.declared.refusal.Refusal.TheVariants.{NoPod, WrongPhase, NoManifest, PodBusy, DirFault, Stray, NoMemory}
 use Rattle.command_outcomes.specs.Moments.{DirSeen, Outcome}

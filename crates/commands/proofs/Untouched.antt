@@ -20,7 +20,7 @@ use Rattle.dir_model.specs.State.{Namespace, DirState, spot_eq, folder_at}
 use Rattle.dir_model.specs.Trace.{state_next, namespace_replied}
 use Rattle.dir_model.specs.Trees.{items_in}
 use Rattle.dir_model.proofs.Lists.{and_left, and_right}
-use Rattle.area_locks.specs.AreaLocks.{takes, closes}
+use Rattle.dir_files.specs.AreaLocks.{takes, closes}
 use Rattle.lifecycle.proofs.Places.{moved_elsewhere, removed_elsewhere}
 use Rattle.phase_read.specs.Read.{pod_spot}
 use Rattle.pod_gc.specs.Requests.{lists, lists_marks, deals_with}

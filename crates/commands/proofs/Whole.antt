@@ -13,9 +13,9 @@ use Rattle.dir_model.specs.declared.spot.Mode.TheVariants.{Shared}
 use Rattle.dir_model.specs.Calls.{event, Extends}
 use Rattle.dir_model.proofs.Moments.{at_after, at_before}
 use Rattle.dir_trait.specs.DirCalls.{DirAt, ExtendsBy, HeldBetween}
-use Rattle.area_locks.specs.AreaLocks.{IsFreeElsewhere}
+use Rattle.dir_files.specs.AreaLocks.{IsFreeElsewhere}
 use Rattle.pod_manifest.specs.Wishes.{Wishes}
-use Rattle.pod_making.specs.Requests.{pod_at}
+use Rattle.pod_build.specs.MakingRequests.{pod_at}
 use Rattle.pod_build.specs.declared.error.BuildError.{BuildError}
 use Rattle.pod_build.specs.Causes.{IsPartOf, IsRefused, IsMadeByPlan, FindsImagesFree}
 use Rattle.pod_build.specs.Preparations.{IsPrepared}

@@ -6,8 +6,8 @@ use Rattle.std.proofs.lemmas.Option.{get_or_from_slice_get, slice_get_within}
 use Rattle.ac_types.specs.declared.image_ref.ImageRef.{ImageRef}
 use Rattle.ac_types.specs.References.{reference}
 use Rattle.dep_match.specs.declared.stored.Stored.{Stored}
-use Rattle.pod_choice.specs.Choices.{IsUnmatched}
-use Rattle.pod_choice.proofs.Mapped.{mapped_length}
+use Rattle.pod_plan.specs.Choices.{IsUnmatched}
+use Rattle.pod_plan.proofs.Mapped.{mapped_length}
 use Rattle.commands.specs.References.{AreReferences}
 
 -- one word more

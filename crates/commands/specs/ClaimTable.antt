@@ -8,10 +8,10 @@ use Rattle.dir_trait.specs.State.{DirState, folder_at}
 use Rattle.phase_read.specs.declared.found.Found.{Found}
 use Rattle.phase_read.specs.declared.found.Found.TheVariants.{At, Gone}
 use Rattle.phase_read.specs.Sequential.{sequential_read}
-use Rattle.pod_claim.specs.declared.error.ClaimError.{ClaimError}
-use Rattle.pod_claim.specs.declared.error.ClaimError.TheVariants.{NoPod, WrongPhase, NoManifest, Busy}
-use Rattle.pod_claim.specs.Causes.{is_prepared}
-use Rattle.pod_claim.specs.Requests.{in_prepared}
+use Rattle.pod_locks.specs.declared.claim_error.ClaimError.{ClaimError}
+use Rattle.pod_locks.specs.declared.claim_error.ClaimError.TheVariants.{NoPod, WrongPhase, NoManifest, Busy}
+use Rattle.pod_locks.specs.ClaimCauses.{is_prepared}
+use Rattle.pod_locks.specs.ClaimRequests.{in_prepared}
 use Rattle.commands.specs.RemovalTable.{is_held_at, has_manifest}
 
 -- of a prepared pod: it has no manifest, or another process holds its activation lock, or its own

@@ -10,10 +10,10 @@ use Rattle.dir_model.specs.Pods.{pod_text}
 use Rattle.dir_rules.specs.declared.seen.Seen.{Seen}
 use Rattle.dir_trait.specs.DirCalls.{DirAt}
 use Rattle.dir_trait.specs.Knowledge.{Knows}
-use Rattle.pod_steps.specs.Causes.{WasStray}
+use Rattle.pod_locks.specs.Causes.{WasStray}
 use Rattle.pod_gc.specs.declared.ages.Times.{Times}
-use Rattle.pod_gc.specs.declared.error.GcError.{GcError}
-use Rattle.pod_gc.specs.declared.error.GcError.TheVariants as error
+use Rattle.pod_gc.specs.declared.gc_error.GcError.{GcError}
+use Rattle.pod_gc.specs.declared.gc_error.GcError.TheVariants as error
 use Rattle.pod_gc.specs.declared.line.Deed.{Deed}
 use Rattle.pod_gc.specs.declared.line.Deed.TheVariants.{Moved, Deleted, Kept, Busy, BusyGate, Left}
 use Rattle.pod_gc.specs.declared.line.GcLine.{GcLine}

@@ -11,7 +11,7 @@ use Rattle.dir_model.specs.declared.spot.Mode.TheVariants.{Exclusive}
 use Rattle.dir_model.specs.Pods.{pod_of}
 use Rattle.dir_trait.specs.State.{DirState, stands}
 use Rattle.dir_rules.specs.Standing.{is_in}
-use Rattle.area_locks.specs.AreaLocks.{is_busy_elsewhere}
+use Rattle.dir_files.specs.AreaLocks.{is_busy_elsewhere}
 use Rattle.phase_read.specs.Read.{pod_spot}
 use Rattle.pod_gc.specs.declared.ages.Times.{Times}
 use Rattle.pod_gc.specs.declared.line.Deed.{Deed}

@@ -11,7 +11,7 @@ use Rattle.dir_rules.specs.Standing.{is_in}
 use Rattle.dir_trait.specs.Knowledge.{Knows}
 use Rattle.dir_trait.specs.State.{DirState, folder_at}
 use Rattle.dir_trait.specs.Trace.{state_after}
-use Rattle.area_locks.specs.AreaLocks.{IsBusyElsewhere}
+use Rattle.dir_files.specs.AreaLocks.{IsBusyElsewhere}
 use Rattle.image_removal.specs.declared.pass.SweepLine.{SweepLine}
 use Rattle.image_removal.specs.declared.pass.SweepLine.TheVariants.{Moved, Deleted, BusyGate}
 use Rattle.image_removal.specs.Causes.{WasStray}

@@ -17,7 +17,7 @@ use Rattle.dir_trait.specs.DirCalls.{HeldBetween}
 use Rattle.dir_trait.specs.Knowledge.{Knows}
 use Rattle.dir_trait.specs.State.{DirState, folder_at, is_owned, spot_eq}
 use Rattle.dir_trait.specs.Trace.{state_after}
-use Rattle.area_locks.specs.AreaLocks.{IsBusyElsewhere}
+use Rattle.dir_files.specs.AreaLocks.{IsBusyElsewhere}
 use Rattle.lifecycle.specs.Executions.{IsConforming}
 use Rattle.folder_contents.specs.Entries.{entries_in}
 use Rattle.bundle_image.specs.declared.image.BundleImage.{BundleImage}

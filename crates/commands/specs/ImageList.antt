@@ -12,9 +12,9 @@ use Rattle.dir_trait.specs.State.{DirState}
 use Rattle.dir_trait.specs.Trace.{state_after}
 use Rattle.dir_trait.specs.DirCalls.{HeldBetween}
 use Rattle.dir_trait.specs.Knowledge.{Knows}
-use Rattle.area_locks.specs.AreaLocks.{takes, is_free_of, IsBusyElsewhere, IsFreeElsewhere}
-use Rattle.area_locks.specs.declared.error.LockError.{LockError}
-use Rattle.area_locks.specs.declared.error.LockError.TheVariants as lock_error
+use Rattle.dir_files.specs.AreaLocks.{takes, is_free_of, IsBusyElsewhere, IsFreeElsewhere}
+use Rattle.dir_files.specs.declared.lock_error.LockError.{LockError}
+use Rattle.dir_files.specs.declared.lock_error.LockError.TheVariants as lock_error
 use Rattle.image_reading.specs.declared.error.StoreError.{StoreError}
 use Rattle.image_reading.specs.declared.error.StoreError.TheVariants as store_error
 use Rattle.image_reading.specs.Looks.{reads_images}

@@ -12,7 +12,7 @@ use Rattle.dir_rules.specs.declared.seen.Seen.{Seen}
 use Rattle.dir_trait.specs.Knowledge.{Knows}
 use Rattle.dir_trait.specs.State.{folder_at, spot_eq}
 use Rattle.dir_trait.specs.Trace.{state_after}
-use Rattle.area_locks.specs.AreaLocks.{takes, IsBusyElsewhere}
+use Rattle.dir_files.specs.AreaLocks.{takes, IsBusyElsewhere}
 use Rattle.image_reading.specs.declared.error.StoreError.{StoreError}
 use Rattle.image_reading.specs.declared.error.StoreError.TheVariants as store_error
 use Rattle.image_reading.specs.Places.{image_spot, IsAbsent}

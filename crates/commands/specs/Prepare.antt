@@ -20,11 +20,11 @@ use Rattle.dir_rules.specs.Conforms.{IsTied}
 use Rattle.dir_rules.specs.Standing.{is_in}
 use Rattle.dir_trait.specs.DirCalls.{DirAt, DirCall, HeldBetween}
 use Rattle.dir_trait.specs.Knowledge.{Knows}
-use Rattle.area_locks.specs.AreaLocks.{IsBusyElsewhere}
+use Rattle.dir_files.specs.AreaLocks.{IsBusyElsewhere}
 use Rattle.folder_building.specs.Work.{either}
 use Rattle.lifecycle.specs.Executions.{IsConforming}
-use Rattle.pod_making.specs.Progress.{Progress, at_work, handed}
-use Rattle.pod_making.specs.Work.{IsOwnFolder, HasOwnFolder}
+use Rattle.pod_build.specs.Progress.{Progress, at_work, handed}
+use Rattle.pod_build.specs.Work.{IsOwnFolder, HasOwnFolder}
 use Rattle.pod_build.specs.declared.error.BuildError.{BuildError}
 use Rattle.pod_build.specs.Requests.{prepares}
 use Rattle.pod_build.specs.Causes.{IsRefused, IsMadeByPlan, FindsImagesFree}

@@ -10,9 +10,9 @@ use Rattle.dir_model.specs.declared.event.Event.{Event}
 use Rattle.dir_trait.specs.State.{DirState, folder_at, spot_eq}
 use Rattle.folder_contents.specs.Entries.{entries_in}
 use Rattle.dir_trait.specs.Trace.{state_after}
-use Rattle.area_locks.specs.AreaLocks.{IsBusyElsewhere, IsFreeElsewhere}
+use Rattle.dir_files.specs.AreaLocks.{IsBusyElsewhere, IsFreeElsewhere}
 use Rattle.lifecycle.specs.Executions.{IsConforming}
-use Rattle.pod_making.specs.Requests.{pod_at}
+use Rattle.pod_build.specs.MakingRequests.{pod_at}
 use Rattle.command_outcomes.specs.declared.refusal.Refusal.TheVariants.{Busy, DirFault, Stray, NoMemory}
 use Rattle.command_outcomes.specs.Moments.{DirSeen, Outcome}
 use Rattle.pod_build.specs.Preparations.{IsPrepared}

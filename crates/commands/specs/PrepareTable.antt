@@ -12,7 +12,7 @@ use Rattle.dir_model.specs.declared.area.Area.TheVariants.{Embryo, Images}
 use Rattle.dir_model.specs.declared.pod.PodId.{PodId}
 use Rattle.dir_model.specs.declared.spot.Mode.TheVariants.{Shared}
 use Rattle.dir_trait.specs.State.{DirState, folder_at}
-use Rattle.area_locks.specs.AreaLocks.{IsBusyElsewhere, IsFreeElsewhere}
+use Rattle.dir_files.specs.AreaLocks.{IsBusyElsewhere, IsFreeElsewhere}
 use Rattle.dir_files.specs.Reads.{file_at}
 use Rattle.image_reading.specs.Places.{IsPresent, image_inner, stored_path, tree_name}
 use Rattle.image_reading.specs.Files.{IsListingOf}
@@ -22,13 +22,13 @@ use Rattle.path_map.specs.declared.entry.Meta.{Meta}
 use Rattle.path_map.specs.Entries.{Entries, entry_at}
 use Rattle.pod_build.specs.declared.error.BuildError.{BuildError}
 use Rattle.pod_build.specs.declared.error.BuildError.TheVariants as build
-use Rattle.pod_choice.specs.declared.choice.Choice.{Choice}
-use Rattle.pod_choice.specs.declared.error.ChoiceError.{ChoiceError}
-use Rattle.pod_choice.specs.declared.error.ChoiceError.TheVariants as choice
-use Rattle.pod_choice.specs.Choices.{IsChoice, IsRefused}
-use Rattle.pod_making.specs.Requests.{pod_at}
+use Rattle.pod_plan.specs.declared.choice.Choice.{Choice}
+use Rattle.pod_plan.specs.declared.choice_error.ChoiceError.{ChoiceError}
+use Rattle.pod_plan.specs.declared.choice_error.ChoiceError.TheVariants as choice
+use Rattle.pod_plan.specs.Choices.{IsChoice, IsRefused}
+use Rattle.pod_build.specs.MakingRequests.{pod_at}
 use Rattle.pod_manifest.specs.Wishes.{Wishes}
-use Rattle.pod_reading.specs.Roots.{node_key, entries_together, AreFew}
+use Rattle.pod_plan.specs.Roots.{node_key, entries_together, AreFew}
 use Rattle.render.specs.Assembly.{own_whitelist, IsAssembly}
 use Rattle.render.specs.Layers.{source_at}
 use Rattle.render.specs.Orders.{all_down}

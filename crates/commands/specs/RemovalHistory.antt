@@ -5,7 +5,7 @@ use Rattle.dir_model.specs.declared.event.Event.{Event}
 use Rattle.dir_model.specs.declared.pod.PodId.{PodId}
 use Rattle.dir_model.specs.Pods.{pod_text}
 use Rattle.lifecycle.specs.PodMachine.{pod_state, exists}
-use Rattle.pod_claim.specs.Work.{Grew}
+use Rattle.pod_locks.specs.Work.{Grew}
 use Rattle.pod_gc.specs.declared.ages.Times.{Times}
 use Rattle.pod_gc.specs.declared.line.Deed.TheVariants.{Deleted}
 use Rattle.pod_gc.specs.declared.line.GcLine.{GcLine}

@@ -18,7 +18,7 @@ use Rattle.dir_model.specs.Pods.{pod_text, pod_of}
 use Rattle.dir_trait.specs.State.{DirState, stands, folder_at}
 use Rattle.dir_trait.specs.Trace.{state_after}
 use Rattle.dir_rules.specs.Standing.{is_in}
-use Rattle.area_locks.specs.AreaLocks.{IsBusyElsewhere}
+use Rattle.dir_files.specs.AreaLocks.{IsBusyElsewhere}
 use Rattle.lifecycle.specs.declared.machine.PodState.TheVariants.{Gone}
 use Rattle.lifecycle.specs.PodMachine.{pod_state}
 use Rattle.lifecycle.specs.Executions.{IsConforming}
@@ -26,15 +26,15 @@ use Rattle.phase_read.specs.declared.found.Found.TheVariants.{At}
 use Rattle.phase_read.specs.Exact.{IsInPhase}
 use Rattle.phase_read.specs.Read.{pod_spot, is_pod_spot}
 use Rattle.phase_read.specs.Sequential.{sequential_read}
-use Rattle.pod_claim.specs.Causes.{LacksManifest}
-use Rattle.pod_steps.specs.Causes.{is_held_against}
-use Rattle.pod_removal.specs.Requests.{is_removable, is_garbage_place}
+use Rattle.pod_locks.specs.ClaimCauses.{LacksManifest}
+use Rattle.pod_locks.specs.Causes.{is_held_against}
+use Rattle.pod_gc.specs.RemovalRequests.{is_removable, is_garbage_place}
 use Rattle.pod_gc.specs.declared.ages.Times.{Times}
 use Rattle.pod_gc.specs.declared.line.Deed.{Deed}
 use Rattle.pod_gc.specs.declared.line.Deed.TheVariants.{Moved, Deleted, Kept, Busy, BusyGate, Left}
 use Rattle.pod_gc.specs.declared.line.GcLine.{GcLine}
 use Rattle.pod_gc.specs.Deeds.{refused_lock}
-use Rattle.pod_gc.specs.Marks.{is_young, is_ripe}
+use Rattle.pod_gc.specs.Ages.{is_young, is_ripe}
 use Rattle.pod_gc.specs.Requests.{goes_to, moves_pods, lets_be, may_be_busy}
 use Rattle.command_outcomes.specs.declared.refusal.Refusal.TheVariants.{NoPod, WrongPhase, NoManifest, PodBusy, Stray}
 use Rattle.command_outcomes.specs.Meanwhile.{Meanwhile}

@@ -18,13 +18,13 @@ use Rattle.phase_read.specs.declared.found.Found.{Found}
 use Rattle.phase_read.specs.declared.found.Found.TheVariants.{At, Gone}
 use Rattle.phase_read.specs.Read.{pod_spot}
 use Rattle.phase_read.specs.Sequential.{sequential_read}
-use Rattle.pod_steps.specs.Causes.{is_held_against}
-use Rattle.pod_removal.specs.Requests.{is_removable}
+use Rattle.pod_locks.specs.Causes.{is_held_against}
+use Rattle.pod_gc.specs.RemovalRequests.{is_removable}
 use Rattle.pod_gc.specs.declared.ages.Times.{Times}
 use Rattle.pod_gc.specs.declared.line.Deed.{Deed}
 use Rattle.pod_gc.specs.declared.line.Deed.TheVariants.{Moved, Deleted, Kept, Busy, Left}
 use Rattle.pod_gc.specs.declared.line.GcLine.{GcLine}
-use Rattle.pod_gc.specs.Marks.{moment_among, is_young, is_ripe}
+use Rattle.pod_gc.specs.Ages.{moment_among, is_young, is_ripe}
 use Rattle.command_outcomes.specs.declared.refusal.Refusal.{Refusal}
 use Rattle.command_outcomes.specs.declared.refusal.Refusal.TheVariants.{NoPod, WrongPhase, NoManifest, PodBusy}
 

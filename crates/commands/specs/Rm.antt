@@ -11,16 +11,16 @@ use Rattle.dir_rules.specs.declared.seen.Seen.{Seen}
 use Rattle.dir_trait.specs.Knowledge.{Knows}
 use Rattle.lifecycle.specs.Executions.{IsConforming}
 use Rattle.phase_read.specs.Exact.{AtOwnEvent}
-use Rattle.pod_claim.specs.Causes.{LacksManifest}
-use Rattle.pod_claim.specs.Elsewhere.{is_owned_phase, IsOwnedElsewhere}
-use Rattle.pod_steps.specs.Causes.{WasStray}
-use Rattle.pod_removal.specs.declared.error.RemoveError.{RemoveError}
-use Rattle.pod_removal.specs.declared.error.RemoveError.TheVariants as error
-use Rattle.pod_removal.specs.Causes.{IsBusyAt, IsDeleted}
-use Rattle.pod_removal.specs.Holding.{MayRemovePod}
-use Rattle.pod_removal.specs.Hindrances.{IsUnhinderedThroughout}
-use Rattle.pod_removal.specs.Removals.{FoundNone, FoundThenEnded, MissedTimes, WasWrong}
-use Rattle.pod_removal.specs.Found.{TakenAway, WasRefused, FirstOrMissed}
+use Rattle.pod_locks.specs.ClaimCauses.{LacksManifest}
+use Rattle.pod_locks.specs.Elsewhere.{is_owned_phase, IsOwnedElsewhere}
+use Rattle.pod_locks.specs.Causes.{WasStray}
+use Rattle.pod_gc.specs.declared.remove_error.RemoveError.{RemoveError}
+use Rattle.pod_gc.specs.declared.remove_error.RemoveError.TheVariants as error
+use Rattle.pod_gc.specs.RemovalCauses.{IsBusyAt, IsDeleted}
+use Rattle.pod_gc.specs.RemovalHolding.{MayRemovePod}
+use Rattle.pod_gc.specs.Hindrances.{IsUnhinderedThroughout}
+use Rattle.pod_gc.specs.Removals.{FoundNone, FoundThenEnded, MissedTimes, WasWrong}
+use Rattle.pod_gc.specs.Found.{TakenAway, WasRefused, FirstOrMissed}
 use Rattle.command_outcomes.specs.declared.refusal.Refusal.{Refusal}
 use Rattle.command_outcomes.specs.declared.refusal.Refusal.TheVariants.{NoPod, WrongPhase, NoManifest, PodBusy, DirFault, Stray, NoMemory}
 use Rattle.command_outcomes.specs.Texts.{named_line}

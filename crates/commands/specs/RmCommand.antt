@@ -4,8 +4,8 @@ use Rattle.std.specs.List.{list_any}
 use Rattle.dir_model.specs.declared.intent.Kind.TheVariants as kind
 use Rattle.dir_model.specs.declared.pod.PodId.{PodId}
 use Rattle.phase_read.specs.Read.{is_pod_spot}
-use Rattle.pod_removal.specs.Hindrances.{IsUnhinderedThroughout}
-use Rattle.pod_removal.specs.Requests.{removes}
+use Rattle.pod_gc.specs.Hindrances.{IsUnhinderedThroughout}
+use Rattle.pod_gc.specs.RemovalRequests.{removes}
 use Rattle.command_outcomes.specs.declared.refusal.Refusal.{Refusal}
 use Rattle.command_outcomes.specs.declared.refusal.Refusal.TheVariants.{NoPod, WrongPhase, NoManifest, PodBusy, Stray}
 use Rattle.command_outcomes.specs.Moments.{DirSeen, Moment}

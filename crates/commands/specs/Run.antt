@@ -11,11 +11,11 @@ use Rattle.dir_trait.specs.Knowledge.{Knows}
 use Rattle.spawner.specs.Calls.{SpawnerAt}
 use Rattle.folder_building.specs.Work.{either}
 use Rattle.lifecycle.specs.Executions.{IsConforming}
-use Rattle.pod_ownership.specs.declared.owned.Owned.{Owned}
-use Rattle.pod_ownership.specs.Running.{IsOwned}
-use Rattle.pod_making.specs.Progress.{nothing_made, at_work, own_held}
-use Rattle.pod_claim.specs.Work.{Grew}
-use Rattle.pod_making.specs.Work.{From, HasOwnFolder}
+use Rattle.pod_locks.specs.declared.owned.Owned.{Owned}
+use Rattle.pod_locks.specs.Running.{IsOwned}
+use Rattle.pod_build.specs.Progress.{nothing_made, at_work, own_held}
+use Rattle.pod_locks.specs.Work.{Grew}
+use Rattle.pod_build.specs.Work.{From, HasOwnFolder}
 use Rattle.pod_build.specs.declared.error.BuildError.{BuildError}
 use Rattle.pod_build.specs.Requests.{prepares}
 use Rattle.pod_build.specs.Causes.{IsRefused, IsHeldElsewhere, IsMadeByPlan, FindsImagesFree}

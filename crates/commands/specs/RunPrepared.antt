@@ -7,16 +7,16 @@ use Rattle.dir_trait.specs.DirCalls.{DirAt, ExtendsBy}
 use Rattle.dir_trait.specs.Knowledge.{Knows}
 use Rattle.spawner.specs.Calls.{SpawnerAt}
 use Rattle.folder_building.specs.Work.{either}
-use Rattle.pod_ownership.specs.declared.owned.Owned.{Owned}
-use Rattle.pod_ownership.specs.Running.{IsOwned}
-use Rattle.pod_claim.specs.declared.error.ClaimError.{ClaimError}
-use Rattle.pod_claim.specs.Requests.{claims}
-use Rattle.pod_claim.specs.Causes.{ClaimCause, HadBothAlone}
+use Rattle.pod_locks.specs.declared.owned.Owned.{Owned}
+use Rattle.pod_locks.specs.Running.{IsOwned}
+use Rattle.pod_locks.specs.declared.claim_error.ClaimError.{ClaimError}
+use Rattle.pod_locks.specs.ClaimRequests.{claims}
+use Rattle.pod_locks.specs.ClaimCauses.{ClaimCause, HadBothAlone}
 use Rattle.lifecycle.specs.Executions.{IsConforming}
-use Rattle.pod_claim.specs.Claims.{RefusedByAnother, IsFreeThroughout, IsFailure}
-use Rattle.pod_claim.specs.Elsewhere.{MetOwner}
-use Rattle.pod_claim.specs.Holding.{MayClaim}
-use Rattle.pod_claim.specs.Work.{Grew, Leaves, MovedNothing, TookBoth}
+use Rattle.pod_locks.specs.Claims.{RefusedByAnother, IsFreeThroughout, IsFailure}
+use Rattle.pod_locks.specs.Elsewhere.{MetOwner}
+use Rattle.pod_locks.specs.ClaimHolding.{MayClaim}
+use Rattle.pod_locks.specs.Work.{Grew, Leaves, MovedNothing, TookBoth}
 use Rattle.stage1.specs.Runs.{runs_pod}
 use Rattle.command_outcomes.specs.Moments.{Answer, Inside}
 use Rattle.commands.specs.RunRefusals.{claim_refusal}

@@ -7,8 +7,8 @@ use Rattle.dir_model.specs.declared.intent.Kind.TheVariants as kind
 use Rattle.dir_model.specs.declared.pod.PodId.{PodId}
 use Rattle.lifecycle.specs.Executions.{IsConforming}
 use Rattle.phase_read.specs.Read.{is_pod_spot}
-use Rattle.pod_claim.specs.Claims.{IsFreeThroughout}
-use Rattle.pod_claim.specs.declared.error.ClaimError.{ClaimError}
+use Rattle.pod_locks.specs.Claims.{IsFreeThroughout}
+use Rattle.pod_locks.specs.declared.claim_error.ClaimError.{ClaimError}
 use Rattle.stage1.specs.declared.end.AppEnd.{AppEnd}
 use Rattle.command_outcomes.specs.declared.refusal.Refusal.{Refusal}
 use Rattle.command_outcomes.specs.declared.refusal.Refusal.TheVariants.{NoMemory}

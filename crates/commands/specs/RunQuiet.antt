@@ -20,16 +20,16 @@ use Rattle.lifecycle.specs.Executions.{IsConforming}
 use Rattle.phase_read.specs.declared.found.Found.TheVariants.{At}
 use Rattle.phase_read.specs.Exact.{IsInPhase}
 use Rattle.phase_read.specs.Sequential.{sequential_read}
-use Rattle.area_locks.specs.AreaLocks.{IsBusyElsewhere, IsFreeElsewhere}
+use Rattle.dir_files.specs.AreaLocks.{IsBusyElsewhere, IsFreeElsewhere}
 use Rattle.command_outcomes.specs.declared.refusal.Refusal.{Refusal}
 use Rattle.command_outcomes.specs.declared.refusal.Refusal.TheVariants.{Busy, Stray}
 use Rattle.command_outcomes.specs.Moments.{DirSeen}
 use Rattle.pod_build.specs.Preparations.{IsPrepared}
 use Rattle.pod_manifest.specs.Wishes.{Wishes}
-use Rattle.pod_claim.specs.declared.error.ClaimError.{ClaimError}
-use Rattle.pod_claim.specs.declared.error.ClaimError.TheVariants as claim
-use Rattle.pod_claim.specs.Causes.{LacksManifest, is_held_elsewhere}
-use Rattle.pod_claim.specs.Requests.{in_prepared, in_run}
+use Rattle.pod_locks.specs.declared.claim_error.ClaimError.{ClaimError}
+use Rattle.pod_locks.specs.declared.claim_error.ClaimError.TheVariants as claim
+use Rattle.pod_locks.specs.ClaimCauses.{LacksManifest, is_held_elsewhere}
+use Rattle.pod_locks.specs.ClaimRequests.{in_prepared, in_run}
 use Rattle.commands.specs.ClaimTable.{claim_error, IsWhy}
 use Rattle.commands.specs.References.{OfReferences}
 use Rattle.commands.specs.Prepare.{RefusesPod, HasKeptFolder}

@@ -1,8 +1,8 @@
 -- What is said of a pod that isn't run.
 use Rattle.std.specs.Prelude.{◌≡◌, ◌⊎◌, Bool, true}
 use Rattle.dir_model.specs.declared.pod.PodId.{PodId}
-use Rattle.pod_claim.specs.declared.error.ClaimError.{ClaimError}
-use Rattle.pod_claim.specs.declared.error.ClaimError.TheVariants as claim
+use Rattle.pod_locks.specs.declared.claim_error.ClaimError.{ClaimError}
+use Rattle.pod_locks.specs.declared.claim_error.ClaimError.TheVariants as claim
 use Rattle.stage1.specs.declared.error.RunError.{RunError}
 use Rattle.stage1.specs.declared.error.RunError.TheVariants as run
 use Rattle.command_outcomes.specs.declared.refusal.Refusal.{Refusal}

@@ -12,10 +12,10 @@ use Rattle.lifecycle.specs.Executions.{IsConforming}
 use Rattle.manifests.specs.PodData.{PodData, RuntimeAppData}
 use Rattle.path_map.specs.Entries.{Tree, entry_at}
 use Rattle.pod_files.specs.Files.{IsManifestOf, IsTokenOf}
-use Rattle.pod_launches.specs.declared.error.LoadError.{LoadError}
-use Rattle.pod_launches.specs.declared.error.LoadError.TheVariants.{NoManifest, Damaged, NoProgram}
-use Rattle.pod_launches.specs.declared.start.AppStart.{AppStart}
-use Rattle.pod_launches.specs.Places.{manifest_name, token_name, tree_path, told_path, root_of}
+use Rattle.stage1.specs.declared.load_error.LoadError.{LoadError}
+use Rattle.stage1.specs.declared.load_error.LoadError.TheVariants.{NoManifest, Damaged, NoProgram}
+use Rattle.stage1.specs.declared.start.AppStart.{AppStart}
+use Rattle.stage1.specs.AppPlaces.{manifest_name, token_name, tree_path, told_path, root_of}
 use Rattle.stage1.specs.declared.end.AppEnd.{AppEnd}
 use Rattle.stage1.specs.declared.error.RunError.{RunError}
 use Rattle.stage1.specs.declared.error.RunError.TheVariants as run

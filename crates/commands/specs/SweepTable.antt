@@ -8,7 +8,7 @@ use Rattle.dir_model.specs.declared.area.Area.TheVariants.{Incoming, Removed}
 use Rattle.dir_model.specs.declared.spot.Mode.TheVariants.{Exclusive}
 use Rattle.dir_model.specs.Listings.{has_name}
 use Rattle.dir_trait.specs.State.{DirState, stands}
-use Rattle.area_locks.specs.AreaLocks.{is_busy_elsewhere}
+use Rattle.dir_files.specs.AreaLocks.{is_busy_elsewhere}
 use Rattle.image_removal.specs.declared.pass.Pass.{Pass}
 use Rattle.image_removal.specs.declared.pass.Pass.TheVariants.{PutAway, Delete}
 use Rattle.image_removal.specs.declared.pass.SweepLine.{SweepLine}

@@ -3,7 +3,7 @@ ghost use Rattle.std.specs.Prelude.{◌≡◌, ◌⊎◌, ◌++◌, true, Ok, Er
 ghost use Rattle.dir_model.specs.Causes.{Rose};
 ghost use Rattle.dir_trait.specs.Local.{IsActive};
 ghost use Rattle.folder_building.specs.Work.{Worked};
-ghost use Rattle.pod_steps.specs.Holding.{KeepsReady, Stays};
+ghost use Rattle.pod_locks.specs.Holding.{KeepsReady, Stays};
 ghost use Rattle.pod_gc.specs.Requests.{sweeps};
 ghost use Rattle.pod_gc.specs.Sweeping.{MaySweepAll};
 ghost use Rattle.command_outcomes.specs.Moments.{dir_at};

@@ -5,14 +5,14 @@ ghost use Rattle.dir_trait.specs.Causes.{Rose};
 ghost use Rattle.dir_trait.specs.DirCalls.{ExtendsBy};
 ghost use Rattle.dir_trait.specs.Knowledge.{Knows};
 ghost use Rattle.dir_trait.specs.Local.{IsActive};
-ghost use Rattle.area_locks.specs.AreaLocks.{is_free_of};
+ghost use Rattle.dir_files.specs.AreaLocks.{is_free_of};
 ghost use Rattle.image_reading.specs.Refusals.{IsReadRefusal};
 ghost use Rattle.image_reading.specs.Store.{IsStorePath};
 ghost use Rattle.commands.specs.ImageList.{image_text, images_text, image_list_refusal, lists_images, lock_refusal, store_refusal, ImageListSays};
 ghost use Rattle.command_outcomes.specs.Moments.{dir_at};
 
 use ac_types::NoMemory;
-use area_locks::{LockError, lock_area, unlock_area};
+use dir_files::{LockError, lock_area, unlock_area};
 use command_outcomes::{Output, Refusal};
 use dep_match::Stored;
 use dir_trait::{Area, Dir, Mode};

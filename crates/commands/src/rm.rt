@@ -4,9 +4,9 @@ ghost use Rattle.dir_model.specs.Causes.{Rose};
 ghost use Rattle.dir_trait.specs.Local.{IsActive, has_own_open};
 ghost use Rattle.dir_trait.specs.Pods.{pod_text};
 ghost use Rattle.folder_building.specs.Work.{Worked};
-ghost use Rattle.pod_steps.specs.Holding.{KeepsReady, Stays};
-ghost use Rattle.pod_removal.specs.Holding.{MayRemovePod};
-ghost use Rattle.pod_removal.specs.Requests.{removes};
+ghost use Rattle.pod_locks.specs.Holding.{KeepsReady, Stays};
+ghost use Rattle.pod_gc.specs.RemovalHolding.{MayRemovePod};
+ghost use Rattle.pod_gc.specs.RemovalRequests.{removes};
 ghost use Rattle.command_outcomes.specs.Moments.{dir_at};
 ghost use Rattle.commands.specs.Kept.{KeepsRefused};
 ghost use Rattle.commands.specs.Rm.{removed_text, remove_refusal, rm_refusal, RmSays, WhereRemoving, FailsAlone};
@@ -14,7 +14,7 @@ ghost use Rattle.commands.specs.Rm.{removed_text, remove_refusal, rm_refusal, Rm
 use ac_types::NoMemory;
 use command_outcomes::{Output, Refusal};
 use dir_trait::{Dir, PodId};
-use pod_removal::{RemoveError, remove_pod};
+use pod_gc::{RemoveError, remove_pod};
 use std::alloc::Global;
 
 fn removed_line(alloc: Global, pod: PodId) -> Result<Output, NoMemory>

@@ -19,7 +19,7 @@ use crate::wanted::Wanted;
 use command_outcomes::{Output, Refusal, Told};
 use dir_trait::{Dir, Draw};
 use pod_build::{Built, prepare};
-use pod_ownership::Owned;
+use pod_locks::Owned;
 use spawner::Spawner;
 use std::alloc::Global;
 

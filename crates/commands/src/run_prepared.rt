@@ -14,7 +14,7 @@ use crate::run_refusals::claim_refusal;
 use crate::running::run_owned;
 use command_outcomes::{Output, Refusal, Told};
 use dir_trait::{Dir, PodId};
-use pod_claim::claim;
+use pod_locks::claim;
 use spawner::Spawner;
 use std::alloc::Global;
 

@@ -5,7 +5,7 @@ ghost use Rattle.commands.specs.RunRefusals.{claim_refusal, run_refusal, IsRunSa
 use ac_types::{NoMemory, Text};
 use command_outcomes::Refusal;
 use dir_trait::PodId;
-use pod_claim::ClaimError;
+use pod_locks::ClaimError;
 use stage1::RunError;
 use std::alloc::Global;
 

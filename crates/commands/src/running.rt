@@ -2,7 +2,7 @@
 ghost use Rattle.std.specs.Prelude.{◌≡◌, ◌≤◌, true, IfErr, IsErrOf};
 ghost use Rattle.dir_model.specs.Causes.{Rose};
 ghost use Rattle.dir_trait.specs.Local.{IsActive, IsOpen, without};
-ghost use Rattle.pod_ownership.specs.Running.{RunsPod};
+ghost use Rattle.pod_locks.specs.Running.{RunsPod};
 ghost use Rattle.stage1.specs.Runs.{Went, runs_and_closes};
 ghost use Rattle.stage1.specs.Keeping.{KeepsToEnd};
 ghost use Rattle.commands.specs.RunRefusals.{apps_refusal};
@@ -12,7 +12,7 @@ use crate::app_ends::tell;
 use crate::run_refusals::run_refusal;
 use command_outcomes::{Output, Refusal, Told};
 use dir_trait::Dir;
-use pod_ownership::Owned;
+use pod_locks::Owned;
 use spawner::Spawner;
 use stage1::run_pod;
 use std::alloc::Global;

@@ -8,7 +8,7 @@ ghost use Rattle.command_outcomes.specs.Moments.{bundle_at};
 ghost use Rattle.commands.specs.Validate.{validate_refusal, manifest_outcome, reading_refusal, IsRefusalOf, ValidateSays, ReadsFile};
 
 use ac_types::{ReadError, Text};
-use bundle_read::read_file;
+use bundle_image::read_file;
 use command_outcomes::{Output, Refusal};
 use dir_trait::{Bundle, BundleError};
 use manifests::{Document, read_document};

@@ -2,3 +2,7 @@ mod Listings
 mod Fronts
 pub mod Reading
 pub mod Folders
+pub mod OwnHandles
+pub mod Opposed
+pub mod Gates
+pub mod Locking

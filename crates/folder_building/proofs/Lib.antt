@@ -7,3 +7,12 @@ pub mod Entries
 pub mod Filling
 pub mod Reading
 pub mod Stored
+pub mod Among
+mod Carries
+pub mod FilePaths
+pub mod Made
+mod Nexts
+mod Texts
+pub mod ImageMade
+pub mod Marks
+pub mod Images

@@ -4,3 +4,6 @@ pub mod Sources
 pub mod Stored
 pub mod Making
 pub mod Changes
+pub mod Materialized
+pub mod TreePlans
+pub mod ImagePlans

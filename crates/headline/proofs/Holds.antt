@@ -9,7 +9,7 @@ use Rattle.lifecycle.proofs.EveryPod.{transitions_are_enabled, stands_where_it_e
 use Rattle.lifecycle.proofs.Looking.{locks_tell_phases, misses_tell_gone}
 use Rattle.impossible_replies.proofs.Impossible.{none_impossible, foreign_are_apps}
 use Rattle.pod_build.specs.LegalExecutions.{IsLegal}
-use Rattle.pod_roots.proofs.Standing.{legal_before, makers_are, pods_stand, apps_start}
+use Rattle.headline.proofs.Standing.{legal_before, makers_are, pods_stand, apps_start}
 use Rattle.headline.specs.Headline.{Headline, HeadlineHolds, HasOneOwner}
 use Rattle.headline.specs.Keeping.{AllKeep}
 

@@ -22,9 +22,9 @@ use Rattle.dir_model.specs.Calls.{CallStep, Extends}
 use Rattle.dir_model.proofs.Allowed.{allowed_reply}
 use Rattle.dir_model.proofs.Moments.{missed, step_at}
 use Rattle.dir_trait.specs.DirCalls.{DirAt, DirCall, HeldBetween, ExtendsBy}
-use Rattle.area_locks.specs.declared.error.LockError.{LockError}
-use Rattle.area_locks.specs.declared.error.LockError.TheVariants as lock
-use Rattle.area_locks.specs.AreaLocks.{takes, IsBusy, IsBusyElsewhere}
+use Rattle.dir_files.specs.declared.lock_error.LockError.{LockError}
+use Rattle.dir_files.specs.declared.lock_error.LockError.TheVariants as lock
+use Rattle.dir_files.specs.AreaLocks.{takes, IsBusy, IsBusyElsewhere}
 use Rattle.folder_removal.specs.declared.error.DeleteError.{DeleteError}
 use Rattle.folder_removal.specs.declared.error.DeleteError.TheVariants as delete
 use Rattle.folder_removal.specs.Removal.{is_stray, EndsStray}

@@ -27,7 +27,7 @@ use Rattle.dir_trait.specs.DirCalls.{DirAt, DirCall}
 use Rattle.folder_building.specs.Work.{Worked, either}
 use Rattle.folder_building.proofs.Working.{worked_call}
 use Rattle.folder_removal.specs.Removal.{deletes_at, EndsRemoved}
-use Rattle.area_locks.specs.AreaLocks.{takes}
+use Rattle.dir_files.specs.AreaLocks.{takes}
 use Rattle.image_reading.specs.Places.{image_spot}
 use Rattle.image_removal.specs.Requests.{away_spot, puts_away, locks_one, looks_at, moves, deletes_away, removes_at}
 use Rattle.image_removal.specs.Calls.{Called}

@@ -9,7 +9,7 @@ use Rattle.dir_model.specs.declared.spot.Handle.{Handle}
 use Rattle.dir_model.specs.declared.spot.Mode.{Mode}
 use Rattle.dir_model.specs.declared.spot.Spot.{Spot}
 use Rattle.dir_model.specs.Calls.{Extends}
-use Rattle.area_locks.specs.AreaLocks.{takes, closes}
+use Rattle.dir_files.specs.AreaLocks.{takes, closes}
 use Rattle.folder_removal.specs.Removal.{removes_folder, KeptFolders}
 use Rattle.folder_removal.proofs.Keeping.{kept_by}
 use Rattle.image_removal.specs.Requests.{looks_at, moves}

@@ -32,7 +32,7 @@ use Rattle.dir_rules.proofs.Looks.{map_same, same_bytes, look_same}
 use Rattle.dir_trait.specs.DirCalls.{DirAt, DirCall}
 use Rattle.dir_trait.specs.Knowledge.{Knows}
 use Rattle.dir_trait.proofs.Knowing.{knows_call}
-use Rattle.area_locks.proofs.Locking.{number_is_new}
+use Rattle.dir_files.proofs.Locking.{number_is_new}
 use Rattle.folder_removal.specs.Known.{is_there, MayDelete, KnowsBut, KnowsDeleted, Deletes, OnlyTries}
 use Rattle.image_reading.specs.Places.{image_spot}
 use Rattle.image_removal.specs.Requests.{incoming_spot, removed_spot, away_spot, puts_away}

@@ -23,8 +23,8 @@ use Rattle.dir_rules.specs.declared.seen.ShownItem.{ShownItem}
 use Rattle.dir_rules.specs.Standing.{is_in, is_known, intends, began_as, is_image_rm, is_image_remover, is_gate_exclusive}
 use Rattle.dir_trait.specs.DirCalls.{DirAt, ExtendsBy}
 use Rattle.dir_trait.specs.Knowledge.{Knows}
-use Rattle.area_locks.specs.AreaLocks.{takes, closes, and_lock, with_gate, MayLock, exclusive_given, is_listed_under}
-use Rattle.area_locks.proofs.Locking.{unlocked_same}
+use Rattle.dir_files.specs.AreaLocks.{takes, closes, and_lock, with_gate, MayLock, exclusive_given, is_listed_under}
+use Rattle.dir_files.proofs.Locking.{unlocked_same}
 use Rattle.folder_building.specs.Work.{Worked}
 use Rattle.image_removal.specs.declared.pass.Pass.{Pass}
 use Rattle.image_removal.specs.declared.pass.Pass.TheVariants.{PutAway, Delete}

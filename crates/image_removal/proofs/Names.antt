@@ -9,7 +9,7 @@ use Rattle.dir_model.specs.declared.request.Reply.TheVariants.{Done}
 use Rattle.dir_model.proofs.Lists.{and_left, or_last, or_map, all_both, all_weaker}
 use Rattle.dir_rules.specs.Standing.{is_in}
 use Rattle.dir_trait.specs.DirCalls.{DirAt}
-use Rattle.area_locks.specs.AreaLocks.{takes}
+use Rattle.dir_files.specs.AreaLocks.{takes}
 use Rattle.image_removal.specs.declared.pass.Pass.{Pass}
 use Rattle.image_removal.specs.declared.pass.Pass.TheVariants.{PutAway, Delete}
 use Rattle.image_removal.specs.declared.pass.SweepLine.{SweepLine}

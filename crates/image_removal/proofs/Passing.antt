@@ -16,7 +16,7 @@ use Rattle.dir_model.specs.Calls.{Extends}
 use Rattle.dir_model.proofs.Chains.{nothing_yet, extends_wider}
 use Rattle.dir_trait.specs.DirCalls.{DirAt, HeldBetween, ListCall}
 use Rattle.dir_files.specs.Listed.{ShowsAreaBetween}
-use Rattle.area_locks.specs.AreaLocks.{takes, closes, IsFreeElsewhere}
+use Rattle.dir_files.specs.AreaLocks.{takes, closes, IsFreeElsewhere}
 use Rattle.folder_building.specs.Work.{Worked}
 use Rattle.image_reading.specs.declared.error.StoreError.{StoreError}
 use Rattle.image_reading.specs.declared.error.StoreError.TheVariants.{DirFault}

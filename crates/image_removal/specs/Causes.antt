@@ -16,9 +16,9 @@ use Rattle.dir_model.specs.Causes.{Rose}
 use Rattle.dir_model.specs.Calls.{CallStep, Extends, AtOwnStep}
 use Rattle.dir_rules.specs.Rules.{root_of}
 use Rattle.dir_trait.specs.DirCalls.{DirAt, HeldBetween, ExtendsBy}
-use Rattle.area_locks.specs.declared.error.LockError.{LockError}
-use Rattle.area_locks.specs.declared.error.LockError.TheVariants as lock
-use Rattle.area_locks.specs.AreaLocks.{takes, IsBusy, IsBusyElsewhere}
+use Rattle.dir_files.specs.declared.lock_error.LockError.{LockError}
+use Rattle.dir_files.specs.declared.lock_error.LockError.TheVariants as lock
+use Rattle.dir_files.specs.AreaLocks.{takes, IsBusy, IsBusyElsewhere}
 use Rattle.folder_removal.specs.declared.error.DeleteError.{DeleteError}
 use Rattle.folder_removal.specs.declared.error.DeleteError.TheVariants as delete
 use Rattle.folder_removal.specs.Removal.{WentUnremoved}

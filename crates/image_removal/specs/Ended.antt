@@ -9,7 +9,7 @@ use Rattle.dir_model.specs.Calls.{Extends}
 use Rattle.dir_model.specs.State.{DirState}
 use Rattle.dir_trait.specs.DirCalls.{DirAt}
 use Rattle.dir_files.specs.Listed.{ShowsArea}
-use Rattle.area_locks.specs.AreaLocks.{takes}
+use Rattle.dir_files.specs.AreaLocks.{takes}
 use Rattle.image_removal.specs.declared.pass.Pass.{Pass}
 use Rattle.image_removal.specs.declared.pass.Pass.TheVariants.{PutAway, Delete}
 use Rattle.image_removal.specs.declared.pass.SweepLine.{SweepLine}

@@ -15,7 +15,7 @@ use Rattle.dir_model.specs.declared.request.Request.TheVariants.{MoveFolder, Ope
 use Rattle.dir_model.specs.Pods.{pod_text}
 use Rattle.dir_model.specs.State.{spot_eq}
 use Rattle.dir_rules.specs.Standing.{is_in}
-use Rattle.area_locks.specs.AreaLocks.{takes}
+use Rattle.dir_files.specs.AreaLocks.{takes}
 use Rattle.folder_removal.specs.Removal.{deletes_at, is_stray}
 use Rattle.image_reading.specs.Places.{image_spot}
 

@@ -14,7 +14,7 @@ use Rattle.dir_model.specs.Listings.{has_name}
 use Rattle.dir_model.specs.State.{DirState}
 use Rattle.dir_trait.specs.DirCalls.{DirAt}
 use Rattle.dir_files.specs.Listed.{ShowsArea}
-use Rattle.area_locks.specs.AreaLocks.{takes, IsBusy, IsBusyElsewhere, IsFreeElsewhere}
+use Rattle.dir_files.specs.AreaLocks.{takes, IsBusy, IsBusyElsewhere, IsFreeElsewhere}
 use Rattle.image_removal.specs.declared.pass.Pass.{Pass}
 use Rattle.image_removal.specs.declared.pass.Pass.TheVariants.{PutAway, Delete}
 use Rattle.image_removal.specs.declared.pass.SweepLine.{SweepLine}

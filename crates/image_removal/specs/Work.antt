@@ -10,7 +10,7 @@ use Rattle.dir_rules.specs.declared.seen.Seen.{Seen}
 use Rattle.dir_rules.specs.Standing.{is_in, is_image_rm, is_image_remover, began_as, draws, closes_gate}
 use Rattle.dir_trait.specs.DirCalls.{DirAt}
 use Rattle.dir_trait.specs.Knowledge.{Knows}
-use Rattle.area_locks.specs.AreaLocks.{is_free_of}
+use Rattle.dir_files.specs.AreaLocks.{is_free_of}
 use Rattle.image_removal.specs.Requests.{away_spot}
 
 -- it knows of nothing that stands in the folders of removed

@@ -3,7 +3,7 @@ ghost use Rattle.std.specs.Prelude.{◌≡◌};
 ghost use Rattle.image_removal.specs.Causes.{lock_refusal, change_refusal, move_refusal, delete_refusal};
 
 use ac_types::StoreKey;
-use area_locks::LockError;
+use dir_files::LockError;
 use dir_trait::{Area, DirError};
 use folder_removal::DeleteError;
 use image_reading::StoreError;

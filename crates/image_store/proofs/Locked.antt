@@ -12,8 +12,8 @@ use Rattle.dir_model.proofs.Chains.{and_more, extends_wider}
 use Rattle.dir_rules.specs.declared.standing.Held.{Held}
 use Rattle.dir_rules.specs.Standing.{is_in}
 use Rattle.dir_trait.specs.DirCalls.{DirAt, ExtendsBy}
-use Rattle.area_locks.specs.AreaLocks.{takes, closes, and_lock, on_gate}
-use Rattle.area_locks.proofs.Locking.{unlocked_same}
+use Rattle.dir_files.specs.AreaLocks.{takes, closes, and_lock, on_gate}
+use Rattle.dir_files.proofs.Locking.{unlocked_same}
 use Rattle.folder_building.specs.Work.{Worked}
 use Rattle.image_reading.specs.declared.error.StoreError.{StoreError}
 use Rattle.image_store.specs.Refusals.{is_lock_refusal}

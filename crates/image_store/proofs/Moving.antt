@@ -16,7 +16,7 @@ use Rattle.dir_model.specs.declared.request.Request.TheVariants.{MoveFolder, Clo
 use Rattle.dir_model.specs.Calls.{CallStep, TookPlace, LeftNothing, Extends, event, is_foreign}
 use Rattle.dir_model.proofs.Lists.{all_both, all_weaker, or_map, or_last}
 use Rattle.dir_trait.specs.DirCalls.{DirAt, DirCall}
-use Rattle.area_locks.specs.AreaLocks.{takes, closes}
+use Rattle.dir_files.specs.AreaLocks.{takes, closes}
 use Rattle.folder_building.specs.Work.{Worked}
 use Rattle.image_reading.specs.declared.error.StoreError.{StoreError}
 use Rattle.image_reading.specs.Looks.{reads_image, OnlyReadsImage}

@@ -23,7 +23,7 @@ use Rattle.dir_trait.specs.Knowledge.{Knows}
 use Rattle.lifecycle.specs.Executions.{IsConforming}
 use Rattle.folder_contents.specs.Handing.{hands_over}
 use Rattle.folder_contents.proofs.Handed.{processes_hand_over}
-use Rattle.area_locks.specs.AreaLocks.{on_gate, with_gate, shared_given, IsBusyElsewhere}
+use Rattle.dir_files.specs.AreaLocks.{on_gate, with_gate, shared_given, IsBusyElsewhere}
 use Rattle.bundle_image.specs.declared.image.BundleImage.{BundleImage}
 use Rattle.image_reading.specs.declared.error.StoreError.{StoreError}
 use Rattle.image_reading.specs.Places.{image_spot}

@@ -11,16 +11,16 @@ use Rattle.dir_rules.specs.Standing.{is_in}
 use Rattle.dir_trait.specs.DirCalls.{DirAt, ExtendsBy, HeldBetween}
 use Rattle.ac_types.specs.declared.store_key.StoreKey.{StoreKey}
 use Rattle.tree_digest.specs.declared.line.ListingLine.{ListingLine}
-use Rattle.area_locks.specs.declared.error.LockError.{LockError}
-use Rattle.area_locks.specs.declared.error.LockError.TheVariants as lock
-use Rattle.area_locks.specs.AreaLocks.{IsBusy, IsBusyElsewhere}
+use Rattle.dir_files.specs.declared.lock_error.LockError.{LockError}
+use Rattle.dir_files.specs.declared.lock_error.LockError.TheVariants as lock
+use Rattle.dir_files.specs.AreaLocks.{IsBusy, IsBusyElsewhere}
 use Rattle.bundle_image.specs.declared.refusal.BundleRefusal.{BundleRefusal}
 use Rattle.bundle_image.specs.declared.refusal.BundleRefusal.TheVariants as bundle
 use Rattle.folder_building.specs.declared.error.BuildError.{BuildError}
 use Rattle.folder_building.specs.declared.error.BuildError.TheVariants as failure
 use Rattle.folder_building.specs.declared.plan.PlanEntry.{PlanEntry}
 use Rattle.folder_building.specs.Sources.{UnlikeAt}
-use Rattle.folder_plans.specs.ImagePlans.{image_entries}
+use Rattle.folder_building.specs.ImagePlans.{image_entries}
 use Rattle.image_reading.specs.declared.error.StoreError.{StoreError}
 use Rattle.image_reading.specs.declared.error.StoreError.TheVariants.{Busy, Damaged, IdConflict, BundleFault, DirFault, NoMemory, Stray}
 use Rattle.image_reading.specs.Looks.{reads_image}

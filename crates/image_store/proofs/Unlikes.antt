@@ -10,8 +10,8 @@ use Rattle.folder_building.specs.declared.plan.PlanEntry.{PlanEntry}
 use Rattle.folder_building.specs.declared.plan.Content.{Content}
 use Rattle.folder_building.specs.declared.plan.Content.TheVariants.{Directory, Given, Copied}
 use Rattle.folder_building.specs.Sources.{SourceAt, UnlikeContent, UnlikeAt}
-use Rattle.materialize.specs.TreePlans.{entry_at, tree_entries}
-use Rattle.folder_plans.specs.ImagePlans.{id_file, given_file, mark_file, image_entries}
+use Rattle.folder_building.specs.TreePlans.{entry_at, tree_entries}
+use Rattle.folder_building.specs.ImagePlans.{id_file, given_file, mark_file, image_entries}
 use Rattle.dir_trait.specs.Bundles.{file_bytes, child_path}
 use Rattle.image_reading.specs.declared.error.StoreError.TheVariants.{Damaged}
 use Rattle.image_store.specs.Plans.{origin_of, IsUnlikeRefusal}

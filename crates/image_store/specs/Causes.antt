@@ -23,7 +23,7 @@ use Rattle.tree_digest.specs.declared.line.ListingLine.{ListingLine}
 use Rattle.folder_building.specs.declared.plan.PlanEntry.{PlanEntry}
 use Rattle.folder_building.specs.declared.plan.Content.{Content}
 use Rattle.folder_building.specs.declared.plan.Content.TheVariants.{Copied}
-use Rattle.area_locks.specs.AreaLocks.{IsBusy, IsBusyElsewhere, and_lock}
+use Rattle.dir_files.specs.AreaLocks.{IsBusy, IsBusyElsewhere, and_lock}
 use Rattle.image_reading.specs.declared.error.StoreError.{StoreError}
 use Rattle.image_reading.specs.declared.error.StoreError.TheVariants.{Busy, Damaged, IdConflict, DirFault, Stray}
 use Rattle.image_reading.specs.Places.{image_spot, tree_name, IsAbsent, IsPresent}

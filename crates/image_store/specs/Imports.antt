@@ -15,7 +15,7 @@ use Rattle.dir_rules.specs.declared.seen.Entry.{Entry}
 use Rattle.dir_trait.specs.DirCalls.{DirAt, HeldBetween}
 use Rattle.dir_trait.specs.Knowledge.{Knows}
 use Rattle.tree_digest.specs.Digests.{image_digest}
-use Rattle.folder_plans.specs.ImagePlans.{IsImage}
+use Rattle.folder_building.specs.ImagePlans.{IsImage}
 use Rattle.folder_contents.specs.Entries.{entries_in}
 use Rattle.folder_contents.specs.Handing.{then_moved}
 use Rattle.bundle_image.specs.declared.image.BundleImage.{BundleImage}

@@ -6,8 +6,8 @@ use Rattle.dir_model.specs.declared.area.Area.TheVariants.{Images, Incoming}
 use Rattle.dir_model.specs.declared.request.DirError.{DirError}
 use Rattle.dir_model.specs.declared.request.DirError.TheVariants.{Failed, Exists}
 use Rattle.dir_model.specs.declared.request.DirError.TheVariants as dir
-use Rattle.area_locks.specs.declared.error.LockError.{LockError}
-use Rattle.area_locks.specs.declared.error.LockError.TheVariants as lock
+use Rattle.dir_files.specs.declared.lock_error.LockError.{LockError}
+use Rattle.dir_files.specs.declared.lock_error.LockError.TheVariants as lock
 use Rattle.bundle_image.specs.declared.refusal.BundleRefusal.{BundleRefusal}
 use Rattle.bundle_image.specs.declared.refusal.BundleRefusal.TheVariants as bundle
 use Rattle.image_reading.specs.declared.error.StoreError.{StoreError}

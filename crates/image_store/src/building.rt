@@ -15,7 +15,7 @@ use crate::refusing::build_refusal;
 use bundle_image::BundleImage;
 use dir_trait::{Area, Bundle, Dir, PodId, Spot};
 use folder_building::{BundleSource, PlanEntry, carry_out};
-use folder_plans::image_plan;
+use folder_building::image_plan;
 use image_reading::StoreError;
 use std::alloc::Global;
 

@@ -17,7 +17,7 @@ use crate::error::{bundle_refusal, out_of_memory};
 use crate::look::{is_there, share};
 use crate::placing::place;
 use ac_types::StoreKey;
-use area_locks::unlock_area;
+use dir_files::unlock_area;
 use bundle_image::{BundleImage, read_bundle};
 use dir_trait::{Area, Bundle, Dir, PodId};
 use image_reading::StoreError;

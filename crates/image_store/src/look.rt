@@ -4,14 +4,14 @@ ghost use Rattle.dir_rules.specs.declared.seen.Seen.{Seen};
 ghost use Rattle.dir_trait.specs.Local.{IsActive, IsUnopened};
 ghost use Rattle.dir_trait.specs.DirCalls.{ExtendsBy, HeldBetween};
 ghost use Rattle.dir_trait.specs.Knowledge.{Knows};
-ghost use Rattle.area_locks.specs.AreaLocks.{takes, and_lock, with_gate, is_free_of};
+ghost use Rattle.dir_files.specs.AreaLocks.{takes, and_lock, with_gate, is_free_of};
 ghost use Rattle.image_reading.specs.Places.{IsAbsent};
 ghost use Rattle.image_reading.specs.Looks.{OnlyReadsImage};
 ghost use Rattle.image_store.specs.Causes.{LockCause, LookCause, BusyElsewhere, WasThere};
 
 use crate::error::lock_refusal;
 use ac_types::StoreKey;
-use area_locks::lock_area;
+use dir_files::lock_area;
 use dir_trait::{Area, Dir, Handle, Mode};
 use image_reading::{StoreError, stored_digest};
 use std::alloc::Global;

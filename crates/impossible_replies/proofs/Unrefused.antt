@@ -26,8 +26,8 @@ use Rattle.dir_rules.specs.Rules.{allows, may_change, makes_here, may_make_dir, 
 use Rattle.dir_rules.specs.Conforms.{seen_of}
 use Rattle.lifecycle.proofs.Handles.{clash, none_refused}
 use Rattle.lifecycle.proofs.Lists.{or_left}
-use Rattle.pod_contents.specs.Filled.{is_filled}
-use Rattle.pod_contents.proofs.Notes.{make_note}
+use Rattle.folder_contents.specs.Filled.{is_filled}
+use Rattle.folder_contents.proofs.Notes.{make_note}
 use Rattle.impossible_replies.proofs.Alongside.{Steps}
 use Rattle.impossible_replies.proofs.Makers.{here_guarded, made_dir, made_file, appended}
 use Rattle.impossible_replies.proofs.Lengths.{marked_later}

@@ -39,13 +39,13 @@ use Rattle.gate_reading.proofs.GoingOn.{knows_standing, knows_gate, lived_first}
 use Rattle.image_reading.specs.Looks.{reads_images}
 use Rattle.manifests.specs.PodData.{pod_data}
 use Rattle.pod_manifest.specs.Wishes.{Wishes}
-use Rattle.pod_reading.specs.FaithfulPods.{IsPodOf, read_between}
-use Rattle.pod_making.specs.Requests.{pod_at, makes_pod}
-use Rattle.pod_making.specs.Progress.{at_work, holding, nothing_made}
-use Rattle.pod_making.specs.Makings.{HasMoved}
-use Rattle.pod_making.specs.Handovers.{BeforeHandingOver, KnewMade}
-use Rattle.pod_making.proofs.Handing.{until_step}
-use Rattle.pod_making.proofs.Times.{Follows}
+use Rattle.pod_plan.specs.FaithfulPods.{IsPodOf, read_between}
+use Rattle.pod_build.specs.MakingRequests.{pod_at, makes_pod}
+use Rattle.pod_build.specs.Progress.{at_work, holding, nothing_made}
+use Rattle.pod_build.specs.Makings.{HasMoved}
+use Rattle.pod_build.specs.Handovers.{BeforeHandingOver, KnewMade}
+use Rattle.pod_build.proofs.Handing.{until_step}
+use Rattle.pod_build.proofs.Times.{Follows}
 use Rattle.pod_build.specs.Preparations.{Began, HasPrepared, ReadsThenMakes, IsHandedOver, IsPrepared}
 use Rattle.pod_build.specs.FaithfulBuild.{HasImagesBetween, IsFaithfulBuild, HandsOverFaithfully}
 

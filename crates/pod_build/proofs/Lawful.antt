@@ -1,8 +1,8 @@
 -- Where every process keeps the local rules no prepare is refused as stray.
 use Rattle.std.proofs.Common.{◌≡◌, inl, inr, ℕ, Bool, true, IfErr, IsErrOf, Result, List, refl, subst}
 use Rattle.ac_types.specs.declared.image_ref.ImageRef.{ImageRef}
-use Rattle.area_locks.specs.declared.error.LockError.{LockError}
-use Rattle.area_locks.specs.declared.error.LockError.TheVariants as lock
+use Rattle.dir_files.specs.declared.lock_error.LockError.{LockError}
+use Rattle.dir_files.specs.declared.lock_error.LockError.TheVariants as lock
 use Rattle.dir_model.specs.declared.intent.Draw.{Draw}
 use Rattle.dir_model.specs.declared.pod.PodId.{PodId}
 use Rattle.dir_trait.specs.DirCalls.{DirAt}
@@ -10,12 +10,12 @@ use Rattle.folder_building.specs.declared.plan.PlanEntry.{PlanEntry}
 use Rattle.lifecycle.specs.Executions.{IsConforming}
 use Rattle.lifecycle.proofs.Draws.{conforming_left}
 use Rattle.pod_manifest.specs.Wishes.{Wishes}
-use Rattle.pod_making.specs.declared.error.MakeError.{MakeError}
-use Rattle.pod_making.specs.declared.error.MakeError.TheVariants as make
-use Rattle.pod_making.proofs.Lawful.{never_stray}
-use Rattle.pod_reading.specs.declared.error.PlanError.{PlanError}
-use Rattle.pod_reading.specs.declared.error.PlanError.TheVariants as plan
-use Rattle.pod_build.specs.declared.making.Built.{Built}
+use Rattle.pod_build.specs.declared.make_error.MakeError.{MakeError}
+use Rattle.pod_build.specs.declared.make_error.MakeError.TheVariants as make
+use Rattle.pod_build.proofs.MakingLawful.{never_stray}
+use Rattle.pod_plan.specs.declared.plan_error.PlanError.{PlanError}
+use Rattle.pod_plan.specs.declared.plan_error.PlanError.TheVariants as plan
+use Rattle.pod_build.specs.declared.built.Built.{Built}
 use Rattle.pod_build.specs.declared.error.BuildError.{BuildError}
 use Rattle.pod_build.specs.declared.error.BuildError.TheVariants.{Stray}
 use Rattle.pod_build.specs.Causes.{IsPartOf, FailsMaking, IsRefused}

@@ -1,3 +1,12 @@
+pub mod Steps
+pub mod Locals
+pub mod Times
+pub mod Calls
+pub mod Handing
+pub mod Knowing
+pub mod Outcomes
+pub mod Begun
+pub mod MakingLawful
 mod Parts
 mod Working
 mod Faithful

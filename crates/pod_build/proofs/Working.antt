@@ -26,32 +26,32 @@ use Rattle.dir_rules.specs.LockRules.{is_open_on}
 use Rattle.dir_rules.specs.Conforms.{seen_replied}
 use Rattle.dir_trait.specs.DirCalls.{DirAt, HeldBetween, ExtendsBy}
 use Rattle.dir_trait.specs.Knowledge.{Knows}
-use Rattle.area_locks.specs.AreaLocks.{takes, closes, and_lock, on_gate, with_gate, shared_given, MayLock, IsBusyElsewhere, IsFreeElsewhere}
-use Rattle.area_locks.specs.declared.error.LockError.{LockError}
-use Rattle.area_locks.specs.declared.error.LockError.TheVariants as lock
-use Rattle.area_locks.proofs.Locking.{unlocked_same}
+use Rattle.dir_files.specs.AreaLocks.{takes, closes, and_lock, on_gate, with_gate, shared_given, MayLock, IsBusyElsewhere, IsFreeElsewhere}
+use Rattle.dir_files.specs.declared.lock_error.LockError.{LockError}
+use Rattle.dir_files.specs.declared.lock_error.LockError.TheVariants as lock
+use Rattle.dir_files.proofs.Locking.{unlocked_same}
 use Rattle.folder_building.specs.declared.plan.PlanEntry.{PlanEntry}
 use Rattle.folder_building.specs.Work.{Worked}
 use Rattle.folder_contents.specs.Handing.{hands_over}
 use Rattle.image_reading.specs.Looks.{reads_images, OnlyReadsImages, KnowsStillNamed}
-use Rattle.pod_plans.specs.PodPlans.{ComesInTurn, MakesWhole}
-use Rattle.pod_making.specs.Requests.{makes_pod}
-use Rattle.pod_making.specs.Progress.{at_work, nothing_made, handed, own_held, and_own}
-use Rattle.pod_making.specs.Work.{MayMake, UnderImages, HasOwnFolder, Went}
-use Rattle.pod_making.specs.declared.error.MakeError.{MakeError}
-use Rattle.pod_making.specs.declared.error.MakeError.TheVariants as make
-use Rattle.pod_making.specs.Causes.{IsCopiedAt, MakeCause}
-use Rattle.pod_making.proofs.Begun.{begun_under}
-use Rattle.pod_making.proofs.Locals.{other_number, gate_closed}
-use Rattle.pod_making.proofs.Steps.{gate_given_after}
-use Rattle.pod_making.proofs.Handing.{HandsNothingOver}
-use Rattle.pod_making.proofs.Times.{Follows}
-use Rattle.pod_reading.specs.declared.error.PlanError.{PlanError}
-use Rattle.pod_reading.specs.declared.error.PlanError.TheVariants as plan
+use Rattle.pod_plan.specs.PodPlans.{ComesInTurn, MakesWhole}
+use Rattle.pod_build.specs.MakingRequests.{makes_pod}
+use Rattle.pod_build.specs.Progress.{at_work, nothing_made, handed, own_held, and_own}
+use Rattle.pod_build.specs.Work.{MayMake, UnderImages, HasOwnFolder, Went}
+use Rattle.pod_build.specs.declared.make_error.MakeError.{MakeError}
+use Rattle.pod_build.specs.declared.make_error.MakeError.TheVariants as make
+use Rattle.pod_build.specs.MakingCauses.{IsCopiedAt, MakeCause}
+use Rattle.pod_build.proofs.Begun.{begun_under}
+use Rattle.pod_build.proofs.Locals.{other_number, gate_closed}
+use Rattle.pod_build.proofs.Steps.{gate_given_after}
+use Rattle.pod_build.proofs.Handing.{HandsNothingOver}
+use Rattle.pod_build.proofs.Times.{Follows}
+use Rattle.pod_plan.specs.declared.plan_error.PlanError.{PlanError}
+use Rattle.pod_plan.specs.declared.plan_error.PlanError.TheVariants as plan
 use Rattle.pod_build.specs.declared.error.BuildError.{BuildError}
 use Rattle.pod_build.specs.declared.error.BuildError.TheVariants.{DirFault}
-use Rattle.pod_build.specs.declared.making.Built.{Built}
-use Rattle.pod_build.specs.declared.making.Built.TheVariants as built
+use Rattle.pod_build.specs.declared.built.Built.{Built}
+use Rattle.pod_build.specs.declared.built.Built.TheVariants as built
 use Rattle.pod_build.specs.Answers.{target, IsAnswer, with_built, held_with}
 use Rattle.pod_build.specs.Refusals.{gate_refusal, plan_refusal, IsMakeRefusal}
 use Rattle.pod_build.specs.Causes.{FailsMaking, FindsImagesFree, IsHeldElsewhere}

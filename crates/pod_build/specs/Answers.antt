@@ -6,11 +6,11 @@ use Rattle.dir_model.specs.declared.pod.PodId.{PodId}
 use Rattle.dir_model.specs.declared.spot.Mode.TheVariants.{Exclusive}
 use Rattle.dir_model.specs.Local.{Local}
 use Rattle.dir_rules.specs.declared.standing.Held.{Held}
-use Rattle.pod_making.specs.Progress.{and_own, own_held}
-use Rattle.pod_ownership.specs.Running.{IsOwned}
+use Rattle.pod_build.specs.Progress.{and_own, own_held}
+use Rattle.pod_locks.specs.Running.{IsOwned}
 use Rattle.pod_build.specs.declared.error.BuildError.{BuildError}
-use Rattle.pod_build.specs.declared.making.Built.{Built}
-use Rattle.pod_build.specs.declared.making.Built.TheVariants.{Prepared, Running}
+use Rattle.pod_build.specs.declared.built.Built.{Built}
+use Rattle.pod_build.specs.declared.built.Built.TheVariants.{Prepared, Running}
 
 -- where the pod is brought
 abbrev pub target : Bool → Area

@@ -8,18 +8,18 @@ use Rattle.dir_model.specs.declared.intent.Draw.{Draw}
 use Rattle.dir_model.specs.declared.pod.PodId.{PodId}
 use Rattle.dir_model.specs.declared.spot.Mode.TheVariants.{Shared}
 use Rattle.dir_trait.specs.DirCalls.{DirAt, HeldBetween}
-use Rattle.area_locks.specs.declared.error.LockError.{LockError}
-use Rattle.area_locks.specs.declared.error.LockError.TheVariants as lock
-use Rattle.area_locks.specs.AreaLocks.{IsBusy, IsBusyElsewhere, IsFreeElsewhere}
+use Rattle.dir_files.specs.declared.lock_error.LockError.{LockError}
+use Rattle.dir_files.specs.declared.lock_error.LockError.TheVariants as lock
+use Rattle.dir_files.specs.AreaLocks.{IsBusy, IsBusyElsewhere, IsFreeElsewhere}
 use Rattle.folder_building.specs.declared.plan.PlanEntry.{PlanEntry}
 use Rattle.folder_building.specs.Sources.{in_images}
 use Rattle.folder_building.specs.Stored.{HadContents}
 use Rattle.pod_manifest.specs.Wishes.{Wishes}
-use Rattle.pod_reading.specs.declared.error.PlanError.{PlanError}
-use Rattle.pod_reading.specs.NoPlans.{IsNoPlan}
-use Rattle.pod_reading.specs.FaithfulPods.{PlansFaithfully}
-use Rattle.pod_making.specs.declared.error.MakeError.{MakeError}
-use Rattle.pod_making.specs.Causes.{MakeCause, HasMadeFolder}
+use Rattle.pod_plan.specs.declared.plan_error.PlanError.{PlanError}
+use Rattle.pod_plan.specs.NoPlans.{IsNoPlan}
+use Rattle.pod_plan.specs.FaithfulPods.{PlansFaithfully}
+use Rattle.pod_build.specs.declared.make_error.MakeError.{MakeError}
+use Rattle.pod_build.specs.MakingCauses.{MakeCause, HasMadeFolder}
 use Rattle.pod_build.specs.declared.error.BuildError.{BuildError}
 use Rattle.pod_build.specs.declared.error.BuildError.TheVariants.{Busy}
 use Rattle.pod_build.specs.Refusals.{gate_refusal, plan_refusal, IsMakeRefusal}

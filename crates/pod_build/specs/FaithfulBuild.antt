@@ -9,8 +9,8 @@ use Rattle.dir_rules.specs.Conforms.{seen_of}
 use Rattle.dir_trait.specs.DirCalls.{DirAt}
 use Rattle.folder_contents.specs.UnderGate.{KnowsAlong, shares_images}
 use Rattle.image_reading.specs.Store.{ReadsStore}
-use Rattle.pod_making.specs.Handovers.{BeforeHandingOver}
-use Rattle.pod_reading.specs.FaithfulPods.{StoreRead, IsPodOf, read_between}
+use Rattle.pod_build.specs.Handovers.{BeforeHandingOver}
+use Rattle.pod_plan.specs.FaithfulPods.{StoreRead, IsPodOf, read_between}
 
 -- in a stretch of a trace a process had the lock of images all along
 pub record HasImagesBetween (p : ℕ) (trace : List Event) (old new : DirAt) : Type 0 where

@@ -1,3 +1,10 @@
+pub mod MakingRequests
+pub mod MakingRefusals
+pub mod Progress
+pub mod Work
+pub mod MakingCauses
+pub mod Makings
+pub mod Handovers
 pub mod Requests
 pub mod Origins
 pub mod Refusals

@@ -18,22 +18,22 @@ use Rattle.dir_rules.specs.declared.standing.Held.{Held}
 use Rattle.dir_rules.specs.declared.seen.Entry.{Entry}
 use Rattle.dir_trait.specs.DirCalls.{DirAt, ExtendsBy}
 use Rattle.dir_trait.specs.Knowledge.{Knows}
-use Rattle.area_locks.specs.AreaLocks.{on_gate}
+use Rattle.dir_files.specs.AreaLocks.{on_gate}
 use Rattle.folder_building.specs.declared.plan.PlanEntry.{PlanEntry}
 use Rattle.folder_building.specs.Work.{Worked}
 use Rattle.folder_contents.specs.Entries.{entries_in}
 use Rattle.folder_contents.specs.Handing.{then_moved}
 use Rattle.image_reading.specs.Looks.{reads_images}
 use Rattle.manifests.specs.PodData.{pod_data}
-use Rattle.pod_choice.specs.declared.choice.Choice.{Choice}
-use Rattle.pod_choice.specs.Choices.{IsChoice}
+use Rattle.pod_plan.specs.declared.choice.Choice.{Choice}
+use Rattle.pod_plan.specs.Choices.{IsChoice}
 use Rattle.pod_manifest.specs.Wishes.{Wishes}
-use Rattle.pod_reading.specs.FaithfulPods.{PlansFaithfully}
-use Rattle.pod_making.specs.Requests.{pod_at, makes_pod}
-use Rattle.pod_making.specs.Progress.{at_work, handed, nothing_made}
-use Rattle.pod_making.specs.Work.{leads_to, From}
-use Rattle.pod_making.specs.Makings.{HasMade}
-use Rattle.pod_making.specs.Handovers.{BeforeHandingOver, KnewMade}
+use Rattle.pod_plan.specs.FaithfulPods.{PlansFaithfully}
+use Rattle.pod_build.specs.MakingRequests.{pod_at, makes_pod}
+use Rattle.pod_build.specs.Progress.{at_work, handed, nothing_made}
+use Rattle.pod_build.specs.Work.{leads_to, From}
+use Rattle.pod_build.specs.Makings.{HasMade}
+use Rattle.pod_build.specs.Handovers.{BeforeHandingOver, KnewMade}
 use Rattle.pod_build.specs.FaithfulBuild.{IsFaithfulBuild, HandsOverFaithfully}
 
 -- a process has begun so that it leads to this area, with this draw, at this moment

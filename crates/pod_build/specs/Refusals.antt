@@ -2,13 +2,13 @@
 use Rattle.std.specs.Prelude.{◌≡◌, List}
 use Rattle.dir_model.specs.declared.area.Area.TheVariants.{Images, Embryo}
 use Rattle.dir_model.specs.declared.pod.PodId.{PodId}
-use Rattle.area_locks.specs.declared.error.LockError.{LockError}
-use Rattle.area_locks.specs.declared.error.LockError.TheVariants as lock
+use Rattle.dir_files.specs.declared.lock_error.LockError.{LockError}
+use Rattle.dir_files.specs.declared.lock_error.LockError.TheVariants as lock
 use Rattle.folder_building.specs.declared.plan.PlanEntry.{PlanEntry}
-use Rattle.pod_reading.specs.declared.error.PlanError.{PlanError}
-use Rattle.pod_reading.specs.declared.error.PlanError.TheVariants as plan
-use Rattle.pod_making.specs.declared.error.MakeError.{MakeError}
-use Rattle.pod_making.specs.declared.error.MakeError.TheVariants as make
+use Rattle.pod_plan.specs.declared.plan_error.PlanError.{PlanError}
+use Rattle.pod_plan.specs.declared.plan_error.PlanError.TheVariants as plan
+use Rattle.pod_build.specs.declared.make_error.MakeError.{MakeError}
+use Rattle.pod_build.specs.declared.make_error.MakeError.TheVariants as make
 use Rattle.pod_build.specs.declared.error.BuildError.{BuildError}
 use Rattle.pod_build.specs.declared.error.BuildError.TheVariants.{Busy, Damaged, NoMatch, DepError, GenError, RenderError, ListingError, Taken, DirFault, Stray, NoMemory}
 use Rattle.pod_build.specs.Origins.{IsDamaged}

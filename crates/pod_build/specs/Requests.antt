@@ -5,10 +5,10 @@ use Rattle.dir_model.specs.declared.area.Area.TheVariants.{Images}
 use Rattle.dir_model.specs.declared.pod.PodId.{PodId}
 use Rattle.dir_model.specs.declared.request.Request.{Request}
 use Rattle.dir_model.specs.declared.spot.Mode.TheVariants.{Shared}
-use Rattle.area_locks.specs.AreaLocks.{takes}
+use Rattle.dir_files.specs.AreaLocks.{takes}
 use Rattle.folder_building.specs.Work.{either}
 use Rattle.image_reading.specs.Looks.{reads_images}
-use Rattle.pod_making.specs.Requests.{makes_pod}
+use Rattle.pod_build.specs.MakingRequests.{makes_pod}
 
 -- under the lock of images: what it reads of them, and what makes the pod
 abbrev pub prepares_under_lock : PodId → Area → Request → Bool

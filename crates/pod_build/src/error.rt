@@ -4,13 +4,13 @@ ghost use Rattle.pod_build.specs.Refusals.{gate_refusal, plan_refusal, IsMakeRef
 
 use crate::origin::damaged;
 use ac_types::{Text, memory};
-use area_locks::LockError;
+use dir_files::LockError;
 use dep_match::DepError;
 use dir_trait::{Area, PodId};
 use folder_building::PlanEntry;
-use pod_making::MakeError;
+use crate::MakeError;
 use pod_manifest::GenError;
-use pod_reading::PlanError;
+use pod_plan::PlanError;
 use render::RenderError;
 use std::alloc::Global;
 use tree_digest::ListingError;

@@ -5,20 +5,20 @@ ghost use Rattle.dir_model.specs.Calls.{IsRun};
 ghost use Rattle.dir_trait.specs.Local.{IsActive};
 ghost use Rattle.image_reading.specs.Looks.{HoldsImages};
 ghost use Rattle.lifecycle.specs.Executions.{IsConforming};
-ghost use Rattle.pod_making.specs.Progress.{nothing_made};
-ghost use Rattle.pod_making.specs.Work.{From, HasOwnFolder, Went};
+ghost use Rattle.pod_build.specs.Progress.{nothing_made};
+ghost use Rattle.pod_build.specs.Work.{From, HasOwnFolder, Went};
 ghost use Rattle.pod_build.specs.Requests.{prepares, prepares_under_lock};
 ghost use Rattle.pod_build.specs.Answers.{target, with_built, held_with, IsAnswer};
 ghost use Rattle.pod_build.specs.Causes.{IsRefused, IsRefusedUnderLock, IsHeldElsewhere, IsMadeByPlan, FindsImagesFree};
 ghost use Rattle.pod_build.specs.Preparations.{Began, IsAlone, HasGateAlone, HasPrepared, KnowsPrepared, HandsOverPlanned, IsHandedOver, IsPrepared, MakesFaithfully};
 
 use crate::error::{BuildError, gate_refusal, plan_refusal};
-use crate::making::{Built, make};
+use crate::built::{Built, make};
 use ac_types::ImageRef;
-use area_locks::{lock_area, unlock_area};
+use dir_files::{lock_area, unlock_area};
 use dir_trait::{Area, Dir, Draw, Handle, Mode};
 use pod_manifest::Options;
-use pod_reading::plan_pod;
+use pod_plan::plan_pod;
 use std::alloc::Global;
 
 // Prepares the pod under the lock of images, which this handle holds.

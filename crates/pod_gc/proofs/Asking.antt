@@ -15,7 +15,7 @@ use Rattle.dir_model.proofs.Lists.{and_left, and_right, and_both, or_last}
 use Rattle.dir_rules.specs.Rules.{root_of}
 use Rattle.dir_rules.specs.Standing.{is_in}
 use Rattle.folder_removal.specs.Removal.{deletes_at}
-use Rattle.area_locks.specs.AreaLocks.{takes, closes}
+use Rattle.dir_files.specs.AreaLocks.{takes, closes}
 use Rattle.phase_read.specs.Read.{pod_spot}
 use Rattle.pod_gc.specs.Requests.{lists, lists_marks, deals_with, sweeps}
 use Rattle.pod_gc.specs.Told.{pods_of, deals_with_some}

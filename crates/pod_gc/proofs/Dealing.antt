@@ -10,9 +10,9 @@ use Rattle.dir_rules.specs.declared.seen.Seen.{Seen}
 use Rattle.dir_rules.specs.Standing.{intends, is_gc}
 use Rattle.dir_model.specs.declared.spot.Which.{Which}
 use Rattle.dir_model.specs.declared.intent.Intent.{Intent}
-use Rattle.pod_steps.specs.Requests.{moves}
-use Rattle.pod_removal.specs.Requests.{removes}
-use Rattle.pod_removal.specs.Causes.{MarkedFirst}
+use Rattle.pod_locks.specs.Requests.{moves}
+use Rattle.pod_gc.specs.RemovalRequests.{removes}
+use Rattle.pod_gc.specs.RemovalCauses.{MarkedFirst}
 use Rattle.pod_gc.specs.declared.ages.Times.{Times}
 use Rattle.pod_gc.specs.declared.line.Deed.{Deed}
 use Rattle.pod_gc.specs.declared.line.Deed.TheVariants.{Moved}

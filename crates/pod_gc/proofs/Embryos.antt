@@ -8,9 +8,9 @@ use Rattle.dir_rules.specs.declared.seen.Seen.{Seen}
 use Rattle.dir_rules.proofs.Looks.{same_bytes}
 use Rattle.dir_trait.specs.DirCalls.{DirAt}
 use Rattle.phase_read.specs.Read.{pod_spot}
-use Rattle.pod_claim.proofs.Seen.{off}
-use Rattle.pod_steps.specs.Holding.{MayMove, KeepsReady, Stays}
-use Rattle.pod_removal.proofs.Stages.{spares}
+use Rattle.pod_locks.proofs.ClaimSeen.{off}
+use Rattle.pod_locks.specs.Holding.{MayMove, KeepsReady, Stays}
+use Rattle.pod_gc.proofs.Stages.{spares}
 use Rattle.pod_gc.specs.Sweeping.{HoldsEmbryo}
 
 moves_embryo : {now : ℕ} {s : Seen} (pod : PodId) → HoldsEmbryo now s → MayMove pod Embryo Garbage s

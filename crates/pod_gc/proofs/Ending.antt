@@ -17,10 +17,10 @@ use Rattle.dir_rules.specs.declared.seen.Seen.{Seen}
 use Rattle.dir_trait.specs.DirCalls.{DirAt, ListCall, ExtendsBy, HeldBetween}
 use Rattle.dir_trait.specs.Knowledge.{Knows}
 use Rattle.dir_files.specs.Listed.{ShowsAreaBetween}
-use Rattle.area_locks.specs.AreaLocks.{takes, closes, with_gate, MayLock, IsFreeElsewhere}
+use Rattle.dir_files.specs.AreaLocks.{takes, closes, with_gate, MayLock, IsFreeElsewhere}
 use Rattle.folder_removal.proofs.Calls.{list_extends}
-use Rattle.pod_steps.specs.Holding.{KeepsReady, Stays}
-use Rattle.pod_steps.proofs.Calls.{Follows}
+use Rattle.pod_locks.specs.Holding.{KeepsReady, Stays}
+use Rattle.pod_locks.proofs.Calls.{Follows}
 use Rattle.pod_gc.specs.declared.ages.Times.{Times}
 use Rattle.pod_gc.specs.declared.line.GcLine.{GcLine}
 use Rattle.pod_gc.specs.Sweeping.{MayPass, MaySweepAll}

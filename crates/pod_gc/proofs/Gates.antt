@@ -14,16 +14,16 @@ use Rattle.dir_rules.specs.declared.seen.Seen.{Seen}
 use Rattle.dir_rules.specs.Standing.{is_known}
 use Rattle.dir_trait.specs.DirCalls.{DirAt, ExtendsBy, HeldBetween}
 use Rattle.dir_trait.specs.Knowledge.{Knows}
-use Rattle.area_locks.specs.declared.error.LockError.{LockError}
-use Rattle.area_locks.specs.declared.error.LockError.TheVariants as lock
-use Rattle.area_locks.specs.AreaLocks.{takes, closes, and_lock, with_gate, exclusive_given, is_free_of, MayLock, IsBusy, IsBusyElsewhere, IsFreeElsewhere}
-use Rattle.area_locks.proofs.Locking.{unlocked_same}
+use Rattle.dir_files.specs.declared.lock_error.LockError.{LockError}
+use Rattle.dir_files.specs.declared.lock_error.LockError.TheVariants as lock
+use Rattle.dir_files.specs.AreaLocks.{takes, closes, and_lock, with_gate, exclusive_given, is_free_of, MayLock, IsBusy, IsBusyElsewhere, IsFreeElsewhere}
+use Rattle.dir_files.proofs.Locking.{unlocked_same}
 use Rattle.folder_building.specs.Work.{Worked}
-use Rattle.pod_steps.specs.Holding.{is_in_garbage, Keeps, KeepsReady, Stays}
-use Rattle.pod_steps.proofs.Calls.{Follows}
-use Rattle.pod_claim.proofs.Knowing.{new_number}
-use Rattle.pod_claim.proofs.OwnOpenings.{none_fails}
-use Rattle.pod_claim.proofs.Traces.{grown_by}
+use Rattle.pod_locks.specs.Holding.{is_in_garbage, Keeps, KeepsReady, Stays}
+use Rattle.pod_locks.proofs.Calls.{Follows}
+use Rattle.pod_locks.proofs.ClaimKnowing.{new_number}
+use Rattle.pod_locks.proofs.OwnOpenings.{none_fails}
+use Rattle.pod_locks.proofs.Traces.{grown_by}
 use Rattle.pod_gc.specs.declared.ages.Times.{Times}
 use Rattle.pod_gc.specs.declared.line.Deed.TheVariants.{BusyGate}
 use Rattle.pod_gc.specs.declared.line.GcLine.{GcLine}

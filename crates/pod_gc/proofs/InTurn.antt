@@ -8,9 +8,9 @@ use Rattle.dir_rules.specs.declared.standing.Held.{Held}
 use Rattle.dir_rules.specs.declared.seen.Seen.{Seen}
 use Rattle.dir_rules.specs.Standing.{intends, is_gc, is_gate_exclusive}
 use Rattle.dir_trait.specs.DirCalls.{DirAt}
-use Rattle.pod_steps.specs.Holding.{Keeps, KeepsReady, Stays}
-use Rattle.pod_removal.proofs.Rounds.{may_kept}
-use Rattle.pod_gc.specs.declared.error.GcError.TheVariants as fault
+use Rattle.pod_locks.specs.Holding.{Keeps, KeepsReady, Stays}
+use Rattle.pod_gc.proofs.Rounds.{may_kept}
+use Rattle.pod_gc.specs.declared.gc_error.GcError.TheVariants as fault
 use Rattle.pod_gc.specs.Causes.{GcCause}
 use Rattle.pod_gc.specs.Sweeping.{MaySweep, MayPass}
 

@@ -13,20 +13,20 @@ use Rattle.dir_model.specs.Replies.{may_refuse}
 use Rattle.dir_rules.specs.declared.seen.Seen.{Seen}
 use Rattle.dir_trait.specs.DirCalls.{DirAt, ExtendsBy}
 use Rattle.dir_trait.specs.Knowledge.{Knows}
-use Rattle.area_locks.specs.declared.error.LockError.{LockError}
-use Rattle.area_locks.specs.declared.error.LockError.TheVariants as lock
-use Rattle.area_locks.specs.AreaLocks.{closes, with_gate, MayLock}
+use Rattle.dir_files.specs.declared.lock_error.LockError.{LockError}
+use Rattle.dir_files.specs.declared.lock_error.LockError.TheVariants as lock
+use Rattle.dir_files.specs.AreaLocks.{closes, with_gate, MayLock}
 use Rattle.phase_read.specs.declared.found.LookError.{LookError}
 use Rattle.phase_read.specs.declared.found.LookError.TheVariants as look
-use Rattle.pod_claim.proofs.Traces.{grown_by}
-use Rattle.pod_steps.specs.declared.setback.Setback.{Setback}
-use Rattle.pod_steps.specs.declared.setback.Setback.TheVariants as stop
-use Rattle.pod_steps.specs.Holding.{Keeps, KeepsReady, Stays}
-use Rattle.pod_steps.specs.Causes.{ByApp}
-use Rattle.pod_steps.proofs.Calls.{Follows, follows_none}
-use Rattle.pod_steps.proofs.Lawful.{by_app_part}
-use Rattle.pod_gc.specs.declared.error.GcError.{GcError}
-use Rattle.pod_gc.specs.declared.error.GcError.TheVariants as fault
+use Rattle.pod_locks.proofs.Traces.{grown_by}
+use Rattle.pod_locks.specs.declared.setback.Setback.{Setback}
+use Rattle.pod_locks.specs.declared.setback.Setback.TheVariants as stop
+use Rattle.pod_locks.specs.Holding.{Keeps, KeepsReady, Stays}
+use Rattle.pod_locks.specs.Causes.{ByApp}
+use Rattle.pod_locks.proofs.Calls.{Follows, follows_none}
+use Rattle.pod_locks.proofs.Lawful.{by_app_part}
+use Rattle.pod_gc.specs.declared.gc_error.GcError.{GcError}
+use Rattle.pod_gc.specs.declared.gc_error.GcError.TheVariants as fault
 use Rattle.pod_gc.specs.declared.line.Deed.{Deed}
 use Rattle.pod_gc.specs.Causes.{listing_fault, look_fault, lock_fault, deed_of}
 use Rattle.pod_gc.specs.Sweeping.{MayPass, MaySweepAll}

@@ -1,3 +1,17 @@
+pub mod CallKinds
+pub mod Stages
+pub mod Closing
+pub mod Discarding
+pub mod Looking
+pub mod MarkNames
+pub mod Retiring
+pub mod Deleting
+pub mod Rounds
+pub mod Finding
+pub mod Hindrances
+pub mod Unread
+pub mod Onward
+pub mod RemovalLawful
 pub mod Steps
 pub mod Embryos
 pub mod Marking

@@ -25,7 +25,7 @@ use Rattle.dir_trait.specs.DirCalls.{DirAt, ListCall}
 use Rattle.dir_trait.specs.Knowledge.{SameHandles, Knows}
 use Rattle.folder_building.specs.Work.{Worked}
 use Rattle.folder_removal.proofs.Calls.{list_extends}
-use Rattle.pod_steps.specs.Holding.{Keeps, KeepsReady, Stays}
+use Rattle.pod_locks.specs.Holding.{Keeps, KeepsReady, Stays}
 use Rattle.pod_gc.specs.Requests.{lists}
 use Rattle.pod_gc.specs.Causes.{listing_fault, GcCause}
 use Rattle.pod_gc.specs.Sweeping.{MayPass}

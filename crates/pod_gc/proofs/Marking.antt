@@ -37,14 +37,14 @@ use Rattle.dir_files.proofs.Folders.{tells_absent, tells_present}
 use Rattle.folder_building.specs.Work.{Worked}
 use Rattle.folder_removal.proofs.Calls.{list_extends, knows_list}
 use Rattle.phase_read.specs.Read.{pod_spot}
-use Rattle.pod_claim.specs.Holding.{is_on_folder}
-use Rattle.pod_claim.proofs.Traces.{grown_none}
-use Rattle.pod_steps.specs.Holding.{is_in_garbage, Keeps, KeepsReady, Stays}
-use Rattle.pod_steps.specs.Causes.{IsAbsentAt}
-use Rattle.pod_removal.specs.Holding.{MayRemove}
+use Rattle.pod_locks.specs.ClaimHolding.{is_on_folder}
+use Rattle.pod_locks.proofs.Traces.{grown_none}
+use Rattle.pod_locks.specs.Holding.{is_in_garbage, Keeps, KeepsReady, Stays}
+use Rattle.pod_locks.specs.Causes.{IsAbsentAt}
+use Rattle.pod_gc.specs.RemovalHolding.{MayRemove}
 use Rattle.pod_gc.specs.Requests.{counts_time, lists_marks}
 use Rattle.pod_gc.specs.Causes.{listing_fault, GcCause}
-use Rattle.pod_gc.specs.Marks.{moment_among, Showed}
+use Rattle.pod_gc.specs.Ages.{moment_among, Showed}
 use Rattle.pod_gc.specs.Sweeping.{IsNoted, NotesMark}
 
 pub with_root : {observed : Bool} {old new : DirAt} {spot : Spot} {reply : Reply} (pod : PodId) (area : Area) → spot ≡ pod_spot pod area → ListCall observed old (ListIn (record { spot = spot; path = [] })) reply new → ListCall observed old (ListIn (root_of (pod_spot pod area))) reply new

@@ -5,7 +5,7 @@ use Rattle.dir_model.specs.declared.item.Item.{Item}
 use Rattle.dir_rules.specs.Marks.{mark, number_of}
 use Rattle.dir_rules.specs.Seen.{later}
 use Rattle.rule_marks.proofs.Texts.{unlike}
-use Rattle.pod_gc.specs.Marks.{mark_moment, moment_among}
+use Rattle.pod_gc.specs.Ages.{mark_moment, moment_among}
 
 module _ (text name : List ℕ) (n : ℕ) (is : n ≡ number_of (drop (length text) name)) where
   moment_at : cond (bytes_eq name (mark text n) && nat_le n 18446744073709551615) (Some n) None ≡ mark_moment text name

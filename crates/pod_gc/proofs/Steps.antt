@@ -30,36 +30,36 @@ use Rattle.phase_read.specs.declared.found.LookError.TheVariants as look
 use Rattle.phase_read.specs.Read.{pod_spot, HasPhase, is_pod_spot}
 use Rattle.phase_read.specs.Exact.{AtOwnEvent, IsInPhase}
 use Rattle.phase_read.proofs.Exact.{found_exactly}
-use Rattle.pod_claim.specs.Work.{Grew}
-use Rattle.pod_claim.proofs.Seen.{off}
-use Rattle.pod_claim.proofs.Times.{at_part, deeds_part}
-use Rattle.pod_claim.proofs.Traces.{grown_none, grown_more}
-use Rattle.pod_steps.specs.declared.setback.Setback.{Setback}
-use Rattle.pod_steps.specs.declared.setback.Setback.TheVariants as stop
-use Rattle.pod_steps.specs.Requests.{looks_at, moves, peeks_at}
-use Rattle.pod_steps.specs.Holding.{MayLook, LooksFree, with_look, KeepsReady, Stays}
-use Rattle.pod_steps.specs.Causes.{Stopped, IsAbsentAt, Did, WasStray, BusyElsewhere, HeldByAnother, FreeOfOthers, FreeWhere}
-use Rattle.pod_steps.proofs.Calls.{Follows, stray_part, rose_later}
-use Rattle.pod_removal.specs.Requests.{is_garbage_place, removes}
-use Rattle.pod_removal.specs.Holding.{MayRemove}
-use Rattle.pod_removal.proofs.CallKinds.{looks_remove}
-use Rattle.pod_removal.proofs.Stages.{none_kind, same_ready, err_all}
-use Rattle.pod_removal.proofs.Rounds.{may_kept, looked_keeps, event_after}
+use Rattle.pod_locks.specs.Work.{Grew}
+use Rattle.pod_locks.proofs.ClaimSeen.{off}
+use Rattle.pod_locks.proofs.Times.{at_part, deeds_part}
+use Rattle.pod_locks.proofs.Traces.{grown_none, grown_more}
+use Rattle.pod_locks.specs.declared.setback.Setback.{Setback}
+use Rattle.pod_locks.specs.declared.setback.Setback.TheVariants as stop
+use Rattle.pod_locks.specs.Requests.{looks_at, moves, peeks_at}
+use Rattle.pod_locks.specs.Holding.{MayLook, LooksFree, with_look, KeepsReady, Stays}
+use Rattle.pod_locks.specs.Causes.{Stopped, IsAbsentAt, Did, WasStray, BusyElsewhere, HeldByAnother, FreeOfOthers, FreeWhere}
+use Rattle.pod_locks.proofs.Calls.{Follows, stray_part, rose_later}
+use Rattle.pod_gc.specs.RemovalRequests.{is_garbage_place, removes}
+use Rattle.pod_gc.specs.RemovalHolding.{MayRemove}
+use Rattle.pod_gc.proofs.CallKinds.{looks_remove}
+use Rattle.pod_gc.proofs.Stages.{none_kind, same_ready, err_all}
+use Rattle.pod_gc.proofs.Rounds.{may_kept, looked_keeps, event_after}
 use Rattle.dir_model.specs.declared.spot.Mode.TheVariants.{Shared, Exclusive}
 use Rattle.dir_model.specs.Replies.{is_look_at}
 use Rattle.dir_model.proofs.Chains.{and_more, extends_wider}
 use Rattle.dir_rules.specs.Standing.{is_in}
-use Rattle.pod_claim.specs.Elsewhere.{is_owned_phase}
-use Rattle.pod_claim.proofs.Elsewhere.{met_elsewhere}
-use Rattle.pod_steps.proofs.Within.{held_within, free_within, told_within}
+use Rattle.pod_locks.specs.Elsewhere.{is_owned_phase}
+use Rattle.pod_locks.proofs.Elsewhere.{met_elsewhere}
+use Rattle.pod_locks.proofs.Within.{held_within, free_within, told_within}
 use Rattle.phase_read.proofs.Stages.{pod_spot_only}
-use Rattle.pod_gc.specs.declared.error.GcError.{GcError}
+use Rattle.pod_gc.specs.declared.gc_error.GcError.{GcError}
 use Rattle.pod_gc.specs.declared.line.Deed.{Deed}
 use Rattle.pod_gc.specs.declared.line.Deed.TheVariants.{Moved, Deleted, Kept, Busy, Left}
 use Rattle.pod_gc.specs.Requests.{deals_with, lists_marks, goes_to, moves_pods, lets_be}
 use Rattle.pod_gc.specs.Causes.{deed_of, look_fault, GcCause}
 use Rattle.pod_gc.specs.declared.ages.Times.{Times}
-use Rattle.pod_gc.specs.Marks.{Showed, is_young}
+use Rattle.pod_gc.specs.Ages.{Showed, is_young}
 use Rattle.pod_gc.specs.Deeds.{IsGoneFrom, SaysThere, DoesNothing, DeedCause, refused_lock, RestsBy, RestedSo, is_under_claim, is_resting, busy_mode, asked_mode, LeftToAnother, LeavesToAnother, LeavesWhere}
 
 -- the calls are of their kind

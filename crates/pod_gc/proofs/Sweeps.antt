@@ -10,8 +10,8 @@ use Rattle.dir_rules.specs.declared.standing.Held.{Held}
 use Rattle.dir_rules.specs.declared.seen.Seen.{Seen}
 use Rattle.dir_rules.specs.LockRules.{is_open_on}
 use Rattle.dir_trait.specs.DirCalls.{DirAt}
-use Rattle.pod_steps.specs.Holding.{Keeps, KeepsReady, Stays}
-use Rattle.pod_steps.proofs.Calls.{Follows}
+use Rattle.pod_locks.specs.Holding.{Keeps, KeepsReady, Stays}
+use Rattle.pod_locks.proofs.Calls.{Follows}
 use Rattle.pod_gc.specs.declared.ages.Times.{Times}
 use Rattle.pod_gc.specs.declared.line.GcLine.{GcLine}
 use Rattle.pod_gc.specs.Sweeping.{MaySweepAll}

@@ -19,7 +19,7 @@ use Rattle.dir_rules.specs.declared.seen.Seen.{Seen}
 use Rattle.dir_trait.specs.DirCalls.{DirAt, ListCall}
 use Rattle.dir_files.specs.Listed.{ShowsAreaBetween}
 use Rattle.folder_removal.proofs.Calls.{list_extends}
-use Rattle.pod_steps.specs.Holding.{Keeps, KeepsReady, Stays}
+use Rattle.pod_locks.specs.Holding.{Keeps, KeepsReady, Stays}
 use Rattle.pod_gc.specs.declared.ages.Times.{Times}
 use Rattle.pod_gc.specs.declared.line.Deed.{Deed}
 use Rattle.pod_gc.specs.declared.line.GcLine.{GcLine}

@@ -13,15 +13,15 @@ use Rattle.dir_model.specs.Calls.{Extends}
 use Rattle.dir_model.proofs.Chains.{and_more, extends_wider}
 use Rattle.dir_model.proofs.Lists.{or_last}
 use Rattle.dir_trait.specs.DirCalls.{DirAt, ExtendsBy}
-use Rattle.pod_steps.specs.declared.setback.Setback.{Setback}
-use Rattle.pod_steps.specs.declared.setback.Setback.TheVariants as stop
-use Rattle.pod_steps.specs.Requests.{looks_at, peeks_at}
-use Rattle.pod_steps.specs.Taking.{takes_away, TookNothing}
-use Rattle.pod_steps.proofs.Taking.{took_by, took_looks, took_more}
-use Rattle.pod_removal.specs.Requests.{is_garbage_place, puts_aside}
-use Rattle.pod_removal.specs.Causes.{BusyByLooks, MissedUntaken, BusyByPeeks}
-use Rattle.pod_removal.proofs.CallKinds.{looks_aside}
-use Rattle.pod_removal.proofs.Stages.{err_all}
+use Rattle.pod_locks.specs.declared.setback.Setback.{Setback}
+use Rattle.pod_locks.specs.declared.setback.Setback.TheVariants as stop
+use Rattle.pod_locks.specs.Requests.{looks_at, peeks_at}
+use Rattle.pod_locks.specs.Taking.{takes_away, TookNothing}
+use Rattle.pod_locks.proofs.Taking.{took_by, took_looks, took_more}
+use Rattle.pod_gc.specs.RemovalRequests.{is_garbage_place, puts_aside}
+use Rattle.pod_gc.specs.RemovalCauses.{BusyByLooks, MissedUntaken, BusyByPeeks}
+use Rattle.pod_gc.proofs.CallKinds.{looks_aside}
+use Rattle.pod_gc.proofs.Stages.{err_all}
 use Rattle.pod_gc.specs.declared.line.Deed.{Deed}
 use Rattle.pod_gc.specs.declared.line.Deed.TheVariants.{Moved, Busy, Left}
 use Rattle.pod_gc.specs.Requests.{lists_marks, looks_over, moves_on, may_be_busy}

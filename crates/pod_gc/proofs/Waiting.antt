@@ -27,19 +27,19 @@ use Rattle.phase_read.specs.Read.{pod_spot, HasPhase}
 use Rattle.phase_read.specs.Exact.{AtOwnEvent, IsInPhase}
 use Rattle.phase_read.proofs.Exact.{found_exactly}
 use Rattle.phase_read.proofs.Stages.{has_phase}
-use Rattle.pod_claim.proofs.Times.{at_part}
-use Rattle.pod_claim.proofs.Traces.{grown_none}
-use Rattle.pod_steps.specs.declared.setback.Setback.{Setback}
-use Rattle.pod_steps.specs.Holding.{KeepsReady, Stays}
-use Rattle.pod_steps.specs.Causes.{IsAbsentAt}
-use Rattle.pod_steps.proofs.Calls.{Follows}
-use Rattle.pod_removal.specs.Causes.{StoppedAlone}
-use Rattle.pod_removal.specs.Holding.{MayRemove, MayDiscard}
-use Rattle.pod_removal.proofs.Rounds.{may_kept}
+use Rattle.pod_locks.proofs.Times.{at_part}
+use Rattle.pod_locks.proofs.Traces.{grown_none}
+use Rattle.pod_locks.specs.declared.setback.Setback.{Setback}
+use Rattle.pod_locks.specs.Holding.{KeepsReady, Stays}
+use Rattle.pod_locks.specs.Causes.{IsAbsentAt}
+use Rattle.pod_locks.proofs.Calls.{Follows}
+use Rattle.pod_gc.specs.RemovalCauses.{StoppedAlone}
+use Rattle.pod_gc.specs.RemovalHolding.{MayRemove, MayDiscard}
+use Rattle.pod_gc.proofs.Rounds.{may_kept}
 use Rattle.pod_gc.specs.declared.ages.Times.{Times}
 use Rattle.pod_gc.specs.declared.line.Deed.{Deed}
 use Rattle.pod_gc.specs.declared.line.Deed.TheVariants.{Kept}
-use Rattle.pod_gc.specs.Marks.{Showed, is_ripe}
+use Rattle.pod_gc.specs.Ages.{Showed, is_ripe}
 use Rattle.pod_gc.specs.Deeds.{IsGoneFrom, DeedCause, WaitsBy, WaitedSo, LeavesToAnother}
 use Rattle.pod_gc.specs.Sweeping.{MaySweep, NotesMark, Ripens}
 use Rattle.pod_gc.proofs.Steps.{SetBackAt, cause_kept, deed_later, showed_longer, left_after}

@@ -2,18 +2,18 @@
 use Rattle.std.specs.Prelude.{◌≡◌, Bool, true, Result, Ok, Err}
 use Rattle.dir_model.specs.Causes.{Rose}
 use Rattle.dir_trait.specs.DirCalls.{DirAt}
-use Rattle.area_locks.specs.declared.error.LockError.{LockError}
-use Rattle.area_locks.specs.declared.error.LockError.TheVariants as lock
+use Rattle.dir_files.specs.declared.lock_error.LockError.{LockError}
+use Rattle.dir_files.specs.declared.lock_error.LockError.TheVariants as lock
 use Rattle.dir_model.specs.declared.request.DirError.{DirError}
 use Rattle.dir_model.specs.declared.request.DirError.TheVariants as dir
 use Rattle.phase_read.specs.declared.found.LookError.{LookError}
 use Rattle.phase_read.specs.declared.found.LookError.TheVariants as look
-use Rattle.pod_steps.specs.declared.setback.Setback.{Setback}
-use Rattle.pod_steps.specs.declared.setback.Setback.TheVariants as stop
+use Rattle.pod_locks.specs.declared.setback.Setback.{Setback}
+use Rattle.pod_locks.specs.declared.setback.Setback.TheVariants as stop
 use Rattle.dir_rules.specs.declared.seen.Seen.{Seen}
-use Rattle.pod_steps.specs.Causes.{WasStray, BreaksRules, ByApp}
-use Rattle.pod_gc.specs.declared.error.GcError.{GcError}
-use Rattle.pod_gc.specs.declared.error.GcError.TheVariants.{DirFault, Stray, NoMemory}
+use Rattle.pod_locks.specs.Causes.{WasStray, BreaksRules, ByApp}
+use Rattle.pod_gc.specs.declared.gc_error.GcError.{GcError}
+use Rattle.pod_gc.specs.declared.gc_error.GcError.TheVariants.{DirFault, Stray, NoMemory}
 use Rattle.pod_gc.specs.declared.line.Deed.{Deed}
 use Rattle.pod_gc.specs.declared.line.Deed.TheVariants.{Left, Busy}
 

@@ -21,17 +21,17 @@ use Rattle.dir_trait.specs.DirCalls.{DirAt, HeldBetween}
 use Rattle.lifecycle.specs.Executions.{IsConforming}
 use Rattle.phase_read.specs.Read.{pod_spot}
 use Rattle.phase_read.specs.Exact.{AtOwnEvent, IsInPhase}
-use Rattle.pod_claim.specs.Elsewhere.{is_owned_phase, IsOwnedElsewhere}
-use Rattle.pod_steps.specs.Holding.{Stays}
-use Rattle.pod_steps.specs.Causes.{IsAbsentAt, CannotOpenAt, Did, HeldByAnother, FreeOfOthers}
-use Rattle.pod_steps.specs.Taking.{TookNothing}
-use Rattle.pod_removal.specs.Requests.{is_garbage_place}
-use Rattle.pod_removal.specs.Causes.{MarkedFirst, asked_mode as asked_in_prepared}
+use Rattle.pod_locks.specs.Elsewhere.{is_owned_phase, IsOwnedElsewhere}
+use Rattle.pod_locks.specs.Holding.{Stays}
+use Rattle.pod_locks.specs.Causes.{IsAbsentAt, CannotOpenAt, Did, HeldByAnother, FreeOfOthers}
+use Rattle.pod_locks.specs.Taking.{TookNothing}
+use Rattle.pod_gc.specs.RemovalRequests.{is_garbage_place}
+use Rattle.pod_gc.specs.RemovalCauses.{MarkedFirst, asked_mode as asked_in_prepared}
 use Rattle.pod_gc.specs.declared.ages.Times.{Times}
 use Rattle.pod_gc.specs.declared.line.Deed.{Deed}
 use Rattle.pod_gc.specs.declared.line.Deed.TheVariants.{Moved, Deleted, Kept, Busy, BusyGate, Left}
 use Rattle.pod_gc.specs.Requests.{goes_to, moves_pods, lets_be, looks_over, moves_on, may_be_busy}
-use Rattle.pod_gc.specs.Marks.{Showed, is_young, is_ripe}
+use Rattle.pod_gc.specs.Ages.{Showed, is_young, is_ripe}
 
 -- the pod, or in prepared its file `pod`, isn't at this place
 abbrev pub IsGoneFrom : PodId → Area → DirState → Type 0

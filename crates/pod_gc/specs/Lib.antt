@@ -1,5 +1,12 @@
+pub mod RemovalSetbacks
+pub mod RemovalRequests
+pub mod RemovalHolding
+pub mod RemovalCauses
+pub mod Removals
+pub mod Found
+pub mod Hindrances
 pub mod Requests
-pub mod Marks
+pub mod Ages
 pub mod Causes
 pub mod Deeds
 pub mod Sweeping

@@ -13,8 +13,8 @@ use Rattle.dir_rules.specs.Standing.{is_in}
 use Rattle.dir_rules.specs.Seen.{inner_eq}
 use Rattle.dir_rules.specs.Rules.{root_of}
 use Rattle.phase_read.specs.Read.{pod_spot}
-use Rattle.pod_steps.specs.Requests.{looks_at, moves}
-use Rattle.pod_removal.specs.Requests.{puts_aside, removes}
+use Rattle.pod_locks.specs.Requests.{looks_at, moves}
+use Rattle.pod_gc.specs.RemovalRequests.{puts_aside, removes}
 
 -- where a pod's age counts
 abbrev pub counts_time : Area → Bool

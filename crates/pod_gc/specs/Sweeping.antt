@@ -7,11 +7,11 @@ use Rattle.dir_model.specs.Pods.{pod_text}
 use Rattle.dir_rules.specs.declared.seen.Created.{Created}
 use Rattle.dir_rules.specs.declared.seen.Seen.{Seen}
 use Rattle.dir_rules.specs.Standing.{intends, began_as, is_gc, closes_gate}
-use Rattle.area_locks.specs.AreaLocks.{is_free_of}
+use Rattle.dir_files.specs.AreaLocks.{is_free_of}
 use Rattle.dir_trait.specs.DirCalls.{DirAt}
 use Rattle.dir_trait.specs.Knowledge.{Knows}
-use Rattle.pod_steps.specs.Holding.{Keeps}
-use Rattle.pod_removal.specs.Holding.{MayRemove}
+use Rattle.pod_locks.specs.Holding.{Keeps}
+use Rattle.pod_gc.specs.RemovalHolding.{MayRemove}
 
 -- it began as a sweep at this moment with this expire time, and has no folder in hand
 pub record MaySweep (now expire : ℕ) (s : Seen) : Type 0 where

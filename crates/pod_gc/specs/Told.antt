@@ -17,7 +17,7 @@ use Rattle.dir_rules.specs.declared.seen.Seen.{Seen}
 use Rattle.dir_trait.specs.DirCalls.{DirAt}
 use Rattle.dir_trait.specs.Knowledge.{Knows}
 use Rattle.dir_files.specs.Listed.{ShowsArea}
-use Rattle.area_locks.specs.AreaLocks.{takes, closes, IsBusy, IsBusyElsewhere, IsFreeElsewhere}
+use Rattle.dir_files.specs.AreaLocks.{takes, closes, IsBusy, IsBusyElsewhere, IsFreeElsewhere}
 use Rattle.pod_gc.specs.declared.ages.Times.{Times}
 use Rattle.pod_gc.specs.declared.line.Deed.TheVariants.{BusyGate}
 use Rattle.pod_gc.specs.declared.line.GcLine.{GcLine}

@@ -7,18 +7,18 @@ ghost use Rattle.dir_trait.specs.DirCalls.{HeldBetween};
 ghost use Rattle.phase_read.specs.Read.{pod_spot};
 ghost use Rattle.dir_trait.specs.Local.{IsActive};
 ghost use Rattle.folder_building.specs.Work.{Worked};
-ghost use Rattle.pod_steps.specs.Holding.{KeepsReady, Stays};
-ghost use Rattle.pod_steps.specs.Causes.{IsAbsentAt};
-ghost use Rattle.pod_removal.specs.Holding.{MayRemove};
+ghost use Rattle.pod_locks.specs.Holding.{KeepsReady, Stays};
+ghost use Rattle.pod_locks.specs.Causes.{IsAbsentAt};
+ghost use Rattle.pod_gc.specs.RemovalHolding.{MayRemove};
 ghost use Rattle.pod_gc.specs.Requests.{counts_time, lists_marks};
 ghost use Rattle.pod_gc.specs.Causes.{GcCause};
-ghost use Rattle.pod_gc.specs.Marks.{mark_moment, moment_among, is_young, is_ripe, Showed};
+ghost use Rattle.pod_gc.specs.Ages.{mark_moment, moment_among, is_young, is_ripe, Showed};
 ghost use Rattle.pod_gc.specs.Sweeping.{NotesMark};
 
-use crate::error::{GcError, listing_fault};
+use crate::gc_error::{GcError, listing_fault};
 use dir_files::items_of;
 use dir_trait::{Area, Dir, DirError, Item, PodId};
-use pod_steps::pod_spot;
+use pod_locks::pod_spot;
 use rule_marks::is_mark;
 use std::alloc::Global;
 

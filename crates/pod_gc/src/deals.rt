@@ -2,27 +2,27 @@
 ghost use Rattle.std.specs.Prelude.{◌≡◌, ℕ, true, Some, IfOk, IfErr};
 ghost use Rattle.dir_model.specs.declared.spot.Which.{Which};
 ghost use Rattle.dir_model.specs.declared.area.Phase.{Phase};
-ghost use Rattle.pod_steps.specs.Requests.{moves};
+ghost use Rattle.pod_locks.specs.Requests.{moves};
 ghost use Rattle.pod_gc.specs.Sweeping.{HoldsEmbryo, MaySweep, MayPass, Ripens};
 ghost use Rattle.dir_model.specs.declared.area.Area.TheVariants as area;
 ghost use Rattle.dir_model.specs.Areas.{is_stage};
 ghost use Rattle.dir_trait.specs.Local.{IsActive};
 ghost use Rattle.folder_building.specs.Work.{Worked};
-ghost use Rattle.pod_steps.specs.Holding.{KeepsReady, Stays};
-ghost use Rattle.pod_removal.specs.Requests.{is_garbage_place, removes};
-ghost use Rattle.pod_removal.specs.Holding.{MayRemove};
+ghost use Rattle.pod_locks.specs.Holding.{KeepsReady, Stays};
+ghost use Rattle.pod_gc.specs.RemovalRequests.{is_garbage_place, removes};
+ghost use Rattle.pod_gc.specs.RemovalHolding.{MayRemove};
 ghost use Rattle.pod_gc.specs.Requests.{deals_with};
 ghost use Rattle.pod_gc.specs.Causes.{GcCause, NeverStray, StrayByApp};
-ghost use Rattle.pod_gc.specs.Marks.{is_young, is_ripe};
+ghost use Rattle.pod_gc.specs.Ages.{is_young, is_ripe};
 ghost use Rattle.pod_gc.specs.Deeds.{DeedCause, refused_lock, LeavesWhere, MarksFirst, LetBe, WaitsOr, RestsBy, WaitsBy, RestedSo, WaitedSo, Dealt};
 
 use crate::ages::{Times, is_ripe, is_young, marked_at};
-use crate::error::GcError;
+use crate::gc_error::GcError;
 use crate::kept::{kept, kept_exited};
 use crate::line::{Deed, deed_of};
 use dir_trait::{Area, Dir, Phase, PodId};
-use pod_removal::{delete_at, discard_aborted, discard_prepared, retire_exited};
-use pod_steps::{Setback, put_aside};
+use crate::{delete_at, discard_aborted, discard_prepared, retire_exited};
+use pod_locks::{Setback, put_aside};
 use std::alloc::Global;
 
 // An embryo goes to garbage: the lock of embryo is held, so nobody makes it.

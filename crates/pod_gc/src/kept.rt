@@ -6,17 +6,17 @@ ghost use Rattle.dir_trait.specs.DirCalls.{ExtendsBy};
 ghost use Rattle.dir_trait.specs.Local.{IsActive};
 ghost use Rattle.dir_trait.specs.Knowledge.{OnlyLooks};
 ghost use Rattle.folder_building.specs.Work.{Worked};
-ghost use Rattle.pod_steps.specs.Requests.{looks_at, peeks_at};
-ghost use Rattle.pod_steps.specs.Holding.{KeepsReady, Stays};
-ghost use Rattle.pod_removal.specs.Holding.{MayRemove};
+ghost use Rattle.pod_locks.specs.Requests.{looks_at, peeks_at};
+ghost use Rattle.pod_locks.specs.Holding.{KeepsReady, Stays};
+ghost use Rattle.pod_gc.specs.RemovalHolding.{MayRemove};
 ghost use Rattle.pod_gc.specs.Causes.{GcCause};
 ghost use Rattle.pod_gc.specs.Deeds.{DeedCause, SaysThere, DoesNothing, LeavesWhere};
 
-use crate::error::{GcError, look_fault};
+use crate::gc_error::{GcError, look_fault};
 use crate::line::{Deed, deed_of};
 use dir_trait::{Area, Dir, Phase, PodId};
 use phase_read::look;
-use pod_steps::{Setback, pod_spot, probe};
+use pod_locks::{Setback, pod_spot, probe};
 use std::alloc::Global;
 
 /// What is said of a pod whose own lock told that it has this phase: it still stands there, or it may have

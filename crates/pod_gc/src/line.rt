@@ -2,9 +2,9 @@
 ghost use Rattle.std.specs.Prelude.{◌≡◌};
 ghost use Rattle.pod_gc.specs.Causes.{deed_of};
 
-use crate::error::{GcError, step_fault};
+use crate::gc_error::{GcError, step_fault};
 use dir_trait::{Area, Phase, PodId, Which};
-use pod_steps::Setback;
+use pod_locks::Setback;
 
 /// What a sweep did with a pod, or why it let it be.
 #[derive(Clone, Copy, Debug, PartialEq, Eq)]

@@ -3,7 +3,7 @@ ghost use Rattle.std.specs.Prelude.{◌≡◌, ◌++◌, ◌∷◌, [], true, If
 ghost use Rattle.dir_model.specs.Areas.{is_stage};
 ghost use Rattle.dir_trait.specs.Local.{IsActive};
 ghost use Rattle.folder_building.specs.Work.{Worked};
-ghost use Rattle.pod_steps.specs.Holding.{KeepsReady, Stays};
+ghost use Rattle.pod_locks.specs.Holding.{KeepsReady, Stays};
 ghost use Rattle.pod_gc.specs.Requests.{sweeps};
 ghost use Rattle.pod_gc.specs.Causes.{GcCause, StrayByApp};
 ghost use Rattle.pod_gc.specs.Sweeping.{MayPass, MaySweepAll};
@@ -12,9 +12,9 @@ ghost use Rattle.pod_gc.specs.Ended.{EndsAtPod, EndsAmongBetween, EndsListingBet
 
 use crate::ages::Times;
 use crate::deals::deal;
-use crate::error::{GcError, listing_fault, lock_fault};
+use crate::gc_error::{GcError, listing_fault, lock_fault};
 use crate::line::{Deed, GcLine};
-use area_locks::{LockError, lock_area, unlock_area};
+use dir_files::{LockError, lock_area, unlock_area};
 use dir_files::names_of;
 use dir_trait::{Area, Dir, Mode, Name, PodId};
 use std::alloc::Global;

@@ -4,7 +4,7 @@ ghost use Rattle.dir_trait.specs.Local.{IsActive};
 ghost use Rattle.folder_building.specs.Work.{Worked};
 ghost use Rattle.impossible_replies.specs.Replies.{AppWroteOn};
 ghost use Rattle.lifecycle.specs.Executions.{IsConforming};
-ghost use Rattle.pod_steps.specs.Holding.{KeepsReady, Stays};
+ghost use Rattle.pod_locks.specs.Holding.{KeepsReady, Stays};
 ghost use Rattle.pod_gc.specs.Requests.{sweeps};
 ghost use Rattle.pod_gc.specs.Causes.{GcCause, StrayByApp};
 ghost use Rattle.pod_gc.specs.Sweeping.{MaySweepAll};
@@ -12,7 +12,7 @@ ghost use Rattle.pod_gc.specs.Told.{places, AddsSwept, IsSweptBetween};
 ghost use Rattle.pod_gc.specs.Ended.{EndsSweepBetween};
 
 use crate::ages::Times;
-use crate::error::GcError;
+use crate::gc_error::GcError;
 use crate::line::GcLine;
 use crate::passes::pass;
 use dir_trait::{Area, Dir};

@@ -6,7 +6,7 @@ use ac_types::{AcName, lower_hex};
 use dep_match::Stored;
 use dir_trait::Name;
 use folder_building::{Content, Origin, PlanEntry};
-use pod_plans::{PodApp, pod_plan, token_text};
+use pod_plan::{PodApp, pod_plan, token_text};
 use render::Rendering;
 use scripts::{Page, Unread, name_of, number_of};
 

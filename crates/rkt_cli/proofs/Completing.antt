@@ -9,11 +9,11 @@ use Rattle.dir_model.specs.Calls.{Extends, is_finish, is_foreign}
 use Rattle.dir_trait.specs.DirCalls.{DirAt}
 use Rattle.lifecycle.specs.Executions.{IsConforming}
 use Rattle.lifecycle.proofs.Draws.{conforming_left}
-use Rattle.pod_claim.specs.declared.error.ClaimError.{ClaimError}
-use Rattle.pod_claim.specs.Claims.{IsFree, IsFreeThroughout, IsFailure}
+use Rattle.pod_locks.specs.declared.claim_error.ClaimError.{ClaimError}
+use Rattle.pod_locks.specs.Claims.{IsFree, IsFreeThroughout, IsFailure}
 use Rattle.stage1.specs.declared.error.RunError.{RunError}
 use Rattle.stage1.specs.declared.error.RunError.TheVariants as run
-use Rattle.pod_removal.specs.Hindrances.{IsUnhinderedThroughout}
+use Rattle.pod_gc.specs.Hindrances.{IsUnhinderedThroughout}
 use Rattle.command_outcomes.specs.declared.refusal.Refusal.{Refusal}
 use Rattle.command_outcomes.specs.declared.refusal.Refusal.TheVariants.{Usage, DirFault, BundleFault, OutFault, NoMemory, Stray}
 use Rattle.command_outcomes.specs.Texts.{status_of}

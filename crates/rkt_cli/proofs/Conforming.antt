@@ -1,6 +1,6 @@
 -- A run of the program keeps the local rules.
 use Rattle.std.proofs.Common.{◌≡◌, inl, inr, ℕ, Bool, true, Option, Some, None, refl, sym, ap, subst, ◌∙◌}
-use Rattle.area_locks.specs.AreaLocks.{is_free_of}
+use Rattle.dir_files.specs.AreaLocks.{is_free_of}
 use Rattle.dir_model.specs.declared.area.Area.TheVariants.{Images}
 use Rattle.dir_model.specs.declared.intent.Draw.{Draw}
 use Rattle.dir_model.specs.declared.intent.Intent.{Intent}

@@ -8,7 +8,7 @@ use Rattle.dir_model.specs.declared.spot.Mode.TheVariants.{Shared}
 use Rattle.dir_model.specs.declared.request.Request.{Request}
 use Rattle.dir_model.proofs.Lists.{not_true}
 use Rattle.dir_trait.specs.DirCalls.{HeldBetween}
-use Rattle.area_locks.specs.AreaLocks.{IsBusyElsewhere}
+use Rattle.dir_files.specs.AreaLocks.{IsBusyElsewhere}
 use Rattle.lifecycle.specs.Executions.{IsConforming}
 use Rattle.lifecycle.proofs.Draws.{conforming_left}
 use Rattle.bundle_image.specs.declared.image.BundleImage.{BundleImage}

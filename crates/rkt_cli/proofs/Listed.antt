@@ -5,7 +5,7 @@ use Rattle.dir_model.specs.declared.area.Area.TheVariants.{Images}
 use Rattle.dir_model.specs.declared.intent.Draw.{Draw}
 use Rattle.dir_model.specs.declared.intent.Intent.{Intent}
 use Rattle.dir_model.specs.declared.spot.Mode.TheVariants.{Shared}
-use Rattle.area_locks.specs.AreaLocks.{IsBusyElsewhere, IsFreeElsewhere}
+use Rattle.dir_files.specs.AreaLocks.{IsBusyElsewhere, IsFreeElsewhere}
 use Rattle.dir_trait.specs.DirCalls.{HeldBetween}
 use Rattle.rkt_cli.specs.Tasks.{Task}
 use Rattle.rkt_cli.specs.Tasks.{ImageList}

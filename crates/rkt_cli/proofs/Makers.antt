@@ -25,11 +25,11 @@ use Rattle.image_store.specs.Requests.{imports_at}
 use Rattle.image_removal.specs.Requests.{away_spot, removes_at, sweeps}
 use Rattle.image_reading.specs.Places.{image_spot}
 use Rattle.phase_read.specs.Read.{pod_spot}
-use Rattle.pod_claim.specs.Requests.{in_prepared, in_run}
-use Rattle.pod_removal.specs.Requests.{removes}
+use Rattle.pod_locks.specs.ClaimRequests.{in_prepared, in_run}
+use Rattle.pod_gc.specs.RemovalRequests.{removes}
 use Rattle.pod_gc.specs.Requests.{sweeps as sweeps_pods}
-use Rattle.pod_making.specs.Handovers.{is_handed_to, hands_over, BeforeHandingOver}
-use Rattle.pod_making.proofs.Handing.{HandsNothingOver, none_handed, nothing_handed, handed_after, handed_before, follow_on, run_until}
+use Rattle.pod_build.specs.Handovers.{is_handed_to, hands_over, BeforeHandingOver}
+use Rattle.pod_build.proofs.Handing.{HandsNothingOver, none_handed, nothing_handed, handed_after, handed_before, follow_on, run_until}
 use Rattle.pod_build.specs.FaithfulBuild.{IsFaithfulBuild, HandsOverFaithfully}
 use Rattle.pod_build.specs.Preparations.{Began, MakesFaithfully}
 use Rattle.commands.specs.ImageList.{lists_images}

@@ -23,7 +23,7 @@ use Rattle.folder_contents.specs.UnderGate.{takes}
 use Rattle.folder_contents.proofs.Along.{happens}
 use Rattle.folder_contents.proofs.Spots.{one_location}
 use Rattle.folder_contents.proofs.Unmoved.{unmoved}
-use Rattle.pod_making.specs.Requests.{pod_at}
+use Rattle.pod_build.specs.MakingRequests.{pod_at}
 use Rattle.pod_build.specs.Preparations.{IsPrepared}
 use Rattle.commands.specs.Prepare.{prepares_pod}
 use Rattle.commands.specs.PrepareQuiet.{StandsPrepared}

@@ -15,13 +15,13 @@ use Rattle.dir_model.proofs.Chains.{step_extends}
 use Rattle.dir_model.proofs.Moments.{at_before}
 use Rattle.dir_rules.specs.Conforms.{IsTied}
 use Rattle.dir_trait.specs.DirCalls.{DirAt, HeldBetween}
-use Rattle.area_locks.specs.AreaLocks.{IsBusyElsewhere, IsFreeElsewhere}
+use Rattle.dir_files.specs.AreaLocks.{IsBusyElsewhere, IsFreeElsewhere}
 use Rattle.folder_building.specs.Work.{Worked}
 use Rattle.lifecycle.specs.Executions.{IsConforming}
 use Rattle.lifecycle.proofs.Draws.{conforming_left}
 use Rattle.pod_build.specs.Causes.{IsMadeByPlan}
 use Rattle.pod_build.specs.Preparations.{Began}
-use Rattle.pod_making.specs.Progress.{at_work, handed}
+use Rattle.pod_build.specs.Progress.{at_work, handed}
 use Rattle.rkt_cli.specs.Tasks.{Task}
 use Rattle.rkt_cli.specs.Tasks.{Prepare}
 use Rattle.command_outcomes.specs.declared.refusal.Refusal.{Refusal}

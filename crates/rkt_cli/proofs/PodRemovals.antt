@@ -12,16 +12,16 @@ use Rattle.dir_model.proofs.Chains.{step_extends}
 use Rattle.dir_model.proofs.Lists.{same_self}
 use Rattle.dir_trait.specs.DirCalls.{DirAt}
 use Rattle.folder_building.specs.Work.{Worked}
-use Rattle.pod_steps.specs.Holding.{KeepsReady, Stays}
-use Rattle.pod_removal.specs.Requests.{removes}
+use Rattle.pod_locks.specs.Holding.{KeepsReady, Stays}
+use Rattle.pod_gc.specs.RemovalRequests.{removes}
 use Rattle.pod_gc.specs.Requests.{sweeps}
 use Rattle.command_outcomes.specs.declared.refusal.Refusal.{Refusal}
 use Rattle.command_outcomes.proofs.Seen.{beside}
 use Rattle.rkt_cli.specs.Tasks.{Task}
 use Rattle.rkt_cli.proofs.Ran.{ran}
-use Rattle.pod_steps.specs.Causes.{WasStray}
-use Rattle.pod_removal.specs.Holding.{MayRemovePod}
-use Rattle.pod_removal.specs.Removals.{FoundNone}
+use Rattle.pod_locks.specs.Causes.{WasStray}
+use Rattle.pod_gc.specs.RemovalHolding.{MayRemovePod}
+use Rattle.pod_gc.specs.Removals.{FoundNone}
 use Rattle.pod_gc.specs.declared.line.GcLine.{GcLine}
 use Rattle.pod_gc.specs.Sweeping.{MaySweepAll}
 use Rattle.command_outcomes.specs.declared.refusal.Refusal.TheVariants.{NoPod, WrongPhase, PodBusy, NoManifest, DirFault, Stray, NoMemory}

@@ -1,6 +1,6 @@
 -- Where nobody else steps and nothing fails, a run gives what the state and the bundle before it say.
 use Rattle.std.proofs.Common.{◌≡◌, ◌⊎◌, inl, inr, ℕ, Bool, true, false, List, [], Option, Some, None, Ok, Err, refl, sym, ap, subst, ◌∙◌}
-use Rattle.area_locks.specs.AreaLocks.{is_against, IsBusyElsewhere, IsFreeElsewhere}
+use Rattle.dir_files.specs.AreaLocks.{is_against, IsBusyElsewhere, IsFreeElsewhere}
 use Rattle.dir_model.specs.declared.area.Area.{Area}
 use Rattle.ac_types.specs.declared.store_key.StoreKey.{StoreKey}
 use Rattle.dir_model.specs.declared.area.Area.TheVariants.{Images}
@@ -92,7 +92,7 @@ use Rattle.commands.proofs.NextState.{leaves_beside}
 use Rattle.commands.proofs.RemovalQuiet.{ChangesAt, held_before}
 use Rattle.commands.proofs.OwnSteps.{in_process}
 use Rattle.commands.proofs.ImportQuiet.{is_modest, imports_is_modest, at_modest, end_modest}
-use Rattle.pod_removal.specs.Requests.{removes}
+use Rattle.pod_gc.specs.RemovalRequests.{removes}
 use Rattle.commands.specs.Gc.{times_of}
 use Rattle.commands.specs.RemovalQuiet.{RemovesPodQuietly, SweepsPodsQuietly, is_pods_place}
 use Rattle.commands.proofs.RemovedQuietly.{rm_removed_quietly, rm_none_quietly, rm_wrong_quietly, rm_lacking_quietly, rm_busy_quietly, gc_swept_quietly}

@@ -16,8 +16,8 @@ use Rattle.dir_model.proofs.Chains.{and_more, extends_wider, step_extends}
 use Rattle.dir_model.proofs.Lists.{or_last}
 use Rattle.dir_trait.specs.DirCalls.{DirAt}
 use Rattle.dir_trait.specs.Knowledge.{Knows}
-use Rattle.pod_claim.specs.declared.error.ClaimError.{ClaimError}
-use Rattle.pod_claim.specs.Work.{Grew}
+use Rattle.pod_locks.specs.declared.claim_error.ClaimError.{ClaimError}
+use Rattle.pod_locks.specs.Work.{Grew}
 use Rattle.command_outcomes.specs.declared.refusal.Refusal.{Refusal}
 use Rattle.command_outcomes.specs.declared.refusal.Refusal.TheVariants.{NoMemory}
 use Rattle.command_outcomes.specs.declared.told.Told.{Told}
@@ -26,7 +26,7 @@ use Rattle.command_outcomes.specs.Moments.{DirSeen, Inside, Answer, Outcome, out
 use Rattle.commands.specs.RunRefusals.{claim_refusal}
 use Rattle.lifecycle.specs.Executions.{IsConforming}
 use Rattle.pod_build.specs.Preparations.{Began}
-use Rattle.pod_making.specs.Progress.{at_work, nothing_made}
+use Rattle.pod_build.specs.Progress.{at_work, nothing_made}
 use Rattle.commands.specs.AppsTold.{WithinProcess}
 use Rattle.commands.specs.RunPrepared.{runs_prepared, ClaimsAndRuns, IsUnclaimed, RunPreparedSays}
 use Rattle.commands.specs.Run.{makes_and_runs, MakesAndRuns, NewRunSays, RunIsTold}

@@ -9,7 +9,7 @@ use Rattle.dir_model.specs.declared.request.Request.TheVariants.{Finish}
 use Rattle.dir_model.specs.declared.request.Reply.TheVariants.{Done}
 use Rattle.dir_trait.specs.DirCalls.{DirAt}
 use Rattle.pod_build.specs.Causes.{IsRefused}
-use Rattle.pod_ownership.specs.declared.owned.Owned.{Owned}
+use Rattle.pod_locks.specs.declared.owned.Owned.{Owned}
 use Rattle.spawner.specs.Calls.{SpawnerAt}
 use Rattle.commands.specs.AppsTold.{WithinProcess}
 use Rattle.commands.specs.Prepare.{pod_line}
@@ -34,7 +34,7 @@ use Rattle.phase_read.specs.declared.found.LookError.TheVariants as lookup
 use Rattle.image_reading.specs.declared.error.StoreError.{StoreError}
 use Rattle.image_reading.specs.declared.error.StoreError.TheVariants as store
 use Rattle.image_store.proofs.Lawful as imports
-use Rattle.pod_claim.proofs.Lawful as claims
+use Rattle.pod_locks.proofs.ClaimLawful as claims
 use Rattle.command_outcomes.specs.declared.refusal.Refusal.{Refusal}
 use Rattle.command_outcomes.specs.declared.refusal.Refusal.TheVariants.{Usage, NoPod, Ambiguous, WrongPhase, Busy, PodBusy, BadManifest, NoImage, NoDependency, Cycle, Limit, DirFault, BundleFault, SpawnFault, OutFault, LinkFault, NoMemory, NoFile, Conflict, Damaged, BadKind, Taken, NoManifest, NoProgram, Stray}
 use Rattle.command_outcomes.specs.Meanwhile.{Meanwhile}

@@ -3,7 +3,7 @@ ghost use Rattle.std.specs.Prelude.{◌≡◌, ◌⊎◌, true, false, None};
 ghost use Rattle.command_outcomes.specs.Moments.{dir_at, bundle_at};
 ghost use Rattle.dir_trait.specs.Local.{nothing_local};
 ghost use Rattle.pod_build.specs.LegalExecutions.{IsLegal};
-ghost use Rattle.pod_roots.specs.Roots.{PodsReadAsMade};
+ghost use Rattle.headline.specs.Roots.{PodsReadAsMade};
 ghost use Rattle.rkt_cli.specs.Between.{EndedBetween, ToldBetween, PhasesBetween, QuietBetween, RunBetween};
 ghost use Rattle.dir_model.specs.Causes.{Rose};
 ghost use Rattle.rkt_cli.specs.Commands.{uses_dir_in, reads_bundle_in, runs_apps_in, takes_links_in};

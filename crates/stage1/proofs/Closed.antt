@@ -15,8 +15,8 @@ use Rattle.dir_rules.specs.Standing.{standing_replied}
 use Rattle.dir_trait.proofs.Knowing.{knows_call}
 use Rattle.dir_trait.specs.DirCalls.{DirAt, DirCall, ExtendsBy}
 use Rattle.spawner.specs.Calls.{SpawnerAt}
-use Rattle.pod_launches.specs.declared.error.LoadError.TheVariants as load
-use Rattle.pod_launches.proofs.Later.{load_later}
+use Rattle.stage1.specs.declared.load_error.LoadError.TheVariants as load
+use Rattle.stage1.proofs.Later.{load_later}
 use Rattle.stage1.specs.declared.error.RunError.{RunError}
 use Rattle.stage1.specs.declared.error.RunError.TheVariants.{NoManifest, Damaged, NoProgram, SpawnFault, DirFault, Stray, NoMemory}
 use Rattle.stage1.specs.Runs.{reads_or_closes, RefusedFor, IsRefusedRun}

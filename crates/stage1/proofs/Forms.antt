@@ -6,7 +6,7 @@ use Rattle.dir_model.specs.Trees.{mark_prefix}
 use Rattle.dir_rules.specs.Marks.{status_directory}
 use Rattle.ac_types.specs.Names.{IsAcName}
 use Rattle.spawner.specs.Conditions.{start_mark}
-use Rattle.pod_launches.proofs.Names.{app_name, rootfs_path, plain_path, plain_behind}
+use Rattle.pod_files.proofs.Names.{app_name, rootfs_path, plain_path, plain_behind}
 use Rattle.stage1.specs.Notes.{status_path}
 
 within : (n : ℕ) → n ≤ 208 → nat_le n 255 ≡ true

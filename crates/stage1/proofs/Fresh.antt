@@ -17,11 +17,11 @@ use Rattle.dir_rules.specs.Rules.{runs, deletes, has_note}
 use Rattle.dir_trait.specs.DirCalls.{DirAt}
 use Rattle.spawner.specs.declared.call.RootPlace.{RootPlace}
 use Rattle.spawner.specs.Conditions.{start_mark}
-use Rattle.pod_launches.specs.declared.start.AppStart.{AppStart}
-use Rattle.pod_launches.specs.Starts.{IsPlacedIn, ReadsStarts}
-use Rattle.pod_launches.proofs.Apart.{distinct_starts}
+use Rattle.stage1.specs.declared.start.AppStart.{AppStart}
+use Rattle.stage1.specs.Starts.{IsPlacedIn, ReadsStarts}
+use Rattle.stage1.proofs.Apart.{distinct_starts}
 use Rattle.stage1.specs.Notes.{mark_inner, status_inner, status_path}
-use Rattle.pod_launches.specs.Looks.{reads_pod, OnlyReadsPod}
+use Rattle.pod_files.specs.Looks.{reads_pod, OnlyReadsPod}
 use Rattle.stage1.specs.Keeping.{AppendsOnce, once, noted, MayNote, mark_times, status_times, app_times, all_times, Keeps, IsFresh, KeepsRules, appends_to}
 use Rattle.stage1.proofs.Appends.{none_few}
 

@@ -10,17 +10,17 @@ use Rattle.dir_model.proofs.Lists.{all_weaker}
 use Rattle.dir_trait.specs.DirCalls.{DirAt, ExtendsBy}
 use Rattle.folder_building.specs.Work.{Worked}
 use Rattle.folder_building.proofs.Working.{worked_more, worked_wider, in_first, in_second}
-use Rattle.pod_ownership.specs.Running.{RunsPod}
+use Rattle.pod_locks.specs.Running.{RunsPod}
 use Rattle.spawner.specs.declared.call.RootPlace.{RootPlace}
 use Rattle.spawner.specs.Calls.{SpawnerAt}
 use Rattle.spawner.specs.Conditions.{StillRuns}
-use Rattle.pod_launches.specs.declared.error.LoadError.{LoadError}
-use Rattle.pod_launches.specs.declared.error.LoadError.TheVariants as load
-use Rattle.pod_launches.specs.declared.start.AppStart.{AppStart}
-use Rattle.pod_launches.specs.Places.{run_spot}
-use Rattle.pod_launches.specs.Looks.{reads_pod, OnlyReadsPod}
-use Rattle.pod_launches.specs.Starts.{IsPlacedIn, ReadsStarts}
-use Rattle.pod_launches.specs.Refusals.{LoadCause}
+use Rattle.stage1.specs.declared.load_error.LoadError.{LoadError}
+use Rattle.stage1.specs.declared.load_error.LoadError.TheVariants as load
+use Rattle.stage1.specs.declared.start.AppStart.{AppStart}
+use Rattle.stage1.specs.AppPlaces.{run_spot}
+use Rattle.pod_files.specs.Looks.{reads_pod, OnlyReadsPod}
+use Rattle.stage1.specs.Starts.{IsPlacedIn, ReadsStarts}
+use Rattle.stage1.specs.LoadRefusals.{LoadCause}
 use Rattle.stage1.specs.declared.error.RunError.{RunError}
 use Rattle.stage1.specs.declared.error.RunError.TheVariants.{NoManifest, Damaged, NoProgram, SpawnFault, DirFault, Stray, NoMemory}
 use Rattle.stage1.specs.Cutting.{IsCutShort}

@@ -23,7 +23,7 @@ use Rattle.dir_rules.specs.Seen.{inner_eq, learned}
 use Rattle.dir_rules.specs.Standing.{is_in, standing_replied}
 use Rattle.dir_trait.specs.DirCalls.{DirAt, DirCall}
 use Rattle.dir_trait.proofs.Knowing.{knows_call}
-use Rattle.pod_launches.proofs.Names.{app_name, no_slashes}
+use Rattle.pod_files.proofs.Names.{app_name, no_slashes}
 use Rattle.spawner.specs.declared.call.RootPlace.{RootPlace}
 use Rattle.spawner.specs.Conditions.{start_mark}
 use Rattle.stage1.specs.Notes.{IsPlaced, mark_inner, status_inner, status_path}

@@ -42,7 +42,7 @@ use Rattle.impossible_replies.proofs.Runners.{last_run}
 use Rattle.dir_trait.specs.DirCalls.{DirAt, ExtendsBy}
 use Rattle.folder_building.specs.Work.{is_stray}
 use Rattle.pod_files.specs.Places.{run_spot}
-use Rattle.pod_ownership.specs.Running.{RunsPod}
+use Rattle.pod_locks.specs.Running.{RunsPod}
 use Rattle.stage1.specs.Refusals.{WasStrayIn}
 use Rattle.stage1.specs.Runs.{runs_and_closes}
 

@@ -1,3 +1,9 @@
+pub mod Trees
+mod Rooted
+mod Found
+mod Lacking
+pub mod Later
+pub mod Apart
 mod Counting
 mod Asked
 mod Cuts

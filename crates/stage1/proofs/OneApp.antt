@@ -6,7 +6,7 @@ use Rattle.spawner.specs.declared.call.SpawnRequest.TheVariants.{Wait}
 use Rattle.spawner.specs.declared.call.SpawnReply.{SpawnReply}
 use Rattle.spawner.specs.declared.call.SpawnReply.TheVariants.{Ended, Refused}
 use Rattle.spawner.specs.Calls.{SpawnerAt, call, answers}
-use Rattle.pod_launches.specs.declared.start.AppStart.{AppStart}
+use Rattle.stage1.specs.declared.start.AppStart.{AppStart}
 use Rattle.stage1.specs.declared.stand.Stand.{Stand}
 use Rattle.stage1.specs.declared.stand.Stand.TheVariants.{Running}
 use Rattle.stage1.specs.declared.stand.Stand.TheVariants as stand

@@ -7,7 +7,7 @@ use Rattle.spawner.specs.declared.call.SpawnRequest.{SpawnRequest}
 use Rattle.spawner.specs.declared.call.SpawnRequest.TheVariants.{Wait}
 use Rattle.spawner.specs.declared.call.SpawnReply.TheVariants.{Refused}
 use Rattle.spawner.specs.Calls.{SpawnerAt, call}
-use Rattle.pod_launches.specs.declared.start.AppStart.{AppStart}
+use Rattle.stage1.specs.declared.start.AppStart.{AppStart}
 use Rattle.stage1.specs.declared.stand.Stand.{Stand}
 use Rattle.stage1.specs.declared.stand.Stand.TheVariants.{Running, Ended}
 use Rattle.stage1.specs.Sequences.{wait_call, handler_calls}

@@ -9,7 +9,7 @@ use Rattle.spawner.specs.declared.call.Child.{Child}
 use Rattle.spawner.specs.declared.call.RootPlace.{RootPlace}
 use Rattle.spawner.specs.declared.call.SpawnCall.{SpawnCall}
 use Rattle.spawner.specs.Calls.{SpawnerAt}
-use Rattle.pod_launches.specs.declared.start.AppStart.{AppStart}
+use Rattle.stage1.specs.declared.start.AppStart.{AppStart}
 use Rattle.stage1.specs.declared.stand.Stand.{Stand}
 use Rattle.stage1.specs.declared.stand.Stand.TheVariants.{Running, Ended}
 use Rattle.stage1.specs.Sequences.{Beginning, first_calls}

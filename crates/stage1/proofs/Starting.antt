@@ -6,9 +6,9 @@ use Rattle.dir_model.specs.declared.request.Request.TheVariants.{Close, ReadIn}
 use Rattle.dir_model.specs.declared.spot.Handle.{Handle}
 use Rattle.dir_model.proofs.Chains.{and_more, extends_wider}
 use Rattle.dir_trait.specs.DirCalls.{DirAt, ExtendsBy}
-use Rattle.pod_launches.specs.declared.start.AppStart.{AppStart}
-use Rattle.pod_launches.specs.Looks.{reads_pod, OnlyReadsPod}
-use Rattle.pod_launches.specs.Starts.{ReadsStarts}
+use Rattle.stage1.specs.declared.start.AppStart.{AppStart}
+use Rattle.pod_files.specs.Looks.{reads_pod, OnlyReadsPod}
+use Rattle.stage1.specs.Starts.{ReadsStarts}
 use Rattle.stage1.specs.Notes.{anything}
 use Rattle.stage1.specs.Runs.{closes, reads_or_closes, LoadsStarts}
 

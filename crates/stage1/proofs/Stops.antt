@@ -3,7 +3,7 @@ use Rattle.std.proofs.Common.{◌≡◌, ◌<◌, ◌+◌, ℕ, Bool, List, [], 
 use Rattle.std.proofs.lemmas.List.{take_more, length-map}
 use Rattle.dir_trait.specs.DirCalls.{DirAt}
 use Rattle.spawner.specs.Calls.{SpawnerAt}
-use Rattle.pod_launches.specs.declared.start.AppStart.{AppStart}
+use Rattle.stage1.specs.declared.start.AppStart.{AppStart}
 use Rattle.stage1.specs.declared.end.AppEnd.{AppEnd}
 use Rattle.stage1.specs.declared.error.Fault.{Fault}
 use Rattle.stage1.specs.declared.error.Fault.TheVariants.{Spawn, Dir, Stray, NoMemory}

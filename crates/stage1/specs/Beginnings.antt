@@ -8,7 +8,7 @@ use Rattle.spawner.specs.declared.call.SpawnCall.{SpawnCall}
 use Rattle.spawner.specs.declared.call.SpawnRequest.TheVariants.{Wait}
 use Rattle.spawner.specs.Calls.{SpawnerAt}
 use Rattle.spawner.specs.Conditions.{StillRuns}
-use Rattle.pod_launches.specs.declared.start.AppStart.{AppStart}
+use Rattle.stage1.specs.declared.start.AppStart.{AppStart}
 use Rattle.stage1.specs.declared.stand.Stand.{Stand}
 use Rattle.stage1.specs.declared.stand.Stand.TheVariants.{Running, Ended}
 use Rattle.stage1.specs.Sequences.{Ran, Beginning, ready_call, start_call, handler_calls, handler_status, first_calls, starts_main, first_status}

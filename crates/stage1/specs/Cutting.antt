@@ -8,7 +8,7 @@ use Rattle.spawner.specs.declared.call.SpawnRequest.{SpawnRequest}
 use Rattle.spawner.specs.declared.call.SpawnRequest.TheVariants.{Wait}
 use Rattle.spawner.specs.declared.call.SpawnReply.TheVariants.{Refused}
 use Rattle.spawner.specs.Calls.{SpawnerAt, call, answers}
-use Rattle.pod_launches.specs.declared.start.AppStart.{AppStart}
+use Rattle.stage1.specs.declared.start.AppStart.{AppStart}
 use Rattle.stage1.specs.Sequences.{Ending, launch_sequence}
 use Rattle.stage1.specs.Asking.{Asks}
 

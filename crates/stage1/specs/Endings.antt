@@ -3,7 +3,7 @@ use Rattle.std.specs.Prelude.{◌≡◌, ℕ, ◌+◌, ◌==◌, Bool, List, [],
 use Rattle.spawner.specs.declared.call.Child.{Child}
 use Rattle.spawner.specs.declared.call.SpawnCall.{SpawnCall}
 use Rattle.spawner.specs.Calls.{SpawnerAt}
-use Rattle.pod_launches.specs.declared.start.AppStart.{AppStart}
+use Rattle.stage1.specs.declared.start.AppStart.{AppStart}
 use Rattle.stage1.specs.declared.stand.Stand.{Stand}
 use Rattle.stage1.specs.declared.stand.Stand.TheVariants.{Running, Ended}
 use Rattle.stage1.specs.Sequences.{Ran, wait_call, handler_calls}

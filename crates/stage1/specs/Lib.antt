@@ -1,3 +1,7 @@
+pub mod AppPlaces
+pub mod AppFiles
+pub mod Starts
+pub mod LoadRefusals
 pub mod Refusals
 pub mod Sequences
 pub mod Asking

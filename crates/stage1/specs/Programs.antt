@@ -7,7 +7,7 @@ use Rattle.spawner.specs.declared.call.SpawnRequest.{SpawnRequest}
 use Rattle.spawner.specs.declared.call.SpawnRequest.TheVariants.{Ready, Start, Wait}
 use Rattle.spawner.specs.declared.call.SpawnReply.TheVariants.{Refused}
 use Rattle.spawner.specs.Calls.{SpawnerAt, call}
-use Rattle.pod_launches.specs.declared.start.AppStart.{AppStart}
+use Rattle.stage1.specs.declared.start.AppStart.{AppStart}
 use Rattle.stage1.specs.Sequences.{Ran, program_calls, handler_calls, handler_status}
 use Rattle.stage1.specs.Asking.{Asks}
 use Rattle.stage1.specs.Cutting.{IsCutOff, AreWaitedFor}

@@ -12,8 +12,8 @@ use Rattle.dir_trait.specs.DirCalls.{DirAt}
 use Rattle.spawner.specs.declared.call.SpawnError.{SpawnError}
 use Rattle.spawner.specs.declared.call.SpawnError.TheVariants as spawn
 use Rattle.spawner.specs.Calls.{SpawnerAt}
-use Rattle.pod_launches.specs.declared.error.LoadError.{LoadError}
-use Rattle.pod_launches.specs.declared.error.LoadError.TheVariants as load
+use Rattle.stage1.specs.declared.load_error.LoadError.{LoadError}
+use Rattle.stage1.specs.declared.load_error.LoadError.TheVariants as load
 use Rattle.stage1.specs.declared.error.Fault.{Fault}
 use Rattle.stage1.specs.declared.error.Fault.TheVariants as fault
 use Rattle.stage1.specs.declared.error.RunError.{RunError}

@@ -10,12 +10,12 @@ use Rattle.dir_model.specs.Local.{Local}
 use Rattle.dir_trait.specs.DirCalls.{DirAt, DirCall, ExtendsBy}
 use Rattle.spawner.specs.declared.call.RootPlace.{RootPlace}
 use Rattle.spawner.specs.Calls.{SpawnerAt}
-use Rattle.pod_launches.specs.declared.start.AppStart.{AppStart}
-use Rattle.pod_launches.specs.Places.{run_spot}
-use Rattle.pod_launches.specs.Looks.{reads_pod}
-use Rattle.pod_launches.specs.Starts.{ReadsStarts}
-use Rattle.pod_launches.specs.declared.error.LoadError.TheVariants as load
-use Rattle.pod_launches.specs.Refusals.{LoadCause}
+use Rattle.stage1.specs.declared.start.AppStart.{AppStart}
+use Rattle.stage1.specs.AppPlaces.{run_spot}
+use Rattle.pod_files.specs.Looks.{reads_pod}
+use Rattle.stage1.specs.Starts.{ReadsStarts}
+use Rattle.stage1.specs.declared.load_error.LoadError.TheVariants as load
+use Rattle.stage1.specs.LoadRefusals.{LoadCause}
 use Rattle.folder_building.specs.Work.{either}
 use Rattle.stage1.specs.declared.end.AppEnd.{AppEnd}
 use Rattle.stage1.specs.declared.error.RunError.{RunError}

@@ -6,7 +6,7 @@ use Rattle.spawner.specs.declared.call.SpawnCall.{SpawnCall}
 use Rattle.spawner.specs.declared.call.SpawnRequest.TheVariants.{Ready, Start, Wait}
 use Rattle.spawner.specs.declared.call.SpawnReply.TheVariants.{Done, Started, Ended}
 use Rattle.spawner.specs.Calls.{call}
-use Rattle.pod_launches.specs.declared.start.AppStart.{AppStart}
+use Rattle.stage1.specs.declared.start.AppStart.{AppStart}
 
 -- a program that was started, and that ended with this status
 pub record Ran : Type 0 where

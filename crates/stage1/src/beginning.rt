@@ -16,7 +16,7 @@ use crate::notes::{mark_started, note_status};
 use crate::programs::{make_ready, run_handler, start_program};
 use crate::stand::Stand;
 use dir_trait::Dir;
-use pod_launches::AppStart;
+use crate::AppStart;
 use spawner::Spawner;
 use std::alloc::Global;
 

@@ -18,7 +18,7 @@ use crate::notes::note_status;
 use crate::programs::{run_handler, wait_for};
 use crate::stand::Stand;
 use dir_trait::Dir;
-use pod_launches::AppStart;
+use crate::AppStart;
 use spawner::{Child, Spawner};
 use std::alloc::Global;
 

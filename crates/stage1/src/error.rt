@@ -4,7 +4,7 @@ ghost use Rattle.stage1.specs.Refusals.{spawn_fault, change_fault, load_refusal,
 
 use ac_types::{AcName, NoMemory, Text, memory};
 use dir_trait::DirError;
-use pod_launches::LoadError;
+use crate::LoadError;
 use spawner::SpawnError;
 use std::alloc::AllocError;
 

@@ -9,7 +9,7 @@ ghost use Rattle.stage1.specs.Refusals.{SpawnCause};
 
 use crate::error::{Fault, spawn_fault};
 use dir_trait::Dir;
-use pod_launches::AppStart;
+use crate::AppStart;
 use spawner::{Child, Spawner, Words};
 use std::alloc::Global;
 

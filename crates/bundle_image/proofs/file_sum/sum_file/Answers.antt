@@ -1,6 +1,6 @@
 use Rattle.std.proofs.Common.{arith, ◌++◌, ap}
 use Rattle.dir_trait.specs.Bundles.{file_bytes}
-use Rattle.bundle_read.proofs.Pieces.{still_begun}
+use Rattle.bundle_image.proofs.FilePieces.{still_begun}
 use Rattle.bundle_image.proofs.Pieces.{carried, sum_whole, sum_long}
 use Rattle.bundle_image.proofs.Reading.{reads_more}
 use Rattle.bundle_image.proofs.file_sum.sum_file.Goals as goal

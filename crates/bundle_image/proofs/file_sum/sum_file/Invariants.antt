@@ -1,6 +1,6 @@
 use Rattle.std.proofs.Common.{◌≡◌, ◌≤◌, ◌<◌, ◌-◌, ℕ, true, List, vec_len}
 use Rattle.dir_trait.specs.Bundles.{file_bytes}
-use Rattle.bundle_read.specs.Fronts.{IsBegun}
+use Rattle.bundle_image.specs.Fronts.{IsBegun}
 use Rattle.bundle_image.specs.FileSums.{HasTaken}
 use Rattle.bundle_image.specs.Reads.{ReadsWithin}
 use Rattle.bundle_image.proofs.file_sum.sum_file.Given as goal

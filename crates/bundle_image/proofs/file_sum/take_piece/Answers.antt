@@ -1,7 +1,7 @@
 use Rattle.std.proofs.Common.{arith, ◌≡◌, ◌+◌, ◌≤◌, ◌++◌, ℕ, List, length, take, subst, IsSomeAnd, refl}
 use Rattle.std.proofs.lemmas.Grind.{common_steps}
 use Rattle.dir_trait.specs.Bundles.{file_bytes, Fills}
-use Rattle.bundle_read.proofs.Pieces.{next_front}
+use Rattle.bundle_image.proofs.FilePieces.{next_front}
 use Rattle.bundle_image.proofs.Reading.{itself, reads_call}
 use Rattle.bundle_image.proofs.file_sum.take_piece.Goals as goal
 

@@ -1,7 +1,7 @@
 use Rattle.std.proofs.Common.{Err, subst, sym, ap, refl, ◌∙◌}
 use Rattle.dir_model.proofs.Chains.{extends_wider}
 use Rattle.dir_model.proofs.Moments.{at_before}
-use Rattle.area_locks.proofs.Locking.{locked_active}
+use Rattle.dir_files.proofs.Locking.{locked_active}
 use Rattle.dir_model.specs.declared.area.Area.TheVariants.{Images}
 use Rattle.dir_model.specs.declared.spot.Mode.TheVariants.{Shared}
 use Rattle.dir_model.specs.Local.{IsActive}

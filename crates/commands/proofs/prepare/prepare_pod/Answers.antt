@@ -1,5 +1,5 @@
 use Rattle.commands.proofs.Prepares.{nothing_keeps, nothing_says}
-use Rattle.pod_making.proofs.Handing.{nothing_handed}
+use Rattle.pod_build.proofs.Handing.{nothing_handed}
 use Rattle.commands.proofs.prepare.prepare_pod.Goals as goal
 
 pub returns-in-Err-clause-known : goal.returns-in-Err-clause-known

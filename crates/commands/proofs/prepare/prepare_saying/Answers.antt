@@ -2,7 +2,7 @@ use Rattle.std.proofs.Common.{Err, ap, refl, ◌∙◌}
 use Rattle.command_outcomes.proofs.Seen.{rose_wider}
 use Rattle.commands.proofs.Sayings.{said_fault, busy_area, refusal_allowed, no_match_within}
 use Rattle.commands.proofs.Prepares.{prepare_worked, both_worked, sync_allowed, synced_keeps, refused_keeps, synced_says, refused_says}
-use Rattle.pod_making.proofs.Handing.{handed_before, run_until}
+use Rattle.pod_build.proofs.Handing.{handed_before, run_until}
 use Rattle.commands.proofs.Prepares.{syncs_hand_none}
 use Rattle.commands.proofs.prepare.prepare_saying.Goals as goal
 

@@ -1,6 +1,6 @@
 use Rattle.std.proofs.Common.{inr, refl}
 use Rattle.commands.proofs.NewRuns.{unbegun_keeps, told_between}
-use Rattle.pod_making.proofs.Handing.{nothing_handed}
+use Rattle.pod_build.proofs.Handing.{nothing_handed}
 use Rattle.commands.proofs.run.run.Goals as goal
 
 pub returns-in-Ok-clause-says : goal.returns-in-Ok-clause-says

@@ -5,9 +5,9 @@ use Rattle.command_outcomes.specs.declared.refusal.Refusal.TheVariants.{SpawnFau
 use Rattle.command_outcomes.proofs.Seen.{rose_wider}
 use Rattle.commands.proofs.Claimed.{is_open, still_active}
 use Rattle.commands.proofs.NewRuns.{kept_pod, kept_owned, made_went, unmade_went, made_worked, unmade_worked, made_knows, made_runs, made_keeps, unmade_keeps, run_in, prepare_in, never_spawns, made_says, unmade_says}
-use Rattle.pod_making.proofs.Handing.{handed_before, run_until}
+use Rattle.pod_build.proofs.Handing.{handed_before, run_until}
 use Rattle.commands.proofs.NewRuns.{runs_hand_none}
-use Rattle.pod_claim.proofs.Traces.{grown_by}
+use Rattle.pod_locks.proofs.Traces.{grown_by}
 use Rattle.commands.proofs.run.run_saying.Goals as goal
 
 pub kept-requires : goal.kept-requires

@@ -7,7 +7,7 @@ use Rattle.dir_model.specs.Pods.{pod_text}
 use Rattle.commands.specs.RunRefusals.{run_prepared_refusal}
 use Rattle.commands.proofs.Claimed.{none_open, claimed_went, unclaimed_went, is_open, still_active, owned_runs, claimed_worked, unclaimed_worked, claimed_keeps, unclaimed_keeps}
 use Rattle.commands.proofs.ClaimRefusals.{claim_fault, claim_no_spawn, claim_allowed, run_in, claimed_says, unclaimed_says}
-use Rattle.pod_claim.proofs.Traces.{grown_by}
+use Rattle.pod_locks.proofs.Traces.{grown_by}
 use Rattle.commands.proofs.run_prepared.run_prepared.Goals as goal
 
 pub claim-requires-clause-alone : goal.claim-requires-clause-alone

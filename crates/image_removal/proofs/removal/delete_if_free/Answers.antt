@@ -3,8 +3,8 @@ use Rattle.dir_model.specs.declared.area.Area.TheVariants.{Removed}
 use Rattle.dir_model.specs.declared.spot.Mode.TheVariants.{Exclusive}
 use Rattle.dir_rules.specs.declared.seen.Seen.{Seen}
 use Rattle.dir_trait.specs.Knowledge.{Knows}
-use Rattle.area_locks.specs.AreaLocks.{is_free_of, IsBusy, IsBusyElsewhere}
-use Rattle.area_locks.proofs.Locking.{number_is_new}
+use Rattle.dir_files.specs.AreaLocks.{is_free_of, IsBusy, IsBusyElsewhere}
+use Rattle.dir_files.proofs.Locking.{number_is_new}
 use Rattle.folder_building.specs.Work.{Worked, either}
 use Rattle.folder_building.proofs.Copying.{ok_more, err_more}
 use Rattle.folder_building.proofs.Working.{worked_wider}

@@ -5,8 +5,8 @@ use Rattle.dir_model.specs.Calls.{CallStep}
 use Rattle.dir_model.proofs.Chains.{extends_wider}
 use Rattle.dir_rules.specs.declared.seen.Seen.{Seen}
 use Rattle.dir_trait.specs.Knowledge.{Knows}
-use Rattle.area_locks.specs.AreaLocks.{is_free_of}
-use Rattle.area_locks.proofs.Locking.{number_is_new}
+use Rattle.dir_files.specs.AreaLocks.{is_free_of}
+use Rattle.dir_files.proofs.Locking.{number_is_new}
 use Rattle.folder_building.proofs.Copying.{ok_more, err_more}
 use Rattle.folder_building.proofs.Working.{worked_wider}
 use Rattle.image_reading.specs.declared.error.StoreError.{StoreError}

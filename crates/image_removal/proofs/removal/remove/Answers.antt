@@ -4,7 +4,7 @@ use Rattle.dir_model.specs.declared.spot.Mode.TheVariants.{Exclusive}
 use Rattle.dir_model.specs.State.{DirState}
 use Rattle.dir_rules.specs.declared.seen.Seen.{Seen}
 use Rattle.dir_trait.specs.Knowledge.{Knows}
-use Rattle.area_locks.specs.AreaLocks.{is_free_of, IsBusy, IsBusyElsewhere}
+use Rattle.dir_files.specs.AreaLocks.{is_free_of, IsBusy, IsBusyElsewhere}
 use Rattle.folder_building.proofs.Copying.{ok_more, err_more}
 use Rattle.folder_building.proofs.Working.{worked_more, worked_wider}
 use Rattle.image_reading.proofs.Results.{err_same}

@@ -5,9 +5,9 @@ use Rattle.dir_model.specs.Calls.{Extends}
 use Rattle.dir_rules.specs.declared.seen.Seen.{Seen}
 use Rattle.dir_trait.specs.DirCalls.{HeldBetween}
 use Rattle.dir_trait.specs.Knowledge.{Knows}
-use Rattle.area_locks.specs.declared.error.LockError.TheVariants as lock
-use Rattle.area_locks.specs.AreaLocks.{takes, with_gate, is_free_of, MayLock, IsBusy, IsBusyElsewhere, IsFreeElsewhere}
-use Rattle.area_locks.proofs.Locking.{number_is_new}
+use Rattle.dir_files.specs.declared.lock_error.LockError.TheVariants as lock
+use Rattle.dir_files.specs.AreaLocks.{takes, with_gate, is_free_of, MayLock, IsBusy, IsBusyElsewhere, IsFreeElsewhere}
+use Rattle.dir_files.proofs.Locking.{number_is_new}
 use Rattle.folder_building.proofs.Copying.{ok_more, err_more}
 use Rattle.image_removal.specs.declared.pass.SweepLine.TheVariants.{BusyGate}
 use Rattle.image_removal.specs.Passes.{area_of}

@@ -2,7 +2,7 @@ use Rattle.std.proofs.Common.{◌≡◌, ℕ, true, subst, inl, inr, rules}
 use Rattle.dir_model.specs.declared.area.Area.TheVariants.{Removed}
 use Rattle.dir_rules.specs.declared.seen.Seen.{Seen}
 use Rattle.dir_trait.specs.Knowledge.{Knows}
-use Rattle.area_locks.specs.AreaLocks.{is_free_of}
+use Rattle.dir_files.specs.AreaLocks.{is_free_of}
 use Rattle.folder_building.proofs.Copying.{ok_more, err_more}
 use Rattle.image_removal.specs.declared.pass.Pass.TheVariants.{PutAway, Delete}
 use Rattle.image_removal.specs.Causes.{WorkCause}

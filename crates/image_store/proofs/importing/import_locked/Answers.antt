@@ -4,8 +4,8 @@ use Rattle.dir_model.specs.declared.spot.Mode.TheVariants.{Shared}
 use Rattle.dir_model.specs.declared.opening.Target.TheVariants.{Gate}
 use Rattle.dir_rules.specs.declared.standing.Held.{Held}
 use Rattle.dir_rules.specs.LockRules.{is_open_on}
-use Rattle.area_locks.specs.AreaLocks.{on_gate}
-use Rattle.area_locks.proofs.Locking.{number_is_new}
+use Rattle.dir_files.specs.AreaLocks.{on_gate}
+use Rattle.dir_files.proofs.Locking.{number_is_new}
 use Rattle.folder_building.proofs.Copying.{err_more}
 use Rattle.image_reading.proofs.Results.{err_same}
 use Rattle.image_store.specs.Refusals.{is_import_refusal}

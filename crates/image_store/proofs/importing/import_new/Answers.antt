@@ -1,8 +1,8 @@
 use Rattle.std.proofs.Common.{◌≡◌, true, not, false, None, Some, ◌∷◌, ap, refl, rules, ◌∙◌}
 use Rattle.dir_model.specs.declared.area.Area.TheVariants.{Incoming}
 use Rattle.dir_model.specs.declared.spot.Mode.TheVariants.{Shared}
-use Rattle.area_locks.specs.AreaLocks.{on_gate}
-use Rattle.area_locks.proofs.Locking.{number_is_new}
+use Rattle.dir_files.specs.AreaLocks.{on_gate}
+use Rattle.dir_files.proofs.Locking.{number_is_new}
 use Rattle.folder_building.proofs.Copying.{err_more}
 use Rattle.image_reading.proofs.Results.{err_same}
 use Rattle.image_store.specs.Refusals.{is_lock_refusal, is_work_refusal, is_import_refusal}

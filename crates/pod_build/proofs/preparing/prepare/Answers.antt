@@ -7,13 +7,13 @@ use Rattle.dir_rules.specs.declared.standing.Held.{Held}
 use Rattle.dir_rules.specs.LockRules.{is_open_on}
 use Rattle.dir_trait.specs.Knowledge.{Knows}
 use Rattle.lifecycle.specs.Executions.{IsConforming}
-use Rattle.area_locks.specs.AreaLocks.{takes, closes, on_gate}
-use Rattle.area_locks.proofs.Locking.{number_is_new}
+use Rattle.dir_files.specs.AreaLocks.{takes, closes, on_gate}
+use Rattle.dir_files.proofs.Locking.{number_is_new}
 use Rattle.folder_building.proofs.Copying.{ok_any, ok_more, err_more}
-use Rattle.pod_making.specs.Progress.{at_work, nothing_made}
-use Rattle.pod_making.specs.Work.{From, HasOwnFolder}
-use Rattle.pod_making.proofs.Knowing.{has_nothing}
-use Rattle.pod_making.proofs.Times.{Follows}
+use Rattle.pod_build.specs.Progress.{at_work, nothing_made}
+use Rattle.pod_build.specs.Work.{From, HasOwnFolder}
+use Rattle.pod_build.proofs.Knowing.{has_nothing}
+use Rattle.pod_build.proofs.Times.{Follows}
 use Rattle.pod_build.specs.declared.error.BuildError.{BuildError}
 use Rattle.pod_build.specs.Answers.{target, held_with, IsAnswer}
 use Rattle.pod_build.specs.Causes.{IsMadeByPlan, IsRefused, IsRefusedUnderLock, IsHeldElsewhere}
@@ -22,7 +22,7 @@ use Rattle.dir_model.specs.Calls.{IsRun}
 use Rattle.pod_build.proofs.Parts.{made_within, refused_within}
 use Rattle.pod_build.proofs.Working.{ok_with, went_back, went_refused, hands_to, knows_back, left_back, may_lock, gate_elsewhere, elsewhere_within, free_within}
 use Rattle.pod_build.proofs.Faithful.{is_handed_over, is_prepared, hands_faithfully}
-use Rattle.pod_making.proofs.Handing.{none_handed, handed_after, handed_before, follow_on, run_until}
+use Rattle.pod_build.proofs.Handing.{none_handed, handed_after, handed_before, follow_on, run_until}
 use Rattle.pod_build.specs.FaithfulBuild.{IsFaithfulBuild, HandsOverFaithfully}
 use Rattle.pod_build.proofs.Working.{locks_hand_none, close_takes}
 use Rattle.dir_model.proofs.Chains.{extends_wider}

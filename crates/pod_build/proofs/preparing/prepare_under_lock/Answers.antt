@@ -1,19 +1,19 @@
 use Rattle.std.proofs.Common.{◌≡◌, ℕ, true, inl, inr, List, sym, subst}
 use Rattle.folder_building.specs.declared.plan.PlanEntry.{PlanEntry}
 use Rattle.folder_building.proofs.Copying.{ok_more, err_more}
-use Rattle.pod_reading.specs.FaithfulPods.{PlansFaithfully}
-use Rattle.pod_making.specs.Progress.{nothing_made}
-use Rattle.pod_making.specs.Work.{MayMake, UnderImages, From, HasOwnFolder}
-use Rattle.pod_making.specs.Makings.{HasMade}
-use Rattle.pod_making.proofs.Knowing.{has_nothing}
-use Rattle.pod_making.proofs.Times.{nothing_follows, follows_went}
+use Rattle.pod_plan.specs.FaithfulPods.{PlansFaithfully}
+use Rattle.pod_build.specs.Progress.{nothing_made}
+use Rattle.pod_build.specs.Work.{MayMake, UnderImages, From, HasOwnFolder}
+use Rattle.pod_build.specs.Makings.{HasMade}
+use Rattle.pod_build.proofs.Knowing.{has_nothing}
+use Rattle.pod_build.proofs.Times.{nothing_follows, follows_went}
 use Rattle.pod_build.specs.Answers.{target, held_with}
 use Rattle.pod_build.specs.Causes.{FailsPlan, FailsMaking, FollowsPlan, IsMadeByPlan, IsRefusedUnderLock, IsHeldElsewhere}
 use Rattle.pod_build.specs.Preparations.{Began, HasGateAlone, HasPrepared, ReadsThenMakes}
 use Rattle.pod_build.proofs.Parts.{during_first, during_last}
 use Rattle.pod_build.proofs.Working.{follows_reads, went_reads, went_under, worked_reads, may_make, under_images, knows_read, elsewhere_within}
-use Rattle.pod_making.specs.Handovers.{BeforeHandingOver, HandsOverMade}
-use Rattle.pod_making.proofs.Handing.{none_handed, handed_among, handed_so, handed_then}
+use Rattle.pod_build.specs.Handovers.{BeforeHandingOver, HandsOverMade}
+use Rattle.pod_build.proofs.Handing.{none_handed, handed_among, handed_so, handed_then}
 use Rattle.pod_build.proofs.Working.{reads_hand_none}
 use Rattle.pod_build.proofs.preparing.prepare_under_lock.Goals as goal
 

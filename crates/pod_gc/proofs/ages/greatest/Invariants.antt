@@ -1,5 +1,5 @@
 use Rattle.std.proofs.Common.{◌≡◌, take}
-use Rattle.pod_gc.specs.Marks.{moment_among}
+use Rattle.pod_gc.specs.Ages.{moment_among}
 use Rattle.pod_gc.proofs.ages.greatest.Given as goal
 
 abbrev pub invariant-items : goal.invariant-items

@@ -1,8 +1,8 @@
 use Rattle.std.proofs.Common.{rules, Ok, Err, [], sym, ap, subst, ◌∙◌}
 use Rattle.dir_model.specs.declared.request.DirError.TheVariants.{Missing}
-use Rattle.pod_gc.specs.declared.error.GcError.{GcError}
+use Rattle.pod_gc.specs.declared.gc_error.GcError.{GcError}
 use Rattle.pod_gc.specs.Causes.{GcCause}
-use Rattle.pod_gc.specs.Marks.{moment_among}
+use Rattle.pod_gc.specs.Ages.{moment_among}
 use Rattle.pod_gc.proofs.Marking.{with_root, worked_listing, showed, listed_none, listed_there, listing_cause, ready_listed, notes_mark}
 use Rattle.pod_gc.proofs.Lawful.{listing_never}
 use Rattle.pod_gc.proofs.ages.marked_at.Goals as goal

@@ -5,7 +5,7 @@ use Rattle.dir_model.specs.declared.spot.Which.{Which}
 use Rattle.folder_building.specs.Work.{Worked}
 use Rattle.folder_building.proofs.Copying.{ok_more}
 use Rattle.folder_building.proofs.Working.{worked_wider}
-use Rattle.pod_removal.specs.Holding.{MayRemove}
+use Rattle.pod_gc.specs.RemovalHolding.{MayRemove}
 use Rattle.pod_gc.specs.Requests.{deals_with}
 use Rattle.pod_gc.specs.Deeds.{DeedCause, refused_lock, LetBe, WaitedSo, RestedSo, Dealt, LeavesWhere, LeavesToAnother, MarksFirst}
 use Rattle.pod_gc.specs.Sweeping.{MaySweep, MayPass}

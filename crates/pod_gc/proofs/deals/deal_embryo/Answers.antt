@@ -8,26 +8,26 @@ use Rattle.dir_model.proofs.Chains.{extends_wider}
 use Rattle.dir_trait.specs.DirCalls.{ExtendsBy}
 use Rattle.folder_building.proofs.Copying.{ok_more, err_more}
 use Rattle.phase_read.specs.Read.{pod_spot}
-use Rattle.pod_steps.specs.Causes.{Stopped, IsAbsentAt, Did}
-use Rattle.pod_gc.specs.declared.error.GcError.{GcError}
+use Rattle.pod_locks.specs.Causes.{Stopped, IsAbsentAt, Did}
+use Rattle.pod_gc.specs.declared.gc_error.GcError.{GcError}
 use Rattle.pod_gc.specs.declared.line.Deed.{Deed}
 use Rattle.pod_gc.specs.declared.line.Deed.TheVariants.{Moved}
 use Rattle.pod_gc.specs.Causes.{GcCause}
 use Rattle.pod_gc.specs.Deeds.{DeedCause, refused_lock, LetBe}
 use Rattle.pod_gc.proofs.Steps.{SetBackAt, set_stopped, cause_moved, step_deed, step_cause, step_calm, claims_elsewhere}
 use Rattle.pod_gc.proofs.Embryos.{ready_embryo}
-use Rattle.pod_steps.specs.declared.setback.Setback.TheVariants as stop
-use Rattle.pod_steps.specs.Taking.{TakesNothing}
-use Rattle.pod_removal.specs.Causes.{BusyByLooks, MissedUntaken}
-use Rattle.pod_removal.proofs.CallKinds.{moves_aside}
-use Rattle.pod_removal.proofs.Stages.{ok_all}
+use Rattle.pod_locks.specs.declared.setback.Setback.TheVariants as stop
+use Rattle.pod_locks.specs.Taking.{TakesNothing}
+use Rattle.pod_gc.specs.RemovalCauses.{BusyByLooks, MissedUntaken}
+use Rattle.pod_gc.proofs.CallKinds.{moves_aside}
+use Rattle.pod_gc.proofs.Stages.{ok_all}
 use Rattle.pod_gc.specs.Requests.{moves_on, may_be_busy}
 use Rattle.pod_gc.proofs.Untouched.{moved_on, owns_elsewhere, step_let_be}
-use Rattle.pod_steps.specs.Causes.{BreaksRules}
+use Rattle.pod_locks.specs.Causes.{BreaksRules}
 use Rattle.pod_gc.specs.Causes.{NeverStray}
 use Rattle.pod_gc.proofs.Lawful.{step_stray}
 use Rattle.dir_model.specs.Areas.{is_stage}
-use Rattle.pod_steps.specs.Causes as steps
+use Rattle.pod_locks.specs.Causes as steps
 use Rattle.pod_gc.proofs.deals.deal_embryo.Goals as goal
 
 pub returns-clause-cause : goal.returns-clause-cause

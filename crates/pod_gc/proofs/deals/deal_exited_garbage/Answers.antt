@@ -2,17 +2,17 @@ use Rattle.std.proofs.Common.{◌≡◌, rules, ℕ, true, codes, Option, Ok, If
 use Rattle.dir_model.specs.declared.area.Area.TheVariants as area
 use Rattle.folder_building.proofs.Copying.{ok_more, err_more}
 use Rattle.folder_building.proofs.Working.{worked_more, worked_wider}
-use Rattle.pod_steps.proofs.Calls.{follows_work}
-use Rattle.pod_removal.specs.Holding.{MayRemove}
-use Rattle.pod_removal.proofs.Stages.{err_same}
+use Rattle.pod_locks.proofs.Calls.{follows_work}
+use Rattle.pod_gc.specs.RemovalHolding.{MayRemove}
+use Rattle.pod_gc.proofs.Stages.{err_same}
 use Rattle.pod_gc.specs.Causes.{GcCause}
-use Rattle.pod_gc.specs.Marks.{Showed, is_young}
+use Rattle.pod_gc.specs.Ages.{Showed, is_young}
 use Rattle.pod_gc.specs.Deeds.{DeedCause, RestsBy, RestedSo, LetBe, LeavesWhere}
 use Rattle.pod_gc.proofs.Steps.{lists_deal, cause_after, rested_so, deed_later, busy_later, ready_later, gone_deed, left_gone}
 use Rattle.pod_gc.proofs.Untouched.{let_left, took_lists, let_listed}
-use Rattle.pod_gc.specs.declared.error.GcError.TheVariants as fault
+use Rattle.pod_gc.specs.declared.gc_error.GcError.TheVariants as fault
 use Rattle.pod_gc.specs.Causes.{StrayByApp}
-use Rattle.pod_removal.proofs.Rounds.{may_kept}
+use Rattle.pod_gc.proofs.Rounds.{may_kept}
 use Rattle.pod_gc.proofs.Lawful.{by_app_later}
 use Rattle.pod_gc.proofs.deals.deal_exited_garbage.Goals as goal
 

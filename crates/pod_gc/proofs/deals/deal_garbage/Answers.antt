@@ -8,23 +8,23 @@ use Rattle.dir_trait.specs.DirCalls.{ExtendsBy}
 use Rattle.folder_building.proofs.Copying.{err_more}
 use Rattle.folder_building.proofs.Working.{worked_wider}
 use Rattle.phase_read.specs.Read.{pod_spot}
-use Rattle.pod_steps.specs.Holding.{Stays}
-use Rattle.pod_steps.specs.Causes.{Stopped, IsAbsentAt, BusyElsewhere, Did, FreeWhere}
-use Rattle.pod_removal.specs.Holding.{MayRemove}
+use Rattle.pod_locks.specs.Holding.{Stays}
+use Rattle.pod_locks.specs.Causes.{Stopped, IsAbsentAt, BusyElsewhere, Did, FreeWhere}
+use Rattle.pod_gc.specs.RemovalHolding.{MayRemove}
 use Rattle.dir_model.specs.declared.spot.Which.TheVariants.{Own}
 use Rattle.pod_gc.proofs.Dealing.{both_ok}
-use Rattle.pod_gc.specs.declared.error.GcError.{GcError}
+use Rattle.pod_gc.specs.declared.gc_error.GcError.{GcError}
 use Rattle.pod_gc.specs.declared.line.Deed.{Deed}
 use Rattle.pod_gc.specs.declared.line.Deed.TheVariants.{Moved, Deleted, Kept}
 use Rattle.pod_gc.specs.Causes.{GcCause}
 use Rattle.pod_gc.specs.Deeds.{DeedCause, LetBe, LeavesWhere}
 use Rattle.pod_gc.proofs.Steps.{removes_deal, SetBackAt, set_stopped, gone_garbage, cause_deleted, step_deed, step_cause, step_another, step_ends, claims_elsewhere, garbage_unprepared, BusyHere, busy_garbage}
-use Rattle.pod_removal.proofs.Stages.{ok_all, err_all}
-use Rattle.pod_steps.specs.declared.setback.Setback.TheVariants as stop
+use Rattle.pod_gc.proofs.Stages.{ok_all, err_all}
+use Rattle.pod_locks.specs.declared.setback.Setback.TheVariants as stop
 use Rattle.dir_model.specs.declared.spot.Which.{Which}
 use Rattle.pod_gc.specs.Requests.{moves_on, may_be_busy}
 use Rattle.pod_gc.proofs.Untouched.{garbage_busy, step_let_be, BusyByOwn}
-use Rattle.pod_steps.specs.Causes.{ByApp}
+use Rattle.pod_locks.specs.Causes.{ByApp}
 use Rattle.pod_gc.specs.Causes.{StrayByApp}
 use Rattle.pod_gc.proofs.Lawful.{step_stray}
 use Rattle.pod_gc.proofs.deals.deal_garbage.Goals as goal

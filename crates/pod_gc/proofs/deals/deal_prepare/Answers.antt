@@ -3,17 +3,17 @@ use Rattle.dir_model.specs.declared.area.Area.TheVariants as area
 use Rattle.dir_model.specs.declared.area.Phase.TheVariants as phase
 use Rattle.folder_building.proofs.Copying.{ok_more, err_more}
 use Rattle.folder_building.proofs.Working.{worked_more, worked_wider}
-use Rattle.pod_steps.proofs.Calls.{follows_work}
-use Rattle.pod_removal.specs.Holding.{MayRemove}
-use Rattle.pod_gc.specs.declared.error.GcError.{GcError}
+use Rattle.pod_locks.proofs.Calls.{follows_work}
+use Rattle.pod_gc.specs.RemovalHolding.{MayRemove}
+use Rattle.pod_gc.specs.declared.gc_error.GcError.{GcError}
 use Rattle.pod_gc.specs.declared.line.Deed.{Deed}
 use Rattle.pod_gc.specs.declared.line.Deed.TheVariants.{Moved}
 use Rattle.pod_gc.specs.Causes.{GcCause}
 use Rattle.pod_gc.specs.Deeds.{DeedCause, SaysThere, LetBe, LeavesWhere}
 use Rattle.pod_gc.proofs.Steps.{removes_deal, looks_deal, set_stopped, cause_moved, step_deed, step_cause, step_another, said_deed, said_refused, cause_after, ready_looked, said_unbusy, left_moved}
 use Rattle.pod_gc.proofs.Untouched.{let_moved, let_refused, step_let_be, peeked_looks, owns_elsewhere}
-use Rattle.pod_gc.specs.declared.error.GcError.TheVariants as fault
-use Rattle.pod_steps.specs.Causes.{BreaksRules}
+use Rattle.pod_gc.specs.declared.gc_error.GcError.TheVariants as fault
+use Rattle.pod_locks.specs.Causes.{BreaksRules}
 use Rattle.pod_gc.specs.Causes.{NeverStray}
 use Rattle.pod_gc.proofs.Lawful.{step_stray}
 use Rattle.pod_gc.proofs.deals.deal_prepare.Goals as goal

@@ -6,19 +6,19 @@ use Rattle.dir_trait.specs.DirCalls.{HeldBetween}
 use Rattle.folder_building.proofs.Copying.{ok_more, err_more}
 use Rattle.folder_building.proofs.Working.{worked_more, worked_wider}
 use Rattle.phase_read.specs.Read.{pod_spot}
-use Rattle.pod_steps.specs.Holding.{Stays}
-use Rattle.pod_steps.proofs.Calls.{follows_work}
-use Rattle.pod_removal.specs.Holding.{MayRemove}
-use Rattle.pod_removal.proofs.Stages.{err_same}
+use Rattle.pod_locks.specs.Holding.{Stays}
+use Rattle.pod_locks.proofs.Calls.{follows_work}
+use Rattle.pod_gc.specs.RemovalHolding.{MayRemove}
+use Rattle.pod_gc.proofs.Stages.{err_same}
 use Rattle.pod_gc.specs.declared.line.Deed.TheVariants.{Kept}
 use Rattle.pod_gc.specs.Causes.{GcCause}
-use Rattle.pod_gc.specs.Marks.{Showed, is_ripe}
+use Rattle.pod_gc.specs.Ages.{Showed, is_ripe}
 use Rattle.pod_gc.specs.Deeds.{DeedCause, WaitsBy, WaitedSo, LetBe, LeavesWhere}
 use Rattle.pod_gc.specs.Sweeping.{MaySweep, NotesMark, Ripens}
 use Rattle.pod_gc.proofs.Steps.{lists_deal, removes_deal, cause_after, gone_deed, left_gone}
 use Rattle.pod_gc.proofs.Waiting.{gone_waiting, waited_so, waited_deed, ready_waited, busy_waited}
 use Rattle.pod_gc.proofs.Untouched.{let_left, took_lists, let_listed}
-use Rattle.pod_gc.specs.declared.error.GcError.TheVariants as fault
+use Rattle.pod_gc.specs.declared.gc_error.GcError.TheVariants as fault
 use Rattle.pod_gc.specs.Causes.{NeverStray}
 use Rattle.pod_gc.proofs.deals.deal_prepared.Goals as goal
 

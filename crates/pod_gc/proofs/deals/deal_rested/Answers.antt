@@ -4,15 +4,15 @@ use Rattle.dir_model.specs.declared.area.Phase.{Phase}
 use Rattle.dir_model.specs.declared.spot.Which.{Which}
 use Rattle.folder_building.proofs.Copying.{ok_more}
 use Rattle.folder_building.proofs.Working.{worked_wider}
-use Rattle.pod_removal.specs.Holding.{MayRemove}
+use Rattle.pod_gc.specs.RemovalHolding.{MayRemove}
 use Rattle.pod_gc.proofs.Dealing.{both_ok}
 use Rattle.pod_gc.specs.declared.line.Deed.TheVariants.{Kept, Busy}
-use Rattle.pod_gc.specs.Marks.{is_young}
+use Rattle.pod_gc.specs.Ages.{is_young}
 use Rattle.pod_gc.specs.Deeds.{DoesNothing, RestsBy, LetBe, LeavesWhere}
 use Rattle.pod_gc.proofs.Steps.{looks_deal, rests_young, rests_over}
 use Rattle.pod_gc.proofs.Untouched.{let_looked}
 use Rattle.folder_building.proofs.Copying.{err_more}
-use Rattle.pod_gc.specs.declared.error.GcError.TheVariants as fault
+use Rattle.pod_gc.specs.declared.gc_error.GcError.TheVariants as fault
 use Rattle.pod_gc.specs.Causes.{StrayByApp}
 use Rattle.pod_gc.proofs.deals.deal_rested.Goals as goal
 

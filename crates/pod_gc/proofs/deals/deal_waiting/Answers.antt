@@ -8,32 +8,32 @@ use Rattle.dir_model.specs.declared.request.Reply.TheVariants.{Done}
 use Rattle.folder_building.proofs.Copying.{ok_more, err_more}
 use Rattle.folder_building.proofs.Working.{worked_none}
 use Rattle.phase_read.specs.Read.{pod_spot}
-use Rattle.pod_steps.specs.Holding.{Stays}
-use Rattle.pod_steps.specs.Causes.{Did, FreeWhere}
-use Rattle.pod_steps.specs.Taking.{TakesNothing}
-use Rattle.pod_removal.specs.Causes.{StoppedAlone, BusyInPrepared, MissedUntaken}
-use Rattle.pod_removal.specs.Holding.{MayDiscard}
+use Rattle.pod_locks.specs.Holding.{Stays}
+use Rattle.pod_locks.specs.Causes.{Did, FreeWhere}
+use Rattle.pod_locks.specs.Taking.{TakesNothing}
+use Rattle.pod_gc.specs.RemovalCauses.{StoppedAlone, BusyInPrepared, MissedUntaken}
+use Rattle.pod_gc.specs.RemovalHolding.{MayDiscard}
 use Rattle.dir_model.specs.declared.spot.Which.TheVariants.{Own, Claim}
 use Rattle.dir_model.specs.declared.spot.Mode.TheVariants.{Exclusive}
 use Rattle.pod_gc.proofs.Dealing.{all_ok}
-use Rattle.pod_gc.specs.declared.error.GcError.{GcError}
+use Rattle.pod_gc.specs.declared.gc_error.GcError.{GcError}
 use Rattle.pod_gc.specs.declared.line.Deed.{Deed}
 use Rattle.pod_gc.specs.declared.line.Deed.TheVariants.{Moved, Kept}
 use Rattle.pod_gc.specs.Causes.{GcCause}
-use Rattle.pod_gc.specs.Marks.{is_ripe}
+use Rattle.pod_gc.specs.Ages.{is_ripe}
 use Rattle.pod_gc.specs.Deeds.{DeedCause, WaitsBy, LetBe, LeavesWhere}
 use Rattle.pod_gc.specs.Sweeping.{Ripens}
 use Rattle.pod_gc.proofs.Steps.{SetBackAt, cause_moved, step_deed, step_cause, step_another, step_ends, ClaimsFirst, BusyHere, left_waiting}
 use Rattle.pod_gc.proofs.Waiting.{may_ripen, set_alone, waits_kept, waits_over}
-use Rattle.pod_removal.proofs.Stages.{err_all}
-use Rattle.pod_steps.specs.declared.setback.Setback.TheVariants as stop
+use Rattle.pod_gc.proofs.Stages.{err_all}
+use Rattle.pod_locks.specs.declared.setback.Setback.TheVariants as stop
 use Rattle.dir_model.specs.declared.spot.Which.{Which}
 use Rattle.dir_model.proofs.Chains.{nothing_yet}
 use Rattle.dir_trait.specs.DirCalls.{ExtendsBy, LockToldBetween}
-use Rattle.pod_removal.specs.Requests.{puts_aside}
+use Rattle.pod_gc.specs.RemovalRequests.{puts_aside}
 use Rattle.pod_gc.specs.Requests.{moves_on, may_be_busy}
 use Rattle.pod_gc.proofs.Untouched.{let_looked, moved_on, step_let_be, owns_elsewhere}
-use Rattle.pod_steps.specs.Causes.{BreaksRules}
+use Rattle.pod_locks.specs.Causes.{BreaksRules}
 use Rattle.pod_gc.specs.Causes.{NeverStray}
 use Rattle.pod_gc.proofs.Lawful.{step_stray}
 use Rattle.pod_gc.proofs.deals.deal_waiting.Goals as goal

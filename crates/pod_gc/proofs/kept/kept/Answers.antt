@@ -1,6 +1,6 @@
 use Rattle.std.proofs.Common.{Err, sym, ap, subst, ◌∙◌}
-use Rattle.pod_removal.proofs.Looking.{worked_look}
-use Rattle.pod_gc.specs.declared.error.GcError.{GcError}
+use Rattle.pod_gc.proofs.Looking.{worked_look}
+use Rattle.pod_gc.specs.declared.gc_error.GcError.{GcError}
 use Rattle.pod_gc.specs.Causes.{GcCause}
 use Rattle.pod_gc.proofs.Steps.{says_there, says_gone, look_cause, peeks_here}
 use Rattle.pod_gc.proofs.Lawful.{look_never}

@@ -4,16 +4,16 @@ use Rattle.dir_model.specs.declared.area.Phase.TheVariants as phase
 use Rattle.dir_model.specs.declared.spot.Which.{Which}
 use Rattle.folder_building.proofs.Copying.{ok_more, err_more}
 use Rattle.folder_building.proofs.Working.{worked_more}
-use Rattle.pod_steps.proofs.Calls.{follows_work}
-use Rattle.pod_removal.specs.Holding.{MayRemove}
+use Rattle.pod_locks.proofs.Calls.{follows_work}
+use Rattle.pod_gc.specs.RemovalHolding.{MayRemove}
 use Rattle.pod_gc.proofs.Dealing.{both_ok, all_ok_at}
-use Rattle.pod_gc.specs.declared.error.GcError.{GcError}
+use Rattle.pod_gc.specs.declared.gc_error.GcError.{GcError}
 use Rattle.pod_gc.specs.declared.line.Deed.{Deed}
 use Rattle.pod_gc.specs.declared.line.Deed.TheVariants.{Left, Busy}
 use Rattle.pod_gc.specs.Causes.{deed_of, GcCause}
 use Rattle.pod_gc.specs.Deeds.{DeedCause, SaysThere, DoesNothing, refused_lock, LeavesWhere}
 use Rattle.pod_gc.proofs.Steps.{set_stopped, step_deed, step_cause, step_rests, step_calm, step_another, said_deed, said_calm, said_refused, said_rests, said_unbusy, cause_after, ready_probed, ready_unprobed, ready_looked, looks_resting}
-use Rattle.pod_gc.specs.declared.error.GcError.TheVariants as fault
+use Rattle.pod_gc.specs.declared.gc_error.GcError.TheVariants as fault
 use Rattle.pod_gc.proofs.Lawful.{step_stray}
 use Rattle.pod_gc.proofs.kept.kept_exited.Goals as goal
 

@@ -2,8 +2,8 @@ use Rattle.std.proofs.Common.{rules, ◌≡◌, ◌+◌, ◌∷◌, ◌++◌, []
 use Rattle.std.proofs.lemmas.List.{take_more}
 use Rattle.folder_building.proofs.Copying.{err_more}
 use Rattle.folder_building.proofs.Working.{worked_none, worked_more, worked_wider}
-use Rattle.pod_steps.proofs.Calls.{follows_work}
-use Rattle.pod_removal.proofs.Stages.{err_same}
+use Rattle.pod_locks.proofs.Calls.{follows_work}
+use Rattle.pod_gc.proofs.Stages.{err_same}
 use Rattle.pod_gc.specs.Causes.{GcCause}
 use Rattle.pod_gc.specs.Told.{deals_with_some, AddsTold}
 use Rattle.pod_gc.proofs.Steps.{cause_after}

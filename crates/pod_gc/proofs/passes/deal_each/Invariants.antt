@@ -1,6 +1,6 @@
 use Rattle.std.proofs.Common.{◌≡◌, true, take}
 use Rattle.folder_building.specs.Work.{Worked}
-use Rattle.pod_steps.specs.Holding.{KeepsReady, Stays}
+use Rattle.pod_locks.specs.Holding.{KeepsReady, Stays}
 use Rattle.pod_gc.specs.Sweeping.{MayPass}
 use Rattle.pod_gc.specs.Told.{deals_with_some, AddsTold}
 use Rattle.pod_gc.proofs.passes.deal_each.Given as goal

@@ -2,9 +2,9 @@ use Rattle.std.proofs.Common.{◌≡◌, ◌∷◌, [], ◌++◌, rules, true, S
 use Rattle.dir_model.specs.Pods.{pod_of}
 use Rattle.folder_building.proofs.Copying.{ok_more, err_more}
 use Rattle.folder_building.proofs.Working.{worked_none, worked_wider}
-use Rattle.pod_removal.proofs.Stages.{err_same}
-use Rattle.pod_gc.specs.declared.error.GcError.{GcError}
-use Rattle.pod_gc.specs.declared.error.GcError.TheVariants as fault
+use Rattle.pod_gc.proofs.Stages.{err_same}
+use Rattle.pod_gc.specs.declared.gc_error.GcError.{GcError}
+use Rattle.pod_gc.specs.declared.gc_error.GcError.TheVariants as fault
 use Rattle.pod_gc.specs.Causes.{GcCause}
 use Rattle.pod_gc.specs.Told.{AddsTold}
 use Rattle.pod_gc.proofs.InTurn.{no_memory, pass_none}

@@ -1,20 +1,20 @@
 use Rattle.std.proofs.Common.{◌≡◌, ◌∷◌, [], ◌++◌, rules, inr, true, None, Err, sym, ap, subst, ◌∙◌, arith}
 use Rattle.dir_model.specs.declared.area.Area.TheVariants.{Embryo}
-use Rattle.area_locks.specs.declared.error.LockError.TheVariants as lock
+use Rattle.dir_files.specs.declared.lock_error.LockError.TheVariants as lock
 use Rattle.folder_building.proofs.Copying.{ok_more, err_more}
-use Rattle.pod_claim.proofs.Traces.{grown_by}
-use Rattle.pod_steps.proofs.Calls.{stray_part}
-use Rattle.pod_gc.specs.declared.error.GcError.{GcError}
+use Rattle.pod_locks.proofs.Traces.{grown_by}
+use Rattle.pod_locks.proofs.Calls.{stray_part}
+use Rattle.pod_gc.specs.declared.gc_error.GcError.{GcError}
 use Rattle.pod_gc.specs.declared.line.Deed.TheVariants.{BusyGate}
 use Rattle.pod_gc.specs.Causes.{GcCause}
 use Rattle.pod_gc.specs.Told.{AddsShown, AddsPassed}
 use Rattle.pod_gc.proofs.Gates.{ready_under, ready_same, worked_gate, worked_locked, lock_cause, adds_gate, adds_gated}
 use Rattle.pod_gc.specs.Ended.{EndsListingBetween, EndsPassBetween}
 use Rattle.pod_gc.proofs.Ending.{whenever, ends_gate}
-use Rattle.pod_gc.specs.declared.error.GcError.TheVariants as fault
+use Rattle.pod_gc.specs.declared.gc_error.GcError.TheVariants as fault
 use Rattle.pod_gc.specs.Causes.{StrayByApp}
 use Rattle.pod_gc.specs.Sweeping.{MayPass, MaySweepAll}
-use Rattle.pod_steps.proofs.Lawful.{by_app_part}
+use Rattle.pod_locks.proofs.Lawful.{by_app_part}
 use Rattle.pod_gc.proofs.Gates.{follows_lock}
 use Rattle.pod_gc.proofs.Lawful.{memory_never, lock_never, gate_passes, follows_unlock}
 use Rattle.pod_gc.proofs.passes.pass_embryo.Goals as goal

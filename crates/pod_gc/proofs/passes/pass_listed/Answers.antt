@@ -1,8 +1,8 @@
 use Rattle.std.proofs.Common.{◌≡◌, inr, ℕ, List, true, Ok, Err, sym, ap, subst}
 use Rattle.folder_building.proofs.Copying.{ok_more, err_more}
 use Rattle.folder_building.proofs.Working.{worked_more, worked_wider}
-use Rattle.pod_steps.proofs.Calls.{follows_work}
-use Rattle.pod_gc.specs.declared.error.GcError.{GcError}
+use Rattle.pod_locks.proofs.Calls.{follows_work}
+use Rattle.pod_gc.specs.declared.gc_error.GcError.{GcError}
 use Rattle.pod_gc.specs.Causes.{GcCause}
 use Rattle.pod_gc.proofs.Steps.{cause_after}
 use Rattle.pod_gc.specs.Told.{AddsTold, AddsShown}

@@ -1,13 +1,13 @@
 use Rattle.std.proofs.Common.{◌≡◌, rules, true}
-use Rattle.pod_removal.proofs.Stages.{err_same}
+use Rattle.pod_gc.proofs.Stages.{err_same}
 use Rattle.pod_gc.specs.Causes.{GcCause}
 use Rattle.pod_gc.proofs.Sweeps.{swept_all}
 use Rattle.pod_gc.specs.Ended.{EndsSweepBetween}
 use Rattle.std.proofs.Common.{refl}
-use Rattle.pod_gc.specs.declared.error.GcError.TheVariants as fault
+use Rattle.pod_gc.specs.declared.gc_error.GcError.TheVariants as fault
 use Rattle.pod_gc.specs.Causes.{StrayByApp}
 use Rattle.pod_gc.specs.Sweeping.{MaySweepAll}
-use Rattle.pod_removal.proofs.Lawful.{of_err}
+use Rattle.pod_gc.proofs.RemovalLawful.{of_err}
 use Rattle.pod_gc.proofs.sweeping.gc.Goals as goal
 
 pub returns-clause-swept : goal.returns-clause-swept

@@ -4,8 +4,8 @@ use Rattle.dir_model.specs.declared.area.Area.{Area}
 use Rattle.dir_model.specs.declared.area.Area.TheVariants.{Embryo}
 use Rattle.folder_building.proofs.Copying.{err_more}
 use Rattle.folder_building.proofs.Working.{worked_none, worked_more}
-use Rattle.pod_steps.proofs.Calls.{follows_work}
-use Rattle.pod_removal.proofs.Stages.{err_same}
+use Rattle.pod_locks.proofs.Calls.{follows_work}
+use Rattle.pod_gc.proofs.Stages.{err_same}
 use Rattle.pod_gc.specs.Causes.{GcCause}
 use Rattle.pod_gc.specs.Told.{places, AddsSwept}
 use Rattle.pod_gc.proofs.Steps.{cause_after}

@@ -1,6 +1,6 @@
 use Rattle.std.proofs.Common.{◌≡◌, true, take}
 use Rattle.folder_building.specs.Work.{Worked}
-use Rattle.pod_steps.specs.Holding.{KeepsReady, Stays}
+use Rattle.pod_locks.specs.Holding.{KeepsReady, Stays}
 use Rattle.pod_gc.specs.Requests.{sweeps}
 use Rattle.pod_gc.specs.Sweeping.{MaySweepAll}
 use Rattle.pod_gc.specs.Told.{places, AddsSwept}

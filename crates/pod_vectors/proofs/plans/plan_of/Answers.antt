@@ -1,6 +1,6 @@
 use Rattle.std.proofs.Common.{◌≡◌, false, rules, bytes_eq, map, List, sym, subst}
 use Rattle.std.specs.List.{IsDistinct}
-use Rattle.pod_plans.specs.declared.pod_app.PodApp.{PodApp}
+use Rattle.pod_plan.specs.declared.pod_app.PodApp.{PodApp}
 use Rattle.pod_vectors.proofs.plans.plan_of.Goals as goal
 
 pub pod_plan-requires : goal.pod_plan-requires

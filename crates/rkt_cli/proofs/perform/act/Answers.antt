@@ -1,7 +1,7 @@
 use Rattle.std.proofs.Common.{ap}
 use Rattle.rkt_cli.proofs.RunsRan.{can_claim, can_run, prepared_ran, made_ran}
 use Rattle.rkt_cli.proofs.Makers.{claims_none, run_hands, service_none}
-use Rattle.pod_making.proofs.Handing.{none_handed}
+use Rattle.pod_build.proofs.Handing.{none_handed}
 use Rattle.rkt_cli.specs.Tasks.{takes_links, task_of}
 use Rattle.command_outcomes.specs.declared.refusal.Refusal.TheVariants.{LinkFault}
 use Rattle.command_outcomes.specs.Moments.{bundle_at, outcome_of}

@@ -8,7 +8,7 @@ use Rattle.rkt_cli.proofs.ValidateRan.{validate_ran}
 use Rattle.rkt_cli.proofs.PodRan.{prepares, prepare_ran}
 use Rattle.rkt_cli.proofs.PodRemovals.{rm_conforming, gc_conforming, rm_ran, gc_ran}
 use Rattle.rkt_cli.proofs.Makers.{inspects_none, surveys_none, visits_none, lists_none, imports_none, image_removes_none, image_sweeps_none, removes_none, sweeps_none, prepare_hands}
-use Rattle.pod_making.proofs.Handing.{none_handed}
+use Rattle.pod_build.proofs.Handing.{none_handed}
 use Rattle.image_store.specs.Requests.{building_spot}
 use Rattle.rkt_cli.proofs.Acting.{at_task}
 use Rattle.rkt_cli.proofs.Reported.{cat_ran, list_ran, none_open, status_ran}

@@ -1,7 +1,7 @@
 use Rattle.rkt_cli.specs.Lines.{line_in}
 use Rattle.rkt_cli.proofs.ServedAlone.{links_alone}
 use Rattle.rkt_cli.proofs.Words as words
-use Rattle.pod_roots.proofs.Reading.{pods_read}
+use Rattle.headline.proofs.Reading.{pods_read}
 use Rattle.headline.proofs.Holds.{headline_holds}
 use Rattle.rkt_cli.proofs.Headlines.{run_begins}
 use Rattle.rkt_cli.proofs.Phases.{phases}

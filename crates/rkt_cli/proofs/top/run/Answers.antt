@@ -1,5 +1,5 @@
 use Rattle.std.proofs.Common.{Err, inl, refl, sym, subst, Option, ◌∙◌}
-use Rattle.pod_making.proofs.Handing.{nothing_handed}
+use Rattle.pod_build.proofs.Handing.{nothing_handed}
 use Rattle.rkt_cli.specs.declared.line.Line.{Line}
 use Rattle.command_outcomes.specs.Moments.{sink_at}
 use Rattle.rkt_cli.specs.Between.{RunBetween}

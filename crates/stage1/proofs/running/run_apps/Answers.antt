@@ -1,7 +1,7 @@
 use Rattle.std.proofs.Common.{arith, ◌≡◌, true, sym, ap, subst, ◌∙◌, List, length, take}
 use Rattle.dir_model.specs.Local.{IsActive, Local}
 use Rattle.folder_building.proofs.Working.{worked_none, worked_more}
-use Rattle.pod_launches.specs.declared.start.AppStart.{AppStart}
+use Rattle.stage1.specs.declared.start.AppStart.{AppStart}
 use Rattle.stage1.specs.declared.stand.Stand.{Stand}
 use Rattle.std.proofs.lemmas.List.{take_all}
 use Rattle.stage1.specs.Beginnings.{AreMarked, AreStartedIn, AreWritten, running}

@@ -1,9 +1,9 @@
 use Rattle.std.proofs.Common.{ap, Err, sym, subst, List}
 use Rattle.std.specs.List.{AllByRecursion}
 use Rattle.dir_model.specs.Local.{IsActive, Local}
-use Rattle.pod_launches.specs.declared.start.AppStart.{AppStart}
-use Rattle.pod_launches.specs.Places.{run_spot}
-use Rattle.pod_launches.specs.Starts.{IsPlacedIn}
+use Rattle.stage1.specs.declared.start.AppStart.{AppStart}
+use Rattle.stage1.specs.AppPlaces.{run_spot}
+use Rattle.stage1.specs.Starts.{IsPlacedIn}
 use Rattle.stage1.specs.declared.error.RunError.{RunError}
 use Rattle.stage1.specs.Cutting.{IsCutShort}
 use Rattle.stage1.specs.Runs.{HasRunStarts, HasRunHeld, StopCause, IsRefusedRun}

@@ -1,4 +1,0 @@
-pub mod OwnHandles
-pub mod Opposed
-pub mod Gates
-pub mod Locking

@@ -1,6 +1,0 @@
-use Rattle.std.proofs.Common.{◌≡◌, ◌++◌, take}
-use Rattle.materialize.specs.TreePlans.{tree_entries}
-use Rattle.materialize.proofs.listed.tree_plan.Given as goal
-
-abbrev pub invariant-lines : goal.invariant-lines
-invariant-lines l = l.plan.items ≡ l.fn.plan.items ++ tree_entries l.prefix l.folder l.from (take l.line-index l.lines)

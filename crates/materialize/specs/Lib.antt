@@ -1,2 +1,0 @@
-pub mod Materialized
-pub mod TreePlans

@@ -1,4 +1,0 @@
-pub mod Notes
-pub mod Steps
-pub mod Along
-pub mod Comes

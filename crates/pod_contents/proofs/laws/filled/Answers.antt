@@ -1,9 +1,0 @@
-use Rattle.pod_contents.proofs.Along.{stays_filled}
-use Rattle.pod_contents.proofs.Comes.{pods_are_filled}
-use Rattle.pod_contents.proofs.laws.filled.Goals as goal
-
-pub returns-clause-stays : goal.returns-clause-stays
-returns-clause-stays c = λ conforming. stays_filled c.args.history.now.items conforming
-
-pub returns-clause-left : goal.returns-clause-left
-returns-clause-left c = λ conforming. pods_are_filled c.args.history.now.items conforming

@@ -1,0 +1,112 @@
+// A dead pod is put aside: from prepare to garbage, and from run, with a mark, to exited-garbage.
+ghost use Rattle.std.specs.Prelude.{◌≡◌, true, false, IfOk, IfErr};
+ghost use Rattle.dir_model.specs.declared.area.Area.TheVariants as area;
+ghost use Rattle.dir_model.specs.declared.spot.Mode.TheVariants as mode;
+ghost use Rattle.dir_model.specs.declared.spot.Which.{Which};
+ghost use Rattle.dir_model.specs.declared.spot.Which.TheVariants.{Own};
+ghost use Rattle.dir_model.specs.declared.request.Request.TheVariants.{MoveFolder};
+ghost use Rattle.dir_model.specs.declared.request.Reply.TheVariants.{Done};
+ghost use Rattle.dir_trait.specs.DirCalls.{ExtendsBy, LockToldBetween};
+ghost use Rattle.dir_trait.specs.Local.{IsActive};
+ghost use Rattle.folder_building.specs.Work.{Worked};
+ghost use Rattle.phase_read.specs.Often.{ReadsAtMost};
+ghost use Rattle.phase_read.specs.Read.{pod_spot};
+ghost use Rattle.pod_gc.specs.RemovalRequests.{removes, marks_at, puts_aside};
+ghost use Rattle.pod_locks.specs.Holding.{KeepsReady, Stays};
+ghost use Rattle.pod_gc.specs.RemovalHolding.{MayRemove, MayMark, Marked};
+ghost use Rattle.pod_locks.specs.Causes.{Stopped, NeverStray, IsAbsentAt, BusyElsewhere, Did};
+ghost use Rattle.pod_locks.specs.Taking.{TakesNothing};
+ghost use Rattle.pod_gc.specs.RemovalCauses.{BusyByPeeks, IsMarkedBetween, MarkedFirst};
+
+use dir_trait::{Area, Dir, DirError, PodId};
+use folder_building::mark_text;
+use pod_locks::{Setback, pod_spot, probe, put_aside, set_back};
+use std::alloc::Global;
+
+/// Moves an aborted prepare to garbage, once its own lock was had shared in prepare. `Missing` where it
+/// doesn't stand in prepare; `Busy` where another process holds its own lock exclusively; `Stray` where
+/// another folder has its place in garbage, which isn't so while every process keeps the local rules.
+pub fn discard_aborted<D: Dir>(
+    alloc: Global,
+    dir: &mut D,
+    pod: PodId,
+    now: u64,
+) -> Result<(), Setback>
+    requires active { IsActive (D.shown dir.old).local }
+    ensures worked { Worked D.observed (removes pod now) (D.shown dir.old) (D.shown dir.new) }
+    ensures reads { ReadsAtMost 0 D.observed pod (D.shown dir.old) (D.shown dir.new) }
+    ensures stopped { IfErr result (λ e. Stopped D.observed pod (IsAbsentAt pod area.Prepare) e (D.shown dir.old) (D.shown dir.new)) }
+    ensures lawful { IfErr result (λ e. NeverStray D.observed e (D.shown dir.new)) }
+    ensures named { IfErr result (λ e. (which : Which) → e ≡ Setback.Busy which → which ≡ Own) }
+    ensures another { IfErr result (λ e. D.observed ≡ true → Stays (MayRemove now) (D.shown dir.old)
+        (λ s. BusyElsewhere pod area.Prepare mode.Shared e (D.shown dir.old) (D.shown dir.new))) }
+    ensures owned { IfErr result (λ e. (which : Which) → e ≡ Setback.Busy which → D.observed ≡ true
+        → LockToldBetween (D.shown dir.old) (D.shown dir.new) (pod_spot pod area.Prepare) true) }
+    ensures done { IfOk result (λ done. D.observed ≡ true → Did (MoveFolder (pod_spot pod area.Prepare) (pod_spot pod area.Garbage)) Done
+        (D.shown dir.old).process (D.shown dir.old).trace (D.shown dir.new).trace) }
+    ensures aside { IfOk result (λ done. D.observed ≡ true → ExtendsBy (puts_aside pod area.Prepare area.Garbage) (D.shown dir.old) (D.shown dir.new)) }
+    ensures free { IfOk result (λ done. D.observed ≡ true → LockToldBetween (D.shown dir.old) (D.shown dir.new) (pod_spot pod area.Prepare) false) }
+    ensures peeks { IfErr result (λ e. BusyByPeeks D.observed pod area.Prepare e (D.shown dir.old) (D.shown dir.new)) }
+    ensures still { IfErr result (λ e. TakesNothing D.observed (D.shown dir.old) (D.shown dir.new)) }
+    ensures ready { D.observed ≡ true → Stays (MayRemove now) (D.shown dir.old) (λ s. KeepsReady s (D.shown dir.new)) }
+{
+    probe(alloc, dir, pod, Area::Prepare)?;
+    put_aside(alloc, dir, pod, Area::Prepare, Area::Garbage)
+}
+
+// Marks a pod in run with the moment, whence its time in exited-garbage counts: that the mark is there
+// already is as good. `Missing` where the pod doesn't stand in run.
+fn mark<D: Dir>(alloc: Global, dir: &mut D, pod: PodId, now: u64) -> Result<(), Setback>
+    requires active { IsActive (D.shown dir.old).local }
+    ensures worked { Worked D.observed (marks_at pod now) (D.shown dir.old) (D.shown dir.new) }
+    ensures stopped { IfErr result (λ e. Stopped D.observed pod (IsAbsentAt pod area.Run) e (D.shown dir.old) (D.shown dir.new)) }
+    ensures never { IfErr result (λ e. e ≡ Setback.Stray → ⊥) }
+    ensures calm { IfErr result (λ e. (which : Which) → e ≡ Setback.Busy which → ⊥) }
+    ensures marked { IfOk result (λ done. D.observed ≡ true → Stays (MayMark pod now) (D.shown dir.old) (λ s. Marked pod s (D.shown dir.new))) }
+    ensures noted { IfOk result (λ done. D.observed ≡ true → IsMarkedBetween pod now (D.shown dir.old) (D.shown dir.new)) }
+    ensures left { D.observed ≡ true → Stays (MayMark pod now) (D.shown dir.old) (λ s. KeepsReady s (D.shown dir.new)) }
+{
+    let name = match mark_text(alloc, "marked-", now) {
+        Ok(name) => name,
+        Err(_) => return Err(Setback::NoMemory),
+    };
+    match dir.make_file_in(alloc, pod_spot(pod, Area::Run), name.as_str()) {
+        Ok(()) => Ok(()),
+        Err(DirError::Exists) => Ok(()),
+        Err(error) => Err(set_back(error)),
+    }
+}
+
+/// Marks an exited pod with the moment and moves it to exited-garbage, once its own lock was had shared
+/// in run. `Missing` where it doesn't stand in run; `Busy` where another process holds its own lock
+/// exclusively; `Stray` where another folder has its place in exited-garbage, which isn't so while every
+/// process keeps the local rules.
+pub fn retire_exited<D: Dir>(
+    alloc: Global,
+    dir: &mut D,
+    pod: PodId,
+    now: u64,
+) -> Result<(), Setback>
+    requires active { IsActive (D.shown dir.old).local }
+    ensures worked { Worked D.observed (removes pod now) (D.shown dir.old) (D.shown dir.new) }
+    ensures reads { ReadsAtMost 0 D.observed pod (D.shown dir.old) (D.shown dir.new) }
+    ensures stopped { IfErr result (λ e. Stopped D.observed pod (IsAbsentAt pod area.Run) e (D.shown dir.old) (D.shown dir.new)) }
+    ensures lawful { IfErr result (λ e. NeverStray D.observed e (D.shown dir.new)) }
+    ensures named { IfErr result (λ e. (which : Which) → e ≡ Setback.Busy which → which ≡ Own) }
+    ensures another { IfErr result (λ e. D.observed ≡ true → Stays (MayRemove now) (D.shown dir.old)
+        (λ s. BusyElsewhere pod area.Run mode.Shared e (D.shown dir.old) (D.shown dir.new))) }
+    ensures owned { IfErr result (λ e. (which : Which) → e ≡ Setback.Busy which → D.observed ≡ true
+        → LockToldBetween (D.shown dir.old) (D.shown dir.new) (pod_spot pod area.Run) true) }
+    ensures done { IfOk result (λ done. D.observed ≡ true → Did (MoveFolder (pod_spot pod area.Run) (pod_spot pod area.ExitedGarbage)) Done
+        (D.shown dir.old).process (D.shown dir.old).trace (D.shown dir.new).trace) }
+    ensures aside { IfOk result (λ done. D.observed ≡ true → ExtendsBy (puts_aside pod area.Run area.ExitedGarbage) (D.shown dir.old) (D.shown dir.new)) }
+    ensures free { IfOk result (λ done. D.observed ≡ true → LockToldBetween (D.shown dir.old) (D.shown dir.new) (pod_spot pod area.Run) false) }
+    ensures noted { IfOk result (λ done. D.observed ≡ true → MarkedFirst pod now (D.shown dir.old).process (D.shown dir.old).trace (D.shown dir.new).trace) }
+    ensures peeks { IfErr result (λ e. BusyByPeeks D.observed pod area.Run e (D.shown dir.old) (D.shown dir.new)) }
+    ensures still { IfErr result (λ e. TakesNothing D.observed (D.shown dir.old) (D.shown dir.new)) }
+    ensures ready { D.observed ≡ true → Stays (MayRemove now) (D.shown dir.old) (λ s. KeepsReady s (D.shown dir.new)) }
+{
+    probe(alloc, dir, pod, Area::Run)?;
+    mark(alloc, dir, pod, now)?;
+    put_aside(alloc, dir, pod, Area::Run, Area::ExitedGarbage)
+}

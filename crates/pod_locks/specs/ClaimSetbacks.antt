@@ -1,0 +1,33 @@
+-- What the refusals of lower calls mean to a claim.
+use Rattle.dir_model.specs.declared.pod.PodId.{PodId}
+use Rattle.dir_model.specs.declared.spot.Which.{Which}
+use Rattle.dir_model.specs.declared.request.DirError.{DirError}
+use Rattle.dir_model.specs.declared.request.DirError.TheVariants as dir
+use Rattle.phase_read.specs.declared.found.LookError.{LookError}
+use Rattle.phase_read.specs.declared.found.LookError.TheVariants as look
+use Rattle.pod_locks.specs.declared.claim_error.ClaimError.{ClaimError}
+use Rattle.pod_locks.specs.declared.claim_error.ClaimError.TheVariants.{Busy, DirFault, Stray, NoMemory}
+use Rattle.pod_locks.specs.declared.claim_setback.Setback.{Setback}
+use Rattle.pod_locks.specs.declared.claim_setback.Setback.TheVariants.{Missing, Refused}
+
+-- a location that is missing sends the claim back to the read
+abbrev pub set_back : DirError → Setback
+set_back dir.Missing = Missing
+set_back dir.Failed = Refused DirFault
+set_back dir.NoMemory = Refused NoMemory
+set_back _ = Refused Stray
+
+-- the lock was asked for
+abbrev pub lock_setback : PodId → Which → DirError → Setback
+lock_setback pod which dir.Locked = Refused (Busy pod which)
+lock_setback pod which error = set_back error
+
+-- a look at a pod gives DirFault or NoMemory
+abbrev pub look_refusal : LookError → ClaimError
+look_refusal look.DirFault = DirFault
+look_refusal _ = NoMemory
+
+-- a claim that is set back for good
+abbrev pub last_refusal : Setback → ClaimError
+last_refusal Missing = Stray
+last_refusal (Refused error) = error

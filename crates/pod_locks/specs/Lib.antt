@@ -1,0 +1,13 @@
+pub mod Running
+pub mod Setbacks
+pub mod Requests
+pub mod Holding
+pub mod Causes
+pub mod Taking
+pub mod ClaimRequests
+pub mod ClaimHolding
+pub mod ClaimSetbacks
+pub mod Work
+pub mod ClaimCauses
+pub mod Claims
+pub mod Elsewhere

@@ -1,0 +1,126 @@
+// The two locks of a prepared pod, and its move to run under both.
+ghost use Rattle.std.specs.Prelude.{◌≡◌, [], true, IfOk, IfErr};
+ghost use Rattle.dir_model.specs.declared.pod.PodId.{PodId};
+ghost use Rattle.dir_model.specs.declared.spot.Which.{Which};
+ghost use Rattle.dir_model.specs.declared.spot.Which.TheVariants as lock;
+ghost use Rattle.dir_trait.specs.Local.{IsActive, IsUnopened};
+ghost use Rattle.dir_trait.specs.Knowledge.{Knows, OnlyLooks, LookedInto};
+ghost use Rattle.phase_read.specs.Often.{ReadsAtMost};
+ghost use Rattle.pod_locks.specs.ClaimHolding.{MayTake, MayClaim, HasClaim, and_locked, with_lock, with_pod};
+ghost use Rattle.pod_locks.specs.Work.{Went, InOrder, MovedNothing, takes, moves_on, TookBoth, Leaves};
+ghost use Rattle.pod_locks.specs.ClaimCauses.{Stopped, StopsAlone, IsAbsent, CannotOpen, BusyElsewhere, BusyInTurn, HadAlone, HadBothAlone};
+ghost use Rattle.pod_locks.specs.Claims.{HasPod};
+
+use crate::claim_error::ClaimError;
+use crate::place::pod_spot;
+use crate::claim_setback::{Setback, lock_setback, look_refusal, set_back};
+use dir_trait::{Area, Dir, Handle, Mode, PodId, Which};
+use phase_read::look;
+use std::alloc::Global;
+
+// Opens a lock of the pod in prepared and takes it.
+fn take<D: Dir>(alloc: Global, dir: &mut D, pod: PodId, which: Which) -> Result<Handle, Setback>
+    requires active { IsActive (D.shown dir.old).local }
+    ensures went { Went D.observed 3 pod (and_locked (D.shown dir.old).local pod which result) (D.shown dir.old) (D.shown dir.new) }
+    ensures reads { ReadsAtMost 0 D.observed pod (D.shown dir.old) (D.shown dir.new) }
+    ensures unopened { IfOk result (λ handle. IsUnopened (D.shown dir.old).local handle) }
+    ensures order { IfOk result (λ handle. D.observed ≡ true
+        → InOrder (D.shown dir.old).process (D.shown dir.old).trace (D.shown dir.new).trace (takes pod which handle [])) }
+    ensures still { IfOk result (λ handle. D.observed ≡ true
+        → MovedNothing (D.shown dir.old).process (D.shown dir.old).trace (D.shown dir.new).trace) }
+    ensures stopped { IfErr result (λ e. Stopped D.observed pod (CannotOpen pod which) e (D.shown dir.old) (D.shown dir.new)) }
+    ensures another { IfErr result (λ e. Leaves D.observed (MayTake pod which) (D.shown dir.old)
+        (λ s. BusyElsewhere pod e (D.shown dir.old) (D.shown dir.new))) }
+    ensures alone { IfOk result (λ handle. D.observed ≡ true → HadAlone pod which (D.shown dir.old).process (D.shown dir.old).trace (D.shown dir.new).trace) }
+    ensures own { IfErr result (λ e. (other : PodId) (named : Which) → e ≡ Setback.Refused (ClaimError.Busy other named) → named ≡ which) }
+    ensures held { IfOk result (λ handle. Leaves D.observed (MayTake pod which) (D.shown dir.old)
+        (λ s. Knows (D.shown dir.new) (with_lock pod which handle s))) }
+    ensures left { IfErr result (λ e. Leaves D.observed (MayTake pod which) (D.shown dir.old) (λ s. Knows (D.shown dir.new) s)) }
+{
+    let prepared = pod_spot(pod, Area::Prepared);
+    match dir.open(alloc, prepared, which) {
+        Ok(handle) => match dir.try_lock(alloc, handle, Mode::Exclusive) {
+            Ok(()) => Ok(handle),
+            Err(error) => {
+                dir.close(handle);
+                Err(lock_setback(pod, which, error))
+            }
+        },
+        Err(error) => Err(set_back(error)),
+    }
+}
+
+// Takes Own and moves the pod to run, under Claim: whoever removes pods asks for Claim first, so
+// the folder that was opened is the one that is moved.
+fn run_under_claim<D: Dir>(alloc: Global, dir: &mut D, pod: PodId) -> Result<Handle, Setback>
+    requires active { IsActive (D.shown dir.old).local }
+    ensures went { Went D.observed 5 pod (and_locked (D.shown dir.old).local pod lock.Own result) (D.shown dir.old) (D.shown dir.new) }
+    ensures reads { ReadsAtMost 0 D.observed pod (D.shown dir.old) (D.shown dir.new) }
+    ensures unopened { IfOk result (λ own. IsUnopened (D.shown dir.old).local own) }
+    ensures order { IfOk result (λ own. D.observed ≡ true
+        → InOrder (D.shown dir.old).process (D.shown dir.old).trace (D.shown dir.new).trace (takes pod lock.Own own (moves_on pod))) }
+    ensures alone { IfOk result (λ own. D.observed ≡ true → HadAlone pod lock.Own (D.shown dir.old).process (D.shown dir.old).trace (D.shown dir.new).trace) }
+    ensures stopped { IfErr result (λ e. Stopped D.observed pod (IsAbsent pod) e (D.shown dir.old) (D.shown dir.new)) }
+    ensures another { IfErr result (λ e. Leaves D.observed (HasClaim pod) (D.shown dir.old)
+        (λ s. BusyElsewhere pod e (D.shown dir.old) (D.shown dir.new))) }
+    ensures held { IfOk result (λ own. Leaves D.observed (HasClaim pod) (D.shown dir.old)
+        (λ s. Knows (D.shown dir.new) (with_pod pod own s))) }
+    ensures left { IfErr result (λ e. Leaves D.observed (HasClaim pod) (D.shown dir.old) (λ s. Knows (D.shown dir.new) s)) }
+{
+    let own = take(alloc, dir, pod, Which::Own)?;
+    let from = pod_spot(pod, Area::Prepared);
+    let to = pod_spot(pod, Area::Run);
+    match dir.move_folder(alloc, from, to) {
+        Ok(()) => Ok(own),
+        Err(error) => {
+            dir.close(own);
+            Err(set_back(error))
+        }
+    }
+}
+
+// Claim couldn't be opened: the pod's folder is gone from prepared, or it has no manifest.
+fn without_claim<D: Dir>(alloc: Global, dir: &mut D, pod: PodId) -> Setback
+    requires active { IsActive (D.shown dir.old).local }
+    ensures went { Went D.observed 2 pod (D.shown dir.old).local (D.shown dir.old) (D.shown dir.new) }
+    ensures reads { ReadsAtMost 0 D.observed pod (D.shown dir.old) (D.shown dir.new) }
+    ensures stopped { StopsAlone D.observed pod result (D.shown dir.old) (D.shown dir.new) }
+    ensures left { D.observed ≡ true → OnlyLooks (D.shown dir.old) (D.shown dir.new) }
+{
+    match look(alloc, dir, pod_spot(pod, Area::Prepared)) {
+        Ok(true) => Setback::Refused(ClaimError::NoManifest),
+        Ok(false) => Setback::Missing,
+        Err(error) => Setback::Refused(look_refusal(error)),
+    }
+}
+
+/// Takes Claim of the pod, and under it Own, and moves the pod to run. Claim is given up again.
+pub(crate) fn take_and_run<D: Dir>(
+    alloc: Global,
+    dir: &mut D,
+    pod: PodId,
+) -> Result<Handle, Setback>
+    requires active { IsActive (D.shown dir.old).local }
+    ensures went { Went D.observed 9 pod (and_locked (D.shown dir.old).local pod lock.Own result) (D.shown dir.old) (D.shown dir.new) }
+    ensures reads { ReadsAtMost 0 D.observed pod (D.shown dir.old) (D.shown dir.new) }
+    ensures unopened { IfOk result (λ own. IsUnopened (D.shown dir.old).local own) }
+    ensures order { IfOk result (λ own. D.observed ≡ true
+        → TookBoth pod own (D.shown dir.old).process (D.shown dir.old).trace (D.shown dir.new).trace) }
+    ensures alone { IfOk result (λ own. D.observed ≡ true → HadBothAlone pod (D.shown dir.old).process (D.shown dir.old).trace (D.shown dir.new).trace) }
+    ensures stopped { IfErr result (λ e. Stopped D.observed pod (IsAbsent pod) e (D.shown dir.old) (D.shown dir.new)) }
+    ensures another { IfErr result (λ e. Leaves D.observed MayClaim (D.shown dir.old)
+        (λ s. BusyInTurn pod e (D.shown dir.old) (D.shown dir.new))) }
+    ensures held { IfOk result (λ own. Leaves D.observed MayClaim (D.shown dir.old)
+        (λ s. Knows (D.shown dir.new) (with_pod pod own s))) }
+    ensures left { IfErr result (λ e. Leaves D.observed MayClaim (D.shown dir.old) (λ s. LookedInto s (D.shown dir.new))) }
+{
+    match take(alloc, dir, pod, Which::Claim) {
+        Ok(claim) => {
+            let result = run_under_claim(alloc, dir, pod);
+            dir.close(claim);
+            result
+        }
+        Err(Setback::Missing) => Err(without_claim(alloc, dir, pod)),
+        Err(stop) => Err(stop),
+    }
+}

@@ -1,9 +1,0 @@
-pub mod Steps
-pub mod Locals
-pub mod Times
-pub mod Calls
-pub mod Handing
-pub mod Knowing
-pub mod Outcomes
-pub mod Begun
-pub mod Lawful

@@ -1,0 +1,55 @@
+-- What is known of a result, carried on.
+use Rattle.std.proofs.Common.{◌≡◌, ℕ, Bool, true, List, Result, Ok, Err, refl, sym, subst}
+use Rattle.std.specs.Prelude.{IfOk, IfErr, IsErrAnd}
+use Rattle.image_reading.specs.declared.error.StoreError.{StoreError}
+use Rattle.image_reading.specs.declared.error.StoreError.TheVariants.{Damaged, DirFault, NoMemory}
+use Rattle.image_reading.specs.Refusals.{IsReadRefusal}
+use Rattle.pod_plan.specs.PlanRefusals.{IsAnyPath, IsLack}
+
+pub if_ok : {A E : Type 0} (P Q : A → Type 0) (r : Result A E) → ((a : A) → P a → Q a) → IfOk r P → IfOk r Q
+if_ok P Q (Ok a) f h = f a h
+if_ok P Q (Err e) f h = tt
+
+pub if_err : {A E : Type 0} (P Q : E → Type 0) (r : Result A E) → ((e : E) → P e → Q e) → IfErr r P → IfErr r Q
+if_err P Q (Ok a) f h = tt
+if_err P Q (Err e) f h = f e h
+
+pub ok_both : {A E : Type 0} (P Q R : A → Type 0) (r : Result A E) → ((a : A) → P a → Q a → R a) → IfOk r P → IfOk r Q → IfOk r R
+ok_both P Q R (Ok a) f p q = f a p q
+ok_both P Q R (Err e) f p q = tt
+
+pub ok_three : {A E : Type 0} (P Q R S : A → Type 0) (r : Result A E) → ((a : A) → P a → Q a → R a → S a) → IfOk r P → IfOk r Q → IfOk r R → IfOk r S
+ok_three P Q R S (Ok a) f p q h = f a p q h
+ok_three P Q R S (Err e) f p q h = tt
+
+-- an error that is known
+pub err_is : {A E : Type 0} (Q : E → Type 0) (r : Result A E) (x : E) → IsErrAnd r (λ e. e ≡ x) → Q x → IfErr r Q
+err_is Q (Ok a) x is h = tt
+err_is Q (Err e) x is h = subst Q (sym is) h
+
+-- the same value in another answer
+pub ok_same : {A E F : Type 0} (P : A → Type 0) (r : Result A E) (other : Result A F) → ((a : A) → other ≡ Ok a → r ≡ Ok a) → IfOk r P → IfOk other P
+ok_same P r (Ok a) same h = subst (λ x. IfOk x P) (same a refl) h
+ok_same P r (Err e) same h = tt
+
+-- the same error in another answer
+pub passed_on : {A B E : Type 0} (P Q : E → Type 0) (r : Result A E) (other : Result B E) → ((e : E) → other ≡ Err e → r ≡ Err e) → ((e : E) → P e → Q e) → IfErr r P → IfErr other Q
+passed_on P Q r (Ok b) same f h = tt
+passed_on P Q r (Err e) same f h = f e (subst (λ x. IfErr x P) (same e refl) h)
+
+module _ (observed : Bool) where
+  -- the same lack for another reason
+  pub lack_wider : (P Q : List ℕ → Type 0) (e : StoreError) → (observed ≡ true → (path : List ℕ) → P path → Q path) → IsLack observed P e → IsLack observed Q e
+  lack_wider P Q (Damaged path) f is = λ t. f t path (is t)
+  lack_wider P Q DirFault f is = tt
+  lack_wider P Q NoMemory f is = tt
+  lack_wider P Q e f is = absurd is
+
+  pub lack_refusal : (P : List ℕ → Type 0) (e : StoreError) → IsLack observed P e → IsReadRefusal IsAnyPath e
+  lack_refusal P (Damaged path) is = tt
+  lack_refusal P DirFault is = tt
+  lack_refusal P NoMemory is = tt
+  lack_refusal P e is = absurd is
+
+  pub lack_memory : (P : List ℕ → Type 0) (e : StoreError) → e ≡ NoMemory → IsLack observed P e
+  lack_memory P e is = subst (λ (x : StoreError). IsLack observed P x) (sym is) tt

@@ -1,0 +1,22 @@
+use Rattle.std.proofs.Common.{rules, codes, None, List, ℕ, sym, subst}
+use Rattle.std.specs.Vec.Iter.{into_iter_items}
+use Rattle.folder_building.specs.TreePlans.{tree_entries, CarriesOn, MakesTree}
+use Rattle.pod_plan.specs.PodPlans.{root_entries}
+use Rattle.pod_plan.proofs.Roots.{goes_on, carries_on, makes_tree}
+use Rattle.pod_plan.proofs.root_folder.root_plan.Goals as goal
+
+pub lines-preserved : goal.lines-preserved
+lines-preserved c =
+    goes_on c.args.images.now c.args.app.now c.as_slice-lines.result.now c.lines.line-index c.line-item.result c.args.plan.items (into_iter_items c.lines.made) (into_iter_items c.take_next-entry.new.made) c.lines.plan.items c.add.new.plan.items
+    c.take_next-entry.result c.image_of.result (search (rules, c.lines-test.true)) c.lines.invariant (search (rules, c.line-item.is, c.take_next-entry.ensures.taken)) (search (rules, c.line-item.is, c.take_next-entry.ensures.left))
+    (search (rules, c.line-item.is, c.image_of.ensures)) (search (rules, c.in_ok-add.ensures))
+
+pub returns-clause-plan : goal.returns-clause-plan
+returns-clause-plan c =
+    subst (λ (r : List ℕ). CarriesOn r (codes "rootfs") (root_entries c.args.images.now c.args.app.now c.args.app.now.listing)) (sym c.requires.root)
+    (carries_on c.args.images.now c.args.app.now c.args.app.now.listing (subst (λ (r : List ℕ). CarriesOn r (codes "rootfs") (tree_entries r None (codes "rootfs") c.args.app.now.listing)) c.requires.root c.in_ok-tree.ensures.plan))
+
+pub returns-clause-tree : goal.returns-clause-tree
+returns-clause-tree c =
+    subst (λ (r : List ℕ). MakesTree r c.args.app.now.listing (root_entries c.args.images.now c.args.app.now c.args.app.now.listing)) (sym c.requires.root)
+    (makes_tree c.args.images.now c.args.app.now c.args.app.now.listing (subst (λ (r : List ℕ). MakesTree r c.args.app.now.listing (tree_entries r None (codes "rootfs") c.args.app.now.listing)) c.requires.root c.in_ok-tree.ensures.tree))

@@ -1,0 +1,15 @@
+pub mod Choices
+pub mod ChoiceRefusals
+pub mod AppParts
+pub mod PodFiles
+pub mod PodPlans
+pub mod Pods
+pub mod RootSteps
+pub mod Readings
+pub mod PlanRefusals
+pub mod Roots
+pub mod RootRefusals
+pub mod NoPlans
+pub mod Plans
+pub mod FaithfulPods
+pub mod PickedTrees

@@ -1,7 +1,0 @@
-mod Apps
-mod Loops
-mod Names
-mod Plans
-mod Pods
-mod Roots
-pub mod Under

@@ -1,6 +1,0 @@
-use Rattle.std.proofs.Common.{◌≡◌, ◌++◌, map, take}
-use Rattle.pod_plans.proofs.Loops.{directory_of}
-use Rattle.pod_plans.proofs.pod.add_directories.Given as goal
-
-abbrev pub invariant-loop-path : goal.invariant-loop-path
-invariant-loop-path l = l.plan.items ≡ l.fn.plan.items ++ map (directory_of (λ path. path.now)) (take l.path-index l.path-items)

@@ -1,6 +1,0 @@
-use Rattle.std.specs.Vec.Iter.{into_iter_items}
-use Rattle.pod_plans.proofs.Roots.{IsAt}
-use Rattle.pod_plans.proofs.root.root_plan.Given as goal
-
-abbrev pub invariant-lines : goal.invariant-lines
-invariant-lines l = IsAt l.images l.app l.lines l.line-index l.fn.plan.items (into_iter_items l.made) l.plan.items

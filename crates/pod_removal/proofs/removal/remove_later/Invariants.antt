@@ -1,5 +1,0 @@
-use Rattle.pod_removal.proofs.Rounds.{Rounds}
-use Rattle.pod_removal.proofs.removal.remove_later.Given as goal
-
-abbrev pub invariant-rounds : goal.invariant-rounds
-invariant-rounds g l = let D = g.D.Dir in Rounds D.observed l._round l.pod l.now (D.shown l.fn.dir) (D.shown l.dir)

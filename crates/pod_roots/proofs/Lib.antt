@@ -1,3 +1,0 @@
-pub mod Plain
-pub mod Standing
-pub mod Reading
