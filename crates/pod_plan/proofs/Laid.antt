@@ -71,6 +71,9 @@ wanted_within images nodes plan image order sound same is =
     let here : image ≡ (node_at nodes plan.next).image = wanted_is plan image is ∙ ap (λ (ns : List DepNode). (node_at ns plan.next).image) same in
     subst (λ (n : ℕ). n < length images) (sym here) (order.images plan.next (record { image = 0; children = [] }) inside)
 
+pub next_inside : (nodes : List DepNode) (plan : Plan) → IsPlan plan → plan.nodes ≡ nodes → plan.next < length nodes
+next_inside nodes plan sound same = subst (λ (ns : List DepNode). plan.next < length ns) same (next_within plan sound)
+
 pub wanted_key : (images : List Stored) (nodes : List DepNode) (plan : Plan) (image : ℕ) (d : Stored) → image < length images → plan.nodes ≡ nodes → Some image ≡ wanted_image plan → (get_or images image d).key ≡ node_key images nodes plan.next
 wanted_key images nodes plan image d within same is =
     sym (key_read images image d within) ∙ ap (λ (n : ℕ). key_at images n) (wanted_is plan image is ∙ ap (λ (ns : List DepNode). (node_at ns plan.next).image) same)

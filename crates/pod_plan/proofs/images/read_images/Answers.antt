@@ -1,6 +1,7 @@
 use Rattle.std.proofs.Common.{inr, List, subst}
 use Rattle.dep_match.specs.declared.stored.Stored.{Stored}
 use Rattle.image_reading.proofs.Asking.{images_more}
+use Rattle.image_reading.proofs.Trees.{trees_more}
 use Rattle.image_reading.proofs.Holding.{knows_images}
 use Rattle.pod_plan.specs.PlanRefusals.{IsLack, LacksAmong, LacksPart}
 use Rattle.pod_plan.specs.Readings.{AreReadAgain, ReadsImages}
@@ -39,3 +40,6 @@ returns-in-Ok-clause-lacks g c =
 
 pub returns-in-Err-clause-lacks : goal.returns-in-Err-clause-lacks
 returns-in-Err-clause-lacks g c = listing_lack (g.D.Dir.shown c.args.dir.now) (g.D.Dir.shown c.stored.new.dir) c.in-Err.error c.in-Err.ensures.refusals c.in-Err.ensures.damaged
+
+pub returns-in-Ok-clause-trees : goal.returns-in-Ok-clause-trees
+returns-in-Ok-clause-trees g c = trees_more c.stored.ensures.trees c.read_each.ensures.trees

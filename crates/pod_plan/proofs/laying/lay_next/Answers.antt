@@ -1,5 +1,6 @@
 use Rattle.std.proofs.Common.{sym, subst}
 use Rattle.image_reading.proofs.Asking.{images_one}
+use Rattle.image_reading.proofs.Trees.{trees_of_image}
 use Rattle.pod_plan.specs.declared.plan_error.PlanError.{PlanError}
 use Rattle.pod_plan.specs.RootRefusals.{IsLayRefusal}
 use Rattle.pod_plan.specs.PlanRefusals.{render_refusal}
@@ -42,3 +43,12 @@ pub returns-in-Err-clause-refused : goal.returns-in-Err-clause-refused
 returns-in-Err-clause-refused g c =
     let D = g.D.Dir in
     subst (λ (e : PlanError). IsLayRefusal D.observed c.args.key c.args.plan e (D.shown c.args.dir.now) (D.shown c.read_map.new.dir)) (sym c.store_refusal.ensures) (lay_lack D.observed c.args.key c.args.plan (D.shown c.args.dir.now) (D.shown c.read_map.new.dir) c.in-Err.error c.in-Err.ensures.lacks)
+
+pub returns-in_ok-lay-in-Ok-clause-trees : goal.returns-in_ok-lay-in-Ok-clause-trees
+returns-in_ok-lay-in-Ok-clause-trees g c = trees_of_image c.args.key c.read_map.ensures.only
+
+pub returns-in_err-lay-in-Ok-clause-trees : goal.returns-in_err-lay-in-Ok-clause-trees
+returns-in_err-lay-in-Ok-clause-trees g c = trees_of_image c.args.key c.read_map.ensures.only
+
+pub returns-in-Err-clause-trees : goal.returns-in-Err-clause-trees
+returns-in-Err-clause-trees g c = trees_of_image c.args.key c.read_map.ensures.only

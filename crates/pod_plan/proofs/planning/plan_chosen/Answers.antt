@@ -3,6 +3,8 @@ use Rattle.std.specs.List.{All}
 use Rattle.dep_match.specs.declared.dep_tree.DepTree.{DepTree}
 use Rattle.dep_match.specs.declared.stored.Stored.{Stored}
 use Rattle.dep_match.specs.TreeOrder.{IsOrderedTree}
+use Rattle.image_reading.specs.Trees.{ReadsTreesOf}
+use Rattle.pod_plan.specs.PickedTrees.{tree_keys}
 use Rattle.pod_plan.specs.Roots.{ComesOnce, AreRoots}
 use Rattle.pod_plan.specs.RootRefusals.{IsRootsRefusal}
 use Rattle.pod_plan.specs.Plans.{IsPlanOf, PlansChoice}
@@ -59,3 +61,19 @@ returns-in-Err-clause-refused g c =
     let trees = c.args.choice.trees in
     subst (λ (xs : List Stored). IsRootsRefusal D.observed xs trees c.in-Err.error old new) c.as_slice.ensures.value
     (subst (λ (ts : List DepTree). IsRootsRefusal D.observed c.as_slice.result.now ts c.in-Err.error old new) c.as_slice-2.ensures c.in-Err.ensures.refused)
+
+pub returns-in-Ok-clause-trees : goal.returns-in-Ok-clause-trees
+returns-in-Ok-clause-trees g c =
+    let D = g.D.Dir in
+    let old = D.shown c.args.dir.now in
+    let new = D.shown c.read_roots.new.dir in
+    subst (λ (xs : List Stored). ReadsTreesOf D.observed (tree_keys xs c.args.choice.trees) old new) c.as_slice.ensures.value
+    (subst (λ (ts : List DepTree). ReadsTreesOf D.observed (tree_keys c.as_slice.result.now ts) old new) c.as_slice-2.ensures c.read_roots.ensures.trees)
+
+pub returns-in-Err-clause-trees : goal.returns-in-Err-clause-trees
+returns-in-Err-clause-trees g c =
+    let D = g.D.Dir in
+    let old = D.shown c.args.dir.now in
+    let new = D.shown c.read_roots.new.dir in
+    subst (λ (xs : List Stored). ReadsTreesOf D.observed (tree_keys xs c.args.choice.trees) old new) c.as_slice.ensures.value
+    (subst (λ (ts : List DepTree). ReadsTreesOf D.observed (tree_keys c.as_slice.result.now ts) old new) c.as_slice-2.ensures c.read_roots.ensures.trees)

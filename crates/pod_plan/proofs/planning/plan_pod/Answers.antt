@@ -1,4 +1,4 @@
-use Rattle.std.proofs.Common.{◌≡◌, true, sym, subst}
+use Rattle.std.proofs.Common.{◌≡◌, inl, true, sym, subst}
 use Rattle.image_reading.proofs.Asking.{images_more}
 use Rattle.image_reading.proofs.Holding.{knows_images}
 use Rattle.pod_plan.specs.declared.plan_error.PlanError.{PlanError}
@@ -9,6 +9,7 @@ use Rattle.pod_plan.proofs.Results.{if_ok, if_err}
 use Rattle.pod_plan.proofs.Again.{as_many, have_manifests, listed_before, manifests_before}
 use Rattle.pod_plan.proofs.Plans.{choice_since, none_planned, none_read}
 use Rattle.pod_plan.proofs.Faithful.{plans_faithfully}
+use Rattle.pod_plan.proofs.PickedTrees.{picked_after}
 use Rattle.pod_plan.proofs.planning.plan_pod.Goals as goal
 
 pub plan_read-requires-clause-whole : goal.plan_read-requires-clause-whole
@@ -70,3 +71,11 @@ returns-in-Err-clause-refused g c =
     let refs = c.args.refs.now in
     let options = c.args.options.now in
     subst (λ (e : PlanError). IsNoPlan D.observed refs options old new e) (sym c.store_refusal.ensures) (none_read D.observed refs options old new c.in-Err.error c.in-Err.ensures.lacks)
+
+pub returns-in-Ok-clause-trees : goal.returns-in-Ok-clause-trees
+returns-in-Ok-clause-trees g c =
+    let images = c.in-Ok.read.images.items in
+    picked_after images c.args.refs.now c.args.options.now c.read_images.ensures.trees (λ t. listed_before t images (c.in-Ok.ensures.read.listed t) c.plan_read.ensures.only) c.plan_read.ensures.trees
+
+pub returns-in-Err-clause-trees : goal.returns-in-Err-clause-trees
+returns-in-Err-clause-trees g c = inl c.read_images.ensures.trees

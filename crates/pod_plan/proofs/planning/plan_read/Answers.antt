@@ -1,6 +1,7 @@
-use Rattle.std.proofs.Common.{List, sym, subst}
+use Rattle.std.proofs.Common.{inl, inr, List, sym, subst}
 use Rattle.dep_match.specs.declared.stored.Stored.{Stored}
 use Rattle.image_reading.proofs.Asking.{images_none}
+use Rattle.image_reading.proofs.Trees.{trees_none}
 use Rattle.pod_plan.specs.Choices.{IsChoice, IsRefused}
 use Rattle.pod_plan.specs.declared.plan_error.PlanError.{PlanError}
 use Rattle.pod_plan.specs.RootRefusals.{IsRootsRefusal}
@@ -38,3 +39,14 @@ returns-in-Err-clause-refused g c =
     let options = c.args.options.now in
     subst (λ (e : PlanError). IsUnplanned D.observed images refs options e here here) (sym c.choice_refusal.ensures)
     (unchosen D.observed here here images refs options c.in-Err.error (subst (λ (xs : List Stored). IsRefused xs refs options c.in-Err.error) c.as_slice.ensures.value c.in-Err.ensures.refused))
+
+pub returns-in-Ok-clause-trees : goal.returns-in-Ok-clause-trees
+returns-in-Ok-clause-trees g c =
+    inr (record {
+      choice = c.in-Ok.choice;
+      chosen = subst (λ (xs : List Stored). IsChoice xs c.args.refs.now c.args.options.now c.in-Ok.choice) c.as_slice.ensures.value c.in-Ok.ensures.ok;
+      trees = c.plan_chosen.ensures.trees;
+    })
+
+pub returns-in-Err-clause-trees : goal.returns-in-Err-clause-trees
+returns-in-Err-clause-trees g c = inl trees_none
