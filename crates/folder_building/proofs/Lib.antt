@@ -6,6 +6,7 @@ pub mod Copying
 pub mod Entries
 pub mod Filling
 pub mod Reading
+pub mod ReadsOf
 pub mod Stored
 pub mod Among
 mod Carries

@@ -18,7 +18,7 @@ use Rattle.folder_building.proofs.Working.{worked_call}
 abbrev pub image_path : List ℕ → List ℕ → Inner
 image_path name path = record { spot = record { area = Images; name = name }; path = path }
 
-read_local : (m : Local) (inner : Inner) (at size : ℕ) (room : List ℕ) (r : Result ℕ DirError) → local_replied m (ReadIn inner at size) (read_reply room r) ≡ m
+pub read_local : (m : Local) (inner : Inner) (at size : ℕ) (room : List ℕ) (r : Result ℕ DirError) → local_replied m (ReadIn inner at size) (read_reply room r) ≡ m
 read_local m inner at size room (Ok n) = refl
 read_local m inner at size room (Err e) = refl
 

@@ -1,10 +1,11 @@
 -- What the reads of a file of the data folder told while it was copied.
-use Rattle.std.specs.Prelude.{◌≡◌, ◌⊎◌, ◌<◌, ℕ, Option, Some, List, ◌∷◌, ◌++◌, length}
-use Rattle.std.specs.List.{AllByRecursion}
+use Rattle.std.specs.Prelude.{◌≡◌, ◌⊎◌, ◌<◌, ℕ, Bool, false, Option, Some, None, List, ◌∷◌, ◌++◌, length}
+use Rattle.std.specs.List.{AllByRecursion, list_any}
 use Rattle.sha2.specs.Sha512.{sha512}
 use Rattle.dir_model.specs.declared.item.Inner.{Inner}
+use Rattle.dir_model.specs.declared.request.Request.{Request}
 use Rattle.dir_trait.specs.DirCalls.{DirAt, HeldBetween}
-use Rattle.dir_files.specs.Reads.{TellsFile, IsPiece, IsShort, Reads, WasMissing}
+use Rattle.dir_files.specs.Reads.{reads_at, TellsFile, IsPiece, IsShort, Reads, WasMissing}
 use Rattle.folder_building.specs.declared.plan.Origin.{Origin}
 use Rattle.folder_building.specs.declared.plan.PlanEntry.{PlanEntry}
 use Rattle.folder_building.specs.declared.plan.Content.{Content}
@@ -78,3 +79,18 @@ pub record LacksAt (stored : Origin → Option Inner) (plan : List PlanEntry) (n
   pub place : length before ≡ n
   pub earlier : HadContents stored before old new
   pub lacks : LacksContent stored entry.content old new
+
+-- reads of the file of the data folder that is read, if one is
+abbrev pub reads_stored : Option Inner → Request → Bool
+reads_stored None request = false
+reads_stored (Some inner) request = reads_at inner request
+
+-- of the file of a plan's entry, where one is copied
+abbrev pub reads_content : (Origin → Option Inner) → Content → Request → Bool
+reads_content stored Directory request = false
+reads_content stored (Given bytes) request = false
+reads_content stored (Copied origin size sha) request = reads_stored (stored origin) request
+
+-- of those of all entries of a plan
+abbrev pub reads_contents : (Origin → Option Inner) → List PlanEntry → Request → Bool
+reads_contents stored plan request = list_any (λ e. reads_content stored e.content request) plan

@@ -5,7 +5,7 @@ ghost use Rattle.dir_trait.specs.Paths.{is_path};
 ghost use Rattle.dir_trait.specs.Local.{IsActive};
 ghost use Rattle.folder_building.specs.Work.{Worked, EndsStray, builds_at, either};
 ghost use Rattle.folder_building.specs.Sources.{Same, IsUnlike, UnlikeContent, UnlikeAt, IsLike, LikeContent, AreLike};
-ghost use Rattle.folder_building.specs.Stored.{WasLike, WasUnlike, HadContent, HadContents, LacksContent, LacksAt};
+ghost use Rattle.folder_building.specs.Stored.{WasLike, WasUnlike, HadContent, HadContents, LacksContent, LacksAt, reads_stored, reads_content, reads_contents};
 ghost use Rattle.folder_building.specs.Making.{Adds, Tries, FillsWith, Begins, CarriesOut};
 ghost use Rattle.folder_building.specs.Changes.{Makes, Refuses, Syncs, Unsyncs, Gives, Takes, TriesFile, TriesUnder, SyncsAll, UnsyncsAll};
 ghost use Rattle.folder_building.specs.Plans.{is_plan, has_origin};
@@ -121,6 +121,7 @@ fn add_copied<D: Dir, S: Source>(
     ensures lacks { (n : ℕ) → IsErrOf result (BuildError.Unlike n) → D.observed ≡ true → WasUnlike (S.stored origin.now) size sha (D.shown dir.old) (D.shown dir.new) }
     ensures same { Same (S.shown source.old) (S.shown source.new) }
     ensures worked { Worked D.observed (either (builds_at spot.now) (S.shown source.old).asks) (D.shown dir.old) (D.shown dir.new) }
+    ensures copies { Worked D.observed (either (builds_at spot.now) (reads_stored (S.stored origin.now))) (D.shown dir.old) (D.shown dir.new) }
     ensures stray { IsErrOf result BuildError.Stray → D.observed ≡ true
         → EndsStray (either (builds_at spot.now) (S.shown source.old).asks) (D.shown dir.old) (D.shown dir.new) }
     ensures like { IfOk result (λ done. IsLike (S.shown source.old) origin.now size sha) }
@@ -150,6 +151,7 @@ fn add<D: Dir, S: Source>(
     ensures lacks { (n : ℕ) → IsErrOf result (BuildError.Unlike n) → D.observed ≡ true → LacksContent S.stored entry.now.content (D.shown dir.old) (D.shown dir.new) }
     ensures same { Same (S.shown source.old) (S.shown source.new) }
     ensures worked { Worked D.observed (either (builds_at spot.now) (S.shown source.old).asks) (D.shown dir.old) (D.shown dir.new) }
+    ensures copies { Worked D.observed (either (builds_at spot.now) (reads_content S.stored entry.now.content)) (D.shown dir.old) (D.shown dir.new) }
     ensures stray { IsErrOf result BuildError.Stray → D.observed ≡ true
         → EndsStray (either (builds_at spot.now) (S.shown source.old).asks) (D.shown dir.old) (D.shown dir.new) }
     ensures like { IfOk result (λ done. LikeContent (S.shown source.old) entry.now.content) }
@@ -183,6 +185,7 @@ fn add_all<D: Dir, S: Source>(
     ensures lacks { (n : ℕ) → IsErrOf result (BuildError.Unlike n) → D.observed ≡ true → LacksAt S.stored plan.now n (D.shown dir.old) (D.shown dir.new) }
     ensures same { Same (S.shown source.old) (S.shown source.new) }
     ensures worked { Worked D.observed (either (builds_at spot.now) (S.shown source.old).asks) (D.shown dir.old) (D.shown dir.new) }
+    ensures copies { Worked D.observed (either (builds_at spot.now) (reads_contents S.stored plan.now)) (D.shown dir.old) (D.shown dir.new) }
     ensures stray { IsErrOf result BuildError.Stray → D.observed ≡ true
         → EndsStray (either (builds_at spot.now) (S.shown source.old).asks) (D.shown dir.old) (D.shown dir.new) }
     ensures like { IfOk result (λ done. AreLike (S.shown source.old) plan.now) }
@@ -245,6 +248,7 @@ pub fn carry_out<D: Dir, S: Source>(
     ensures lacks { (n : ℕ) → IsErrOf result (BuildError.Unlike n) → D.observed ≡ true → LacksAt S.stored plan.now n (D.shown dir.old) (D.shown dir.new) }
     ensures same { Same (S.shown source.old) (S.shown source.new) }
     ensures worked { Worked D.observed (either (builds_at spot) (S.shown source.old).asks) (D.shown dir.old) (D.shown dir.new) }
+    ensures copies { Worked D.observed (either (builds_at spot) (reads_contents S.stored plan.now)) (D.shown dir.old) (D.shown dir.new) }
     ensures stray { IsErrOf result BuildError.Stray → D.observed ≡ true
         → EndsStray (either (builds_at spot) (S.shown source.old).asks) (D.shown dir.old) (D.shown dir.new) }
     ensures like { IfOk result (λ done. AreLike (S.shown source.old) plan.now) }

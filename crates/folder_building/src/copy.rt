@@ -6,7 +6,7 @@ ghost use Rattle.dir_trait.specs.Local.{IsActive};
 ghost use Rattle.folder_building.specs.Work.{Worked, EndsStray, builds_at, either};
 ghost use Rattle.tree_digest.specs.FileChecks.{HasTaken};
 ghost use Rattle.folder_building.specs.Sources.{Same, ReadsOn, Reads, IsLonger, IsUnlike, IsLike};
-ghost use Rattle.folder_building.specs.Stored.{Sees, EndsCopy, WasLike, WasUnlike};
+ghost use Rattle.folder_building.specs.Stored.{Sees, EndsCopy, WasLike, WasUnlike, reads_stored};
 ghost use Rattle.folder_building.specs.Making.{Appends, Writes, CopiesOn, Copies, Spoils, SpoilsUnder};
 
 use crate::error::{BuildError, build_error};
@@ -110,6 +110,7 @@ fn take_piece<D: Dir, S: Source>(
     ensures never { IfErr result (λ e. e ≡ BuildError.Stray → ⊥) }
     ensures same { Same (S.shown source.old) (S.shown source.new) }
     ensures worked { Worked D.observed (S.shown source.old).asks (D.shown dir.old) (D.shown dir.new) }
+    ensures copies { Worked D.observed (reads_stored (S.stored origin.now)) (D.shown dir.old) (D.shown dir.new) }
     ensures known { D.observed ≡ true → ReadsOn (S.shown source.old) (D.shown dir.old) (D.shown dir.new) }
     ensures room { length room.new ≡ length room.old }
     ensures unlike { (n : ℕ) → IsErrOf result (BuildError.Unlike n) → (n ≡ place) × IsLonger (S.shown source.old) origin.now (at + left) }
@@ -153,6 +154,7 @@ fn copy_piece<D: Dir, S: Source>(
     ensures source { IsErrOf result BuildError.SourceFault → Rose (S.shown source.old).faults (S.shown source.new).faults }
     ensures same { Same (S.shown source.old) (S.shown source.new) }
     ensures worked { Worked D.observed (either (builds_at spot.now) (S.shown source.old).asks) (D.shown dir.old) (D.shown dir.new) }
+    ensures copies { Worked D.observed (either (builds_at spot.now) (reads_stored (S.stored origin.now))) (D.shown dir.old) (D.shown dir.new) }
     ensures stray { IsErrOf result BuildError.Stray → D.observed ≡ true
         → EndsStray (either (builds_at spot.now) (S.shown source.old).asks) (D.shown dir.old) (D.shown dir.new) }
     ensures room { length room.new ≡ length room.old }
@@ -196,6 +198,7 @@ pub fn copy<D: Dir, S: Source>(
     ensures lacks { (n : ℕ) → IsErrOf result (BuildError.Unlike n) → D.observed ≡ true → WasUnlike (S.stored origin.now) size sha (D.shown dir.old) (D.shown dir.new) }
     ensures same { Same (S.shown source.old) (S.shown source.new) }
     ensures worked { Worked D.observed (either (builds_at spot.now) (S.shown source.old).asks) (D.shown dir.old) (D.shown dir.new) }
+    ensures copies { Worked D.observed (either (builds_at spot.now) (reads_stored (S.stored origin.now))) (D.shown dir.old) (D.shown dir.new) }
     ensures stray { IsErrOf result BuildError.Stray → D.observed ≡ true
         → EndsStray (either (builds_at spot.now) (S.shown source.old).asks) (D.shown dir.old) (D.shown dir.new) }
     ensures like { IfOk result (λ done. IsLike (S.shown source.old) origin.now size sha) }

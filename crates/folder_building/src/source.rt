@@ -5,7 +5,7 @@ ghost use Rattle.dir_trait.specs.Paths.{is_path};
 ghost use Rattle.dir_trait.specs.Local.{IsActive};
 ghost use Rattle.folder_building.specs.Work.{Worked};
 ghost use Rattle.folder_building.specs.Sources.{Same, ReadsOn, IsMissing, Reads};
-ghost use Rattle.folder_building.specs.Stored.{WasGone, Sees};
+ghost use Rattle.folder_building.specs.Stored.{WasGone, Sees, reads_stored};
 
 use crate::plan::Origin;
 use dir_trait::Dir;
@@ -61,5 +61,6 @@ pub trait Source {
         ensures sees { IfOk result (λ n. D.observed ≡ true → Sees (stored origin.now) at (length room.old) (take n room.new) (D.shown dir.old) (D.shown dir.new)) }
         ensures same { Same (shown self.old) (shown self.new) }
         ensures worked { Worked D.observed (shown self.old).asks (D.shown dir.old) (D.shown dir.new) }
+        ensures copies { Worked D.observed (reads_stored (stored origin.now)) (D.shown dir.old) (D.shown dir.new) }
         ensures known { D.observed ≡ true → ReadsOn (shown self.old) (D.shown dir.old) (D.shown dir.new) };
 }

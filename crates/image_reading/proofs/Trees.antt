@@ -47,7 +47,7 @@ trees_of_image key o = record { same = o.same; extends = λ t. extends_wider ask
     asked r h = refl
 
 -- another file than the listing
-other_file : (spot : Spot) (name : List ℕ) → bytes_eq name tree_name ≡ false → (r : Request) → reads_at (inner_at spot name) r ≡ true → reads_trees_of [] r ≡ true
+pub other_file : (spot : Spot) (name : List ℕ) → bytes_eq name tree_name ≡ false → (r : Request) → reads_at (inner_at spot name) r ≡ true → reads_trees_of [] r ≡ true
 other_file spot name other (ReadIn inner at room) h =
     let same : inner.path ≡ name = (bytes_eq-Decides inner.path name).0 (and_right (spot_eq inner.spot spot) (bytes_eq inner.path name) h) in
     let apart : bytes_eq inner.path tree_name ≡ false = ap (λ p. bytes_eq p tree_name) same ∙ other in

@@ -17,6 +17,7 @@ pub mod Times
 pub mod Once
 pub mod Laid
 pub mod PickedTrees
+pub mod NoTrees
 pub mod Rooted
 pub mod Ready
 pub mod Picked

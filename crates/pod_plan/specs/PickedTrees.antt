@@ -1,6 +1,6 @@
 -- Of which images the listings are read for a pod.
-use Rattle.std.specs.Prelude.{◌≡◌, ◌⊎◌, Bool, true, List, map}
-use Rattle.std.specs.List.{flat_map}
+use Rattle.std.specs.Prelude.{◌≡◌, ◌⊎◌, Bool, true, not, bytes_eq, List, map}
+use Rattle.std.specs.List.{flat_map, list_all}
 use Rattle.ac_types.specs.declared.image_ref.ImageRef.{ImageRef}
 use Rattle.ac_types.specs.declared.store_key.StoreKey.{StoreKey}
 use Rattle.dep_match.specs.declared.dep_tree.DepNode.{DepNode}
@@ -8,6 +8,10 @@ use Rattle.dep_match.specs.declared.dep_tree.DepTree.{DepTree}
 use Rattle.dep_match.specs.declared.stored.Stored.{Stored}
 use Rattle.dep_match.specs.Dependencies.{key_at}
 use Rattle.dir_trait.specs.DirCalls.{DirAt}
+use Rattle.folder_building.specs.declared.plan.PlanEntry.{PlanEntry}
+use Rattle.folder_building.specs.declared.plan.Content.{Content}
+use Rattle.folder_building.specs.declared.plan.Content.TheVariants.{Directory, Given, Copied}
+use Rattle.image_reading.specs.Places.{tree_name}
 use Rattle.image_reading.specs.Trees.{ReadsTreesOf, ReadsNoTrees}
 use Rattle.image_reading.specs.Store.{ReadsStore}
 use Rattle.pod_manifest.specs.Wishes.{Wishes}
@@ -42,3 +46,12 @@ pub record ReadsPickedTrees (observed : Bool) (refs : List ImageRef) (options : 
 -- the nodes of the picked ones' dependency trees
 abbrev pub ReadsAtMostPicked : Bool → List ImageRef → Wishes → DirAt → DirAt → Type 0
 ReadsAtMostPicked observed refs options old new = ReadsNoTrees observed old new ⊎ ReadsPickedTrees observed refs options old new
+
+-- an entry of a plan isn't copied from the listing of an image
+abbrev pub is_no_tree : Content → Bool
+is_no_tree (Copied origin size sha) = not (bytes_eq origin.path tree_name)
+is_no_tree content = true
+
+-- the plan copies no listing
+abbrev pub copies_no_tree : List PlanEntry → Bool
+copies_no_tree plan = list_all (λ e. is_no_tree e.content) plan

@@ -13,7 +13,7 @@ ghost use Rattle.pod_manifest.specs.Wishes.{AreWishes};
 ghost use Rattle.pod_plan.specs.PodPlans.{ComesInTurn, MakesWhole};
 ghost use Rattle.pod_plan.specs.Plans.{PlansChoice};
 ghost use Rattle.pod_plan.specs.FaithfulPods.{PlansFaithfully};
-ghost use Rattle.pod_plan.specs.PickedTrees.{tree_keys, ReadsAtMostChosen, ReadsAtMostPicked};
+ghost use Rattle.pod_plan.specs.PickedTrees.{tree_keys, copies_no_tree, ReadsAtMostChosen, ReadsAtMostPicked};
 ghost use Rattle.pod_plan.specs.RootRefusals.{IsRootsRefusal};
 ghost use Rattle.pod_plan.specs.NoPlans.{IsNoPlan, IsUnplanned};
 
@@ -112,6 +112,7 @@ pub fn plan_pod<D: Dir>(
     ensures cause { IsErrOf result PlanError.DirFault → Rose (D.shown dir.old).faults (D.shown dir.new).faults }
     ensures only { OnlyReadsImages D.observed (D.shown dir.old) (D.shown dir.new) }
     ensures trees { ReadsAtMostPicked D.observed refs.now options.now (D.shown dir.old) (D.shown dir.new) }
+    ensures copies { IfOk result (λ plan. copies_no_tree plan.items ≡ true) }
     ensures known { D.observed ≡ true → KnowsStillNamed (D.shown dir.old) (D.shown dir.new) }
     ensures refused { IfErr result (IsNoPlan D.observed refs.now options.now (D.shown dir.old) (D.shown dir.new)) }
     ensures made { IfOk result (λ plan. (images : List Stored) × (manifests : List (List ℕ))

@@ -1,9 +1,10 @@
 use Rattle.std.proofs.Common.{◌≡◌, true, false}
 use Rattle.folder_building.specs.Sources.{IsLike, LikeContent}
-use Rattle.folder_building.specs.Stored.{WasLike, HadContent}
+use Rattle.folder_building.specs.Stored.{WasLike, HadContent, reads_content}
 use Rattle.folder_building.specs.Making.{Adds}
 use Rattle.folder_building.specs.Changes.{Makes, Gives, Takes}
 use Rattle.folder_building.proofs.Copying.{worked_here, stray_here, ok_more, ok_any}
+use Rattle.folder_building.proofs.ReadsOf.{copies_here}
 use Rattle.folder_building.proofs.Filling.{dir_adds, given_adds, copied_adds, adds_as}
 use Rattle.folder_building.proofs.build.add.Goals as goal
 
@@ -80,3 +81,12 @@ returns-in-Directory-clause-had g c = ok_any c.make_dir.result (λ t. rw c.in-Di
 
 pub returns-in-Given-clause-had : goal.returns-in-Given-clause-had
 returns-in-Given-clause-had g c = ok_any c.add_given.result (λ t. rw c.in-Given.is tt)
+
+pub returns-in-Directory-clause-copies : goal.returns-in-Directory-clause-copies
+returns-in-Directory-clause-copies g c = copies_here c.args.spot.now (reads_content g.S.Source.stored c.args.entry.now.content) c.make_dir.ensures.worked
+
+pub returns-in-Given-clause-copies : goal.returns-in-Given-clause-copies
+returns-in-Given-clause-copies g c = copies_here c.args.spot.now (reads_content g.S.Source.stored c.args.entry.now.content) c.add_given.ensures.worked
+
+pub returns-in-Copied-clause-copies : goal.returns-in-Copied-clause-copies
+returns-in-Copied-clause-copies g c = rw c.in-Copied.is c.add_copied.ensures.copies

@@ -6,6 +6,7 @@ use Rattle.folder_building.specs.Sources.{AreLike}
 use Rattle.folder_building.specs.Stored.{HadContents}
 use Rattle.folder_building.specs.Making.{FillsWith}
 use Rattle.folder_building.proofs.Working.{worked_none, worked_more}
+use Rattle.folder_building.proofs.ReadsOf.{copies_entry}
 use Rattle.folder_building.proofs.Strays.{stray_after}
 use Rattle.folder_building.proofs.Copying.{same_none, same_more, worked_same, stray_same, err_any}
 use Rattle.folder_building.proofs.Filling.{fills_none, fills_next, begins_next, planned_path, planned_origin, unlike_at, like_next}
@@ -13,7 +14,7 @@ use Rattle.folder_building.proofs.Stored.{had_next, lacks_at}
 use Rattle.folder_building.proofs.build.add_all.Goals as goal
 
 pub entries-init : goal.entries-init
-entries-init g c = record { place = refl; same = same_none; like = tt; had = λ t. tt; worked = worked_none; filled = fills_none g.D.Dir.observed (g.S.Source.shown c.args.source.now) c.args.spot.now c.args.plan.now }
+entries-init g c = record { place = refl; same = same_none; like = tt; had = λ t. tt; worked = worked_none; copies = worked_none; filled = fills_none g.D.Dir.observed (g.S.Source.shown c.args.source.now) c.args.spot.now c.args.plan.now }
 
 pub add-requires-clause-active : goal.add-requires-clause-active
 add-requires-clause-active g c = rw c.entries.invariant.worked.local c.requires.active
@@ -35,6 +36,7 @@ entries-preserved g c =
       like = like_next (S.shown c.args.source.now) (S.shown c.entries.source) c.args.plan.now c.entries.entry-index c.entry-item.result c.entries-test.true c.entry-item.is i.same i.like c.in_ok-add.ensures.like;
       had = λ t. had_next S.stored c.args.plan.now c.entries.entry-index c.entry-item.result (D.shown c.args.dir.now) (D.shown c.entries.dir) (D.shown c.add.new.dir) c.entries-test.true c.entry-item.is t i.worked c.add.ensures.worked (i.had t) (c.in_ok-add.ensures.had t);
       worked = worked_more i.worked (worked_same c.args.spot.now i.same c.add.ensures.worked);
+      copies = worked_more i.copies (copies_entry S.stored c.args.spot.now c.args.plan.now c.entries.entry-index c.entry-item.result c.entries-test.true c.entry-item.is c.add.ensures.copies);
       filled = fills_next D.observed (S.shown c.args.source.now) c.args.spot.now c.args.plan.now c.entries.entry-index c.entry-item.result c.entries-test.true c.entry-item.is c.requires.plan i.same i.filled c.in_ok-add.ensures.done;
     }
 
@@ -83,3 +85,7 @@ pub returns-clause-had : goal.returns-clause-had
 returns-clause-had g c t =
     let D = g.D.Dir in
     subst (λ (xs : List PlanEntry). HadContents g.S.Source.stored xs (D.shown c.args.dir.now) (D.shown c.entries.dir)) (take_all c.entries.entry-index c.args.plan.now c.entries-test.false) (c.entries.invariant.had t)
+
+pub returns-in_err-add-clause-copies : goal.returns-in_err-add-clause-copies
+returns-in_err-add-clause-copies g c =
+    worked_more c.entries.invariant.copies (copies_entry g.S.Source.stored c.args.spot.now c.args.plan.now c.entries.entry-index c.entry-item.result c.entries-test.true c.entry-item.is c.add.ensures.copies)

@@ -1,9 +1,10 @@
 use Rattle.std.proofs.Common.{◌≡◌, true, IsErrOf, rules}
 use Rattle.folder_building.specs.declared.error.BuildError.TheVariants.{Stray}
-use Rattle.folder_building.specs.Stored.{WasLike}
+use Rattle.folder_building.specs.Stored.{WasLike, reads_stored}
 use Rattle.folder_building.specs.Making.{Copies, SpoilsUnder}
 use Rattle.folder_building.specs.Changes.{Takes, TriesUnder}
 use Rattle.folder_building.proofs.Working.{worked_more}
+use Rattle.folder_building.proofs.ReadsOf.{copies_here}
 use Rattle.folder_building.proofs.Strays.{stray_after}
 use Rattle.folder_building.proofs.Pieces.{file_spoilt}
 use Rattle.folder_building.proofs.Copying.{worked_here, stray_here, ok_more, err_more, takes_file}
@@ -59,3 +60,9 @@ returns-clause-had g c =
     let new = D.shown c.copy.new.dir in
     ok_more (λ done. D.observed ≡ true → WasLike stored c.args.size c.args.sha mid new) (λ done. D.observed ≡ true → WasLike stored c.args.size c.args.sha old new) c.copy.result
     (λ done f t. like_after old mid (c.make_file.ensures.worked.extends t) c.make_file.ensures.worked.same new (f t)) c.copy.ensures.had
+
+pub returns-in_err-make_file-clause-copies : goal.returns-in_err-make_file-clause-copies
+returns-in_err-make_file-clause-copies g c = copies_here c.args.spot.now (reads_stored (g.S.Source.stored c.args.origin.now)) c.make_file.ensures.worked
+
+pub returns-clause-copies : goal.returns-clause-copies
+returns-clause-copies g c = worked_more (copies_here c.args.spot.now (reads_stored (g.S.Source.stored c.args.origin.now)) c.make_file.ensures.worked) c.copy.ensures.copies

@@ -1,7 +1,9 @@
 use Rattle.std.proofs.Common.{◌≡◌, true}
 use Rattle.folder_building.specs.Making.{CarriesOut, Begins}
+use Rattle.folder_building.specs.Stored.{reads_contents}
 use Rattle.folder_building.specs.Changes.{SyncsAll, UnsyncsAll}
 use Rattle.folder_building.proofs.Working.{worked_more}
+use Rattle.folder_building.proofs.ReadsOf.{copies_here}
 use Rattle.folder_building.proofs.Strays.{stray_after}
 use Rattle.folder_building.proofs.Copying.{worked_here, stray_here, ok_more, ok_any, err_more}
 use Rattle.folder_building.proofs.Filling.{carries_out, begins_after}
@@ -40,3 +42,6 @@ pub returns-clause-had : goal.returns-clause-had
 returns-clause-had g c =
     let D = g.D.Dir in
     ok_any c.sync_all.result (λ t. all_had_before (D.shown c.add_all.new.dir) (D.shown c.sync_all.new.dir) (c.sync_all.ensures.worked.extends t) g.S.Source.stored c.args.plan.now (D.shown c.args.dir.now) c.add_all.ensures.worked.same (c.in_ok-add_all.ensures.had t))
+
+pub returns-clause-copies : goal.returns-clause-copies
+returns-clause-copies g c = worked_more c.add_all.ensures.copies (copies_here c.args.spot (reads_contents g.S.Source.stored c.args.plan.now) c.sync_all.ensures.worked)

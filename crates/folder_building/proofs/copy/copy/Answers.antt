@@ -12,6 +12,7 @@ pub pieces-init : goal.pieces-init
 pieces-init g c = record {
   same = same_none;
   worked = worked_none;
+  copies = worked_none;
   within = omega arith;
   room = search rules;
   front = front_none (g.S.Source.shown c.args.source.now) c.args.origin.now c.new-check.result c.args.size c.args.sha c.new-check.ensures;
@@ -43,6 +44,7 @@ pieces-preserved g c =
     record {
       same = same_more i.same c.copy_piece.ensures.same;
       worked = worked_more i.worked (worked_same c.args.spot.now i.same c.copy_piece.ensures.worked);
+      copies = worked_more i.copies c.copy_piece.ensures.copies;
       within = omega (arith, i.within, c.in_ok-count.ensures.left);
       room = search rules;
       front = front_more (g.S.Source.shown c.args.source.now) (g.S.Source.shown c.pieces.source) c.args.origin.now c.pieces.more c.pieces.check c.copy_piece.new.check c.args.size c.args.sha c.pieces.at c.in_ok-count.count _ _ _ i.same i.front c.in_ok-count.ensures.read c.in_ok-count.ensures.taken (λ e. short c.in_ok-count.count (length c.deref_mut.result.now) (omega (arith, c.in_ok-count.ensures.most, c.in_ok-count.ensures.left)) long e);
@@ -88,3 +90,6 @@ returns-then-matches-clause-like g c = ended_like (g.S.Source.shown c.args.sourc
 
 pub returns-then-matches-clause-had : goal.returns-then-matches-clause-had
 returns-then-matches-clause-had g c t = like_ended c.matches.result c.pieces-test.false (c.pieces.invariant.seen t) c.matches.ensures c.if-matches.true
+
+pub returns-in_err-count-clause-copies : goal.returns-in_err-count-clause-copies
+returns-in_err-count-clause-copies g c = worked_more c.pieces.invariant.copies c.copy_piece.ensures.copies

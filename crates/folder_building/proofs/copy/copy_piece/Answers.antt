@@ -2,7 +2,9 @@ use Rattle.std.proofs.Common.{◌≡◌, IsErrOf, rules, take, arith, ap}
 use Rattle.std.proofs.lemmas.List.{length-take-le}
 use Rattle.dir_model.proofs.Moments.{at_before}
 use Rattle.folder_building.specs.declared.error.BuildError.TheVariants.{Stray}
+use Rattle.folder_building.specs.Stored.{reads_stored}
 use Rattle.folder_building.proofs.Working.{worked_more}
+use Rattle.folder_building.proofs.ReadsOf.{copies_here, copies_there}
 use Rattle.folder_building.proofs.Strays.{stray_after}
 use Rattle.folder_building.proofs.Copying.{worked_here, worked_there, stray_here, copies_piece, copies_end}
 use Rattle.folder_building.proofs.copy.copy_piece.Goals as goal
@@ -34,3 +36,15 @@ returns-else-count-gt0-clause-done g c =
 
 pub returns-in_ok-append-clause-sees : goal.returns-in_ok-append-clause-sees
 returns-in_ok-append-clause-sees g c t inner is = at_before (c.in_ok-count.ensures.sees t inner is) c.take_piece.ensures.worked.same (c.append.ensures.worked.extends t)
+
+pub returns-in_err-count-clause-copies : goal.returns-in_err-count-clause-copies
+returns-in_err-count-clause-copies g c = copies_there c.args.spot.now (reads_stored (g.S.Source.stored c.args.origin.now)) c.take_piece.ensures.copies
+
+pub returns-in_err-append-clause-copies : goal.returns-in_err-append-clause-copies
+returns-in_err-append-clause-copies g c = worked_more (copies_there c.args.spot.now (reads_stored (g.S.Source.stored c.args.origin.now)) c.take_piece.ensures.copies) (copies_here c.args.spot.now (reads_stored (g.S.Source.stored c.args.origin.now)) c.append.ensures.worked)
+
+pub returns-in_ok-append-clause-copies : goal.returns-in_ok-append-clause-copies
+returns-in_ok-append-clause-copies g c = worked_more (copies_there c.args.spot.now (reads_stored (g.S.Source.stored c.args.origin.now)) c.take_piece.ensures.copies) (copies_here c.args.spot.now (reads_stored (g.S.Source.stored c.args.origin.now)) c.append.ensures.worked)
+
+pub returns-else-count-gt0-clause-copies : goal.returns-else-count-gt0-clause-copies
+returns-else-count-gt0-clause-copies g c = copies_there c.args.spot.now (reads_stored (g.S.Source.stored c.args.origin.now)) c.take_piece.ensures.copies

@@ -1,4 +1,4 @@
-use Rattle.std.proofs.Common.{◌≡◌, inl, true, sym, subst}
+use Rattle.std.proofs.Common.{◌≡◌, inl, true, List, ℕ, sym, subst, ◌∙◌, ap}
 use Rattle.image_reading.proofs.Asking.{images_more}
 use Rattle.image_reading.proofs.Holding.{knows_images}
 use Rattle.pod_plan.specs.declared.plan_error.PlanError.{PlanError}
@@ -9,7 +9,9 @@ use Rattle.pod_plan.proofs.Results.{if_ok, if_err}
 use Rattle.pod_plan.proofs.Again.{as_many, have_manifests, listed_before, manifests_before}
 use Rattle.pod_plan.proofs.Plans.{choice_since, none_planned, none_read}
 use Rattle.pod_plan.proofs.Faithful.{plans_faithfully}
+use Rattle.pod_plan.specs.PickedTrees.{copies_no_tree}
 use Rattle.pod_plan.proofs.PickedTrees.{picked_after}
+use Rattle.pod_plan.proofs.NoTrees.{choice_copies}
 use Rattle.pod_plan.proofs.planning.plan_pod.Goals as goal
 
 pub plan_read-requires-clause-whole : goal.plan_read-requires-clause-whole
@@ -79,3 +81,11 @@ returns-in-Ok-clause-trees g c =
 
 pub returns-in-Err-clause-trees : goal.returns-in-Err-clause-trees
 returns-in-Err-clause-trees g c = inl c.read_images.ensures.trees
+
+pub returns-in-Ok-clause-copies : goal.returns-in-Ok-clause-copies
+returns-in-Ok-clause-copies g c =
+    let D = g.D.Dir in
+    let mid = D.shown c.read_images.new.dir in
+    let new = D.shown c.plan_read.new.dir in
+    if_ok (λ plan. PlansChoice D.observed c.in-Ok.read.images.items c.in-Ok.read.manifests.items c.args.refs.now c.args.options.now c.args.now c.args.token.now plan.items mid new) (λ plan. copies_no_tree plan.items ≡ true) c.plan_read.result
+    (λ plan p. choice_copies p) c.plan_read.ensures.made
