@@ -7,6 +7,7 @@ pub mod Knowing
 pub mod Outcomes
 pub mod Begun
 pub mod MakingLawful
+pub mod TreesUnread
 mod Parts
 mod Working
 mod Faithful

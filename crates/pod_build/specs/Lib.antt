@@ -6,6 +6,7 @@ pub mod MakingCauses
 pub mod Makings
 pub mod Handovers
 pub mod Requests
+pub mod PickedReads
 pub mod Origins
 pub mod Refusals
 pub mod Answers

@@ -7,6 +7,8 @@ ghost use Rattle.folder_building.specs.Plans.{is_plan};
 ghost use Rattle.folder_building.specs.Sources.{in_images};
 ghost use Rattle.folder_building.specs.Stored.{HadContents};
 ghost use Rattle.folder_building.specs.Work.{Worked};
+ghost use Rattle.image_reading.specs.Trees.{ReadsNoTrees};
+ghost use Rattle.pod_plan.specs.PickedTrees.{copies_no_tree};
 ghost use Rattle.pod_build.specs.MakingRequests.{fills_pod, hands_pod, finishes_pod};
 ghost use Rattle.pod_build.specs.Progress.{at_work, in_prepare};
 ghost use Rattle.pod_build.specs.Work.{MayMake, Owns, From, HasOwnFolder};
@@ -30,6 +32,7 @@ fn fill<D: Dir>(
     requires active { IsActive (D.shown dir.old).local }
     requires plan { is_plan plan.now ≡ true }
     ensures worked { Worked D.observed (fills_pod draw) (D.shown dir.old) (D.shown dir.new) }
+    ensures trees { copies_no_tree plan.now ≡ true → ReadsNoTrees D.observed (D.shown dir.old) (D.shown dir.new) }
     ensures cause { IfErr result (λ e. WorkCause D.observed plan.now e (D.shown dir.old) (D.shown dir.new)) }
     ensures stray { IsErrOf result MakeError.Stray → D.observed ≡ true → LosesPod draw (D.shown dir.old) (D.shown dir.new) }
     ensures had { IfOk result (λ done. D.observed ≡ true → HadContents in_images plan.now (D.shown dir.old) (D.shown dir.new)) }
@@ -80,6 +83,7 @@ pub(crate) fn finish_pod<D: Dir>(
     requires plan { is_plan plan.now ≡ true }
     requires handed { is_handed_to to ≡ true }
     ensures worked { Worked D.observed (finishes_pod draw to) (D.shown dir.old) (D.shown dir.new) }
+    ensures trees { copies_no_tree plan.now ≡ true → ReadsNoTrees D.observed (D.shown dir.old) (D.shown dir.new) }
     ensures cause { IfErr result (λ e. WorkCause D.observed plan.now e (D.shown dir.old) (D.shown dir.new)) }
     ensures stray { IsErrOf result MakeError.Stray → D.observed ≡ true → LosesPod draw (D.shown dir.old) (D.shown dir.new) }
     ensures had { IfOk result (λ done. D.observed ≡ true → HadContents in_images plan.now (D.shown dir.old) (D.shown dir.new)) }

@@ -6,6 +6,8 @@ ghost use Rattle.folder_building.specs.Plans.{is_plan};
 ghost use Rattle.folder_building.specs.Sources.{in_images};
 ghost use Rattle.folder_building.specs.Stored.{HadContents};
 ghost use Rattle.folder_building.specs.Work.{Worked};
+ghost use Rattle.image_reading.specs.Trees.{ReadsNoTrees};
+ghost use Rattle.pod_plan.specs.PickedTrees.{copies_no_tree};
 ghost use Rattle.pod_build.specs.MakingRequests.{makes_pod};
 ghost use Rattle.pod_build.specs.Progress.{nothing_made, own_held};
 ghost use Rattle.pod_build.specs.Work.{MayMake, UnderImages, From, HasOwnFolder, Went};
@@ -42,6 +44,7 @@ pub fn make_prepared<D: Dir>(
     requires active { IsActive (D.shown dir.old).local }
     requires plan { is_plan plan.now ≡ true }
     ensures worked { Worked D.observed (makes_pod draw Area.Prepared) (D.shown dir.old) (D.shown dir.new) }
+    ensures trees { copies_no_tree plan.now ≡ true → ReadsNoTrees D.observed (D.shown dir.old) (D.shown dir.new) }
     ensures cause { IfErr result (λ e. MakeCause D.observed draw plan.now e (D.shown dir.old) (D.shown dir.new)) }
     ensures another { IfErr result (λ e. D.observed ≡ true → From (MayMake Area.Prepared plan.now draw) (UnderImages draw) nothing_made (D.shown dir.old)
         (λ intent hs. BusyElsewhere e (D.shown dir.old) (D.shown dir.new))) }
@@ -73,6 +76,7 @@ pub fn make_running<D: Dir>(
     requires plan { is_plan plan.now ≡ true }
     ensures owned { IfOk result (λ owned. IsOwned draw (D.shown dir.old).local owned) }
     ensures went { Went D.observed (makes_pod draw Area.Run) (with_owned (D.shown dir.old).local draw result) (D.shown dir.old) (D.shown dir.new) }
+    ensures trees { copies_no_tree plan.now ≡ true → ReadsNoTrees D.observed (D.shown dir.old) (D.shown dir.new) }
     ensures cause { IfErr result (λ e. MakeCause D.observed draw plan.now e (D.shown dir.old) (D.shown dir.new)) }
     ensures another { IfErr result (λ e. D.observed ≡ true → From (MayMake Area.Run plan.now draw) (UnderImages draw) nothing_made (D.shown dir.old)
         (λ intent hs. BusyElsewhere e (D.shown dir.old) (D.shown dir.new))) }

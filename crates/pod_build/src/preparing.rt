@@ -7,6 +7,7 @@ ghost use Rattle.image_reading.specs.Looks.{HoldsImages};
 ghost use Rattle.lifecycle.specs.Executions.{IsConforming};
 ghost use Rattle.pod_build.specs.Progress.{nothing_made};
 ghost use Rattle.pod_build.specs.Work.{From, HasOwnFolder, Went};
+ghost use Rattle.pod_build.specs.PickedReads.{ReadsPickedAlone};
 ghost use Rattle.pod_build.specs.Requests.{prepares, prepares_under_lock};
 ghost use Rattle.pod_build.specs.Answers.{target, with_built, held_with, IsAnswer};
 ghost use Rattle.pod_build.specs.Causes.{IsRefused, IsRefusedUnderLock, IsHeldElsewhere, IsMadeByPlan, FindsImagesFree};
@@ -35,6 +36,7 @@ fn prepare_under_lock<D: Dir>(
     requires active { IsActive (D.shown dir.old).local }
     requires held { HoldsImages (D.shown dir.old).local gate }
     ensures went { Went D.observed (prepares_under_lock draw.now.uuid (target keep_owner)) (with_built (D.shown dir.old).local draw.now.uuid result) (D.shown dir.old) (D.shown dir.new) }
+    ensures trees { ReadsPickedAlone D.observed refs.now options.now (D.shown dir.old) (D.shown dir.new) }
     ensures answer { IfOk result (IsAnswer keep_owner draw.now.uuid (D.shown dir.old).local) }
     ensures fault { IsErrOf result BuildError.DirFault → Rose (D.shown dir.old).faults (D.shown dir.new).faults }
     ensures refused { IfErr result (λ e. IsRefusedUnderLock D.observed refs.now options.now draw.now now e (D.shown dir.old) (D.shown dir.new)) }
@@ -79,6 +81,7 @@ pub fn prepare<D: Dir>(
 ) -> Result<Built, BuildError>
     requires active { IsActive (D.shown dir.old).local }
     ensures went { Went D.observed (prepares draw.now.uuid (target keep_owner)) (with_built (D.shown dir.old).local draw.now.uuid result) (D.shown dir.old) (D.shown dir.new) }
+    ensures trees { ReadsPickedAlone D.observed refs.now options.now (D.shown dir.old) (D.shown dir.new) }
     ensures answer { IfOk result (IsAnswer keep_owner draw.now.uuid (D.shown dir.old).local) }
     ensures fault { IsErrOf result BuildError.DirFault → Rose (D.shown dir.old).faults (D.shown dir.new).faults }
     ensures free { IfOk result (λ built. FindsImagesFree D.observed (D.shown dir.old) (D.shown dir.new)) }

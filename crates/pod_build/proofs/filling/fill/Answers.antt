@@ -7,6 +7,7 @@ use Rattle.pod_build.specs.declared.make_error.MakeError.{MakeError}
 use Rattle.pod_build.specs.MakingCauses.{WorkCause}
 use Rattle.pod_build.proofs.Calls.{fill_cause, pod_changed, build_stray}
 use Rattle.pod_build.proofs.Knowing.{has_filled, has_begun}
+use Rattle.pod_build.proofs.TreesUnread.{filled_unread}
 use Rattle.pod_build.proofs.filling.fill.Goals as goal
 
 pub returns-in-Ok-clause-worked : goal.returns-in-Ok-clause-worked
@@ -40,3 +41,9 @@ returns-in-Err-clause-stray g c h t =
 
 pub returns-in-Ok-clause-had : goal.returns-in-Ok-clause-had
 returns-in-Ok-clause-had g c = c.in-Ok.ensures.had
+
+pub returns-in-Ok-clause-trees : goal.returns-in-Ok-clause-trees
+returns-in-Ok-clause-trees g c no = filled_unread c.pod_at-spot.result c.args.plan.now no c.carry_out.ensures.copies
+
+pub returns-in-Err-clause-trees : goal.returns-in-Err-clause-trees
+returns-in-Err-clause-trees g c no = filled_unread c.pod_at-spot.result c.args.plan.now no c.carry_out.ensures.copies

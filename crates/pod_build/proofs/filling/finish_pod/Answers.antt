@@ -17,6 +17,8 @@ use Rattle.pod_build.proofs.Times.{follows_work, nothing_follows, cause_after, c
 use Rattle.pod_build.specs.declared.make_error.MakeError.TheVariants.{Stray}
 use Rattle.pod_build.specs.MakingRequests.{shows_changed}
 use Rattle.pod_build.proofs.Handing.{none_handed, handed_after, fills_hand_none}
+use Rattle.image_reading.proofs.Trees.{trees_more}
+use Rattle.pod_build.proofs.TreesUnread.{handed_unread}
 use Rattle.pod_build.proofs.filling.finish_pod.Goals as goal
 
 pub returns-in_err-fill-clause-worked : goal.returns-in_err-fill-clause-worked
@@ -96,3 +98,6 @@ pub returns-clause-had : goal.returns-clause-had
 returns-clause-had g c =
     let D = g.D.Dir in
     ok_any c.hand_over.result (λ t. all_had_before (D.shown c.fill.new.dir) (D.shown c.hand_over.new.dir) (c.hand_over.ensures.worked.extends t) in_images c.args.plan.now (D.shown c.args.dir.now) c.fill.ensures.worked.same (c.in_ok-fill.ensures.had t))
+
+pub returns-clause-trees : goal.returns-clause-trees
+returns-clause-trees g c no = trees_more (c.fill.ensures.trees no) (handed_unread c.args.draw c.args.to c.hand_over.ensures.worked)

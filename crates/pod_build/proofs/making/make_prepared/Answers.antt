@@ -18,6 +18,8 @@ use Rattle.pod_build.proofs.Outcomes.{err_same, err_with, held_is, follows_close
 use Rattle.pod_build.proofs.Times.{follows_went, calm_cause, cause_after, cause_before, folder_before, brought_changed, own_before, make_planned, went_wider, worked_went}
 use Rattle.pod_build.proofs.Handing.{none_handed, handed_after, handed_close, follow_on, begins_hand_none}
 use Rattle.pod_build.proofs.MakingLawful.{refused_stray}
+use Rattle.image_reading.proofs.Trees.{trees_more}
+use Rattle.pod_build.proofs.TreesUnread.{begun_unread, closed_unread}
 use Rattle.pod_build.proofs.making.make_prepared.Goals as goal
 
 pub returns-in_err-own-clause-worked : goal.returns-in_err-own-clause-worked
@@ -128,3 +130,9 @@ returns-clause-had g c =
     ok_more (λ done. D.observed ≡ true → HadContents in_images plan mid late) (λ done. D.observed ≡ true → HadContents in_images plan old new) c.finish_pod-result.result
     (λ done f t. all_had_after old mid (c.begin_pod.ensures.went.extends t) c.begin_pod.ensures.went.same in_images plan new (all_had_before late new (closes.extends t) in_images plan mid c.finish_pod-result.ensures.worked.same (f t)))
     c.finish_pod-result.ensures.had
+
+pub returns-in_err-own-clause-trees : goal.returns-in_err-own-clause-trees
+returns-in_err-own-clause-trees g c no = begun_unread c.args.draw c.begin_pod.ensures.went
+
+pub returns-clause-trees : goal.returns-clause-trees
+returns-clause-trees g c no = trees_more (trees_more (begun_unread c.args.draw c.begin_pod.ensures.went) (c.finish_pod-result.ensures.trees no)) (closed_unread c.close.ensures.called)

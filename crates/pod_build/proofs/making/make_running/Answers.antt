@@ -16,6 +16,8 @@ use Rattle.pod_build.proofs.Outcomes.{err_same, held_is, follows_close, went_wor
 use Rattle.pod_build.proofs.Times.{follows_went, nothing_follows, calm_cause, cause_after, cause_before, folder_before, brought_changed, own_before, make_planned, went_wider}
 use Rattle.pod_build.proofs.Handing.{none_handed, handed_after, handed_close, follow_on, begins_hand_none}
 use Rattle.pod_build.proofs.MakingLawful.{never_stray, refused_stray}
+use Rattle.image_reading.proofs.Trees.{trees_more}
+use Rattle.pod_build.proofs.TreesUnread.{begun_unread, closed_unread}
 use Rattle.pod_build.proofs.making.make_running.Goals as goal
 
 pub returns-in_err-own-clause-went : goal.returns-in_err-own-clause-went
@@ -116,3 +118,12 @@ pub returns-in-Ok-clause-had : goal.returns-in-Ok-clause-had
 returns-in-Ok-clause-had g c t =
     let D = g.D.Dir in
     all_had_after (D.shown c.args.dir.now) (D.shown c.begin_pod.new.dir) (c.begin_pod.ensures.went.extends t) c.begin_pod.ensures.went.same in_images c.args.plan.now (D.shown c.finish_pod.new.dir) (c.in-Ok.ensures.had t)
+
+pub returns-in_err-own-clause-trees : goal.returns-in_err-own-clause-trees
+returns-in_err-own-clause-trees g c no = begun_unread c.args.draw c.begin_pod.ensures.went
+
+pub returns-in-Ok-clause-trees : goal.returns-in-Ok-clause-trees
+returns-in-Ok-clause-trees g c no = trees_more (begun_unread c.args.draw c.begin_pod.ensures.went) (c.finish_pod.ensures.trees no)
+
+pub returns-in-Err-clause-trees : goal.returns-in-Err-clause-trees
+returns-in-Err-clause-trees g c no = trees_more (trees_more (begun_unread c.args.draw c.begin_pod.ensures.went) (c.finish_pod.ensures.trees no)) (closed_unread c.close.ensures.called)

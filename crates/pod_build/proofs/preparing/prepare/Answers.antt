@@ -27,6 +27,7 @@ use Rattle.pod_build.specs.FaithfulBuild.{IsFaithfulBuild, HandsOverFaithfully}
 use Rattle.pod_build.proofs.Working.{locks_hand_none, close_takes}
 use Rattle.dir_model.proofs.Chains.{extends_wider}
 use Rattle.pod_build.proofs.Lawful.{refused_stray}
+use Rattle.pod_build.proofs.TreesUnread.{locked_unread, unlocked_unread, picked_within, none_picked}
 use Rattle.pod_build.proofs.preparing.prepare.Goals as goal
 
 pub returns-in-Ok-clause-went : goal.returns-in-Ok-clause-went
@@ -222,3 +223,10 @@ pub returns-in-Err-clause-lawful : goal.returns-in-Err-clause-lawful
 returns-in-Err-clause-lawful g c is t conforming =
     let D = g.D.Dir in
     refused_stray c.args.refs.now c.args.options.now c.args.draw.now c.args.now (D.shown c.args.dir.now) (D.shown c.lock_area.new.dir) (Err c.gate_refusal.result) (returns-in-Err-clause-refused g c) is t conforming
+
+pub returns-in-Ok-clause-trees : goal.returns-in-Ok-clause-trees
+returns-in-Ok-clause-trees g c =
+    picked_within (locked_unread Images Shared c.lock_area.ensures.same c.lock_area.ensures.extends) c.prepare_under_lock-result.ensures.trees (unlocked_unread c.in-Ok.gate c.unlock_area.ensures.same c.unlock_area.ensures.extends)
+
+pub returns-in-Err-clause-trees : goal.returns-in-Err-clause-trees
+returns-in-Err-clause-trees g c = none_picked (locked_unread Images Shared c.lock_area.ensures.same c.lock_area.ensures.extends)

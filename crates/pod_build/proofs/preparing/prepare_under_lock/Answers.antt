@@ -15,6 +15,9 @@ use Rattle.pod_build.proofs.Working.{follows_reads, went_reads, went_under, work
 use Rattle.pod_build.specs.Handovers.{BeforeHandingOver, HandsOverMade}
 use Rattle.pod_build.proofs.Handing.{none_handed, handed_among, handed_so, handed_then}
 use Rattle.pod_build.proofs.Working.{reads_hand_none}
+use Rattle.image_reading.proofs.Trees.{trees_none}
+use Rattle.pod_plan.specs.PickedTrees.{copies_no_tree}
+use Rattle.pod_build.proofs.TreesUnread.{picked_alone}
 use Rattle.pod_build.proofs.preparing.prepare_under_lock.Goals as goal
 
 pub returns-in-Ok-clause-went : goal.returns-in-Ok-clause-went
@@ -134,3 +137,10 @@ returns-in-Ok-clause-whole g c t intent hs began alone k =
     let second : Planned mid.process =
     handed_so (λ before x. record { mid = mid; reads = worked_reads t c.plan_pod.ensures.only; plan = c.in-Ok.plan.items; planned = c.in-Ok.ensures.faithful t; makes = x.1; knew = x.0 }) (handed_among make made) in
     handed_then read.more make.more read.grown make.grown (none_handed reads_hand_none read) (subst Planned same second)
+
+pub returns-in-Ok-clause-trees : goal.returns-in-Ok-clause-trees
+returns-in-Ok-clause-trees g c =
+    picked_alone c.plan_pod.ensures.trees (c.make.ensures.trees (subst (λ (entries : List PlanEntry). copies_no_tree entries ≡ true) (sym c.deref.ensures.value) c.in-Ok.ensures.copies))
+
+pub returns-in-Err-clause-trees : goal.returns-in-Err-clause-trees
+returns-in-Err-clause-trees g c = picked_alone c.plan_pod.ensures.trees trees_none
