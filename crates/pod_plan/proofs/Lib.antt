@@ -3,6 +3,7 @@ pub mod ChoiceFaults
 pub mod ChosenPods
 mod AppFiles
 mod Loops
+mod Behind
 mod FileNames
 mod FolderPlans
 mod PodFolders

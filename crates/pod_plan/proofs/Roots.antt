@@ -18,7 +18,7 @@ use Rattle.folder_building.specs.Plans.{outline, outline_of, has_origin, follows
 use Rattle.folder_building.specs.TreePlans.{entry_at, tree_entry, tree_entries, CarriesOn, MakesTree}
 use Rattle.pod_plan.specs.declared.pod_app.PodApp.{PodApp}
 use Rattle.pod_plan.specs.PodPlans.{image_of, root_entries}
-use Rattle.pod_plan.specs.RootSteps.{from_image, taken, left}
+use Rattle.pod_plan.specs.RootSteps.{from_image, for_file, taken, left}
 
 module _ (images : List (List ℕ)) (app : PodApp) where
   abbrev Root : List ℕ
@@ -41,10 +41,10 @@ module _ (images : List (List ℕ)) (app : PodApp) where
   at_entry line entry = record { path = line.path; entry = entry }
 
   -- line by line
-  gets_its_image : (line : ListingLine) → option_map (from_image (image_of images app line.path)) (tree_entry Root None From line) ≡ entry_of line
+  gets_its_image : (line : ListingLine) → option_map (from_image (for_file line.entry (image_of images app line.path))) (tree_entry Root None From line) ≡ entry_of line
   gets_its_image line = by line.entry
     where
-      by : (entry : TreeEntry) → option_map (from_image (image_of images app line.path)) (tree_entry Root None From (at_entry line entry)) ≡ entry_of (at_entry line entry)
+      by : (entry : TreeEntry) → option_map (from_image (for_file entry (image_of images app line.path))) (tree_entry Root None From (at_entry line entry)) ≡ entry_of (at_entry line entry)
       by (Dir meta) = refl
       by (File meta size sha) = refl
       by (Link meta target) = refl
@@ -78,7 +78,7 @@ module _ (images : List (List ℕ)) (app : PodApp) where
     pub done : plan ≡ before ++ placed (take i lines)
 
   pub goes_on : (lines : List ListingLine) (i : ℕ) (d : ListingLine) (before made more plan new : List PlanEntry) (entry : Option PlanEntry) (image : Option (List ℕ)) → i < length lines → IsAt lines i before made plan
-      → entry ≡ taken (get_or lines i d).entry made → more ≡ left (get_or lines i d).entry made → image ≡ image_of images app (get_or lines i d).path
+      → entry ≡ taken (get_or lines i d).entry made → more ≡ left (get_or lines i d).entry made → image ≡ for_file (get_or lines i d).entry (image_of images app (get_or lines i d).path)
       → new ≡ plan ++ option_to_list (option_map (from_image image) entry) → IsAt lines (i + 1) before more new
   goes_on lines i d before made more plan new entry image inside at first others of_image is = record { rest = rest; done = done }
     where
@@ -92,7 +92,7 @@ module _ (images : List (List ℕ)) (app : PodApp) where
       rest = others ∙ (ap (left line.entry) split ∙ leaves_others line (drop (i + 1) lines))
 
       made_for_it : option_map (from_image image) entry ≡ entry_of line
-      made_for_it = ap (λ im. option_map (from_image im) entry) of_image ∙ (ap (option_map (from_image (image_of images app line.path))) (first ∙ (ap (taken line.entry) split ∙ takes_first line (drop (i + 1) lines))) ∙ gets_its_image line)
+      made_for_it = ap (λ im. option_map (from_image im) entry) of_image ∙ (ap (option_map (from_image (for_file line.entry (image_of images app line.path)))) (first ∙ (ap (taken line.entry) split ∙ takes_first line (drop (i + 1) lines))) ∙ gets_its_image line)
 
       done : new ≡ before ++ placed (take (i + 1) lines)
       done = is ∙ (ap (λ o. plan ++ option_to_list o) made_for_it ∙ (ap (λ es. es ++ option_to_list (entry_of line)) at.done ∙ (append_assoc before (placed (take i lines)) (option_to_list (entry_of line))

@@ -1,10 +1,13 @@
 // The tree of an app's root.
-ghost use Rattle.std.specs.Prelude.{◌≡◌, ◌++◌, IfOk, codes, option_map, option_to_list};
+ghost use Rattle.std.specs.Prelude.{◌≡◌, ◌++◌, true, IfOk, codes, option_map, option_to_list};
+ghost use Rattle.std.specs.Option.{option_copied};
 ghost use Rattle.std.specs.Vec.Iter.{into_iter_items};
 ghost use Rattle.dir_model.specs.Trees.{app_root};
+ghost use Rattle.path_map.specs.After.{is_after};
+ghost use Rattle.render.specs.Layers.{source_at};
 ghost use Rattle.folder_building.specs.TreePlans.{CarriesOn, MakesTree};
 ghost use Rattle.pod_plan.specs.PodPlans.{image_of, root_entries};
-ghost use Rattle.pod_plan.specs.RootSteps.{from_image, taken, left};
+ghost use Rattle.pod_plan.specs.RootSteps.{from_image, for_file, path_before, taken, left};
 
 use crate::pod_app::PodApp;
 use ac_types::NoMemory;
@@ -12,16 +15,56 @@ use dir_trait::Name;
 use folder_building::{Content, Origin, PlanEntry};
 use folder_building::tree_plan;
 use path_map::{AbsPath, Entry};
+use render::Rendering;
 use std::alloc::Global;
+use std::cmp::Ordering;
 use std::vec::IntoIter;
 use tree_digest::ListingLine;
 
-// The folder of the image whose file stands at a path of the root.
-fn image_of(app: &PodApp, images: &[Name], path: &AbsPath) -> Option<Name>
-    ensures { result ≡ image_of images.now app.now path.now }
+// The place of the image whose file stands at a path. The files are gone through from behind another path on.
+fn copy_at(rendering: &Rendering, behind: Option<&AbsPath>, path: &AbsPath) -> Option<usize>
+    requires { is_after (option_copied behind.entry) path.now ≡ true }
+    ensures { result ≡ source_at rendering.now path.now }
 {
-    match app.rendering.source(path) {
-        Some(place) => images.get(place).copied(),
+    let mut behind = behind;
+    'copies: while let Some((at, place)) = rendering.next_copy(behind) {
+        match at.cmp(path) {
+            Ordering::Less => behind = Some(at),
+            Ordering::Equal => return Some(place),
+            Ordering::Greater => return None,
+        }
+    }
+    None
+}
+
+// The folder of the image that a line's file is from.
+fn image_of(
+    app: &PodApp,
+    images: &[Name],
+    behind: Option<&AbsPath>,
+    line: &ListingLine,
+) -> Option<Name>
+    requires { is_after (option_copied behind.entry) line.now.path ≡ true }
+    ensures { result ≡ for_file line.now.entry (image_of images.now app.now line.now.path) }
+{
+    match &line.entry {
+        Entry::File { .. } => match copy_at(&app.rendering, behind, &line.path) {
+            Some(place) => images.get(place).copied(),
+            None => None,
+        },
+        _ => None,
+    }
+}
+
+// The path of the line before the one at a place.
+fn path_before(lines: &[ListingLine], place: usize) -> Option<&AbsPath>
+    ensures { option_copied result ≡ path_before lines.now place }
+{
+    match place.checked_sub(1) {
+        Some(last) => match lines.get(last) {
+            Some(line) => Some(&line.path),
+            None => None,
+        },
         None => None,
     }
 }
@@ -87,9 +130,12 @@ pub(crate) fn root_plan(
     let tree = tree_plan(alloc, &app.listing, root, &None, "rootfs", Vec::new(alloc))?;
     let mut made = tree.into_iter();
     let lines = app.listing.as_slice();
+    let mut place = 0;
     'lines: for line in lines {
         let entry = take_next(&mut made, line);
-        add(&mut plan, entry, image_of(app, images, &line.path))?;
+        let image = image_of(app, images, path_before(lines, place), line);
+        add(&mut plan, entry, image)?;
+        place += 1;
     }
     Ok(plan)
 }

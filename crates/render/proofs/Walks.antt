@@ -1,8 +1,8 @@
 -- Going from file to file meets the files of a rendering, in the order of its map.
-use Rattle.std.proofs.Common.{◌≡◌, ◌<◌, ◌+◌, ℕ, suc, Bool, true, false, cond, List, [], ◌∷◌, length, filter, Option, Some, None, option_map, IsSome, Ordering, Less, Equal, Greater, refl, sym, ap, subst, ◌∙◌, ⊎_elim, arith}
+use Rattle.std.proofs.Common.{◌≡◌, ◌≢◌, ◌<◌, ◌≤◌, ◌+◌, ℕ, suc, Bool, true, false, cond, List, [], ◌∷◌, length, filter, Option, Some, None, option_map, IsSome, Ordering, Less, Equal, Greater, refl, sym, ap, subst, ◌∙◌, ⊎_elim, arith}
 use Rattle.std.specs.List.{cons_option}
 use Rattle.std.specs.Map.{keys_of}
-use Rattle.std.specs.Ordering.{nat_cmp, is_lt}
+use Rattle.std.specs.Ordering.{nat_cmp, is_lt, ordering_reverse}
 use Rattle.std.specs.Cmp.Lexicographic.{slice_cmp}
 use Rattle.std.proofs.lemmas.Map.Keys.{sorted_head, sorted_tail}
 use Rattle.std.proofs.lemmas.Cmp.{nat_list_cmp_total}
@@ -13,7 +13,7 @@ use Rattle.render.specs.declared.rendering.Rendering.{Rendering}
 use Rattle.render.specs.Layers.{source_at}
 use Rattle.render.specs.Copies.{IsNextFile, HasNoFileAfter, IsWalk, files_among, files_of}
 use Rattle.render.proofs.PathOrder.{after_not_before, one_or_two, at_head, off_head}
-use Rattle.render.proofs.NextFiles.{AreLeft, all_left, one_passed, next_file, none_left, one_next, less_at, not_both, source_some}
+use Rattle.render.proofs.NextFiles.{AreLeft, all_left, one_passed, next_file, none_left, one_next, less_at, not_both, none_of, source_some}
 
 is_less : (o : Ordering) → is_lt o ≡ true → o ≡ Less
 is_less Less h = refl
@@ -40,6 +40,39 @@ one_copied r after e rest left = record {
 
 none_there : (q : List ℕ) → IsSome (entry_at [] q) → ⊥
 none_there q some = cc
+
+-- behind a file that comes after a path fewer entries come than behind that path
+fewer : (after : Option (List ℕ)) (p : List ℕ) → is_after after p ≡ true → (es : Entries) → IsSome (entry_at es p) → length (entries_after (Some p) es) < length (entries_after after es)
+fewer after p first [] some = absurd (none_there p some)
+fewer after p first (e ∷ es) some = by (is_after (Some p) e.0) refl (is_after after e.0) refl (λ other. fewer after p first es (subst IsSome (off_head e es p other) some)) (most after p first es)
+  where
+    most : (after : Option (List ℕ)) (p : List ℕ) → is_after after p ≡ true → (es : Entries) → length (entries_after (Some p) es) ≤ length (entries_after after es)
+    most after p first [] = omega arith
+    most after p first (e ∷ es) = at (is_after (Some p) e.0) (is_after after e.0) (after_on after p e.0 first) (most after p first es)
+      where
+        at : (b c : Bool) → (b ≡ true → c ≡ true) → length (entries_after (Some p) es) ≤ length (entries_after after es) → length (cond b (e ∷ entries_after (Some p) es) (entries_after (Some p) es)) ≤ length (cond c (e ∷ entries_after after es) (entries_after after es))
+        at true true f h = omega (arith, h)
+        at true false f h = let no : false ≡ true = f refl in absurd cc
+        at false true f h = omega (arith, h)
+        at false false f h = h
+    by : (b : Bool) → is_after (Some p) e.0 ≡ b → (c : Bool) → is_after after e.0 ≡ c → ((e.0 ≢ p) → length (entries_after (Some p) es) < length (entries_after after es)) → length (entries_after (Some p) es) ≤ length (entries_after after es)
+        → length (cond b (e ∷ entries_after (Some p) es) (entries_after (Some p) es)) < length (cond c (e ∷ entries_after after es) (entries_after after es))
+    by true k true m strict weak = let h = strict (λ same. not_after_itself p (subst (λ (q : List ℕ). is_after (Some p) q ≡ true) same k)) in omega (arith, h)
+    by true k false m strict weak = let no : false ≡ true = sym m ∙ after_on after p e.0 first k in absurd cc
+    by false k true m strict weak = omega (arith, weak)
+    by false k false m strict weak = strict (λ same. let no : false ≡ true = sym m ∙ subst (λ (q : List ℕ). is_after after q ≡ true) (sym same) first in absurd cc)
+
+pub fewer_after : (r : Rendering) (after : Option (List ℕ)) (p : List ℕ) (image : ℕ) → IsNextFile r after p image → length (entries_after (Some p) r.map) < length (entries_after after r.map)
+fewer_after r after p image next = fewer after p next.later r.map (source_some r p (subst IsSome (sym next.source) refl))
+
+-- where the next file comes behind a path, none stands at that path
+pub passed_over : (r : Rendering) (after : Option (List ℕ)) (p q : List ℕ) (image : ℕ) → IsNextFile r after p image → is_after after q ≡ true → slice_cmp nat_cmp p q ≡ Greater → source_at r q ≡ None
+passed_over r after p q image next later greater =
+    none_of (source_at r q)
+    (λ some. ⊎_elim (λ same. not_greater p (subst (λ (x : List ℕ). slice_cmp nat_cmp p x ≡ Greater) (sym same) greater)) (λ less. let no : Less ≡ Greater = sym less ∙ greater in cc) (next.first q later some))
+  where
+    not_greater : (x : List ℕ) → slice_cmp nat_cmp x x ≡ Greater → ⊥
+    not_greater x h = let back : slice_cmp nat_cmp x x ≡ Less = nat_list_cmp_total.antisymm x x ∙ ap ordering_reverse h in let no : Less ≡ Greater = sym back ∙ h in cc
 
 module _ (r : Rendering) where
   walked : (rest : Entries) (after : Option (List ℕ)) (fs : List (List ℕ × ℕ)) → AreLeft r after rest → IsWalk r after fs → fs ≡ files_among r rest
@@ -68,18 +101,14 @@ module _ (r : Rendering) where
       by more None none = more after (one_passed r after e rest none left)
       by more (Some i) is = (next_file r after e rest i is left, more (Some e.0) (one_copied r after e rest left))
 
+  all_after : (es : Entries) → es ≡ entries_after None es
+  all_after [] = refl
+  all_after (e ∷ es) = ap (λ xs. e ∷ xs) (all_after es)
+
   module _ (kind : IsPathMap r.map) where
     -- whoever begins before the first path and goes on from file to file meets exactly the files, in the order of their paths
     pub walk_meets_files : (fs : List (List ℕ × ℕ)) → IsWalk r None fs → fs ≡ files_of r
     walk_meets_files fs walk = walked r.map None fs (all_left r None r.map kind (all_after r.map)) walk
-      where
-        all_after : (es : Entries) → es ≡ entries_after None es
-        all_after [] = refl
-        all_after (e ∷ es) = ap (λ xs. e ∷ xs) (all_after es)
 
     pub files_are_met : IsWalk r None (files_of r)
     files_are_met = walks r.map None (all_left r None r.map kind (all_after r.map))
-      where
-        all_after : (es : Entries) → es ≡ entries_after None es
-        all_after [] = refl
-        all_after (e ∷ es) = ap (λ xs. e ∷ xs) (all_after es)
