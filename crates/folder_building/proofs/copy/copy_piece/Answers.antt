@@ -9,6 +9,9 @@ use Rattle.folder_building.proofs.Strays.{stray_after}
 use Rattle.folder_building.proofs.Copying.{worked_here, worked_there, stray_here, copies_piece, copies_end}
 use Rattle.folder_building.proofs.copy.copy_piece.Goals as goal
 
+pub returns-in_err-count-clause-worked : goal.returns-in_err-count-clause-worked
+returns-in_err-count-clause-worked g c = worked_there c.args.spot.now (g.S.Source.shown c.args.source.now) c.take_piece.ensures.worked
+
 pub returns-in_err-append-clause-worked : goal.returns-in_err-append-clause-worked
 returns-in_err-append-clause-worked g c = worked_more (worked_there c.args.spot.now (g.S.Source.shown c.args.source.now) c.take_piece.ensures.worked) (worked_here c.args.spot.now (g.S.Source.shown c.args.source.now) c.append.ensures.worked)
 
