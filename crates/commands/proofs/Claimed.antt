@@ -20,7 +20,7 @@ use Rattle.dir_rules.specs.LockRules.{may_close}
 use Rattle.dir_rules.specs.Standing.{is_run_prepared, is_gate_shared, gives_up, holds_own, intends}
 use Rattle.dir_trait.specs.DirCalls.{DirAt, ExtendsBy}
 use Rattle.dir_trait.specs.Knowledge.{Knows, LookedInto}
-use Rattle.folder_building.specs.Work.{Worked}
+use Rattle.dir_trait.specs.Effects.{OnlyAsks, LeavesOpen}
 use Rattle.pod_locks.specs.declared.owned.Owned.{Owned}
 use Rattle.pod_locks.specs.Running.{IsOwned, RunsPod}
 use Rattle.pod_locks.specs.ClaimRequests.{claims}
@@ -31,7 +31,7 @@ use Rattle.pod_locks.specs.Work.{Leaves}
 use Rattle.pod_locks.specs.Work as claiming
 use Rattle.pod_locks.proofs.ClaimSeen.{runs_pod}
 use Rattle.stage1.specs.Keeping.{IsFresh, KeepsToEnd}
-use Rattle.stage1.specs.Runs.{Went, closes, runs_and_closes}
+use Rattle.stage1.specs.Runs.{closes, runs_and_closes}
 use Rattle.stage1.specs.Runs as stage1
 use Rattle.command_outcomes.specs.Conforming.{begun, StaysConforming}
 use Rattle.command_outcomes.specs.Moments.{dir_seen}
@@ -82,7 +82,7 @@ runs_in pod own r is = by (closes own r) (claims pod r) (closes_claims pod own r
     by false false so h = h
 
 pub claimed_worked : {observed : Bool} {a b c : DirAt} {m : Local} (pod : PodId) (owned : Owned) (h : Holding) → IsOwned pod m owned → h.handle ≡ owned.own → a.local.holdings ≡ [] → claiming.Went observed 66 pod (and_holding a.local h) a b →
-    Went observed (runs_and_closes owned.pod owned.own) (without b.local owned.own) b c → Worked observed (runs_prepared pod) a c
+    LeavesOpen observed (runs_and_closes owned.pod owned.own) (without b.local owned.own) b c → OnlyAsks observed (runs_prepared pod) a c
 claimed_worked {observed} {a} {b} {c} pod owned h own is none w v = record {
   same = v.same ∙ w.same;
   faults = omega (arith, w.faults, v.faults);
@@ -90,7 +90,7 @@ claimed_worked {observed} {a} {b} {c} pod owned h own is none w v = record {
   extends = λ t. and_more (extends_wider (claims_in pod) (w.extends t)) w.same (extends_wider (runs_in pod owned.own) (subst (λ (p : PodId). ExtendsBy (runs_and_closes p owned.own) b c) own.is (v.extends t)));
 }
 
-pub unclaimed_worked : {observed : Bool} {a b : DirAt} (pod : PodId) → claiming.Went observed 66 pod a.local a b → Worked observed (runs_prepared pod) a b
+pub unclaimed_worked : {observed : Bool} {a b : DirAt} (pod : PodId) → claiming.Went observed 66 pod a.local a b → OnlyAsks observed (runs_prepared pod) a b
 unclaimed_worked pod w = record { same = w.same; faults = w.faults; local = w.local_is; extends = λ t. extends_wider (claims_in pod) (w.extends t) }
 
 -- it keeps the local rules

@@ -19,8 +19,8 @@ use Rattle.dir_rules.specs.Rules.{runs}
 use Rattle.dir_rules.specs.Standing.{is_gate_shared, gives_up, holds_own, intends}
 use Rattle.dir_rules.proofs.Looks.{same_bytes}
 use Rattle.dir_trait.specs.DirCalls.{DirAt, ExtendsBy}
+use Rattle.dir_trait.specs.Effects.{OnlyAsks, LeavesOpen}
 use Rattle.spawner.specs.Calls.{SpawnerAt}
-use Rattle.folder_building.specs.Work.{Worked}
 use Rattle.lifecycle.specs.Executions.{IsConforming}
 use Rattle.pod_locks.specs.declared.owned.Owned.{Owned}
 use Rattle.pod_locks.specs.Running.{IsOwned, RunsPod}
@@ -37,7 +37,7 @@ use Rattle.pod_build.specs.Causes.{IsRefused, IsHeldElsewhere, IsMadeByPlan, Fin
 use Rattle.pod_build.specs.Preparations.{Began, IsAlone, KnowsPrepared, IsPrepared}
 use Rattle.pod_build.specs.Requests.{prepares}
 use Rattle.stage1.specs.Keeping.{IsFresh, KeepsToEnd}
-use Rattle.stage1.specs.Runs.{Went, closes, runs_pod, runs_and_closes}
+use Rattle.stage1.specs.Runs.{closes, runs_pod, runs_and_closes}
 use Rattle.command_outcomes.specs.declared.refusal.Refusal.{Refusal}
 use Rattle.command_outcomes.specs.declared.refusal.Refusal.TheVariants.{DirFault, SpawnFault, NoManifest, NoProgram, Damaged, Stray, NoMemory}
 use Rattle.command_outcomes.specs.Conforming.{begun, StaysConforming}
@@ -61,12 +61,12 @@ pub kept_owned : (draw : PodId) (m : Local) (made : Built) (owned : Owned) → m
 kept_owned draw m made owned is answer = subst (λ (b : Built). IsAnswer true draw m b) is answer
 
 -- what is open then
-pub made_went : {observed : Bool} {asks : Request → Bool} {a b : DirAt} (m : Local) (draw : PodId) (r : Result Built BuildError) (made : Built) (owned : Owned) → r ≡ Ok made → made ≡ built.Running owned → making.Went observed asks (with_built m draw r) a b → making.Went observed asks (and_own m draw owned.own) a b
+pub made_went : {observed : Bool} {asks : Request → Bool} {a b : DirAt} (m : Local) (draw : PodId) (r : Result Built BuildError) (made : Built) (owned : Owned) → r ≡ Ok made → made ≡ built.Running owned → making.LeavesOpen observed asks (with_built m draw r) a b → making.LeavesOpen observed asks (and_own m draw owned.own) a b
 made_went {observed} {asks} {a} {b} m draw r made owned is kept w =
-    subst (λ (x : Built). making.Went observed asks (with_built m draw (Ok x)) a b) kept (subst (λ (x : Result Built BuildError). making.Went observed asks (with_built m draw x) a b) is w)
+    subst (λ (x : Built). making.LeavesOpen observed asks (with_built m draw (Ok x)) a b) kept (subst (λ (x : Result Built BuildError). making.LeavesOpen observed asks (with_built m draw x) a b) is w)
 
-pub unmade_went : {observed : Bool} {asks : Request → Bool} {a b : DirAt} (m : Local) (draw : PodId) (r : Result Built BuildError) (e : BuildError) → r ≡ Err e → making.Went observed asks (with_built m draw r) a b → making.Went observed asks m a b
-unmade_went {observed} {asks} {a} {b} m draw r e is w = subst (λ (x : Result Built BuildError). making.Went observed asks (with_built m draw x) a b) is w
+pub unmade_went : {observed : Bool} {asks : Request → Bool} {a b : DirAt} (m : Local) (draw : PodId) (r : Result Built BuildError) (e : BuildError) → r ≡ Err e → making.LeavesOpen observed asks (with_built m draw r) a b → making.LeavesOpen observed asks m a b
+unmade_went {observed} {asks} {a} {b} m draw r e is w = subst (λ (x : Result Built BuildError). making.LeavesOpen observed asks (with_built m draw x) a b) is w
 
 -- a run hands nothing over
 pub runs_hand_none : (pod : PodId) (own : Handle) → HandsNothingOver (runs_and_closes pod own)
@@ -89,8 +89,8 @@ runs_in draw own r is = by (closes own r) (prepares draw area.Run r) (closes_pre
     by false true so h = refl
     by false false so h = h
 
-pub made_worked : {observed : Bool} {a b c : DirAt} {m : Local} (draw : PodId) (owned : Owned) (h : Holding) → IsOwned draw m owned → h.handle ≡ owned.own → a.local.holdings ≡ [] → making.Went observed (prepares draw area.Run) (and_holding a.local h) a b →
-    Went observed (runs_and_closes owned.pod owned.own) (without b.local owned.own) b c → Worked observed (makes_and_runs draw) a c
+pub made_worked : {observed : Bool} {a b c : DirAt} {m : Local} (draw : PodId) (owned : Owned) (h : Holding) → IsOwned draw m owned → h.handle ≡ owned.own → a.local.holdings ≡ [] → making.LeavesOpen observed (prepares draw area.Run) (and_holding a.local h) a b →
+    LeavesOpen observed (runs_and_closes owned.pod owned.own) (without b.local owned.own) b c → OnlyAsks observed (makes_and_runs draw) a c
 made_worked {observed} {a} {b} {c} draw owned h own is none w v = record {
   same = v.same ∙ w.same;
   faults = omega (arith, w.faults, v.faults);
@@ -98,7 +98,7 @@ made_worked {observed} {a} {b} {c} draw owned h own is none w v = record {
   extends = λ t. and_more (extends_wider (prepares_in draw) (w.extends t)) w.same (extends_wider (runs_in draw owned.own) (subst (λ (p : PodId). ExtendsBy (runs_and_closes p owned.own) b c) own.is (v.extends t)));
 }
 
-pub unmade_worked : {observed : Bool} {a b : DirAt} (draw : PodId) → making.Went observed (prepares draw area.Run) a.local a b → Worked observed (makes_and_runs draw) a b
+pub unmade_worked : {observed : Bool} {a b : DirAt} (draw : PodId) → making.LeavesOpen observed (prepares draw area.Run) a.local a b → OnlyAsks observed (makes_and_runs draw) a b
 unmade_worked draw w = record { same = w.same; faults = w.faults; local = w.local_is; extends = λ t. extends_wider (prepares_in draw) (w.extends t) }
 
 -- it runs the pod that it made

@@ -20,11 +20,11 @@ use Rattle.dir_rules.specs.Conforms.{seen_replied}
 use Rattle.dir_trait.specs.DirCalls.{DirAt, DirCall, ExtendsBy}
 use Rattle.dir_trait.specs.Knowledge.{Knows}
 use Rattle.dir_trait.proofs.Knowing.{knows_call}
-use Rattle.folder_building.specs.Work.{Worked}
+use Rattle.dir_trait.specs.Effects.{OnlyAsks, LeavesOpen}
 use Rattle.lifecycle.specs.Executions.{IsConforming}
 use Rattle.pod_manifest.specs.Wishes.{Wishes}
 use Rattle.pod_build.specs.Progress.{at_work, nothing_made, handed}
-use Rattle.pod_build.specs.Work.{From, HasOwnFolder, Went}
+use Rattle.pod_build.specs.Work.{From, HasOwnFolder}
 use Rattle.pod_build.proofs.Handing.{HandsNothingOver}
 use Rattle.pod_build.specs.declared.error.BuildError.{BuildError}
 use Rattle.pod_build.specs.declared.built.Built.{Built}
@@ -84,13 +84,13 @@ local_kept m draw (Ok (built.Running owned)) answer = absurd answer
 local_kept m draw (Ok (built.Prepared pod)) answer = refl
 local_kept m draw (Err e) answer = refl
 
-pub prepare_worked : {observed : Bool} {a b : DirAt} (draw : PodId) (r : Result Built BuildError) → IfOk r (IsAnswer false draw a.local) → Went observed (prepares draw Prepared) (with_built a.local draw r) a b → Worked observed (prepares_pod draw) a b
+pub prepare_worked : {observed : Bool} {a b : DirAt} (draw : PodId) (r : Result Built BuildError) → IfOk r (IsAnswer false draw a.local) → LeavesOpen observed (prepares draw Prepared) (with_built a.local draw r) a b → OnlyAsks observed (prepares_pod draw) a b
 prepare_worked {observed} {a} {b} draw r answer w = record { same = w.same; faults = w.faults; local = w.local_is ∙ local_kept a.local draw r answer; extends = λ t. extends_wider (prepare_in draw) (w.extends t) }
 
-pub sync_worked : {observed : Bool} {b c : DirAt} (reply : Reply) → local_replied b.local (SyncArea Prepared) reply ≡ b.local → DirCall observed b (SyncArea Prepared) reply c → Worked observed (syncs Prepared) b c
+pub sync_worked : {observed : Bool} {b c : DirAt} (reply : Reply) → local_replied b.local (SyncArea Prepared) reply ≡ b.local → DirCall observed b (SyncArea Prepared) reply c → OnlyAsks observed (syncs Prepared) b c
 sync_worked {observed} {b} {c} reply still call = record { same = call.same; faults = call.faults; local = call.local ∙ still; extends = λ t. step_extends (syncs Prepared) b.process b.trace (SyncArea Prepared) reply c.trace refl (call.step t) }
 
-pub both_worked : {observed : Bool} {a b c : DirAt} (draw : PodId) → Worked observed (prepares_pod draw) a b → Worked observed (syncs Prepared) b c → Worked observed (prepares_pod draw) a c
+pub both_worked : {observed : Bool} {a b c : DirAt} (draw : PodId) → OnlyAsks observed (prepares_pod draw) a b → OnlyAsks observed (syncs Prepared) b c → OnlyAsks observed (prepares_pod draw) a c
 both_worked draw x y = record { same = y.same ∙ x.same; faults = omega (arith, x.faults, y.faults); local = y.local ∙ x.local; extends = λ t. and_more (x.extends t) x.same (extends_wider (sync_in draw) (y.extends t)) }
 
 -- the sync of the area

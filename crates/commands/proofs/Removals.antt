@@ -2,7 +2,7 @@
 use Rattle.std.proofs.Common.{◌≡◌, Bool, true, Err, ℕ, refl, sym, ap, subst}
 use Rattle.dir_model.specs.declared.pod.PodId.{PodId}
 use Rattle.dir_trait.specs.DirCalls.{DirAt}
-use Rattle.pod_locks.specs.Holding.{Stays}
+use Rattle.dir_trait.specs.Effects.{Given}
 use Rattle.pod_gc.specs.declared.remove_error.RemoveError.{RemoveError}
 use Rattle.pod_gc.specs.declared.remove_error.RemoveError.TheVariants as error
 use Rattle.pod_gc.specs.RemovalHolding.{MayRemovePod}
@@ -29,13 +29,13 @@ module _ (observed : Bool) (a b : DirAt) (pod : PodId) (now : ℕ) where
   Says o = RmSays pod now (seen_at observed a) (seen_at observed b) o
 
   abbrev Another : RemoveError → Type 0
-  Another e = observed ≡ true → Stays (MayRemovePod pod now) a (λ s. RefusedByAnother pod e a b)
+  Another e = observed ≡ true → Given (MayRemovePod pod now) a (λ s. RefusedByAnother pod e a b)
 
   abbrev First : RemoveError → Type 0
-  First e = observed ≡ true → Stays (MayRemovePod pod now) a (λ s. RefusedFirst pod e a b)
+  First e = observed ≡ true → Given (MayRemovePod pod now) a (λ s. RefusedFirst pod e a b)
 
   abbrev Lawful : RemoveError → Type 0
-  Lawful e = e ≡ error.Stray → observed ≡ true → Stays (MayRemovePod pod now) a (λ s. ComesOfApp a.process a.trace b.trace)
+  Lawful e = e ≡ error.Stray → observed ≡ true → Given (MayRemovePod pod now) a (λ s. ComesOfApp a.process a.trace b.trace)
 
   said : (e : RemoveError) → RemoveCause observed pod e a b → Another e → First e → Lawful e → Says (Err (remove_refusal pod e))
   said error.NoPod cause another first lawful = λ t. cause.nowhere refl t

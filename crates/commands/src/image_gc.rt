@@ -2,7 +2,7 @@
 ghost use Rattle.std.specs.Prelude.{◌≡◌, ◌≤◌, ◌⊎◌, ◌++◌, true, Ok, Err, IfOk, IfErr, IsErrOf, OnOk};
 ghost use Rattle.dir_model.specs.Causes.{Rose};
 ghost use Rattle.dir_trait.specs.Local.{IsActive};
-ghost use Rattle.folder_building.specs.Work.{Worked};
+ghost use Rattle.dir_trait.specs.Effects.{OnlyAsks};
 ghost use Rattle.image_removal.specs.Causes.{is_work_refusal};
 ghost use Rattle.image_removal.specs.Requests.{sweeps};
 ghost use Rattle.image_removal.specs.Work.{MaySweep, StaysConforming, Stays};
@@ -100,7 +100,7 @@ fn sweep_refusal(error: StoreError) -> Refusal
 /// keep; `DirFault` where it failed. Then what was done until then isn't told.
 pub fn image_gc<D: Dir>(alloc: Global, dir: &mut D) -> Result<Output, Refusal>
     requires active { IsActive (D.shown dir.old).local }
-    ensures worked { Worked D.observed sweeps (D.shown dir.old) (D.shown dir.new) }
+    ensures worked { OnlyAsks D.observed sweeps (D.shown dir.old) (D.shown dir.new) }
     ensures cause { IsErrOf result Refusal.DirFault → Rose (D.shown dir.old).faults (D.shown dir.new).faults }
     ensures refusals { IfErr result (λ r. image_gc_refusal r ≡ true) }
     ensures conforms { D.observed ≡ true → Stays MaySweep StaysConforming (D.shown dir.old) (D.shown dir.new) }

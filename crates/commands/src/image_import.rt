@@ -5,7 +5,7 @@ ghost use Rattle.ac_types.specs.Ids.{id_text};
 ghost use Rattle.dir_model.specs.Causes.{Rose};
 ghost use Rattle.dir_model.specs.declared.intent.Intent.{Intent};
 ghost use Rattle.dir_trait.specs.Local.{IsActive};
-ghost use Rattle.folder_building.specs.Work.{Worked};
+ghost use Rattle.dir_trait.specs.Effects.{OnlyAsks};
 ghost use Rattle.image_store.specs.Requests.{building_spot, imports_at};
 ghost use Rattle.image_store.specs.Work.{IsImport};
 ghost use Rattle.command_outcomes.specs.Conforming.{StaysConforming};
@@ -130,7 +130,7 @@ pub fn image_import<D: Dir, B: Bundle>(
     bundle: &mut B,
 ) -> Result<Output, Refusal>
     requires active { IsActive (D.shown dir.old).local }
-    ensures worked { Worked D.observed (imports_at (building_spot draw)) (D.shown dir.old) (D.shown dir.new) }
+    ensures worked { OnlyAsks D.observed (imports_at (building_spot draw)) (D.shown dir.old) (D.shown dir.new) }
     ensures cause { IsErrOf result Refusal.DirFault → Rose (D.shown dir.old).faults (D.shown dir.new).faults }
     ensures bundle { (B.shown bundle.old).faults ≤ (B.shown bundle.new).faults }
     ensures bundle_cause { IsErrOf result Refusal.BundleFault → Rose (B.shown bundle.old).faults (B.shown bundle.new).faults }

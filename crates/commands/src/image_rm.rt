@@ -3,7 +3,7 @@ ghost use Rattle.std.specs.Prelude.{◌≡◌, ◌≤◌, ◌⊎◌, true, Ok, E
 ghost use Rattle.ac_types.specs.Ids.{id_text};
 ghost use Rattle.dir_model.specs.Causes.{Rose};
 ghost use Rattle.dir_trait.specs.Local.{IsActive};
-ghost use Rattle.folder_building.specs.Work.{Worked};
+ghost use Rattle.dir_trait.specs.Effects.{OnlyAsks};
 ghost use Rattle.image_removal.specs.Causes.{is_remove_refusal};
 ghost use Rattle.image_removal.specs.Requests.{removes_at};
 ghost use Rattle.image_removal.specs.Work.{MayRemove, StaysConforming, Stays};
@@ -60,7 +60,7 @@ fn remove_saying<D: Dir>(
 ) -> Result<Output, Refusal>
     requires active { IsActive (D.shown dir.old).local }
     requires line { line ≡ removed_text key }
-    ensures worked { Worked D.observed (removes_at key draw) (D.shown dir.old) (D.shown dir.new) }
+    ensures worked { OnlyAsks D.observed (removes_at key draw) (D.shown dir.old) (D.shown dir.new) }
     ensures cause { IsErrOf result Refusal.DirFault → Rose (D.shown dir.old).faults (D.shown dir.new).faults }
     ensures refusals { IfErr result (λ r. image_rm_refusal r ≡ true) }
     ensures conforms { D.observed ≡ true → Stays (MayRemove draw) StaysConforming (D.shown dir.old) (D.shown dir.new) }
@@ -85,7 +85,7 @@ pub fn image_rm<D: Dir>(
     dir: &mut D,
 ) -> Result<Output, Refusal>
     requires active { IsActive (D.shown dir.old).local }
-    ensures worked { Worked D.observed (removes_at key draw) (D.shown dir.old) (D.shown dir.new) }
+    ensures worked { OnlyAsks D.observed (removes_at key draw) (D.shown dir.old) (D.shown dir.new) }
     ensures cause { IsErrOf result Refusal.DirFault → Rose (D.shown dir.old).faults (D.shown dir.new).faults }
     ensures refusals { IfErr result (λ r. image_rm_refusal r ≡ true) }
     ensures conforms { D.observed ≡ true → Stays (MayRemove draw) StaysConforming (D.shown dir.old) (D.shown dir.new) }

@@ -9,9 +9,10 @@ use Rattle.sha2.specs.Sha512.{sha512}
 use Rattle.dir_model.specs.declared.spot.Spot.{Spot}
 use Rattle.dir_model.specs.declared.request.Request.{Request}
 use Rattle.dir_trait.specs.DirCalls.{DirAt}
+use Rattle.dir_trait.specs.Effects.{OnlyAsks}
 use Rattle.tree_digest.specs.declared.file_check.FileCheck.{FileCheck}
 use Rattle.tree_digest.specs.FileChecks.{HasTaken}
-use Rattle.folder_building.specs.Work.{Worked, EndsStray, builds_at, either}
+use Rattle.folder_building.specs.Work.{EndsStray, builds_at, either}
 use Rattle.folder_building.specs.Sources.{SourceAt, Same, ReadsOn, Reads, IsLonger, IsUnlike, UnlikeContent, IsLike, LikeContent}
 use Rattle.folder_building.specs.declared.plan.Origin.{Origin}
 use Rattle.folder_building.specs.declared.plan.Content.{Content}
@@ -29,16 +30,16 @@ pub same_more : {a b c : SourceAt} → Same a b → Same b c → Same a c
 same_more ab bc = record { faults = omega (arith, ab.faults, bc.faults); asks = bc.asks ∙ ab.asks; may = bc.may ∙ ab.may; told = bc.told ∙ ab.told; file = λ t. bc.file (ab.told ∙ t) ∙ ab.file t; reference = bc.reference ∙ ab.reference }
 
 -- a source asks after a read for what it asked for before
-pub worked_same : {observed : Bool} (spot : Spot) {source next : SourceAt} {a b : DirAt} → Same source next → Worked observed (either (builds_at spot) next.asks) a b → Worked observed (either (builds_at spot) source.asks) a b
-worked_same {observed} spot {source} {next} {a} {b} same w = subst (λ (asks : Request → Bool). Worked observed (either (builds_at spot) asks) a b) same.asks w
+pub worked_same : {observed : Bool} (spot : Spot) {source next : SourceAt} {a b : DirAt} → Same source next → OnlyAsks observed (either (builds_at spot) next.asks) a b → OnlyAsks observed (either (builds_at spot) source.asks) a b
+worked_same {observed} spot {source} {next} {a} {b} same w = subst (λ (asks : Request → Bool). OnlyAsks observed (either (builds_at spot) asks) a b) same.asks w
 
 pub stray_same : (spot : Spot) {source next : SourceAt} (a b : DirAt) → Same source next → EndsStray (either (builds_at spot) next.asks) a b → EndsStray (either (builds_at spot) source.asks) a b
 stray_same spot {source} {next} a b same w = subst (λ (asks : Request → Bool). EndsStray (either (builds_at spot) asks) a b) same.asks w
 
-pub worked_here : {observed : Bool} (spot : Spot) (source : SourceAt) {a b : DirAt} → Worked observed (builds_at spot) a b → Worked observed (either (builds_at spot) source.asks) a b
+pub worked_here : {observed : Bool} (spot : Spot) (source : SourceAt) {a b : DirAt} → OnlyAsks observed (builds_at spot) a b → OnlyAsks observed (either (builds_at spot) source.asks) a b
 worked_here {observed} spot source w = worked_wider (in_first (builds_at spot) source.asks) w
 
-pub worked_there : {observed : Bool} (spot : Spot) (source : SourceAt) {a b : DirAt} → Worked observed source.asks a b → Worked observed (either (builds_at spot) source.asks) a b
+pub worked_there : {observed : Bool} (spot : Spot) (source : SourceAt) {a b : DirAt} → OnlyAsks observed source.asks a b → OnlyAsks observed (either (builds_at spot) source.asks) a b
 worked_there {observed} spot source w = worked_wider (in_second (builds_at spot) source.asks) w
 
 pub stray_here : (spot : Spot) (source : SourceAt) (a b : DirAt) → EndsStray (builds_at spot) a b → EndsStray (either (builds_at spot) source.asks) a b

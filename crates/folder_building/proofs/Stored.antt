@@ -14,6 +14,7 @@ use Rattle.dir_model.specs.Replies.{may_refuse, is_fault, read_reply}
 use Rattle.dir_model.proofs.Lists.{all_push, all_weaker}
 use Rattle.dir_model.proofs.Moments.{at_after, at_before}
 use Rattle.dir_trait.specs.DirCalls.{DirAt, DirCall, ExtendsBy, HeldBetween}
+use Rattle.dir_trait.specs.Effects.{OnlyAsks}
 use Rattle.tree_digest.specs.declared.file_check.FileCheck.{FileCheck}
 use Rattle.tree_digest.specs.FileChecks.{HasTaken}
 use Rattle.dir_files.specs.Reads.{TellsFile, IsPiece, Piece, joined, AreTold, IsShort, Reads, ReadsNext, WasMissing}
@@ -22,7 +23,6 @@ use Rattle.folder_building.specs.declared.plan.Origin.{Origin}
 use Rattle.folder_building.specs.declared.plan.PlanEntry.{PlanEntry}
 use Rattle.folder_building.specs.declared.plan.Content.{Content}
 use Rattle.folder_building.specs.declared.plan.Content.TheVariants.{Directory, Given, Copied}
-use Rattle.folder_building.specs.Work.{Worked}
 use Rattle.folder_building.proofs.Reading.{image_path}
 use Rattle.folder_building.specs.Sources.{in_image}
 use Rattle.folder_building.specs.Stored.{OfStored, WasGone, Sees, ReadsPast, EndsCopy, ReadsOther, WasUnlike, WasLike, HadContent, HadContents, LacksContent, LacksAt}
@@ -209,7 +209,7 @@ seen_more {stored} {more} {x} {y} {size} {sha} {at} {room} {a} {b} {c} n bs agai
     }
 
 -- it was missing, or went on behind its size
-pub unlike_past : {stored : Option Inner} {more : Bool} {check : FileCheck} {size : ℕ} {sha : List ℕ} {at : ℕ} {observed : Bool} {asks : Request → Bool} {a b c : DirAt} → observed ≡ true → Worked observed asks a b → at ≤ size → SeenSoFar stored more check size sha at a b → EndsCopy stored at (size - at) b c → WasUnlike stored size sha a c
+pub unlike_past : {stored : Option Inner} {more : Bool} {check : FileCheck} {size : ℕ} {sha : List ℕ} {at : ℕ} {observed : Bool} {asks : Request → Bool} {a b c : DirAt} → observed ≡ true → OnlyAsks observed asks a b → at ≤ size → SeenSoFar stored more check size sha at a b → EndsCopy stored at (size - at) b c → WasUnlike stored size sha a c
 unlike_past {stored} {more} {check} {size} {sha} {at} {observed} {asks} {a} {b} {c} t w within seen ends inner is = by (ends inner is)
   where
     by : WasMissing inner b c ⊎ ReadsPast inner at (size - at) b c → WasMissing inner a c ⊎ ReadsOther inner size sha a c
@@ -240,14 +240,14 @@ like_ended {stored} {more} {check} {size} {sha} {at} {a} {b} matches over seen s
     record { bytes = s.bytes; reads = s.reads; ended = s.ended over; sized = fits.0; hashed = fits.1 }
 
 -- one entry more had its file
-pub had_next : {observed : Bool} {asks more : Request → Bool} (stored : Origin → Option Inner) (plan : List PlanEntry) (i : ℕ) (e : PlanEntry) (a b c : DirAt) → i < length plan → e ≡ get_or plan i e → observed ≡ true → Worked observed asks a b → Worked observed more b c → HadContents stored (take i plan) a b → HadContent stored e.content b c
+pub had_next : {observed : Bool} {asks more : Request → Bool} (stored : Origin → Option Inner) (plan : List PlanEntry) (i : ℕ) (e : PlanEntry) (a b c : DirAt) → i < length plan → e ≡ get_or plan i e → observed ≡ true → OnlyAsks observed asks a b → OnlyAsks observed more b c → HadContents stored (take i plan) a b → HadContent stored e.content b c
     → HadContents stored (take (i + 1) plan) a c
 had_next stored plan i e a b c within is t w x had one =
     subst (λ (xs : List PlanEntry). HadContents stored xs a c) (sym (take_more plan i e within ∙ ap (λ (y : PlanEntry). take i plan ++ y ∷ []) (sym is)))
     (all_push (λ (y : PlanEntry). HadContent stored y.content a c) (take i plan) e (all_had_before b c (x.extends t) stored (take i plan) a w.same had) (had_after a b (w.extends t) w.same stored e.content c one))
 
 -- the entry whose file it is
-pub lacks_at : {observed : Bool} {asks more : Request → Bool} (stored : Origin → Option Inner) (plan : List PlanEntry) (i : ℕ) (e : PlanEntry) (a b c : DirAt) → i < length plan → e ≡ get_or plan i e → (n : ℕ) → n ≡ i → observed ≡ true → Worked observed asks a b → Worked observed more b c → HadContents stored (take i plan) a b → LacksContent stored e.content b c → LacksAt stored plan n a c
+pub lacks_at : {observed : Bool} {asks more : Request → Bool} (stored : Origin → Option Inner) (plan : List PlanEntry) (i : ℕ) (e : PlanEntry) (a b c : DirAt) → i < length plan → e ≡ get_or plan i e → (n : ℕ) → n ≡ i → observed ≡ true → OnlyAsks observed asks a b → OnlyAsks observed more b c → HadContents stored (take i plan) a b → LacksContent stored e.content b c → LacksAt stored plan n a c
 lacks_at stored plan i e a b c within is n at t w x had lacks = record {
   before = take i plan;
   entry = e;

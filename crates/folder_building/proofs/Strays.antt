@@ -12,7 +12,8 @@ use Rattle.dir_model.specs.Calls.{CallStep}
 use Rattle.dir_model.specs.Replies.{is_fault, may_refuse}
 use Rattle.dir_model.proofs.Chains.{nothing_yet, and_more, extends_wider}
 use Rattle.dir_trait.specs.DirCalls.{DirAt}
-use Rattle.folder_building.specs.Work.{Worked, EndsStray, is_stray, WasStray}
+use Rattle.dir_trait.specs.Effects.{OnlyAsks}
+use Rattle.folder_building.specs.Work.{EndsStray, is_stray, WasStray}
 
 -- a refusal that is no fault
 pub stray_dir : (inner : Inner) (e : DirError) → may_refuse (MakeDirIn inner) e ≡ true → is_fault e ≡ false → is_stray (MakeDirIn inner) (Refused e 0) ≡ true
@@ -38,7 +39,7 @@ pub stray_call : (asks : Request → Bool) {me : ℕ} {old new : List Event} (re
 stray_call asks {me} {old} {new} request reply asked stray s = record { before = old; request = request; reply = reply; first = nothing_yet; asked = asked; stray = stray; last = s }
 
 -- after other calls
-pub stray_after : {observed : Bool} {asks : Request → Bool} {a b : DirAt} (c : DirAt) → observed ≡ true → Worked observed asks a b → EndsStray asks b c → EndsStray asks a c
+pub stray_after : {observed : Bool} {asks : Request → Bool} {a b : DirAt} (c : DirAt) → observed ≡ true → OnlyAsks observed asks a b → EndsStray asks b c → EndsStray asks a c
 stray_after {observed} {asks} {a} {b} c t ab w =
     let v = subst (λ (p : ℕ). WasStray asks p b.trace c.trace) ab.same w in
     record { before = v.before; request = v.request; reply = v.reply; first = and_more (ab.extends t) refl v.first; asked = v.asked; stray = v.stray; last = v.last }

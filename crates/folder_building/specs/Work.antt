@@ -11,13 +11,6 @@ use Rattle.dir_model.specs.State.{spot_eq}
 use Rattle.dir_model.specs.Calls.{CallStep, Extends}
 use Rattle.dir_trait.specs.DirCalls.{DirAt, ExtendsBy}
 
--- calls were made, each for something of this kind, and every handle is as it was
-pub record Worked (observed : Bool) (asks : Request → Bool) (old new : DirAt) : Type 0 where
-  pub same : new.process ≡ old.process
-  pub faults : old.faults ≤ new.faults
-  pub local : new.local ≡ old.local
-  pub extends : observed ≡ true → ExtendsBy asks old new
-
 -- the changes inside the folder at this spot
 abbrev pub builds_at : Spot → Request → Bool
 builds_at spot (MakeDirIn inner) = spot_eq inner.spot spot

@@ -3,7 +3,8 @@ ghost use Rattle.std.specs.Prelude.{◌≡◌, ℕ, true, false, IfOk, IfErr, Is
 ghost use Rattle.dir_trait.specs.Causes.{Rose};
 ghost use Rattle.dir_trait.specs.Paths.{is_path};
 ghost use Rattle.dir_trait.specs.Local.{IsActive};
-ghost use Rattle.folder_building.specs.Work.{Worked, EndsStray, builds_at, either};
+ghost use Rattle.dir_trait.specs.Effects.{OnlyAsks};
+ghost use Rattle.folder_building.specs.Work.{EndsStray, builds_at, either};
 ghost use Rattle.folder_building.specs.Sources.{Same, IsUnlike, UnlikeContent, UnlikeAt, IsLike, LikeContent, AreLike};
 ghost use Rattle.folder_building.specs.Stored.{WasLike, WasUnlike, HadContent, HadContents, LacksContent, LacksAt};
 ghost use Rattle.folder_building.specs.Making.{Adds, Tries, FillsWith, Begins, CarriesOut};
@@ -24,7 +25,7 @@ fn make_dir<D: Dir>(alloc: Global, dir: &mut D, spot: &Spot, path: &str) -> Resu
     ensures fault { IsErrOf result BuildError.DirFault → Rose (D.shown dir.old).faults (D.shown dir.new).faults }
     ensures never { IfErr result (λ e. e ≡ BuildError.SourceFault → ⊥) }
     ensures plain { (n : ℕ) → IsErrOf result (BuildError.Unlike n) → ⊥ }
-    ensures worked { Worked D.observed (builds_at spot.now) (D.shown dir.old) (D.shown dir.new) }
+    ensures worked { OnlyAsks D.observed (builds_at spot.now) (D.shown dir.old) (D.shown dir.new) }
     ensures stray { IsErrOf result BuildError.Stray → D.observed ≡ true
         → EndsStray (builds_at spot.now) (D.shown dir.old) (D.shown dir.new) }
     ensures done { IfOk result (λ done. D.observed ≡ true → Makes spot.now path.now false (D.shown dir.old) (D.shown dir.new)) }
@@ -44,7 +45,7 @@ fn make_file<D: Dir>(alloc: Global, dir: &mut D, spot: &Spot, path: &str) -> Res
     ensures fault { IsErrOf result BuildError.DirFault → Rose (D.shown dir.old).faults (D.shown dir.new).faults }
     ensures never { IfErr result (λ e. e ≡ BuildError.SourceFault → ⊥) }
     ensures plain { (n : ℕ) → IsErrOf result (BuildError.Unlike n) → ⊥ }
-    ensures worked { Worked D.observed (builds_at spot.now) (D.shown dir.old) (D.shown dir.new) }
+    ensures worked { OnlyAsks D.observed (builds_at spot.now) (D.shown dir.old) (D.shown dir.new) }
     ensures stray { IsErrOf result BuildError.Stray → D.observed ≡ true
         → EndsStray (builds_at spot.now) (D.shown dir.old) (D.shown dir.new) }
     ensures done { IfOk result (λ done. D.observed ≡ true → Makes spot.now path.now true (D.shown dir.old) (D.shown dir.new)) }
@@ -64,7 +65,7 @@ fn sync<D: Dir>(alloc: Global, dir: &mut D, spot: &Spot, path: &str) -> Result<(
     ensures fault { IsErrOf result BuildError.DirFault → Rose (D.shown dir.old).faults (D.shown dir.new).faults }
     ensures never { IfErr result (λ e. e ≡ BuildError.SourceFault → ⊥) }
     ensures plain { (n : ℕ) → IsErrOf result (BuildError.Unlike n) → ⊥ }
-    ensures worked { Worked D.observed (builds_at spot.now) (D.shown dir.old) (D.shown dir.new) }
+    ensures worked { OnlyAsks D.observed (builds_at spot.now) (D.shown dir.old) (D.shown dir.new) }
     ensures stray { IsErrOf result BuildError.Stray → D.observed ≡ true
         → EndsStray (builds_at spot.now) (D.shown dir.old) (D.shown dir.new) }
     ensures done { IfOk result (λ done. D.observed ≡ true → Syncs spot.now path.now (D.shown dir.old) (D.shown dir.new)) }
@@ -90,7 +91,7 @@ fn add_given<D: Dir>(
     ensures fault { IsErrOf result BuildError.DirFault → Rose (D.shown dir.old).faults (D.shown dir.new).faults }
     ensures never { IfErr result (λ e. e ≡ BuildError.SourceFault → ⊥) }
     ensures plain { (n : ℕ) → IsErrOf result (BuildError.Unlike n) → ⊥ }
-    ensures worked { Worked D.observed (builds_at spot.now) (D.shown dir.old) (D.shown dir.new) }
+    ensures worked { OnlyAsks D.observed (builds_at spot.now) (D.shown dir.old) (D.shown dir.new) }
     ensures stray { IsErrOf result BuildError.Stray → D.observed ≡ true
         → EndsStray (builds_at spot.now) (D.shown dir.old) (D.shown dir.new) }
     ensures done { IfOk result (λ done. Gives D.observed spot.now path.now bytes.now (D.shown dir.old) (D.shown dir.new)) }
@@ -120,7 +121,7 @@ fn add_copied<D: Dir, S: Source>(
     ensures unlike { (n : ℕ) → IsErrOf result (BuildError.Unlike n) → (n ≡ place) × IsUnlike (S.shown source.old) origin.now size sha }
     ensures lacks { (n : ℕ) → IsErrOf result (BuildError.Unlike n) → D.observed ≡ true → WasUnlike (S.stored origin.now) size sha (D.shown dir.old) (D.shown dir.new) }
     ensures same { Same (S.shown source.old) (S.shown source.new) }
-    ensures worked { Worked D.observed (either (builds_at spot.now) (S.shown source.old).asks) (D.shown dir.old) (D.shown dir.new) }
+    ensures worked { OnlyAsks D.observed (either (builds_at spot.now) (S.shown source.old).asks) (D.shown dir.old) (D.shown dir.new) }
     ensures stray { IsErrOf result BuildError.Stray → D.observed ≡ true
         → EndsStray (either (builds_at spot.now) (S.shown source.old).asks) (D.shown dir.old) (D.shown dir.new) }
     ensures like { IfOk result (λ done. IsLike (S.shown source.old) origin.now size sha) }
@@ -149,7 +150,7 @@ fn add<D: Dir, S: Source>(
     ensures unlike { (n : ℕ) → IsErrOf result (BuildError.Unlike n) → (n ≡ place) × UnlikeContent (S.shown source.old) entry.now.content }
     ensures lacks { (n : ℕ) → IsErrOf result (BuildError.Unlike n) → D.observed ≡ true → LacksContent S.stored entry.now.content (D.shown dir.old) (D.shown dir.new) }
     ensures same { Same (S.shown source.old) (S.shown source.new) }
-    ensures worked { Worked D.observed (either (builds_at spot.now) (S.shown source.old).asks) (D.shown dir.old) (D.shown dir.new) }
+    ensures worked { OnlyAsks D.observed (either (builds_at spot.now) (S.shown source.old).asks) (D.shown dir.old) (D.shown dir.new) }
     ensures stray { IsErrOf result BuildError.Stray → D.observed ≡ true
         → EndsStray (either (builds_at spot.now) (S.shown source.old).asks) (D.shown dir.old) (D.shown dir.new) }
     ensures like { IfOk result (λ done. LikeContent (S.shown source.old) entry.now.content) }
@@ -182,7 +183,7 @@ fn add_all<D: Dir, S: Source>(
     ensures unlike { (n : ℕ) → IsErrOf result (BuildError.Unlike n) → UnlikeAt (S.shown source.old) plan.now n }
     ensures lacks { (n : ℕ) → IsErrOf result (BuildError.Unlike n) → D.observed ≡ true → LacksAt S.stored plan.now n (D.shown dir.old) (D.shown dir.new) }
     ensures same { Same (S.shown source.old) (S.shown source.new) }
-    ensures worked { Worked D.observed (either (builds_at spot.now) (S.shown source.old).asks) (D.shown dir.old) (D.shown dir.new) }
+    ensures worked { OnlyAsks D.observed (either (builds_at spot.now) (S.shown source.old).asks) (D.shown dir.old) (D.shown dir.new) }
     ensures stray { IsErrOf result BuildError.Stray → D.observed ≡ true
         → EndsStray (either (builds_at spot.now) (S.shown source.old).asks) (D.shown dir.old) (D.shown dir.new) }
     ensures like { IfOk result (λ done. AreLike (S.shown source.old) plan.now) }
@@ -210,7 +211,7 @@ fn sync_all<D: Dir>(
     ensures fault { IsErrOf result BuildError.DirFault → Rose (D.shown dir.old).faults (D.shown dir.new).faults }
     ensures never { IfErr result (λ e. e ≡ BuildError.SourceFault → ⊥) }
     ensures plain { (n : ℕ) → IsErrOf result (BuildError.Unlike n) → ⊥ }
-    ensures worked { Worked D.observed (builds_at spot.now) (D.shown dir.old) (D.shown dir.new) }
+    ensures worked { OnlyAsks D.observed (builds_at spot.now) (D.shown dir.old) (D.shown dir.new) }
     ensures stray { IsErrOf result BuildError.Stray → D.observed ≡ true
         → EndsStray (builds_at spot.now) (D.shown dir.old) (D.shown dir.new) }
     ensures done { IfOk result (λ done. D.observed ≡ true → SyncsAll spot.now plan.now (D.shown dir.old) (D.shown dir.new)) }
@@ -244,7 +245,7 @@ pub fn carry_out<D: Dir, S: Source>(
     ensures unlike { (n : ℕ) → IsErrOf result (BuildError.Unlike n) → UnlikeAt (S.shown source.old) plan.now n }
     ensures lacks { (n : ℕ) → IsErrOf result (BuildError.Unlike n) → D.observed ≡ true → LacksAt S.stored plan.now n (D.shown dir.old) (D.shown dir.new) }
     ensures same { Same (S.shown source.old) (S.shown source.new) }
-    ensures worked { Worked D.observed (either (builds_at spot) (S.shown source.old).asks) (D.shown dir.old) (D.shown dir.new) }
+    ensures worked { OnlyAsks D.observed (either (builds_at spot) (S.shown source.old).asks) (D.shown dir.old) (D.shown dir.new) }
     ensures stray { IsErrOf result BuildError.Stray → D.observed ≡ true
         → EndsStray (either (builds_at spot) (S.shown source.old).asks) (D.shown dir.old) (D.shown dir.new) }
     ensures like { IfOk result (λ done. AreLike (S.shown source.old) plan.now) }

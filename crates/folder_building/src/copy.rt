@@ -3,7 +3,8 @@ ghost use Rattle.std.specs.Prelude.{◌≡◌, ◌≤◌, ◌+◌, ℕ, true, Li
 ghost use Rattle.dir_trait.specs.Causes.{Rose};
 ghost use Rattle.dir_trait.specs.Paths.{is_path};
 ghost use Rattle.dir_trait.specs.Local.{IsActive};
-ghost use Rattle.folder_building.specs.Work.{Worked, EndsStray, builds_at, either};
+ghost use Rattle.dir_trait.specs.Effects.{OnlyAsks};
+ghost use Rattle.folder_building.specs.Work.{EndsStray, builds_at, either};
 ghost use Rattle.tree_digest.specs.FileChecks.{HasTaken};
 ghost use Rattle.folder_building.specs.Sources.{Same, ReadsOn, Reads, IsLonger, IsUnlike, IsLike};
 ghost use Rattle.folder_building.specs.Stored.{Sees, EndsCopy, WasLike, WasUnlike};
@@ -32,7 +33,7 @@ fn append<D: Dir>(
     ensures fault { IsErrOf result BuildError.DirFault → Rose (D.shown dir.old).faults (D.shown dir.new).faults }
     ensures never { IfErr result (λ e. e ≡ BuildError.SourceFault → ⊥) }
     ensures plain { (n : ℕ) → IsErrOf result (BuildError.Unlike n) → ⊥ }
-    ensures worked { Worked D.observed (builds_at spot.now) (D.shown dir.old) (D.shown dir.new) }
+    ensures worked { OnlyAsks D.observed (builds_at spot.now) (D.shown dir.old) (D.shown dir.new) }
     ensures stray { IsErrOf result BuildError.Stray → D.observed ≡ true → EndsStray (builds_at spot.now) (D.shown dir.old) (D.shown dir.new) }
     ensures done { IfOk result (λ done. D.observed ≡ true → Appends spot.now path.now (piece.now ∷ []) (D.shown dir.old) (D.shown dir.new)) }
     ensures refused { IfErr result (λ e. D.observed ≡ true → Spoils spot.now path.now (D.shown dir.old) (D.shown dir.new)) }
@@ -57,7 +58,7 @@ pub fn write<D: Dir>(
     ensures fault { IsErrOf result BuildError.DirFault → Rose (D.shown dir.old).faults (D.shown dir.new).faults }
     ensures never { IfErr result (λ e. e ≡ BuildError.SourceFault → ⊥) }
     ensures plain { (n : ℕ) → IsErrOf result (BuildError.Unlike n) → ⊥ }
-    ensures worked { Worked D.observed (builds_at spot.now) (D.shown dir.old) (D.shown dir.new) }
+    ensures worked { OnlyAsks D.observed (builds_at spot.now) (D.shown dir.old) (D.shown dir.new) }
     ensures stray { IsErrOf result BuildError.Stray → D.observed ≡ true → EndsStray (builds_at spot.now) (D.shown dir.old) (D.shown dir.new) }
     ensures done { IfOk result (λ done. Writes D.observed spot.now path.now bytes.now (D.shown dir.old) (D.shown dir.new)) }
     ensures refused { IfErr result (λ e. D.observed ≡ true → Spoils spot.now path.now (D.shown dir.old) (D.shown dir.new)) }
@@ -109,7 +110,7 @@ fn take_piece<D: Dir, S: Source>(
     ensures source { IsErrOf result BuildError.SourceFault → Rose (S.shown source.old).faults (S.shown source.new).faults }
     ensures never { IfErr result (λ e. e ≡ BuildError.Stray → ⊥) }
     ensures same { Same (S.shown source.old) (S.shown source.new) }
-    ensures worked { Worked D.observed (S.shown source.old).asks (D.shown dir.old) (D.shown dir.new) }
+    ensures worked { OnlyAsks D.observed (S.shown source.old).asks (D.shown dir.old) (D.shown dir.new) }
     ensures known { D.observed ≡ true → ReadsOn (S.shown source.old) (D.shown dir.old) (D.shown dir.new) }
     ensures room { length room.new ≡ length room.old }
     ensures unlike { (n : ℕ) → IsErrOf result (BuildError.Unlike n) → (n ≡ place) × IsLonger (S.shown source.old) origin.now (at + left) }
@@ -152,7 +153,7 @@ fn copy_piece<D: Dir, S: Source>(
     ensures fault { IsErrOf result BuildError.DirFault → Rose (D.shown dir.old).faults (D.shown dir.new).faults }
     ensures source { IsErrOf result BuildError.SourceFault → Rose (S.shown source.old).faults (S.shown source.new).faults }
     ensures same { Same (S.shown source.old) (S.shown source.new) }
-    ensures worked { Worked D.observed (either (builds_at spot.now) (S.shown source.old).asks) (D.shown dir.old) (D.shown dir.new) }
+    ensures worked { OnlyAsks D.observed (either (builds_at spot.now) (S.shown source.old).asks) (D.shown dir.old) (D.shown dir.new) }
     ensures stray { IsErrOf result BuildError.Stray → D.observed ≡ true
         → EndsStray (either (builds_at spot.now) (S.shown source.old).asks) (D.shown dir.old) (D.shown dir.new) }
     ensures room { length room.new ≡ length room.old }
@@ -195,7 +196,7 @@ pub fn copy<D: Dir, S: Source>(
     ensures unlike { (n : ℕ) → IsErrOf result (BuildError.Unlike n) → (n ≡ place) × IsUnlike (S.shown source.old) origin.now size sha }
     ensures lacks { (n : ℕ) → IsErrOf result (BuildError.Unlike n) → D.observed ≡ true → WasUnlike (S.stored origin.now) size sha (D.shown dir.old) (D.shown dir.new) }
     ensures same { Same (S.shown source.old) (S.shown source.new) }
-    ensures worked { Worked D.observed (either (builds_at spot.now) (S.shown source.old).asks) (D.shown dir.old) (D.shown dir.new) }
+    ensures worked { OnlyAsks D.observed (either (builds_at spot.now) (S.shown source.old).asks) (D.shown dir.old) (D.shown dir.new) }
     ensures stray { IsErrOf result BuildError.Stray → D.observed ≡ true
         → EndsStray (either (builds_at spot.now) (S.shown source.old).asks) (D.shown dir.old) (D.shown dir.new) }
     ensures like { IfOk result (λ done. IsLike (S.shown source.old) origin.now size sha) }

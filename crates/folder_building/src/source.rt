@@ -3,7 +3,7 @@ ghost use Rattle.std.specs.Prelude.{◌≡◌, ◌≤◌, true, length, take, If
 ghost use Rattle.dir_trait.specs.Causes.{Rose};
 ghost use Rattle.dir_trait.specs.Paths.{is_path};
 ghost use Rattle.dir_trait.specs.Local.{IsActive};
-ghost use Rattle.folder_building.specs.Work.{Worked};
+ghost use Rattle.dir_trait.specs.Effects.{OnlyAsks};
 ghost use Rattle.folder_building.specs.Sources.{Same, ReadsOn, IsMissing, Reads};
 ghost use Rattle.folder_building.specs.Stored.{WasGone, Sees};
 
@@ -60,6 +60,6 @@ pub trait Source {
         ensures gone { IsErrOf result SourceError.Missing → D.observed ≡ true → WasGone (stored origin.now) (D.shown dir.old) (D.shown dir.new) }
         ensures sees { IfOk result (λ n. D.observed ≡ true → Sees (stored origin.now) at (length room.old) (take n room.new) (D.shown dir.old) (D.shown dir.new)) }
         ensures same { Same (shown self.old) (shown self.new) }
-        ensures worked { Worked D.observed (shown self.old).asks (D.shown dir.old) (D.shown dir.new) }
+        ensures worked { OnlyAsks D.observed (shown self.old).asks (D.shown dir.old) (D.shown dir.new) }
         ensures known { D.observed ≡ true → ReadsOn (shown self.old) (D.shown dir.old) (D.shown dir.new) };
 }

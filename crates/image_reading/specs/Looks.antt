@@ -15,6 +15,7 @@ use Rattle.dir_rules.specs.declared.seen.ShownArea.{ShownArea}
 use Rattle.dir_rules.specs.Standing.{is_in, is_gate_of, closes_gate}
 use Rattle.dir_trait.specs.DirCalls.{DirAt, ExtendsBy}
 use Rattle.dir_trait.specs.Knowledge.{Knows}
+use Rattle.dir_trait.specs.Effects.{OnlyAsksAndKeeps}
 use Rattle.dir_files.specs.Reads.{KeepsKnown, may_read}
 use Rattle.image_reading.specs.Places.{image_spot}
 
@@ -31,17 +32,9 @@ reads_images (ListIn inner) = is_in inner.spot.area Images && is_empty inner.pat
 reads_images (ListArea area) = is_in area Images
 reads_images _ = false
 
--- nothing was asked for but this, nothing has changed, and so much is known still
-pub record OnlyAsks (observed : Bool) (asks : Request → Bool) (Keeps : DirAt → DirAt → Type 0) (old new : DirAt) : Type 0 where
-  pub same : new.process ≡ old.process
-  pub faults : old.faults ≤ new.faults
-  pub local : new.local ≡ old.local
-  pub extends : observed ≡ true → ExtendsBy asks old new
-  pub known : observed ≡ true → Keeps old new
-
 -- nothing was asked for but this image, and whatever a process knew that holds the area's lock, it knows
 abbrev pub OnlyReadsImage : Bool → StoreKey → DirAt → DirAt → Type 0
-OnlyReadsImage observed key old new = OnlyAsks observed (reads_image key) (KeepsKnown Images) old new
+OnlyReadsImage observed key old new = OnlyAsksAndKeeps observed (reads_image key) (KeepsKnown Images) old new
 
 -- whatever the process knew, it knows; but where it holds the area's lock exclusively, other names may be noted
 pub record KnowsNamed (s : Seen) (new : DirAt) : Type 0 where
@@ -54,7 +47,7 @@ KeepsNamed old new = (s : Seen) → may_read Images s.standing ≡ true → Know
 
 -- nothing was asked for but images and the names of the area
 abbrev pub OnlyReadsImages : Bool → DirAt → DirAt → Type 0
-OnlyReadsImages observed old new = OnlyAsks observed reads_images KeepsNamed old new
+OnlyReadsImages observed old new = OnlyAsksAndKeeps observed reads_images KeepsNamed old new
 
 -- the handle is open on the lock of the area and holds it
 abbrev pub is_images_lock : Handle → Holding → Bool

@@ -24,7 +24,8 @@ use Rattle.dir_model.proofs.Lists.{and_both, or_last}
 use Rattle.dir_model.proofs.Moments.{at_after, at_before}
 use Rattle.dir_model.proofs.Spots.{spot_self}
 use Rattle.dir_trait.specs.DirCalls.{DirAt, DirCall}
-use Rattle.folder_building.specs.Work.{Worked, either}
+use Rattle.dir_trait.specs.Effects.{OnlyAsks}
+use Rattle.folder_building.specs.Work.{either}
 use Rattle.folder_building.proofs.Working.{worked_call}
 use Rattle.folder_removal.specs.Removal.{deletes_at, EndsRemoved}
 use Rattle.dir_files.specs.AreaLocks.{takes}
@@ -37,7 +38,7 @@ use Rattle.image_removal.proofs.Locked.{takes_first, takes_second}
 
 -- a look
 pub worked_look : {observed : Bool} {old mid new : DirAt} (spot : Spot) (h : Handle) → IsUnopened old.local h → DirCall observed old (Open spot which.Own) (Opened h) mid
-    → DirCall observed mid (Close h) Done new → Worked observed (looks_at spot) old new
+    → DirCall observed mid (Close h) Done new → OnlyAsks observed (looks_at spot) old new
 worked_look {observed} {old} {mid} {new} spot h unopened x y = record {
   same = y.same ∙ x.same;
   faults = omega (arith, x.faults, y.faults);
@@ -45,12 +46,12 @@ worked_look {observed} {old} {mid} {new} spot h unopened x y = record {
   extends = λ t. and_call (and_call nothing_yet refl (spot_self spot) (x.step t)) x.same refl (y.step t);
 }
 
-pub worked_miss : {observed : Bool} {old new : DirAt} (spot : Spot) (e : DirError) → DirCall observed old (Open spot which.Own) (Refused e 0) new → Worked observed (looks_at spot) old new
+pub worked_miss : {observed : Bool} {old new : DirAt} (spot : Spot) (e : DirError) → DirCall observed old (Open spot which.Own) (Refused e 0) new → OnlyAsks observed (looks_at spot) old new
 worked_miss spot e x = worked_call (spot_self spot) refl x
 
 -- a move
 pub worked_move : {observed : Bool} {old new : DirAt} (from to : Spot) (answer : Result (Unit {0}) DirError) → DirCall observed old (MoveFolder from to) (done_reply answer) new
-    → Worked observed (moves from to) old new
+    → OnlyAsks observed (moves from to) old new
 worked_move from to (Ok done) c = worked_call (and_both (spot_eq from from) (spot_eq to to) (spot_self from) (spot_self to)) refl c
 worked_move from to (Err error) c = worked_call (and_both (spot_eq from from) (spot_eq to to) (spot_self from) (spot_self to)) refl c
 

@@ -23,10 +23,10 @@ use Rattle.dir_model.specs.Trace.{state_after}
 use Rattle.dir_model.proofs.Chains.{extends_wider}
 use Rattle.dir_model.proofs.Lists.{all_right, or_second, same_rest, same_self}
 use Rattle.dir_trait.specs.DirCalls.{DirAt, HeldBetween}
+use Rattle.dir_trait.specs.Effects.{OnlyAsks}
 use Rattle.lifecycle.specs.Executions.{IsConforming}
 use Rattle.lifecycle.proofs.Draws.{conforming_left}
 use Rattle.lifecycle.proofs.Handles.{clash}
-use Rattle.folder_building.specs.Work.{Worked}
 use Rattle.folder_contents.proofs.Spots.{one_location}
 use Rattle.folder_removal.specs.declared.error.DeleteError.{DeleteError}
 use Rattle.folder_removal.specs.declared.error.DeleteError.TheVariants as delete
@@ -130,8 +130,8 @@ looks_any spot (Close handle) on = refl
 looks_any spot request on = cc
 
 -- a folder that was found under the lock is deleted without such an answer
-pub found_never : {observed : Bool} (name : List ℕ) (old mid new : DirAt) → observed ≡ true → Worked observed (looks_at (removed_spot name)) old mid → HeldBetween old mid (λ s. stands s.namespace (removed_spot name) ≡ true)
-    → Worked observed (deletes_at (removed_spot name)) mid new → KeepsFolders mid new → EndsStray (removed_spot name) mid new → StrayKnowing (removed_spot name) mid.process new.trace → IsConforming new.trace → ⊥
+pub found_never : {observed : Bool} (name : List ℕ) (old mid new : DirAt) → observed ≡ true → OnlyAsks observed (looks_at (removed_spot name)) old mid → HeldBetween old mid (λ s. stands s.namespace (removed_spot name) ≡ true)
+    → OnlyAsks observed (deletes_at (removed_spot name)) mid new → KeepsFolders mid new → EndsStray (removed_spot name) mid new → StrayKnowing (removed_spot name) mid.process new.trace → IsConforming new.trace → ⊥
 found_never {observed} name old mid new t looked there deleted kept stray knew conforming =
     app_never name (deleted.extends t) conforming
     (app_wrote_on (removed_spot name) refl is_any_spot

@@ -20,7 +20,7 @@ use Rattle.dir_rules.specs.Conforms.{seen_replied, seen_listed, IsTied}
 use Rattle.dir_rules.proofs.Tied.{tied_step, tied_unbegun}
 use Rattle.dir_trait.specs.DirCalls.{DirAt, ListCall}
 use Rattle.dir_trait.specs.Knowledge.{SameHandles, Knows}
-use Rattle.folder_building.specs.Work.{Worked}
+use Rattle.dir_trait.specs.Effects.{OnlyAsks}
 use Rattle.image_removal.specs.declared.pass.Pass.{Pass}
 use Rattle.image_removal.specs.declared.pass.Pass.TheVariants.{PutAway, Delete}
 use Rattle.image_removal.specs.Requests.{lists}
@@ -72,5 +72,5 @@ local_names m area (Ok names) = refl
 local_names m area (Err e) = refl
 
 pub worked_list : {observed : Bool} {old new : DirAt} (area : Area) (r : Result (List (List ℕ)) DirError) → ListCall observed old (ListArea area) (names_reply r) new
-    → Worked observed (lists area) old new
+    → OnlyAsks observed (lists area) old new
 worked_list {observed} {old} area r c = record { same = c.same; faults = c.faults; local = c.local ∙ local_names old.local area r; extends = λ t. only_lists area (c.step t) }

@@ -23,9 +23,9 @@ use Rattle.dir_rules.specs.declared.seen.ShownItem.{ShownItem}
 use Rattle.dir_rules.specs.Standing.{is_in, is_known, intends, began_as, is_image_rm, is_image_remover, is_gate_exclusive}
 use Rattle.dir_trait.specs.DirCalls.{DirAt, ExtendsBy}
 use Rattle.dir_trait.specs.Knowledge.{Knows}
+use Rattle.dir_trait.specs.Effects.{OnlyAsks}
 use Rattle.dir_files.specs.AreaLocks.{takes, closes, and_lock, with_gate, MayLock, exclusive_given, is_listed_under}
 use Rattle.dir_files.proofs.Locking.{unlocked_same}
-use Rattle.folder_building.specs.Work.{Worked}
 use Rattle.image_removal.specs.declared.pass.Pass.{Pass}
 use Rattle.image_removal.specs.declared.pass.Pass.TheVariants.{PutAway, Delete}
 use Rattle.image_removal.specs.Requests.{locks_one}
@@ -85,12 +85,12 @@ closes_some h request is = cc
 -- a lock that was refused
 pub worked_refused : {observed : Bool} {asks : Request → Bool} {a b : DirAt} (area : Area) → ((r : Request) → takes area Exclusive r ≡ true → asks r ≡ true)
     → b.process ≡ a.process → a.faults ≤ b.faults
-    → b.local ≡ a.local → (observed ≡ true → ExtendsBy (takes area Exclusive) a b) → Worked observed asks a b
+    → b.local ≡ a.local → (observed ≡ true → ExtendsBy (takes area Exclusive) a b) → OnlyAsks observed asks a b
 worked_refused area wider same faults local extends = record { same = same; faults = faults; local = local; extends = λ t. extends_wider wider (extends t) }
 
 -- work under a lock
 pub worked_under : {observed : Bool} {asks : Request → Bool} {area : Area} {h : Handle} {a b c d : DirAt} → ((r : Request) → takes area Exclusive r ≡ true → asks r ≡ true)
-    → Takes observed area h a b → Worked observed asks b c → GivesBack observed h c d → Worked observed asks a d
+    → Takes observed area h a b → OnlyAsks observed asks b c → GivesBack observed h c d → OnlyAsks observed asks a d
 worked_under {observed} {asks} {area} {h} {a} {b} {c} {d} wider s w g = record {
   same = g.same ∙ (w.same ∙ s.same);
   faults = omega (arith, s.faults, w.faults, g.faultless);

@@ -15,9 +15,9 @@ use Rattle.dir_model.specs.State.{DirState}
 use Rattle.dir_model.specs.Calls.{Extends}
 use Rattle.dir_model.proofs.Chains.{nothing_yet, extends_wider}
 use Rattle.dir_trait.specs.DirCalls.{DirAt, HeldBetween, ListCall}
+use Rattle.dir_trait.specs.Effects.{OnlyAsks}
 use Rattle.dir_files.specs.Listed.{ShowsAreaBetween}
 use Rattle.dir_files.specs.AreaLocks.{takes, closes, IsFreeElsewhere}
-use Rattle.folder_building.specs.Work.{Worked}
 use Rattle.image_reading.specs.declared.error.StoreError.{StoreError}
 use Rattle.image_reading.specs.declared.error.StoreError.TheVariants.{DirFault}
 use Rattle.image_removal.specs.declared.pass.Pass.{Pass}
@@ -36,7 +36,7 @@ use Rattle.image_removal.proofs.Locked.{closes_some}
 
 -- the area was listed, and its names worked at
 module _ {observed : Bool} (pass : Pass) (names : List (List ℕ)) (a b c : DirAt) (t : observed ≡ true)
-    (listing : ListCall observed a (ListArea (area_of pass)) (Names names) b) (shows : ShowsAreaBetween a b (area_of pass) names) (works : Worked observed (deals_with_some pass names) b c) where
+    (listing : ListCall observed a (ListArea (area_of pass)) (Names names) b) (shows : ShowsAreaBetween a b (area_of pass) names) (works : OnlyAsks observed (deals_with_some pass names) b c) where
   pub works_at_shown : WorksAtShown pass names a.process a.trace c.trace
   works_at_shown = record {
     listed = b.trace;

@@ -12,7 +12,7 @@ use Rattle.dir_rules.specs.Rules.{root_of}
 use Rattle.dir_model.specs.Causes.{Rose}
 use Rattle.dir_model.specs.Calls.{CallStep, Extends}
 use Rattle.dir_trait.specs.DirCalls.{DirAt, ExtendsBy}
-use Rattle.folder_building.specs.Work.{Worked}
+use Rattle.dir_trait.specs.Effects.{OnlyAsks}
 use Rattle.folder_removal.specs.Removal.{IsCalledFor}
 use Rattle.folder_removal.proofs.Strays.{unremoved_at, unremoved_within}
 use Rattle.image_reading.specs.declared.error.StoreError.{StoreError}
@@ -26,7 +26,7 @@ pub record Follows (observed : Bool) (old new : DirAt) : Type 0 where
   pub asks : Request → Bool
   pub extends : observed ≡ true → ExtendsBy asks old new
 
-pub follows_work : {observed : Bool} {asks : Request → Bool} {a b : DirAt} → Worked observed asks a b → Follows observed a b
+pub follows_work : {observed : Bool} {asks : Request → Bool} {a b : DirAt} → OnlyAsks observed asks a b → Follows observed a b
 follows_work {observed} {asks} w = record { same = w.same; faults = w.faults; asks = asks; extends = w.extends }
 
 pub rose_later : (a b c : ℕ) → a ≤ b → Rose b c → Rose a c

@@ -3,9 +3,10 @@ ghost use Rattle.std.specs.Prelude.{◌≡◌, ◌⊎◌, true, IfOk, IfErr, IsE
 ghost use Rattle.dir_model.specs.declared.request.Request.TheVariants.{RemoveFolder};
 ghost use Rattle.dir_model.specs.declared.request.Reply.TheVariants.{Done};
 ghost use Rattle.dir_trait.specs.Local.{IsActive};
-ghost use Rattle.folder_building.specs.Work.{Worked, either};
+ghost use Rattle.folder_building.specs.Work.{either};
 ghost use Rattle.dir_rules.specs.declared.seen.Seen.{Seen};
 ghost use Rattle.dir_trait.specs.Knowledge.{Knows};
+ghost use Rattle.dir_trait.specs.Effects.{OnlyAsks};
 ghost use Rattle.folder_removal.specs.Known.{StrayKnowing};
 ghost use Rattle.folder_removal.specs.Removal.{deletes_at, KeepsFolders, EndsStray};
 ghost use Rattle.lifecycle.specs.Executions.{IsConforming};
@@ -28,7 +29,7 @@ use std::alloc::Global;
 /// where memory ran out.
 pub(crate) fn delete<D: Dir>(alloc: Global, dir: &mut D, name: Name) -> Result<(), StoreError>
     requires active { IsActive (D.shown dir.old).local }
-    ensures worked { Worked D.observed (deletes_at (removed_spot name)) (D.shown dir.old) (D.shown dir.new) }
+    ensures worked { OnlyAsks D.observed (deletes_at (removed_spot name)) (D.shown dir.old) (D.shown dir.new) }
     ensures cause { IfErr result (λ e. WorkCause D.observed e (D.shown dir.old) (D.shown dir.new)) }
     ensures kept { IfErr result (λ e. D.observed ≡ true → KeepsFolders (D.shown dir.old) (D.shown dir.new)) }
     ensures deleted { IfOk result (λ done. D.observed ≡ true
@@ -52,7 +53,7 @@ pub(crate) fn delete_if_there<D: Dir>(
     name: Name,
 ) -> Result<(), StoreError>
     requires active { IsActive (D.shown dir.old).local }
-    ensures worked { Worked D.observed (either (looks_at (removed_spot name)) (deletes_at (removed_spot name))) (D.shown dir.old) (D.shown dir.new) }
+    ensures worked { OnlyAsks D.observed (either (looks_at (removed_spot name)) (deletes_at (removed_spot name))) (D.shown dir.old) (D.shown dir.new) }
     ensures cause { IfErr result (λ e. WorkCause D.observed e (D.shown dir.old) (D.shown dir.new)) }
     ensures kept { IfErr result (λ e. D.observed ≡ true → KeepsFolders (D.shown dir.old) (D.shown dir.new)) }
     ensures gone { IfOk result (λ done. D.observed ≡ true

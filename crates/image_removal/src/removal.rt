@@ -3,8 +3,8 @@ ghost use Rattle.std.specs.Prelude.{◌≡◌, true, IfOk, IfErr, IsErrOf};
 ghost use Rattle.dir_rules.specs.declared.seen.Seen.{Seen};
 ghost use Rattle.dir_trait.specs.Local.{IsActive};
 ghost use Rattle.dir_trait.specs.Knowledge.{Knows};
+ghost use Rattle.dir_trait.specs.Effects.{OnlyAsks};
 ghost use Rattle.dir_files.specs.AreaLocks.{is_free_of, IsBusy, IsBusyElsewhere};
-ghost use Rattle.folder_building.specs.Work.{Worked};
 ghost use Rattle.folder_removal.specs.Removal.{KeepsFolders};
 ghost use Rattle.lifecycle.specs.Executions.{IsConforming};
 ghost use Rattle.image_removal.specs.Requests.{away_spot, puts_away, deletes_away, removes_at};
@@ -31,7 +31,7 @@ fn put_away_locked<D: Dir>(
     draw: PodId,
 ) -> Result<(), StoreError>
     requires active { IsActive (D.shown dir.old).local }
-    ensures worked { Worked D.observed (removes_at key draw) (D.shown dir.old) (D.shown dir.new) }
+    ensures worked { OnlyAsks D.observed (removes_at key draw) (D.shown dir.old) (D.shown dir.new) }
     ensures cause { IfErr result (λ e. RemoveCause D.observed key draw e (D.shown dir.old) (D.shown dir.new)) }
     ensures kept { D.observed ≡ true → KeepsFolders (D.shown dir.old) (D.shown dir.new) }
     ensures another { IfErr result (λ e. D.observed ≡ true → (s : Seen) → Knows (D.shown dir.old) s → is_free_of Area.Images s ≡ true
@@ -65,7 +65,7 @@ fn lock_free(error: LockError) -> Result<(), StoreError>
 // Deletes what was put away, where the lock of removed is free.
 fn delete_if_free<D: Dir>(alloc: Global, dir: &mut D, draw: PodId) -> Result<(), StoreError>
     requires active { IsActive (D.shown dir.old).local }
-    ensures worked { Worked D.observed (deletes_away draw) (D.shown dir.old) (D.shown dir.new) }
+    ensures worked { OnlyAsks D.observed (deletes_away draw) (D.shown dir.old) (D.shown dir.new) }
     ensures cause { IfErr result (λ e. WorkCause D.observed e (D.shown dir.old) (D.shown dir.new)) }
     ensures kept { IfErr result (λ e. D.observed ≡ true → KeepsFolders (D.shown dir.old) (D.shown dir.new)) }
     ensures gone { IfOk result (λ done. D.observed ≡ true
@@ -103,7 +103,7 @@ pub fn remove<D: Dir>(
     draw: PodId,
 ) -> Result<(), StoreError>
     requires active { IsActive (D.shown dir.old).local }
-    ensures worked { Worked D.observed (removes_at key draw) (D.shown dir.old) (D.shown dir.new) }
+    ensures worked { OnlyAsks D.observed (removes_at key draw) (D.shown dir.old) (D.shown dir.new) }
     ensures cause { IfErr result (λ e. RemoveCause D.observed key draw e (D.shown dir.old) (D.shown dir.new)) }
     ensures kept { IfErr result (λ e. D.observed ≡ true → KeepsFolders (D.shown dir.old) (D.shown dir.new)) }
     ensures another { IfErr result (λ e. D.observed ≡ true → (s : Seen) → Knows (D.shown dir.old) s → MayRemove draw s

@@ -4,8 +4,8 @@ ghost use Rattle.dir_rules.specs.declared.seen.Seen.{Seen};
 ghost use Rattle.dir_model.specs.declared.request.Reply.TheVariants.{Done};
 ghost use Rattle.dir_trait.specs.Local.{IsActive};
 ghost use Rattle.dir_trait.specs.Knowledge.{Knows};
+ghost use Rattle.dir_trait.specs.Effects.{OnlyAsks};
 ghost use Rattle.dir_files.specs.AreaLocks.{is_free_of};
-ghost use Rattle.folder_building.specs.Work.{Worked};
 ghost use Rattle.lifecycle.specs.Executions.{IsConforming};
 ghost use Rattle.image_removal.specs.Requests.{sweeps};
 ghost use Rattle.image_removal.specs.Passes.{area_of, line_of, deed_of, deals_with, deals_with_some};
@@ -29,7 +29,7 @@ use std::alloc::Global;
 // Deals with the folder of this name, under the lock of the pass's area.
 fn deal<D: Dir>(alloc: Global, dir: &mut D, pass: Pass, name: Name) -> Result<(), StoreError>
     requires active { IsActive (D.shown dir.old).local }
-    ensures worked { Worked D.observed (deals_with pass name) (D.shown dir.old) (D.shown dir.new) }
+    ensures worked { OnlyAsks D.observed (deals_with pass name) (D.shown dir.old) (D.shown dir.new) }
     ensures cause { IfErr result (λ e. WorkCause D.observed e (D.shown dir.old) (D.shown dir.new)) }
     ensures done { IfOk result (λ done. D.observed ≡ true
         → Called (deed_of pass name) Done (D.shown dir.old).process (D.shown dir.old).trace (D.shown dir.new).trace) }
@@ -63,7 +63,7 @@ fn sweep_next<D: Dir>(
     lines: &mut Vec<SweepLine>,
 ) -> Result<(), StoreError>
     requires active { IsActive (D.shown dir.old).local }
-    ensures worked { Worked D.observed (deals_with_some pass (name.now ∷ [])) (D.shown dir.old) (D.shown dir.new) }
+    ensures worked { OnlyAsks D.observed (deals_with_some pass (name.now ∷ [])) (D.shown dir.old) (D.shown dir.new) }
     ensures cause { IfErr result (λ e. WorkCause D.observed e (D.shown dir.old) (D.shown dir.new)) }
     ensures swept { IfOk result (λ done. AddsLines D.observed pass (name.now ∷ []) lines.old.items lines.new.items (D.shown dir.old) (D.shown dir.new)) }
     ensures ended { IfErr result (λ e. D.observed ≡ true → EndsAtBetween pass name.now (D.shown dir.old) (D.shown dir.new)) }
@@ -89,7 +89,7 @@ fn sweep_each<D: Dir>(
     lines: &mut Vec<SweepLine>,
 ) -> Result<(), StoreError>
     requires active { IsActive (D.shown dir.old).local }
-    ensures worked { Worked D.observed (deals_with_some pass names.now) (D.shown dir.old) (D.shown dir.new) }
+    ensures worked { OnlyAsks D.observed (deals_with_some pass names.now) (D.shown dir.old) (D.shown dir.new) }
     ensures cause { IfErr result (λ e. WorkCause D.observed e (D.shown dir.old) (D.shown dir.new)) }
     ensures swept { IfOk result (λ done. AddsLines D.observed pass names.now lines.old.items lines.new.items (D.shown dir.old) (D.shown dir.new)) }
     ensures ended { IfErr result (λ e. D.observed ≡ true → EndsAmongBetween pass names.now (D.shown dir.old) (D.shown dir.new)) }
@@ -112,7 +112,7 @@ fn sweep_listed<D: Dir>(
     lines: &mut Vec<SweepLine>,
 ) -> Result<(), StoreError>
     requires active { IsActive (D.shown dir.old).local }
-    ensures worked { Worked D.observed sweeps (D.shown dir.old) (D.shown dir.new) }
+    ensures worked { OnlyAsks D.observed sweeps (D.shown dir.old) (D.shown dir.new) }
     ensures cause { IfErr result (λ e. WorkCause D.observed e (D.shown dir.old) (D.shown dir.new)) }
     ensures swept { IfOk result (λ done. D.observed ≡ true → Adds (SweepsBetween pass (D.shown dir.old) (D.shown dir.new)) lines.old.items lines.new.items) }
     ensures tried { IfErr result (λ e. D.observed ≡ true → TriesBetween pass (D.shown dir.old) (D.shown dir.new)) }
@@ -149,7 +149,7 @@ fn sweep_area<D: Dir>(
     lines: &mut Vec<SweepLine>,
 ) -> Result<(), StoreError>
     requires active { IsActive (D.shown dir.old).local }
-    ensures worked { Worked D.observed sweeps (D.shown dir.old) (D.shown dir.new) }
+    ensures worked { OnlyAsks D.observed sweeps (D.shown dir.old) (D.shown dir.new) }
     ensures cause { IfErr result (λ e. WorkCause D.observed e (D.shown dir.old) (D.shown dir.new)) }
     ensures passed { IfOk result (λ done. D.observed ≡ true
         → Adds (PassedBetween BusyNow pass (D.shown dir.old) (D.shown dir.new)) lines.old.items lines.new.items) }
@@ -179,7 +179,7 @@ fn sweep_both<D: Dir>(
     lines: &mut Vec<SweepLine>,
 ) -> Result<(), StoreError>
     requires active { IsActive (D.shown dir.old).local }
-    ensures worked { Worked D.observed sweeps (D.shown dir.old) (D.shown dir.new) }
+    ensures worked { OnlyAsks D.observed sweeps (D.shown dir.old) (D.shown dir.new) }
     ensures cause { IfErr result (λ e. WorkCause D.observed e (D.shown dir.old) (D.shown dir.new)) }
     ensures swept { IfOk result (λ done. D.observed ≡ true
         → Adds (IsSweptBetween BusyNow (D.shown dir.old) (D.shown dir.new)) lines.old.items lines.new.items) }
@@ -205,7 +205,7 @@ fn sweep_both<D: Dir>(
 /// lock is held afterwards.
 pub fn sweep<D: Dir>(alloc: Global, dir: &mut D) -> Result<Vec<SweepLine>, StoreError>
     requires active { IsActive (D.shown dir.old).local }
-    ensures worked { Worked D.observed sweeps (D.shown dir.old) (D.shown dir.new) }
+    ensures worked { OnlyAsks D.observed sweeps (D.shown dir.old) (D.shown dir.new) }
     ensures cause { IfErr result (λ e. WorkCause D.observed e (D.shown dir.old) (D.shown dir.new)) }
     ensures swept { IfOk result (λ lines. D.observed ≡ true
         → IsSweptBetween BusyNow (D.shown dir.old) (D.shown dir.new) lines.items) }

@@ -25,8 +25,9 @@ use Rattle.dir_rules.proofs.Tied.{meanwhile_unseen, lived_meanwhile}
 use Rattle.dir_trait.specs.DirCalls.{DirAt, DirCall}
 use Rattle.dir_trait.specs.Knowledge.{Knows}
 use Rattle.dir_trait.proofs.Knowing.{knows_call}
+use Rattle.dir_trait.specs.Effects.{OnlyAsks}
 use Rattle.ac_types.specs.declared.store_key.StoreKey.{StoreKey}
-use Rattle.folder_building.specs.Work.{Worked, EndsStray, either, builds_at, is_stray}
+use Rattle.folder_building.specs.Work.{EndsStray, either, builds_at, is_stray}
 use Rattle.folder_building.proofs.Working.{worked_call}
 use Rattle.image_reading.specs.declared.error.StoreError.TheVariants.{DirFault, Stray}
 use Rattle.image_reading.specs.Places.{image_spot}
@@ -44,11 +45,11 @@ asks_make spot = rw (same_spot spot) refl
 asks_move : (spot : Spot) (key : StoreKey) → imports_at spot (MoveFolder spot (image_spot key)) ≡ true
 asks_move spot key = rw (same_spot spot) refl
 
-pub worked_make : {observed : Bool} {spot : Spot} {old new : DirAt} (answer : Result (Unit {0}) DirError) → DirCall observed old (MakeFolder spot) (done_reply answer) new → Worked observed (makes_image spot) old new
+pub worked_make : {observed : Bool} {spot : Spot} {old new : DirAt} (answer : Result (Unit {0}) DirError) → DirCall observed old (MakeFolder spot) (done_reply answer) new → OnlyAsks observed (makes_image spot) old new
 worked_make {observed} {spot} (Ok done) c = worked_call (asks_make spot) refl c
 worked_make {observed} {spot} (Err error) c = worked_call (asks_make spot) refl c
 
-pub worked_move : {observed : Bool} {spot : Spot} {old new : DirAt} (key : StoreKey) (answer : Result (Unit {0}) DirError) → DirCall observed old (MoveFolder spot (image_spot key)) (done_reply answer) new → Worked observed (imports_at spot) old new
+pub worked_move : {observed : Bool} {spot : Spot} {old new : DirAt} (key : StoreKey) (answer : Result (Unit {0}) DirError) → DirCall observed old (MoveFolder spot (image_spot key)) (done_reply answer) new → OnlyAsks observed (imports_at spot) old new
 worked_move {observed} {spot} key (Ok done) c = worked_call (asks_move spot key) refl c
 worked_move {observed} {spot} key (Err error) c = worked_call (asks_move spot key) refl c
 

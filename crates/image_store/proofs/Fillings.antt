@@ -12,11 +12,12 @@ use Rattle.dir_rules.specs.declared.seen.Making.{Making}
 use Rattle.dir_rules.specs.declared.seen.Seen.{Seen}
 use Rattle.dir_trait.specs.DirCalls.{DirAt}
 use Rattle.dir_trait.specs.Knowledge.{Knows}
+use Rattle.dir_trait.specs.Effects.{OnlyAsks}
 use Rattle.folder_building.specs.declared.plan.PlanEntry.{PlanEntry}
 use Rattle.folder_building.specs.Plans.{AreMade, are_in_turn}
 use Rattle.folder_building.specs.Making.{IsSite, MayFill, CarriesOut, Begins}
 use Rattle.folder_building.specs.Sources.{SourceAt}
-use Rattle.folder_building.specs.Work.{Worked, either, builds_at}
+use Rattle.folder_building.specs.Work.{either, builds_at}
 use Rattle.folder_building.proofs.Working.{worked_wider}
 use Rattle.image_store.specs.Requests.{building_spot, takes_lock, brings, imports_at, makes_image}
 use Rattle.image_reading.specs.Looks.{reads_images}
@@ -41,7 +42,7 @@ source_builds spot request is = builds_image spot request (by (builds_at spot re
     by true h = refl
     by false h = h
 
-pub worked_fill : {observed : Bool} (spot : Spot) {old new : DirAt} → Worked observed (either (builds_at spot) (λ r. false)) old new → Worked observed (makes_image spot) old new
+pub worked_fill : {observed : Bool} (spot : Spot) {old new : DirAt} → OnlyAsks observed (either (builds_at spot) (λ r. false)) old new → OnlyAsks observed (makes_image spot) old new
 worked_fill {observed} spot w = worked_wider (source_builds spot) w
 
 -- outside of pods no order is asked for

@@ -12,9 +12,9 @@ use Rattle.dir_model.proofs.Chains.{and_more, extends_wider}
 use Rattle.dir_rules.specs.declared.standing.Held.{Held}
 use Rattle.dir_rules.specs.Standing.{is_in}
 use Rattle.dir_trait.specs.DirCalls.{DirAt, ExtendsBy}
+use Rattle.dir_trait.specs.Effects.{OnlyAsks}
 use Rattle.dir_files.specs.AreaLocks.{takes, closes, and_lock, on_gate}
 use Rattle.dir_files.proofs.Locking.{unlocked_same}
-use Rattle.folder_building.specs.Work.{Worked}
 use Rattle.image_reading.specs.declared.error.StoreError.{StoreError}
 use Rattle.image_store.specs.Refusals.{is_lock_refusal}
 use Rattle.image_store.specs.Causes.{LockCause, HadIncoming}
@@ -76,11 +76,11 @@ pub share_images : (spot : Spot) (request : Request) → takes Images Shared req
 share_images spot request is = in_locks spot request (takes_images request is)
 
 -- a lock that was refused
-pub worked_refused : {observed : Bool} (spot : Spot) {a b : DirAt} (area : Area) → ((r : Request) → takes area Shared r ≡ true → imports_at spot r ≡ true) → b.process ≡ a.process → a.faults ≤ b.faults → b.local ≡ a.local → (observed ≡ true → ExtendsBy (takes area Shared) a b) → Worked observed (imports_at spot) a b
+pub worked_refused : {observed : Bool} (spot : Spot) {a b : DirAt} (area : Area) → ((r : Request) → takes area Shared r ≡ true → imports_at spot r ≡ true) → b.process ≡ a.process → a.faults ≤ b.faults → b.local ≡ a.local → (observed ≡ true → ExtendsBy (takes area Shared) a b) → OnlyAsks observed (imports_at spot) a b
 worked_refused spot area wider same faults local extends = record { same = same; faults = faults; local = local; extends = λ t. extends_wider wider (extends t) }
 
 -- work under a lock
-pub worked_under : {observed : Bool} (spot : Spot) {area : Area} {h : Handle} {a b c d : DirAt} → ((r : Request) → takes area Shared r ≡ true → imports_at spot r ≡ true) → Shares observed area h a b → Worked observed (imports_at spot) b c → GivesBack observed h c d → Worked observed (imports_at spot) a d
+pub worked_under : {observed : Bool} (spot : Spot) {area : Area} {h : Handle} {a b c d : DirAt} → ((r : Request) → takes area Shared r ≡ true → imports_at spot r ≡ true) → Shares observed area h a b → OnlyAsks observed (imports_at spot) b c → GivesBack observed h c d → OnlyAsks observed (imports_at spot) a d
 worked_under {observed} spot {area} {h} {a} {b} {c} {d} wider s w g = record {
   same = g.same ∙ (w.same ∙ s.same);
   faults = omega (arith, s.faults, w.faults, g.faultless);

@@ -16,8 +16,8 @@ use Rattle.dir_model.specs.declared.request.Request.TheVariants.{MoveFolder, Clo
 use Rattle.dir_model.specs.Calls.{CallStep, TookPlace, LeftNothing, Extends, event, is_foreign}
 use Rattle.dir_model.proofs.Lists.{all_both, all_weaker, or_map, or_last}
 use Rattle.dir_trait.specs.DirCalls.{DirAt, DirCall}
+use Rattle.dir_trait.specs.Effects.{OnlyAsks}
 use Rattle.dir_files.specs.AreaLocks.{takes, closes}
-use Rattle.folder_building.specs.Work.{Worked}
 use Rattle.image_reading.specs.declared.error.StoreError.{StoreError}
 use Rattle.image_reading.specs.Looks.{reads_image, OnlyReadsImage}
 use Rattle.image_reading.specs.Places.{image_spot}
@@ -70,7 +70,7 @@ nothing_moved {me} {old} = record { more = []; grown = sym (append-nil old); non
 pub nothing_read : {observed : Bool} (key : StoreKey) {a b : DirAt} → OnlyReadsImage observed key a b → observed ≡ true → MovedNothing a.process a.trace b.trace
 nothing_read {observed} key r t = nothing_by (reads_image key) (reads_move_none key) (r.extends t)
 
-pub nothing_built : {observed : Bool} (spot : Spot) {a b : DirAt} → Worked observed (makes_image spot) a b → observed ≡ true → MovedNothing a.process a.trace b.trace
+pub nothing_built : {observed : Bool} (spot : Spot) {a b : DirAt} → OnlyAsks observed (makes_image spot) a b → observed ≡ true → MovedNothing a.process a.trace b.trace
 nothing_built {observed} spot w t = nothing_by (makes_image spot) (makes_move_none spot) (w.extends t)
 
 pub nothing_shared : (area : Area) {me : ℕ} {old new : List Event} → Extends (takes area Shared) me old new → MovedNothing me old new

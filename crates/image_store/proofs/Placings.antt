@@ -14,10 +14,10 @@ use Rattle.dir_rules.specs.declared.standing.Held.{Held}
 use Rattle.dir_rules.specs.declared.seen.Making.{Making}
 use Rattle.dir_rules.specs.Standing.{is_gate_shared}
 use Rattle.dir_trait.specs.DirCalls.{DirAt}
+use Rattle.dir_trait.specs.Effects.{OnlyAsks}
 use Rattle.dir_files.specs.Reads.{may_read}
 use Rattle.ac_types.specs.declared.store_key.StoreKey.{StoreKey}
 use Rattle.bundle_image.specs.declared.image.BundleImage.{BundleImage}
-use Rattle.folder_building.specs.Work.{Worked}
 use Rattle.dir_model.proofs.Chains.{extends_wider}
 use Rattle.image_reading.specs.declared.error.StoreError.{StoreError}
 use Rattle.image_reading.specs.Places.{image_spot}
@@ -36,7 +36,7 @@ reads_import spot key (ListIn inner) is =
     rw (h, b) refl
 reads_import spot key request is = cc
 
-pub worked_reads : {observed : Bool} (spot : Spot) (key : StoreKey) {old new : DirAt} → OnlyReadsImage observed key old new → Worked observed (imports_at spot) old new
+pub worked_reads : {observed : Bool} (spot : Spot) (key : StoreKey) {old new : DirAt} → OnlyReadsImage observed key old new → OnlyAsks observed (imports_at spot) old new
 worked_reads {observed} spot key r = record { same = r.same; faults = r.faults; local = r.local; extends = λ t. extends_wider (reads_import spot key) (r.extends t) }
 
 -- under the lock of images it may read there

@@ -3,7 +3,7 @@ ghost use Rattle.std.specs.Prelude.{◌≡◌, ◌≤◌, ℕ, [], true, false, 
 ghost use Rattle.dir_model.specs.Causes.{Rose};
 ghost use Rattle.dir_trait.specs.Local.{IsActive};
 ghost use Rattle.dir_trait.specs.Knowledge.{Knows};
-ghost use Rattle.folder_building.specs.Work.{Worked};
+ghost use Rattle.dir_trait.specs.Effects.{OnlyAsks};
 ghost use Rattle.folder_building.specs.Plans.{is_plan, AreMade};
 ghost use Rattle.image_store.specs.Requests.{building_spot, makes_image};
 ghost use Rattle.image_store.specs.Work.{at_work, holding, UnderBoth, From, HasOwnFolder, HasFilled};
@@ -32,7 +32,7 @@ pub(crate) fn building_spot(draw: PodId) -> Spot
 // Makes the folder, which nobody else makes.
 fn make_folder<D: Dir>(alloc: Global, dir: &mut D, draw: PodId) -> Result<(), StoreError>
     requires active { IsActive (D.shown dir.old).local }
-    ensures worked { Worked D.observed (makes_image (building_spot draw)) (D.shown dir.old) (D.shown dir.new) }
+    ensures worked { OnlyAsks D.observed (makes_image (building_spot draw)) (D.shown dir.old) (D.shown dir.new) }
     ensures cause { IfErr result (λ e. ChangeCause D.observed e (D.shown dir.old) (D.shown dir.new)) }
     ensures made { IfOk result (λ done. D.observed ≡ true → From draw UnderBoth false None (D.shown dir.old)
         (λ intent hs. Knows (D.shown dir.new) (at_work intent hs true (Some (holding (building_spot draw) []))))) }
@@ -57,7 +57,7 @@ fn fill<D: Dir, B: Bundle>(
 ) -> Result<(), StoreError>
     requires active { IsActive (D.shown dir.old).local }
     requires plan { is_plan plan.now ≡ true }
-    ensures worked { Worked D.observed (makes_image (building_spot draw)) (D.shown dir.old) (D.shown dir.new) }
+    ensures worked { OnlyAsks D.observed (makes_image (building_spot draw)) (D.shown dir.old) (D.shown dir.new) }
     ensures bundle { (B.shown bundle.old).faults ≤ (B.shown bundle.new).faults }
     ensures bundle_cause { IsErrOf result StoreError.BundleFault → Rose (B.shown bundle.old).faults (B.shown bundle.new).faults }
     ensures cause { IfErr result (λ e. FillCause D.observed (source_at B.observed (B.shown bundle.old).tree path.now) plan.now e (D.shown dir.old) (D.shown dir.new)) }
@@ -87,7 +87,7 @@ fn carry<D: Dir, B: Bundle>(
 ) -> Result<(), StoreError>
     requires active { IsActive (D.shown dir.old).local }
     requires plan { is_plan plan.now ≡ true }
-    ensures worked { Worked D.observed (makes_image (building_spot draw)) (D.shown dir.old) (D.shown dir.new) }
+    ensures worked { OnlyAsks D.observed (makes_image (building_spot draw)) (D.shown dir.old) (D.shown dir.new) }
     ensures bundle { (B.shown bundle.old).faults ≤ (B.shown bundle.new).faults }
     ensures bundle_cause { IsErrOf result StoreError.BundleFault → Rose (B.shown bundle.old).faults (B.shown bundle.new).faults }
     ensures cause { IfErr result (λ e. FillCause D.observed (source_at B.observed (B.shown bundle.old).tree path.now) plan.now e (D.shown dir.old) (D.shown dir.new)) }
@@ -111,7 +111,7 @@ pub(crate) fn build<D: Dir, B: Bundle>(
     draw: PodId,
 ) -> Result<(), StoreError>
     requires active { IsActive (D.shown dir.old).local }
-    ensures worked { Worked D.observed (makes_image (building_spot draw)) (D.shown dir.old) (D.shown dir.new) }
+    ensures worked { OnlyAsks D.observed (makes_image (building_spot draw)) (D.shown dir.old) (D.shown dir.new) }
     ensures bundle { (B.shown bundle.old).faults ≤ (B.shown bundle.new).faults }
     ensures bundle_cause { IsErrOf result StoreError.BundleFault → Rose (B.shown bundle.old).faults (B.shown bundle.new).faults }
     ensures cause { IfErr result (λ e. BuildCause D.observed (source_at B.observed (B.shown bundle.old).tree path.now) image.now.listing e (D.shown dir.old) (D.shown dir.new)) }

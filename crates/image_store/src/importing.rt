@@ -2,8 +2,8 @@
 ghost use Rattle.std.specs.Prelude.{◌≡◌, ◌≤◌, true, false, None, Ok, Err, IfOk, IfErr, IsErrOf};
 ghost use Rattle.dir_model.specs.Causes.{Rose};
 ghost use Rattle.dir_trait.specs.Local.{IsActive};
+ghost use Rattle.dir_trait.specs.Effects.{OnlyAsks};
 ghost use Rattle.lifecycle.specs.Executions.{IsConforming};
-ghost use Rattle.folder_building.specs.Work.{Worked};
 ghost use Rattle.image_reading.specs.Places.{image_spot};
 ghost use Rattle.image_store.specs.Refusals.{is_lock_refusal, is_work_refusal, is_import_refusal};
 ghost use Rattle.image_store.specs.Requests.{building_spot, imports_at};
@@ -44,7 +44,7 @@ fn build_and_place<D: Dir, B: Bundle>(
     draw: PodId,
 ) -> Result<bool, StoreError>
     requires active { IsActive (D.shown dir.old).local }
-    ensures worked { Worked D.observed (imports_at (building_spot draw)) (D.shown dir.old) (D.shown dir.new) }
+    ensures worked { OnlyAsks D.observed (imports_at (building_spot draw)) (D.shown dir.old) (D.shown dir.new) }
     ensures still { D.observed ≡ true → Moves (building_spot draw) (key_of image.now) result (D.shown dir.old) (D.shown dir.new) }
     ensures bundle { (B.shown bundle.old).faults ≤ (B.shown bundle.new).faults }
     ensures bundle_cause { IsErrOf result StoreError.BundleFault → Rose (B.shown bundle.old).faults (B.shown bundle.new).faults }
@@ -70,7 +70,7 @@ fn import_new<D: Dir, B: Bundle>(
     draw: PodId,
 ) -> Result<bool, StoreError>
     requires active { IsActive (D.shown dir.old).local }
-    ensures worked { Worked D.observed (imports_at (building_spot draw)) (D.shown dir.old) (D.shown dir.new) }
+    ensures worked { OnlyAsks D.observed (imports_at (building_spot draw)) (D.shown dir.old) (D.shown dir.new) }
     ensures still { D.observed ≡ true → Moves (building_spot draw) (key_of image.now) result (D.shown dir.old) (D.shown dir.new) }
     ensures bundle { (B.shown bundle.old).faults ≤ (B.shown bundle.new).faults }
     ensures bundle_cause { IsErrOf result StoreError.BundleFault → Rose (B.shown bundle.old).faults (B.shown bundle.new).faults }
@@ -101,7 +101,7 @@ fn import_or_find<D: Dir, B: Bundle>(
     draw: PodId,
 ) -> Result<bool, StoreError>
     requires active { IsActive (D.shown dir.old).local }
-    ensures worked { Worked D.observed (imports_at (building_spot draw)) (D.shown dir.old) (D.shown dir.new) }
+    ensures worked { OnlyAsks D.observed (imports_at (building_spot draw)) (D.shown dir.old) (D.shown dir.new) }
     ensures still { D.observed ≡ true → Moves (building_spot draw) (key_of image.now) result (D.shown dir.old) (D.shown dir.new) }
     ensures bundle { (B.shown bundle.old).faults ≤ (B.shown bundle.new).faults }
     ensures bundle_cause { IsErrOf result StoreError.BundleFault → Rose (B.shown bundle.old).faults (B.shown bundle.new).faults }
@@ -134,7 +134,7 @@ fn import_locked<D: Dir, B: Bundle>(
     draw: PodId,
 ) -> Result<bool, StoreError>
     requires active { IsActive (D.shown dir.old).local }
-    ensures worked { Worked D.observed (imports_at (building_spot draw)) (D.shown dir.old) (D.shown dir.new) }
+    ensures worked { OnlyAsks D.observed (imports_at (building_spot draw)) (D.shown dir.old) (D.shown dir.new) }
     ensures still { D.observed ≡ true → Moves (building_spot draw) (key_of image.now) result (D.shown dir.old) (D.shown dir.new) }
     ensures bundle { (B.shown bundle.old).faults ≤ (B.shown bundle.new).faults }
     ensures bundle_cause { IsErrOf result StoreError.BundleFault → Rose (B.shown bundle.old).faults (B.shown bundle.new).faults }
@@ -165,7 +165,7 @@ fn import_image<D: Dir, B: Bundle>(
     draw: PodId,
 ) -> Result<bool, StoreError>
     requires active { IsActive (D.shown dir.old).local }
-    ensures worked { Worked D.observed (imports_at (building_spot draw)) (D.shown dir.old) (D.shown dir.new) }
+    ensures worked { OnlyAsks D.observed (imports_at (building_spot draw)) (D.shown dir.old) (D.shown dir.new) }
     ensures still { D.observed ≡ true → Moves (building_spot draw) (key_of image.now) result (D.shown dir.old) (D.shown dir.new) }
     ensures bundle { (B.shown bundle.old).faults ≤ (B.shown bundle.new).faults }
     ensures bundle_cause { IsErrOf result StoreError.BundleFault → Rose (B.shown bundle.old).faults (B.shown bundle.new).faults }
@@ -210,7 +210,7 @@ pub fn import<D: Dir, B: Bundle>(
     draw: PodId,
 ) -> Result<Imported, StoreError>
     requires active { IsActive (D.shown dir.old).local }
-    ensures worked { Worked D.observed (imports_at (building_spot draw)) (D.shown dir.old) (D.shown dir.new) }
+    ensures worked { OnlyAsks D.observed (imports_at (building_spot draw)) (D.shown dir.old) (D.shown dir.new) }
     ensures still { D.observed ≡ true → MovesAtEnd (building_spot draw) result (D.shown dir.old) (D.shown dir.new) }
     ensures lawful { IsErrOf result StoreError.Stray → D.observed ≡ true → IsConforming (D.shown dir.new).trace → ⊥ }
     ensures bundle { (B.shown bundle.old).faults ≤ (B.shown bundle.new).faults }

@@ -25,6 +25,7 @@ use Rattle.dir_rules.specs.declared.seen.Seen.{Seen}
 use Rattle.dir_rules.specs.Conforms.{Agrees, IsTied}
 use Rattle.dir_rules.proofs.Tied.{meanwhile_unseen, lived_meanwhile}
 use Rattle.dir_trait.specs.DirCalls.{DirAt, DirCall, ExtendsBy, HeldBetween}
+use Rattle.dir_trait.specs.Effects.{OnlyAsks}
 use Rattle.dir_files.specs.declared.lock_error.LockError.{LockError}
 use Rattle.dir_files.specs.declared.lock_error.LockError.TheVariants as lock
 use Rattle.dir_files.specs.AreaLocks.{IsBusy, takes}
@@ -36,7 +37,7 @@ use Rattle.folder_building.specs.declared.plan.Content.TheVariants.{Directory, G
 use Rattle.folder_building.specs.Sources.{SourceAt, UnlikeContent, UnlikeAt}
 use Rattle.folder_building.specs.Sources.{in_images, reads_images}
 use Rattle.folder_building.specs.Stored.{LacksAt}
-use Rattle.folder_building.specs.Work.{Worked, EndsStray, is_stray, builds_at, either}
+use Rattle.folder_building.specs.Work.{EndsStray, is_stray, builds_at, either}
 use Rattle.folder_building.proofs.Working.{worked_call, at_spot}
 use Rattle.pod_build.specs.declared.make_error.MakeError.TheVariants.{Busy, Taken, Unlike, DirFault, Stray}
 use Rattle.pod_build.specs.MakingRefusals.{change_refusal, lock_refusal, make_refusal, build_refusal}
@@ -70,21 +71,21 @@ pub follows_call : {observed : Bool} {request : Request} {reply : Reply} {a b : 
 follows_call c = record { same = c.same; faults = c.faults; asks = λ r. true; extends = λ t. and_call nothing_yet refl refl (c.step t) }
 
 -- the calls are among those of the making
-pub worked_make : {observed : Bool} {old new : DirAt} (draw : PodId) (answer : Result (Unit {0}) DirError) → DirCall observed old (MakeFolder (pod_at Embryo draw)) (done_reply answer) new → Worked observed (begins_pod draw) old new
+pub worked_make : {observed : Bool} {old new : DirAt} (draw : PodId) (answer : Result (Unit {0}) DirError) → DirCall observed old (MakeFolder (pod_at Embryo draw)) (done_reply answer) new → OnlyAsks observed (begins_pod draw) old new
 worked_make draw (Ok done) c = worked_call (at_spot (pod_at Embryo draw)) refl c
 worked_make draw (Err error) c = worked_call (at_spot (pod_at Embryo draw)) refl c
 
 asks_leave : (draw : PodId) → begins_pod draw (MoveFolder (pod_at Embryo draw) (pod_at Prepare draw)) ≡ true
 asks_leave draw = and_both _ _ (at_spot (pod_at Embryo draw)) (at_spot (pod_at Prepare draw))
 
-pub worked_leave : {observed : Bool} {old new : DirAt} (draw : PodId) (answer : Result (Unit {0}) DirError) → DirCall observed old (MoveFolder (pod_at Embryo draw) (pod_at Prepare draw)) (done_reply answer) new → Worked observed (begins_pod draw) old new
+pub worked_leave : {observed : Bool} {old new : DirAt} (draw : PodId) (answer : Result (Unit {0}) DirError) → DirCall observed old (MoveFolder (pod_at Embryo draw) (pod_at Prepare draw)) (done_reply answer) new → OnlyAsks observed (begins_pod draw) old new
 worked_leave draw (Ok done) c = worked_call (asks_leave draw) refl c
 worked_leave draw (Err error) c = worked_call (asks_leave draw) refl c
 
 asks_hand : (draw : PodId) (to : Area) → hands_pod draw to (MoveFolder (pod_at Prepare draw) (pod_at to draw)) ≡ true
 asks_hand draw to = and_both _ _ (at_spot (pod_at Prepare draw)) (at_spot (pod_at to draw))
 
-pub worked_hand : {observed : Bool} {old new : DirAt} (draw : PodId) (to : Area) (answer : Result (Unit {0}) DirError) → DirCall observed old (MoveFolder (pod_at Prepare draw) (pod_at to draw)) (done_reply answer) new → Worked observed (hands_pod draw to) old new
+pub worked_hand : {observed : Bool} {old new : DirAt} (draw : PodId) (to : Area) (answer : Result (Unit {0}) DirError) → DirCall observed old (MoveFolder (pod_at Prepare draw) (pod_at to draw)) (done_reply answer) new → OnlyAsks observed (hands_pod draw to) old new
 worked_hand draw to (Ok done) c = worked_call (asks_hand draw to) refl c
 worked_hand draw to (Err error) c = worked_call (asks_hand draw to) refl c
 

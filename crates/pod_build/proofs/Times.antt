@@ -17,8 +17,8 @@ use Rattle.dir_model.proofs.Chains.{nothing_yet, and_more, extends_wider}
 use Rattle.dir_model.proofs.Moments.{at_before}
 use Rattle.dir_rules.specs.declared.seen.Entry.{Entry}
 use Rattle.dir_trait.specs.DirCalls.{DirAt, ExtendsBy, HeldBetween}
+use Rattle.dir_trait.specs.Effects.{OnlyAsks, LeavesOpen}
 use Rattle.folder_building.specs.declared.plan.PlanEntry.{PlanEntry}
-use Rattle.folder_building.specs.Work.{Worked}
 use Rattle.pod_build.specs.declared.make_error.MakeError.{MakeError}
 use Rattle.pod_build.specs.declared.make_error.MakeError.TheVariants.{Stray}
 use Rattle.dir_files.specs.AreaLocks.{IsFreeElsewhere, takes}
@@ -26,7 +26,6 @@ use Rattle.folder_building.specs.Sources.{in_images}
 use Rattle.folder_building.specs.Stored.{LacksAt}
 use Rattle.folder_building.proofs.Stored.{lacks_after, lacks_before}
 use Rattle.pod_build.specs.MakingRequests.{locks_own, is_brought, shows_changed}
-use Rattle.pod_build.specs.Work.{Went}
 use Rattle.pod_build.specs.MakingCauses.{WasAnswered, IsCopiedAt, WorkCause, EmbryoCause, MakeCause, AsksFirst, AsksFolder, HasMadeFolder, ShowsTaken, LosesEmbryo, WasTakenMade, WasThenAnswered, MakesEmbryo, BringsPod, LosesPod, LosesOwn}
 use Rattle.pod_build.specs.Makings.{HasMoved}
 
@@ -37,10 +36,10 @@ pub record Follows (observed : Bool) (old new : DirAt) : Type 0 where
   pub asks : Request → Bool
   pub extends : observed ≡ true → ExtendsBy asks old new
 
-pub follows_work : {observed : Bool} {asks : Request → Bool} {a b : DirAt} → Worked observed asks a b → Follows observed a b
+pub follows_work : {observed : Bool} {asks : Request → Bool} {a b : DirAt} → OnlyAsks observed asks a b → Follows observed a b
 follows_work {observed} {asks} w = record { same = w.same; faults = w.faults; asks = asks; extends = w.extends }
 
-pub follows_went : {observed : Bool} {asks : Request → Bool} {l : Local} {a b : DirAt} → Went observed asks l a b → Follows observed a b
+pub follows_went : {observed : Bool} {asks : Request → Bool} {l : Local} {a b : DirAt} → LeavesOpen observed asks l a b → Follows observed a b
 follows_went {observed} {asks} w = record { same = w.same; faults = w.faults; asks = asks; extends = w.extends }
 
 pub nothing_follows : {observed : Bool} {a : DirAt} → Follows observed a a
@@ -230,7 +229,7 @@ pub calm_cause : {observed : Bool} {draw : PodId} {plan : List PlanEntry} {e : M
 calm_cause made stray w = record { busy = λ is. absurd (w.calm is); alone = λ is. absurd (w.calm is); fault = w.fault; taken = λ is. absurd (w.untaken is); unlike = w.unlike; made = λ place is. made; lacks = w.lacks; stray = stray }
 
 -- work after work, and what is open then
-pub went_after : {observed : Bool} {asks : Request → Bool} {a b c : DirAt} (after : Local → Local) → Worked observed asks a b → Went observed asks (after b.local) b c → Went observed asks (after a.local) a c
+pub went_after : {observed : Bool} {asks : Request → Bool} {a b c : DirAt} (after : Local → Local) → OnlyAsks observed asks a b → LeavesOpen observed asks (after b.local) b c → LeavesOpen observed asks (after a.local) a c
 went_after {observed} {asks} {a} {b} {c} after ab bc = record {
   same = bc.same ∙ ab.same;
   faults = omega (arith, ab.faults, bc.faults);
@@ -238,10 +237,10 @@ went_after {observed} {asks} {a} {b} {c} after ab bc = record {
   extends = λ t. and_more (ab.extends t) ab.same (bc.extends t);
 }
 
-pub went_wider : {observed : Bool} {asks more : Request → Bool} {l : Local} {a b : DirAt} → ((r : Request) → asks r ≡ true → more r ≡ true) → Went observed asks l a b → Went observed more l a b
+pub went_wider : {observed : Bool} {asks more : Request → Bool} {l : Local} {a b : DirAt} → ((r : Request) → asks r ≡ true → more r ≡ true) → LeavesOpen observed asks l a b → LeavesOpen observed more l a b
 went_wider wider w = record { same = w.same; faults = w.faults; local_is = w.local_is; extends = λ t. extends_wider wider (w.extends t) }
 
-pub worked_went : {observed : Bool} {asks : Request → Bool} {a b : DirAt} → Went observed asks a.local a b → Worked observed asks a b
+pub worked_went : {observed : Bool} {asks : Request → Bool} {a b : DirAt} → LeavesOpen observed asks a.local a b → OnlyAsks observed asks a b
 worked_went w = record { same = w.same; faults = w.faults; local = w.local_is; extends = w.extends }
 
 -- a move in a part of the time

@@ -26,18 +26,18 @@ use Rattle.dir_rules.specs.LockRules.{is_open_on}
 use Rattle.dir_rules.specs.Conforms.{seen_replied}
 use Rattle.dir_trait.specs.DirCalls.{DirAt, HeldBetween, ExtendsBy}
 use Rattle.dir_trait.specs.Knowledge.{Knows}
+use Rattle.dir_trait.specs.Effects.{OnlyAsks, LeavesOpen}
 use Rattle.dir_files.specs.AreaLocks.{takes, closes, and_lock, on_gate, with_gate, shared_given, MayLock, IsBusyElsewhere, IsFreeElsewhere}
 use Rattle.dir_files.specs.declared.lock_error.LockError.{LockError}
 use Rattle.dir_files.specs.declared.lock_error.LockError.TheVariants as lock
 use Rattle.dir_files.proofs.Locking.{unlocked_same}
 use Rattle.folder_building.specs.declared.plan.PlanEntry.{PlanEntry}
-use Rattle.folder_building.specs.Work.{Worked}
 use Rattle.folder_contents.specs.Handing.{hands_over}
 use Rattle.image_reading.specs.Looks.{reads_images, OnlyReadsImages, KnowsStillNamed}
 use Rattle.pod_plan.specs.PodPlans.{ComesInTurn, MakesWhole}
 use Rattle.pod_build.specs.MakingRequests.{makes_pod}
 use Rattle.pod_build.specs.Progress.{at_work, nothing_made, handed, own_held, and_own}
-use Rattle.pod_build.specs.Work.{MayMake, UnderImages, HasOwnFolder, Went}
+use Rattle.pod_build.specs.Work.{MayMake, UnderImages, HasOwnFolder}
 use Rattle.pod_build.specs.declared.make_error.MakeError.{MakeError}
 use Rattle.pod_build.specs.declared.make_error.MakeError.TheVariants as make
 use Rattle.pod_build.specs.MakingCauses.{IsCopiedAt, MakeCause}
@@ -71,7 +71,7 @@ before_end (x ∷ xs) rest e = let h = before_end xs rest e in omega (arith, h)
 pub copied_within : (plan : List PlanEntry) (place : ℕ) → IsCopiedAt plan place → place < length plan
 copied_within plan place x = subst (λ (l : List PlanEntry). place < length l) (sym x.is) (subst (λ n. n < length (x.before ++ x.entry ∷ x.rest)) x.counted (before_end x.before x.rest x.entry))
 
-pub worked_went : {observed : Bool} {asks : Request → Bool} {a b : DirAt} → Worked observed asks a b → Went observed asks a.local a b
+pub worked_went : {observed : Bool} {asks : Request → Bool} {a b : DirAt} → OnlyAsks observed asks a b → LeavesOpen observed asks a.local a b
 worked_went w = record { same = w.same; faults = w.faults; local_is = w.local; extends = w.extends }
 
 -- what is asked for under the lock of images, and with it
@@ -108,10 +108,10 @@ reads_hand_none request is = refl
 pub follows_reads : {observed : Bool} {a b : DirAt} → OnlyReadsImages observed a b → Follows observed a b
 follows_reads o = record { same = o.same; faults = o.faults; asks = reads_images; extends = o.extends }
 
-pub went_reads : {observed : Bool} {a b : DirAt} (draw : PodId) (to : Area) → OnlyReadsImages observed a b → Went observed (prepares_under_lock draw to) a.local a b
+pub went_reads : {observed : Bool} {a b : DirAt} (draw : PodId) (to : Area) → OnlyReadsImages observed a b → LeavesOpen observed (prepares_under_lock draw to) a.local a b
 went_reads draw to o = record { same = o.same; faults = o.faults; local_is = o.local; extends = λ t. extends_wider (reads_under draw to) (o.extends t) }
 
-pub went_under : {observed : Bool} {a b c : DirAt} (draw : PodId) (to : Area) (r : Result Built BuildError) → OnlyReadsImages observed a b → Went observed (makes_pod draw to) (with_built b.local draw r) b c → Went observed (prepares_under_lock draw to) (with_built a.local draw r) a c
+pub went_under : {observed : Bool} {a b c : DirAt} (draw : PodId) (to : Area) (r : Result Built BuildError) → OnlyReadsImages observed a b → LeavesOpen observed (makes_pod draw to) (with_built b.local draw r) b c → LeavesOpen observed (prepares_under_lock draw to) (with_built a.local draw r) a c
 went_under draw to r o w = record {
   same = w.same ∙ o.same;
   faults = omega (arith, o.faults, w.faults);
@@ -119,7 +119,7 @@ went_under draw to r o w = record {
   extends = λ t. and_more (extends_wider (reads_under draw to) (o.extends t)) o.same (extends_wider (makes_under draw to) (w.extends t));
 }
 
-pub worked_reads : {observed : Bool} {a b : DirAt} → observed ≡ true → OnlyReadsImages observed a b → Worked true reads_images a b
+pub worked_reads : {observed : Bool} {a b : DirAt} → observed ≡ true → OnlyReadsImages observed a b → OnlyAsks true reads_images a b
 worked_reads t o = record { same = o.same; faults = o.faults; local = o.local; extends = λ u. o.extends t }
 
 -- it has begun, and the plan is one by which it may make the pod
@@ -160,7 +160,7 @@ module _ (a b c d : DirAt) (gate : Handle) (draw : PodId) (unopened : IsUnopened
   local_back keep (Err e) answer is = unlocked_same a.local gate Images Shared unopened (is ∙ lock_is) close_is
 
   pub went_back : {observed : Bool} (to : Area) (keep : Bool) (r : Result Built BuildError) → IfOk r (IsAnswer keep draw b.local) → Follows observed a b → Follows observed c d
-      → (observed ≡ true → ExtendsBy (takes Images Shared) a b) → (observed ≡ true → ExtendsBy (closes gate) c d) → Went observed (prepares_under_lock draw to) (with_built b.local draw r) b c → Went observed (prepares draw to) (with_built a.local draw r) a d
+      → (observed ≡ true → ExtendsBy (takes Images Shared) a b) → (observed ≡ true → ExtendsBy (closes gate) c d) → LeavesOpen observed (prepares_under_lock draw to) (with_built b.local draw r) b c → LeavesOpen observed (prepares draw to) (with_built a.local draw r) a d
   went_back to keep r answer ab cd taken closed w = record {
     same = cd.same ∙ (w.same ∙ ab.same);
     faults = omega (arith, ab.faults, w.faults, cd.faults);
@@ -170,7 +170,7 @@ module _ (a b c d : DirAt) (gate : Handle) (draw : PodId) (unopened : IsUnopened
   }
 
 -- a lock that wasn't had
-pub went_refused : {observed : Bool} {a b : DirAt} (draw : PodId) (to : Area) → b.process ≡ a.process → a.faults ≤ b.faults → b.local ≡ a.local → (observed ≡ true → ExtendsBy (takes Images Shared) a b) → Went observed (prepares draw to) a.local a b
+pub went_refused : {observed : Bool} {a b : DirAt} (draw : PodId) (to : Area) → b.process ≡ a.process → a.faults ≤ b.faults → b.local ≡ a.local → (observed ≡ true → ExtendsBy (takes Images Shared) a b) → LeavesOpen observed (prepares draw to) a.local a b
 went_refused draw to same faults local extends = record { same = same; faults = faults; local_is = local; extends = λ t. extends_wider (lock_in draw to) (extends t) }
 
 -- where the pod is brought it is handed over

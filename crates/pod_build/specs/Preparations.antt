@@ -18,9 +18,9 @@ use Rattle.dir_rules.specs.declared.standing.Held.{Held}
 use Rattle.dir_rules.specs.declared.seen.Entry.{Entry}
 use Rattle.dir_trait.specs.DirCalls.{DirAt, ExtendsBy}
 use Rattle.dir_trait.specs.Knowledge.{Knows}
+use Rattle.dir_trait.specs.Effects.{OnlyAsks}
 use Rattle.dir_files.specs.AreaLocks.{on_gate}
 use Rattle.folder_building.specs.declared.plan.PlanEntry.{PlanEntry}
-use Rattle.folder_building.specs.Work.{Worked}
 use Rattle.folder_contents.specs.Entries.{entries_in}
 use Rattle.folder_contents.specs.Handing.{then_moved}
 use Rattle.image_reading.specs.Looks.{reads_images}
@@ -54,7 +54,7 @@ HasGateAlone gate hs = hs ≡ on_gate gate Images (Some Shared) ∷ []
 -- it read the images, and then made the pod by the plan that they gave
 pub record HasPrepared (refs : List ImageRef) (options : Wishes) (draw : Draw) (now : ℕ) (to : Area) (intent : Intent) (hs : List Held) (old new : DirAt) : Type 0 where
   pub mid : DirAt
-  pub reads : Worked true reads_images old mid
+  pub reads : OnlyAsks true reads_images old mid
   pub plan : List PlanEntry
   pub planned : PlansFaithfully refs options now draw.token plan old mid
   pub works : ExtendsBy (makes_pod draw.uuid to) mid new
@@ -63,7 +63,7 @@ pub record HasPrepared (refs : List ImageRef) (options : Wishes) (draw : Draw) (
 -- it read the images, and until then made the pod by the plan that they gave, and knew it whole
 pub record ReadsThenMakes (refs : List ImageRef) (options : Wishes) (draw : Draw) (now : ℕ) (to : Area) (intent : Intent) (old : DirAt) (before : List Event) : Type 0 where
   pub mid : DirAt
-  pub reads : Worked true reads_images old mid
+  pub reads : OnlyAsks true reads_images old mid
   pub plan : List PlanEntry
   pub planned : PlansFaithfully refs options now draw.token plan old mid
   pub makes : Extends (makes_pod draw.uuid to) mid.process mid.trace before

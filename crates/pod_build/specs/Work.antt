@@ -22,13 +22,6 @@ use Rattle.pod_plan.specs.PodPlans.{ComesInTurn, MakesWhole}
 use Rattle.pod_build.specs.MakingRequests.{pod_at}
 use Rattle.pod_build.specs.Progress.{Progress, at_work, own_held}
 
--- calls were made, each for something of this kind, and this is open after them
-pub record Went (observed : Bool) (asks : Request → Bool) (local : Local) (old new : DirAt) : Type 0 where
-  pub same : new.process ≡ old.process
-  pub faults : old.faults ≤ new.faults
-  pub local_is : new.local ≡ local
-  pub extends : observed ≡ true → ExtendsBy asks old new
-
 -- it has begun as one that makes a pod, with this draw
 pub record IsMaker (draw : PodId) (intent : Intent) : Type 0 where
   pub kind : is_maker intent.kind ≡ true

@@ -1,10 +1,11 @@
 // A pod is made by a plan, for prepared or for run.
 ghost use Rattle.std.specs.Prelude.{◌≡◌, true, IfOk, IfErr};
 ghost use Rattle.dir_trait.specs.Local.{IsActive};
+ghost use Rattle.dir_trait.specs.Effects.{LeavesOpen};
 ghost use Rattle.folder_building.specs.Plans.{is_plan};
 ghost use Rattle.pod_build.specs.MakingRequests.{makes_pod};
 ghost use Rattle.pod_build.specs.Progress.{nothing_made};
-ghost use Rattle.pod_build.specs.Work.{MayMake, UnderImages, From, HasOwnFolder, Went};
+ghost use Rattle.pod_build.specs.Work.{MayMake, UnderImages, From, HasOwnFolder};
 ghost use Rattle.pod_build.specs.Answers.{target, with_built, held_with, IsAnswer};
 ghost use Rattle.pod_build.specs.Causes.{FailsMaking, FollowsPlan, IsHeldElsewhere};
 ghost use Rattle.pod_build.specs.Makings.{HasMade};
@@ -36,7 +37,7 @@ pub(crate) fn make<D: Dir>(
 ) -> Result<Built, BuildError>
     requires active { IsActive (D.shown dir.old).local }
     requires plan { is_plan plan.now ≡ true }
-    ensures went { Went D.observed (makes_pod draw (target keep_owner)) (with_built (D.shown dir.old).local draw result) (D.shown dir.old) (D.shown dir.new) }
+    ensures went { LeavesOpen D.observed (makes_pod draw (target keep_owner)) (with_built (D.shown dir.old).local draw result) (D.shown dir.old) (D.shown dir.new) }
     ensures answer { IfOk result (IsAnswer keep_owner draw (D.shown dir.old).local) }
     ensures refused { IfErr result (λ e. FailsMaking D.observed draw plan.now e (D.shown dir.old) (D.shown dir.new)) }
     ensures another { IfErr result (λ e. D.observed ≡ true → From (MayMake (target keep_owner) plan.now draw) (UnderImages draw) nothing_made (D.shown dir.old)

@@ -2,11 +2,11 @@
 ghost use Rattle.std.specs.Prelude.{◌≡◌, Some, [], ◌∷◌, IfOk, IfErr, IsErrOf, true};
 ghost use Rattle.dir_trait.specs.Local.{IsActive, IsUnopened};
 ghost use Rattle.dir_trait.specs.Knowledge.{Knows};
-ghost use Rattle.folder_building.specs.Work.{Worked};
 ghost use Rattle.dir_trait.specs.DirCalls.{ExtendsBy};
+ghost use Rattle.dir_trait.specs.Effects.{OnlyAsks, LeavesOpen};
 ghost use Rattle.pod_build.specs.MakingRequests.{begins_pod, locks_own};
 ghost use Rattle.pod_build.specs.Progress.{at_work, nothing_made, in_embryo, in_prepare, own_held, with_own};
-ghost use Rattle.pod_build.specs.Work.{IsMaker, UnderImages, UnderBoth, Owns, From, HasOwnFolder, Went};
+ghost use Rattle.pod_build.specs.Work.{IsMaker, UnderImages, UnderBoth, Owns, From, HasOwnFolder};
 ghost use Rattle.pod_build.specs.MakingCauses.{WorkCause, EmbryoCause, MakeCause, BusyElsewhere, MakesEmbryo, MakesFirst, HasMadeFolder, LosesEmbryo, BringsPod, LosesOwn};
 
 use crate::make_error::{MakeError, change_refusal, lock_refusal, make_refusal};
@@ -18,7 +18,7 @@ use std::alloc::Global;
 // Makes the folder in embryo.
 fn make_embryo<D: Dir>(alloc: Global, dir: &mut D, draw: PodId) -> Result<(), MakeError>
     requires active { IsActive (D.shown dir.old).local }
-    ensures worked { Worked D.observed (begins_pod draw) (D.shown dir.old) (D.shown dir.new) }
+    ensures worked { OnlyAsks D.observed (begins_pod draw) (D.shown dir.old) (D.shown dir.new) }
     ensures cause { IfErr result (λ e. EmbryoCause D.observed draw e (D.shown dir.old) (D.shown dir.new)) }
     ensures plain { IsErrOf result MakeError.Stray → ⊥ }
     ensures makes { IfOk result (λ done. D.observed ≡ true → MakesEmbryo draw (D.shown dir.old) (D.shown dir.new)) }
@@ -37,7 +37,7 @@ fn make_embryo<D: Dir>(alloc: Global, dir: &mut D, draw: PodId) -> Result<(), Ma
 // Opens the pod's own lock in embryo and takes it: from then on nobody takes the pod for given up.
 fn lock_own<D: Dir>(alloc: Global, dir: &mut D, draw: PodId) -> Result<Handle, MakeError>
     requires active { IsActive (D.shown dir.old).local }
-    ensures went { Went D.observed (begins_pod draw) (with_own (D.shown dir.old).local draw result) (D.shown dir.old) (D.shown dir.new) }
+    ensures went { LeavesOpen D.observed (begins_pod draw) (with_own (D.shown dir.old).local draw result) (D.shown dir.old) (D.shown dir.new) }
     ensures unopened { IfOk result (λ own. IsUnopened (D.shown dir.old).local own) }
     ensures cause { IfErr result (λ e. WorkCause D.observed [] e (D.shown dir.old) (D.shown dir.new)) }
     ensures stray { IsErrOf result MakeError.Stray → D.observed ≡ true → LosesEmbryo draw (D.shown dir.old) (D.shown dir.new) }
@@ -63,7 +63,7 @@ fn lock_own<D: Dir>(alloc: Global, dir: &mut D, draw: PodId) -> Result<Handle, M
 // Moves the folder to prepare.
 fn leave_embryo<D: Dir>(alloc: Global, dir: &mut D, draw: PodId) -> Result<(), MakeError>
     requires active { IsActive (D.shown dir.old).local }
-    ensures worked { Worked D.observed (begins_pod draw) (D.shown dir.old) (D.shown dir.new) }
+    ensures worked { OnlyAsks D.observed (begins_pod draw) (D.shown dir.old) (D.shown dir.new) }
     ensures cause { IfErr result (λ e. WorkCause D.observed [] e (D.shown dir.old) (D.shown dir.new)) }
     ensures stray { IsErrOf result MakeError.Stray → D.observed ≡ true → LosesEmbryo draw (D.shown dir.old) (D.shown dir.new) }
     ensures brings { IfOk result (λ done. D.observed ≡ true → BringsPod draw (D.shown dir.old) (D.shown dir.new)) }
@@ -83,7 +83,7 @@ fn leave_embryo<D: Dir>(alloc: Global, dir: &mut D, draw: PodId) -> Result<(), M
 // Takes the pod's own lock and moves the folder to prepare, under the lock of embryo.
 fn take_out<D: Dir>(alloc: Global, dir: &mut D, draw: PodId) -> Result<Handle, MakeError>
     requires active { IsActive (D.shown dir.old).local }
-    ensures went { Went D.observed (begins_pod draw) (with_own (D.shown dir.old).local draw result) (D.shown dir.old) (D.shown dir.new) }
+    ensures went { LeavesOpen D.observed (begins_pod draw) (with_own (D.shown dir.old).local draw result) (D.shown dir.old) (D.shown dir.new) }
     ensures unopened { IfOk result (λ own. IsUnopened (D.shown dir.old).local own) }
     ensures cause { IfErr result (λ e. WorkCause D.observed [] e (D.shown dir.old) (D.shown dir.new)) }
     ensures stray { IsErrOf result MakeError.Stray → D.observed ≡ true → LosesEmbryo draw (D.shown dir.old) (D.shown dir.new) }
@@ -106,7 +106,7 @@ fn take_out<D: Dir>(alloc: Global, dir: &mut D, draw: PodId) -> Result<Handle, M
 // Makes the folder and brings it to prepare, under the lock of embryo.
 fn make_and_take_out<D: Dir>(alloc: Global, dir: &mut D, draw: PodId) -> Result<Handle, MakeError>
     requires active { IsActive (D.shown dir.old).local }
-    ensures went { Went D.observed (begins_pod draw) (with_own (D.shown dir.old).local draw result) (D.shown dir.old) (D.shown dir.new) }
+    ensures went { LeavesOpen D.observed (begins_pod draw) (with_own (D.shown dir.old).local draw result) (D.shown dir.old) (D.shown dir.new) }
     ensures unopened { IfOk result (λ own. IsUnopened (D.shown dir.old).local own) }
     ensures cause { IfErr result (λ e. EmbryoCause D.observed draw e (D.shown dir.old) (D.shown dir.new)) }
     ensures stray { IsErrOf result MakeError.Stray → D.observed ≡ true → LosesOwn draw (D.shown dir.old) (D.shown dir.new) }
@@ -129,7 +129,7 @@ pub(crate) fn begin_pod<D: Dir>(
     draw: PodId,
 ) -> Result<Handle, MakeError>
     requires active { IsActive (D.shown dir.old).local }
-    ensures went { Went D.observed (begins_pod draw) (with_own (D.shown dir.old).local draw result) (D.shown dir.old) (D.shown dir.new) }
+    ensures went { LeavesOpen D.observed (begins_pod draw) (with_own (D.shown dir.old).local draw result) (D.shown dir.old) (D.shown dir.new) }
     ensures unopened { IfOk result (λ own. IsUnopened (D.shown dir.old).local own) }
     ensures cause { IfErr result (λ e. MakeCause D.observed draw [] e (D.shown dir.old) (D.shown dir.new)) }
     ensures begins { IfOk result (λ own. D.observed ≡ true → HasMadeFolder draw (D.shown dir.old) (D.shown dir.new)) }

@@ -2,11 +2,11 @@
 ghost use Rattle.std.specs.Prelude.{◌≡◌, [], List, IfOk, IfErr, IsErrOf, true};
 ghost use Rattle.dir_trait.specs.Local.{IsActive};
 ghost use Rattle.dir_trait.specs.Knowledge.{Knows};
+ghost use Rattle.dir_trait.specs.Effects.{OnlyAsks};
 ghost use Rattle.folder_building.specs.declared.plan.PlanEntry.{PlanEntry};
 ghost use Rattle.folder_building.specs.Plans.{is_plan};
 ghost use Rattle.folder_building.specs.Sources.{in_images};
 ghost use Rattle.folder_building.specs.Stored.{HadContents};
-ghost use Rattle.folder_building.specs.Work.{Worked};
 ghost use Rattle.pod_build.specs.MakingRequests.{fills_pod, hands_pod, finishes_pod};
 ghost use Rattle.pod_build.specs.Progress.{at_work, in_prepare};
 ghost use Rattle.pod_build.specs.Work.{MayMake, Owns, From, HasOwnFolder};
@@ -29,7 +29,7 @@ fn fill<D: Dir>(
 ) -> Result<(), MakeError>
     requires active { IsActive (D.shown dir.old).local }
     requires plan { is_plan plan.now ≡ true }
-    ensures worked { Worked D.observed (fills_pod draw) (D.shown dir.old) (D.shown dir.new) }
+    ensures worked { OnlyAsks D.observed (fills_pod draw) (D.shown dir.old) (D.shown dir.new) }
     ensures cause { IfErr result (λ e. WorkCause D.observed plan.now e (D.shown dir.old) (D.shown dir.new)) }
     ensures stray { IsErrOf result MakeError.Stray → D.observed ≡ true → LosesPod draw (D.shown dir.old) (D.shown dir.new) }
     ensures had { IfOk result (λ done. D.observed ≡ true → HadContents in_images plan.now (D.shown dir.old) (D.shown dir.new)) }
@@ -50,7 +50,7 @@ fn fill<D: Dir>(
 fn hand_over<D: Dir>(alloc: Global, dir: &mut D, draw: PodId, to: Area) -> Result<(), MakeError>
     requires active { IsActive (D.shown dir.old).local }
     requires handed { is_handed_to to ≡ true }
-    ensures worked { Worked D.observed (hands_pod draw to) (D.shown dir.old) (D.shown dir.new) }
+    ensures worked { OnlyAsks D.observed (hands_pod draw to) (D.shown dir.old) (D.shown dir.new) }
     ensures cause { IfErr result (λ e. WorkCause D.observed [] e (D.shown dir.old) (D.shown dir.new)) }
     ensures stray { IsErrOf result MakeError.Stray → D.observed ≡ true → LosesPod draw (D.shown dir.old) (D.shown dir.new) }
     ensures handed { IfOk result (λ done. D.observed ≡ true → (plan : List PlanEntry) → FromFilled to plan draw (D.shown dir.old)
@@ -79,7 +79,7 @@ pub(crate) fn finish_pod<D: Dir>(
     requires active { IsActive (D.shown dir.old).local }
     requires plan { is_plan plan.now ≡ true }
     requires handed { is_handed_to to ≡ true }
-    ensures worked { Worked D.observed (finishes_pod draw to) (D.shown dir.old) (D.shown dir.new) }
+    ensures worked { OnlyAsks D.observed (finishes_pod draw to) (D.shown dir.old) (D.shown dir.new) }
     ensures cause { IfErr result (λ e. WorkCause D.observed plan.now e (D.shown dir.old) (D.shown dir.new)) }
     ensures stray { IsErrOf result MakeError.Stray → D.observed ≡ true → LosesPod draw (D.shown dir.old) (D.shown dir.new) }
     ensures had { IfOk result (λ done. D.observed ≡ true → HadContents in_images plan.now (D.shown dir.old) (D.shown dir.new)) }

@@ -1,14 +1,14 @@
 // A pod is made, for prepared or for run.
 ghost use Rattle.std.specs.Prelude.{◌≡◌, Some, ◌∷◌, IfOk, IfErr, IsErrOf, true};
 ghost use Rattle.dir_trait.specs.Local.{IsActive, IsUnopened};
+ghost use Rattle.dir_trait.specs.Effects.{OnlyAsks, LeavesOpen};
 ghost use Rattle.lifecycle.specs.Executions.{IsConforming};
 ghost use Rattle.folder_building.specs.Plans.{is_plan};
 ghost use Rattle.folder_building.specs.Sources.{in_images};
 ghost use Rattle.folder_building.specs.Stored.{HadContents};
-ghost use Rattle.folder_building.specs.Work.{Worked};
 ghost use Rattle.pod_build.specs.MakingRequests.{makes_pod};
 ghost use Rattle.pod_build.specs.Progress.{nothing_made, own_held};
-ghost use Rattle.pod_build.specs.Work.{MayMake, UnderImages, From, HasOwnFolder, Went};
+ghost use Rattle.pod_build.specs.Work.{MayMake, UnderImages, From, HasOwnFolder};
 ghost use Rattle.pod_build.specs.MakingCauses.{MakeCause, BusyElsewhere, HasMadeFolder};
 ghost use Rattle.pod_build.specs.Makings.{HasMade, with_owned};
 ghost use Rattle.pod_build.specs.Handovers.{HandsOverMade};
@@ -41,7 +41,7 @@ pub fn make_prepared<D: Dir>(
 ) -> Result<(), MakeError>
     requires active { IsActive (D.shown dir.old).local }
     requires plan { is_plan plan.now ≡ true }
-    ensures worked { Worked D.observed (makes_pod draw Area.Prepared) (D.shown dir.old) (D.shown dir.new) }
+    ensures worked { OnlyAsks D.observed (makes_pod draw Area.Prepared) (D.shown dir.old) (D.shown dir.new) }
     ensures cause { IfErr result (λ e. MakeCause D.observed draw plan.now e (D.shown dir.old) (D.shown dir.new)) }
     ensures another { IfErr result (λ e. D.observed ≡ true → From (MayMake Area.Prepared plan.now draw) (UnderImages draw) nothing_made (D.shown dir.old)
         (λ intent hs. BusyElsewhere e (D.shown dir.old) (D.shown dir.new))) }
@@ -72,7 +72,7 @@ pub fn make_running<D: Dir>(
     requires active { IsActive (D.shown dir.old).local }
     requires plan { is_plan plan.now ≡ true }
     ensures owned { IfOk result (λ owned. IsOwned draw (D.shown dir.old).local owned) }
-    ensures went { Went D.observed (makes_pod draw Area.Run) (with_owned (D.shown dir.old).local draw result) (D.shown dir.old) (D.shown dir.new) }
+    ensures went { LeavesOpen D.observed (makes_pod draw Area.Run) (with_owned (D.shown dir.old).local draw result) (D.shown dir.old) (D.shown dir.new) }
     ensures cause { IfErr result (λ e. MakeCause D.observed draw plan.now e (D.shown dir.old) (D.shown dir.new)) }
     ensures another { IfErr result (λ e. D.observed ≡ true → From (MayMake Area.Run plan.now draw) (UnderImages draw) nothing_made (D.shown dir.old)
         (λ intent hs. BusyElsewhere e (D.shown dir.old) (D.shown dir.new))) }

@@ -3,10 +3,11 @@ ghost use Rattle.std.specs.Prelude.{◌≡◌, [], true, IfOk, IfErr, IsErrOf};
 ghost use Rattle.dir_model.specs.Causes.{Rose};
 ghost use Rattle.dir_model.specs.Calls.{IsRun};
 ghost use Rattle.dir_trait.specs.Local.{IsActive};
+ghost use Rattle.dir_trait.specs.Effects.{LeavesOpen};
 ghost use Rattle.image_reading.specs.Looks.{HoldsImages};
 ghost use Rattle.lifecycle.specs.Executions.{IsConforming};
 ghost use Rattle.pod_build.specs.Progress.{nothing_made};
-ghost use Rattle.pod_build.specs.Work.{From, HasOwnFolder, Went};
+ghost use Rattle.pod_build.specs.Work.{From, HasOwnFolder};
 ghost use Rattle.pod_build.specs.Requests.{prepares, prepares_under_lock};
 ghost use Rattle.pod_build.specs.Answers.{target, with_built, held_with, IsAnswer};
 ghost use Rattle.pod_build.specs.Causes.{IsRefused, IsRefusedUnderLock, IsHeldElsewhere, IsMadeByPlan, FindsImagesFree};
@@ -34,7 +35,7 @@ fn prepare_under_lock<D: Dir>(
 ) -> Result<Built, BuildError>
     requires active { IsActive (D.shown dir.old).local }
     requires held { HoldsImages (D.shown dir.old).local gate }
-    ensures went { Went D.observed (prepares_under_lock draw.now.uuid (target keep_owner)) (with_built (D.shown dir.old).local draw.now.uuid result) (D.shown dir.old) (D.shown dir.new) }
+    ensures went { LeavesOpen D.observed (prepares_under_lock draw.now.uuid (target keep_owner)) (with_built (D.shown dir.old).local draw.now.uuid result) (D.shown dir.old) (D.shown dir.new) }
     ensures answer { IfOk result (IsAnswer keep_owner draw.now.uuid (D.shown dir.old).local) }
     ensures fault { IsErrOf result BuildError.DirFault → Rose (D.shown dir.old).faults (D.shown dir.new).faults }
     ensures refused { IfErr result (λ e. IsRefusedUnderLock D.observed refs.now options.now draw.now now e (D.shown dir.old) (D.shown dir.new)) }
@@ -78,7 +79,7 @@ pub fn prepare<D: Dir>(
     keep_owner: bool,
 ) -> Result<Built, BuildError>
     requires active { IsActive (D.shown dir.old).local }
-    ensures went { Went D.observed (prepares draw.now.uuid (target keep_owner)) (with_built (D.shown dir.old).local draw.now.uuid result) (D.shown dir.old) (D.shown dir.new) }
+    ensures went { LeavesOpen D.observed (prepares draw.now.uuid (target keep_owner)) (with_built (D.shown dir.old).local draw.now.uuid result) (D.shown dir.old) (D.shown dir.new) }
     ensures answer { IfOk result (IsAnswer keep_owner draw.now.uuid (D.shown dir.old).local) }
     ensures fault { IsErrOf result BuildError.DirFault → Rose (D.shown dir.old).faults (D.shown dir.new).faults }
     ensures free { IfOk result (λ built. FindsImagesFree D.observed (D.shown dir.old) (D.shown dir.new)) }

@@ -16,10 +16,9 @@ use Rattle.dir_model.specs.State.{spot_eq}
 use Rattle.dir_model.proofs.Chains.{and_call, and_more, extends_wider}
 use Rattle.dir_model.proofs.Lists.{and_left, or_last}
 use Rattle.dir_trait.specs.DirCalls.{DirAt, DirCall, ExtendsBy}
-use Rattle.folder_building.specs.Work.{Worked}
+use Rattle.dir_trait.specs.Effects.{OnlyAsks, LeavesOpen}
 use Rattle.phase_read.specs.Read.{pod_spot}
 use Rattle.phase_read.proofs.Stages.{pod_spot_only}
-use Rattle.pod_locks.specs.Holding.{Went}
 use Rattle.pod_locks.specs.Requests.{looks_at, moves}
 use Rattle.pod_locks.specs.Taking.{takes_away, TookNothing}
 use Rattle.pod_locks.proofs.Taking.{took_by}
@@ -70,15 +69,15 @@ marks_aside : (pod : PodId) (now : ℕ) (to : Area) (r : Request) → marks_at p
 marks_aside pod now to (MakeFileIn inner) is = and_left (spot_eq (pod_spot pod Run) inner.spot) _ is
 marks_aside pod now to _ is = cc
 
-pub put_aside : {observed : Bool} {a b c : DirAt} (pod : PodId) (from to : Area) → Worked observed (looks_at pod from) a b → Worked observed (moves pod from to) b c → observed ≡ true → ExtendsBy (puts_aside pod from to) a c
+pub put_aside : {observed : Bool} {a b c : DirAt} (pod : PodId) (from to : Area) → OnlyAsks observed (looks_at pod from) a b → OnlyAsks observed (moves pod from to) b c → observed ≡ true → ExtendsBy (puts_aside pod from to) a c
 put_aside pod from to looked moved t = and_more (extends_wider (looks_aside pod from to) (looked.extends t)) looked.same (extends_wider (moves_aside pod from to) (moved.extends t))
 
-pub put_marked : {observed : Bool} {a b c d : DirAt} (pod : PodId) (now : ℕ) (to : Area) → Worked observed (looks_at pod Run) a b → Worked observed (marks_at pod now) b c → Worked observed (moves pod Run to) c d → observed ≡ true → ExtendsBy (puts_aside pod Run to) a d
+pub put_marked : {observed : Bool} {a b c d : DirAt} (pod : PodId) (now : ℕ) (to : Area) → OnlyAsks observed (looks_at pod Run) a b → OnlyAsks observed (marks_at pod now) b c → OnlyAsks observed (moves pod Run to) c d → observed ≡ true → ExtendsBy (puts_aside pod Run to) a d
 put_marked pod now to looked marked moved t =
     and_more (extends_wider (looks_aside pod Run to) (looked.extends t)) looked.same
     (and_more (extends_wider (marks_aside pod now to) (marked.extends t)) marked.same (extends_wider (moves_aside pod Run to) (moved.extends t)))
 
 -- under a lock that was taken before and given up after
-pub put_locked : {observed : Bool} {l : Local} {a b c d : DirAt} {h : Handle} (pod : PodId) (from to : Area) → Went observed (looks_at pod from) l a b → c.process ≡ b.process → DirCall observed c (Close h) Done d → observed ≡ true → ExtendsBy (puts_aside pod from to) b c
+pub put_locked : {observed : Bool} {l : Local} {a b c d : DirAt} {h : Handle} (pod : PodId) (from to : Area) → LeavesOpen observed (looks_at pod from) l a b → c.process ≡ b.process → DirCall observed c (Close h) Done d → observed ≡ true → ExtendsBy (puts_aside pod from to) b c
     → ExtendsBy (puts_aside pod from to) a d
 put_locked pod from to took same z t x = and_call (and_more (extends_wider (looks_aside pod from to) (took.extends t)) took.same x) (same ∙ took.same) refl (z.step t)

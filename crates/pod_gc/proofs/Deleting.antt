@@ -32,7 +32,7 @@ use Rattle.dir_rules.specs.Conforms.{seen_replied, Looked}
 use Rattle.dir_trait.specs.DirCalls.{DirAt, DirCall, ExtendsBy, HeldBetween}
 use Rattle.dir_trait.specs.Knowledge.{Knows, OnlyLooks}
 use Rattle.dir_trait.proofs.Knowing.{knows_call}
-use Rattle.folder_building.specs.Work.{Worked}
+use Rattle.dir_trait.specs.Effects.{OnlyAsks, LeavesOpen, Given}
 use Rattle.folder_contents.proofs.Spots.{one_location}
 use Rattle.folder_removal.specs.declared.error.DeleteError.{DeleteError}
 use Rattle.folder_removal.specs.declared.error.DeleteError.TheVariants as delete
@@ -49,7 +49,7 @@ use Rattle.pod_locks.specs.declared.setback.Setback.{Setback}
 use Rattle.pod_locks.specs.declared.setback.Setback.TheVariants as stop
 use Rattle.pod_locks.specs.Setbacks.{delete_setback}
 use Rattle.pod_locks.specs.Requests.{looks_at}
-use Rattle.pod_locks.specs.Holding.{Went, and_lock, on_lock, with_lock, is_in_garbage, IsBare, MayTake, Keeps, KeepsReady, Stays}
+use Rattle.pod_locks.specs.Holding.{and_lock, on_lock, with_lock, is_in_garbage, IsBare, MayTake, Keeps, KeepsReady}
 use Rattle.pod_locks.specs.Causes.{Stopped, IsAbsentAt, CannotOpenAt, Did, is_stray_answer}
 use Rattle.pod_locks.proofs.Calls.{rose_later, lock_closed}
 use Rattle.pod_locks.proofs.ClaimKnowing.{new_number}
@@ -114,7 +114,7 @@ deletes_remove pod now a place r is =
     first_or (looks_at pod a r) (deletes_at (pod_spot pod a) r) (removes pod now r) is (looks_remove pod now a (place_stage a place) r) (delete_removes pod now a place r)
 
 pub worked_delete : {observed : Bool} {spot : Spot} (pod : PodId) (a : Area) (old new : DirAt) → spot ≡ pod_spot pod a → new.process ≡ old.process → old.faults ≤ new.faults → new.local ≡ old.local
-    → (observed ≡ true → ExtendsBy (deletes_at spot) old new) → Worked observed (deletes_in pod a) old new
+    → (observed ≡ true → ExtendsBy (deletes_at spot) old new) → OnlyAsks observed (deletes_in pod a) old new
 worked_delete {observed} {spot} pod a old new is same faults local extends = record {
   same = same;
   faults = faults;
@@ -237,10 +237,10 @@ but_tried {pod} {a} {s} bare d = record {
   knows = d.knows;
 }
 
-pub known_deleted : {spot : Spot} {pod : PodId} {a : Area} {old new : DirAt} → spot ≡ pod_spot pod a → is_garbage_place a ≡ true → Deletes spot old new → Stays (HasOwn pod a) old (λ s. KeepsBut pod a s new)
+pub known_deleted : {spot : Spot} {pod : PodId} {a : Area} {old new : DirAt} → spot ≡ pod_spot pod a → is_garbage_place a ≡ true → Deletes spot old new → Given (HasOwn pod a) old (λ s. KeepsBut pod a s new)
 known_deleted {spot} {pod} {a} {old} {new} is place x s k h = but_deleted (has_bare h) (subst (λ (p : Spot). Deletes p old new) is x s k (deletes_own place h))
 
-pub known_tried : {spot : Spot} {pod : PodId} {a : Area} {old new : DirAt} → spot ≡ pod_spot pod a → is_garbage_place a ≡ true → OnlyTries spot old new → Stays (HasOwn pod a) old (λ s. KeepsBut pod a s new)
+pub known_tried : {spot : Spot} {pod : PodId} {a : Area} {old new : DirAt} → spot ≡ pod_spot pod a → is_garbage_place a ≡ true → OnlyTries spot old new → Given (HasOwn pod a) old (λ s. KeepsBut pod a s new)
 known_tried {spot} {pod} {a} {old} {new} is place x s k h = but_tried (has_bare h) (subst (λ (p : Spot). OnlyTries p old new) is x s k (deletes_own place h))
 
 -- after a look
@@ -255,10 +255,10 @@ but_looked {pod} {a} {s} {z} l x = record {
   knows = x.knows;
 }
 
-pub known_later : {pod : PodId} {a : Area} {b c d : DirAt} → OnlyLooks b c → Stays (HasOwn pod a) c (λ s. KeepsBut pod a s d) → Stays (HasOwn pod a) b (λ s. KeepsBut pod a s d)
+pub known_later : {pod : PodId} {a : Area} {b c d : DirAt} → OnlyLooks b c → Given (HasOwn pod a) c (λ s. KeepsBut pod a s d) → Given (HasOwn pod a) b (λ s. KeepsBut pod a s d)
 known_later looks next s k h = let x = looks s k in but_looked x.looked (next x.known x.knows (owns_looked x.looked h))
 
-pub known_looked : {pod : PodId} {a : Area} {b c : DirAt} → OnlyLooks b c → Stays (HasOwn pod a) b (λ s. KeepsBut pod a s c)
+pub known_looked : {pod : PodId} {a : Area} {b c : DirAt} → OnlyLooks b c → Given (HasOwn pod a) b (λ s. KeepsBut pod a s c)
 known_looked {pod} {a} looks s k h =
     let x = looks s k in
     record {
@@ -324,8 +324,8 @@ module _ (pod : PodId) (a : Area) (place : is_garbage_place a ≡ true) (own : H
     bare = given_bare others;
   }
 
-pub ready_owned : {observed : Bool} {now : ℕ} {a b c d : DirAt} {h : Handle} (pod : PodId) (area : Area) → is_garbage_place area ≡ true → observed ≡ true → IsUnopened a.local h → Stays (MayTake pod area Own) a (λ s. Knows b (with_lock pod area Own h s))
-    → Stays (HasOwn pod area) b (λ s. KeepsBut pod area s c) → DirCall observed c (Close h) Done d → Stays (MayRemove now) a (λ s. KeepsReady s d)
+pub ready_owned : {observed : Bool} {now : ℕ} {a b c d : DirAt} {h : Handle} (pod : PodId) (area : Area) → is_garbage_place area ≡ true → observed ≡ true → IsUnopened a.local h → Given (MayTake pod area Own) a (λ s. Knows b (with_lock pod area Own h s))
+    → Given (HasOwn pod area) b (λ s. KeepsBut pod area s c) → DirCall observed c (Close h) Done d → Given (MayRemove now) a (λ s. KeepsReady s d)
 ready_owned {observed} {now} {a} {b} {c} {d} {h} pod area place t unopened held owned z s k may =
     let x = owned (with_lock pod area Own h s) (held s k (takes_own pod area place may)) (owns_there pod area k unopened may) in
     record {
@@ -334,11 +334,11 @@ ready_owned {observed} {now} {a} {b} {c} {d} {h} pod area place t unopened held 
       knows = knows_call t x.knows refl refl z;
     }
 
-pub ready_unowned : {now : ℕ} {a b : DirAt} (pod : PodId) (area : Area) → is_garbage_place area ≡ true → Stays (MayTake pod area Own) a (λ s. Knows b s) → Stays (MayRemove now) a (λ s. KeepsReady s b)
+pub ready_unowned : {now : ℕ} {a b : DirAt} (pod : PodId) (area : Area) → is_garbage_place area ≡ true → Given (MayTake pod area Own) a (λ s. Knows b s) → Given (MayRemove now) a (λ s. KeepsReady s b)
 ready_unowned pod area place left s k may = same_ready may (left s k (takes_own pod area place may))
 
-pub worked_owned : {observed : Bool} {a b c d : DirAt} {h : Handle} (pod : PodId) (now : ℕ) (area : Area) → is_garbage_place area ≡ true → IsUnopened a.local h → Went observed (looks_at pod area) (and_lock a.local pod area Own h) a b
-    → Worked observed (deletes_in pod area) b c → DirCall observed c (Close h) Done d → Worked observed (removes pod now) a d
+pub worked_owned : {observed : Bool} {a b c d : DirAt} {h : Handle} (pod : PodId) (now : ℕ) (area : Area) → is_garbage_place area ≡ true → IsUnopened a.local h → LeavesOpen observed (looks_at pod area) (and_lock a.local pod area Own h) a b
+    → OnlyAsks observed (deletes_in pod area) b c → DirCall observed c (Close h) Done d → OnlyAsks observed (removes pod now) a d
 worked_owned {observed} {a} {b} {c} {d} {h} pod now area place unopened w v z = record {
   same = z.same ∙ (v.same ∙ w.same);
   faults = omega (arith, w.faults, v.faults, z.faults);
@@ -346,5 +346,5 @@ worked_owned {observed} {a} {b} {c} {d} {h} pod now area place unopened w v z = 
   extends = λ t. and_call (and_more (extends_wider (looks_remove pod now area (place_stage area place)) (w.extends t)) w.same (extends_wider (deletes_remove pod now area place) (v.extends t))) (v.same ∙ w.same) refl (z.step t);
 }
 
-pub worked_unowned : {observed : Bool} {a b : DirAt} (pod : PodId) (now : ℕ) (area : Area) → is_garbage_place area ≡ true → Went observed (looks_at pod area) a.local a b → Worked observed (removes pod now) a b
+pub worked_unowned : {observed : Bool} {a b : DirAt} (pod : PodId) (now : ℕ) (area : Area) → is_garbage_place area ≡ true → LeavesOpen observed (looks_at pod area) a.local a b → OnlyAsks observed (removes pod now) a b
 worked_unowned {observed} {a} {b} pod now area place w = record { same = w.same; faults = w.faults; local = w.local_is; extends = λ t. extends_wider (looks_remove pod now area (place_stage area place)) (w.extends t) }

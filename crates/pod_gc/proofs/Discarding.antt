@@ -17,7 +17,7 @@ use Rattle.dir_rules.proofs.Looks.{same_bytes}
 use Rattle.dir_trait.specs.DirCalls.{DirAt, DirCall}
 use Rattle.dir_trait.specs.Knowledge.{Knows, OnlyLooks}
 use Rattle.dir_trait.proofs.Knowing.{knows_call}
-use Rattle.folder_building.specs.Work.{Worked}
+use Rattle.dir_trait.specs.Effects.{OnlyAsks, LeavesOpen, Given}
 use Rattle.phase_read.specs.Read.{pod_spot}
 use Rattle.pod_locks.proofs.ClaimCalls.{lock_closed}
 use Rattle.pod_locks.proofs.ClaimSeen.{off}
@@ -26,7 +26,7 @@ use Rattle.pod_locks.proofs.Traces.{grown_none}
 use Rattle.pod_locks.specs.declared.setback.Setback.{Setback}
 use Rattle.pod_locks.specs.declared.setback.Setback.TheVariants as stop
 use Rattle.pod_locks.specs.Requests.{looks_at}
-use Rattle.pod_locks.specs.Holding.{Went, and_lock, on_lock, with_lock, with_look, IsBare, MayLook, LooksFree, MayTake, MayMove, Keeps, KeepsReady, Stays}
+use Rattle.pod_locks.specs.Holding.{and_lock, on_lock, with_lock, with_look, IsBare, MayLook, LooksFree, MayTake, MayMove, Keeps, KeepsReady}
 use Rattle.pod_locks.specs.Causes.{Stopped, IsAbsentAt, CannotOpenAt, BusyElsewhere}
 use Rattle.pod_locks.proofs.Calls.{Follows}
 use Rattle.pod_locks.proofs.Within.{held_within}
@@ -66,8 +66,8 @@ moves_under pod u = subst (λ (x : Seen). MayMove pod Prepared Garbage (with_loo
 pub bare_under : {now : ℕ} {s : Seen} {d : DirAt} {pod : PodId} → UnderClaim pod now s → Knows d s → KeepsReady s d
 bare_under {now} {s} {d} {pod} u k = subst (λ (x : Seen). KeepsReady x d) (sym u.is) (record { known = with_lock pod Prepared Claim u.claim u.base; keeps = record { intent = refl; holdings = refl; kept = refl; bare = u.may.may.bare }; knows = knows_as u.is k })
 
-pub ready_under : {now : ℕ} {old mid new : DirAt} (pod : PodId) → Stays (MayLook pod Prepared) old (λ s. LooksFree pod Prepared s mid) → Stays (MayMove pod Prepared Garbage) mid (λ s. KeepsReady s new)
-    → Stays (UnderClaim pod now) old (λ s. KeepsReady s new)
+pub ready_under : {now : ℕ} {old mid new : DirAt} (pod : PodId) → Given (MayLook pod Prepared) old (λ s. LooksFree pod Prepared s mid) → Given (MayMove pod Prepared Garbage) mid (λ s. KeepsReady s new)
+    → Given (UnderClaim pod now) old (λ s. KeepsReady s new)
 ready_under pod free moves s k u =
     let x = moves (with_look pod Prepared s) (free s k (looks_under pod u)) (moves_under pod u) in
     record { known = x.known; keeps = record { intent = x.keeps.intent; holdings = x.keeps.holdings; kept = x.keeps.kept; bare = x.keeps.bare }; knows = x.knows }
@@ -94,8 +94,8 @@ pub discards_under : {now : ℕ} {s : Seen} {d : DirAt} {h : Handle} (pod : PodI
 discards_under {now} {s} {d} {h} pod k unopened may = record { claim = h; base = s; may = may; fresh = new_number h k unopened; is = refl }
 
 -- and once it is given up
-pub ready_claimed : {observed : Bool} {now : ℕ} {a b c d : DirAt} {h : Handle} (pod : PodId) → observed ≡ true → IsUnopened a.local h → Stays (MayTake pod Prepared Claim) a (λ s. Knows b (with_lock pod Prepared Claim h s))
-    → Stays (UnderClaim pod now) b (λ s. KeepsReady s c) → DirCall observed c (Close h) Done d → Stays (MayDiscard pod now) a (λ s. KeepsReady s d)
+pub ready_claimed : {observed : Bool} {now : ℕ} {a b c d : DirAt} {h : Handle} (pod : PodId) → observed ≡ true → IsUnopened a.local h → Given (MayTake pod Prepared Claim) a (λ s. Knows b (with_lock pod Prepared Claim h s))
+    → Given (UnderClaim pod now) b (λ s. KeepsReady s c) → DirCall observed c (Close h) Done d → Given (MayDiscard pod now) a (λ s. KeepsReady s d)
 ready_claimed {observed} {now} {a} {b} {c} {d} {h} pod t unopened held under z s k may =
     let x = under (with_lock pod Prepared Claim h s) (held s k (takes_claim pod may)) (discards_under pod k unopened may) in
     record {
@@ -109,8 +109,8 @@ pub busy_within : {observed : Bool} {pod : PodId} {e : Setback} {a b c d : DirAt
 busy_within t ab cd busy which is = held_within (ab.grown t) ab.same (cd.grown t) (busy which is)
 
 -- what is open, and which calls were made, once Claim was taken and given up
-pub worked_claimed : {observed : Bool} {a b c d : DirAt} {h : Handle} (pod : PodId) (now : ℕ) → IsUnopened a.local h → Went observed (looks_at pod Prepared) (and_lock a.local pod Prepared Claim h) a b → Worked observed (removes pod now) b c
-    → DirCall observed c (Close h) Done d → Worked observed (removes pod now) a d
+pub worked_claimed : {observed : Bool} {a b c d : DirAt} {h : Handle} (pod : PodId) (now : ℕ) → IsUnopened a.local h → LeavesOpen observed (looks_at pod Prepared) (and_lock a.local pod Prepared Claim h) a b → OnlyAsks observed (removes pod now) b c
+    → DirCall observed c (Close h) Done d → OnlyAsks observed (removes pod now) a d
 worked_claimed {observed} {a} {b} {c} {d} {h} pod now unopened w v z = record {
   same = z.same ∙ (v.same ∙ w.same);
   faults = omega (arith, w.faults, v.faults, z.faults);
@@ -119,7 +119,7 @@ worked_claimed {observed} {a} {b} {c} {d} {h} pod now unopened w v z = record {
 }
 
 -- Claim couldn't be opened, and the folder was looked for
-pub worked_alone : {observed : Bool} {a b c : DirAt} (pod : PodId) (now : ℕ) → Went observed (looks_at pod Prepared) a.local a b → Worked observed (looks_at pod Prepared) b c → Worked observed (removes pod now) a c
+pub worked_alone : {observed : Bool} {a b c : DirAt} (pod : PodId) (now : ℕ) → LeavesOpen observed (looks_at pod Prepared) a.local a b → OnlyAsks observed (looks_at pod Prepared) b c → OnlyAsks observed (removes pod now) a c
 worked_alone {observed} {a} {b} {c} pod now w v = record {
   same = v.same ∙ w.same;
   faults = omega (arith, w.faults, v.faults);
@@ -146,16 +146,16 @@ alone_stops {observed} {e} {a} {b} {c} pod ab first s = record {
 pub alone_busy : {observed : Bool} {e : Setback} {b c : DirAt} {pod : PodId} (a : DirAt) → StopsAlone observed pod e b c → BusyInPrepared pod e a c
 alone_busy {observed} {e} a s which is = absurd ((look_only e s.calm).1 which is)
 
-pub ready_looked : {now : ℕ} {a b c : DirAt} {pod : PodId} → Stays (MayTake pod Prepared Claim) a (λ s. Knows b s) → OnlyLooks b c → Stays (MayDiscard pod now) a (λ s. KeepsReady s c)
+pub ready_looked : {now : ℕ} {a b c : DirAt} {pod : PodId} → Given (MayTake pod Prepared Claim) a (λ s. Knows b s) → OnlyLooks b c → Given (MayDiscard pod now) a (λ s. KeepsReady s c)
 ready_looked {now} {a} {b} {c} {pod} left looks s k may =
     let x = looks s (left s k (takes_claim pod may)) in
     record { known = x.known; keeps = looked_keeps may.may.bare x.looked; knows = x.knows }
 
-pub ready_left : {now : ℕ} {a b : DirAt} {pod : PodId} → Stays (MayTake pod Prepared Claim) a (λ s. Knows b s) → Stays (MayDiscard pod now) a (λ s. KeepsReady s b)
+pub ready_left : {now : ℕ} {a b : DirAt} {pod : PodId} → Given (MayTake pod Prepared Claim) a (λ s. Knows b s) → Given (MayDiscard pod now) a (λ s. KeepsReady s b)
 ready_left {now} {a} {b} {pod} left s k may = same_ready may.may (left s k (takes_claim pod may))
 
 -- Claim wasn't taken, and the pod isn't missing
-pub worked_untaken : {observed : Bool} {a b : DirAt} (pod : PodId) (now : ℕ) → Went observed (looks_at pod Prepared) a.local a b → Worked observed (removes pod now) a b
+pub worked_untaken : {observed : Bool} {a b : DirAt} (pod : PodId) (now : ℕ) → LeavesOpen observed (looks_at pod Prepared) a.local a b → OnlyAsks observed (removes pod now) a b
 worked_untaken {observed} {a} {b} pod now w = record { same = w.same; faults = w.faults; local = w.local_is; extends = λ t. extends_wider (looks_remove pod now Prepared (omega arith)) (w.extends t) }
 
 pub stops_else : {observed : Bool} {e : Setback} {a b : DirAt} (pod : PodId) → (e ≡ stop.Missing → ⊥) → Stopped observed pod (CannotOpenAt pod Prepared Claim) e a b → StoppedAlone observed pod e a b
@@ -175,5 +175,5 @@ claim_calm is = cc
 pub looks_alone : {observed : Bool} {e : Setback} {b c : DirAt} {pod : PodId} (a : DirAt) → StopsAlone observed pod e b c → BusyByLooks observed pod Prepared e a c
 looks_alone a s which is = absurd (alone_calm s is)
 
-pub looks_claimed : {observed : Bool} {e : Setback} {l : Local} {a b c d : DirAt} {h : Handle} (pod : PodId) → Went observed (looks_at pod Prepared) l a b → c.process ≡ b.process → DirCall observed c (Close h) Done d → BusyByLooks observed pod Prepared e b c → BusyByLooks observed pod Prepared e a d
+pub looks_claimed : {observed : Bool} {e : Setback} {l : Local} {a b c d : DirAt} {h : Handle} (pod : PodId) → LeavesOpen observed (looks_at pod Prepared) l a b → c.process ≡ b.process → DirCall observed c (Close h) Done d → BusyByLooks observed pod Prepared e b c → BusyByLooks observed pod Prepared e a d
 looks_claimed pod w same z busy which is t = and_call (and_more (w.extends t) w.same (busy which is t)) (same ∙ w.same) refl (z.step t)

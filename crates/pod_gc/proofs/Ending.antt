@@ -16,10 +16,11 @@ use Rattle.dir_model.proofs.Lists.{same_self}
 use Rattle.dir_rules.specs.declared.seen.Seen.{Seen}
 use Rattle.dir_trait.specs.DirCalls.{DirAt, ListCall, ExtendsBy, HeldBetween}
 use Rattle.dir_trait.specs.Knowledge.{Knows}
+use Rattle.dir_trait.specs.Effects.{Given}
 use Rattle.dir_files.specs.Listed.{ShowsAreaBetween}
 use Rattle.dir_files.specs.AreaLocks.{takes, closes, with_gate, MayLock, IsFreeElsewhere}
 use Rattle.folder_removal.proofs.Calls.{list_extends}
-use Rattle.pod_locks.specs.Holding.{KeepsReady, Stays}
+use Rattle.pod_locks.specs.Holding.{KeepsReady}
 use Rattle.pod_locks.proofs.Calls.{Follows}
 use Rattle.pod_gc.specs.declared.ages.Times.{Times}
 use Rattle.pod_gc.specs.declared.line.GcLine.{GcLine}
@@ -79,7 +80,7 @@ ends_among a b c times here names earlier later name before mid are same x y = r
 }
 
 pub ends_listed : {observed : Bool} (a b c : DirAt) (times : Times) (here : Area) (names : List (List ℕ)) → observed ≡ true → ListCall observed a (ListArea here) (Names names) b → IsStrictlySortedBy (slice_cmp nat_cmp) names → ShowsAreaBetween a b here names
-    → Stays (MayPass here times.now times.expire) a (λ s. KeepsReady s b) → EndsAmongBetween times here names b c → EndsListingBetween times here a c
+    → Given (MayPass here times.now times.expire) a (λ s. KeepsReady s b) → EndsAmongBetween times here names b c → EndsListingBetween times here a c
 ends_listed a b c times here names t listing ordered shows ready x = inl (record {
   names = names;
   listed = b.trace;
@@ -105,7 +106,7 @@ pub ends_plain : (a b : DirAt) (times : Times) (here : Area) → (here ≡ Embry
 ends_plain a b times here not x = pass_plain times here not (λ can. (can.0, can.1, record { sweeps = can.2.sweeps; gate = λ is. absurd (not is) })) x
 
 pub ends_sweep : {observed : Bool} (a b c : DirAt) (times : Times) (earlier later : List Area) (here : Area) (before mid : List GcLine) → places ≡ earlier ++ here ∷ later → Follows observed a b
-    → Stays (MaySweepAll times.now times.expire) a (λ s. KeepsReady s b) → AddsSwept times earlier a b before mid → EndsPassBetween times here b c → EndsSweepBetween times a c
+    → Given (MaySweepAll times.now times.expire) a (λ s. KeepsReady s b) → AddsSwept times earlier a b before mid → EndsPassBetween times here b c → EndsSweepBetween times a c
 ends_sweep a b c times earlier later here before mid are ab ready x y = record {
   earlier = earlier;
   here = here;

@@ -23,7 +23,6 @@ use Rattle.pod_locks.specs.declared.setback.Setback.{Setback}
 use Rattle.pod_locks.specs.declared.setback.Setback.TheVariants as stop
 use Rattle.pod_locks.specs.Setbacks.{look_setback}
 use Rattle.pod_locks.specs.Causes.{IsAbsentAt, Did, BusyElsewhere, HeldByAnother, FreeOfOthers, FreeWhere}
-use Rattle.pod_locks.specs.Holding.{Stays}
 use Rattle.pod_locks.specs.Taking.{TookNothing, TakesNothing}
 use Rattle.pod_gc.specs.declared.attempt.Round.TheVariants as round
 use Rattle.pod_gc.specs.declared.remove_error.RemoveError.{RemoveError}
@@ -35,6 +34,7 @@ use Rattle.pod_gc.specs.Removals.{round_of}
 use Rattle.pod_gc.specs.Found.{PutAway, TakenAway, WasMissed, RefusedAt, WasRefused, FoundAnd, RoundWent, RoundRefused, MissedFirst, RemovedFirst, RefusedFirst, PutWhere, TakenWhere, MissedHere, MissedWhere, RefusedHere, RefusedWhere}
 use Rattle.pod_gc.proofs.Rounds.{may_looked}
 use Rattle.dir_trait.specs.Knowledge.{OnlyLooks}
+use Rattle.dir_trait.specs.Effects.{Given}
 
 pub ok_both : {A E : Type 0} (P Q R : A → Type 0) (r : Result A E) → ((a : A) → P a → Q a → R a) → IfOk r P → IfOk r Q → IfOk r R
 ok_both P Q R (Ok a) f p q = f a p q
@@ -117,8 +117,8 @@ module _ {observed : Bool} (pod : PodId) (p : Phase) (area : Area) (old mid new 
   round_went (Err _) taken missed = tt
 
   module _ (now : ℕ) (known : observed ≡ true → OnlyLooks old mid) where
-    pub round_refused : (r : Result (Unit {0}) Setback) → IfErr r (λ e. observed ≡ true → Stays (MayRemovePod pod now) mid (λ s. RefusedWhere pod p e mid new))
-        → IfErr (round_of pod r) (λ e. observed ≡ true → Stays (MayRemovePod pod now) old (λ s. RoundRefused pod e old new))
+    pub round_refused : (r : Result (Unit {0}) Setback) → IfErr r (λ e. observed ≡ true → Given (MayRemovePod pod now) mid (λ s. RefusedWhere pod p e mid new))
+        → IfErr (round_of pod r) (λ e. observed ≡ true → Given (MayRemovePod pod now) old (λ s. RoundRefused pod e old new))
     round_refused (Ok done) busy = tt
     round_refused (Err stop.Missing) busy = tt
     round_refused (Err (stop.Busy w)) busy = λ t s k m which is.

@@ -14,12 +14,12 @@ use Rattle.dir_rules.specs.declared.seen.Seen.{Seen}
 use Rattle.dir_rules.specs.Standing.{is_known}
 use Rattle.dir_trait.specs.DirCalls.{DirAt, ExtendsBy, HeldBetween}
 use Rattle.dir_trait.specs.Knowledge.{Knows}
+use Rattle.dir_trait.specs.Effects.{OnlyAsks, Given}
 use Rattle.dir_files.specs.declared.lock_error.LockError.{LockError}
 use Rattle.dir_files.specs.declared.lock_error.LockError.TheVariants as lock
 use Rattle.dir_files.specs.AreaLocks.{takes, closes, and_lock, with_gate, exclusive_given, is_free_of, MayLock, IsBusy, IsBusyElsewhere, IsFreeElsewhere}
 use Rattle.dir_files.proofs.Locking.{unlocked_same}
-use Rattle.folder_building.specs.Work.{Worked}
-use Rattle.pod_locks.specs.Holding.{is_in_garbage, Keeps, KeepsReady, Stays}
+use Rattle.pod_locks.specs.Holding.{is_in_garbage, Keeps, KeepsReady}
 use Rattle.pod_locks.proofs.Calls.{Follows}
 use Rattle.pod_locks.proofs.ClaimKnowing.{new_number}
 use Rattle.pod_locks.proofs.OwnOpenings.{none_fails}
@@ -55,8 +55,8 @@ module _ (s z : Seen) (h : Handle) (k : Keeps (with_gate s h Embryo (Some Exclus
   given_keeps = record { intent = k.intent; holdings = refl; kept = k.kept; bare = none_fails is_in_garbage _ z.items k.bare }
 
 pub ready_under : {now expire : ℕ} {a b c d : DirAt} {h : Handle} → IsUnopened a.local h → ((s : Seen) → Knows a s → MayLock s Embryo Exclusive → Knows b (with_gate s h Embryo (Some Exclusive)))
-    → Stays (MayPass Embryo now expire) b (λ s. KeepsReady s c)
-    → ((s : Seen) → is_known h s.standing ≡ false → Knows c (with_gate s h Embryo (Some Exclusive)) → Knows d (exclusive_given Embryo s)) → Stays (MaySweepAll now expire) a (λ s. KeepsReady s d)
+    → Given (MayPass Embryo now expire) b (λ s. KeepsReady s c)
+    → ((s : Seen) → is_known h s.standing ≡ false → Knows c (with_gate s h Embryo (Some Exclusive)) → Knows d (exclusive_given Embryo s)) → Given (MaySweepAll now expire) a (λ s. KeepsReady s d)
 ready_under {now} {expire} {a} {b} {c} {d} {h} unopened taken pass given s k m =
     let x = pass (with_gate s h Embryo (Some Exclusive)) (taken s k (may_lock m)) (passes_under h m) in
     record {
@@ -65,14 +65,14 @@ ready_under {now} {expire} {a} {b} {c} {d} {h} unopened taken pass given s k m =
       knows = given (Inner s x.known h x.keeps) (new_number h k unopened) (subst (λ (y : Seen). Knows c y) (inside s x.known h x.keeps) x.knows);
     }
 
-pub ready_same : {now expire : ℕ} {a b : DirAt} → ((s : Seen) → Knows a s → MayLock s Embryo Exclusive → Knows b s) → Stays (MaySweepAll now expire) a (λ s. KeepsReady s b)
+pub ready_same : {now expire : ℕ} {a b : DirAt} → ((s : Seen) → Knows a s → MayLock s Embryo Exclusive → Knows b s) → Given (MaySweepAll now expire) a (λ s. KeepsReady s b)
 ready_same left s k m = record { known = s; keeps = record { intent = refl; holdings = refl; kept = refl; bare = m.sweeps.may.bare }; knows = left s k (may_lock m) }
 
 pub follows_lock : {observed : Bool} {a b : DirAt} → b.process ≡ a.process → a.faults ≤ b.faults → (observed ≡ true → ExtendsBy (takes Embryo Exclusive) a b) → Follows observed a b
 follows_lock same faults extends = record { same = same; faults = faults; grown = λ t. grown_by (extends t) }
 
-pub worked_gate : {observed : Bool} {a b c d : DirAt} (now : ℕ) (h : Handle) → IsUnopened a.local h → b.process ≡ a.process → a.faults ≤ b.faults → b.local ≡ and_lock a.local h Embryo Exclusive → (observed ≡ true → ExtendsBy (takes Embryo Exclusive) a b) → Worked observed (sweeps now) b c
-    → d.process ≡ c.process → d.faults ≡ c.faults → d.local ≡ without c.local h → (observed ≡ true → ExtendsBy (closes h) c d) → Worked observed (sweeps now) a d
+pub worked_gate : {observed : Bool} {a b c d : DirAt} (now : ℕ) (h : Handle) → IsUnopened a.local h → b.process ≡ a.process → a.faults ≤ b.faults → b.local ≡ and_lock a.local h Embryo Exclusive → (observed ≡ true → ExtendsBy (takes Embryo Exclusive) a b) → OnlyAsks observed (sweeps now) b c
+    → d.process ≡ c.process → d.faults ≡ c.faults → d.local ≡ without c.local h → (observed ≡ true → ExtendsBy (closes h) c d) → OnlyAsks observed (sweeps now) a d
 worked_gate {observed} {a} {b} {c} {d} now h unopened ab af held ax w cd cf given cx = record {
   same = cd ∙ (w.same ∙ ab);
   faults = omega (arith, af, w.faults, cf);
@@ -80,7 +80,7 @@ worked_gate {observed} {a} {b} {c} {d} now h unopened ab af held ax w cd cf give
   extends = λ t. and_more (and_more (extends_wider (takes_sweep now) (ax t)) ab (w.extends t)) (w.same ∙ ab) (extends_wider (closes_sweep now h) (cx t));
 }
 
-pub worked_locked : {observed : Bool} (now : ℕ) (a b : DirAt) → b.process ≡ a.process → a.faults ≤ b.faults → b.local ≡ a.local → (observed ≡ true → ExtendsBy (takes Embryo Exclusive) a b) → Worked observed (sweeps now) a b
+pub worked_locked : {observed : Bool} (now : ℕ) (a b : DirAt) → b.process ≡ a.process → a.faults ≤ b.faults → b.local ≡ a.local → (observed ≡ true → ExtendsBy (takes Embryo Exclusive) a b) → OnlyAsks observed (sweeps now) a b
 worked_locked now a b same faults local extends = record { same = same; faults = faults; local = local; extends = λ t. extends_wider (takes_sweep now) (extends t) }
 
 pub lock_cause : {observed : Bool} {a b : DirAt} (e : LockError) → (e ≡ lock.Busy → ⊥) → (e ≡ lock.DirFault → Rose a.faults b.faults) → GcCause observed (lock_fault e) a b

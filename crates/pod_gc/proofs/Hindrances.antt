@@ -15,6 +15,7 @@ use Rattle.dir_model.specs.Trace.{state_after}
 use Rattle.dir_model.proofs.Lists.{and_left, and_right, and_both, any_fewer, same_self}
 use Rattle.dir_model.proofs.Moments.{at_grown, at_weaker}
 use Rattle.dir_trait.specs.DirCalls.{DirAt}
+use Rattle.dir_trait.specs.Effects.{Given}
 use Rattle.lifecycle.specs.Executions.{IsConforming}
 use Rattle.phase_read.specs.Read.{pod_spot}
 use Rattle.phase_read.specs.Exact.{AtOwnEvent, IsNowhere}
@@ -24,7 +25,6 @@ use Rattle.pod_locks.specs.Work.{Grew}
 use Rattle.pod_locks.proofs.Times.{at_part}
 use Rattle.pod_locks.proofs.Traces.{grown_none}
 use Rattle.pod_locks.specs.Causes.{is_held_against, WasStray}
-use Rattle.pod_locks.specs.Holding.{Stays}
 use Rattle.pod_gc.specs.declared.remove_error.RemoveError.{RemoveError}
 use Rattle.pod_gc.specs.declared.remove_error.RemoveError.TheVariants as error
 use Rattle.pod_gc.specs.RemovalRequests.{is_removable}
@@ -123,7 +123,7 @@ only_failures {observed} {pod} {a} {c} error.Stray t x another conforming free =
 only_failures error.NoMemory t x another conforming free = inr (inl refl)
 
 pub refused_so : (observed : Bool) (pod : PodId) (now : ℕ) (a c : DirAt) (r : Result (Unit {0}) RemoveError) → IfErr r (λ e. RemoveCause observed pod e a c)
-    → IfErr r (λ e. observed ≡ true → Stays (MayRemovePod pod now) a (λ s. RefusedByAnother pod e a c))
-    → IfErr r (λ e. observed ≡ true → Stays (MayRemovePod pod now) a (λ s. IsConforming c.trace → IsUnhinderedThroughout pod a.process a.trace c.trace → IsFailure e a.process a.trace c.trace))
+    → IfErr r (λ e. observed ≡ true → Given (MayRemovePod pod now) a (λ s. RefusedByAnother pod e a c))
+    → IfErr r (λ e. observed ≡ true → Given (MayRemovePod pod now) a (λ s. IsConforming c.trace → IsUnhinderedThroughout pod a.process a.trace c.trace → IsFailure e a.process a.trace c.trace))
 refused_so observed pod now a c (Ok done) cause another = tt
 refused_so observed pod now a c (Err e) cause another = λ t s k m conforming free. only_failures e t cause (another t s k m) conforming free

@@ -8,7 +8,8 @@ use Rattle.dir_rules.specs.declared.standing.Held.{Held}
 use Rattle.dir_rules.specs.declared.seen.Seen.{Seen}
 use Rattle.dir_rules.specs.Standing.{intends, is_gc, is_gate_exclusive}
 use Rattle.dir_trait.specs.DirCalls.{DirAt}
-use Rattle.pod_locks.specs.Holding.{Keeps, KeepsReady, Stays}
+use Rattle.dir_trait.specs.Effects.{Given}
+use Rattle.pod_locks.specs.Holding.{Keeps, KeepsReady}
 use Rattle.pod_gc.proofs.Rounds.{may_kept}
 use Rattle.pod_gc.specs.declared.gc_error.GcError.TheVariants as fault
 use Rattle.pod_gc.specs.Causes.{GcCause}
@@ -23,10 +24,10 @@ sweep_kept {now} {expire} k m = record { may = may_kept k m.may; sweeps = ap (λ
 pub pass_kept : {place : Area} {now expire : ℕ} {s z : Seen} → Keeps s z → MayPass place now expire s → MayPass place now expire z
 pass_kept k m = record { sweeps = sweep_kept k m.sweeps; gate = λ is. ap (λ (hs : List Held). list_any (is_gate_exclusive Embryo) hs) k.holdings ∙ m.gate is }
 
-pub pass_none : {place : Area} {now expire : ℕ} {d : DirAt} → Stays (MayPass place now expire) d (λ s. KeepsReady s d)
+pub pass_none : {place : Area} {now expire : ℕ} {d : DirAt} → Given (MayPass place now expire) d (λ s. KeepsReady s d)
 pass_none s k m = record { known = s; keeps = record { intent = refl; holdings = refl; kept = refl; bare = m.sweeps.may.bare }; knows = k }
 
-pub pass_more : {place : Area} {now expire : ℕ} {a b c : DirAt} → Stays (MayPass place now expire) a (λ s. KeepsReady s b) → Stays (MayPass place now expire) b (λ s. KeepsReady s c) → Stays (MayPass place now expire) a (λ s. KeepsReady s c)
+pub pass_more : {place : Area} {now expire : ℕ} {a b c : DirAt} → Given (MayPass place now expire) a (λ s. KeepsReady s b) → Given (MayPass place now expire) b (λ s. KeepsReady s c) → Given (MayPass place now expire) a (λ s. KeepsReady s c)
 pass_more ab bc s k m =
     let x = ab s k m in
     let y = bc x.known x.knows (pass_kept x.keeps m) in

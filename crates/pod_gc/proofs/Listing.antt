@@ -23,9 +23,9 @@ use Rattle.dir_rules.specs.Conforms.{seen_replied, seen_listed, IsTied}
 use Rattle.dir_rules.proofs.Tied.{tied_step, tied_unbegun}
 use Rattle.dir_trait.specs.DirCalls.{DirAt, ListCall}
 use Rattle.dir_trait.specs.Knowledge.{SameHandles, Knows}
-use Rattle.folder_building.specs.Work.{Worked}
+use Rattle.dir_trait.specs.Effects.{OnlyAsks, Given}
 use Rattle.folder_removal.proofs.Calls.{list_extends}
-use Rattle.pod_locks.specs.Holding.{Keeps, KeepsReady, Stays}
+use Rattle.pod_locks.specs.Holding.{Keeps, KeepsReady}
 use Rattle.pod_gc.specs.Requests.{lists}
 use Rattle.pod_gc.specs.Causes.{listing_fault, GcCause}
 use Rattle.pod_gc.specs.Sweeping.{MayPass}
@@ -57,10 +57,10 @@ listing_keeps : {place : Area} {now expire : ℕ} (s : Seen) (r : Result (List (
 listing_keeps {place} s (Ok names) stage m = record { intent = refl; holdings = refl; kept = ap (λ b. b && (b && s.kept)) (looks_there s place stage); bare = m.sweeps.may.bare }
 listing_keeps {place} s (Err e) stage m = record { intent = refl; holdings = refl; kept = ap (λ b. b && (b && s.kept)) (looks_there s place stage); bare = m.sweeps.may.bare }
 
-pub ready_area : {observed : Bool} {now expire : ℕ} {old new : DirAt} (place : Area) (r : Result (List (List ℕ)) DirError) → is_stage place ≡ true → ListCall observed old (ListArea place) (names_reply r) new → observed ≡ true → Stays (MayPass place now expire) old (λ s. KeepsReady s new)
+pub ready_area : {observed : Bool} {now expire : ℕ} {old new : DirAt} (place : Area) (r : Result (List (List ℕ)) DirError) → is_stage place ≡ true → ListCall observed old (ListArea place) (names_reply r) new → observed ≡ true → Given (MayPass place now expire) old (λ s. KeepsReady s new)
 ready_area place r stage x t s k m = record { known = _; keeps = listing_keeps s r stage m; knows = knows_list place r t k x }
 
-pub worked_area : {observed : Bool} {old new : DirAt} (place : Area) (r : Result (List (List ℕ)) DirError) → ListCall observed old (ListArea place) (names_reply r) new → Worked observed (lists place) old new
+pub worked_area : {observed : Bool} {old new : DirAt} (place : Area) (r : Result (List (List ℕ)) DirError) → ListCall observed old (ListArea place) (names_reply r) new → OnlyAsks observed (lists place) old new
 worked_area {observed} {old} {new} place r x = record { same = x.same; faults = x.faults; local = by r x; extends = λ t. list_extends (same_self (rank place)) (x.step t) }
   where
     by : (r : Result (List (List ℕ)) DirError) → ListCall observed old (ListArea place) (names_reply r) new → new.local ≡ old.local

@@ -12,7 +12,7 @@ use Rattle.dir_model.specs.Replies.{is_look_at}
 use Rattle.dir_model.specs.State.{DirState, spot_eq, stands}
 use Rattle.dir_model.proofs.Chains.{extends_wider}
 use Rattle.dir_trait.specs.DirCalls.{DirAt, ExtendsBy, HeldBetween}
-use Rattle.folder_building.specs.Work.{Worked}
+use Rattle.dir_trait.specs.Effects.{OnlyAsks}
 use Rattle.phase_read.specs.declared.found.LookError.{LookError}
 use Rattle.phase_read.specs.declared.found.LookError.TheVariants as look
 use Rattle.phase_read.specs.Read.{pod_spot}
@@ -29,7 +29,7 @@ look_kinds pod a (Close handle) is = refl
 look_kinds pod a _ is = cc
 
 pub worked_look : {observed : Bool} {spot : Spot} (pod : PodId) (a : Area) (old new : DirAt) → spot ≡ pod_spot pod a → new.process ≡ old.process → old.faults ≤ new.faults → new.local ≡ old.local
-    → (observed ≡ true → ExtendsBy (is_look_at (spot_eq spot)) old new) → Worked observed (looks_at pod a) old new
+    → (observed ≡ true → ExtendsBy (is_look_at (spot_eq spot)) old new) → OnlyAsks observed (looks_at pod a) old new
 worked_look {observed} {spot} pod a old new is same faults local extends = record {
   same = same;
   faults = faults;

@@ -43,7 +43,7 @@ use Rattle.dir_rules.proofs.Looks.{same_bytes, deletes_none}
 use Rattle.dir_trait.specs.DirCalls.{DirAt, DirCall}
 use Rattle.dir_trait.specs.Knowledge.{Knows}
 use Rattle.dir_trait.proofs.Knowing.{knows_call}
-use Rattle.folder_building.specs.Work.{Worked}
+use Rattle.dir_trait.specs.Effects.{OnlyAsks, Given}
 use Rattle.gate_reading.proofs.PlainPaths.{plain_own}
 use Rattle.phase_read.specs.Read.{pod_spot}
 use Rattle.pod_locks.proofs.ClaimSeen.{off}
@@ -51,7 +51,7 @@ use Rattle.pod_locks.proofs.Times.{at_part}
 use Rattle.pod_locks.proofs.Traces.{grown_none}
 use Rattle.pod_locks.specs.declared.setback.Setback.TheVariants as stop
 use Rattle.pod_locks.specs.Setbacks.{set_back}
-use Rattle.pod_locks.specs.Holding.{IsBare, MayLook, LooksFree, with_look, MayMove, Keeps, KeepsReady, Stays}
+use Rattle.pod_locks.specs.Holding.{IsBare, MayLook, LooksFree, with_look, MayMove, Keeps, KeepsReady}
 use Rattle.pod_locks.specs.Requests.{moves}
 use Rattle.pod_locks.specs.Causes.{Stopped, IsAbsentAt}
 use Rattle.pod_locks.proofs.Calls.{Follows}
@@ -74,7 +74,7 @@ with_mark {observed} {old} {new} {spot} {path} {reply} pod now at name c =
 pub asks_mark : (pod : PodId) (now : ℕ) → marks_at pod now (MakeFileIn (mark_of pod now)) ≡ true
 asks_mark pod now = and_both _ _ (spot_self (pod_spot pod Run)) (same_bytes (marked_mark now))
 
-pub worked_mark : {observed : Bool} {old new : DirAt} (pod : PodId) (now : ℕ) (answer : Result (Unit {0}) DirError) → DirCall observed old (MakeFileIn (mark_of pod now)) (done_reply answer) new → Worked observed (marks_at pod now) old new
+pub worked_mark : {observed : Bool} {old new : DirAt} (pod : PodId) (now : ℕ) (answer : Result (Unit {0}) DirError) → DirCall observed old (MakeFileIn (mark_of pod now)) (done_reply answer) new → OnlyAsks observed (marks_at pod now) old new
 worked_mark {observed} {old} {new} pod now answer x = record { same = x.same; faults = x.faults; local = by answer x; extends = λ t. and_call nothing_yet refl (asks_mark pod now) (x.step t) }
   where
     by : (answer : Result (Unit {0}) DirError) → DirCall observed old (MakeFileIn (mark_of pod now)) (done_reply answer) new → new.local ≡ old.local
@@ -119,13 +119,13 @@ module _ (pod : PodId) (now : ℕ) (s : Seen) (may : MayMark pod now s) where
       ∙ ap (λ b. b || list_any (spot_eq (pod_spot pod Run)) s.marked) (spot_self (pod_spot pod Run))
 
 module _ {observed : Bool} {old new : DirAt} (pod : PodId) (now : ℕ) where
-  pub knows_marked : DirCall observed old (MakeFileIn (mark_of pod now)) Done new → observed ≡ true → Stays (MayMark pod now) old (λ s. Marked pod s new)
+  pub knows_marked : DirCall observed old (MakeFileIn (mark_of pod now)) Done new → observed ≡ true → Given (MayMark pod now) old (λ s. Marked pod s new)
   knows_marked x t s k may = record { known = seen_replied s (MakeFileIn (mark_of pod now)) Done; keeps = mark_keeps pod now s may (Ok tt); standing = refl; marked = made_marked pod now s may; knows = knows_call t k refl refl x }
 
-  pub knows_there : DirCall observed old (MakeFileIn (mark_of pod now)) (Refused Exists 0) new → observed ≡ true → Stays (MayMark pod now) old (λ s. Marked pod s new)
+  pub knows_there : DirCall observed old (MakeFileIn (mark_of pod now)) (Refused Exists 0) new → observed ≡ true → Given (MayMark pod now) old (λ s. Marked pod s new)
   knows_there x t s k may = record { known = seen_replied s (MakeFileIn (mark_of pod now)) (Refused Exists 0); keeps = mark_keeps pod now s may (Err Exists); standing = refl; marked = there_marked pod now s may; knows = knows_call t k refl refl x }
 
-  pub ready_mark : (answer : Result (Unit {0}) DirError) → DirCall observed old (MakeFileIn (mark_of pod now)) (done_reply answer) new → observed ≡ true → Stays (MayMark pod now) old (λ s. KeepsReady s new)
+  pub ready_mark : (answer : Result (Unit {0}) DirError) → DirCall observed old (MakeFileIn (mark_of pod now)) (done_reply answer) new → observed ≡ true → Given (MayMark pod now) old (λ s. KeepsReady s new)
   ready_mark answer x t s k may = record { known = seen_replied s (MakeFileIn (mark_of pod now)) (done_reply answer); keeps = mark_keeps pod now s may answer; knows = by answer x }
     where
       by : (answer : Result (Unit {0}) DirError) → DirCall observed old (MakeFileIn (mark_of pod now)) (done_reply answer) new → Knows new (seen_replied s (MakeFileIn (mark_of pod now)) (done_reply answer))
@@ -133,7 +133,7 @@ module _ {observed : Bool} {old new : DirAt} (pod : PodId) (now : ℕ) where
       by (Err e) x = knows_call t k refl refl x
 
 -- nothing was asked for
-pub ready_unasked : {d : DirAt} (pod : PodId) (now : ℕ) → Stays (MayMark pod now) d (λ s. KeepsReady s d)
+pub ready_unasked : {d : DirAt} (pod : PodId) (now : ℕ) → Given (MayMark pod now) d (λ s. KeepsReady s d)
 ready_unasked pod now s k may = record { known = s; keeps = record { intent = refl; holdings = refl; kept = refl; bare = may.bare }; knows = k }
 
 -- why it wasn't marked
@@ -225,7 +225,7 @@ pub noted_already : {observed : Bool} {old new : DirAt} (pod : PodId) (now : ℕ
 noted_already pod now x t = noted_there pod now (x.step t)
 
 -- and then it was moved
-pub marked_first : {observed : Bool} {a b c d : DirAt} (pod : PodId) (now : ℕ) → observed ≡ true → Follows observed a b → IsMarkedBetween pod now b c → c.process ≡ b.process → Worked observed (moves pod Run ExitedGarbage) c d → MarkedFirst pod now a.process a.trace d.trace
+pub marked_first : {observed : Bool} {a b c d : DirAt} (pod : PodId) (now : ℕ) → observed ≡ true → Follows observed a b → IsMarkedBetween pod now b c → c.process ≡ b.process → OnlyAsks observed (moves pod Run ExitedGarbage) c d → MarkedFirst pod now a.process a.trace d.trace
 marked_first {observed} {a} {b} {c} {d} pod now t ab x same w = record {
   folder = x.0;
   between = c.trace;
@@ -272,14 +272,14 @@ moves_exited {now} {s} pod may m =
     (ap (λ (z : Standing). is_open_on (target.Own (pod_spot pod Run)) z.holdings) m.standing ∙ off Own (pod_spot pod Run) s.standing.holdings may.apart)
     m.keeps.bare
 
-pub ready_exited : {now : ℕ} {a b c d : DirAt} (pod : PodId) → Stays (MayLook pod Run) a (λ s. LooksFree pod Run s b) → Stays (MayMark pod now) b (λ s. Marked pod s c) → Stays (MayMove pod Run ExitedGarbage) c (λ s. KeepsReady s d)
-    → Stays (MayRemove now) a (λ s. KeepsReady s d)
+pub ready_exited : {now : ℕ} {a b c d : DirAt} (pod : PodId) → Given (MayLook pod Run) a (λ s. LooksFree pod Run s b) → Given (MayMark pod now) b (λ s. Marked pod s c) → Given (MayMove pod Run ExitedGarbage) c (λ s. KeepsReady s d)
+    → Given (MayRemove now) a (λ s. KeepsReady s d)
 ready_exited pod free marked moves s k may =
     let m = marked (with_look pod Run s) (free s k (looks_exited pod may)) (marks_exited pod may) in
     let x = moves m.known m.knows (moves_exited pod may m) in
     record { known = x.known; keeps = record { intent = x.keeps.intent ∙ m.keeps.intent; holdings = x.keeps.holdings ∙ m.keeps.holdings; kept = x.keeps.kept ∙ m.keeps.kept; bare = x.keeps.bare }; knows = x.knows }
 
-pub ready_unmarked : {now : ℕ} {a b c : DirAt} (pod : PodId) → Stays (MayLook pod Run) a (λ s. LooksFree pod Run s b) → Stays (MayMark pod now) b (λ s. KeepsReady s c) → Stays (MayRemove now) a (λ s. KeepsReady s c)
+pub ready_unmarked : {now : ℕ} {a b c : DirAt} (pod : PodId) → Given (MayLook pod Run) a (λ s. LooksFree pod Run s b) → Given (MayMark pod now) b (λ s. KeepsReady s c) → Given (MayRemove now) a (λ s. KeepsReady s c)
 ready_unmarked pod free left s k may =
     let x = left (with_look pod Run s) (free s k (looks_exited pod may)) (marks_exited pod may) in
     record { known = x.known; keeps = record { intent = x.keeps.intent; holdings = x.keeps.holdings; kept = x.keeps.kept; bare = x.keeps.bare }; knows = x.knows }

@@ -29,7 +29,7 @@ use Rattle.dir_rules.specs.Rules.{asks_for}
 use Rattle.dir_rules.specs.Conforms.{Looked}
 use Rattle.dir_trait.specs.DirCalls.{DirAt, ExtendsBy}
 use Rattle.dir_trait.specs.Knowledge.{OnlyLooks}
-use Rattle.folder_building.specs.Work.{Worked}
+use Rattle.dir_trait.specs.Effects.{OnlyAsks, Given}
 use Rattle.lifecycle.specs.Executions.{IsConforming}
 use Rattle.phase_read.specs.declared.found.Found.TheVariants.{At}
 use Rattle.phase_read.specs.declared.found.LookError.{LookError}
@@ -50,7 +50,7 @@ use Rattle.pod_locks.proofs.Traces.{grown_none}
 use Rattle.pod_locks.specs.declared.setback.Setback.{Setback}
 use Rattle.pod_locks.specs.declared.setback.Setback.TheVariants as stop
 use Rattle.pod_locks.specs.Setbacks.{look_setback}
-use Rattle.pod_locks.specs.Holding.{Keeps, KeepsReady, Stays}
+use Rattle.pod_locks.specs.Holding.{Keeps, KeepsReady}
 use Rattle.pod_locks.specs.Causes.{Stopped, IsAbsentAt, Did, WasStray, BusyElsewhere}
 use Rattle.pod_locks.proofs.Calls.{Follows, stray_part, rose_later, rose_still}
 use Rattle.pod_locks.proofs.Within.{held_within}
@@ -72,7 +72,7 @@ look_removes pod now (TryLock handle mode) is = refl
 look_removes pod now (Close handle) is = refl
 look_removes pod now _ is = cc
 
-pub worked_read : {observed : Bool} (pod : PodId) (now : ℕ) (old new : DirAt) → new.process ≡ old.process → old.faults ≤ new.faults → new.local ≡ old.local → (observed ≡ true → ExtendsBy (is_look_at (is_pod_spot pod)) old new) → Worked observed (removes pod now) old new
+pub worked_read : {observed : Bool} (pod : PodId) (now : ℕ) (old new : DirAt) → new.process ≡ old.process → old.faults ≤ new.faults → new.local ≡ old.local → (observed ≡ true → ExtendsBy (is_look_at (is_pod_spot pod)) old new) → OnlyAsks observed (removes pod now) old new
 worked_read pod now old new same faults local extends = record { same = same; faults = faults; local = local; extends = λ t. extends_wider (look_removes pod now) (extends t) }
 
 pub garbage_stage : (a : Area) → is_garbage_place a ≡ true → is_stage a ≡ true
@@ -181,26 +181,26 @@ may_looked l m = may_pod_kept (looked_keeps m.may l) m
 keeps_more : {a b c : Seen} → Keeps a b → Keeps b c → Keeps a c
 keeps_more ab bc = record { intent = bc.intent ∙ ab.intent; holdings = bc.holdings ∙ ab.holdings; kept = bc.kept ∙ ab.kept; bare = bc.bare }
 
-pub ready_here : {now : ℕ} {d : DirAt} {pod : PodId} → Stays (MayRemovePod pod now) d (λ s. KeepsReady s d)
+pub ready_here : {now : ℕ} {d : DirAt} {pod : PodId} → Given (MayRemovePod pod now) d (λ s. KeepsReady s d)
 ready_here s k m = record { known = s; keeps = record { intent = refl; holdings = refl; kept = refl; bare = m.may.bare }; knows = k }
 
-pub ready_more : {now : ℕ} {a b c : DirAt} {pod : PodId} → Stays (MayRemovePod pod now) a (λ s. KeepsReady s b) → Stays (MayRemovePod pod now) b (λ s. KeepsReady s c) → Stays (MayRemovePod pod now) a (λ s. KeepsReady s c)
+pub ready_more : {now : ℕ} {a b c : DirAt} {pod : PodId} → Given (MayRemovePod pod now) a (λ s. KeepsReady s b) → Given (MayRemovePod pod now) b (λ s. KeepsReady s c) → Given (MayRemovePod pod now) a (λ s. KeepsReady s c)
 ready_more ab bc s k m =
     let x = ab s k m in
     let y = bc x.known x.knows (may_pod_kept x.keeps m) in
     record { known = y.known; keeps = keeps_more x.keeps y.keeps; knows = y.knows }
 
-pub ready_any : {now : ℕ} {a b : DirAt} (pod : PodId) → Stays (MayRemove now) a (λ s. KeepsReady s b) → Stays (MayRemovePod pod now) a (λ s. KeepsReady s b)
+pub ready_any : {now : ℕ} {a b : DirAt} (pod : PodId) → Given (MayRemove now) a (λ s. KeepsReady s b) → Given (MayRemovePod pod now) a (λ s. KeepsReady s b)
 ready_any pod x s k m = x s k m.may
 
-pub ready_waiting : {now : ℕ} {a b : DirAt} (pod : PodId) → Stays (MayDiscard pod now) a (λ s. KeepsReady s b) → Stays (MayRemovePod pod now) a (λ s. KeepsReady s b)
+pub ready_waiting : {now : ℕ} {a b : DirAt} (pod : PodId) → Given (MayDiscard pod now) a (λ s. KeepsReady s b) → Given (MayRemovePod pod now) a (λ s. KeepsReady s b)
 ready_waiting pod x s k m = x s k (may_discard pod m)
 
-pub ready_looks : {now : ℕ} {a b : DirAt} (pod : PodId) → OnlyLooks a b → Stays (MayRemovePod pod now) a (λ s. KeepsReady s b)
+pub ready_looks : {now : ℕ} {a b : DirAt} (pod : PodId) → OnlyLooks a b → Given (MayRemovePod pod now) a (λ s. KeepsReady s b)
 ready_looks pod looks s k m = let x = looks s k in record { known = x.known; keeps = looked_keeps m.may x.looked; knows = x.knows }
 
-pub another_ready : {now : ℕ} {a b : DirAt} {pod : PodId} {observed : Bool} (e : Setback) (c : DirAt) → observed ≡ true → Follows observed a b → Follows observed c c → Stays (MayRemovePod pod now) a (λ s. KeepsReady s b)
-    → Stays (MayRemovePod pod now) b (λ s. BusyAny pod e b c) → Stays (MayRemovePod pod now) a (λ s. BusyAny pod e a c)
+pub another_ready : {now : ℕ} {a b : DirAt} {pod : PodId} {observed : Bool} (e : Setback) (c : DirAt) → observed ≡ true → Follows observed a b → Follows observed c c → Given (MayRemovePod pod now) a (λ s. KeepsReady s b)
+    → Given (MayRemovePod pod now) b (λ s. BusyAny pod e b c) → Given (MayRemovePod pod now) a (λ s. BusyAny pod e a c)
 another_ready e c t ab cc' ready busy s k m = let x = ready s k m in busy_part e t ab cc' (busy x.known x.knows (may_pod_kept x.keeps m))
 
 -- one round
@@ -241,8 +241,8 @@ module _ {observed : Bool} (pod : PodId) (p : Phase) (area : Area) (old mid new 
   round_cause (Err stop.NoMemory) x = record { fault = λ is. cc; there = λ is. cc; phase = λ q is. cc; manifest = λ is. cc; named = λ other w is. cc; stray = λ is. cc }
 
   module _ (now : ℕ) (known : observed ≡ true → OnlyLooks old mid) where
-    pub round_another : (r : Result (Unit {0}) Setback) → IfErr r (λ e. observed ≡ true → Stays (MayRemovePod pod now) mid (λ s. BusyAny pod e mid new))
-        → IfErr (round_of pod r) (λ e. observed ≡ true → Stays (MayRemovePod pod now) old (λ s. RefusedByAnother pod e old new))
+    pub round_another : (r : Result (Unit {0}) Setback) → IfErr r (λ e. observed ≡ true → Given (MayRemovePod pod now) mid (λ s. BusyAny pod e mid new))
+        → IfErr (round_of pod r) (λ e. observed ≡ true → Given (MayRemovePod pod now) old (λ s. RefusedByAnother pod e old new))
     round_another (Ok done) busy = tt
     round_another (Err stop.Missing) busy = tt
     round_another (Err (stop.Busy w)) busy = λ t s k m. record {
@@ -281,7 +281,7 @@ look_alone pod _ old new = record { busy = λ which is. cc; owner = λ conformin
 
 pub wrong_elsewhere : {observed : Bool} (pod : PodId) (now : ℕ) (old new : DirAt) (p : Phase) (area : Area) → (observed ≡ true → ExtendsBy (is_look_at (is_pod_spot pod)) old new)
     → (observed ≡ true → IsConforming new.trace → AtOwnEvent old.process old.trace new.trace (IsInPhase pod p area))
-    → observed ≡ true → Stays (MayRemovePod pod now) old (λ s. RefusedByAnother pod (error.WrongPhase p) old new)
+    → observed ≡ true → Given (MayRemovePod pod now) old (λ s. RefusedByAnother pod (error.WrongPhase p) old new)
 wrong_elsewhere pod now old new p area extends exact t s k m = record {
   busy = λ which is. cc;
   owner = λ conforming q is owned.
@@ -360,8 +360,8 @@ module _ {observed : Bool} {pod : PodId} {a b : DirAt} (ab : Follows observed a 
   pub removed_then : (c : DirAt) → observed ≡ true → RemovedLater pod b c → RemovedBetween pod a c
   removed_then c t x = inr (record { between = b.trace; missed = found t; ended = subst (λ (p : ℕ). IsEnded pod p b.trace c.trace) ab.same x })
 
-pub refused_later : {observed : Bool} {now : ℕ} {pod : PodId} {a b : DirAt} (e : RemoveError) (c : DirAt) → observed ≡ true → Follows observed a b → Stays (MayRemovePod pod now) a (λ s. KeepsReady s b) → Stays (MayRemovePod pod now) b (λ s. RefusedByAnother pod e b c)
-    → Stays (MayRemovePod pod now) a (λ s. RefusedByAnother pod e a c)
+pub refused_later : {observed : Bool} {now : ℕ} {pod : PodId} {a b : DirAt} (e : RemoveError) (c : DirAt) → observed ≡ true → Follows observed a b → Given (MayRemovePod pod now) a (λ s. KeepsReady s b) → Given (MayRemovePod pod now) b (λ s. RefusedByAnother pod e b c)
+    → Given (MayRemovePod pod now) a (λ s. RefusedByAnother pod e a c)
 refused_later {observed} {now} {pod} {a} {b} e c t ab ready busy s k m =
     let x = ready s k m in
     let later = busy x.known x.knows (may_pod_kept x.keeps m) in
@@ -377,8 +377,8 @@ refused_later {observed} {now} {pod} {a} {b} e c t ab ready busy s k m =
 
 -- what the rounds so far came to
 pub record Rounds (observed : Bool) (n : ℕ) (pod : PodId) (now : ℕ) (old new : DirAt) : Type 0 where
-  pub worked : Worked observed (removes pod now) old new
+  pub worked : OnlyAsks observed (removes pod now) old new
   pub missed : observed ≡ true → MissedTimes n pod old.process old.trace new.trace
   pub reads : ReadsAtMost n observed pod old new
   pub kept : observed ≡ true → KeepsFolders old new
-  pub ready : observed ≡ true → Stays (MayRemovePod pod now) old (λ s. KeepsReady s new)
+  pub ready : observed ≡ true → Given (MayRemovePod pod now) old (λ s. KeepsReady s new)

@@ -14,11 +14,12 @@ use Rattle.dir_rules.specs.Rules.{is_deleting}
 use Rattle.dir_rules.proofs.Looks.{same_bytes, deletes_none}
 use Rattle.dir_trait.specs.DirCalls.{DirAt}
 use Rattle.dir_trait.specs.Knowledge.{Knows}
+use Rattle.dir_trait.specs.Effects.{Given}
 use Rattle.phase_read.specs.Read.{pod_spot}
 use Rattle.pod_locks.specs.ClaimCauses.{is_lock}
 use Rattle.pod_locks.specs.ClaimHolding.{is_on_folder}
 use Rattle.pod_locks.proofs.ClaimSeen.{off, kind_one}
-use Rattle.pod_locks.specs.Holding.{MayLook, LooksFree, with_look, MayMove, KeepsReady, Stays}
+use Rattle.pod_locks.specs.Holding.{MayLook, LooksFree, with_look, MayMove, KeepsReady}
 use Rattle.pod_gc.specs.RemovalHolding.{MayRemove}
 
 pub err_same : {A B E : Type 0} (Q : E → Type 0) (r : Result A E) (other : Result B E) → ((e : E) → other ≡ Err e → r ≡ Err e) → IfErr r Q → IfErr other Q
@@ -60,8 +61,8 @@ moves_aborted {now} {s} pod may = record {
 pub same_ready : {now : ℕ} {s : Seen} {d : DirAt} → MayRemove now s → Knows d s → KeepsReady s d
 same_ready {now} {s} may k = record { known = s; keeps = record { intent = refl; holdings = refl; kept = refl; bare = may.bare }; knows = k }
 
-pub ready_aborted : {now : ℕ} {old mid new : DirAt} (pod : PodId) → Stays (MayLook pod Prepare) old (λ s. LooksFree pod Prepare s mid) → Stays (MayMove pod Prepare Garbage) mid (λ s. KeepsReady s new)
-    → Stays (MayRemove now) old (λ s. KeepsReady s new)
+pub ready_aborted : {now : ℕ} {old mid new : DirAt} (pod : PodId) → Given (MayLook pod Prepare) old (λ s. LooksFree pod Prepare s mid) → Given (MayMove pod Prepare Garbage) mid (λ s. KeepsReady s new)
+    → Given (MayRemove now) old (λ s. KeepsReady s new)
 ready_aborted pod free moves s k may =
     let x = moves (with_look pod Prepare s) (free s k (looks_aborted pod may)) (moves_aborted pod may) in
     record { known = x.known; keeps = record { intent = x.keeps.intent; holdings = x.keeps.holdings; kept = x.keeps.kept; bare = x.keeps.bare }; knows = x.knows }

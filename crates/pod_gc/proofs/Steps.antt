@@ -23,6 +23,7 @@ use Rattle.dir_model.proofs.Moments.{at_weaker, settle}
 use Rattle.dir_rules.specs.declared.seen.Seen.{Seen}
 use Rattle.dir_trait.specs.DirCalls.{DirAt, HeldBetween, LockToldBetween, ExtendsBy}
 use Rattle.dir_trait.specs.Knowledge.{Knows, OnlyLooks}
+use Rattle.dir_trait.specs.Effects.{Given}
 use Rattle.lifecycle.specs.Executions.{IsConforming}
 use Rattle.lifecycle.proofs.Stays.{stays_between}
 use Rattle.phase_read.specs.declared.found.LookError.{LookError}
@@ -37,7 +38,7 @@ use Rattle.pod_locks.proofs.Traces.{grown_none, grown_more}
 use Rattle.pod_locks.specs.declared.setback.Setback.{Setback}
 use Rattle.pod_locks.specs.declared.setback.Setback.TheVariants as stop
 use Rattle.pod_locks.specs.Requests.{looks_at, moves, peeks_at}
-use Rattle.pod_locks.specs.Holding.{MayLook, LooksFree, with_look, KeepsReady, Stays}
+use Rattle.pod_locks.specs.Holding.{MayLook, LooksFree, with_look, KeepsReady}
 use Rattle.pod_locks.specs.Causes.{Stopped, IsAbsentAt, Did, WasStray, BusyElsewhere, HeldByAnother, FreeOfOthers, FreeWhere}
 use Rattle.pod_locks.proofs.Calls.{Follows, stray_part, rose_later}
 use Rattle.pod_gc.specs.RemovalRequests.{is_garbage_place, removes}
@@ -175,7 +176,7 @@ module _ (observed : Bool) (pod : PodId) (place : Area) (done : Deed) (old new :
   step_cause (Err stop.NoMemory) err = record { fault = λ is. cc; stray = λ is. cc }
 
   module _ (May : Seen → Type 0) (calm : (which : Which) → refused_lock done ≡ Some which → ⊥) (acts : (p : Phase) → done ≡ Kept p → ⊥) where
-    pub step_another : (r : Result (Unit {0}) Setback) → IfErr r (λ e. observed ≡ true → Stays May old (λ s. BusyHere pod place e old new)) → IfOk (deed_of r done) (λ deed. LeavesWhere observed May pod place deed old new)
+    pub step_another : (r : Result (Unit {0}) Setback) → IfErr r (λ e. observed ≡ true → Given May old (λ s. BusyHere pod place e old new)) → IfOk (deed_of r done) (λ deed. LeavesWhere observed May pod place deed old new)
     step_another (Ok d) busy = λ t s k m. record { held = λ which is. absurd (calm which is); owner = λ conforming p is. absurd (acts p is) }
     step_another (Err stop.Missing) busy = λ t s k m. left_gone
     step_another (Err stop.NoManifest) busy = λ t s k m. left_gone
@@ -236,7 +237,7 @@ own_kept kind.Deleting which is = cc
 own_kept _ which is = cc
 
 module _ (observed : Bool) (now : ℕ) (pod : PodId) (place : Area) (w : Which) (p : Phase) (old mid new : DirAt) (stage : rank place ≤ 5) (same : mid.process ≡ old.process) (bc : Follows observed mid new) (named : w ≡ Own)
-    (busy : observed ≡ true → Stays (MayRemove now) old (λ s. BusyElsewhere pod place Shared (stop.Busy w) old mid)) (first : observed ≡ true → ExtendsBy (peeks_at pod place) old mid) (then : observed ≡ true → ExtendsBy (peeks_at pod place) mid new) where
+    (busy : observed ≡ true → Given (MayRemove now) old (λ s. BusyElsewhere pod place Shared (stop.Busy w) old mid)) (first : observed ≡ true → ExtendsBy (peeks_at pod place) old mid) (then : observed ≡ true → ExtendsBy (peeks_at pod place) mid new) where
   peeks_its : (r : Request) → peeks_at pod place r ≡ true → is_look_at (is_pod_spot pod) r ≡ true
   peeks_its (Open spot which) is = pod_spot_only pod (pod_spot pod place) spot stage refl is
   peeks_its (TryLock handle Shared) is = refl
@@ -262,7 +263,7 @@ cause_after {observed} {e} {a} {b} {c} ab x = record { fault = λ is. rose_later
 
 -- a look after a step
 
-pub ready_looked : {now : ℕ} {a b c : DirAt} → Stays (MayRemove now) a (λ s. KeepsReady s b) → OnlyLooks b c → Stays (MayRemove now) a (λ s. KeepsReady s c)
+pub ready_looked : {now : ℕ} {a b c : DirAt} → Given (MayRemove now) a (λ s. KeepsReady s b) → OnlyLooks b c → Given (MayRemove now) a (λ s. KeepsReady s c)
 ready_looked ready looks s k m =
     let x = ready s k m in
     let y = looks x.known x.knows in
@@ -299,10 +300,10 @@ said_rests p deed (inr left) = subst (λ (d : Deed). DoesNothing d) (sym left) t
 pub looks_resting : {now : ℕ} {s : Seen} (pod : PodId) → MayRemove now s → MayLook pod area.ExitedGarbage s
 looks_resting {now} {s} pod m = record { alone = off Own (pod_spot pod area.ExitedGarbage) s.standing.holdings m.apart; single = none_kind Own s.standing.holdings m.apart; may = refl }
 
-pub ready_probed : {now : ℕ} {a b : DirAt} (pod : PodId) → Stays (MayLook pod area.ExitedGarbage) a (λ s. LooksFree pod area.ExitedGarbage s b) → Stays (MayRemove now) a (λ s. KeepsReady s b)
+pub ready_probed : {now : ℕ} {a b : DirAt} (pod : PodId) → Given (MayLook pod area.ExitedGarbage) a (λ s. LooksFree pod area.ExitedGarbage s b) → Given (MayRemove now) a (λ s. KeepsReady s b)
 ready_probed pod free s k m = record { known = with_look pod area.ExitedGarbage s; keeps = record { intent = refl; holdings = refl; kept = refl; bare = m.bare }; knows = free s k (looks_resting pod m) }
 
-pub ready_unprobed : {now : ℕ} {a b : DirAt} (pod : PodId) → Stays (MayLook pod area.ExitedGarbage) a (λ s. Knows b s) → Stays (MayRemove now) a (λ s. KeepsReady s b)
+pub ready_unprobed : {now : ℕ} {a b : DirAt} (pod : PodId) → Given (MayLook pod area.ExitedGarbage) a (λ s. Knows b s) → Given (MayRemove now) a (λ s. KeepsReady s b)
 ready_unprobed pod left s k m = same_ready m (left s k (looks_resting pod m))
 
 -- a step that no lock stops
@@ -378,11 +379,11 @@ left_after {pod} {place} {deed} {me} {other} {a} {b} {c} ab same x =
     let y = subst (λ (p : ℕ). LeftToAnother pod place deed p b c) same x in
     record { held = λ which is. held_within ab refl grown_none (y.held which is); owner = λ conforming p is owned. event_after ab refl (y.owner conforming p is owned) }
 
-pub busy_later : {observed : Bool} {now : ℕ} {pod : PodId} {place : Area} {a b : DirAt} (deed : Deed) (c : DirAt) → observed ≡ true → Follows observed a b → Stays (MayRemove now) a (λ s. KeepsReady s b) → Stays (MayRemove now) b (λ s. LeavesToAnother pod place deed b c)
-    → Stays (MayRemove now) a (λ s. LeavesToAnother pod place deed a c)
+pub busy_later : {observed : Bool} {now : ℕ} {pod : PodId} {place : Area} {a b : DirAt} (deed : Deed) (c : DirAt) → observed ≡ true → Follows observed a b → Given (MayRemove now) a (λ s. KeepsReady s b) → Given (MayRemove now) b (λ s. LeavesToAnother pod place deed b c)
+    → Given (MayRemove now) a (λ s. LeavesToAnother pod place deed a c)
 busy_later deed c t ab ready busy s k m = let x = ready s k m in left_after (ab.grown t) ab.same (busy x.known x.knows (may_kept x.keeps m))
 
-pub ready_later : {now : ℕ} {a b c : DirAt} → Stays (MayRemove now) a (λ s. KeepsReady s b) → Stays (MayRemove now) b (λ s. KeepsReady s c) → Stays (MayRemove now) a (λ s. KeepsReady s c)
+pub ready_later : {now : ℕ} {a b c : DirAt} → Given (MayRemove now) a (λ s. KeepsReady s b) → Given (MayRemove now) b (λ s. KeepsReady s c) → Given (MayRemove now) a (λ s. KeepsReady s c)
 ready_later ab bc s k m =
     let x = ab s k m in
     let y = bc x.known x.knows (may_kept x.keeps m) in

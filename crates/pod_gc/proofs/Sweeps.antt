@@ -10,7 +10,8 @@ use Rattle.dir_rules.specs.declared.standing.Held.{Held}
 use Rattle.dir_rules.specs.declared.seen.Seen.{Seen}
 use Rattle.dir_rules.specs.LockRules.{is_open_on}
 use Rattle.dir_trait.specs.DirCalls.{DirAt}
-use Rattle.pod_locks.specs.Holding.{Keeps, KeepsReady, Stays}
+use Rattle.dir_trait.specs.Effects.{Given}
+use Rattle.pod_locks.specs.Holding.{Keeps, KeepsReady}
 use Rattle.pod_locks.proofs.Calls.{Follows}
 use Rattle.pod_gc.specs.declared.ages.Times.{Times}
 use Rattle.pod_gc.specs.declared.line.GcLine.{GcLine}
@@ -23,10 +24,10 @@ use Rattle.pod_gc.proofs.Gates.{passed_by}
 pub all_kept : {now expire : ℕ} {s z : Seen} → Keeps s z → MaySweepAll now expire s → MaySweepAll now expire z
 all_kept k m = record { sweeps = sweep_kept k m.sweeps; free = ap (λ (hs : List Held). not (is_open_on (Gate Embryo) hs)) k.holdings ∙ m.free }
 
-pub all_none : {now expire : ℕ} {d : DirAt} → Stays (MaySweepAll now expire) d (λ s. KeepsReady s d)
+pub all_none : {now expire : ℕ} {d : DirAt} → Given (MaySweepAll now expire) d (λ s. KeepsReady s d)
 all_none s k m = record { known = s; keeps = record { intent = refl; holdings = refl; kept = refl; bare = m.sweeps.may.bare }; knows = k }
 
-pub all_more : {now expire : ℕ} {a b c : DirAt} → Stays (MaySweepAll now expire) a (λ s. KeepsReady s b) → Stays (MaySweepAll now expire) b (λ s. KeepsReady s c) → Stays (MaySweepAll now expire) a (λ s. KeepsReady s c)
+pub all_more : {now expire : ℕ} {a b c : DirAt} → Given (MaySweepAll now expire) a (λ s. KeepsReady s b) → Given (MaySweepAll now expire) b (λ s. KeepsReady s c) → Given (MaySweepAll now expire) a (λ s. KeepsReady s c)
 all_more ab bc s k m =
     let x = ab s k m in
     let y = bc x.known x.knows (all_kept x.keeps m) in
@@ -53,7 +54,7 @@ passed_push Can me a b c times (p ∷ ps) here ls ms x y = record {
 pub swept_none : (times : Times) (lines : List GcLine) (d : DirAt) → AddsSwept times [] d d lines lines
 swept_none times lines d = ([], sym (append-nil lines), (refl, refl))
 
-pub swept_more : {observed : Bool} (a b c : DirAt) (times : Times) (done : List Area) (here : Area) (before mid after : List GcLine) → Follows observed a b → Stays (MaySweepAll times.now times.expire) a (λ s. KeepsReady s b)
+pub swept_more : {observed : Bool} (a b c : DirAt) (times : Times) (done : List Area) (here : Area) (before mid after : List GcLine) → Follows observed a b → Given (MaySweepAll times.now times.expire) a (λ s. KeepsReady s b)
     → AddsSwept times done a b before mid → AddsPassed times here b c mid after → AddsSwept times (done ++ here ∷ []) a c before after
 swept_more a b c times done here before mid after ab ready x y = (
   x.0 ++ y.0,

@@ -17,9 +17,10 @@ use Rattle.dir_model.proofs.Chains.{nothing_yet, extends_more, extends_wider}
 use Rattle.dir_model.proofs.Lists.{all_both, all_weaker, or_map, or_last, same_self}
 use Rattle.dir_rules.specs.declared.seen.Seen.{Seen}
 use Rattle.dir_trait.specs.DirCalls.{DirAt, ListCall}
+use Rattle.dir_trait.specs.Effects.{Given}
 use Rattle.dir_files.specs.Listed.{ShowsAreaBetween}
 use Rattle.folder_removal.proofs.Calls.{list_extends}
-use Rattle.pod_locks.specs.Holding.{Keeps, KeepsReady, Stays}
+use Rattle.pod_locks.specs.Holding.{Keeps, KeepsReady}
 use Rattle.pod_gc.specs.declared.ages.Times.{Times}
 use Rattle.pod_gc.specs.declared.line.Deed.{Deed}
 use Rattle.pod_gc.specs.declared.line.GcLine.{GcLine}
@@ -147,7 +148,7 @@ module _ {Can : Type 0} {me : ℕ} {a b c : List Event} (times : Times) (here : 
 
 -- what a process knew of itself it knows on
 
-pub knew_on : {May : Seen → Type 0} {a b : DirAt} → ((s z : Seen) → Keeps s z → May s → May z) → Stays May a (λ s. KeepsReady s b) → Knew May a → Knew May b
+pub knew_on : {May : Seen → Type 0} {a b : DirAt} → ((s z : Seen) → Keeps s z → May s → May z) → Given May a (λ s. KeepsReady s b) → Knew May a → Knew May b
 knew_on {May} {a} {b} keep ready can = let x = ready can.0 can.1 can.2 in (x.known, x.knows, keep can.0 x.known x.keeps can.2)
 
 -- no line, or more
@@ -156,7 +157,7 @@ pub adds_none : (times : Times) (here : Area) (lines : List GcLine) (d : DirAt) 
 adds_none times here lines d = ([], sym (append-nil lines), record { pods_are = refl; each = tt; only = nothing_yet })
 
 pub adds_more : (a b c : DirAt) (times : Times) (here : Area) (xs ys : List (List ℕ)) (before mid after : List GcLine) → b.process ≡ a.process
-    → Stays (MayPass here times.now times.expire) a (λ s. KeepsReady s b) → AddsTold times here xs a b before mid → AddsTold times here ys b c mid after → AddsTold times here (xs ++ ys) a c before after
+    → Given (MayPass here times.now times.expire) a (λ s. KeepsReady s b) → AddsTold times here xs a b before mid → AddsTold times here ys b c mid after → AddsTold times here (xs ++ ys) a c before after
 adds_more a b c times here xs ys before mid after same ready x y =
     let second : TellsEach (Knew (MayPass here times.now times.expire) a) times here ys y.0 a.process b.trace c.trace = tells_as (knew_on (λ s z k m. pass_kept k m) ready) same times here ys b.trace c.trace y.0 y.2 in
     (x.0 ++ y.0, y.1 ∙ (ap (λ (l : List GcLine). l ++ y.0) x.1 ∙ append_assoc before x.0 y.0), tells_both times here xs ys x.0 y.0 x.2 second)
@@ -165,7 +166,7 @@ adds_more a b c times here xs ys before mid after same ready x y =
 
 pub adds_pod : (old new : DirAt) (times : Times) (here : Area) (name : List ℕ) (pod : PodId) (deed : Deed) (before after : List GcLine) → pod_of name ≡ Some pod
     → after ≡ before ++ record { place = here; pod = Some pod; deed = deed } ∷ [] → Extends (deals_with pod times.now here) old.process old.trace new.trace → Dealt times pod here deed old.process old.trace new.trace
-    → Stays (MayPass here times.now times.expire) old (λ s. LeavesToAnother pod here deed old new) → AddsTold times here (name ∷ []) old new before after
+    → Given (MayPass here times.now times.expire) old (λ s. LeavesToAnother pod here deed old new) → AddsTold times here (name ∷ []) old new before after
 adds_pod old new times here name pod deed before after is adds turn dealt busy = (
   record { place = here; pod = Some pod; deed = deed } ∷ [],
   adds,
@@ -200,7 +201,7 @@ adds_other times here name lines d is = ([], sym (append-nil lines), record { po
 -- the area was listed before
 
 pub adds_shown : {observed : Bool} (a b c : DirAt) (times : Times) (here : Area) (names : List (List ℕ)) (before after : List GcLine) → observed ≡ true → ListCall observed a (ListArea here) (Names names) b
-    → IsStrictlySortedBy (slice_cmp nat_cmp) names → ShowsAreaBetween a b here names → Stays (MayPass here times.now times.expire) a (λ s. KeepsReady s b) → AddsTold times here names b c before after → AddsShown times here a c before after
+    → IsStrictlySortedBy (slice_cmp nat_cmp) names → ShowsAreaBetween a b here names → Given (MayPass here times.now times.expire) a (λ s. KeepsReady s b) → AddsTold times here names b c before after → AddsShown times here a c before after
 adds_shown a b c times here names before after t listing ordered shows ready x = (
   x.0,
   x.1,

@@ -16,7 +16,7 @@ use Rattle.dir_model.proofs.Lists.{all_weaker, or_map}
 use Rattle.dir_model.specs.Local.{Local}
 use Rattle.dir_model.specs.Replies.{is_look_at}
 use Rattle.dir_trait.specs.DirCalls.{DirAt, ExtendsBy}
-use Rattle.folder_building.specs.Work.{Worked}
+use Rattle.dir_trait.specs.Effects.{OnlyAsks, LeavesOpen}
 use Rattle.folder_removal.specs.Removal.{removes_folder, KeptFolders, KeepsFolders}
 use Rattle.folder_removal.proofs.Keeping.{kept_by, kept_more}
 use Rattle.phase_read.specs.Read.{is_pod_spot}
@@ -24,7 +24,6 @@ use Rattle.phase_read.specs.Often.{begins_read, ReadsAtMost}
 use Rattle.phase_read.proofs.Often.{unread_by, opens_past}
 use Rattle.pod_locks.specs.declared.setback.Setback.{Setback}
 use Rattle.pod_locks.specs.declared.setback.Setback.TheVariants as stop
-use Rattle.pod_locks.specs.Holding.{Went}
 use Rattle.pod_locks.specs.Requests.{looks_at, moves}
 use Rattle.pod_locks.specs.Taking.{takes_away, TookNothing}
 use Rattle.pod_gc.specs.RemovalRequests.{is_garbage_place, marks_at, deletes_in, puts_aside, aside, place_of}
@@ -56,19 +55,19 @@ deletes_unread : (pod : PodId) (a : Area) (n : ℕ) → rank a ≡ suc n → (r 
 deletes_unread pod a n is (Open spot which) asked = opens_past pod a n is spot (first_alone (looks_at pod a (Open spot which)) asked) which
 deletes_unread pod a n is r asked = refl
 
-pub unread_looks : {observed : Bool} {a b : DirAt} (pod : PodId) (area : Area) (n : ℕ) → rank area ≡ suc n → Worked observed (looks_at pod area) a b → ReadsAtMost 0 observed pod a b
+pub unread_looks : {observed : Bool} {a b : DirAt} (pod : PodId) (area : Area) (n : ℕ) → rank area ≡ suc n → OnlyAsks observed (looks_at pod area) a b → ReadsAtMost 0 observed pod a b
 unread_looks pod area n is w = unread_by (looks_unread pod area n is) (λ t. w.extends t)
 
-pub unread_took : {observed : Bool} {l : Local} {a b : DirAt} (pod : PodId) (area : Area) (n : ℕ) → rank area ≡ suc n → Went observed (looks_at pod area) l a b → ReadsAtMost 0 observed pod a b
+pub unread_took : {observed : Bool} {l : Local} {a b : DirAt} (pod : PodId) (area : Area) (n : ℕ) → rank area ≡ suc n → LeavesOpen observed (looks_at pod area) l a b → ReadsAtMost 0 observed pod a b
 unread_took pod area n is w = unread_by (looks_unread pod area n is) (λ t. w.extends t)
 
-pub unread_move : {observed : Bool} {a b : DirAt} (pod : PodId) (from to : Area) → Worked observed (moves pod from to) a b → ReadsAtMost 0 observed pod a b
+pub unread_move : {observed : Bool} {a b : DirAt} (pod : PodId) (from to : Area) → OnlyAsks observed (moves pod from to) a b → ReadsAtMost 0 observed pod a b
 unread_move pod from to w = unread_by (moves_unread pod from to) (λ t. w.extends t)
 
-pub unread_mark : {observed : Bool} {a b : DirAt} (pod : PodId) (now : ℕ) → Worked observed (marks_at pod now) a b → ReadsAtMost 0 observed pod a b
+pub unread_mark : {observed : Bool} {a b : DirAt} (pod : PodId) (now : ℕ) → OnlyAsks observed (marks_at pod now) a b → ReadsAtMost 0 observed pod a b
 unread_mark pod now w = unread_by (marks_unread pod now) (λ t. w.extends t)
 
-pub unread_delete : {observed : Bool} {a b : DirAt} (pod : PodId) (area : Area) (n : ℕ) → rank area ≡ suc n → Worked observed (deletes_in pod area) a b → ReadsAtMost 0 observed pod a b
+pub unread_delete : {observed : Bool} {a b : DirAt} (pod : PodId) (area : Area) (n : ℕ) → rank area ≡ suc n → OnlyAsks observed (deletes_in pod area) a b → ReadsAtMost 0 observed pod a b
 unread_delete pod area n is w = unread_by (deletes_unread pod area n is) (λ t. w.extends t)
 
 -- both garbage places come late in a pod's life

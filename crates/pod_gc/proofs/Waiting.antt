@@ -22,6 +22,7 @@ use Rattle.dir_rules.specs.declared.seen.Seen.{Seen}
 use Rattle.dir_rules.specs.Standing.{intends, is_gc}
 use Rattle.dir_rules.specs.Rules.{asks_for, is_old}
 use Rattle.dir_trait.specs.DirCalls.{DirAt, HeldBetween}
+use Rattle.dir_trait.specs.Effects.{Given}
 use Rattle.lifecycle.specs.Executions.{IsConforming}
 use Rattle.phase_read.specs.Read.{pod_spot, HasPhase}
 use Rattle.phase_read.specs.Exact.{AtOwnEvent, IsInPhase}
@@ -30,7 +31,7 @@ use Rattle.phase_read.proofs.Stages.{has_phase}
 use Rattle.pod_locks.proofs.Times.{at_part}
 use Rattle.pod_locks.proofs.Traces.{grown_none}
 use Rattle.pod_locks.specs.declared.setback.Setback.{Setback}
-use Rattle.pod_locks.specs.Holding.{KeepsReady, Stays}
+use Rattle.pod_locks.specs.Holding.{KeepsReady}
 use Rattle.pod_locks.specs.Causes.{IsAbsentAt}
 use Rattle.pod_locks.proofs.Calls.{Follows}
 use Rattle.pod_gc.specs.RemovalCauses.{StoppedAlone}
@@ -113,14 +114,14 @@ waited_deed pod a c deed t ab bc there (inr x) = deed_later c t ab (x t)
 
 -- what is known after both
 
-pub ready_waited : {now expire : ℕ} {a b c : DirAt} (pod : PodId) (created : Option ℕ) → Stays (MayRemove now) a (λ s. NotesMark pod created s b) → Stays (Ripens pod created now expire) b (λ s. KeepsReady s c) → Stays (MaySweep now expire) a (λ s. KeepsReady s c)
+pub ready_waited : {now expire : ℕ} {a b c : DirAt} (pod : PodId) (created : Option ℕ) → Given (MayRemove now) a (λ s. NotesMark pod created s b) → Given (Ripens pod created now expire) b (λ s. KeepsReady s c) → Given (MaySweep now expire) a (λ s. KeepsReady s c)
 ready_waited pod created notes ready s k m =
     let x = notes s k m.may in
     let y = ready x.known x.knows (ripens_noted pod created m x) in
     record { known = y.known; keeps = record { intent = y.keeps.intent ∙ x.keeps.intent; holdings = y.keeps.holdings ∙ x.keeps.holdings; kept = y.keeps.kept ∙ x.keeps.kept; bare = y.keeps.bare }; knows = y.knows }
 
-pub busy_waited : {observed : Bool} {now expire : ℕ} {place : Area} {a b : DirAt} (pod : PodId) (created : Option ℕ) (deed : Deed) (c : DirAt) → observed ≡ true → Follows observed a b → Stays (MayRemove now) a (λ s. NotesMark pod created s b)
-    → Stays (Ripens pod created now expire) b (λ s. LeavesToAnother pod place deed b c) → Stays (MaySweep now expire) a (λ s. LeavesToAnother pod place deed a c)
+pub busy_waited : {observed : Bool} {now expire : ℕ} {place : Area} {a b : DirAt} (pod : PodId) (created : Option ℕ) (deed : Deed) (c : DirAt) → observed ≡ true → Follows observed a b → Given (MayRemove now) a (λ s. NotesMark pod created s b)
+    → Given (Ripens pod created now expire) b (λ s. LeavesToAnother pod place deed b c) → Given (MaySweep now expire) a (λ s. LeavesToAnother pod place deed a c)
 busy_waited pod created deed c t ab notes busy s k m =
     let x = notes s k m.may in
     left_after (ab.grown t) ab.same (busy x.known x.knows (ripens_noted pod created m x))

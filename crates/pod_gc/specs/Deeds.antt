@@ -18,11 +18,11 @@ use Rattle.dir_model.specs.State.{DirState, stands}
 use Rattle.dir_rules.specs.declared.seen.Seen.{Seen}
 use Rattle.dir_rules.specs.Standing.{is_in}
 use Rattle.dir_trait.specs.DirCalls.{DirAt, HeldBetween}
+use Rattle.dir_trait.specs.Effects.{Given}
 use Rattle.lifecycle.specs.Executions.{IsConforming}
 use Rattle.phase_read.specs.Read.{pod_spot}
 use Rattle.phase_read.specs.Exact.{AtOwnEvent, IsInPhase}
 use Rattle.pod_locks.specs.Elsewhere.{is_owned_phase, IsOwnedElsewhere}
-use Rattle.pod_locks.specs.Holding.{Stays}
 use Rattle.pod_locks.specs.Causes.{IsAbsentAt, CannotOpenAt, Did, HeldByAnother, FreeOfOthers}
 use Rattle.pod_locks.specs.Taking.{TookNothing}
 use Rattle.pod_gc.specs.RemovalRequests.{is_garbage_place}
@@ -169,7 +169,7 @@ MarksFirst pod now deed old new = (to : Area) → deed ≡ Moved to → MarkedFi
 
 -- and where that is known of a process that may do so
 abbrev pub LeavesWhere : Bool → (Seen → Type 0) → PodId → Area → Deed → DirAt → DirAt → Type 0
-LeavesWhere observed May pod place deed old new = observed ≡ true → Stays May old (λ s. LeavesToAnother pod place deed old new)
+LeavesWhere observed May pod place deed old new = observed ≡ true → Given May old (λ s. LeavesToAnother pod place deed old new)
 
 -- what is done with a prepared pod once its marks were listed: it is kept for its age, or what was done has its cause
 abbrev pub WaitsOr : Bool → PodId → Deed → DirAt → DirAt → Type 0

@@ -9,6 +9,7 @@ use Rattle.dir_model.specs.Calls.{Extends, AtOwnStep}
 use Rattle.dir_model.specs.Causes.{Rose}
 use Rattle.dir_model.specs.Replies.{is_look_at}
 use Rattle.dir_trait.specs.DirCalls.{DirAt, HeldBetween}
+use Rattle.dir_trait.specs.Effects.{Given}
 use Rattle.impossible_replies.specs.Replies.{AppWroteOn}
 use Rattle.lifecycle.specs.Executions.{IsConforming}
 use Rattle.phase_read.specs.declared.found.Found.TheVariants.{At, Gone}
@@ -28,7 +29,6 @@ use Rattle.pod_gc.specs.RemovalHolding.{MayRemovePod}
 use Rattle.pod_gc.specs.Found.{PutAway}
 use Rattle.pod_gc.specs.RemovalSetbacks.{refusal}
 use Rattle.pod_locks.specs.Causes.{IsAbsentAt, WasStray, ByApp}
-use Rattle.pod_locks.specs.Holding.{Stays}
 use Rattle.pod_gc.specs.RemovalCauses.{MissedOnTheWay, IsDeleted, IsBusyAt}
 
 -- a place that is empty ends the round, and everything else that sets it back the removal
@@ -120,7 +120,7 @@ RoundByApp observed pod now error old new = error ≡ Stray → ByApp observed (
 -- so are the later ones, or the pod was missed in each
 abbrev pub LaterByApp : Bool → PodId → ℕ → RemoveError → DirAt → DirAt → Type 0
 LaterByApp observed pod now error old new = error ≡ Stray → observed ≡ true
-    → Stays (MayRemovePod pod now) old (λ s. IsConforming new.trace → AppWroteOn old.process old.trace new.trace ⊎ MissedTimes 5 pod old.process old.trace new.trace)
+    → Given (MayRemovePod pod now) old (λ s. IsConforming new.trace → AppWroteOn old.process old.trace new.trace ⊎ MissedTimes 5 pod old.process old.trace new.trace)
 
 -- a pod isn't removed for one of these causes
 pub record RemoveCause (observed : Bool) (pod : PodId) (error : RemoveError) (old new : DirAt) : Type 0 where

@@ -6,8 +6,8 @@ ghost use Rattle.dir_model.specs.State.{stands};
 ghost use Rattle.dir_trait.specs.DirCalls.{HeldBetween};
 ghost use Rattle.phase_read.specs.Read.{pod_spot};
 ghost use Rattle.dir_trait.specs.Local.{IsActive};
-ghost use Rattle.folder_building.specs.Work.{Worked};
-ghost use Rattle.pod_locks.specs.Holding.{KeepsReady, Stays};
+ghost use Rattle.dir_trait.specs.Effects.{OnlyAsks, Given};
+ghost use Rattle.pod_locks.specs.Holding.{KeepsReady};
 ghost use Rattle.pod_locks.specs.Causes.{IsAbsentAt};
 ghost use Rattle.pod_gc.specs.RemovalHolding.{MayRemove};
 ghost use Rattle.pod_gc.specs.Requests.{counts_time, lists_marks};
@@ -147,7 +147,7 @@ pub(crate) fn marked_at<D: Dir>(
 ) -> Result<Option<Option<u64>>, GcError>
     requires active { IsActive (D.shown dir.old).local }
     requires marks { counts_time area ≡ true }
-    ensures worked { Worked D.observed (lists_marks pod area) (D.shown dir.old) (D.shown dir.new) }
+    ensures worked { OnlyAsks D.observed (lists_marks pod area) (D.shown dir.old) (D.shown dir.new) }
     ensures cause { IfErr result (λ e. GcCause D.observed e (D.shown dir.old) (D.shown dir.new)) }
     ensures never { IfErr result (λ e. e ≡ GcError.Stray → ⊥) }
     ensures shown { IfOk result (λ found. IfSome found (λ moment. D.observed ≡ true
@@ -155,9 +155,9 @@ pub(crate) fn marked_at<D: Dir>(
     ensures there { IfOk result (λ found. IfSome found (λ moment. D.observed ≡ true
         → HeldBetween (D.shown dir.old) (D.shown dir.new) (λ s. stands s.namespace (pod_spot pod area) ≡ true))) }
     ensures absent { result ≡ Ok None → D.observed ≡ true → HeldBetween (D.shown dir.old) (D.shown dir.new) (IsAbsentAt pod area) }
-    ensures ready { D.observed ≡ true → (now : ℕ) → Stays (MayRemove now) (D.shown dir.old) (λ s. KeepsReady s (D.shown dir.new)) }
+    ensures ready { D.observed ≡ true → (now : ℕ) → Given (MayRemove now) (D.shown dir.old) (λ s. KeepsReady s (D.shown dir.new)) }
     ensures noted { IfOk result (λ found. IfSome found (λ moment. D.observed ≡ true → (now : ℕ) → text.now ≡ codes "created-"
-        → Stays (MayRemove now) (D.shown dir.old) (λ s. NotesMark pod moment s (D.shown dir.new)))) }
+        → Given (MayRemove now) (D.shown dir.old) (λ s. NotesMark pod moment s (D.shown dir.new)))) }
 {
     match items_of(alloc, dir, pod_spot(pod, area), "") {
         Ok(items) => Ok(Some(greatest(text, items.as_slice()))),

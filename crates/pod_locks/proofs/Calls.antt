@@ -30,7 +30,7 @@ use Rattle.dir_model.proofs.Lists.{and_both, same_self, map_push}
 use Rattle.dir_model.proofs.Moments.{step_at, missed}
 use Rattle.dir_model.proofs.Spots.{spot_self}
 use Rattle.dir_trait.specs.DirCalls.{DirAt, DirCall, ExtendsBy}
-use Rattle.folder_building.specs.Work.{Worked}
+use Rattle.dir_trait.specs.Effects.{OnlyAsks, LeavesOpen}
 use Rattle.phase_read.specs.Read.{pod_spot}
 use Rattle.pod_locks.specs.Work.{Grew}
 use Rattle.pod_locks.proofs.Times.{at_part, deeds_part}
@@ -38,7 +38,7 @@ use Rattle.pod_locks.proofs.Traces.{grown_none, one_deed}
 use Rattle.pod_locks.specs.declared.setback.Setback.{Setback}
 use Rattle.pod_locks.specs.Setbacks.{set_back, lock_setback}
 use Rattle.pod_locks.specs.Requests.{looks_at, peeks_at, moves}
-use Rattle.pod_locks.specs.Holding.{Went, and_lock}
+use Rattle.pod_locks.specs.Holding.{and_lock}
 use Rattle.folder_removal.specs.Removal.{WasCalledFor}
 use Rattle.folder_removal.proofs.Strays.{called_within}
 use Rattle.pod_locks.specs.Causes.{Stopped, IsAbsentAt, CannotOpenAt, WasStray}
@@ -54,7 +54,7 @@ asks_move pod from to = and_both _ _ (spot_self (pod_spot pod from)) (spot_self 
 -- a lock was opened, asked for, and given up
 module _ {observed : Bool} (pod : PodId) (a : Area) (which : Which) {h : Handle} {old mid late new : DirAt} (mode : Mode) (answer : Result (Unit {0}) DirError) (unopened : IsUnopened old.local h)
     (x : DirCall observed old (Open (pod_spot pod a) which) (Opened h) mid) (y : DirCall observed mid (TryLock h mode) (done_reply answer) late) (z : DirCall observed late (Close h) Done new) where
-  pub worked_tried : Worked observed (looks_at pod a) old new
+  pub worked_tried : OnlyAsks observed (looks_at pod a) old new
   worked_tried = record {
     same = z.same ∙ (y.same ∙ x.same);
     faults = omega (arith, x.faults, y.faults, z.faults);
@@ -62,7 +62,7 @@ module _ {observed : Bool} (pod : PodId) (a : Area) (which : Which) {h : Handle}
     extends = λ t. and_call (and_call (and_call nothing_yet refl (asks_open pod a which) (x.step t)) x.same refl (y.step t)) (y.same ∙ x.same) refl (z.step t);
   }
 
-  pub went_tried : Went observed (looks_at pod a) old.local old new
+  pub went_tried : LeavesOpen observed (looks_at pod a) old.local old new
   went_tried = record { same = worked_tried.same; faults = worked_tried.faults; local_is = worked_tried.local; extends = worked_tried.extends }
 
 -- with no lock asked for but shared
@@ -99,7 +99,7 @@ lock_closed {b} {c} m h pod a which unopened is close_is =
 
 -- and had
 pub went_taken : {observed : Bool} {h : Handle} {old mid new : DirAt} (pod : PodId) (a : Area) (which : Which) → IsUnopened old.local h → DirCall observed old (Open (pod_spot pod a) which) (Opened h) mid
-    → DirCall observed mid (TryLock h Exclusive) Done new → Went observed (looks_at pod a) (and_lock old.local pod a which h) old new
+    → DirCall observed mid (TryLock h Exclusive) Done new → LeavesOpen observed (looks_at pod a) (and_lock old.local pod a which h) old new
 went_taken {observed} {h} {old} {mid} {new} pod a which unopened x y = record {
   same = y.same ∙ x.same;
   faults = omega (arith, x.faults, y.faults);
@@ -108,14 +108,14 @@ went_taken {observed} {h} {old} {mid} {new} pod a which unopened x y = record {
 }
 
 -- or it couldn't be opened
-pub worked_unopened : {observed : Bool} {old new : DirAt} (pod : PodId) (a : Area) (which : Which) (e : DirError) → DirCall observed old (Open (pod_spot pod a) which) (Refused e 0) new → Worked observed (looks_at pod a) old new
+pub worked_unopened : {observed : Bool} {old new : DirAt} (pod : PodId) (a : Area) (which : Which) (e : DirError) → DirCall observed old (Open (pod_spot pod a) which) (Refused e 0) new → OnlyAsks observed (looks_at pod a) old new
 worked_unopened pod a which e x = record { same = x.same; faults = x.faults; local = x.local; extends = λ t. and_call nothing_yet refl (asks_open pod a which) (x.step t) }
 
-pub went_unopened : {observed : Bool} {old new : DirAt} (pod : PodId) (a : Area) (which : Which) (e : DirError) → DirCall observed old (Open (pod_spot pod a) which) (Refused e 0) new → Went observed (looks_at pod a) old.local old new
+pub went_unopened : {observed : Bool} {old new : DirAt} (pod : PodId) (a : Area) (which : Which) (e : DirError) → DirCall observed old (Open (pod_spot pod a) which) (Refused e 0) new → LeavesOpen observed (looks_at pod a) old.local old new
 went_unopened pod a which e x = record { same = x.same; faults = x.faults; local_is = x.local; extends = λ t. and_call nothing_yet refl (asks_open pod a which) (x.step t) }
 
 -- the pod was moved, or not
-pub worked_move : {observed : Bool} {old new : DirAt} (pod : PodId) (from to : Area) (answer : Result (Unit {0}) DirError) → DirCall observed old (MoveFolder (pod_spot pod from) (pod_spot pod to)) (done_reply answer) new → Worked observed (moves pod from to) old new
+pub worked_move : {observed : Bool} {old new : DirAt} (pod : PodId) (from to : Area) (answer : Result (Unit {0}) DirError) → DirCall observed old (MoveFolder (pod_spot pod from) (pod_spot pod to)) (done_reply answer) new → OnlyAsks observed (moves pod from to) old new
 worked_move {observed} {old} {new} pod from to answer x = record { same = x.same; faults = x.faults; local = by answer x; extends = λ t. and_call nothing_yet refl (asks_move pod from to) (x.step t) }
   where
     by : (answer : Result (Unit {0}) DirError) → DirCall observed old (MoveFolder (pod_spot pod from) (pod_spot pod to)) (done_reply answer) new → new.local ≡ old.local
@@ -194,10 +194,10 @@ pub record Follows (observed : Bool) (old new : DirAt) : Type 0 where
 pub follows_none : {observed : Bool} {a : DirAt} → Follows observed a a
 follows_none {observed} {a} = record { same = refl; faults = omega arith; grown = λ t. grown_none }
 
-pub follows_work : {observed : Bool} {asks : Request → Bool} {a b : DirAt} → Worked observed asks a b → Follows observed a b
+pub follows_work : {observed : Bool} {asks : Request → Bool} {a b : DirAt} → OnlyAsks observed asks a b → Follows observed a b
 follows_work w = record { same = w.same; faults = w.faults; grown = λ t. record { more = (w.extends t).more; grown = (w.extends t).grown } }
 
-pub follows_went : {observed : Bool} {asks : Request → Bool} {l : Local} {a b : DirAt} → Went observed asks l a b → Follows observed a b
+pub follows_went : {observed : Bool} {asks : Request → Bool} {l : Local} {a b : DirAt} → LeavesOpen observed asks l a b → Follows observed a b
 follows_went w = record { same = w.same; faults = w.faults; grown = λ t. record { more = (w.extends t).more; grown = (w.extends t).grown } }
 
 pub follows_call : {observed : Bool} {request : Request} {reply : Reply} {a b : DirAt} → DirCall observed a request reply b → Follows observed a b

@@ -20,11 +20,12 @@ use Rattle.dir_rules.specs.Conforms.{IsTied}
 use Rattle.dir_trait.specs.DirCalls.{DirAt, DirCall, LockToldBetween}
 use Rattle.dir_trait.specs.Knowledge.{Knows}
 use Rattle.dir_trait.proofs.Knowing.{knows_call}
+use Rattle.dir_trait.specs.Effects.{Given}
 use Rattle.phase_read.specs.Read.{pod_spot}
 use Rattle.pod_locks.proofs.Traces.{grown_none, grown_call}
 use Rattle.pod_locks.specs.declared.setback.Setback.TheVariants as stop
 use Rattle.pod_locks.specs.Setbacks.{set_back, lock_setback}
-use Rattle.pod_locks.specs.Holding.{and_held, covers, HasNone, MayLook, LooksFree, MayTake, with_lock, MayMove, KeepsReady, Stays}
+use Rattle.pod_locks.specs.Holding.{and_held, covers, HasNone, MayLook, LooksFree, MayTake, with_lock, MayMove, KeepsReady}
 use Rattle.pod_locks.specs.Causes.{HeldByAnother, FreeWhere, BusyElsewhere}
 use Rattle.pod_locks.proofs.Opposed.{asked_on, held_step, free_step}
 use Rattle.pod_locks.proofs.Within.{held_within, told_within}
@@ -36,23 +37,23 @@ knows_as {d} is k = subst (λ (s : Seen). Knows d s) is k
 
 -- Own was asked for shared
 module _ {observed : Bool} (pod : PodId) (a : Area) {h : Handle} {old mid late new : DirAt} (unopened : IsUnopened old.local h) (x : DirCall observed old (Open (pod_spot pod a) Own) (Opened h) mid) where
-  pub knows_probed : DirCall observed mid (TryLock h Shared) Done late → DirCall observed late (Close h) Done new → observed ≡ true → Stays (MayLook pod a) old (λ s. LooksFree pod a s new)
+  pub knows_probed : DirCall observed mid (TryLock h Shared) Done late → DirCall observed late (Close h) Done new → observed ≡ true → Given (MayLook pod a) old (λ s. LooksFree pod a s new)
   knows_probed y z t s k may = knows_as (probed pod a h s (new_number h k unopened) may) (knows_call t (knows_call t (knows_call t k refl refl x) refl refl y) refl refl z)
 
-  pub knows_unprobed : (e : DirError) → DirCall observed mid (TryLock h Shared) (Refused e 0) late → DirCall observed late (Close h) Done new → observed ≡ true → Stays (MayLook pod a) old (λ s. Knows new s)
+  pub knows_unprobed : (e : DirError) → DirCall observed mid (TryLock h Shared) (Refused e 0) late → DirCall observed late (Close h) Done new → observed ≡ true → Given (MayLook pod a) old (λ s. Knows new s)
   knows_unprobed e y z t s k may = knows_as (not_probed pod a h s (new_number h k unopened) may e) (knows_call t (knows_call t (knows_call t k refl refl x) refl refl y) refl refl z)
 
-pub knows_unopened : {observed : Bool} {old new : DirAt} (pod : PodId) (a : Area) (e : DirError) → DirCall observed old (Open (pod_spot pod a) Own) (Refused e 0) new → observed ≡ true → Stays (MayLook pod a) old (λ s. Knows new s)
+pub knows_unopened : {observed : Bool} {old new : DirAt} (pod : PodId) (a : Area) (e : DirError) → DirCall observed old (Open (pod_spot pod a) Own) (Refused e 0) new → observed ≡ true → Given (MayLook pod a) old (λ s. Knows new s)
 knows_unopened pod a e x t s k may = knows_as (not_opened pod a s e) (knows_call t k refl refl x)
 
 -- a lock was taken, or not
 module _ {observed : Bool} (pod : PodId) (a : Area) (which : Which) {h : Handle} {old mid : DirAt} (unopened : IsUnopened old.local h) (x : DirCall observed old (Open (pod_spot pod a) which) (Opened h) mid) where
-  pub knows_taken : {new : DirAt} → DirCall observed mid (TryLock h Exclusive) Done new → observed ≡ true → Stays (MayTake pod a which) old (λ s. Knows new (with_lock pod a which h s))
+  pub knows_taken : {new : DirAt} → DirCall observed mid (TryLock h Exclusive) Done new → observed ≡ true → Given (MayTake pod a which) old (λ s. Knows new (with_lock pod a which h s))
   knows_taken y t s k may =
       let fresh = new_number h k unopened in
       knows_as (lock_had pod a which h s fresh may) (knows_call t (knows_as (lock_opened pod a which h s fresh may) (knows_call t k refl refl x)) refl refl y)
 
-  pub knows_untaken : {late new : DirAt} (e : DirError) → DirCall observed mid (TryLock h Exclusive) (Refused e 0) late → DirCall observed late (Close h) Done new → observed ≡ true → Stays (MayTake pod a which) old (λ s. Knows new s)
+  pub knows_untaken : {late new : DirAt} (e : DirError) → DirCall observed mid (TryLock h Exclusive) (Refused e 0) late → DirCall observed late (Close h) Done new → observed ≡ true → Given (MayTake pod a which) old (λ s. Knows new s)
   knows_untaken e y z t s k may =
       let fresh = new_number h k unopened in
       let asked = knows_as (lock_refused pod a which h s fresh may e) (knows_call t (knows_as (lock_opened pod a which h s fresh may) (knows_call t k refl refl x)) refl refl y) in
@@ -64,7 +65,7 @@ pub free_taken : {observed : Bool} {h : Handle} {old mid new : DirAt} (pod : Pod
 free_taken {observed} {h} {old} {mid} {new} pod a which mode x y t =
     free_step old.process old.trace mid.trace new.trace h pod a which mode (x.step t) (subst (λ (p : ℕ). CallStep p mid.trace (TryLock h mode) Done new.trace) x.same (y.step t))
 
-pub knows_unlocked : {observed : Bool} {old new : DirAt} (pod : PodId) (a : Area) (which : Which) (e : DirError) → DirCall observed old (Open (pod_spot pod a) which) (Refused e 0) new → observed ≡ true → Stays (MayTake pod a which) old (λ s. Knows new s)
+pub knows_unlocked : {observed : Bool} {old new : DirAt} (pod : PodId) (a : Area) (which : Which) (e : DirError) → DirCall observed old (Open (pod_spot pod a) which) (Refused e 0) new → observed ≡ true → Given (MayTake pod a which) old (λ s. Knows new s)
 knows_unlocked pod a which e x t s k may = knows_as (lock_unopened pod a which s may e) (knows_call t k refl refl x)
 
 -- the lock was refused: another process held it
@@ -104,19 +105,19 @@ never_busy dir.NoMemory which is = cc
 
 module _ {observed : Bool} (pod : PodId) (a : Area) {h : Handle} {old mid late new : DirAt} (unopened : IsUnopened old.local h) where
   pub busy_probe : (e : DirError) → DirCall observed old (Open (pod_spot pod a) Own) (Opened h) mid → DirCall observed mid (TryLock h Shared) (Refused e 0) late → DirCall observed late (Close h) Done new → observed ≡ true
-      → Stays (MayLook pod a) old (λ s. BusyElsewhere pod a Shared (lock_setback Own e) old new)
+      → Given (MayLook pod a) old (λ s. BusyElsewhere pod a Shared (lock_setback Own e) old new)
   busy_probe e x y w t s k may = busy_elsewhere pod a Own Shared (covers pod a s) e x y w t s may.single (knows_call t k refl refl x)
 
   pub busy_take : (which : Which) (e : DirError) → DirCall observed old (Open (pod_spot pod a) which) (Opened h) mid → DirCall observed mid (TryLock h Exclusive) (Refused e 0) late → DirCall observed late (Close h) Done new → observed ≡ true
-      → Stays (MayTake pod a which) old (λ s. BusyElsewhere pod a Exclusive (lock_setback which e) old new)
+      → Given (MayTake pod a which) old (λ s. BusyElsewhere pod a Exclusive (lock_setback which e) old new)
   busy_take which e x y w t s k may = busy_elsewhere pod a which Exclusive false e x y w t s may.single (knows_as (lock_opened pod a which h s (new_number h k unopened) may) (knows_call t k refl refl x))
 
 -- the pod was moved, or not
 module _ {observed : Bool} (pod : PodId) (from to : Area) {old new : DirAt} where
-  pub ready_moved : DirCall observed old (MoveFolder (pod_spot pod from) (pod_spot pod to)) Done new → observed ≡ true → Stays (MayMove pod from to) old (λ s. KeepsReady s new)
+  pub ready_moved : DirCall observed old (MoveFolder (pod_spot pod from) (pod_spot pod to)) Done new → observed ≡ true → Given (MayMove pod from to) old (λ s. KeepsReady s new)
   ready_moved x t s k may = record { known = _; keeps = moved_keeps pod from to s may; knows = knows_call t k refl refl x }
 
-  pub ready_unmoved : (e : DirError) → DirCall observed old (MoveFolder (pod_spot pod from) (pod_spot pod to)) (Refused e 0) new → observed ≡ true → Stays (MayMove pod from to) old (λ s. KeepsReady s new)
+  pub ready_unmoved : (e : DirError) → DirCall observed old (MoveFolder (pod_spot pod from) (pod_spot pod to)) (Refused e 0) new → observed ≡ true → Given (MayMove pod from to) old (λ s. KeepsReady s new)
   ready_unmoved e x t s k may = record {
     known = s;
     keeps = record { intent = refl; holdings = refl; kept = refl; bare = may.bare };

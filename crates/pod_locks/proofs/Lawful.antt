@@ -19,6 +19,7 @@ use Rattle.dir_rules.specs.Standing.{is_in}
 use Rattle.dir_rules.specs.declared.seen.Seen.{Seen}
 use Rattle.dir_trait.specs.DirCalls.{DirAt, DirCall}
 use Rattle.dir_trait.specs.Knowledge.{Knows}
+use Rattle.dir_trait.specs.Effects.{Given}
 use Rattle.impossible_replies.specs.Replies.{AppWroteOn}
 use Rattle.impossible_replies.proofs.Calls.{never_meets}
 use Rattle.impossible_replies.proofs.StrayDeletions.{wrote_within}
@@ -28,7 +29,6 @@ use Rattle.phase_read.specs.Read.{pod_spot}
 use Rattle.pod_locks.specs.Work.{Grew}
 use Rattle.pod_locks.specs.declared.setback.Setback.TheVariants.{Stray}
 use Rattle.pod_locks.specs.Setbacks.{set_back, lock_setback}
-use Rattle.pod_locks.specs.Holding.{Stays}
 use Rattle.pod_locks.specs.Causes.{BreaksRules, ByApp, NeverStray}
 use Rattle.pod_locks.proofs.Calls.{Follows}
 
@@ -67,7 +67,7 @@ pub wrote_part : {me other : ℕ} {a b c d : List Event} → Grew a b → other 
 wrote_part {me} {other} {a} {b} {c} {d} ab same cd w = wrote_within ab.more cd.more ab.grown cd.grown (subst (λ (p : ℕ). AppWroteOn p b c) same w)
 
 -- and what a started app wrote in a part it wrote in the whole
-pub by_app_part : {observed : Bool} {Before After : Seen → Type 0} {a b c d : DirAt} → Follows observed a b → Follows observed c d → (observed ≡ true → Stays Before a (λ s. (z : Seen) × Knows b z × After z)) → ByApp observed After b c → ByApp observed Before a d
+pub by_app_part : {observed : Bool} {Before After : Seen → Type 0} {a b c d : DirAt} → Follows observed a b → Follows observed c d → (observed ≡ true → Given Before a (λ s. (z : Seen) × Knows b z × After z)) → ByApp observed After b c → ByApp observed Before a d
 by_app_part {observed} {Before} {After} {a} {b} {c} {d} ab cd on x t s k may conforming =
     let z = on t s k may in
     let g = cd.grown t in

@@ -13,8 +13,8 @@ use Rattle.dir_model.specs.Calls.{CallStep, TookPlace, LeftNothing, Extends, is_
 use Rattle.dir_model.specs.Local.{Local}
 use Rattle.dir_model.proofs.Lists.{all_both, all_weaker, or_map}
 use Rattle.dir_trait.specs.DirCalls.{DirAt, DirCall}
+use Rattle.dir_trait.specs.Effects.{LeavesOpen}
 use Rattle.pod_locks.specs.Requests.{looks_at}
-use Rattle.pod_locks.specs.Holding.{Went}
 use Rattle.pod_locks.specs.Taking.{takes_away, TookNothing}
 
 abbrev Untaken : ℕ → Event → Type 0
@@ -68,5 +68,5 @@ took_looks pod place e = took_by (look_spares pod place) e
 
 -- between a lock's taking and its close
 pub took_closed : {observed : Bool} {l : Local} {a b c d : DirAt} {h : Handle} → observed ≡ true → (pod : PodId) (place : Area)
-    → Went observed (looks_at pod place) l a b → c.process ≡ b.process → DirCall observed c (Close h) Done d → TookNothing b.process b.trace c.trace → TookNothing a.process a.trace d.trace
+    → LeavesOpen observed (looks_at pod place) l a b → c.process ≡ b.process → DirCall observed c (Close h) Done d → TookNothing b.process b.trace c.trace → TookNothing a.process a.trace d.trace
 took_closed t pod place w same z x = took_more (took_more (took_looks pod place (w.extends t)) w.same x) (same ∙ w.same) (took_call refl (z.step t))

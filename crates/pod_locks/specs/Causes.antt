@@ -18,6 +18,7 @@ use Rattle.dir_model.specs.Locks.{is_folder, opposes}
 use Rattle.dir_model.specs.Replies.{refused_in, open_refusal}
 use Rattle.dir_model.specs.State.{DirState, folder_at, stands}
 use Rattle.dir_trait.specs.DirCalls.{DirAt, HeldBetween}
+use Rattle.dir_trait.specs.Effects.{Given}
 use Rattle.dir_rules.specs.declared.seen.Seen.{Seen}
 use Rattle.folder_removal.specs.Removal.{is_stray, WasCalledFor}
 use Rattle.impossible_replies.specs.Replies.{AppWroteOn}
@@ -25,7 +26,6 @@ use Rattle.lifecycle.specs.Executions.{IsConforming}
 use Rattle.phase_read.specs.Read.{pod_spot}
 use Rattle.pod_locks.specs.ClaimCauses.{is_lock}
 use Rattle.pod_locks.specs.Work.{InOrder}
-use Rattle.pod_locks.specs.Holding.{Stays}
 use Rattle.pod_locks.specs.declared.setback.Setback.{Setback}
 use Rattle.pod_locks.specs.declared.setback.Setback.TheVariants.{Missing, NoManifest, Busy, DirFault, Stray}
 
@@ -72,7 +72,7 @@ BreaksRules observed new = observed ≡ true → IsConforming new.trace → ⊥
 
 -- or, for a process that knew this, a started app wrote on
 abbrev pub ByApp : Bool → (Seen → Type 0) → DirAt → DirAt → Type 0
-ByApp observed May old new = observed ≡ true → Stays May old (λ s. IsConforming new.trace → AppWroteOn old.process old.trace new.trace)
+ByApp observed May old new = observed ≡ true → Given May old (λ s. IsConforming new.trace → AppWroteOn old.process old.trace new.trace)
 
 -- it is stray only where some process doesn't keep them
 abbrev pub NeverStray : Bool → Setback → DirAt → Type 0

@@ -26,13 +26,6 @@ use Rattle.dir_trait.specs.Knowledge.{Knows}
 use Rattle.phase_read.specs.Read.{pod_spot}
 use Rattle.pod_locks.specs.ClaimCauses.{is_lock}
 
--- calls were made, each for something of this kind, and this is open after them
-pub record Went (observed : Bool) (asks : Request → Bool) (local : Local) (old new : DirAt) : Type 0 where
-  pub same : new.process ≡ old.process
-  pub faults : old.faults ≤ new.faults
-  pub local_is : new.local ≡ local
-  pub extends : observed ≡ true → ExtendsBy asks old new
-
 -- what is open, and a lock of the pod that was taken at this place
 abbrev pub and_lock : Local → PodId → Area → Which → Handle → Local
 and_lock m pod area which handle = record m { holdings = m.holdings ++ record { handle = handle; target = target_of (pod_spot pod area) which; lock = Some Exclusive } ∷ [] }
@@ -112,7 +105,3 @@ pub record KeepsReady (s : Seen) (new : DirAt) : Type 0 where
   pub known : Seen
   pub keeps : Keeps s known
   pub knows : Knows new known
-
--- wherever a process knew this of itself before, this holds of it after
-abbrev pub Stays : (Seen → Type 0) → DirAt → (Seen → Type 0) → Type 0
-Stays May old After = (s : Seen) → Knows old s → May s → After s

@@ -22,8 +22,8 @@ use Rattle.render.specs.PlanStates.{IsPlan, PlanStands, wanted_image}
 use Rattle.render.proofs.LayingOrder.{node_left}
 use Rattle.render.proofs.Stacks.{next_within}
 use Rattle.dir_trait.specs.DirCalls.{DirAt}
+use Rattle.dir_trait.specs.Effects.{OnlyAsksAndKeeps}
 use Rattle.dir_model.specs.declared.request.Request.{Request}
-use Rattle.image_reading.specs.Looks.{OnlyAsks}
 use Rattle.image_reading.specs.declared.error.StoreError.{StoreError}
 use Rattle.image_reading.specs.declared.error.StoreError.TheVariants as store
 use Rattle.render.specs.declared.render_error.RenderError.{RenderError as RenderFault}
@@ -143,11 +143,11 @@ module _ {observed : Bool} (images : List Stored) (nodes : List DepNode) where
     agrees_here other agrees =
         agrees next (omega (arith, times_both next first (next ∷ []), times_here next [])) ∙ own_here own next map
 
-  module _ {asks : Request → Bool} {Keeps : DirAt → DirAt → Type 0} {a b c : DirAt} (bc : OnlyAsks observed asks Keeps b c) where
+  module _ {asks : Request → Bool} {Keeps : DirAt → DirAt → Type 0} {a b c : DirAt} (bc : OnlyAsksAndKeeps observed asks Keeps b c) where
     read_later : (first others : List ℕ) (own : ℕ → Entries) → HasRead observed images nodes first others own a b → HasRead observed images nodes first others own a c
     read_later first others own is = record { order = is.order; read = λ n h. tree_later (node_key images nodes n) (own n) (is.read n h) bc }
 
-    module _ {others_ask : Request → Bool} {Holds : DirAt → DirAt → Type 0} (ab : OnlyAsks observed others_ask Holds a b) (once : ComesOnce nodes) (plan : Plan) (sound : IsPlan plan) (same : plan.nodes ≡ nodes) (far : IsLaidTo observed images nodes plan a b)
+    module _ {others_ask : Request → Bool} {Holds : DirAt → DirAt → Type 0} (ab : OnlyAsksAndKeeps observed others_ask Holds a b) (once : ComesOnce nodes) (plan : Plan) (sound : IsPlan plan) (same : plan.nodes ≡ nodes) (far : IsLaidTo observed images nodes plan a b)
         (key : StoreKey) (key_is : key ≡ node_key images nodes plan.next) where
       inside : plan.next < length nodes
       inside = subst (λ (ns : List DepNode). plan.next < length ns) same (next_within plan sound)

@@ -7,6 +7,7 @@ use Rattle.manifests.specs.ManifestRules.{IsPodManifest}
 use Rattle.manifest_writing.specs.PodObject.{pod_object}
 use Rattle.dep_match.specs.declared.stored.Stored.{Stored}
 use Rattle.dir_trait.specs.DirCalls.{DirAt}
+use Rattle.dir_trait.specs.Effects.{OnlyAsksAndKeeps}
 use Rattle.folder_building.specs.declared.plan.PlanEntry.{PlanEntry}
 use Rattle.image_reading.specs.declared.error.StoreError.{StoreError}
 use Rattle.image_reading.specs.declared.error.StoreError.TheVariants as store
@@ -21,7 +22,6 @@ use Rattle.pod_plan.specs.Pods.{files_of, MakesPod}
 use Rattle.pod_plan.specs.declared.plan_error.PlanError.{PlanError}
 use Rattle.pod_plan.specs.declared.plan_error.PlanError.TheVariants.{Damaged, NoMatch, DepError, GenError, RenderError, ListingError, DirFault, NoMemory}
 use Rattle.dir_model.specs.declared.request.Request.{Request}
-use Rattle.image_reading.specs.Looks.{OnlyAsks}
 use Rattle.pod_plan.specs.Choices.{IsChoice, IsRefused}
 use Rattle.pod_plan.specs.declared.app_root.Root.{Root}
 use Rattle.pod_plan.specs.PlanRefusals.{IsLack, LacksPart, store_refusal, choice_refusal}
@@ -42,7 +42,7 @@ module _ (images : List Stored) (manifests : List (List ℕ)) (choice : Choice) 
     makes = subst (λ (x : List PodApp). MakesPod now token text (map files_of x) plan) a (subst (λ (x : List ℕ). MakesPod now token x (map files_of apps) plan) b makes);
   }
 
-module _ (observed : Bool) {asks : Request → Bool} {Keeps : DirAt → DirAt → Type 0} (a b c : DirAt) (ab : OnlyAsks observed asks Keeps a b) where
+module _ (observed : Bool) {asks : Request → Bool} {Keeps : DirAt → DirAt → Type 0} (a b c : DirAt) (ab : OnlyAsksAndKeeps observed asks Keeps a b) where
   -- the plan of what was read since
   pub choice_since : {images : List Stored} {manifests : List (List ℕ)} {refs : List ImageRef} {options : Wishes} {now : ℕ} {token : List ℕ} {plan : List PlanEntry}
       → PlansChoice observed images manifests refs options now token plan b c → PlansChoice observed images manifests refs options now token plan a c

@@ -15,8 +15,8 @@ use Rattle.dir_model.proofs.Chains.{step_extends}
 use Rattle.dir_model.proofs.Moments.{at_before}
 use Rattle.dir_rules.specs.Conforms.{IsTied}
 use Rattle.dir_trait.specs.DirCalls.{DirAt, HeldBetween}
+use Rattle.dir_trait.specs.Effects.{OnlyAsks}
 use Rattle.dir_files.specs.AreaLocks.{IsBusyElsewhere, IsFreeElsewhere}
-use Rattle.folder_building.specs.Work.{Worked}
 use Rattle.lifecycle.specs.Executions.{IsConforming}
 use Rattle.lifecycle.proofs.Draws.{conforming_left}
 use Rattle.pod_build.specs.Causes.{IsMadeByPlan}
@@ -60,7 +60,7 @@ prepare_may wants NoMemory known = known
 prepare_may wants DirFault known = known
 prepare_may wants r known = known
 
-pub prepare_ran : (line : Task) (now : ℕ) (draw : Draw) (wants : Wants) (observed : Bool) (a b : DirAt) (bundle : BundleSeen) (o : Outcome) → line ≡ Prepare wants → Worked observed (prepares_pod draw.uuid) a b →
+pub prepare_ran : (line : Task) (now : ℕ) (draw : Draw) (wants : Wants) (observed : Bool) (a b : DirAt) (bundle : BundleSeen) (o : Outcome) → line ≡ Prepare wants → OnlyAsks observed (prepares_pod draw.uuid) a b →
     (IsErrOf o DirFault → Rose a.faults b.faults) → IfErr o (λ r. prepare_refusal r ≡ true) → PrepareSays wants now draw (seen_at observed a) (seen_at observed b) o →
     CommandRan line now draw (beside (seen_at observed a) bundle) (beside (seen_at observed b) bundle) o
 prepare_ran line now draw wants observed a b bundle o is worked cause known says = ran (Prepare wants) prepare_refusal refl (prepare_may wants) line now draw observed a b bundle o is refl worked cause known says

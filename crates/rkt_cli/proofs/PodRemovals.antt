@@ -11,8 +11,8 @@ use Rattle.dir_model.specs.Causes.{Rose}
 use Rattle.dir_model.proofs.Chains.{step_extends}
 use Rattle.dir_model.proofs.Lists.{same_self}
 use Rattle.dir_trait.specs.DirCalls.{DirAt}
-use Rattle.folder_building.specs.Work.{Worked}
-use Rattle.pod_locks.specs.Holding.{KeepsReady, Stays}
+use Rattle.dir_trait.specs.Effects.{OnlyAsks, Given}
+use Rattle.pod_locks.specs.Holding.{KeepsReady}
 use Rattle.pod_gc.specs.RemovalRequests.{removes}
 use Rattle.pod_gc.specs.Requests.{sweeps}
 use Rattle.command_outcomes.specs.declared.refusal.Refusal.{Refusal}
@@ -155,13 +155,13 @@ gc_swept {grace = grace} {expire = expire} now draw old new r (inl s) t =
 gc_swept now draw old new r (inr n) t = let e = n.is in cc
 
 -- what each owes between its begin and its finish
-pub rm_conforming : {word : List ℕ} (pod : PodId) (now : ℕ) (draw : Draw) (intent : Intent) (observed : Bool) (a b : DirAt) → IsMeant word pod → intent_of (Rm word pod) now draw ≡ Some intent → Stays (MayRemovePod pod now) a (λ s. KeepsReady s b) → StaysConforming intent (dir_seen observed a) (dir_seen observed b)
+pub rm_conforming : {word : List ℕ} (pod : PodId) (now : ℕ) (draw : Draw) (intent : Intent) (observed : Bool) (a b : DirAt) → IsMeant word pod → intent_of (Rm word pod) now draw ≡ Some intent → Given (MayRemovePod pod now) a (λ s. KeepsReady s b) → StaysConforming intent (dir_seen observed a) (dir_seen observed b)
 rm_conforming {word = word} pod now draw intent observed a b meant is stays =
     subst (λ (i : Intent). StaysConforming i (dir_seen observed a) (dir_seen observed b)) (let e : rm_intent word now draw ≡ intent = cc in e)
     (λ k. let s = stays (begun (rm_intent word now draw)) (record { tied = k.tied; handles = k.handles }) (begun_removes now draw meant) in
     record { known = s.known; knows = record { tied = s.knows.tied; handles = s.knows.handles }; kept = s.keeps.kept })
 
-pub gc_conforming : {grace : ℕ} {expire : ℕ} (now : ℕ) (draw : Draw) (intent : Intent) (observed : Bool) (a b : DirAt) → intent_of (Gc grace expire) now draw ≡ Some intent → Stays (MaySweepAll now expire) a (λ s. KeepsReady s b) → StaysConforming intent (dir_seen observed a) (dir_seen observed b)
+pub gc_conforming : {grace : ℕ} {expire : ℕ} (now : ℕ) (draw : Draw) (intent : Intent) (observed : Bool) (a b : DirAt) → intent_of (Gc grace expire) now draw ≡ Some intent → Given (MaySweepAll now expire) a (λ s. KeepsReady s b) → StaysConforming intent (dir_seen observed a) (dir_seen observed b)
 gc_conforming {grace = grace} {expire = expire} now draw intent observed a b is stays =
     subst (λ (i : Intent). StaysConforming i (dir_seen observed a) (dir_seen observed b)) (let e : gc_intent grace expire now draw ≡ intent = cc in e)
     (λ k. let s = stays (begun (gc_intent grace expire now draw)) (record { tied = k.tied; handles = k.handles }) (begun_sweeps now draw) in
@@ -177,10 +177,10 @@ gc_may grace expire NoMemory known = known
 gc_may grace expire DirFault known = known
 gc_may grace expire r known = known
 
-pub rm_ran : {word : List ℕ} (line : Task) (now : ℕ) (draw : Draw) (pod : PodId) (observed : Bool) (a b : DirAt) (bundle : BundleSeen) (o : Outcome) → line ≡ Rm word pod → Worked observed (removes pod now) a b → (IsErrOf o DirFault → Rose a.faults b.faults) →
+pub rm_ran : {word : List ℕ} (line : Task) (now : ℕ) (draw : Draw) (pod : PodId) (observed : Bool) (a b : DirAt) (bundle : BundleSeen) (o : Outcome) → line ≡ Rm word pod → OnlyAsks observed (removes pod now) a b → (IsErrOf o DirFault → Rose a.faults b.faults) →
     IfErr o (λ r. rm_refusal r ≡ true) → RmSays pod now (dir_seen observed a) (dir_seen observed b) o → KeepsRefused (dir_seen observed a) (dir_seen observed b) o → CommandRan line now draw (beside (dir_seen observed a) bundle) (beside (dir_seen observed b) bundle) o
 rm_ran {word = word} line now draw pod observed a b bundle o is worked cause known says kept = ran (Rm word pod) rm_refusal refl (rm_may word pod) line now draw observed a b bundle o is refl worked cause known (says, kept)
 
-pub gc_ran : {grace : ℕ} {expire : ℕ} (line : Task) (now : ℕ) (draw : Draw) (observed : Bool) (a b : DirAt) (bundle : BundleSeen) (o : Outcome) → line ≡ (Gc grace expire) → Worked observed (sweeps now) a b → (IsErrOf o DirFault → Rose a.faults b.faults) →
+pub gc_ran : {grace : ℕ} {expire : ℕ} (line : Task) (now : ℕ) (draw : Draw) (observed : Bool) (a b : DirAt) (bundle : BundleSeen) (o : Outcome) → line ≡ (Gc grace expire) → OnlyAsks observed (sweeps now) a b → (IsErrOf o DirFault → Rose a.faults b.faults) →
     IfErr o (λ r. gc_refusal r ≡ true) → GcSays (times_of now grace expire) (dir_seen observed a) (dir_seen observed b) o → CommandRan line now draw (beside (dir_seen observed a) bundle) (beside (dir_seen observed b) bundle) o
 gc_ran {grace = grace} {expire = expire} line now draw observed a b bundle o is worked cause known says = ran (Gc grace expire) gc_refusal refl (gc_may grace expire) line now draw observed a b bundle o is refl worked cause known says

@@ -3,7 +3,7 @@ use Rattle.std.proofs.Common.{arith, ◌≡◌, ℕ, Bool, true, false, Ok, Err,
 use Rattle.dir_model.specs.declared.intent.Draw.{Draw}
 use Rattle.dir_model.specs.Causes.{Rose}
 use Rattle.dir_trait.specs.DirCalls.{DirAt}
-use Rattle.folder_building.specs.Work.{Worked}
+use Rattle.dir_trait.specs.Effects.{OnlyAsks}
 use Rattle.command_outcomes.specs.declared.refusal.Refusal.{Refusal}
 use Rattle.command_outcomes.specs.declared.refusal.Refusal.TheVariants.{DirFault, BundleFault}
 use Rattle.command_outcomes.specs.Moments.{BundleSeen, Outcome}
@@ -23,7 +23,7 @@ module _ (l : Task) (known : Refusal → Bool) (apart : known BundleFault ≡ fa
   ends (Ok text) all = tt
   ends (Err r) all = own r all
 
-  pub ran : (line : Task) (now : ℕ) (draw : Draw) (observed : Bool) (a b : DirAt) (bundle : BundleSeen) (o : Outcome) → line ≡ l → ReadsOnly l bundle bundle → Worked observed (asks l now draw) a b →
+  pub ran : (line : Task) (now : ℕ) (draw : Draw) (observed : Bool) (a b : DirAt) (bundle : BundleSeen) (o : Outcome) → line ≡ l → ReadsOnly l bundle bundle → OnlyAsks observed (asks l now draw) a b →
       (IsErrOf o DirFault → Rose a.faults b.faults) → IfErr o (λ r. known r ≡ true) → CommandSays l now draw (beside (seen_at observed a) bundle) (beside (seen_at observed b) bundle) o →
       CommandRan line now draw (beside (seen_at observed a) bundle) (beside (seen_at observed b) bundle) o
   ran line now draw observed a b bundle o is reads worked cause all says =

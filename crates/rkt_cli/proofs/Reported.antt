@@ -17,7 +17,7 @@ use Rattle.dir_model.specs.Trace.{state_after}
 use Rattle.dir_model.proofs.Chains.{and_more, extends_wider, nothing_yet}
 use Rattle.dir_model.proofs.Quiet.{is_harmless, end_quiet, quiet_within}
 use Rattle.dir_trait.specs.DirCalls.{DirAt}
-use Rattle.folder_building.specs.Work.{Worked}
+use Rattle.dir_trait.specs.Effects.{OnlyAsks}
 use Rattle.lifecycle.specs.Executions.{IsConforming}
 use Rattle.lifecycle.proofs.Draws.{conforming_left}
 use Rattle.pod_lookup.specs.Looks.{lists_stages}
@@ -49,7 +49,7 @@ use Rattle.rkt_cli.proofs.Sessions.{act_part, any_call, begin_any, begin_part, f
 pub none_open : (m : Local) → m.holdings ≡ [] → HasNoPodOpen m
 none_open m none name = ap (λ (hs : List Holding). list_any (λ h. is_own_of name h.target) hs) none
 
-pub worked : {observed : Bool} {asked : Request → Bool} {a b : DirAt} → OnlyAsksFor observed asked a b → Worked observed asked a b
+pub worked : {observed : Bool} {asked : Request → Bool} {a b : DirAt} → OnlyAsksFor observed asked a b → OnlyAsks observed asked a b
 worked only = record { same = only.same; faults = only.faults; local = only.local; extends = only.extends }
 
 list_own : (r : Refusal) → list_refusal r ≡ true → may PodList r ≡ true

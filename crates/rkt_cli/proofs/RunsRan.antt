@@ -14,7 +14,7 @@ use Rattle.dir_rules.proofs.Unborn.{tied_begun}
 use Rattle.dir_trait.specs.DirCalls.{DirAt, DirCall}
 use Rattle.dir_trait.specs.Knowledge.{Knows, SameHandles}
 use Rattle.dir_trait.specs.Local.{nothing_local}
-use Rattle.folder_building.specs.Work.{Worked}
+use Rattle.dir_trait.specs.Effects.{OnlyAsks}
 use Rattle.pod_build.specs.Preparations.{Began}
 use Rattle.command_outcomes.specs.declared.refusal.Refusal.{Refusal}
 use Rattle.command_outcomes.specs.declared.refusal.Refusal.TheVariants.{DirFault, NoMemory}
@@ -80,10 +80,10 @@ module _ (line : Task) (now : ℕ) (draw : Draw) (observed : Bool) (a b : DirAt)
   abbrev Ran : Task → Type 0
   Ran l = CommandRan l now draw (beside (dir_seen observed a) bundle) (beside (dir_seen observed b) bundle) (outcome_of answer)
 
-  pub prepared_ran : {word : List ℕ} {address : List ℕ} (pod : PodId) → line ≡ RunPrepared word pod address → Worked observed (runs_prepared pod) a b → (IsErrOf answer DirFault → Rose a.faults b.faults) → IfErr answer (λ r. run_prepared_refusal r ≡ true) → Ran line
+  pub prepared_ran : {word : List ℕ} {address : List ℕ} (pod : PodId) → line ≡ RunPrepared word pod address → OnlyAsks observed (runs_prepared pod) a b → (IsErrOf answer DirFault → Rose a.faults b.faults) → IfErr answer (λ r. run_prepared_refusal r ≡ true) → Ran line
   prepared_ran {word = word} {address = address} pod is worked cause known =
       ran (RunPrepared word pod address) run_prepared_refusal refl (prepared_may word address pod) line now draw observed a b bundle (outcome_of answer) is refl worked (λ fault. cause (fault_of answer fault)) (as_outcome run_prepared_refusal answer known) tt
 
-  pub made_ran : {address : List ℕ} (wants : Wants) → line ≡ Run wants address → Worked observed (makes_and_runs draw.uuid) a b → (IsErrOf answer DirFault → Rose a.faults b.faults) → IfErr answer (λ r. new_run_refusal r ≡ true) → Ran line
+  pub made_ran : {address : List ℕ} (wants : Wants) → line ≡ Run wants address → OnlyAsks observed (makes_and_runs draw.uuid) a b → (IsErrOf answer DirFault → Rose a.faults b.faults) → IfErr answer (λ r. new_run_refusal r ≡ true) → Ran line
   made_ran {address = address} wants is worked cause known =
       ran (Run wants address) new_run_refusal refl (made_may address wants) line now draw observed a b bundle (outcome_of answer) is refl worked (λ fault. cause (fault_of answer fault)) (as_outcome new_run_refusal answer known) tt

@@ -7,7 +7,7 @@ use Rattle.dir_model.specs.declared.intent.Kind.TheVariants as kind
 use Rattle.dir_model.specs.Causes.{Rose}
 use Rattle.dir_rules.specs.Standing.{is_image_rm, is_image_remover}
 use Rattle.dir_trait.specs.DirCalls.{DirAt}
-use Rattle.folder_building.specs.Work.{Worked}
+use Rattle.dir_trait.specs.Effects.{OnlyAsks}
 use Rattle.image_store.specs.Requests.{building_spot, imports_at}
 use Rattle.image_store.specs.Work.{IsImport}
 use Rattle.image_removal.specs.Requests.{removes_at, sweeps}
@@ -46,7 +46,7 @@ import_end path (Ok text) known = known
 import_end path (Err r) known = import_may path r known
 
 pub import_ran : (line : Task) (now : ℕ) (draw : Draw) (path : List ℕ) (observed : Bool) (a b : DirAt) (before after : BundleSeen) (o : Outcome) → line ≡ ImageImport path →
-    Worked observed (imports_at (building_spot draw.uuid)) a b → (IsErrOf o DirFault → Rose a.faults b.faults) → before.faults ≤ after.faults → (IsErrOf o BundleFault → Rose before.faults after.faults) →
+    OnlyAsks observed (imports_at (building_spot draw.uuid)) a b → (IsErrOf o DirFault → Rose a.faults b.faults) → before.faults ≤ after.faults → (IsErrOf o BundleFault → Rose before.faults after.faults) →
     IfErr o (λ r. image_import_refusal r ≡ true) → ImageImportSays path now draw.uuid (beside (seen_at observed a) before) (beside (seen_at observed b) after) o →
     CommandRan line now draw (beside (seen_at observed a) before) (beside (seen_at observed b) after) o
 import_ran line now draw path observed a b before after o is worked cause faults bundle_cause known says =
@@ -98,12 +98,12 @@ sweep_may NoMemory known = known
 sweep_may DirFault known = known
 sweep_may r known = known
 
-pub removal_ran : (line : Task) (now : ℕ) (draw : Draw) (key : StoreKey) (observed : Bool) (a b : DirAt) (bundle : BundleSeen) (o : Outcome) → line ≡ ImageRm key → Worked observed (removes_at key draw.uuid) a b →
+pub removal_ran : (line : Task) (now : ℕ) (draw : Draw) (key : StoreKey) (observed : Bool) (a b : DirAt) (bundle : BundleSeen) (o : Outcome) → line ≡ ImageRm key → OnlyAsks observed (removes_at key draw.uuid) a b →
     (IsErrOf o DirFault → Rose a.faults b.faults) → IfErr o (λ r. image_rm_refusal r ≡ true) → ImageRmSays key draw.uuid (seen_at observed a) (seen_at observed b) o → KeepsRefused (seen_at observed a) (seen_at observed b) o →
     CommandRan line now draw (beside (seen_at observed a) bundle) (beside (seen_at observed b) bundle) o
 removal_ran line now draw key observed a b bundle o is worked cause known says kept = ran (ImageRm key) image_rm_refusal refl (removal_may key) line now draw observed a b bundle o is refl worked cause known (says, kept)
 
-pub sweep_ran : (line : Task) (now : ℕ) (draw : Draw) (observed : Bool) (a b : DirAt) (bundle : BundleSeen) (o : Outcome) → line ≡ ImageGc → Worked observed sweeps a b →
+pub sweep_ran : (line : Task) (now : ℕ) (draw : Draw) (observed : Bool) (a b : DirAt) (bundle : BundleSeen) (o : Outcome) → line ≡ ImageGc → OnlyAsks observed sweeps a b →
     (IsErrOf o DirFault → Rose a.faults b.faults) → IfErr o (λ r. image_gc_refusal r ≡ true) → ImageGcSays (seen_at observed a) (seen_at observed b) o →
     CommandRan line now draw (beside (seen_at observed a) bundle) (beside (seen_at observed b) bundle) o
 sweep_ran line now draw observed a b bundle o is worked cause known says = ran ImageGc image_gc_refusal refl sweep_may line now draw observed a b bundle o is refl worked cause known says

@@ -10,7 +10,8 @@ use Rattle.dir_model.specs.Calls.{CallStep, PartialStep}
 use Rattle.dir_model.specs.Causes.{Rose}
 use Rattle.dir_model.specs.Replies.{is_fault}
 use Rattle.dir_trait.specs.DirCalls.{DirAt}
-use Rattle.folder_building.specs.Work.{Worked, is_stray}
+use Rattle.dir_trait.specs.Effects.{OnlyAsks}
+use Rattle.folder_building.specs.Work.{is_stray}
 use Rattle.spawner.specs.declared.call.SpawnError.{SpawnError}
 use Rattle.spawner.specs.declared.call.SpawnError.TheVariants as spawn
 use Rattle.spawner.specs.Calls.{SpawnerAt}
@@ -50,7 +51,7 @@ stray_after me old mid new more grown w = record { before = w.before; after = w.
 pub stray_before : (me : ℕ) (old mid new more : List Event) → new ≡ mid ++ more → WasStrayIn me old mid → WasStrayIn me old new
 stray_before me old mid new more grown w = record { before = w.before; after = w.after; earlier = w.earlier; later = w.later ++ more; request = w.request; reply = w.reply; stray = w.stray; begins = w.begins; step = w.step; ends = grown ∙ (ap (λ (h : List Event). h ++ more) w.ends ∙ append_assoc w.after w.later more) }
 
-pub note_after : {observed : Bool} {asks : Request → Bool} (f : Fault) (a b c : DirAt) → Worked observed asks a b → NoteCause observed f b c → NoteCause observed f a c
+pub note_after : {observed : Bool} {asks : Request → Bool} (f : Fault) (a b c : DirAt) → OnlyAsks observed asks a b → NoteCause observed f b c → NoteCause observed f a c
 note_after Spawn a b c ab is = is
 note_after Dir a b c ab is = rose_after a.faults b.faults c.faults ab.faults is
 note_after Stray a b c ab is = λ t. subst (λ (p : ℕ). WasStrayIn p a.trace c.trace) ab.same (stray_after b.process a.trace b.trace c.trace (ab.extends t).more (ab.extends t).grown (is t))
@@ -75,13 +76,13 @@ by_spawn observed Dir d d' s s' is = absurd is
 by_spawn observed Stray d d' s s' is = absurd is
 by_spawn observed NoMemory d d' s s' is = tt
 
-pub run_after : {observed : Bool} {asks : Request → Bool} (f : Fault) (a b c : DirAt) (x y z : SpawnerAt) → Worked observed asks a b → x.faults ≤ y.faults → RunCause observed f b c y z → RunCause observed f a c x z
+pub run_after : {observed : Bool} {asks : Request → Bool} (f : Fault) (a b c : DirAt) (x y z : SpawnerAt) → OnlyAsks observed asks a b → x.faults ≤ y.faults → RunCause observed f b c y z → RunCause observed f a c x z
 run_after Spawn a b c x y z ab xy is = rose_after x.faults y.faults z.faults xy is
 run_after Dir a b c x y z ab xy is = rose_after a.faults b.faults c.faults ab.faults is
 run_after Stray a b c x y z ab xy is = λ t. subst (λ (p : ℕ). WasStrayIn p a.trace c.trace) ab.same (stray_after b.process a.trace b.trace c.trace (ab.extends t).more (ab.extends t).grown (is t))
 run_after NoMemory a b c x y z ab xy is = tt
 
-pub run_before : {observed : Bool} {asks : Request → Bool} (f : Fault) (a b c : DirAt) (x y z : SpawnerAt) → RunCause observed f a b x y → Worked observed asks b c → y.faults ≤ z.faults → RunCause observed f a c x z
+pub run_before : {observed : Bool} {asks : Request → Bool} (f : Fault) (a b c : DirAt) (x y z : SpawnerAt) → RunCause observed f a b x y → OnlyAsks observed asks b c → y.faults ≤ z.faults → RunCause observed f a c x z
 run_before Spawn a b c x y z is bc yz = rose_before x.faults y.faults z.faults is yz
 run_before Dir a b c x y z is bc yz = rose_before a.faults b.faults c.faults is bc.faults
 run_before Stray a b c x y z is bc yz = λ t. stray_before a.process a.trace b.trace c.trace (bc.extends t).more (bc.extends t).grown (is t)

@@ -8,7 +8,7 @@ use Rattle.dir_model.specs.Local.{IsActive}
 use Rattle.dir_model.specs.Pods.{pod_text}
 use Rattle.dir_model.proofs.Lists.{all_weaker}
 use Rattle.dir_trait.specs.DirCalls.{DirAt, ExtendsBy}
-use Rattle.folder_building.specs.Work.{Worked}
+use Rattle.dir_trait.specs.Effects.{OnlyAsks}
 use Rattle.folder_building.proofs.Working.{worked_more, worked_wider, in_first, in_second}
 use Rattle.pod_locks.specs.Running.{RunsPod}
 use Rattle.spawner.specs.declared.call.RootPlace.{RootPlace}
@@ -46,12 +46,12 @@ module _ (pod : PodId) (starts : List AppStart) (placed : AllByRecursion (IsPlac
 pub still_runs : {observed : Bool} {old new : DirAt} (pod : PodId) → observed ≡ true → IsActive old.local → OnlyReadsPod observed pod old new → RunsPod pod old → StillRuns new (pod_text pod.bytes)
 still_runs pod t active o r = record { active = subst IsActive (sym o.local) active; seen = r.seen; knows = o.known t r.seen refl r.knows; runs = r.runs }
 
-pub worked_reads : {observed : Bool} {old new : DirAt} (pod : PodId) → OnlyReadsPod observed pod old new → Worked observed (runs_pod pod) old new
+pub worked_reads : {observed : Bool} {old new : DirAt} (pod : PodId) → OnlyReadsPod observed pod old new → OnlyAsks observed (runs_pod pod) old new
 worked_reads {observed} {old} {new} pod o =
-    let w : Worked observed (reads_pod pod) old new = record { same = o.same; faults = o.faults; local = o.local; extends = o.extends } in
+    let w : OnlyAsks observed (reads_pod pod) old new = record { same = o.same; faults = o.faults; local = o.local; extends = o.extends } in
     worked_wider (in_first (reads_pod pod) (notes_at (run_spot pod))) w
 
-pub worked_runs : {observed : Bool} {a b c : DirAt} (pod : PodId) → OnlyReadsPod observed pod a b → Worked observed (notes_at (run_spot pod)) b c → Worked observed (runs_pod pod) a c
+pub worked_runs : {observed : Bool} {a b c : DirAt} (pod : PodId) → OnlyReadsPod observed pod a b → OnlyAsks observed (notes_at (run_spot pod)) b c → OnlyAsks observed (runs_pod pod) a c
 worked_runs pod o w = worked_more (worked_reads pod o) (worked_wider (in_second (reads_pod pod) (notes_at (run_spot pod))) w)
 
 -- the run of apps that were read stopped

@@ -24,7 +24,7 @@ use Rattle.dir_rules.proofs.Looks.{same_bytes}
 use Rattle.folder_building.specs.Making.{inner_at}
 use Rattle.dir_trait.specs.DirCalls.{DirAt, DirCall}
 use Rattle.dir_trait.proofs.Knowing.{knows_call}
-use Rattle.folder_building.specs.Work.{Worked}
+use Rattle.dir_trait.specs.Effects.{OnlyAsks}
 use Rattle.folder_building.proofs.Working.{append_call, worked_wider}
 use Rattle.spawner.specs.declared.call.RootPlace.{RootPlace}
 use Rattle.spawner.specs.Conditions.{start_mark, did, MarkSynced, StillRuns}
@@ -105,7 +105,7 @@ stays_none = record { runs = λ name r. r; may = λ root m. m; wrote = λ root s
 pub stays_more : {a b c : DirAt} → StaysAble a b → StaysAble b c → StaysAble a c
 stays_more ab bc = record { runs = λ name r. bc.runs name (ab.runs name r); may = λ root m. bc.may root (ab.may root m); wrote = λ root status w. bc.wrote root status (ab.wrote root status w) }
 
-pub worked_any : {observed : Bool} {asks : Request → Bool} {old new : DirAt} → Worked observed asks old new → Worked observed anything old new
+pub worked_any : {observed : Bool} {asks : Request → Bool} {old new : DirAt} → OnlyAsks observed asks old new → OnlyAsks observed anything old new
 worked_any w = worked_wider (λ r h. refl) w
 
 -- the mark

@@ -39,13 +39,6 @@ runs_pod pod = either (reads_pod pod) (notes_at (run_spot pod))
 abbrev pub runs_and_closes : PodId → Handle → Request → Bool
 runs_and_closes pod own = either (closes own) (runs_pod pod)
 
--- calls were made, each for something of this kind, and this is open after them
-pub record Went (observed : Bool) (asks : Request → Bool) (local : Local) (old new : DirAt) : Type 0 where
-  pub same : new.process ≡ old.process
-  pub faults : old.faults ≤ new.faults
-  pub local_is : new.local ≡ local
-  pub extends : observed ≡ true → ExtendsBy asks old new
-
 -- all apps have begun and ended, with these statuses
 pub record HaveRun (observed : Bool) (starts : List AppStart) (statuses : List ℕ) (old new : SpawnerAt) : Type 0 where
   pub endings : List Ending

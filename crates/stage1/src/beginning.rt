@@ -3,13 +3,13 @@ ghost use Rattle.std.specs.Prelude.{◌≡◌, ◌≤◌, ◌+◌, ◌<◌, ◌+
 ghost use Rattle.std.specs.List.{AllByRecursion};
 ghost use Rattle.dir_model.specs.declared.spot.Spot.{Spot};
 ghost use Rattle.dir_model.specs.Local.{IsActive};
-ghost use Rattle.folder_building.specs.Work.{Worked};
 ghost use Rattle.spawner.specs.Conditions.{StillRuns};
 ghost use Rattle.stage1.specs.Notes.{anything, notes_at, StaysAble, IsMarked};
 ghost use Rattle.stage1.specs.Beginnings.{IsInRun, AreAt, RunsEach, AreMarked, IsStartedIn, AreStartedIn, IsWritten, AreWritten};
 ghost use Rattle.stage1.specs.Beginnings.{RanPrelude, PreludeCut, WentOn, GoingCut, HasBegun, IsBrokenOff, HaveBegun, AreBrokenOff};
 ghost use Rattle.stage1.specs.Refusals.{SpawnCause, RunCause};
 ghost use Rattle.stage1.specs.Keeping.{Keeps, going_times, beginning_times, all_begun_times};
+ghost use Rattle.dir_trait.specs.Effects.{OnlyAsks};
 
 use crate::error::{Fault, out_of_memory};
 use crate::notes::{mark_started, note_status};
@@ -31,7 +31,7 @@ fn go_on<D: Dir, S: Spawner>(
     requires active { IsActive (D.shown dir.old).local }
     requires place { IsInRun app.now }
     requires may { D.observed ≡ true → IsMarked (D.shown dir.old) app.now.root }
-    ensures worked { Worked D.observed (notes_at app.now.root.spot) (D.shown dir.old) (D.shown dir.new) }
+    ensures worked { OnlyAsks D.observed (notes_at app.now.root.spot) (D.shown dir.old) (D.shown dir.new) }
     ensures stays { D.observed ≡ true → StaysAble (D.shown dir.old) (D.shown dir.new) }
     ensures cause { IfErr result (λ f. RunCause D.observed f (D.shown dir.old) (D.shown dir.new) (S.shown spawner.old) (S.shown spawner.new)) }
     ensures went { IfOk result (λ stand. WentOn S.observed app.now status stand (S.shown spawner.old) (S.shown spawner.new)) }
@@ -80,7 +80,7 @@ fn begin_app<D: Dir, S: Spawner>(
     requires active { IsActive (D.shown dir.old).local }
     requires place { IsInRun app.now }
     requires runs { D.observed ≡ true → StillRuns (D.shown dir.old) app.now.root.spot.name }
-    ensures worked { Worked D.observed (notes_at app.now.root.spot) (D.shown dir.old) (D.shown dir.new) }
+    ensures worked { OnlyAsks D.observed (notes_at app.now.root.spot) (D.shown dir.old) (D.shown dir.new) }
     ensures stays { D.observed ≡ true → StaysAble (D.shown dir.old) (D.shown dir.new) }
     ensures cause { IfErr result (λ f. RunCause D.observed f (D.shown dir.old) (D.shown dir.new) (S.shown spawner.old) (S.shown spawner.new)) }
     ensures begun { IfOk result (λ stand. HasBegun S.observed app.now stand (S.shown spawner.old) (S.shown spawner.new)) }
@@ -122,8 +122,8 @@ pub(crate) fn begin_apps<D: Dir, S: Spawner>(
     requires runs { D.observed ≡ true → RunsEach (D.shown dir.old) apps.now }
     requires none { stands.old.items ≡ [] }
     requires room { length apps.now ≤ vec_capacity stands.old }
-    ensures went { Worked D.observed anything (D.shown dir.old) (D.shown dir.new) }
-    ensures worked { (spot : Spot) → AreAt spot apps.now → Worked D.observed (notes_at spot) (D.shown dir.old) (D.shown dir.new) }
+    ensures went { OnlyAsks D.observed anything (D.shown dir.old) (D.shown dir.new) }
+    ensures worked { (spot : Spot) → AreAt spot apps.now → OnlyAsks D.observed (notes_at spot) (D.shown dir.old) (D.shown dir.new) }
     ensures stays { D.observed ≡ true → StaysAble (D.shown dir.old) (D.shown dir.new) }
     ensures cause { IfErr result (λ f. RunCause D.observed f (D.shown dir.old) (D.shown dir.new) (S.shown spawner.old) (S.shown spawner.new)) }
     ensures begun { IfOk result (λ done. HaveBegun S.observed apps.now stands.new.items (S.shown spawner.old) (S.shown spawner.new)) }

@@ -3,7 +3,6 @@ ghost use Rattle.std.specs.Prelude.{◌≡◌, ◌≤◌, ◌∷◌, [], true, l
 ghost use Rattle.std.specs.List.{AllByRecursion};
 ghost use Rattle.dir_model.specs.declared.spot.Spot.{Spot};
 ghost use Rattle.dir_model.specs.Local.{IsActive};
-ghost use Rattle.folder_building.specs.Work.{Worked};
 ghost use Rattle.stage1.specs.Sequences.{wait_call};
 ghost use Rattle.stage1.specs.Asking.{Asks, StartedIn};
 ghost use Rattle.stage1.specs.Notes.{anything, notes_at, WroteStatus, StaysAble, IsMarked};
@@ -12,6 +11,7 @@ ghost use Rattle.stage1.specs.Endings.{WasWaitedFor, HasEnded, IsEndCut, EndsSo,
 ghost use Rattle.stage1.specs.Refusals.{RunCause};
 ghost use Rattle.stage1.specs.Keeping.{Keeps, status_times, end_times, all_end_times};
 ghost use Rattle.stage1.specs.Runs.{AddsWritten, AreWrittenAll};
+ghost use Rattle.dir_trait.specs.Effects.{OnlyAsks};
 
 use crate::error::Fault;
 use crate::notes::note_status;
@@ -41,7 +41,7 @@ fn wait_app<D: Dir, S: Spawner>(
     requires place { IsInRun app.now }
     requires may { D.observed ≡ true → IsMarked (D.shown dir.old) app.now.root }
     requires started { S.observed ≡ true → StartedIn app.now.root child (S.shown spawner.old).calls }
-    ensures worked { Worked D.observed (notes_at app.now.root.spot) (D.shown dir.old) (D.shown dir.new) }
+    ensures worked { OnlyAsks D.observed (notes_at app.now.root.spot) (D.shown dir.old) (D.shown dir.new) }
     ensures stays { D.observed ≡ true → StaysAble (D.shown dir.old) (D.shown dir.new) }
     ensures cause { IfErr result (λ f. RunCause D.observed f (D.shown dir.old) (D.shown dir.new) (S.shown spawner.old) (S.shown spawner.new)) }
     ensures asked { IfOk result (λ status. Asks S.observed (S.shown spawner.old) (wait_call child status ∷ []) (S.shown spawner.new)) }
@@ -70,7 +70,7 @@ fn end_running<D: Dir, S: Spawner>(
     requires place { IsInRun app.now }
     requires may { D.observed ≡ true → IsMarked (D.shown dir.old) app.now.root }
     requires started { S.observed ≡ true → StartedIn app.now.root child (S.shown spawner.old).calls }
-    ensures worked { Worked D.observed (notes_at app.now.root.spot) (D.shown dir.old) (D.shown dir.new) }
+    ensures worked { OnlyAsks D.observed (notes_at app.now.root.spot) (D.shown dir.old) (D.shown dir.new) }
     ensures stays { D.observed ≡ true → StaysAble (D.shown dir.old) (D.shown dir.new) }
     ensures cause { IfErr result (λ f. RunCause D.observed f (D.shown dir.old) (D.shown dir.new) (S.shown spawner.old) (S.shown spawner.new)) }
     ensures ended { IfOk result (λ status. HasEnded S.observed app.now child status (S.shown spawner.old) (S.shown spawner.new)) }
@@ -98,7 +98,7 @@ fn end_app<D: Dir, S: Spawner>(
     requires may { D.observed ≡ true → IsMarked (D.shown dir.old) app.now.root }
     requires started { S.observed ≡ true → IsStartedIn (S.shown spawner.old).calls app.now stand }
     requires wrote { D.observed ≡ true → IsWritten (D.shown dir.old) app.now stand }
-    ensures worked { Worked D.observed (notes_at app.now.root.spot) (D.shown dir.old) (D.shown dir.new) }
+    ensures worked { OnlyAsks D.observed (notes_at app.now.root.spot) (D.shown dir.old) (D.shown dir.new) }
     ensures stays { D.observed ≡ true → StaysAble (D.shown dir.old) (D.shown dir.new) }
     ensures cause { IfErr result (λ f. RunCause D.observed f (D.shown dir.old) (D.shown dir.new) (S.shown spawner.old) (S.shown spawner.new)) }
     ensures ended { IfOk result (λ status. EndsSo S.observed app.now stand status (S.shown spawner.old) (S.shown spawner.new)) }
@@ -126,7 +126,7 @@ fn add_end<D: Dir, S: Spawner>(
     requires may { D.observed ≡ true → IsMarked (D.shown dir.old) app.now.root }
     requires started { S.observed ≡ true → IsStartedIn (S.shown spawner.old).calls app.now stand }
     requires wrote { D.observed ≡ true → IsWritten (D.shown dir.old) app.now stand }
-    ensures worked { Worked D.observed (notes_at app.now.root.spot) (D.shown dir.old) (D.shown dir.new) }
+    ensures worked { OnlyAsks D.observed (notes_at app.now.root.spot) (D.shown dir.old) (D.shown dir.new) }
     ensures stays { D.observed ≡ true → StaysAble (D.shown dir.old) (D.shown dir.new) }
     ensures cause { IfErr result (λ f. RunCause D.observed f (D.shown dir.old) (D.shown dir.new) (S.shown spawner.old) (S.shown spawner.new)) }
     ensures added { IfOk result (λ done. AddsEnd S.observed app.now stand statuses.old.items statuses.new.items (S.shown spawner.old) (S.shown spawner.new)) }
@@ -155,8 +155,8 @@ pub(crate) fn end_apps<D: Dir, S: Spawner>(
     requires may { D.observed ≡ true → AreMarked (D.shown dir.old) apps.now }
     requires started { S.observed ≡ true → AreStartedIn (S.shown spawner.old).calls apps.now stands.now }
     requires wrote { D.observed ≡ true → AreWritten (D.shown dir.old) apps.now stands.now }
-    ensures went { Worked D.observed anything (D.shown dir.old) (D.shown dir.new) }
-    ensures worked { (spot : Spot) → AreAt spot apps.now → Worked D.observed (notes_at spot) (D.shown dir.old) (D.shown dir.new) }
+    ensures went { OnlyAsks D.observed anything (D.shown dir.old) (D.shown dir.new) }
+    ensures worked { (spot : Spot) → AreAt spot apps.now → OnlyAsks D.observed (notes_at spot) (D.shown dir.old) (D.shown dir.new) }
     ensures stays { D.observed ≡ true → StaysAble (D.shown dir.old) (D.shown dir.new) }
     ensures cause { IfErr result (λ cut. RunCause D.observed cut.fault (D.shown dir.old) (D.shown dir.new) (S.shown spawner.old) (S.shown spawner.new)) }
     ensures ended { IfOk result (λ statuses. HaveEnded S.observed apps.now stands.now statuses.items (S.shown spawner.old) (S.shown spawner.new)) }
@@ -189,7 +189,7 @@ fn wait_still<D: Dir, S: Spawner>(
     requires place { IsInRun app.now }
     requires may { D.observed ≡ true → IsMarked (D.shown dir.old) app.now.root }
     requires started { S.observed ≡ true → IsStartedIn (S.shown spawner.old).calls app.now stand }
-    ensures worked { Worked D.observed (notes_at app.now.root.spot) (D.shown dir.old) (D.shown dir.new) }
+    ensures worked { OnlyAsks D.observed (notes_at app.now.root.spot) (D.shown dir.old) (D.shown dir.new) }
     ensures stays { D.observed ≡ true → StaysAble (D.shown dir.old) (D.shown dir.new) }
     ensures waited { WereWaitedFor S.observed (running (stand ∷ [])) (S.shown spawner.old) (S.shown spawner.new) }
     ensures keeps { D.observed ≡ true → Keeps (end_times app.now stand) (D.shown dir.old) (D.shown dir.new) }
@@ -215,8 +215,8 @@ pub(crate) fn wait_rest<D: Dir, S: Spawner>(
     requires each { length stands.now ≤ length apps.now }
     requires may { D.observed ≡ true → AreMarked (D.shown dir.old) (take (length stands.now) apps.now) }
     requires started { S.observed ≡ true → AreStartedIn (S.shown spawner.old).calls (take (length stands.now) apps.now) stands.now }
-    ensures went { Worked D.observed anything (D.shown dir.old) (D.shown dir.new) }
-    ensures worked { (spot : Spot) → AreAt spot apps.now → Worked D.observed (notes_at spot) (D.shown dir.old) (D.shown dir.new) }
+    ensures went { OnlyAsks D.observed anything (D.shown dir.old) (D.shown dir.new) }
+    ensures worked { (spot : Spot) → AreAt spot apps.now → OnlyAsks D.observed (notes_at spot) (D.shown dir.old) (D.shown dir.new) }
     ensures stays { D.observed ≡ true → StaysAble (D.shown dir.old) (D.shown dir.new) }
     ensures waited { WereWaitedFor S.observed (running stands.now) (S.shown spawner.old) (S.shown spawner.new) }
     ensures keeps { D.observed ≡ true → Keeps (all_end_times apps.now stands.now) (D.shown dir.old) (D.shown dir.new) }

@@ -4,7 +4,6 @@ ghost use Rattle.std.specs.List.{AllByRecursion};
 ghost use Rattle.dir_model.specs.declared.spot.Spot.{Spot};
 ghost use Rattle.dir_model.specs.Local.{IsActive, IsOpen, without};
 ghost use Rattle.lifecycle.specs.Executions.{IsConforming};
-ghost use Rattle.folder_building.specs.Work.{Worked};
 ghost use Rattle.pod_locks.specs.Running.{RunsPod};
 ghost use Rattle.stage1.specs.Notes.{anything, notes_at, StaysAble};
 ghost use Rattle.stage1.specs.Beginnings.{IsInRun, AreAt, RunsEach, AreMarked, AreStartedIn, AreWritten};
@@ -12,7 +11,8 @@ ghost use Rattle.stage1.specs.Cutting.{IsCutShort};
 ghost use Rattle.stage1.specs.Endings.{HaveEnded, AreEndsBroken};
 ghost use Rattle.stage1.specs.Refusals.{RunCause};
 ghost use Rattle.stage1.specs.Keeping.{Keeps, all_end_times, all_times, KeepsRules, KeepsToEnd};
-ghost use Rattle.stage1.specs.Runs.{Went, StopCause, end_of, runs_pod, runs_and_closes, HaveRun, AreWrittenAll, AreEnds, HasRunStarts, HasRunHeld, HasRun, IsRefusedRun};
+ghost use Rattle.stage1.specs.Runs.{StopCause, end_of, runs_pod, runs_and_closes, HaveRun, AreWrittenAll, AreEnds, HasRunStarts, HasRunHeld, HasRun, IsRefusedRun};
+ghost use Rattle.dir_trait.specs.Effects.{OnlyAsks, LeavesOpen};
 
 use crate::beginning::{begin_apps, room_for};
 use crate::end::AppEnd;
@@ -39,8 +39,8 @@ fn end_all<D: Dir, S: Spawner>(
     requires may { D.observed ≡ true → AreMarked (D.shown dir.old) apps.now }
     requires started { S.observed ≡ true → AreStartedIn (S.shown spawner.old).calls apps.now stands.now }
     requires wrote { D.observed ≡ true → AreWritten (D.shown dir.old) apps.now stands.now }
-    ensures went { Worked D.observed anything (D.shown dir.old) (D.shown dir.new) }
-    ensures worked { (spot : Spot) → AreAt spot apps.now → Worked D.observed (notes_at spot) (D.shown dir.old) (D.shown dir.new) }
+    ensures went { OnlyAsks D.observed anything (D.shown dir.old) (D.shown dir.new) }
+    ensures worked { (spot : Spot) → AreAt spot apps.now → OnlyAsks D.observed (notes_at spot) (D.shown dir.old) (D.shown dir.new) }
     ensures stays { D.observed ≡ true → StaysAble (D.shown dir.old) (D.shown dir.new) }
     ensures cause { IfErr result (λ f. RunCause D.observed f (D.shown dir.old) (D.shown dir.new) (S.shown spawner.old) (S.shown spawner.new)) }
     ensures ended { IfOk result (λ statuses. HaveEnded S.observed apps.now stands.now statuses.items (S.shown spawner.old) (S.shown spawner.new)) }
@@ -73,8 +73,8 @@ fn run_apps<D: Dir, S: Spawner>(
     requires active { IsActive (D.shown dir.old).local }
     requires place { AllByRecursion IsInRun apps.now }
     requires runs { D.observed ≡ true → RunsEach (D.shown dir.old) apps.now }
-    ensures went { Worked D.observed anything (D.shown dir.old) (D.shown dir.new) }
-    ensures worked { (spot : Spot) → AreAt spot apps.now → Worked D.observed (notes_at spot) (D.shown dir.old) (D.shown dir.new) }
+    ensures went { OnlyAsks D.observed anything (D.shown dir.old) (D.shown dir.new) }
+    ensures worked { (spot : Spot) → AreAt spot apps.now → OnlyAsks D.observed (notes_at spot) (D.shown dir.old) (D.shown dir.new) }
     ensures stays { D.observed ≡ true → StaysAble (D.shown dir.old) (D.shown dir.new) }
     ensures cause { IfErr result (λ f. RunCause D.observed f (D.shown dir.old) (D.shown dir.new) (S.shown spawner.old) (S.shown spawner.new)) }
     ensures ran { IfOk result (λ statuses. HaveRun S.observed apps.now statuses.items (S.shown spawner.old) (S.shown spawner.new)) }
@@ -128,8 +128,8 @@ fn run_starts<D: Dir, S: Spawner>(
     requires active { IsActive (D.shown dir.old).local }
     requires place { AllByRecursion IsInRun apps.now }
     requires runs { D.observed ≡ true → RunsEach (D.shown dir.old) apps.now }
-    ensures went { Worked D.observed anything (D.shown dir.old) (D.shown dir.new) }
-    ensures worked { (spot : Spot) → AreAt spot apps.now → Worked D.observed (notes_at spot) (D.shown dir.old) (D.shown dir.new) }
+    ensures went { OnlyAsks D.observed anything (D.shown dir.old) (D.shown dir.new) }
+    ensures worked { (spot : Spot) → AreAt spot apps.now → OnlyAsks D.observed (notes_at spot) (D.shown dir.old) (D.shown dir.new) }
     ensures stays { D.observed ≡ true → StaysAble (D.shown dir.old) (D.shown dir.new) }
     ensures ran { IfOk result (λ ends. HasRunStarts D.observed S.observed apps.now ends.items (D.shown dir.new) (S.shown spawner.old) (S.shown spawner.new)) }
     ensures cut { IfErr result (λ e. IsCutShort S.observed apps.now (S.shown spawner.old) (S.shown spawner.new)) }
@@ -152,7 +152,7 @@ fn run_held<D: Dir, S: Spawner>(
 ) -> Result<Vec<AppEnd>, RunError>
     requires active { IsActive (D.shown dir.old).local }
     requires runs { D.observed ≡ true → RunsPod pod (D.shown dir.old) }
-    ensures worked { Worked D.observed (runs_pod pod) (D.shown dir.old) (D.shown dir.new) }
+    ensures worked { OnlyAsks D.observed (runs_pod pod) (D.shown dir.old) (D.shown dir.new) }
     ensures ran { IfOk result (λ ends. HasRunHeld D.observed S.observed pod address.now ends.items (D.shown dir.old) (D.shown dir.new) (S.shown spawner.old) (S.shown spawner.new)) }
     ensures refused { IfErr result (λ e. IsRefusedRun D.observed S.observed pod address.now e (D.shown dir.old) (D.shown dir.new) (S.shown spawner.old) (S.shown spawner.new)) }
     ensures keeps { D.observed ≡ true → KeepsRules pod (D.shown dir.old) (D.shown dir.new) }
@@ -183,7 +183,7 @@ pub fn run_pod<D: Dir, S: Spawner>(
     requires active { IsActive (D.shown dir.old).local }
     requires open { IsOpen (D.shown dir.old).local owned.own }
     requires runs { D.observed ≡ true → RunsPod owned.pod (D.shown dir.old) }
-    ensures went { Went D.observed (runs_and_closes owned.pod owned.own) (without (D.shown dir.old).local owned.own) (D.shown dir.old) (D.shown dir.new) }
+    ensures went { LeavesOpen D.observed (runs_and_closes owned.pod owned.own) (without (D.shown dir.old).local owned.own) (D.shown dir.old) (D.shown dir.new) }
     ensures ran { IfOk result (λ ends. HasRun D.observed S.observed owned.pod owned.own address.now ends.items (D.shown dir.old) (D.shown dir.new) (S.shown spawner.old) (S.shown spawner.new)) }
     ensures refused { IfErr result (λ e. IsRefusedRun D.observed S.observed owned.pod address.now e (D.shown dir.old) (D.shown dir.new) (S.shown spawner.old) (S.shown spawner.new)) }
     ensures keeps { D.observed ≡ true → KeepsToEnd owned.pod owned.own (D.shown dir.old) (D.shown dir.new) }

@@ -2,7 +2,7 @@ use Rattle.std.proofs.Common.{◌≡◌, false, inr, Ok, rules, ap, subst, true}
 use Rattle.dir_model.specs.declared.spot.Spot.{Spot}
 use Rattle.dir_model.specs.State.{stands}
 use Rattle.dir_trait.specs.DirCalls.{HeldBetween}
-use Rattle.folder_building.specs.Work.{Worked}
+use Rattle.dir_trait.specs.Effects.{OnlyAsks}
 use Rattle.folder_building.proofs.Working.{in_first, in_second, worked_more, worked_wider}
 use Rattle.folder_building.proofs.Copying.{err_more}
 use Rattle.folder_removal.specs.Removal.{deletes_at}
@@ -25,7 +25,7 @@ returns-in_err-is_there-clause-worked g c =
     let D = g.D.Dir in
     let spot = removed_spot c.args.name in
     worked_wider (in_first (looks_at spot) (deletes_at spot))
-    (subst (λ (s : Spot). Worked D.observed (looks_at s) (D.shown c.args.dir.now) (D.shown c.is_there.new.dir)) c.removed_spot.ensures c.is_there.ensures.worked)
+    (subst (λ (s : Spot). OnlyAsks D.observed (looks_at s) (D.shown c.args.dir.now) (D.shown c.is_there.new.dir)) c.removed_spot.ensures c.is_there.ensures.worked)
 
 pub returns-then-branch-clause-worked : goal.returns-then-branch-clause-worked
 returns-then-branch-clause-worked g c =
@@ -33,7 +33,7 @@ returns-then-branch-clause-worked g c =
     let spot = removed_spot c.args.name in
     worked_more
     (worked_wider (in_first (looks_at spot) (deletes_at spot))
-    (subst (λ (s : Spot). Worked D.observed (looks_at s) (D.shown c.args.dir.now) (D.shown c.is_there.new.dir)) c.removed_spot.ensures c.is_there.ensures.worked))
+    (subst (λ (s : Spot). OnlyAsks D.observed (looks_at s) (D.shown c.args.dir.now) (D.shown c.is_there.new.dir)) c.removed_spot.ensures c.is_there.ensures.worked))
     (worked_wider (in_second (looks_at spot) (deletes_at spot)) c.delete.ensures.worked)
 
 pub returns-then-branch-clause-cause : goal.returns-then-branch-clause-cause
@@ -49,7 +49,7 @@ returns-else-branch-clause-worked g c =
     let D = g.D.Dir in
     let spot = removed_spot c.args.name in
     worked_wider (in_first (looks_at spot) (deletes_at spot))
-    (subst (λ (s : Spot). Worked D.observed (looks_at s) (D.shown c.args.dir.now) (D.shown c.is_there.new.dir)) c.removed_spot.ensures c.is_there.ensures.worked)
+    (subst (λ (s : Spot). OnlyAsks D.observed (looks_at s) (D.shown c.args.dir.now) (D.shown c.is_there.new.dir)) c.removed_spot.ensures c.is_there.ensures.worked)
 
 pub returns-else-branch-clause-gone : goal.returns-else-branch-clause-gone
 returns-else-branch-clause-gone g c t =
@@ -78,7 +78,7 @@ returns-then-branch-clause-lawful g c is t s k may conforming =
     let mid = D.shown c.is_there.new.dir in
     let new = D.shown c.delete.new.dir in
     found_never c.args.name old mid new t
-    (subst (λ (spot : Spot). Worked D.observed (looks_at spot) old mid) c.removed_spot.ensures c.is_there.ensures.worked)
+    (subst (λ (spot : Spot). OnlyAsks D.observed (looks_at spot) old mid) c.removed_spot.ensures c.is_there.ensures.worked)
     (subst (λ (spot : Spot). HeldBetween old mid (λ z. stands z.namespace spot ≡ true)) c.removed_spot.ensures (c.in_ok-is_there.ensures.present (ap Ok c.if-branch.true) t))
     c.delete.ensures.worked (of_error (λ e. D.observed ≡ true → KeepsFolders mid new) c.delete.result Stray is c.delete.ensures.kept t)
     (c.delete.ensures.stray is t) (c.delete.ensures.knew is t s (c.is_there.ensures.known t s k) may) conforming

@@ -3,9 +3,10 @@ use Rattle.dir_model.specs.declared.area.Area.TheVariants.{Removed}
 use Rattle.dir_model.specs.declared.spot.Mode.TheVariants.{Exclusive}
 use Rattle.dir_rules.specs.declared.seen.Seen.{Seen}
 use Rattle.dir_trait.specs.Knowledge.{Knows}
+use Rattle.dir_trait.specs.Effects.{OnlyAsks}
 use Rattle.dir_files.specs.AreaLocks.{is_free_of, IsBusy, IsBusyElsewhere}
 use Rattle.dir_files.proofs.Locking.{number_is_new}
-use Rattle.folder_building.specs.Work.{Worked, either}
+use Rattle.folder_building.specs.Work.{either}
 use Rattle.folder_building.proofs.Copying.{ok_more, err_more}
 use Rattle.folder_building.proofs.Working.{worked_wider}
 use Rattle.folder_removal.specs.Removal.{deletes_at}
@@ -43,7 +44,7 @@ returns-in-Ok-clause-worked g c =
       extends = c.unlock_area.ensures.extends;
     } in
     worked_under (lock_away c.args.draw) s (worked_wider (work_away c.args.draw)
-    (subst (λ (n : List ℕ). Worked D.observed (either (looks_at (removed_spot n)) (deletes_at (removed_spot n))) mid late) c.name.ensures.text c.delete_if_there-result.ensures.worked)) b
+    (subst (λ (n : List ℕ). OnlyAsks D.observed (either (looks_at (removed_spot n)) (deletes_at (removed_spot n))) mid late) c.name.ensures.text c.delete_if_there-result.ensures.worked)) b
 
 pub returns-in-Ok-clause-cause : goal.returns-in-Ok-clause-cause
 returns-in-Ok-clause-cause g c =

@@ -2,7 +2,6 @@ use Rattle.std.proofs.Common.{◌≡◌, true, IfOk, IfErr, sym, subst}
 use Rattle.dir_model.specs.declared.request.Request.TheVariants.{MoveFolder}
 use Rattle.dir_model.specs.declared.request.Reply.TheVariants.{Done}
 use Rattle.dir_model.specs.Calls.{CallStep}
-use Rattle.folder_building.specs.Work.{Worked}
 use Rattle.folder_building.proofs.Copying.{ok_more}
 use Rattle.image_removal.specs.declared.pass.Pass.{Pass}
 use Rattle.image_removal.specs.declared.pass.Pass.TheVariants.{PutAway}
@@ -19,6 +18,7 @@ use Rattle.image_removal.specs.Sweeps.{WasListed}
 use Rattle.image_removal.proofs.Lawful.{of_error}
 use Rattle.image_removal.proofs.LawfulSweeps.{deleted_never}
 use Rattle.image_removal.proofs.sweeping.deal.Goals as goal
+use Rattle.dir_trait.specs.Effects.{OnlyAsks}
 
 pub returns-in-PutAway-clause-done : goal.returns-in-PutAway-clause-done
 returns-in-PutAway-clause-done g c =
@@ -48,7 +48,7 @@ returns-in-PutAway-clause-left g c =
 pub returns-in-Delete-clause-worked : goal.returns-in-Delete-clause-worked
 returns-in-Delete-clause-worked g c =
     let D = g.D.Dir in
-    subst (λ (p : Pass). Worked D.observed (deals_with p c.args.name) (D.shown c.args.dir.now) (D.shown c.delete.new.dir)) (sym c.in-Delete.is) c.delete.ensures.worked
+    subst (λ (p : Pass). OnlyAsks D.observed (deals_with p c.args.name) (D.shown c.args.dir.now) (D.shown c.delete.new.dir)) (sym c.in-Delete.is) c.delete.ensures.worked
 
 pub returns-in-Delete-clause-stays : goal.returns-in-Delete-clause-stays
 returns-in-Delete-clause-stays g c =

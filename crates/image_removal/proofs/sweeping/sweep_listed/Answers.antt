@@ -3,8 +3,8 @@ use Rattle.dir_model.specs.declared.area.Area.{Area}
 use Rattle.dir_model.specs.declared.request.Request.TheVariants.{ListArea}
 use Rattle.dir_model.specs.declared.request.Reply.TheVariants.{Names, Refused}
 use Rattle.dir_trait.specs.DirCalls.{ListCall}
+use Rattle.dir_trait.specs.Effects.{OnlyAsks}
 use Rattle.dir_files.specs.Listed.{ShowsAreaBetween}
-use Rattle.folder_building.specs.Work.{Worked}
 use Rattle.folder_building.proofs.Copying.{ok_more, err_more}
 use Rattle.folder_building.proofs.Working.{worked_more, worked_wider}
 use Rattle.image_reading.specs.declared.error.StoreError.{StoreError}
@@ -35,7 +35,7 @@ returns-in-Ok-clause-worked g c =
     let mid = D.shown c.names_of.new.dir in
     let new = D.shown c.sweep_each.new.dir in
     let listing = subst (λ (a : Area). ListCall D.observed old (ListArea a) (Names names) mid) c.area.ensures c.in-Ok.ensures.called in
-    let works = subst (λ (ns : List (List ℕ)). Worked D.observed (deals_with_some pass ns) mid new) c.as_slice.ensures c.sweep_each.ensures.worked in
+    let works = subst (λ (ns : List (List ℕ)). OnlyAsks D.observed (deals_with_some pass ns) mid new) c.as_slice.ensures c.sweep_each.ensures.worked in
     worked_more (worked_wider (lists_sweep pass) (worked_list (area_of pass) (Ok names) listing)) (worked_wider (some_sweep pass names) works)
 
 pub returns-in-Ok-clause-cause : goal.returns-in-Ok-clause-cause
@@ -60,7 +60,7 @@ returns-in-Ok-clause-swept g c =
     let before = c.args.lines.now.items in
     let after = c.sweep_each.new.lines.items in
     let listing = subst (λ (a : Area). ListCall D.observed old (ListArea a) (Names names) mid) c.area.ensures c.in-Ok.ensures.called in
-    let works = subst (λ (ns : List (List ℕ)). Worked D.observed (deals_with_some pass ns) mid new) c.as_slice.ensures c.sweep_each.ensures.worked in
+    let works = subst (λ (ns : List (List ℕ)). OnlyAsks D.observed (deals_with_some pass ns) mid new) c.as_slice.ensures c.sweep_each.ensures.worked in
     ok_more (λ done. AddsLines D.observed pass shown before after mid new) (λ done. D.observed ≡ true → Adds (SweepsBetween pass old new) before after) c.sweep_each.result
     (λ done adds t. adds_swept pass names old mid new t listing (subst (λ (a : Area). ShowsAreaBetween old mid a names) c.area.ensures (c.in-Ok.ensures.shows t)) works c.in-Ok.ensures.ordered before after
     (subst (λ (ns : List (List ℕ)). AddsLines D.observed pass ns before after mid new) c.as_slice.ensures adds)) c.sweep_each.ensures.swept
@@ -74,7 +74,7 @@ returns-in-Ok-clause-tried g c =
     let mid = D.shown c.names_of.new.dir in
     let new = D.shown c.sweep_each.new.dir in
     let listing = subst (λ (a : Area). ListCall D.observed old (ListArea a) (Names names) mid) c.area.ensures c.in-Ok.ensures.called in
-    let works = subst (λ (ns : List (List ℕ)). Worked D.observed (deals_with_some pass ns) mid new) c.as_slice.ensures c.sweep_each.ensures.worked in
+    let works = subst (λ (ns : List (List ℕ)). OnlyAsks D.observed (deals_with_some pass ns) mid new) c.as_slice.ensures c.sweep_each.ensures.worked in
     err_any (D.observed ≡ true → TriesBetween pass old new) c.sweep_each.result
     (λ t. inr (names, works_at_shown pass names old mid new t listing (subst (λ (a : Area). ShowsAreaBetween old mid a names) c.area.ensures (c.in-Ok.ensures.shows t)) works))
 

@@ -1,6 +1,6 @@
 use Rattle.std.proofs.Common.{false, Err, ap, refl, subst}
 use Rattle.dir_model.specs.declared.spot.Spot.{Spot}
-use Rattle.folder_building.specs.Work.{Worked, builds_at, either}
+use Rattle.folder_building.specs.Work.{builds_at, either}
 use Rattle.image_store.specs.Requests.{building_spot}
 use Rattle.image_store.specs.Causes.{source_at}
 use Rattle.image_store.proofs.Changes.{was_stray}
@@ -8,6 +8,7 @@ use Rattle.image_store.proofs.Fillings.{worked_fill, has_filled, has_begun}
 use Rattle.image_store.proofs.Refusals.{fill_cause}
 use Rattle.image_store.proofs.Unlikes.{place_inside}
 use Rattle.image_store.proofs.building.fill.Goals as goal
+use Rattle.dir_trait.specs.Effects.{OnlyAsks}
 
 pub build_refusal-requires : goal.build_refusal-requires
 build_refusal-requires g c place is = place_inside (c.in-Err.ensures.unlike place (ap Err is))
@@ -15,12 +16,12 @@ build_refusal-requires g c place is = place_inside (c.in-Err.ensures.unlike plac
 pub returns-in-Ok-clause-worked : goal.returns-in-Ok-clause-worked
 returns-in-Ok-clause-worked g c =
     let D = g.D.Dir in
-    worked_fill (building_spot c.args.draw) (subst (λ (s : Spot). Worked D.observed (either (builds_at s) (λ r. false)) (D.shown c.args.dir.now) (D.shown c.carry_out-filled.new.dir)) c.building_spot-spot.ensures c.carry_out-filled.ensures.worked)
+    worked_fill (building_spot c.args.draw) (subst (λ (s : Spot). OnlyAsks D.observed (either (builds_at s) (λ r. false)) (D.shown c.args.dir.now) (D.shown c.carry_out-filled.new.dir)) c.building_spot-spot.ensures c.carry_out-filled.ensures.worked)
 
 pub returns-in-Err-clause-worked : goal.returns-in-Err-clause-worked
 returns-in-Err-clause-worked g c =
     let D = g.D.Dir in
-    worked_fill (building_spot c.args.draw) (subst (λ (s : Spot). Worked D.observed (either (builds_at s) (λ r. false)) (D.shown c.args.dir.now) (D.shown c.carry_out-filled.new.dir)) c.building_spot-spot.ensures c.carry_out-filled.ensures.worked)
+    worked_fill (building_spot c.args.draw) (subst (λ (s : Spot). OnlyAsks D.observed (either (builds_at s) (λ r. false)) (D.shown c.args.dir.now) (D.shown c.carry_out-filled.new.dir)) c.building_spot-spot.ensures c.carry_out-filled.ensures.worked)
 
 pub returns-in-Ok-clause-done : goal.returns-in-Ok-clause-done
 returns-in-Ok-clause-done g c t intent hs imports under k = has_filled c.args.draw intent hs c.args.plan.now _ c.building_spot-spot.ensures t k c.in-Ok.ensures.done refl

@@ -6,6 +6,7 @@ use Rattle.dir_model.specs.declared.spot.Which.TheVariants.{Own}
 use Rattle.dir_model.specs.declared.request.Request.TheVariants.{MoveFolder}
 use Rattle.dir_model.specs.declared.request.Reply.TheVariants.{Done}
 use Rattle.dir_trait.specs.DirCalls.{ExtendsBy, LockToldBetween}
+use Rattle.dir_trait.specs.Effects.{Given}
 use Rattle.folder_building.proofs.Copying.{ok_more, err_more}
 use Rattle.folder_building.proofs.Working.{worked_more, worked_wider}
 use Rattle.phase_read.specs.Read.{pod_spot}
@@ -13,7 +14,7 @@ use Rattle.pod_locks.proofs.Times.{deeds_part}
 use Rattle.pod_locks.proofs.Traces.{grown_none}
 use Rattle.pod_locks.proofs.Within.{told_within}
 use Rattle.pod_locks.specs.declared.setback.Setback.TheVariants as stop
-use Rattle.pod_locks.specs.Holding.{MayLook, Stays}
+use Rattle.pod_locks.specs.Holding.{MayLook}
 use Rattle.pod_locks.specs.Causes.{Stopped, IsAbsentAt, BusyElsewhere, Did}
 use Rattle.pod_locks.proofs.Calls.{follows_none, follows_work, stops_part}
 use Rattle.pod_gc.specs.RemovalHolding.{MayRemove}
@@ -43,10 +44,10 @@ returns-in_err-probe-clause-another g c =
     let D = g.D.Dir in
     let old = D.shown c.args.dir.now in
     let new = D.shown c.probe.new.dir in
-    err_same (λ e. D.observed ≡ true → Stays (MayRemove c.args.now) old (λ s. BusyElsewhere c.args.pod Prepare Shared e old new)) c.probe.result c.from_residual.result
+    err_same (λ e. D.observed ≡ true → Given (MayRemove c.args.now) old (λ s. BusyElsewhere c.args.pod Prepare Shared e old new)) c.probe.result c.from_residual.result
     (λ e h. search (rules, h, c.from_residual.ensures, c.in_err-probe.is))
-    (err_more (λ e. D.observed ≡ true → Stays (MayLook c.args.pod Prepare) old (λ s. BusyElsewhere c.args.pod Prepare Shared e old new))
-    (λ e. D.observed ≡ true → Stays (MayRemove c.args.now) old (λ s. BusyElsewhere c.args.pod Prepare Shared e old new))
+    (err_more (λ e. D.observed ≡ true → Given (MayLook c.args.pod Prepare) old (λ s. BusyElsewhere c.args.pod Prepare Shared e old new))
+    (λ e. D.observed ≡ true → Given (MayRemove c.args.now) old (λ s. BusyElsewhere c.args.pod Prepare Shared e old new))
     c.probe.result (λ e busy t s k may. busy t s k (looks_aborted c.args.pod may)) c.probe.ensures.another)
 
 pub returns-in_err-probe-clause-ready : goal.returns-in_err-probe-clause-ready
@@ -69,7 +70,7 @@ returns-clause-another g c =
     let D = g.D.Dir in
     let old = D.shown c.args.dir.now in
     let new = D.shown c.put_aside.new.dir in
-    err_more (λ e. (which : Which) → e ≡ stop.Busy which → ⊥) (λ e. D.observed ≡ true → Stays (MayRemove c.args.now) old (λ s. BusyElsewhere c.args.pod Prepare Shared e old new)) c.put_aside.result
+    err_more (λ e. (which : Which) → e ≡ stop.Busy which → ⊥) (λ e. D.observed ≡ true → Given (MayRemove c.args.now) old (λ s. BusyElsewhere c.args.pod Prepare Shared e old new)) c.put_aside.result
     (λ e calm t s k may which is. absurd (calm which is)) c.put_aside.ensures.calm
 
 pub returns-clause-ready : goal.returns-clause-ready

@@ -1,7 +1,6 @@
 use Rattle.std.proofs.Common.{◌≡◌, true, Err, Result, IfOk, IfErr, sym, ap, subst, ◌∙◌, arith}
 use Rattle.folder_building.proofs.Working.{worked_more}
 use Rattle.pod_locks.specs.declared.setback.Setback.{Setback}
-use Rattle.pod_locks.specs.Holding.{Stays}
 use Rattle.pod_locks.proofs.Calls.{follows_work}
 use Rattle.pod_gc.specs.declared.attempt.Round.{Round}
 use Rattle.pod_gc.specs.declared.remove_error.RemoveError.{RemoveError}
@@ -17,6 +16,7 @@ use Rattle.pod_gc.proofs.Unread.{kept_read, kept_round}
 use Rattle.pod_gc.specs.Removals.{RoundByApp}
 use Rattle.pod_gc.proofs.RemovalLawful.{round_by_app, look_by_app}
 use Rattle.pod_gc.proofs.attempt.attempt.Goals as goal
+use Rattle.dir_trait.specs.Effects.{Given}
 
 pub returns-then-is_removable-clause-worked : goal.returns-then-is_removable-clause-worked
 returns-then-is_removable-clause-worked g c =
@@ -55,7 +55,7 @@ returns-then-is_removable-clause-another g c =
     let old = D.shown c.args.dir.now in
     let mid = D.shown c.read_phase.new.dir in
     let new = D.shown c.remove_found.new.dir in
-    subst (λ (x : Result Round RemoveError). IfErr x (λ y. D.observed ≡ true → Stays (MayRemovePod c.args.pod c.args.now) old (λ s. RefusedByAnother c.args.pod y old new))) (sym c.round_of.ensures)
+    subst (λ (x : Result Round RemoveError). IfErr x (λ y. D.observed ≡ true → Given (MayRemovePod c.args.pod c.args.now) old (λ s. RefusedByAnother c.args.pod y old new))) (sym c.round_of.ensures)
     (round_another c.args.pod c.in-Ok-At.phase c.in-Ok-At.field-0-1 old mid new (follows_work (worked_read c.args.pod c.args.now old mid r.same r.faults r.local r.extends)) (sym c.is_removable.ensures ∙ c.if-is_removable.true) (λ t. e.read t)
     c.args.now r.known c.remove_found.result c.remove_found.ensures.another)
 
@@ -128,7 +128,7 @@ returns-then-is_removable-clause-refused g c =
     let old = D.shown c.args.dir.now in
     let mid = D.shown c.read_phase.new.dir in
     let new = D.shown c.remove_found.new.dir in
-    subst (λ (x : Result Round RemoveError). IfErr x (λ y. D.observed ≡ true → Stays (MayRemovePod c.args.pod c.args.now) old (λ s. RoundRefused c.args.pod y old new))) (sym c.round_of.ensures)
+    subst (λ (x : Result Round RemoveError). IfErr x (λ y. D.observed ≡ true → Given (MayRemovePod c.args.pod c.args.now) old (λ s. RoundRefused c.args.pod y old new))) (sym c.round_of.ensures)
     (round_refused c.args.pod c.in-Ok-At.phase c.in-Ok-At.field-0-1 old mid new r.same (sym c.is_removable.ensures ∙ c.if-is_removable.true) (λ t. e.read t) (λ t. r.extends t) c.args.now r.known c.remove_found.result c.remove_found.ensures.refused)
 
 pub returns-else-is_removable-clause-refused : goal.returns-else-is_removable-clause-refused

@@ -1,7 +1,6 @@
 use Rattle.std.proofs.Common.{◌≡◌, true, refl, sym, ap, subst, ◌∙◌, IfOk}
 use Rattle.folder_building.proofs.Copying.{err_more}
 use Rattle.folder_building.proofs.Working.{worked_none}
-use Rattle.pod_locks.specs.Holding.{Stays}
 use Rattle.pod_gc.specs.RemovalHolding.{MayRemove, MayDiscard, MayRemovePod}
 use Rattle.pod_gc.specs.RemovalCauses.{StoppedAlone, StoppedFound, BusyInPrepared, BusyAny}
 use Rattle.dir_model.specs.declared.area.Phase.{Phase}
@@ -13,6 +12,7 @@ use Rattle.dir_model.specs.declared.spot.Which.TheVariants.{Own, Claim}
 use Rattle.dir_model.specs.declared.request.Reply.TheVariants.{Done}
 use Rattle.dir_model.specs.declared.request.Request.TheVariants.{MoveFolder}
 use Rattle.dir_trait.specs.DirCalls.{ExtendsBy}
+use Rattle.dir_trait.specs.Effects.{Given}
 use Rattle.phase_read.specs.Read.{pod_spot}
 use Rattle.pod_locks.specs.declared.setback.Setback.TheVariants as stop
 use Rattle.pod_locks.specs.Causes.{Stopped, IsAbsentAt, BusyElsewhere, Did, FreeWhere}
@@ -40,7 +40,7 @@ returns-in-AbortedPrepare-clause-another g c =
     let D = g.D.Dir in
     let old = D.shown c.args.dir.now in
     let new = D.shown c.discard_aborted.new.dir in
-    err_more (λ e. D.observed ≡ true → Stays (MayRemove c.args.now) old (λ s. BusyElsewhere c.args.pod Prepare Shared e old new)) (λ e. D.observed ≡ true → Stays (MayRemovePod c.args.pod c.args.now) old (λ s. BusyAny c.args.pod e old new)) c.discard_aborted.result
+    err_more (λ e. D.observed ≡ true → Given (MayRemove c.args.now) old (λ s. BusyElsewhere c.args.pod Prepare Shared e old new)) (λ e. D.observed ≡ true → Given (MayRemovePod c.args.pod c.args.now) old (λ s. BusyAny c.args.pod e old new)) c.discard_aborted.result
     (λ e busy t s k m. busy_at e Prepare Shared old new refl (busy t s k m.may)) c.discard_aborted.ensures.another
 
 pub returns-in-AbortedPrepare-clause-ready : goal.returns-in-AbortedPrepare-clause-ready
@@ -59,7 +59,7 @@ returns-in-Prepared-clause-another g c =
     let D = g.D.Dir in
     let old = D.shown c.args.dir.now in
     let new = D.shown c.discard_prepared.new.dir in
-    err_more (λ e. D.observed ≡ true → Stays (MayDiscard c.args.pod c.args.now) old (λ s. BusyInPrepared c.args.pod e old new)) (λ e. D.observed ≡ true → Stays (MayRemovePod c.args.pod c.args.now) old (λ s. BusyAny c.args.pod e old new)) c.discard_prepared.result
+    err_more (λ e. D.observed ≡ true → Given (MayDiscard c.args.pod c.args.now) old (λ s. BusyInPrepared c.args.pod e old new)) (λ e. D.observed ≡ true → Given (MayRemovePod c.args.pod c.args.now) old (λ s. BusyAny c.args.pod e old new)) c.discard_prepared.result
     (λ e busy t s k m. busy_waiting e old new (busy t s k (may_discard c.args.pod m))) c.discard_prepared.ensures.another
 
 pub returns-in-Prepared-clause-ready : goal.returns-in-Prepared-clause-ready
@@ -78,7 +78,7 @@ returns-in-Exited-clause-another g c =
     let D = g.D.Dir in
     let old = D.shown c.args.dir.now in
     let new = D.shown c.retire_exited.new.dir in
-    err_more (λ e. D.observed ≡ true → Stays (MayRemove c.args.now) old (λ s. BusyElsewhere c.args.pod Run Shared e old new)) (λ e. D.observed ≡ true → Stays (MayRemovePod c.args.pod c.args.now) old (λ s. BusyAny c.args.pod e old new)) c.retire_exited.result
+    err_more (λ e. D.observed ≡ true → Given (MayRemove c.args.now) old (λ s. BusyElsewhere c.args.pod Run Shared e old new)) (λ e. D.observed ≡ true → Given (MayRemovePod c.args.pod c.args.now) old (λ s. BusyAny c.args.pod e old new)) c.retire_exited.result
     (λ e busy t s k m. busy_at e Run Shared old new refl (busy t s k m.may)) c.retire_exited.ensures.another
 
 pub returns-in-Exited-clause-ready : goal.returns-in-Exited-clause-ready
@@ -112,7 +112,7 @@ returns-in-AbortedPrepare-clause-refused g c =
     let D = g.D.Dir in
     let old = D.shown c.args.dir.now in
     let new = D.shown c.discard_aborted.new.dir in
-    err_both (λ e. (which : Which) → e ≡ stop.Busy which → which ≡ Own) (λ e. D.observed ≡ true → Stays (MayRemove c.args.now) old (λ s. BusyElsewhere c.args.pod Prepare Shared e old new)) (λ e. D.observed ≡ true → Stays (MayRemovePod c.args.pod c.args.now) old (λ s. RefusedHere c.args.pod c.args.phase e old new)) c.discard_aborted.result
+    err_both (λ e. (which : Which) → e ≡ stop.Busy which → which ≡ Own) (λ e. D.observed ≡ true → Given (MayRemove c.args.now) old (λ s. BusyElsewhere c.args.pod Prepare Shared e old new)) (λ e. D.observed ≡ true → Given (MayRemovePod c.args.pod c.args.now) old (λ s. RefusedHere c.args.pod c.args.phase e old new)) c.discard_aborted.result
     (λ e named busy t s k m. refused_own old new c.args.phase Prepare (ap place_of c.in-AbortedPrepare.is) (λ q. let clash : kind.AbortedPrepare ≡ kind.Prepared = sym c.in-AbortedPrepare.is ∙ q in cc) named (busy t s k m.may)) c.discard_aborted.ensures.named c.discard_aborted.ensures.another
 
 pub returns-in-Exited-clause-put : goal.returns-in-Exited-clause-put
@@ -137,7 +137,7 @@ returns-in-Exited-clause-refused g c =
     let D = g.D.Dir in
     let old = D.shown c.args.dir.now in
     let new = D.shown c.retire_exited.new.dir in
-    err_both (λ e. (which : Which) → e ≡ stop.Busy which → which ≡ Own) (λ e. D.observed ≡ true → Stays (MayRemove c.args.now) old (λ s. BusyElsewhere c.args.pod Run Shared e old new)) (λ e. D.observed ≡ true → Stays (MayRemovePod c.args.pod c.args.now) old (λ s. RefusedHere c.args.pod c.args.phase e old new)) c.retire_exited.result
+    err_both (λ e. (which : Which) → e ≡ stop.Busy which → which ≡ Own) (λ e. D.observed ≡ true → Given (MayRemove c.args.now) old (λ s. BusyElsewhere c.args.pod Run Shared e old new)) (λ e. D.observed ≡ true → Given (MayRemovePod c.args.pod c.args.now) old (λ s. RefusedHere c.args.pod c.args.phase e old new)) c.retire_exited.result
     (λ e named busy t s k m. refused_own old new c.args.phase Run (ap place_of c.in-Exited.is) (λ q. let clash : kind.Exited ≡ kind.Prepared = sym c.in-Exited.is ∙ q in cc) named (busy t s k m.may)) c.retire_exited.ensures.named c.retire_exited.ensures.another
 
 pub returns-in-Prepared-clause-put : goal.returns-in-Prepared-clause-put
@@ -164,7 +164,7 @@ returns-in-Prepared-clause-refused g c =
     let D = g.D.Dir in
     let old = D.shown c.args.dir.now in
     let new = D.shown c.discard_prepared.new.dir in
-    err_both (λ e. e ≡ stop.Busy Own → FreeWhere D.observed c.args.pod Prepared Claim Exclusive old new) (λ e. D.observed ≡ true → Stays (MayDiscard c.args.pod c.args.now) old (λ s. BusyInPrepared c.args.pod e old new)) (λ e. D.observed ≡ true → Stays (MayRemovePod c.args.pod c.args.now) old (λ s. RefusedHere c.args.pod c.args.phase e old new)) c.discard_prepared.result
+    err_both (λ e. e ≡ stop.Busy Own → FreeWhere D.observed c.args.pod Prepared Claim Exclusive old new) (λ e. D.observed ≡ true → Given (MayDiscard c.args.pod c.args.now) old (λ s. BusyInPrepared c.args.pod e old new)) (λ e. D.observed ≡ true → Given (MayRemovePod c.args.pod c.args.now) old (λ s. RefusedHere c.args.pod c.args.phase e old new)) c.discard_prepared.result
     (λ e free busy t s k m. subst (λ (p : Phase). RefusedHere c.args.pod p e old new) (sym c.in-Prepared.is) (refused_waiting old new (λ is. free is t) (busy t s k (may_discard c.args.pod m)))) c.discard_prepared.ensures.under_claim c.discard_prepared.ensures.another
 
 pub returns-in_default-clause-put : goal.returns-in_default-clause-put

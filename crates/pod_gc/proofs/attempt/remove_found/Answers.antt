@@ -7,7 +7,6 @@ use Rattle.folder_building.proofs.Copying.{ok_more, err_more}
 use Rattle.folder_building.proofs.Working.{worked_more}
 use Rattle.phase_read.specs.Read.{pod_spot}
 use Rattle.pod_locks.proofs.Traces.{grown_none}
-use Rattle.pod_locks.specs.Holding.{Stays}
 use Rattle.pod_locks.specs.Causes.{Stopped, IsAbsentAt, BusyElsewhere, FreeWhere, Did}
 use Rattle.pod_locks.proofs.Calls.{follows_none, follows_work}
 use Rattle.pod_gc.specs.RemovalRequests.{is_garbage_place}
@@ -27,6 +26,7 @@ use Rattle.pod_gc.proofs.Unread.{kept_aside}
 use Rattle.pod_locks.specs.Causes.{NeverStray, StrayByApp}
 use Rattle.pod_locks.proofs.Lawful.{by_app_part}
 use Rattle.pod_gc.proofs.attempt.remove_found.Goals as goal
+use Rattle.dir_trait.specs.Effects.{Given}
 
 pub delete_at-requires-clause-garbage : goal.delete_at-requires-clause-garbage
 delete_at-requires-clause-garbage g c = subst (λ (a : Area). is_garbage_place a ≡ true) (sym c.aside.ensures) (aside_place c.args.phase)
@@ -42,7 +42,7 @@ returns-in_err-put_away-clause-another g c =
     let D = g.D.Dir in
     let old = D.shown c.args.dir.now in
     let new = D.shown c.put_away.new.dir in
-    err_same (λ e. D.observed ≡ true → Stays (MayRemovePod c.args.pod c.args.now) old (λ s. BusyAny c.args.pod e old new)) c.put_away.result c.from_residual.result
+    err_same (λ e. D.observed ≡ true → Given (MayRemovePod c.args.pod c.args.now) old (λ s. BusyAny c.args.pod e old new)) c.put_away.result c.from_residual.result
     (λ e h. search (rules, h, c.from_residual.ensures, c.in_err-put_away.is)) c.put_away.ensures.another
 
 pub returns-clause-worked : goal.returns-clause-worked
@@ -63,7 +63,7 @@ returns-clause-another g c =
     let old = D.shown c.args.dir.now in
     let mid = D.shown c.put_away.new.dir in
     let new = D.shown c.delete_at.new.dir in
-    err_more (λ e. D.observed ≡ true → Stays (MayRemove c.args.now) mid (λ s. BusyElsewhere c.args.pod c.aside.result Exclusive e mid new)) (λ e. D.observed ≡ true → Stays (MayRemovePod c.args.pod c.args.now) old (λ s. BusyAny c.args.pod e old new)) c.delete_at.result
+    err_more (λ e. D.observed ≡ true → Given (MayRemove c.args.now) mid (λ s. BusyElsewhere c.args.pod c.aside.result Exclusive e mid new)) (λ e. D.observed ≡ true → Given (MayRemovePod c.args.pod c.args.now) old (λ s. BusyAny c.args.pod e old new)) c.delete_at.result
     (λ e busy t. another_ready e new t (follows_work c.put_away.ensures.worked) follows_none (c.put_away.ensures.ready t) (λ s k m. busy_at e c.aside.result Exclusive mid new (garbage_stage c.aside.result (subst (λ (a : Area). is_garbage_place a ≡ true) (sym c.aside.ensures) (aside_place c.args.phase))) (busy t s k m.may))) c.delete_at.ensures.another
 
 pub returns-clause-removed : goal.returns-clause-removed
@@ -93,9 +93,9 @@ returns-in_err-put_away-clause-refused g c =
     let D = g.D.Dir in
     let old = D.shown c.args.dir.now in
     let new = D.shown c.put_away.new.dir in
-    err_same (λ e. D.observed ≡ true → Stays (MayRemovePod c.args.pod c.args.now) old (λ s. RefusedWhere c.args.pod c.args.phase e old new)) c.put_away.result c.from_residual.result
+    err_same (λ e. D.observed ≡ true → Given (MayRemovePod c.args.pod c.args.now) old (λ s. RefusedWhere c.args.pod c.args.phase e old new)) c.put_away.result c.from_residual.result
     (λ e h. search (rules, h, c.from_residual.ensures, c.in_err-put_away.is))
-    (err_more (λ e. D.observed ≡ true → Stays (MayRemovePod c.args.pod c.args.now) old (λ s. RefusedHere c.args.pod c.args.phase e old new)) (λ e. D.observed ≡ true → Stays (MayRemovePod c.args.pod c.args.now) old (λ s. RefusedWhere c.args.pod c.args.phase e old new)) c.put_away.result
+    (err_more (λ e. D.observed ≡ true → Given (MayRemovePod c.args.pod c.args.now) old (λ s. RefusedHere c.args.pod c.args.phase e old new)) (λ e. D.observed ≡ true → Given (MayRemovePod c.args.pod c.args.now) old (λ s. RefusedWhere c.args.pod c.args.phase e old new)) c.put_away.result
     (λ e busy t s k m which is. inl (busy t s k m which is)) c.put_away.ensures.refused)
 
 pub returns-clause-taken : goal.returns-clause-taken
@@ -122,7 +122,7 @@ returns-clause-refused g c =
     let old = D.shown c.args.dir.now in
     let mid = D.shown c.put_away.new.dir in
     let new = D.shown c.delete_at.new.dir in
-    err_both (λ e. (which : Which) → e ≡ stop.Busy which → which ≡ Own) (λ e. D.observed ≡ true → Stays (MayRemove c.args.now) mid (λ s. BusyElsewhere c.args.pod c.aside.result Exclusive e mid new)) (λ e. D.observed ≡ true → Stays (MayRemovePod c.args.pod c.args.now) old (λ s. RefusedWhere c.args.pod c.args.phase e old new)) c.delete_at.result
+    err_both (λ e. (which : Which) → e ≡ stop.Busy which → which ≡ Own) (λ e. D.observed ≡ true → Given (MayRemove c.args.now) mid (λ s. BusyElsewhere c.args.pod c.aside.result Exclusive e mid new)) (λ e. D.observed ≡ true → Given (MayRemovePod c.args.pod c.args.now) old (λ s. RefusedWhere c.args.pod c.args.phase e old new)) c.delete_at.result
     (λ e named busy t s k m.
     let x = c.put_away.ensures.ready t s k m in
     refused_aside old mid new c.args.phase c.aside.result c.aside.ensures c.put_away.ensures.worked.same c.in_ok-put_away.ensures.put t named (busy t x.known x.knows (may_pod_kept x.keeps m).may)) c.delete_at.ensures.named c.delete_at.ensures.another

@@ -2,7 +2,6 @@ use Rattle.std.proofs.Common.{◌≡◌, true, Some, sym, subst}
 use Rattle.dir_model.specs.declared.area.Area.{Area}
 use Rattle.dir_model.specs.declared.area.Area.TheVariants as area
 use Rattle.dir_model.specs.declared.spot.Which.{Which}
-use Rattle.folder_building.specs.Work.{Worked}
 use Rattle.folder_building.proofs.Copying.{ok_more}
 use Rattle.folder_building.proofs.Working.{worked_wider}
 use Rattle.pod_gc.specs.RemovalHolding.{MayRemove}
@@ -13,11 +12,12 @@ use Rattle.pod_gc.proofs.Dealing.{embryo_deal, dealt_at, both_ok, all_ok, may_em
 use Rattle.folder_building.proofs.Copying.{err_more}
 use Rattle.pod_gc.specs.Causes.{NeverStray, StrayByApp}
 use Rattle.pod_gc.proofs.deals.deal.Goals as goal
+use Rattle.dir_trait.specs.Effects.{OnlyAsks}
 
 pub returns-in-Embryo-clause-worked : goal.returns-in-Embryo-clause-worked
 returns-in-Embryo-clause-worked g c =
     let D = g.D.Dir in
-    subst (λ (a : Area). Worked D.observed (deals_with c.args.pod c.args.times.now a) (D.shown c.args.dir.now) (D.shown c.deal_embryo.new.dir)) (sym c.in-Embryo.is) (worked_wider (embryo_deal c.args.pod c.args.times.now area.Embryo) c.deal_embryo.ensures.worked)
+    subst (λ (a : Area). OnlyAsks D.observed (deals_with c.args.pod c.args.times.now a) (D.shown c.args.dir.now) (D.shown c.deal_embryo.new.dir)) (sym c.in-Embryo.is) (worked_wider (embryo_deal c.args.pod c.args.times.now area.Embryo) c.deal_embryo.ensures.worked)
 
 pub returns-in-Embryo-clause-dealt : goal.returns-in-Embryo-clause-dealt
 returns-in-Embryo-clause-dealt g c =
@@ -41,7 +41,7 @@ returns-in-Embryo-clause-ready g c t s k m = c.deal_embryo.ensures.ready t c.arg
 pub returns-in-Prepare-clause-worked : goal.returns-in-Prepare-clause-worked
 returns-in-Prepare-clause-worked g c =
     let D = g.D.Dir in
-    subst (λ (a : Area). Worked D.observed (deals_with c.args.pod c.args.times.now a) (D.shown c.args.dir.now) (D.shown c.deal_prepare.new.dir)) (sym c.in-Prepare.is) c.deal_prepare.ensures.worked
+    subst (λ (a : Area). OnlyAsks D.observed (deals_with c.args.pod c.args.times.now a) (D.shown c.args.dir.now) (D.shown c.deal_prepare.new.dir)) (sym c.in-Prepare.is) c.deal_prepare.ensures.worked
 
 pub returns-in-Prepare-clause-dealt : goal.returns-in-Prepare-clause-dealt
 returns-in-Prepare-clause-dealt g c =
@@ -65,7 +65,7 @@ returns-in-Prepare-clause-ready g c t s k m = c.deal_prepare.ensures.ready t s k
 pub returns-in-Prepared-clause-worked : goal.returns-in-Prepared-clause-worked
 returns-in-Prepared-clause-worked g c =
     let D = g.D.Dir in
-    subst (λ (a : Area). Worked D.observed (deals_with c.args.pod c.args.times.now a) (D.shown c.args.dir.now) (D.shown c.deal_prepared.new.dir)) (sym c.in-Prepared.is) c.deal_prepared.ensures.worked
+    subst (λ (a : Area). OnlyAsks D.observed (deals_with c.args.pod c.args.times.now a) (D.shown c.args.dir.now) (D.shown c.deal_prepared.new.dir)) (sym c.in-Prepared.is) c.deal_prepared.ensures.worked
 
 pub returns-in-Prepared-clause-dealt : goal.returns-in-Prepared-clause-dealt
 returns-in-Prepared-clause-dealt g c =
@@ -89,7 +89,7 @@ returns-in-Prepared-clause-ready g c t s k m = c.deal_prepared.ensures.ready t s
 pub returns-in-Run-clause-worked : goal.returns-in-Run-clause-worked
 returns-in-Run-clause-worked g c =
     let D = g.D.Dir in
-    subst (λ (a : Area). Worked D.observed (deals_with c.args.pod c.args.times.now a) (D.shown c.args.dir.now) (D.shown c.deal_run.new.dir)) (sym c.in-Run.is) c.deal_run.ensures.worked
+    subst (λ (a : Area). OnlyAsks D.observed (deals_with c.args.pod c.args.times.now a) (D.shown c.args.dir.now) (D.shown c.deal_run.new.dir)) (sym c.in-Run.is) c.deal_run.ensures.worked
 
 pub returns-in-Run-clause-dealt : goal.returns-in-Run-clause-dealt
 returns-in-Run-clause-dealt g c =
@@ -113,7 +113,7 @@ returns-in-Run-clause-ready g c t s k m = c.deal_run.ensures.ready t s k m.sweep
 pub returns-in-ExitedGarbage-clause-worked : goal.returns-in-ExitedGarbage-clause-worked
 returns-in-ExitedGarbage-clause-worked g c =
     let D = g.D.Dir in
-    subst (λ (a : Area). Worked D.observed (deals_with c.args.pod c.args.times.now a) (D.shown c.args.dir.now) (D.shown c.deal_exited_garbage.new.dir)) (sym c.in-ExitedGarbage.is) c.deal_exited_garbage.ensures.worked
+    subst (λ (a : Area). OnlyAsks D.observed (deals_with c.args.pod c.args.times.now a) (D.shown c.args.dir.now) (D.shown c.deal_exited_garbage.new.dir)) (sym c.in-ExitedGarbage.is) c.deal_exited_garbage.ensures.worked
 
 pub returns-in-ExitedGarbage-clause-dealt : goal.returns-in-ExitedGarbage-clause-dealt
 returns-in-ExitedGarbage-clause-dealt g c =
@@ -137,7 +137,7 @@ returns-in-ExitedGarbage-clause-ready g c t s k m = c.deal_exited_garbage.ensure
 pub returns-in-Garbage-clause-worked : goal.returns-in-Garbage-clause-worked
 returns-in-Garbage-clause-worked g c =
     let D = g.D.Dir in
-    subst (λ (a : Area). Worked D.observed (deals_with c.args.pod c.args.times.now a) (D.shown c.args.dir.now) (D.shown c.deal_garbage.new.dir)) (sym c.in-Garbage.is) c.deal_garbage.ensures.worked
+    subst (λ (a : Area). OnlyAsks D.observed (deals_with c.args.pod c.args.times.now a) (D.shown c.args.dir.now) (D.shown c.deal_garbage.new.dir)) (sym c.in-Garbage.is) c.deal_garbage.ensures.worked
 
 pub returns-in-Garbage-clause-dealt : goal.returns-in-Garbage-clause-dealt
 returns-in-Garbage-clause-dealt g c =

@@ -5,10 +5,10 @@ use Rattle.dir_model.specs.declared.spot.Mode.TheVariants.{Exclusive}
 use Rattle.dir_model.specs.declared.request.Request.TheVariants.{RemoveFolder}
 use Rattle.dir_model.specs.declared.request.Reply.TheVariants.{Done}
 use Rattle.dir_trait.specs.DirCalls.{ExtendsBy}
+use Rattle.dir_trait.specs.Effects.{Given}
 use Rattle.folder_building.proofs.Copying.{err_more}
 use Rattle.folder_building.proofs.Working.{worked_wider}
 use Rattle.phase_read.specs.Read.{pod_spot}
-use Rattle.pod_locks.specs.Holding.{Stays}
 use Rattle.pod_locks.specs.Causes.{Stopped, IsAbsentAt, BusyElsewhere, Did, FreeWhere}
 use Rattle.pod_gc.specs.RemovalHolding.{MayRemove}
 use Rattle.dir_model.specs.declared.spot.Which.TheVariants.{Own}
@@ -62,7 +62,7 @@ returns-clause-another g c =
     let new = D.shown c.delete_at-answer.new.dir in
     subst (λ (x : Result Deed GcError). IfOk x (λ deed. LeavesWhere D.observed (MayRemove c.args.now) c.args.pod c.args.area deed old new)) (sym c.deed_of.ensures)
     (step_another D.observed c.args.pod c.args.area Deleted old new (MayRemove c.args.now) (λ which is. cc) (λ p is. cc) c.delete_at-answer.result
-    (err_more (λ e. D.observed ≡ true → Stays (MayRemove c.args.now) old (λ s. BusyElsewhere c.args.pod c.args.area Exclusive e old new)) (λ e. D.observed ≡ true → Stays (MayRemove c.args.now) old (λ s. BusyHere c.args.pod c.args.area e old new)) c.delete_at-answer.result
+    (err_more (λ e. D.observed ≡ true → Given (MayRemove c.args.now) old (λ s. BusyElsewhere c.args.pod c.args.area Exclusive e old new)) (λ e. D.observed ≡ true → Given (MayRemove c.args.now) old (λ s. BusyHere c.args.pod c.args.area e old new)) c.delete_at-answer.result
     (λ e busy t s k m. busy_garbage c.args.pod c.args.area e old new c.requires.garbage (busy t s k m)) c.delete_at-answer.ensures.another))
 
 pub returns-clause-ends : goal.returns-clause-ends

@@ -3,10 +3,10 @@ use Rattle.dir_model.specs.declared.area.Area.TheVariants as area
 use Rattle.dir_model.specs.declared.area.Phase.TheVariants as phase
 use Rattle.dir_model.specs.State.{stands}
 use Rattle.dir_trait.specs.DirCalls.{HeldBetween}
+use Rattle.dir_trait.specs.Effects.{Given}
 use Rattle.folder_building.proofs.Copying.{ok_more, err_more}
 use Rattle.folder_building.proofs.Working.{worked_more, worked_wider}
 use Rattle.phase_read.specs.Read.{pod_spot}
-use Rattle.pod_locks.specs.Holding.{Stays}
 use Rattle.pod_locks.proofs.Calls.{follows_work}
 use Rattle.pod_gc.specs.RemovalHolding.{MayRemove}
 use Rattle.pod_gc.proofs.Stages.{err_same}
@@ -72,7 +72,7 @@ returns-in-Some-clause-another g c =
     let old = D.shown c.args.dir.now in
     let mid = D.shown c.marked_at.new.dir in
     let new = D.shown c.deal_waiting.new.dir in
-    let notes = subst (λ (o : Option (Option ℕ)). IfSome o (λ moment. D.observed ≡ true → (now : ℕ) → codes "created-" ≡ codes "created-" → Stays (MayRemove now) old (λ s. NotesMark c.args.pod moment s mid))) c.in-Some.is c.in_ok-created.ensures.noted in
+    let notes = subst (λ (o : Option (Option ℕ)). IfSome o (λ moment. D.observed ≡ true → (now : ℕ) → codes "created-" ≡ codes "created-" → Given (MayRemove now) old (λ s. NotesMark c.args.pod moment s mid))) c.in-Some.is c.in_ok-created.ensures.noted in
     ok_more (λ deed. LeavesWhere D.observed (Ripens c.args.pod c.in-Some.created c.args.times.now c.args.times.expire) c.args.pod area.Prepared deed mid new) (λ deed. LeavesWhere D.observed (MaySweep c.args.times.now c.args.times.expire) c.args.pod area.Prepared deed old new) c.deal_waiting.result
     (λ deed x t. busy_waited c.args.pod c.in-Some.created deed new t (follows_work c.marked_at.ensures.worked) (notes t c.args.times.now refl) (x t)) c.deal_waiting.ensures.another
 
@@ -81,7 +81,7 @@ returns-in-Some-clause-ready g c t =
     let D = g.D.Dir in
     let old = D.shown c.args.dir.now in
     let mid = D.shown c.marked_at.new.dir in
-    let notes = subst (λ (o : Option (Option ℕ)). IfSome o (λ moment. D.observed ≡ true → (now : ℕ) → codes "created-" ≡ codes "created-" → Stays (MayRemove now) old (λ s. NotesMark c.args.pod moment s mid))) c.in-Some.is c.in_ok-created.ensures.noted in
+    let notes = subst (λ (o : Option (Option ℕ)). IfSome o (λ moment. D.observed ≡ true → (now : ℕ) → codes "created-" ≡ codes "created-" → Given (MayRemove now) old (λ s. NotesMark c.args.pod moment s mid))) c.in-Some.is c.in_ok-created.ensures.noted in
     ready_waited c.args.pod c.in-Some.created (notes t c.args.times.now refl) (c.deal_waiting.ensures.ready t)
 
 pub returns-in-None-clause-worked : goal.returns-in-None-clause-worked

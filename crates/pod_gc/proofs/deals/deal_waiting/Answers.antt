@@ -8,7 +8,6 @@ use Rattle.dir_model.specs.declared.request.Reply.TheVariants.{Done}
 use Rattle.folder_building.proofs.Copying.{ok_more, err_more}
 use Rattle.folder_building.proofs.Working.{worked_none}
 use Rattle.phase_read.specs.Read.{pod_spot}
-use Rattle.pod_locks.specs.Holding.{Stays}
 use Rattle.pod_locks.specs.Causes.{Did, FreeWhere}
 use Rattle.pod_locks.specs.Taking.{TakesNothing}
 use Rattle.pod_gc.specs.RemovalCauses.{StoppedAlone, BusyInPrepared, MissedUntaken}
@@ -30,6 +29,7 @@ use Rattle.pod_locks.specs.declared.setback.Setback.TheVariants as stop
 use Rattle.dir_model.specs.declared.spot.Which.{Which}
 use Rattle.dir_model.proofs.Chains.{nothing_yet}
 use Rattle.dir_trait.specs.DirCalls.{ExtendsBy, LockToldBetween}
+use Rattle.dir_trait.specs.Effects.{Given}
 use Rattle.pod_gc.specs.RemovalRequests.{puts_aside}
 use Rattle.pod_gc.specs.Requests.{moves_on, may_be_busy}
 use Rattle.pod_gc.proofs.Untouched.{let_looked, moved_on, step_let_be, owns_elsewhere}
@@ -74,7 +74,7 @@ returns-then-is_ripe-clause-another g c =
     let May = Ripens c.args.pod c.args.created c.args.times.now c.args.times.expire in
     subst (λ (x : Result Deed GcError). IfOk x (λ deed. LeavesWhere D.observed May c.args.pod area.Prepared deed old new)) (sym c.deed_of.ensures)
     (step_another D.observed c.args.pod area.Prepared (Moved area.Garbage) old new May (λ which is. cc) (λ p is. cc) c.discard_prepared-answer.result
-    (err_more (λ e. D.observed ≡ true → Stays (MayDiscard c.args.pod c.args.times.now) old (λ s. BusyInPrepared c.args.pod e old new)) (λ e. D.observed ≡ true → Stays May old (λ s. BusyHere c.args.pod area.Prepared e old new)) c.discard_prepared-answer.result
+    (err_more (λ e. D.observed ≡ true → Given (MayDiscard c.args.pod c.args.times.now) old (λ s. BusyInPrepared c.args.pod e old new)) (λ e. D.observed ≡ true → Given May old (λ s. BusyHere c.args.pod area.Prepared e old new)) c.discard_prepared-answer.result
     (λ e busy t s k m. busy t s k (may_ripen c.args.pod c.args.created c.args.times.now c.args.times.expire (sym c.is_ripe.ensures ∙ c.if-is_ripe.true) m)) c.discard_prepared-answer.ensures.another))
 
 pub returns-then-is_ripe-clause-ready : goal.returns-then-is_ripe-clause-ready

@@ -10,7 +10,7 @@ use Rattle.phase_read.specs.Read.{pod_spot}
 use Rattle.pod_locks.proofs.Times.{deeds_part}
 use Rattle.pod_locks.specs.declared.setback.Setback.TheVariants as stop
 use Rattle.pod_locks.specs.Requests.{looks_at}
-use Rattle.pod_locks.specs.Holding.{Went, and_taken, MayTake, Stays}
+use Rattle.pod_locks.specs.Holding.{and_taken, MayTake}
 use Rattle.pod_locks.specs.Causes.{Stopped, IsAbsentAt, CannotOpenAt, BusyElsewhere, FreeWhere, Did}
 use Rattle.pod_locks.proofs.Traces.{grown_none, grown_more}
 use Rattle.pod_locks.proofs.Calls.{follows_work, follows_went, follows_call, stops_part}
@@ -32,12 +32,13 @@ use Rattle.pod_locks.proofs.Lawful.{by_app_part}
 use Rattle.pod_gc.specs.RemovalHolding.{HasOwn}
 use Rattle.pod_gc.proofs.RemovalLawful.{owns_taken}
 use Rattle.pod_gc.proofs.deletion.delete_at.Goals as goal
+use Rattle.dir_trait.specs.Effects.{LeavesOpen, Given}
 
 pub returns-in_err-own-clause-worked : goal.returns-in_err-own-clause-worked
 returns-in_err-own-clause-worked g c =
     let D = g.D.Dir in
     let a = D.shown c.args.dir.now in
-    let w = subst (λ (l : Local). Went D.observed (looks_at c.args.pod c.args.area) l a (D.shown c.take.new.dir)) (ap (and_taken a.local c.args.pod c.args.area Own) c.in_err-own.was) c.take.ensures.went in
+    let w = subst (λ (l : Local). LeavesOpen D.observed (looks_at c.args.pod c.args.area) l a (D.shown c.take.new.dir)) (ap (and_taken a.local c.args.pod c.args.area Own) c.in_err-own.was) c.take.ensures.went in
     worked_unowned c.args.pod c.args.now c.args.area c.requires.garbage w
 
 pub returns-in_err-own-clause-stopped : goal.returns-in_err-own-clause-stopped
@@ -55,10 +56,10 @@ returns-in_err-own-clause-another g c =
     let D = g.D.Dir in
     let old = D.shown c.args.dir.now in
     let new = D.shown c.take.new.dir in
-    err_same (λ e. D.observed ≡ true → Stays (MayRemove c.args.now) old (λ s. BusyElsewhere c.args.pod c.args.area Exclusive e old new)) c.take.result c.from_residual.result
+    err_same (λ e. D.observed ≡ true → Given (MayRemove c.args.now) old (λ s. BusyElsewhere c.args.pod c.args.area Exclusive e old new)) c.take.result c.from_residual.result
     (λ e h. search (rules, h, c.from_residual.ensures, c.in_err-own.is))
-    (err_more (λ e. D.observed ≡ true → Stays (MayTake c.args.pod c.args.area Own) old (λ s. BusyElsewhere c.args.pod c.args.area Exclusive e old new))
-    (λ e. D.observed ≡ true → Stays (MayRemove c.args.now) old (λ s. BusyElsewhere c.args.pod c.args.area Exclusive e old new)) c.take.result
+    (err_more (λ e. D.observed ≡ true → Given (MayTake c.args.pod c.args.area Own) old (λ s. BusyElsewhere c.args.pod c.args.area Exclusive e old new))
+    (λ e. D.observed ≡ true → Given (MayRemove c.args.now) old (λ s. BusyElsewhere c.args.pod c.args.area Exclusive e old new)) c.take.result
     (λ e busy t s k may. busy t s k (takes_own c.args.pod c.args.area c.requires.garbage may)) c.take.ensures.another)
 
 pub returns-in_err-own-clause-ready : goal.returns-in_err-own-clause-ready
@@ -68,7 +69,7 @@ pub returns-clause-worked : goal.returns-clause-worked
 returns-clause-worked g c =
     let D = g.D.Dir in
     let a = D.shown c.args.dir.now in
-    let w = subst (λ (l : Local). Went D.observed (looks_at c.args.pod c.args.area) l a (D.shown c.take.new.dir)) (ap (and_taken a.local c.args.pod c.args.area Own) c.in_ok-own.was) c.take.ensures.went in
+    let w = subst (λ (l : Local). LeavesOpen D.observed (looks_at c.args.pod c.args.area) l a (D.shown c.take.new.dir)) (ap (and_taken a.local c.args.pod c.args.area Own) c.in_ok-own.was) c.take.ensures.went in
     worked_owned c.args.pod c.args.now c.args.area c.requires.garbage c.in_ok-own.ensures.unopened w c.delete_if_there-result.ensures.worked c.close.ensures.called
 
 pub returns-clause-stopped : goal.returns-clause-stopped
@@ -86,7 +87,7 @@ returns-clause-another g c =
     let D = g.D.Dir in
     let old = D.shown c.args.dir.now in
     let new = D.shown c.close.new.self in
-    err_more (λ e. (which : Which) → e ≡ stop.Busy which → ⊥) (λ e. D.observed ≡ true → Stays (MayRemove c.args.now) old (λ s. BusyElsewhere c.args.pod c.args.area Exclusive e old new)) c.delete_if_there-result.result
+    err_more (λ e. (which : Which) → e ≡ stop.Busy which → ⊥) (λ e. D.observed ≡ true → Given (MayRemove c.args.now) old (λ s. BusyElsewhere c.args.pod c.args.area Exclusive e old new)) c.delete_if_there-result.result
     (λ e calm t s k may which is. absurd (calm which is)) c.delete_if_there-result.ensures.calm
 
 pub returns-clause-done : goal.returns-clause-done

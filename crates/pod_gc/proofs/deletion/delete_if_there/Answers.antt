@@ -12,6 +12,7 @@ use Rattle.pod_locks.proofs.Calls.{follows_work}
 use Rattle.dir_model.specs.State.{DirState, stands}
 use Rattle.dir_model.specs.declared.spot.Spot.{Spot}
 use Rattle.dir_trait.specs.DirCalls.{HeldBetween}
+use Rattle.dir_trait.specs.Effects.{Given}
 use Rattle.pod_gc.proofs.Looking.{worked_look, missing_stops, failed_stops, look_calm, look_no_stray}
 use Rattle.pod_gc.proofs.Deleting.{look_kinds, stood_stops, known_later, known_looked}
 use Rattle.pod_gc.specs.RemovalCauses.{StoppedDeleting, MissedUntaken}
@@ -20,7 +21,6 @@ use Rattle.folder_removal.specs.Removal.{KeepsFolders}
 use Rattle.folder_removal.proofs.Keeping.{kept_more}
 use Rattle.pod_gc.proofs.Unread.{kept_looks}
 use Rattle.folder_removal.specs.Known.{StrayKnowing}
-use Rattle.pod_locks.specs.Holding.{Stays}
 use Rattle.pod_locks.specs.Causes.{StrayByApp}
 use Rattle.pod_gc.specs.RemovalHolding.{HasOwn}
 use Rattle.pod_gc.proofs.Stages.{err_both}
@@ -156,7 +156,7 @@ returns-in-Ok-true-clause-lawful g c =
     let told = rw c.in-Ok-true.field-0-test at c.in-Ok-true.ensures in
     let w = worked_look c.args.pod c.args.area old mid c.pod_spot.ensures l.same l.faults l.local l.extends in
     err_both (λ e. StoppedDeleting D.observed (pod_spot c.args.pod c.args.area) e mid new × (D.observed ≡ true → KeepsFolders mid new))
-    (λ e. e ≡ Setback.Stray → D.observed ≡ true → Stays (HasOwn c.args.pod c.args.area) mid (λ s. StrayKnowing (pod_spot c.args.pod c.args.area) mid.process new.trace))
+    (λ e. e ≡ Setback.Stray → D.observed ≡ true → Given (HasOwn c.args.pod c.args.area) mid (λ s. StrayKnowing (pod_spot c.args.pod c.args.area) mid.process new.trace))
     (λ e. StrayByApp D.observed e (HasOwn c.args.pod c.args.area) old new) c.delete_standing.result
     (λ e x knew. deletion_by_app c.args.pod c.args.area (spot_eq c.pod_spot.result) c.requires.garbage (follows_work w)
     (λ t. subst (λ (spot : Spot). HeldBetween old mid (λ (s : DirState). stands s.namespace spot ≡ true)) c.pod_spot.ensures (told.there t)) (λ t. l.extends t) (λ t. l.known t) x.0 x.1 knew)

@@ -6,11 +6,12 @@ use Rattle.dir_model.specs.declared.request.Request.TheVariants.{MoveFolder}
 use Rattle.dir_model.specs.declared.request.Reply.TheVariants.{Done}
 use Rattle.dir_model.specs.Local.{Local}
 use Rattle.dir_trait.specs.DirCalls.{ExtendsBy, LockToldBetween}
+use Rattle.dir_trait.specs.Effects.{LeavesOpen, Given}
 use Rattle.folder_building.proofs.Copying.{ok_more, err_more}
 use Rattle.phase_read.specs.Read.{pod_spot}
 use Rattle.pod_locks.proofs.Times.{deeds_part}
 use Rattle.pod_locks.specs.Requests.{looks_at}
-use Rattle.pod_locks.specs.Holding.{Went, and_taken, Stays}
+use Rattle.pod_locks.specs.Holding.{and_taken}
 use Rattle.pod_locks.specs.declared.setback.Setback.TheVariants as stop
 use Rattle.pod_locks.specs.Causes.{Stopped, IsAbsentAt, FreeWhere, Did}
 use Rattle.pod_locks.proofs.Traces.{grown_none, grown_more}
@@ -36,7 +37,7 @@ pub returns-in-Ok-clause-worked : goal.returns-in-Ok-clause-worked
 returns-in-Ok-clause-worked g c =
     let D = g.D.Dir in
     let a = D.shown c.args.dir.now in
-    let w = subst (λ (l : Local). Went D.observed (looks_at c.args.pod Prepared) l a (D.shown c.take.new.dir)) (ap (and_taken a.local c.args.pod Prepared Claim) c.in-Ok.is) c.take.ensures.went in
+    let w = subst (λ (l : Local). LeavesOpen D.observed (looks_at c.args.pod Prepared) l a (D.shown c.take.new.dir)) (ap (and_taken a.local c.args.pod Prepared Claim) c.in-Ok.is) c.take.ensures.went in
     worked_claimed c.args.pod c.args.now c.in-Ok.ensures.unopened w c.discard_under_claim-result.ensures.worked c.close.ensures.called
 
 pub returns-in-Ok-clause-stopped : goal.returns-in-Ok-clause-stopped
@@ -53,7 +54,7 @@ returns-in-Ok-clause-another g c =
     let b = D.shown c.take.new.dir in
     let m = D.shown c.discard_under_claim-result.new.dir in
     let d = D.shown c.close.new.self in
-    err_more (λ e. D.observed ≡ true → Stays (UnderClaim c.args.pod c.args.now) b (λ s. BusyInPrepared c.args.pod e b m)) (λ e. D.observed ≡ true → Stays (MayDiscard c.args.pod c.args.now) a (λ s. BusyInPrepared c.args.pod e a d))
+    err_more (λ e. D.observed ≡ true → Given (UnderClaim c.args.pod c.args.now) b (λ s. BusyInPrepared c.args.pod e b m)) (λ e. D.observed ≡ true → Given (MayDiscard c.args.pod c.args.now) a (λ s. BusyInPrepared c.args.pod e a d))
     c.discard_under_claim-result.result
     (λ e busy t s k may. busy_within t (follows_went c.take.ensures.went) (follows_call c.close.ensures.called) (busy t _ (c.in-Ok.ensures.held t s k (takes_claim c.args.pod may)) (discards_under c.args.pod k c.in-Ok.ensures.unopened may)))
     c.discard_under_claim-result.ensures.another
@@ -76,7 +77,7 @@ pub returns-in-Err-Missing-clause-worked : goal.returns-in-Err-Missing-clause-wo
 returns-in-Err-Missing-clause-worked g c =
     let D = g.D.Dir in
     let a = D.shown c.args.dir.now in
-    let w = subst (λ (l : Local). Went D.observed (looks_at c.args.pod Prepared) l a (D.shown c.take.new.dir)) (ap (and_taken a.local c.args.pod Prepared Claim) c.in-Err-Missing.is) c.take.ensures.went in
+    let w = subst (λ (l : Local). LeavesOpen D.observed (looks_at c.args.pod Prepared) l a (D.shown c.take.new.dir)) (ap (and_taken a.local c.args.pod Prepared Claim) c.in-Err-Missing.is) c.take.ensures.went in
     worked_alone c.args.pod c.args.now w c.without_claim.ensures.worked
 
 pub returns-in-Err-Missing-clause-stopped : goal.returns-in-Err-Missing-clause-stopped
@@ -96,7 +97,7 @@ pub returns-in-Err-clause-worked : goal.returns-in-Err-clause-worked
 returns-in-Err-clause-worked g c =
     let D = g.D.Dir in
     let a = D.shown c.args.dir.now in
-    let w = subst (λ (l : Local). Went D.observed (looks_at c.args.pod Prepared) l a (D.shown c.take.new.dir)) (ap (and_taken a.local c.args.pod Prepared Claim) c.in-Err.is) c.take.ensures.went in
+    let w = subst (λ (l : Local). LeavesOpen D.observed (looks_at c.args.pod Prepared) l a (D.shown c.take.new.dir)) (ap (and_taken a.local c.args.pod Prepared Claim) c.in-Err.is) c.take.ensures.went in
     worked_untaken c.args.pod c.args.now w
 
 pub returns-in-Err-clause-stopped : goal.returns-in-Err-clause-stopped

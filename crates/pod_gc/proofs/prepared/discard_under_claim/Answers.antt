@@ -4,12 +4,13 @@ use Rattle.dir_model.specs.declared.spot.Mode.TheVariants.{Shared}
 use Rattle.dir_model.specs.declared.spot.Which.{Which}
 use Rattle.dir_model.specs.declared.spot.Which.TheVariants.{Own}
 use Rattle.dir_trait.specs.DirCalls.{ExtendsBy, LockToldBetween}
+use Rattle.dir_trait.specs.Effects.{Given}
 use Rattle.folder_building.proofs.Copying.{err_more}
 use Rattle.folder_building.proofs.Working.{worked_more, worked_wider}
 use Rattle.phase_read.specs.Read.{pod_spot}
 use Rattle.pod_locks.proofs.Traces.{grown_none}
 use Rattle.pod_locks.specs.declared.setback.Setback.TheVariants as stop
-use Rattle.pod_locks.specs.Holding.{MayLook, Stays}
+use Rattle.pod_locks.specs.Holding.{MayLook}
 use Rattle.pod_locks.specs.Causes.{Stopped, IsAbsentAt, BusyElsewhere}
 use Rattle.pod_locks.proofs.Calls.{follows_none, follows_work, stops_part}
 use Rattle.pod_locks.proofs.Within.{told_within}
@@ -41,11 +42,11 @@ returns-in_err-probe-clause-another g c =
     let D = g.D.Dir in
     let old = D.shown c.args.dir.now in
     let new = D.shown c.probe.new.dir in
-    err_same (λ e. D.observed ≡ true → Stays (UnderClaim c.args.pod c.args.now) old (λ s. BusyInPrepared c.args.pod e old new)) c.probe.result c.from_residual.result
+    err_same (λ e. D.observed ≡ true → Given (UnderClaim c.args.pod c.args.now) old (λ s. BusyInPrepared c.args.pod e old new)) c.probe.result c.from_residual.result
     (λ e h. search (rules, h, c.from_residual.ensures, c.in_err-probe.is))
     (err_both (λ e. (which : Which) → e ≡ stop.Busy which → which ≡ Own)
-    (λ e. D.observed ≡ true → Stays (MayLook c.args.pod Prepared) old (λ s. BusyElsewhere c.args.pod Prepared Shared e old new))
-    (λ e. D.observed ≡ true → Stays (UnderClaim c.args.pod c.args.now) old (λ s. BusyInPrepared c.args.pod e old new))
+    (λ e. D.observed ≡ true → Given (MayLook c.args.pod Prepared) old (λ s. BusyElsewhere c.args.pod Prepared Shared e old new))
+    (λ e. D.observed ≡ true → Given (UnderClaim c.args.pod c.args.now) old (λ s. BusyInPrepared c.args.pod e old new))
     c.probe.result (λ e named busy t s k u. busy_own old new c.args.pod e named (busy t s k (looks_under c.args.pod u))) c.probe.ensures.named c.probe.ensures.another)
 
 pub returns-in_err-probe-clause-ready : goal.returns-in_err-probe-clause-ready
@@ -68,7 +69,7 @@ returns-clause-another g c =
     let D = g.D.Dir in
     let old = D.shown c.args.dir.now in
     let new = D.shown c.put_aside.new.dir in
-    err_more (λ e. (which : Which) → e ≡ stop.Busy which → ⊥) (λ e. D.observed ≡ true → Stays (UnderClaim c.args.pod c.args.now) old (λ s. BusyInPrepared c.args.pod e old new)) c.put_aside.result
+    err_more (λ e. (which : Which) → e ≡ stop.Busy which → ⊥) (λ e. D.observed ≡ true → Given (UnderClaim c.args.pod c.args.now) old (λ s. BusyInPrepared c.args.pod e old new)) c.put_aside.result
     (λ e calm t s k may which is. absurd (calm which is)) c.put_aside.ensures.calm
 
 pub returns-clause-ready : goal.returns-clause-ready

@@ -3,7 +3,6 @@ use Rattle.dir_model.specs.Local.{Local, IsActive, has_own_open}
 use Rattle.dir_model.specs.Pods.{pod_text}
 use Rattle.folder_building.proofs.Copying.{err_more}
 use Rattle.folder_building.proofs.Working.{worked_none, worked_more}
-use Rattle.pod_locks.specs.Holding.{Stays}
 use Rattle.pod_locks.proofs.Calls.{follows_work}
 use Rattle.pod_locks.proofs.Traces.{grown_none}
 use Rattle.pod_gc.specs.declared.attempt.Round.{Round}
@@ -21,6 +20,7 @@ use Rattle.pod_gc.specs.Found.{RoundWent}
 use Rattle.pod_gc.specs.Removals.{RoundByApp, LaterByApp}
 use Rattle.pod_gc.proofs.RemovalLawful.{later_by_app, missed_by_app}
 use Rattle.pod_gc.proofs.removal.remove_later.Goals as goal
+use Rattle.dir_trait.specs.Effects.{Given}
 
 pub rounds-init : goal.rounds-init
 rounds-init g c = record { worked = worked_none; missed = λ t. grown_none; reads = unread_here c.args.pod (g.D.Dir.shown c.args.dir.now); kept = λ t. record { more = []; grown = sym (append-nil (g.D.Dir.shown c.args.dir.now).trace); kept = tt }; ready = λ t. ready_here }
@@ -50,9 +50,9 @@ returns-in_err-attempt-clause-another g c =
     let old = D.shown c.args.dir.now in
     let mid = D.shown c.rounds.dir in
     let new = D.shown c.attempt.new.dir in
-    err_same (λ e. D.observed ≡ true → Stays (MayRemovePod c.args.pod c.args.now) old (λ s. RefusedByAnother c.args.pod e old new)) c.attempt.result c.from_residual.result
+    err_same (λ e. D.observed ≡ true → Given (MayRemovePod c.args.pod c.args.now) old (λ s. RefusedByAnother c.args.pod e old new)) c.attempt.result c.from_residual.result
     (λ e h. search (rules, h, c.from_residual.ensures, c.in_err-attempt.is))
-    (err_more (λ e. D.observed ≡ true → Stays (MayRemovePod c.args.pod c.args.now) mid (λ s. RefusedByAnother c.args.pod e mid new)) (λ e. D.observed ≡ true → Stays (MayRemovePod c.args.pod c.args.now) old (λ s. RefusedByAnother c.args.pod e old new)) c.attempt.result
+    (err_more (λ e. D.observed ≡ true → Given (MayRemovePod c.args.pod c.args.now) mid (λ s. RefusedByAnother c.args.pod e mid new)) (λ e. D.observed ≡ true → Given (MayRemovePod c.args.pod c.args.now) old (λ s. RefusedByAnother c.args.pod e old new)) c.attempt.result
     (λ e busy t. refused_later e new t (follows_work c.rounds.invariant.worked) (c.rounds.invariant.ready t) (busy t)) c.attempt.ensures.another)
 
 pub returns-in_err-attempt-clause-ready : goal.returns-in_err-attempt-clause-ready

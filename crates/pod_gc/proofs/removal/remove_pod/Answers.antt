@@ -1,7 +1,6 @@
 use Rattle.std.proofs.Common.{◌≡◌, rules, true, subst, arith}
 use Rattle.folder_building.proofs.Copying.{ok_more, err_more}
 use Rattle.folder_building.proofs.Working.{worked_more}
-use Rattle.pod_locks.specs.Holding.{Stays}
 use Rattle.pod_locks.proofs.Calls.{follows_work}
 use Rattle.pod_gc.specs.declared.attempt.Round.{Round}
 use Rattle.pod_gc.specs.RemovalHolding.{MayRemovePod}
@@ -18,6 +17,7 @@ use Rattle.pod_gc.proofs.Unread.{kept_read, kept_missed}
 use Rattle.pod_gc.specs.Removals.{RoundByApp}
 use Rattle.pod_gc.proofs.RemovalLawful.{removed_by_app, removed_later_by_app}
 use Rattle.pod_gc.proofs.removal.remove_pod.Goals as goal
+use Rattle.dir_trait.specs.Effects.{Given}
 
 pub returns-in_err-attempt-clause-cause : goal.returns-in_err-attempt-clause-cause
 returns-in_err-attempt-clause-cause g c =
@@ -33,7 +33,7 @@ returns-in_err-attempt-clause-another g c =
     let D = g.D.Dir in
     let old = D.shown c.args.dir.now in
     let new = D.shown c.attempt.new.dir in
-    err_same (λ e. D.observed ≡ true → Stays (MayRemovePod c.args.pod c.args.now) old (λ s. RefusedByAnother c.args.pod e old new)) c.attempt.result c.from_residual.result
+    err_same (λ e. D.observed ≡ true → Given (MayRemovePod c.args.pod c.args.now) old (λ s. RefusedByAnother c.args.pod e old new)) c.attempt.result c.from_residual.result
     (λ e h. search (rules, h, c.from_residual.ensures, c.in_err-attempt.is)) c.attempt.ensures.another
 
 pub returns-in-Missed-clause-worked : goal.returns-in-Missed-clause-worked
@@ -63,7 +63,7 @@ returns-in-Missed-clause-another g c =
     let old = D.shown c.args.dir.now in
     let mid = D.shown c.attempt.new.dir in
     let new = D.shown c.remove_later.new.dir in
-    err_more (λ e. D.observed ≡ true → Stays (MayRemovePod c.args.pod c.args.now) mid (λ s. RefusedByAnother c.args.pod e mid new)) (λ e. D.observed ≡ true → Stays (MayRemovePod c.args.pod c.args.now) old (λ s. RefusedByAnother c.args.pod e old new)) c.remove_later.result
+    err_more (λ e. D.observed ≡ true → Given (MayRemovePod c.args.pod c.args.now) mid (λ s. RefusedByAnother c.args.pod e mid new)) (λ e. D.observed ≡ true → Given (MayRemovePod c.args.pod c.args.now) old (λ s. RefusedByAnother c.args.pod e old new)) c.remove_later.result
     (λ e busy t. refused_later e new t (follows_work c.attempt.ensures.worked) (c.attempt.ensures.ready t) (busy t)) c.remove_later.ensures.another
 
 pub returns-in-Missed-clause-ready : goal.returns-in-Missed-clause-ready
@@ -92,9 +92,9 @@ returns-in_err-attempt-clause-refused g c =
     let D = g.D.Dir in
     let old = D.shown c.args.dir.now in
     let new = D.shown c.attempt.new.dir in
-    err_same (λ e. D.observed ≡ true → Stays (MayRemovePod c.args.pod c.args.now) old (λ s. RefusedFirst c.args.pod e old new)) c.attempt.result c.from_residual.result
+    err_same (λ e. D.observed ≡ true → Given (MayRemovePod c.args.pod c.args.now) old (λ s. RefusedFirst c.args.pod e old new)) c.attempt.result c.from_residual.result
     (λ e h. search (rules, h, c.from_residual.ensures, c.in_err-attempt.is))
-    (err_more (λ e. D.observed ≡ true → Stays (MayRemovePod c.args.pod c.args.now) old (λ s. RoundRefused c.args.pod e old new)) (λ e. D.observed ≡ true → Stays (MayRemovePod c.args.pod c.args.now) old (λ s. RefusedFirst c.args.pod e old new)) c.attempt.result
+    (err_more (λ e. D.observed ≡ true → Given (MayRemovePod c.args.pod c.args.now) old (λ s. RoundRefused c.args.pod e old new)) (λ e. D.observed ≡ true → Given (MayRemovePod c.args.pod c.args.now) old (λ s. RefusedFirst c.args.pod e old new)) c.attempt.result
     (λ e busy t s k m. refused_once old new e (busy t s k m)) c.attempt.ensures.refused)
 
 pub returns-in-Gone-clause-refused : goal.returns-in-Gone-clause-refused
@@ -122,7 +122,7 @@ returns-in-Missed-clause-refused g c =
     let old = D.shown c.args.dir.now in
     let mid = D.shown c.attempt.new.dir in
     let new = D.shown c.remove_later.new.dir in
-    err_all (λ e. D.observed ≡ true → Stays (MayRemovePod c.args.pod c.args.now) old (λ s. RefusedFirst c.args.pod e old new)) c.remove_later.result
+    err_all (λ e. D.observed ≡ true → Given (MayRemovePod c.args.pod c.args.now) old (λ s. RefusedFirst c.args.pod e old new)) c.remove_later.result
     (λ e t s k m. refused_then old mid new ((follows_work c.remove_later.ensures.worked).grown t) (subst (λ (y : Round). RoundWent c.args.pod y old mid) c.in-Missed.is (c.in_ok-attempt.ensures.round t)) e)
 
 pub returns-in_err-attempt-clause-reads : goal.returns-in_err-attempt-clause-reads

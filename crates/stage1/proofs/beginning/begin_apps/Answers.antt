@@ -3,7 +3,6 @@ use Rattle.std.proofs.lemmas.List.{take_all}
 use Rattle.dir_model.proofs.Lists.{all_push}
 use Rattle.dir_model.specs.declared.spot.Spot.{Spot}
 use Rattle.dir_model.specs.Local.{IsActive, Local}
-use Rattle.folder_building.specs.Work.{Worked}
 use Rattle.folder_building.proofs.Working.{worked_none, worked_more}
 use Rattle.spawner.specs.Conditions.{StillRuns}
 use Rattle.stage1.specs.declared.start.AppStart.{AppStart}
@@ -19,6 +18,7 @@ use Rattle.stage1.specs.Keeping.{Keeps, all_begun_times}
 use Rattle.stage1.proofs.Keeping.{keeps_none}
 use Rattle.stage1.proofs.Times.{keeps_push, keeps_broken}
 use Rattle.stage1.proofs.beginning.begin_apps.Goals as goal
+use Rattle.dir_trait.specs.Effects.{OnlyAsks}
 
 pub apps-init : goal.apps-init
 apps-init g c = record {
@@ -67,7 +67,7 @@ apps-preserved g c =
     let pushed = c.push_within.ensures.pushed in
     record {
       went = worked_more inv.went (worked_any c.begin_app.ensures.worked);
-      worked = λ spot at. worked_more (inv.worked spot at) (subst (λ (s : Spot). Worked D.observed (notes_at s) (D.shown c.apps.dir) new) (at_place (λ (a : AppStart). a.root.spot ≡ spot) apps i app c.apps-test.true c.app-item.is at) c.begin_app.ensures.worked);
+      worked = λ spot at. worked_more (inv.worked spot at) (subst (λ (s : Spot). OnlyAsks D.observed (notes_at s) (D.shown c.apps.dir) new) (at_place (λ (a : AppStart). a.root.spot ≡ spot) apps i app c.apps-test.true c.app-item.is at) c.begin_app.ensures.worked);
       stays = λ t. stays_more (inv.stays t) (c.begin_app.ensures.stays t);
       many = omega (arith, inv.many, c.push_within.ensures.longer);
       each = ap length pushed ∙ omega (arith, length-append stands (stand ∷ []), inv.each);
@@ -97,7 +97,7 @@ returns-in_err-stand-clause-went g c = worked_more c.apps.invariant.went (worked
 pub returns-in_err-stand-clause-worked : goal.returns-in_err-stand-clause-worked
 returns-in_err-stand-clause-worked g c spot at =
     let D = g.D.Dir in
-    worked_more (c.apps.invariant.worked spot at) (subst (λ (s : Spot). Worked D.observed (notes_at s) (D.shown c.apps.dir) (D.shown c.begin_app.new.dir)) (at_place (λ (a : AppStart). a.root.spot ≡ spot) c.args.apps.now c.apps.app-index c.app-item.result c.apps-test.true c.app-item.is at) c.begin_app.ensures.worked)
+    worked_more (c.apps.invariant.worked spot at) (subst (λ (s : Spot). OnlyAsks D.observed (notes_at s) (D.shown c.apps.dir) (D.shown c.begin_app.new.dir)) (at_place (λ (a : AppStart). a.root.spot ≡ spot) c.args.apps.now c.apps.app-index c.app-item.result c.apps-test.true c.app-item.is at) c.begin_app.ensures.worked)
 
 pub returns-in_err-stand-clause-stays : goal.returns-in_err-stand-clause-stays
 returns-in_err-stand-clause-stays g c t = stays_more (c.apps.invariant.stays t) (c.begin_app.ensures.stays t)

@@ -2,7 +2,6 @@ use Rattle.std.proofs.Common.{arith, ◌≡◌, ◌≤◌, ◌<◌, ◌+◌, ℕ
 use Rattle.std.proofs.lemmas.List.{take_all}
 use Rattle.dir_model.specs.declared.spot.Spot.{Spot}
 use Rattle.dir_model.specs.Local.{IsActive, Local}
-use Rattle.folder_building.specs.Work.{Worked}
 use Rattle.folder_building.proofs.Working.{worked_none, worked_more}
 use Rattle.stage1.specs.declared.start.AppStart.{AppStart}
 use Rattle.stage1.specs.declared.stand.Stand.{Stand}
@@ -20,6 +19,7 @@ use Rattle.stage1.specs.Keeping.{Keeps, all_end_times}
 use Rattle.stage1.proofs.Keeping.{keeps_none}
 use Rattle.stage1.proofs.Times.{keeps_end_push, keeps_front}
 use Rattle.stage1.proofs.ending.end_apps.Goals as goal
+use Rattle.dir_trait.specs.Effects.{OnlyAsks}
 
 pub apps-init : goal.apps-init
 apps-init g c = record {
@@ -76,7 +76,7 @@ apps-preserved g c =
     let after = c.add_end.new.statuses.items in
     record {
       went = worked_more inv.went (worked_any c.add_end.ensures.worked);
-      worked = λ spot at. worked_more (inv.worked spot at) (subst (λ (x : Spot). Worked D.observed (notes_at x) mid new) (at_place (λ (a : AppStart). a.root.spot ≡ spot) apps i app c.apps-test.true c.index-apps-place.is at) c.add_end.ensures.worked);
+      worked = λ spot at. worked_more (inv.worked spot at) (subst (λ (x : Spot). OnlyAsks D.observed (notes_at x) mid new) (at_place (λ (a : AppStart). a.root.spot ≡ spot) apps i app c.apps-test.true c.index-apps-place.is at) c.add_end.ensures.worked);
       stays = λ t. stays_more (inv.stays t) (c.add_end.ensures.stays t);
       ended =
           subst (λ (l : List AppStart). HaveEnded S.observed l (take (i + 1) stands) after s s'') (sym next)
@@ -101,7 +101,7 @@ returns-in-Err-clause-went g c = worked_more c.apps.invariant.went (worked_any c
 pub returns-in-Err-clause-worked : goal.returns-in-Err-clause-worked
 returns-in-Err-clause-worked g c spot at =
     let D = g.D.Dir in
-    worked_more (c.apps.invariant.worked spot at) (subst (λ (x : Spot). Worked D.observed (notes_at x) (D.shown c.apps.dir) (D.shown c.add_end.new.dir)) (at_place (λ (a : AppStart). a.root.spot ≡ spot) c.args.apps.now c.apps.place c.index-apps-place.result c.apps-test.true c.index-apps-place.is at) c.add_end.ensures.worked)
+    worked_more (c.apps.invariant.worked spot at) (subst (λ (x : Spot). OnlyAsks D.observed (notes_at x) (D.shown c.apps.dir) (D.shown c.add_end.new.dir)) (at_place (λ (a : AppStart). a.root.spot ≡ spot) c.args.apps.now c.apps.place c.index-apps-place.result c.apps-test.true c.index-apps-place.is at) c.add_end.ensures.worked)
 
 pub returns-in-Err-clause-stays : goal.returns-in-Err-clause-stays
 returns-in-Err-clause-stays g c t = stays_more (c.apps.invariant.stays t) (c.add_end.ensures.stays t)
