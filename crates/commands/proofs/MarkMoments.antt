@@ -9,11 +9,11 @@ use Rattle.dir_model.specs.declared.item.ItemKind.{ItemKind}
 use Rattle.dir_model.specs.Paths.{is_empty, is_slash, is_file_name, are_names, is_directly_in, behind, lies_below}
 use Rattle.dir_model.specs.Trees.{kind_of, is_entry, is_dir_entry, is_file_entry, is_dir, has_any, item_in, items_in}
 use Rattle.dir_model.proofs.Lists.{and_left, and_right, not_true, or_left_false, or_right_false}
-use Rattle.dir_rules.specs.Marks.{digits, marked_mark, number_of}
+use Rattle.dir_rules.specs.Marks.{digits, marked_mark, number_of, mark_moment}
 use Rattle.dir_rules.specs.Seen.{later}
 use Rattle.dir_rules.proofs.Looks.{same_bytes}
 use Rattle.pod_gc.proofs.MarkNames.{marked_is_path, marked_directly}
-use Rattle.pod_gc.specs.Ages.{mark_moment, moment_among, is_young}
+use Rattle.pod_gc.specs.Ages.{moment_among, is_young}
 use Rattle.pod_gc.proofs.Moments.{marked}
 use Rattle.commands.proofs.LateTurns.{or_either}
 use Rattle.commands.proofs.GcTells.{same_text}

@@ -6,8 +6,9 @@ use Rattle.dir_model.specs.Listings.{has_named, is_item, has_item, kind_number}
 use Rattle.dir_model.proofs.Lists.{and_left, and_both, or_last, same_self}
 use Rattle.dir_rules.specs.Seen.{later}
 use Rattle.dir_rules.proofs.Looks.{same_bytes}
+use Rattle.dir_rules.specs.Marks.{mark_moment}
 use Rattle.lifecycle.proofs.Places.{name_same}
-use Rattle.pod_gc.specs.Ages.{mark_moment, moment_among}
+use Rattle.pod_gc.specs.Ages.{moment_among}
 use Rattle.pod_gc.proofs.Moments.{later_more}
 
 both_most : (a b : ℕ) → nat_le a b ≡ true → nat_le b a ≡ true → b ≡ a

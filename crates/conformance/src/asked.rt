@@ -11,7 +11,7 @@ use dir_model::{Intent, Kind, Name};
 use dir_rules::{Created, Seen};
 
 // By the greatest moment that a listing of the pod's folder showed.
-fn asks_at(intent: &Option<Intent>, moment: Option<u128>, name: &Name) -> bool
+fn asks_at(intent: &Option<Intent>, moment: Option<u64>, name: &Name) -> bool
     ensures { result ≡ intends (λ i. asks_at i.kind i moment name.now) intent.now }
 {
     let Some(intent) = intent else {
@@ -23,7 +23,7 @@ fn asks_at(intent: &Option<Intent>, moment: Option<u128>, name: &Name) -> bool
             .as_bytes()
             .starts_with(intent.word.as_str().as_bytes()),
         (Kind::Gc, Some(moment)) => {
-            u128::from(intent.expire) <= u128::from(intent.now).saturating_sub(moment)
+            intent.expire <= intent.now.saturating_sub(moment)
         }
         _ => false,
     }
@@ -59,6 +59,6 @@ pub fn is_removal_requested(seen: &Seen, name: &Name) -> bool
     let intent = &seen.standing.intent;
     match find_created(seen.created.as_slice(), name) {
         None => asks_at(intent, None, name),
-        Some(mark) => asks_at(intent, Some(u128::from(mark.moment)), name),
+        Some(mark) => asks_at(intent, Some(mark.moment), name),
     }
 }

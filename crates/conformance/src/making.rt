@@ -9,7 +9,7 @@ ghost use Rattle.conformance.specs.Tables.{table_making, with_piece};
 use crate::table::MakingTable;
 use dir_model::{Area, Bytes, Inner, NoMemory, Spot, TreeNode};
 use dir_rules::Entry;
-use rule_marks::{is_below_status, is_empty, is_later_mark, parent, push_front, same_spot};
+use marks::{is_below_status, is_empty, is_later_mark, parent, push_front, same_spot};
 use std::alloc::Global;
 
 fn is_making_area(area: Area) -> bool

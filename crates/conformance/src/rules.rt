@@ -17,7 +17,7 @@ use crate::table::{MakingTable, SeenTable};
 use dir_model::{Area, Inner, Intent, ItemKind, Name, Request, Spot};
 use dir_rules::{Entry, Held, ShownItem};
 use lock_rules::{area_of, is_own_held};
-use rule_marks::{
+use marks::{
     is_empty, is_garbage, is_in, is_mark, is_stage, is_started_mark, is_status_file, same_inner,
     same_spot,
 };

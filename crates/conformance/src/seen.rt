@@ -14,7 +14,7 @@ use dir_model::{
     Area, DirError, Handle, Inner, Intent, Item, Names, NoMemory, Reply, Request, Spot,
 };
 use lock_rules::{StandingTable, gives_up_shared_gate};
-use rule_marks::{is_in, is_mark, parent, push_front, same_spot};
+use marks::{is_in, is_mark, parent, push_front, same_spot};
 use std::alloc::Global;
 
 /// Whether it is the mark of the process's own moment.

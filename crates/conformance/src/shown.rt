@@ -2,15 +2,15 @@
 ghost use Rattle.std.specs.Prelude.{◌≡◌, ◌++◌, not, bytes_eq, filter, map, IfOk, OnOk};
 ghost use Rattle.std.specs.List.{list_any};
 ghost use Rattle.dir_rules.specs.Standing.{is_in};
-ghost use Rattle.dir_rules.specs.Seen.{inner_eq, still_listed, still_shown, still_known, forget_listed, forget_items, moved_away, is_item_at, stands_in, shown_in, with_items, with_names, later, created_among, note_created, listed_created};
+ghost use Rattle.dir_rules.specs.Seen.{inner_eq, still_listed, still_shown, still_known, forget_listed, forget_items, moved_away, is_item_at, stands_in, shown_in, with_items, with_names, created_among, note_created, listed_created};
 ghost use Rattle.conformance.specs.Tables.{created_of};
 
 use crate::table::CreatedMark;
 use dir_model::{Area, Handle, Inner, Item, Name, Names, NoMemory, Spot};
 use dir_rules::{Held, ShownArea, ShownItem};
 use lock_rules::{gives_up_exclusive_gate, gives_up_removal};
-use rule_marks::{
-    created_moment, is_empty, is_in, is_stage, parent, path_in, push_front, same_inner, same_spot,
+use marks::{
+    created_moment, is_empty, is_in, is_stage, later, parent, path_in, push_front, same_inner, same_spot,
 };
 use std::alloc::Global;
 use std::mem;
@@ -149,17 +149,7 @@ pub fn note_names(areas: &mut Vec<ShownArea>, area: Area, names: &Names) -> Resu
     push_front(areas, ShownArea { area, names })
 }
 
-fn later(a: Option<u128>, b: Option<u128>) -> Option<u128>
-    ensures { result ≡ later a b }
-{
-    match (a, b) {
-        (None, b) => b,
-        (Some(a), None) => Some(a),
-        (Some(a), Some(b)) => { if a <= b { Some(b) } else { Some(a) } }
-    }
-}
-
-fn created_among(items: &[Item]) -> Option<u128>
+fn created_among(items: &[Item]) -> Option<u64>
     ensures { result ≡ created_among items.now }
 {
     let mut greatest = None;
@@ -172,7 +162,7 @@ fn created_among(items: &[Item]) -> Option<u128>
 fn note_moment(
     created: &mut Vec<CreatedMark>,
     name: &Name,
-    moment: Option<u128>,
+    moment: Option<u64>,
 ) -> Result<(), NoMemory>
     ensures { OnOk result (map created_of created.new.items ≡ note_created name.now moment (map created_of created.old.items)) }
 {

@@ -6,7 +6,7 @@ ghost use Rattle.demo_tally.specs.Tallies.{is_done, is_deed, deeds_in, lines_wri
 use crate::tree_file::is_root_listing;
 use demo_line::Numbers;
 use dir_model::{Area, Event, History, Reply, Request};
-use rule_marks::{is_garbage, is_in};
+use marks::{is_garbage, is_in};
 
 /// What a demo does with images and pods.
 #[derive(Clone, Copy, Debug, PartialEq, Eq)]

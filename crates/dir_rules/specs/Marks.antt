@@ -40,7 +40,13 @@ marked_mark moment = mark (codes "marked-") moment
 abbrev pub number_of : List ℕ → ℕ
 number_of bs = fold (λ n b. n * 10 + (b - 48)) 0 bs
 
--- the moment of a created- mark: its digits stand for a number of 64 bits
+-- the moment of a mark that begins with this text: its digits stand for a number of 64 bits
+abbrev pub mark_moment : List ℕ → List ℕ → Option ℕ
+mark_moment text name =
+    cond (bytes_eq name (mark text (number_of (drop (length text) name))) && nat_le (number_of (drop (length text) name)) 18446744073709551615)
+    (Some (number_of (drop (length text) name))) None
+
+-- the moment of a created- mark
 abbrev pub created_moment : List ℕ → Option ℕ
 created_moment name = cond (bytes_eq name (created_mark (number_of (drop 8 name))) && nat_le (number_of (drop 8 name)) 18446744073709551615) (Some (number_of (drop 8 name))) None
 

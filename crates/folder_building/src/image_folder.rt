@@ -4,7 +4,7 @@ ghost use Rattle.folder_building.specs.Plans.{is_plan};
 ghost use Rattle.folder_building.specs.TreePlans.{entry_at};
 ghost use Rattle.folder_building.specs.ImagePlans.{id_file, given_file, mark_file, image_entries, MakesImage};
 
-use crate::mark::mark_text;
+use marks::mark_text;
 use ac_types::{ImageId, NoMemory, Text};
 use dir_trait::Bytes;
 use crate::{Content, PlanEntry};

@@ -7,25 +7,14 @@ use Rattle.dir_model.specs.declared.item.Item.{Item}
 use Rattle.dir_model.proofs.Lists.{all_both, all_weaker}
 use Rattle.std.proofs.lemmas.List.Elements.{filter_map-append, Contains-append_left, Contains-append_right}
 use Rattle.image_reading.specs.Places.{mark_name}
-use Rattle.dir_rules.specs.Marks.{number_of}
+use Rattle.dir_rules.specs.Marks.{mark_moment}
 use Rattle.dir_rules.specs.Seen.{later}
-use Rattle.rule_marks.proofs.Texts.{unlike}
-use Rattle.image_reading.specs.Marks.{imported_mark, is_imported_mark, imported_moment, imported_moments, IsGreatest}
+use Rattle.image_reading.specs.Marks.{imported_moment, imported_moments, IsGreatest}
 
--- the moment of a name, by the number that its digits stand for
-module _ (name : List ℕ) (n : ℕ) (is : n ≡ number_of (drop 9 name)) where
-  moment_at : cond (is_imported_mark name n) (Some n) None ≡ imported_moment name
-  unfolding imported_moment
-  moment_at = ap (λ (m : ℕ). cond (is_imported_mark name m) (Some m) None) is
-
-  pub marked : true ≡ bytes_eq name (imported_mark n) → cond (nat_le n 18446744073709551615) (Some n) None ≡ imported_moment name
-  marked h = ap (λ (b : Bool). cond (b && nat_le n 18446744073709551615) (Some n) None) h ∙ moment_at
-
-  pub unmarked : false ≡ bytes_eq name (imported_mark n) → None ≡ imported_moment name
-  unmarked h = ap (λ (b : Bool). cond (b && nat_le n 18446744073709551615) (Some n) None) h ∙ moment_at
-
-pub no_moment : (name : List ℕ) → (length name ≡ 29 → ⊥) → None ≡ imported_moment name
-no_moment name other = unmarked name (number_of (drop 9 name)) refl (sym (unlike name mark_name 20 (number_of (drop 9 name)) other))
+-- the moment of an image's mark is the moment of a mark of its text
+pub as_mark : (name : List ℕ) → mark_moment mark_name name ≡ imported_moment name
+unfolding imported_moment
+as_mark name = refl
 
 -- the greatest of the moments so far, if there are any
 abbrev pub IsBest : List ℕ → Option ℕ → Type 0

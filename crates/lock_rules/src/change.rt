@@ -7,7 +7,7 @@ ghost use Rattle.dir_rules.specs.Standing.{is_claim_held, is_number, held_in, un
 use crate::held::{gives_up_claim, gives_up_cover, is_number};
 use dir_model::{Area, Handle, Mode, Name, NoMemory, Spot, Target};
 use dir_rules::Held;
-use rule_marks::{is_in, is_of, is_stage, push_front};
+use marks::{is_in, is_of, is_stage, push_front};
 
 fn held_in(held: Held, handle: Handle, mode: Mode) -> Held
     ensures { result ≡ held_in handle mode held }

@@ -8,7 +8,7 @@ ghost use Rattle.dir_rules.specs.LockRules.{is_same_target, is_second, is_alone,
 
 use dir_model::{Area, Handle, Mode, Name, Spot, Target, Which};
 use dir_rules::Held;
-use rule_marks::{is_garbage, is_in, is_of, same_spot};
+use marks::{is_garbage, is_in, is_of, same_spot};
 
 fn is_exclusive(lock: &Option<Mode>) -> bool
     ensures { result ≡ is_exclusive lock.now }

@@ -10,7 +10,7 @@ use crate::kind::{
 use crate::standing::StandingTable;
 use dir_model::{Area, Handle, Mode, Name, Request, Spot, Target, Which};
 use dir_rules::Held;
-use rule_marks::{is_in, is_stage};
+use marks::{is_in, is_stage};
 
 // The activation lock is opened only in prepared.
 fn may_open(spot: &Spot, which: Which) -> bool

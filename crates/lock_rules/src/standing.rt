@@ -14,7 +14,7 @@ use crate::held::{
 use crate::kind::{began_as_import, began_as_remover, draws};
 use dir_model::{Area, Handle, Intent, Mode, Name, NoMemory, Reply, Request, Spot, Target, Which};
 use dir_rules::Held;
-use rule_marks::{is_in, is_of, is_stage, push_front};
+use marks::{is_in, is_of, is_stage, push_front};
 use std::alloc::Global;
 
 /// What a process knows of locks and places by its own answers, as lists that change.

@@ -6,7 +6,7 @@ ghost use Rattle.folder_building.specs.Plans.{is_among, is_file, outline, has_or
 
 use dir_model::is_path;
 use folder_building::{Content, PlanEntry};
-use rule_marks::{is_empty, parent};
+use marks::{is_empty, parent};
 
 fn is_file(content: &Content) -> bool
     ensures { result ≡ is_file content.now }

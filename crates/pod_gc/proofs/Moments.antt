@@ -2,23 +2,9 @@
 use Rattle.std.proofs.Common.{arith, ◌≡◌, ◌+◌, ◌&&◌, ℕ, Bool, true, false, cond, nat_le, bytes_eq, Option, Some, None, List, [], ◌∷◌, ◌++◌, length, take, drop, refl, sym, ap, ◌∙◌}
 use Rattle.std.proofs.lemmas.Bool.Decides.{nat_tests}
 use Rattle.dir_model.specs.declared.item.Item.{Item}
-use Rattle.dir_rules.specs.Marks.{mark, number_of}
 use Rattle.dir_rules.specs.Seen.{later}
-use Rattle.rule_marks.proofs.Texts.{unlike}
-use Rattle.pod_gc.specs.Ages.{mark_moment, moment_among}
-
-module _ (text name : List ℕ) (n : ℕ) (is : n ≡ number_of (drop (length text) name)) where
-  moment_at : cond (bytes_eq name (mark text n) && nat_le n 18446744073709551615) (Some n) None ≡ mark_moment text name
-  moment_at = ap (λ (m : ℕ). cond (bytes_eq name (mark text m) && nat_le m 18446744073709551615) (Some m) None) is
-
-  pub marked : true ≡ bytes_eq name (mark text n) → cond (nat_le n 18446744073709551615) (Some n) None ≡ mark_moment text name
-  marked h = ap (λ (b : Bool). cond (b && nat_le n 18446744073709551615) (Some n) None) h ∙ moment_at
-
-  pub unmarked : false ≡ bytes_eq name (mark text n) → None ≡ mark_moment text name
-  unmarked h = ap (λ (b : Bool). cond (b && nat_le n 18446744073709551615) (Some n) None) h ∙ moment_at
-
-pub no_moment : (text name : List ℕ) → (length name ≡ length text + 20 → ⊥) → None ≡ mark_moment text name
-no_moment text name other = unmarked text name (number_of (drop (length text) name)) refl (sym (unlike name text 20 (number_of (drop (length text) name)) other))
+use Rattle.dir_rules.specs.Marks.{mark_moment}
+use Rattle.pod_gc.specs.Ages.{moment_among}
 
 le_on : (a b c : ℕ) → nat_le a b ≡ true → nat_le b c ≡ true → nat_le a c ≡ true
 le_on a b c x y = grind (arith, nat_tests)

@@ -19,7 +19,7 @@ ghost use Rattle.pod_locks.specs.Taking.{TakesNothing};
 ghost use Rattle.pod_gc.specs.RemovalCauses.{BusyByPeeks, IsMarkedBetween, MarkedFirst};
 
 use dir_trait::{Area, Dir, DirError, PodId};
-use folder_building::mark_text;
+use marks::mark_text;
 use pod_locks::{Setback, pod_spot, probe, put_aside, set_back};
 use std::alloc::Global;
 

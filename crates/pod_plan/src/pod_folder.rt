@@ -17,7 +17,7 @@ use crate::token::token_text;
 use ac_types::{NoMemory, Text};
 use dir_trait::Name;
 use folder_building::PlanEntry;
-use folder_building::mark_text;
+use marks::mark_text;
 use std::alloc::Global;
 
 // The directories that a pod has whatever its apps are.

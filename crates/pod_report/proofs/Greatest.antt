@@ -29,10 +29,6 @@ mark_tells name moment is = by (bytes_eq name (created_mark n)) refl (nat_le n 1
     by true e false l is = cc
     by false e c l is = cc
 
--- and a moment of that size passes for 64 bits
-pub moment_small : (name : List ℕ) (moment : ℕ) → created_moment name ≡ Some moment → cond (nat_le moment 18446744073709551615) (Some moment) None ≡ created_moment name
-moment_small name moment is = ap (λ (b : Bool). cond b (Some moment) None) (mark_tells name moment is).small ∙ sym is
-
 -- one item more
 not_after : (a b : ℕ) → nat_le a b ≡ false → b ≤ a
 not_after a b l = grind (arith, nat_tests)

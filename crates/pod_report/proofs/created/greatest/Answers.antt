@@ -16,6 +16,6 @@ items-preserved c =
     let i = c.items.item-index in
     let item = c.item-item.result in
     let more : take (i + 1) items ≡ take i items ++ item ∷ [] = take_more items i item c.items-test.true ∙ ap (λ l. take i items ++ l ∷ []) (sym c.item-item.is) in
-    let moment : c.moment_of.result ≡ created_moment item.name = c.moment_of.ensures ∙ ap created_moment (c.as_bytes.ensures.value ∙ c.as_str.ensures.text) in
+    let moment : c.created_moment.result ≡ created_moment item.name = c.created_moment.ensures ∙ ap created_moment (c.as_bytes.ensures.value ∙ c.as_str.ensures.text) in
     subst (λ (o : Option ℕ). IsGreatest (take (i + 1) items) o) (sym (c.later-found.ensures ∙ ap (later c.items.found) moment))
     (subst (λ (l : List Item). IsGreatest l (later c.items.found (created_moment item.name))) (sym more) (greatest_more (take i items) item c.items.found c.items.invariant))

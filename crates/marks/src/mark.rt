@@ -1,6 +1,6 @@
 // The names of marks.
 ghost use Rattle.std.specs.Prelude.{◌≡◌, ◌≤◌, ◌++◌, length, drop, bytes_eq};
-ghost use Rattle.dir_rules.specs.Marks.{digits, mark, number_of, created_moment, is_started_mark, is_status_file, is_below_status, is_later_mark};
+ghost use Rattle.dir_rules.specs.Marks.{digits, mark, is_started_mark, is_status_file, is_below_status, is_later_mark};
 
 use crate::path::has_slash;
 
@@ -34,37 +34,6 @@ pub fn is_mark(text: &[u8], moment: u128, path: &[u8]) -> bool
     let mut room = [0; 20];
     write_digits(&mut room, moment);
     is_joined(path, text, &room)
-}
-
-// The number that decimal digits stand for.
-fn number_of(digits: &[u8]) -> u128
-    requires { length digits.now ≤ 20 }
-    ensures { result ≡ number_of digits.now }
-{
-    let mut number: u128 = 0;
-    'digits: for b in digits {
-        number = number * 10 + u128::from(b.saturating_sub(b'0'));
-    }
-    number
-}
-
-// The greatest moment that a clock gives.
-const LAST_MOMENT: u128 = 18_446_744_073_709_551_615;
-
-/// The moment of a `created-` mark. None where the name is none, or its digits stand for more than a
-/// number of 64 bits.
-pub fn created_moment(name: &[u8]) -> Option<u128>
-    ensures { result ≡ created_moment name.now }
-{
-    if name.len() != 28 {
-        return None;
-    }
-    let moment = number_of(&name[8..]);
-    if is_mark(b"created-", moment, name) && moment <= LAST_MOMENT {
-        Some(moment)
-    } else {
-        None
-    }
 }
 
 /// Whether it is the mark of an app: it stands in the folder itself, and a name follows.

@@ -1,6 +1,6 @@
 use Rattle.std.proofs.Common.{◌≤◌, arith}
-use Rattle.rule_marks.proofs.Texts.{most, most_at}
-use Rattle.pod_gc.proofs.ages.number_of.Goals as goal
+use Rattle.marks.proofs.Texts.{most, most_at}
+use Rattle.marks.proofs.moment.number_of.Goals as goal
 
 pub overflow_mul-number : goal.overflow_mul-number
 overflow_mul-number c =

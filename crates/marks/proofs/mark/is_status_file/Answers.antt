@@ -1,8 +1,8 @@
 use Rattle.std.proofs.Common.{◌≡◌, ◌∙◌, true, not, nat_lt, length, drop, ap, arith}
 use Rattle.std.proofs.lemmas.Bool.Decides.{nat_tests}
 use Rattle.dir_rules.specs.Marks.{has_slash, is_below_status}
-use Rattle.rule_marks.proofs.Texts.{and_last}
-use Rattle.rule_marks.proofs.mark.is_status_file.Goals as goal
+use Rattle.marks.proofs.Texts.{and_last}
+use Rattle.marks.proofs.mark.is_status_file.Goals as goal
 
 pub returns : goal.returns
 returns c =
