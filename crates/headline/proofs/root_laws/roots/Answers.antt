@@ -3,7 +3,7 @@ use Rattle.lifecycle.proofs.Draws.{conforming_left}
 use Rattle.pod_build.specs.LegalExecutions.{IsLegal}
 use Rattle.headline.proofs.Standing.{legal_before, makers_are, pods_stand, apps_start}
 use Rattle.headline.proofs.Reading.{pods_read}
-use Rattle.headline.proofs.roots.roots.Goals as goal
+use Rattle.headline.proofs.root_laws.roots.Goals as goal
 
 pub returns-clause-begins : goal.returns-clause-begins
 returns-clause-begins c legal before later is =
