@@ -37,10 +37,12 @@ is_place_error error = false
 abbrev pub is_own_embryo : Standing → Spot → Bool
 is_own_embryo s spot = is_in Embryo spot.area && (s.gated && draws spot.name s)
 
+-- the handle is on the own lock of the pod that the process makes, in embryo
 abbrev pub is_own_embryo_lock : Standing → Target → Bool
 is_own_embryo_lock s (Own spot) = is_own_embryo s spot
 is_own_embryo_lock s target = false
 
+-- the same of a handle that may be none
 abbrev pub is_own_embryo_held : Standing → Option Held → Bool
 is_own_embryo_held s None = false
 is_own_embryo_held s (Some h) = is_own_embryo_lock s h.target
@@ -73,10 +75,12 @@ folder_of request = None
 abbrev pub is_brought : Standing → Spot → Bool
 is_brought s spot = (is_in Prepare spot.area || is_in Run spot.area) && on_spot (spot_eq spot) (last_of spot.name s.moves)
 
+-- the handle was opened on the own lock of a folder in a garbage place
 abbrev pub is_opened_at : Spot → Target → Bool
 is_opened_at spot (Own here) = is_garbage spot.area && spot_eq here spot
 is_opened_at spot target = false
 
+-- the process holds the own lock of the pod that it brought there, or that it opened there
 abbrev pub owns_at : Standing → Spot → Bool
 owns_at s spot = list_any (λ h. is_own_held spot.name h && (is_brought s spot || is_opened_at spot h.target)) s.holdings
 
@@ -87,12 +91,14 @@ knows_folder s spot =
     list_any (λ inner. spot_eq inner.spot spot) s.listed
     || (list_any (λ a. is_in spot.area a.area && has_name spot.name a.names) s.areas || list_any (λ here. spot_eq here spot) s.put_away)
 
+-- an area of the store in which folders are made or removed
 abbrev pub is_store : Area → Bool
 is_store Incoming = true
 is_store Trees = true
 is_store Removed = true
 is_store area = false
 
+-- it deletes the folder there: it knows of it, and holds the lock that a deletion there needs
 abbrev pub deletes_at : Seen → Spot → Bool
 deletes_at s spot = knows_folder s spot && ((is_garbage spot.area && owns_at s.standing spot) || (is_store spot.area && closes_gate spot.area s.standing))
 
@@ -100,6 +106,7 @@ deletes_at s spot = knows_folder s spot && ((is_garbage spot.area && owns_at s.s
 abbrev pub is_its_own : Seen → Spot → Bool
 is_its_own s spot = makes_at s.making spot || ((not (is_garbage spot.area) && owns_at s.standing spot) || deletes_at s spot)
 
+-- the location, if there is one, is that of a folder which is its own
 abbrev pub is_its_folder : Seen → Option Spot → Bool
 is_its_folder s None = false
 is_its_folder s (Some spot) = is_its_own s spot
@@ -120,11 +127,13 @@ is_gone_error Missing = true
 is_gone_error NotEmpty = true
 is_gone_error error = false
 
+-- it asks for the removal of a file or directory
 abbrev pub is_removal : Request → Bool
 is_removal (RemoveFileIn inner) = true
 is_removal (RemoveDirIn inner) = true
 is_removal request = false
 
+-- a removal was answered as only what a started app wrote explains
 abbrev pub meets_app : DirState → Request → Reply → Bool
 meets_app state request (Refused error left) = is_gone_error error && (is_removal request && is_apps_request state request)
 meets_app state request reply = false
@@ -138,6 +147,7 @@ loses_directory s request reply = false
 abbrev pub most_path : ℕ
 most_path = 8192
 
+-- a listing showed a path that is longer than any that a process makes
 abbrev pub shows_long : Request → Reply → Bool
 shows_long (ListIn inner) (Items items) = list_any (λ (item : Item). nat_lt most_path (length (path_in inner.path item.name))) items
 shows_long request reply = false
@@ -146,6 +156,7 @@ shows_long request reply = false
 abbrev pub is_foreign_write : DirState → Seen → Request → Reply → Bool
 is_foreign_write state s request reply = meets_app state request reply || (loses_directory s request reply || shows_long request reply)
 
+-- the reply tells of what a started app wrote
 abbrev pub IsForeignWrite : DirState → Seen → Request → Reply → Type 0
 IsForeignWrite state s request reply = is_foreign_write state s request reply ≡ true
 
@@ -154,5 +165,6 @@ abbrev pub is_impossible_reply : DirState → Seen → Request → Reply → Boo
 is_impossible_reply state s request reply =
     not (is_foreign_write state s request reply) && (loses_embryo s.standing request reply || (meets_another request reply || loses_own s request reply))
 
+-- the reply is one that no processes which keep the rules bring about
 abbrev pub IsImpossibleReply : DirState → Seen → Request → Reply → Type 0
 IsImpossibleReply state s request reply = is_impossible_reply state s request reply ≡ true

@@ -66,10 +66,12 @@ may_hold_gate kind area.Incoming = is_image_remover kind
 may_hold_gate kind area.Removed = is_image_remover kind
 may_hold_gate kind _ = false
 
+-- which area's lock may be asked for in which mode
 abbrev pub may_lock_gate : Standing → Area → Mode → Bool
 may_lock_gate s area Shared = true
 may_lock_gate s area Exclusive = began_as (λ k. may_hold_gate k area) s
 
+-- which lock may be asked for, by what a handle was opened on
 abbrev pub may_lock_target : Standing → Bool → Target → Mode → Bool
 may_lock_target s covered (Own spot) mode = may_lock_own s covered spot.name spot.area mode
 may_lock_target s covered (Claim spot) Exclusive = true
@@ -90,9 +92,11 @@ is_open_on target hs = list_any (λ h. is_same_target target h.target) hs
 abbrev pub is_second : Held → Held → Bool
 is_second h other = is_same_target h.target other.target && not (is_number h.handle other)
 
+-- no other handle of the process is on the same lock
 abbrev pub is_alone : Held → List Held → Bool
 is_alone h hs = not (list_any (is_second h) hs)
 
+-- which lock may be asked for by a handle: it is open, holds none, and is alone
 abbrev pub may_lock_by : Standing → Option Held → Mode → Bool
 may_lock_by s None mode = false
 may_lock_by s (Some h) mode = not (is_some h.lock) && (is_alone h s.holdings && may_lock_target s h.covered h.target mode)
@@ -112,9 +116,11 @@ is_removal_target spot (Own here) = is_garbage spot.area && spot_eq here spot
 is_removal_target spot (Claim here) = false
 is_removal_target spot (Gate gate) = is_in area.Removed spot.area && is_in area.Removed gate
 
+-- it holds the lock that a removal at this location needs
 abbrev pub is_removal_held : Spot → Held → Bool
 is_removal_held spot h = is_exclusive h.lock && is_removal_target spot h.target
 
+-- some handle does
 abbrev pub may_remove : Standing → Spot → Bool
 may_remove s spot = list_any (is_removal_held spot) s.holdings
 
@@ -135,9 +141,11 @@ abbrev pub keeps_from : ℕ → Standing → List Event → Bool
 keeps_from me s [] = true
 keeps_from me s (e ∷ es) = (is_foreign me e || may_ask s e.request) && keeps_from me (stood me s e) es
 
+-- all requests of a process in a trace keep the rules on locks and places
 abbrev pub keeps : ℕ → List Event → Bool
 keeps me history = keeps_from me nothing_standing history
 
+-- a test of a location that may be none
 abbrev pub on_spot : (Spot → Bool) → Option Spot → Bool
 on_spot test None = false
 on_spot test (Some spot) = test spot

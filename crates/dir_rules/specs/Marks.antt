@@ -4,6 +4,7 @@ use Rattle.std.specs.List.{list_any, starts_with}
 use Rattle.dir_model.specs.Paths.{is_slash}
 use Rattle.dir_model.specs.Trees.{mark_prefix}
 
+-- a slash is among the bytes
 abbrev pub has_slash : List ℕ → Bool
 has_slash path = list_any is_slash path
 
@@ -30,9 +31,11 @@ digits (suc k) n = digits k (n / 10) ++ (48 + n % 10) ∷ []
 abbrev pub mark : List ℕ → ℕ → List ℕ
 mark text moment = text ++ digits 20 moment
 
+-- the mark of a pod's creation at this moment
 abbrev pub created_mark : ℕ → List ℕ
 created_mark moment = mark (codes "created-") moment
 
+-- the mark of the moment at which a pod in run was found dead
 abbrev pub marked_mark : ℕ → List ℕ
 marked_mark moment = mark (codes "marked-") moment
 
@@ -54,6 +57,7 @@ created_moment name = cond (bytes_eq name (created_mark (number_of (drop 8 name)
 abbrev pub is_started_mark : List ℕ → Bool
 is_started_mark path = begins (mark_prefix) path && nat_lt 8 (length path) && not (has_slash path)
 
+-- the directory of a pod for the statuses of its apps
 abbrev pub status_directory : List ℕ
 status_directory = codes "stage1/rootfs/rkt/status"
 

@@ -30,6 +30,7 @@ use Rattle.dir_rules.specs.Standing.{is_in, is_garbage, is_own_held, is_gate_of,
 use Rattle.dir_rules.specs.LockRules.{on_spot, holds_pod, is_open_on, may_ask}
 use Rattle.dir_rules.specs.Seen.{inner_eq, makes_at, is_free, is_own_mark, is_item_at, stands_in}
 
+-- the command imports an image
 abbrev pub is_import : Kind → Bool
 is_import kind.ImageImport = true
 is_import _ = false
@@ -46,6 +47,7 @@ runs s name = holds_own name s.standing && on_spot (λ spot. is_in Run spot.area
 abbrev pub is_deleting : List ℕ → Held → Bool
 is_deleting name h = is_own_held name h && is_garbage (area_of h.target)
 
+-- the process deletes the pod with this name
 abbrev pub deletes : Seen → List ℕ → Bool
 deletes s name = list_any (is_deleting name) s.standing.holdings
 
@@ -54,19 +56,24 @@ abbrev pub of_making : (Making → Bool) → Option Making → Bool
 of_making test None = false
 of_making test (Some m) = test m
 
+-- it is a directory
 abbrev pub is_dir : TreeNode → Bool
 is_dir Dir = true
 is_dir (Piece bytes) = false
 
+-- something was made at the path
 abbrev pub has_path : List ℕ → List Entry → Bool
 has_path path es = list_any (λ e. bytes_eq e.path path) es
 
+-- a directory was made at the path
 abbrev pub has_dir : List ℕ → List Entry → Bool
 has_dir path es = list_any (λ e. is_dir e.node && bytes_eq e.path path) es
 
+-- a file was made at the path
 abbrev pub has_file : List ℕ → List Entry → Bool
 has_file path es = list_any (λ e. not (is_dir e.node) && bytes_eq e.path path) es
 
+-- it has made no folder
 abbrev pub has_made_none : Option Making → Bool
 has_made_none None = true
 has_made_none (Some m) = false
@@ -85,6 +92,7 @@ is_all_done m = m.clean && is_empty m.unsynced
 abbrev pub is_whole_pod : Making → Bool
 is_whole_pod m = is_all_done m && (has_dir status_directory m.entries && (not (list_any (λ e. is_below_status e.path) m.entries) && not (list_any (λ e. is_later_mark e.path) m.entries)))
 
+-- it makes the folder at this location, and has come so far with it
 abbrev pub has_done : (Making → Bool) → Seen → Spot → Bool
 has_done test s spot = makes_at s.making spot && of_making test s.making
 
@@ -92,15 +100,18 @@ has_done test s spot = makes_at s.making spot && of_making test s.making
 abbrev pub age : ℕ → ℕ → ℕ
 age a b = a - b
 
+-- the pod is older than what its intent waits for, by a mark that it knows
 abbrev pub is_old : Intent → Option Created → Bool
 is_old intent None = false
 is_old intent (Some c) = nat_le intent.expire (age intent.now c.moment)
 
+-- a command asks for the removal of this pod
 abbrev pub asks_for : Kind → Intent → List Created → List ℕ → Bool
 asks_for kind.Rm intent created name = begins intent.word name
 asks_for kind.Gc intent created name = is_old intent (find (λ c. bytes_eq c.name name) created)
 asks_for _ intent created name = false
 
+-- the process was asked to remove this pod
 abbrev pub is_asked : Seen → List ℕ → Bool
 is_asked s name = intends (λ i. asks_for i.kind i s.created name) s.standing.intent
 
@@ -125,6 +136,7 @@ keeps_name Images area = false
 keeps_name area Images = false
 keeps_name _ _ = true
 
+-- a move as the rules on contents allow it
 abbrev pub may_bring : Seen → Spot → Spot → Bool
 may_bring s from to = may_bring_between s from to from.area to.area && ((not (keeps_name from.area to.area) || bytes_eq from.name to.name) && not (is_stage from.area && deletes s from.name))
 
@@ -137,9 +149,11 @@ abbrev pub is_gate : Target → Bool
 is_gate (Gate area) = true
 is_gate _ = false
 
+-- the handle is on the lock of another area
 abbrev pub is_other_gate : Area → Held → Bool
 is_other_gate area h = not (is_gate_of area h.target) && is_gate h.target
 
+-- all these handles are on locks of other areas
 abbrev pub are_other_gates : Area → List Held → Bool
 are_other_gates area hs = list_all (is_other_gate area) hs
 
@@ -154,6 +168,7 @@ makes_here s spot Prepare = makes_at s.making spot && holds_own spot.name s.stan
 makes_here s spot Incoming = makes_at s.making spot && s.stored
 makes_here s spot _ = false
 
+-- the path is in the folder itself, or in a directory that was made
 abbrev pub is_in_directory : List ℕ → List Entry → Bool
 is_in_directory path es = is_empty (parent path) || has_dir (parent path) es
 
@@ -166,12 +181,15 @@ abbrev pub in_order : Seen → Area → Bool → List ℕ → List Entry → Boo
 in_order s Prepare file path es = (not (is_empty es) || (file && intends (λ i. bytes_eq path (created_mark i.now)) s.standing.intent)) && not (file && has_file (codes "pod") es)
 in_order s _ file path es = true
 
+-- a new path, and in order
 abbrev pub may_make_entry : Seen → Bool → Inner → Making → Bool
 may_make_entry s file inner m = is_new_path inner.path m.entries && in_order s inner.spot.area file inner.path m.entries
 
+-- a directory is made only in the folder that the process makes
 abbrev pub may_make_dir : Seen → Inner → Bool
 may_make_dir s inner = makes_here s inner.spot inner.spot.area && of_making (may_make_entry s false inner) s.making
 
+-- the folder itself, or something that was made
 abbrev pub may_sync_entry : Inner → Making → Bool
 may_sync_entry inner m = is_empty inner.path || has_path inner.path m.entries
 
@@ -179,20 +197,25 @@ may_sync_entry inner m = is_empty inner.path || has_path inner.path m.entries
 abbrev pub has_note : Seen → Inner → Bool
 has_note s inner = list_any (inner_eq inner) s.notes
 
+-- a mark that an app is started or its status, once, by the one that runs the pod
 abbrev pub may_note : Seen → Inner → Bool
 may_note s inner = runs s inner.spot.name && ((is_started_mark inner.path || is_status_file inner.path) && not (has_note s inner))
 
+-- the mark of its own moment, by a remover that found the pod without an owner
 abbrev pub may_mark : Seen → Inner → Bool
 may_mark s inner = began_as is_remover s.standing && (is_own_mark s.standing.intent inner.path && is_free s inner.spot)
 
+-- a file is made in the folder that the process makes, or noted in a pod in run
 abbrev pub may_make_file_in : Seen → Inner → Area → Bool
 may_make_file_in s inner Run = may_note s inner || may_mark s inner
 may_make_file_in s inner area = makes_here s inner.spot area && of_making (may_make_entry s true inner) s.making
 
+-- bytes are appended to what it made
 abbrev pub may_append_in : Seen → Inner → Area → Bool
 may_append_in s inner Run = runs s inner.spot.name && (is_status_file inner.path && has_note s inner)
 may_append_in s inner area = makes_here s inner.spot area && of_making (λ m. has_file inner.path m.entries) s.making
 
+-- what it made is synced
 abbrev pub may_sync_in : Seen → Inner → Area → Bool
 may_sync_in s inner Run = runs s inner.spot.name && (is_empty inner.path || has_note s inner)
 may_sync_in s inner area = makes_here s inner.spot area && of_making (may_sync_entry inner) s.making
@@ -218,9 +241,11 @@ is_emptied s inner = list_any (inner_eq inner) s.listed && not (list_any (stands
 abbrev pub root_of : Spot → Inner
 root_of spot = record { spot = spot; path = [] }
 
+-- a file that the last listing showed
 abbrev pub may_remove_file : Seen → Inner → Bool
 may_remove_file s inner = shows is_file_item inner s.items
 
+-- a directory that the last listing showed, once it is emptied
 abbrev pub may_remove_dir : Seen → Inner → Bool
 may_remove_dir s inner = shows (λ k. not (is_file_item k)) inner s.items && is_emptied s inner
 

@@ -16,6 +16,7 @@ pub record IsRootOf (bytes : List ℕ) (root : Root) : Type 0 where
   pub kept : root.listing.items ≡ bytes
   pub tree : root.tree ≡ entries_of lines
 
+-- the bytes are no listing
 abbrev pub IsNoListing : List ℕ → Type 0
 IsNoListing bytes = IsNoListingText bytes
 
@@ -23,6 +24,7 @@ IsNoListing bytes = IsNoListingText bytes
 abbrev pub ReadsRoot : PodId → List ℕ → Root → DirAt → DirAt → Type 0
 ReadsRoot pod app root old new = ReadsFile (pod_file pod (tree_path app)) most_of_tree (λ bytes. IsRootOf bytes root) old new
 
+-- the listing of an app's root isn't there or has no reading
 abbrev pub LacksRoot : PodId → List ℕ → DirAt → DirAt → Type 0
 LacksRoot pod app old new = LacksFile (pod_file pod (tree_path app)) most_of_tree IsNoListing old new
 

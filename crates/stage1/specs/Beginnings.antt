@@ -48,6 +48,7 @@ abbrev pub IsStartedIn : List SpawnCall → AppStart → Stand → Type 0
 IsStartedIn calls app (Running child) = StartedIn app.root child calls
 IsStartedIn calls app (Ended status) = Unit {0}
 
+-- each app stands as these calls tell
 abbrev pub AreStartedIn : List SpawnCall → List AppStart → List Stand → Type 0
 AreStartedIn calls (app ∷ starts) (stand ∷ stands) = IsStartedIn calls app stand × AreStartedIn calls starts stands
 AreStartedIn calls [] [] = Unit {0}
@@ -58,6 +59,7 @@ abbrev pub IsWritten : DirAt → AppStart → Stand → Type 0
 IsWritten d app (Running child) = Unit {0}
 IsWritten d app (Ended status) = WroteStatus app.root status d
 
+-- the status of each app that ended before its main program began was written
 abbrev pub AreWritten : DirAt → List AppStart → List Stand → Type 0
 AreWritten d (app ∷ starts) (stand ∷ stands) = IsWritten d app stand × AreWritten d starts stands
 AreWritten d [] [] = Unit {0}
@@ -67,11 +69,13 @@ AreWritten d _ _ = ⊥
 abbrev pub prelude_calls : AppStart → Ran → List SpawnCall
 prelude_calls app ran = ready_call app ∷ handler_calls app ran app.launch.pre_start
 
+-- the app's root was made ready and its pre-start program, if it has one, ran to its end
 pub record RanPrelude (observed : Bool) (app : AppStart) (status : ℕ) (old new : SpawnerAt) : Type 0 where
   pub ran : Ran
   pub is : status ≡ handler_status ran app.launch.pre_start
   pub asked : Asks observed old (prelude_calls app ran) new
 
+-- or these calls were cut off
 abbrev pub PreludeCut : Bool → AppStart → SpawnerAt → SpawnerAt → Type 0
 PreludeCut observed app old new = WasCut observed (prelude_calls app) old new
 
@@ -79,11 +83,13 @@ PreludeCut observed app old new = WasCut observed (prelude_calls app) old new
 abbrev pub going_calls : AppStart → ℕ → Child → List SpawnCall
 going_calls app status child = cond (status == 0) (start_call app app.launch.main child ∷ []) []
 
+-- after that its main program was started, where the status allowed it
 pub record WentOn (observed : Bool) (app : AppStart) (status : ℕ) (stand : Stand) (old new : SpawnerAt) : Type 0 where
   pub main : Child
   pub is : stand ≡ cond (status == 0) (Running main) (Ended status)
   pub asked : Asks observed old (going_calls app status main) new
 
+-- or these calls were cut off, and each child that was started was waited for
 pub record GoingCut (observed : Bool) (app : AppStart) (status : ℕ) (old new : SpawnerAt) : Type 0 where
   pub main : Child
   pub cut : List SpawnCall
@@ -128,6 +134,7 @@ pub record AreBrokenOff (observed : Bool) (starts : List AppStart) (stands : Lis
 abbrev pub IsWaitFor : Child → SpawnCall → Type 0
 IsWaitFor child c = c.request ≡ Wait child
 
+-- one wait for each of these children, in order
 abbrev pub WaitFor : List Child → List SpawnCall → Type 0
 WaitFor [] [] = Unit {0}
 WaitFor (child ∷ children) (c ∷ calls) = IsWaitFor child c × WaitFor children calls

@@ -36,10 +36,12 @@ pub record IsCutOff (whole calls : List SpawnCall) : Type 0 where
 abbrev pub starts_of : Child → List SpawnCall → ℕ
 starts_of child calls = length (filter (λ c. answers child c.reply) calls)
 
+-- it waits for this child
 abbrev pub waits_on : Child → SpawnRequest → Bool
 waits_on child (Wait other) = other.number == child.number
 waits_on child request = false
 
+-- how often calls wait for this child
 abbrev pub waits_for : Child → List SpawnCall → ℕ
 waits_for child calls = length (filter (λ c. waits_on child c.request) calls)
 
@@ -47,10 +49,12 @@ waits_for child calls = length (filter (λ c. waits_on child c.request) calls)
 abbrev pub AreWaitedFor : List SpawnCall → Type 0
 AreWaitedFor calls = (child : Child) → waits_for child calls ≡ starts_of child calls
 
+-- it waits for a child
 abbrev pub is_wait : SpawnRequest → Bool
 is_wait (Wait child) = true
 is_wait request = false
 
+-- all these calls are waits
 abbrev pub AreWaits : List SpawnCall → Type 0
 AreWaits calls = AllByRecursion (λ c. is_wait c.request ≡ true) calls
 

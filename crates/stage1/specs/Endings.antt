@@ -55,6 +55,7 @@ abbrev pub EndsSo : Bool → AppStart → Stand → ℕ → SpawnerAt → Spawne
 EndsSo observed app (Running child) status old new = HasEnded observed app child status old new
 EndsSo observed app (Ended other) status old new = (status ≡ other) × Asks observed old [] new
 
+-- the calls of an app's end were cut off
 abbrev pub EndsCut : Bool → AppStart → Stand → SpawnerAt → SpawnerAt → Type 0
 EndsCut observed app (Running child) old new = IsEndCut observed app child old new
 EndsCut observed app (Ended other) old new = Asks observed old [] new
@@ -71,6 +72,7 @@ pub record ThenEnd (observed : Bool) (app : AppStart) (stand : Stand) (status : 
   pub ends : EndsSo observed app stand status old between
   pub later : Later between
 
+-- each app has ended, one after the other, with these statuses
 abbrev pub HaveEnded : Bool → List AppStart → List Stand → List ℕ → SpawnerAt → SpawnerAt → Type 0
 HaveEnded observed (app ∷ starts) (stand ∷ stands) (status ∷ statuses) old new = ThenEnd observed app stand status (λ between. HaveEnded observed starts stands statuses between new) old
 HaveEnded observed [] [] [] old new = Asks observed old [] new

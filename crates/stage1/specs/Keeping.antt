@@ -51,6 +51,7 @@ pub record Noted (times : Inner → ℕ) (s new : Seen) : Type 0 where
   pub kept : new.kept ≡ s.kept
   pub made : (inner : Inner) → noted new inner ≤ noted s inner + times inner
 
+-- what the process knows, after notes were made so many times at each place
 pub record KnowsNoted (times : Inner → ℕ) (s : Seen) (new : DirAt) : Type 0 where
   pub known : Seen
   pub noted : Noted times s known
@@ -61,9 +62,11 @@ abbrev pub appends_to : Inner → Request → Bool
 appends_to inner (AppendIn file piece) = inner_eq inner file
 appends_to inner _ = false
 
+-- the event is an own append to this file
 abbrev pub is_append : ℕ → Inner → Event → Bool
 is_append me inner e = not (is_foreign me e) && appends_to inner e.request
 
+-- how many own appends to the file there were
 abbrev pub appends : DirAt → Inner → ℕ
 appends d inner = length (filter (is_append d.process inner) d.trace)
 
@@ -80,9 +83,11 @@ pub record Keeps (times : Inner → ℕ) (old new : DirAt) : Type 0 where
 abbrev pub mark_times : RootPlace → Inner → ℕ
 mark_times root inner = once (inner_eq inner (mark_inner root))
 
+-- how often an app's status is noted at a place: once at its file
 abbrev pub status_times : RootPlace → Inner → ℕ
 status_times root inner = once (inner_eq inner (status_inner root))
 
+-- how often an app's mark and status are
 abbrev pub app_times : AppStart → Inner → ℕ
 app_times app inner = mark_times app.root inner + status_times app.root inner
 
@@ -91,6 +96,7 @@ abbrev pub begun_times : AppStart → Stand → Inner → ℕ
 begun_times app (Running child) inner = mark_times app.root inner
 begun_times app (Ended status) inner = app_times app inner
 
+-- how often they are at the app's end
 abbrev pub end_times : AppStart → Stand → Inner → ℕ
 end_times app (Running child) inner = status_times app.root inner
 end_times app (Ended status) inner = 0
@@ -101,6 +107,7 @@ going_times app (Ok (Running child)) inner = 0
 going_times app (Ok (Ended status)) inner = status_times app.root inner
 going_times app (Err fault) inner = status_times app.root inner
 
+-- how often they are at the app's beginning
 abbrev pub beginning_times : AppStart → Result Stand Fault → Inner → ℕ
 beginning_times app (Ok stand) inner = begun_times app stand inner
 beginning_times app (Err fault) inner = app_times app inner
@@ -111,10 +118,12 @@ all_begun_times [] stands inner = 0
 all_begun_times (app ∷ apps) (stand ∷ stands) inner = begun_times app stand inner + all_begun_times apps stands inner
 all_begun_times (app ∷ apps) [] inner = app_times app inner + all_begun_times apps [] inner
 
+-- the same of all apps at their ends
 abbrev pub all_end_times : List AppStart → List Stand → Inner → ℕ
 all_end_times (app ∷ apps) (stand ∷ stands) inner = end_times app stand inner + all_end_times apps stands inner
 all_end_times _ _ inner = 0
 
+-- the same of all apps
 abbrev pub all_times : List AppStart → Inner → ℕ
 all_times [] inner = 0
 all_times (app ∷ apps) inner = app_times app inner + all_times apps inner
@@ -132,6 +141,7 @@ pub record KeepsOn (s : Seen) (new : DirAt) : Type 0 where
   pub kept : known.kept ≡ s.kept
   pub knows : Knows new known
 
+-- a process that has noted nothing in this pod keeps the rules
 abbrev pub KeepsRules : PodId → DirAt → DirAt → Type 0
 KeepsRules pod old new = (s : Seen) → Knows old s → IsFresh pod s → KeepsOn s new
 
@@ -142,5 +152,6 @@ pub record KeepsClosed (own : Handle) (s : Seen) (new : DirAt) : Type 0 where
   pub kept : known.kept ≡ s.kept
   pub knows : Knows new known
 
+-- and so it does up to the close of the handle by which it holds the pod
 abbrev pub KeepsToEnd : PodId → Handle → DirAt → DirAt → Type 0
 KeepsToEnd pod own old new = (s : Seen) → Knows old s → IsFresh pod s → may_close s.standing own ≡ true → KeepsClosed own s new

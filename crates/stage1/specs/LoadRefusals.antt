@@ -56,6 +56,7 @@ pub record LacksListing (pod : PodId) (apps : List (List ℕ)) (path : List ℕ)
   pub stands : path ≡ told_path pod (tree_path app)
   pub lacks : InTurn (AreRoots pod before roots) (LacksRoot pod app) old new
 
+-- why the roots of apps can't be read
 abbrev pub IsRootsLack : PodId → List (List ℕ) → LoadError → DirAt → DirAt → Type 0
 IsRootsLack pod apps (Damaged path) old new = LacksListing pod apps path old new
 IsRootsLack pod apps error old new = IsOutside error
@@ -71,6 +72,7 @@ pub record Lacks (app : RuntimeApp) (root : Root) (name word : List ℕ) : Type 
   pub named : name ≡ app.name
   pub missing : missing_word (option_map app_data app.app) (entry_at root.tree) ≡ Some word
 
+-- why an app's programs can't be found
 abbrev pub AreMissing : RuntimeApp → Root → LoadError → Type 0
 AreMissing app root (NoProgram name word) = Lacks app root name word
 AreMissing app root NoMemory = Unit {0}
@@ -85,6 +87,7 @@ abbrev pub FirstLacks : List RuntimeApp → List Root → List ℕ → List ℕ 
 FirstLacks (app ∷ apps) (root ∷ roots) name word = Lacks app root name word ⊎ (HasAll app root × FirstLacks apps roots name word)
 FirstLacks _ _ name word = ⊥
 
+-- why the programs of apps can't be found: the first that lacks one tells
 abbrev pub IsMissingAmong : List RuntimeApp → List Root → LoadError → Type 0
 IsMissingAmong apps roots (NoProgram name word) = FirstLacks apps roots name word
 IsMissingAmong apps roots NoMemory = Unit {0}

@@ -12,12 +12,15 @@ use Rattle.stage1.specs.Sequences.{Ran, program_calls, handler_calls, handler_st
 use Rattle.stage1.specs.Asking.{Asks}
 use Rattle.stage1.specs.Cutting.{IsCutOff, AreWaitedFor}
 
+-- an app's root is to be made ready
 abbrev pub ready_request : AppStart → SpawnRequest
 ready_request app = Ready app.root app.listing.items
 
+-- a program of an app is to be started
 abbrev pub start_request : AppStart → List (List ℕ) → SpawnRequest
 start_request app argv = Start app.root argv app.launch.environment app.launch.directory
 
+-- a child is to be waited for
 abbrev pub wait_request : Child → SpawnRequest
 wait_request child = Wait child
 
@@ -39,6 +42,7 @@ pub record WasCut (observed : Bool) (whole : Ran → List SpawnCall) (old new : 
   pub waited : AreWaitedFor cut
   pub asked : Asks observed old cut new
 
+-- the calls of a program's run were cut off
 abbrev pub ProgramCut : Bool → AppStart → List (List ℕ) → SpawnerAt → SpawnerAt → Type 0
 ProgramCut observed app argv old new = WasCut observed (λ ran. program_calls app ran argv) old new
 
@@ -48,5 +52,6 @@ pub record RanHandler (observed : Bool) (app : AppStart) (handler : Option (List
   pub is : status ≡ handler_status ran handler
   pub asked : Asks observed old (handler_calls app ran handler) new
 
+-- the calls of a handler's run were cut off
 abbrev pub HandlerCut : Bool → AppStart → Option (List (List ℕ)) → SpawnerAt → SpawnerAt → Type 0
 HandlerCut observed app handler old new = WasCut observed (λ ran. handler_calls app ran handler) old new

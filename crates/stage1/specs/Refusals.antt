@@ -19,6 +19,7 @@ use Rattle.stage1.specs.declared.error.Fault.TheVariants as fault
 use Rattle.stage1.specs.declared.error.RunError.{RunError}
 use Rattle.stage1.specs.declared.error.RunError.TheVariants as run
 
+-- what the spawner's errors mean
 abbrev pub spawn_fault : SpawnError → Fault
 spawn_fault spawn.Failed = fault.Spawn
 spawn_fault spawn.NoMemory = fault.NoMemory
@@ -29,6 +30,7 @@ change_fault dir.Failed = fault.Dir
 change_fault dir.NoMemory = fault.NoMemory
 change_fault error = fault.Stray
 
+-- what it means that apps couldn't be loaded
 abbrev pub load_refusal : LoadError → RunError
 load_refusal load.NoManifest = run.NoManifest
 load_refusal (load.Damaged path) = run.Damaged path
@@ -36,6 +38,7 @@ load_refusal (load.NoProgram app word) = run.NoProgram app word
 load_refusal load.DirFault = run.DirFault
 load_refusal load.NoMemory = run.NoMemory
 
+-- what a fault means for the run
 abbrev pub fault_refusal : Fault → RunError
 fault_refusal fault.Spawn = run.SpawnFault
 fault_refusal fault.Dir = run.DirFault
@@ -61,6 +64,7 @@ pub record WasStrayIn (me : ℕ) (old new : List Event) : Type 0 where
   pub step : CallStep me before request reply after
   pub ends : new ≡ after ++ later
 
+-- the same between two moments
 abbrev pub WasStrayBetween : DirAt → DirAt → Type 0
 WasStrayBetween old new = WasStrayIn old.process old.trace new.trace
 

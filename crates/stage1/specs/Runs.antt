@@ -33,9 +33,11 @@ abbrev pub closes : Handle → Request → Bool
 closes own (Close handle) = handle.number == own.number
 closes own _ = false
 
+-- what a run asks for: reads of the pod's files, and notes in it
 abbrev pub runs_pod : PodId → Request → Bool
 runs_pod pod = either (reads_pod pod) (notes_at (run_spot pod))
 
+-- and the close of the handle by which it holds the pod
 abbrev pub runs_and_closes : PodId → Handle → Request → Bool
 runs_and_closes pod own = either (closes own) (runs_pod pod)
 
@@ -62,6 +64,7 @@ pub record AddsWritten (root : RootPlace) (before after : List ℕ) (d : DirAt) 
 abbrev pub end_of : AppStart → ℕ → AppEnd
 end_of app status = record { app = app.name; status = status }
 
+-- each app with its status
 abbrev pub AreEnds : List AppStart → List ℕ → List AppEnd → Type 0
 AreEnds (app ∷ starts) (status ∷ statuses) (end ∷ ends) = (end ≡ end_of app status) × AreEnds starts statuses ends
 AreEnds [] [] [] = Unit {0}

@@ -29,9 +29,11 @@ pub record Ending : Type 0 where
 abbrev pub ready_call : AppStart → SpawnCall
 ready_call app = call (Ready app.root app.listing.items) Done
 
+-- a program was started as this child
 abbrev pub start_call : AppStart → List (List ℕ) → Child → SpawnCall
 start_call app argv child = call (Start app.root argv app.launch.environment app.launch.directory) (Started child)
 
+-- a child was waited for, and ended with this status
 abbrev pub wait_call : Child → ℕ → SpawnCall
 wait_call child status = call (Wait child) (Ended status)
 
@@ -49,6 +51,7 @@ abbrev pub handler_status : Ran → Option (List (List ℕ)) → ℕ
 handler_status ran None = 0
 handler_status ran (Some argv) = ran.status
 
+-- the status of the pre-start program: 0 where there is none
 abbrev pub first_status : Beginning → ℕ
 first_status b = handler_status b.handler b.app.launch.pre_start
 
@@ -56,6 +59,7 @@ first_status b = handler_status b.handler b.app.launch.pre_start
 abbrev pub starts_main : Beginning → Bool
 starts_main b = first_status b == 0
 
+-- the start of the main program, where it is started
 abbrev pub main_calls : Beginning → List SpawnCall
 main_calls b = cond (starts_main b) (start_call b.app b.app.launch.main b.main ∷ []) []
 
